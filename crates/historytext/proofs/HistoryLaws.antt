@@ -1,11 +1,11 @@
 -- What the reader of histories gives is what the text spells, and is within the limits.
-use Rattle.std.proofs.Common.{◌≡◌, ℕ, zero, suc, ◌≤◌, false, List, [], ◌∷◌, ◌++◌, length, Option, Some, None, Result, Ok, Err, refl, sym, ap, subst, ◌∙◌}
+use Rattle.std.proofs.Common.{◌≡◌, ℕ, zero, suc, false, List, [], ◌∷◌, length, Some, Result, Ok, Err, refl, ap, subst, ◌∙◌}
 use Rattle.std.specs.Prelude.{All, codes, IfOk}
 use Rattle.std.specs.List.{AllByRecursion}
 use Rattle.mmtext.specs.declared.fault.TextFault.{TextFault}
-use Rattle.mmtext.specs.Text.{Token, tokens, IsClean}
+use Rattle.mmtext.specs.Text.{tokens, IsClean}
 use Rattle.mmtext.specs.Words.{Word}
-use Rattle.mmtext.specs.Languages.{State, run, ended, token_reading}
+use Rattle.mmtext.specs.Languages.{run, ended, token_reading}
 use Rattle.mmtext.specs.Laws.{IsGrammarOf, IsRead}
 use Rattle.mmtext.proofs.CommentLaws.{here, walks_outside, runs_all}
 use Rattle.mmsyntax.specs.Tables.{Tables}
@@ -16,16 +16,15 @@ use Rattle.statementreader.proofs.UnitLaws.{ended_ok}
 use Rattle.library.specs.declared.command.Reply.{Reply}
 use Rattle.library.specs.declared.command.Reply.TheVariants.{Done, Shown, Listed}
 use Rattle.library.specs.Fitting.{ReplyFits}
-use Rattle.scripts.specs.Scripts.{SpellsEach}
 use Rattle.scripts.proofs.ScriptLaws.{unit_fits, each_fits, transaction_fits}
 use Rattle.library.specs.declared.history.Entry.{Entry}
 use Rattle.library.specs.declared.history.Entry.TheVariants as entry
 use Rattle.historytext.specs.Grammar.{SpellsReply, SpellsEntry, SpellsHistory}
 use Rattle.historytext.specs.Layout.{EntryFits}
-use Rattle.historytext.specs.Places.{Place, at_history, at_count, at_entry, in_entry, Progress, whole, history_language}
+use Rattle.historytext.specs.Places.{Place, at_history, at_count, at_entry, in_entry, whole, history_language}
 use Rattle.historytext.proofs.HistoryRows.{progress}
 use Rattle.historytext.proofs.HistoryWords.{history_ordinary, history_leads}
-use Rattle.historytext.proofs.HistoryParsed.{ReadsHistory, reads_history}
+use Rattle.historytext.proofs.HistoryParsed.{reads_history}
 
 -- ---- what is read is spelled
 

@@ -1,5 +1,5 @@
 -- Tokens that lead through the rows of a history are its words.
-use Rattle.std.proofs.Common.{◌≡◌, ℕ, zero, suc, ◌+◌, ◌<◌, ◌≤◌, cond, false, List, [], ◌∷◌, ◌++◌, length, Result, Ok, refl, sym, ap, subst, ◌∙◌, arith}
+use Rattle.std.proofs.Common.{◌≡◌, ℕ, zero, suc, ◌+◌, false, List, [], ◌∷◌, ◌++◌, length, Result, Ok, refl, sym, ap, subst, ◌∙◌, arith}
 use Rattle.std.proofs.Common.{append_assoc, append-nil, length-append}
 use Rattle.std.specs.Prelude.{codes}
 use Rattle.std.specs.Str.{bytes_eq}
@@ -21,14 +21,14 @@ use Rattle.library.specs.declared.command.Reply.TheVariants.{Done, Shown, Listed
 use Rattle.library.specs.Fitting.{highest_rank}
 use Rattle.scripts.specs.Scripts.{IsRank, SpellsEach}
 use Rattle.scripts.specs.ScriptFaults.{unit_start}
-use Rattle.scripts.proofs.InnerUnits.{ReadsUnit, reads_unit}
-use Rattle.scripts.proofs.CommandParsed.{on, IsApart, ReadsCommands, reads_commands}
+use Rattle.scripts.proofs.InnerUnits.{reads_unit}
+use Rattle.scripts.proofs.CommandParsed.{on, IsApart, reads_commands}
 use Rattle.library.specs.declared.history.Entry.{Entry}
 use Rattle.library.specs.declared.history.Entry.TheVariants as entry
 use Rattle.historytext.specs.Grammar.{highest_count, IsCount, kind_word, SpellsLine, SpellsReply, SpellsEntry}
 use Rattle.historytext.specs.Places.{ReplyPlace, at_shown_rank, at_shown_citers, in_shown, at_lines, at_line, at_label, at_kind, at_citers}
-use Rattle.historytext.specs.Places.{at_begin, at_command, at_reply, answering, Place, at_history, at_count, at_entry, in_entry, EntryPlace, Progress}
-use Rattle.historytext.specs.Places.{Answered, going, whole_reply, wrong, number_row, label_row, kind_row, lines_left, reply_word, in_reply, at}
+use Rattle.historytext.specs.Places.{at_begin, at_command, at_reply, answering, at_history, at_count, at_entry, in_entry, EntryPlace, Progress}
+use Rattle.historytext.specs.Places.{Answered, going, whole_reply, wrong, number_row, lines_left, reply_word, in_reply, at}
 use Rattle.historytext.specs.Places.{history_language}
 use Rattle.historytext.proofs.HistoryRows.{progress, behind, behind_last, behind_earlier, asking, asks, next_answer, answered_is, has_shown}
 use Rattle.historytext.proofs.HistoryRows.{at_lines_left, lines_are, IsNumber, cond_case, numeral_case, label_case, kind_case}

@@ -1,18 +1,17 @@
 -- The places of a history, and the rows of its words in both directions.
-use Rattle.std.proofs.Common.{◌≡◌, ℕ, zero, suc, ◌+◌, ◌^◌, ◌<◌, ◌≤◌, Bool, true, false, cond, eqb, ltb, List, [], ◌∷◌, ◌++◌, length, Option, Some}
-use Rattle.std.proofs.Common.{None, Result, Ok, Err, refl, sym, ap, subst, ◌∙◌, arith}
+use Rattle.std.proofs.Common.{◌≡◌, ℕ, zero, suc, ◌^◌, ◌<◌, ◌≤◌, Bool, true, false, cond, eqb, ltb, List, [], ◌∷◌, ◌++◌, length, Option, Some}
+use Rattle.std.proofs.Common.{None, Result, Ok, Err, refl, sym, ap, ◌∙◌, arith}
 use Rattle.std.specs.Prelude.{codes}
 use Rattle.std.specs.Fmt.{decimal}
 use Rattle.std.specs.Str.{bytes_eq}
 use Rattle.std.specs.Str.Parse.{digits_value}
 use Rattle.std.proofs.lemmas.Bool.{cond-true, cond-false}
 use Rattle.std.proofs.lemmas.Bool.Decides.{nat_tests}
-use Rattle.mmtext.specs.declared.fault.FaultKind.{FaultKind}
 use Rattle.mmtext.specs.declared.fault.FaultKind.TheVariants.{BadToken, TooLong}
 use Rattle.mmtext.specs.declared.fault.TextFault.{TextFault}
 use Rattle.mmtext.specs.Text.{Token}
 use Rattle.mmtext.specs.Words.{Word, has_dollar}
-use Rattle.mmtext.specs.Languages.{Language, fault}
+use Rattle.mmtext.specs.Languages.{fault}
 use Rattle.mmtext.proofs.CommentLaws.{same_word}
 use Rattle.mmsyntax.specs.declared.statement.Kind.{Kind}
 use Rattle.mmsyntax.specs.declared.statement.Kind.TheVariants.{Axiom, Theorem}
@@ -22,7 +21,7 @@ use Rattle.mmsyntax.specs.Faults.{Position, row, unit_at}
 use Rattle.library.specs.declared.command.Command.{Command}
 use Rattle.library.specs.declared.command.Line.{Line}
 use Rattle.library.specs.declared.command.Reply.{Reply}
-use Rattle.library.specs.declared.command.Reply.TheVariants.{Done, Shown, Listed}
+use Rattle.library.specs.declared.command.Reply.TheVariants.{Shown, Listed}
 use Rattle.scripts.specs.ScriptFaults.{Led, inside, whole_command, bad, bad_text, is_numeral, in_command, command_word}
 use Rattle.mmsyntax.proofs.Numerals.{decimal_value, digits_lack, not_above}
 use Rattle.scripts.proofs.Numerals.{numeral_decimal, numeral_digits, decimal_numeral}
@@ -30,8 +29,8 @@ use Rattle.scripts.proofs.InnerUnits.{unit_end, unit_next, HasUnits}
 use Rattle.scripts.proofs.CommandWords.{next_of, Asking, and_one, Asks}
 use Rattle.library.specs.declared.history.Entry.{Entry}
 use Rattle.library.specs.declared.history.Entry.TheVariants as entry
-use Rattle.historytext.specs.Grammar.{highest_count, IsCount, kind_word}
-use Rattle.historytext.specs.Places.{ReplyPlace, in_shown, at_line, at_kind, at_citers, at_command, within, at_reply, answering}
+use Rattle.historytext.specs.Grammar.{highest_count, kind_word}
+use Rattle.historytext.specs.Places.{in_shown, at_line, at_kind, at_citers, at_command, within, at_reply, answering}
 use Rattle.historytext.specs.Places.{Place, at_entry, in_entry, Progress, Answered, going, whole_reply, wrong, wrong_text, number_row, lines_left}
 use Rattle.historytext.specs.Places.{at_begin, at_count, count_row, at, shown_led, shown_row, label_row, kind_row, asked, answered, replies_left, history_language}
 

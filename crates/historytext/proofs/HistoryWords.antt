@@ -1,5 +1,5 @@
 -- The words of a history are ordinary, and lead through its rows.
-use Rattle.std.proofs.Common.{◌≡◌, ℕ, zero, suc, ◌+◌, ◌^◌, ◌<◌, ◌≤◌, false, List, [], ◌∷◌, ◌++◌, length, Result, Ok, refl, sym, ap, subst, ◌∙◌}
+use Rattle.std.proofs.Common.{◌≡◌, ℕ, suc, ◌+◌, ◌^◌, ◌<◌, false, List, [], ◌∷◌, ◌++◌, length, Result, Ok, refl, sym, ap, subst, ◌∙◌}
 use Rattle.std.proofs.Common.{arith, append_assoc, append-nil, length-append}
 use Rattle.std.specs.Prelude.{codes, All}
 use Rattle.std.proofs.lemmas.List.Elements.{All-nil, All-append}
@@ -27,7 +27,7 @@ use Rattle.library.specs.declared.history.Entry.{Entry}
 use Rattle.library.specs.declared.history.Entry.TheVariants as entry
 use Rattle.historytext.specs.Grammar.{highest_count, IsCount, kind_word, SpellsLine, SpellsReply, SpellsEntry}
 use Rattle.historytext.specs.Places.{ReplyPlace, at_shown_rank, at_shown_citers, in_shown, at_lines, at_line, at_label, at_kind, at_citers}
-use Rattle.historytext.specs.Places.{at_begin, at_command, at_reply, answering, Place, at_history, at_count, at_entry, in_entry, Progress}
+use Rattle.historytext.specs.Places.{at_begin, at_command, at_reply, answering, at_history, at_count, at_entry, in_entry, Progress}
 use Rattle.historytext.specs.Places.{Answered, going, lines_left, reply_word, in_reply, history_language}
 use Rattle.historytext.proofs.HistoryRows.{progress, behind, behind_last, behind_earlier, asking, asks, next_answer, answered_is, has_shown}
 use Rattle.historytext.proofs.HistoryRows.{at_lines_left, lines_are, IsNumber, number_plain, number_led, label_led, kind_led}

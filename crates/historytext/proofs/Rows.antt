@@ -1,10 +1,9 @@
 -- Rows of a history that stop, and rows of commands and replies that lead on.
-use Rattle.std.proofs.Common.{◌≡◌, ℕ, Bool, true, false, cond, ltb, List, Result, Ok, Err, refl, sym, ap, subst, ◌∙◌}
+use Rattle.std.proofs.Common.{◌≡◌, ℕ, Bool, true, false, cond, ltb, List, Ok, Err, ap}
 use Rattle.std.specs.Str.Parse.{digits_value}
 use Rattle.mmtext.specs.declared.fault.FaultKind.TheVariants.{BadToken, TooLong}
 use Rattle.mmtext.specs.declared.fault.Stop.{Stop}
 use Rattle.mmtext.specs.declared.fault.Stop.TheVariants as stop
-use Rattle.mmtext.specs.declared.fault.TextFault.{TextFault}
 use Rattle.mmtext.specs.Text.{Token}
 use Rattle.mmtext.specs.Languages.{fault}
 use Rattle.mmtext.specs.Views.{Fails}

@@ -38,7 +38,7 @@ use Rattle.scripts.specs.ScriptFaults.{in_unit, unit_led, unit_row, step_row, co
 use Rattle.mmtext.specs.declared.fault.Stop.{Stop}
 use Rattle.mmtext.specs.declared.fault.Stop.TheVariants as stop
 use Rattle.mmtext.specs.Views.{Fails}
-use Rattle.scripts.specs.ScriptViews.{label_at, rank_at, decided, place_numbered, TakesInCommand}
+use Rattle.scripts.specs.ScriptViews.{rank_at, decided, place_numbered, TakesInCommand}
 use Rattle.statementreader.specs.Takings.{TakesItem, pushed}
 use Rattle.statementreader.specs.UnitReadings.{UnitReading, position_of}
 use Rattle.statementreader.specs.UnitViews.{TakesInUnit}

@@ -132,24 +132,27 @@ impl<'a, S: Standing<'a>, P: KeepsPlace<'a>> Reader<'a> for SourceReader<S, P> {
 
     fn take_word(&mut self, _alloc: Global, token: Token<'a>) -> Result<bool, Stop> {
         let mut here = self.place.replace(Place::AtStart);
-        let taken = take_word(&mut self.standing, &mut here, token)?;
-        self.place.replace(here);
-        Ok(taken)
+        let taken = take_word(&mut self.standing, &mut here, token);
+        drop(self.place.replace(here));
+        taken
     }
 
     fn take(&mut self, alloc: Global, token: Token<'a>, mark: Mark) -> Result<(), Stop> {
         let here = self.place.replace(Place::AtStart);
         let next = next_place(alloc, &mut self.standing, here, token, mark)?;
-        self.place.replace(next);
+        drop(self.place.replace(next));
         Ok(())
     }
 
     fn finish(mut self) -> Option<S> {
-        match self.place.replace(Place::AtStart) {
-            // No block is open where none can be closed.
-            Place::AtStart if !self.standing.close_block() => Some(self.standing),
-            _ => None,
+        let here = self.place.replace(Place::AtStart);
+        let is_at_start = matches!(&here, Place::AtStart);
+        drop(here);
+        // No block is open where none can be closed.
+        if is_at_start && !self.standing.close_block() {
+            return Some(self.standing);
         }
+        None
     }
 }
 

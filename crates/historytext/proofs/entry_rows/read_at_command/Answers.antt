@@ -1,5 +1,5 @@
 -- What is left to show of `read_at_command`.
-use Rattle.std.proofs.Common.{◌≡◌, false, cond, Ok, ap, sym, subst, ◌∙◌}
+use Rattle.std.proofs.Common.{◌≡◌, false, ap, sym, subst, ◌∙◌}
 use Rattle.std.specs.Prelude.{codes, []}
 use Rattle.std.specs.Str.{bytes_eq}
 use Rattle.std.proofs.lemmas.Bool.{cond-false}
@@ -7,7 +7,7 @@ use Rattle.std.proofs.lemmas.Result.{err_from_is_err_and}
 use Rattle.mmtext.specs.Views.{seen, Fails, Gives}
 use Rattle.scripts.specs.ScriptFaults.{command_word}
 use Rattle.scripts.specs.ScriptViews.{seen_led}
-use Rattle.historytext.specs.Places.{asked, command_row, replies_left}
+use Rattle.historytext.specs.Places.{asked, replies_left}
 use Rattle.historytext.specs.Views.{seen_at}
 use Rattle.scripts.proofs.ScriptRows.{decided_is}
 use Rattle.historytext.proofs.Rows.{asked_fails}
