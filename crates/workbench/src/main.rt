@@ -59,22 +59,24 @@ struct Step<'l> {
     begins: bool,
 }
 
-/// The first step in a table of this name, and the lines behind it. None where there is no line.
-fn next_step<'l>(name: &'l [u8], lines: &'l [Vec<u8>]) -> Option<(Step<'l>, &'l [Vec<u8>])> {
-    let (first, behind) = lines.split_first()?;
-    let Some(begun) = first.as_slice().strip_prefix(HEAD) else {
-        let texts = behind
-            .iter()
-            .position(|line| !line.starts_with(TEXT))
-            .unwrap_or(behind.len());
-        let step = Step {
-            name,
-            lines: lines.get(..=texts)?,
-            begins: false,
-        };
-        return Some((step, behind.get(texts..)?));
+/// The row that stands first in a table of this name, with the lines of its text, and the lines behind it.
+fn next_row<'l>(name: &'l [u8], lines: &'l [Vec<u8>]) -> Option<(Step<'l>, &'l [Vec<u8>])> {
+    let (_, behind) = lines.split_first()?;
+    let texts = behind
+        .iter()
+        .position(|line| !line.starts_with(TEXT))
+        .unwrap_or(behind.len());
+    let step = Step {
+        name,
+        lines: lines.get(..=texts)?,
+        begins: false,
     };
-    let end = if begun == COMMANDS {
+    Some((step, behind.get(texts..)?))
+}
+
+/// The table of this name whose lines stand first, or its beginning, and the lines behind it.
+fn next_table<'l>(name: &'l [u8], behind: &'l [Vec<u8>]) -> Option<(Step<'l>, &'l [Vec<u8>])> {
+    let end = if name == COMMANDS {
         0
     } else {
         behind
@@ -83,11 +85,20 @@ fn next_step<'l>(name: &'l [u8], lines: &'l [Vec<u8>]) -> Option<(Step<'l>, &'l 
             .unwrap_or(behind.len())
     };
     let step = Step {
-        name: begun,
+        name,
         lines: behind.get(..end)?,
         begins: true,
     };
     Some((step, behind.get(end..)?))
+}
+
+/// The first step in a table of this name, and the lines behind it. None where there is no line.
+fn next_step<'l>(name: &'l [u8], lines: &'l [Vec<u8>]) -> Option<(Step<'l>, &'l [Vec<u8>])> {
+    let (first, behind) = lines.split_first()?;
+    match first.as_slice().strip_prefix(HEAD) {
+        Some(begun) => next_table(begun, behind),
+        None => next_row(name, lines),
+    }
 }
 
 /// Prints the line that begins the table of a step, if it begins there.
@@ -131,6 +142,11 @@ where
     Ok(())
 }
 
+/// Says why a call isn't answered as is wanted. Few bounds make it cheap.
+fn tell(rt: &impl Eprint, fail: Fail) {
+    let _ = Err::<(), Fail>(fail).report(rt);
+}
+
 /// Makes the calls of a table, by their names, and says which were answered as is wanted. It may wait.
 fn do_calls<R>(rt: &R, subject: &[u8], lines: &[Vec<u8>]) -> io::Result<()>
 where
@@ -141,7 +157,7 @@ where
         match calls::make(rt, subject, name) {
             Ok(()) => println!(rt; "{name}")?,
             Err(fail) => {
-                let _ = Err::<(), Fail>(fail).report(rt);
+                tell(rt, fail);
                 println!(rt; "not {name}")?;
             }
         }
@@ -179,32 +195,31 @@ fn given_words(rt: &(impl AllocGlobal + Env)) -> io::Result<Vec<String>> {
 }
 
 /// Measures what the words of the command line ask for. None where there is none of them. It may wait.
-fn measure_given<R>(rt: &R, words: &[String]) -> Option<Ending>
+fn measure_given<R>(rt: &R) -> Option<Ending>
 where
     R: Files
         + AllocGlobal
         + Print
         + Eprint
         + RandomSource
+        + Env
         + Clock
         + CpuClock
         + Threads
         + Wait
         + Sync,
 {
-    match words {
+    let Ok(words) = given_words(rt) else {
+        return Some(Ending::Failed);
+    };
+    match words.as_slice() {
         [] | [_] => None,
         [_, words @ ..] => Some(measure(rt, words).unwrap_or(Ending::Failed)),
     }
 }
 
 fn main(rt: HostRuntime) -> ExitCode {
-    let Ok(words) = given_words(&rt) else {
-        return ExitCode::from(1);
-    };
-    let measured = measure_given(&rt, words.as_slice());
-    drop(words);
-    if let Some(ending) = measured {
+    if let Some(ending) = measure_given(&rt) {
         return ending.status();
     }
     let Ok(keys) = RandomState::new(&rt) else {
