@@ -2,7 +2,6 @@
 //! the library's order, or else in front of the first of those that stay.
 
 use crate::following::Followed;
-use crate::refusal::{File, Refusal, shown};
 use library::Ranked;
 use outlining::{Outline, Stretch, outline_of};
 use rewriting::Span;
@@ -60,20 +59,7 @@ fn first_begin(text: &[u8], stretches: &[Option<Stretch>]) -> usize {
     text.trim_ascii_end().len()
 }
 
-/// A text would stand in front of an assertion and behind another one of its block.
-fn within_block(alloc: Global, label: &[u8], before: &[u8]) -> Result<Refusal, AllocError> {
-    let (label, before) = (shown(label), shown(before));
-    let why = format!(in alloc;
-        "{label} would stand in the block of {before}, in front of it: it isn't put there yet"
-    )?;
-    Ok(Refusal::Text(File::History, why))
-}
-
 /// The spans at which texts are put in, in order: each behind what stands before it in the library's order.
-///
-/// # Errors
-///
-/// A text that would stand between two assertions of one block.
 pub(crate) fn fills_of<'t>(
     alloc: Global,
     keys: RandomState,
@@ -81,31 +67,18 @@ pub(crate) fn fills_of<'t>(
     living: &[Followed<'_>],
     entries: &[Ranked],
     texts: &'t Texts<'_>,
-) -> Result<Vec<Span<'t>>, Refusal> {
+) -> Result<Vec<Span<'t>>, AllocError> {
     let stretches = stretches_of(alloc, keys, text, living, entries)?;
     let mut at = first_begin(text, stretches.as_slice());
-    let mut last_put = None;
     let mut spans = Vec::new(alloc);
     for (entry, stretch) in entries.iter().zip(stretches.as_slice()) {
-        let now = entry.assertion.label.as_slice();
-        match (texts.get(now), stretch) {
-            (Some(made), _) => {
-                last_put = Some((now, at));
-                spans.push(Span {
-                    begin: at,
-                    end: at,
-                    text: made.as_slice(),
-                })?;
-            }
-            (None, Some(stretch)) => {
-                // What stays stands in its old order: so only a block can begin in front of what is put behind a part of it.
-                if let Some((label, place)) = last_put
-                    && stretch.begin < place
-                {
-                    return Err(within_block(alloc, label, now)?);
-                }
-                at = at.max(stretch.end);
-            }
+        match (texts.get(entry.assertion.label.as_slice()), stretch) {
+            (Some(made), _) => spans.push(Span {
+                begin: at,
+                end: at,
+                text: made.as_slice(),
+            })?,
+            (None, Some(stretch)) => at = at.max(stretch.end),
             (None, None) => {}
         }
     }

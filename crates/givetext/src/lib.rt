@@ -9,6 +9,7 @@ mod citing;
 mod commands;
 mod filling;
 mod following;
+mod moving;
 mod origin;
 mod own;
 mod planning;

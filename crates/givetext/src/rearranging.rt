@@ -7,11 +7,10 @@ ghost use Rattle.givetext.specs.Written.{IsRearranged};
 
 use crate::citing::marked;
 use crate::filling::{Texts, fills_of};
-use crate::following::Followed;
+use crate::moving::moving_of;
 use crate::planning::{ByLabel, Planned, unwritten};
 use crate::refusal::{File, Refusal, shown};
 use giving::Changes;
-use library::Ranked;
 use outlining::{Outline, Standing, Stretch, cuts_of, outline_of};
 use rewriting::{cut_out, put_in, rewrite};
 use source::{Declared, ProofWords};
@@ -41,59 +40,6 @@ pub(crate) struct Rearranged<'x> {
 fn refused(alloc: Global, label: &[u8], why: &str) -> Result<Refusal, AllocError> {
     let label = shown(label);
     Ok(Refusal::Text(File::History, format!(in alloc; "{label} {why}")?))
-}
-
-/// The places of the library's assertions at the opening, by their labels now: those that were added have none.
-fn places_by_now<'x>(
-    alloc: Global,
-    keys: RandomState,
-    living: &[Followed<'x>],
-) -> Result<HashMap<&'x [u8], usize, RandomState>, AllocError> {
-    let mut places = HashMap::with_hasher(alloc, keys);
-    for (k, followed) in living.iter().enumerate() {
-        if followed.source.is_some() {
-            places.insert(followed.now, k)?;
-        }
-    }
-    Ok(places)
-}
-
-/// Whether the assertions of the opening stand in another order in the edited library.
-fn has_another_order(
-    alloc: Global,
-    keys: RandomState,
-    living: &[Followed<'_>],
-    entries: &[Ranked],
-) -> Result<bool, AllocError> {
-    let places = places_by_now(alloc, keys, living)?;
-    let mut last = 0;
-    for entry in entries {
-        if let Some(place) = places.get(entry.assertion.label.as_slice()) {
-            if *place < last {
-                return Ok(true);
-            }
-            last = *place;
-        }
-    }
-    Ok(false)
-}
-
-/// The labels in the source of those that are to stand elsewhere, with their labels in the library now: none where the order is the old
-/// one.
-fn moving_of<'x>(
-    alloc: Global,
-    keys: RandomState,
-    planned: &Planned<'x>,
-) -> Result<Changes<'x>, AllocError> {
-    let mut pairs = Vec::new(alloc);
-    if has_another_order(alloc, keys, planned.living, planned.edited.entries())? {
-        for followed in planned.living {
-            if let (Some(label), true) = (followed.source, followed.moved) {
-                pairs.push((label, followed.now))?;
-            }
-        }
-    }
-    Changes::new(alloc, keys, pairs)
 }
 
 /// The places in an outline of those that leave their places, in order.
@@ -330,7 +276,7 @@ pub(crate) fn rearrange<'x, 'a, D: Declared<'a>>(
     ensures { IfOk result (λ out. IsRearranged edits.now.changes.now source.now out.items) }
 {
     let outline = outline_of(alloc, source)?;
-    let moving = moving_of(alloc, keys, &edits.planned)?;
+    let moving = moving_of(alloc, keys, &outline, &edits.planned)?;
     let gone = marked(alloc, keys, edits.gone)?;
     let texts = texts_of(alloc, keys, declared, source, &outline, &moving, edits)?;
     let kept = without(alloc, source, &outline, &gone, &moving)?;

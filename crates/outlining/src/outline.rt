@@ -225,12 +225,12 @@ impl<'s> Outline<'s> {
         self.blocks.get(number?)
     }
 
-    /// The outermost block that an assertion stands in, if it stands in one.
-    fn outermost(&self, standing: &Standing<'_>) -> Option<&Block> {
-        let mut found = self.block(standing.block);
+    /// The number of the outermost block around a block, which may be that one.
+    fn outermost(&self, block: Option<usize>) -> Option<usize> {
+        let mut found = block;
         // A block stands in fewer blocks than there are.
         for _ in 0..self.blocks.len() {
-            match found.and_then(|block| self.block(block.around)) {
+            match self.block(found).and_then(|block| block.around) {
                 Some(around) => found = Some(around),
                 None => return found,
             }
@@ -238,9 +238,14 @@ impl<'s> Outline<'s> {
         found
     }
 
+    /// The number of the outermost block that the assertion at a place stands in, if it stands in one.
+    pub fn outermost_at(&self, place: usize) -> Option<usize> {
+        self.outermost(self.assertions.get(place)?.block)
+    }
+
     /// The outermost block that an assertion stands in, or else its statement.
     pub fn whole(&self, standing: &Standing<'_>) -> Stretch {
-        match self.outermost(standing) {
+        match self.block(self.outermost(standing.block)) {
             Some(block) => block.stretch,
             None => standing.stretch,
         }
@@ -248,7 +253,7 @@ impl<'s> Outline<'s> {
 
     /// Whether no other assertion stands in the outermost block that an assertion stands in.
     pub fn is_alone(&self, standing: &Standing<'_>) -> bool {
-        match self.outermost(standing) {
+        match self.block(self.outermost(standing.block)) {
             Some(block) => block.assertions <= 1,
             None => true,
         }
