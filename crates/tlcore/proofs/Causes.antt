@@ -93,7 +93,7 @@ module _ (o : List ℕ) (w : World) (s : ℕ) (t : Seat) (I : Consistent o w) (e
           other_numbers x.lock word m
           (st.0.lock x h (λ k i. none_held o w s t I e (Loaded c word y) p (λ q. q.0) c (k, i)) ∙ sym (st.1 refl))
   row_cause a v u (takes {c} {v = y} {r} {x} p i h m) f g =
-      no_conflict (record (saw t c x.lock) { place = Taking; held = record { cell = c; word = r.word; value = y; stored = false } ∷ t.held }) u a calm f g
+      no_conflict (record (saw t c x.lock) { place = Taking; held = record { cell = c; word = r.word; value = y; stored = false } ∷ t.held; locked = c ∷ t.locked }) u a calm f g
   row_cause a v u (take_conflicts {c} {r = r} {x} p i h m) f g = (c, refl, λ L b. go L b p)
     where
       at_last : (L : ℕ) → Steady L w.cells t.rv t.held t.reads c → ((k : Held) → find_held c t.held ≡ Some k → ⊥) → ⊥

@@ -21,6 +21,7 @@ pub mod Opacity
 pub mod Halves
 pub mod Since
 pub mod Causes
+pub mod Lockers
 pub mod Laws
 pub mod Fronts
 pub mod Stepping

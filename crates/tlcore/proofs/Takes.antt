@@ -71,7 +71,7 @@ module _ (o : List ℕ) (w : World) (s : ℕ) (t : Seat) (c v word : ℕ) (x : C
           absurd (odd_even old.0 u (omega (arith, z, j, old.1)))
       go (inr p) = I.cells d u y p.1 j
 
-  take_seat : SeatOk o (slice_set w.cells c (record x { lock = suc word })) w.history (record (saw t c x.lock) { place = Taking; held = record { cell = c; word = word; value = v; stored = false } ∷ t.held })
+  take_seat : SeatOk o (slice_set w.cells c (record x { lock = suc word })) w.history (record (saw t c x.lock) { place = Taking; held = record { cell = c; word = word; value = v; stored = false } ∷ t.held; locked = c ∷ t.locked })
   take_seat =
       record {
         place = tt;
@@ -102,7 +102,7 @@ module _ (o : List ℕ) (w : World) (s : ℕ) (t : Seat) (c v word : ℕ) (x : C
 
   pub taken_keeps : Consistent o (taken w s t c v word x)
   taken_keeps =
-      Consistent-step o w s t (record (saw t c x.lock) { place = Taking; held = record { cell = c; word = word; value = v; stored = false } ∷ t.held })
+      Consistent-step o w s t (record (saw t c x.lock) { place = Taking; held = record { cell = c; word = word; value = v; stored = false } ∷ t.held; locked = c ∷ t.locked })
       (slice_set w.cells c (record x { lock = suc word })) w.history w.clock (record { cell = c; word = word; value = v; stored = false } ∷ t.held) None I e
       (set_frame o w.cells w.history w.history (record { cell = c; word = word; value = v; stored = false } ∷ t.held) None c (record x { lock = suc word })
       (Grows-refl w.history) (Stays-refl o w.history) (λ d i u a. a) (λ i a b p. p) (record { cell = c; word = word; value = v; stored = false })

@@ -1,8 +1,10 @@
--- Conflicts have their own cause: another seat held the cell since the run began.
-use Rattle.std.specs.Prelude.{◌≡◌, ◌≢◌, ℕ, true, false, Option, Some, None, List, [], ◌∷◌, ◌++◌, slice_get}
+-- Conflicts have their own cause: another seat held the cell since the run began. And who holds a cell has locked it, as its list tells.
+use Rattle.std.specs.Prelude.{◌≡◌, ◌≢◌, ◌⊎◌, ◌==◌, ℕ, true, false, Option, Some, None, List, [], ◌∷◌, ◌++◌, slice_get}
+use Rattle.std.specs.List.{list_any}
 use Rattle.tlcore.specs.Seats.{Held, Seat, find_held}
 use Rattle.tlcore.specs.Machine.{World, Action, Begin, Look, Load, Relook, Take, Draw, Check, Store, Release, next}
 use Rattle.tlcore.specs.Schedules.{Event, run, start}
+use Rattle.tlcore.specs.Invariant.{Holds}
 
 -- the cell of an action
 abbrev pub cell_of : Action → Option ℕ
@@ -43,3 +45,15 @@ ConflictsHaveCause =
     → run front (start values seats) ≡ Some before → next before seat Begin ≡ Some begun
     → NoBegin seat meanwhile → run meanwhile begun ≡ Some last → next last seat action ≡ Some after
     → ConflictHasCause begun meanwhile last seat action after
+
+-- from the seat t on until it was u it has locked these cells, the newest first; and each that it holds then it held before, or is one of them
+pub record HasLocked (t u : Seat) : Type 0 where
+  pub cells : List ℕ
+  pub locked : u.locked ≡ cells ++ t.locked
+  pub held : (c : ℕ) → Holds u c → Holds t c ⊎ (list_any (λ d. d == c) cells ≡ true)
+
+-- in every schedule, from each world on
+abbrev pub HoldersHaveLocked : Type 0
+HoldersHaveLocked =
+    (es : List Event) (now later : World) (s : ℕ) (t u : Seat)
+    → run es now ≡ Some later → slice_get now.seats s ≡ Some t → slice_get later.seats s ≡ Some u → HasLocked t u

@@ -39,7 +39,16 @@ saw t c word = record t { looked = Some (c, word) }
 -- Begin (section 2.2, step 1): the clock is sampled as rv
 abbrev pub begun : World → Seat → Seat
 begun w t =
-    record { place = Reading; rv = w.clock; reads = []; held = []; conflicted = false; clocks = w.clock ∷ t.clocks; looked = None }
+    record {
+      place = Reading;
+      rv = w.clock;
+      reads = [];
+      held = [];
+      conflicted = false;
+      clocks = w.clock ∷ t.clocks;
+      locked = t.locked;
+      looked = None;
+    }
 
 -- Look (step 2): the lock word is to be free and of version at most rv
 abbrev pub look : World → ℕ → Seat → ℕ → Cell → World
@@ -68,6 +77,7 @@ taken w s t c value word x =
             place = Taking;
             held =
                 record { cell = c; word = word; value = value; stored = false } ∷ t.held;
+            locked = c ∷ t.locked;
           });
     }
 

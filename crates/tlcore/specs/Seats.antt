@@ -12,7 +12,8 @@ pub use Rattle.tlcore.specs.declared.seats.Place.{Place}
 pub use Rattle.tlcore.specs.declared.seats.Place.TheVariants.{Idle, Reading, Looked, Loaded, Taking, Checking, Storing, Failing, Voiding}
 
 -- conflicted: the seat's last run met a conflict, and no Begin of the seat came since. clocks: what its loads of the clock found, the newest
--- first. looked: the cell and the lock word that its last look, check or take since the last of these found
+-- first. locked: the cells that it has locked, in all its runs, the newest first. looked: the cell and the lock word that its last look, check or
+-- take since the last load of the clock found
 pub record Seat : Type 0 where
   pub place : Place
   pub rv : ℕ
@@ -20,11 +21,12 @@ pub record Seat : Type 0 where
   pub held : List Held
   pub conflicted : Bool
   pub clocks : List ℕ
+  pub locked : List ℕ
   pub looked : Option (ℕ × ℕ)
 
 -- a seat that never ran
 abbrev pub idle : Seat
-idle = record { place = Idle; rv = 0; reads = []; held = []; conflicted = false; clocks = []; looked = None }
+idle = record { place = Idle; rv = 0; reads = []; held = []; conflicted = false; clocks = []; locked = []; looked = None }
 
 -- the index of the entry that the run has drawn
 abbrev pub number_at : Place → Option ℕ

@@ -54,6 +54,7 @@ pub fn take(
                 stored: false,
             },
         )?;
+        seat.locked.insert(0, cell)?;
         cells[cell].lock = read.word + 1;
         seat.place = Place::Taking;
     } else {

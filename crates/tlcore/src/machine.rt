@@ -174,6 +174,7 @@ fn idle_seats(alloc: Global, seats: usize) -> Result<Vec<Seat>, AllocError>
             held: Vec::new(alloc),
             conflicted: false,
             clocks: Vec::new(alloc),
+            locked: Vec::new(alloc),
             looked: None,
         })?;
     }

@@ -68,6 +68,8 @@ pub struct Seat {
     pub conflicted: bool,
     /// What the loads of the clock found, the newest first.
     pub clocks: Vec<u64>,
+    /// The cells that the seat has locked, in all its runs, the newest first.
+    pub locked: Vec<usize>,
     /// The cell and the lock word that the last look, check or take since the last load of the clock found.
     pub looked: Option<(usize, u64)>,
 }
@@ -77,7 +79,7 @@ impl Model for Seat {
 
     ghost Value = { SeatValue };
 
-    ghost view = { λ a. record { place = a.place; rv = a.rv; reads = a.reads.items; held = a.held.items; conflicted = a.conflicted; clocks = a.clocks.items; looked = a.looked } };
+    ghost view = { λ a. record { place = a.place; rv = a.rv; reads = a.reads.items; held = a.held.items; conflicted = a.conflicted; clocks = a.clocks.items; locked = a.locked.items; looked = a.looked } };
 }
 
 impl Seat {
@@ -92,6 +94,7 @@ impl Seat {
             held: self.held.clone()?,
             conflicted: self.conflicted,
             clocks: self.clocks.clone()?,
+            locked: self.locked.clone()?,
             looked: self.looked,
         })
     }

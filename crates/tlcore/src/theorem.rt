@@ -5,7 +5,7 @@ ghost use Rattle.std.specs.Prelude.{ℕ, List};
 ghost use Rattle.tlcore.specs.Schedules.{start};
 ghost use Rattle.tlcore.specs.Opacity.{Always, NowAndLater, AtEachEvent};
 ghost use Rattle.tlcore.specs.Opacity.{HistoryGrows, ReadsAreOne, DoneAreOne, WordsShow, StoresAreDone, HalvesWereWritten};
-ghost use Rattle.tlcore.specs.Conflicts.{ConflictsHaveCause};
+ghost use Rattle.tlcore.specs.Conflicts.{ConflictsHaveCause, HoldersHaveLocked};
 ghost use Rattle.tlcore.specs.Invariant.{Invariant};
 ghost use Rattle.tlcore.specs.Laws.{EachEventKeeps, BeginLeads, LookLeads, LoadLeads, RelookLeads, TakeLeads, DrawLeads};
 ghost use Rattle.tlcore.specs.Laws.{CheckLeads, StoreLeads, ReleaseLeads, ReleaseFailedLeads, ReleaseVoidLeads, IdleSeatKeeps, HalvesAreWritten, OneStays};
@@ -36,6 +36,8 @@ pub fn every_schedule()
     ensures halves_were_written { Always HalvesWereWritten }
     // A run conflicts only where, after its Begin, another seat held or released the lock of a cell that it read or wrote.
     ensures conflicts_have_cause { ConflictsHaveCause }
+    // Who holds a cell, and didn't some time before, has locked it since: its list of the cells that it has locked tells it.
+    ensures holders_have_locked { HoldersHaveLocked }
 {}
 
 /// What each kind of event does to a world that meets the invariant: it is lawful under these premises, it leads to this world,

@@ -74,7 +74,7 @@ module _ {S N : Type 0} (terms : Terms S N) (setting : S) (base : List ℕ) (roo
       let u : View S N = record v { seen = h; seat = z } in
       let f : Suits terms setting base room h r.owner v = r.suits id v at in
       let held : ℕ → Seat = λ k.
-      record (saw t c k) { place = Taking; held = record { cell = c; word = old; value = value; stored = false } ∷ t.held } in
+      record (saw t c k) { place = Taking; held = record { cell = c; word = old; value = value; stored = false } ∷ t.held; locked = c ∷ t.locked } in
       let lost : ℕ → Seat = λ k. conflict (saw t c k) (if is_nil t.held then Idle else Failing) in
       let none_now : (k : ℕ) → number_at t.place ≡ Some k → ⊥ = λ k a.
       ⊎_elim (λ (b : t.place ≡ Reading). no_number t.place Reading k b refl a)

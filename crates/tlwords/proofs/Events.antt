@@ -139,7 +139,7 @@ module _ {S N : Type 0} (terms : Terms S N) (setting : S) (base : List ℕ) (roo
       let is : n ≡ (x.0).lock = lock_is m r at c x.0 x.1 in
       let l = lock_within at.rule.front w at.rule.kept.words_are c x.0 x.1 in
       let lead = take_leads base w at.seat s c value d x.0 at.rule.kept.invariant (here_seat m r at) place read x.1 in
-      let held : ℕ → Seat = λ k. record (saw s c k) { place = Taking; held = record { cell = c; word = d.word; value = value; stored = false } ∷ s.held } in
+      let held : ℕ → Seat = λ k. record (saw s c k) { place = Taking; held = record { cell = c; word = d.word; value = value; stored = false } ∷ s.held; locked = c ∷ s.locked } in
       let lost : ℕ → Seat = λ k. conflict (saw s c k) (if is_nil s.held then Idle else Failing) in
       let world : World = taken w at.seat s c value d.word x.0 in
       let seat : r.0.seat ≡ after_take s c value d.word n = ap (λ (v : View S N). v.seat) t.is in

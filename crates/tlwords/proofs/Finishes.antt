@@ -12,7 +12,7 @@ use Rattle.tlwords.specs.Views.{View}
 use Rattle.tlwords.specs.Plays.{Mine, Recalls}
 use Rattle.tlwords.specs.Runs.{IsKeptOf, IsPassOf, IsRunOf}
 use Rattle.tlwords.specs.Commits.{writes_kept, work_kept, HasAnswered, IsLawfulNow}
-use Rattle.tlwords.specs.Committing.{held_in, holding, Goes}
+use Rattle.tlwords.specs.Committing.{held_in, locking, Goes}
 use Rattle.tlwords.specs.Walks.{NoneWanted}
 use Rattle.tlwords.proofs.Seens.{permits_grow}
 use Rattle.tlwords.proofs.RunSteps.{left_fits, known_setting}
@@ -52,9 +52,9 @@ module _ {S N : Type 0} (terms : Terms S N) (slots : List Slot) (x : N) (m r : M
         p.4,
       )
 
-  module _ (g : Goes terms m (holding m.0.seat Taking Reading (held_in slots 0 0 (length slots))) r) where
-    at : r.0.seat ≡ record (holding m.0.seat Taking Reading (held_in slots 0 0 (length slots))) { looked = r.0.seat.looked }
-    at = goes_seat terms m r (holding m.0.seat Taking Reading (held_in slots 0 0 (length slots))) g
+  module _ (g : Goes terms m (locking m.0.seat Taking Reading (held_in slots 0 0 (length slots))) r) where
+    at : r.0.seat ≡ record (locking m.0.seat Taking Reading (held_in slots 0 0 (length slots))) { looked = r.0.seat.looked }
+    at = goes_seat terms m r (locking m.0.seat Taking Reading (held_in slots 0 0 (length slots))) g
 
     pub taken_run : (place : ℕ) → writes_kept slots ≢ [] → m.0.seat.rv ≡ place
         → (r.0.seat.place ≡ Taking) × (r.0.seat.rv ≡ place) × (r.0.seat.held ≡ held_in slots 0 0 (length slots))
@@ -68,7 +68,7 @@ module _ {S N : Type 0} (terms : Terms S N) (slots : List Slot) (x : N) (m r : M
         → (z : S) × (r.0.setting ≡ Some z) × Permits terms z r.0.seen.ranges (reads_of r.0.seat.reads) (writes_kept slots) x
     taken_lawful y e f = (
       y,
-      goes_setting terms m r (holding m.0.seat Taking Reading (held_in slots 0 0 (length slots))) y g e,
+      goes_setting terms m r (locking m.0.seat Taking Reading (held_in slots 0 0 (length slots))) y g e,
       subst (λ (t : Seat). Permits terms y r.0.seen.ranges (reads_of t.reads) (writes_kept slots) x) (sym at)
           (permits_grow terms y m.0.seen.ranges r.0.seen.ranges (moves_grow terms m r g.moves).2 (f y e)),
     )

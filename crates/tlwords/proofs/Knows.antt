@@ -7,7 +7,7 @@ use Rattle.tlwords.specs.Terms.{Terms}
 use Rattle.tlwords.specs.Views.{Staging, Gone, View, Sound}
 use Rattle.tlwords.specs.Plays.{Mine, Sampled, Refreshes, told_by}
 use Rattle.tlwords.specs.Runs.{KnowsStore, ReadsCell, Stops}
-use Rattle.tlwords.specs.Commits.{work_kept, HasEnded, HasCommitted, HasAnswered, HasConflicted}
+use Rattle.tlwords.specs.Commits.{writes_kept, writes_below, cells_of, work_kept, HasEnded, HasCommitted, HasAnswered, HasConflicted}
 use Rattle.tlwords.proofs.RunSteps.{known_setting}
 
 -- the range that a pass is staging, and the passes that were given up to it
@@ -43,7 +43,7 @@ module _ {S N : Type 0} (terms : Terms S N) where
   pub ended_knows : (slots : List Slot) (n : N) (m r : Mine S N) (e : Outcome) (o : Bool) → HasEnded terms slots n m r e
       → is_some m.0.setting ≡ true → KnowsStore m.0 o → KnowsStore r.0 o
   ended_knows slots n m r (EndsDone number) o h set k =
-      let c : HasCommitted terms number (work_kept m.0.seat slots n) m r = h.1 in
+      let c : HasCommitted terms (cells_of (writes_kept slots)) number (work_kept m.0.seat slots n) m r = h.1 in
       knows_on m.0 r.0 o c.sees.sound (ap (λ (v : View S N). is_some v.setting) c.is ∙ set) (ap (λ (v : View S N). rest_of v) c.is)
       (ap (λ (v : View S N). v.full) c.is) k
   ended_knows slots n m r (EndsRead place) o h set k =
@@ -51,11 +51,11 @@ module _ {S N : Type 0} (terms : Terms S N) where
       knows_on m.0 r.0 o a.sees.sound (ap (λ (v : View S N). is_some v.setting) a.is ∙ set) (ap (λ (v : View S N). rest_of v) a.is)
       (ap (λ (v : View S N). v.full) a.is) k
   ended_knows slots n m r (EndsConflict j None) o h set k =
-      let c : HasConflicted terms slots n j None m r = h.1 in
+      let c : HasConflicted terms slots (cells_of (writes_below slots j.cell)) n j None m r = h.1 in
       knows_on m.0 r.0 o c.sees.sound (ap (λ (v : View S N). is_some v.setting) c.entry ∙ set) (ap (λ (v : View S N). rest_of v) c.entry)
       (ap (λ (v : View S N). v.full) c.entry) k
   ended_knows slots n m r (EndsConflict j (Some number)) o h set k =
-      let c : HasConflicted terms slots n j (Some number) m r = h.1 in
+      let c : HasConflicted terms slots (cells_of (writes_kept slots)) n j (Some number) m r = h.1 in
       let e = c.entry.4 in
       knows_on m.0 r.0 o c.sees.sound (ap (λ (v : View S N). is_some v.setting) e ∙ set) (ap (λ (v : View S N). rest_of v) e)
       (ap (λ (v : View S N). v.full) e) k
@@ -81,15 +81,15 @@ module _ {S N : Type 0} (terms : Terms S N) where
   pub ended_same : (slots : List Slot) (n : N) (m r : Mine S N) (e : Outcome) → HasEnded terms slots n m r e
       → (r.0.base ≡ m.0.base) × (r.0.room ≡ m.0.room)
   ended_same slots n m r (EndsDone number) h =
-      let c : HasCommitted terms number (work_kept m.0.seat slots n) m r = h.1 in
+      let c : HasCommitted terms (cells_of (writes_kept slots)) number (work_kept m.0.seat slots n) m r = h.1 in
       (ap (λ (v : View S N). v.base) c.is, ap (λ (v : View S N). v.room) c.is)
   ended_same slots n m r (EndsRead place) h =
       let a : HasAnswered terms (work_kept m.0.seat slots n) m r = h.2 in
       (ap (λ (v : View S N). v.base) a.is, ap (λ (v : View S N). v.room) a.is)
   ended_same slots n m r (EndsConflict k None) h =
-      let c : HasConflicted terms slots n k None m r = h.1 in
+      let c : HasConflicted terms slots (cells_of (writes_below slots k.cell)) n k None m r = h.1 in
       (ap (λ (v : View S N). v.base) c.entry, ap (λ (v : View S N). v.room) c.entry)
   ended_same slots n m r (EndsConflict k (Some number)) h =
-      let c : HasConflicted terms slots n k (Some number) m r = h.1 in
+      let c : HasConflicted terms slots (cells_of (writes_kept slots)) n k (Some number) m r = h.1 in
       (ap (λ (v : View S N). v.base) c.entry.4, ap (λ (v : View S N). v.room) c.entry.4)
   ended_same slots n m r NumbersUsed h = (ap (λ (z : Mine S N). z.0.base) h.2, ap (λ (z : Mine S N). z.0.room) h.2)

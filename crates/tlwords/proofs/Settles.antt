@@ -16,8 +16,9 @@ use Rattle.tlwords.specs.Seen.{Work, Committed, IsDone}
 use Rattle.tlwords.specs.Views.{View}
 use Rattle.tlwords.specs.Plays.{Mine, Draws}
 use Rattle.tlwords.specs.Runs.{value_kept, IsKeptOf, HasCause}
-use Rattle.tlwords.specs.Commits.{writes_kept, work_kept, over_seat, Finds, HasCommitted, HasNoEntry, HasConflicted}
-use Rattle.tlwords.specs.Committing.{held_in, holding, Goes, FailsToTake, FailsTheCheck, Passes, StoresTo, Releasing, ReleasesAll}
+use Rattle.ranges.specs.Pairs.{Pairs}
+use Rattle.tlwords.specs.Commits.{writes_kept, writes_below, cells_of, work_kept, over_seat, Finds, HasCommitted, HasNoEntry, HasConflicted}
+use Rattle.tlwords.specs.Committing.{held_in, holding, locking, Goes, FailsToTake, FailsTheCheck, Passes, StoresTo, Releasing, ReleasesAll}
 use Rattle.tlwords.proofs.Seens.{done_grows}
 use Rattle.tlwords.proofs.Logs.{kept_same}
 use Rattle.tlwords.proofs.Held.{held_cell, held_find, held_writes}
@@ -69,13 +70,10 @@ module _ {S N : Type 0} (terms : Terms S N) (slots : List Slot) where
   -- ---- a take failed
 
   module _ (k : Conflict) (m r : Mine S N) (f : FailsToTake terms slots k m r) where
-    lost : Seat
-    lost = holding (conflict m.0.seat Idle) Failing Idle (held_in slots 0 0 k.cell)
-
     pub failed_releases : Releasing terms slots k.cell None 0 r r
     failed_releases =
-        let e : r.0.seat ≡ record (holding (conflict m.0.seat Idle) Failing Idle (held_in slots 0 0 k.cell)) { looked = r.0.seat.looked } =
-        goes_seat terms m r (holding (conflict m.0.seat Idle) Failing Idle (held_in slots 0 0 k.cell)) f.goes in
+        let e : r.0.seat ≡ record (locking (conflict m.0.seat Idle) Failing Idle (held_in slots 0 0 k.cell)) { looked = r.0.seat.looked } =
+        goes_seat terms m r (locking (conflict m.0.seat Idle) Failing Idle (held_in slots 0 0 k.cell)) f.goes in
         let start : r.0.seat ≡ holding r.0.seat Failing Idle (held_in slots 0 0 k.cell) =
         e ∙ ap (λ (t : Seat). holding t Failing Idle (held_in slots 0 0 k.cell)) (sym e) in
         record {
@@ -88,16 +86,17 @@ module _ {S N : Type 0} (terms : Terms S N) (slots : List Slot) where
           void = λ i e. inl refl;
         }
 
-    pub failed_ends : (n : N) (s : Mine S N) → ReleasesAll terms r s → HasConflicted terms slots n k None m s
+    pub failed_ends : (n : N) (s : Mine S N) → ReleasesAll terms r s
+        → HasConflicted terms slots (cells_of (writes_below slots k.cell)) n k None m s
     failed_ends n s g =
-        record {
+        subst (λ (ps : Pairs). HasConflicted terms slots (cells_of ps) n k None m s) (held_writes slots 0 k.cell) (record {
           sees = sees_on terms m r s f.sees g.goes.moves;
           finds = finds_on k r s g f.finds;
           read = ap is_some f.differs.1;
           cause = inr f.differs;
           entry = g.goes.is ∙ ap (λ (v : View S N). let w : View S N =
               record v { seen = s.0.seen; seat = record v.seat { place = Idle; held = []; looked = s.0.seat.looked } } in w) f.goes.is;
-        }
+        })
 
   -- ---- a number was drawn
 
@@ -150,7 +149,7 @@ module _ {S N : Type 0} (terms : Terms S N) (slots : List Slot) where
           }
 
       pub void_ends : (z : Mine S N) → ReleasesAll terms s z → (number : ℕ) → number ≡ suc n
-          → HasConflicted terms slots x k (Some number) m z
+          → HasConflicted terms slots [] x k (Some number) m z
       void_ends z g number is =
           record {
             sees = sees_on terms m s z (sees_on terms m r s d.sees f.goes.moves) g.goes.moves;
@@ -165,10 +164,10 @@ module _ {S N : Type 0} (terms : Terms S N) (slots : List Slot) where
               g.goes.is ∙ (ap (λ (v : View S N). let w : View S N =
                   record v { seen = z.0.seen; seat = record v.seat { place = Idle; held = []; looked = z.0.seat.looked } } in w) f.goes.is
                   ∙ ap (λ (v : View S N). let w : View S N = record v
-                  { seen = z.0.seen; seat = over_seat terms v.seat true z.0.seat.looked } in w) drawn_is)
+                  { seen = z.0.seen; seat = over_seat terms v.seat true [] z.0.seat.looked } in w) drawn_is)
                   ∙ (λ j. let w : View S N = record m.0 {
                     seen = z.0.seen;
-                    seat = over_seat terms m.0.seat true z.0.seat.looked;
+                    seat = over_seat terms m.0.seat true [] z.0.seat.looked;
                     note = Some x;
                     drawn = m.0.drawn ++ sym is j ∷ [];
                   } in w),
@@ -240,7 +239,7 @@ module _ {S N : Type 0} (terms : Terms S N) (slots : List Slot) where
             }
 
         pub done_ends : (u : Mine S N) → ReleasesAll terms z u → (number : ℕ) → number ≡ suc n
-            → HasCommitted terms number (work_kept m.0.seat slots x) m u
+            → HasCommitted terms [] number (work_kept m.0.seat slots x) m u
         done_ends u g number is =
             record {
               sees = sees_on terms m z u (moves_then terms m s z (inr (sees_on terms m r s d.sees p.goes.moves)) a.sees) g.goes.moves;
@@ -254,7 +253,7 @@ module _ {S N : Type 0} (terms : Terms S N) (slots : List Slot) where
                   ∙ (ap (ended u n (work_kept s.0.seat slots x)) p.goes.is ∙ (ap (ended u n (work_kept s.0.seat slots x)) drawn_is
                   ∙ (λ j. let w : View S N = record m.0 {
                     seen = u.0.seen;
-                    seat = over_seat terms m.0.seat m.0.seat.conflicted u.0.seat.looked;
+                    seat = over_seat terms m.0.seat m.0.seat.conflicted [] u.0.seat.looked;
                     note = Some x;
                     drawn = m.0.drawn ++ sym is j ∷ [];
                     mine = m.0.mine ++ Committed (sym is j) (same_work j) ∷ [];
@@ -266,20 +265,17 @@ module _ {S N : Type 0} (terms : Terms S N) (slots : List Slot) where
 
   -- ---- all locks were taken before
 
-  module _ (m r : Mine S N) (ks : List Held) (g : Goes terms m (holding m.0.seat Taking Reading ks) r) where
-    taken : Seat
-    taken = holding m.0.seat Taking Reading ks
-
-    pub taken_seat : r.0.seat ≡ record (holding m.0.seat Taking Reading ks) { looked = r.0.seat.looked }
-    taken_seat = goes_seat terms m r (holding m.0.seat Taking Reading ks) g
+  module _ (m r : Mine S N) (ks : List Held) (g : Goes terms m (locking m.0.seat Taking Reading ks) r) where
+    pub taken_seat : r.0.seat ≡ record (locking m.0.seat Taking Reading ks) { looked = r.0.seat.looked }
+    taken_seat = goes_seat terms m r (locking m.0.seat Taking Reading ks) g
 
     seen_before : (i : ℕ) → length r.0.seen.history ≤ i → length m.0.seen.history ≤ i
     seen_before i l = let a : length m.0.seen.history ≤ length r.0.seen.history = (moves_grow terms m r g.moves).0.0 in omega (arith, a, l)
 
-    pub committed_from : (number : ℕ) (x : N) (s : Mine S N) → HasCommitted terms number (work_kept r.0.seat slots x) r s
-        → HasCommitted terms number (work_kept m.0.seat slots x) m s
-    committed_from number x s h =
-        record {
+    pub committed_from : (number : ℕ) (x : N) (s : Mine S N) (ps : Pairs) → writes_of ks ≡ ps
+        → HasCommitted terms [] number (work_kept r.0.seat slots x) r s → HasCommitted terms (cells_of ps) number (work_kept m.0.seat slots x) m s
+    committed_from number x s ps all h =
+        subst (λ (ws : Pairs). HasCommitted terms (cells_of ws) number (work_kept m.0.seat slots x) m s) all (record {
           sees = moves_then terms m r s g.moves h.sees;
           index = h.index;
           number_is = h.number_is;
@@ -287,26 +283,27 @@ module _ {S N : Type 0} (terms : Terms S N) (slots : List Slot) where
           done = subst (λ (w : Work N). IsDone s.0.seen h.index w) same_work h.done;
           is = h.is ∙ (ap (λ (v : View S N). let w : View S N = record v {
             seen = s.0.seen;
-            seat = over_seat terms v.seat v.seat.conflicted s.0.seat.looked;
+            seat = over_seat terms v.seat v.seat.conflicted [] s.0.seat.looked;
             note = Some x;
             drawn = v.drawn ++ number ∷ [];
             mine = v.mine ++ Committed number (work_kept r.0.seat slots x) ∷ [];
           } in w) g.is ∙ ap (λ (k : Work N). let w : View S N = record m.0 {
             seen = s.0.seen;
-            seat = over_seat terms m.0.seat m.0.seat.conflicted s.0.seat.looked;
+            seat = over_seat terms m.0.seat m.0.seat.conflicted (cells_of (writes_of ks)) s.0.seat.looked;
             note = Some x;
             drawn = m.0.drawn ++ number ∷ [];
             mine = m.0.mine ++ Committed number k ∷ [];
           } in w) same_work);
-        }
+        })
       where
         same_work : work_kept r.0.seat slots x ≡ work_kept m.0.seat slots x
         same_work = ap (λ (t : Seat). work_kept t slots x) taken_seat
 
-    unentered : (x : N) (drawn : Option ℕ) (s : Mine S N) → HasNoEntry terms x drawn r s → HasNoEntry terms x drawn m s
+    unentered : (x : N) (drawn : Option ℕ) (s : Mine S N) → HasNoEntry terms [] x drawn r s
+        → HasNoEntry terms (cells_of (writes_of ks)) x drawn m s
     unentered x None s e =
         e ∙ ap (λ (v : View S N). let w : View S N = record v
-        { seen = s.0.seen; seat = over_seat terms v.seat true s.0.seat.looked } in w) g.is
+        { seen = s.0.seen; seat = over_seat terms v.seat true [] s.0.seat.looked } in w) g.is
     unentered x (Some number) s e = (
       e.0,
       e.1,
@@ -314,19 +311,19 @@ module _ {S N : Type 0} (terms : Terms S N) (slots : List Slot) where
       e.3,
       e.4 ∙ ap (λ (v : View S N). let w : View S N = record v {
         seen = s.0.seen;
-        seat = over_seat terms v.seat true s.0.seat.looked;
+        seat = over_seat terms v.seat true [] s.0.seat.looked;
         note = Some x;
         drawn = v.drawn ++ number ∷ [];
       } in w) g.is,
     )
 
-    pub conflicted_from : (x : N) (k : Conflict) (drawn : Option ℕ) (s : Mine S N) → HasConflicted terms slots x k drawn r s
-        → HasConflicted terms slots x k drawn m s
-    conflicted_from x k drawn s h =
-        record {
+    pub conflicted_from : (x : N) (k : Conflict) (drawn : Option ℕ) (s : Mine S N) (ps : Pairs) → writes_of ks ≡ ps
+        → HasConflicted terms slots [] x k drawn r s → HasConflicted terms slots (cells_of ps) x k drawn m s
+    conflicted_from x k drawn s ps all h =
+        subst (λ (ws : Pairs). HasConflicted terms slots (cells_of ws) x k drawn m s) all (record {
           sees = moves_then terms m r s g.moves h.sees;
           finds = h.finds;
           read = h.read;
           cause = subst (λ (t : Seat). HasCause t.rv k.word ⊎ ((w : ℕ) × (k.before ≡ Some w) × (w ≢ k.word))) taken_seat h.cause;
           entry = unentered x drawn s h.entry;
-        }
+        })

@@ -24,7 +24,7 @@ use Rattle.tlwords.specs.Views.{View, Sound, fresh}
 use Rattle.tlwords.specs.Known.{Known, Going, Knows, Stands, known_of, going_of, found_of, word_told}
 use Rattle.tlwords.specs.Plays.{Mine, Sees, Sampled, Refreshes}
 use Rattle.tlwords.specs.Runs.{KnowsStore, Rests, IsBlank, IsPassOf, IsRunOf, HasCause, word_seen, noted, IsKeptOf, ReadsCell, Stops, Stages as SeatStages, Learns as SeatLearns}
-use Rattle.tlwords.specs.Commits.{work_kept, HasCommitted, HasAnswered, HasConflicted, HasEnded}
+use Rattle.tlwords.specs.Commits.{writes_kept, writes_below, cells_of, work_kept, HasCommitted, HasAnswered, HasConflicted, HasEnded}
 use Rattle.tlwords.specs.Calls as calls
 use Rattle.tlwords.proofs.RunSteps.{left_fits}
 use Rattle.tlwords.proofs.Openings.{new_sound}
@@ -211,7 +211,7 @@ module _ {S N : Type 0} (terms : Terms S N) where
       → later ≡ table → m.0.seat.rv ≡ place → IsKeptOf (noted mode m.0.seat) slots → IsPassOf r count → HasEnded terms slots n m r o
       → calls.Ends terms n (going_of table m.0 place mode over slots) (known_of later r.0) o
   end_tells table later place count mode over slots n m r (EndsDone number) e rv kept f h =
-      let c : HasCommitted terms number (work_kept m.0.seat slots n) m r = h.1 in (
+      let c : HasCommitted terms (cells_of (writes_kept slots)) number (work_kept m.0.seat slots n) m r = h.1 in (
         h.0,
         record {
           grows = c.sees.own;
@@ -237,7 +237,7 @@ module _ {S N : Type 0} (terms : Terms S N) where
         },
       )
   end_tells table later place count mode over slots n m r (EndsConflict k None) e rv kept f h =
-      let c : HasConflicted terms slots n k None m r = h.1 in
+      let c : HasConflicted terms slots (cells_of (writes_below slots k.cell)) n k None m r = h.1 in
       let told = told_by_newest mode slots n k m r c.finds.before kept (ap (λ (v : View S N). found_of v.seat.reads) (sym c.entry)) in (
         h.0,
         record {
@@ -250,7 +250,7 @@ module _ {S N : Type 0} (terms : Terms S N) where
         },
       )
   end_tells table later place count mode over slots n m r (EndsConflict k (Some number)) e rv kept f h =
-      let c : HasConflicted terms slots n k (Some number) m r = h.1 in
+      let c : HasConflicted terms slots (cells_of (writes_kept slots)) n k (Some number) m r = h.1 in
       let told = told_by_newest mode slots n k m r c.finds.before kept (ap (λ (v : View S N). found_of v.seat.reads) (sym c.entry.4)) in (
         h.0,
         record {

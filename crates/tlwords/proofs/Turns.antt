@@ -1,9 +1,9 @@
 -- A run that commits, step by step.
 use Rattle.std.proofs.Common.{◌≡◌, ◌≢◌, ℕ, ◌+◌, ◌<◌, ◌≤◌, ◌⊎◌, inl, inr, eq-eqb, ne_eqb, Bool, true, false, ◌==◌, ◌&&◌, is_some}
-use Rattle.std.proofs.Common.{if◌then◌else◌, Option, Some, None, List, ◌∷◌, length, sym, refl, ap, ◌∙◌, subst}
+use Rattle.std.proofs.Common.{if◌then◌else◌, Option, Some, None, List, ◌∷◌, ◌++◌, length, sym, refl, ap, ◌∙◌, subst}
 use Rattle.std.specs.Option.{option_map}
 use Rattle.atomic_table.specs.declared.shared.Seat.{Seat as TableSeat}
-use Rattle.tlcore.specs.Seats.{Seat, find_read, is_nil, all_below}
+use Rattle.tlcore.specs.Seats.{Seat, find_read, is_nil, all_below, writes_of}
 use Rattle.tlcore.specs.Machine.{conflict, saw}
 use Rattle.tlcore.proofs.Lists.{known}
 use Rattle.tlcore.specs.declared.seats.Read.{Read}
@@ -15,7 +15,8 @@ use Rattle.tlwords.specs.Seen.{SeenGrows}
 use Rattle.tlwords.specs.Views.{View}
 use Rattle.tlwords.specs.Plays.{Mine, Sees, Takes, after_take, IsSameSeat}
 use Rattle.tlwords.specs.Runs.{word_seen, value_kept, was_read, IsKeptOf}
-use Rattle.tlwords.specs.Committing.{held_in, holding, Goes, FailsToTake}
+use Rattle.tlwords.specs.Commits.{cells_of}
+use Rattle.tlwords.specs.Committing.{held_in, locking, Goes, FailsToTake}
 use Rattle.tlwords.specs.Walks.{NoneWanted}
 use Rattle.tlwords.proofs.Seens.{seen_refl, seen_trans}
 use Rattle.tlwords.proofs.ReadSteps.{if_known}
@@ -112,7 +113,7 @@ module _ {S N : Type 0} (terms : Terms S N) where
 
   module _ (slots : List Slot) (m r : Mine S N) (low : ℕ) where
     abbrev Before : Type 0
-    Before = Goes terms m (holding m.0.seat Taking Reading (held_in slots 0 0 low)) r
+    Before = Goes terms m (locking m.0.seat Taking Reading (held_in slots 0 0 low)) r
 
     pub take_place : Before → (c : ℕ) → low ≤ c
         → (r.0.seat.place ≡ Reading) ⊎ ((r.0.seat.place ≡ Taking) × (all_below c r.0.seat.held ≡ true))
@@ -134,19 +135,20 @@ module _ {S N : Type 0} (terms : Terms S N) where
       hit = record (saw m.0.seat c n) {
         place = Taking;
         held = record { cell = c; word = w; value = v; stored = false } ∷ held_in slots 0 0 low;
+        locked = c ∷ (cells_of (writes_of (held_in slots 0 0 low)) ++ m.0.seat.locked);
       }
 
       abbrev miss : Seat
-      miss = conflict (saw (holding m.0.seat Taking Reading (held_in slots 0 0 low)) c n)
+      miss = conflict (saw (locking m.0.seat Taking Reading (held_in slots 0 0 low)) c n)
           (if is_nil (held_in slots 0 0 low) then Idle else Failing)
 
       pub take_goes : value_kept slots c ≡ Some v → word_seen slots c ≡ Some w → n ≡ w
-          → Goes terms m (holding m.0.seat Taking Reading (held_in slots 0 0 (c + 1))) s
+          → Goes terms m (locking m.0.seat Taking Reading (held_in slots 0 0 (c + 1))) s
       take_goes e f same =
-          goes_by (λ (t : Seat). after_take t c v w n) (λ _. Some (c, n)) m r s (holding m.0.seat Taking Reading (held_in slots 0 0 low))
-          (holding m.0.seat Taking Reading (held_in slots 0 0 (c + 1))) g t.sees t.is
+          goes_by (λ (t : Seat). after_take t c v w n) (λ _. Some (c, n)) m r s (locking m.0.seat Taking Reading (held_in slots 0 0 low))
+          (locking m.0.seat Taking Reading (held_in slots 0 0 (c + 1))) g t.sees t.is
           (λ o. if_true (n == w) hit miss (eq-eqb n w same)
-          ∙ ap (λ (ks : List Held). let z : Seat = record (holding m.0.seat Taking Reading ks) { looked = Some (c, n) } in z)
+          ∙ ap (λ (ks : List Held). let z : Seat = record (locking m.0.seat Taking Reading ks) { looked = Some (c, n) } in z)
           (sym (held_more slots low c v w l unkept e f)))
 
       pub take_fails : (b : Option ℕ) → b ≡ Some w → c < length slots → word_seen slots c ≡ Some w → n ≢ w
@@ -154,16 +156,17 @@ module _ {S N : Type 0} (terms : Terms S N) where
       take_fails b is within f ne =
           record {
             goes = goes_by (λ (t : Seat). after_take t c v w n) (λ _. Some (c, n)) m r s
-                (holding m.0.seat Taking Reading (held_in slots 0 0 low))
-                (holding (conflict m.0.seat Idle) Failing Idle (held_in slots 0 0 c)) g t.sees t.is
+                (locking m.0.seat Taking Reading (held_in slots 0 0 low))
+                (locking (conflict m.0.seat Idle) Failing Idle (held_in slots 0 0 c)) g t.sees t.is
                 (λ o. if_false (n == w) hit miss (ne_eqb n w ne)
-                ∙ ap (λ (ks : List Held). let z : Seat = record (holding (conflict m.0.seat Idle) Failing Idle ks) { looked = Some (c, n) } in z)
+                ∙ ap (λ (ks : List Held). let z : Seat = record (locking (conflict m.0.seat Idle) Failing Idle ks) { looked = Some (c, n) } in z)
                 (sym (held_on slots 0 0 low c l unkept)));
             finds = record {
               looked = ap (λ (v : View S N). v.seat.looked) t.is ∙ if_known (λ (z : Seat). z.looked ≡ Some (c, n)) (n == w)
                   (record (saw r.0.seat c n) {
                     place = Taking;
                     held = record { cell = c; word = w; value = v; stored = false } ∷ r.0.seat.held;
+                    locked = c ∷ r.0.seat.locked;
                   })
                   (conflict (saw r.0.seat c n) (if is_nil r.0.seat.held then Idle else Failing)) (λ _. refl) (λ _. refl);
               written = t.written;

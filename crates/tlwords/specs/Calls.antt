@@ -12,7 +12,7 @@ use Rattle.tlwords.specs.declared.outcome.Outcome.TheVariants.{Committed as Ends
 use Rattle.tlwords.specs.Terms.{Terms, Permits}
 use Rattle.tlwords.specs.Seen.{Work, SeenGrows, IsDone, Agree, Committed, Answered, opening_seen}
 use Rattle.tlwords.specs.Runs.{word_seen, IsBlank, HasNoted, HasCause}
-use Rattle.tlwords.specs.Commits.{writes_kept, IsVoid}
+use Rattle.tlwords.specs.Commits.{writes_kept, cells_of, cells_locked, IsVoid}
 use Rattle.tlwords.specs.Known.{Home, Known, Going, Knows, Stands, word_told}
 
 -- a pass of an opening, which has seen these ranges and done nothing yet
@@ -25,6 +25,7 @@ new_pass home ranges name =
       name = name;
       drawn = [];
       clocks = [];
+      locked = [];
       looked = None;
       found = [];
       full = None;
@@ -133,7 +134,7 @@ module _ {S N : Type 0} (terms : Terms S N) where
 
   -- ---- the end of a run
 
-  -- the call has this number, and its entry is Done, with its work
+  -- the call has this number, and its entry is Done, with its work. It has locked just the cells that it wrote
   pub record IsCommitted (number : ℕ) (w : Work N) (k r : Known S N) : Type 0 where
     pub grows : SeenGrows k.seen r.seen
     pub knows : Knows terms r
@@ -141,29 +142,36 @@ module _ {S N : Type 0} (terms : Terms S N) where
     pub number_is : number ≡ suc index
     pub later : length k.seen.history ≤ index
     pub done : IsDone r.seen index w
-    pub is : r ≡ record k { seen = r.seen; looked = r.looked; drawn = k.drawn ++ number ∷ []; mine = k.mine ++ Committed number w ∷ [] }
+    pub is : r ≡ record k {
+      seen = r.seen;
+      locked = cells_of w.writes ++ k.locked;
+      looked = r.looked;
+      drawn = k.drawn ++ number ∷ [];
+      mine = k.mine ++ Committed number w ∷ [];
+    }
 
-  -- the call wrote nothing, and is one at this place
+  -- the call wrote nothing and locked nothing, and is one at this place
   pub record IsAnswered (place : ℕ) (w : Work N) (k r : Known S N) : Type 0 where
     pub grows : SeenGrows k.seen r.seen
     pub knows : Knows terms r
     pub is : r ≡ record k { seen = r.seen; mine = k.mine ++ Answered place w ∷ [] }
 
-  -- no number was drawn, or this one alone, whose entry is Void
-  abbrev pub HasNoEntry : Option ℕ → Known S N → Known S N → Type 0
-  HasNoEntry None k r = r ≡ record k { seen = r.seen; looked = r.looked }
-  HasNoEntry (Some number) k r =
+  -- these cells were locked, and no number was drawn, or this one alone, whose entry is Void
+  abbrev pub HasNoEntry : List ℕ → Option ℕ → Known S N → Known S N → Type 0
+  HasNoEntry cells None k r = r ≡ record k { seen = r.seen; locked = cells ++ k.locked; looked = r.looked }
+  HasNoEntry cells (Some number) k r =
       (i : ℕ) × (number ≡ suc i) × (length k.seen.history ≤ i) × IsVoid r.seen i
-      × (r ≡ record k { seen = r.seen; looked = r.looked; drawn = k.drawn ++ number ∷ [] })
+      × (r ≡ record k { seen = r.seen; locked = cells ++ k.locked; looked = r.looked; drawn = k.drawn ++ number ∷ [] })
 
-  -- the call met this conflict, at a cell that the run had read, and drew this number or none
+  -- the call met this conflict, at a cell that the run had read, and drew this number or none. Each cell that it has locked is one that it was
+  -- to write
   pub record IsRejected (c : ConflictValue) (drawn : Option ℕ) (g : Going S N) (r : Known S N) : Type 0 where
     pub grows : SeenGrows g.known.seen r.seen
     pub knows : Knows terms r
     pub finds : Finds g.mode g.slots c r
     pub read : is_some c.before ≡ true
     pub cause : HasCause g.place c.word ⊎ ((w : ℕ) × (c.before ≡ Some w) × (w ≢ c.word))
-    pub entry : HasNoEntry drawn g.known r
+    pub entry : HasNoEntry (cells_locked g.slots c drawn) drawn g.known r
 
   -- what a commit with this note answers
   abbrev pub Ends : N → Going S N → Known S N → Outcome → Type 0

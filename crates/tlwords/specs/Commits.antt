@@ -1,5 +1,5 @@
 -- How a run commits: what it writes, and what the end of the call tells.
-use Rattle.std.specs.Prelude.{◌≡◌, ◌≢◌, ℕ, zero, suc, ◌/◌, ◌^◌, ◌≤◌, Bool, true, is_some, Option, Some, None, List, [], ◌∷◌, ◌++◌, length, slice_get}
+use Rattle.std.specs.Prelude.{◌≡◌, ◌≢◌, ℕ, zero, suc, ◌/◌, ◌^◌, ◌≤◌, Bool, true, is_some, Option, Some, None, List, [], ◌∷◌, ◌++◌, length, map, slice_get}
 use Rattle.std.specs.Prelude.{◌⊎◌}
 use Rattle.tlcore.specs.History.{Entry, WasWritten}
 use Rattle.tlcore.specs.Seats.{Seat, reads_of}
@@ -32,6 +32,16 @@ writes_below slots (suc n) = with_write n (value_kept slots n) (writes_below slo
 -- what the run is to write
 abbrev pub writes_kept : List Slot → Pairs
 writes_kept slots = writes_below slots (length slots)
+
+-- the cells of these pairs
+abbrev pub cells_of : Pairs → List ℕ
+cells_of ps = map (λ p. p.0) ps
+
+-- the cells that a run has locked where its commit met this conflict: all that it was to write where it drew a number, else those of them that
+-- are below the conflict's cell, which it didn't get
+abbrev pub cells_locked : List Slot → ConflictValue → Option ℕ → List ℕ
+cells_locked slots k None = cells_of (writes_below slots k.cell)
+cells_locked slots k (Some number) = cells_of (writes_kept slots)
 
 -- the work of the run
 abbrev pub work_kept : {N : Type 0} → Seat → List Slot → N → Work N
@@ -67,12 +77,13 @@ module _ {S N : Type 0} (terms : Terms S N) where
 
   -- ---- the end of the call
 
-  -- the seat of a run that is over, after this last look
-  abbrev pub over_seat : Seat → Bool → Option (ℕ × ℕ) → Seat
-  over_seat t conflicted looked = record t { place = Idle; held = []; conflicted = conflicted; looked = looked }
+  -- the seat of a run that is over, once it has locked these cells, after this last look
+  abbrev pub over_seat : Seat → Bool → List ℕ → Option (ℕ × ℕ) → Seat
+  over_seat t conflicted cells looked =
+      record t { place = Idle; held = []; conflicted = conflicted; locked = cells ++ t.locked; looked = looked }
 
-  -- the call has this number, and its entry is Done, with its work
-  pub record HasCommitted (number : ℕ) (w : Work N) (m r : Mine S N) : Type 0 where
+  -- the call has this number, and its entry is Done, with its work; it locked these cells
+  pub record HasCommitted (cells : List ℕ) (number : ℕ) (w : Work N) (m r : Mine S N) : Type 0 where
     pub sees : Sees terms m.0 r.0
     pub index : ℕ
     pub number_is : number ≡ suc index
@@ -80,7 +91,7 @@ module _ {S N : Type 0} (terms : Terms S N) where
     pub done : IsDone r.0.seen index w
     pub is : r.0 ≡ record m.0 {
       seen = r.0.seen;
-      seat = over_seat m.0.seat m.0.seat.conflicted r.0.seat.looked;
+      seat = over_seat m.0.seat m.0.seat.conflicted cells r.0.seat.looked;
       note = Some w.note;
       drawn = m.0.drawn ++ number ∷ [];
       mine = m.0.mine ++ Committed number w ∷ [];
@@ -91,29 +102,30 @@ module _ {S N : Type 0} (terms : Terms S N) where
     pub sees : Sees terms m.0 r.0
     pub is : r.0 ≡ record m.0 { seen = r.0.seen; mine = m.0.mine ++ Answered m.0.seat.rv w ∷ [] }
 
-  -- no number was drawn, or this one alone, whose entry is Void
-  abbrev pub HasNoEntry : N → Option ℕ → Mine S N → Mine S N → Type 0
-  HasNoEntry n None m r = r.0 ≡ record m.0 { seen = r.0.seen; seat = over_seat m.0.seat true r.0.seat.looked }
-  HasNoEntry n (Some number) m r =
+  -- these cells were locked, and no number was drawn, or this one alone, whose entry is Void
+  abbrev pub HasNoEntry : List ℕ → N → Option ℕ → Mine S N → Mine S N → Type 0
+  HasNoEntry cells n None m r = r.0 ≡ record m.0 { seen = r.0.seen; seat = over_seat m.0.seat true cells r.0.seat.looked }
+  HasNoEntry cells n (Some number) m r =
       (i : ℕ) × (number ≡ suc i) × (length m.0.seen.history ≤ i) × IsVoid r.0.seen i
       × (r.0 ≡ record m.0 {
         seen = r.0.seen;
-        seat = over_seat m.0.seat true r.0.seat.looked;
+        seat = over_seat m.0.seat true cells r.0.seat.looked;
         note = Some n;
         drawn = m.0.drawn ++ number ∷ [];
       })
 
-  -- the call met this conflict, at a cell that the run had read, and drew this number or none
-  pub record HasConflicted (slots : List Slot) (n : N) (k : ConflictValue) (drawn : Option ℕ) (m r : Mine S N) : Type 0 where
+  -- the call met this conflict, at a cell that the run had read, and drew this number or none; it locked these cells
+  pub record HasConflicted (slots : List Slot) (cells : List ℕ) (n : N) (k : ConflictValue) (drawn : Option ℕ) (m r : Mine S N) : Type 0 where
     pub sees : Sees terms m.0 r.0
     pub finds : Finds slots k r
     pub read : is_some k.before ≡ true
     pub cause : HasCause m.0.seat.rv k.word ⊎ ((w : ℕ) × (k.before ≡ Some w) × (w ≢ k.word))
-    pub entry : HasNoEntry n drawn m r
+    pub entry : HasNoEntry cells n drawn m r
 
   -- what a commit of what was kept tells
   abbrev pub HasEnded : List Slot → N → Mine S N → Mine S N → Outcome → Type 0
-  HasEnded slots n m r (EndsDone number) = (writes_kept slots ≢ []) × HasCommitted number (work_kept m.0.seat slots n) m r
+  HasEnded slots n m r (EndsDone number) =
+      (writes_kept slots ≢ []) × HasCommitted (cells_of (writes_kept slots)) number (work_kept m.0.seat slots n) m r
   HasEnded slots n m r (EndsRead place) = (writes_kept slots ≡ []) × (place ≡ m.0.seat.rv) × HasAnswered (work_kept m.0.seat slots n) m r
-  HasEnded slots n m r (EndsConflict k drawn) = (writes_kept slots ≢ []) × HasConflicted slots n k drawn m r
+  HasEnded slots n m r (EndsConflict k drawn) = (writes_kept slots ≢ []) × HasConflicted slots (cells_locked slots k drawn) n k drawn m r
   HasEnded slots n m r NumbersUsed = (writes_kept slots ≢ []) × (length m.0.drawn ≡ 2 ^ 40) × (r ≡ m)

@@ -2,7 +2,7 @@
 use Rattle.std.specs.Prelude.{◌≡◌, ◌≢◌, ℕ, zero, suc, ◌*◌, ◌<◌, nat_lt, nat_le, ◌||◌, true, is_some, if◌then◌else◌, Option, Some, None, List, []}
 use Rattle.std.specs.Prelude.{◌∷◌, ◌++◌, length, ◌⊎◌}
 use Rattle.tlcore.specs.History.{wv}
-use Rattle.tlcore.specs.Seats.{Seat, is_nil, is_next, all_settled}
+use Rattle.tlcore.specs.Seats.{Seat, is_nil, writes_of, is_next, all_settled}
 use Rattle.tlcore.specs.Machine.{placed, conflict}
 use Rattle.tlcore.specs.declared.seats.Held.{Held}
 use Rattle.tlcore.specs.declared.seats.Place.{Place}
@@ -13,7 +13,7 @@ use Rattle.tlwords.specs.Terms.{Terms}
 use Rattle.tlwords.specs.Seen.{Work, Committed, IsDone}
 use Rattle.tlwords.specs.Plays.{Mine, Sees}
 use Rattle.tlwords.specs.Runs.{word_seen, value_kept, HasCause}
-use Rattle.tlwords.specs.Commits.{Finds, IsVoid}
+use Rattle.tlwords.specs.Commits.{cells_of, Finds, IsVoid}
 
 abbrev pub word_or_zero : Option ℕ → ℕ
 word_or_zero None = 0
@@ -34,6 +34,10 @@ held_in slots done low (suc n) = with_held slots done low n (value_kept slots n)
 abbrev pub holding : Seat → Place → Place → List Held → Seat
 holding t p none ks = record t { place = (if is_nil ks then none else p); held = ks }
 
+-- such a run, which has locked all these cells since it was at t
+abbrev pub locking : Seat → Place → Place → List Held → Seat
+locking t p none ks = record (holding t p none ks) { locked = cells_of (writes_of ks) ++ t.locked }
+
 module _ {S N : Type 0} (terms : Terms S N) where
   -- the run has gone on to the seat t but for the last look, and nothing else has changed but what was seen
   pub record Goes (m : Mine S N) (t : Seat) (r : Mine S N) : Type 0 where
@@ -42,7 +46,7 @@ module _ {S N : Type 0} (terms : Terms S N) where
 
   -- the take of the conflict's cell failed, and the smaller cells are held
   pub record FailsToTake (slots : List Slot) (k : ConflictValue) (m r : Mine S N) : Type 0 where
-    pub goes : Goes m (holding (conflict m.0.seat Idle) Failing Idle (held_in slots 0 0 k.cell)) r
+    pub goes : Goes m (locking (conflict m.0.seat Idle) Failing Idle (held_in slots 0 0 k.cell)) r
     pub sees : Sees terms m.0 r.0
     pub finds : Finds terms slots k r
     pub differs : (w : ℕ) × (k.before ≡ Some w) × (w ≢ k.word)

@@ -30,10 +30,12 @@ pub record Known (S N : Type 0) : Type 0 where
   -- its name, and the numbers that it drew
   pub name : ℕ
   pub drawn : List ℕ
-  -- what its loads of the clock found, the newest first; and the cell and lock word that its last look, check or take since then found
+  -- what its loads of the clock found, the newest first; the cells that it has locked, in all its runs, the newest first; and the cell and lock
+  -- word that its last look, check or take since the last load of the clock found
   pub clocks : List ℕ
+  pub locked : List ℕ
   pub looked : Option (ℕ × ℕ)
-  -- the cells and lock words of the reads that have ended since then, the newest first
+  -- the cells and lock words of the reads that have ended since that load, the newest first
   pub found : Pairs
   -- what its first staging that was refused found: the tail and the length
   pub full : Option (ℕ × ℕ)
@@ -74,6 +76,7 @@ module _ {S N : Type 0} where
         name = v.name;
         drawn = v.drawn;
         clocks = v.seat.clocks;
+        locked = v.seat.locked;
         looked = v.seat.looked;
         found = found_of v.seat.reads;
         full = v.full;

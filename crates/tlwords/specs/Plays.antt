@@ -24,7 +24,16 @@ work_of t n = record { reads = reads_of t.reads; writes = writes_of t.held; note
 -- a run that has just begun at this place
 abbrev pub began : Seat → ℕ → Seat
 began t place =
-    record { place = Reading; rv = place; reads = []; held = []; conflicted = false; clocks = place ∷ t.clocks; looked = None }
+    record {
+      place = Reading;
+      rv = place;
+      reads = [];
+      held = [];
+      conflicted = false;
+      clocks = place ∷ t.clocks;
+      locked = t.locked;
+      looked = None;
+    }
 
 -- after a look at the cell that found this word
 abbrev pub after_look : Seat → ℕ → ℕ → Seat
@@ -41,7 +50,11 @@ after_relook t c word value n =
 abbrev pub after_take : Seat → ℕ → ℕ → ℕ → ℕ → Seat
 after_take t c value word n =
     if n == word
-    then record (saw t c n) { place = Taking; held = record { cell = c; word = word; value = value; stored = false } ∷ t.held }
+    then record (saw t c n) {
+      place = Taking;
+      held = record { cell = c; word = word; value = value; stored = false } ∷ t.held;
+      locked = c ∷ t.locked;
+    }
     else conflict (saw t c n) (if is_nil t.held then Idle else Failing)
 
 -- after a check of the cell that found this word

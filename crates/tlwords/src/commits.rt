@@ -13,7 +13,7 @@ ghost use Rattle.tlwords.specs.Runs.{IsKeptOf, noted, IsPassOf, IsRunOf};
 ghost use Rattle.tlwords.specs.declared.mode.Mode.TheVariants.{Reading};
 ghost use Rattle.tlwords.specs.declared.outcome.Outcome.TheVariants.{Read as EndsRead};
 ghost use Rattle.tlwords.specs.Commits.{writes_kept, work_kept, HasCommitted, HasConflicted, IsLawfulNow, HasEnded};
-ghost use Rattle.tlwords.specs.Committing.{held_in, holding, Goes, FailsToTake, FailsTheCheck, Passes, StoresTo, Releasing, ReleasesAll};
+ghost use Rattle.tlwords.specs.Committing.{held_in, locking, Goes, FailsToTake, FailsTheCheck, Passes, StoresTo, Releasing, ReleasesAll};
 
 use crate::law::Law;
 use crate::log::{Log, Touched};
@@ -32,7 +32,7 @@ fn take_all<L: Law>(words: &Words<L>, seat: &mut Place<L>, log: &Log) -> Result<
     requires kept { IsKeptOf seat.old.me.0.seat log.now.slots }
     requires plan { IsPlan log.now.slots true log.now.writes.items }
     ensures seat { IsSameSeat seat.old seat.new }
-    ensures ok { IfOk result (λ _. Goes L.terms seat.old.me (holding seat.old.me.0.seat Taking AtReading (held_in log.now.slots 0 0 (length log.now.slots))) seat.new.me) }
+    ensures ok { IfOk result (λ _. Goes L.terms seat.old.me (locking seat.old.me.0.seat Taking AtReading (held_in log.now.slots 0 0 (length log.now.slots))) seat.new.me) }
     ensures err { IfErr result (λ k. FailsToTake L.terms log.now.slots k seat.old.me seat.new.me) }
 {
     for i in 0..log.writes.len() {
@@ -149,8 +149,8 @@ fn settle<L: Law>(
     requires plan { IsPlan log.old.slots true log.old.writes.items }
     ensures log { log.new.slots ≡ log.old.slots }
     ensures seat { IsSameSeat seat.old seat.new }
-    ensures ok { IfOk result (λ n. HasCommitted L.terms n (work_kept seat.old.me.0.seat log.old.slots note.now) seat.old.me seat.new.me) }
-    ensures err { IfErr result (λ k. HasConflicted L.terms log.old.slots note.now k.0 (Some k.1) seat.old.me seat.new.me × (length seat.new.me.0.drawn ≡ length seat.old.me.0.drawn + 1)) }
+    ensures ok { IfOk result (λ n. HasCommitted L.terms [] n (work_kept seat.old.me.0.seat log.old.slots note.now) seat.old.me seat.new.me) }
+    ensures err { IfErr result (λ k. HasConflicted L.terms log.old.slots [] note.now k.0 (Some k.1) seat.old.me seat.new.me × (length seat.new.me.0.drawn ≡ length seat.old.me.0.drawn + 1)) }
 {
     let index = draw(words, seat, note);
     let number = index + 1;

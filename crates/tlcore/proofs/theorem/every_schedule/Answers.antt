@@ -2,6 +2,7 @@
 use Rattle.tlcore.proofs.Causes.{schedule_causes}
 use Rattle.tlcore.proofs.Events.{event_keeps}
 use Rattle.tlcore.proofs.Halves.{schedule_halves}
+use Rattle.tlcore.proofs.Lockers.{holders_have_locked}
 use Rattle.tlcore.proofs.Opacity.{schedule_done, schedule_grows, schedule_reads, schedule_stores, schedule_words, start_ok}
 use Rattle.tlcore.proofs.theorem.every_schedule.Goals as goal
 
@@ -31,3 +32,6 @@ returns-clause-halves_were_written c = schedule_halves
 
 pub returns-clause-conflicts_have_cause : goal.returns-clause-conflicts_have_cause
 returns-clause-conflicts_have_cause c = schedule_causes
+
+pub returns-clause-holders_have_locked : goal.returns-clause-holders_have_locked
+returns-clause-holders_have_locked c = holders_have_locked

@@ -1,7 +1,8 @@
 use Rattle.std.proofs.Common.{arith, refl, sym, subst, ◌∙◌, ◌≡◌, ◌≢◌, [], length, Some, None}
 use Rattle.tlcore.proofs.Lists.{equal_numbers, other_numbers}
 use Rattle.tlwords.specs.Runs.{IsKeptOf}
-use Rattle.tlwords.specs.Commits.{writes_kept, work_kept, HasCommitted, HasConflicted, IsLawfulNow}
+use Rattle.tlwords.specs.Commits.{writes_kept, writes_below, cells_of, work_kept, HasCommitted, HasConflicted, IsLawfulNow}
+use Rattle.tlwords.proofs.Held.{held_writes}
 use Rattle.tlwords.proofs.Plans.{plan_none, plan_some}
 use Rattle.tlwords.proofs.Settles.{failed_ends, committed_from, conflicted_from}
 use Rattle.tlwords.proofs.Finishes.{unwritten_lawful, nothing_kept, answers, answered_fits, taken_run, taken_lawful}
@@ -58,7 +59,8 @@ returns-in-Err-clause-ended g c =
     let most : length v.items ≢ 0 = λ z. other_numbers _ 0 (sym c.is_empty.ensures ∙ c.if-is_empty.false) (let a = v.ok.0 in a ∙ z) in
     let some : writes_kept slots ≢ [] = plan_some slots v.items c.plan_writes.ensures.plan most in (
       subst (λ x. writes_kept x ≢ []) e some,
-      subst (λ x. HasConflicted g.L.Law.terms x c.args.note.now c.in-Err.conflict None c.args.seat.now.me c.release_all.new.seat.me) e
+      subst (λ x. HasConflicted g.L.Law.terms x (cells_of (writes_below x c.in-Err.conflict.cell)) c.args.note.now c.in-Err.conflict None
+          c.args.seat.now.me c.release_all.new.seat.me) e
           (failed_ends g.L.Law.terms slots c.in-Err.conflict _ _ c.in-Err.ensures.err c.args.note.now _ c.release_all.ensures.releases),
     )
 
@@ -97,9 +99,10 @@ returns-in-Ok-clause-ended g c =
     let most : length v.items ≢ 0 = λ z. other_numbers _ 0 (sym c.is_empty.ensures ∙ c.if-is_empty.false) (let a = v.ok.0 in a ∙ z) in
     let some : writes_kept slots ≢ [] = plan_some slots v.items c.plan_writes.ensures.plan most in (
       subst (λ x. writes_kept x ≢ []) e some,
-      subst (λ x. HasCommitted g.L.Law.terms c.in-Ok.number (work_kept c.args.seat.now.me.0.seat x c.args.note.now) c.args.seat.now.me
-          c.settle.new.seat.me) e
-          (committed_from g.L.Law.terms slots _ _ _ c.in_default.ensures.ok _ c.args.note.now _ c.in-Ok.ensures.ok),
+      subst (λ x. HasCommitted g.L.Law.terms (cells_of (writes_kept x)) c.in-Ok.number (work_kept c.args.seat.now.me.0.seat x c.args.note.now)
+          c.args.seat.now.me c.settle.new.seat.me) e
+          (committed_from g.L.Law.terms slots _ _ _ c.in_default.ensures.ok _ c.args.note.now _ _ (held_writes slots 0 (length slots))
+          c.in-Ok.ensures.ok),
     )
 
 pub returns-in-Err-settle-clause-ended : goal.returns-in-Err-settle-clause-ended
@@ -110,7 +113,8 @@ returns-in-Err-settle-clause-ended g c =
     let most : length v.items ≢ 0 = λ z. other_numbers _ 0 (sym c.is_empty.ensures ∙ c.if-is_empty.false) (let a = v.ok.0 in a ∙ z) in
     let some : writes_kept slots ≢ [] = plan_some slots v.items c.plan_writes.ensures.plan most in (
       subst (λ x. writes_kept x ≢ []) e some,
-      subst (λ x. HasConflicted g.L.Law.terms x c.args.note.now c.in-Err-settle.conflict
+      subst (λ x. HasConflicted g.L.Law.terms x (cells_of (writes_kept x)) c.args.note.now c.in-Err-settle.conflict
           (Some c.in-Err-settle.number) c.args.seat.now.me c.settle.new.seat.me) e
-          (conflicted_from g.L.Law.terms slots _ _ _ c.in_default.ensures.ok c.args.note.now _ _ _ c.in-Err-settle.ensures.err.0),
+          (conflicted_from g.L.Law.terms slots _ _ _ c.in_default.ensures.ok c.args.note.now _ _ _ _ (held_writes slots 0 (length slots))
+          c.in-Err-settle.ensures.err.0),
     )

@@ -3,7 +3,7 @@ use Rattle.tlcore.specs.Seats.{Seat}
 use Rattle.tlcore.specs.declared.seats.Held.{Held}
 use Rattle.tlcore.specs.declared.seats.Place.TheVariants.{Reading, Taking}
 use Rattle.tlwords.specs.Walks.{low_of}
-use Rattle.tlwords.specs.Committing.{held_in, holding, Goes}
+use Rattle.tlwords.specs.Committing.{held_in, locking, Goes}
 use Rattle.tlwords.proofs.Held.{held_on}
 use Rattle.tlwords.proofs.Plans.{plan_at, plan_next, plan_low, plan_end}
 use Rattle.tlwords.proofs.Turns.{unkept_of, read_found, goes_start, goes_setting, goes_base, goes_rights, goes_read, seat_trans, take_place}
@@ -13,7 +13,7 @@ use Rattle.tlwords.proofs.commits.take_all.Goals as goal
 pub loop-i-init : goal.loop-i-init
 loop-i-init g c = (
   (refl, refl, refl),
-  goes_start g.L.Law.terms c.args.seat.now.me (holding c.args.seat.now.me.0.seat Taking Reading [])
+  goes_start g.L.Law.terms c.args.seat.now.me (locking c.args.seat.now.me.0.seat Taking Reading [])
       (λ j. let t : Seat = record c.args.seat.now.me.0.seat { place = sym c.requires.run.0 j; held = sym c.requires.run.1 j } in t),
 )
 
@@ -92,7 +92,7 @@ loop-i-preserved g c =
     let s = plan_at c.args.log.now.slots true ws c.requires.plan c.loop-i.i t n c.index.ensures in
     let m = c.args.seat.now.me in (
       seat_trans c.args.seat.now c.loop-i.seat c.take-found.new.seat c.loop-i.invariant.0 c.take-found.ensures.seat,
-      subst (λ k. Goes g.L.Law.terms m (holding m.0.seat Taking Reading (held_in c.args.log.now.slots 0 0 k))
+      subst (λ k. Goes g.L.Law.terms m (locking m.0.seat Taking Reading (held_in c.args.log.now.slots 0 0 k))
           c.take-found.new.seat.me)
           {x = t.cell + 1} {y = low_of ws (c.loop-i.i + 1)}
           (sym (plan_next c.args.log.now.slots true ws c.requires.plan c.loop-i.i t n c.index.ensures))
@@ -113,7 +113,7 @@ returns-clause-ok g c =
     let all : c.loop-i.i ≤ length ws = let a = c.loop-i.auto.i-end in omega arith in
     let none = plan_end c.args.log.now.slots true ws c.requires.plan c.loop-i.i past all in
     let m = c.args.seat.now.me in
-    subst (λ (ks : List Held). Goes g.L.Law.terms m (holding m.0.seat Taking Reading ks) c.loop-i.seat.me)
+    subst (λ (ks : List Held). Goes g.L.Law.terms m (locking m.0.seat Taking Reading ks) c.loop-i.seat.me)
     {x = held_in c.args.log.now.slots 0 0 (low_of ws c.loop-i.i)} {y = held_in c.args.log.now.slots 0 0 (length c.args.log.now.slots)}
     (sym (held_on c.args.log.now.slots 0 0 (low_of ws c.loop-i.i) (length c.args.log.now.slots)
     (plan_low c.args.log.now.slots true ws c.requires.plan c.loop-i.i all)
