@@ -10,7 +10,7 @@ use Rattle.ranges.specs.Pairs.{Pairs, written}
 use Rattle.ranges.specs.Ranges.{Has}
 use Rattle.tlwords.specs.declared.log.Slot.{Slot}
 use Rattle.tlwords.specs.Runs.{value_kept, IsBlank}
-use Rattle.tlwords.specs.Commits.{with_write, writes_below, writes_kept}
+use Rattle.tlwords.specs.Commits.{with_write, writes_below, writes_kept, cells_of}
 use Rattle.tlwords.proofs.Held.{no_writes}
 
 -- ---- one cell more
@@ -65,6 +65,17 @@ module _ (slots : List Slot) where
   -- each pair that is written was kept
   pub has_kept : (c v : ℕ) → Has (c, v) (writes_kept slots) → value_kept slots c ≡ Some v
   has_kept c v h = has_below (length slots) c v h
+
+-- a cell of such pairs has a value among them
+has_cell : (c : ℕ) (ps : Pairs) → Has c (cells_of ps) → (v : ℕ) × Has (c, v) ps
+has_cell c [] h = absurd h
+has_cell c (p ∷ ps) (inl e) = (p.1, inl (λ j. (e j, p.1)))
+has_cell c (p ∷ ps) (inr h) = let more = has_cell c ps h in (more.0, inr more.1)
+
+-- each cell that is to be written below some cell has a value among all the writes
+pub cell_written : (slots : List Slot) (n c : ℕ) → Has c (cells_of (writes_below slots n)) → (v : ℕ) × (written c (writes_kept slots) ≡ Some v)
+cell_written slots n c h =
+    let pair = has_cell c (writes_below slots n) h in (pair.0, written_kept slots c ∙ has_below slots n c pair.0 pair.1)
 
 -- the value that is written to a cell is one of the writes
 pub written_has : (c v : ℕ) (ps : Pairs) → written c ps ≡ Some v → Has (c, v) ps

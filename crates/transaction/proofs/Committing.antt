@@ -72,6 +72,10 @@ module _ (l : Lending) (stage : Staged) (over : Option Conflict) (lent : IsLent 
   once : LoadsOnce l.began l.going.known l.going.place
   once = runs_once l stage over lent
 
+  -- before its end the run locks nothing
+  none_locked : l.going.known.locked ≡ l.began.locked
+  none_locked = ap (λ (z : Pass). z.locked) lent.since
+
   adds_none : AddsNothing l.began l.going.known
   adds_none = adds_nothing l stage over lent
 
@@ -121,6 +125,7 @@ module _ (l : Lending) (stage : Staged) (over : Option Conflict) (lent : IsLent 
             );
             run = (l.going.place, ap (λ (z : Pass). z.clocks) w.is ∙ once);
             unrefused = λ e. absurd cc;
+            unlocked = tt;
             recorded = (drawn, commit_recorded number k w);
           }
 
@@ -143,6 +148,7 @@ module _ (l : Lending) (stage : Staged) (over : Option Conflict) (lent : IsLent 
             );
             run = ap (λ (z : Pass). z.clocks) w.is ∙ once;
             unrefused = λ e. absurd cc;
+            unlocked = ap (λ (z : Pass). z.locked) w.is ∙ none_locked;
             recorded = drawn;
           }
 
@@ -167,6 +173,7 @@ module _ (l : Lending) (stage : Staged) (over : Option Conflict) (lent : IsLent 
         );
         run = ap (λ (z : Pass). z.clocks) w.is ∙ once;
         unrefused = λ e. absurd cc;
+        unlocked = ap (λ (z : Pass). z.locked) w.is ∙ none_locked;
         recorded = drawn;
       }
 
@@ -214,6 +221,7 @@ module _ (l : Lending) (stage : Staged) (over : Option Conflict) (lent : IsLent 
         );
         run = ap (λ (z : Pass). z.clocks) w.entry ∙ once;
         unrefused = λ e. absurd cc;
+        unlocked = tt;
         recorded = drawn;
       }
 
@@ -235,6 +243,7 @@ module _ (l : Lending) (stage : Staged) (over : Option Conflict) (lent : IsLent 
         );
         run = ap (λ (z : Pass). z.clocks) same ∙ once;
         unrefused = λ e. absurd cc;
+        unlocked = tt;
         recorded = (drawn, (e.0, e.1, void));
       }
 
@@ -254,6 +263,7 @@ module _ (l : Lending) (stage : Staged) (over : Option Conflict) (lent : IsLent 
         );
         run = once;
         unrefused = λ e. absurd cc;
+        unlocked = tt;
         recorded = adds_none.drawn;
       }
 
@@ -269,6 +279,7 @@ module _ (l : Lending) (stage : Staged) (over : Option Conflict) (lent : IsLent 
         gains = (adds_none, full.0, sym stages ∙ full.1);
         run = met_none l stage over lent is.0;
         unrefused = λ e. absurd cc;
+        unlocked = none_locked;
         recorded = adds_none.drawn;
       }
   gives_up given.NoMemory is reading stages =
@@ -277,6 +288,7 @@ module _ (l : Lending) (stage : Staged) (over : Option Conflict) (lent : IsLent 
         gains = adds_none;
         run = met_none l stage over lent is.0;
         unrefused = λ e. lent.unrefused is.1;
+        unlocked = none_locked;
         recorded = adds_none.drawn;
       }
 
@@ -289,6 +301,7 @@ module _ (l : Lending) (stage : Staged) (over : Option Conflict) (lent : IsLent 
         gains = (adds_none, ap (λ (z : Pass). length z.drawn) (sym lent.since) ∙ count);
         run = (l.going.place, once);
         unrefused = λ e. absurd cc;
+        unlocked = none_locked;
         recorded = adds_none.drawn;
       }
 

@@ -1,13 +1,12 @@
 -- What a try tells of cells is of the footprint of its commands: the cell of its conflict, and those that it wrote.
-use Rattle.std.proofs.Common.{◌≡◌, ℕ, suc, ◌≤◌, true, false, List, Option, Some, None, is_some, length, inl, inr, refl, sym, ap, subst, ◌∙◌, arith}
+use Rattle.std.proofs.Common.{◌≡◌, ℕ, suc, ◌≤◌, true, false, List, [], ◌∷◌, ◌++◌, Option, Some, None, is_some, length, inl, inr, refl, sym, ap, subst, ◌∙◌, arith}
 use Rattle.std.specs.Option.{option_map}
 use Rattle.std.proofs.lemmas.Option.{slice_get_within}
 use Rattle.library.specs.declared.command.Command.{Command}
 use Rattle.library.specs.declared.command.Reply.{Reply}
-use Rattle.ranges.specs.Ranges.{Has, Within}
 use Rattle.ranges.specs.Pairs.{Pairs, written}
-use Rattle.cells.specs.Sight.{WasRead, WasAsked, WasWritten, Suits}
-use Rattle.tlcore.specs.History.{One, Deed, deed, deed_in, deed_of, Did, Nothing}
+use Rattle.cells.specs.Sight.{WasAsked, Suits}
+use Rattle.tlcore.specs.History.{One, deed, deed_in, deed_of, Did}
 use Rattle.tlcore.specs.declared.entries.Status.{Status}
 use Rattle.tlcore.specs.declared.entries.Status.TheVariants as status
 use Rattle.tlcore.proofs.Growth.{One-kept}
@@ -15,17 +14,17 @@ use Rattle.tlwords.specs.declared.mode.Mode.{Mode}
 use Rattle.tlwords.specs.declared.mode.Mode.TheVariants.{Reading, Writing}
 use Rattle.tlwords.specs.declared.outcome.Conflict.{Conflict}
 use Rattle.tlwords.specs.Seen.{Seen, Work, SeenGrows, IsDone}
-use Rattle.tlwords.specs.Known.{Knows, word_told}
-use Rattle.tlwords.specs.Commits.{writes_kept}
+use Rattle.tlwords.specs.Known.{word_told}
+use Rattle.tlwords.specs.Commits.{writes_below, cells_of}
 use Rattle.tlwords.specs.declared.log.Slot.{Slot}
 use Rattle.tlwords.specs.declared.outcome.Outcome.{Outcome as Answer}
-use Rattle.tlwords.specs.declared.outcome.Outcome.TheVariants.{Conflict as EndsConflict}
-use Rattle.tlwords.specs.Calls.{work_done, IsCommitted, IsRejected, Ends}
+use Rattle.tlwords.specs.declared.outcome.Outcome.TheVariants.{Conflict as EndsConflict, NumbersUsed}
+use Rattle.tlwords.specs.Calls.{work_done, IsCommitted, IsAnswered, IsRejected, Ends}
 use Rattle.tlwords.proofs.Seens.{seen_refl, done_grows}
 use Rattle.bodystore.specs.Stages.{Staged}
 use Rattle.lawful.specs.declared.notes.Given.{Given}
 use Rattle.lawful.specs.declared.notes.Note.{Note}
-use Rattle.lawful.specs.Lawful.{setting_of, library_terms}
+use Rattle.lawful.specs.Lawful.{library_terms}
 use Rattle.lawful.specs.History.{library_after, state_after}
 use Rattle.lawful.proofs.Standing.{one_fits}
 use Rattle.lending.specs.Lent.{Pass, Lending, sight_of, IsLent}
@@ -33,11 +32,13 @@ use Rattle.lending.specs.declared.live.GivenUp.{GivenUp}
 use Rattle.lending.specs.declared.live.GivenUp.TheVariants as given
 use Rattle.lending.specs.Ends.{IsForgotten, IsGivenUp}
 use Rattle.lending.proofs.Lending.{pass_on}
+use Rattle.lending.proofs.Kept.{cell_written}
 use Rattle.transaction.specs.declared.outcome.Outcome.{Outcome}
 use Rattle.transaction.specs.declared.outcome.Outcome.TheVariants as outcome
 use Rattle.transaction.specs.Footprints.{IsLaterHistory, StaysWithin}
+use Rattle.transaction.specs.Locks.{LocksWithin}
 use Rattle.transaction.specs.Tries.{AsksWithin, KeepsWithin, EndsWithin}
-use Rattle.transaction.proofs.Ended.{met_at}
+use Rattle.transaction.proofs.Ended.{met_at, runs_once}
 use Rattle.transaction.proofs.Committing.{told_of}
 
 -- ---- a cell whose read has ended
@@ -70,10 +71,13 @@ module _ (l : Lending) (stage : Staged) (over : Option Conflict) (lent : IsLent 
   setting_is : l.going.known.home.setting ≡ Some l.given
   setting_is = (pass_on l stage over lent).0
 
-  for_given : (k : Pass) (o : Outcome) → StaysWithin l.given k.home.base k.seen cs o → EndsWithin l.began cs k o
-  for_given k o within g opened =
-      let same : l.given ≡ g = (let q : Some l.given ≡ Some g = sym lent.on.0 ∙ opened in cc) in
-      subst (λ (x : Given). StaysWithin x k.home.base k.seen cs o) same within
+  pub for_given : (k : Pass) (o : Outcome) → StaysWithin l.given k.home.base k.seen cs o → LocksWithin l.given cs l.began k
+      → EndsWithin l.began cs k o
+  for_given k o within locks g opened =
+      let same : l.given ≡ g = (let q : Some l.given ≡ Some g = sym lent.on.0 ∙ opened in cc) in (
+        subst (λ (x : Given). StaysWithin x k.home.base k.seen cs o) same within,
+        subst (λ (x : Given). LocksWithin x cs l.began k) same locks,
+      )
 
   -- what the run has read at last
   module _ (k : Pass) (home : k.home ≡ l.going.known.home) (grows : SeenGrows l.going.known.seen k.seen) (new : Seen Note)
@@ -104,24 +108,66 @@ module _ (l : Lending) (stage : Staged) (over : Option Conflict) (lent : IsLent 
         suits_at l.going.place
         (let own = lent.stands.placed in let more : length l.going.known.seen.history ≤ length k.seen.history = grows.0.0 in omega (arith, own, more)) one_then
 
+  -- ---- what it locked
+
+  -- nothing
+  pub locks_none : (k : Pass) → k.clocks ≡ l.going.known.clocks → k.locked ≡ l.going.known.locked → LocksWithin l.given cs l.began k
+  locks_none k clocks locked =
+      record {
+        places = l.going.place ∷ [];
+        ran = clocks ∙ runs_once l stage over lent;
+        cells = [];
+        locked = locked ∙ ap (λ (z : Pass). z.locked) lent.since;
+        within = λ later h cell none. absurd none;
+      }
+
+  -- as where its commit wrote nothing
+  pub locks_answered : (k : Pass) (place : ℕ) (n : Note) → IsAnswered library_terms place (work_done l.going n) l.going.known k
+      → LocksWithin l.given cs l.began k
+  locks_answered k place n a = locks_none k (ap (λ (z : Pass). z.clocks) a.is) (ap (λ (z : Pass). z.locked) a.is)
+
+  -- cells that are to be written
+  locks_some : KeepsWithin l cs → (k : Pass) → k.home ≡ l.going.known.home → SeenGrows l.going.known.seen k.seen
+      → k.clocks ≡ l.going.known.clocks → (n : ℕ) → k.locked ≡ cells_of (writes_below l.going.slots n) ++ l.going.known.locked
+      → LocksWithin l.given cs l.began k
+  locks_some keeps k home grows clocks n locked =
+      record {
+        places = l.going.place ∷ [];
+        ran = clocks ∙ runs_once l stage over lent;
+        cells = cells_of (writes_below l.going.slots n);
+        locked = locked ∙ ap (λ (z : Pass). cells_of (writes_below l.going.slots n) ++ z.locked) lent.since;
+        within = λ later h cell has.
+            (l.going.place, inl refl, keeps cell (cell_written l.going.slots n cell has) _ _ (suits_then k home grows later h));
+      }
+
+  -- where its commit met a conflict
+  locks_rejected : KeepsWithin l cs → (c : Conflict) (drawn : Option ℕ) (k : Pass) → IsRejected library_terms c drawn l.going k
+      → LocksWithin l.given cs l.began k
+  locks_rejected keeps c None k r =
+      locks_some keeps k (ap (λ (z : Pass). z.home) r.entry) r.grows (ap (λ (z : Pass). z.clocks) r.entry) c.cell (ap (λ (z : Pass). z.locked) r.entry)
+  locks_rejected keeps c (Some number) k r =
+      let e = r.entry in
+      locks_some keeps k (ap (λ (z : Pass). z.home) e.4) r.grows (ap (λ (z : Pass). z.clocks) e.4) (length l.going.slots) (ap (λ (z : Pass). z.locked) e.4)
+
   -- ---- a conflict
 
-  module _ (asks : AsksWithin l cs) (k : Pass) (home : k.home ≡ l.going.known.home) (grows : SeenGrows l.going.known.seen k.seen) where
+  module _ (asks : AsksWithin l cs) (k : Pass) (home : k.home ≡ l.going.known.home) (grows : SeenGrows l.going.known.seen k.seen)
+      (locks : LocksWithin l.given cs l.began k) where
     -- at a cell that it asked for
     asked_within : (c : Conflict) → WasAsked (sight_of l) c.cell → EndsWithin l.began cs k (outcome.Conflict (met_at l.going.place c))
-    asked_within c was = for_given k (outcome.Conflict (met_at l.going.place c)) (λ new later. asks c.cell was _ _ (suits_then k home grows new later))
+    asked_within c was = for_given k (outcome.Conflict (met_at l.going.place c)) (λ new later. asks c.cell was _ _ (suits_then k home grows new later)) locks
 
     -- which a read met
     pub read_within : (c : Conflict) → l.going.over ≡ Some c → EndsWithin l.began cs k (outcome.Conflict (met_at l.going.place c))
     read_within c is = asked_within c (inr (ap (option_map (λ (x : Conflict). x.cell)) is))
 
   -- which a commit met
-  pub rejected_within : AsksWithin l cs → (c : Conflict) (drawn : Option ℕ) (k : Pass) → k.home ≡ l.going.known.home → k.found ≡ l.going.known.found
+  pub rejected_within : AsksWithin l cs → KeepsWithin l cs → (c : Conflict) (drawn : Option ℕ) (k : Pass) → k.home ≡ l.going.known.home → k.found ≡ l.going.known.found
       → IsRejected library_terms c drawn l.going k → EndsWithin l.began cs k (outcome.Conflict (met_at l.going.place c))
-  rejected_within asks c drawn k home same r =
+  rejected_within asks keeps c drawn k home same r =
       let word = ended_by l.going.mode c.cell k.found c.before r.read r.finds.told in
       let read = lent.stands.ended c.cell word.0 (ap (written c.cell) (sym same) ∙ word.1) in
-      asked_within asks k home r.grows c (inl read)
+      asked_within asks k home r.grows (locks_rejected keeps c drawn k r) c (inl read)
 
   -- ---- a commit
 
@@ -137,40 +183,53 @@ module _ (l : Lending) (stage : Staged) (over : Option Conflict) (lent : IsLent 
       let setting = ap (λ h. h.setting) home ∙ setting_is in
       let one = (d.knows.legal l.given setting i work there).2 in
       keeps cell (v, wrote) _ _ (suits_at k home d.grows new later i (omega (arith, within)) one))
+      (locks_some keeps k (ap (λ (z : Pass). z.home) d.is) d.grows (ap (λ (z : Pass). z.clocks) d.is) (length l.going.slots)
+      (ap (λ (z : Pass). z.locked) d.is))
 
   -- ---- what a run's end tells
 
-  module _ (asks : AsksWithin l cs) (n : Note) (k : Pass) (o : Answer)
+  module _ (asks : AsksWithin l cs) (keeps : l.going.over ≡ None → KeepsWithin l cs) (n : Note) (k : Pass) (o : Answer)
       (stopped : (c : Conflict) → l.going.over ≡ Some c → (o ≡ EndsConflict c None) × (k ≡ l.going.known))
       (ended : l.going.over ≡ None → Ends library_terms n l.going k o) where
-    rejected_by : (c : Conflict) (drawn : Option ℕ) → IsRejected library_terms c drawn l.going k
+    rejected_by : KeepsWithin l cs → (c : Conflict) (drawn : Option ℕ) → IsRejected library_terms c drawn l.going k
         → EndsWithin l.began cs k (outcome.Conflict (met_at l.going.place c))
-    rejected_by c None r =
-        rejected_within asks c None k (ap (λ (z : Pass). z.home) r.entry) (ap (λ (z : Pass). z.found) r.entry) r
-    rejected_by c (Some number) r =
+    rejected_by aside c None r =
+        rejected_within asks aside c None k (ap (λ (z : Pass). z.home) r.entry) (ap (λ (z : Pass). z.found) r.entry) r
+    rejected_by aside c (Some number) r =
         let e = r.entry in
-        rejected_within asks c (Some number) k (ap (λ (z : Pass). z.home) e.4) (ap (λ (z : Pass). z.found) e.4) r
+        rejected_within asks aside c (Some number) k (ap (λ (z : Pass). z.home) e.4) (ap (λ (z : Pass). z.found) e.4) r
 
     conflict_by : (c : Conflict) (drawn : Option ℕ) → o ≡ EndsConflict c drawn → (v : Option Conflict) → l.going.over ≡ v
         → EndsWithin l.began cs k (outcome.Conflict (met_at l.going.place c))
-    conflict_by c drawn is None none = rejected_by c drawn (subst (Ends library_terms n l.going k) is (ended none)).1
+    conflict_by c drawn is None none = rejected_by (keeps none) c drawn (subst (Ends library_terms n l.going k) is (ended none)).1
     conflict_by c drawn is (Some own) met =
         let e = stopped own met in
         let whole : EndsConflict own None ≡ EndsConflict c drawn = sym e.0 ∙ is in
         let same : own ≡ c = cc in
         read_within asks k (ap (λ (z : Pass). z.home) e.1)
-        (subst (λ (z : Pass). SeenGrows l.going.known.seen z.seen) (sym e.1) (seen_refl l.going.known.seen)) c
+        (subst (λ (z : Pass). SeenGrows l.going.known.seen z.seen) (sym e.1) (seen_refl l.going.known.seen))
+        (locks_none k (ap (λ (z : Pass). z.clocks) e.1) (ap (λ (z : Pass). z.locked) e.1)) c
         (met ∙ ap (λ (x : Conflict). Some x) same)
 
     pub conflict_within : (c : Conflict) (drawn : Option ℕ) → o ≡ EndsConflict c drawn
         → EndsWithin l.began cs k (outcome.Conflict (met_at l.going.place c))
     conflict_within c drawn is = conflict_by c drawn is l.going.over refl
 
+    used_by : o ≡ NumbersUsed → (v : Option Conflict) → l.going.over ≡ v → EndsWithin l.began cs k outcome.NumbersUsed
+    used_by is None none =
+        let same : k ≡ l.going.known = (subst (Ends library_terms n l.going k) is (ended none)).2 in
+        for_given k outcome.NumbersUsed (λ new later. tt) (locks_none k (ap (λ (z : Pass). z.clocks) same) (ap (λ (z : Pass). z.locked) same))
+    used_by is (Some c) met = let own = (stopped c met).0 in absurd cc
+
+    pub used_within : o ≡ NumbersUsed → EndsWithin l.began cs k outcome.NumbersUsed
+    used_within is = used_by is l.going.over refl
+
   -- of one that is given up
   pub given_up_within : AsksWithin l cs → (why : GivenUp) → IsGivenUp l why → EndsWithin l.began cs l.going.known (told_of l.going.place why)
-  given_up_within asks (given.Conflict c) is = read_within asks l.going.known refl (seen_refl l.going.known.seen) c is
-  given_up_within asks given.StoreFull is = λ g opened new later. tt
-  given_up_within asks given.NoMemory is = λ g opened new later. tt
+  given_up_within asks (given.Conflict c) is =
+      read_within asks l.going.known refl (seen_refl l.going.known.seen) (locks_none l.going.known refl refl) c is
+  given_up_within asks given.StoreFull is = for_given l.going.known outcome.StoreFull (λ new later. tt) (locks_none l.going.known refl refl)
+  given_up_within asks given.NoMemory is = for_given l.going.known outcome.NoMemory (λ new later. tt) (locks_none l.going.known refl refl)
 
 -- ---- what was kept aside is thrown away
 

@@ -1,5 +1,5 @@
 -- What one run of a session makes of the session, and what runs until there is no conflict do.
-use Rattle.std.proofs.Common.{◌≡◌, ◌≢◌, ℕ, ◌+◌, ◌*◌, ◌≤◌, ◌⊎◌, inl, inr, Bool, true, false, List, [], ◌∷◌, ◌++◌, length, Option, Some, None}
+use Rattle.std.proofs.Common.{◌≡◌, ◌≢◌, ℕ, ◌+◌, ◌*◌, ◌≤◌, ◌⊎◌, inl, inr, ⊎_elim, Bool, true, false, List, [], ◌∷◌, ◌++◌, length, Option, Some, None}
 use Rattle.std.proofs.Common.{refl, sym, ap, subst, ◌∙◌, arith, append_assoc, add-one}
 use Rattle.std.specs.Prelude.{All}
 use Rattle.std.proofs.lemmas.List.{append-nil}
@@ -10,22 +10,67 @@ use Rattle.library.specs.Transactions.{has_too_many}
 use Rattle.cells.specs.State.{most_words}
 use Rattle.cells.specs.Sight.{StaysStaged}
 use Rattle.commands.specs.Takes.{most_words_of}
-use Rattle.tlwords.specs.Seen.{Work, Call, Committed, Answered}
+use Rattle.ranges.specs.Ranges.{Has}
+use Rattle.ranges.proofs.Members.{has_append_left, has_append_right, has_append_cases}
+use Rattle.tlwords.specs.Seen.{Seen, SeenGrows, Work, Call, Committed, Answered}
 use Rattle.tlwords.specs.Known.{Home}
 use Rattle.tlwords.proofs.Seens.{seen_refl, seen_trans}
 use Rattle.lawful.specs.declared.notes.Given.{Given}
 use Rattle.lawful.specs.declared.notes.Note.{Note}
+use Rattle.lawful.specs.History.{IsHistoryOf}
 use Rattle.lending.specs.Lent.{Pass, Carried}
 use Rattle.transaction.specs.declared.outcome.Conflict.{Conflict as Met}
 use Rattle.transaction.specs.declared.outcome.Outcome.{Outcome}
 use Rattle.transaction.specs.declared.outcome.Outcome.TheVariants as outcome
 use Rattle.transaction.specs.declared.outcome.Record.{Record}
 use Rattle.transaction.specs.Members.{Member, IsLater, IsMember}
+use Rattle.transaction.specs.Footprints.{MayWriteAfter, IsLaterHistory}
+use Rattle.transaction.specs.Locks.{LocksWithin}
 use Rattle.transaction.specs.Attempts.{Gains, LeavesStaged, Attempts, Submits, IsVoidNumber, DrawsVoid, AddsNothing, GainsCall, SaysDone, SaysRefused}
 use Rattle.transaction.specs.Attempts.{tried, IsOneRun, LoadsOnce, MetNone}
 use Rattle.transaction.specs.Tries.{IsLaterPass, IsRecorded, Stores, Tries, EndsWithin}
 use Rattle.transaction.proofs.Standing.{stands}
 use Rattle.transaction.proofs.Recorded.{with_record, still_recorded, voids_grow}
+
+-- ---- locks
+
+-- nothing was run
+locks_nothing : (g : Given) (cs : List Command) (k : Pass) → LocksWithin g cs k k
+locks_nothing g cs k =
+    record { places = []; ran = refl; cells = []; locked = refl; within = λ later h cell none. absurd none }
+
+-- runs that came one behind the other
+locks_then : (g : Given) (cs : List Command) (a b c : Pass) → c.home ≡ b.home → SeenGrows b.seen c.seen → LocksWithin g cs a b
+    → LocksWithin g cs b c → LocksWithin g cs a c
+locks_then g cs a b c home grows p q =
+    record {
+      places = q.places ++ p.places;
+      ran = q.ran ∙ (ap (λ (ps : List ℕ). q.places ++ ps) p.ran ∙ sym (append_assoc q.places p.places a.clocks));
+      cells = q.cells ++ p.cells;
+      locked = q.locked ∙ (ap (λ (xs : List ℕ). q.cells ++ xs) p.locked ∙ sym (append_assoc q.cells p.cells a.locked));
+      within = λ later h cell has. ⊎_elim
+          (λ (new : Has cell q.cells).
+          let at = q.within later h cell new in
+          (at.0, has_append_left q.places p.places at.0 at.1, at.2))
+          (λ (old : Has cell p.cells).
+          let at = p.within later (earlier later h) cell old in (
+            at.0,
+            has_append_right q.places p.places at.0 at.1,
+            subst (λ (base : List ℕ). MayWriteAfter g base later at.0 cs cell) (sym base) at.2,
+          ))
+          (has_append_cases q.cells p.cells cell has);
+    }
+  where
+    base : c.home.base ≡ b.home.base
+    base = ap (λ h. h.base) home
+
+    earlier : (later : Seen Note) → IsLaterHistory g c.home.base c.seen later → IsLaterHistory g b.home.base b.seen later
+    earlier later h =
+        record {
+          grows = seen_trans b.seen c.seen later grows h.grows;
+          history = subst (λ (values : List ℕ). IsHistoryOf g values later) base h.history;
+          store = h.store;
+        }
 
 -- ---- one try
 
@@ -47,6 +92,8 @@ module _ (m : Member) (is : IsMember m) where
         run = tt;
         unrefused = λ e. absurd cc;
         footprint = λ new later. tt;
+        locks = locks_nothing m.given cs m.known;
+        unlocked = refl;
         counted = λ t. refl;
         staged = λ words start h. h;
         taken = omega arith;
@@ -76,7 +123,9 @@ module _ (m : Member) (is : IsMember m) where
         gains = t.gains;
         run = t.run;
         unrefused = t.unrefused;
-        footprint = within m.given is.on.0;
+        footprint = (within m.given is.on.0).0;
+        locks = (within m.given is.on.0).1;
+        unlocked = t.unlocked;
         counted = λ many. let no : true ≡ false = sym many ∙ few in absurd cc;
         staged = stored.0;
         taken = stored.1;
@@ -127,6 +176,7 @@ pub record Tried (cs : List Command) (old now : Member) : Type 0 where
   pub drawn : now.known.drawn ≡ old.known.drawn ++ numbers
   pub runs : List ℕ
   pub counted : now.known.clocks ≡ runs ++ old.known.clocks
+  pub locks : LocksWithin now.given cs old.known now.known
   pub mine : now.known.mine ≡ old.known.mine
   pub unrefused : runs ≡ [] → now.known.full ≡ old.known.full
   pub staged : StaysStaged old.staged now.staged
@@ -141,6 +191,7 @@ tried_none cs m =
       drawn = sym (append-nil m.known.drawn);
       runs = [];
       counted = refl;
+      locks = locks_nothing m.given cs m.known;
       mine = refl;
       unrefused = λ none. refl;
       staged = λ words start h. h;
@@ -190,6 +241,11 @@ module _ (cs : List Command) (old now next : Member) (o : Outcome) (so_far : Tri
   void_then : All (IsVoidNumber next.known) so_far.numbers
   void_then = voids_grow now.known next.known so_far.numbers a.later.grows so_far.void
 
+  locks_since : LocksWithin next.given cs old.known next.known
+  locks_since =
+      locks_then next.given cs old.known now.known next.known a.later.home a.later.grows
+      (subst (λ (g : Given). LocksWithin g cs old.known now.known) (sym a.later.given) so_far.locks) a.locks
+
   more_words : (place : ℕ) → length (place ∷ so_far.runs) * most_words_of cs ≡ length so_far.runs * most_words_of cs + most_words_of cs
   more_words place =
       let n = length so_far.runs in
@@ -229,6 +285,7 @@ module _ (cs : List Command) (old now next : Member) (o : Outcome) (so_far : Tri
         drawn = all.2;
         runs = met.place ∷ so_far.runs;
         counted = g.2.run ∙ ap (λ (ps : List ℕ). met.place ∷ ps) so_far.counted;
+        locks = locks_since;
         mine = g.0 ∙ so_far.mine;
         unrefused = λ none. absurd cc;
         staged = stays (subst (LeavesStaged now.staged next.staged) is a.staged);
@@ -300,6 +357,7 @@ module _ (cs : List Command) (old now next : Member) (o : Outcome) (so_far : Tri
         run = ran_since o a.run;
         unrefused = λ is none. a.unrefused is ∙ so_far.unrefused none;
         footprint = a.footprint;
+        locks = locks_since;
         settled = settled;
         counted = a.counted;
         staged = staged_then o a.staged;
@@ -322,6 +380,7 @@ module _ (cs : List Command) (old now next : Member) (o : Outcome) (so_far : Tri
         run = subst (IsOneRun (tried old.known [] []) next.known) (sym is) tt;
         unrefused = λ memory none. let no = sym is ∙ memory in absurd cc;
         footprint = a.footprint;
+        locks = locks_since;
         settled = λ met e. let no = sym is ∙ e in cc;
         counted = a.counted;
         staged = staged_then o a.staged;

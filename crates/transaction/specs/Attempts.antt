@@ -24,6 +24,7 @@ use Rattle.transaction.specs.declared.outcome.Outcome.{Outcome}
 use Rattle.transaction.specs.declared.outcome.Outcome.TheVariants as outcome
 use Rattle.transaction.specs.Members.{Member, IsLater}
 use Rattle.transaction.specs.Footprints.{StaysWithin}
+use Rattle.transaction.specs.Locks.{LocksWithin, LocksOnlyToCommit}
 
 -- ---- the notes of calls
 
@@ -138,6 +139,9 @@ pub record Attempts (cs : List Command) (old new : Member) (o : Outcome) : Type 
   -- the cell of a conflict is one that it may read, at the conflict's place; and a Committed wrote only what it may write, over the
   -- library before it
   pub footprint : StaysWithin new.given new.known.home.base new.known.seen cs o
+  -- it locked no cells but those that it may write, over the library at its place, and none but where it committed or met a conflict
+  pub locks : LocksWithin new.given cs old.known new.known
+  pub unlocked : LocksOnlyToCommit old.known new.known o
   pub counted : has_too_many cs ≡ true → o ≡ outcome.TooManyCommands
   pub staged : LeavesStaged old.staged new.staged o
   pub taken : new.known.taken ≤ old.known.taken + most_words_of cs
@@ -159,6 +163,8 @@ pub record Submits (cs : List Command) (old new : Member) (o : Outcome) : Type 0
   -- where memory ran out at the first try, no staging was refused for the first time
   pub unrefused : o ≡ outcome.NoMemory → runs ≡ [] → new.known.full ≡ old.known.full
   pub footprint : StaysWithin new.given new.known.home.base new.known.seen cs o
+  -- all its tries locked no cells but those that it may write, over the library at the place of one of them
+  pub locks : LocksWithin new.given cs old.known new.known
   pub settled : (met : Met) → o ≢ outcome.Conflict met
   pub counted : has_too_many cs ≡ true → o ≡ outcome.TooManyCommands
   pub staged : LeavesStaged old.staged new.staged o

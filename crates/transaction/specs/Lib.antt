@@ -2,6 +2,7 @@ pub mod Members
 pub mod Openings
 pub mod ReasonNames
 pub mod Footprints
+pub mod Locks
 pub mod Attempts
 pub mod Looks
 pub mod Closings

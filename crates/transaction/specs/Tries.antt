@@ -22,6 +22,7 @@ use Rattle.transaction.specs.declared.outcome.Outcome.{Outcome}
 use Rattle.transaction.specs.declared.outcome.Outcome.TheVariants as outcome
 use Rattle.transaction.specs.Members.{IsRecordIn}
 use Rattle.transaction.specs.Footprints.{MayRead, MayWrite, StaysWithin}
+use Rattle.transaction.specs.Locks.{LocksWithin, LocksOnlyToCommit}
 use Rattle.transaction.specs.Attempts.{Gains, IsOneRun, LeavesStaged}
 
 -- the pass later: of the same words, with the same name, having seen more
@@ -43,6 +44,7 @@ pub record Tries (cs : List Command) (old new : Pass) (o : Outcome) (r : Option 
   pub gains : Gains cs old new o
   pub run : IsOneRun old new o
   pub unrefused : o ≡ outcome.NoMemory → new.full ≡ old.full
+  pub unlocked : LocksOnlyToCommit old new o
   pub recorded : IsRecorded old new r
 
 -- what a run would give back, were it ended now
@@ -89,6 +91,7 @@ abbrev pub KeepsWithin : Lending → List Command → Type 0
 KeepsWithin l cs =
     (cell : ℕ) → WasWritten (sight_of l) cell → ForEachUnder (sight_of l) (λ st lib. MayWrite (setting_of l.given) st lib cs cell)
 
--- so what is told of cells at the end is of these, by what the words were opened with
+-- so what is told of cells at the end is of these, and what was locked, by what the words were opened with
 abbrev pub EndsWithin : Pass → List Command → Pass → Outcome → Type 0
-EndsWithin old cs new o = (g : Given) → old.home.setting ≡ Some g → StaysWithin g new.home.base new.seen cs o
+EndsWithin old cs new o =
+    (g : Given) → old.home.setting ≡ Some g → StaysWithin g new.home.base new.seen cs o × LocksWithin g cs old new

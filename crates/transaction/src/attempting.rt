@@ -43,7 +43,8 @@ impl Session {
     /// those of its bodies, each once, and none for a body that was staged since the last Committed, unless memory ran out for the note of
     /// it. All memory is taken before the first lock. Each try but one of too many commands is one run, which loads the clock once: it is
     /// never tried again inside. Where a run met a conflict, that is the outcome, and neither `StoreFull` nor `NoMemory`. The cell of a
-    /// conflict is one that some command may read, and a commit writes no cells but those that its commands may write.
+    /// conflict is one that some command may read, and a commit writes no cells but those that its commands may write. The same cells alone
+    /// are locked by a try, whatever comes of it, and none but where it committed or met a conflict.
     pub fn attempt(&mut self, alloc: Global, library: &Library, commands: &Transaction) -> Outcome
         requires own { IsOf library.now self.old }
         requires fit { All (CommandFits (setting_of library.now.given).prelude) commands.now }

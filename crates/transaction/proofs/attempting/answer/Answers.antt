@@ -7,7 +7,7 @@ use Rattle.transaction.specs.declared.outcome.Outcome.{Outcome}
 use Rattle.transaction.specs.declared.outcome.Outcome.TheVariants as outcome
 use Rattle.transaction.specs.Tries.{Tries, EndsStored, EndsWithin, carried_by}
 use Rattle.transaction.proofs.Committing.{met_is, reads, answered, met_only}
-use Rattle.transaction.proofs.Meeting.{conflict_within}
+use Rattle.transaction.proofs.Meeting.{conflict_within, for_given, locks_answered}
 use Rattle.transaction.proofs.attempting.answer.Goals as goal
 use Rattle.transaction.proofs.attempting.answer.Goals.{in-Read, in-Conflict}
 
@@ -62,10 +62,16 @@ returns-clause-within c =
     let ends = c.end-kit.ensures in
     let outcomes = λ (x : Outcome). EndsWithin l.began cs k x in
     elim c.match-ended.branch [
-      | in-Read w ↦ subst outcomes (sym w.outcome-is) (λ g opened new later. tt)
+      | in-Read w ↦
+          let a = answered l lending.0 lending.1 lending.2 cs _ k o ends.over ends.ended w.in-Read.place w.in-Read.is in
+          let told = outcome.Read w.in-Read.place c.args.replies in
+          subst outcomes (sym w.outcome-is)
+          (for_given l lending.0 lending.1 lending.2 cs k told (λ new later. tt) (locks_answered l lending.0 lending.1 lending.2 cs k _ _ a.1))
       | in-Conflict w ↦
           let met = met_is l lending.0 lending.1 lending.2 cs w.in-Conflict.conflict c.place-place.result w.met.result w.met.ensures
           c.place-place.ensures.value in
           subst outcomes (sym (w.outcome-is ∙ ap outcome.Conflict met))
-          (conflict_within l lending.0 lending.1 lending.2 cs c.requires.asks _ k o ends.over ends.ended w.in-Conflict.conflict _ w.in-Conflict.is)
+          (conflict_within l lending.0 lending.1 lending.2 cs c.requires.asks
+          (λ none. let a = ends.reading none c.requires.reading in let b = w.in-Conflict.is in absurd cc) _ k o ends.over ends.ended
+          w.in-Conflict.conflict _ w.in-Conflict.is)
     ]

@@ -9,8 +9,8 @@ use Rattle.transaction.specs.declared.outcome.Outcome.{Outcome}
 use Rattle.transaction.specs.declared.outcome.Outcome.TheVariants as outcome
 use Rattle.transaction.specs.declared.outcome.Record.{Record}
 use Rattle.transaction.specs.Tries.{Tries, EndsStored, EndsWithin, carried_by}
-use Rattle.transaction.proofs.Committing.{met_is, commits, committed, conflicts, used, void_mapped, void_records}
-use Rattle.transaction.proofs.Meeting.{committed_within, conflict_within}
+use Rattle.transaction.proofs.Committing.{met_is, commits, committed, conflicts, used, void_mapped}
+use Rattle.transaction.proofs.Meeting.{committed_within, conflict_within, used_within}
 use Rattle.transaction.proofs.attempting.commit.Goals as goal
 use Rattle.transaction.proofs.attempting.commit.Goals.{in-Committed, in-Conflict, in-NumbersUsed}
 
@@ -78,6 +78,8 @@ returns-clause-within c =
       | in-Conflict w ↦
           let met = met_is l stage over lent cs w.in-Conflict.conflict c.place-place.result w.met.result w.met.ensures c.place-place.ensures.value in
           subst outcomes (sym (ap told w.outcome-is ∙ ap outcome.Conflict met))
-          (conflict_within l stage over lent cs c.requires.asks _ k o ends.over ends.ended w.in-Conflict.conflict w.in-Conflict.drawn w.in-Conflict.is)
-      | in-NumbersUsed w ↦ subst outcomes (sym (ap told w.outcome-is)) (λ g opened new later. tt)
+          (conflict_within l stage over lent cs c.requires.asks (λ none. c.requires.keeps) _ k o ends.over ends.ended w.in-Conflict.conflict
+          w.in-Conflict.drawn w.in-Conflict.is)
+      | in-NumbersUsed w ↦ subst outcomes (sym (ap told w.outcome-is))
+          (used_within l stage over lent cs c.requires.asks (λ none. c.requires.keeps) _ k o ends.over ends.ended w.in-NumbersUsed.is)
     ]

@@ -7,7 +7,7 @@ use Rattle.transaction.specs.declared.outcome.Outcome.{Outcome}
 use Rattle.transaction.specs.declared.outcome.Outcome.TheVariants as outcome
 use Rattle.transaction.specs.Tries.{Tries, EndsStored, EndsWithin, carried_by}
 use Rattle.transaction.proofs.Committing.{met_is, met_of, refuses, answered, met_only, never_rejects, forgotten_lawful}
-use Rattle.transaction.proofs.Meeting.{conflict_within, forgotten_asks}
+use Rattle.transaction.proofs.Meeting.{conflict_within, forgotten_asks, for_given, locks_answered}
 use Rattle.transaction.proofs.attempting.refuse.Goals as goal
 use Rattle.transaction.proofs.attempting.refuse.Goals.{in-Read, in-Conflict}
 
@@ -70,12 +70,18 @@ returns-clause-within c =
     let began = ap (λ (x : Lending). x.began) c.forget.ensures.is in
     let outcomes = λ (x : Outcome). EndsWithin c.args.live.run.began cs k x in
     elim c.match-ended.branch [
-      | in-Read w ↦ subst outcomes (sym w.outcome-is) (λ g opened new later. tt)
+      | in-Read w ↦
+          let a = answered l lending.0 lending.1 lending.2 cs _ k o ends.over ends.ended w.in-Read.place w.in-Read.is in
+          let told = outcome.Refused w.in-Read.place c.args.refused in
+          subst outcomes (sym w.outcome-is)
+          (subst (λ (z : Pass). EndsWithin z cs k told) began
+          (for_given l lending.0 lending.1 lending.2 cs k told (λ new later. tt) (locks_answered l lending.0 lending.1 lending.2 cs k _ _ a.1)))
       | in-Conflict w ↦
           let met = met_is l lending.0 lending.1 lending.2 cs w.in-Conflict.conflict c.place-place.result w.met.result w.met.ensures
           c.place-place.ensures.value in
           subst outcomes (sym (w.outcome-is ∙ ap outcome.Conflict met))
           (subst (λ (z : Pass). EndsWithin z cs k (outcome.Conflict (met_of l lending.0 lending.1 lending.2 cs w.in-Conflict.conflict))) began
-          (conflict_within l lending.0 lending.1 lending.2 cs (forgotten_asks c.args.live.run l cs c.forget.ensures c.requires.asks) _ k o ends.over
-          ends.ended w.in-Conflict.conflict _ w.in-Conflict.is))
+          (conflict_within l lending.0 lending.1 lending.2 cs (forgotten_asks c.args.live.run l cs c.forget.ensures c.requires.asks)
+          (λ none. absurd (never_rejects l lending.0 lending.1 lending.2 cs _ k o ends.over ends.ended c.forget.ensures.none w.in-Conflict.conflict _
+          w.in-Conflict.is none)) _ k o ends.over ends.ended w.in-Conflict.conflict _ w.in-Conflict.is))
     ]
