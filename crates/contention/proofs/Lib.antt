@@ -1,1 +1,2 @@
 pub mod Meeting
+pub mod Locking

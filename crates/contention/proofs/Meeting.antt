@@ -1,5 +1,5 @@
 -- Two transactions that meet in a cell.
-use Rattle.std.proofs.Common.{◌≡◌, ℕ, suc, ◌<◌, ◌/◌, List, Some, length, inl, inr, ◌⊎◌, refl, sym, ap, subst, ◌∙◌, arith}
+use Rattle.std.proofs.Common.{◌≡◌, ℕ, suc, ◌<◌, ◌/◌, List, Some, inl, inr, sym, ap, subst, ◌∙◌, arith}
 use Rattle.library.specs.declared.command.Command.{Command}
 use Rattle.library.specs.declared.command.Reply.{Reply}
 use Rattle.tlcore.specs.History.{WasWritten}
@@ -9,7 +9,7 @@ use Rattle.lawful.specs.declared.notes.Given.{Given}
 use Rattle.lawful.specs.declared.notes.Note.{Note}
 use Rattle.transaction.specs.declared.outcome.Conflict.{Conflict as Met}
 use Rattle.transaction.specs.declared.outcome.Outcome.TheVariants.{Committed}
-use Rattle.transaction.specs.Members.{Member, IsLater}
+use Rattle.transaction.specs.Members.{Member}
 use Rattle.transaction.specs.Footprints.{WritesWithin, IsLaterHistory, MayWriteAfter, MayReadAfter}
 use Rattle.contention.specs.Laws.{Runs, AreMet, ConflictsMeet, ApartIsNoCause}
 
@@ -30,7 +30,7 @@ module _ (cs : List Command) (old new : Member) (number : ℕ) (replies : List R
   wrote (inr s) seen later = s.footprint seen later
 
 -- of one library
-same_given : (one by : Member) → one.known.home.setting ≡ Some one.given → by.known.home.setting ≡ Some by.given
+pub same_given : (one by : Member) → one.known.home.setting ≡ Some one.given → by.known.home.setting ≡ Some by.given
     → one.known.home ≡ by.known.home → one.given ≡ by.given
 same_given one by p q home =
     let e : Some one.given ≡ Some by.given = sym p ∙ (ap (λ h. h.setting) home ∙ q) in cc
