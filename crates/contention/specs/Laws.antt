@@ -2,6 +2,7 @@
 use Rattle.std.specs.Prelude.{◌≡◌, ◌≢◌, ◌⊎◌, ℕ, suc, ◌/◌, List}
 use Rattle.library.specs.declared.command.Command.{Command}
 use Rattle.library.specs.declared.command.Reply.{Reply}
+use Rattle.ranges.specs.Ranges.{Has}
 use Rattle.tlwords.specs.Seen.{Seen}
 use Rattle.lawful.specs.declared.notes.Given.{Given}
 use Rattle.lawful.specs.declared.notes.Note.{Note}
@@ -16,6 +17,10 @@ use Rattle.transaction.specs.Footprints.{MayReadAfter, MayWriteAfter, IsLaterHis
 abbrev pub Runs : List Command → Member → Member → Outcome → Type 0
 Runs cs old new o = Attempts cs old new o ⊎ Submits cs old new o
 
+-- a session met this conflict in the transaction: in its one try, or in one of those before the last
+abbrev pub RunsInto : List Command → Member → Member → Met → Type 0
+RunsInto cs old new met = Attempts cs old new (Conflict met) ⊎ ((o : Outcome) × (tries : Submits cs old new o) × Has met tries.met)
+
 -- a session has committed the one transaction with this number, another session of the library met this conflict in the other, and
 -- this is a later history of it than what either had seen then
 pub record AreMet (ones others : List Command) (number : ℕ) (met : Met) (by : Member) (seen : Seen Note) : Type 0 where
@@ -24,7 +29,7 @@ pub record AreMet (ones others : List Command) (number : ℕ) (met : Met) (by : 
   pub replies : List Reply
   pub committed : Runs ones one_before one (Committed number replies)
   pub before : Member
-  pub conflicted : Attempts others before by (Conflict met)
+  pub conflicted : RunsInto others before by met
   pub home : one.known.home ≡ by.known.home
   pub one_later : IsLaterHistory by.given by.known.home.base one.known.seen seen
   pub later : IsLaterHistory by.given by.known.home.base by.known.seen seen
