@@ -2,6 +2,7 @@
 use Rattle.std.proofs.Common.{◌≡◌, ℕ, suc, ◌<◌, ◌/◌, List, Some, inl, inr, sym, ap, subst, ◌∙◌, arith}
 use Rattle.library.specs.declared.command.Command.{Command}
 use Rattle.library.specs.declared.command.Reply.{Reply}
+use Rattle.ranges.proofs.Members.{all_has}
 use Rattle.tlcore.specs.History.{WasWritten}
 use Rattle.tlcore.proofs.Growth.{WasWritten-kept}
 use Rattle.tlwords.specs.Seen.{Seen}
@@ -9,9 +10,10 @@ use Rattle.lawful.specs.declared.notes.Given.{Given}
 use Rattle.lawful.specs.declared.notes.Note.{Note}
 use Rattle.transaction.specs.declared.outcome.Conflict.{Conflict as Met}
 use Rattle.transaction.specs.declared.outcome.Outcome.TheVariants.{Committed}
-use Rattle.transaction.specs.Members.{Member}
+use Rattle.transaction.specs.Members.{Member, IsLater}
+use Rattle.transaction.specs.Attempts.{WasMet}
 use Rattle.transaction.specs.Footprints.{WritesWithin, IsLaterHistory, MayWriteAfter, MayReadAfter}
-use Rattle.contention.specs.Laws.{Runs, AreMet, ConflictsMeet, ApartIsNoCause}
+use Rattle.contention.specs.Laws.{Runs, RunsInto, AreMet, ConflictsMeet, ApartIsNoCause}
 
 module _ (cs : List Command) (old new : Member) (number : ℕ) (replies : List Reply) where
   -- a number that was committed is not 0
@@ -29,6 +31,16 @@ module _ (cs : List Command) (old new : Member) (number : ℕ) (replies : List R
   wrote (inl a) seen later = a.footprint seen later
   wrote (inr s) seen later = s.footprint seen later
 
+-- a conflict that was met on the way
+module _ (cs : List Command) (old new : Member) (met : Met) where
+  was_met : RunsInto cs old new met → WasMet cs new met
+  was_met (inl a) = record { cause = a.gains.2.cause; written = a.gains.2.written; footprint = a.footprint }
+  was_met (inr s) = all_has (WasMet cs new) s.1.met met s.1.conflicts s.2
+
+  opened_by : RunsInto cs old new met → new.known.home.setting ≡ Some new.given
+  opened_by (inl a) = a.later.stands.setting
+  opened_by (inr s) = s.1.later.stands.setting
+
 -- of one library
 pub same_given : (one by : Member) → one.known.home.setting ≡ Some one.given → by.known.home.setting ≡ Some by.given
     → one.known.home ≡ by.known.home → one.given ≡ by.given
@@ -37,7 +49,9 @@ same_given one by p q home =
 
 module _ (ones others : List Command) (number : ℕ) (met : Met) (by : Member) (seen : Seen Note) (m : AreMet ones others number met by seen) where
   given_is : m.one.given ≡ by.given
-  given_is = same_given m.one by (opened ones m.one_before m.one number m.replies m.committed) m.conflicted.later.stands.setting m.home
+  given_is =
+      same_given m.one by (opened ones m.one_before m.one number m.replies m.committed) (opened_by others m.before by met m.conflicted)
+      m.home
 
   base_is : m.one.known.home.base ≡ by.known.home.base
   base_is = ap (λ h. h.base) m.home
@@ -50,8 +64,11 @@ module _ (ones others : List Command) (number : ℕ) (met : Met) (by : Member) (
       (subst (λ (g : Given). IsLaterHistory g m.one.known.home.base m.one.known.seen seen) (sym given_is)
       (subst (λ (base : List ℕ). IsLaterHistory by.given base m.one.known.seen seen) (sym base_is) m.one_later))))
 
+  was : WasMet others by met
+  was = was_met others m.before by met m.conflicted
+
   found : WasWritten seen.history met.cell (met.word / 2)
-  found = WasWritten-kept by.known.seen.history seen.history met.cell (met.word / 2) m.later.grows.0 m.conflicted.gains.2.written
+  found = WasWritten-kept by.known.seen.history seen.history met.cell (met.word / 2) m.later.grows.0 was.written
 
   pub meets : met.word / 2 ≡ number
       → (i : ℕ) × (number ≡ suc i) × MayWriteAfter by.given by.known.home.base seen i ones met.cell
@@ -64,7 +81,7 @@ module _ (ones others : List Command) (number : ℕ) (met : Met) (by : Member) (
       of (inl none) = let some = numbered ones m.one_before m.one number m.replies m.committed in absurd (omega (arith, none, is, some))
       of (inr (i, v, at, did)) =
           let own : number ≡ suc i = sym is ∙ at in
-          (i, own, wrote_here i met.cell v own did, m.conflicted.footprint seen m.later)
+          (i, own, wrote_here i met.cell v own did, was.footprint seen m.later)
 
 pub conflicts_meet : ConflictsMeet
 conflicts_meet ones others number met by seen m is = meets ones others number met by seen m is

@@ -21,6 +21,10 @@ AreApart g base seen ones others = (k l cell : ℕ) → MayWriteAfter g base see
 abbrev pub Runs : List Command → Member → Member → Outcome → Type 0
 Runs cs old new o = Attempts cs old new o ⊎ Submits cs old new o
 
+-- a session met this conflict in the transaction: in its one try, or in one of those before the last
+abbrev pub RunsInto : List Command → Member → Member → Met → Type 0
+RunsInto cs old new met = Attempts cs old new (Conflict met) ⊎ ((o : Outcome) × (tries : Submits cs old new o) × Has met tries.met)
+
 -- ---- versions
 
 -- a session has committed the one transaction with this number, another session of the library met this conflict in the other, and
@@ -31,7 +35,7 @@ pub record AreMet (ones others : List Command) (number : ℕ) (met : Met) (by : 
   pub replies : List Reply
   pub committed : Runs ones one_before one (Committed number replies)
   pub before : Member
-  pub conflicted : Attempts others before by (Conflict met)
+  pub conflicted : RunsInto others before by met
   pub home : one.known.home ≡ by.known.home
   pub one_later : IsLaterHistory by.given by.known.home.base one.known.seen seen
   pub later : IsLaterHistory by.given by.known.home.base by.known.seen seen

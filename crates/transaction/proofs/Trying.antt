@@ -1,10 +1,10 @@
 -- What one run of a session makes of the session, and what runs until there is no conflict do.
-use Rattle.std.proofs.Common.{◌≡◌, ◌≢◌, ℕ, ◌+◌, ◌*◌, ◌≤◌, ◌⊎◌, inl, inr, ⊎_elim, Bool, true, false, List, [], ◌∷◌, ◌++◌, length, Option, Some, None}
-use Rattle.std.proofs.Common.{refl, sym, ap, subst, ◌∙◌, arith, append_assoc, add-one}
+use Rattle.std.proofs.Common.{◌≡◌, ◌≢◌, ℕ, ◌+◌, ◌*◌, ◌/◌, ◌≤◌, ◌⊎◌, inl, inr, ⊎_elim, Bool, true, false, List, [], ◌∷◌, ◌++◌, length, map}
+use Rattle.std.proofs.Common.{Option, Some, None, refl, sym, ap, subst, ◌∙◌, arith, append_assoc, add-one}
 use Rattle.std.specs.Prelude.{All}
 use Rattle.std.proofs.lemmas.List.{append-nil}
 use Rattle.std.proofs.Math.Nat.{add-mul}
-use Rattle.std.proofs.lemmas.List.Elements.{All-nil, All-push}
+use Rattle.std.proofs.lemmas.List.Elements.{All-nil, All-cons, All-push, All-weaker}
 use Rattle.library.specs.declared.command.Command.{Command}
 use Rattle.library.specs.Transactions.{has_too_many}
 use Rattle.cells.specs.State.{most_words}
@@ -12,6 +12,7 @@ use Rattle.cells.specs.Sight.{StaysStaged}
 use Rattle.commands.specs.Takes.{most_words_of}
 use Rattle.ranges.specs.Ranges.{Has}
 use Rattle.ranges.proofs.Members.{has_append_left, has_append_right, has_append_cases}
+use Rattle.tlcore.proofs.Growth.{WasWritten-kept}
 use Rattle.tlwords.specs.Seen.{Seen, SeenGrows, Work, Call, Committed, Answered}
 use Rattle.tlwords.specs.Known.{Home}
 use Rattle.tlwords.proofs.Seens.{seen_refl, seen_trans}
@@ -24,10 +25,10 @@ use Rattle.transaction.specs.declared.outcome.Outcome.{Outcome}
 use Rattle.transaction.specs.declared.outcome.Outcome.TheVariants as outcome
 use Rattle.transaction.specs.declared.outcome.Record.{Record}
 use Rattle.transaction.specs.Members.{Member, IsLater, IsMember}
-use Rattle.transaction.specs.Footprints.{MayWriteAfter, IsLaterHistory}
 use Rattle.transaction.specs.Locks.{LocksWithin}
 use Rattle.transaction.specs.Attempts.{Gains, LeavesStaged, Attempts, Submits, IsVoidNumber, DrawsVoid, AddsNothing, GainsCall, SaysDone, SaysRefused}
-use Rattle.transaction.specs.Attempts.{tried, IsOneRun, LoadsOnce, MetNone}
+use Rattle.transaction.specs.Attempts.{tried, IsOneRun, LoadsOnce, MetNone, WasMet}
+use Rattle.transaction.specs.Footprints.{MayWriteAfter, IsLaterHistory, StaysWithin}
 use Rattle.transaction.specs.Tries.{IsLaterPass, IsRecorded, Stores, Tries, EndsWithin}
 use Rattle.transaction.proofs.Standing.{stands}
 use Rattle.transaction.proofs.Recorded.{with_record, still_recorded, voids_grow}
@@ -167,6 +168,25 @@ later_trans a b c p q =
       stands = q.stands;
     }
 
+-- what stays within the footprint of a transaction, once more was seen
+within_later : (g : Given) (base : List ℕ) (old mid : Seen Note) (cs : List Command) (o : Outcome) → SeenGrows old mid
+    → StaysWithin g base old cs o → StaysWithin g base mid cs o
+within_later g base old mid cs o grows within new later =
+    within new (record { grows = seen_trans old mid new grows later.grows; history = later.history; store = later.store })
+
+-- a conflict that was met stays one
+still_met : (cs : List Command) (a b : Member) → IsLater a b → (met : Met) → WasMet cs a met → WasMet cs b met
+still_met cs a b later met was =
+    let o = outcome.Conflict met in
+    record {
+      cause = was.cause;
+      written = WasWritten-kept a.known.seen.history b.known.seen.history met.cell (met.word / 2) later.grows.0 was.written;
+      footprint =
+          subst (λ (h : Home Given). StaysWithin b.given h.base b.known.seen cs o) (sym later.home)
+          (subst (λ (g : Given). StaysWithin g a.known.home.base b.known.seen cs o) (sym later.given)
+          (within_later a.given a.known.home.base a.known.seen b.known.seen cs o later.grows was.footprint));
+    }
+
 -- what was tried so far, without an outcome that settles: nothing, or tries that met conflicts
 pub record Tried (cs : List Command) (old now : Member) : Type 0 where
   -- a transaction with too many commands meets none
@@ -175,6 +195,9 @@ pub record Tried (cs : List Command) (old now : Member) : Type 0 where
   pub void : All (IsVoidNumber now.known) numbers
   pub drawn : now.known.drawn ≡ old.known.drawn ++ numbers
   pub runs : List ℕ
+  pub met : List Met
+  pub places : map (λ m. m.place) met ≡ runs
+  pub conflicts : All (WasMet cs now) met
   pub counted : now.known.clocks ≡ runs ++ old.known.clocks
   pub locks : LocksWithin now.given cs old.known now.known
   pub mine : now.known.mine ≡ old.known.mine
@@ -190,6 +213,9 @@ tried_none cs m =
       void = All-nil (IsVoidNumber m.known);
       drawn = sym (append-nil m.known.drawn);
       runs = [];
+      met = [];
+      places = refl;
+      conflicts = All-nil (WasMet cs m);
       counted = refl;
       locks = locks_nothing m.given cs m.known;
       mine = refl;
@@ -246,6 +272,9 @@ module _ (cs : List Command) (old now next : Member) (o : Outcome) (so_far : Tri
       locks_then next.given cs old.known now.known next.known a.later.home a.later.grows
       (subst (λ (g : Given). LocksWithin g cs old.known now.known) (sym a.later.given) so_far.locks) a.locks
 
+  met_then : All (WasMet cs next) so_far.met
+  met_then = All-weaker (WasMet cs now) (WasMet cs next) (still_met cs now next a.later) so_far.met so_far.conflicts
+
   more_words : (place : ℕ) → length (place ∷ so_far.runs) * most_words_of cs ≡ length so_far.runs * most_words_of cs + most_words_of cs
   more_words place =
       let n = length so_far.runs in
@@ -284,6 +313,13 @@ module _ (cs : List Command) (old now next : Member) (o : Outcome) (so_far : Tri
         void = all.1;
         drawn = all.2;
         runs = met.place ∷ so_far.runs;
+        met = met ∷ so_far.met;
+        places = ap (λ (ps : List ℕ). met.place ∷ ps) so_far.places;
+        conflicts = All-cons (WasMet cs next) met so_far.met (record {
+          cause = g.2.cause;
+          written = g.2.written;
+          footprint = subst (StaysWithin next.given next.known.home.base next.known.seen cs) is a.footprint;
+        }) met_then;
         counted = g.2.run ∙ ap (λ (ps : List ℕ). met.place ∷ ps) so_far.counted;
         locks = locks_since;
         mine = g.0 ∙ so_far.mine;
@@ -353,6 +389,9 @@ module _ (cs : List Command) (old now next : Member) (o : Outcome) (so_far : Tri
         numbers = so_far.numbers;
         void = void_then;
         runs = so_far.runs;
+        met = so_far.met;
+        places = so_far.places;
+        conflicts = met_then;
         gains = gains_since o a.gains settled some;
         run = ran_since o a.run;
         unrefused = λ is none. a.unrefused is ∙ so_far.unrefused none;
@@ -376,6 +415,9 @@ module _ (cs : List Command) (old now next : Member) (o : Outcome) (so_far : Tri
         numbers = [];
         void = All-nil (IsVoidNumber next.known);
         runs = [];
+        met = [];
+        places = refl;
+        conflicts = All-nil (WasMet cs next);
         gains = subst (Gains cs (tried old.known [] []) next.known) (sym is) (all, g.1);
         run = subst (IsOneRun (tried old.known [] []) next.known) (sym is) tt;
         unrefused = λ memory none. let no = sym is ∙ memory in absurd cc;

@@ -1,6 +1,6 @@
 -- What becomes of a transaction that a session runs, and what the session's pass knows then.
 use Rattle.std.specs.Prelude.{◌≡◌, ◌≢◌, ◌<◌, ◌≤◌, ℕ, suc, ◌+◌, ◌*◌, ◌/◌, ◌^◌, ◌⊎◌, Bool, true, false, is_some, if◌then◌else◌, Some, None}
-use Rattle.std.specs.Prelude.{List, [], ◌∷◌, ◌++◌, length, slice_get, All}
+use Rattle.std.specs.Prelude.{List, [], ◌∷◌, ◌++◌, length, map, slice_get, All}
 use Rattle.std.specs.FinMap.{empty}
 use Rattle.bodystore.specs.Stages.{Staged}
 use Rattle.library.specs.declared.command.Command.{Command}
@@ -151,13 +151,24 @@ pub record Attempts (cs : List Command) (old new : Member) (o : Outcome) : Type 
 abbrev pub tried : Pass → List ℕ → List ℕ → Pass
 tried k numbers runs = record k { drawn = k.drawn ++ numbers; clocks = runs ++ k.clocks }
 
--- what tries until there is no conflict do: as the last one, after others, each of one run, that drew further numbers, which are void, and took
--- words of the store
+-- a conflict that a session met on the way to what it is now: it has its cause; the half of its word is 0 or the number of a Done entry that
+-- writes its cell; and the cell is one that the transaction may read, over the library at the conflict's place
+pub record WasMet (cs : List Command) (now : Member) (met : Met) : Type 0 where
+  pub cause : HasCause met.place met.word ⊎ ((w : ℕ) × (met.before ≡ Some w) × (w ≢ met.word))
+  pub written : WasWritten now.known.seen.history met.cell (met.word / 2)
+  pub footprint : StaysWithin now.given now.known.home.base now.known.seen cs (outcome.Conflict met)
+
+-- what tries until there is no conflict do: as the last one, after others, each of one run that met a conflict, that drew further numbers,
+-- which are void, and took words of the store
 pub record Submits (cs : List Command) (old new : Member) (o : Outcome) : Type 0 where
   pub later : IsLater old new
   pub numbers : List ℕ
   pub void : All (IsVoidNumber new.known) numbers
   pub runs : List ℕ
+  -- the conflicts, the newest first, each at the place of its run
+  pub met : List Met
+  pub places : map (λ m. m.place) met ≡ runs
+  pub conflicts : All (WasMet cs new) met
   pub gains : Gains cs (tried old.known numbers runs) new.known o
   pub run : IsOneRun (tried old.known numbers runs) new.known o
   -- where memory ran out at the first try, no staging was refused for the first time

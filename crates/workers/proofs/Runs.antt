@@ -12,10 +12,11 @@ use Rattle.lawful.specs.History.{AllAgree}
 use Rattle.transaction.specs.declared.outcome.Outcome.{Outcome}
 use Rattle.transaction.specs.Members.{Member, Stands}
 use Rattle.workers.specs.declared.shift.Row.{Row}
-use Rattle.workers.specs.Works.{ScriptAgrees, HasOutcomes, ToldBy, IsRunBy, IsHandedBack, all_of, newly_done, numbers_of, place_behind}
+use Rattle.workers.specs.Works.{ScriptAgrees, HasOutcomes, ToldBy, MakesRuns, IsRunBy, IsHandedBack, all_of, newly_done, numbers_of}
+use Rattle.workers.specs.Works.{place_behind}
 use Rattle.workers.specs.Shifts.{SubmitsAll, RunsAll}
 use Rattle.workers.proofs.Submitting.{Goes, goes_nowhere, goes_on, submitted_goes, submitted_agrees, submitted_fits, submitted_told}
-use Rattle.workers.proofs.Submitting.{submitted_stands, submitted_within}
+use Rattle.workers.proofs.Submitting.{submitted_runs, submitted_stands, submitted_within, runs_none, runs_both}
 use Rattle.workers.proofs.Numbers.{Draws, drawn_newly, draws_none, draws_more, submitted_draws, numbers_first}
 
 -- ---- one script
@@ -73,6 +74,15 @@ module _ (last : Member) where
       (draws_more last old mid new (numbers_of (o ∷ [])) (numbers_of os)
       (submitted_draws last cs old mid o first later stands) (script_draws stands rest mid new os others goes))
 
+-- it made its runs
+script_runs : (script : List (List Command)) (old new : Member) (os : List Outcome) → SubmitsAll script old new os
+    → MakesRuns old new os
+script_runs [] old new [] same = runs_none old new same
+script_runs [] old new (o ∷ os) none = absurd none
+script_runs (cs ∷ rest) old new [] none = absurd none
+script_runs (cs ∷ rest) old new (o ∷ os) (mid, first, others) =
+    runs_both old mid new (o ∷ []) os (submitted_runs cs old mid o first) (script_runs rest mid new os others)
+
 -- ---- scripts, one after another
 
 -- one behind another is one
@@ -127,6 +137,7 @@ module _ (scripts : List (List (List Command))) (old new : Member) (rows : List 
     agrees = λ h agree. script_agrees new g h agree (length old.known.seen.history) _ old new (told_in rows) all_submitted (goes_nowhere new)
         (omega arith);
     told = script_told new _ old new (told_in rows) all_submitted (goes_nowhere new);
+    ran = script_runs _ old new (told_in rows) all_submitted;
   }
 
   pub runs_numbers : Stands new → newly_done old new ≡ numbers_of (told_in rows)

@@ -1,9 +1,10 @@
 -- What one transaction makes of a session: further calls and numbers, and an outcome that agrees where its calls do.
-use Rattle.std.proofs.Common.{◌≡◌, ◌≢◌, ℕ, ◌≤◌, Option, List, [], ◌∷◌, ◌++◌, length, length-append, refl, sym, ap, subst, ◌∙◌, arith}
+use Rattle.std.proofs.Common.{◌≡◌, ◌≢◌, ℕ, ◌+◌, ◌≤◌, Option, List, [], ◌∷◌, ◌++◌, length, length-append, refl, sym, ap, subst, ◌∙◌, arith}
 use Rattle.std.proofs.Common.{append_assoc}
-use Rattle.std.specs.Prelude.{All, Some, None, is_some, true}
+use Rattle.std.specs.Prelude.{All, Some, None, cond, count_by, is_some, true}
 use Rattle.std.proofs.Math.Seq.{drop-append_seam}
 use Rattle.std.proofs.lemmas.List.{append-nil}
+use Rattle.std.proofs.lemmas.List.Sums.{sum_by-append}
 use Rattle.std.proofs.lemmas.List.Elements.{All-head, All-drop}
 use Rattle.std.proofs.lemmas.Option.{slice_get_within}
 use Rattle.library.specs.declared.command.Command.{Command}
@@ -24,8 +25,8 @@ use Rattle.transaction.specs.declared.outcome.Conflict.{Conflict as Met}
 use Rattle.transaction.specs.declared.outcome.Outcome.{Outcome}
 use Rattle.transaction.specs.declared.outcome.Outcome.TheVariants as outcome
 use Rattle.transaction.specs.Members.{Member}
-use Rattle.transaction.specs.Attempts.{Gains, GainsCall, Submits, SaysDone, SaysRefused, tried}
-use Rattle.workers.specs.Works.{OutcomeAgrees, OutcomeFits, ToldBy, StandsFrom, place_behind, numbers_of}
+use Rattle.transaction.specs.Attempts.{Gains, GainsCall, IsOneRun, Submits, SaysDone, SaysRefused, tried}
+use Rattle.workers.specs.Works.{OutcomeAgrees, OutcomeFits, ToldBy, MakesRuns, StandsFrom, is_answer, is_of_run, place_behind, numbers_of}
 
 -- ---- a session later
 
@@ -72,16 +73,17 @@ goes_on a b c p q = record {
 
 -- ---- what a transaction gains
 
+-- one call, or none
 gained_calls : (cs : List Command) (old new : Pass) (o : Outcome) → Gains cs old new o
-    → (calls : List (Call Note)) × (new.mine ≡ old.mine ++ calls)
-gained_calls cs old new (outcome.Committed number replies) g = (Committed number g.3.0 ∷ [], g.3.2)
-gained_calls cs old new (outcome.Read place replies) g = (Answered place g.3.0 ∷ [], g.3.2)
-gained_calls cs old new (outcome.Refused place reason) g = (Answered place g.2.0 ∷ [], g.2.2)
-gained_calls cs old new (outcome.Conflict met) g = ([], g.0 ∙ sym (append-nil old.mine))
-gained_calls cs old new outcome.StoreFull g = ([], g.0.mine ∙ sym (append-nil old.mine))
-gained_calls cs old new outcome.NumbersUsed g = ([], g.0.mine ∙ sym (append-nil old.mine))
-gained_calls cs old new outcome.TooManyCommands g = ([], ap (λ (p : Pass). p.mine) g.0 ∙ sym (append-nil old.mine))
-gained_calls cs old new outcome.NoMemory g = ([], g.mine ∙ sym (append-nil old.mine))
+    → (calls : List (Call Note)) × (new.mine ≡ old.mine ++ calls) × (length calls ≡ count_by is_answer (o ∷ []))
+gained_calls cs old new (outcome.Committed number replies) g = (Committed number g.3.0 ∷ [], g.3.2, refl)
+gained_calls cs old new (outcome.Read place replies) g = (Answered place g.3.0 ∷ [], g.3.2, refl)
+gained_calls cs old new (outcome.Refused place reason) g = (Answered place g.2.0 ∷ [], g.2.2, refl)
+gained_calls cs old new (outcome.Conflict met) g = ([], g.0 ∙ sym (append-nil old.mine), refl)
+gained_calls cs old new outcome.StoreFull g = ([], g.0.mine ∙ sym (append-nil old.mine), refl)
+gained_calls cs old new outcome.NumbersUsed g = ([], g.0.mine ∙ sym (append-nil old.mine), refl)
+gained_calls cs old new outcome.TooManyCommands g = ([], ap (λ (p : Pass). p.mine) g.0 ∙ sym (append-nil old.mine), refl)
+gained_calls cs old new outcome.NoMemory g = ([], g.mine ∙ sym (append-nil old.mine), refl)
 
 -- one number, or none
 gained_numbers : (cs : List Command) (old new : Pass) (o : Outcome) → Gains cs old new o → ((met : Met) → o ≢ outcome.Conflict met)
@@ -207,6 +209,51 @@ gained_behind cs old new outcome.NumbersUsed place g seen = tt
 gained_behind cs old new outcome.TooManyCommands place g seen = tt
 gained_behind cs old new outcome.NoMemory place g seen = tt
 
+-- ---- it ran
+
+-- it was one run, but where nothing was looked at
+gained_runs : (cs : List Command) (old new : Pass) (o : Outcome) → Gains cs old new o → IsOneRun old new o
+    → (places : List ℕ) × (new.clocks ≡ places ++ old.clocks) × (count_by is_of_run (o ∷ []) ≤ length places)
+gained_runs cs old new (outcome.Committed number replies) g one = (one.0 ∷ [], one.1, omega arith)
+gained_runs cs old new (outcome.Read place replies) g one = (place ∷ [], one, omega arith)
+gained_runs cs old new (outcome.Refused place reason) g one = (place ∷ [], one, omega arith)
+gained_runs cs old new (outcome.Conflict met) g one = (met.place ∷ [], one, omega arith)
+gained_runs cs old new outcome.StoreFull g one = (one.place ∷ [], one.run, omega arith)
+gained_runs cs old new outcome.NumbersUsed g one = (one.0 ∷ [], one.1, omega arith)
+gained_runs cs old new outcome.TooManyCommands g one = ([], ap (λ (p : Pass). p.clocks) g.0, omega arith)
+gained_runs cs old new outcome.NoMemory g one = (one.place ∷ [], one.run, omega arith)
+
+pub runs_none : (old new : Member) → new ≡ old → MakesRuns old new []
+runs_none old new same = record {
+  places = [];
+  loaded = ap (λ (m : Member). m.known.clocks) same;
+  many = omega arith;
+  calls = [];
+  made = ap (λ (m : Member). m.known.mine) same ∙ sym (append-nil old.known.mine);
+  answers = refl;
+}
+
+pub runs_both : (old mid new : Member) (os ps : List Outcome) → MakesRuns old mid os → MakesRuns mid new ps → MakesRuns old new (os ++ ps)
+runs_both old mid new os ps p q =
+    let first = p.many in
+    let second = q.many in
+    record {
+      places = q.places ++ p.places;
+      loaded = q.loaded ∙ (ap (λ (ns : List ℕ). q.places ++ ns) p.loaded ∙ sym (append_assoc q.places p.places old.known.clocks));
+      many =
+          let long = length-append q.places p.places in
+          let both = sum_by-append (λ (x : Outcome). cond (is_of_run x) 1 0) os ps in
+          omega (arith, long, first, second, both);
+      calls = p.calls ++ q.calls;
+      made = appended old.known.mine mid.known.mine new.known.mine p.calls q.calls p.made q.made;
+      answers =
+          let long = length-append p.calls q.calls in
+          let both = sum_by-append (λ (x : Outcome). cond (is_answer x) 1 0) os ps in
+          let one = p.answers in
+          let other = q.answers in
+          omega (arith, long, one, other, both);
+    }
+
 -- ---- one transaction
 
 module _ (cs : List Command) (old new : Member) (o : Outcome) (submits : Submits cs old new o) where
@@ -243,6 +290,21 @@ module _ (cs : List Command) (old new : Member) (o : Outcome) (submits : Submits
 
   pub submitted_told : (last : Member) → Goes new last → ToldBy last o
   submitted_told last goes = gained_told cs before new.known o submits.gains last goes.numbers goes.drawn goes.full
+
+  pub submitted_runs : MakesRuns old new (o ∷ [])
+  submitted_runs =
+      let one = gained_runs cs before new.known o submits.gains submits.run in
+      let call = gained_calls cs before new.known o submits.gains in
+      let long = length-append one.0 submits.runs in
+      let own = one.2 in
+      record {
+        places = one.0 ++ submits.runs;
+        loaded = one.1 ∙ sym (append_assoc one.0 submits.runs old.known.clocks);
+        many = omega (arith, long, own);
+        calls = call.0;
+        made = call.1;
+        answers = call.2;
+      }
 
   pub submitted_stands : (place : ℕ) → place ≤ length old.known.seen.history → StandsFrom place o
   submitted_stands place seen = gained_behind cs before new.known o place submits.gains seen

@@ -1,5 +1,6 @@
 -- What becomes of scripts that workers run on the sessions of one library.
-use Rattle.std.specs.Prelude.{◌≡◌, ◌<◌, ◌≤◌, ◌^◌, ℕ, zero, suc, List, [], ◌∷◌, ◌++◌, Bool, true, false, is_some, All, IsPermutation, length}
+use Rattle.std.specs.Prelude.{◌≡◌, ◌<◌, ◌≤◌, ◌^◌, ℕ, zero, suc, List, [], ◌∷◌, ◌++◌, Bool, true, false, is_some, All, IsPermutation}
+use Rattle.std.specs.Prelude.{count_by, length}
 use Rattle.std.specs.Prelude.{drop, filter, flat_map, map, slice_index_or}
 use Rattle.std.specs.List.{AllZip}
 use Rattle.std.specs.List.Sorted.{IsStrictlyIncreasing}
@@ -11,7 +12,9 @@ use Rattle.library.specs.Histories.{Entry, done_entry}
 use Rattle.library.specs.Transactions.{has_edit, has_too_many}
 use Rattle.cells.specs.Answers.{has_staging}
 use Rattle.claims.specs.Claims.{up_to}
+use Rattle.tlwords.specs.Seen.{Call}
 use Rattle.lawful.specs.declared.notes.Given.{Given}
+use Rattle.lawful.specs.declared.notes.Note.{Note}
 use Rattle.lawful.specs.Lawful.{setting_of, first_library}
 use Rattle.lawful.specs.History.{history_of, AllAgree}
 use Rattle.transaction.specs.declared.outcome.Outcome.{Outcome}
@@ -46,6 +49,18 @@ ToldBy m outcome.NumbersUsed = 2 ^ 40 ≤ length m.known.drawn
 ToldBy m outcome.StoreFull = is_some m.known.full ≡ true
 ToldBy m _ = Unit {0}
 
+-- it is that of a run: each but that of too many commands, of which nothing was looked at
+abbrev pub is_of_run : Outcome → Bool
+is_of_run outcome.TooManyCommands = false
+is_of_run _ = true
+
+-- it tells what the definition answers
+abbrev pub is_answer : Outcome → Bool
+is_answer (outcome.Committed number replies) = true
+is_answer (outcome.Read place replies) = true
+is_answer (outcome.Refused place reason) = true
+is_answer _ = false
+
 -- it stands at a place, or later
 abbrev pub StandsFrom : ℕ → Outcome → Type 0
 StandsFrom place (outcome.Committed number replies) = place < number
@@ -71,13 +86,24 @@ ScriptAgrees s lib0 h place (cs ∷ rest) (o ∷ os) =
     OutcomeAgrees s lib0 h cs o × OutcomeFits cs o × (has_too_many cs ≡ true → o ≡ outcome.TooManyCommands) × StandsFrom place o
     × ScriptAgrees s lib0 h (place_behind place o) rest os
 
+-- the session made a run for each of these outcomes, but where nothing was looked at: it loaded the clock once for each run, and these loads
+-- found the places, the newest first. And each of its calls is told as an answer, so that none was given up
+pub record MakesRuns (old new : Member) (outcomes : List Outcome) : Type 0 where
+  pub places : List ℕ
+  pub loaded : new.known.clocks ≡ places ++ old.known.clocks
+  pub many : count_by is_of_run outcomes ≤ length places
+  pub calls : List (Call Note)
+  pub made : new.known.mine ≡ old.known.mine ++ calls
+  pub answers : length calls ≡ count_by is_answer outcomes
+
 -- the session ran it, behind all that it had seen: as each history has it with which the session's calls agree. They agree with the one that it
--- has seen by now, and with the whole one at the library's end. What was given up, the session tells why
+-- has seen by now, and with the whole one at the library's end. What was given up, the session tells why; and it made its runs for them
 pub record IsRunBy (g : Given) (old new : Member) (script : List (List Command)) (outcomes : List Outcome) : Type 0 where
   pub given : new.given ≡ g
   pub agrees : (h : List Entry) → AllAgree g h new.known.mine
       → ScriptAgrees (setting_of g) (first_library g) h (length old.known.seen.history) script outcomes
   pub told : All (ToldBy new) outcomes
+  pub ran : MakesRuns old new outcomes
 
 -- ---- the scripts of one session
 
