@@ -1,11 +1,11 @@
 -- Which slot has a label in a state that shows a library.
-use Rattle.std.proofs.Common.{◌≡◌, ◌≢◌, ℕ, ◌<◌, ◌≤◌, List, Some, None, length, map, get_or, sym, ap, subst, ◌∙◌, ◌⊎◌, inl, inr, arith, nat_eq, true, false, refl}
+use Rattle.std.proofs.Common.{◌≡◌, ◌≢◌, ℕ, ◌<◌, ◌≤◌, List, [], ◌∷◌, Some, None, length, map, get_or, sym, ap, subst, ◌∙◌, ◌⊎◌, inl, inr, arith, nat_eq, true, false, refl}
 use Rattle.std.specs.Prelude.{◌==◌}
 use Rattle.std.specs.List.{All, Contains}
 use Rattle.std.specs.Str.{bytes_eq}
 use Rattle.std.proofs.Common.{eq-eqb}
 use Rattle.std.proofs.lemmas.List.Elements.{All-map, All-contains}
-use Rattle.std.proofs.lemmas.List.{length-map}
+use Rattle.std.proofs.lemmas.List.{length-map, nil_from_length}
 use Rattle.std.proofs.lemmas.List.Sorted.{Contains-permutation}
 use Rattle.mmsyntax.specs.Assertions.{Distinct}
 use Rattle.library.specs.declared.library.Ranked.{Ranked}
@@ -18,7 +18,7 @@ use Rattle.cells.specs.State.{State, HasBody, most_words}
 use Rattle.cells.specs.Slots.{bucket, name_cell}
 use Rattle.cells.specs.Shows.{Held, IsNamed, Holds, IsEmpty, Shows, slots_of, entries_of, of_bucket}
 use Rattle.cells.specs.Sight.{Sight, Matches, after}
-use Rattle.cells.specs.Lookups.{IsFoundAt, IfFull}
+use Rattle.cells.specs.Lookups.{IsFoundAt, IfFull, AreWordsOf}
 use Rattle.std.proofs.lemmas.Bool.Decides.{Decides-eqb}
 use mathlib.Core.Bool.{not}
 use Rattle.cells.proofs.Bodies.{one_body, no_body}
@@ -118,19 +118,27 @@ module _ (slots : ℕ) (st : State) (lib : List Ranked) (shows : Shows slots st 
         length-map shows.held (λ (q : Held). q.entry),
       )
 
--- a slot's name tells whether it holds an assertion
-pub tells_full : {O : Type 0} → (s : Sight O) (i v : ℕ) → i < s.setting.slots → ((st : State) → Matches s st → v ≡ (after s st).value (name_cell i))
-    → IfFull s i (not (nat_eq v 0))
-tells_full s i v lt is =
-    elim (nat_eq v 0) as (λ b. nat_eq v 0 ≡ b → IfFull s i (not b)) [
-      | true ↦ λ e st lib view.
-          empty_unnamed s.setting.slots (after s st) lib view.shows i lt (sym (is st view.matches) ∙ (Decides-eqb v 0).0 e)
-      | false ↦ λ e st lib view.
-          let h = full_slot s.setting.slots (after s st) lib view.shows i lt
-          (λ z. let none : v ≡ 0 = is st view.matches ∙ z in let both : nat_eq v 0 ≡ true = (Decides-eqb v 0).1 none in cc) in (
-            h.0.entry,
-            subst (λ (k : ℕ). Holds s.setting.slots (after s st) lib k h.0.entry) h.1.1
-                (holds_it s.setting.slots (after s st) lib view.shows h.0 h.1.0),
-            listed s.setting.slots (after s st) lib view.shows h.0 h.1.0,
-          )
-    ] refl
+-- the words of a slot's name tell whether it holds an assertion
+module _ {O : Type 0} (s : Sight O) (i : ℕ) (words : List ℕ) (lt : i < s.setting.slots)
+    (are : (st : State) → Matches s st → AreWordsOf (after s st) (name_cell i) words) where
+  pub tells_empty : words ≡ [] → IfFull s i false
+  tells_empty none = λ st lib view.
+      elim (held_or_empty s.setting.slots (after s st) lib view.shows i lt) [
+        | inl h ↦
+            let holds = holds_it s.setting.slots (after s st) lib view.shows h.0 h.1.0 in
+            let name : HasBody (after s st) (name_cell i) (label_of h.0.entry) =
+            subst (λ (k : ℕ). HasBody (after s st) (name_cell k) (label_of h.0.entry)) h.1.1 holds.name.body in
+            let words_are = are st view.matches in
+            absurd (name.some (sym (words_are.body (label_of h.0.entry) name) ∙ none))
+        | inr e ↦ e
+      ]
+
+  pub tells_full : words ≢ [] → IfFull s i true
+  tells_full some = λ st lib view.
+      let words_are = are st view.matches in
+      let h = full_slot s.setting.slots (after s st) lib view.shows i lt (λ z. some (nil_from_length words (words_are.none z))) in (
+        h.0.entry,
+        subst (λ (k : ℕ). Holds s.setting.slots (after s st) lib k h.0.entry) h.1.1
+            (holds_it s.setting.slots (after s st) lib view.shows h.0 h.1.0),
+        listed s.setting.slots (after s st) lib view.shows h.0 h.1.0,
+      )

@@ -4,7 +4,7 @@ use Rattle.std.specs.List.{All, AllZip}
 use Rattle.std.proofs.Math.Nat.{eq-or-lt_of_le}
 use Rattle.std.proofs.Math.ListN.{get_or-append}
 use Rattle.std.proofs.Math.Seq.{get_or-append_seam}
-use Rattle.std.proofs.lemmas.List.{take_more, take_all, length-append, get_or_default}
+use Rattle.std.proofs.lemmas.List.{take_more, take_all, length-append, get_or_default, nil_from_length}
 use Rattle.std.proofs.lemmas.List.Elements.{All-get_or}
 use Rattle.std.proofs.lemmas.Slice.Zip.{AllZip-long}
 use Rattle.mmsyntax.specs.declared.statement.Kind.{Kind}
@@ -48,12 +48,8 @@ name_held s i made named = λ st lib v e at h. named st (label_of e) v.matches (
 pub stored_words : (slots i : ℕ) (st : State) (kind : Kind) (steps : List Step) (words : List ℕ) → HoldsProof slots st i kind steps
     → AreWordsOf st (proof_cell i) words → (kept : List StoredStep) × (proof_body kept ≡ words) × AreStoredAs slots st steps kept
 stored_words slots i st Axiom steps words h of =
-    let none : [] ≡ words = sym (empty words (of.none h.0)) in
+    let none : [] ≡ words = sym (nil_from_length words (of.none h.0)) in
     ([], none, subst (λ (xs : List Step). AreStoredAs slots st xs []) (sym h.1) tt)
-  where
-    empty : (ws : List ℕ) → length ws ≡ 0 → ws ≡ []
-    empty [] e = refl
-    empty (w ∷ ws) e = absurd (omega (arith, e))
 stored_words slots i st Theorem steps words h of = (h.0, sym (of.body (proof_body h.0) h.1), h.2)
 
 -- the citation that is stored as a slot, where the slot's name is known

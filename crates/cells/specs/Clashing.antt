@@ -1,29 +1,35 @@
--- Of the code's inside, apart from the rules: what the two halves of a look for clashing labels answer.
-use Rattle.std.specs.Prelude.{◌≡◌, ◌≢◌, ℕ, ◌↔◌, IsTrue, List, Bool, true}
-use Rattle.std.specs.List.{list_any}
-use Rattle.library.specs.Library.{label_of}
-use Rattle.library.specs.Edits.{without}
-use Rattle.mmsyntax.specs.Dotted.{is_dotted}
+-- Of the code's inside, apart from the rules: how a label stands to the names of slots, and to those of a chain.
+use Rattle.std.specs.Prelude.{◌≡◌, ◌≢◌, ◌⊎◌, ℕ, List, true}
+use Rattle.mmsyntax.specs.Dotted.{clash}
 use Rattle.cells.specs.State.{State}
+use Rattle.cells.specs.Slots.{bucket}
 use Rattle.cells.specs.Shows.{IsNamed}
 use Rattle.cells.specs.Sight.{Sight, ForEachState}
-use Rattle.cells.specs.Lookups.{ForEach}
+use Rattle.cells.specs.Lookups.{ForEach, TellsStanding}
+use Rattle.cells.specs.declared.labels.Standing.{Standing}
+use Rattle.cells.specs.declared.labels.Standing.TheVariants.{Free, Taken, Clashing}
 
--- the slot has a label L.k of this label L, and not the label `own`
-pub record IsDottedAt (own label : List ℕ) (slots : ℕ) (st : State) (i : ℕ) : Type 0 where
-  pub name : List ℕ
-  pub named : IsNamed slots st i name
-  pub dotted : is_dotted label name ≡ true
-  pub other : name ≢ own
+-- a name is in the way of a label: it is the label, or clashes with it and isn't `own`
+abbrev pub IsInTheWay : List ℕ → List ℕ → List ℕ → Type 0
+IsInTheWay own label name = (name ≡ label) ⊎ ((clash name label ≡ true) × (name ≢ own))
 
--- whether it does
-abbrev pub TellsDotted : {O : Type 0} → Sight O → ℕ → List ℕ → List ℕ → Bool → Type 0
-TellsDotted s i own label b = ForEachState s (λ st. IsTrue b ↔ IsDottedAt own label s.setting.slots st i)
+-- how the label stands to the name of the slot
+abbrev pub StandsAt : List ℕ → List ℕ → ℕ → State → ℕ → Standing → Type 0
+StandsAt own label slots st i Free = (name : List ℕ) → IsNamed slots st i name → IsInTheWay own label name → ⊥
+StandsAt own label slots st i Taken = IsNamed slots st i label
+StandsAt own label slots st i Clashing = (name : List ℕ) × IsNamed slots st i name × (clash name label ≡ true) × (name ≢ own)
 
--- whether the label is L.k of the label L of an assertion, one with the label `own` left out
-abbrev pub TellsTrunk : {O : Type 0} → Sight O → List ℕ → List ℕ → Bool → Type 0
-TellsTrunk s own label b = ForEach s (λ st lib. list_any (λ e. is_dotted (label_of e) label) (without own lib) ≡ b)
+-- so in each state that may be under the run
+abbrev pub TellsStandingAt : {O : Type 0} → Sight O → ℕ → List ℕ → List ℕ → Standing → Type 0
+TellsStandingAt s i own label standing = ForEachState s (λ st. StandsAt own label s.setting.slots st i standing)
 
--- whether the label of an assertion is L.k of this label L, one with the label `own` left out
-abbrev pub TellsNumbered : {O : Type 0} → Sight O → List ℕ → List ℕ → Bool → Type 0
-TellsNumbered s own label b = ForEach s (λ st lib. list_any (λ e. is_dotted label (label_of e)) (without own lib) ≡ b)
+-- no slot has a name of the bucket that is in the way
+abbrev pub IsClearIn : ℕ → List ℕ → List ℕ → ℕ → State → Type 0
+IsClearIn b own label slots st =
+    (i : ℕ) (name : List ℕ) → IsNamed slots st i name → bucket slots name ≡ b → IsInTheWay own label name → ⊥
+
+-- how the label stands to the names of the bucket
+abbrev pub TellsStandingIn : {O : Type 0} → Sight O → ℕ → List ℕ → List ℕ → Standing → Type 0
+TellsStandingIn s b own label Free = ForEach s (λ st lib. IsClearIn b own label s.setting.slots st)
+TellsStandingIn s b own label Taken = TellsStanding s own label Taken
+TellsStandingIn s b own label Clashing = TellsStanding s own label Clashing

@@ -70,9 +70,9 @@ module _ (slots : ℕ) where
   IsOfProof i steps st c =
       (c ≡ proof_cell i) ⊎ ((label : List ℕ) × (j : ℕ) × Has (Cite label) steps × IsNamed slots st j label × (c ≡ name_cell j))
 
-  -- of an assertion with these steps in a slot: besides, its name and statement cells
+  -- of an assertion with these steps in a slot whose label is known: besides, its statement cell
   abbrev pub IsOfAssertion : ℕ → List Step → State → ℕ → Type 0
-  IsOfAssertion i steps st c = (c ≡ name_cell i) ⊎ ((c ≡ statement_cell i) ⊎ IsOfProof i steps st c)
+  IsOfAssertion i steps st c = (c ≡ statement_cell i) ⊎ IsOfProof i steps st c
 
 -- the name cell of a slot that the step cites
 abbrev pub IsNameCited : StoredStep → ℕ → Type 0

@@ -4,7 +4,8 @@ use Rattle.std.specs.List.{list_any}
 use Rattle.mmsyntax.specs.declared.statement.Step.{Step}
 use Rattle.mmsyntax.specs.declared.statement.Step.TheVariants.{Float, Hyp, Cite}
 use Rattle.library.specs.declared.library.Ranked.{Ranked}
-use Rattle.library.specs.Edits.{found, clashes, without, is_of_unknown}
+use Rattle.library.specs.Library.{label_of}
+use Rattle.library.specs.Edits.{has, found, clashes, without, is_of_unknown}
 use Rattle.bodystore.specs.declared.stored.StoredStep.{StoredStep}
 use Rattle.bodystore.specs.declared.stored.StoredStep.TheVariants.{Slot}
 use Rattle.ranges.specs.Ranges.{Has}
@@ -12,6 +13,8 @@ use Rattle.cells.specs.State.{State, HasBody}
 use Rattle.cells.specs.Slots.{name_cell}
 use Rattle.cells.specs.Shows.{IsNamed, Holds, IsEmpty, IsStoredAs, AreStoredAs}
 use Rattle.cells.specs.Sight.{Sight, Matches, Views, after, ForEachState}
+use Rattle.cells.specs.declared.labels.Standing.{Standing}
+use Rattle.cells.specs.declared.labels.Standing.TheVariants.{Free, Taken, Clashing}
 
 -- what is so of every state that may be under the run and of every library that verifies and that it shows with what the run keeps aside
 abbrev pub ForEach : {O : Type 0} → Sight O → (State → List Ranked → Type 0) → Type 0
@@ -42,14 +45,21 @@ abbrev pub Finds : {O : Type 0} → Sight O → List ℕ → Option ℕ → Type
 Finds s label None = ForEach s (λ st lib. found lib label ≡ None)
 Finds s label (Some i) = (i < s.setting.slots) × ForEach s (λ st lib. IsFoundAt s.setting.slots st lib label i)
 
--- whether the label clashes with that of an assertion, one with the label `own` left out
-abbrev pub TellsClash : {O : Type 0} → Sight O → List ℕ → List ℕ → Bool → Type 0
-TellsClash s own label b = ForEach s (λ st lib. clashes (without own lib) label ≡ b)
+-- how the label stands to those of the library, that of one with the label `own` left out of those with which it may clash
+abbrev pub TellsStanding : {O : Type 0} → Sight O → List ℕ → List ℕ → Standing → Type 0
+TellsStanding s own label Free = ForEach s (λ st lib. (has lib label ≡ false) × (clashes (without own lib) label ≡ false))
+TellsStanding s own label Taken = ForEach s (λ st lib. has lib label ≡ true)
+TellsStanding s own label Clashing = ForEach s (λ st lib. (has lib label ≡ false) × (clashes (without own lib) label ≡ true))
 
 -- whether the slot holds an assertion of the library: if not, it is empty
 abbrev pub IfFull : {O : Type 0} → Sight O → ℕ → Bool → Type 0
 IfFull s i true = ForEach s (λ st lib. (e : Ranked) × Holds s.setting.slots st lib i e × Contains lib e)
 IfFull s i false = ForEach s (λ st lib. IsEmpty s.setting.slots st i)
+
+-- the label of the assertion that the slot holds; none where it is empty
+abbrev pub TellsLabelOf : {O : Type 0} → Sight O → ℕ → Option (List ℕ) → Type 0
+TellsLabelOf s i None = IfFull s i false
+TellsLabelOf s i (Some label) = IfFull s i true × ForEachHeld s i (λ st lib e. label ≡ label_of e)
 
 -- the first empty slot from a slot on, going round
 pub record IsFirstEmpty {O : Type 0} (s : Sight O) (from i : ℕ) : Type 0 where

@@ -1,16 +1,14 @@
-//! Looks for labels, for those that clash with one, and for empty slots.
+//! Looks for labels, and for empty slots.
 
 ghost use Rattle.std.specs.Prelude.{◌≡◌, ◌<◌, IfOk};
 ghost use Rattle.cells.specs.Sight.{Sight, Looks, ReadsWithin};
-ghost use Rattle.cells.specs.Slots.{name_cell, hash};
-ghost use Rattle.cells.specs.Footprints.{ReadsWhere, IsAlong, IsOfLook, IsOfTrunk, IsOfClash, IsOfRound};
-ghost use Rattle.cells.specs.Lookups.{Finds, FindsFree, TellsLabel, TellsClash};
-ghost use Rattle.cells.specs.Clashing.{TellsDotted, TellsTrunk, TellsNumbered};
+ghost use Rattle.cells.specs.Slots.{name_cell};
+ghost use Rattle.cells.specs.Footprints.{ReadsWhere, IsOfLook, IsOfRound};
+ghost use Rattle.cells.specs.Lookups.{Finds, FindsFree, TellsLabel};
 
 use crate::cells::Cells;
-use crate::places::{bucket, bucket_cell, hash, link, name_cell, next_cell, slot_count};
-use crate::words::{has_dotted, has_words, range_of};
-use mmsyntax::trunk;
+use crate::places::{bucket, bucket_cell, link, name_cell, next_cell, slot_count};
+use crate::words::{has_words, range_of};
 
 /// Whether the slot has the label.
 pub(crate) fn has_label<C: Cells>(cells: &mut C, slot: usize, label: &[u8]) -> Result<bool, C::Stop>
@@ -53,83 +51,6 @@ pub fn find<C: Cells>(cells: &mut C, label: &[u8]) -> Result<Option<usize>, C::S
         word = cells.read(next_cell(slots, slot))?;
     }
     Ok(None)
-}
-
-/// Whether the label clashes with that of an assertion: one of both is `L.k`, where L is the other, for a k from 1 to 1,000. An assertion
-/// with the label `own` is left out.
-///
-/// It reads at most two chains, as `find` does: where the label is `L.k`, that in which L lies, and that in which the labels lie which are
-/// `L.k` for this label. Of a member of the latter it reads no word of its label but where that is 2 to 5 bytes longer.
-///
-/// # Errors
-///
-/// The run is stopped. What was kept aside stays.
-pub fn has_clash<C: Cells>(cells: &mut C, own: &[u8], label: &[u8]) -> Result<bool, C::Stop>
-    ensures looks { Looks (C.sight cells.old) (C.sight cells.new) }
-    ensures ok { IfOk result (λ b. TellsClash (C.sight cells.new) own.now label.now b) }
-    ensures reads { ReadsWhere (IsOfClash (C.sight cells.old).setting.slots own.now label.now) (C.sight cells.old) (C.sight cells.new) }
-{
-    if has_trunk(cells, own, label)? {
-        return Ok(true);
-    }
-    has_numbered(cells, own, label)
-}
-
-/// Whether the label is `L.k` for the label L of an assertion, which isn't `own`.
-fn has_trunk<C: Cells>(cells: &mut C, own: &[u8], label: &[u8]) -> Result<bool, C::Stop>
-    ensures looks { Looks (C.sight cells.old) (C.sight cells.new) }
-    ensures ok { IfOk result (λ b. TellsTrunk (C.sight cells.new) own.now label.now b) }
-    ensures reads { ReadsWhere (IsOfTrunk (C.sight cells.old).setting.slots own.now label.now) (C.sight cells.old) (C.sight cells.new) }
-{
-    let front = trunk(label);
-    if front == label || front == own {
-        return Ok(false);
-    }
-    Ok(find(cells, front)?.is_some())
-}
-
-/// Whether an assertion has a label `L.k`, where L is this label, which isn't `own`.
-fn has_numbered<C: Cells>(cells: &mut C, own: &[u8], label: &[u8]) -> Result<bool, C::Stop>
-    ensures looks { Looks (C.sight cells.old) (C.sight cells.new) }
-    ensures ok { IfOk result (λ b. TellsNumbered (C.sight cells.new) own.now label.now b) }
-    ensures reads { ReadsWhere (IsAlong (C.sight cells.old).setting.slots (hash (C.sight cells.old).setting.slots label.now)) (C.sight cells.old) (C.sight cells.new) }
-{
-    let slots = slot_count(cells);
-    let mut word = cells.read(bucket_cell(slots, hash(label, slots)))?;
-    for _ in 0..slots {
-        let Some(slot) = link(word, slots) else {
-            return Ok(false);
-        };
-        if has_dotted_label(cells, slot, own, label)? {
-            return Ok(true);
-        }
-        word = cells.read(next_cell(slots, slot))?;
-    }
-    Ok(false)
-}
-
-/// Whether the slot has a label `L.k`, where L is this label, which isn't `own`.
-fn has_dotted_label<C: Cells>(
-    cells: &mut C,
-    slot: usize,
-    own: &[u8],
-    label: &[u8],
-) -> Result<bool, C::Stop>
-    requires { slot < (C.sight cells.old).setting.slots }
-    ensures looks { Looks (C.sight cells.old) (C.sight cells.new) }
-    ensures ok { IfOk result (λ b. TellsDotted (C.sight cells.new) slot own.now label.now b) }
-    ensures reads { ReadsWithin (λ c. c ≡ name_cell slot) (C.sight cells.old) (C.sight cells.new) }
-{
-    let _slots = slot_count(cells);
-    let word = cells.read(name_cell(slot))?;
-    if word == 0 {
-        return Ok(false);
-    }
-    let range = range_of(cells, word);
-    if !has_dotted(cells, range, label) {
-        return Ok(false);
-    }
-    Ok(!has_words(cells, range, own))
 }
 
 /// The first empty slot from a slot on, going round; or none where the library has as many assertions as slots.

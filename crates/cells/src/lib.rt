@@ -7,6 +7,7 @@ mod counts;
 mod ending;
 mod finding;
 mod halt;
+mod labels;
 mod places;
 mod reading;
 mod words;
@@ -15,14 +16,14 @@ mod writing;
 pub use cells::Cells;
 pub use counts::{cited_slots, count_in, count_out, only_in};
 pub use ending::{CommandError, RunError};
-pub use finding::{find, free_slot, has_clash};
+pub use finding::{find, free_slot};
 pub use halt::Halt;
+pub use labels::{Standing, standing_of};
 pub use places::{
     bucket, bucket_cell, citers_cell, is_range_cell, link, name_cell, next_cell, proof_cell,
     rank_cell, slot_count, statement_cell,
 };
 pub use reading::{
-    assertion, citers, entry, frame, is_full, kind, label, proof, rank, resolve, statement,
-    stored_proof,
+    citers, entry, frame, kind, label, proof, rank, resolve, statement, stored_proof,
 };
 pub use writing::{put, put_body};

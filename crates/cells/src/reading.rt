@@ -9,7 +9,7 @@ ghost use Rattle.std.specs.Option.{option_map};
 ghost use Rattle.cells.specs.Sight.{Looks, ReadsWithin};
 ghost use Rattle.cells.specs.Slots.{name_cell, statement_cell, proof_cell, rank_cell, citers_cell};
 ghost use Rattle.cells.specs.Footprints.{ReadsWhere, IsOfProof, IsOfAssertion, IsOfStep, IsOfResolving, IsNameCited};
-ghost use Rattle.cells.specs.Lookups.{ForEachHeld, IfFull, IsNameAt, AreStepsAt, IsStepOf, AreStepsOf, StoresStep, Resolves};
+ghost use Rattle.cells.specs.Lookups.{ForEachHeld, TellsLabelOf, IsNameAt, AreStepsAt, IsStepOf, AreStepsOf, StoresStep, Resolves};
 
 use crate::again::{Hints, number_of};
 use crate::cells::Cells;
@@ -36,21 +36,6 @@ pub fn citers<C: Cells>(cells: &mut C, slot: usize) -> Result<u64, C::Stop>
 {
     let _slots = slot_count(cells);
     cells.read(citers_cell(slot))
-}
-
-/// Whether the slot holds an assertion.
-///
-/// # Errors
-///
-/// The run is stopped.
-pub fn is_full<C: Cells>(cells: &mut C, slot: usize) -> Result<bool, C::Stop>
-    requires { slot < (C.sight cells.old).setting.slots }
-    ensures looks { Looks (C.sight cells.old) (C.sight cells.new) }
-    ensures ok { IfOk result (λ b. IfFull (C.sight cells.new) slot b) }
-    ensures reads { ReadsWithin (λ c. c ≡ name_cell slot) (C.sight cells.old) (C.sight cells.new) }
-{
-    let _slots = slot_count(cells);
-    Ok(cells.read(name_cell(slot))? != 0)
 }
 
 /// The kind of the assertion in the slot. It reads one word of its statement.
@@ -93,18 +78,27 @@ pub fn rank<C: Cells>(cells: &mut C, slot: usize) -> Result<u32, C::Stop>
     Ok((cells.read(rank_cell(slot))? & 0xffff_ffff) as u32)
 }
 
-/// The label of the assertion in the slot.
+/// The label of the assertion in the slot; none where it is empty.
 ///
 /// # Errors
 ///
 /// The run is stopped, or memory ran out, here and below.
-pub fn label<C: Cells>(alloc: Global, cells: &mut C, slot: usize) -> Result<Label, Halt<C::Stop>>
+pub fn label<C: Cells>(
+    alloc: Global,
+    cells: &mut C,
+    slot: usize,
+) -> Result<Option<Label>, Halt<C::Stop>>
     requires { slot < (C.sight cells.old).setting.slots }
     ensures looks { Looks (C.sight cells.old) (C.sight cells.new) }
-    ensures ok { IfOk result (λ made. ForEachHeld (C.sight cells.new) slot (λ st lib e. made ≡ label_of e)) }
+    ensures ok { IfOk result (λ made. TellsLabelOf (C.sight cells.new) slot made) }
     ensures reads { ReadsWithin (λ c. c ≡ name_cell slot) (C.sight cells.old) (C.sight cells.new) }
 {
-    name_of(alloc, cells, slot)
+    let _slots = slot_count(cells);
+    let words = words_of(alloc, cells, name_cell(slot))?;
+    if words.is_empty() {
+        return Ok(None);
+    }
+    Ok(Some(decode_label(alloc, words.as_slice())?))
 }
 
 /// The label that the slot's name cell names, if it names one.
@@ -228,32 +222,39 @@ fn named_step<C: Cells>(
     }
 }
 
-/// The assertion in the slot.
-pub fn assertion<C: Cells>(
+/// The assertion in the slot, whose label is known.
+fn assertion<C: Cells>(
     alloc: Global,
     cells: &mut C,
     slot: usize,
+    label: Label,
 ) -> Result<Assertion, Halt<C::Stop>>
-    requires { slot < (C.sight cells.old).setting.slots }
+    requires slot { slot < (C.sight cells.old).setting.slots }
+    requires label { ForEachHeld (C.sight cells.old) slot (λ st lib e. label ≡ label_of e) }
     ensures looks { Looks (C.sight cells.old) (C.sight cells.new) }
     ensures ok { IfOk result (λ made. ForEachHeld (C.sight cells.new) slot (λ st lib e. made ≡ e.assertion)) }
     ensures reads { ForEachHeld (C.sight cells.new) slot (λ st lib e. ReadsWithin (IsOfAssertion (C.sight cells.old).setting.slots slot e.assertion.proof st) (C.sight cells.old) (C.sight cells.new)) }
 {
-    let label = label(alloc, cells, slot)?;
     let statement = statement(alloc, cells, slot)?;
     let proof = proof(alloc, cells, slot)?;
     Ok(statement.into_assertion(label, proof))
 }
 
-/// The assertion in the slot, with its rank.
-pub fn entry<C: Cells>(alloc: Global, cells: &mut C, slot: usize) -> Result<Ranked, Halt<C::Stop>>
-    requires { slot < (C.sight cells.old).setting.slots }
+/// The assertion in the slot, whose label is known, with its rank.
+pub fn entry<C: Cells>(
+    alloc: Global,
+    cells: &mut C,
+    slot: usize,
+    label: Label,
+) -> Result<Ranked, Halt<C::Stop>>
+    requires slot { slot < (C.sight cells.old).setting.slots }
+    requires label { ForEachHeld (C.sight cells.old) slot (λ st lib e. label ≡ label_of e) }
     ensures looks { Looks (C.sight cells.old) (C.sight cells.new) }
     ensures ok { IfOk result (λ made. ForEachHeld (C.sight cells.new) slot (λ st lib e. made ≡ e)) }
     ensures reads { ForEachHeld (C.sight cells.new) slot (λ st lib e. ReadsWithin (λ c. (c ≡ rank_cell slot) ⊎ IsOfAssertion (C.sight cells.old).setting.slots slot e.assertion.proof st c) (C.sight cells.old) (C.sight cells.new)) }
 {
     let rank = rank(cells, slot).map_err(Halt::Stopped)?;
-    let assertion = assertion(alloc, cells, slot)?;
+    let assertion = assertion(alloc, cells, slot, label)?;
     Ok(Ranked { rank, assertion })
 }
 

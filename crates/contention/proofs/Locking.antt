@@ -12,7 +12,7 @@ use Rattle.transaction.specs.Members.{Member}
 use Rattle.transaction.specs.Footprints.{IsLaterHistory, MayWriteAfter, MayReadAfter}
 use Rattle.transaction.specs.Locks.{LocksWithin}
 use Rattle.contention.specs.Laws.{Runs, AreBeside, LocksMeet, ApartLocksNone}
-use Rattle.contention.proofs.Meeting.{same_given}
+use Rattle.contention.proofs.Meeting.{same_given, was_met, opened_by}
 
 module _ (cs : List Command) (old new : Member) (o : Outcome) where
   opened : Runs cs old new o → new.known.home.setting ≡ Some new.given
@@ -27,7 +27,7 @@ module _ (ones others : List Command) (cells : List ℕ) (met : Met) (by : Membe
   where
     given_is : m.one.given ≡ by.given
     given_is =
-        same_given m.one by (opened ones m.one_before m.one m.outcome m.ran) m.conflicted.later.stands.setting m.home
+        same_given m.one by (opened ones m.one_before m.one m.outcome m.ran) (opened_by others m.before by met m.conflicted) m.home
 
     base_is : m.one.known.home.base ≡ by.known.home.base
     base_is = ap (λ h. h.base) m.home
@@ -55,7 +55,7 @@ module _ (ones others : List Command) (cells : List ℕ) (met : Met) (by : Membe
     pub both_meet : Has met.cell cells
         → ((place : ℕ) × MayWriteAfter by.given by.known.home.base seen place ones met.cell)
         × MayReadAfter by.given by.known.home.base seen met.place others met.cell
-    both_meet has = (may_lock has, m.conflicted.footprint seen m.later)
+    both_meet has = (may_lock has, (was_met others m.before by met m.conflicted).footprint seen m.later)
 
 pub locks_meet : LocksMeet
 locks_meet ones others cells met by seen m has = both_meet ones others cells met by seen m has

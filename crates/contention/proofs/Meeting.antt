@@ -33,11 +33,11 @@ module _ (cs : List Command) (old new : Member) (number : ℕ) (replies : List R
 
 -- a conflict that was met on the way
 module _ (cs : List Command) (old new : Member) (met : Met) where
-  was_met : RunsInto cs old new met → WasMet cs new met
+  pub was_met : RunsInto cs old new met → WasMet cs new met
   was_met (inl a) = record { cause = a.gains.2.cause; written = a.gains.2.written; footprint = a.footprint }
   was_met (inr s) = all_has (WasMet cs new) s.1.met met s.1.conflicts s.2
 
-  opened_by : RunsInto cs old new met → new.known.home.setting ≡ Some new.given
+  pub opened_by : RunsInto cs old new met → new.known.home.setting ≡ Some new.given
   opened_by (inl a) = a.later.stands.setting
   opened_by (inr s) = s.1.later.stands.setting
 

@@ -66,7 +66,7 @@ pub record AreBeside (ones others : List Command) (cells : List ℕ) (met : Met)
   pub ran : Runs ones one_before one outcome
   pub locked : one.known.locked ≡ cells ++ one_before.known.locked
   pub before : Member
-  pub conflicted : Attempts others before by (Conflict met)
+  pub conflicted : RunsInto others before by met
   pub home : one.known.home ≡ by.known.home
   pub one_later : IsLaterHistory by.given by.known.home.base one.known.seen seen
   pub later : IsLaterHistory by.given by.known.home.base by.known.seen seen

@@ -1,25 +1,28 @@
 -- Whether steps cite an assertion that isn't below a rank, by the slots that they are stored as.
-use Rattle.std.proofs.Common.{◌≡◌, ℕ, ◌+◌, ◌<◌, Bool, true, false, List, length, get_or, take, refl, sym, ap, subst, ◌∙◌, arith}
+use Rattle.std.proofs.Common.{◌≡◌, ℕ, ◌+◌, ◌<◌, Bool, true, false, List, length, get_or, refl, sym, ap, subst, ◌∙◌, below_more, arith}
 use Rattle.std.specs.Prelude.{nat_le}
-use Rattle.std.specs.List.{list_any}
-use Rattle.std.proofs.lemmas.Bool.{or_from}
-use Rattle.std.proofs.lemmas.List.{take_all}
-use Rattle.std.proofs.lemmas.List.Folds.{list_any_at, list_any_more}
+use Rattle.std.proofs.lemmas.List.{get_or_default}
+use Rattle.std.proofs.lemmas.List.Folds.{list_any_none}
 use Rattle.std.proofs.lemmas.Slice.Zip.{AllZip-long}
 use Rattle.mmsyntax.specs.declared.statement.Step.{Step}
 use Rattle.mmsyntax.specs.declared.statement.Step.TheVariants.{Float, Hyp, Cite}
 use Rattle.library.specs.declared.library.Ranked.{Ranked}
 use Rattle.library.specs.Edits.{found, cites_not_below, is_not_below}
 use Rattle.library.proofs.Places.{found_in}
+use Rattle.ranges.specs.Ranges.{Has}
+use Rattle.ranges.proofs.Members.{contains_from_has, any_has}
 use Rattle.bodystore.specs.declared.stored.StoredStep.{StoredStep}
 use Rattle.bodystore.specs.declared.stored.StoredStep.TheVariants as stored
 use Rattle.cells.specs.State.{State}
 use Rattle.cells.specs.Shows.{IsNamed, IsStoredAs, AreStoredAs}
 use Rattle.cells.specs.Sight.{Sight, Looks, after}
+use Rattle.cells.specs.Counts.{AreCitedSlots}
 use Rattle.cells.specs.Lookups.{ForEach, ForEachHeld}
 use Rattle.cells.proofs.Sights.{views_back, after_looks}
 use Rattle.cells.proofs.Settings.{same_slots}
 use Rattle.cells.proofs.Holders.{found_at}
+use Rattle.cells.proofs.Asking.{item_has}
+use Rattle.cells.proofs.AskingSteps.{cited_slot}
 use Rattle.cells.proofs.ReadBack.{zip_at}
 use Rattle.groundwork.specs.Citing.{ForEachStored, TellsNotBelow}
 
@@ -75,33 +78,57 @@ ranked_below s rank i n b ranked is_so = λ st lib v step is.
     by_step st lib (Hyp k) told is = absurd is
     by_step st lib (Cite label) told is = told label is
 
--- ---- all steps
+-- and tells it still while nothing is written
+not_below_later : {O : Type 0} → (s t : Sight O) (rank : ℕ) (x : StoredStep) (b : Bool) → Looks s t → IsNotBelow s rank x b → IsNotBelow t rank x b
+not_below_later s t rank x b looks told = λ st lib v step is.
+    told st lib (views_back s t st lib looks v) step
+    (subst (λ (y : State). IsStoredAs (IsNamed s.setting.slots y) step x) (after_looks s t st looks)
+    (subst (λ (n : ℕ). IsStoredAs (IsNamed n (after t st)) step x) (same_slots s t looks) is))
 
--- the first steps cite only what is below the rank
-abbrev pub AreBelow : {O : Type 0} → Sight O → ℕ → ℕ → List StoredStep → Type 0
-AreBelow s rank i kept = ForEachStored s kept (λ lib steps. list_any (cites_not_below lib rank) (take i steps) ≡ false)
+-- ---- all slots that are cited
 
-pub below_none : {O : Type 0} → (s : Sight O) (rank : ℕ) (kept : List StoredStep) → AreBelow s rank 0 kept
-below_none s rank kept = λ st lib v steps stored. refl
+-- the first of these slots hold only what is below the rank
+abbrev pub AreBelow : {O : Type 0} → Sight O → ℕ → ℕ → List ℕ → Type 0
+AreBelow s rank i cited = (k : ℕ) → k < i → IsNotBelow s rank (stored.Slot (get_or cited k 0)) false
 
-pub below_more : {O : Type 0} → (s t : Sight O) (rank i : ℕ) (kept : List StoredStep) (d : StoredStep) → Looks s t → AreBelow s rank i kept → i < length kept
-    → IsNotBelow t rank (get_or kept i d) false → AreBelow t rank (i + 1) kept
-below_more s t rank i kept d looks below lt one = λ st lib v steps stored.
-    let p = cites_not_below lib rank in
-    let at = zip_at (IsStoredAs (IsNamed t.setting.slots (after t st))) steps kept i (Float 0) d stored lt in
-    let before = stored_later s t kept (λ l xs. list_any (cites_not_below l rank) (take i xs) ≡ false) looks below st lib v steps stored in
-    list_any_more (cites_not_below lib rank) steps i (Float 0) at.1
-    ∙ or_from (list_any (cites_not_below lib rank) (take i steps)) (cites_not_below lib rank (get_or steps i (Float 0))) before
-    (one st lib v (get_or steps i (Float 0)) at.0)
+pub below_none : {O : Type 0} → (s : Sight O) (rank : ℕ) (cited : List ℕ) → AreBelow s rank 0 cited
+below_none s rank cited = λ k lt. absurd (omega (arith, lt))
 
-pub tells_below : {O : Type 0} → (s : Sight O) (rank i : ℕ) (kept : List StoredStep) → length kept ≡ i → AreBelow s rank i kept
-    → TellsNotBelow s rank kept false
-tells_below s rank i kept n below = λ st lib v steps stored.
-    let long = AllZip-long (IsStoredAs (IsNamed s.setting.slots (after s st))) steps kept stored in
-    sym (ap (list_any (cites_not_below lib rank)) (sym (take_all i steps (omega (arith, long, n)))) ∙ below st lib v steps stored)
+pub below_one_more : {O : Type 0} → (s t : Sight O) (rank i : ℕ) (cited : List ℕ) → Looks s t → AreBelow s rank i cited
+    → IsNotBelow t rank (stored.Slot (get_or cited i 0)) false → AreBelow t rank (i + 1) cited
+below_one_more s t rank i cited looks below one =
+    below_more (λ (k : ℕ). IsNotBelow t rank (stored.Slot (get_or cited k 0)) false) i
+    (λ k lt. not_below_later s t rank (stored.Slot (get_or cited k 0)) false looks (below k lt)) one
 
-pub tells_not_below : {O : Type 0} → (s : Sight O) (rank i : ℕ) (kept : List StoredStep) (d : StoredStep) → i < length kept
-    → IsNotBelow s rank (get_or kept i d) true → TellsNotBelow s rank kept true
-tells_not_below s rank i kept d lt one = λ st lib v steps stored.
-    let at = zip_at (IsStoredAs (IsNamed s.setting.slots (after s st))) steps kept i (Float 0) d stored lt in
-    sym (list_any_at (cites_not_below lib rank) steps i (Float 0) at.1 (one st lib v (get_or steps i (Float 0)) at.0))
+-- a slot that is listed is one that a step cites
+pub is_cited : (kept : List StoredStep) (cited : List ℕ) (i : ℕ) → AreCitedSlots kept cited → i < length cited
+    → Has (stored.Slot (get_or cited i 0)) kept
+is_cited kept cited i are lt = are.cited (get_or cited i 0) (item_has cited i 0 lt)
+
+-- where all of them do, no step cites what isn't below
+pub tells_below : {O : Type 0} → (s : Sight O) (rank i : ℕ) (kept : List StoredStep) (cited : List ℕ) → AreCitedSlots kept cited
+    → length cited ≡ i → AreBelow s rank i cited → TellsNotBelow s rank kept false
+tells_below s rank i kept cited are n below = λ st lib v steps is.
+    sym (list_any_none (cites_not_below lib rank) steps (λ k d lt.
+    let long = AllZip-long (IsStoredAs (IsNamed s.setting.slots (after s st))) steps kept is in
+    let in_kept : k < length kept = omega (arith, long, lt) in
+    let at = zip_at (IsStoredAs (IsNamed s.setting.slots (after s st))) steps kept k d (stored.Float 0) is in_kept in
+    of_step (get_or kept k (stored.Float 0)) (item_has kept k (stored.Float 0) in_kept) st lib v (get_or steps k d) at.0))
+  where
+    of_slot : (j : ℕ) → Has j cited → IsNotBelow s rank (stored.Slot j) false
+    of_slot j at =
+        let place = contains_from_has cited j at in
+        subst (λ (m : ℕ). IsNotBelow s rank (stored.Slot m) false) (get_or_default cited place.0 0 j place.1 ∙ place.2)
+        (below place.0 (omega (arith, place.1, n)))
+
+    of_step : (x : StoredStep) → Has x kept → IsNotBelow s rank x false
+    of_step (stored.Float j) at = uncited_below s rank (stored.Float j) (λ i is. absurd cc)
+    of_step (stored.Hyp j) at = uncited_below s rank (stored.Hyp j) (λ i is. absurd cc)
+    of_step (stored.Slot j) at = of_slot j (are.all j at)
+
+-- where one doesn't, one does
+pub tells_not_below : {O : Type 0} → (s : Sight O) (rank i : ℕ) (kept : List StoredStep) → Has (stored.Slot i) kept
+    → IsNotBelow s rank (stored.Slot i) true → TellsNotBelow s rank kept true
+tells_not_below s rank i kept has one = λ st lib v steps is.
+    let from = cited_slot s.setting.slots steps kept (after s st) i is has in
+    sym (any_has (cites_not_below lib rank) steps (Cite from.0) from.1 (one st lib v (Cite from.0) from.2))

@@ -1,16 +1,16 @@
 -- What a run saw of a library, and an assertion that it found there: the same while nothing is written.
-use Rattle.std.proofs.Common.{◌≡◌, ℕ, List, Option, Some, None, true, sym, subst, ◌∙◌, inl, inr}
-use Rattle.std.specs.Option.{is_some}
+use Rattle.std.proofs.Common.{◌≡◌, ℕ, List, Some, None, true, sym, subst, ◌∙◌, inl, inr}
 use Rattle.std.proofs.lemmas.Bool.{cases_Bool}
 use Rattle.library.specs.declared.library.Ranked.{Ranked}
-use Rattle.library.specs.Library.{Setting, Verifies}
+use Rattle.library.specs.Library.{Setting, Verifies, label_of}
 use Rattle.library.specs.Edits.{has, found}
 use Rattle.cells.specs.State.{State}
+use Rattle.cells.specs.Slots.{name_cell}
 use Rattle.cells.specs.Shows.{Shows, Holds}
 use Rattle.cells.specs.Sight.{Sight, Matches, Views, Looks, after}
-use Rattle.cells.specs.Lookups.{ForEach, IsFoundAt, Finds}
-use Rattle.library.proofs.Places.{find_nowhere}
-use Rattle.cells.proofs.Found.{unfound}
+use Rattle.cells.specs.Lookups.{IsFoundAt, Finds, ForEachHeld}
+use Rattle.library.proofs.Places.{find_nowhere, found_in}
+use Rattle.cells.proofs.Bodies.{one_body}
 use Rattle.cells.proofs.Sights.{after_looks}
 
 -- a library that was seen is seen still while nothing is written
@@ -42,7 +42,9 @@ found_later s t st lib label i looks at =
           (subst (λ (x : Setting). Holds x.slots (after s st) lib i at.entry) (sym looks.onward.setting) at.holds);
     }
 
--- whether a label was found is whether an assertion has it
-pub found_or_free : {O : Type 0} → (s : Sight O) (label : List ℕ) (o : Option ℕ) → Finds s label o → ForEach s (λ st lib. has lib label ≡ is_some o)
-found_or_free s label None none st lib v = unfound lib label (none st lib v)
-found_or_free s label (Some i) found st lib v = let at = found.1 st lib v in has_found lib label at.entry at.found
+-- a slot where a label was found holds no assertion with another
+pub found_held : {O : Type 0} → (s : Sight O) (label : List ℕ) (i : ℕ) → Finds s label (Some i) → ForEachHeld s i (λ st lib e. label ≡ label_of e)
+found_held s label i finds st lib v e at h =
+    let there = finds.1 st lib v in
+    let found = found_in lib label there.entry there.found in
+    found.1 ∙ one_body (after s st) (name_cell i) (label_of there.entry) (label_of e) v.matches.store there.holds.name.body h.name.body

@@ -11,10 +11,12 @@ use Rattle.cells.specs.Shows.{AreStoredAs}
 use Rattle.cells.specs.Sight.{Sight, Onward, Looks, ReadsWithin, after}
 use Rattle.cells.specs.Lookups.{ForEach}
 use Rattle.cells.specs.Slots.{rank_cell}
-use Rattle.cells.proofs.Asking.{asks_wider, item_has, asks_cell}
+use Rattle.cells.specs.Counts.{AreCitedSlots}
+use Rattle.cells.proofs.Asking.{asks_wider, asks_cell}
 use Rattle.cells.proofs.AskingSteps.{cited_slot}
 use Rattle.cells.proofs.Sights.{matches_back, after_looks}
 use Rattle.groundwork.specs.Footprints.{IsOfCited, IsOfProofTest, IsRankOfSteps}
+use Rattle.groundwork.proofs.CitedRanks.{is_cited}
 use Rattle.groundwork.proofs.Seeing.{views_later}
 use Rattle.groundwork.proofs.Since.{ReadsSince}
 
@@ -36,7 +38,7 @@ since_cited such s0 s1 s t steps kept cell first later on stored wider reads st 
     asks_wider
     (λ c k. let n = cited_slot s0.setting.slots steps kept (after s0 st) k.0 are k.1 in wider (after s0 st) lib c (n.0, k.0, n.1, n.2, k.2)) reads
 
--- the rank of a slot that one of the steps cites
-pub rank_of_one : {O : Type 0} → {s t : Sight O} → (kept : List StoredStep) (i : ℕ) (d : StoredStep) (j : ℕ) → i < length kept
-    → get_or kept i d ≡ Slot j → ReadsWithin (λ c. c ≡ rank_cell j) s t → ReadsWithin (IsRankOfSteps kept) s t
-rank_of_one kept i d j lt is asks = asks_cell (j, subst (λ (x : StoredStep). Has x kept) is (item_has kept i d lt), refl) asks
+-- the rank of a slot that is listed as cited
+pub rank_of_one : {O : Type 0} → {s t : Sight O} → (kept : List StoredStep) (cited : List ℕ) (i : ℕ) → AreCitedSlots kept cited → i < length cited
+    → ReadsWithin (λ c. c ≡ rank_cell (get_or cited i 0)) s t → ReadsWithin (IsRankOfSteps kept) s t
+rank_of_one kept cited i are lt asks = asks_cell (get_or cited i 0, is_cited kept cited i are lt, refl) asks

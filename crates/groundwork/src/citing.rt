@@ -9,7 +9,7 @@ ghost use Rattle.groundwork.specs.Footprints.{IsRankOfSteps, IsStatementOfSteps,
 ghost use Rattle.groundwork.specs.Citing.{TellsNotBelow, TellsFrames, NotesFrame, TellsFault, Passes, TellsRefusal, frames_in};
 
 use bodystore::StoredStep;
-use cells::{Cells, CommandError, Halt, frame, rank, resolve, slot_count};
+use cells::{Cells, CommandError, Halt, cited_slots, frame, rank, resolve, slot_count};
 use derivation::{ProofFault, ProofFaultKind};
 use library::Reason;
 use mmsyntax::{Assertion, Frame, Label, Prelude, Step};
@@ -41,7 +41,7 @@ pub fn test_proof<C: Cells>(
     let Some(kept) = resolve(alloc, cells, steps)? else {
         return Err(Reason::CitesUnknown.into());
     };
-    if cites_not_below(cells, rank, kept.as_slice()).map_err(Halt::Stopped)? {
+    if cites_not_below(alloc, cells, rank, kept.as_slice())? {
         return Err(Reason::CitedNotLower.into());
     }
     let frames = cited_frames(alloc, prelude, cells, steps, kept.as_slice())?;
@@ -51,28 +51,27 @@ pub fn test_proof<C: Cells>(
     }
 }
 
-/// Whether some step cites a slot whose assertion isn't below a rank. It reads the ranks of the slots that the steps cite, up to the first
-/// that isn't.
+/// Whether some step cites a slot whose assertion isn't below a rank. It reads the rank of each slot that the steps cite, once, up to the
+/// first that isn't.
 ///
 /// # Errors
 ///
-/// The run is stopped.
+/// The run is stopped, or memory ran out.
 pub fn cites_not_below<C: Cells>(
+    alloc: Global,
     cells: &mut C,
     limit: u32,
     steps: &[StoredStep],
-) -> Result<bool, C::Stop>
+) -> Result<bool, Halt<C::Stop>>
     ensures looks { Looks (C.sight cells.old) (C.sight cells.new) }
     ensures ok { IfOk result (λ b. TellsNotBelow (C.sight cells.new) limit steps.now b) }
     ensures reads { ReadsWithin (IsRankOfSteps steps.now) (C.sight cells.old) (C.sight cells.new) }
 {
     let slots = slot_count(cells);
-    for step in steps {
-        if let StoredStep::Slot(slot) = step {
-            let slot = *slot as usize;
-            if slot < slots && limit <= rank(cells, slot)? {
-                return Ok(true);
-            }
+    let cited = cited_slots(alloc, steps)?;
+    for slot in cited.as_slice() {
+        if *slot < slots && limit <= rank(cells, *slot).map_err(Halt::Stopped)? {
+            return Ok(true);
         }
     }
     Ok(false)

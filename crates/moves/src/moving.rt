@@ -45,7 +45,7 @@ pub fn move_to<C: Cells>(
         return Err(Reason::BadRank.into());
     }
     let kept = stored_proof(alloc, cells, slot)?;
-    if cites_not_below(cells, rank, kept.as_slice()).map_err(Halt::Stopped)? {
+    if cites_not_below(alloc, cells, rank, kept.as_slice())? {
         return Err(Reason::CitedNotLower.into());
     }
     if is_cited_up_to(alloc, cells, slot, rank)? {

@@ -10,7 +10,8 @@ use Rattle.library.specs.Library.{Setting}
 use Rattle.library.specs.Edits.{Tests, Edited, tested, where_so, has, clashes, without, bad_label, label_taken, label_clashes}
 use Rattle.library.proofs.Clashing.{without-absent}
 use Rattle.cells.specs.Sight.{Sight, Looks}
-use Rattle.cells.specs.Lookups.{ForEach, TellsClash}
+use Rattle.cells.specs.Lookups.{ForEach, TellsStanding}
+use Rattle.cells.specs.declared.labels.Standing.TheVariants.{Free, Taken, Clashing}
 use Rattle.newlabels.specs.Naming.{PassesAsNew, FailsAsNew, label_tests}
 use Rattle.groundwork.proofs.Refusing.{first_refuses, first_passes}
 
@@ -65,17 +66,20 @@ lawful_later s t prelude label is looks h =
     (subst (λ (x : Tables). is_lawful_label x label ≡ true) is h)
 
 module _ {O : Type 0} (s : Sight O) (own label : List ℕ) (lawful : is_lawful_label s.setting.prelude label ≡ true) where
-  pub taken_refuses : ForEach s (λ st lib. has lib label ≡ true) → FailsAsNew s own label reason.LabelTaken
+  pub taken_refuses : TellsStanding s own label Taken → FailsAsNew s own label reason.LabelTaken
   taken_refuses taken = λ st lib v more edited. fails_taken s.setting lib own label more edited lawful (taken st lib v)
 
-  module _ (free : ForEach s (λ st lib. has lib label ≡ false)) where
-    pub clash_refuses : TellsClash s own label true → FailsAsNew s own label reason.LabelClashes
-    clash_refuses clash = λ st lib v more edited. fails_clash s.setting lib own label more edited lawful (free st lib v) (clash st lib v)
+  pub clash_refuses : TellsStanding s own label Clashing → FailsAsNew s own label reason.LabelClashes
+  clash_refuses clashing = λ st lib v more edited.
+      let told = clashing st lib v in
+      fails_clash s.setting lib own label more edited lawful told.0 told.1
 
-    pub new_passes : TellsClash s own label false → PassesAsNew s own label
-    new_passes clear =
-        record {
-          some = lawful_some s.setting.prelude label lawful;
-          free = free;
-          passes = λ st lib v more edited. passes_as_new s.setting lib own label more edited lawful (free st lib v) (clear st lib v);
-        }
+  pub new_passes : TellsStanding s own label Free → PassesAsNew s own label
+  new_passes free =
+      record {
+        some = lawful_some s.setting.prelude label lawful;
+        free = λ st lib v. let told = free st lib v in told.0;
+        passes = λ st lib v more edited.
+            let told = free st lib v in
+            passes_as_new s.setting lib own label more edited lawful told.0 told.1;
+      }

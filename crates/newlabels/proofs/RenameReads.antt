@@ -12,19 +12,6 @@ use Rattle.cells.proofs.Asking.{asks_wider}
 use Rattle.groundwork.specs.Footprints.{IsOfNewLabel}
 use Rattle.groundwork.proofs.Since.{ReadsSince, OfCommandFound, since_then, taking_out, look_before}
 
--- ---- the tests of a new label
-
-pub label_looked : {O : Type 0} → (s t : Sight O) (own label : List ℕ) → ReadsWhere (IsOfLook s.setting.slots label) s t
-    → ReadsWhere (IsOfNewLabel s.setting.slots own label) s t
-label_looked s t own label reads = record { each = λ st m. asks_wider (λ c is. inl is) (reads.each st m) }
-
-pub label_tested : {O : Type 0} → (s t u : Sight O) (own label : List ℕ) → Looks s t → Looks t u
-    → ReadsWhere (IsOfNewLabel s.setting.slots own label) s t → ReadsWhere (IsOfClash t.setting.slots own label) t u
-    → ReadsWhere (IsOfNewLabel s.setting.slots own label) s u
-label_tested s t u own label first then before reads =
-    where_trans before first then.onward
-    (subst (λ (x : Setting). ReadsWhere (IsOfClash x.slots own label) t u) first.onward.setting reads) (λ st c is. inr is)
-
 -- ---- the slot gets the label
 
 module _ {O : Type 0} (s0 s1 : Sight O) (i : ℕ) (from to : List ℕ) where

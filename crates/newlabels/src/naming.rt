@@ -6,12 +6,12 @@ ghost use Rattle.cells.specs.Footprints.{ReadsWhere};
 ghost use Rattle.groundwork.specs.Footprints.{IsOfNewLabel};
 ghost use Rattle.newlabels.specs.Naming.{PassesAsNew, TellsNotNew};
 
-use cells::{Cells, CommandError, Halt, find, has_clash};
+use cells::{Cells, CommandError, Halt, Standing, standing_of};
 use library::Reason;
 use mmsyntax::{Prelude, is_lawful_label};
 
-/// Tests the label that a new assertion gets, or one gets in place of the label `own`; for a new one `own` is the label itself. It reads at
-/// most three chains: that of the label, and the two with labels that may clash with it.
+/// Tests the label that a new assertion gets, or one gets in place of the label `own`; for a new one `own` is the label itself. It walks
+/// along at most three chains, each once: that of the label, and the two with labels that may clash with it.
 ///
 /// # Errors
 ///
@@ -31,11 +31,9 @@ pub(crate) fn test_new_label<C: Cells>(
     if !is_lawful_label(prelude, label) {
         return Err(Reason::BadLabel.into());
     }
-    if find(cells, label).map_err(Halt::Stopped)?.is_some() {
-        return Err(Reason::LabelTaken.into());
+    match standing_of(cells, own, label).map_err(Halt::Stopped)? {
+        Standing::Taken => Err(Reason::LabelTaken.into()),
+        Standing::Clashing => Err(Reason::LabelClashes.into()),
+        Standing::Free => Ok(()),
     }
-    if has_clash(cells, own, label).map_err(Halt::Stopped)? {
-        return Err(Reason::LabelClashes.into());
-    }
-    Ok(())
 }

@@ -20,10 +20,9 @@ use Rattle.groundwork.proofs.Since.{OfCommand, since_then, since_before, since_f
 entry_shown : (slots i : ℕ) (st : State) (lib : List Ranked) (steps : List Step) (c : ℕ) → (c ≡ rank_cell i) ⊎ IsOfAssertion slots i steps st c
     → IsOfSlot i c ⊎ IsOfCited slots st lib name_cell steps c
 entry_shown slots i st lib steps c (inl rank) = inl (of_slot i 3 c (omega arith) rank)
-entry_shown slots i st lib steps c (inr (inl name)) = inl (of_slot i 0 c (omega arith) (omega (arith, name)))
-entry_shown slots i st lib steps c (inr (inr (inl statement))) = inl (of_slot i 1 c (omega arith) statement)
-entry_shown slots i st lib steps c (inr (inr (inr (inl proof)))) = inl (of_slot i 2 c (omega arith) proof)
-entry_shown slots i st lib steps c (inr (inr (inr (inr cited)))) = inr cited
+entry_shown slots i st lib steps c (inr (inl statement)) = inl (of_slot i 1 c (omega arith) statement)
+entry_shown slots i st lib steps c (inr (inr (inl proof))) = inl (of_slot i 2 c (omega arith) proof)
+entry_shown slots i st lib steps c (inr (inr (inr cited))) = inr cited
 
 module _ {O : Type 0} (old s t : Sight O) (label : List ℕ) (i : ℕ) (looks : Looks old s) (finds : Finds s label (Some i))
     (before : ReadsFor old s (Show label)) (later : Looks s t) where
@@ -52,10 +51,10 @@ module _ {O : Type 0} (old s t : Sight O) (i : ℕ) (looks : Looks old s) (withi
       (λ st lib m v. reads))
 
   -- of a slot that holds an assertion
-  pub list_line : IfFull s i true → ReadsWithin (λ c. (c ≡ name_cell i) ⊎ IsOfLine i c) s t → ReadsFor old t command.List
+  pub list_line : IfFull s i true → ReadsWithin (IsOfLine i) s t → ReadsFor old t command.List
   list_line full reads =
       since_then (OfCommand old command.List) before later.onward
       (since_before (OfCommand old command.List) old s t looks
-      (λ n st lib c. (c ≡ name_cell i) ⊎ ((f : Ranked) × Holds n st lib i f × IsOfLine i c))
-      (λ st lib c is. (i, within, is)) later.onward
-      (λ st lib m v. let f = full st lib v in asks_wider (λ c is. ⊎_elim (λ name. inl name) (λ line. inr (f.0, f.1, line)) is) reads))
+      (λ n st lib c. (f : Ranked) × Holds n st lib i f × IsOfLine i c)
+      (λ st lib c is. (i, within, inr is)) later.onward
+      (λ st lib m v. let f = full st lib v in asks_wider (λ c line. (f.0, f.1, line)) reads))

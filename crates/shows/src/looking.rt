@@ -4,7 +4,7 @@ ghost use Rattle.std.specs.Prelude.{IfOk};
 ghost use Rattle.cells.specs.Sight.{Looks};
 ghost use Rattle.shows.specs.Looking.{AreEntries};
 
-use cells::{Cells, Halt, entry, is_full, slot_count};
+use cells::{Cells, Halt, entry, label, slot_count};
 use library::Ranked;
 use std::alloc::Global;
 
@@ -19,8 +19,8 @@ pub fn entries<C: Cells>(alloc: Global, cells: &mut C) -> Result<Vec<Ranked>, Ha
 {
     let mut entries = Vec::new(alloc);
     for slot in 0..slot_count(cells) {
-        if is_full(cells, slot).map_err(Halt::Stopped)? {
-            entries.push(entry(alloc, cells, slot)?)?;
+        if let Some(label) = label(alloc, cells, slot)? {
+            entries.push(entry(alloc, cells, slot, label)?)?;
         }
     }
     Ok(entries)

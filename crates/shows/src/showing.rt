@@ -1,17 +1,16 @@
 //! Shows an assertion, and lists all of them.
 
-ghost use Rattle.std.specs.Prelude.{◌≡◌, ◌<◌, ◌⊎◌, IfOk};
+ghost use Rattle.std.specs.Prelude.{◌≡◌, ◌<◌, IfOk};
+ghost use Rattle.library.specs.Library.{label_of};
+ghost use Rattle.cells.specs.Lookups.{ForEachHeld};
 ghost use Rattle.library.specs.declared.command.Command.TheVariants as command;
 ghost use Rattle.cells.specs.Sight.{Onward, Looks, ReadsWithin};
-ghost use Rattle.cells.specs.Slots.{name_cell};
 ghost use Rattle.cells.specs.Answers.{CommandAnswers};
 ghost use Rattle.shows.specs.Listing.{line_cmp, TellsLine, AreAllLines};
 ghost use Rattle.groundwork.specs.Takes.{TakesBodies};
 ghost use Rattle.groundwork.specs.Footprints.{IsOfLine, ReadsFor};
 
-use cells::{
-    Cells, CommandError, Halt, citers, entry, find, is_full, kind, label, rank, slot_count,
-};
+use cells::{Cells, CommandError, Halt, citers, entry, find, kind, label, rank, slot_count};
 use library::{Line, Reason, Reply};
 use mmsyntax::{Label, Sequence};
 use std::alloc::Global;
@@ -35,7 +34,7 @@ pub fn show<C: Cells>(
     let Some(slot) = find(cells, label.as_slice()).map_err(Halt::Stopped)? else {
         return Err(Reason::UnknownLabel.into());
     };
-    let shown = entry(alloc, cells, slot)?;
+    let shown = entry(alloc, cells, slot, label.copy(alloc)?)?;
     let citers = citers(cells, slot).map_err(Halt::Stopped)?;
     Ok(Reply::Shown { citers, shown })
 }
@@ -66,25 +65,26 @@ fn all_lines<C: Cells>(alloc: Global, cells: &mut C) -> Result<Vec<Line>, Halt<C
 {
     let mut lines = Vec::new(alloc);
     for slot in 0..slot_count(cells) {
-        if is_full(cells, slot).map_err(Halt::Stopped)? {
-            lines.push(line(alloc, cells, slot)?)?;
+        if let Some(label) = label(alloc, cells, slot)? {
+            lines.push(line(cells, slot, label).map_err(Halt::Stopped)?)?;
         }
     }
     Ok(lines)
 }
 
-/// What is listed of the assertion in the slot.
-fn line<C: Cells>(alloc: Global, cells: &mut C, slot: usize) -> Result<Line, Halt<C::Stop>>
-    requires { slot < (C.sight cells.old).setting.slots }
+/// What is listed of the assertion in the slot, whose label is known.
+fn line<C: Cells>(cells: &mut C, slot: usize, label: Label) -> Result<Line, C::Stop>
+    requires slot { slot < (C.sight cells.old).setting.slots }
+    requires label { ForEachHeld (C.sight cells.old) slot (λ st lib e. label ≡ label_of e) }
     ensures looks { Looks (C.sight cells.old) (C.sight cells.new) }
     ensures ok { IfOk result (λ made. TellsLine (C.sight cells.new) slot made) }
-    ensures reads { ReadsWithin (λ c. (c ≡ name_cell slot) ⊎ IsOfLine slot c) (C.sight cells.old) (C.sight cells.new) }
+    ensures reads { ReadsWithin (IsOfLine slot) (C.sight cells.old) (C.sight cells.new) }
 {
     Ok(Line {
-        rank: rank(cells, slot).map_err(Halt::Stopped)?,
-        label: label(alloc, cells, slot)?,
-        kind: kind(cells, slot).map_err(Halt::Stopped)?,
-        citers: citers(cells, slot).map_err(Halt::Stopped)?,
+        rank: rank(cells, slot)?,
+        label,
+        kind: kind(cells, slot)?,
+        citers: citers(cells, slot)?,
     })
 }
 

@@ -9,7 +9,7 @@ ghost use Rattle.derivation.specs.Databases.{AllCheck};
 use crate::files::{ROOM, SLOTS};
 use crate::in_cells::{InCells, all_fit};
 use crate::measuring::Ending;
-use cells::{Cells, entry};
+use cells::{Cells, entry, label};
 use commands::RunError;
 use history::{ApplyError, Editor};
 use library::{Command, Reply, Script, Transaction};
@@ -23,7 +23,13 @@ use std::thread::Threads;
 /// Reads each of the first assertions in plain cells back.
 fn read_back(alloc: Global, cells: &mut PlainCells, count: usize) -> Option<()> {
     for slot in 0..count {
-        if slot >= cells.slots() || entry(alloc, cells, slot).is_err() {
+        if slot >= cells.slots() {
+            return None;
+        }
+        let Ok(Some(label)) = label(alloc, cells, slot) else {
+            return None;
+        };
+        if entry(alloc, cells, slot, label).is_err() {
             return None;
         }
         cells.undo();

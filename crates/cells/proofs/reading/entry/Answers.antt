@@ -1,6 +1,6 @@
 -- What is left to show of `entry`.
 use Rattle.std.proofs.Common.{rules, ◌≡◌, ℕ, Ok, subst, refl, inl, inr}
-use Rattle.library.specs.Library.{Setting}
+use Rattle.library.specs.Library.{Setting, label_of}
 use Rattle.cells.specs.Lookups.{ForEachHeld}
 use Rattle.cells.specs.Sight.{after}
 use Rattle.cells.specs.Footprints.{IsOfAssertion}
@@ -9,6 +9,10 @@ use Rattle.cells.proofs.Sights.{looks_trans}
 use Rattle.std.proofs.lemmas.Result.{IfOk-at_ok}
 use Rattle.cells.proofs.ReadBack.{held_later}
 use Rattle.cells.proofs.reading.entry.Goals as goal
+
+pub assertion-requires-clause-label : goal.assertion-requires-clause-label
+assertion-requires-clause-label g c =
+    held_later _ _ c.args.slot (λ st lib e. c.args.label ≡ label_of e) c.rank.ensures.looks c.requires.label
 
 pub returns-in_err-assertion-clause-looks : goal.returns-in_err-assertion-clause-looks
 returns-in_err-assertion-clause-looks g c = looks_trans _ _ _ c.rank.ensures.looks c.assertion.ensures.looks

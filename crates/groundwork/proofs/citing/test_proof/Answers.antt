@@ -10,7 +10,6 @@ use Rattle.cells.specs.Sight.{Sight}
 use Rattle.cells.specs.Lookups.{Resolves}
 use Rattle.cells.proofs.Sights.{looks_trans}
 use Rattle.cells.proofs.Settings.{same_slots}
-use Rattle.cells.proofs.Mapped.{ok_mapped}
 use Rattle.groundwork.specs.Citing.{TellsNotBelow, TellsFault, TellsRefusal, frames_in}
 use Rattle.groundwork.proofs.ProofTests.{fails_unknown, fails_below, fails_fault, passes, sifted}
 use Rattle.cells.specs.Slots.{statement_cell, rank_cell}
@@ -39,8 +38,8 @@ returns-in_default-clause-err g c =
     (of_proof s c.as_slice-steps.result.now c.args.theorem.now.proof c.in_ok-kept.field-0 None c.as_slice-steps.ensures
     c.in_default.is c.in_ok-kept.ensures.ok))
 
-pub returns-in_err-map_err-clause-looks : goal.returns-in_err-map_err-clause-looks
-returns-in_err-map_err-clause-looks g c = looks_trans _ _ _ c.resolve.ensures.looks c.cites_not_below.ensures.looks
+pub returns-in_err-cites_not_below-clause-looks : goal.returns-in_err-cites_not_below-clause-looks
+returns-in_err-cites_not_below-clause-looks g c = looks_trans _ _ _ c.resolve.ensures.looks c.cites_not_below.ensures.looks
 
 pub returns-then-branch-clause-looks : goal.returns-then-branch-clause-looks
 returns-then-branch-clause-looks g c = looks_trans _ _ _ c.resolve.ensures.looks c.cites_not_below.ensures.looks
@@ -54,9 +53,8 @@ returns-then-branch-clause-err g c =
     let kept = c.in-Some.kept.items in
     let resolved = of_proof s1 c.as_slice-steps.result.now c.args.theorem.now.proof c.in_ok-kept.field-0 (Some c.in-Some.kept)
     c.as_slice-steps.ensures c.in-Some.is c.in_ok-kept.ensures.ok in
-    let told : TellsNotBelow (g.C.Cells.sight c.cites_not_below.new.cells) c.args.rank c.as_slice.result.now c.in_ok-map_err.field-0 =
-    ok_mapped _ (λ b. TellsNotBelow (g.C.Cells.sight c.cites_not_below.new.cells) c.args.rank c.as_slice.result.now b) _ _ _
-    c.in_ok-map_err.was c.map_err.ensures.cases c.cites_not_below.ensures.ok in
+    let told : TellsNotBelow (g.C.Cells.sight c.cites_not_below.new.cells) c.args.rank c.as_slice.result.now c.in_ok-cites_not_below.field-0 =
+    c.in_ok-cites_not_below.ensures.ok in
     subst (TellsRefusal s2 rank a) (sym c.into-then-branch.ensures)
     (fails_below s1 s2 rank a kept c.cites_not_below.ensures.looks resolved
     (subst (λ (ks : List StoredStep). TellsNotBelow s2 rank ks true) c.as_slice.ensures.value
@@ -95,9 +93,8 @@ returns-in-Some-2-clause-err g c =
     let frames = frames_in c.in_ok-frames.frames.by_label in
     let resolved = of_proof s1 c.as_slice-steps.result.now c.args.theorem.now.proof c.in_ok-kept.field-0 (Some c.in-Some.kept)
     c.as_slice-steps.ensures c.in-Some.is c.in_ok-kept.ensures.ok in
-    let told : TellsNotBelow (g.C.Cells.sight c.cites_not_below.new.cells) c.args.rank c.as_slice.result.now c.in_ok-map_err.field-0 =
-    ok_mapped _ (λ b. TellsNotBelow (g.C.Cells.sight c.cites_not_below.new.cells) c.args.rank c.as_slice.result.now b) _ _ _
-    c.in_ok-map_err.was c.map_err.ensures.cases c.cites_not_below.ensures.ok in
+    let told : TellsNotBelow (g.C.Cells.sight c.cites_not_below.new.cells) c.args.rank c.as_slice.result.now c.in_ok-cites_not_below.field-0 =
+    c.in_ok-cites_not_below.ensures.ok in
     let known = sifted s0 s1 s2 s3 t rank a c.as_slice-steps.result.now kept c.as_slice.result.now c.as_slice-2.result.now frames
     c.requires.prelude c.resolve.ensures.looks c.cites_not_below.ensures.looks c.cited_frames.ensures.looks c.as_slice-steps.ensures
     c.as_slice.ensures.value c.as_slice-2.ensures.value resolved
@@ -123,9 +120,8 @@ returns-in-None-clause-ok g c =
     let frames = frames_in c.in_ok-frames.frames.by_label in
     let resolved = of_proof s1 c.as_slice-steps.result.now c.args.theorem.now.proof c.in_ok-kept.field-0 (Some c.in-Some.kept)
     c.as_slice-steps.ensures c.in-Some.is c.in_ok-kept.ensures.ok in
-    let told : TellsNotBelow (g.C.Cells.sight c.cites_not_below.new.cells) c.args.rank c.as_slice.result.now c.in_ok-map_err.field-0 =
-    ok_mapped _ (λ b. TellsNotBelow (g.C.Cells.sight c.cites_not_below.new.cells) c.args.rank c.as_slice.result.now b) _ _ _
-    c.in_ok-map_err.was c.map_err.ensures.cases c.cites_not_below.ensures.ok in
+    let told : TellsNotBelow (g.C.Cells.sight c.cites_not_below.new.cells) c.args.rank c.as_slice.result.now c.in_ok-cites_not_below.field-0 =
+    c.in_ok-cites_not_below.ensures.ok in
     let known = sifted s0 s1 s2 s3 t rank a c.as_slice-steps.result.now kept c.as_slice.result.now c.as_slice-2.result.now frames
     c.requires.prelude c.resolve.ensures.looks c.cites_not_below.ensures.looks c.cited_frames.ensures.looks c.as_slice-steps.ensures
     c.as_slice.ensures.value c.as_slice-2.ensures.value resolved
@@ -153,8 +149,8 @@ returns-in_default-clause-reads g c =
     (subst (λ (xs : List Step). ReadsWhere (IsOfResolving s0.setting.slots xs) s0 s1) c.as_slice-steps.ensures c.resolve.ensures.reads) in
     r1
 
-pub returns-in_err-map_err-clause-reads : goal.returns-in_err-map_err-clause-reads
-returns-in_err-map_err-clause-reads g c =
+pub returns-in_err-cites_not_below-clause-reads : goal.returns-in_err-cites_not_below-clause-reads
+returns-in_err-cites_not_below-clause-reads g c =
     let s0 = g.C.Cells.sight c.args.cells.now in
     let s1 = g.C.Cells.sight c.resolve.new.cells in
     let steps = c.args.theorem.now.proof in

@@ -51,8 +51,8 @@ returns-then-rank-eq0-clause-answers g c =
 pub returns-in_err-kept-clause-onward : goal.returns-in_err-kept-clause-onward
 returns-in_err-kept-clause-onward g c = let looks = looks_trans _ _ _ c.find.ensures.looks c.stored_proof.ensures.looks in looks.onward
 
-pub returns-in_err-map_err-clause-onward : goal.returns-in_err-map_err-clause-onward
-returns-in_err-map_err-clause-onward g c =
+pub returns-in_err-cites_not_below-clause-onward : goal.returns-in_err-cites_not_below-clause-onward
+returns-in_err-cites_not_below-clause-onward g c =
     let looks = looks_trans _ _ _ c.find.ensures.looks
     (looks_trans _ _ _ c.stored_proof.ensures.looks c.cites_not_below.ensures.looks) in looks.onward
 
@@ -73,9 +73,9 @@ returns-then-branch-clause-answers g c =
     let finds = ok_mapped _ _ _ _ _ c.in_ok-slot.was c.map_err.ensures.cases c.find.ensures.ok in
     let some : Finds first c.args.label.now (Some c.in-Some.slot) =
     subst (Finds first c.args.label.now) c.in-Some.is (subst (λ l. Finds first l c.in_ok-slot.field-0) c.as_slice.ensures finds) in
-    let told : TellsNotBelow third c.args.rank c.in_ok-kept.kept.items c.in_ok-map_err.field-0 =
-    subst (λ ks. TellsNotBelow third c.args.rank ks c.in_ok-map_err.field-0) c.as_slice-2.ensures.value
-    (ok_mapped _ _ _ _ _ c.in_ok-map_err.was c.map_err-2.ensures.cases c.cites_not_below.ensures.ok) in
+    let told : TellsNotBelow third c.args.rank c.in_ok-kept.kept.items c.in_ok-cites_not_below.field-0 =
+    subst (λ ks. TellsNotBelow third c.args.rank ks c.in_ok-cites_not_below.field-0) c.as_slice-2.ensures.value
+    c.in_ok-cites_not_below.ensures.ok in
     let on = c.cites_not_below.ensures.looks in
     let since = looks_trans _ _ _ c.stored_proof.ensures.looks on in
     answers_refused old third (Move label c.args.rank) CitedNotLower c.into-then-branch.result c.into-then-branch.ensures
@@ -106,9 +106,9 @@ returns-then-branch-2-clause-answers g c =
     let finds = ok_mapped _ _ _ _ _ c.in_ok-slot.was c.map_err.ensures.cases c.find.ensures.ok in
     let some : Finds first c.args.label.now (Some c.in-Some.slot) =
     subst (Finds first c.args.label.now) c.in-Some.is (subst (λ l. Finds first l c.in_ok-slot.field-0) c.as_slice.ensures finds) in
-    let told : TellsNotBelow third c.args.rank c.in_ok-kept.kept.items c.in_ok-map_err.field-0 =
-    subst (λ ks. TellsNotBelow third c.args.rank ks c.in_ok-map_err.field-0) c.as_slice-2.ensures.value
-    (ok_mapped _ _ _ _ _ c.in_ok-map_err.was c.map_err-2.ensures.cases c.cites_not_below.ensures.ok) in
+    let told : TellsNotBelow third c.args.rank c.in_ok-kept.kept.items c.in_ok-cites_not_below.field-0 =
+    subst (λ ks. TellsNotBelow third c.args.rank ks c.in_ok-cites_not_below.field-0) c.as_slice-2.ensures.value
+    c.in_ok-cites_not_below.ensures.ok in
     let t = g.C.Cells.sight c.is_cited_up_to.new.cells in
     let last = c.is_cited_up_to.ensures.looks in
     let on = looks_trans _ _ _ c.cites_not_below.ensures.looks last in
@@ -122,8 +122,8 @@ returns-then-branch-2-clause-answers g c =
     (refused_not_below old t (looks_trans _ _ _ c.find.ensures.looks since) i label c.args.rank (finds_later first t label i since some)
     c.if-rank-eq0.false kept (stored_since second t i kept on c.in_ok-kept.ensures.ok) high low)
 
-pub returns-in_err-map_err-2-clause-onward : goal.returns-in_err-map_err-2-clause-onward
-returns-in_err-map_err-2-clause-onward g c =
+pub returns-in_err-map_err-clause-onward : goal.returns-in_err-map_err-clause-onward
+returns-in_err-map_err-clause-onward g c =
     let looks = looks_trans _ _ _ c.find.ensures.looks (looks_trans _ _ _ c.stored_proof.ensures.looks
     (looks_trans _ _ _ c.cites_not_below.ensures.looks c.is_cited_up_to.ensures.looks)) in
     onward_trans _ _ _ looks.onward c.put.ensures.onward
@@ -146,9 +146,9 @@ returns-clause-answers g c =
     let finds = ok_mapped _ _ _ _ _ c.in_ok-slot.was c.map_err.ensures.cases c.find.ensures.ok in
     let some : Finds first c.args.label.now (Some c.in-Some.slot) =
     subst (Finds first c.args.label.now) c.in-Some.is (subst (λ l. Finds first l c.in_ok-slot.field-0) c.as_slice.ensures finds) in
-    let told : TellsNotBelow third c.args.rank c.in_ok-kept.kept.items c.in_ok-map_err.field-0 =
-    subst (λ ks. TellsNotBelow third c.args.rank ks c.in_ok-map_err.field-0) c.as_slice-2.ensures.value
-    (ok_mapped _ _ _ _ _ c.in_ok-map_err.was c.map_err-2.ensures.cases c.cites_not_below.ensures.ok) in
+    let told : TellsNotBelow third c.args.rank c.in_ok-kept.kept.items c.in_ok-cites_not_below.field-0 =
+    subst (λ ks. TellsNotBelow third c.args.rank ks c.in_ok-cites_not_below.field-0) c.as_slice-2.ensures.value
+    c.in_ok-cites_not_below.ensures.ok in
     let t = g.C.Cells.sight c.is_cited_up_to.new.cells in
     let last = c.is_cited_up_to.ensures.looks in
     let on = looks_trans _ _ _ c.cites_not_below.ensures.looks last in
@@ -160,9 +160,9 @@ returns-clause-answers g c =
     let low : TellsCitedUpTo t i c.args.rank false =
     subst (TellsCitedUpTo t i c.args.rank) c.if-branch-2.false c.in_ok-is_cited_up_to.ensures.ok in
     let put : (st : State) → after u st ≡ with_value c.rank_cell.result c.args.rank (after t st) =
-    ok_mapped _ _ _ _ _ c.in_ok-map_err-2.was c.map_err-3.ensures.cases c.put.ensures.ok in
+    ok_mapped _ _ _ _ _ c.in_ok-map_err.was c.map_err-2.ensures.cases c.put.ensures.ok in
     let written : WasWritten u c.rank_cell.result =
-    ok_mapped _ _ _ _ _ c.in_ok-map_err-2.was c.map_err-3.ensures.cases c.put.ensures.written in
+    ok_mapped _ _ _ _ _ c.in_ok-map_err.was c.map_err-2.ensures.cases c.put.ensures.written in
     does_move old t (looks_trans _ _ _ c.find.ensures.looks since) i label c.args.rank (finds_later first t label i since some)
     c.if-rank-eq0.false kept (stored_since second t i kept on c.in_ok-kept.ensures.ok) high u c.put.ensures.onward low
     (λ st. put st ∙ ap (λ (n : ℕ). with_value n c.args.rank (after t st)) c.rank_cell.ensures)
@@ -184,7 +184,7 @@ returns-clause-keeps g c =
     keeps_to_since old t u (Move c.args.label.now c.args.rank) (looks_trans _ _ _ c.find.ensures.looks since) c.put.ensures.onward
     (move_keeps t u i label c.args.rank (finds_later first t label i since some).1
     (subst (λ (n : ℕ). KeepsAside (λ k. k ≡ n) t u) c.rank_cell.ensures
-    (ok_mapped _ _ _ _ _ c.in_ok-map_err-2.was c.map_err-3.ensures.cases c.put.ensures.keeps)))
+    (ok_mapped _ _ _ _ _ c.in_ok-map_err.was c.map_err-2.ensures.cases c.put.ensures.keeps)))
 
 pub returns-in_err-slot-clause-reads : goal.returns-in_err-slot-clause-reads
 returns-in_err-slot-clause-reads g c =
@@ -243,8 +243,8 @@ returns-in_err-kept-clause-reads g c =
     (λ st lib v e at h. c.stored_proof.ensures.reads) (λ st lib e k is. inl is) in
     move_now old label rank s2 l2 m2
 
-pub returns-in_err-map_err-clause-reads : goal.returns-in_err-map_err-clause-reads
-returns-in_err-map_err-clause-reads g c =
+pub returns-in_err-cites_not_below-clause-reads : goal.returns-in_err-cites_not_below-clause-reads
+returns-in_err-cites_not_below-clause-reads g c =
     let old = g.C.Cells.sight c.args.cells.now in
     let s1 = g.C.Cells.sight c.find.new.cells in
     let label = c.args.label.now in
@@ -385,8 +385,8 @@ returns-then-branch-2-clause-reads g c =
     (λ st lib e k is. inr (inr is)) in
     move_now old label rank t l4 m4
 
-pub returns-in_err-map_err-2-clause-reads : goal.returns-in_err-map_err-2-clause-reads
-returns-in_err-map_err-2-clause-reads g c =
+pub returns-in_err-map_err-clause-reads : goal.returns-in_err-map_err-clause-reads
+returns-in_err-map_err-clause-reads g c =
     let old = g.C.Cells.sight c.args.cells.now in
     let s1 = g.C.Cells.sight c.find.new.cells in
     let label = c.args.label.now in

@@ -10,6 +10,7 @@ use Rattle.cells.proofs.Mapped.{ok_mapped}
 use Rattle.cells.proofs.ReadBack.{held_later}
 use Rattle.cells.proofs.Sights.{looks_trans}
 use Rattle.groundwork.proofs.OnlyLooks.{finds_later, does_reading}
+use Rattle.groundwork.proofs.Seeing.{found_held}
 use Rattle.groundwork.proofs.Refusing.{of_none, of_some, refused, answers_refused}
 use Rattle.cells.specs.Footprints.{ReadsWhere, IsOfLook}
 use Rattle.groundwork.specs.Footprints.{ReadsFor}
@@ -27,6 +28,14 @@ returns-in_default-clause-answers g c =
     answers_refused old s command UnknownLabel c.into.result c.into.ensures
     (refused old s command UnknownLabel c.find.ensures.looks (λ st lib v.
     of_none lib c.args.label.now (λ e. Ok (shown lib e)) (none st lib v)))
+
+pub entry-requires-clause-label : goal.entry-requires-clause-label
+entry-requires-clause-label g c = λ st lib v e at h.
+    let s1 = g.C.Cells.sight c.find.new.cells in
+    let finds = ok_mapped _ _ _ _ _ c.in_ok-slot.was c.map_err.ensures.cases c.find.ensures.ok in
+    let some : Finds s1 c.args.label.now (Some c.in-Some.slot) =
+    subst (Finds s1 c.args.label.now) c.in-Some.is (subst (λ l. Finds s1 l c.in_ok-slot.field-0) c.as_slice.ensures finds) in
+    c.in_ok-copy.ensures ∙ found_held s1 c.args.label.now c.in-Some.slot some st lib v e at h
 
 pub returns-in_err-shown-clause-onward : goal.returns-in_err-shown-clause-onward
 returns-in_err-shown-clause-onward g c = let looks = looks_trans _ _ _ c.find.ensures.looks c.entry.ensures.looks in looks.onward
@@ -83,6 +92,14 @@ returns-in_default-clause-reads g c =
     first_look old s1 (Show label) label (λ st lib k is. inl is)
     (subst (λ (l : List ℕ). ReadsWhere (IsOfLook old.setting.slots l) old s1) c.as_slice.ensures c.find.ensures.reads) in
     r1
+
+pub returns-in_err-copy-clause-reads : goal.returns-in_err-copy-clause-reads
+returns-in_err-copy-clause-reads g c =
+    let old = g.C.Cells.sight c.args.cells.now in
+    let s1 = g.C.Cells.sight c.find.new.cells in
+    let label = c.args.label.now in
+    first_look old s1 (Show label) label (λ st lib k is. inl is)
+    (subst (λ (l : List ℕ). ReadsWhere (IsOfLook old.setting.slots l) old s1) c.as_slice.ensures c.find.ensures.reads)
 
 pub returns-in_err-shown-clause-reads : goal.returns-in_err-shown-clause-reads
 returns-in_err-shown-clause-reads g c =

@@ -1,0 +1,133 @@
+//! How a label stands to those that a library has.
+
+ghost use Rattle.std.specs.Prelude.{◌≡◌, ◌<◌, ◌⊎◌, ℕ, List, IfOk};
+ghost use Rattle.mmsyntax.specs.Dotted.{clash};
+ghost use Rattle.cells.specs.Sight.{Sight, Looks, Knows, ReadsWithin, ReadsNothing};
+ghost use Rattle.cells.specs.Slots.{name_cell};
+ghost use Rattle.cells.specs.Footprints.{ReadsWhere, IsAlong, IsOfLook, IsOfClash};
+ghost use Rattle.cells.specs.Lookups.{TellsStanding};
+ghost use Rattle.cells.specs.Clashing.{TellsStandingAt, TellsStandingIn};
+
+use crate::cells::Cells;
+use crate::places::{bucket, bucket_cell, hash, link, name_cell, next_cell, slot_count};
+use crate::words::{has_dotted, has_words, range_of};
+use mmsyntax::trunk;
+use ranges::Range;
+
+/// How a label stands to those that a library has.
+#[derive(Debug, Drop, Clone, Copy)]
+pub enum Standing {
+    /// No assertion has it, and it clashes with that of none.
+    Free,
+    /// An assertion has it.
+    Taken,
+    /// No assertion has it, and it clashes with that of one.
+    Clashing,
+}
+
+/// How the label stands to those that the library has. Two labels clash where one is `L.k` of the other, for a k from 1 to 1,000. That the
+/// label clashes with the label `own` counts for nothing.
+///
+/// It walks along at most three chains, each once: that of the label; and where the label is `L.k`, that in which the labels lie that are
+/// `L.k` of this one, and that of L, unless L is `own`. It reads the cell of the bucket, and a name and a next cell for each member.
+///
+/// # Errors
+///
+/// The run is stopped. What was kept aside stays.
+pub fn standing_of<C: Cells>(cells: &mut C, own: &[u8], label: &[u8]) -> Result<Standing, C::Stop>
+    ensures looks { Looks (C.sight cells.old) (C.sight cells.new) }
+    ensures ok { IfOk result (λ standing. TellsStanding (C.sight cells.new) own.now label.now standing) }
+    ensures reads { ReadsWhere (λ st c. IsOfLook (C.sight cells.old).setting.slots label.now st c ⊎ IsOfClash (C.sight cells.old).setting.slots own.now label.now st c) (C.sight cells.old) (C.sight cells.new) }
+{
+    let slots = slot_count(cells);
+    let front = trunk(label);
+    let first = bucket(label, slots);
+    let met = standing_in(cells, first, own, label)?;
+    let Standing::Free = met else {
+        return Ok(met);
+    };
+    // The labels `L.k` of a label L that is no `L.k` itself lie in the bucket of L.
+    if front == label {
+        return Ok(met);
+    }
+    let met = standing_in(cells, hash(label, slots), own, label)?;
+    let Standing::Free = met else {
+        return Ok(met);
+    };
+    let last = bucket(front, slots);
+    if front == own || last == first {
+        return Ok(met);
+    }
+    standing_in(cells, last, own, label)
+}
+
+/// How the label stands to those in the chain of a bucket.
+fn standing_in<C: Cells>(
+    cells: &mut C,
+    chain: usize,
+    own: &[u8],
+    label: &[u8],
+) -> Result<Standing, C::Stop>
+    requires { chain < (C.sight cells.old).setting.slots }
+    ensures looks { Looks (C.sight cells.old) (C.sight cells.new) }
+    ensures ok { IfOk result (λ standing. TellsStandingIn (C.sight cells.new) chain own.now label.now standing) }
+    ensures reads { ReadsWhere (IsAlong (C.sight cells.old).setting.slots chain) (C.sight cells.old) (C.sight cells.new) }
+{
+    let slots = slot_count(cells);
+    let mut word = cells.read(bucket_cell(slots, chain))?;
+    for _ in 0..slots {
+        let Some(slot) = link(word, slots) else {
+            return Ok(Standing::Free);
+        };
+        let met = standing_at(cells, slot, own, label)?;
+        let Standing::Free = met else {
+            return Ok(met);
+        };
+        word = cells.read(next_cell(slots, slot))?;
+    }
+    Ok(Standing::Free)
+}
+
+/// How the label stands to that of a slot.
+fn standing_at<C: Cells>(
+    cells: &mut C,
+    slot: usize,
+    own: &[u8],
+    label: &[u8],
+) -> Result<Standing, C::Stop>
+    requires { slot < (C.sight cells.old).setting.slots }
+    ensures looks { Looks (C.sight cells.old) (C.sight cells.new) }
+    ensures ok { IfOk result (λ standing. TellsStandingAt (C.sight cells.new) slot own.now label.now standing) }
+    ensures reads { ReadsWithin (λ c. c ≡ name_cell slot) (C.sight cells.old) (C.sight cells.new) }
+{
+    let _slots = slot_count(cells);
+    let word = cells.read(name_cell(slot))?;
+    if word == 0 || label.is_empty() {
+        return Ok(Standing::Free);
+    }
+    let range = range_of(cells, word);
+    if has_words(cells, range, label) {
+        return Ok(Standing::Taken);
+    }
+    if !clashes(cells, range, label) {
+        return Ok(Standing::Free);
+    }
+    if has_words(cells, range, own) {
+        return Ok(Standing::Free);
+    }
+    Ok(Standing::Clashing)
+}
+
+/// Whether the label clashes with the words of the range.
+fn clashes<C: Cells>(cells: &mut C, range: Range, label: &[u8]) -> bool
+    requires { (words : List ℕ) × Knows (C.sight cells.old) range words }
+    ensures looks { Looks (C.sight cells.old) (C.sight cells.new) }
+    ensures same { (words : List ℕ) → Knows (C.sight cells.old) range words → result ≡ clash words label.now }
+    ensures reads { ReadsNothing (C.sight cells.old) (C.sight cells.new) }
+{
+    let front = trunk(label);
+    if front == label {
+        return has_dotted(cells, range, label);
+    }
+    has_words(cells, range, front) || has_dotted(cells, range, label)
+}
