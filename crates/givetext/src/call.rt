@@ -18,7 +18,7 @@ use crate::citing::are_uncited;
 use crate::commands::keep_places;
 use crate::following::{Followed, Following, opening_of};
 use crate::origin::origin_of;
-use crate::own::own_of;
+use crate::own::{own_of, told_of};
 use crate::planning::{Planned, axioms_then, edited_by_label, names_of, other_proofs};
 use crate::rearranging::{Rearranged, rearrange};
 use crate::refusal::{File, Refusal, shown};
@@ -193,6 +193,7 @@ fn write_edits<'e, D: Declared<'e>>(
     replayed: &'e Replayed,
     following: &'e Following<'e>,
     changes: &'e Changes<'e>,
+    own: &'e [bool],
 ) -> Result<Vec<u8>, Refusal>
     ensures { IfOk result (λ out. IsWrittenAnew (all_commands replayed.now.entries) changes.now source.now out.items) }
 {
@@ -209,8 +210,11 @@ fn write_edits<'e, D: Declared<'e>>(
     if keep_places(replayed.entries.as_slice()) {
         return Ok(rewrite(alloc, changes, &proofs, source)?);
     }
+    let told = told_of(alloc, keys, taken.axioms.as_slice())?;
     let edits = Rearranged {
         planned,
+        own,
+        told: &told,
         gone: following.gone.as_slice(),
         edited: &edited,
         names: &names,
@@ -251,7 +255,15 @@ fn give_edits<'x, 'a: 'x>(
     let own = own_of(alloc, keys, old, taken)?;
     are_uncited(alloc, keys, old, own.as_slice(), following.gone.as_slice())?;
     let out = write_edits(
-        alloc, keys, old, source, taken, replayed, &following, &changes,
+        alloc,
+        keys,
+        old,
+        source,
+        taken,
+        replayed,
+        &following,
+        &changes,
+        own.as_slice(),
     )?;
     let then = following.labels_then(alloc)?;
     let axioms = axioms_of(alloc, keys, following.living.as_slice(), &replayed.edited)?;

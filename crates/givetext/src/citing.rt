@@ -32,7 +32,7 @@ pub(crate) fn marked<'x>(
 }
 
 /// The labels that stand in a proof.
-fn labels_of<'p, 'a>(proof: &'p ProofWords<'a>) -> &'p [&'a [u8]]
+pub(crate) fn labels_of<'p, 'a>(proof: &'p ProofWords<'a>) -> &'p [&'a [u8]]
     ensures { seen_words result.now ≡ labels_in (seen_proof proof.now) }
 {
     match proof {

@@ -15,5 +15,6 @@ mod own;
 mod planning;
 mod rearranging;
 mod refusal;
+mod standing;
 
 pub use answering::{Paths, Returned, answer_give};

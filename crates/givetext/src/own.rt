@@ -15,7 +15,7 @@ use std::hash::RandomState;
 use taking::Reason;
 
 /// The labels of theorems that were taken as axioms, with a fast look-up.
-fn told_of<'x>(
+pub(crate) fn told_of<'x>(
     alloc: Global,
     keys: RandomState,
     axioms: &[(&'x [u8], Reason)],

@@ -6,8 +6,8 @@ ghost use Rattle.rewriting.specs.Spans.{IsCut, IsPutIn, IsPatched};
 ghost use Rattle.givetext.specs.Written.{IsRearranged};
 
 use crate::citing::marked;
-use crate::filling::{Texts, fills_of};
-use crate::moving::moving_of;
+use crate::filling::{Piece, Texts, fills_of};
+use crate::moving::{Moving, moving_of};
 use crate::planning::{ByLabel, Planned, unwritten};
 use crate::refusal::{File, Refusal, shown};
 use giving::Changes;
@@ -24,6 +24,10 @@ use std::hash::RandomState;
 pub(crate) struct Rearranged<'x> {
     /// The library, and the edits over it.
     pub planned: Planned<'x>,
+    /// Of each assertion of the source: whether it is the library's, with its proof.
+    pub own: &'x [bool],
+    /// The labels of theorems that were taken as axioms.
+    pub told: &'x Changes<'x>,
     /// The labels in the source of those that were deleted.
     pub gone: &'x [&'x [u8]],
     /// The assertions of the edited library, by their labels.
@@ -130,13 +134,13 @@ fn put_moved<'x, 'a, D: Declared<'a>>(
     declared: &D,
     source: &[u8],
     outline: &Outline<'_>,
-    moving: &Changes<'x>,
+    moving: &Moving<'x>,
     words: &SymbolWords<'x>,
     edits: &Rearranged<'x>,
     texts: &mut Texts<'x>,
 ) -> Result<(), Refusal> {
     for standing in outline.assertions.as_slice() {
-        if let Some(now) = moving.text_for(standing.label) {
+        if let Some(now) = moving.labels.text_for(standing.label) {
             let text = if outline.is_alone(standing) {
                 moved_text(
                     alloc,
@@ -148,7 +152,8 @@ fn put_moved<'x, 'a, D: Declared<'a>>(
             } else {
                 parted_text(alloc, keys, declared, source, standing, now, words, edits)?
             };
-            texts.insert(now, text)?;
+            let is_in_front = moving.in_front.text_for(standing.label).is_some();
+            texts.insert(now, Piece { text, is_in_front })?;
         }
     }
     Ok(())
@@ -194,9 +199,12 @@ fn put_added<'x, 'a, D: Declared<'a>>(
             words,
             &statement,
         )? {
-            Some(text) => texts.insert(followed.now, text)?,
+            Some(text) => {
+                let is_in_front = false;
+                texts.insert(followed.now, Piece { text, is_in_front })?;
+            }
             None => return Err(unwritten(alloc, followed.now)?),
-        };
+        }
     }
     Ok(())
 }
@@ -208,7 +216,7 @@ fn texts_of<'x, 'a, D: Declared<'a>>(
     declared: &D,
     source: &[u8],
     outline: &Outline<'_>,
-    moving: &Changes<'x>,
+    moving: &Moving<'x>,
     edits: &Rearranged<'x>,
 ) -> Result<Texts<'x>, Refusal> {
     let mut texts = HashMap::with_hasher(alloc, keys);
@@ -276,10 +284,10 @@ pub(crate) fn rearrange<'x, 'a, D: Declared<'a>>(
     ensures { IfOk result (λ out. IsRearranged edits.now.changes.now source.now out.items) }
 {
     let outline = outline_of(alloc, source)?;
-    let moving = moving_of(alloc, keys, &outline, &edits.planned)?;
+    let moving = moving_of(alloc, keys, declared, &outline, edits)?;
     let gone = marked(alloc, keys, edits.gone)?;
     let texts = texts_of(alloc, keys, declared, source, &outline, &moving, edits)?;
-    let kept = without(alloc, source, &outline, &gone, &moving)?;
+    let kept = without(alloc, source, &outline, &gone, &moving.labels)?;
     let changed = rewrite(alloc, edits.changes, edits.proofs, kept.as_slice())?;
     filled(alloc, keys, changed.as_slice(), &edits.planned, &texts)
 }

@@ -1,0 +1,59 @@
+//! Which assertion would stand behind one that cites it.
+
+use crate::citing::labels_of;
+use crate::refusal::{File, Refusal, shown};
+use giving::Changes;
+use outlining::outline_of;
+use source::Declared;
+use std::alloc::{AllocError, Global};
+use std::collections::HashMap;
+use std::hash::RandomState;
+
+/// The label that an assertion of the source has then.
+fn label_then<'c>(changes: &'c Changes<'_>, label: &'c [u8]) -> &'c [u8] {
+    changes.text_for(label).unwrap_or(label)
+}
+
+/// The first label in the proof of the assertion at a place whose assertion stands behind it, by the places of assertions in the text with
+/// the edits.
+fn first_behind_at<'a, D: Declared<'a>>(
+    declared: &D,
+    changes: &Changes<'_>,
+    places: &HashMap<&[u8], usize, RandomState>,
+    place: usize,
+) -> Option<&'a [u8]> {
+    let citing = places.get(label_then(changes, declared.label(place)?))?;
+    for label in labels_of(declared.proof(place)?) {
+        if let Some(cited) = places.get(label_then(changes, label))
+            && cited > citing
+        {
+            return Some(*label);
+        }
+    }
+    None
+}
+
+/// The first assertion that isn't the library's, and cites one that stands behind it in the text with the edits: the line that says so.
+pub(crate) fn first_behind<'a, D: Declared<'a>>(
+    alloc: Global,
+    keys: RandomState,
+    declared: &D,
+    changes: &Changes<'_>,
+    own: &[bool],
+    out: &[u8],
+) -> Result<Option<Refusal>, AllocError> {
+    let outline = outline_of(alloc, out)?;
+    let places = outline.by_label(alloc, keys)?;
+    for (place, is_own) in own.iter().enumerate() {
+        if *is_own {
+            continue;
+        }
+        if let Some(label) = first_behind_at(declared, changes, &places, place) {
+            let label = shown(label_then(changes, label));
+            let citing = shown(label_then(changes, declared.label(place).unwrap_or(b"?")));
+            let why = format!(in alloc; "{label} would stand behind {citing}, which cites it")?;
+            return Ok(Some(Refusal::Text(File::History, why)));
+        }
+    }
+    Ok(None)
+}
