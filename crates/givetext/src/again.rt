@@ -12,7 +12,6 @@ ghost use Rattle.givetext.specs.Again.{IsFloatNamed, IsFloatOf, database_lines, 
 ghost use Rattle.givetext.specs.Parts.{IsLookedAt};
 
 use crate::own::own_of;
-use crate::refusal::{File, Refusal};
 use crate::standing::first_behind;
 use choosing::Wish;
 use giving::{Changes, first_not_staying};
@@ -24,6 +23,7 @@ use mmwriter::put_assertion;
 use scopes::Scopes;
 use source::Declared;
 use source::laws::sources_are_whole;
+use sourceediting::{File, Refusal};
 use sourcereader::read_source;
 use std::alloc::{AllocError, Global};
 use std::hash::RandomState;

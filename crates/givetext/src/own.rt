@@ -4,8 +4,8 @@ ghost use Rattle.std.specs.Prelude.{◌≡◌, IfOk, length, map};
 ghost use Rattle.source.specs.Scopes.{Assertion, is_in};
 ghost use Rattle.taking.specs.Reasons.{Choice};
 ghost use Rattle.intake.specs.Intakes.{axioms_of};
-ghost use Rattle.givetext.specs.Following.{own_flags};
-ghost use Rattle.givetext.specs.Marked.{marked};
+ghost use Rattle.sourceediting.specs.Following.{own_flags};
+ghost use Rattle.sourceediting.specs.Marked.{marked};
 
 use giving::Changes;
 use intake::Taken;

@@ -1,10 +1,9 @@
 //! Which assertion would stand behind one that cites it.
 
-use crate::citing::labels_of;
-use crate::refusal::{File, Refusal, shown};
 use giving::Changes;
 use outlining::outline_of;
 use source::Declared;
+use sourceediting::{File, Refusal, labels_of, shown};
 use std::alloc::{AllocError, Global};
 use std::collections::HashMap;
 use std::hash::RandomState;

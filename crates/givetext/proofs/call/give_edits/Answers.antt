@@ -5,8 +5,8 @@ use Rattle.mmtext.specs.Words.{Word}
 use Rattle.source.specs.Views.{seen_words}
 use Rattle.giving.specs.Staying.{others}
 use Rattle.library.specs.declared.history.Entry.{Entry}
-use Rattle.givetext.specs.Following.{Following, all_commands, behind_all, opening, names_none}
-use Rattle.givetext.specs.Views.{seen_following}
+use Rattle.sourceediting.specs.Following.{Following, all_commands, behind_all, opening, names_none}
+use Rattle.sourceediting.specs.Views.{seen_following}
 use Rattle.givetext.specs.Parts.{IsLookedAt}
 use Rattle.givetext.proofs.Looked.{edited_by}
 use Rattle.givetext.proofs.call.give_edits.Goals as goal
