@@ -9,6 +9,7 @@ ghost use Rattle.taking.specs.Reasons.{Choice};
 ghost use Rattle.checking.specs.Checks.{LeadsTo};
 ghost use Rattle.sourceediting.specs.Following.{all_commands, behind_all, opening};
 ghost use Rattle.sourceediting.specs.Views.{seen_following};
+ghost use Rattle.sourceediting.specs.Written.{IsWrittenAnew};
 ghost use Rattle.givetext.specs.Parts.{IsEdited};
 ghost use Rattle.givetext.specs.Given.{IsTakenText, IsGiven};
 
@@ -163,6 +164,34 @@ fn follow_edits<'x, 'a: 'x, D: Declared<'a>>(
     Ok(following)
 }
 
+/// The source with the edits, before it is looked at again.
+fn write_anew(
+    alloc: Global,
+    keys: RandomState,
+    old: &Scopes<'_>,
+    source: &[u8],
+    taken: &Taken<'_>,
+    replayed: &Replayed,
+    following: &Following<'_>,
+    changes: &Changes<'_>,
+    own: &[bool],
+) -> Result<Vec<u8>, Refusal>
+    ensures { IfOk result (λ out. IsWrittenAnew (all_commands replayed.now.entries) changes.now source.now out.items) }
+{
+    let told = told_of(alloc, keys, taken.axioms.as_slice())?;
+    let planned = Planned {
+        database: &taken.database,
+        names: taken.names.as_slice(),
+        edited: &replayed.edited,
+        living: following.living.as_slice(),
+        gone: following.gone.as_slice(),
+        own,
+        told: &told,
+    };
+    let entries = replayed.entries.as_slice();
+    write_edits(alloc, keys, old, source, &planned, entries, changes)
+}
+
 /// The source with the edits of a history that was done again over a library which was taken of it. It is looked at again.
 fn give_edits<'x, 'a: 'x>(
     rt: &(impl Threads + Sync),
@@ -182,18 +211,17 @@ fn give_edits<'x, 'a: 'x>(
     are_free(alloc, old, &following, &changes)?;
     let own = own_of(alloc, keys, old, taken)?;
     are_uncited(alloc, keys, old, own.as_slice(), following.gone.as_slice())?;
-    let told = told_of(alloc, keys, taken.axioms.as_slice())?;
-    let planned = Planned {
-        database: &taken.database,
-        names: taken.names.as_slice(),
-        edited: &replayed.edited,
-        living: following.living.as_slice(),
-        gone: following.gone.as_slice(),
-        own: own.as_slice(),
-        told: &told,
-    };
-    let entries = replayed.entries.as_slice();
-    let out = write_edits(alloc, keys, old, source, &planned, entries, &changes)?;
+    let out = write_anew(
+        alloc,
+        keys,
+        old,
+        source,
+        taken,
+        replayed,
+        &following,
+        &changes,
+        own.as_slice(),
+    )?;
     let then = following.labels_then(alloc)?;
     let axioms = axioms_then(alloc, keys, &replayed.edited, following.living.as_slice())?;
     let edits = Edits {

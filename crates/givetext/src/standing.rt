@@ -32,6 +32,19 @@ fn first_behind_at<'a, D: Declared<'a>>(
     None
 }
 
+/// An assertion would stand behind one that cites it.
+fn would_stand_behind<'c>(
+    alloc: Global,
+    changes: &'c Changes<'_>,
+    label: &'c [u8],
+    by: Option<&'c [u8]>,
+) -> Result<Refusal, AllocError> {
+    let by = by.unwrap_or(b"?");
+    let (label, by) = (shown(label_then(changes, label)), shown(label_then(changes, by)));
+    let why = format!(in alloc; "{label} would stand behind {by}, which cites it")?;
+    Ok(Refusal::Text(File::History, why))
+}
+
 /// The first assertion that isn't the library's, and cites one that stands behind it in the text with the edits: the line that says so.
 pub(crate) fn first_behind<'a, D: Declared<'a>>(
     alloc: Global,
@@ -48,10 +61,8 @@ pub(crate) fn first_behind<'a, D: Declared<'a>>(
             continue;
         }
         if let Some(label) = first_behind_at(declared, changes, &places, place) {
-            let label = shown(label_then(changes, label));
-            let citing = shown(label_then(changes, declared.label(place).unwrap_or(b"?")));
-            let why = format!(in alloc; "{label} would stand behind {citing}, which cites it")?;
-            return Ok(Some(Refusal::Text(File::History, why)));
+            let by = declared.label(place);
+            return Ok(Some(would_stand_behind(alloc, changes, label, by)?));
         }
     }
     Ok(None)

@@ -69,36 +69,53 @@ impl<'x> Row<'x> {
         block.is_some() && block == self.block
     }
 
-    /// Those in front of the last thing that is put among them.
-    fn front(&self) -> &[Member<'x>] {
-        self.members.get(..self.last).unwrap_or(&[])
+    /// How many members stand in front of the first thing that is put among them.
+    fn before_first(&self) -> usize {
+        self.first.unwrap_or(self.members.len())
     }
 
-    /// Those behind the first.
-    fn back(&self) -> &[Member<'x>] {
-        match self.first {
-            Some(first) => self.members.get(first..).unwrap_or(&[]),
-            None => &[],
+    /// Whether one of those in front of the last thing has one of these labels in the source.
+    fn front_has(&self, labels: &Changes<'_>) -> bool {
+        for (source, _) in self.members.as_slice().iter().take(self.last) {
+            if labels.text_for(source).is_some() {
+                return true;
+            }
         }
+        false
+    }
+
+    /// Whether one of those behind the first thing has one of these labels in the source.
+    fn back_has(&self, labels: &Changes<'_>) -> bool {
+        for (source, _) in self.members.as_slice().iter().skip(self.before_first()) {
+            if labels.text_for(source).is_some() {
+                return true;
+            }
+        }
+        false
+    }
+
+    /// Those in front of the last thing.
+    fn put_front(&self, members: &mut Vec<Member<'x>>) -> Result<(), AllocError> {
+        for member in self.members.as_slice().iter().take(self.last) {
+            members.push(*member)?;
+        }
+        Ok(())
+    }
+
+    /// Those behind the first thing.
+    fn put_back(&self, members: &mut Vec<Member<'x>>) -> Result<(), AllocError> {
+        for member in self.members.as_slice().iter().skip(self.before_first()) {
+            members.push(*member)?;
+        }
+        Ok(())
     }
 
     /// Whether those in front go in front of the block: where no theorem that was taken as an axiom is among them, and those behind are
     /// more, or can't go behind it.
     fn front_leaves(&self, told: &Changes<'_>, cited: &Changes<'_>) -> bool {
-        let (front, back) = (self.front(), self.back());
-        !has_one_of(front, told)
-            && (front.len() < back.len() || has_one_of(back, told) || has_one_of(back, cited))
+        let behind = self.members.len().saturating_sub(self.before_first());
+        !self.front_has(told) && (self.last < behind || self.back_has(told) || self.back_has(cited))
     }
-}
-
-/// Whether one of the members has one of these labels in the source.
-fn has_one_of(members: &[Member<'_>], labels: &Changes<'_>) -> bool {
-    for (source, _) in members {
-        if labels.text_for(source).is_some() {
-            return true;
-        }
-    }
-    false
 }
 
 /// The assertions of the opening, by their labels now: those that were added have none.
@@ -305,10 +322,10 @@ pub(crate) fn moving_of<'x, 'a, D: Declared<'a>>(
     let mut in_front = Vec::new(alloc);
     for row in parted.as_slice() {
         if row.front_leaves(edits.planned.told, &cited) {
-            pairs.extend_from_slice(row.front())?;
-            in_front.extend_from_slice(row.front())?;
+            row.put_front(&mut pairs)?;
+            row.put_front(&mut in_front)?;
         } else {
-            pairs.extend_from_slice(row.back())?;
+            row.put_back(&mut pairs)?;
         }
     }
     Ok(Moving {
