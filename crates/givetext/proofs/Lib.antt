@@ -1,8 +1,2 @@
-pub mod Labels
-pub mod Origins
-pub mod Marks
-pub mod Histories
-pub mod Others
 pub mod Floats
 pub mod Looked
-pub mod Writing

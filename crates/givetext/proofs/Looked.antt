@@ -14,9 +14,9 @@ use Rattle.intake.specs.declared.taken.Taken.{Taken}
 use Rattle.intake.specs.Intakes.{IsLibraryOf, axioms_of, names_of}
 use Rattle.library.specs.declared.history.Entry.{Entry}
 use Rattle.library.specs.Library.{Listed}
-use Rattle.givetext.specs.Following.{Following, all_commands, behind_all, opening, changes_of, label_then, own_flags, names_none}
+use Rattle.sourceediting.specs.Following.{Following, all_commands, behind_all, opening, changes_of, label_then, own_flags, names_none}
 use Rattle.givetext.specs.Again.{IsFloatOf, database_lines, edited_lines}
-use Rattle.givetext.specs.Written.{IsWrittenAnew}
+use Rattle.sourceediting.specs.Written.{IsWrittenAnew}
 use Rattle.givetext.specs.Parts.{IsLookedAt, IsEdited}
 use Rattle.givetext.specs.Given.{IsTakenText, IsGiven}
 

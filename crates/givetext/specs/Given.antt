@@ -13,9 +13,9 @@ use Rattle.checking.specs.Checks.{LeadsTo}
 use Rattle.intake.specs.declared.taken.Taken.{Taken}
 use Rattle.intake.specs.Intakes.{IsLibraryOf, axioms_of}
 use Rattle.taketext.specs.Answers.{taken_text}
-use Rattle.givetext.specs.Following.{Following, all_commands, behind_all, opening, changes_of, label_then, own_flags, names_none}
+use Rattle.sourceediting.specs.Following.{Following, all_commands, behind_all, opening, changes_of, label_then, own_flags, names_none}
 use Rattle.givetext.specs.Again.{IsTakenAgain}
-use Rattle.givetext.specs.Written.{IsWrittenAnew}
+use Rattle.sourceediting.specs.Written.{IsWrittenAnew}
 
 -- the text is what is printed where a library is taken of the source, by some wish
 pub record IsTakenText (source : List ℕ) (s : Scope) (library : List ℕ) (t : Taken) : Type 0 where

@@ -10,9 +10,9 @@ use Rattle.library.specs.declared.history.Entry.{Entry}
 use Rattle.library.specs.Library.{Listed}
 use Rattle.intake.specs.declared.taken.Taken.{Taken}
 use Rattle.intake.specs.Intakes.{axioms_of}
-use Rattle.givetext.specs.Following.{Following, all_commands, behind_all, opening, changes_of, label_then, own_flags, names_none}
+use Rattle.sourceediting.specs.Following.{Following, all_commands, behind_all, opening, changes_of, label_then, own_flags, names_none}
 use Rattle.givetext.specs.Again.{IsTakenAgain}
-use Rattle.givetext.specs.Written.{IsWrittenAnew}
+use Rattle.sourceediting.specs.Written.{IsWrittenAnew}
 
 -- the text declares a source, of which the edited library is taken by these labels, and what isn't its own stays
 pub record IsLookedAt (old : Scope) (out : List ℕ) (changes : List Change) (own : List Bool) (then : List Word) (edited : Listed) : Type 0 where

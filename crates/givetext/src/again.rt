@@ -12,16 +12,18 @@ ghost use Rattle.givetext.specs.Again.{IsFloatNamed, IsFloatOf, database_lines, 
 ghost use Rattle.givetext.specs.Parts.{IsLookedAt};
 
 use crate::own::own_of;
-use crate::refusal::{File, Refusal};
+use crate::standing::first_behind;
 use choosing::Wish;
 use giving::{Changes, first_not_staying};
 use intake::{Taken, Unfollowed, take_declared};
 use library::PlainLibrary;
 use mmsyntax::{Database, Float, Name, Prelude};
+use mmtext::{FaultKind, TextFault};
 use mmwriter::put_assertion;
 use scopes::Scopes;
 use source::Declared;
 use source::laws::sources_are_whole;
+use sourceediting::{File, Refusal};
 use sourcereader::read_source;
 use std::alloc::{AllocError, Global};
 use std::hash::RandomState;
@@ -32,16 +34,39 @@ fn unfit(alloc: Global, why: &str) -> Result<Refusal, AllocError> {
     Ok(Refusal::Text(File::History, format!(in alloc; "with these edits {why}")?))
 }
 
+/// Why the source with the edits can't be read.
+fn unread(
+    alloc: Global,
+    keys: RandomState,
+    old: &Scopes<'_>,
+    out: &[u8],
+    edits: &Edits<'_, '_>,
+    fault: TextFault,
+) -> Result<Refusal, AllocError> {
+    if fault.kind == FaultKind::UnknownLabel
+        && let Some(refusal) = first_behind(alloc, keys, old, edits.changes, edits.own, out)?
+    {
+        return Ok(refusal);
+    }
+    Ok(Refusal::Text(
+        File::History,
+        format!(in alloc; "the source with these edits: text {fault}")?,
+    ))
+}
+
 /// The source with the edits, as it declares.
-fn read_again<'o>(alloc: Global, keys: RandomState, out: &'o [u8]) -> Result<Scopes<'o>, Refusal>
+fn read_again<'o>(
+    alloc: Global,
+    keys: RandomState,
+    old: &Scopes<'_>,
+    out: &'o [u8],
+    edits: &Edits<'_, '_>,
+) -> Result<Scopes<'o>, Refusal>
     ensures { IfOk result (λ s. DeclaresText out.now s.stand.scope) }
 {
     match read_source(alloc, Scopes::new(alloc, keys), out) {
         Ok(scopes) => Ok(scopes),
-        Err(fault) => Err(Refusal::Text(
-            File::History,
-            format!(in alloc; "the source with these edits: text {fault}")?,
-        )),
+        Err(fault) => Err(unread(alloc, keys, old, out, edits, fault)?),
     }
 }
 
@@ -203,7 +228,7 @@ pub(crate) fn look_again(
     ensures { OnOk result (IsLookedAt old.now.stand.scope out.now edits.entry.changes.now edits.entry.own.now
         (seen_words edits.entry.then.now) edits.entry.edited.now) }
 {
-    let new = read_again(alloc, keys, out)?;
+    let new = read_again(alloc, keys, old, out, &edits)?;
     // For the proof: what is read is whole.
     sources_are_whole();
     let taken = take_again(rt, alloc, keys, &new, edits.then, edits.axioms)?;

@@ -4,8 +4,8 @@ ghost use Rattle.std.specs.Prelude.{IfOk};
 ghost use Rattle.givetext.specs.Answers.{IsGiveAnswer};
 
 use crate::call::give;
-use crate::refusal::{File, Refusal};
 use intake::Follow;
+use sourceediting::{File, Refusal};
 use std::alloc::{AllocError, Global};
 use std::hash::RandomState;
 use std::thread::Threads;

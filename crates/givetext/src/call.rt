@@ -7,29 +7,23 @@ ghost use Rattle.source.specs.Sources.{DeclaresText};
 ghost use Rattle.source.specs.Whole.{IsWhole};
 ghost use Rattle.taking.specs.Reasons.{Choice};
 ghost use Rattle.checking.specs.Checks.{LeadsTo};
-ghost use Rattle.givetext.specs.Following.{all_commands, behind_all, opening};
-ghost use Rattle.givetext.specs.Views.{seen_following};
-ghost use Rattle.givetext.specs.Written.{IsWrittenAnew};
+ghost use Rattle.sourceediting.specs.Following.{all_commands, behind_all, opening};
+ghost use Rattle.sourceediting.specs.Views.{seen_following};
+ghost use Rattle.sourceediting.specs.Written.{IsWrittenAnew};
 ghost use Rattle.givetext.specs.Parts.{IsEdited};
 ghost use Rattle.givetext.specs.Given.{IsTakenText, IsGiven};
 
 use crate::again::{Edits, look_again};
-use crate::citing::are_uncited;
-use crate::commands::keep_places;
-use crate::following::{Followed, Following, opening_of};
 use crate::origin::origin_of;
-use crate::own::own_of;
-use crate::planning::{Planned, axioms_then, edited_by_label, names_of, other_proofs};
-use crate::rearranging::{Rearranged, rearrange};
-use crate::refusal::{File, Refusal, shown};
+use crate::own::{own_of, told_of};
 use checking::replay_library;
 use giving::Changes;
 use intake::{Follow, Taken, take_declared};
 use library::{Entry, History, PlainLibrary};
-use rewriting::rewrite;
 use scopes::Scopes;
 use source::Declared;
 use source::laws::sources_are_whole;
+use sourceediting::{File, Following, Planned, Refusal, are_uncited, axioms_then, opening_of, shown, write_edits};
 use sourcereader::read_source;
 use std::alloc::{AllocError, Global};
 use std::hash::RandomState;
@@ -118,19 +112,6 @@ fn replay_over(
     }
 }
 
-/// The texts of proofs, by the labels of their theorems.
-fn by_label<'x>(
-    alloc: Global,
-    keys: RandomState,
-    proofs: &'x [(&'x [u8], Vec<u8>)],
-) -> Result<Changes<'x>, AllocError> {
-    let mut pairs = Vec::new(alloc);
-    for (label, text) in proofs {
-        pairs.push((*label, text.as_slice()))?;
-    }
-    Changes::new(alloc, keys, pairs)
-}
-
 /// Whether the edits leave a name of the source: its assertion gets another label, or is deleted.
 fn is_left(changes: &Changes<'_>, gone: &[&[u8]], name: &[u8]) -> bool {
     if changes.text_for(name).is_some() {
@@ -184,51 +165,31 @@ fn follow_edits<'x, 'a: 'x, D: Declared<'a>>(
 }
 
 /// The source with the edits, before it is looked at again.
-fn write_edits<'e, D: Declared<'e>>(
+fn write_anew(
     alloc: Global,
     keys: RandomState,
-    declared: &D,
-    source: &'e [u8],
-    taken: &'e Taken<'e>,
-    replayed: &'e Replayed,
-    following: &'e Following<'e>,
-    changes: &'e Changes<'e>,
+    old: &Scopes<'_>,
+    source: &[u8],
+    taken: &Taken<'_>,
+    replayed: &Replayed,
+    following: &Following<'_>,
+    changes: &Changes<'_>,
+    own: &[bool],
 ) -> Result<Vec<u8>, Refusal>
     ensures { IfOk result (λ out. IsWrittenAnew (all_commands replayed.now.entries) changes.now source.now out.items) }
 {
+    let told = told_of(alloc, keys, taken.axioms.as_slice())?;
     let planned = Planned {
         database: &taken.database,
         names: taken.names.as_slice(),
         edited: &replayed.edited,
         living: following.living.as_slice(),
-    };
-    let edited = edited_by_label(alloc, keys, replayed.edited.entries())?;
-    let names = names_of(alloc, keys, declared, &edited, &planned)?;
-    let proofs = other_proofs(alloc, keys, declared, &edited, &names, &planned)?;
-    let proofs = by_label(alloc, keys, proofs.as_slice())?;
-    if keep_places(replayed.entries.as_slice()) {
-        return Ok(rewrite(alloc, changes, &proofs, source)?);
-    }
-    let edits = Rearranged {
-        planned,
         gone: following.gone.as_slice(),
-        edited: &edited,
-        names: &names,
-        changes,
-        proofs: &proofs,
+        own,
+        told: &told,
     };
-    rearrange(alloc, keys, declared, source, &edits)
-}
-
-/// The labels in the source then of the edited library's axioms.
-fn axioms_of<'x>(
-    alloc: Global,
-    keys: RandomState,
-    living: &[Followed<'x>],
-    edited: &'x PlainLibrary,
-) -> Result<Vec<&'x [u8]>, AllocError> {
-    let by_now = edited_by_label(alloc, keys, edited.entries())?;
-    axioms_then(alloc, &by_now, living)
+    let entries = replayed.entries.as_slice();
+    write_edits(alloc, keys, old, source, &planned, entries, changes)
 }
 
 /// The source with the edits of a history that was done again over a library which was taken of it. It is looked at again.
@@ -250,11 +211,19 @@ fn give_edits<'x, 'a: 'x>(
     are_free(alloc, old, &following, &changes)?;
     let own = own_of(alloc, keys, old, taken)?;
     are_uncited(alloc, keys, old, own.as_slice(), following.gone.as_slice())?;
-    let out = write_edits(
-        alloc, keys, old, source, taken, replayed, &following, &changes,
+    let out = write_anew(
+        alloc,
+        keys,
+        old,
+        source,
+        taken,
+        replayed,
+        &following,
+        &changes,
+        own.as_slice(),
     )?;
     let then = following.labels_then(alloc)?;
-    let axioms = axioms_of(alloc, keys, following.living.as_slice(), &replayed.edited)?;
+    let axioms = axioms_then(alloc, keys, &replayed.edited, following.living.as_slice())?;
     let edits = Edits {
         changes: &changes,
         own: own.as_slice(),

@@ -5,15 +5,8 @@
 mod again;
 mod answering;
 mod call;
-mod citing;
-mod commands;
-mod filling;
-mod following;
-mod moving;
 mod origin;
 mod own;
-mod planning;
-mod rearranging;
-mod refusal;
+mod standing;
 
 pub use answering::{Paths, Returned, answer_give};

@@ -4,8 +4,8 @@ ghost use Rattle.std.specs.Prelude.{◌≡◌, IfOk, length, map};
 ghost use Rattle.source.specs.Scopes.{Assertion, is_in};
 ghost use Rattle.taking.specs.Reasons.{Choice};
 ghost use Rattle.intake.specs.Intakes.{axioms_of};
-ghost use Rattle.givetext.specs.Following.{own_flags};
-ghost use Rattle.givetext.specs.Marked.{marked};
+ghost use Rattle.sourceediting.specs.Following.{own_flags};
+ghost use Rattle.sourceediting.specs.Marked.{marked};
 
 use giving::Changes;
 use intake::Taken;
@@ -15,7 +15,7 @@ use std::hash::RandomState;
 use taking::Reason;
 
 /// The labels of theorems that were taken as axioms, with a fast look-up.
-fn told_of<'x>(
+pub(crate) fn told_of<'x>(
     alloc: Global,
     keys: RandomState,
     axioms: &[(&'x [u8], Reason)],

@@ -191,14 +191,31 @@ fn put_pairs(
     Ok(())
 }
 
-/// The labels of the `$e`: L.1, L.2, ..
-fn premise_labels(alloc: Global, label: &[u8], count: usize) -> Result<Vec<Vec<u8>>, AllocError> {
+/// The label L.k.
+fn numbered(alloc: Global, label: &[u8], number: u32) -> Result<Vec<u8>, AllocError> {
+    let number = format!(in alloc; ".{number}")?;
+    let mut name = Vec::from_slice(alloc, label)?;
+    name.extend_from_slice(number.as_bytes())?;
+    Ok(name)
+}
+
+/// The labels of the `$e`: the first of L.1, L.2, .. that neither the source nor the edited library has as a name.
+fn premise_labels<'a, D: Declared<'a>>(
+    alloc: Global,
+    declared: &D,
+    names: &Names<'_>,
+    label: &[u8],
+    count: usize,
+) -> Result<Vec<Vec<u8>>, AllocError> {
     let mut labels = Vec::new(alloc);
-    for k in 0..count {
-        let number = format!(in alloc; ".{}", k + 1)?;
-        let mut name = Vec::from_slice(alloc, label)?;
-        name.extend_from_slice(number.as_bytes())?;
-        labels.push(name)?;
+    for number in 1..u32::MAX {
+        if labels.len() == count {
+            break;
+        }
+        let name = numbered(alloc, label, number)?;
+        if !declared.has_name(name.as_slice()) && !names.has_label(name.as_slice()) {
+            labels.push(name)?;
+        }
     }
     Ok(labels)
 }
@@ -322,7 +339,7 @@ pub fn assertion_text<'x, 'a, D: Declared<'a>>(
     statement: &Statement<'_>,
 ) -> Result<Option<Vec<u8>>, AllocError> {
     let premises = statement.assertion.hyps.as_slice().len();
-    let labels = premise_labels(alloc, statement.label, premises)?;
+    let labels = premise_labels(alloc, declared, names, statement.label, premises)?;
     let labels = labels.as_slice();
     let mut out = Vec::from_slice(alloc, b"\n")?;
     put_front(alloc, &mut out, words, statement, labels)?;

@@ -5,8 +5,8 @@ use Rattle.mmtext.specs.Words.{Word}
 use Rattle.source.specs.Views.{seen_words}
 use Rattle.giving.specs.Staying.{others}
 use Rattle.library.specs.declared.history.Entry.{Entry}
-use Rattle.givetext.specs.Following.{Following, all_commands, behind_all, opening, names_none}
-use Rattle.givetext.specs.Views.{seen_following}
+use Rattle.sourceediting.specs.Following.{Following, all_commands, behind_all, opening, names_none}
+use Rattle.sourceediting.specs.Views.{seen_following}
 use Rattle.givetext.specs.Parts.{IsLookedAt}
 use Rattle.givetext.proofs.Looked.{edited_by}
 use Rattle.givetext.proofs.call.give_edits.Goals as goal
@@ -15,7 +15,7 @@ pub are_uncited-requires : goal.are_uncited-requires
 are_uncited-requires g c κs = ((refl, tt), ap length c.as_slice-2.ensures.value ∙ c.in_ok-own.ensures.many)
 
 pub look_again-requires-after_bounds : goal.look_again-requires-after_bounds
-look_again-requires-after_bounds g c κs within = ap length c.as_slice-5.ensures.value ∙ c.in_ok-own.ensures.many
+look_again-requires-after_bounds g c κs within = ap length c.as_slice-6.ensures.value ∙ c.in_ok-own.ensures.many
 
 pub returns : goal.returns
 returns g c choice are =
@@ -38,7 +38,7 @@ returns g c choice are =
     (subst (λ (fs : List Bool). All (λ x. IsTrue (names_none (seen_words c.as_slice-3.result.now) x.proof)) (others fs old.assertions))
     c.as_slice-2.ensures.value c.in_ok-are_uncited.ensures))
     c.in_ok-out.ensures
-    (subst (λ (text : List ℕ). IsLookedAt old text changes own then edited) c.as_slice-8.ensures.value
-    (subst (λ (fs : List Bool). IsLookedAt old c.as_slice-8.result.now changes fs then edited) c.as_slice-5.ensures.value
-    (subst (λ (ws : List Word). IsLookedAt old c.as_slice-8.result.now changes c.as_slice-5.result.now ws edited)
-    (ap seen_words c.as_slice-6.ensures.value) c.in_ok-look_again.ensures)))
+    (subst (λ (text : List ℕ). IsLookedAt old text changes own then edited) c.as_slice-9.ensures.value
+    (subst (λ (fs : List Bool). IsLookedAt old c.as_slice-9.result.now changes fs then edited) c.as_slice-6.ensures.value
+    (subst (λ (ws : List Word). IsLookedAt old c.as_slice-9.result.now changes c.as_slice-6.result.now ws edited)
+    (ap seen_words c.as_slice-7.ensures.value) c.in_ok-look_again.ensures)))

@@ -6,10 +6,10 @@ use Rattle.std.proofs.lemmas.List.{take_all, get_or_read, length_push}
 use Rattle.source.specs.Scopes.{Assertion, is_in}
 use Rattle.taking.specs.Reasons.{Choice}
 use Rattle.intake.specs.Intakes.{axioms_of}
-use Rattle.givetext.specs.Following.{is_own}
-use Rattle.givetext.proofs.Marks.{told_found}
-use Rattle.givetext.proofs.Origins.{there_is, label_is}
-use Rattle.givetext.proofs.Others.{own_more}
+use Rattle.sourceediting.specs.Following.{is_own}
+use Rattle.sourceediting.proofs.Marks.{told_found}
+use Rattle.sourceediting.proofs.Origins.{there_is, label_is}
+use Rattle.sourceediting.proofs.Others.{own_more}
 use Rattle.givetext.proofs.own.own_of.Given.{Over}
 use Rattle.givetext.proofs.own.own_of.Goals as goal
 use Rattle.givetext.proofs.own.own_of.Goals.{then-index, else-index}

@@ -3,7 +3,7 @@ use Rattle.std.proofs.Common.{◌≡◌, length, map, take}
 use Rattle.source.specs.Scopes.{Assertion, is_in}
 use Rattle.taking.specs.Reasons.{Choice}
 use Rattle.intake.specs.Intakes.{axioms_of}
-use Rattle.givetext.specs.Following.{is_own}
+use Rattle.sourceediting.specs.Following.{is_own}
 use Rattle.givetext.proofs.own.own_of.Given as goal
 
 -- the flags so far

@@ -1,7 +1,7 @@
 -- What the loop of `told_of` keeps.
 use Rattle.std.proofs.Common.{◌≡◌, map, take}
 use Rattle.source.specs.Views.{seen_pairs}
-use Rattle.givetext.specs.Marked.{marked}
+use Rattle.sourceediting.specs.Marked.{marked}
 use Rattle.givetext.proofs.own.told_of.Given as goal
 
 -- the labels so far

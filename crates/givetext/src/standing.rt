@@ -1,0 +1,69 @@
+//! Which assertion would stand behind one that cites it.
+
+use giving::Changes;
+use outlining::outline_of;
+use source::Declared;
+use sourceediting::{File, Refusal, labels_of, shown};
+use std::alloc::{AllocError, Global};
+use std::collections::HashMap;
+use std::hash::RandomState;
+
+/// The label that an assertion of the source has then.
+fn label_then<'c>(changes: &'c Changes<'_>, label: &'c [u8]) -> &'c [u8] {
+    changes.text_for(label).unwrap_or(label)
+}
+
+/// The first label in the proof of the assertion at a place whose assertion stands behind it, by the places of assertions in the text with
+/// the edits.
+fn first_behind_at<'a, D: Declared<'a>>(
+    declared: &D,
+    changes: &Changes<'_>,
+    places: &HashMap<&[u8], usize, RandomState>,
+    place: usize,
+) -> Option<&'a [u8]> {
+    let citing = places.get(label_then(changes, declared.label(place)?))?;
+    for label in labels_of(declared.proof(place)?) {
+        if let Some(cited) = places.get(label_then(changes, label))
+            && cited > citing
+        {
+            return Some(*label);
+        }
+    }
+    None
+}
+
+/// An assertion would stand behind one that cites it.
+fn would_stand_behind<'c>(
+    alloc: Global,
+    changes: &'c Changes<'_>,
+    label: &'c [u8],
+    by: Option<&'c [u8]>,
+) -> Result<Refusal, AllocError> {
+    let by = by.unwrap_or(b"?");
+    let (label, by) = (shown(label_then(changes, label)), shown(label_then(changes, by)));
+    let why = format!(in alloc; "{label} would stand behind {by}, which cites it")?;
+    Ok(Refusal::Text(File::History, why))
+}
+
+/// The first assertion that isn't the library's, and cites one that stands behind it in the text with the edits: the line that says so.
+pub(crate) fn first_behind<'a, D: Declared<'a>>(
+    alloc: Global,
+    keys: RandomState,
+    declared: &D,
+    changes: &Changes<'_>,
+    own: &[bool],
+    out: &[u8],
+) -> Result<Option<Refusal>, AllocError> {
+    let outline = outline_of(alloc, out)?;
+    let places = outline.by_label(alloc, keys)?;
+    for (place, is_own) in own.iter().enumerate() {
+        if *is_own {
+            continue;
+        }
+        if let Some(label) = first_behind_at(declared, changes, &places, place) {
+            let by = declared.label(place);
+            return Ok(Some(would_stand_behind(alloc, changes, label, by)?));
+        }
+    }
+    Ok(None)
+}

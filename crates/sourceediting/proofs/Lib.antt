@@ -1,0 +1,6 @@
+pub mod Labels
+pub mod Origins
+pub mod Marks
+pub mod Histories
+pub mod Others
+pub mod Rewritten

@@ -1,0 +1,46 @@
+-- A text that is written anew.
+use Rattle.std.proofs.Common.{◌≡◌, ℕ, List, [], refl, subst, arith}
+use Rattle.std.specs.Prelude.{All}
+use Rattle.std.proofs.lemmas.List.Elements.{All-nil}
+use Rattle.giving.specs.Staying.{Change}
+use Rattle.rewriting.specs.declared.span.Span.{Span}
+use Rattle.rewriting.specs.Spans.{IsRewritten, IsCut, IsPutIn, IsPatched}
+use Rattle.library.specs.declared.command.Command.{Command}
+use Rattle.sourceediting.specs.Following.{KeepsPlaces}
+use Rattle.sourceediting.specs.Written.{IsRearranged, IsWrittenAnew}
+
+-- at no span of it
+untouched : (may_change : List ℕ → Span → Type 0) (text : List ℕ) → IsPatched may_change text text
+untouched may_change text = record { spans = []; in_order = omega arith; each = All-nil (may_change text); text = refl }
+
+module _ (commands : List Command) (cs : List Change) (source out : List ℕ) where
+  -- just labels and proofs change
+  pub only_rewritten : (proofs : List Change) → IsRewritten cs proofs source out → IsWrittenAnew commands cs source out
+  only_rewritten proofs rewritten = record {
+    rearranged = record {
+      kept = source;
+      cut = untouched IsCut source;
+      proofs = proofs;
+      changed = out;
+      rewritten = rewritten;
+      filled = untouched IsPutIn out;
+    };
+    places = λ _. (refl, refl);
+  }
+
+  -- some command adds, moves or deletes
+  pub all_rearranged : (All KeepsPlaces commands → ⊥) → IsRearranged cs source out → IsWrittenAnew commands cs source out
+  all_rearranged some rearranged = record { rearranged = rearranged; places = λ all. absurd (some all) }
+
+module _ (cs proofs : List Change) (source kept seen_kept changed seen_changed out : List ℕ) where
+  -- cut, changed and filled, one behind the other
+  pub rearranged_by : IsPatched IsCut source kept → seen_kept ≡ kept → IsRewritten cs proofs seen_kept changed → seen_changed ≡ changed
+      → IsPatched IsPutIn seen_changed out → IsRearranged cs source out
+  rearranged_by cut same_kept rewritten same_changed filled = record {
+    kept = kept;
+    cut = cut;
+    proofs = proofs;
+    changed = changed;
+    rewritten = subst (λ (text : List ℕ). IsRewritten cs proofs text changed) same_kept rewritten;
+    filled = subst (λ (text : List ℕ). IsPatched IsPutIn text out) same_changed filled;
+  }

@@ -1,0 +1,54 @@
+-- What is left to show of `are_uncited`.
+use Rattle.std.proofs.Common.{◌≡◌, ◌∙◌, List, ℕ, Bool, true, false, take, refl, sym, ap, subst, arith, Option}
+use Rattle.std.specs.Prelude.{All, IsTrue, is_some}
+use mathlib.Core.Bool.{not}
+use Rattle.std.specs.Borrow.{Bor}
+use Rattle.std.proofs.lemmas.List.{take_all}
+use Rattle.std.proofs.lemmas.Option.{MatchOption-at_some}
+use Rattle.mmtext.specs.Words.{Word}
+use Rattle.source.specs.Scopes.{Assertion}
+use Rattle.source.specs.Views.{seen_words}
+use Rattle.giving.specs.Staying.{others}
+use Rattle.sourceediting.specs.Following.{names_none}
+use Rattle.sourceediting.proofs.Marks.{firsts, firsts_marked}
+use Rattle.sourceediting.proofs.Origins.{there_is}
+use Rattle.sourceediting.proofs.Others.{own_passes, other_passes}
+use Rattle.sourceediting.proofs.citing.are_uncited.Goals as goal
+
+abbrev IsUncited : List Word → Assertion → Type 0
+IsUncited gone x = IsTrue (names_none gone x.proof)
+
+opposite : (b : Bool) → false ≡ not b → b ≡ true
+opposite true e = refl
+opposite false e = absurd cc
+
+pub loop-place-preserved-then-is_own : goal.loop-place-preserved-then-is_own
+loop-place-preserved-then-is_own g c =
+    let xs : List Assertion = (g.D.Declared.scope c.args.declared.now).assertions in
+    let i = c.loop-place.place in
+    let x = there_is xs i (omega (arith, c.requires)) in
+    own_passes (IsUncited (seen_words c.args.gone.now)) c.args.own.now xs i x.0 c.loop-place-test.true x.1 c.loop-place.invariant c.if-is_own.true
+
+pub loop-place-preserved : goal.loop-place-preserved
+loop-place-preserved g c =
+    let xs : List Assertion = (g.D.Declared.scope c.args.declared.now).assertions in
+    let i = c.loop-place.place in
+    let x = there_is xs i (omega (arith, c.requires)) in
+    let gone = seen_words c.args.gone.now in
+    let among : firsts c.in_ok-gone.gone ≡ gone = ap firsts c.in_ok-gone.ensures ∙ firsts_marked gone in
+    let said : is_some c.first_gone_at.result ≡ not (names_none (firsts c.in_ok-gone.gone) x.0.proof) =
+    MatchOption-at_some _ (λ (x : Assertion). is_some c.first_gone_at.result ≡ not (names_none (firsts c.in_ok-gone.gone) x.proof)) x.0 x.1
+    c.first_gone_at.ensures in
+    let none : IsUncited gone x.0 =
+    ap (λ (ws : List Word). names_none ws x.0.proof) (sym among)
+    ∙ opposite (names_none (firsts c.in_ok-gone.gone) x.0.proof) (ap (λ (o : Option (Bor (List ℕ))). is_some o) (sym c.in_default.is) ∙ said) in
+    other_passes (IsUncited gone) c.args.own.now xs i x.0 c.loop-place-test.true x.1 c.loop-place.invariant c.if-is_own.false none
+
+pub returns : goal.returns
+returns g c =
+    let xs : List Assertion = (g.D.Declared.scope c.args.declared.now).assertions in
+    let i = c.loop-place.place in
+    let flags : take i c.args.own.now ≡ c.args.own.now = take_all i c.args.own.now c.loop-place-test.false in
+    let all : take i xs ≡ xs = take_all i xs (omega (arith, c.requires)) in
+    subst (λ (l : List Assertion). All (IsUncited (seen_words c.args.gone.now)) l)
+    (ap (λ (fs : List Bool). others fs (take i xs)) flags ∙ ap (others c.args.own.now) all) c.loop-place.invariant

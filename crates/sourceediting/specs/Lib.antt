@@ -1,0 +1,4 @@
+pub mod Following
+pub mod Views
+pub mod Marked
+pub mod Written

@@ -1,0 +1,335 @@
+//! Which assertions are to stand elsewhere in a source: those that were moved, and of a block in the middle of which something is put those
+//! in front of it or those behind it.
+
+use crate::citing::labels_of;
+use crate::following::Followed;
+use crate::rearranging::Rearranged;
+use giving::Changes;
+use library::Ranked;
+use outlining::Outline;
+use source::Declared;
+use std::alloc::{AllocError, Global};
+use std::collections::HashMap;
+use std::hash::RandomState;
+
+/// The places of assertions, by their labels.
+type Places<'x> = HashMap<&'x [u8], usize, RandomState>;
+
+/// An assertion of the source: its label there, and in the library now.
+type Member<'x> = (&'x [u8], &'x [u8]);
+
+/// Those that are to stand elsewhere.
+#[derive(Drop)]
+pub(crate) struct Moving<'x> {
+    /// Their labels in the source, with those in the library now.
+    pub labels: Changes<'x>,
+    /// The same of those that go in front of the block that they leave.
+    pub in_front: Changes<'x>,
+}
+
+/// A block of the source of which assertions stay in their order.
+#[derive(Drop)]
+struct Row<'x> {
+    /// The outermost block; none outside of blocks.
+    block: Option<usize>,
+    members: Vec<Member<'x>>,
+    /// How many of them stand in front of the first thing that is put among them, if something is.
+    first: Option<usize>,
+    /// How many stand in front of the last.
+    last: usize,
+    /// Whether something is put behind the last member.
+    is_put: bool,
+}
+
+impl<'x> Row<'x> {
+    /// A block of which no member was met.
+    fn new(alloc: Global, block: Option<usize>) -> Row<'x> {
+        Row {
+            block,
+            members: Vec::new(alloc),
+            first: None,
+            last: 0,
+            is_put: false,
+        }
+    }
+
+    /// One more member.
+    fn push(&mut self, member: Member<'x>) -> Result<(), AllocError> {
+        if self.is_put {
+            self.last = self.members.len();
+            self.first = self.first.or(Some(self.last));
+            self.is_put = false;
+        }
+        self.members.push(member)?;
+        Ok(())
+    }
+
+    /// Whether an assertion in this outermost block is of this row.
+    fn goes_on(&self, block: Option<usize>) -> bool {
+        block.is_some() && block == self.block
+    }
+
+    /// How many members stand in front of the first thing that is put among them.
+    fn before_first(&self) -> usize {
+        self.first.unwrap_or(self.members.len())
+    }
+
+    /// Whether one of those in front of the last thing has one of these labels in the source.
+    fn front_has(&self, labels: &Changes<'_>) -> bool {
+        for (source, _) in self.members.as_slice().iter().take(self.last) {
+            if labels.text_for(source).is_some() {
+                return true;
+            }
+        }
+        false
+    }
+
+    /// Whether one of those behind the first thing has one of these labels in the source.
+    fn back_has(&self, labels: &Changes<'_>) -> bool {
+        for (source, _) in self.members.as_slice().iter().skip(self.before_first()) {
+            if labels.text_for(source).is_some() {
+                return true;
+            }
+        }
+        false
+    }
+
+    /// Those in front of the last thing.
+    fn put_front(&self, members: &mut Vec<Member<'x>>) -> Result<(), AllocError> {
+        for member in self.members.as_slice().iter().take(self.last) {
+            members.push(*member)?;
+        }
+        Ok(())
+    }
+
+    /// Those behind the first thing.
+    fn put_back(&self, members: &mut Vec<Member<'x>>) -> Result<(), AllocError> {
+        for member in self.members.as_slice().iter().skip(self.before_first()) {
+            members.push(*member)?;
+        }
+        Ok(())
+    }
+
+    /// Whether those in front go in front of the block: where no theorem that was taken as an axiom is among them, and those behind are
+    /// more, or can't go behind it.
+    fn front_leaves(&self, told: &Changes<'_>, cited: &Changes<'_>) -> bool {
+        let behind = self.members.len().saturating_sub(self.before_first());
+        !self.front_has(told) && (self.last < behind || self.back_has(told) || self.back_has(cited))
+    }
+}
+
+/// The assertions of the opening, by their labels now: those that were added have none.
+fn opened_by_now<'x>(
+    alloc: Global,
+    keys: RandomState,
+    living: &[Followed<'x>],
+) -> Result<Places<'x>, AllocError> {
+    let mut places = HashMap::with_hasher(alloc, keys);
+    for (k, followed) in living.iter().enumerate() {
+        if followed.source.is_some() {
+            places.insert(followed.now, k)?;
+        }
+    }
+    Ok(places)
+}
+
+/// Whether the assertions of the opening stand in another order in the edited library.
+fn has_another_order(opened: &Places<'_>, entries: &[Ranked]) -> bool {
+    let mut last = 0;
+    for entry in entries {
+        if let Some(place) = opened.get(entry.assertion.label.as_slice()) {
+            if *place < last {
+                return true;
+            }
+            last = *place;
+        }
+    }
+    false
+}
+
+/// How far the assertions of the edited library were walked over, in its order.
+#[derive(Drop)]
+struct Walk<'x> {
+    /// Those that were moved.
+    moved: Vec<Member<'x>>,
+    /// The blocks among whose members something is put.
+    parted: Vec<Row<'x>>,
+    row: Row<'x>,
+}
+
+impl<'x> Walk<'x> {
+    /// Before any assertion.
+    fn new(alloc: Global) -> Walk<'x> {
+        Walk {
+            moved: Vec::new(alloc),
+            parted: Vec::new(alloc),
+            row: Row::new(alloc, None),
+        }
+    }
+
+    /// One that was moved.
+    fn put_moved(&mut self, member: Member<'x>) -> Result<(), AllocError> {
+        self.row.is_put = true;
+        self.moved.push(member)?;
+        Ok(())
+    }
+
+    /// One that wasn't, in this outermost block.
+    fn pass(
+        &mut self,
+        alloc: Global,
+        block: Option<usize>,
+        member: Member<'x>,
+    ) -> Result<(), AllocError> {
+        if !self.row.goes_on(block) {
+            self.begin(Row::new(alloc, block))?;
+        }
+        self.row.push(member)
+    }
+
+    /// Another row begins, and the former ends.
+    fn begin(&mut self, next: Row<'x>) -> Result<(), AllocError> {
+        let row = std::mem::replace(&mut self.row, next);
+        if row.first.is_some() {
+            self.parted.push(row)?;
+        }
+        Ok(())
+    }
+}
+
+/// Walks over the assertions of the edited library. Where the order is the old one nothing was moved.
+fn walk_over<'x>(
+    alloc: Global,
+    keys: RandomState,
+    outline: &Outline<'_>,
+    places: &Places<'_>,
+    edits: &Rearranged<'x>,
+) -> Result<Walk<'x>, AllocError> {
+    let entries = edits.planned.edited.entries();
+    let opened = opened_by_now(alloc, keys, edits.planned.living)?;
+    let is_other = has_another_order(&opened, entries);
+    let mut walk = Walk::new(alloc);
+    for entry in entries {
+        let place = opened.get(entry.assertion.label.as_slice());
+        let Some(followed) = place.and_then(|place| edits.planned.living.get(*place)) else {
+            walk.row.is_put = true;
+            continue;
+        };
+        let Some(source) = followed.source else {
+            continue;
+        };
+        let member = (source, followed.now);
+        if is_other && followed.moved {
+            walk.put_moved(member)?;
+        } else {
+            let place = places.get(source);
+            let block = place.and_then(|place| outline.outermost_at(*place));
+            walk.pass(alloc, block, member)?;
+        }
+    }
+    walk.begin(Row::new(alloc, None))?;
+    Ok(walk)
+}
+
+/// Of each block of a source: whether something is put among its members.
+fn are_parted(
+    alloc: Global,
+    outline: &Outline<'_>,
+    parted: &[Row<'_>],
+) -> Result<Vec<bool>, AllocError> {
+    let mut flags = vec![in alloc; false; outline.blocks.len()]?;
+    for row in parted {
+        if let Some(block) = row.block
+            && let Some(flag) = flags.get_mut(block)
+        {
+            *flag = true;
+        }
+    }
+    Ok(flags)
+}
+
+/// Whether the assertion at a place stands in one of these outermost blocks.
+fn stands_in<'a, D: Declared<'a>>(
+    declared: &D,
+    outline: &Outline<'_>,
+    places: &Places<'_>,
+    blocks: &[bool],
+    place: usize,
+) -> bool {
+    let Some(label) = declared.label(place) else {
+        return false;
+    };
+    let block = places
+        .get(label)
+        .and_then(|place| outline.outermost_at(*place));
+    match block {
+        Some(block) => blocks.get(block).copied().unwrap_or(false),
+        None => false,
+    }
+}
+
+/// The labels that proofs name in these outermost blocks, of assertions that aren't the library's.
+fn cited_in<'a, D: Declared<'a>>(
+    alloc: Global,
+    keys: RandomState,
+    declared: &D,
+    outline: &Outline<'_>,
+    places: &Places<'_>,
+    blocks: &[bool],
+    own: &[bool],
+) -> Result<Changes<'a>, AllocError> {
+    let mut pairs = Vec::new(alloc);
+    for (place, is_own) in own.iter().enumerate() {
+        if *is_own || !stands_in(declared, outline, places, blocks, place) {
+            continue;
+        }
+        if let Some(proof) = declared.proof(place) {
+            push_labels(&mut pairs, labels_of(proof))?;
+        }
+    }
+    Changes::new(alloc, keys, pairs)
+}
+
+/// Labels, each beside itself.
+fn push_labels<'a>(pairs: &mut Vec<Member<'a>>, labels: &[&'a [u8]]) -> Result<(), AllocError> {
+    for label in labels {
+        pairs.push((*label, *label))?;
+    }
+    Ok(())
+}
+
+/// The assertions of a source that are to stand elsewhere.
+///
+/// Where something is put between members of a block, those in front of it leave the block, or those behind it: whichever are fewer and can.
+/// None that a proof in the block cites which isn't the library's can go behind it, and no theorem that was taken as an axiom can leave it.
+pub(crate) fn moving_of<'x, 'a, D: Declared<'a>>(
+    alloc: Global,
+    keys: RandomState,
+    declared: &D,
+    outline: &Outline<'_>,
+    edits: &Rearranged<'x>,
+) -> Result<Moving<'x>, AllocError> {
+    let places = outline.by_label(alloc, keys)?;
+    let walk = walk_over(alloc, keys, outline, &places, edits)?;
+    let blocks = are_parted(alloc, outline, walk.parted.as_slice())?;
+    let blocks = blocks.as_slice();
+    let cited = cited_in(alloc, keys, declared, outline, &places, blocks, edits.planned.own)?;
+    let Walk {
+        moved: mut pairs,
+        parted,
+        ..
+    } = walk;
+    let mut in_front = Vec::new(alloc);
+    for row in parted.as_slice() {
+        if row.front_leaves(edits.planned.told, &cited) {
+            row.put_front(&mut pairs)?;
+            row.put_front(&mut in_front)?;
+        } else {
+            row.put_back(&mut pairs)?;
+        }
+    }
+    Ok(Moving {
+        labels: Changes::new(alloc, keys, pairs)?,
+        in_front: Changes::new(alloc, keys, in_front)?,
+    })
+}

@@ -1,0 +1,255 @@
+//! Which theorems have another proof behind the edits of a history, and the texts of these proofs.
+
+use crate::following::Followed;
+use crate::refusal::{File, Refusal, shown};
+use giving::Changes;
+use library::{PlainLibrary, Ranked};
+use mmframes::frame_of;
+use mmsyntax::{Assertion, Database, Float, Kind, Label, Prelude, Step};
+use source::Declared;
+use sourcewriting::{Cited, Kinds, Names, names_in_source, proof_text};
+use std::alloc::{AllocError, Global};
+use std::collections::HashMap;
+use std::hash::RandomState;
+
+/// Assertions of a library, by their labels.
+pub(crate) type ByLabel<'x> = HashMap<&'x [u8], &'x Assertion, RandomState>;
+
+/// What is known of a library that was taken of a source, and of the edits over it.
+#[derive(Clone, Copy)]
+pub struct Planned<'x> {
+    /// The library at the opening.
+    pub database: &'x Database,
+    /// Its names that were changed.
+    pub names: &'x [(&'x [u8], Label)],
+    /// The library behind the edits.
+    pub edited: &'x PlainLibrary,
+    /// Its assertions.
+    pub living: &'x [Followed<'x>],
+    /// The labels in the source of those that were deleted.
+    pub gone: &'x [&'x [u8]],
+    /// Of each assertion of the source: whether it is the library's, with its proof.
+    pub own: &'x [bool],
+    /// The labels of theorems that were taken as axioms.
+    pub told: &'x Changes<'x>,
+}
+
+/// The assertions of the library at the opening, by their labels then.
+fn opened_by_label<'x>(
+    alloc: Global,
+    keys: RandomState,
+    assertions: &'x [Assertion],
+) -> Result<ByLabel<'x>, AllocError> {
+    let mut found = HashMap::with_hasher(alloc, keys);
+    for assertion in assertions {
+        found.insert(assertion.label.as_slice(), assertion)?;
+    }
+    Ok(found)
+}
+
+/// The assertions of the edited library, by their labels.
+pub(crate) fn edited_by_label<'x>(
+    alloc: Global,
+    keys: RandomState,
+    entries: &'x [Ranked],
+) -> Result<ByLabel<'x>, AllocError> {
+    let mut found = HashMap::with_hasher(alloc, keys);
+    for entry in entries {
+        found.insert(entry.assertion.label.as_slice(), &entry.assertion)?;
+    }
+    Ok(found)
+}
+
+/// The labels of the library's `$f` in the source.
+fn floats_in_source<'x>(
+    alloc: Global,
+    changed: &Changes<'x>,
+    floats: &'x [Float],
+) -> Result<Vec<&'x [u8]>, AllocError> {
+    let mut labels = Vec::new(alloc);
+    for float in floats {
+        let label = float.label.as_slice();
+        labels.push(changed.text_for(label).unwrap_or(label))?;
+    }
+    Ok(labels)
+}
+
+/// How many mandatory `$f` and `$e` an assertion has that is added.
+fn kinds_of_added(
+    alloc: Global,
+    prelude: &Prelude,
+    assertion: &Assertion,
+) -> Result<Kinds, AllocError> {
+    let frame = frame_of(alloc, prelude, assertion)?;
+    Ok(Kinds::Added(frame.floats.as_slice().len(), frame.hyps.as_slice().len()))
+}
+
+/// An assertion as proofs cite it. None where it isn't there.
+fn cited_one<'x, D: Declared<'x>>(
+    alloc: Global,
+    declared: &D,
+    edited: &ByLabel<'x>,
+    prelude: &Prelude,
+    followed: &Followed<'x>,
+) -> Result<Option<Cited<'x>>, AllocError> {
+    let label = followed.label_then();
+    let kinds = match (followed.source, edited.get(&followed.now)) {
+        (Some(source), _) => declared.place_of(source).map(Kinds::Standing),
+        (None, Some(assertion)) => Some(kinds_of_added(alloc, prelude, assertion)?),
+        (None, None) => None,
+    };
+    Ok(kinds.map(|kinds| Cited { kinds, label }))
+}
+
+/// The library's assertions as proofs cite them then.
+fn cited_then<'x, D: Declared<'x>>(
+    alloc: Global,
+    keys: RandomState,
+    declared: &D,
+    edited: &ByLabel<'x>,
+    planned: &Planned<'x>,
+) -> Result<HashMap<&'x [u8], Cited<'x>, RandomState>, AllocError> {
+    let mut cited = HashMap::with_hasher(alloc, keys);
+    for followed in planned.living {
+        if let Some(one) = cited_one(alloc, declared, edited, planned.edited.prelude(), followed)? {
+            cited.insert(followed.now, one)?;
+        }
+    }
+    Ok(cited)
+}
+
+/// What the steps of proofs name.
+pub(crate) fn names_of<'x, D: Declared<'x>>(
+    alloc: Global,
+    keys: RandomState,
+    declared: &D,
+    edited: &ByLabel<'x>,
+    planned: &Planned<'x>,
+) -> Result<Names<'x>, AllocError> {
+    let changed = names_in_source(alloc, keys, planned.names)?;
+    Ok(Names {
+        floats: floats_in_source(alloc, &changed, planned.database.prelude().floats())?,
+        cited: cited_then(alloc, keys, declared, edited, planned)?,
+    })
+}
+
+/// Whether a step is another one but for a changed label.
+fn is_step(changes: &Changes<'_>, old: &Step, new: &Step) -> bool {
+    match (old, new) {
+        (Step::Float(place), Step::Float(other)) => place == other,
+        (Step::Hyp(place), Step::Hyp(other)) => place == other,
+        (Step::Cite(label), Step::Cite(other)) => {
+            let label = label.as_slice();
+            changes.text_for(label).unwrap_or(label) == other.as_slice()
+        }
+        _ => false,
+    }
+}
+
+/// Whether a proof is another one but for changed labels.
+fn is_proof(changes: &Changes<'_>, old: &[Step], new: &[Step]) -> bool {
+    if old.len() != new.len() {
+        return false;
+    }
+    for (k, step) in old.iter().enumerate() {
+        if !is_step(changes, step, &new[k]) {
+            return false;
+        }
+    }
+    true
+}
+
+/// The labels of the library that change, with their new ones.
+fn changes_in_library<'x>(
+    alloc: Global,
+    keys: RandomState,
+    living: &[Followed<'x>],
+) -> Result<Changes<'x>, AllocError> {
+    let mut pairs = Vec::new(alloc);
+    for followed in living {
+        if followed.source.is_some() {
+            pairs.push((followed.first, followed.now))?;
+        }
+    }
+    Changes::new(alloc, keys, pairs)
+}
+
+/// A proof that can't be written.
+pub(crate) fn unwritten(alloc: Global, label: &[u8]) -> Result<Refusal, AllocError> {
+    let label = shown(label);
+    let why = format!(in alloc; "the proof of {label} can't be written")?;
+    Ok(Refusal::Text(File::History, why))
+}
+
+/// The text of the proof of an assertion that stands in the source, if it has another one now.
+fn other_proof<'x, D: Declared<'x>>(
+    alloc: Global,
+    keys: RandomState,
+    declared: &D,
+    names: &Names<'x>,
+    changes: &Changes<'x>,
+    source: &'x [u8],
+    old: &Assertion,
+    new: &Assertion,
+) -> Result<Option<Vec<u8>>, Refusal> {
+    if is_proof(changes, old.proof.as_slice(), new.proof.as_slice()) {
+        return Ok(None);
+    }
+    let Some(place) = declared.place_of(source) else {
+        return Err(unwritten(alloc, source)?);
+    };
+    match proof_text(alloc, keys, declared, names, place, new.proof.as_slice())? {
+        Some(text) => Ok(Some(text)),
+        None => Err(unwritten(alloc, source)?),
+    }
+}
+
+/// The theorems that have another proof, by their labels in the source, with the texts of these proofs.
+pub(crate) fn other_proofs<'x, D: Declared<'x>>(
+    alloc: Global,
+    keys: RandomState,
+    declared: &D,
+    edited: &ByLabel<'x>,
+    names: &Names<'x>,
+    planned: &Planned<'x>,
+) -> Result<Vec<(&'x [u8], Vec<u8>)>, Refusal> {
+    let opened = opened_by_label(alloc, keys, planned.database.assertions())?;
+    let changes = changes_in_library(alloc, keys, planned.living)?;
+    let mut proofs = Vec::new(alloc);
+    for followed in planned.living {
+        let (Some(source), Some(old), Some(new)) = (
+            followed.source,
+            opened.get(&followed.first),
+            edited.get(&followed.now),
+        ) else {
+            continue;
+        };
+        if let Some(text) = other_proof(alloc, keys, declared, names, &changes, source, old, new)? {
+            proofs.push((source, text))?;
+        }
+    }
+    Ok(proofs)
+}
+
+/// The labels in the source then of those that are axioms in the edited library.
+///
+/// # Errors
+///
+/// Want of memory.
+pub fn axioms_then<'x>(
+    alloc: Global,
+    keys: RandomState,
+    edited: &'x PlainLibrary,
+    living: &[Followed<'x>],
+) -> Result<Vec<&'x [u8]>, AllocError> {
+    let edited = edited_by_label(alloc, keys, edited.entries())?;
+    let mut axioms = Vec::new(alloc);
+    for followed in living {
+        if let Some(assertion) = edited.get(&followed.now) {
+            if assertion.kind == Kind::Axiom {
+                axioms.push(followed.label_then())?;
+            }
+        }
+    }
+    Ok(axioms)
+}

@@ -1,0 +1,287 @@
+//! A source with the edits of a history that adds, moves or deletes: assertions are cut out, labels and proofs change, and assertions are
+//! put in.
+
+ghost use Rattle.std.specs.Prelude.{IfOk};
+ghost use Rattle.rewriting.specs.Spans.{IsCut, IsPutIn, IsPatched};
+ghost use Rattle.sourceediting.specs.Written.{IsRearranged};
+
+use crate::citing::marked;
+use crate::filling::{Piece, Texts, fills_of};
+use crate::moving::{Moving, moving_of};
+use crate::planning::{ByLabel, Planned, unwritten};
+use crate::refusal::{File, Refusal, shown};
+use giving::Changes;
+use outlining::{Outline, Standing, Stretch, cuts_of, outline_of};
+use rewriting::{cut_out, put_in, rewrite};
+use source::{Declared, ProofWords};
+use sourcewriting::{Names, Statement, SymbolWords, assertion_text, symbol_words};
+use std::alloc::{AllocError, Global};
+use std::collections::HashMap;
+use std::hash::RandomState;
+
+/// What is known of the edits of a source.
+#[derive(Clone, Copy)]
+pub(crate) struct Rearranged<'x> {
+    /// The library, and the edits over it.
+    pub planned: Planned<'x>,
+    /// The assertions of the edited library, by their labels.
+    pub edited: &'x ByLabel<'x>,
+    /// What the steps of proofs name.
+    pub names: &'x Names<'x>,
+    /// The labels of the source that change.
+    pub changes: &'x Changes<'x>,
+    /// The proofs that change.
+    pub proofs: &'x Changes<'x>,
+}
+
+/// An assertion that can't be given back, and why.
+fn refused(alloc: Global, label: &[u8], why: &str) -> Result<Refusal, AllocError> {
+    let label = shown(label);
+    Ok(Refusal::Text(File::History, format!(in alloc; "{label} {why}")?))
+}
+
+/// The places in an outline of those that leave their places, in order.
+fn leaving_of(
+    alloc: Global,
+    outline: &Outline<'_>,
+    gone: &Changes<'_>,
+    moving: &Changes<'_>,
+) -> Result<Vec<usize>, AllocError> {
+    let mut leaving = Vec::new(alloc);
+    for (k, standing) in outline.assertions.as_slice().iter().enumerate() {
+        if gone.text_for(standing.label).is_some() || moving.text_for(standing.label).is_some() {
+            leaving.push(k)?;
+        }
+    }
+    Ok(leaving)
+}
+
+/// The text of an assertion that stands alone, with its comment or its block, and with the changes.
+fn moved_text(
+    alloc: Global,
+    source: &[u8],
+    stretch: Stretch,
+    label: &[u8],
+    edits: &Rearranged<'_>,
+) -> Result<Vec<u8>, Refusal> {
+    let Some(text) = source.get(stretch.begin..stretch.end) else {
+        return Err(refused(alloc, label, "can't be moved")?);
+    };
+    Ok(rewrite(alloc, edits.changes, edits.proofs, text)?)
+}
+
+/// Whether the proof of an assertion of a source is compressed.
+fn is_compressed<'a, D: Declared<'a>>(declared: &D, label: &[u8]) -> bool {
+    let Some(place) = declared.place_of(label) else {
+        return false;
+    };
+    matches!(declared.proof(place), Some(ProofWords::Compressed(..)))
+}
+
+/// The text of an assertion that leaves a block in which others stand: with its comment, and its `$e` with labels of their own.
+fn parted_text<'x, 'a, D: Declared<'a>>(
+    alloc: Global,
+    keys: RandomState,
+    declared: &D,
+    source: &[u8],
+    standing: &Standing<'_>,
+    now: &'x [u8],
+    words: &SymbolWords<'x>,
+    edits: &Rearranged<'x>,
+) -> Result<Vec<u8>, Refusal> {
+    let Some(assertion) = edits.edited.get(&now) else {
+        return Err(unwritten(alloc, now)?);
+    };
+    let comment = Stretch {
+        begin: standing.stretch.begin,
+        end: standing.comment_end,
+    };
+    let comment = moved_text(alloc, source, comment, standing.label, edits)?;
+    let statement = Statement {
+        assertion,
+        label: edits
+            .changes
+            .text_for(standing.label)
+            .unwrap_or(standing.label),
+        comment: comment.as_slice(),
+        is_compressed: is_compressed(declared, standing.label),
+    };
+    let prelude = edits.planned.edited.prelude();
+    match assertion_text(
+        alloc,
+        keys,
+        declared,
+        prelude,
+        edits.names,
+        words,
+        &statement,
+    )? {
+        Some(text) => Ok(text),
+        None => Err(unwritten(alloc, now)?),
+    }
+}
+
+/// The texts of those that stand elsewhere then.
+fn put_moved<'x, 'a, D: Declared<'a>>(
+    alloc: Global,
+    keys: RandomState,
+    declared: &D,
+    source: &[u8],
+    outline: &Outline<'_>,
+    moving: &Moving<'x>,
+    words: &SymbolWords<'x>,
+    edits: &Rearranged<'x>,
+    texts: &mut Texts<'x>,
+) -> Result<(), Refusal> {
+    for standing in outline.assertions.as_slice() {
+        if let Some(now) = moving.labels.text_for(standing.label) {
+            let text = if outline.is_alone(standing) {
+                moved_text(
+                    alloc,
+                    source,
+                    outline.whole(standing),
+                    standing.label,
+                    edits,
+                )?
+            } else {
+                parted_text(alloc, keys, declared, source, standing, now, words, edits)?
+            };
+            let is_in_front = moving.in_front.text_for(standing.label).is_some();
+            texts.insert(now, Piece { text, is_in_front })?;
+        }
+    }
+    Ok(())
+}
+
+/// Whether a source has compressed proofs.
+fn has_compressed<'a, D: Declared<'a>>(declared: &D) -> bool {
+    for place in 0..declared.assertions() {
+        if let Some(ProofWords::Compressed(..)) = declared.proof(place) {
+            return true;
+        }
+    }
+    false
+}
+
+/// The texts of those that were added.
+fn put_added<'x, 'a, D: Declared<'a>>(
+    alloc: Global,
+    keys: RandomState,
+    declared: &D,
+    words: &SymbolWords<'x>,
+    edits: &Rearranged<'x>,
+    texts: &mut Texts<'x>,
+) -> Result<(), Refusal> {
+    let is_compressed = has_compressed(declared);
+    let prelude = edits.planned.edited.prelude();
+    for followed in edits.planned.living {
+        let (None, Some(assertion)) = (followed.source, edits.edited.get(&followed.now)) else {
+            continue;
+        };
+        let statement = Statement {
+            assertion,
+            label: followed.now,
+            comment: b"",
+            is_compressed,
+        };
+        match assertion_text(
+            alloc,
+            keys,
+            declared,
+            prelude,
+            edits.names,
+            words,
+            &statement,
+        )? {
+            Some(text) => {
+                let is_in_front = false;
+                texts.insert(followed.now, Piece { text, is_in_front })?;
+            }
+            None => return Err(unwritten(alloc, followed.now)?),
+        }
+    }
+    Ok(())
+}
+
+/// The texts of those that are put in: those that stand elsewhere then, and those that were added.
+fn texts_of<'x, 'a, D: Declared<'a>>(
+    alloc: Global,
+    keys: RandomState,
+    declared: &D,
+    source: &[u8],
+    outline: &Outline<'_>,
+    moving: &Moving<'x>,
+    edits: &Rearranged<'x>,
+) -> Result<Texts<'x>, Refusal> {
+    let mut texts = HashMap::with_hasher(alloc, keys);
+    let prelude = edits.planned.database.prelude();
+    let words = symbol_words(alloc, keys, prelude, edits.planned.names)?;
+    put_moved(
+        alloc, keys, declared, source, outline, moving, &words, edits, &mut texts,
+    )?;
+    put_added(alloc, keys, declared, &words, edits, &mut texts)?;
+    Ok(texts)
+}
+
+/// Stretches that can't be cut out of a text, or put into it.
+fn unfit(alloc: Global) -> Result<Refusal, AllocError> {
+    Ok(Refusal::Text(
+        File::History,
+        format!(in alloc; "the edits can't be written")?,
+    ))
+}
+
+/// The source without those that leave their places.
+fn without(
+    alloc: Global,
+    source: &[u8],
+    outline: &Outline<'_>,
+    gone: &Changes<'_>,
+    moving: &Changes<'_>,
+) -> Result<Vec<u8>, Refusal>
+    ensures { IfOk result (λ kept. IsPatched IsCut source.now kept.items) }
+{
+    let leaving = leaving_of(alloc, outline, gone, moving)?;
+    let cuts = cuts_of(alloc, outline, leaving.as_slice())?;
+    match cut_out(alloc, source, cuts.as_slice())? {
+        Some(kept) => Ok(kept),
+        None => Err(unfit(alloc)?),
+    }
+}
+
+/// The text with the texts of those that are put in.
+fn filled(
+    alloc: Global,
+    keys: RandomState,
+    text: &[u8],
+    planned: &Planned<'_>,
+    texts: &Texts<'_>,
+) -> Result<Vec<u8>, Refusal>
+    ensures { IfOk result (λ out. IsPatched IsPutIn text.now out.items) }
+{
+    let entries = planned.edited.entries();
+    let fills = fills_of(alloc, keys, text, planned.living, entries, texts)?;
+    match put_in(alloc, text, fills.as_slice())? {
+        Some(out) => Ok(out),
+        None => Err(unfit(alloc)?),
+    }
+}
+
+/// The source with the edits of a history that adds, moves or deletes.
+pub(crate) fn rearrange<'x, 'a, D: Declared<'a>>(
+    alloc: Global,
+    keys: RandomState,
+    declared: &D,
+    source: &'x [u8],
+    edits: &Rearranged<'x>,
+) -> Result<Vec<u8>, Refusal>
+    ensures { IfOk result (λ out. IsRearranged edits.now.changes.now source.now out.items) }
+{
+    let outline = outline_of(alloc, source)?;
+    let moving = moving_of(alloc, keys, declared, &outline, edits)?;
+    let gone = marked(alloc, keys, edits.planned.gone)?;
+    let texts = texts_of(alloc, keys, declared, source, &outline, &moving, edits)?;
+    let kept = without(alloc, source, &outline, &gone, &moving.labels)?;
+    let changed = rewrite(alloc, edits.changes, edits.proofs, kept.as_slice())?;
+    filled(alloc, keys, changed.as_slice(), &edits.planned, &texts)
+}

@@ -1,0 +1,62 @@
+//! A source is written anew with the edits of a history.
+
+ghost use Rattle.std.specs.Prelude.{IfOk};
+ghost use Rattle.sourceediting.specs.Following.{all_commands};
+ghost use Rattle.sourceediting.specs.Written.{IsWrittenAnew};
+
+use crate::commands::keep_places;
+use crate::planning::{Planned, edited_by_label, names_of, other_proofs};
+use crate::rearranging::{Rearranged, rearrange};
+use crate::refusal::Refusal;
+use giving::Changes;
+use library::Entry;
+use rewriting::rewrite;
+use source::Declared;
+use std::alloc::{AllocError, Global};
+use std::hash::RandomState;
+
+/// The texts of proofs, by the labels of their theorems.
+fn by_label<'x>(
+    alloc: Global,
+    keys: RandomState,
+    proofs: &'x [(&'x [u8], Vec<u8>)],
+) -> Result<Changes<'x>, AllocError> {
+    let mut pairs = Vec::new(alloc);
+    for (label, text) in proofs {
+        pairs.push((*label, text.as_slice()))?;
+    }
+    Changes::new(alloc, keys, pairs)
+}
+
+/// The source with the edits of a history, in which these labels change.
+///
+/// # Errors
+///
+/// A proof or a place that can't be written, with the label; want of memory.
+pub fn write_edits<'e, D: Declared<'e>>(
+    alloc: Global,
+    keys: RandomState,
+    declared: &D,
+    source: &'e [u8],
+    planned: &Planned<'e>,
+    entries: &[Entry],
+    changes: &'e Changes<'e>,
+) -> Result<Vec<u8>, Refusal>
+    ensures { IfOk result (λ out. IsWrittenAnew (all_commands entries.now) changes.now source.now out.items) }
+{
+    let edited = edited_by_label(alloc, keys, planned.edited.entries())?;
+    let names = names_of(alloc, keys, declared, &edited, planned)?;
+    let proofs = other_proofs(alloc, keys, declared, &edited, &names, planned)?;
+    let proofs = by_label(alloc, keys, proofs.as_slice())?;
+    if keep_places(entries) {
+        return Ok(rewrite(alloc, changes, &proofs, source)?);
+    }
+    let edits = Rearranged {
+        planned: *planned,
+        edited: &edited,
+        names: &names,
+        changes,
+        proofs: &proofs,
+    };
+    rearrange(alloc, keys, declared, source, &edits)
+}
