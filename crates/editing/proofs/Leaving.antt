@@ -25,7 +25,7 @@ use Rattle.finishing.specs.Finishes.{IsFinished, Finishes}
 use Rattle.editing.specs.Edits.{IsEdited, IsLack, ToldIn, from_work, from_finish}
 use Rattle.editing.proofs.DoneNumbers.{done_are, few_drawn}
 use Rattle.editing.proofs.Shares.{of_each}
-use Rattle.editing.proofs.Told.{as_many_shares, shares_told, share_told, still_of}
+use Rattle.editing.proofs.Told.{as_many_shares, shares_told, share_told, shares_end, still_of}
 
 -- sessions that are handed back have the names that they had
 names_kept : (before after : List Member) → AllZip IsHandedBack before after
@@ -51,6 +51,9 @@ module _ (home : Home) (before : List Member) (new : All (IsNew home) before) wh
   none_seen : All (λ (m : Member). m.known.seen.history ≡ []) before
   none_seen =
       All-weaker (IsNew home) (λ (m : Member). m.known.seen.history ≡ []) (λ m n. ap (λ (k : Pass). k.seen.history) n.known) before new
+
+  none_called : All (λ (m : Member). m.known.mine ≡ []) before
+  none_called = All-weaker (IsNew home) (λ (m : Member). m.known.mine ≡ []) (λ m n. ap (λ (k : Pass). k.mine) n.known) before new
 
   module _ (scripts : List (List (List Command))) (rows : List (List Outcome)) (after : List Member)
       (works : Works home.given before scripts rows after) (many : length before ≡ home.sessions) where
@@ -81,6 +84,12 @@ module _ (home : Home) (before : List Member) (new : All (IsNew home) before) wh
       fit = finished.fit;
       setting = finished.setting;
       after = finished.after;
+      ended = record {
+        sessions = after;
+        tell = shares_end home.given scripts rows before after works.shares none_called works.run;
+        words = finished.words;
+        its = finished.its;
+      };
     }
 
     all : length (passes_of after) ≡ home.sessions

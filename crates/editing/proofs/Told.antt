@@ -1,19 +1,21 @@
 -- The outcomes of scripts as the library's whole history has them; and why there may be no such history.
-use Rattle.std.proofs.Common.{◌≡◌, ◌≤◌, ℕ, List, [], ◌∷◌, length, inl, inr, refl, sym, ap, subst, ◌∙◌, arith}
+use Rattle.std.proofs.Common.{◌≡◌, ◌≤◌, ℕ, List, [], ◌∷◌, ◌++◌, length, length-append, inl, inr, refl, sym, ap, subst, ◌∙◌, arith}
 use Rattle.std.specs.Prelude.{All}
 use Rattle.std.specs.List.{AllZip}
 use Rattle.std.proofs.lemmas.List.Elements.{All-nil, All-cons, All-head, All-tail, All-weaker}
 use Rattle.library.specs.declared.command.Command.{Command}
 use Rattle.library.specs.Histories.{Entry}
 use Rattle.ranges.specs.Ranges.{Has}
+use Rattle.tlwords.specs.Seen.{Call}
 use Rattle.lawful.specs.declared.notes.Given.{Given}
+use Rattle.lawful.specs.declared.notes.Note.{Note}
 use Rattle.lawful.specs.Lawful.{setting_of, first_library}
 use Rattle.lawful.specs.History.{AllAgree}
 use Rattle.transaction.specs.declared.outcome.Outcome.{Outcome}
 use Rattle.transaction.specs.declared.outcome.Outcome.TheVariants as outcome
 use Rattle.transaction.specs.Members.{Home, Member, IsOf}
 use Rattle.workers.specs.Works.{ScriptAgrees, AreSharesOf, IsHandedBack, ToldBy, all_of}
-use Rattle.editing.specs.Edits.{IsShareIn, ToldIn}
+use Rattle.editing.specs.Edits.{IsShareIn, ToldIn, TellsOf}
 
 -- as many sessions as shares
 pub as_many_shares : (g : Given) (scripts : List (List (List Command))) (rows : List (List Outcome)) (before after : List Member)
@@ -54,6 +56,24 @@ module _ (g : Given) (h : List Entry) (scripts : List (List (List Command))) (ro
       (All-weaker (ToldBy n) (ToldIn h) (told_in n (few n (inl refl))) (all_of rows x) run.0.run.told)
   share_told (m ∷ ms) (n ∷ ns) (x ∷ xs) few run share (inr has) = share_told ms ns xs (λ z in_it. few z (inr in_it)) run.1 share has
   share_told _ _ _ few run share has = absurd run
+
+-- what each session that had no calls tells of its share at the end
+pub shares_end : (g : Given) (scripts : List (List (List Command))) (rows : List (List Outcome)) (before after : List Member)
+    (shares : List (List ℕ)) → All (λ (m : Member). m.known.mine ≡ []) before → AreSharesOf g scripts rows before after shares → AllZip (TellsOf rows) shares after
+shares_end g scripts rows [] [] [] none run = tt
+shares_end g scripts rows (m ∷ ms) (n ∷ ns) (x ∷ xs) none run =
+    let uncalled = λ (m : Member). m.known.mine ≡ [] in
+    let ran = run.0.run.ran in
+    let size = length-append ran.places m.known.clocks in
+    let loaded = ap length ran.loaded in
+    let many = ran.many in
+    let own : TellsOf rows x n = record {
+      told = run.0.run.told;
+      ran = omega (arith, size, loaded, many);
+      answers = ap length (ran.made ∙ ap (λ (cs : List (Call Note)). cs ++ ran.calls) (All-head uncalled m ms none)) ∙ ran.answers;
+    } in
+    (own, shares_end g scripts rows ms ns xs (All-tail uncalled m ms none) run.1)
+shares_end g scripts rows _ _ _ none run = absurd run
 
 -- the sessions that are handed back are of the library
 pub still_of : (home : Home) (before after : List Member) → All (IsOf home) before → AllZip IsHandedBack before after → All (IsOf home) after

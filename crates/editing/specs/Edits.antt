@@ -1,5 +1,5 @@
 -- What becomes of scripts that all the sessions of a library run to its end, told by the library's whole history.
-use Rattle.std.specs.Prelude.{◌≡◌, ◌≤◌, ◌^◌, ℕ, suc, eqb, List, All, IsPermutation, filter, flat_map, length, map}
+use Rattle.std.specs.Prelude.{◌≡◌, ◌≤◌, ◌^◌, ℕ, suc, eqb, List, All, IsPermutation, count_by, filter, flat_map, length, map}
 use Rattle.std.specs.List.{AllZip, IsDistinct}
 use Rattle.std.specs.List.Sorted.{IsStrictlyIncreasing}
 use Rattle.library.specs.declared.command.Command.{Command}
@@ -14,7 +14,9 @@ use Rattle.transaction.specs.declared.outcome.Outcome.TheVariants as outcome
 use Rattle.transaction.specs.Members.{Home, Member}
 use Rattle.workers.specs.declared.error.WorkError.{WorkError}
 use Rattle.workers.specs.declared.error.WorkError.TheVariants as work
-use Rattle.workers.specs.Works.{ScriptAgrees, HasOutcomes, all_of, is_done, numbers_of}
+use Rattle.workers.specs.Works.{ScriptAgrees, HasOutcomes, ToldBy, all_of, is_answer, is_done, is_of_run, numbers_of}
+use Rattle.tlwords.specs.declared.closing.ClosedWords.{ClosedWords}
+use Rattle.finishing.specs.Finishes.{AreItsWords}
 use Rattle.finishing.specs.declared.error.FinishError.{FinishError}
 use Rattle.finishing.specs.declared.error.FinishError.TheVariants as finish
 use Rattle.editing.specs.declared.error.EditError.{EditError}
@@ -49,8 +51,23 @@ pub record AreToldBy (s : Setting) (lib0 : List Ranked) (h : List Entry) (worker
   pub told : All (All (ToldIn h)) rows
   pub numbers : IsPermutation (flat_map numbers_of rows) (done_numbers h)
 
--- the scripts were run: the history tells of these outcomes, and is legal from the library at the opening, with commands within the limits; and
--- the library is the one after all of it
+-- the session at its end tells why it gave up what it gave up of the scripts with these indexes; it made a run for each of their outcomes, but
+-- where nothing was looked at; and each of its calls is told as an answer
+pub record TellsOf (rows : List (List Outcome)) (share : List ℕ) (m : Member) : Type 0 where
+  pub told : All (ToldBy m) (all_of rows share)
+  pub ran : count_by is_of_run (all_of rows share) ≤ length m.known.clocks
+  pub answers : length m.known.mine ≡ count_by is_answer (all_of rows share)
+
+-- these are the sessions of the library at its end, one for each share, each of which tells of its own; and the words at the end, in which
+-- they ended. So a full store is told only where a staging of that session was refused, and the tail of the words is behind it
+pub record AreEnded (home : Home) (rows : List (List Outcome)) (shares : List (List ℕ)) : Type 0 where
+  pub sessions : List Member
+  pub tell : AllZip (TellsOf rows) shares sessions
+  pub words : ClosedWords
+  pub its : AreItsWords home sessions words
+
+-- the scripts were run: the history tells of these outcomes, and is legal from the library at the opening, with commands within the limits;
+-- the library is the one after all of it; and the sessions that ran them tell why they gave up what they gave up
 pub record IsEdited (home : Home) (scripts : List (List (List Command))) (rows : List (List Outcome)) (history : List CodeEntry) (library : Listed) :
     Type 0 where
   pub told_by : AreToldBy (setting_of home.given) (first_library home.given) (map told history) home.sessions scripts rows
@@ -58,6 +75,7 @@ pub record IsEdited (home : Home) (scripts : List (List (List Command))) (rows :
   pub fit : EntriesFit (setting_of home.given).prelude (map told history)
   pub setting : library.setting ≡ setting_of home.given
   pub after : ShowsInOrder (after_all (setting_of home.given) (first_library home.given) (map told history)) library.entries
+  pub ended : AreEnded home rows told_by.shares
 
 -- why there is no history. A thread is asked for only where there are two sessions or more; no number is missing where each session has a name of
 -- its own, and no lock is held where all workers have ended

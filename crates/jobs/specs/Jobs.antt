@@ -9,7 +9,8 @@ use Rattle.library.specs.declared.history.Entry.{Entry}
 use Rattle.library.specs.Histories.{told, after, after_all, EntriesFit, IsLegal}
 use Rattle.plaincells.specs.Measures.{bodies_length}
 use Rattle.transaction.specs.declared.outcome.Outcome.{Outcome}
-use Rattle.editing.specs.Edits.{AreToldBy}
+use Rattle.transaction.specs.Members.{Home}
+use Rattle.editing.specs.Edits.{AreToldBy, AreEnded}
 use Rattle.historytext.specs.Grammar.{SpellsHistory}
 use Rattle.historytext.specs.Layout.{history_text}
 use Rattle.export.specs.Exported.{Accepts, exported_text}
@@ -26,8 +27,10 @@ use Rattle.reports.specs.Reports.{report_text}
 
 -- ---- what is printed
 
--- the scripts were run by so many workers over the library of a database, whose bodies the store has room for: these are their outcomes in this history, which is
--- legal from the opening library and within the limits; and the library is the one after it
+-- the scripts were run by so many workers over the library of a database, whose bodies the store has room for: these are their outcomes in
+-- this history, which is legal from the opening library and within the limits; the library is the one after it; and the sessions of the
+-- workers tell why they gave up what they gave up. So a full store is told only where a staging of the session that ran the script was
+-- refused in the store of this room
 pub record IsWorked (contents : Contents) (workers room : ℕ) (scripts : List Orders) (rows : List (List Outcome)) (history : List Entry)
     (library : Listed) : Type 0 where
   pub fits : bodies_length contents.assertions ≤ room
@@ -36,6 +39,11 @@ pub record IsWorked (contents : Contents) (workers room : ℕ) (scripts : List O
   pub within : EntriesFit contents.prelude (map told history)
   pub setting : library.setting ≡ setting_of contents
   pub follows : ShowsInOrder (after_all (setting_of contents) (opening contents) (map told history)) library.entries
+  pub home : Home
+  pub of_database : home.given.database.value ≡ contents
+  pub of_room : home.words.room ≡ room
+  pub of_workers : home.sessions ≡ workers
+  pub ended : AreEnded home rows told_by.shares
 
 -- the report of what became of all transactions, and the library after them, whose text is accepted; and, where it is asked for, the text of the
 -- history, which spells it. After each front of it, too, the library verifies
