@@ -1,5 +1,5 @@
 -- Which slot has a label in a state that shows a library.
-use Rattle.std.proofs.Common.{◌≡◌, ◌≢◌, ℕ, ◌<◌, ◌≤◌, List, [], ◌∷◌, Some, None, length, map, get_or, sym, ap, subst, ◌∙◌, ◌⊎◌, inl, inr, arith, nat_eq, true, false, refl}
+use Rattle.std.proofs.Common.{◌≡◌, ◌≢◌, ℕ, ◌<◌, ◌≤◌, List, [], Some, None, length, map, get_or, sym, ap, subst, ◌∙◌, ◌⊎◌, inl, inr, arith, true, false}
 use Rattle.std.specs.Prelude.{◌==◌}
 use Rattle.std.specs.List.{All, Contains}
 use Rattle.std.specs.Str.{bytes_eq}
@@ -19,8 +19,6 @@ use Rattle.cells.specs.Slots.{bucket, name_cell}
 use Rattle.cells.specs.Shows.{Held, IsNamed, Holds, IsEmpty, Shows, slots_of, entries_of, of_bucket}
 use Rattle.cells.specs.Sight.{Sight, Matches, after}
 use Rattle.cells.specs.Lookups.{IsFoundAt, IfFull, AreWordsOf}
-use Rattle.std.proofs.lemmas.Bool.Decides.{Decides-eqb}
-use mathlib.Core.Bool.{not}
 use Rattle.cells.proofs.Bodies.{one_body, no_body}
 use Rattle.cells.proofs.Linking.{chain_few}
 use Rattle.ranges.proofs.Members.{has_from_contains, contains_from_has, mapped_has, all_below}

@@ -10,7 +10,7 @@ use Rattle.library.specs.Library.{Setting}
 use Rattle.library.specs.Edits.{Tests, Edited, tested, where_so, has, clashes, without, bad_label, label_taken, label_clashes}
 use Rattle.library.proofs.Clashing.{without-absent}
 use Rattle.cells.specs.Sight.{Sight, Looks}
-use Rattle.cells.specs.Lookups.{ForEach, TellsStanding}
+use Rattle.cells.specs.Lookups.{TellsStanding}
 use Rattle.cells.specs.declared.labels.Standing.TheVariants.{Free, Taken, Clashing}
 use Rattle.newlabels.specs.Naming.{PassesAsNew, FailsAsNew, label_tests}
 use Rattle.groundwork.proofs.Refusing.{first_refuses, first_passes}

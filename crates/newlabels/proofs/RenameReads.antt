@@ -4,12 +4,10 @@ use Rattle.library.specs.declared.command.Command.TheVariants.{Rename}
 use Rattle.library.specs.Library.{Setting}
 use Rattle.cells.specs.State.{State}
 use Rattle.cells.specs.Slots.{name_cell}
-use Rattle.cells.specs.Sight.{Sight, Onward, Looks, ReadsWithin, after}
+use Rattle.cells.specs.Sight.{Sight, Onward, ReadsWithin, after}
 use Rattle.cells.specs.Aside.{IsOfFront}
-use Rattle.cells.specs.Footprints.{ReadsWhere, IsOfLook, IsOfClash, IsOfTakingOut}
-use Rattle.cells.proofs.Along.{where_trans}
+use Rattle.cells.specs.Footprints.{ReadsWhere, IsOfTakingOut}
 use Rattle.cells.proofs.Asking.{asks_wider}
-use Rattle.groundwork.specs.Footprints.{IsOfNewLabel}
 use Rattle.groundwork.proofs.Since.{ReadsSince, OfCommandFound, since_then, taking_out, look_before}
 
 -- ---- the slot gets the label

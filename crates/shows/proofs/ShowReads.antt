@@ -1,5 +1,5 @@
 -- Which cells `show` and `list` read, from what their parts read.
-use Rattle.std.proofs.Common.{◌≡◌, ◌<◌, ◌⊎◌, ℕ, List, Some, true, inl, inr, ⊎_elim, arith}
+use Rattle.std.proofs.Common.{◌≡◌, ◌<◌, ◌⊎◌, ℕ, List, Some, true, inl, inr, arith}
 use Rattle.mmsyntax.specs.declared.statement.Step.{Step}
 use Rattle.library.specs.declared.library.Ranked.{Ranked}
 use Rattle.library.specs.declared.command.Command.TheVariants.{Show}

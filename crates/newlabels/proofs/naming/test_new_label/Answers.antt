@@ -1,6 +1,5 @@
 use Rattle.std.proofs.Common.{sym, subst, ◌∙◌}
 use Rattle.cells.specs.Lookups.{TellsStanding}
-use Rattle.cells.specs.declared.labels.Standing.TheVariants.{Free, Taken, Clashing}
 use Rattle.cells.proofs.Mapped.{ok_mapped}
 use Rattle.newlabels.specs.Naming.{TellsNotNew}
 use Rattle.newlabels.proofs.NewLabels.{lawful_later, taken_refuses, clash_refuses, new_passes}

@@ -1,7 +1,6 @@
 use Rattle.std.proofs.Common.{◌≡◌, refl, inl, inr}
 use Rattle.library.specs.Library.{label_of}
 use Rattle.library.specs.Edits.{citers}
-use Rattle.cells.specs.Lookups.{ForEachHeld}
 use Rattle.cells.specs.Sight.{ReadsWithin}
 use Rattle.cells.proofs.ReadBack.{held_later}
 use Rattle.cells.proofs.Sights.{looks_trans}
