@@ -23,7 +23,9 @@ use library::{Entry, History, PlainLibrary};
 use scopes::Scopes;
 use source::Declared;
 use source::laws::sources_are_whole;
-use sourceediting::{File, Following, Planned, Refusal, are_uncited, axioms_then, opening_of, shown, write_edits};
+use sourceediting::{
+    File, Following, Planned, Refusal, are_uncited, axioms_then, opening_of, shown, write_edits,
+};
 use sourcereader::read_source;
 use std::alloc::{AllocError, Global};
 use std::hash::RandomState;

@@ -40,7 +40,10 @@ fn would_stand_behind<'c>(
     by: Option<&'c [u8]>,
 ) -> Result<Refusal, AllocError> {
     let by = by.unwrap_or(b"?");
-    let (label, by) = (shown(label_then(changes, label)), shown(label_then(changes, by)));
+    let (label, by) = (
+        shown(label_then(changes, label)),
+        shown(label_then(changes, by)),
+    );
     let why = format!(in alloc; "{label} would stand behind {by}, which cites it")?;
     Ok(Refusal::Text(File::History, why))
 }

@@ -313,7 +313,15 @@ pub(crate) fn moving_of<'x, 'a, D: Declared<'a>>(
     let walk = walk_over(alloc, keys, outline, &places, edits)?;
     let blocks = are_parted(alloc, outline, walk.parted.as_slice())?;
     let blocks = blocks.as_slice();
-    let cited = cited_in(alloc, keys, declared, outline, &places, blocks, edits.planned.own)?;
+    let cited = cited_in(
+        alloc,
+        keys,
+        declared,
+        outline,
+        &places,
+        blocks,
+        edits.planned.own,
+    )?;
     let Walk {
         moved: mut pairs,
         parted,
