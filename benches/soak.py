@@ -1,7 +1,7 @@
 #!/usr/bin/env python3
 """Runs random scripts by many workers, again and again, and judges each run by what it prints.
 
-    soak.py DB.. [--program CMD] [--workers 1 2 8 64] [--runs 40] [--scripts 64] [--transactions 6] [--seed 1] [--out DIR]
+    soak.py DB.. [--program CMD] [--workbench CMD] [--workers 1 2 8 64] [--runs 40] [--scripts 64] [--transactions 6] [--seed 1] [--out DIR]
 
 For each DB and each number of workers it makes, with one seed a run, so many scripts of random transactions of all commands but `replace` over the
 same labels, so that workers meet, and runs them with a history. A run is as it should be where
@@ -13,6 +13,11 @@ same labels, so that workers meet, and runs them with a history. A run is as it 
 
 It stops at the first run that is not, whose files stay in DIR, and says at the end how many transactions committed, were refused, read, and
 met a conflict after they had drawn a number.
+
+With `--workbench`, the built crate of that name, it runs scripts of `show`, `move`, `reprove` and `rename` by it instead, each by a session of its own, and
+looks at each conflict that a try met: its cell is to be one that the transaction may read, and that a transaction of another script may
+write (`footprints.py`); and where the cell was free, the transaction whose number its word shows is to be one of these. It says how many
+conflicts there were, and stops at the first that is between transactions whose footprints are apart.
 """
 
 import argparse
@@ -23,6 +28,7 @@ import shlex
 import subprocess
 import sys
 
+import footprints
 from mixed import Script, run
 
 HERE = pathlib.Path(__file__).resolve().parent
@@ -88,10 +94,30 @@ def judge(program, db, scripts, counts, workers, out):
     return ended
 
 
+def meet(program, db, text, options):
+    """Runs scripts by sessions of their own, again and again, and looks at each conflict."""
+    seen = collections.Counter()
+    for turn in range(options.runs):
+        library = footprints.Library(text)
+        scripts = library.scripts(f"{options.seed}.{turn}", options.scripts, options.transactions)
+        paths = [options.out / f"{script}.edits" for script in range(1, len(scripts) + 1)]
+        for path, script in zip(paths, scripts):
+            path.write_text(footprints.text_of(script))
+        printed = run(program, "meets", db, *paths)[1]
+        counts, wrong = footprints.conflicts(library, scripts, printed)
+        if wrong:
+            (options.out / "met").write_text(printed)
+            raise SystemExit(f"{db.name}: {wrong[0]}; see {options.out}")
+        seen += counts
+    told = ", ".join(f"{count} {where}" for where, count in sorted(seen.items())) or "none"
+    print(f"{db.name}, {options.scripts} scripts, {options.runs} runs: conflicts {told}; none between footprints that are apart", flush=True)
+
+
 def main():
     parser = argparse.ArgumentParser(description=__doc__, formatter_class=argparse.RawDescriptionHelpFormatter)
     parser.add_argument("db", type=pathlib.Path, nargs="+")
     parser.add_argument("--program", default=str(HERE.parent / "crates/mmrefactor/out/mmrefactor"))
+    parser.add_argument("--workbench")
     parser.add_argument("--workers", type=int, nargs="+", default=[1, 2, 8, 64])
     parser.add_argument("--runs", type=int, default=40)
     parser.add_argument("--scripts", type=int, default=64)
@@ -104,6 +130,9 @@ def main():
     empty.write_text("")
     for db in options.db:
         text = run(options.program, "run", db, empty)[1].removeprefix("library\n")
+        if options.workbench:
+            meet(options.workbench, db, text, options)
+            continue
         for workers in options.workers:
             ended = collections.Counter()
             for turn in range(options.runs):

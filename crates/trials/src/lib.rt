@@ -23,6 +23,7 @@ mod cell_work;
 mod check_work;
 mod files;
 mod measuring;
+mod meet_work;
 mod mutex_work;
 mod session_work;
 mod times;

@@ -1,11 +1,11 @@
-//! What is measured of this repository's crates, for the programs of `benches/`: `workbench cells|check|words|sessions|all WORD..`.
+//! What is measured of this repository's crates, for the programs of `benches/`: `workbench cells|check|words|sessions|meets|all WORD..`.
 //!
 //! `cells` measures libraries in cells, `check` reading and checking, `words` transactions over shared words, `sessions` scripts by
-//! many threads; the further words are told at each. `all DB SCRIPT SCRIPTS..` does a small run of each, and prints the same on the
-//! standard output each time: the first script is done over cells, the others by two sessions. The status is 1 where something fails,
-//! and 2 where the words aren't understood.
+//! many threads, and `meets` tells what scripts meet at once; the further words are told at each. `all DB SCRIPT SCRIPTS..` does a
+//! small run of each but the last, and prints the same on the standard output each time: the first script is done over cells, the others
+//! by two sessions. The status is 1 where something fails, and 2 where the words aren't understood.
 use crate::files::{read_db, read_scripts};
-use crate::{cell_work, check_work, mutex_work, session_work, word_work};
+use crate::{cell_work, check_work, meet_work, mutex_work, session_work, word_work};
 use std::alloc::AllocError;
 use std::hash::RandomState;
 use std::process::ExitCode;
@@ -41,7 +41,7 @@ impl Ending {
 const USAGE: &str =
     "usage: workbench check DB, or cells check|open|back DB, or cells editor|cells DB SCRIPT, \
 or words disjoint|uniform|hot|read CELLS TRANSACTIONS THREADS, or sessions sessions|mutex THREADS DB SCRIPT.., by 1 to 64 threads, \
-or all DB SCRIPT SCRIPTS..";
+or meets DB SCRIPT.., of 1 to 64 scripts, or all DB SCRIPT SCRIPTS..";
 
 /// What is said where something fails.
 const FAILURE: &str =
@@ -65,6 +65,7 @@ where
     match task {
         "sessions" => session_work::run(rt, keys, &db, scripts, threads),
         "mutex" => mutex_work::run(rt, keys, &db, scripts, threads),
+        "meets" => meet_work::run(rt, keys, &db, scripts),
         _ => cell_work::run(rt, keys, &db, scripts, task),
     }
 }
@@ -127,6 +128,10 @@ where
         },
         "words" => word_work::obey(rt, words),
         "sessions" => do_sessions(rt, keys, words),
+        "meets" => match words {
+            [db, scripts @ ..] => do_task(rt, keys, "meets", 1, db.as_str(), scripts),
+            _ => Some(Ending::Misused),
+        },
         "all" => do_all(rt, keys, words),
         _ => Some(Ending::Misused),
     }

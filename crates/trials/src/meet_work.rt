@@ -1,0 +1,138 @@
+//! `meets DB SCRIPT..`: 1 to 64 scripts over one library, each by a session on a thread of its own, for `benches/soak.py`.
+//!
+//! It prints, script after script, a line for each try of a transaction that met another session, and one for each transaction that
+//! committed: `S.T met CELL WORD PLACE`, as the conflict tells, and `S.T committed NUMBER`. Scripts and their transactions count from 1.
+
+ghost use Rattle.std.specs.Prelude.{All};
+ghost use Rattle.library.specs.Fitting.{CommandFits};
+ghost use Rattle.lawful.specs.Lawful.{setting_of};
+ghost use Rattle.transaction.specs.Members.{IsOf};
+
+use crate::files::{ROOM, SLOTS};
+use crate::measuring::Ending;
+use library::{Script, Transaction};
+use mmstatement::Database;
+use std::alloc::Global;
+use std::hash::RandomState;
+use std::io::Write;
+use std::sync::Wait;
+use std::sync::atomic::{AtomicUsize, Ordering};
+use std::thread::Threads;
+use std::{io, thread};
+use transaction::{Conflict, Library, Outcome, Session, Shape};
+
+/// Tries the transaction at this place until it meets no other session, and writes its lines. It may wait.
+fn settle<R: Wait>(
+    rt: &R,
+    alloc: Global,
+    library: &Library,
+    session: &mut Session,
+    commands: &Transaction,
+    place: (usize, usize),
+    out: &mut Vec<u8>,
+) -> io::Result<()>
+    requires own { IsOf library.now session.old }
+    requires fit { All (CommandFits (setting_of library.now.given).prelude) commands.now }
+    ensures { IsOf library.now session.new }
+{
+    let (s, t) = place;
+    for _ in rt.forever() {
+        match session.attempt(alloc, library, commands) {
+            Outcome::Conflict(met) => {
+                let Conflict {
+                    place,
+                    cell,
+                    word,
+                    before: _,
+                } = met;
+                writeln!(out, "{s}.{t} met {cell} {word} {place}")?;
+            }
+            Outcome::Committed { number, replies: _ } => {
+                return writeln!(out, "{s}.{t} committed {number}");
+            }
+            _ => return Ok(()),
+        }
+        thread::yield_now();
+    }
+    unreachable!()
+}
+
+/// Does the transactions of the script of this number, one after another: their lines. None where memory runs out. It may wait.
+fn work<R: Wait>(
+    rt: &R,
+    alloc: Global,
+    library: &Library,
+    session: Session,
+    script: &Script,
+    number: usize,
+) -> Option<Vec<u8>>
+    requires own { IsOf library.now session }
+    requires fit { All (All (CommandFits (setting_of library.now.given).prelude)) script.now }
+{
+    let mut session = session;
+    let mut out = Vec::new(alloc);
+    let mut transaction = 0_usize;
+    for commands in script.as_slice() {
+        transaction = transaction.saturating_add(1);
+        let place = (number, transaction);
+        settle(rt, alloc, library, &mut session, commands, place, &mut out).ok()?;
+    }
+    Some(out)
+}
+
+/// Does all scripts at once: the lines of each. None where memory runs out; that of a thread is told by its script. It may wait.
+fn work_all<R: Threads + Wait + Sync>(
+    rt: &R,
+    alloc: Global,
+    library: &Library,
+    sessions: Vec<Session>,
+    scripts: &[Script],
+) -> Option<Vec<Option<Vec<u8>>>>
+    requires own { All (IsOf library.now) sessions.items }
+    requires fit { All (All (All (CommandFits (setting_of library.now.given).prelude))) scripts.now }
+{
+    let taken = AtomicUsize::new(0);
+    let taken = &taken;
+    thread::map_vec(
+        rt,
+        sessions,
+        &|session: Session| -> Option<Vec<u8>>
+            requires { IsOf library.now session × All (All (All (CommandFits (setting_of library.now.given).prelude))) scripts.now }
+        {
+            let place = taken.fetch_add(1, Ordering::SeqCst);
+            if place >= scripts.len() {
+                return None;
+            }
+            work(
+                rt,
+                alloc,
+                library,
+                session,
+                &scripts[place],
+                place.saturating_add(1),
+            )
+        },
+    )
+    .ok()
+}
+
+/// Does the scripts, and prints their lines. None where that can't be done. It may wait.
+pub(crate) fn run<R>(rt: &R, keys: RandomState, db: &Database, scripts: &[Script]) -> Option<Ending>
+where
+    R: AllocGlobal + Print + Threads + Wait + Sync,
+    requires fit { All (All (All (CommandFits db.now.prelude))) scripts.now }
+{
+    let shape = Shape {
+        slots: SLOTS,
+        room: ROOM,
+        sessions: scripts.len(),
+    };
+    let Ok((library, sessions)) = Library::open(rt, rt.alloc(), keys, db, shape) else {
+        return None;
+    };
+    let shares = work_all(rt, rt.alloc(), &library, sessions, scripts)?;
+    for share in shares {
+        rt.write_all(share?.as_slice()).ok()?;
+    }
+    Some(Ending::Done)
+}
