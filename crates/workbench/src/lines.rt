@@ -1,7 +1,8 @@
 //! The table of command lines: what the program does for each, on the files of `data`, and on those that rows write.
 //!
 //! Each line of the table is a row, and a line `| ..` a line of the text of the row before it: a line feed stands between each two, and none behind
-//! the last.
+//! the last. A line `# ..` is a comment: it is not printed. Where a row is there for a wrong body that gives up by size, or takes memory by size, the
+//! comment in front of it names that body.
 //!
 //! | The row | What it does |
 //! |---|---|
@@ -11,6 +12,8 @@
 //! | `closed WORDS` | one whose standard output takes nothing |
 //! | `terminal WORDS` | one whose standard error is a terminal, with a clock that goes two seconds from one look to the next |
 //! | `kept PATH WORDS` | one whose standard output goes into a file |
+//! | `unkeyed WORDS` | one to which the system gives no random numbers |
+//! | `garbled WORDS` | one whose words come with bytes that aren't UTF-8 |
 //! | `file PATH`, `first PATH`, `library PATH` | prints what a file has; its first line; what stands behind its line `library` |
 //! | `same PATH PATH` | whether behind their lines `library` two files have the same |
 //!
@@ -119,6 +122,8 @@ fn mode_of(row: &str) -> Option<Mode> {
         "closed" => Some(Mode::Closed),
         "terminal" => Some(Mode::Terminal),
         "kept" => Some(Mode::Kept),
+        "unkeyed" => Some(Mode::Unkeyed),
+        "garbled" => Some(Mode::Garbled),
         _ => None,
     }
 }
@@ -137,8 +142,8 @@ fn do_other(
     }
 }
 
-/// Prints a row of the table, and does what it asks for where it is no command line; for a command line, the runtime for it. Of an empty row, and of one
-/// that writes its text, nothing is printed.
+/// Prints a row of the table, and does what it asks for where it is no command line; for a command line, the runtime for it. Of an empty row, of a comment,
+/// and of one that writes its text, nothing is printed.
 ///
 /// # Errors
 ///
@@ -153,7 +158,7 @@ pub fn begin_row<'r, R: Files + AllocGlobal + Print>(
         write_text(rt, behind, lines)?;
         return Ok(None);
     }
-    if row.is_empty() {
+    if row.is_empty() || row.starts_with("#") {
         return Ok(None);
     }
     println!(rt; "== {line}")?;

@@ -7,7 +7,7 @@
 //! wanted. The table `threads` comes last, and has no lines: whether a large database is checked on more threads than one. What is printed was worked
 //! out by hand, and stands in `stdout`.
 //!
-//! With words it measures: `workbench cells|check|words|sessions|all WORD..`, for the programs of `benches/`.
+//! With words it measures: `workbench cells|check|words|sessions|meets|all WORD..`, for the programs of `benches/`.
 #![tactic(auto)]
 
 mod lines;

@@ -15,7 +15,7 @@ use std::thread::Threads;
 use std::time::Duration;
 use std::{fs, io};
 
-/// How the streams of a command line are.
+/// How the streams of a command line are, its words, and what the system gives.
 #[derive(Clone, Copy, PartialEq, Eq)]
 pub enum Mode {
     /// All is printed.
@@ -26,6 +26,10 @@ pub enum Mode {
     Terminal,
     /// The standard output goes into the file whose path is the first word.
     Kept,
+    /// There are no random numbers.
+    Unkeyed,
+    /// No word is UTF-8.
+    Garbled,
 }
 
 /// A runtime for one command line.
@@ -68,7 +72,10 @@ impl<R: Wait> Wait for Stage<'_, R> {}
 
 impl<R: RandomSource> RandomSource for Stage<'_, R> {
     fn fill_bytes(&self, buf: &mut [u8]) -> io::Result<()> {
-        self.rt.fill_bytes(buf)
+        match self.mode {
+            Mode::Unkeyed => Err(io::Error::from(io::ErrorKind::Unsupported)),
+            _ => self.rt.fill_bytes(buf),
+        }
     }
 }
 
@@ -117,6 +124,9 @@ impl<R: Print + AllocGlobal> Eprint for Stage<'_, R> {
     }
 }
 
+/// A byte that no UTF-8 has.
+const GARBLE: &[u8] = b"\xff";
+
 /// Copies a text to the front of a buffer.
 fn fill(buf: &mut [u8], text: &[u8]) -> Result<usize, FillError>
     ensures { WritesAtMost result buf.new }
@@ -132,6 +142,7 @@ fn fill(buf: &mut [u8], text: &[u8]) -> Result<usize, FillError>
 impl<R> Env for Stage<'_, R> {
     fn arg(&self, i: usize, buf: &mut [u8]) -> Result<usize, FillError> {
         match self.words.get(i) {
+            Some(_) if self.mode == Mode::Garbled => fill(buf, GARBLE),
             Some(word) => fill(buf, word.as_bytes()),
             None => Err(FillError::NotPresent),
         }
