@@ -6,5 +6,5 @@
 mod cutting;
 mod outline;
 
-pub use cutting::cuts_of;
-pub use outline::{Block, Outline, Standing, Stretch, outline_of};
+pub use cutting::{Leaving, cuts_of};
+pub use outline::{Auxiliary, Block, Outline, Standing, Stretch, outline_of};

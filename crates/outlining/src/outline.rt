@@ -27,22 +27,36 @@ pub struct Standing<'s> {
     pub block: Option<usize>,
 }
 
+/// A statement of a block that is no assertion: `$e`, `$d`, `$f`, `$v`.
+#[derive(Clone, Copy)]
+pub struct Auxiliary {
+    /// The statement, without the comment in front.
+    pub stretch: Stretch,
+    /// The block that it stands in.
+    pub block: usize,
+}
+
 /// A block of a text.
 #[derive(Clone, Copy)]
 pub struct Block {
     /// From `${` up to `$}`, without the comment in front.
     pub stretch: Stretch,
+    /// Its `${`.
+    pub opening: Stretch,
+    /// Its `$}`, without the comment in front.
+    pub closing: Stretch,
     /// The block that it stands in, if it stands in one.
     pub around: Option<usize>,
     /// How many assertions stand in it, also in blocks of it.
     pub assertions: usize,
 }
 
-/// The assertions and the blocks of a text, each in the order of their first tokens.
+/// The assertions, the blocks and what else stands in these, each in the order of their first tokens.
 #[derive(Drop)]
 pub struct Outline<'s> {
     pub assertions: Vec<Standing<'s>>,
     pub blocks: Vec<Block>,
+    pub auxiliaries: Vec<Auxiliary>,
 }
 
 /// How far a text was walked over.
@@ -70,6 +84,7 @@ impl<'s> Walk<'s> {
             outline: Outline {
                 assertions: Vec::new(alloc),
                 blocks: Vec::new(alloc),
+                auxiliaries: Vec::new(alloc),
             },
             open: None,
             in_comment: false,
@@ -99,11 +114,14 @@ impl<'s> Walk<'s> {
     /// A block opens, behind the comment in front of it.
     fn open_block(&mut self, end: usize) -> Result<(), AllocError> {
         let number = self.outline.blocks.len();
+        let opening = Stretch {
+            begin: self.behind,
+            end,
+        };
         self.outline.blocks.push(Block {
-            stretch: Stretch {
-                begin: self.behind,
-                end,
-            },
+            stretch: opening,
+            opening,
+            closing: Stretch { begin: end, end },
             around: self.open,
             assertions: 0,
         })?;
@@ -115,6 +133,7 @@ impl<'s> Walk<'s> {
 
     /// A block closes: its assertions are those of the block around it too.
     fn close_block(&mut self, end: usize) {
+        let begin = self.behind;
         self.front = None;
         self.behind = end;
         let Some(open) = self.open else {
@@ -122,6 +141,7 @@ impl<'s> Walk<'s> {
         };
         if let Some(block) = self.outline.blocks.get_mut(open) {
             block.stretch.end = end;
+            block.closing = Stretch { begin, end };
             let (around, inside) = (block.around, block.assertions);
             self.open = around;
             self.count(around, inside);
@@ -150,12 +170,24 @@ impl<'s> Walk<'s> {
         Ok(())
     }
 
+    /// A statement ends that is no assertion.
+    fn end_auxiliary(&mut self, end: usize) -> Result<(), AllocError> {
+        if let Some(block) = self.open {
+            let begin = self.behind;
+            let stretch = Stretch { begin, end };
+            self.outline.auxiliaries.push(Auxiliary { stretch, block })?;
+        }
+        Ok(())
+    }
+
     /// A statement ends.
     fn end_statement(&mut self, end: usize) -> Result<(), AllocError> {
         if let Some(first) = self.first
             && self.asserts
         {
             self.end_assertion(first.text, end)?;
+        } else {
+            self.end_auxiliary(end)?;
         }
         self.first = None;
         self.asserts = false;

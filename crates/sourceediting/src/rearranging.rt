@@ -11,7 +11,7 @@ use crate::moving::{Moving, moving_of};
 use crate::planning::{ByLabel, Planned, unwritten};
 use crate::refusal::{File, Refusal, shown};
 use giving::Changes;
-use outlining::{Outline, Standing, Stretch, cuts_of, outline_of};
+use outlining::{Leaving, Outline, Standing, Stretch, cuts_of, outline_of};
 use rewriting::{cut_out, put_in, rewrite};
 use source::{Declared, ProofWords};
 use sourcewriting::{Names, Statement, SymbolWords, assertion_text, symbol_words};
@@ -40,17 +40,19 @@ fn refused(alloc: Global, label: &[u8], why: &str) -> Result<Refusal, AllocError
     Ok(Refusal::Text(File::History, format!(in alloc; "{label} {why}")?))
 }
 
-/// The places in an outline of those that leave their places, in order.
+/// Those that leave their places, in order. What moves is written anew, unless it stands alone, and then its block goes along.
 fn leaving_of(
     alloc: Global,
     outline: &Outline<'_>,
     gone: &Changes<'_>,
     moving: &Changes<'_>,
-) -> Result<Vec<usize>, AllocError> {
+) -> Result<Vec<Leaving>, AllocError> {
     let mut leaving = Vec::new(alloc);
-    for (k, standing) in outline.assertions.as_slice().iter().enumerate() {
-        if gone.text_for(standing.label).is_some() || moving.text_for(standing.label).is_some() {
-            leaving.push(k)?;
+    for (place, standing) in outline.assertions.as_slice().iter().enumerate() {
+        let moves = moving.text_for(standing.label).is_some();
+        if moves || gone.text_for(standing.label).is_some() {
+            let is_parted = moves && !outline.is_alone(standing);
+            leaving.push(Leaving { place, is_parted })?;
         }
     }
     Ok(leaving)
