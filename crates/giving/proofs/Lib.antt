@@ -1,3 +1,3 @@
 mod Changing
-mod Places
+pub mod Places
 mod Ordered

@@ -9,18 +9,18 @@ use Rattle.source.specs.Scopes.{Assertion}
 use Rattle.giving.specs.Staying.{others}
 use Rattle.giving.specs.Places.{ArePlacesBefore}
 
--- one more flag with its assertion
 step : (b : Bool) (x : Assertion) (xs ys : List Assertion) → kept_at b x (xs ++ ys) ≡ kept_at b x xs ++ ys
 step true x xs ys = refl
 step false x xs ys = refl
 
-more : (flags : List Bool) (xs : List Assertion) (i : ℕ) (x : Assertion) → i < length flags → slice_get xs i ≡ Some x
+-- one more flag with its assertion
+pub others_more : (flags : List Bool) (xs : List Assertion) (i : ℕ) (x : Assertion) → i < length flags → slice_get xs i ≡ Some x
     → others (take (suc i) flags) (take (suc i) xs) ≡ others (take i flags) (take i xs) ++ kept_at (not (get_or flags i false)) x []
-more [] xs i x h e = absurd (omega arith)
-more (f ∷ fs) [] i x h e = absurd cc
-more (f ∷ fs) (y ∷ ys) zero x h e = let same : y ≡ x = cc in ap (λ z. kept_at (not f) z []) same
-more (f ∷ fs) (y ∷ ys) (suc i) x h e =
-    ap (kept_at (not f) y) (more fs ys i x (omega arith) e)
+others_more [] xs i x h e = absurd (omega arith)
+others_more (f ∷ fs) [] i x h e = absurd cc
+others_more (f ∷ fs) (y ∷ ys) zero x h e = let same : y ≡ x = cc in ap (λ z. kept_at (not f) z []) same
+others_more (f ∷ fs) (y ∷ ys) (suc i) x h e =
+    ap (kept_at (not f) y) (others_more fs ys i x (omega arith) e)
     ∙ step (not f) y (others (take i fs) (take i ys)) (kept_at (not (get_or fs i false)) x [])
 
 there : (xs : List Assertion) (k : ℕ) → k < length xs → (x : Assertion) × (slice_get xs k ≡ Some x)
@@ -41,7 +41,7 @@ other_more flags i ks h flag before xs many =
     ∙ ap (λ o. somes (others (take i flags) (take i xs)) ++ o ∷ []) x.1
     ∙ sym (map-append (λ (x : Assertion). Some x) (others (take i flags) (take i xs)) (x.0 ∷ []))
     ∙ ap (λ b. somes (others (take i flags) (take i xs) ++ kept_at (not b) x.0 [])) (sym flag)
-    ∙ ap somes (sym (more flags xs i x.0 h x.1)))
+    ∙ ap somes (sym (others_more flags xs i x.0 h x.1)))
 
 pub chosen_more : (flags : List Bool) (i : ℕ) (ks : List ℕ) → i < length flags → get_or flags i false ≡ true
     → ArePlacesBefore i flags ks → ArePlacesBefore (i + 1) flags ks
@@ -51,4 +51,4 @@ chosen_more flags i ks h flag before xs many =
     (before xs many
     ∙ ap somes (sym (append-nil (others (take i flags) (take i xs))))
     ∙ ap (λ b. somes (others (take i flags) (take i xs) ++ kept_at (not b) x.0 [])) (sym flag)
-    ∙ ap somes (sym (more flags xs i x.0 h x.1)))
+    ∙ ap somes (sym (others_more flags xs i x.0 h x.1)))

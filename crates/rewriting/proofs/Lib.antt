@@ -8,3 +8,4 @@ mod Statements
 mod Finding
 mod Walking
 mod Spliced
+mod Appended

@@ -1,2 +1,3 @@
 pub mod Spans
 pub mod Walks
+pub mod Letters

@@ -1,5 +1,5 @@
 -- Assertions that flags don't choose, one more at a time.
-use Rattle.std.proofs.Common.{◌≡◌, ◌∙◌, ℕ, zero, suc, ◌+◌, ◌<◌, Bool, true, false, List, [], ◌∷◌, ◌++◌, length, map, take, get_or, Some, refl, sym, ap, arith, add-one}
+use Rattle.std.proofs.Common.{◌≡◌, ◌∙◌, ℕ, ◌+◌, ◌<◌, Bool, true, false, List, [], ◌∷◌, ◌++◌, length, map, take, get_or, Some, refl, sym, ap, add-one}
 use Rattle.std.specs.Prelude.{All, slice_get, ◌&&◌}
 use mathlib.Core.Bool.{not}
 use Rattle.std.proofs.lemmas.List.{append-nil, map_more}
@@ -10,22 +10,9 @@ use Rattle.source.specs.Scopes.{Assertion, is_in}
 use Rattle.taking.specs.declared.reason.Reason.{Reason}
 use Rattle.taking.specs.Reasons.{Choice, kept_at}
 use Rattle.giving.specs.Staying.{others}
+use Rattle.giving.proofs.Places.{others_more}
 use Rattle.sourceediting.specs.Following.{is_own}
 use Rattle.sourceediting.proofs.Origins.{flag_is}
-
-kept_append : (b : Bool) (x : Assertion) (xs ys : List Assertion) → kept_at b x (xs ++ ys) ≡ kept_at b x xs ++ ys
-kept_append true x xs ys = refl
-kept_append false x xs ys = refl
-
--- one more flag with its assertion
-others_more : (flags : List Bool) (xs : List Assertion) (i : ℕ) (x : Assertion) → i < length flags → slice_get xs i ≡ Some x
-    → others (take (suc i) flags) (take (suc i) xs) ≡ others (take i flags) (take i xs) ++ kept_at (not (get_or flags i false)) x []
-others_more [] xs i x h e = absurd (omega arith)
-others_more (f ∷ fs) [] i x h e = absurd cc
-others_more (f ∷ fs) (y ∷ ys) zero x h e = let same : y ≡ x = cc in ap (λ z. kept_at (not f) z []) same
-others_more (f ∷ fs) (y ∷ ys) (suc i) x h e =
-    ap (kept_at (not f) y) (others_more fs ys i x (omega arith) e)
-    ∙ kept_append (not f) y (others (take i fs) (take i ys)) (kept_at (not (get_or fs i false)) x [])
 
 module _ (P : Assertion → Type 0) (flags : List Bool) (xs : List Assertion) (i : ℕ) (x : Assertion) (within : i < length flags)
     (at : slice_get xs i ≡ Some x) (before : All P (others (take i flags) (take i xs))) where

@@ -1,8 +1,8 @@
 //! The words of a proof: normal, or compressed with each subproof once that stands there more than once.
 
 use crate::layout::Layout;
-use crate::letters::put_number;
 use crate::shared::Shared;
+use rewriting::put_number;
 use std::alloc::{AllocError, Global};
 
 /// A proof has so many steps at most.

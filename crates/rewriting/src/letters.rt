@@ -2,7 +2,7 @@
 
 ghost use Rattle.std.specs.Prelude.{◌+◌, ◌<◌, ◌≤◌, [], ◌∷◌, IfOk};
 ghost use Rattle.source.specs.declared.letters.Code.TheVariants.{Number};
-ghost use Rattle.sourcewriting.specs.Letters.{ArePut};
+ghost use Rattle.rewriting.specs.Letters.{ArePut};
 
 use std::alloc::AllocError;
 
@@ -18,8 +18,12 @@ fn put_front(letters: &mut Vec<u8>, front: usize) -> Result<(), AllocError>
     Ok(())
 }
 
-/// Puts the letters of a number, counted from 0: the last of them is one of A to T, which count 1 to 20.
-pub(crate) fn put_number(letters: &mut Vec<u8>, number: usize) -> Result<(), AllocError>
+/// Puts the letters of a number, counted from 0: the last of them is one of A to T, which count 1 to 20 (Metamath book, appendix B).
+///
+/// # Errors
+///
+/// Want of memory; some of the letters may be put then.
+pub fn put_number(letters: &mut Vec<u8>, number: usize) -> Result<(), AllocError>
     ensures { IfOk result (λ _. number < 268435460
         → ArePut (record { codes = Number (number + 1) ∷ []; front = 0 }) letters.old.items letters.new.items) }
 {
