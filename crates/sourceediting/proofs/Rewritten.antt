@@ -7,7 +7,7 @@ use Rattle.rewriting.specs.declared.span.Span.{Span}
 use Rattle.rewriting.specs.Spans.{IsRewritten, IsCut, IsPutIn, IsPatched}
 use Rattle.library.specs.declared.command.Command.{Command}
 use Rattle.sourceediting.specs.Following.{KeepsPlaces}
-use Rattle.sourceediting.specs.Written.{IsRearranged, IsWrittenAnew}
+use Rattle.sourceediting.specs.Written.{IsRearranged, IsWrittenAnew, IsCutAndRewritten}
 
 -- at no span of it
 untouched : (may_change : List ℕ → Span → Type 0) (text : List ℕ) → IsPatched may_change text text
@@ -32,15 +32,14 @@ module _ (commands : List Command) (cs : List Change) (source out : List ℕ) wh
   pub all_rearranged : (All KeepsPlaces commands → ⊥) → IsRearranged cs source out → IsWrittenAnew commands cs source out
   all_rearranged some rearranged = record { rearranged = rearranged; places = λ all. absurd (some all) }
 
-module _ (cs proofs : List Change) (source kept seen_kept changed seen_changed out : List ℕ) where
+module _ (cs proofs : List Change) (source changed seen out : List ℕ) where
   -- cut, changed and filled, one behind the other
-  pub rearranged_by : IsPatched IsCut source kept → seen_kept ≡ kept → IsRewritten cs proofs seen_kept changed → seen_changed ≡ changed
-      → IsPatched IsPutIn seen_changed out → IsRearranged cs source out
-  rearranged_by cut same_kept rewritten same_changed filled = record {
-    kept = kept;
-    cut = cut;
+  pub rearranged_by : IsCutAndRewritten cs proofs source changed → seen ≡ changed → IsPatched IsPutIn seen out → IsRearranged cs source out
+  rearranged_by h same filled = record {
+    kept = h.kept;
+    cut = h.cut;
     proofs = proofs;
     changed = changed;
-    rewritten = subst (λ (text : List ℕ). IsRewritten cs proofs text changed) same_kept rewritten;
-    filled = subst (λ (text : List ℕ). IsPatched IsPutIn text out) same_changed filled;
+    rewritten = h.rewritten;
+    filled = subst (λ (text : List ℕ). IsPatched IsPutIn text out) same filled;
   }

@@ -5,6 +5,12 @@ use Rattle.rewriting.specs.Spans.{IsRewritten, IsCut, IsPutIn, IsPatched}
 use Rattle.library.specs.declared.command.Command.{Command}
 use Rattle.sourceediting.specs.Following.{KeepsPlaces}
 
+-- tokens are cut out of the text, then labels change and proofs are exchanged
+pub record IsCutAndRewritten (cs proofs : List Change) (source out : List ℕ) : Type 0 where
+  pub kept : List ℕ
+  pub cut : IsPatched IsCut source kept
+  pub rewritten : IsRewritten cs proofs kept out
+
 -- tokens are cut out of the text, then labels change and proofs are exchanged, then something is put in
 pub record IsRearranged (cs : List Change) (source out : List ℕ) : Type 0 where
   pub kept : List ℕ

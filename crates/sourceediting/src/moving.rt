@@ -268,16 +268,23 @@ fn stands_in<'a, D: Declared<'a>>(
     }
 }
 
-/// The labels that proofs name in these outermost blocks, of assertions that aren't the library's.
+/// Labels, each beside itself.
+fn push_labels<'a>(pairs: &mut Vec<Member<'a>>, labels: &[&'a [u8]]) -> Result<(), AllocError> {
+    for label in labels {
+        pairs.push((*label, *label))?;
+    }
+    Ok(())
+}
+
+/// The labels that proofs name in these outermost blocks, of assertions that aren't the library's, each beside itself.
 fn cited_in<'a, D: Declared<'a>>(
     alloc: Global,
-    keys: RandomState,
     declared: &D,
     outline: &Outline<'_>,
     places: &Places<'_>,
     blocks: &[bool],
     own: &[bool],
-) -> Result<Changes<'a>, AllocError> {
+) -> Result<Vec<Member<'a>>, AllocError> {
     let mut pairs = Vec::new(alloc);
     for (place, is_own) in own.iter().enumerate() {
         if *is_own || !stands_in(declared, outline, places, blocks, place) {
@@ -287,15 +294,63 @@ fn cited_in<'a, D: Declared<'a>>(
             push_labels(&mut pairs, labels_of(proof))?;
         }
     }
+    Ok(pairs)
+}
+
+/// The labels that proofs name in the blocks of these rows, of assertions that aren't the library's.
+fn cited_beside<'a, D: Declared<'a>>(
+    alloc: Global,
+    keys: RandomState,
+    declared: &D,
+    outline: &Outline<'_>,
+    places: &Places<'_>,
+    parted: &[Row<'_>],
+    own: &[bool],
+) -> Result<Changes<'a>, AllocError> {
+    let blocks = are_parted(alloc, outline, parted)?;
+    let pairs = cited_in(alloc, declared, outline, places, blocks.as_slice(), own)?;
     Changes::new(alloc, keys, pairs)
 }
 
-/// Labels, each beside itself.
-fn push_labels<'a>(pairs: &mut Vec<Member<'a>>, labels: &[&'a [u8]]) -> Result<(), AllocError> {
-    for label in labels {
-        pairs.push((*label, *label))?;
+/// Those of these rows that leave them, and of these those that go in front of their block.
+fn part<'x>(
+    rows: &[Row<'x>],
+    told: &Changes<'_>,
+    cited: &Changes<'_>,
+    leaving: &mut Vec<Member<'x>>,
+    in_front: &mut Vec<Member<'x>>,
+) -> Result<(), AllocError> {
+    for row in rows {
+        if row.front_leaves(told, cited) {
+            row.put_front(leaving)?;
+            row.put_front(in_front)?;
+        } else {
+            row.put_back(leaving)?;
+        }
     }
     Ok(())
+}
+
+/// Those that were moved, and those that leave their rows.
+fn leavers_of<'x>(
+    alloc: Global,
+    keys: RandomState,
+    walk: Walk<'x>,
+    told: &Changes<'_>,
+    cited: &Changes<'_>,
+) -> Result<Moving<'x>, AllocError> {
+    let Walk {
+        moved: mut leaving,
+        parted,
+        row,
+    } = walk;
+    drop(row);
+    let mut in_front = Vec::new(alloc);
+    part(parted.as_slice(), told, cited, &mut leaving, &mut in_front)?;
+    drop(parted);
+    let labels = Changes::new(alloc, keys, leaving)?;
+    let in_front = Changes::new(alloc, keys, in_front)?;
+    Ok(Moving { labels, in_front })
 }
 
 /// The assertions of a source that are to stand elsewhere.
@@ -311,33 +366,8 @@ pub(crate) fn moving_of<'x, 'a, D: Declared<'a>>(
 ) -> Result<Moving<'x>, AllocError> {
     let places = outline.by_label(alloc, keys)?;
     let walk = walk_over(alloc, keys, outline, &places, edits)?;
-    let blocks = are_parted(alloc, outline, walk.parted.as_slice())?;
-    let blocks = blocks.as_slice();
-    let cited = cited_in(
-        alloc,
-        keys,
-        declared,
-        outline,
-        &places,
-        blocks,
-        edits.planned.own,
-    )?;
-    let Walk {
-        moved: mut pairs,
-        parted,
-        ..
-    } = walk;
-    let mut in_front = Vec::new(alloc);
-    for row in parted.as_slice() {
-        if row.front_leaves(edits.planned.told, &cited) {
-            row.put_front(&mut pairs)?;
-            row.put_front(&mut in_front)?;
-        } else {
-            row.put_back(&mut pairs)?;
-        }
-    }
-    Ok(Moving {
-        labels: Changes::new(alloc, keys, pairs)?,
-        in_front: Changes::new(alloc, keys, in_front)?,
-    })
+    let parted = walk.parted.as_slice();
+    let own = edits.planned.own;
+    let cited = cited_beside(alloc, keys, declared, outline, &places, parted, own)?;
+    leavers_of(alloc, keys, walk, edits.planned.told, &cited)
 }

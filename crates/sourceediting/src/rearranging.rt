@@ -3,7 +3,7 @@
 
 ghost use Rattle.std.specs.Prelude.{IfOk};
 ghost use Rattle.rewriting.specs.Spans.{IsCut, IsPutIn, IsPatched};
-ghost use Rattle.sourceediting.specs.Written.{IsRearranged};
+ghost use Rattle.sourceediting.specs.Written.{IsRearranged, IsCutAndRewritten};
 
 use crate::citing::marked;
 use crate::cutting::{Leaving, cuts_of};
@@ -13,7 +13,7 @@ use crate::outline::{Outline, Standing, Stretch, outline_of};
 use crate::planning::{ByLabel, Planned, unwritten};
 use crate::refusal::{File, Refusal, shown};
 use giving::Changes;
-use rewriting::{cut_out, put_in, rewrite};
+use rewriting::{Span, cut_out, put_in, rewrite};
 use source::{Declared, ProofWords};
 use sourcewriting::{Names, Statement, SymbolWords, assertion_text, symbol_words};
 use std::alloc::{AllocError, Global};
@@ -234,22 +234,50 @@ fn unfit(alloc: Global) -> Result<Refusal, AllocError> {
     ))
 }
 
+/// The stretches to cut out of a source: those of what was deleted, and of what moves.
+fn cuts_for(
+    alloc: Global,
+    keys: RandomState,
+    outline: &Outline<'_>,
+    gone: &[&[u8]],
+    moving: &Changes<'_>,
+) -> Result<Vec<Span<'static>>, AllocError> {
+    let gone = marked(alloc, keys, gone)?;
+    let leaving = leaving_of(alloc, outline, &gone, moving)?;
+    cuts_of(alloc, outline, leaving.as_slice())
+}
+
 /// The source without those that leave their places.
 fn without(
     alloc: Global,
+    keys: RandomState,
     source: &[u8],
     outline: &Outline<'_>,
-    gone: &Changes<'_>,
+    gone: &[&[u8]],
     moving: &Changes<'_>,
 ) -> Result<Vec<u8>, Refusal>
     ensures { IfOk result (λ kept. IsPatched IsCut source.now kept.items) }
 {
-    let leaving = leaving_of(alloc, outline, gone, moving)?;
-    let cuts = cuts_of(alloc, outline, leaving.as_slice())?;
+    let cuts = cuts_for(alloc, keys, outline, gone, moving)?;
     match cut_out(alloc, source, cuts.as_slice())? {
         Some(kept) => Ok(kept),
         None => Err(unfit(alloc)?),
     }
+}
+
+/// That text, with the labels that change and with other proofs.
+fn changed_without(
+    alloc: Global,
+    keys: RandomState,
+    source: &[u8],
+    outline: &Outline<'_>,
+    moving: &Changes<'_>,
+    edits: &Rearranged<'_>,
+) -> Result<Vec<u8>, Refusal>
+    ensures { IfOk result (λ changed. IsCutAndRewritten edits.now.changes.now edits.now.proofs.now source.now changed.items) }
+{
+    let kept = without(alloc, keys, source, outline, edits.planned.gone, moving)?;
+    Ok(rewrite(alloc, edits.changes, edits.proofs, kept.as_slice())?)
 }
 
 /// The text with the texts of those that are put in.
@@ -270,6 +298,22 @@ fn filled(
     }
 }
 
+/// The source without those that leave their places, with changed labels and other proofs, and with the texts of those that are put in.
+fn put_anew(
+    alloc: Global,
+    keys: RandomState,
+    source: &[u8],
+    outline: &Outline<'_>,
+    moving: &Changes<'_>,
+    texts: &Texts<'_>,
+    edits: &Rearranged<'_>,
+) -> Result<Vec<u8>, Refusal>
+    ensures { IfOk result (λ out. IsRearranged edits.now.changes.now source.now out.items) }
+{
+    let changed = changed_without(alloc, keys, source, outline, moving, edits)?;
+    filled(alloc, keys, changed.as_slice(), &edits.planned, texts)
+}
+
 /// The source with the edits of a history that adds, moves or deletes.
 pub(crate) fn rearrange<'x, 'a, D: Declared<'a>>(
     alloc: Global,
@@ -282,9 +326,7 @@ pub(crate) fn rearrange<'x, 'a, D: Declared<'a>>(
 {
     let outline = outline_of(alloc, source)?;
     let moving = moving_of(alloc, keys, declared, &outline, edits)?;
-    let gone = marked(alloc, keys, edits.planned.gone)?;
     let texts = texts_of(alloc, keys, declared, source, &outline, &moving, edits)?;
-    let kept = without(alloc, source, &outline, &gone, &moving.labels)?;
-    let changed = rewrite(alloc, edits.changes, edits.proofs, kept.as_slice())?;
-    filled(alloc, keys, changed.as_slice(), &edits.planned, &texts)
+    let moving = &moving.labels;
+    put_anew(alloc, keys, source, &outline, moving, &texts, edits)
 }

@@ -5,13 +5,14 @@ ghost use Rattle.sourceediting.specs.Following.{all_commands};
 ghost use Rattle.sourceediting.specs.Written.{IsWrittenAnew};
 
 use crate::commands::keep_places;
-use crate::planning::{Planned, edited_by_label, names_of, other_proofs};
+use crate::planning::{ByLabel, Planned, edited_by_label, names_of, other_proofs};
 use crate::rearranging::{Rearranged, rearrange};
 use crate::refusal::Refusal;
 use giving::Changes;
 use library::Entry;
 use rewriting::rewrite;
 use source::Declared;
+use sourcewriting::Names;
 use std::alloc::{AllocError, Global};
 use std::hash::RandomState;
 
@@ -26,6 +27,49 @@ fn by_label<'x>(
         pairs.push((*label, text.as_slice()))?;
     }
     Changes::new(alloc, keys, pairs)
+}
+
+/// The source with these edits, which a history makes.
+fn written<'x, 'a, D: Declared<'a>>(
+    alloc: Global,
+    keys: RandomState,
+    declared: &D,
+    source: &'x [u8],
+    entries: &[Entry],
+    edits: &Rearranged<'x>,
+) -> Result<Vec<u8>, Refusal>
+    ensures { IfOk result (λ out. IsWrittenAnew (all_commands entries.now) edits.now.changes.now source.now out.items) }
+{
+    if keep_places(entries) {
+        return Ok(rewrite(alloc, edits.changes, edits.proofs, source)?);
+    }
+    rearrange(alloc, keys, declared, source, edits)
+}
+
+/// The source with the edits of a history over the assertions of the edited library, whose steps name these.
+fn write_over<'e, D: Declared<'e>>(
+    alloc: Global,
+    keys: RandomState,
+    declared: &D,
+    source: &'e [u8],
+    planned: &Planned<'e>,
+    entries: &[Entry],
+    changes: &'e Changes<'e>,
+    edited: &ByLabel<'e>,
+    names: &Names<'e>,
+) -> Result<Vec<u8>, Refusal>
+    ensures { IfOk result (λ out. IsWrittenAnew (all_commands entries.now) changes.now source.now out.items) }
+{
+    let proofs = other_proofs(alloc, keys, declared, edited, names, planned)?;
+    let proofs = by_label(alloc, keys, proofs.as_slice())?;
+    let edits = Rearranged {
+        planned: *planned,
+        edited,
+        names,
+        changes,
+        proofs: &proofs,
+    };
+    written(alloc, keys, declared, source, entries, &edits)
 }
 
 /// The source with the edits of a history, in which these labels change.
@@ -46,17 +90,7 @@ pub fn write_edits<'e, D: Declared<'e>>(
 {
     let edited = edited_by_label(alloc, keys, planned.edited.entries())?;
     let names = names_of(alloc, keys, declared, &edited, planned)?;
-    let proofs = other_proofs(alloc, keys, declared, &edited, &names, planned)?;
-    let proofs = by_label(alloc, keys, proofs.as_slice())?;
-    if keep_places(entries) {
-        return Ok(rewrite(alloc, changes, &proofs, source)?);
-    }
-    let edits = Rearranged {
-        planned: *planned,
-        edited: &edited,
-        names: &names,
-        changes,
-        proofs: &proofs,
-    };
-    rearrange(alloc, keys, declared, source, &edits)
+    write_over(
+        alloc, keys, declared, source, planned, entries, changes, &edited, &names,
+    )
 }

@@ -4,6 +4,7 @@ ghost use Rattle.std.specs.Prelude.{◌≤◌};
 
 use crate::layout::Layout;
 use crate::listing::{Names, nodes_of};
+use crate::shared::Shared;
 use crate::wording::{put_compressed, put_normal};
 use giving::Changes;
 use mmframes::frame_of;
@@ -298,6 +299,31 @@ fn mandatory_labels<'p>(
     Ok(labels)
 }
 
+/// Puts the words of a proof in its form. Whether it has at most 16,384 steps.
+fn put_words_of_proof<'p>(
+    alloc: Global,
+    layout: &mut Layout,
+    prelude: &Prelude,
+    names: &Names<'p>,
+    statement: &Statement<'_>,
+    premises: &[&'p [u8]],
+    shared: &Shared<'_>,
+    root: usize,
+) -> Result<bool, AllocError> {
+    if !statement.is_compressed {
+        return put_normal(alloc, layout, shared, root);
+    }
+    let mandatory = mandatory_labels(alloc, prelude, names, statement.assertion, premises)?;
+    put_compressed(alloc, layout, shared, mandatory.as_slice(), root)
+}
+
+/// Puts what was laid out, and the end of the statement.
+fn put_end(out: &mut Vec<u8>, layout: Layout) -> Result<(), AllocError> {
+    let text = layout.finish()?;
+    out.extend_from_slice(text.as_slice())?;
+    out.extend_from_slice(b"$.")
+}
+
 /// Puts the proof of a theorem whose `$e` have these labels. Whether it could be written.
 fn put_proof<'p, 'a, D: Declared<'a>>(
     alloc: Global,
@@ -307,25 +333,40 @@ fn put_proof<'p, 'a, D: Declared<'a>>(
     prelude: &Prelude,
     names: &Names<'p>,
     statement: &Statement<'_>,
-    labels: &'p [Vec<u8>],
+    premises: &[&'p [u8]],
 ) -> Result<bool, AllocError> {
-    let premises = slices_of(alloc, labels)?;
-    let premises = premises.as_slice();
-    let assertion = statement.assertion;
-    let steps = assertion.proof.as_slice();
+    let steps = statement.assertion.proof.as_slice();
     let Some((shared, root)) = nodes_of(alloc, keys, declared, names, premises, steps)? else {
         return Ok(false);
     };
     let mut layout = Layout::new(alloc, statement.indent() + 2)?;
-    let is_whole = if statement.is_compressed {
-        let mandatory = mandatory_labels(alloc, prelude, names, assertion, premises)?;
-        put_compressed(alloc, &mut layout, &shared, mandatory.as_slice(), root)?
-    } else {
-        put_normal(alloc, &mut layout, &shared, root)?
-    };
-    out.extend_from_slice(layout.finish()?.as_slice())?;
-    out.extend_from_slice(b"$.")?;
+    let is_whole = put_words_of_proof(
+        alloc, &mut layout, prelude, names, statement, premises, &shared, root,
+    )?;
+    drop(shared);
+    put_end(out, layout)?;
     Ok(is_whole)
+}
+
+/// Puts what stands behind the statement of an assertion whose `$e` have these labels. Whether it could be written.
+fn put_rest<'p, 'a, D: Declared<'a>>(
+    alloc: Global,
+    keys: RandomState,
+    out: &mut Vec<u8>,
+    declared: &D,
+    prelude: &Prelude,
+    names: &Names<'p>,
+    statement: &Statement<'_>,
+    labels: &'p [Vec<u8>],
+) -> Result<bool, AllocError> {
+    if let Kind::Axiom = statement.assertion.kind {
+        return Ok(true);
+    }
+    let premises = slices_of(alloc, labels)?;
+    let premises = premises.as_slice();
+    put_proof(
+        alloc, keys, out, declared, prelude, names, statement, premises,
+    )
 }
 
 /// The text of an assertion behind an empty line, in a block of its own where it has pairs or `$e`. None where its proof can't be written.
@@ -343,11 +384,9 @@ pub fn assertion_text<'x, 'a, D: Declared<'a>>(
     let labels = labels.as_slice();
     let mut out = Vec::from_slice(alloc, b"\n")?;
     put_front(alloc, &mut out, words, statement, labels)?;
-    if let Kind::Theorem = statement.assertion.kind
-        && !put_proof(
-            alloc, keys, &mut out, declared, prelude, names, statement, labels,
-        )?
-    {
+    if !put_rest(
+        alloc, keys, &mut out, declared, prelude, names, statement, labels,
+    )? {
         return Ok(None);
     }
     if statement.is_block() {
