@@ -1,7 +1,6 @@
 -- Which comments of a source go with assertions that were deleted.
 use Rattle.std.specs.Prelude.{◌≡◌, ◌≢◌, ◌⊎◌, ℕ, zero, suc, Bool, true, false, List, [], ◌∷◌, ◌++◌, Option, Some, None, All, IsTrue, if◌then◌else◌, ◌||◌, codes}
 use Rattle.std.specs.Str.{bytes_eq}
-use mathlib.Core.Bool.{not}
 use Rattle.mmtext.specs.Words.{Word}
 use Rattle.mmtext.specs.Text.{Token, tokens}
 use Rattle.source.specs.Scopes.{is_in}
@@ -20,8 +19,8 @@ pub record IsInFront (gone : List Word) (c : Comment) : Type 0 where
   pub after : List Token
   pub stands : c.behind ≡ label ∷ rest
   pub next : outside false rest ≡ mark ∷ after
-  pub asserts : IsTrue (asserts mark.text)
-  pub gone : IsTrue (is_in gone label.text)
+  pub is_mark : IsTrue (asserts mark.text)
+  pub deleted : IsTrue (is_in gone label.text)
 
 -- how many blocks are open behind tokens outside of comments; None where one was closed that wasn't opened among them
 abbrev pub open_behind : ℕ → List Token → Option ℕ
@@ -49,7 +48,7 @@ pub record IsDeletedBlock (gone : List Word) (source : List ℕ) (inside after :
   pub closes : closing.text ≡ codes "$}"
   pub whole : open_behind 0 (outside false inside) ≡ Some 0
   pub some : asserted (outside false inside) ≢ []
-  pub gone : All (λ label. IsTrue (is_in gone label)) (asserted (outside false inside))
+  pub each : All (λ label. IsTrue (is_in gone label)) (asserted (outside false inside))
 
 -- the comment stands in such a block
 pub record IsInDeletedBlock (gone : List Word) (source : List ℕ) (c : Comment) : Type 0 where

@@ -1,0 +1,12 @@
+mod Across
+mod WordsRead
+mod Opened
+mod Passed
+mod Finds
+mod Depths
+mod Asserted
+mod BlocksRead
+mod Skipped
+mod KeptBy
+mod Walked
+mod Stayed
