@@ -41,7 +41,7 @@ nothing_passed stating ts at = record {
   same = refl;
 }
 
-module _ (stating : Bool) (words : List Word) (ts ys left : List Token) (at : ℕ) (t : Token) (le : at ≤ t.place)
+module _ (stating : Bool) (words : List Word) (ts ys left : List Token) (at : ℕ) (t : Token) (le : at ≤ t.place + length t.text)
     (next : ys ≡ t ∷ left) (p : IsPassing stating words ts ys at) where
   now_behind : (b : Bool) → bytes_eq t.text (codes "$)") ≡ b → in_comment_behind true (p.body ++ t ∷ []) ≡ not b
   now_behind b is =
@@ -89,7 +89,7 @@ module _ (stating : Bool) (words : List Word) (ts ys left : List Token) (at : �
   }
 
 -- a word in a statement, and between statements
-module _ (ts ys left : List Token) (at : ℕ) (t : Token) (le : at ≤ t.place) (next : ys ≡ t ∷ left)
+module _ (ts ys left : List Token) (at : ℕ) (t : Token) (le : at ≤ t.place + length t.text) (next : ys ≡ t ∷ left)
     (other : bytes_eq t.text (codes "$)") ≡ false) where
   pub passes_word : IsPassing true [] ts ys at → IsPassing true [] ts left (t.place + length t.text)
   passes_word p =

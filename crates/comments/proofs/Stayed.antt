@@ -32,7 +32,7 @@ reads_same (x ∷ xs) =
     ∙ ap (λ ts. reading x.words ∷ ts) (reads_same xs)
 
 never : (b : Bool) → b ≡ false → IsTrue b → ⊥
-never b no yes = let e : ◌≡◌ {A = Bool} false true = sym no ∙ yes in absurd cc
+never b isnt is = let e : ◌≡◌ {A = Bool} false true = sym isnt ∙ is in absurd cc
 
 none_gone : (ws : List Word) → All (λ label. IsTrue (is_in [] label)) ws → ws ≡ []
 none_gone [] h = refl

@@ -125,7 +125,7 @@ module _ (cs : List Change) (gone : List Word) (source : List ℕ) where
     block = inl (omega arith);
   }
 
-  module _ (ys left : List Token) (t : Token) (at : ℕ) (le : at ≤ t.place) (next : ys ≡ t ∷ left) (old new : Walk)
+  module _ (ys left : List Token) (t : Token) (at : ℕ) (le : at ≤ t.place + length t.text) (next : ys ≡ t ∷ left) (old new : Walk)
       (h : IsWalked cs gone source ys at old) where
     -- a token outside of comments
     pub walked_outside : bytes_eq t.text (codes "$(") ≡ false → new.stating ≡ not (stands_between t.text)
