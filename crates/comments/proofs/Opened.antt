@@ -67,6 +67,14 @@ next_here ts ys left t p next other = record {
   opens_none = other;
 }
 
+-- what stands outside of comments from the next token there on
+pub next_is : (ts left : List Token) (t : Token) → IsNext ts left t → outside false ts ≡ t ∷ outside false left
+next_is ts left t n =
+    ap (outside false) n.stands
+    ∙ outside_then n.skipped n.closed (t ∷ left)
+    ∙ ap (λ us. us ++ outside false (t ∷ left)) n.nothing
+    ∙ ap (λ b. cond b (outside true left) (t ∷ outside false left)) n.opens_none
+
 -- a comment more
 pub passed_more : (ts ys inside left : List Token) (t : Token) (end : ℕ) → IsPassedOver ts ys → ys ≡ t ∷ inside
     → bytes_eq t.text (codes "$(") ≡ true → IsClosed true [] inside left end → IsPassedOver ts left

@@ -6,7 +6,7 @@ ghost use Rattle.comments.specs.Deleted.{IsInFront};
 ghost use Rattle.comments.specs.Insides.{labels_in};
 ghost use Rattle.comments.specs.Blocks.{IsBlockEnd};
 
-use crate::inside::{Inside, asserts};
+use crate::inside::{Inside, asserts, is_gone};
 use crate::outside::next_outside;
 use giving::Changes;
 use mmtext::next_token;
@@ -20,7 +20,7 @@ pub(crate) fn is_in_front(text: &[u8], at: usize, gone: &Changes<'_>) -> bool
     let Some(label) = next_token(text, at) else {
         return false;
     };
-    if gone.text_for(label.text).is_none() {
+    if !is_gone(gone, Some(label.text)) {
         return false;
     }
     match next_outside(text, label.place + label.text.len()) {

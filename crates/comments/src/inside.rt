@@ -28,7 +28,7 @@ fn depth_behind(depth: usize, word: &[u8]) -> Option<usize>
 }
 
 /// Whether there is a word, and it is a label that is gone.
-fn is_gone(gone: &Changes<'_>, word: Option<&[u8]>) -> bool
+pub(crate) fn is_gone(gone: &Changes<'_>, word: Option<&[u8]>) -> bool
     ensures { IsTrue result → IsGoneLabel (labels_in gone.now) word.entry }
 {
     match word {

@@ -1,6 +1,6 @@
 //! Whether the comments of a source stand in the text with edits too.
 
-ghost use Rattle.std.specs.Prelude.{◌≡◌, ◌↔◌, IfOk, IsTrue, map};
+ghost use Rattle.std.specs.Prelude.{◌≡◌, IfOk, IsTrue, map};
 ghost use Rattle.comments.specs.Insides.{labels_in};
 ghost use Rattle.comments.specs.Kept.{AreKept};
 ghost use Rattle.comments.specs.Walks.{seen_texts};
@@ -12,7 +12,7 @@ use std::hash::RandomState;
 
 /// Whether texts are equal.
 fn are_equal(ones: &[Vec<u8>], others: &[Vec<u8>]) -> bool
-    ensures { IsTrue result ↔ (seen_texts ones.now ≡ seen_texts others.now) }
+    ensures { IsTrue result → seen_texts ones.now ≡ seen_texts others.now }
 {
     if ones.len() != others.len() {
         return false;

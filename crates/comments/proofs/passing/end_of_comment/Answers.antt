@@ -30,3 +30,16 @@ loop-token-preserved c =
           passes_word (tokens_from from (drop from text)) (tokens_from at (drop at text)) (tokens_from end (drop end text)) at t le next.some
           other c.loop-token.invariant.passing;
     }
+
+pub returns-then-eq-clause-closed : goal.returns-then-eq-clause-closed
+returns-then-eq-clause-closed c =
+    let text = c.args.text.now in
+    let from = c.args.from in
+    let at = c.loop-token.at in
+    let t = seen c.in-Some.token in
+    let end = t.place + length t.text in
+    let next = c.in-Some.ensures in
+    let is : bytes_eq t.text (codes "$)") ≡ true = search rules in
+    let le : at ≤ end = omega (arith, next.later) in
+    ends_comment true [] (tokens_from from (drop from text)) (tokens_from at (drop at text)) (tokens_from end (drop end text)) at t le next.some
+    c.loop-token.invariant.passing is
