@@ -78,10 +78,10 @@ leads_inside gone old new w is_mark depth marks goes last is so_far t same h =
       is_last = subst (λ o. IsLast o (t ∷ [])) (sym last) (t, refl, same);
       labels = h.labels ++ now.labels;
       found = λ ts.
-      ap asserted (append_assoc so_far (t ∷ []) ts)
-      ∙ h.found (t ∷ ts)
-      ∙ ap (λ ws. h.labels ++ ws) (now.more ts)
-      ∙ sym (append_assoc h.labels now.labels (asserted (t ∷ ts)));
+          ap asserted (append_assoc so_far (t ∷ []) ts)
+          ∙ h.found (t ∷ ts)
+          ∙ ap (λ ws. h.labels ++ ws) (now.more ts)
+          ∙ sym (append_assoc h.labels now.labels (asserted (t ∷ ts)));
       each = All-append (IsGone gone) h.labels now.labels h.each now.each;
       some = λ yes. some_of old.found is_mark h.labels now.labels h.some now.some (sym is ∙ yes);
     }

@@ -1,5 +1,5 @@
 -- What flags keep of lists, one behind the other.
-use Rattle.std.proofs.Common.{◌≡◌, ◌∙◌, ℕ, Bool, true, false, List, [], ◌∷◌, ◌++◌, length, map, refl, ap, arith}
+use Rattle.std.proofs.Common.{◌≡◌, ◌∙◌, Bool, true, false, List, [], ◌∷◌, ◌++◌, length, map, refl, ap, arith}
 use Rattle.std.specs.Prelude.{All}
 use mathlib.Core.Bool.{not}
 use Rattle.std.proofs.lemmas.List.Elements.{All-head}

@@ -1,5 +1,5 @@
 -- Tokens of a source in a deleted block, when others in front of them are passed over.
-use Rattle.std.proofs.Common.{◌≡◌, ◌⊎◌, ◌∙◌, ℕ, ◌+◌, ◌≤◌, false, List, [], ◌∷◌, ◌++◌, length, Some, codes, refl, sym, ap, subst, inl, inr, arith}
+use Rattle.std.proofs.Common.{◌≡◌, ◌⊎◌, ◌∙◌, ℕ, ◌+◌, ◌≤◌, false, List, [], ◌∷◌, ◌++◌, length, codes, refl, sym, ap, subst, inl, inr, arith}
 use Rattle.std.specs.Str.{bytes_eq}
 use Rattle.std.specs.Prelude.{All, IsTrue}
 use Rattle.std.proofs.lemmas.List.{append_assoc}
@@ -51,17 +51,17 @@ module _ (gone : List Word) (source : List ℕ) where
   block_skip ts left skip at end until e le by h = elim h [
     | inl past ↦ inl (omega arith)
     | inr b ↦ elim (skips skip left b.rest b.block.closing b.after end (sym e ∙ b.stands) by) [
-        | inl done ↦ inl (subst (λ n. n ≤ end) (sym b.ends) done)
-        | inr m ↦ inr (record {
-            front = b.front ++ skip;
-            rest = m.0;
-            after = b.after;
-            block = with_inside gone source (b.front ++ b.rest) ((b.front ++ skip) ++ m.0) b.after
-                (ap (λ zs. b.front ++ zs) m.1 ∙ sym (append_assoc b.front skip m.0)) b.block;
-            stands = m.2;
-            ends = b.ends;
-          })
-      ]
+      | inl done ↦ inl (subst (λ n. n ≤ end) (sym b.ends) done)
+      | inr m ↦ inr (record {
+        front = b.front ++ skip;
+        rest = m.0;
+        after = b.after;
+        block = with_inside gone source (b.front ++ b.rest) ((b.front ++ skip) ++ m.0) b.after
+            (ap (λ zs. b.front ++ zs) m.1 ∙ sym (append_assoc b.front skip m.0)) b.block;
+        stands = m.2;
+        ends = b.ends;
+      })
+    ]
   ]
 
   -- a block begins

@@ -1,5 +1,5 @@
 -- What is known of a walk that reads comments, behind one more token or comment.
-use Rattle.std.proofs.Common.{◌≡◌, ◌⊎◌, ◌∙◌, ℕ, ◌+◌, ◌<◌, ◌≤◌, Bool, true, false, cond, List, [], ◌∷◌, ◌++◌, length, map, Some, None, Vec, Global, codes}
+use Rattle.std.proofs.Common.{◌≡◌, ◌∙◌, ℕ, ◌+◌, ◌≤◌, Bool, true, false, cond, List, [], ◌∷◌, ◌++◌, length, map, Some, None, Vec, Global, codes}
 use Rattle.std.proofs.Common.{refl, sym, ap, subst, inl, inr, arith}
 use Rattle.std.specs.Prelude.{All, drop}
 use mathlib.Core.Bool.{not}
@@ -84,12 +84,12 @@ module _ (cs : List Change) (gone : List Word) (source : List ℕ) (words : List
   tells false c b m = elim m [
     | inl pushed ↦ stays c pushed
     | inr (same, why) ↦ goes c same (elim why [
-        | inl before ↦ elim b [
-            | inl past ↦ absurd (omega arith)
-            | inr block ↦ inr (in_deleted gone source words left until block)
-          ]
-        | inr front ↦ inl front
-      ])
+      | inl before ↦ elim b [
+        | inl past ↦ absurd (omega arith)
+        | inr block ↦ inr (in_deleted gone source words left until block)
+      ]
+      | inr front ↦ inl front
+    ])
   ]
 
 -- ---- the walk

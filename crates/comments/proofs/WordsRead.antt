@@ -1,5 +1,5 @@
 -- How the words of a comment read, one more at a time.
-use Rattle.std.proofs.Common.{◌≡◌, ◌∙◌, ℕ, Bool, List, [], ◌∷◌, ◌++◌, refl, sym, ap}
+use Rattle.std.proofs.Common.{◌≡◌, ◌∙◌, ℕ, List, [], ◌∷◌, ◌++◌, refl, sym, ap}
 use Rattle.std.proofs.lemmas.List.{flat_map_more}
 use Rattle.mmtext.specs.Words.{Word}
 use Rattle.giving.specs.Staying.{Change}

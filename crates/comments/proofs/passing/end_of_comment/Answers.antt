@@ -3,7 +3,7 @@ use Rattle.std.proofs.Common.{◌≡◌, ◌+◌, ◌≤◌, true, false, [], le
 use Rattle.std.specs.Str.{bytes_eq}
 use Rattle.mmtext.specs.Text.{tokens_from}
 use Rattle.mmtext.specs.Views.{seen}
-use Rattle.comments.proofs.Passed.{nothing_passed, passes_word, ends_comment, unclosed}
+use Rattle.comments.proofs.Passed.{nothing_passed, passes_word, ends_comment}
 use Rattle.comments.proofs.passing.end_of_comment.Goals as goal
 
 pub loop-token-init : goal.loop-token-init

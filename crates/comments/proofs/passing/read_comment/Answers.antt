@@ -1,9 +1,9 @@
 -- What is left to show of `read_comment`.
-use Rattle.std.proofs.Common.{◌≡◌, ◌+◌, ◌≤◌, ◌∷◌, ◌++◌, true, false, [], length, drop, codes, rules, arith, refl}
+use Rattle.std.proofs.Common.{◌≡◌, ◌+◌, ◌≤◌, ◌∷◌, ◌++◌, true, false, [], length, drop, codes, rules, arith}
 use Rattle.std.specs.Str.{bytes_eq}
 use Rattle.mmtext.specs.Text.{tokens_from}
 use Rattle.mmtext.specs.Views.{seen}
-use Rattle.comments.proofs.Passed.{nothing_passed, reads_word, ends_comment, unclosed}
+use Rattle.comments.proofs.Passed.{nothing_passed, reads_word, ends_comment}
 use Rattle.comments.proofs.WordsRead.{reads_more, stands_behind}
 use Rattle.comments.proofs.passing.read_comment.Goals as goal
 

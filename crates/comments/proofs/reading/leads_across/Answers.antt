@@ -1,5 +1,5 @@
 -- What is left to show of `leads_across`.
-use Rattle.std.proofs.Common.{◌≡◌, ◌∙◌, ◌<◌, Bool, true, false, length, take, get_or, sym, ap, rules, tests}
+use Rattle.std.proofs.Common.{◌≡◌, ◌∙◌, true, false, take, get_or, sym, ap, rules, tests}
 use Rattle.std.specs.Prelude.{◌==◌}
 use mathlib.Core.Bool.{not}
 use Rattle.comments.specs.Comments.{leads_across}
