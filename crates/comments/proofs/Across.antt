@@ -19,5 +19,6 @@ across-push [] b = refl
 across-push (a ∷ w) b = ap (turned (a == 96)) (across-push w b) ∙ turned-turned (a == 96) (b == 96) (leads_across w)
 
 -- one more byte
-pub across_more : (w : List ℕ) (i : ℕ) → i < length w → leads_across (take (i + 1) w) ≡ turned (get_or w i 0 == 96) (leads_across (take i w))
+pub across_more : (w : List ℕ) (i : ℕ) → i < length w
+    → leads_across (take (i + 1) w) ≡ turned (get_or w i 0 == 96) (leads_across (take i w))
 across_more w i lt = ap leads_across (take_more w i 0 lt) ∙ across-push (take i w) (get_or w i 0)

@@ -9,7 +9,7 @@ use Rattle.mmtext.specs.Text.{Token}
 use Rattle.source.specs.Scopes.{is_in}
 use Rattle.comments.specs.declared.inside.Inside.{Inside}
 use Rattle.comments.specs.Deleted.{asserts, open_behind, asserted}
-use Rattle.comments.specs.Insides.{IsGoneLabel, IsLast, IsReadInside, LeadsInside}
+use Rattle.comments.specs.Insides.{IsGoneLabel, IsLast, LeadsInside}
 
 abbrev IsGone : List Word → Word → Type 0
 IsGone gone w = IsTrue (is_in gone w)
@@ -85,14 +85,3 @@ leads_inside gone old new w is_mark depth marks goes last is so_far t same h =
       each = All-append (IsGone gone) h.labels now.labels h.each now.each;
       some = λ yes. some_of old.found is_mark h.labels now.labels h.some now.some (sym is ∙ yes);
     }
-
-pub nothing_inside : (gone : List Word) (s : Inside) → s.depth ≡ 0 → s.last ≡ None → s.found ≡ false → IsReadInside gone [] s
-nothing_inside gone s depth last found = record {
-  depth = λ ts. ap (λ n. open_behind n ts) (sym depth);
-  last = [];
-  is_last = subst (λ o. IsLast o []) (sym last) refl;
-  labels = [];
-  found = λ ts. refl;
-  each = All-nil (IsGone gone);
-  some = λ yes. let no : false ≡ true = sym found ∙ yes in absurd cc;
-}

@@ -6,7 +6,7 @@ use Rattle.std.specs.Borrow.{Bor}
 use Rattle.std.specs.Str.{bytes_eq}
 use Rattle.mmtext.specs.Words.{Word}
 use Rattle.source.specs.Scopes.{is_in}
-use Rattle.giving.specs.Staying.{Change, changed, or_same}
+use Rattle.giving.specs.Staying.{Change}
 use Rattle.comments.specs.Insides.{labels_in}
 
 some_or : (b : Bool) (c : Change) (o : Option Change) → is_some (cond b (Some c) o) ≡ (b || is_some o)
@@ -31,22 +31,3 @@ module _ (cs : List Change) (w : Word) (r : Option (Bor (List ℕ)))
       ∙ ap (λ (o : Option Word). is_some o) is
       ∙ mapped_some (λ (c : Change). c.1) (find (λ c. bytes_eq w c.0) cs)
       ∙ finds cs w
-
-or_same-map : (w : Word) (o : Option Change) (v : Word) → Some v ≡ option_map (λ (c : Change). c.1) o → v ≡ or_same w o
-or_same-map w None v e = absurd cc
-or_same-map w (Some c) v e = cc
-
-or_same-none : (w : Word) (o : Option Change) → None ≡ option_map (λ (c : Change). c.1) o → w ≡ or_same w o
-or_same-none w None e = refl
-or_same-none w (Some c) e = absurd cc
-
--- a label as it reads then
-pub found_is : (cs : List Change) (w : Word) (r : Option (Bor (List ℕ))) (v : Bor (List ℕ)) → r ≡ Some v
-    → option_map (λ w. w.now) r ≡ option_map (λ c. c.1) (find (λ c. bytes_eq w c.0) cs) → v.now ≡ changed cs w
-found_is cs w r v some is =
-    or_same-map w (find (λ c. bytes_eq w c.0) cs) v.now (ap (option_map (λ (w : Bor (List ℕ)). w.now)) (sym some) ∙ is)
-
-pub none_is : (cs : List Change) (w : Word) (r : Option (Bor (List ℕ))) → r ≡ None
-    → option_map (λ w. w.now) r ≡ option_map (λ c. c.1) (find (λ c. bytes_eq w c.0) cs) → w ≡ changed cs w
-none_is cs w r none is =
-    or_same-none w (find (λ c. bytes_eq w c.0) cs) (ap (option_map (λ (w : Bor (List ℕ)). w.now)) (sym none) ∙ is)

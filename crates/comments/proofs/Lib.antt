@@ -3,7 +3,6 @@ mod WordsRead
 mod Opened
 mod Passed
 mod Finds
-mod Depths
 mod Asserted
 mod BlocksRead
 mod Skipped

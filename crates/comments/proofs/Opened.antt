@@ -58,15 +58,6 @@ module _ (front : List Token) (closed : in_comment_behind false front ≡ false)
 pub none_passed : (ts : List Token) → IsPassedOver ts ts
 none_passed ts = record { skipped = []; stands = refl; closed = refl; nothing = refl }
 
-pub next_here : (ts ys left : List Token) (t : Token) → IsPassedOver ts ys → ys ≡ t ∷ left → bytes_eq t.text (codes "$(") ≡ false → IsNext ts left t
-next_here ts ys left t p next other = record {
-  skipped = p.skipped;
-  stands = p.stands ∙ ap (λ us. p.skipped ++ us) next;
-  closed = p.closed;
-  nothing = p.nothing;
-  opens_none = other;
-}
-
 -- what stands outside of comments from the next token there on
 pub next_is : (ts left : List Token) (t : Token) → IsNext ts left t → outside false ts ≡ t ∷ outside false left
 next_is ts left t n =

@@ -13,10 +13,6 @@ use Rattle.comments.specs.Passing.{IsPassing, closed_then, IsClosed}
 use Rattle.comments.specs.Walks.{comment_of}
 use Rattle.comments.proofs.Opened.{outside_none, behind-append, outside-append}
 
-pub comments_none : (stating : Bool) (ws : List Word) → comments_from stating (Some ws) [] ≡ []
-comments_none true ws = refl
-comments_none false ws = refl
-
 pub end_later : (at end : ℕ) (ts : List Token) → at ≤ end → EndBy at ts → EndBy end ts
 end_later at end ts le h =
     All-weaker (λ (t : Token). t.place + length t.text ≤ at) (λ (t : Token). t.place + length t.text ≤ end) (λ t l. omega arith) ts h
@@ -100,8 +96,3 @@ module _ (ts ys left : List Token) (at : ℕ) (t : Token) (le : at ≤ t.place +
   reads_word ws p =
       passes false ws ts ys left at t le next p (ws ++ t.text ∷ []) other
       (ap (λ b. cond b (comment_of ws left ∷ comments_from false None left) (comments_from false (Some (ws ++ t.text ∷ [])) left)) other)
-
--- no $) came
-pub unclosed : (stating : Bool) (words : List Word) (ts left : List Token) (at : ℕ) → IsPassing stating words ts left at → left ≡ []
-    → comments_from stating (Some []) ts ≡ []
-unclosed stating words ts left at p e = p.same ∙ ap (λ us. comments_from stating (Some words) us) e ∙ comments_none stating words

@@ -1,13 +1,13 @@
 -- What is known of a walk that reads comments, behind one more token or comment.
-use Rattle.std.proofs.Common.{◌≡◌, ◌∙◌, ℕ, ◌+◌, ◌≤◌, Bool, true, false, cond, List, [], ◌∷◌, ◌++◌, length, map, Some, None, Vec, Global, codes}
-use Rattle.std.proofs.Common.{refl, sym, ap, subst, inl, inr, arith}
-use Rattle.std.specs.Prelude.{All, drop}
+use Rattle.std.proofs.Common.{◌≡◌, ◌∙◌, ℕ, ◌+◌, ◌≤◌, Bool, true, false, cond, List, [], ◌∷◌, ◌++◌, length, map, Some, None, Vec, Global}
+use Rattle.std.proofs.Common.{codes, refl, sym, ap, subst, inl, inr, arith}
+use Rattle.std.specs.Prelude.{All}
 use mathlib.Core.Bool.{not}
 use Rattle.std.specs.Str.{bytes_eq}
 use Rattle.std.proofs.lemmas.List.{append_assoc, append-nil, map-append, length-append, length-map}
 use Rattle.std.proofs.lemmas.List.Elements.{All-nil, All-cons, All-append}
 use Rattle.mmtext.specs.Words.{Word}
-use Rattle.mmtext.specs.Text.{Token, tokens, tokens_from}
+use Rattle.mmtext.specs.Text.{Token, tokens}
 use Rattle.giving.specs.Staying.{Change}
 use Rattle.taking.specs.Reasons.{kept}
 use Rattle.comments.specs.declared.walking.Walk.{Walk}
@@ -16,14 +16,10 @@ use Rattle.comments.specs.Deleted.{IsOfDeleted}
 use Rattle.comments.specs.Outside.{in_comment_behind, EndBy}
 use Rattle.comments.specs.Passing.{IsClosed}
 use Rattle.comments.specs.Blocks.{IsInBlockUntil}
-use Rattle.comments.specs.Walks.{seen_texts, comment_of, MayEnd, MayStay, IsTaken, IsWalked, AreTexts}
+use Rattle.comments.specs.Walks.{seen_texts, comment_of, MayEnd, MayStay, IsWalked}
 use Rattle.comments.proofs.Opened.{closed_then as closed_both, closed_one}
 use Rattle.comments.proofs.Skipped.{block_skip, block_begins, in_deleted}
 use Rattle.comments.proofs.KeptBy.{kept-append}
-
-no_more : (stating : Bool) → comments_from stating None [] ≡ []
-no_more true = refl
-no_more false = refl
 
 -- a token that opens a comment, and another one
 opens : (stating : Bool) (t : Token) (ts : List Token) → bytes_eq t.text (codes "$(") ≡ true
@@ -99,17 +95,6 @@ left_both : (fs gs : List Bool) (xs ys : List Comment) → length fs ≡ length 
 left_both fs gs xs ys many =
     ap (λ bs. kept bs (xs ++ ys)) (map-append not fs gs) ∙ kept-append (map not fs) (map not gs) xs ys (length-map fs not ∙ many)
 
--- where no more comments are told
-texts_of : (cs : List Change) (gone : List Word) (source : List ℕ) (ys : List Token) (at : ℕ) (w : Walk) (h : IsWalked cs gone source ys at w)
-    → comments_from w.stating None ys ≡ [] → AreTexts cs gone source (seen_texts w.texts.items)
-texts_of cs gone source ys at w h none =
-    let all : h.so_far ≡ comments source = sym (append-nil h.so_far) ∙ ap (λ us. h.so_far ++ us) (sym none) ∙ sym h.splits in record {
-      stay = h.stay;
-      many = h.many ∙ ap (λ (us : List Comment). length us) all;
-      left_out = subst (λ us. All (IsOfDeleted gone source) (kept (map not h.stay) us)) all h.left_out;
-      same = h.texts ∙ ap (λ us. map (reading_then cs) (kept h.stay us)) all;
-    }
-
 module _ (cs : List Change) (gone : List Word) (source : List ℕ) where
   pub nothing_walked : (w : Walk) → w.stating ≡ false → w.until ≡ 0 → w.texts.items ≡ [] → IsWalked cs gone source (tokens source) 0 w
   nothing_walked w stating until texts = record {
@@ -155,54 +140,55 @@ module _ (cs : List Change) (gone : List Word) (source : List ℕ) where
           ];
         }
 
-    -- a comment
-    pub walked_comment : (end : ℕ) → bytes_eq t.text (codes "$(") ≡ true → left ≡ tokens_from (t.place + length t.text) (drop (t.place + length t.text) source)
-        → IsTaken cs gone source (t.place + length t.text) old new end → IsWalked cs gone source (tokens_from end (drop end source)) end new
-    walked_comment end is here k =
-        let after = tokens_from end (drop end source) in
-        let c : IsClosed old.stating k.words left after end =
-        subst (λ us. IsClosed old.stating k.words us after end) (sym here) k.closed in
-        let skip : List Token = t ∷ c.body in
-        let all : ys ≡ skip ++ after = next ∙ ap (λ us. t ∷ us) c.stands in
-        let later = k.later in
-        let by : EndBy end skip = All-cons (λ (u : Token). u.place + length u.text ≤ end) t c.body (omega arith) c.passed in
-        let b = block_skip gone source ys after skip at end old.until all (omega arith) by h.block in
-        let m = tells cs gone source k.words left after old.until end (seen_texts old.texts.items) (seen_texts new.texts.items) old.stating c b k.texts in
-        let stay : List Bool = h.stay ++ m.flags in
-        record {
-          front = h.front ++ skip;
-          all = h.all ∙ ap (λ us. h.front ++ us) all ∙ sym (append_assoc h.front skip after);
-          closed = closed_both h.front h.closed skip (ap (λ v. in_comment_behind v c.body) is ∙ c.closed);
-          so_far = h.so_far ++ m.more;
-          splits =
-              h.splits
-              ∙ ap (λ us. h.so_far ++ comments_from old.stating None us) next
-              ∙ ap (λ us. h.so_far ++ us) (opens old.stating t left is ∙ m.splits)
-              ∙ sym (append_assoc h.so_far m.more (comments_from old.stating None after))
-              ∙ ap (λ v. (h.so_far ++ m.more) ++ comments_from v None after) (sym k.stating);
-          stay = stay;
-          many =
-              length-append h.stay m.flags
-              ∙ ap (λ n. n + length m.flags) h.many
-              ∙ ap (λ n. length h.so_far + n) m.many
-              ∙ sym (length-append h.so_far m.more);
-          left_out = subst (All (IsOfDeleted gone source)) (sym (left_both h.stay m.flags h.so_far m.more h.many))
-              (All-append (IsOfDeleted gone source) (kept (map not h.stay) h.so_far) (kept (map not m.flags) m.more) h.left_out m.left_out);
-          texts =
-              m.texts
-              ∙ ap (λ xs. xs ++ map (reading_then cs) (kept m.flags m.more)) h.texts
-              ∙ sym (map-append (reading_then cs) (kept h.stay h.so_far) (kept m.flags m.more))
-              ∙ ap (map (reading_then cs)) (sym (kept-append h.stay m.flags h.so_far m.more h.many));
-          block = subst (IsInBlockUntil gone source after end) (sym k.until) b;
-        }
+    -- a comment, with the tokens behind it
+    module _ (words : List Word) (after : List Token) (end : ℕ) (is : bytes_eq t.text (codes "$(") ≡ true)
+        (c : IsClosed old.stating words left after end) (later : t.place + length t.text ≤ end) (stating : new.stating ≡ old.stating)
+        (until : new.until ≡ old.until) where
+      all_taken : ys ≡ (t ∷ c.body) ++ after
+      all_taken = next ∙ ap (λ us. t ∷ us) c.stands
 
-    -- one that isn't closed: no more comments are told
-    pub walked_unclosed : bytes_eq t.text (codes "$(") ≡ true → comments_from old.stating (Some []) left ≡ [] → new ≡ old
-        → AreTexts cs gone source (seen_texts new.texts.items)
-    walked_unclosed is none same =
-        subst (λ (w : Walk). AreTexts cs gone source (seen_texts w.texts.items)) (sym same)
-        (texts_of cs gone source ys at old h (ap (λ us. comments_from old.stating None us) next ∙ opens old.stating t left is ∙ none))
+      block_then : IsInBlockUntil gone source after end old.until
+      block_then =
+          let by : EndBy end (t ∷ c.body) =
+          All-cons (λ (u : Token). u.place + length u.text ≤ end) t c.body later c.passed in
+          block_skip gone source ys after (t ∷ c.body) at end old.until all_taken (omega arith) by h.block
 
-  -- at the end
-  pub walked_all : (ys : List Token) (at : ℕ) (w : Walk) → ys ≡ [] → IsWalked cs gone source ys at w → AreTexts cs gone source (seen_texts w.texts.items)
-  walked_all ys at w none h = texts_of cs gone source ys at w h (ap (λ us. comments_from w.stating None us) none ∙ no_more w.stating)
+      splits_then : (more : List Comment) → comments_from old.stating (Some []) left ≡ more ++ comments_from old.stating None after
+          → comments source ≡ (h.so_far ++ more) ++ comments_from new.stating None after
+      splits_then more splits =
+          h.splits
+          ∙ ap (λ us. h.so_far ++ comments_from old.stating None us) next
+          ∙ ap (λ us. h.so_far ++ us) (opens old.stating t left is ∙ splits)
+          ∙ sym (append_assoc h.so_far more (comments_from old.stating None after))
+          ∙ ap (λ b. (h.so_far ++ more) ++ comments_from b None after) (sym stating)
+
+      takes : TellsMore cs gone source old.stating left after (seen_texts old.texts.items) (seen_texts new.texts.items)
+          → IsWalked cs gone source after end new
+      takes m = record {
+        front = h.front ++ t ∷ c.body;
+        all = h.all ∙ ap (λ us. h.front ++ us) all_taken ∙ sym (append_assoc h.front (t ∷ c.body) after);
+        closed = closed_both h.front h.closed (t ∷ c.body) (ap (λ b. in_comment_behind b c.body) is ∙ c.closed);
+        so_far = h.so_far ++ m.more;
+        splits = splits_then m.more m.splits;
+        stay = h.stay ++ m.flags;
+        many =
+            length-append h.stay m.flags
+            ∙ ap (λ n. n + length m.flags) h.many
+            ∙ ap (λ n. length h.so_far + n) m.many
+            ∙ sym (length-append h.so_far m.more);
+        left_out =
+            subst (All (IsOfDeleted gone source)) (sym (left_both h.stay m.flags h.so_far m.more h.many))
+            (All-append (IsOfDeleted gone source) (kept (map not h.stay) h.so_far) (kept (map not m.flags) m.more) h.left_out m.left_out);
+        texts =
+            m.texts
+            ∙ ap (λ xs. xs ++ map (reading_then cs) (kept m.flags m.more)) h.texts
+            ∙ sym (map-append (reading_then cs) (kept h.stay h.so_far) (kept m.flags m.more))
+            ∙ ap (map (reading_then cs)) (sym (kept-append h.stay m.flags h.so_far m.more h.many));
+        block = subst (IsInBlockUntil gone source after end) (sym until) block_then;
+      }
+
+      pub walked_comment : MayStay cs gone old.stating words after end old.until (seen_texts old.texts.items) (seen_texts new.texts.items)
+          → IsWalked cs gone source after end new
+      walked_comment stays =
+          takes (tells cs gone source words left after old.until end (seen_texts old.texts.items) (seen_texts new.texts.items)
+          old.stating c block_then stays)

@@ -1,9 +1,13 @@
 -- Of the code's inside, apart from the rules: tokens in and outside of comments.
-use Rattle.std.specs.Prelude.{◌≡◌, ◌≤◌, ◌+◌, ℕ, Bool, true, false, List, [], ◌∷◌, ◌++◌, length, All, codes}
+use Rattle.std.specs.Prelude.{◌≡◌, ◌≤◌, ◌+◌, ℕ, Bool, true, false, List, [], ◌∷◌, ◌++◌, length, drop, All, codes}
 use mathlib.Core.Bool.{not}
 use Rattle.std.specs.Str.{bytes_eq}
-use Rattle.mmtext.specs.Text.{Token}
+use Rattle.mmtext.specs.Text.{Token, tokens_from}
 use Rattle.rewriting.specs.Spans.{outside}
+
+-- the tokens from a place of a text on
+abbrev pub tokens_at : List ℕ → ℕ → List Token
+tokens_at text at = tokens_from at (drop at text)
 
 -- whether a comment is open behind tokens, where one was open before them or wasn't
 abbrev pub in_comment_behind : Bool → List Token → Bool

@@ -1,15 +1,15 @@
 -- Of the code's inside, apart from the rules: what is known of a walk that reads comments.
-use Rattle.std.specs.Prelude.{◌≡◌, ◌≤◌, ◌<◌, ◌⊎◌, ℕ, Bool, true, false, List, [], ◌∷◌, ◌++◌, length, drop, map, None, All, Vec, codes}
+use Rattle.std.specs.Prelude.{◌≡◌, ◌≤◌, ◌<◌, ◌⊎◌, ℕ, Bool, true, false, List, [], ◌∷◌, ◌++◌, length, map, None, All, Vec, codes}
 use mathlib.Core.Bool.{not}
 use Rattle.std.specs.declared.alloc.Global.{Global}
 use Rattle.mmtext.specs.Words.{Word}
-use Rattle.mmtext.specs.Text.{Token, tokens, tokens_from}
+use Rattle.mmtext.specs.Text.{Token, tokens}
 use Rattle.giving.specs.Staying.{Change}
 use Rattle.taking.specs.Reasons.{kept}
 use Rattle.comments.specs.declared.walking.Walk.{Walk}
 use Rattle.comments.specs.Comments.{Comment, comments_from, comments, reading_then}
 use Rattle.comments.specs.Deleted.{IsInFront, IsOfDeleted}
-use Rattle.comments.specs.Outside.{in_comment_behind}
+use Rattle.comments.specs.Outside.{tokens_at, in_comment_behind}
 use Rattle.comments.specs.Passing.{IsClosed}
 use Rattle.comments.specs.Blocks.{IsBlockEnd, IsInBlockUntil}
 
@@ -36,10 +36,10 @@ MayStay cs gone false words left end until old new =
 -- a comment was taken, up to its end
 pub record IsTaken (cs : List Change) (gone : List Word) (source : List ℕ) (from : ℕ) (old new : Walk) (end : ℕ) : Type 0 where
   pub words : List Word
-  pub closed : IsClosed old.stating words (tokens_from from (drop from source)) (tokens_from end (drop end source)) end
+  pub closed : IsClosed old.stating words (tokens_at source from) (tokens_at source end) end
   pub stating : new.stating ≡ old.stating
   pub until : new.until ≡ old.until
-  pub texts : MayStay cs gone old.stating words (tokens_from end (drop end source)) end old.until (seen_texts old.texts.items)
+  pub texts : MayStay cs gone old.stating words (tokens_at source end) end old.until (seen_texts old.texts.items)
       (seen_texts new.texts.items)
   pub later : from ≤ end
   pub within : end ≤ length source

@@ -1,8 +1,8 @@
 //! What of a source goes with assertions that were deleted: the comment in front of one, and a block of them.
 
-ghost use Rattle.std.specs.Prelude.{◌≤◌, List, ℕ, length, drop, IfSome, IsTrue};
-ghost use Rattle.mmtext.specs.Text.{tokens_from};
+ghost use Rattle.std.specs.Prelude.{◌≤◌, List, ℕ, length, IfSome, IsTrue};
 ghost use Rattle.comments.specs.Deleted.{IsInFront};
+ghost use Rattle.comments.specs.Outside.{tokens_at};
 ghost use Rattle.comments.specs.Insides.{labels_in};
 ghost use Rattle.comments.specs.Blocks.{IsBlockEnd};
 
@@ -15,7 +15,7 @@ use mmtext::next_token;
 pub(crate) fn is_in_front(text: &[u8], at: usize, gone: &Changes<'_>) -> bool
     requires { at ≤ length text.now }
     ensures { IsTrue result → (words : List (List ℕ)) → IsInFront (labels_in gone.now)
-        (record { words = words; behind = tokens_from at (drop at text.now) }) }
+        (record { words = words; behind = tokens_at text.now at }) }
 {
     let Some(label) = next_token(text, at) else {
         return false;
@@ -33,7 +33,7 @@ pub(crate) fn is_in_front(text: &[u8], at: usize, gone: &Changes<'_>) -> bool
 /// them wasn't deleted, none stands in it, or it isn't closed. It costs as much as there is up to the first that wasn't deleted.
 pub(crate) fn end_of_deleted(text: &[u8], from: usize, gone: &Changes<'_>) -> Option<usize>
     requires { from ≤ length text.now }
-    ensures { IfSome result (IsBlockEnd (labels_in gone.now) (tokens_from from (drop from text.now))) }
+    ensures { IfSome result (IsBlockEnd (labels_in gone.now) (tokens_at text.now from)) }
 {
     let mut inside = Inside::new();
     let mut at = from;

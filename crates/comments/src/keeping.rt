@@ -1,7 +1,6 @@
 //! Whether the comments of a source stand in the text with edits too.
 
 ghost use Rattle.std.specs.Prelude.{◌≡◌, IfOk, IsTrue, map};
-ghost use Rattle.comments.specs.Insides.{labels_in};
 ghost use Rattle.comments.specs.Kept.{AreKept};
 ghost use Rattle.comments.specs.Walks.{seen_texts};
 

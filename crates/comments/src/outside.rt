@@ -1,9 +1,8 @@
 //! The tokens of a text outside of comments, one behind the other.
 
-ghost use Rattle.std.specs.Prelude.{◌≤◌, ◌<◌, ◌+◌, length, drop, IfSome};
-ghost use Rattle.mmtext.specs.Text.{tokens_from};
+ghost use Rattle.std.specs.Prelude.{◌≤◌, ◌<◌, ◌+◌, length, IfSome};
 ghost use Rattle.mmtext.specs.Views.{seen};
-ghost use Rattle.comments.specs.Outside.{IsNext};
+ghost use Rattle.comments.specs.Outside.{tokens_at, IsNext};
 
 use crate::passing::end_of_comment;
 use mmtext::{Token, next_token};
@@ -12,7 +11,7 @@ use mmtext::{Token, next_token};
 pub(crate) fn next_outside(text: &[u8], from: usize) -> Option<Token<'_>>
     requires { from ≤ length text.now }
     ensures next { IfSome result (λ t. let end = t.place + length t.text.now in
-        IsNext (tokens_from from (drop from text.now)) (tokens_from end (drop end text.now)) (seen t)) }
+        IsNext (tokens_at text.now from) (tokens_at text.now end) (seen t)) }
     ensures later { IfSome result (λ t. from < t.place + length t.text.now) }
     ensures within { IfSome result (λ t. t.place + length t.text.now ≤ length text.now) }
 {

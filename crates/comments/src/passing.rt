@@ -1,8 +1,8 @@
 //! Comments, from the byte behind their `$(` on: they are passed over, or read.
 
-ghost use Rattle.std.specs.Prelude.{◌≡◌, ◌≤◌, length, drop, true, false, [], Some, IfOk, IfSome, IfNone, MatchOption};
-ghost use Rattle.mmtext.specs.Text.{tokens_from};
+ghost use Rattle.std.specs.Prelude.{◌≡◌, ◌≤◌, length, true, false, [], Some, IfOk, IfSome, IfNone, MatchOption};
 ghost use Rattle.comments.specs.Comments.{comments_from};
+ghost use Rattle.comments.specs.Outside.{tokens_at};
 ghost use Rattle.comments.specs.Passing.{IsClosed};
 ghost use Rattle.comments.specs.Gathered.{IsGathered};
 
@@ -14,10 +14,10 @@ use std::alloc::{AllocError, Global};
 /// Where a comment ends: the byte behind its `$)`. None where it has none.
 pub(crate) fn end_of_comment(text: &[u8], from: usize) -> Option<usize>
     requires { from ≤ length text.now }
-    ensures closed { IfSome result (λ end. IsClosed true [] (tokens_from from (drop from text.now)) (tokens_from end (drop end text.now)) end) }
+    ensures closed { IfSome result (λ end. IsClosed true [] (tokens_at text.now from) (tokens_at text.now end) end) }
     ensures later { IfSome result (λ end. from ≤ end) }
     ensures within { IfSome result (λ end. end ≤ length text.now) }
-    ensures unclosed { IfNone result (comments_from true (Some []) (tokens_from from (drop from text.now)) ≡ []) }
+    ensures unclosed { IfNone result (comments_from true (Some []) (tokens_at text.now from) ≡ []) }
 {
     let mut at = from;
     while let Some(token) = next_token(text, at) {
@@ -50,7 +50,7 @@ pub(crate) fn read_comment(
     from: usize,
 ) -> Result<Option<Gathered>, AllocError>
     requires { from ≤ length text.now }
-    ensures { IfOk result (λ read. MatchOption read (comments_from false (Some []) (tokens_from from (drop from text.now)) ≡ [])
+    ensures { IfOk result (λ read. MatchOption read (comments_from false (Some []) (tokens_at text.now from) ≡ [])
         (IsGathered changes.now text.now from)) }
 {
     let mut read = Vec::new(alloc);

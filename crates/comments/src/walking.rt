@@ -1,11 +1,10 @@
 //! A walk over a source that reads its comments between statements, but those that go with assertions that were deleted.
 
-ghost use Rattle.std.specs.Prelude.{◌≡◌, ◌≤◌, ◌<◌, ◌⊎◌, ℕ, List, [], Some, true, length, drop, IfOk, IsTrue, MatchOption};
-ghost use mathlib.Core.Bool.{not};
-ghost use Rattle.mmtext.specs.Text.{tokens, tokens_from};
+ghost use Rattle.std.specs.Prelude.{◌≡◌, ◌≤◌, ◌<◌, ℕ, List, [], Some, length, IfOk, MatchOption};
+ghost use Rattle.mmtext.specs.Text.{tokens};
 ghost use Rattle.giving.specs.Staying.{Change};
 ghost use Rattle.comments.specs.Comments.{stands_between, comments_from};
-ghost use Rattle.comments.specs.Deleted.{IsInFront};
+ghost use Rattle.comments.specs.Outside.{tokens_at};
 ghost use Rattle.comments.specs.Insides.{labels_in};
 ghost use Rattle.comments.specs.Walks.{MayEnd, IsTaken, IsWalked, seen_texts, AreTexts};
 
@@ -25,7 +24,7 @@ fn stands_between(word: &[u8]) -> bool
 /// Up to where a deleted block stands behind a word that ends at a byte of the source, where up to `until` one stood before it.
 fn until_behind(until: usize, gone: &Changes<'_>, source: &[u8], word: &[u8], end: usize) -> usize
     requires { end ≤ length source.now }
-    ensures { MayEnd (labels_in gone.now) word.now (tokens_from end (drop end source.now)) until result }
+    ensures { MayEnd (labels_in gone.now) word.now (tokens_at source.now end) until result }
 {
     if until > end || word != b"${".as_slice() {
         return until;
@@ -69,7 +68,7 @@ impl Walk {
         from: usize,
     ) -> Result<Option<usize>, AllocError>
         requires { from ≤ length source.now }
-        ensures { IfOk result (λ end. MatchOption end ((comments_from self.old.stating (Some []) (tokens_from from (drop from source.now)) ≡ [])
+        ensures { IfOk result (λ end. MatchOption end ((comments_from self.old.stating (Some []) (tokens_at source.now from) ≡ [])
             × (self.new ≡ self.old)) (IsTaken changes.now (labels_in gone.now) source.now from self.old self.new)) }
     {
         if self.stating {

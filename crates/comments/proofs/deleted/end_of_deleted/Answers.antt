@@ -1,7 +1,7 @@
 -- What is left to show of `end_of_deleted`.
-use Rattle.std.proofs.Common.{◌+◌, length, drop, rules}
-use Rattle.mmtext.specs.Text.{tokens_from}
+use Rattle.std.proofs.Common.{◌+◌, length, rules}
 use Rattle.mmtext.specs.Views.{seen}
+use Rattle.comments.specs.Outside.{tokens_at}
 use Rattle.comments.specs.Insides.{labels_in}
 use Rattle.comments.proofs.BlocksRead.{starts_inside, inside_more, block_ends}
 use Rattle.comments.proofs.deleted.end_of_deleted.Goals as goal
@@ -10,7 +10,7 @@ pub loop-token-init : goal.loop-token-init
 loop-token-init c =
     let gone = labels_in c.args.gone.now in record {
       within = c.requires;
-      read = starts_inside gone (tokens_from c.args.from (drop c.args.from c.args.text.now)) c.new-inside.result (c.new-inside.ensures gone);
+      read = starts_inside gone (tokens_at c.args.text.now c.args.from) c.new-inside.result (c.new-inside.ensures gone);
     }
 
 pub loop-token-preserved : goal.loop-token-preserved
@@ -23,7 +23,7 @@ loop-token-preserved c =
     let end = t.place + length t.text in record {
       within = c.in-Some.ensures.within;
       read =
-          inside_more gone (tokens_from from (drop from text)) (tokens_from at (drop at text)) (tokens_from end (drop end text))
+          inside_more gone (tokens_at text from) (tokens_at text at) (tokens_at text end)
           c.loop-token.inside t c.loop-token.invariant.read c.in-Some.ensures.next c.take.new.self (c.take.ensures (search rules));
     }
 
@@ -36,5 +36,5 @@ returns-then-is_ended_by c =
     let t = seen c.in-Some.token in
     let end = t.place + length t.text in
     let e = c.is_ended_by.ensures (search rules) in
-    block_ends gone (tokens_from from (drop from text)) (tokens_from at (drop at text)) (tokens_from end (drop end text)) c.loop-token.inside t
+    block_ends gone (tokens_at text from) (tokens_at text at) (tokens_at text end) c.loop-token.inside t
     c.loop-token.invariant.read c.in-Some.ensures.next e.closes e.depth e.found

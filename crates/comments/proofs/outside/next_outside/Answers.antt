@@ -1,8 +1,8 @@
 -- What is left to show of `next_outside`.
-use Rattle.std.proofs.Common.{◌≡◌, ◌+◌, ◌≤◌, true, length, drop, codes, rules, arith}
+use Rattle.std.proofs.Common.{◌≡◌, ◌+◌, ◌≤◌, true, length, codes, rules, arith}
 use Rattle.std.specs.Str.{bytes_eq}
-use Rattle.mmtext.specs.Text.{tokens_from}
 use Rattle.mmtext.specs.Views.{seen}
+use Rattle.comments.specs.Outside.{tokens_at}
 use Rattle.comments.proofs.Opened.{none_passed, passed_more}
 use Rattle.comments.proofs.outside.next_outside.Goals as goal
 
@@ -10,7 +10,7 @@ pub loop-token-init : goal.loop-token-init
 loop-token-init c = record {
   within = omega (arith, c.requires);
   later = omega arith;
-  passed = none_passed (tokens_from c.args.from (drop c.args.from c.args.text.now));
+  passed = none_passed (tokens_at c.args.text.now c.args.from);
 }
 
 pub loop-token-preserved : goal.loop-token-preserved
@@ -29,6 +29,6 @@ loop-token-preserved c =
       within = closed.within;
       later = later;
       passed =
-          passed_more (tokens_from from (drop from text)) (tokens_from at (drop at text)) (tokens_from end (drop end text))
-          (tokens_from behind (drop behind text)) t behind c.loop-token.invariant.passed next.some opens closed.closed;
+          passed_more (tokens_at text from) (tokens_at text at) (tokens_at text end)
+          (tokens_at text behind) t behind c.loop-token.invariant.passed next.some opens closed.closed;
     }

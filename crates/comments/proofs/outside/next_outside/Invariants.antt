@@ -1,7 +1,6 @@
 -- What the loop of `next_outside` keeps.
-use Rattle.std.proofs.Common.{◌-◌, ◌≤◌, length, drop}
-use Rattle.mmtext.specs.Text.{tokens_from}
-use Rattle.comments.specs.Outside.{IsPassedOver}
+use Rattle.std.proofs.Common.{◌-◌, ◌≤◌, length}
+use Rattle.comments.specs.Outside.{tokens_at, IsPassedOver}
 use Rattle.comments.proofs.outside.next_outside.Given as goal
 
 -- only comments were passed over
@@ -9,7 +8,7 @@ abbrev pub invariant-loop-token : goal.invariant-loop-token
 invariant-loop-token l = record {
   within : l.at ≤ length l.text;
   later : l.from ≤ l.at;
-  passed : IsPassedOver (tokens_from l.from (drop l.from l.text)) (tokens_from l.at (drop l.at l.text));
+  passed : IsPassedOver (tokens_at l.text l.from) (tokens_at l.text l.at);
 }
 
 abbrev pub decreases-loop-token : goal.decreases-loop-token

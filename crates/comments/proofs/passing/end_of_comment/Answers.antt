@@ -1,8 +1,8 @@
 -- What is left to show of `end_of_comment`.
-use Rattle.std.proofs.Common.{◌≡◌, ◌+◌, ◌≤◌, true, false, [], length, drop, codes, rules, arith}
+use Rattle.std.proofs.Common.{◌≡◌, ◌+◌, ◌≤◌, true, false, [], length, codes, rules, arith}
 use Rattle.std.specs.Str.{bytes_eq}
-use Rattle.mmtext.specs.Text.{tokens_from}
 use Rattle.mmtext.specs.Views.{seen}
+use Rattle.comments.specs.Outside.{tokens_at}
 use Rattle.comments.proofs.Passed.{nothing_passed, passes_word, ends_comment}
 use Rattle.comments.proofs.passing.end_of_comment.Goals as goal
 
@@ -10,7 +10,7 @@ pub loop-token-init : goal.loop-token-init
 loop-token-init c = record {
   within = omega (arith, c.requires);
   later = omega arith;
-  passing = nothing_passed true (tokens_from c.args.from (drop c.args.from c.args.text.now)) c.args.from;
+  passing = nothing_passed true (tokens_at c.args.text.now c.args.from) c.args.from;
 }
 
 pub loop-token-preserved : goal.loop-token-preserved
@@ -27,7 +27,7 @@ loop-token-preserved c =
       within = next.within;
       later = omega arith;
       passing =
-          passes_word (tokens_from from (drop from text)) (tokens_from at (drop at text)) (tokens_from end (drop end text)) at t le next.some
+          passes_word (tokens_at text from) (tokens_at text at) (tokens_at text end) at t le next.some
           other c.loop-token.invariant.passing;
     }
 
@@ -41,5 +41,5 @@ returns-then-eq-clause-closed c =
     let next = c.in-Some.ensures in
     let is : bytes_eq t.text (codes "$)") ≡ true = search rules in
     let le : at ≤ end = omega (arith, next.later) in
-    ends_comment true [] (tokens_from from (drop from text)) (tokens_from at (drop at text)) (tokens_from end (drop end text)) at t le next.some
+    ends_comment true [] (tokens_at text from) (tokens_at text at) (tokens_at text end) at t le next.some
     c.loop-token.invariant.passing is

@@ -1,8 +1,8 @@
 -- What is left to show of `read_comment`.
-use Rattle.std.proofs.Common.{◌≡◌, ◌+◌, ◌≤◌, ◌∷◌, ◌++◌, true, false, [], length, drop, codes, rules, arith}
+use Rattle.std.proofs.Common.{◌≡◌, ◌+◌, ◌≤◌, ◌∷◌, ◌++◌, true, false, [], length, codes, rules, arith}
 use Rattle.std.specs.Str.{bytes_eq}
-use Rattle.mmtext.specs.Text.{tokens_from}
 use Rattle.mmtext.specs.Views.{seen}
+use Rattle.comments.specs.Outside.{tokens_at}
 use Rattle.comments.proofs.Passed.{nothing_passed, reads_word, ends_comment}
 use Rattle.comments.proofs.WordsRead.{reads_more, stands_behind}
 use Rattle.comments.proofs.passing.read_comment.Goals as goal
@@ -13,7 +13,7 @@ loop-token-init c = record {
   later = omega arith;
   so_far = record {
     words = [];
-    passing = nothing_passed false (tokens_from c.args.from (drop c.args.from c.args.text.now)) c.args.from;
+    passing = nothing_passed false (tokens_at c.args.text.now c.args.from) c.args.from;
     reads = c.new-read.ensures.items;
     stands = c.at_first-standing.ensures;
   };
@@ -38,7 +38,7 @@ loop-token-preserved c =
       so_far = record {
         words = h.words ++ t.text ∷ [];
         passing =
-            reads_word (tokens_from from (drop from text)) (tokens_from at (drop at text)) (tokens_from end (drop end text)) at t le next.some
+            reads_word (tokens_at text from) (tokens_at text at) (tokens_at text end) at t le next.some
             other h.words h.passing;
         reads =
             reads_more cs h.words t.text s h.stands c.loop-token.read.items c.put_word.new.out.items h.reads c.in_ok-put_word.ensures;
@@ -60,7 +60,7 @@ returns-then-eq c =
     let before : from ≤ at = c.loop-token.invariant.later in record {
       words = h.words;
       closed =
-          ends_comment false h.words (tokens_from from (drop from text)) (tokens_from at (drop at text)) (tokens_from end (drop end text)) at t
+          ends_comment false h.words (tokens_at text from) (tokens_at text at) (tokens_at text end) at t
           le next.some h.passing is;
       reads = h.reads;
       later = omega arith;

@@ -1,6 +1,6 @@
 -- What the loop of `read_comment` keeps.
-use Rattle.std.proofs.Common.{◌-◌, ◌≤◌, length, drop}
-use Rattle.mmtext.specs.Text.{tokens_from}
+use Rattle.std.proofs.Common.{◌-◌, ◌≤◌, length}
+use Rattle.comments.specs.Outside.{tokens_at}
 use Rattle.comments.specs.Gathered.{IsReadSoFar}
 use Rattle.comments.proofs.passing.read_comment.Given as goal
 
@@ -9,7 +9,7 @@ abbrev pub invariant-loop-token : goal.invariant-loop-token
 invariant-loop-token l = record {
   within : l.at ≤ length l.text;
   later : l.from ≤ l.at;
-  so_far : IsReadSoFar l.changes (tokens_from l.from (drop l.from l.text)) (tokens_from l.at (drop l.at l.text)) l.at l.read.items l.standing;
+  so_far : IsReadSoFar l.changes (tokens_at l.text l.from) (tokens_at l.text l.at) l.at l.read.items l.standing;
 }
 
 abbrev pub decreases-loop-token : goal.decreases-loop-token

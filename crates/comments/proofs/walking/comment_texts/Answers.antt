@@ -1,9 +1,9 @@
 -- What is left to show of `comment_texts`.
-use Rattle.std.proofs.Common.{◌≡◌, ◌+◌, ◌≤◌, true, false, length, drop, codes, refl, ap, rules, arith}
+use Rattle.std.proofs.Common.{◌≡◌, ◌+◌, ◌≤◌, true, false, length, codes, refl, ap, rules, arith}
 use Rattle.std.specs.Str.{bytes_eq}
 use mathlib.Core.Bool.{not}
-use Rattle.mmtext.specs.Text.{tokens_from}
 use Rattle.mmtext.specs.Views.{seen}
+use Rattle.comments.specs.Outside.{tokens_at}
 use Rattle.comments.specs.Insides.{labels_in}
 use Rattle.comments.specs.Walks.{IsTaken}
 use Rattle.comments.proofs.Walked.{walked_outside, walked_comment}
@@ -22,7 +22,7 @@ loop-token-preserved c =
     let le : at ≤ end = omega (arith, next.later) in record {
       within = next.within;
       walked =
-          walked_outside cs gone source (tokens_from at (drop at source)) (tokens_from end (drop end source)) t at le next.some
+          walked_outside cs gone source (tokens_at source at) (tokens_at source end) t at le next.some
           c.loop-token.walk _ c.loop-token.invariant.walked other (ap not c.stands_between.ensures) c.until_behind.ensures refl;
     }
 
@@ -43,6 +43,6 @@ loop-token-preserved-then-eq c =
     let taken : IsTaken cs gone source end old new closed = rw c.in-Some-2.is at c.in_ok-closed.ensures in record {
       within = taken.within;
       walked =
-          walked_comment cs gone source (tokens_from at (drop at source)) (tokens_from end (drop end source)) t at le next.some old new
-          c.loop-token.invariant.walked closed opens refl taken;
+          walked_comment cs gone source (tokens_at source at) (tokens_at source end) t at le next.some old new c.loop-token.invariant.walked
+          taken.words (tokens_at source closed) closed opens taken.closed taken.later taken.stating taken.until taken.texts;
     }
