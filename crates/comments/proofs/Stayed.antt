@@ -60,7 +60,8 @@ same_texts wanted there us vs p q same =
     let one : IsPermutation (seen_texts wanted) (seen_texts us) = IsPermutation-map items wanted us p in
     let other : IsPermutation (seen_texts there) (seen_texts us) =
     subst (IsPermutation (seen_texts there)) (sym same) (IsPermutation-map items there vs q) in
-    IsPermutation-trans (seen_texts there) (seen_texts us) (seen_texts wanted) other (IsPermutation-sym (seen_texts wanted) (seen_texts us) one)
+    IsPermutation-trans (seen_texts there) (seen_texts us) (seen_texts wanted) other
+    (IsPermutation-sym (seen_texts wanted) (seen_texts us) one)
 
 pub kept_by : (cs : List Change) (gone : List Word) (source out : List ℕ) (wanted there us vs : List (Vec ℕ Global))
     → AreTexts cs gone source (seen_texts wanted) → AreTexts [] [] out (seen_texts there) → IsPermutation wanted us → IsPermutation there vs

@@ -119,7 +119,8 @@ module _ (cs : List Change) (gone : List Word) (source : List ℕ) where
         let end = t.place + length t.text in
         let all : tokens source ≡ h.front ++ t ∷ left = h.all ∙ ap (λ us. h.front ++ us) next in
         let by : EndBy end (t ∷ []) =
-        All-cons (λ (u : Token). u.place + length u.text ≤ end) t [] (omega arith) (All-nil (λ (u : Token). u.place + length u.text ≤ end)) in
+        All-cons (λ (u : Token). u.place + length u.text ≤ end) t [] (omega arith)
+        (All-nil (λ (u : Token). u.place + length u.text ≤ end)) in
         record {
           front = h.front ++ t ∷ [];
           all = all ∙ sym (append_assoc h.front (t ∷ []) left);

@@ -1,5 +1,6 @@
 -- Which comments of a source go with assertions that were deleted.
-use Rattle.std.specs.Prelude.{◌≡◌, ◌≢◌, ◌⊎◌, ℕ, zero, suc, Bool, false, List, [], ◌∷◌, ◌++◌, Option, Some, None, All, IsTrue, if◌then◌else◌, ◌||◌, codes}
+use Rattle.std.specs.Prelude.{◌≡◌, ◌≢◌, ◌⊎◌, ℕ, zero, suc, Bool, false, List, [], ◌∷◌, ◌++◌, Option, Some, None, All, IsTrue}
+use Rattle.std.specs.Prelude.{if◌then◌else◌, ◌||◌, codes}
 use Rattle.std.specs.Str.{bytes_eq}
 use Rattle.mmtext.specs.Words.{Word}
 use Rattle.mmtext.specs.Text.{Token, tokens}
@@ -11,7 +12,8 @@ use Rattle.comments.specs.Comments.{Comment}
 abbrev pub asserts : Word → Bool
 asserts w = bytes_eq w (codes "$a") || bytes_eq w (codes "$p")
 
--- the comment stands right in front of the statement of an assertion that was deleted: of its label, its $a or $p, and other comments between these
+-- the comment stands right in front of the statement of an assertion that was deleted: of its label, its $a or $p, and other comments between
+-- these
 pub record IsInFront (gone : List Word) (c : Comment) : Type 0 where
   pub label : Token
   pub rest : List Token
