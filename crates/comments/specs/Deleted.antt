@@ -1,7 +1,7 @@
 -- Which comments of a source go with assertions that were deleted.
-use Rattle.std.specs.Prelude.{◌≡◌, ◌≢◌, ◌⊎◌, ℕ, zero, suc, Bool, true, false, List, [], ◌∷◌, ◌++◌, Option, Some, None, All, IsTrue, if◌then◌else◌, ◌||◌, codes}
+use Rattle.std.specs.Prelude.{◌≡◌, ◌≢◌, ◌⊎◌, ℕ, zero, suc, Bool, false, List, [], ◌∷◌, ◌++◌, Option, Some, None, All, IsTrue}
+use Rattle.std.specs.Prelude.{if◌then◌else◌, ◌||◌, codes}
 use Rattle.std.specs.Str.{bytes_eq}
-use mathlib.Core.Bool.{not}
 use Rattle.mmtext.specs.Words.{Word}
 use Rattle.mmtext.specs.Text.{Token, tokens}
 use Rattle.source.specs.Scopes.{is_in}
@@ -12,7 +12,8 @@ use Rattle.comments.specs.Comments.{Comment}
 abbrev pub asserts : Word → Bool
 asserts w = bytes_eq w (codes "$a") || bytes_eq w (codes "$p")
 
--- the comment stands right in front of the statement of an assertion that was deleted: of its label, its $a or $p, and other comments between these
+-- the comment stands right in front of the statement of an assertion that was deleted: of its label, its $a or $p, and other comments between
+-- these
 pub record IsInFront (gone : List Word) (c : Comment) : Type 0 where
   pub label : Token
   pub rest : List Token
@@ -20,8 +21,8 @@ pub record IsInFront (gone : List Word) (c : Comment) : Type 0 where
   pub after : List Token
   pub stands : c.behind ≡ label ∷ rest
   pub next : outside false rest ≡ mark ∷ after
-  pub asserts : IsTrue (asserts mark.text)
-  pub gone : IsTrue (is_in gone label.text)
+  pub is_mark : IsTrue (asserts mark.text)
+  pub deleted : IsTrue (is_in gone label.text)
 
 -- how many blocks are open behind tokens outside of comments; None where one was closed that wasn't opened among them
 abbrev pub open_behind : ℕ → List Token → Option ℕ
@@ -49,7 +50,7 @@ pub record IsDeletedBlock (gone : List Word) (source : List ℕ) (inside after :
   pub closes : closing.text ≡ codes "$}"
   pub whole : open_behind 0 (outside false inside) ≡ Some 0
   pub some : asserted (outside false inside) ≢ []
-  pub gone : All (λ label. IsTrue (is_in gone label)) (asserted (outside false inside))
+  pub each : All (λ label. IsTrue (is_in gone label)) (asserted (outside false inside))
 
 -- the comment stands in such a block
 pub record IsInDeletedBlock (gone : List Word) (source : List ℕ) (c : Comment) : Type 0 where

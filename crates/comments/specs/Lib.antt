@@ -1,3 +1,9 @@
 pub mod Comments
 pub mod Deleted
 pub mod Kept
+pub mod Outside
+pub mod Passing
+pub mod Gathered
+pub mod Insides
+pub mod Blocks
+pub mod Walks

@@ -1,6 +1,6 @@
 //! Looking again at what is about to be printed.
 
-ghost use Rattle.std.specs.Prelude.{◌≡◌, ℕ, All, IfOk, IfSome, IsTrue, OnOk, Some, length, slice_get};
+ghost use Rattle.std.specs.Prelude.{◌≡◌, ◌⊎◌, ℕ, All, IfOk, IfSome, IsTrue, OnOk, Some, length, slice_get};
 ghost use Rattle.mmsyntax.specs.Tables.{Tables};
 ghost use Rattle.source.specs.Sources.{DeclaresText};
 ghost use Rattle.source.specs.Views.{seen_words};
@@ -8,22 +8,25 @@ ghost use Rattle.source.specs.Whole.{IsWhole};
 ghost use Rattle.choosing.specs.declared.wish.Wish.TheVariants.{These};
 ghost use Rattle.intake.specs.Intakes.{IsLibraryOf};
 ghost use Rattle.giving.specs.Staying.{StayAll, others};
+ghost use Rattle.comments.specs.Kept.{AreKept};
+ghost use Rattle.sourceediting.specs.Following.{KeepsPlaces, all_commands};
 ghost use Rattle.givetext.specs.Again.{IsFloatNamed, IsFloatOf, database_lines, edited_lines};
 ghost use Rattle.givetext.specs.Parts.{IsLookedAt};
 
 use crate::own::own_of;
 use crate::standing::first_behind;
 use choosing::Wish;
+use comments::are_kept;
 use giving::{Changes, first_not_staying};
 use intake::{Taken, Unfollowed, take_declared};
-use library::PlainLibrary;
+use library::{Entry, PlainLibrary};
 use mmsyntax::{Database, Float, Name, Prelude};
 use mmtext::{FaultKind, TextFault};
 use mmwriter::put_assertion;
 use scopes::Scopes;
 use source::Declared;
 use source::laws::sources_are_whole;
-use sourceediting::{File, Refusal};
+use sourceediting::{File, Refusal, keep_places, marked};
 use sourcereader::read_source;
 use std::alloc::{AllocError, Global};
 use std::hash::RandomState;
@@ -235,4 +238,27 @@ pub(crate) fn look_again(
     is_edited(alloc, &taken.database, edits.edited)?;
     let own = own_of(alloc, keys, &new, &taken)?;
     stay(alloc, edits.changes, old, &new, edits.own, own.as_slice())
+}
+
+/// Where a history adds, moves or deletes, no comment between the statements of the source is lost, and none is made, but for the labels
+/// that change. Those of deleted assertions, which are gone, may be left out.
+pub(crate) fn keep_comments(
+    alloc: Global,
+    keys: RandomState,
+    entries: &[Entry],
+    changes: &Changes<'_>,
+    gone: &[&[u8]],
+    source: &[u8],
+    out: &[u8],
+) -> Result<(), Refusal>
+    ensures { OnOk result (All KeepsPlaces (all_commands entries.now) ⊎ AreKept changes.now (seen_words gone.now) source.now out.now) }
+{
+    if keep_places(entries) {
+        return Ok(());
+    }
+    let gone = marked(alloc, keys, gone)?;
+    if !are_kept(alloc, keys, changes, &gone, source, out)? {
+        return Err(unfit(alloc, "a comment would be lost")?);
+    }
+    Ok(())
 }

@@ -13,7 +13,7 @@ ghost use Rattle.sourceediting.specs.Written.{IsWrittenAnew};
 ghost use Rattle.givetext.specs.Parts.{IsEdited};
 ghost use Rattle.givetext.specs.Given.{IsTakenText, IsGiven};
 
-use crate::again::{Edits, look_again};
+use crate::again::{Edits, keep_comments, look_again};
 use crate::origin::origin_of;
 use crate::own::{own_of, told_of};
 use checking::replay_library;
@@ -234,6 +234,15 @@ fn give_edits<'x, 'a: 'x>(
         edited: &replayed.edited,
     };
     look_again(rt, alloc, keys, old, out.as_slice(), edits)?;
+    keep_comments(
+        alloc,
+        keys,
+        replayed.entries.as_slice(),
+        &changes,
+        following.gone.as_slice(),
+        source,
+        out.as_slice(),
+    )?;
     Ok(out)
 }
 

@@ -18,6 +18,7 @@ mod refusal;
 mod writing;
 
 pub use citing::{are_uncited, labels_of, marked};
+pub use commands::keep_places;
 pub use following::{Followed, Following, opening_of};
 pub use outline::{Outline, outline_of};
 pub use planning::{Planned, axioms_then};

@@ -17,6 +17,19 @@ are_uncited-requires g c κs = ((refl, tt), ap length c.as_slice-2.ensures.value
 pub look_again-requires-after_bounds : goal.look_again-requires-after_bounds
 look_again-requires-after_bounds g c κs within = ap length c.as_slice-6.ensures.value ∙ c.in_ok-own.ensures.many
 
+-- where the history adds, moves or deletes
+comments_kept : (g : Over) (c : goal.In_ok-keep_comments g) → All KeepsPlaces (all_commands c.args.replayed.now.entries)
+    ⊎ AreKept c.in_ok-changes-2.changes (seen_following c.in_ok-following.following).gone c.args.source.now c.in_ok-out.out.items
+comments_kept g c =
+    let changes = c.in_ok-changes-2.changes in
+    let source = c.args.source.now in
+    subst (λ (text : List ℕ). All KeepsPlaces (all_commands c.args.replayed.now.entries)
+        ⊎ AreKept changes (seen_following c.in_ok-following.following).gone source text) c.as_slice-12.ensures.value
+    (subst (λ (ws : List Word). All KeepsPlaces (all_commands c.args.replayed.now.entries) ⊎ AreKept changes ws source c.as_slice-12.result.now)
+    (ap seen_words c.as_slice-11.ensures.value)
+    (subst (λ (es : List Entry). All KeepsPlaces (all_commands es) ⊎ AreKept changes (seen_words c.as_slice-11.result.now) source c.as_slice-12.result.now)
+    c.as_slice-10.ensures c.in_ok-keep_comments.ensures))
+
 pub returns : goal.returns
 returns g c choice are =
     let old = c.args.old.now.stand.scope in
@@ -38,6 +51,7 @@ returns g c choice are =
     (subst (λ (fs : List Bool). All (λ x. IsTrue (names_none (seen_words c.as_slice-3.result.now) x.proof)) (others fs old.assertions))
     c.as_slice-2.ensures.value c.in_ok-are_uncited.ensures))
     c.in_ok-out.ensures
+    (comments_kept g c)
     (subst (λ (text : List ℕ). IsLookedAt old text changes own then edited) c.as_slice-9.ensures.value
     (subst (λ (fs : List Bool). IsLookedAt old c.as_slice-9.result.now changes fs then edited) c.as_slice-6.ensures.value
     (subst (λ (ws : List Word). IsLookedAt old c.as_slice-9.result.now changes c.as_slice-6.result.now ws edited)

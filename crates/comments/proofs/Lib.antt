@@ -1,0 +1,11 @@
+mod Across
+mod WordsRead
+mod Opened
+mod Passed
+mod Finds
+mod Asserted
+mod BlocksRead
+mod Skipped
+mod KeptBy
+mod Walked
+mod Stayed

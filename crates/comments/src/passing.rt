@@ -1,0 +1,71 @@
+//! Comments, from the byte behind their `$(` on: they are passed over, or read.
+
+ghost use Rattle.std.specs.Prelude.{◌≡◌, ◌≤◌, length, true, false, [], Some, IfOk, IfSome, IfNone, MatchOption};
+ghost use Rattle.comments.specs.Comments.{comments_from};
+ghost use Rattle.comments.specs.Outside.{tokens_at};
+ghost use Rattle.comments.specs.Passing.{IsClosed};
+ghost use Rattle.comments.specs.Gathered.{IsGathered};
+
+use crate::reading::{Standing, put_word};
+use giving::Changes;
+use mmtext::next_token;
+use std::alloc::{AllocError, Global};
+
+/// Where a comment ends: the byte behind its `$)`. None where it has none.
+pub(crate) fn end_of_comment(text: &[u8], from: usize) -> Option<usize>
+    requires { from ≤ length text.now }
+    ensures closed { IfSome result (λ end. IsClosed true [] (tokens_at text.now from) (tokens_at text.now end) end) }
+    ensures later { IfSome result (λ end. from ≤ end) }
+    ensures within { IfSome result (λ end. end ≤ length text.now) }
+    ensures unclosed { IfNone result (comments_from true (Some []) (tokens_at text.now from) ≡ []) }
+{
+    let mut at = from;
+    while let Some(token) = next_token(text, at) {
+        at = token.place + token.text.len();
+        if token.text == b"$)".as_slice() {
+            return Some(at);
+        }
+    }
+    None
+}
+
+/// A comment that was read.
+#[derive(Drop)]
+pub(crate) struct Gathered {
+    /// Its words, with changed labels, and a space behind each.
+    pub text: Vec<u8>,
+    /// The byte behind its `$)`.
+    pub end: usize,
+}
+
+/// Reads a comment. None where it has no `$)`.
+///
+/// # Errors
+///
+/// Want of memory.
+pub(crate) fn read_comment(
+    alloc: Global,
+    changes: &Changes<'_>,
+    text: &[u8],
+    from: usize,
+) -> Result<Option<Gathered>, AllocError>
+    requires { from ≤ length text.now }
+    ensures { IfOk result (λ read. MatchOption read (comments_from false (Some []) (tokens_at text.now from) ≡ [])
+        (IsGathered changes.now text.now from)) }
+{
+    let mut read = Vec::new(alloc);
+    let mut standing = Standing::at_first();
+    let mut at = from;
+    while let Some(token) = next_token(text, at) {
+        at = token.place + token.text.len();
+        if token.text == b"$)".as_slice() {
+            return Ok(Some(Gathered {
+                text: read,
+                end: at,
+            }));
+        }
+        put_word(&mut read, changes, standing, token.text)?;
+        standing = standing.behind(token.text);
+    }
+    Ok(None)
+}
