@@ -3,8 +3,8 @@
 //! there, and so does what is put behind it.
 
 use crate::following::Followed;
-use crate::outline::{Outline, Stretch, outline_of};
 use library::Ranked;
+use outlining::{Outline, Stretch, outline_of};
 use rewriting::Span;
 use std::alloc::{AllocError, Global};
 use std::collections::HashMap;

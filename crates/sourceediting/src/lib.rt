@@ -1,17 +1,14 @@
 //! The text of a source with the edits of a history over a library that was taken of it, before it is looked at again.
 //!
 //! Labels change, proofs are exchanged, and where the history adds, moves or deletes assertions are cut out and put in: that is said of the
-//! text. Where assertions and blocks stand in the text, and that the edited library can be taken of it, is found by whoever prints it (`givetext`),
-//! who looks at it again.
+//! text. That the edited library can be taken of it is found by whoever prints it (`givetext`), who looks at it again.
 #![tactic(auto)]
 
 mod citing;
 mod commands;
-mod cutting;
 mod filling;
 mod following;
 mod moving;
-mod outline;
 mod planning;
 mod rearranging;
 mod refusal;
@@ -20,7 +17,6 @@ mod writing;
 pub use citing::{are_uncited, labels_of, marked};
 pub use commands::keep_places;
 pub use following::{Followed, Following, opening_of};
-pub use outline::{Outline, outline_of};
 pub use planning::{Planned, axioms_then};
 pub use refusal::{File, Refusal, shown};
 pub use writing::write_edits;

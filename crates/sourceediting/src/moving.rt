@@ -3,10 +3,10 @@
 
 use crate::citing::labels_of;
 use crate::following::Followed;
-use crate::outline::Outline;
 use crate::rearranging::Rearranged;
 use giving::Changes;
 use library::Ranked;
+use outlining::Outline;
 use source::Declared;
 use std::alloc::{AllocError, Global};
 use std::collections::HashMap;

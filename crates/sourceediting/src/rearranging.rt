@@ -6,13 +6,12 @@ ghost use Rattle.rewriting.specs.Spans.{IsCut, IsPutIn, IsPatched};
 ghost use Rattle.sourceediting.specs.Written.{IsRearranged, IsCutAndRewritten};
 
 use crate::citing::marked;
-use crate::cutting::{Leaving, cuts_of};
 use crate::filling::{Piece, Texts, fills_of};
 use crate::moving::{Moving, moving_of};
-use crate::outline::{Outline, Standing, Stretch, outline_of};
 use crate::planning::{ByLabel, Planned, unwritten};
 use crate::refusal::{File, Refusal, shown};
 use giving::Changes;
+use outlining::{Leaving, Outline, Standing, Stretch, cuts_of, outline_of};
 use rewriting::{Span, cut_out, put_in, rewrite};
 use source::{Declared, ProofWords};
 use sourcewriting::{Names, Statement, SymbolWords, assertion_text, symbol_words};

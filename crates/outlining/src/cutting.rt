@@ -10,7 +10,7 @@ use std::alloc::{AllocError, Global};
 
 /// An assertion that leaves its place.
 #[derive(Clone, Copy)]
-pub(crate) struct Leaving {
+pub struct Leaving {
     /// Its place in the outline.
     pub place: usize,
     /// Whether it is written anew elsewhere, without the comments of its block.
@@ -152,7 +152,7 @@ fn stretches_of(
 }
 
 /// The spans to cut out, in order, for assertions that leave their places.
-pub(crate) fn cuts_of(
+pub fn cuts_of(
     alloc: Global,
     outline: &Outline<'_>,
     leaving: &[Leaving],

@@ -8,7 +8,7 @@ use std::hash::RandomState;
 
 /// A stretch of a text, from a byte up to another, counted from 0.
 #[derive(Clone, Copy)]
-pub(crate) struct Stretch {
+pub struct Stretch {
     /// Behind the token in front.
     pub begin: usize,
     /// Behind its last token.
@@ -17,7 +17,7 @@ pub(crate) struct Stretch {
 
 /// An assertion of a text.
 #[derive(Clone, Copy)]
-pub(crate) struct Standing<'s> {
+pub struct Standing<'s> {
     pub label: &'s [u8],
     /// Its statement, with the comment in front.
     pub stretch: Stretch,
@@ -29,7 +29,7 @@ pub(crate) struct Standing<'s> {
 
 /// A statement of a block that is no assertion: `$e`, `$d`, `$f`, `$v`.
 #[derive(Clone, Copy)]
-pub(crate) struct Auxiliary {
+pub struct Auxiliary {
     /// The statement, without the comment in front.
     pub stretch: Stretch,
     /// The block that it stands in.
@@ -38,7 +38,7 @@ pub(crate) struct Auxiliary {
 
 /// A block of a text.
 #[derive(Clone, Copy)]
-pub(crate) struct Block {
+pub struct Block {
     /// From `${` up to `$}`, without the comment in front.
     pub stretch: Stretch,
     /// Its `${`.
@@ -54,9 +54,9 @@ pub(crate) struct Block {
 /// The assertions, the blocks and what else stands in these, each in the order of their first tokens.
 #[derive(Drop)]
 pub struct Outline<'s> {
-    pub(crate) assertions: Vec<Standing<'s>>,
-    pub(crate) blocks: Vec<Block>,
-    pub(crate) auxiliaries: Vec<Auxiliary>,
+    pub assertions: Vec<Standing<'s>>,
+    pub blocks: Vec<Block>,
+    pub auxiliaries: Vec<Auxiliary>,
 }
 
 /// How far a text was walked over.
@@ -253,7 +253,7 @@ impl<'s> Outline<'s> {
     }
 
     /// The block with a number, if there is one.
-    pub(crate) fn block(&self, number: Option<usize>) -> Option<&Block> {
+    pub fn block(&self, number: Option<usize>) -> Option<&Block> {
         self.blocks.get(number?)
     }
 
@@ -271,12 +271,12 @@ impl<'s> Outline<'s> {
     }
 
     /// The number of the outermost block that the assertion at a place stands in, if it stands in one.
-    pub(crate) fn outermost_at(&self, place: usize) -> Option<usize> {
+    pub fn outermost_at(&self, place: usize) -> Option<usize> {
         self.outermost(self.assertions.get(place)?.block)
     }
 
     /// The outermost block that an assertion stands in, or else its statement.
-    pub(crate) fn whole(&self, standing: &Standing<'_>) -> Stretch {
+    pub fn whole(&self, standing: &Standing<'_>) -> Stretch {
         match self.block(self.outermost(standing.block)) {
             Some(block) => block.stretch,
             None => standing.stretch,
@@ -284,7 +284,7 @@ impl<'s> Outline<'s> {
     }
 
     /// Whether no other assertion stands in the outermost block that an assertion stands in.
-    pub(crate) fn is_alone(&self, standing: &Standing<'_>) -> bool {
+    pub fn is_alone(&self, standing: &Standing<'_>) -> bool {
         match self.block(self.outermost(standing.block)) {
             Some(block) => block.assertions <= 1,
             None => true,

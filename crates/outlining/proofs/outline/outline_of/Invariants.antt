@@ -1,6 +1,6 @@
 -- What the loop of `outline_of` keeps.
 use Rattle.std.proofs.Common.{◌-◌, ◌≤◌, length}
-use Rattle.sourceediting.proofs.outline.outline_of.Given as goal
+use Rattle.outlining.proofs.outline.outline_of.Given as goal
 
 -- the next token is looked for within the text
 abbrev pub invariant-loop-token : goal.invariant-loop-token
