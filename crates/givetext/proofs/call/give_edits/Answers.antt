@@ -1,11 +1,12 @@
 -- What is left to show of `give_edits`.
-use Rattle.std.proofs.Common.{◌∙◌, ℕ, Bool, List, length, ap, subst, refl}
+use Rattle.std.proofs.Common.{◌⊎◌, ◌∙◌, ℕ, Bool, List, length, ap, subst, refl}
 use Rattle.std.specs.Prelude.{All, IsTrue}
 use Rattle.mmtext.specs.Words.{Word}
 use Rattle.source.specs.Views.{seen_words}
 use Rattle.giving.specs.Staying.{others}
 use Rattle.library.specs.declared.history.Entry.{Entry}
-use Rattle.sourceediting.specs.Following.{Following, all_commands, behind_all, opening, names_none}
+use Rattle.comments.specs.Kept.{AreKept}
+use Rattle.sourceediting.specs.Following.{Following, all_commands, KeepsPlaces, behind_all, opening, names_none}
 use Rattle.sourceediting.specs.Views.{seen_following}
 use Rattle.givetext.specs.Parts.{IsLookedAt}
 use Rattle.givetext.proofs.Looked.{edited_by}
@@ -16,19 +17,6 @@ are_uncited-requires g c κs = ((refl, tt), ap length c.as_slice-2.ensures.value
 
 pub look_again-requires-after_bounds : goal.look_again-requires-after_bounds
 look_again-requires-after_bounds g c κs within = ap length c.as_slice-6.ensures.value ∙ c.in_ok-own.ensures.many
-
--- where the history adds, moves or deletes
-comments_kept : (g : Over) (c : goal.In_ok-keep_comments g) → All KeepsPlaces (all_commands c.args.replayed.now.entries)
-    ⊎ AreKept c.in_ok-changes-2.changes (seen_following c.in_ok-following.following).gone c.args.source.now c.in_ok-out.out.items
-comments_kept g c =
-    let changes = c.in_ok-changes-2.changes in
-    let source = c.args.source.now in
-    subst (λ (text : List ℕ). All KeepsPlaces (all_commands c.args.replayed.now.entries)
-        ⊎ AreKept changes (seen_following c.in_ok-following.following).gone source text) c.as_slice-12.ensures.value
-    (subst (λ (ws : List Word). All KeepsPlaces (all_commands c.args.replayed.now.entries) ⊎ AreKept changes ws source c.as_slice-12.result.now)
-    (ap seen_words c.as_slice-11.ensures.value)
-    (subst (λ (es : List Entry). All KeepsPlaces (all_commands es) ⊎ AreKept changes (seen_words c.as_slice-11.result.now) source c.as_slice-12.result.now)
-    c.as_slice-10.ensures c.in_ok-keep_comments.ensures))
 
 pub returns : goal.returns
 returns g c choice are =
@@ -41,6 +29,15 @@ returns g c choice are =
     let changes = c.in_ok-changes-2.changes in
     let then = seen_words c.in_ok-then.then.items in
     let edited = replayed.edited in
+    let source = c.args.source.now in
+    let gone = c.as_slice-11.result.now in
+    let text = c.as_slice-12.result.now in
+    let kept : All KeepsPlaces (all_commands replayed.entries) ⊎ AreKept changes followed.gone source out =
+    subst (λ (bs : List ℕ). All KeepsPlaces (all_commands replayed.entries) ⊎ AreKept changes followed.gone source bs) c.as_slice-12.ensures.value
+    (subst (λ (ws : List Word). All KeepsPlaces (all_commands replayed.entries) ⊎ AreKept changes ws source text)
+    (ap seen_words c.as_slice-11.ensures.value)
+    (subst (λ (es : List Entry). All KeepsPlaces (all_commands es) ⊎ AreKept changes (seen_words gone) source text) c.as_slice-10.ensures
+    c.in_ok-keep_comments.ensures)) in
     edited_by c.args.source.now out old choice taken replayed.entries edited followed changes own
     (c.in_ok-following.ensures choice are
     ∙ ap (λ (es : List Entry). behind_all (all_commands es) (opening old choice taken.database)) c.as_slice.ensures)
@@ -51,7 +48,7 @@ returns g c choice are =
     (subst (λ (fs : List Bool). All (λ x. IsTrue (names_none (seen_words c.as_slice-3.result.now) x.proof)) (others fs old.assertions))
     c.as_slice-2.ensures.value c.in_ok-are_uncited.ensures))
     c.in_ok-out.ensures
-    (comments_kept g c)
+    kept
     (subst (λ (text : List ℕ). IsLookedAt old text changes own then edited) c.as_slice-9.ensures.value
     (subst (λ (fs : List Bool). IsLookedAt old c.as_slice-9.result.now changes fs then edited) c.as_slice-6.ensures.value
     (subst (λ (ws : List Word). IsLookedAt old c.as_slice-9.result.now changes c.as_slice-6.result.now ws edited)
