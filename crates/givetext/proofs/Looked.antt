@@ -1,5 +1,5 @@
 -- A source with edits that was looked at.
-use Rattle.std.proofs.Common.{◌≡◌, ◌⊎◌, ℕ, Bool, List, map, subst, ap}
+use Rattle.std.proofs.Common.{◌≡◌, ℕ, Bool, List, map, subst, ap}
 use Rattle.std.specs.Prelude.{All, IsTrue}
 use Rattle.std.specs.Borrow.{Bor}
 use Rattle.mmtext.specs.Words.{Word}
@@ -15,7 +15,7 @@ use Rattle.intake.specs.Intakes.{IsLibraryOf, axioms_of, names_of}
 use Rattle.library.specs.declared.history.Entry.{Entry}
 use Rattle.library.specs.Library.{Listed}
 use Rattle.comments.specs.Kept.{AreKept}
-use Rattle.sourceediting.specs.Following.{Following, all_commands, KeepsPlaces, behind_all, opening, changes_of, label_then, own_flags}
+use Rattle.sourceediting.specs.Following.{Following, all_commands, behind_all, opening, changes_of, label_then, own_flags}
 use Rattle.sourceediting.specs.Following.{names_none}
 use Rattle.givetext.specs.Again.{IsFloatOf, database_lines, edited_lines}
 use Rattle.sourceediting.specs.Written.{IsWrittenAnew}
@@ -49,7 +49,7 @@ module _ (source out : List ℕ) (old : Scope) (choice : Choice) (taken : Taken)
     (changed : changes ≡ changes_of followed) (flags : own ≡ own_flags choice (axioms_of taken) old) where
   pub edited_by : (then : List Word) → then ≡ map label_then followed.living
       → All (λ x. IsTrue (names_none followed.gone x.proof)) (others own old.assertions) → IsWrittenAnew (all_commands entries) changes source out
-      → All KeepsPlaces (all_commands entries) ⊎ AreKept changes followed.gone source out → IsLookedAt old out changes own then edited
+      → AreKept changes followed.gone source out → IsLookedAt old out changes own then edited
       → IsEdited source old choice taken entries edited out
   edited_by then labels uncited written kept looked =
       let theirs = own_flags choice (axioms_of taken) old in
@@ -59,8 +59,7 @@ module _ (source out : List ℕ) (old : Scope) (choice : Choice) (taken : Taken)
         uncited =
             subst (λ (fs : List Bool). All (λ x. IsTrue (names_none followed.gone x.proof)) (others fs old.assertions)) flags uncited;
         written = subst (λ (cs : List Change). IsWrittenAnew (all_commands entries) cs source out) changed written;
-        comments =
-            subst (λ (cs : List Change). All KeepsPlaces (all_commands entries) ⊎ AreKept cs followed.gone source out) changed kept;
+        comments = subst (λ (cs : List Change). AreKept cs followed.gone source out) changed kept;
         looked =
             subst (λ (ws : List Word). IsLookedAt old out (changes_of followed) theirs ws edited) labels
             (subst (λ (fs : List Bool). IsLookedAt old out (changes_of followed) fs then edited) flags

@@ -1,5 +1,5 @@
 -- What is given back: the text of a source with the edits of a history.
-use Rattle.std.specs.Prelude.{◌≡◌, ◌⊎◌, ℕ, List, map, All, IsTrue}
+use Rattle.std.specs.Prelude.{◌≡◌, ℕ, List, map, All, IsTrue}
 use Rattle.mmtext.specs.Words.{Word}
 use Rattle.source.specs.Scopes.{Scope}
 use Rattle.source.specs.Sources.{DeclaresText}
@@ -14,7 +14,7 @@ use Rattle.intake.specs.declared.taken.Taken.{Taken}
 use Rattle.intake.specs.Intakes.{IsLibraryOf, axioms_of}
 use Rattle.taketext.specs.Answers.{taken_text}
 use Rattle.comments.specs.Kept.{AreKept}
-use Rattle.sourceediting.specs.Following.{Following, all_commands, KeepsPlaces, behind_all, opening, changes_of, label_then, own_flags}
+use Rattle.sourceediting.specs.Following.{Following, all_commands, behind_all, opening, changes_of, label_then, own_flags}
 use Rattle.sourceediting.specs.Following.{names_none}
 use Rattle.givetext.specs.Again.{IsTakenAgain}
 use Rattle.sourceediting.specs.Written.{IsWrittenAnew}
@@ -52,5 +52,5 @@ pub record IsGiven (source library history out : List ℕ) : Type 0 where
       (others (own_flags was_taken.taken.taken.choice (axioms_of taken) old) old.assertions)
   -- and so is every byte, but for these edits
   pub written : IsWrittenAnew (all_commands entries) (changes_of followed) source out
-  -- where the history adds, moves or deletes no comment is lost or made
-  pub comments : All KeepsPlaces (all_commands entries) ⊎ AreKept (changes_of followed) followed.gone source out
+  -- no comment between statements is lost or made, but some that go with what was deleted, and in each just the labels change
+  pub comments : AreKept (changes_of followed) followed.gone source out

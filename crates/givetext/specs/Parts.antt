@@ -1,5 +1,5 @@
 -- Of the code's inside, apart from the rules: what is known of a source with edits before it is printed.
-use Rattle.std.specs.Prelude.{◌≡◌, ◌⊎◌, ℕ, Bool, List, map, All, IsTrue}
+use Rattle.std.specs.Prelude.{◌≡◌, ℕ, Bool, List, map, All, IsTrue}
 use Rattle.mmtext.specs.Words.{Word}
 use Rattle.source.specs.Scopes.{Scope}
 use Rattle.source.specs.Sources.{DeclaresText}
@@ -11,7 +11,7 @@ use Rattle.library.specs.Library.{Listed}
 use Rattle.intake.specs.declared.taken.Taken.{Taken}
 use Rattle.intake.specs.Intakes.{axioms_of}
 use Rattle.comments.specs.Kept.{AreKept}
-use Rattle.sourceediting.specs.Following.{Following, all_commands, KeepsPlaces, behind_all, opening, changes_of, label_then, own_flags}
+use Rattle.sourceediting.specs.Following.{Following, all_commands, behind_all, opening, changes_of, label_then, own_flags}
 use Rattle.sourceediting.specs.Following.{names_none}
 use Rattle.givetext.specs.Again.{IsTakenAgain}
 use Rattle.sourceediting.specs.Written.{IsWrittenAnew}
@@ -32,5 +32,5 @@ pub record IsEdited (source : List ℕ) (old : Scope) (choice : Choice) (taken :
   pub follows : followed ≡ behind_all (all_commands entries) (opening old choice taken.database)
   pub uncited : All (λ x. IsTrue (names_none followed.gone x.proof)) (others (own_flags choice (axioms_of taken) old) old.assertions)
   pub written : IsWrittenAnew (all_commands entries) (changes_of followed) source out
-  pub comments : All KeepsPlaces (all_commands entries) ⊎ AreKept (changes_of followed) followed.gone source out
+  pub comments : AreKept (changes_of followed) followed.gone source out
   pub looked : IsLookedAt old out (changes_of followed) (own_flags choice (axioms_of taken) old) (map label_then followed.living) edited

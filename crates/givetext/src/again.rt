@@ -1,6 +1,6 @@
 //! Looking again at what is about to be printed.
 
-ghost use Rattle.std.specs.Prelude.{◌≡◌, ◌⊎◌, ℕ, All, IfOk, IfSome, IsTrue, OnOk, Some, length, slice_get};
+ghost use Rattle.std.specs.Prelude.{◌≡◌, ℕ, All, IfOk, IfSome, IsTrue, OnOk, Some, length, slice_get};
 ghost use Rattle.mmsyntax.specs.Tables.{Tables};
 ghost use Rattle.source.specs.Sources.{DeclaresText};
 ghost use Rattle.source.specs.Views.{seen_words};
@@ -9,7 +9,6 @@ ghost use Rattle.choosing.specs.declared.wish.Wish.TheVariants.{These};
 ghost use Rattle.intake.specs.Intakes.{IsLibraryOf};
 ghost use Rattle.giving.specs.Staying.{StayAll, others};
 ghost use Rattle.comments.specs.Kept.{AreKept};
-ghost use Rattle.sourceediting.specs.Following.{KeepsPlaces, all_commands};
 ghost use Rattle.givetext.specs.Again.{IsFloatNamed, IsFloatOf, database_lines, edited_lines};
 ghost use Rattle.givetext.specs.Parts.{IsLookedAt};
 
@@ -19,14 +18,14 @@ use choosing::Wish;
 use comments::are_kept;
 use giving::{Changes, first_not_staying};
 use intake::{Taken, Unfollowed, take_declared};
-use library::{Entry, PlainLibrary};
+use library::PlainLibrary;
 use mmsyntax::{Database, Float, Name, Prelude};
 use mmtext::{FaultKind, TextFault};
 use mmwriter::put_assertion;
 use scopes::Scopes;
 use source::Declared;
 use source::laws::sources_are_whole;
-use sourceediting::{File, Refusal, keep_places, marked};
+use sourceediting::{File, Refusal, marked};
 use sourcereader::read_source;
 use std::alloc::{AllocError, Global};
 use std::hash::RandomState;
@@ -240,22 +239,18 @@ pub(crate) fn look_again(
     stay(alloc, edits.changes, old, &new, edits.own, own.as_slice())
 }
 
-/// Where a history adds, moves or deletes, no comment between the statements of the source is lost, and none is made, but for the labels
-/// that change. Those of deleted assertions, which are gone, may be left out.
+/// No comment between the statements of the source is lost, and none is made, but for the labels that change. Those of deleted assertions,
+/// which are gone, may be left out.
 pub(crate) fn keep_comments(
     alloc: Global,
     keys: RandomState,
-    entries: &[Entry],
     changes: &Changes<'_>,
     gone: &[&[u8]],
     source: &[u8],
     out: &[u8],
 ) -> Result<(), Refusal>
-    ensures { OnOk result (All KeepsPlaces (all_commands entries.now) ⊎ AreKept changes.now (seen_words gone.now) source.now out.now) }
+    ensures { OnOk result (AreKept changes.now (seen_words gone.now) source.now out.now) }
 {
-    if keep_places(entries) {
-        return Ok(());
-    }
     let gone = marked(alloc, keys, gone)?;
     if !are_kept(alloc, keys, changes, &gone, source, out)? {
         return Err(unfit(alloc, "a comment would be lost")?);

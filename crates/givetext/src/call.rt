@@ -237,7 +237,6 @@ fn give_edits<'x, 'a: 'x>(
     keep_comments(
         alloc,
         keys,
-        replayed.entries.as_slice(),
         &changes,
         following.gone.as_slice(),
         source,

@@ -32,7 +32,7 @@ fn all_keep_places(commands: &[Command]) -> bool
 }
 
 /// Whether no command of a history adds, moves or deletes.
-pub fn keep_places(entries: &[Entry]) -> bool
+pub(crate) fn keep_places(entries: &[Entry]) -> bool
     ensures { IsTrue result ↔ All KeepsPlaces (all_commands entries.now) }
 {
     for entry in entries {

@@ -15,7 +15,6 @@ mod refusal;
 mod writing;
 
 pub use citing::{are_uncited, labels_of, marked};
-pub use commands::keep_places;
 pub use following::{Followed, Following, opening_of};
 pub use planning::{Planned, axioms_then};
 pub use refusal::{File, Refusal, shown};

@@ -341,7 +341,14 @@ fn put_proof<'p, 'a, D: Declared<'a>>(
     };
     let mut layout = Layout::new(alloc, statement.indent() + 2)?;
     let is_whole = put_words_of_proof(
-        alloc, &mut layout, prelude, names, statement, premises, &shared, root,
+        alloc,
+        &mut layout,
+        prelude,
+        names,
+        statement,
+        premises,
+        &shared,
+        root,
     )?;
     drop(shared);
     put_end(out, layout)?;

@@ -1,5 +1,5 @@
 -- What is left to show of `keep_comments`.
-use Rattle.std.proofs.Common.{◌≡◌, ◌∙◌, true, List, ap, subst, inr, rules}
+use Rattle.std.proofs.Common.{◌≡◌, ◌∙◌, true, List, ap, subst, rules}
 use Rattle.mmtext.specs.Words.{Word}
 use Rattle.source.specs.Views.{seen_words}
 use Rattle.comments.specs.Kept.{AreKept}
@@ -9,6 +9,5 @@ use Rattle.givetext.proofs.again.keep_comments.Goals as goal
 pub returns : goal.returns
 returns c =
     let yes : c.in_ok-are_kept.field-0 ≡ true = search rules in
-    inr
-    (subst (λ (ws : List Word). AreKept c.args.changes.now ws c.args.source.now c.args.out.now)
-    (ap firsts c.in_ok-gone.ensures ∙ firsts_marked (seen_words c.args.gone.now)) (c.in_ok-are_kept.ensures yes))
+    subst (λ (ws : List Word). AreKept c.args.changes.now ws c.args.source.now c.args.out.now)
+    (ap firsts c.in_ok-gone.ensures ∙ firsts_marked (seen_words c.args.gone.now)) (c.in_ok-are_kept.ensures yes)

@@ -1,12 +1,12 @@
 -- What is left to show of `give_edits`.
-use Rattle.std.proofs.Common.{◌⊎◌, ◌∙◌, ℕ, Bool, List, length, ap, subst, refl}
+use Rattle.std.proofs.Common.{◌∙◌, ℕ, Bool, List, length, ap, subst, refl}
 use Rattle.std.specs.Prelude.{All, IsTrue}
 use Rattle.mmtext.specs.Words.{Word}
 use Rattle.source.specs.Views.{seen_words}
 use Rattle.giving.specs.Staying.{others}
 use Rattle.library.specs.declared.history.Entry.{Entry}
 use Rattle.comments.specs.Kept.{AreKept}
-use Rattle.sourceediting.specs.Following.{Following, all_commands, KeepsPlaces, behind_all, opening, names_none}
+use Rattle.sourceediting.specs.Following.{Following, all_commands, behind_all, opening, names_none}
 use Rattle.sourceediting.specs.Views.{seen_following}
 use Rattle.givetext.specs.Parts.{IsLookedAt}
 use Rattle.givetext.proofs.Looked.{edited_by}
@@ -30,14 +30,12 @@ returns g c choice are =
     let then = seen_words c.in_ok-then.then.items in
     let edited = replayed.edited in
     let source = c.args.source.now in
-    let gone = c.as_slice-11.result.now in
-    let text = c.as_slice-12.result.now in
-    let kept : All KeepsPlaces (all_commands replayed.entries) ⊎ AreKept changes followed.gone source out =
-    subst (λ (bs : List ℕ). All KeepsPlaces (all_commands replayed.entries) ⊎ AreKept changes followed.gone source bs) c.as_slice-12.ensures.value
-    (subst (λ (ws : List Word). All KeepsPlaces (all_commands replayed.entries) ⊎ AreKept changes ws source text)
-    (ap seen_words c.as_slice-11.ensures.value)
-    (subst (λ (es : List Entry). All KeepsPlaces (all_commands es) ⊎ AreKept changes (seen_words gone) source text) c.as_slice-10.ensures
-    c.in_ok-keep_comments.ensures)) in
+    let gone = c.as_slice-10.result.now in
+    let text = c.as_slice-11.result.now in
+    let kept : AreKept changes followed.gone source out =
+    subst (λ (bs : List ℕ). AreKept changes followed.gone source bs) c.as_slice-11.ensures.value
+    (subst (λ (ws : List Word). AreKept changes ws source text) (ap seen_words c.as_slice-10.ensures.value)
+    c.in_ok-keep_comments.ensures) in
     edited_by c.args.source.now out old choice taken replayed.entries edited followed changes own
     (c.in_ok-following.ensures choice are
     ∙ ap (λ (es : List Entry). behind_all (all_commands es) (opening old choice taken.database)) c.as_slice.ensures)
