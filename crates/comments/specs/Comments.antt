@@ -17,8 +17,8 @@ pub record Comment : Type 0 where
 abbrev pub stands_between : Word → Bool
 stands_between w = bytes_eq w (codes "$.") || bytes_eq w (codes "${") || bytes_eq w (codes "$}")
 
--- the comments between statements, where a statement may be open before the tokens, or a comment, of which these words were read: $( opens a
--- comment, and $) closes it (section 4.1.2)
+-- the comments between statements, where a statement may be open before the tokens, or a comment, of which these words were read: $( opens
+-- a comment, and $) closes it (section 4.1.2)
 abbrev pub comments_from : Bool → Option (List Word) → List Token → List Comment
 comments_from stating said [] = []
 comments_from stating None (t ∷ ts) =

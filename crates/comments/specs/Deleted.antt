@@ -12,8 +12,8 @@ use Rattle.comments.specs.Comments.{Comment}
 abbrev pub asserts : Word → Bool
 asserts w = bytes_eq w (codes "$a") || bytes_eq w (codes "$p")
 
--- the comment stands right in front of the statement of an assertion that was deleted: of its label, its $a or $p, and other comments between
--- these
+-- the comment stands right in front of the statement of an assertion that was deleted: of its label, its $a or $p, and other comments
+-- between these
 pub record IsInFront (gone : List Word) (c : Comment) : Type 0 where
   pub label : Token
   pub rest : List Token

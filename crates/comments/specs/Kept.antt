@@ -7,8 +7,8 @@ use Rattle.taking.specs.Reasons.{kept}
 use Rattle.comments.specs.Comments.{comments, reading, reading_then}
 use Rattle.comments.specs.Deleted.{IsOfDeleted}
 
--- each comment between statements of the source stands between statements of the text, with changed labels, as often as in the source, and no
--- other does, but for some that go with deleted assertions, and stand there no more
+-- each comment between statements of the source stands between statements of the text, with changed labels, as often as in the source, and
+-- no other does, but for some that go with deleted assertions, and stand there no more
 pub record AreKept (cs : List Change) (gone : List Word) (source out : List ℕ) : Type 0 where
   pub stay : List Bool
   pub many : length stay ≡ length (comments source)

@@ -1,5 +1,5 @@
 -- What is left to show of `write_anew`.
-use Rattle.std.proofs.Common.{List, ℕ, subst}
+use Rattle.std.proofs.Common.{List, subst}
 use Rattle.std.specs.Prelude.{IfOk}
 use Rattle.library.specs.declared.history.Entry.{Entry}
 use Rattle.sourceediting.specs.Following.{all_commands}
