@@ -142,21 +142,7 @@ fn attempt(
     }
     let mut text = Written::new(alloc);
     text.show(format_args!("begin {words} commit"));
-    attempt_text(alloc, out, library, session, text.bytes.as_slice())
-}
-
-/// The same of the text of a script.
-fn attempt_text(
-    alloc: Global,
-    out: &mut Written,
-    library: &Library,
-    session: &mut Session,
-    text: &[u8],
-) -> bool
-    requires { IsOf library.now session.old }
-    ensures { IsOf library.now session.new }
-{
-    match read_script(alloc, library.prelude(), text) {
+    match read_script(alloc, library.prelude(), text.bytes.as_slice()) {
         Ok(script) => attempt_script(alloc, out, library, session, script.as_slice()),
         Err(fault) => unread(out, fault),
     }

@@ -63,15 +63,3 @@ pub(crate) fn run(
     let db = read_timed(rt, keys, text.as_slice())?;
     check_often(rt, &db)
 }
-
-/// Does what these words ask for.
-pub(crate) fn obey(
-    rt: &(impl AllocGlobal + Files + Print + Eprint + Clock + Threads + Sync),
-    keys: RandomState,
-    words: &[String],
-) -> Option<Ending> {
-    match words {
-        [db] => run(rt, keys, db.as_str()),
-        _ => Some(Ending::Misused),
-    }
-}

@@ -111,8 +111,8 @@ where
     do_task(rt, keys, task.as_str(), threads, db.as_str(), scripts)
 }
 
-/// Does `cells TASK DB [SCRIPT]`. It may wait.
-fn do_cells<R>(rt: &R, keys: RandomState, words: &[String]) -> Option<Ending>
+/// Does `TASK DB SCRIPT..`, by one thread or by one for each script. It may wait.
+fn do_one<R>(rt: &R, keys: RandomState, words: &[String]) -> Option<Ending>
 where
     R: AllocGlobal + Files + Print + Eprint + Clock + CpuClock + Threads + Wait + Sync,
 {
@@ -120,17 +120,6 @@ where
         return Some(Ending::Misused);
     };
     do_task(rt, keys, task.as_str(), 1, db.as_str(), scripts)
-}
-
-/// Does `meets DB SCRIPT..`. It may wait.
-fn do_meets<R>(rt: &R, keys: RandomState, words: &[String]) -> Option<Ending>
-where
-    R: AllocGlobal + Files + Print + Eprint + Clock + CpuClock + Threads + Wait + Sync,
-{
-    let [db, scripts @ ..] = words else {
-        return Some(Ending::Misused);
-    };
-    do_task(rt, keys, "meets", 1, db.as_str(), scripts)
 }
 
 /// Does a small run of each subject. It may wait.
@@ -148,18 +137,24 @@ where
     do_task(rt, keys, "sessions", 2, db.as_str(), others)
 }
 
-/// Does what the words behind a subject ask for; none is a failure. It may wait.
-fn do_subject<R>(rt: &R, keys: RandomState, subject: &str, words: &[String]) -> Option<Ending>
+/// Does what these words ask for, of which the first is the subject. It may wait.
+fn do_subject<R>(rt: &R, keys: RandomState, words: &[String]) -> Option<Ending>
 where
     R: AllocGlobal + Files + Print + Eprint + Clock + CpuClock + Threads + Wait + Sync,
 {
-    match subject {
-        "check" => check_work::obey(rt, keys, words),
-        "cells" => do_cells(rt, keys, words),
-        "words" => word_work::obey(rt, words),
-        "sessions" => do_sessions(rt, keys, words),
-        "meets" => do_meets(rt, keys, words),
-        "all" => do_all(rt, keys, words),
+    let [subject, behind @ ..] = words else {
+        return Some(Ending::Misused);
+    };
+    match subject.as_str() {
+        "check" => match behind {
+            [db] => check_work::run(rt, keys, db.as_str()),
+            _ => Some(Ending::Misused),
+        },
+        "cells" => do_one(rt, keys, behind),
+        "meets" => do_one(rt, keys, words),
+        "words" => word_work::obey(rt, behind),
+        "sessions" => do_sessions(rt, keys, behind),
+        "all" => do_all(rt, keys, behind),
         _ => Some(Ending::Misused),
     }
 }
@@ -178,11 +173,8 @@ where
         + Wait
         + Sync,
 {
-    let [subject, words @ ..] = words else {
-        return Some(Ending::Misused);
-    };
     let keys = RandomState::new(rt).ok()?;
-    do_subject(rt, keys, subject.as_str(), words)
+    do_subject(rt, keys, words)
 }
 
 /// Does what the words of a command line ask for, of which the first is the subject. It may wait.
