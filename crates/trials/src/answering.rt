@@ -59,13 +59,29 @@ pub fn answer_line(
         "database" => true,
         "|" => !before.is_empty(),
         "open" => open(rt, alloc, keys, out, opened, before, behind),
-        "finish" => end(alloc, keys, out, opened, behind, false),
-        "locks" => end(alloc, keys, out, opened, behind, true),
         "random" => compare(rt, alloc, keys, out, behind),
-        name => match opened {
-            Some(opened) => answer_session(alloc, out, opened, name, behind),
-            None => false,
-        },
+        _ => answer_opened(alloc, keys, out, opened, word, behind),
+    }
+}
+
+/// Writes what a line is answered that ends what is open, or uses a session of it; false where it can't be read.
+fn answer_opened(
+    alloc: Global,
+    keys: RandomState,
+    out: &mut Written,
+    opened: &mut Option<Opened>,
+    word: &str,
+    behind: &str,
+) -> bool
+    requires { IfSome opened.old IsOpen }
+    ensures { IfSome opened.new IsOpen }
+{
+    if word == "finish" || word == "locks" {
+        return end(alloc, keys, out, opened, behind, word == "locks");
+    }
+    match opened {
+        Some(opened) => answer_session(alloc, out, opened, word, behind),
+        None => false,
     }
 }
 
@@ -99,7 +115,7 @@ fn look(alloc: Global, out: &mut Written, library: &Library, session: &mut Sessi
 {
     match session.snapshot(alloc, library) {
         Look::Read { place, library } => {
-            out.put_made(format!(in alloc; "seen {place}\n"));
+            out.show(format_args!("seen {place}\n"));
             let done = put_library(&mut out.bytes, &library);
             out.note(done);
         }
@@ -125,7 +141,7 @@ fn attempt(
         return true;
     }
     let mut text = Written::new(alloc);
-    text.put_made(format!(in alloc; "begin {words} commit"));
+    text.show(format_args!("begin {words} commit"));
     match read_script(alloc, library.prelude(), text.bytes.as_slice()) {
         Ok(script) => attempt_script(alloc, out, library, session, script.as_slice()),
         Err(fault) => unread(out, fault),

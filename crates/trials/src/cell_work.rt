@@ -7,13 +7,14 @@
 ghost use Rattle.derivation.specs.Databases.{AllCheck};
 
 use crate::files::{ROOM, SLOTS};
-use crate::in_cells::{InCells, all_fit};
-use crate::measuring::Ending;
+use crate::in_cells::{InCells, apply};
+use crate::measuring::{Ending, finish};
+use crate::times::{Counts, End, count};
 use cells::{Cells, entry, label};
 use commands::RunError;
 use history::{ApplyError, Editor};
-use library::{Command, Reply, Script, Transaction};
-use mmstatement::{Database, Sequence};
+use library::{Command, Script, Transaction, has_edit};
+use mmstatement::Database;
 use plaincells::PlainCells;
 use proofcheck::check_all;
 use std::alloc::Global;
@@ -45,58 +46,49 @@ fn open(alloc: Global, db: &Database, count: usize) -> Option<()>
     read_back(alloc, &mut cells, count)
 }
 
-/// Does a transaction by the editor. One whose commands are outside the limits of its prelude, which no script has, is not done.
-pub(crate) fn apply(
-    editor: &mut Editor,
-    alloc: Global,
-    commands: &[Command],
-) -> Result<Sequence<Reply>, ApplyError> {
-    if all_fit(editor.prelude(), commands) {
-        editor.apply(alloc, commands)
-    } else {
-        Err(ApplyError::NoMemory)
+/// How a transaction by the editor ends.
+pub(crate) fn edit_once(editor: &mut Editor, alloc: Global, commands: &[Command]) -> End {
+    match apply(editor, alloc, commands) {
+        Ok(_) if has_edit(commands) => End::Committed,
+        Ok(_) => End::Read,
+        Err(ApplyError::Refused(_)) => End::Refused,
+        Err(ApplyError::NoMemory) => End::Other,
     }
 }
 
-/// How many transactions the editor does, and how many it refuses. None where it lacks memory.
-fn edit(
-    alloc: Global,
-    keys: RandomState,
-    db: &Database,
-    script: &[Transaction],
-) -> Option<(usize, usize)>
+/// How a transaction over plain cells ends, where what only reads commits too.
+fn write_once(cells: &mut InCells, alloc: Global, commands: &[Command]) -> End {
+    match cells.apply(alloc, commands) {
+        Ok(_) => End::Committed,
+        Err(RunError::Refused(_)) => End::Refused,
+        Err(_) => End::Other,
+    }
+}
+
+/// How the transactions of a script by the editor end. None where it isn't opened.
+fn edit(alloc: Global, keys: RandomState, db: &Database, script: &[Transaction]) -> Option<Counts>
     requires { AllCheck db.now }
 {
     let mut editor = Editor::open(alloc, keys, db, SLOTS).ok()?;
-    let (mut done, mut refused, mut is_whole) = (0_usize, 0_usize, true);
+    let mut counts = [0; 4];
     for commands in script {
-        match apply(&mut editor, alloc, commands.as_slice()) {
-            Ok(_) => done = done.saturating_add(1),
-            Err(ApplyError::Refused(_)) => refused = refused.saturating_add(1),
-            Err(ApplyError::NoMemory) => is_whole = false,
-        }
+        let end = edit_once(&mut editor, alloc, commands.as_slice());
+        count(&mut counts, end);
     }
-    is_whole.then_some((done, refused))
+    Some(counts)
 }
 
-/// How many transactions are done over plain cells, and how many are refused. None where one has another end.
-fn write(alloc: Global, db: &Database, script: &[Transaction]) -> Option<(usize, usize)>
+/// How the transactions of a script over plain cells end. None where they aren't opened.
+fn write(alloc: Global, db: &Database, script: &[Transaction]) -> Option<Counts>
     requires { AllCheck db.now }
 {
     let mut cells = InCells::open(alloc, db, SLOTS, ROOM).ok()?;
-    let (mut done, mut refused, mut is_whole) = (0_usize, 0_usize, true);
+    let mut counts = [0; 4];
     for commands in script {
-        if !all_fit(cells.prelude(), commands.as_slice()) {
-            is_whole = false;
-            break;
-        }
-        match cells.apply(alloc, commands.as_slice()) {
-            Ok(_) => done = done.saturating_add(1),
-            Err(RunError::Refused(_)) => refused = refused.saturating_add(1),
-            Err(_) => is_whole = false,
-        }
+        let end = write_once(&mut cells, alloc, commands.as_slice());
+        count(&mut counts, end);
     }
-    is_whole.then_some((done, refused))
+    Some(counts)
 }
 
 /// Does a task with a database alone, and prints how many assertions it has.
@@ -104,14 +96,16 @@ fn read(rt: &(impl AllocGlobal + Print), db: &Database, task: &str) -> Option<En
     requires { AllCheck db.now }
 {
     let count = db.assertions().len();
-    match task {
+    let done = match task {
         "check" => Some(()),
         "open" => open(rt.alloc(), db, 0),
         "back" => open(rt.alloc(), db, count),
         _ => return Some(Ending::Misused),
-    }?;
-    println!(rt; "assertions {count}").ok()?;
-    Some(Ending::Done)
+    };
+    match done {
+        Some(()) => finish(rt, format_args!("assertions {count}")),
+        None => None,
+    }
 }
 
 /// Does a task with a database and a script, and prints how many transactions were done and refused.
@@ -124,13 +118,16 @@ fn change(
 ) -> Option<Ending>
     requires { AllCheck db.now }
 {
-    let (done, refused) = match task {
+    let [committed, read, refused, other] = match task {
         "editor" => edit(rt.alloc(), keys, db, script),
         "cells" => write(rt.alloc(), db, script),
         _ => return Some(Ending::Misused),
     }?;
-    println!(rt; "done {done} refused {refused}").ok()?;
-    Some(Ending::Done)
+    if other != 0 {
+        return None;
+    }
+    let done = committed.saturating_add(read);
+    finish(rt, format_args!("done {done} refused {refused}"))
 }
 
 /// Does a task with a database and, for the last two, a script. None where that can't be done.

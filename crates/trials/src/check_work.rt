@@ -2,7 +2,7 @@
 //!
 //! It prints in how many of the checks a fault was found; and on the standard error how many microseconds reading took, and each check.
 
-use crate::measuring::Ending;
+use crate::measuring::{Ending, finish};
 use mmstatement::{Database, read_database};
 use proofcheck::check_all;
 use std::fs;
@@ -14,6 +14,18 @@ use std::time::{Duration, Instant};
 /// How often the proofs are checked.
 const ROUNDS: usize = 11;
 
+/// Whether the proofs check, and says how long that took. None where that can't be said.
+fn check_once(
+    rt: &(impl AllocGlobal + Eprint + Clock + Threads + Sync),
+    db: &Database,
+) -> Option<bool> {
+    let start = Instant::now(rt).ok()?;
+    let is_sound = check_all(rt, rt.alloc(), db).is_ok();
+    let time = start.elapsed(rt).ok()?;
+    eprintln!(rt; "check_us {}", time.as_micros()).ok()?;
+    Some(is_sound)
+}
+
 /// Checks the proofs so often, and says how long each check took.
 fn check_often(
     rt: &(impl AllocGlobal + Print + Eprint + Clock + Threads + Sync),
@@ -21,15 +33,11 @@ fn check_often(
 ) -> Option<Ending> {
     let mut faults = 0_usize;
     for _ in 0..ROUNDS {
-        let start = Instant::now(rt).ok()?;
-        if check_all(rt, rt.alloc(), db).is_err() {
+        if !check_once(rt, db)? {
             faults = faults.saturating_add(1);
         }
-        let time = start.elapsed(rt).ok()?;
-        eprintln!(rt; "check_us {}", time.as_micros()).ok()?;
     }
-    println!(rt; "checks {ROUNDS} faults {faults}").ok()?;
-    Some(Ending::Done)
+    finish(rt, format_args!("checks {ROUNDS} faults {faults}"))
 }
 
 /// The database of a text, and says how long reading it took.

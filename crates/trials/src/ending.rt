@@ -79,7 +79,7 @@ fn put_locks(alloc: Global, out: &mut Written, library: Library, sessions: Vec<S
 {
     let slots = library.slots();
     match library.close(alloc, sessions) {
-        Ok(closed) => put_moved(alloc, out, slots, closed.words.cells.as_slice()),
+        Ok(closed) => put_moved(out, slots, closed.words.cells.as_slice()),
         Err(_) => out.is_short = true,
     }
 }
@@ -109,7 +109,7 @@ fn put_end(
             );
         }
         Err(FinishError::NoMemory) => out.is_short = true,
-        Err(error) => out.put_made(format!(in alloc; "{error}\n")),
+        Err(error) => out.show(format_args!("{error}\n")),
     }
 }
 
@@ -129,21 +129,35 @@ fn put_finished(
     requires fit { EntriesFit database.now.prelude (map told history.now) }
 {
     let count = history.len();
-    out.put_made(format!(in alloc; "finished {count}\n"));
+    out.show(format_args!("finished {count}\n"));
     put_told(out, after, false);
     let mut wanted = Written::new(alloc);
     put_told(&mut wanted, after, true);
     let mut found = Written::new(alloc);
+    put_replayed(alloc, keys, &mut found, database, slots, history);
+    out.is_short |= wanted.is_short || found.is_short;
+    let is_same = wanted.bytes.as_slice() == found.bytes.as_slice();
+    let told = if is_same { "same" } else { "differs" };
+    out.show(format_args!("replayed: {told}\n"));
+}
+
+/// Writes what is told of the library that the replay of a history over the database gives, ranks too; nothing where it gives none.
+fn put_replayed(
+    alloc: Global,
+    keys: RandomState,
+    out: &mut Written,
+    database: &Database,
+    slots: usize,
+    history: &[Entry],
+)
+    requires slots { (1 ≤ slots) × (slots ≤ 4096) }
+    requires checks { AllCheck database.now }
+    requires fit { EntriesFit database.now.prelude (map told history.now) }
+{
     match replay(alloc, keys, database, slots, history) {
-        Ok(again) => put_told(&mut found, &again, true),
+        Ok(library) => put_told(out, &library, true),
         Err(ReplayError::NoMemory) => out.is_short = true,
         Err(_) => {}
-    }
-    out.is_short |= wanted.is_short || found.is_short;
-    if wanted.bytes.as_slice() == found.bytes.as_slice() {
-        out.put(b"replayed: same\n");
-    } else {
-        out.put(b"replayed: differs\n");
     }
 }
 
@@ -158,27 +172,33 @@ fn put_told(out: &mut Written, library: &PlainLibrary, is_with_ranks: bool) {
     }
 }
 
+/// The kind of a cell, and the number of its slot or bucket, from 0.
+fn place_of(slots: usize, cell: usize) -> (&'static str, usize)
+    requires { slots ≤ 4096 }
+{
+    if cell < 5 * slots {
+        (PARTS[cell % 5], cell / 5)
+    } else if cell < 6 * slots {
+        ("bucket", cell - 5 * slots)
+    } else {
+        ("next", cell - 6 * slots)
+    }
+}
+
 /// Writes the line of the cells whose lock words aren't those of the opening, which are 0: each by its kind and its slot or bucket, from
 /// 0, in the order of the cells; or `none`.
-fn put_moved(alloc: Global, out: &mut Written, slots: usize, cells: &[ClosedCell])
+fn put_moved(out: &mut Written, slots: usize, cells: &[ClosedCell])
     requires { slots ≤ 4096 }
 {
     let mut behind = "none\n";
     let mut comma = "";
     for (cell, closed) in cells.iter().enumerate() {
-        if closed.lock == 0 {
-            continue;
+        if closed.lock != 0 {
+            let (kind, number) = place_of(slots, cell);
+            out.show(format_args!("{comma}{kind} {number}"));
+            comma = ", ";
+            behind = "\n";
         }
-        let (kind, number) = if cell < 5 * slots {
-            (PARTS[cell % 5], cell / 5)
-        } else if cell < 6 * slots {
-            ("bucket", cell - 5 * slots)
-        } else {
-            ("next", cell - 6 * slots)
-        };
-        out.put_made(format!(in alloc; "{comma}{kind} {number}"));
-        comma = ", ";
-        behind = "\n";
     }
     out.put(behind.as_bytes());
 }

@@ -34,6 +34,27 @@ fn read_one(rt: &(impl AllocGlobal + Files), prelude: &Prelude, path: &str) -> O
     read_script(rt.alloc(), prelude, text.as_slice()).ok()
 }
 
+/// Puts the scripts in files behind others; false where one of the files has none, or there is no memory.
+fn put_scripts(
+    rt: &(impl AllocGlobal + Files),
+    prelude: &Prelude,
+    paths: &[String],
+    scripts: &mut Vec<Script>,
+) -> bool
+    requires { All (All (All (CommandFits prelude.now))) scripts.old.items }
+    ensures { All (All (All (CommandFits prelude.now))) scripts.new.items }
+{
+    for path in paths {
+        let Some(script) = read_one(rt, prelude, path.as_str()) else {
+            return false;
+        };
+        if scripts.push(script).ok().is_none() {
+            return false;
+        }
+    }
+    true
+}
+
 /// The scripts in files. None where one of them has none, or there is no memory.
 pub(crate) fn read_scripts(
     rt: &(impl AllocGlobal + Files),
@@ -43,8 +64,6 @@ pub(crate) fn read_scripts(
     ensures { IfSome result (λ v. All (All (All (CommandFits prelude.now))) v.items) }
 {
     let mut scripts = Vec::new(rt.alloc());
-    for path in paths {
-        scripts.push(read_one(rt, prelude, path.as_str())?).ok()?;
-    }
-    Some(scripts)
+    let are_read = put_scripts(rt, prelude, paths, &mut scripts);
+    are_read.then_some(scripts)
 }

@@ -6,6 +6,7 @@ ghost use Rattle.library.specs.Fitting.{CommandFits};
 ghost use Rattle.trials.specs.InCells.{ShowsSomeNow};
 
 use commands::{RunError, run};
+use history::{ApplyError, Editor};
 use library::{Command, Reply};
 use mmsyntax::{Database, Prelude, Sequence};
 use plaincells::{OpenError, PlainCells, PlainStop};
@@ -30,9 +31,8 @@ impl Drop for InCells {
 }
 
 impl InCells {
-    ghost use Rattle.std.specs.Prelude.{◌≡◌, ◌≤◌, All};
+    ghost use Rattle.std.specs.Prelude.{◌≡◌, ◌≤◌};
     ghost use Rattle.derivation.specs.Databases.{AllCheck};
-    ghost use Rattle.library.specs.Fitting.{CommandFits};
 
     /// The opening library of a database whose proofs check, in so many slots, with a store that has room for so many words.
     ///
@@ -56,18 +56,19 @@ impl InCells {
         Ok(InCells { cells, prelude })
     }
 
-    /// Does all commands of a transaction in order, and answers the reply to each. Each command is within the limits of the prelude.
+    /// Does all commands of a transaction in order, and answers the reply to each.
     ///
     /// # Errors
     ///
-    /// Those of `run`. What the transaction wrote is undone.
+    /// Those of `run`. What the transaction wrote is undone. Commands outside the limits of the prelude, which no script has, are not done.
     pub fn apply(
         &mut self,
         alloc: Global,
         commands: &[Command],
-    ) -> Result<Sequence<Reply>, RunError<PlainStop>>
-        requires { All (CommandFits self.old.prelude) commands.now }
-    {
+    ) -> Result<Sequence<Reply>, RunError<PlainStop>> {
+        if !all_fit(&self.prelude, commands) {
+            return Err(RunError::Stopped(PlainStop::NoMemory));
+        }
         match run(alloc, &self.prelude, &mut self.cells, commands) {
             Ok(replies) => {
                 self.cells.keep();
@@ -89,8 +90,21 @@ impl InCells {
 }
 
 /// Whether all commands are within the limits of a prelude.
-pub fn all_fit(prelude: &Prelude, commands: &[Command]) -> bool
+fn all_fit(prelude: &Prelude, commands: &[Command]) -> bool
     ensures { IsTrue result → All (CommandFits prelude.now) commands.now }
 {
     commands.iter().all(|command| command.fits(prelude))
+}
+
+/// Does a transaction by the one-thread editor. One whose commands are outside the limits of its prelude, which no script has, is not done.
+pub fn apply(
+    editor: &mut Editor,
+    alloc: Global,
+    commands: &[Command],
+) -> Result<Sequence<Reply>, ApplyError> {
+    if all_fit(editor.prelude(), commands) {
+        editor.apply(alloc, commands)
+    } else {
+        Err(ApplyError::NoMemory)
+    }
 }

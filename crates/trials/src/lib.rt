@@ -13,10 +13,10 @@ mod opening;
 mod outcomes;
 mod random;
 mod seats;
-mod written;
 
-// for both: a library in plain cells
+// for both: a library in plain cells, and what is written
 mod in_cells;
+mod written;
 
 // measurements
 mod cell_work;

@@ -10,47 +10,68 @@ ghost use Rattle.transaction.specs.Members.{IsOf};
 
 use crate::files::{ROOM, SLOTS};
 use crate::measuring::Ending;
+use crate::written::Written;
 use library::{Script, Transaction};
 use mmstatement::Database;
 use std::alloc::Global;
 use std::hash::RandomState;
-use std::io::Write;
 use std::sync::Wait;
 use std::sync::atomic::{AtomicUsize, Ordering};
+use std::thread;
 use std::thread::Threads;
-use std::{io, thread};
-use transaction::{Conflict, Library, Outcome, Session, Shape};
+use transaction::{Library, Outcome, Session, Shape};
 
-/// Tries the transaction at this place until it meets no other session, and writes its lines. It may wait.
-fn settle<R: Wait>(
-    rt: &R,
+/// Writes the line of a try of the transaction at this place, if it has one. Whether it met another session.
+fn put_try(out: &mut Written, place: (usize, usize), outcome: &Outcome) -> bool {
+    let (s, t) = place;
+    match outcome {
+        Outcome::Conflict(met) => {
+            let (cell, word, place) = (met.cell, met.word, met.place);
+            out.show(format_args!("{s}.{t} met {cell} {word} {place}\n"));
+            true
+        }
+        Outcome::Committed { number, .. } => {
+            out.show(format_args!("{s}.{t} committed {number}\n"));
+            false
+        }
+        _ => false,
+    }
+}
+
+/// Tries the transaction at this place once, and writes its line. Whether it met another session.
+fn meets(
     alloc: Global,
+    out: &mut Written,
     library: &Library,
     session: &mut Session,
     commands: &Transaction,
     place: (usize, usize),
-    out: &mut Vec<u8>,
-) -> io::Result<()>
+) -> bool
     requires own { IsOf library.now session.old }
     requires fit { All (CommandFits (setting_of library.now.given).prelude) commands.now }
     ensures { IsOf library.now session.new }
 {
-    let (s, t) = place;
+    let outcome = session.attempt(alloc, library, commands);
+    put_try(out, place, &outcome)
+}
+
+/// Tries it until it meets no other session, and writes its lines. It may wait.
+fn settle<R: Wait>(
+    rt: &R,
+    alloc: Global,
+    out: &mut Written,
+    library: &Library,
+    session: &mut Session,
+    commands: &Transaction,
+    place: (usize, usize),
+)
+    requires own { IsOf library.now session.old }
+    requires fit { All (CommandFits (setting_of library.now.given).prelude) commands.now }
+    ensures { IsOf library.now session.new }
+{
     for _ in rt.forever() {
-        match session.attempt(alloc, library, commands) {
-            Outcome::Conflict(met) => {
-                let Conflict {
-                    place,
-                    cell,
-                    word,
-                    before: _,
-                } = met;
-                writeln!(out, "{s}.{t} met {cell} {word} {place}")?;
-            }
-            Outcome::Committed { number, replies: _ } => {
-                return writeln!(out, "{s}.{t} committed {number}");
-            }
-            _ => return Ok(()),
+        if !meets(alloc, out, library, session, commands, place) {
+            return;
         }
         thread::yield_now();
     }
@@ -70,14 +91,14 @@ fn work<R: Wait>(
     requires fit { All (All (CommandFits (setting_of library.now.given).prelude)) script.now }
 {
     let mut session = session;
-    let mut out = Vec::new(alloc);
+    let mut out = Written::new(alloc);
     let mut transaction = 0_usize;
     for commands in script.as_slice() {
         transaction = transaction.saturating_add(1);
         let place = (number, transaction);
-        settle(rt, alloc, library, &mut session, commands, place, &mut out).ok()?;
+        settle(rt, alloc, &mut out, library, &mut session, commands, place);
     }
-    Some(out)
+    if out.is_short { None } else { Some(out.bytes) }
 }
 
 /// Does all scripts at once: the lines of each. None where memory runs out; that of a thread is told by its script. It may wait.
@@ -116,6 +137,17 @@ fn work_all<R: Threads + Wait + Sync>(
     .ok()
 }
 
+/// Prints the lines of each script. None where memory ran out in one, or they can't be printed.
+fn print_all(rt: &impl Print, shares: &[Option<Vec<u8>>]) -> Option<Ending> {
+    for share in shares {
+        let Some(lines) = share else {
+            return None;
+        };
+        rt.write_all(lines.as_slice()).ok()?;
+    }
+    Some(Ending::Done)
+}
+
 /// Does the scripts, and prints their lines. None where that can't be done. It may wait.
 pub(crate) fn run<R>(rt: &R, keys: RandomState, db: &Database, scripts: &[Script]) -> Option<Ending>
 where
@@ -131,8 +163,5 @@ where
         return None;
     };
     let shares = work_all(rt, rt.alloc(), &library, sessions, scripts)?;
-    for share in shares {
-        rt.write_all(share?.as_slice()).ok()?;
-    }
-    Some(Ending::Done)
+    print_all(rt, shares.as_slice())
 }

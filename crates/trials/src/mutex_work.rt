@@ -2,12 +2,12 @@
 
 ghost use Rattle.derivation.specs.Databases.{AllCheck};
 
-use crate::cell_work::apply;
+use crate::cell_work::edit_once;
 use crate::files::SLOTS;
 use crate::measuring::Ending;
-use crate::times::{Counts, tell, times};
-use history::{ApplyError, Editor};
-use library::{Script, has_edit};
+use crate::times::{Counts, count, tell, times};
+use history::Editor;
+use library::Script;
 use mmstatement::Database;
 use proofcheck::check_all;
 use std::alloc::Global;
@@ -27,24 +27,28 @@ fn work<R: Wait>(
     scripts: &[Script],
     taken: &AtomicUsize,
 ) -> Counts {
-    let (mut committed, mut read, mut refused, mut other) = (0_u64, 0_u64, 0_u64, 0_u64);
+    let mut counts = [0; 4];
     for _ in scripts {
         let Some(script) = scripts.get(taken.fetch_add(1, Ordering::SeqCst)) else {
             break;
         };
         for commands in script.as_slice() {
-            let commands = commands.as_slice();
-            let answer = apply(&mut *desk.lock(rt), alloc, commands);
-            let count = match answer {
-                Ok(_) if has_edit(commands) => &mut committed,
-                Ok(_) => &mut read,
-                Err(ApplyError::Refused(_)) => &mut refused,
-                Err(ApplyError::NoMemory) => &mut other,
-            };
-            *count = count.saturating_add(1);
+            let end = edit_once(&mut *desk.lock(rt), alloc, commands.as_slice());
+            count(&mut counts, end);
         }
     }
-    [committed, read, refused, other]
+    counts
+}
+
+/// All that shares count, together.
+fn sum_of(shares: &[Counts]) -> Counts {
+    let mut counts = [0_u64; 4];
+    for share in shares {
+        for (count, own) in counts.iter_mut().zip(share) {
+            *count = count.saturating_add(*own);
+        }
+    }
+    counts
 }
 
 /// Does the scripts by so many threads. None where there is no memory or a clock can't be read.
@@ -64,13 +68,7 @@ where
     )
     .ok()?;
     let end = times(rt);
-    let mut counts = [0_u64; 4];
-    for share in &shares {
-        for (count, own) in counts.iter_mut().zip(share) {
-            *count = count.saturating_add(*own);
-        }
-    }
-    tell(rt, start, end, 0, counts)
+    tell(rt, start, end, 0, sum_of(shares.as_slice()))
 }
 
 /// Does the scripts. None where that can't be done. It may wait.

@@ -73,7 +73,7 @@ fn open_database(
     match Library::open(rt, alloc, keys, &database, shape) {
         Ok((library, sessions)) => {
             let count = shape.sessions;
-            out.put_made(format!(in alloc; "opened {count}\n"));
+            out.show(format_args!("opened {count}\n"));
             let next = Opened {
                 database,
                 library,
@@ -81,7 +81,7 @@ fn open_database(
             };
             drop(mem::replace(opened, Some(next)));
         }
-        Err(error) => put_unopened(alloc, out, error),
+        Err(error) => put_unopened(out, error),
     }
 }
 

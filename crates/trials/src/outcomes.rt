@@ -8,9 +8,9 @@ use std::alloc::Global;
 use transaction::{OpenError, Outcome};
 
 /// Writes the line of a transaction that is refused at a place.
-pub fn put_refusal(alloc: Global, out: &mut Written, place: u64, refused: Refused) {
+pub fn put_refusal(out: &mut Written, place: u64, refused: Refused) {
     let Refused { index, reason } = refused;
-    out.put_made(format!(in alloc; "refused {place} at {index}: {reason}\n"));
+    out.show(format_args!("refused {place} at {index}: {reason}\n"));
 }
 
 /// Writes the lines of replies, and `  unfit` for one whose assertion isn't one over the prelude.
@@ -30,14 +30,14 @@ pub fn put_replies(alloc: Global, out: &mut Written, prelude: &Prelude, replies:
 pub fn put_outcome(alloc: Global, out: &mut Written, prelude: &Prelude, outcome: &Outcome) {
     match outcome {
         Outcome::Committed { number, replies } => {
-            out.put_made(format!(in alloc; "committed {number}\n"));
+            out.show(format_args!("committed {number}\n"));
             put_replies(alloc, out, prelude, replies.as_slice());
         }
         Outcome::Read { place, replies } => {
-            out.put_made(format!(in alloc; "read {place}\n"));
+            out.show(format_args!("read {place}\n"));
             put_replies(alloc, out, prelude, replies.as_slice());
         }
-        Outcome::Refused { place, refused } => put_refusal(alloc, out, *place, *refused),
+        Outcome::Refused { place, refused } => put_refusal(out, *place, *refused),
         Outcome::Conflict(_) => out.put(b"conflict\n"),
         Outcome::StoreFull => out.put(b"store full\n"),
         Outcome::NumbersUsed => out.put(b"numbers used\n"),
@@ -47,13 +47,13 @@ pub fn put_outcome(alloc: Global, out: &mut Written, prelude: &Prelude, outcome:
 }
 
 /// Writes the line of a library that isn't opened.
-pub fn put_unopened(alloc: Global, out: &mut Written, error: OpenError) {
+pub fn put_unopened(out: &mut Written, error: OpenError) {
     let (number, name) = (error.number(), error.name());
     match error {
         OpenError::NoMemory => out.is_short = true,
         OpenError::ProofFails(index, fault) => {
-            out.put_made(format!(in alloc; "not opened: {number} {name} {index} {fault}\n"));
+            out.show(format_args!("not opened: {number} {name} {index} {fault}\n"));
         }
-        _ => out.put_made(format!(in alloc; "not opened: {number} {name}\n")),
+        _ => out.show(format_args!("not opened: {number} {name}\n")),
     }
 }

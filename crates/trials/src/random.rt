@@ -4,7 +4,7 @@
 //! After each transaction the outcomes are compared, and what the two list; after some also what they show of each label. All eight
 //! commands are drawn, over few labels, ranks and steps, so that each test of each command passes often and fails often.
 
-use crate::in_cells::{InCells, all_fit};
+use crate::in_cells::{InCells, apply};
 use crate::opening::unread;
 use crate::outcomes::{put_refusal, put_replies};
 use crate::written::Written;
@@ -66,39 +66,45 @@ fn pieces_of(letter: u8) -> &'static str {
     }
 }
 
-/// A script that is drawn from a letter.
-fn draw(alloc: Global, generator: &mut Pcg32, letter: u8) -> Written {
-    let mut script = Written::new(alloc);
+/// What is drawn for a byte; none where it stands for itself.
+fn drawn_for(generator: &mut Pcg32, byte: u8) -> Option<&'static str> {
+    let pieces = pieces_of(byte);
+    if pieces.is_empty() {
+        return None;
+    }
+    let count = pieces.split('|').count().max(1);
+    let drawn = generator.next_u32() as usize % count;
+    pieces.split('|').nth(drawn)
+}
+
+/// Puts a text in front of what is left, of which the last byte comes first.
+fn put_front(left: &mut Written, text: &str) {
+    for byte in text.bytes().rev() {
+        left.put(&[byte]);
+    }
+}
+
+/// Writes a script that is drawn from a letter.
+fn draw(alloc: Global, script: &mut Written, generator: &mut Pcg32, letter: u8) {
     let mut left = Written::new(alloc);
     left.put(&[letter]);
     for _ in 0..MOST_PIECES {
         let Some(piece) = left.bytes.pop() else {
             break;
         };
-        let pieces = pieces_of(piece);
-        if pieces.is_empty() {
-            script.put(&[piece]);
-            continue;
-        }
-        let count = pieces.split('|').count().max(1);
-        let drawn = generator.next_u32() as usize % count;
-        for byte in pieces.split('|').nth(drawn).unwrap_or("").bytes().rev() {
-            left.put(&[byte]);
+        match drawn_for(generator, piece) {
+            Some(drawn) => put_front(&mut left, drawn),
+            None => script.put(&[piece]),
         }
     }
-    script
 }
 
 /// Does a transaction by the editor, and writes its replies: 0 where it was done, and the number of the reason where it was refused.
 fn edit(alloc: Global, out: &mut Written, editor: &mut Editor, commands: &[Command]) -> usize {
-    if !all_fit(editor.prelude(), commands) {
-        out.is_short = true;
-        return 0;
-    }
-    match editor.apply(alloc, commands) {
+    match apply(editor, alloc, commands) {
         Ok(replies) => put_replies(alloc, out, editor.prelude(), replies.as_slice()),
         Err(ApplyError::Refused(refused)) => {
-            put_refusal(alloc, out, 0, refused);
+            put_refusal(out, 0, refused);
             return refused.reason.number() as usize;
         }
         Err(ApplyError::NoMemory) => out.is_short = true,
@@ -108,13 +114,9 @@ fn edit(alloc: Global, out: &mut Written, editor: &mut Editor, commands: &[Comma
 
 /// Does one over plain cells, and writes its replies.
 fn write(alloc: Global, out: &mut Written, cells: &mut InCells, commands: &[Command]) {
-    if !all_fit(cells.prelude(), commands) {
-        out.is_short = true;
-        return;
-    }
     match cells.apply(alloc, commands) {
         Ok(replies) => put_replies(alloc, out, cells.prelude(), replies.as_slice()),
-        Err(RunError::Refused(refused)) => put_refusal(alloc, out, 0, refused),
+        Err(RunError::Refused(refused)) => put_refusal(out, 0, refused),
         Err(_) => out.is_short = true,
     }
 }
@@ -157,14 +159,17 @@ fn are_all_alike(
     true
 }
 
-/// The same of the text of a script. One that can't be read, as it adds a proof of L that cites `L.k`, is left out.
+/// The same of a script that is drawn from a letter. One that can't be read, as it adds a proof of L that cites `L.k`, is left out.
 fn are_alike(
     alloc: Global,
+    generator: &mut Pcg32,
     editor: &mut Editor,
     cells: &mut InCells,
-    script: &Written,
+    letter: u8,
     ends: &mut [u32],
 ) -> bool {
+    let mut script = Written::new(alloc);
+    draw(alloc, &mut script, generator, letter);
     match read_script(alloc, editor.prelude(), script.bytes.as_slice()) {
         Ok(transactions) => are_all_alike(alloc, editor, cells, transactions.as_slice(), ends),
         Err(_) => !script.is_short,
@@ -185,12 +190,11 @@ fn put_ends(
     let mut ends = [0_u32; 15];
     for number in 0..transactions {
         let letter = if number % 16 == 0 { b'A' } else { b'S' };
-        let script = draw(alloc, &mut generator, letter);
-        if !are_alike(alloc, editor, cells, &script, &mut ends) {
+        if !are_alike(alloc, &mut generator, editor, cells, letter, &mut ends) {
             return out.put(b"the two differ\n");
         }
     }
-    out.put_made(format!(in alloc; "done, and refused by reason: {ends:?}\n"));
+    out.show(format_args!("done, and refused by reason: {ends:?}\n"));
 }
 
 /// Opens both with a database, and does so many random transactions in them; false where they can't be opened.

@@ -10,7 +10,7 @@ ghost use Rattle.library.specs.Fitting.{CommandFits};
 
 use crate::files::{ROOM, SLOTS};
 use crate::measuring::Ending;
-use crate::times::{Counts, tell, times};
+use crate::times::{Counts, End, count, tell, times};
 use library::Script;
 use mmstatement::Database;
 use std::hash::RandomState;
@@ -21,21 +21,25 @@ use std::time::CpuClock;
 use transaction::{Library, Outcome, Session, Shape};
 use workers::{Open, run_scripts};
 
+/// How a transaction ended.
+fn end_of(outcome: &Outcome) -> End {
+    match outcome {
+        Outcome::Committed { .. } => End::Committed,
+        Outcome::Read { .. } => End::Read,
+        Outcome::Refused { .. } => End::Refused,
+        _ => End::Other,
+    }
+}
+
 /// How the transactions of scripts ended.
 fn counts_of(scripts: &[Vec<Outcome>]) -> Counts {
-    let (mut committed, mut read, mut refused, mut other) = (0_u64, 0_u64, 0_u64, 0_u64);
+    let mut counts = [0; 4];
     for outcomes in scripts {
         for outcome in outcomes {
-            let count = match outcome {
-                Outcome::Committed { .. } => &mut committed,
-                Outcome::Read { .. } => &mut read,
-                Outcome::Refused { .. } => &mut refused,
-                _ => &mut other,
-            };
-            *count = count.saturating_add(1);
+            count(&mut counts, end_of(outcome));
         }
     }
-    [committed, read, refused, other]
+    counts
 }
 
 /// How many numbers of these sessions met a conflict.

@@ -9,7 +9,7 @@ ghost use Rattle.std.specs.Prelude.{false, ◌≡◌, ◌<◌, None, true, All, 
 ghost use Rattle.tlwords.specs.Callers.{AreOfOneOpening};
 ghost use Rattle.tlwords.specs.declared.mode.Mode.TheVariants.{Writing};
 
-use crate::measuring::Ending;
+use crate::measuring::{Ending, finish};
 use std::sync::atomic::{AtomicUsize, Ordering};
 use std::thread;
 use std::thread::Threads;
@@ -194,8 +194,7 @@ fn run_all(
     let mut values = Vec::new(rt.alloc());
     values.resize(cells, 0).ok()?;
     let (committed, sum) = run_over(rt, values.as_slice(), threads, job)?;
-    println!(rt; "committed {committed} sum {sum}").ok()?;
-    Some(Ending::Done)
+    finish(rt, format_args!("committed {committed} sum {sum}"))
 }
 
 /// Runs the transactions of a pattern. None is what `run_all` says, or no cells for a thread.

@@ -1,6 +1,8 @@
 //! What is written, as long as there is memory: a want of it is told once, at the end, so that none of the many parts has to.
 
 use std::alloc::{AllocError, Global};
+use std::fmt::Display;
+use std::io::Write;
 
 /// What is written.
 #[derive(Drop)]
@@ -32,11 +34,10 @@ impl Written {
         self.note(done);
     }
 
-    /// Writes a text that was made, if there was the memory.
-    pub fn put_made(&mut self, made: Result<String, AllocError>) {
-        match made {
-            Ok(text) => self.put(text.as_bytes()),
-            Err(_) => self.is_short = true,
+    /// Writes these words. Writing into a vector fails only for want of memory.
+    pub fn show(&mut self, words: impl Display + Drop) {
+        if write!(self.bytes, "{words}").is_err() {
+            self.is_short = true;
         }
     }
 }

@@ -21,7 +21,7 @@
 //! whole language. What is to be printed was worked out by hand from the README's tables, and stands in `stdout`, of clap's texts the first line.
 //! The gate compares the two.
 
-mod stage;
+pub(crate) mod stage;
 
 use crate::lines::stage::{Mode, Stage};
 use crate::making::{cut, made};

@@ -14,9 +14,10 @@ mod lines;
 mod making;
 mod threads;
 
+use crate::lines::stage::Stage;
 use crate::lines::{begin_row, words_of};
 use crate::threads::{check, print_watched, watch};
-use std::alloc::Global;
+use std::alloc::{AllocError, Global};
 use std::hash::RandomState;
 use std::io::{BufRead, BufReader, Write};
 use std::process::{ExitCode, Termination};
@@ -39,6 +40,9 @@ const TEXT: &[u8] = b"|";
 
 /// The table of command lines.
 const COMMANDS: &[u8] = b"commands";
+
+/// The table of threads.
+const THREADS: &[u8] = b"threads";
 
 /// The lines of the standard input, without their line feeds.
 fn read_lines(rt: &impl Input, alloc: Global) -> io::Result<Vec<Vec<u8>>> {
@@ -119,6 +123,24 @@ fn row_of(step: Step<'_>) -> (&str, &[Vec<u8>]) {
     }
 }
 
+/// Does a measurement by the words of a line. It may wait.
+fn measure_line<R>(rt: &R, line: &[u8]) -> Result<Ending, AllocError>
+where
+    R: Files
+        + AllocGlobal
+        + Print
+        + Eprint
+        + RandomSource
+        + Clock
+        + CpuClock
+        + Threads
+        + Wait
+        + Sync,
+{
+    let words = words_of(rt.alloc(), str::from_utf8(line).unwrap_or(""))?;
+    Ok(measure(rt, words.as_slice()))
+}
+
 /// Does each measurement of a table. It may wait.
 fn do_measures<R>(rt: &R, lines: &[Vec<u8>]) -> io::Result<()>
 where
@@ -134,17 +156,18 @@ where
         + Sync,
 {
     for line in lines {
-        let words = words_of(rt.alloc(), str::from_utf8(line.as_slice()).unwrap_or(""))?;
-        if measure(rt, words.as_slice())? != Ending::Done {
+        if measure_line(rt, line.as_slice())? != Ending::Done {
             println!(rt; "not done")?;
         }
     }
     Ok(())
 }
 
-/// Says why a call isn't answered as is wanted. Few bounds make it cheap.
-fn tell(rt: &impl Eprint, fail: Fail) {
-    let _ = Err::<(), Fail>(fail).report(rt);
+/// Whether a call is answered as is wanted; says why it isn't. Few bounds make it cheap.
+fn is_answered(rt: &impl Eprint, answer: Result<(), Fail>) -> bool {
+    let is_so = answer.is_ok();
+    let _ = answer.report(rt);
+    is_so
 }
 
 /// Makes the calls of a table, by their names, and says which were answered as is wanted. It may wait.
@@ -154,19 +177,15 @@ where
 {
     for line in lines {
         let name = str::from_utf8(line.as_slice()).unwrap_or("");
-        match calls::make(rt, subject, name) {
-            Ok(()) => println!(rt; "{name}")?,
-            Err(fail) => {
-                tell(rt, fail);
-                println!(rt; "not {name}")?;
-            }
-        }
+        let is_so = is_answered(rt, calls::make(rt, subject, name));
+        let word = if is_so { "" } else { "not " };
+        println!(rt; "{word}{name}")?;
     }
     Ok(())
 }
 
 /// Prints what a table is answered. It may wait.
-fn do_table<R>(rt: &R, keys: RandomState, table: Step<'_>) -> io::Result<()>
+fn do_table<R>(rt: &R, table: Step<'_>) -> io::Result<()>
 where
     R: Files
         + AllocGlobal
@@ -181,7 +200,7 @@ where
 {
     let alloc = rt.alloc();
     let out = match table.name {
-        b"sessions" => answer_sessions(rt, alloc, keys, table.lines),
+        b"sessions" => answer_sessions(rt, alloc, RandomState::new(rt)?, table.lines),
         b"words" => answer_table(alloc, table.lines),
         b"measures" => return do_measures(rt, table.lines),
         subject => return do_calls(rt, subject, table.lines),
@@ -214,23 +233,53 @@ where
     };
     match words.as_slice() {
         [] | [_] => None,
-        [_, words @ ..] => Some(measure(rt, words).unwrap_or(Ending::Failed)),
+        [_, words @ ..] => Some(measure(rt, words)),
     }
+}
+
+/// Prints the line that begins a table, if a step begins there, and does the step; of a command line, the runtime for it. The table of threads is left to
+/// `main`. It may wait.
+fn begin_step<'r, R>(rt: &'r R, step: Step<'_>) -> io::Result<Option<Stage<'r, R>>>
+where
+    R: Files
+        + AllocGlobal
+        + Print
+        + Eprint
+        + RandomSource
+        + Clock
+        + CpuClock
+        + Threads
+        + Wait
+        + Sync,
+{
+    print_head(rt, step)?;
+    match step.name {
+        COMMANDS => {
+            let (row, lines) = row_of(step);
+            begin_row(rt, row, lines)
+        }
+        THREADS => Ok(None),
+        _ => {
+            do_table(rt, step)?;
+            Ok(None)
+        }
+    }
+}
+
+/// Prints the status of a command line. Whether it is printed.
+fn print_status(rt: &impl Print, status: u8) -> bool {
+    println!(rt; "status {status}").is_ok()
 }
 
 fn main(rt: HostRuntime) -> ExitCode {
     if let Some(ending) = measure_given(&rt) {
         return ending.status();
     }
-    let Ok(keys) = RandomState::new(&rt) else {
-        return ExitCode::from(1);
-    };
     let Ok(lines) = read_lines(&rt, rt.alloc()) else {
         return ExitCode::from(1);
     };
     let mut rest = lines.as_slice();
     let mut name: &[u8] = b"";
-    let mut is_done = true;
     // Each step has a line at least. What starts threads by a runtime of its own, or shows one to a thread, stands here: the language has that of no other function.
     for _ in 0..lines.len() {
         let Some((step, behind)) = next_step(name, rest) else {
@@ -238,29 +287,19 @@ fn main(rt: HostRuntime) -> ExitCode {
         };
         name = step.name;
         rest = behind;
-        let (row, lines) = row_of(step);
-        is_done = is_done && print_head(&rt, step).is_ok();
-        is_done = is_done
-            && match step.name {
-                COMMANDS => match begin_row(&rt, row, lines) {
-                    Ok(Some(stage)) => {
-                        let status = program::run(&stage, stage.is_terminal());
-                        println!(rt; "status {status}").is_ok()
-                    }
-                    Ok(None) => true,
-                    Err(_) => false,
-                },
-                b"threads" => {
-                    let done = AtomicBool::new(false);
-                    let (most, sound) = join(&rt, || watch(&rt, &done), || check(&rt, &done));
-                    print_watched(&rt, most, sound).is_ok()
-                }
-                _ => do_table(&rt, keys, step).is_ok(),
-            };
+        let is_done = match begin_step(&rt, step) {
+            Ok(Some(stage)) => print_status(&rt, program::run(&stage, stage.is_terminal())),
+            Ok(None) if name == THREADS => {
+                let done = AtomicBool::new(false);
+                let (most, sound) = join(&rt, || watch(&rt, &done), || check(&rt, &done));
+                print_watched(&rt, most, sound).is_ok()
+            }
+            Ok(None) => true,
+            Err(_) => false,
+        };
+        if !is_done {
+            return ExitCode::from(1);
+        }
     }
-    if is_done {
-        ExitCode::SUCCESS
-    } else {
-        ExitCode::from(1)
-    }
+    ExitCode::SUCCESS
 }

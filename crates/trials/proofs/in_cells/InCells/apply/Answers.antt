@@ -1,4 +1,4 @@
-use Rattle.std.proofs.Common.{All, sym, ap, subst, ◌∙◌, refl}
+use Rattle.std.proofs.Common.{All, rules, sym, ap, subst, ◌∙◌, refl}
 use Rattle.mmsyntax.specs.Tables.{Tables}
 use Rattle.library.specs.Fitting.{CommandFits}
 use Rattle.library.specs.Library.{Setting}
@@ -13,8 +13,9 @@ run-requires-clause-may c = may_do_all (sight_of c.args.self.now.cells) c.args.c
 pub keep-requires : goal.keep-requires
 keep-requires c =
     let p = c.args.self.now in
+    let fits : All (CommandFits p.prelude) c.args.commands.now = search (rules, c.all_fit.ensures) in
     done_shows_some p.cells c.run.new.cells c.args.commands.now c.in-Ok.replies c.run.ensures.onward
-    (subst (λ (t : Tables). All (CommandFits t) c.args.commands.now) (sym p.same) c.requires) c.in-Ok.ensures.answers p.shown
+    (subst (λ (t : Tables). All (CommandFits t) c.args.commands.now) (sym p.same) fits) c.in-Ok.ensures.answers p.shown
 
 pub invariant_of-self : goal.invariant_of-self
 invariant_of-self c =
