@@ -45,6 +45,9 @@ fn unread(
     edits: &Edits<'_, '_>,
     fault: TextFault,
 ) -> Result<Refusal, AllocError> {
+    if fault.kind == FaultKind::NoMemory {
+        return Err(AllocError);
+    }
     if fault.kind == FaultKind::UnknownLabel
         && let Some(refusal) = first_behind(alloc, keys, old, edits.changes, edits.own, out)?
     {
@@ -93,6 +96,7 @@ fn take_again<'o, D: Declared<'o>>(
         &Unfollowed,
     ) {
         Ok(taken) => Ok(taken),
+        Err(intake::Refusal::NoMemory) => Err(Refusal::NoMemory),
         Err(_) => Err(unfit(alloc, "the library can't be taken again")?),
     }
 }

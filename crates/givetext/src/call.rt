@@ -16,10 +16,11 @@ ghost use Rattle.givetext.specs.Given.{IsTakenText, IsGiven};
 use crate::again::{Edits, keep_comments, look_again};
 use crate::origin::origin_of;
 use crate::own::{own_of, told_of};
-use checking::replay_library;
+use checking::{Fault, replay_library};
 use giving::Changes;
 use intake::{Follow, Taken, take_declared};
 use library::{Entry, History, PlainLibrary};
+use mmtext::{FaultKind, TextFault};
 use scopes::Scopes;
 use source::Declared;
 use source::laws::sources_are_whole;
@@ -31,6 +32,14 @@ use std::alloc::{AllocError, Global};
 use std::hash::RandomState;
 use std::thread::Threads;
 use taketext::write_taken;
+
+/// Why the source can't be read.
+fn unread_source(alloc: Global, fault: TextFault) -> Result<Refusal, AllocError> {
+    if fault.kind == FaultKind::NoMemory {
+        return Err(AllocError);
+    }
+    Ok(Refusal::Text(File::Source, format!(in alloc; "text {fault}")?))
+}
 
 /// What the source declares.
 fn read_old<'a>(
@@ -44,7 +53,7 @@ fn read_old<'a>(
     follow.begin_reading();
     match read_source(alloc, Scopes::new(alloc, keys), source) {
         Ok(scopes) => Ok(scopes),
-        Err(fault) => Err(Refusal::Text(File::Source, format!(in alloc; "text {fault}")?)),
+        Err(fault) => Err(unread_source(alloc, fault)?),
     }
 }
 
@@ -73,8 +82,10 @@ fn take_old<'a, D: Declared<'a>>(
         return Err(another(alloc)?);
     };
     let wish = origin.wished.wish();
-    let Ok(taken) = take_declared(rt, alloc, keys, declared, wish, follow) else {
-        return Err(another(alloc)?);
+    let taken = match take_declared(rt, alloc, keys, declared, wish, follow) {
+        Ok(taken) => taken,
+        Err(intake::Refusal::NoMemory) => return Err(Refusal::NoMemory),
+        Err(_) => return Err(another(alloc)?),
     };
     let text = write_taken(alloc, origin.path, source, wish, &taken)?;
     if text.as_slice() != library {
@@ -103,6 +114,7 @@ fn replay_over(
 {
     match replay_library(rt, alloc, keys, library, history) {
         Ok((entries, edited)) => Ok(Replayed { entries, edited }),
+        Err(Fault::NoMemory) => Err(Refusal::NoMemory),
         Err(fault) => {
             let file = if fault.file() == Some(0) {
                 File::Library
