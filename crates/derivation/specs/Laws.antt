@@ -6,6 +6,7 @@ use Rattle.mmsyntax.specs.declared.statement.Frame.{Frame}
 use Rattle.mmsyntax.specs.declared.statement.Assertion.{Assertion}
 use Rattle.mmsyntax.specs.declared.statement.Step.{Step}
 use Rattle.mmsyntax.specs.declared.statement.Step.TheVariants.{Float, Hyp, Cite}
+pub use Rattle.mmsyntax.specs.ProofWords.{step_relabelled, replacing}
 use Rattle.mmframes.specs.Frames.{frame}
 use Rattle.derivation.specs.declared.fault.ProofFault.{ProofFault}
 use Rattle.derivation.specs.Derivation.{Expression, Citable, Tree, Trees, float, hyp, node, none, some, Derives, listing, Proves}
@@ -73,12 +74,6 @@ abbrev mutual
   SomeMentions none l = ⊥
   SomeMentions (some tree trees) l = Mentions tree l ⊎ SomeMentions trees l
 
--- the step with its label changed
-abbrev pub step_relabelled : (List ℕ → List ℕ) → Step → Step
-step_relabelled change (Float i) = Float i
-step_relabelled change (Hyp k) = Hyp k
-step_relabelled change (Cite label) = Cite (change label)
-
 -- the one frame may stand for the other: the same hypotheses and statement, and no further pairs
 pub record StandsFor (new old : Frame) : Type 0 where
   pub floats : new.floats ≡ old.floats
@@ -94,10 +89,6 @@ RelabelledDerives =
     → ((label : List ℕ) (f : Frame) → Mentions t label → lib label ≡ Some f → (g : Frame) × (lib' (change label) ≡ Some g) × StandsFor g f)
     → Derives lib p a t e
     → Derives lib' p b (relabelled change t) e × (listing (relabelled change t) ≡ map (step_relabelled change) (listing t))
-
--- the one label becomes the other
-abbrev pub replacing : List ℕ → List ℕ → List ℕ → List ℕ
-replacing old new label = if bytes_eq old label then new else label
 
 -- a tree in which the citations of one assertion became citations of another, that states the same of the same hypotheses
 -- and asks for no further pairs, derives the same expression

@@ -6,9 +6,7 @@ ghost use Rattle.library.specs.Fitting.{CommandFits};
 ghost use Rattle.library.specs.Transactions.{has_edit, has_too_many};
 
 use crate::library::Ranked;
-use mmsyntax::{
-    Assertion, Kind, Label, Prelude, Sequence, Step, are_citing_apart, copy_steps, fits,
-};
+use mmsyntax::{Assertion, Kind, Label, Prelude, Proof, are_citing_apart, fits};
 use std::alloc::{AllocError, Global};
 
 /// The highest rank.
@@ -28,7 +26,7 @@ pub enum Command {
     /// Gives a theorem another proof.
     Reprove {
         label: Label,
-        steps: Sequence<Step>,
+        steps: Proof,
     },
     /// In the proof of a theorem, has each citation of the assertion `old` cite the assertion `new` instead, which says the same.
     Replace {
@@ -67,8 +65,8 @@ impl Command {
         match self {
             Command::Add { rank, assertion } => *rank <= HIGHEST_RANK && fits(prelude, assertion),
             Command::Reprove { label, steps } => {
-                steps.as_slice().len() <= MOST_STEPS
-                    && are_citing_apart(label.as_slice(), steps.as_slice())
+                steps.len() <= MOST_STEPS
+                    && are_citing_apart(label.as_slice(), steps)
             }
             Command::Move { rank, .. } => *rank <= HIGHEST_RANK,
             Command::Replace { .. }
@@ -100,7 +98,7 @@ impl Command {
     {
         match self {
             Command::Add { rank, assertion } => copy_add(alloc, *rank, assertion),
-            Command::Reprove { label, steps } => copy_reprove(alloc, label, steps.as_slice()),
+            Command::Reprove { label, steps } => copy_reprove(alloc, label, steps),
             Command::Replace { label, old, new } => copy_replace(alloc, label, old, new),
             Command::Rename { old, new } => copy_rename(alloc, old, new),
             Command::Move { label, rank } => copy_move(alloc, label, *rank),
@@ -118,11 +116,11 @@ fn copy_add(alloc: Global, rank: u32, assertion: &Assertion) -> Result<Command, 
     Ok(Command::Add { rank, assertion })
 }
 
-fn copy_reprove(alloc: Global, label: &Label, steps: &[Step]) -> Result<Command, AllocError>
+fn copy_reprove(alloc: Global, label: &Label, steps: &Proof) -> Result<Command, AllocError>
     ensures { IfOk result (λ made. made ≡ Command.Reprove label.now steps.now) }
 {
     let label = label.copy(alloc)?;
-    let steps = copy_steps(alloc, steps)?;
+    let steps = steps.copy(alloc)?;
     Ok(Command::Reprove { label, steps })
 }
 

@@ -18,3 +18,4 @@ pub mod Copies
 pub mod Numerals
 pub mod DottedWords
 pub mod Apart
+pub mod ProofSteps

@@ -146,6 +146,7 @@ indexed-constant m n k t w place after at_m new key at_end pushed h = record {
       ∙ sym (meaning-constant t w q new)
       ∙ ap (λ cs. meaning (record t { constants = cs }) q) (sym pushed);
   typed = at_m.typed;
+  few = at_m.few;
 }
 
 -- ---- variables
@@ -212,6 +213,7 @@ indexed-variable m n k t w place after at_m new key at_end pushed h = record {
   typed = subst (λ vs. AreTyped t.floats (length vs)) (sym pushed)
       (typed-more t.floats (length t.variables) (length (t.variables ++ w ∷ []))
       (omega (arith, length-append t.variables (w ∷ []))) at_m.typed);
+  few = at_m.few;
 }
 
 -- ---- $f
@@ -297,13 +299,13 @@ variable_within t w i h = (place_of-at (bytes_eq w) t.variables i [] (variable_f
 
 pub indexed-float : (m n p : HashMap (Vec ℕ Global) Name RandomState) (kl : Vec ℕ Global) (t : Tables) (f : Float) (w : List ℕ) (place : ℕ)
     (after : List Float)
-    → IsSymbolTable m t → meaning t f.label ≡ None → meaning t w ≡ Some (Variable f.variable None) → kl.items ≡ f.label
-    → place ≡ length t.floats → after ≡ t.floats ++ f ∷ []
+    → IsSymbolTable m t → length t.floats < 65535 → meaning t f.label ≡ None → meaning t w ≡ Some (Variable f.variable None)
+    → kl.items ≡ f.label → place ≡ length t.floats → after ≡ t.floats ++ f ∷ []
     → hash.Updates (λ x y. bytes_eq x.items y.items) m n kl (Some (Label place))
     → ((q : List ℕ) → hash.get_by (λ x. bytes_eq q x.items) p
     ≡ cond (bytes_eq w q) (Some (Variable f.variable (Some place))) (hash.get_by (λ x. bytes_eq q x.items) n))
     → IsSymbolTable p (record t { floats = after })
-indexed-float m n p kl t f w place after at_m new var key_l at_end pushed h1 h2 = record {
+indexed-float m n p kl t f w place after at_m room new var key_l at_end pushed h1 h2 = record {
   indexed = λ q.
       let was = hash.get_by (λ x. bytes_eq q x.items) m in
       let not_both : bytes_eq f.label q ≡ true → bytes_eq w q ≡ true → ⊥ = λ y z. let e : f.label ≡ w =
@@ -319,6 +321,7 @@ indexed-float m n p kl t f w place after at_m new var key_l at_end pushed h1 h2 
       ∙ ap (λ fs. meaning (record t { floats = fs }) q) (sym pushed);
   typed = subst (λ fs. AreTyped fs (length t.variables)) (sym pushed)
       (typed-push t.floats f (length t.variables) at_m.typed (variable_within t w f.variable var));
+  few = omega (arith, ap length pushed, length-append t.floats (f ∷ []), room);
 }
 
 -- the variable of a $f is still found once its label is in the map

@@ -1,5 +1,5 @@
 -- Of the code's inside, apart from the rules: what is always true of the fields of a symbol table.
-use Rattle.std.specs.Prelude.{◌≡◌, ◌<◌, ℕ, List, length, Vec}
+use Rattle.std.specs.Prelude.{◌≡◌, ◌<◌, ◌≤◌, ℕ, List, length, Vec}
 use Rattle.std.specs.List.{AllByRecursion}
 use Rattle.std.specs.Str.{bytes_eq}
 use Rattle.std.specs.HashMap.{HashMap, get_by}
@@ -21,3 +21,4 @@ IsIndexed m t = (w : List ℕ) → get_by (λ k. bytes_eq w k.items) m ≡ meani
 pub record IsSymbolTable (m : HashMap (Vec ℕ Global) Name RandomState) (t : Tables) : Type 0 where
   pub indexed : IsIndexed m t
   pub typed : AreTyped t.floats (length t.variables)
+  pub few : length t.floats ≤ 65535

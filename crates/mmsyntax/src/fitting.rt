@@ -2,12 +2,15 @@
 
 ghost use Rattle.std.specs.Prelude.{◌≡◌, ◌≤◌, ◌↔◌, IsTrue, [], All, length};
 ghost use Rattle.mmsyntax.specs.Assertions.{IsSymbolOf, BeginsWithConstant, IsExpression, IsPairOf, ComesBefore, AreAscending, CitesApart, Fits};
+ghost use Rattle.mmsyntax.specs.ProofWords.{seen_step};
 ghost use Rattle.mmsyntax.specs.Assertions.{is_lawful_label};
 ghost use Rattle.mmsyntax.specs.declared.statement.Kind.TheVariants.{Axiom};
 
 use crate::dotted::is_dotted;
 use crate::prelude::Prelude;
-use crate::statement::{Assertion, Expr, Kind, Step, Symbol};
+use crate::proof::Proof;
+use crate::statement::{Assertion, Expr, Kind, Symbol};
+use crate::step_ref::StepRef;
 use mmtext::is_label_token;
 
 /// Whether a symbol is one of the prelude.
@@ -88,28 +91,33 @@ fn are_restrictions(count: usize, pairs: &[(u32, u32)]) -> bool
 }
 
 /// Whether steps may prove an assertion of a kind. An axiom has none.
-fn is_proof_of(kind: Kind, steps: &[Step]) -> bool
+fn is_proof_of(kind: Kind, steps: &Proof) -> bool
     ensures { IsTrue result ↔ ((kind ≡ Axiom → steps.now ≡ []) × (length steps.now ≤ 16384)) }
 {
     (kind == Kind::Theorem || steps.is_empty()) && steps.len() <= 16384
 }
 
 /// Whether a step, in the proof of the assertion with a label, cites no `L.k` where that is L.
-fn is_citing_apart(label: &[u8], step: &Step) -> bool
-    ensures { IsTrue result ↔ CitesApart label.now step.now }
+fn is_citing_apart(label: &[u8], step: StepRef<'_>) -> bool
+    ensures { IsTrue result ↔ CitesApart label.now (seen_step step.entry) }
 {
     match step {
-        Step::Float(_) | Step::Hyp(_) => true,
-        Step::Cite(cited) => !is_dotted(label, cited.as_slice()),
+        StepRef::Float(_) | StepRef::Hyp(_) => true,
+        StepRef::Cite(cited) => !is_dotted(label, cited),
     }
 }
 
 /// Whether no step of a proof of L cites a label `L.k`, with k from 1 to 1,000: no library has one beside L, and in a text it would name a
 /// hypothesis.
-pub fn are_citing_apart(label: &[u8], steps: &[Step]) -> bool
+pub fn are_citing_apart(label: &[u8], steps: &Proof) -> bool
     ensures { IsTrue result ↔ All (CitesApart label.now) steps.now }
 {
-    steps.iter().all(|step| is_citing_apart(label, step))
+    for i in 0..steps.len() {
+        if !is_citing_apart(label, steps.step(i)) {
+            return false;
+        }
+    }
+    true
 }
 
 /// Whether an assertion is one over the prelude, within the limits, whose proof cites no label `L.k` where its own is L. Nothing else of
@@ -122,8 +130,8 @@ pub fn fits(prelude: &Prelude, assertion: &Assertion) -> bool
     is_expression(prelude, assertion.statement.as_slice())
         && are_hypotheses(prelude, assertion.hyps.as_slice())
         && are_restrictions(prelude.floats().len(), assertion.pairs.as_slice())
-        && is_proof_of(assertion.kind, assertion.proof.as_slice())
-        && are_citing_apart(assertion.label.as_slice(), assertion.proof.as_slice())
+        && is_proof_of(assertion.kind, &assertion.proof)
+        && are_citing_apart(assertion.label.as_slice(), &assertion.proof)
 }
 
 /// Whether an assertion over the prelude may have a label: 1 to 255 letters, digits, `-`, `_` and `.`, and no name of the prelude.

@@ -1,6 +1,7 @@
 //! What a database text declares, as plain data, and which texts declare it.
 #![tactic(auto)]
 
+mod cited;
 mod database;
 mod dotted;
 mod fitting;
@@ -9,9 +10,13 @@ pub mod laws;
 mod limits;
 pub mod numeral;
 mod prelude;
+mod proof;
+mod proof_builder;
 mod sequence;
 mod statement;
+mod step_ref;
 mod symbols;
+mod word_steps;
 
 pub use database::Database;
 pub use dotted::{hypothesis_number, is_dotted, trunk};
@@ -19,6 +24,10 @@ pub use fitting::{are_citing_apart, fits, is_lawful_label};
 pub use label::Label;
 pub use limits::MOST_BYTES;
 pub use prelude::Prelude;
+pub use proof::{PLACES, Proof};
+pub use proof_builder::ProofBuilder;
 pub use sequence::Sequence;
-pub use statement::{Assertion, Expr, Float, Frame, Kind, Step, Symbol, copy_steps};
+pub use statement::{Assertion, Expr, Float, Frame, Kind, Step, Symbol};
+pub use step_ref::{StepRef, is_same_step};
 pub use symbols::{Name, SymbolTable};
+pub use word_steps::{WordStep, WordSteps};

@@ -1,6 +1,6 @@
 //! The prelude of a database: all its `$c`, `$v` and `$f` statements.
 
-ghost use Rattle.std.specs.Prelude.{◌≡◌, [], IfOk};
+ghost use Rattle.std.specs.Prelude.{◌≡◌, ◌<◌, ℕ, [], Some, IfOk};
 ghost use Rattle.mmsyntax.specs.Tables.{meaning};
 ghost use Rattle.mmsyntax.specs.Layout.{IsSoundPrelude};
 
@@ -56,9 +56,10 @@ impl Prelude {
         self.symbols.keys()
     }
 
-    /// What a word names in the prelude: one look-up in a map.
+    /// What a word names in the prelude: one look-up in a map. There are at most 65,535 `$f`.
     pub fn look_up(&self, word: &[u8]) -> Option<Name>
-        ensures { result ≡ meaning self.now word.now }
+        ensures value { result ≡ meaning self.now word.now }
+        ensures few { (j : ℕ) → result ≡ Some (Name.Label j) → j < 65535 }
     {
         self.symbols.look_up(word)
     }

@@ -3,6 +3,7 @@
 ghost use Rattle.std.specs.Prelude.{◌≡◌, IfOk};
 
 use crate::label::Label;
+use crate::proof::Proof;
 use crate::sequence::Sequence;
 use std::alloc::{AllocError, Global};
 
@@ -18,7 +19,7 @@ pub enum Symbol {
 /// The symbols of a statement or of a hypothesis.
 pub type Expr = Sequence<Symbol>;
 
-/// A step of a proof: what it names.
+/// A step of a proof, as clauses see it: what it names. A `Proof` keeps its steps as words, and lends each as a `StepRef`.
 #[derive(Debug, Drop)]
 pub enum Step {
     /// The `$f` at this place of the prelude, counted from 0.
@@ -56,7 +57,7 @@ pub struct Assertion {
     /// The symbols behind `$a` or `$p`.
     pub statement: Expr,
     /// The steps of the proof: none of an axiom.
-    pub proof: Sequence<Step>,
+    pub proof: Proof,
 }
 
 /// What a citing proof sees of an assertion.
@@ -72,19 +73,6 @@ pub struct Frame {
     pub statement: Expr,
 }
 
-impl Step {
-    /// An equal step.
-    pub fn copy(&self, alloc: Global) -> Result<Step, AllocError>
-        ensures { IfOk result (λ made. made ≡ self.now) }
-    {
-        match self {
-            Step::Float(place) => Ok(Step::Float(*place)),
-            Step::Hyp(place) => Ok(Step::Hyp(*place)),
-            Step::Cite(label) => Ok(Step::Cite(label.copy(alloc)?)),
-        }
-    }
-}
-
 impl Assertion {
     /// An equal assertion.
     pub fn copy(&self, alloc: Global) -> Result<Assertion, AllocError>
@@ -96,7 +84,7 @@ impl Assertion {
             pairs: self.pairs.copy(alloc)?,
             hyps: copy_expressions(alloc, self.hyps.as_slice())?,
             statement: self.statement.copy(alloc)?,
-            proof: copy_steps(alloc, self.proof.as_slice())?,
+            proof: self.proof.copy(alloc)?,
         })
     }
 }
@@ -134,17 +122,6 @@ fn copy_expressions(alloc: Global, expressions: &[Expr]) -> Result<Sequence<Expr
     let mut made = Vec::new(alloc);
     for expression in expressions {
         made.push(expression.copy(alloc)?)?;
-    }
-    Ok(Sequence::from_vec(made))
-}
-
-/// Equal steps.
-pub fn copy_steps(alloc: Global, steps: &[Step]) -> Result<Sequence<Step>, AllocError>
-    ensures { IfOk result (λ made. made ≡ steps.now) }
-{
-    let mut made = Vec::new(alloc);
-    for step in steps {
-        made.push(step.copy(alloc)?)?;
     }
     Ok(Sequence::from_vec(made))
 }

@@ -74,8 +74,10 @@ impl SymbolTable {
         *self.names.hasher()
     }
 
+    /// What a word names: one look-up in a map. There are at most 65,535 `$f`.
     pub fn look_up(&self, word: &[u8]) -> Option<Name>
-        ensures { result ≡ meaning self.now word.now }
+        ensures value { result ≡ meaning self.now word.now }
+        ensures few { (j : ℕ) → result ≡ Some (Name.Label j) → j < 65535 }
     {
         self.names.get(word).copied()
     }

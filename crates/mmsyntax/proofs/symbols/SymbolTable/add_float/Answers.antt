@@ -1,5 +1,5 @@
 -- What is left to show of `add_float`.
-use Rattle.std.proofs.Common.{◌≡◌, length, sym, subst, None, Some, rules}
+use Rattle.std.proofs.Common.{◌≡◌, ◌<◌, length, sym, subst, None, Some, rules}
 use Rattle.mmsyntax.specs.declared.symbols.Name.TheVariants.{Variable}
 use Rattle.mmsyntax.specs.declared.statement.Float.{Float}
 use Rattle.mmsyntax.specs.Tables.{Tables, meaning}
@@ -22,6 +22,7 @@ invariant_of-self-2 c =
     let len : c.len-place.result ≡ length i.floats.items = search rules in
     indexed-float i.names c.insert.new.self c.set_float.new.names c.in_ok-key.key t f c.args.word.now c.len-place.result
     c.push.new.self.items c.self.invariant
+    (subst (λ (t : Tables). length t.floats < 65535) (sym c.self.view_is) c.requires.room)
     (subst (λ (t : Tables). meaning t c.args.label.now ≡ None) (sym c.self.view_is) c.requires.new)
     (subst (λ (t : Tables). meaning t c.args.word.now ≡ Some (Variable c.args.variable None)) (sym c.self.view_is) c.requires.variable)
     c.in_ok-key.ensures.items len (search rules) c.in-Ok.ensures.updates c.set_float.ensures
