@@ -6,7 +6,7 @@ ghost use Rattle.library.specs.Fitting.{CommandFits};
 ghost use Rattle.library.specs.Transactions.{has_edit, has_too_many};
 
 use crate::library::Ranked;
-use mmsyntax::{Assertion, Kind, Label, Prelude, Proof, are_citing_apart, fits};
+use mmsyntax::{Assertion, Kind, Label, Prelude, Proof, Sequence, are_citing_apart, fits};
 use std::alloc::{AllocError, Global};
 
 /// The highest rank.

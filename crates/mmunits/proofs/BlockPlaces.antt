@@ -1,7 +1,7 @@
 -- Pairs in order, and what the map of a block's hypotheses finds after one more.
 use Rattle.std.proofs.Common.{◌≡◌, ℕ, zero, suc, ◌+◌, ◌<◌, Bool, true, false, cond, List, [], ◌∷◌, ◌++◌, length, get_or, drop}
 use Rattle.std.proofs.Common.{Option, Some, None, Vec}
-use Rattle.std.proofs.Common.{refl, sym, ap, ◌∙◌, eqb, ltb, arith}
+use Rattle.std.proofs.Common.{◌≤◌, refl, sym, ap, ◌∙◌, eqb, ltb, arith, length-append}
 use Rattle.std.specs.Prelude.{◌||◌, ◌&&◌}
 use Rattle.std.specs.Option.{option_map, option_or}
 use Rattle.std.specs.Str.{bytes_eq}
@@ -18,7 +18,7 @@ use Rattle.mmsyntax.specs.Blocks.{Hypothesis, with_pair}
 use Rattle.mmsyntax.specs.Steps.{hypothesis_named}
 use Rattle.mmunits.specs.HypothesisPlaces.{FindsHypotheses}
 use Rattle.mmunits.specs.WordMaps.{FindsUnlessBefore}
-use Rattle.mmsyntax.proofs.Names.{bytes_eq-sym, place_of-push, ne-eqb}
+use Rattle.mmsyntax.proofs.Names.{bytes_eq-sym, place_of-push, place_of-at, ne-eqb}
 
 -- ---- pairs
 
@@ -82,10 +82,22 @@ first_later test (x ∷ xs) (suc i) d lt h =
 
 -- one more hypothesis: an earlier one of its label stays the one that is named
 pub found_too : (m n : HashMap (Vec ℕ Global) ℕ RandomState) (hyps after : List Hypothesis) (h : Hypothesis) (place : ℕ)
-    → FindsHypotheses m hyps → place ≡ length hyps → after ≡ hyps ++ h ∷ [] → FindsUnlessBefore m h.label place n → FindsHypotheses n after
-found_too m n hyps after h place at_m at_end pushed put w =
-    put w
-    ∙ ap (λ o. option_or o (cond (bytes_eq h.label w) (Some place) None)) (at_m w)
-    ∙ ap (λ b. option_or (hypothesis_named hyps w) (cond b (Some place) None)) (bytes_eq-sym h.label w)
-    ∙ ap (λ p. option_or (hypothesis_named hyps w) (cond (bytes_eq w h.label) (Some p) None)) at_end
-    ∙ sym (place_of-push (λ g. bytes_eq w g.label) hyps h) ∙ ap (λ hs. hypothesis_named hs w) (sym pushed)
+    → FindsHypotheses m hyps → length hyps < 1000 → place ≡ length hyps → after ≡ hyps ++ h ∷ [] → FindsUnlessBefore m h.label place n
+    → FindsHypotheses n after
+found_too m n hyps after h place at_m room at_end pushed put = record {
+  found = λ w.
+      put w
+      ∙ ap (λ o. option_or o (cond (bytes_eq h.label w) (Some place) None)) (at_m.found w)
+      ∙ ap (λ b. option_or (hypothesis_named hyps w) (cond b (Some place) None)) (bytes_eq-sym h.label w)
+      ∙ ap (λ p. option_or (hypothesis_named hyps w) (cond (bytes_eq w h.label) (Some p) None)) at_end
+      ∙ sym (place_of-push (λ g. bytes_eq w g.label) hyps h) ∙ ap (λ hs. hypothesis_named hs w) (sym pushed);
+  few = omega (arith, ap length pushed, length-append hyps (h ∷ []), room);
+}
+
+no_hypothesis : Hypothesis
+no_hypothesis = record { label = []; expression = [] }
+
+-- the place of a hypothesis is among them
+pub place_within : (hyps : List Hypothesis) (w : List ℕ) (n : ℕ) → length hyps ≤ 1000 → hypothesis_named hyps w ≡ Some n → n < 1000
+place_within hyps w n few at =
+    let within : n < length hyps = (place_of-at (λ h. bytes_eq w h.label) hyps n no_hypothesis at).0 in omega (arith, within, few)

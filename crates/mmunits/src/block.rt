@@ -1,6 +1,6 @@
 //! What a block holds before its assertion.
 
-ghost use Rattle.std.specs.Prelude.{◌≡◌, ◌<◌, length, map, IfOk, OnOk};
+ghost use Rattle.std.specs.Prelude.{◌≡◌, ◌<◌, ℕ, Some, length, map, IfOk, OnOk};
 ghost use Rattle.mmsyntax.specs.Blocks.{no_block, with_pairs, with_hypothesis};
 ghost use Rattle.mmsyntax.specs.Steps.{hypothesis_named};
 
@@ -73,7 +73,8 @@ impl<'a> Content<'a> {
     }
 
     fn hypothesis_place(&self, word: &[u8]) -> Option<u32>
-        ensures { result ≡ hypothesis_named self.now.hyps word.now }
+        ensures value { result ≡ hypothesis_named self.now.hyps word.now }
+        ensures few { (n : ℕ) → result ≡ Some n → n < 1000 }
     {
         if self.hyps.len() <= FEW {
             return first_labelled(&self.hyps, word);
@@ -160,9 +161,10 @@ impl<'a> Block<'a> {
         self.content.hypotheses()
     }
 
-    /// The place of the hypothesis with a label: a few comparisons, or one look-up in a map.
+    /// The place of the hypothesis with a label, counted from 0: a few comparisons, or one look-up in a map. There are at most 1,000.
     pub fn hypothesis_place(&self, word: &[u8]) -> Option<u32>
-        ensures { result ≡ hypothesis_named self.now.hyps word.now }
+        ensures value { result ≡ hypothesis_named self.now.hyps word.now }
+        ensures few { (n : ℕ) → result ≡ Some n → n < 1000 }
     {
         self.content.hypothesis_place(word)
     }
