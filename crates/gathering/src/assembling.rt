@@ -16,7 +16,7 @@ use crate::following::Follow;
 use crate::places::Placed;
 use crate::proving::{Outcome, outcome_at};
 use crate::saying::{placed_expression, placed_premises, restrictions};
-use mmsyntax::{Assertion, Kind, Sequence};
+use mmsyntax::{Assertion, Kind, Proof};
 use prooftrees::Frames;
 use sites::{Active, active_at};
 use source::Declared;
@@ -68,7 +68,7 @@ fn stated<'a, D: Declared<'a>>(
         pairs,
         hyps,
         statement,
-        proof: Sequence::from_vec(Vec::new(alloc)),
+        proof: Proof::new(alloc),
     })
 }
 

@@ -13,7 +13,7 @@ ghost use Rattle.prooftrees.specs.Forms.{IsForm};
 ghost use Rattle.prooftrees.specs.declared.form.ProofForm.TheVariants.{Tree};
 ghost use Rattle.gathering.specs.Outcomes.{IsOutcome, HasStepsFor};
 
-use mmsyntax::{Sequence, Step};
+use mmsyntax::Proof;
 use prooftrees::{Frames, ProofForm, ProofTree, read_proof};
 use source::Declared;
 use std::alloc::{AllocError, Global};
@@ -31,7 +31,7 @@ pub(crate) enum Outcome {
     /// Its theorem is taken as an axiom.
     AsAxiom(Reason),
     /// It is listed.
-    Theorem(Sequence<Step>),
+    Theorem(Proof),
 }
 
 /// Whether a label is that of an assertion before a place that isn't chosen.
@@ -76,6 +76,7 @@ fn cites_left_out<'a, D: Declared<'a>>(
 /// What becomes of a tree: the first reason that holds, or else its listing.
 fn outcome_of_tree<'a, D: Declared<'a>>(
     alloc: Global,
+    keys: RandomState,
     declared: &D,
     chosen: &[bool],
     front: &[bool],
@@ -102,7 +103,7 @@ fn outcome_of_tree<'a, D: Declared<'a>>(
     if cites_left_out(declared, chosen, place, tree) {
         return Ok(Outcome::AsAxiom(Reason::CitesUnchosen));
     }
-    match list(alloc, tree.named.as_slice(), &tree.proof.nodes, root)? {
+    match list(alloc, keys, tree.named.as_slice(), &tree.proof.nodes, root)? {
         Some(steps) => Ok(Outcome::Theorem(steps)),
         // A label without a step isn't chosen either: where the steps of what is chosen are known, this was told above.
         None => Ok(Outcome::AsAxiom(Reason::CitesUnchosen)),
@@ -137,6 +138,6 @@ pub(crate) fn outcome_at<'a, D: Declared<'a>, P: StepPlaces>(
     match read_proof(alloc, keys, declared, frames, places, place)? {
         ProofForm::Absent => Ok(Outcome::Axiom),
         ProofForm::Unfinished => Ok(Outcome::AsAxiom(Reason::Unfinished)),
-        ProofForm::Tree(tree) => outcome_of_tree(alloc, declared, chosen, front, place, &tree),
+        ProofForm::Tree(tree) => outcome_of_tree(alloc, keys, declared, chosen, front, place, &tree),
     }
 }

@@ -5,7 +5,7 @@ use crate::refusal::{File, Refusal, shown};
 use giving::Changes;
 use library::{PlainLibrary, Ranked};
 use mmframes::frame_of;
-use mmsyntax::{Assertion, Database, Float, Kind, Label, Prelude, Step};
+use mmsyntax::{Assertion, Database, Float, Kind, Label, Prelude, Proof, StepRef};
 use source::Declared;
 use sourcewriting::{Cited, Kinds, Names, names_in_source, proof_text};
 use std::alloc::{AllocError, Global};
@@ -134,25 +134,24 @@ pub(crate) fn names_of<'x, D: Declared<'x>>(
 }
 
 /// Whether a step is another one but for a changed label.
-fn is_step(changes: &Changes<'_>, old: &Step, new: &Step) -> bool {
+fn is_step(changes: &Changes<'_>, old: StepRef<'_>, new: StepRef<'_>) -> bool {
     match (old, new) {
-        (Step::Float(place), Step::Float(other)) => place == other,
-        (Step::Hyp(place), Step::Hyp(other)) => place == other,
-        (Step::Cite(label), Step::Cite(other)) => {
-            let label = label.as_slice();
-            changes.text_for(label).unwrap_or(label) == other.as_slice()
+        (StepRef::Float(place), StepRef::Float(other)) => place == other,
+        (StepRef::Hyp(place), StepRef::Hyp(other)) => place == other,
+        (StepRef::Cite(label), StepRef::Cite(other)) => {
+            changes.text_for(label).unwrap_or(label) == other
         }
         _ => false,
     }
 }
 
 /// Whether a proof is another one but for changed labels.
-fn is_proof(changes: &Changes<'_>, old: &[Step], new: &[Step]) -> bool {
+fn is_proof(changes: &Changes<'_>, old: &Proof, new: &Proof) -> bool {
     if old.len() != new.len() {
         return false;
     }
-    for (k, step) in old.iter().enumerate() {
-        if !is_step(changes, step, &new[k]) {
+    for k in 0..old.len() {
+        if !is_step(changes, old.step(k), new.step(k)) {
             return false;
         }
     }
@@ -192,13 +191,13 @@ fn other_proof<'x, D: Declared<'x>>(
     old: &Assertion,
     new: &Assertion,
 ) -> Result<Option<Vec<u8>>, Refusal> {
-    if is_proof(changes, old.proof.as_slice(), new.proof.as_slice()) {
+    if is_proof(changes, &old.proof, &new.proof) {
         return Ok(None);
     }
     let Some(place) = declared.place_of(source) else {
         return Err(unwritten(alloc, source)?);
     };
-    match proof_text(alloc, keys, declared, names, place, new.proof.as_slice())? {
+    match proof_text(alloc, keys, declared, names, place, &new.proof)? {
         Some(text) => Ok(Some(text)),
         None => Err(unwritten(alloc, source)?),
     }

@@ -335,7 +335,7 @@ fn put_proof<'p, 'a, D: Declared<'a>>(
     statement: &Statement<'_>,
     premises: &[&'p [u8]],
 ) -> Result<bool, AllocError> {
-    let steps = statement.assertion.proof.as_slice();
+    let steps = &statement.assertion.proof;
     let Some((shared, root)) = nodes_of(alloc, keys, declared, names, premises, steps)? else {
         return Ok(false);
     };

@@ -4,7 +4,7 @@ ghost use Rattle.std.specs.Prelude.{◌≡◌, ◌<◌, length, count_by, IfOk};
 ghost use Rattle.taking.specs.Walks.{arranged};
 
 use crate::shared::Shared;
-use mmsyntax::Step;
+use mmsyntax::{Proof, StepRef};
 use source::{Declared, HypothesisWords};
 use std::alloc::{AllocError, Global};
 use std::collections::HashMap;
@@ -158,18 +158,18 @@ fn take_step<'x, 'a, D: Declared<'a>>(
     premises: &[&'x [u8]],
     shared: &mut Shared<'x>,
     stack: &mut Vec<usize>,
-    step: &Step,
+    step: StepRef<'_>,
 ) -> Result<bool, AllocError> {
     match step {
-        Step::Float(place) => {
-            let label = names.floats.get(*place as usize).copied();
+        StepRef::Float(place) => {
+            let label = names.floats.get(place as usize).copied();
             put_leaf(alloc, shared, stack, label)
         }
-        Step::Hyp(place) => {
-            let label = premises.get(*place as usize).copied();
+        StepRef::Hyp(place) => {
+            let label = premises.get(place as usize).copied();
             put_leaf(alloc, shared, stack, label)
         }
-        Step::Cite(label) => match names.cited.get(&label.as_slice()) {
+        StepRef::Cite(label) => match names.cited.get(&label) {
             Some(cited) => cite(alloc, declared, shared, stack, *cited),
             None => Ok(false),
         },
@@ -183,11 +183,12 @@ pub(crate) fn nodes_of<'x, 'a, D: Declared<'a>>(
     declared: &D,
     names: &Names<'x>,
     premises: &[&'x [u8]],
-    steps: &[Step],
+    steps: &Proof,
 ) -> Result<Option<(Shared<'x>, usize)>, AllocError> {
     let mut shared = Shared::new(alloc, keys);
     let mut stack = Vec::new(alloc);
-    for step in steps {
+    for place in 0..steps.len() {
+        let step = steps.step(place);
         if !take_step(
             alloc,
             declared,

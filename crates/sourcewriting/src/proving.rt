@@ -6,7 +6,7 @@ use crate::layout::Layout;
 use crate::listing::{Names, nodes_of};
 use crate::shared::Shared;
 use crate::wording::{put_compressed, put_normal};
-use mmsyntax::Step;
+use mmsyntax::Proof;
 use source::{Declared, HypothesisWords, ProofWords};
 use std::alloc::{AllocError, Global};
 use std::hash::RandomState;
@@ -72,7 +72,7 @@ pub fn proof_text<'x, D: Declared<'x>>(
     declared: &D,
     names: &Names<'x>,
     place: usize,
-    steps: &[Step],
+    steps: &Proof,
 ) -> Result<Option<Vec<u8>>, AllocError>
     requires { place < length (D.scope declared.now).assertions }
 {

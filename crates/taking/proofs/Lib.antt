@@ -15,3 +15,4 @@ pub mod Cited
 pub mod Found
 pub mod Symbols
 pub mod Given
+pub mod Lent

@@ -1,13 +1,15 @@
 //! The listing of a proof: its steps in the profile's order.
 
-ghost use Rattle.std.specs.Prelude.{◌≡◌, ◌≤◌, ◌<◌, ◌++◌, length, slice_index, All, IfOk, OnOk};
+ghost use Rattle.std.specs.Prelude.{◌≡◌, ◌≤◌, ◌<◌, ◌++◌, length, map, slice_index, All, IfOk, OnOk};
+ghost use Rattle.mmsyntax.specs.ProofWords.{seen_step};
 ghost use Rattle.taking.specs.Nodes.{sizes};
 ghost use Rattle.taking.specs.Walks.{TakesAll, picked, arranged, IsListing};
 
 use crate::named::Named;
 use crate::nodes::Nodes;
-use mmsyntax::{Sequence, Step};
+use mmsyntax::{Proof, ProofBuilder, Step, StepRef};
 use std::alloc::{AllocError, Global};
+use std::hash::RandomState;
 
 /// Arguments at the `$f`, or at the `$e`, go to the end.
 fn push_where(
@@ -38,15 +40,52 @@ fn push_arguments(
     push_where(pending, arguments, floats, false)
 }
 
+/// A step, lent.
+fn lend(step: &Step) -> StepRef<'_>
+    ensures { seen_step result ≡ step.now }
+{
+    match step {
+        Step::Float(place) => StepRef::Float(*place),
+        Step::Hyp(place) => StepRef::Hyp(*place),
+        Step::Cite(label) => StepRef::Cite(label.as_slice()),
+    }
+}
+
+/// The proof of these steps.
+fn proof_of(
+    alloc: Global,
+    keys: RandomState,
+    steps: &[&Step],
+) -> Result<Proof, AllocError>
+    ensures { IfOk result (λ made. made ≡ map (λ s. s.now) steps.now) }
+{
+    let mut made = ProofBuilder::new(alloc, keys);
+    for step in steps {
+        let step = lend(step);
+        if !step.is_small() {
+            return Err(AllocError);
+        }
+        made.push(alloc, step)?;
+    }
+    Ok(made.into_proof())
+}
+
 /// The steps of the proof that the node at a place stands for, in the profile's order: nothing where it names what isn't taken.
 ///
-/// It takes memory and turns for as many steps as there are.
+/// It takes memory and turns for as many steps as there are. The keys make the hashes by which a label is found among those that are cited
+/// already.
+///
+/// # Errors
+///
+/// Want of memory. A `$f` or a `$e` at a place over 1,073,741,823 would be refused as if memory were wanting: no source, of at most 268,435,456
+/// bytes, has so many.
 pub fn list(
     alloc: Global,
+    keys: RandomState,
     named: &[Named],
     nodes: &Nodes,
     root: usize,
-) -> Result<Option<Sequence<Step>>, AllocError>
+) -> Result<Option<Proof>, AllocError>
     requires within { root < length nodes.now }
     requires whole { All (TakesAll named.now) nodes.now }
     requires few { slice_index (sizes nodes.now) root ≤ 16384 }
@@ -61,9 +100,9 @@ pub fn list(
         let Some(step) = &cited.step else {
             return Ok(None);
         };
-        steps.push(step.copy(alloc)?)?;
+        steps.push(step)?;
         push_arguments(&mut pending, arguments, cited.floats.as_slice())?;
     }
     steps.reverse();
-    Ok(Some(Sequence::from_vec(steps)))
+    Ok(Some(proof_of(alloc, keys, steps.as_slice())?))
 }

@@ -1,16 +1,19 @@
 -- What is left to show of `list`.
-use Rattle.std.proofs.Common.{rules, ◌≡◌, ◌<◌, ◌∙◌, ◌++◌, [], sym, ap, subst, List, ℕ}
+use Rattle.std.proofs.Common.{rules, ◌≡◌, ◌<◌, ◌∙◌, ◌++◌, ◌∷◌, [], sym, ap, subst, List, ℕ, Bor, reverse}
+use Rattle.std.proofs.lemmas.List.{map_push}
 use Rattle.std.specs.Prelude.{Some}
 use Rattle.mmsyntax.specs.declared.statement.Step.{Step}
 use Rattle.taking.specs.Walks.{arranged}
 use Rattle.taking.proofs.Listed.{Goes, weight, finish}
+use Rattle.taking.proofs.Lent.{seen_steps}
+use Rattle.taking.proofs.Turned.{turned_map}
 use Rattle.taking.proofs.Labels.{popped_within, turn_on, stop_on, lighter_on, is_listing}
 use Rattle.taking.proofs.listing.list.Goals as goal
 
 pub arguments-arguments-requires : goal.arguments-arguments-requires
 arguments-arguments-requires c =
     popped_within c.args.named.now c.args.nodes.now c.args.root c.loop-place.pending.items c.pop.new.self.items c.in-Some.place
-    c.loop-place.steps.items c.loop-place.invariant c.in-Some.ensures.items
+    (seen_steps c.loop-place.steps.items) c.loop-place.invariant c.in-Some.ensures.items
 
 pub loop-place-smaller : goal.loop-place-smaller
 loop-place-smaller c =
@@ -18,7 +21,7 @@ loop-place-smaller c =
     let pushed = c.in_ok-push_arguments.ensures
     ∙ ap (λ fs. c.pop.new.self.items ++ arranged fs c.arguments-arguments.result.now) c.as_slice.ensures in
     subst (λ (ps : List ℕ). weight c.args.nodes.now ps < weight c.args.nodes.now l.pending.items) (sym pushed)
-    (lighter_on c.args.named.now c.args.nodes.now c.args.root l.pending.items c.pop.new.self.items c.in-Some.place l.steps.items
+    (lighter_on c.args.named.now c.args.nodes.now c.args.root l.pending.items c.pop.new.self.items c.in-Some.place (seen_steps l.steps.items)
     c.named.result
     c.arguments-arguments.result.now c.index-named-named.result c.requires.whole l.invariant c.in-Some.ensures.items c.named.ensures
     c.arguments-arguments.ensures.value c.arguments-arguments.ensures.below c.index-named-named.is)
@@ -28,28 +31,32 @@ loop-place-preserved c =
     let l = c.loop-place in
     let pushed = c.in_ok-push_arguments.ensures
     ∙ ap (λ fs. c.pop.new.self.items ++ arranged fs c.arguments-arguments.result.now) c.as_slice.ensures in
-    subst (λ (ps : List ℕ). Goes c.args.named.now c.args.nodes.now c.args.root ps c.push-in-Some.new.self.items) (sym pushed)
+    let more : seen_steps c.push-in-Some.new.self.items ≡ seen_steps l.steps.items ++ c.in-Some-step.step ∷ [] =
+    ap seen_steps c.in_ok-push-2.ensures.items ∙ map_push (λ s. s.now) l.steps.items _ in
+    subst (λ (ps : List ℕ). Goes c.args.named.now c.args.nodes.now c.args.root ps (seen_steps c.push-in-Some.new.self.items)) (sym pushed)
     (subst
     (λ (ss : List Step). Goes c.args.named.now c.args.nodes.now c.args.root
     (c.pop.new.self.items ++ arranged c.index-named-named.result.floats c.arguments-arguments.result.now) ss)
-    (sym c.in_ok-push-2.ensures.items)
-    (turn_on c.args.named.now c.args.nodes.now c.args.root l.pending.items c.pop.new.self.items c.in-Some.place l.steps.items c.named.result
+    (sym more)
+    (turn_on c.args.named.now c.args.nodes.now c.args.root l.pending.items c.pop.new.self.items c.in-Some.place (seen_steps l.steps.items)
+    c.named.result
     c.arguments-arguments.result.now c.index-named-named.result c.requires.whole l.invariant c.in-Some.ensures.items c.named.ensures
-    c.arguments-arguments.ensures.value c.arguments-arguments.ensures.below c.index-named-named.is c.in_ok-copy.field-0
-    (c.in-Some-step.is ∙ ap (λ x. Some x) (sym c.in_ok-copy.ensures))))
+    c.arguments-arguments.ensures.value c.arguments-arguments.ensures.below c.index-named-named.is c.in-Some-step.step c.in-Some-step.is))
 
 pub returns : goal.returns
 returns c =
     let l = c.loop-place in
     let e : l.pending.items ≡ [] = search rules in
-    is_listing c.args.named.now c.args.nodes.now c.args.root (Some c.from_vec.result) c.requires.whole
-    (finish c.args.named.now c.args.nodes.now c.args.root l.steps.items
-    (subst (λ (ps : List ℕ). Goes c.args.named.now c.args.nodes.now c.args.root ps l.steps.items) e l.invariant)
-    ∙ ap (λ x. Some x) (sym (c.from_vec.ensures ∙ c.reverse.ensures.items)))
+    let turned : c.in_ok-proof_of.field-0 ≡ reverse (seen_steps l.steps.items) = c.in_ok-proof_of.ensures
+    ∙ ap seen_steps (c.as_slice-2.ensures.value ∙ c.reverse.ensures.items) ∙ turned_map (λ (s : Bor Step). s.now) l.steps.items in
+    is_listing c.args.named.now c.args.nodes.now c.args.root (Some c.in_ok-proof_of.field-0) c.requires.whole
+    (finish c.args.named.now c.args.nodes.now c.args.root (seen_steps l.steps.items)
+    (subst (λ (ps : List ℕ). Goes c.args.named.now c.args.nodes.now c.args.root ps (seen_steps l.steps.items)) e l.invariant)
+    ∙ ap (λ x. Some x) (sym turned))
 
 pub returns-in_default-step : goal.returns-in_default-step
 returns-in_default-step c =
     let l = c.loop-place in
-    stop_on c.args.named.now c.args.nodes.now c.args.root l.pending.items c.pop.new.self.items c.in-Some.place l.steps.items c.named.result
+    stop_on c.args.named.now c.args.nodes.now c.args.root l.pending.items c.pop.new.self.items c.in-Some.place (seen_steps l.steps.items) c.named.result
     c.arguments-arguments.result.now c.index-named-named.result c.requires.whole l.invariant c.in-Some.ensures.items c.named.ensures
     c.arguments-arguments.ensures.value c.arguments-arguments.ensures.below c.index-named-named.is c.in_default-step.is
