@@ -3,7 +3,7 @@
 ghost use Rattle.std.specs.Prelude.{◌≡◌, ◌↔◌, ◌++◌, ◌∷◌, [], length, IsTrue, OnOk};
 ghost use Rattle.mmsyntax.specs.ProofWords.{IsSmall, seen_step};
 
-use crate::cited::place_of;
+use crate::cited::{place_of, stands_at};
 use crate::proof::Proof;
 use crate::step_ref::StepRef;
 use std::alloc::{AllocError, Global};
@@ -66,9 +66,12 @@ impl ProofBuilder {
         self.proof.is_empty()
     }
 
-    /// Where a label is looked for among those that are cited.
-    fn guess(&self, label: &[u8]) -> usize {
+    /// Where a label is looked for among those that are cited: at the hint, if it stands there.
+    fn guess(&self, hint: usize, label: &[u8]) -> usize {
         let cited = self.proof.cited();
+        if stands_at(cited, hint, label) {
+            return hint;
+        }
         if cited.len() <= FEW {
             return place_of(cited, label);
         }
@@ -95,6 +98,33 @@ impl ProofBuilder {
         Ok(())
     }
 
+    /// One more step. A label is looked for first at a hint among those that are cited, counted from 0: any number will do. Where it stands
+    /// then, which is the hint for this label from now on; the hint of a step that cites none.
+    ///
+    /// # Errors
+    ///
+    /// Want of memory. The step may stand there then.
+    pub fn push_near(
+        &mut self,
+        alloc: Global,
+        hint: usize,
+        step: StepRef<'_>,
+    ) -> Result<usize, AllocError>
+        requires { IsSmall (seen_step step) }
+        ensures { OnOk result (self.new ≡ self.old ++ seen_step step.entry ∷ []) }
+    {
+        let StepRef::Cite(label) = step else {
+            return self.proof.push_guessed(alloc, hint, step);
+        };
+        let guess = self.guess(hint, label);
+        let count = self.proof.cited().len();
+        let place = self.proof.push_cite(alloc, guess, label)?;
+        if self.proof.cited().len() > count {
+            self.note_last(alloc)?;
+        }
+        Ok(place)
+    }
+
     /// One more step.
     ///
     /// # Errors
@@ -104,16 +134,7 @@ impl ProofBuilder {
         requires { IsSmall (seen_step step) }
         ensures { OnOk result (self.new ≡ self.old ++ seen_step step.entry ∷ []) }
     {
-        let StepRef::Cite(label) = step else {
-            self.proof.push_guessed(alloc, 0, step)?;
-            return Ok(());
-        };
-        let guess = self.guess(label);
-        let count = self.proof.cited().len();
-        self.proof.push_cite(alloc, guess, label)?;
-        if self.proof.cited().len() > count {
-            self.note_last(alloc)?;
-        }
+        self.push_near(alloc, 0, step)?;
         Ok(())
     }
 
