@@ -10,9 +10,10 @@ ghost use Rattle.mmsyntax.specs.Layout.{symbol_word, step_word, hypothesis_label
 ghost use Rattle.mmsyntax.specs.Layout.{distinct_pieces, hypothesis_pieces, claim_of, prelude_text, assertion_text, text_of};
 ghost use Rattle.mmsyntax.specs.Layout.{HasUnitSpelling};
 ghost use Rattle.mmsyntax.specs.Preludes.{IsFloatSound};
+ghost use Rattle.mmsyntax.specs.ProofWords.{seen_step};
 
 use itoa::Buffer;
-use mmsyntax::{Assertion, Database, Expr, Float, Kind, Label, Prelude, Step, Symbol};
+use mmsyntax::{Assertion, Database, Expr, Float, Kind, Label, Prelude, Proof, StepRef, Symbol};
 use std::alloc::{AllocError, Global};
 
 /// Puts a space and a word behind `out`.
@@ -104,18 +105,18 @@ fn put_step(
     out: &mut Vec<u8>,
     prelude: &Prelude,
     label: &[u8],
-    step: &Step,
+    step: StepRef<'_>,
 ) -> Result<(), AllocError>
-    ensures { OnOk result (out.new.items ≡ out.old.items ++ 32 ∷ step_word prelude.now label.now step.now) }
+    ensures { OnOk result (out.new.items ≡ out.old.items ++ 32 ∷ step_word prelude.now label.now (seen_step step.entry)) }
 {
     out.push(b' ')?;
     match step {
-        Step::Float(place) => match prelude.floats().get(*place as usize) {
+        StepRef::Float(place) => match prelude.floats().get(place as usize) {
             Some(float) => out.extend_from_slice(float.label.as_slice()),
             None => Ok(()),
         },
-        Step::Hyp(place) => put_hypothesis_label(out, label, *place as u64 + 1),
-        Step::Cite(cited) => out.extend_from_slice(cited.as_slice()),
+        StepRef::Hyp(place) => put_hypothesis_label(out, label, place as u64 + 1),
+        StepRef::Cite(cited) => out.extend_from_slice(cited),
     }
 }
 
@@ -127,12 +128,12 @@ pub fn put_steps(
     out: &mut Vec<u8>,
     prelude: &Prelude,
     label: &[u8],
-    steps: &[Step],
+    steps: &Proof,
 ) -> Result<(), AllocError>
     ensures { OnOk result (out.new.items ≡ out.old.items ++ spaced (map (step_word prelude.now label.now) steps.now)) }
 {
-    for step in steps {
-        put_step(out, prelude, label, step)?;
+    for i in 0..steps.len() {
+        put_step(out, prelude, label, steps.step(i))?;
     }
     Ok(())
 }
@@ -163,7 +164,7 @@ fn put_theorem(
     out.extend_from_slice(b" $p")?;
     put_symbols(out, prelude, assertion.statement.as_slice())?;
     out.extend_from_slice(b" $=")?;
-    put_steps(out, prelude, label, assertion.proof.as_slice())?;
+    put_steps(out, prelude, label, &assertion.proof)?;
     put_end(out)
 }
 

@@ -1,5 +1,5 @@
 -- Of the code's inside, apart from the rules: what a function does that may take a word where it stands.
-use Rattle.std.specs.Prelude.{◌≡◌, Bool, true, false, List, [], ◌∷◌, ◌++◌, Result, Ok, Err}
+use Rattle.std.specs.Prelude.{◌≡◌, ◌<◌, Bool, true, false, List, [], ◌∷◌, ◌++◌, Result, Ok, Err}
 use Rattle.mmtext.specs.declared.fault.FaultKind.{FaultKind}
 use Rattle.mmtext.specs.declared.fault.TextFault.{TextFault}
 use Rattle.mmtext.specs.declared.fault.Stop.{Stop}
@@ -39,6 +39,12 @@ abbrev pub step_as : Word → Named → Step
 step_as w (named.Float j) = Float j
 step_as w (named.Hyp n) = Hyp n
 step_as w named.Assertion = Cite w
+
+-- one of 65,535 $f, or of 1,000 hypotheses
+abbrev pub IsSmallNamed : Named → Type 0
+IsSmallNamed (named.Float j) = j < 65535
+IsSmallNamed (named.Hyp n) = n < 1000
+IsSmallNamed named.Assertion = Unit {0}
 
 -- that step, or the fault
 abbrev pub step_or_fault : Word → Result Named FaultKind → Result Step FaultKind

@@ -15,7 +15,7 @@ mod words;
 pub use place::{Place, PreludePlace, Scope, Theorem, UnitPlace, is_outermost};
 pub use prelude_rows::next_prelude_place;
 pub use recent::Recent;
-pub use steps::{named_step, recalled_named_step};
+pub use steps::{Named, named_step, push_named, recalled_named_step};
 pub use unit_reader::{UnitProgress, UnitReader};
 pub use unit_rows::next_unit_place;
 pub use units::read_assertion;

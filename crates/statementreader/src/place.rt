@@ -3,7 +3,7 @@
 ghost use Rattle.std.specs.Prelude.{◌≡◌};
 ghost use Rattle.statementreader.specs.Views.{seen_place, seen_behind, is_outermost};
 
-use mmsyntax::{Step, Symbol};
+use mmsyntax::{ProofBuilder, Symbol};
 use mmtext::Token;
 use mmunits::Block;
 
@@ -56,7 +56,7 @@ pub struct Theorem<'a> {
     pub scope: Scope<'a>,
     pub label: &'a [u8],
     pub expression: Vec<Symbol>,
-    pub steps: Vec<Step>,
+    pub steps: ProofBuilder,
 }
 
 /// What was read of the statement that a token stands in.

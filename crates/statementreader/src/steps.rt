@@ -1,20 +1,21 @@
 //! The words of `$d` and the steps of proofs.
 
-ghost use Rattle.std.specs.Prelude.{◌≡◌, ◌==◌, None, IfOk};
+ghost use Rattle.std.specs.Prelude.{◌≡◌, ◌==◌, ◌<◌, ◌++◌, ◌∷◌, ℕ, [], None, Some, IfOk, OnOk};
 ghost use Rattle.std.specs.List.{list_any};
 ghost use Rattle.mmsyntax.specs.Tables.{meaning};
+ghost use Rattle.mmsyntax.specs.ProofWords.{IsSmall, seen_step};
 ghost use Rattle.mmsyntax.specs.Rows.{first_fault};
 ghost use Rattle.mmsyntax.specs.Blocks.{typed_named, distinct_of, with_distinct};
 ghost use Rattle.mmsyntax.specs.Steps.{step_tests, float_named, hypothesis_named, step_named, unless_faulty, step_of};
 ghost use Rattle.mmsyntax.specs.Faults.{block_of};
 ghost use Rattle.statementreader.specs.Recalls.{IsTrueOf, Knows};
-ghost use Rattle.statementreader.specs.Takings.{step_as, step_or_fault};
+ghost use Rattle.statementreader.specs.Takings.{IsSmallNamed, step_as, step_or_fault};
 ghost use Rattle.statementreader.specs.Views.{seen_scope};
 
 use crate::labels::{MOST_LABEL_BYTES, MOST_SYMBOLS};
 use crate::place::Scope;
 use crate::recent::{Recalled, Recent};
-use mmsyntax::{Label, Name, Step, SymbolTable, is_dotted};
+use mmsyntax::{Name, ProofBuilder, StepRef, SymbolTable, is_dotted};
 use mmtext::{FaultKind, contains_dollar, is_label_token};
 use mmunits::Block;
 use std::alloc::{AllocError, Global};
@@ -89,7 +90,8 @@ fn step_fault(count: usize, word: &[u8]) -> Option<FaultKind>
 
 /// The place of a hypothesis of a scope.
 fn hypothesis_in(scope: &Scope<'_>, word: &[u8]) -> Option<u32>
-    ensures { result ≡ hypothesis_named (block_of (seen_scope scope.now)).hyps word.now }
+    ensures value { result ≡ hypothesis_named (block_of (seen_scope scope.now)).hyps word.now }
+    ensures few { (n : ℕ) → result ≡ Some n → n < 1000 }
 {
     match scope {
         Scope::Outside => None,
@@ -99,7 +101,8 @@ fn hypothesis_in(scope: &Scope<'_>, word: &[u8]) -> Option<u32>
 
 /// The `$f` of which a name is the label.
 fn float_named(name: Option<Name>) -> Option<u32>
-    ensures { result ≡ float_named name }
+    ensures value { result ≡ float_named name }
+    ensures label { (j : ℕ) → result ≡ Some j → name ≡ Some (Name.Label j) }
 {
     match name {
         Some(Name::Label(j)) => Some(j),
@@ -109,10 +112,10 @@ fn float_named(name: Option<Name>) -> Option<u32>
 
 /// What a step of a proof names.
 #[derive(Clone, Copy)]
-pub(crate) enum Named {
-    /// The `$f` at this place of the prelude.
+pub enum Named {
+    /// The `$f` at this place of the prelude, counted from 0.
     Float(u32),
-    /// The hypothesis at this place of the assertion being proved.
+    /// The hypothesis at this place of the assertion being proved, counted from 0.
     Hyp(u32),
     /// The assertion with the word of the step as its label.
     Assertion,
@@ -121,7 +124,9 @@ pub(crate) enum Named {
 /// What a word names in the proof of the assertion with a label, where it is the label of no `$f` and names, if any, the hypothesis at a
 /// place; or why it names nothing.
 fn label_named(label: &[u8], hypothesis: Option<u32>, word: &[u8]) -> Result<Named, FaultKind>
-    ensures { step_or_fault word.now result ≡ step_named label.now word.now None hypothesis }
+    requires { (n : ℕ) → hypothesis ≡ Some n → n < 1000 }
+    ensures named { step_or_fault word.now result ≡ step_named label.now word.now None hypothesis }
+    ensures small { IfOk result IsSmallNamed }
 {
     if let Some(n) = hypothesis {
         return Ok(Named::Hyp(n));
@@ -136,16 +141,18 @@ fn label_named(label: &[u8], hypothesis: Option<u32>, word: &[u8]) -> Result<Nam
 }
 
 /// What a word names as a step behind `count` steps of a proof of the assertion with a label, where it names, if any, the hypothesis at a
-/// place; or why it names nothing.
-fn name_of_step(
+/// place, counted from 0; or why it names nothing. No assertion is looked up.
+pub fn named_step(
     symbols: &SymbolTable,
     label: &[u8],
     hypothesis: Option<u32>,
     count: usize,
     word: &[u8],
 ) -> Result<Named, FaultKind>
-    ensures { step_or_fault word.now result ≡ unless_faulty (first_fault (step_tests count word.now))
+    requires { (n : ℕ) → hypothesis ≡ Some n → n < 1000 }
+    ensures named { step_or_fault word.now result ≡ unless_faulty (first_fault (step_tests count word.now))
         (step_named label.now word.now (float_named (meaning symbols.now word.now)) hypothesis) }
+    ensures small { IfOk result IsSmallNamed }
 {
     if let Some(kind) = step_fault(count, word) {
         return Err(kind);
@@ -157,33 +164,33 @@ fn name_of_step(
 }
 
 /// The step that a word is by what it names.
-pub(crate) fn step_for(alloc: Global, named: Named, word: &[u8]) -> Result<Step, AllocError>
-    ensures { IfOk result (λ s. s ≡ step_as word.now named) }
+fn step_ref_of(named: Named, word: &[u8]) -> StepRef<'_>
+    requires { IsSmallNamed named }
+    ensures step { seen_step result ≡ step_as word.now named }
+    ensures small { IsSmall (seen_step result) }
 {
     match named {
-        Named::Float(j) => Ok(Step::Float(j)),
-        Named::Hyp(n) => Ok(Step::Hyp(n)),
-        Named::Assertion => Ok(Step::Cite(Label::from_slice(alloc, word)?)),
+        Named::Float(j) => StepRef::Float(j),
+        Named::Hyp(n) => StepRef::Hyp(n),
+        Named::Assertion => StepRef::Cite(word),
     }
 }
 
-/// The step that a word is behind `count` steps of a proof of the assertion with a label, where it names, if any, the hypothesis at a
-/// place; or why it is none. No assertion is looked up.
-pub fn named_step(
+/// Puts the step that a word is, by what it names, behind others.
+///
+/// # Errors
+///
+/// Want of memory. The step may stand there then.
+pub fn push_named(
     alloc: Global,
-    symbols: &SymbolTable,
-    label: &[u8],
-    hypothesis: Option<u32>,
-    count: usize,
+    steps: &mut ProofBuilder,
+    named: Named,
     word: &[u8],
-) -> Result<Result<Step, FaultKind>, AllocError>
-    ensures { IfOk result (λ r. r ≡ unless_faulty (first_fault (step_tests count word.now))
-        (step_named label.now word.now (float_named (meaning symbols.now word.now)) hypothesis)) }
+) -> Result<(), AllocError>
+    requires { IsSmallNamed named }
+    ensures { OnOk result (steps.new ≡ steps.old ++ step_as word.now named ∷ []) }
 {
-    match name_of_step(symbols, label, hypothesis, count, word) {
-        Ok(named) => Ok(Ok(step_for(alloc, named, word)?)),
-        Err(kind) => Ok(Err(kind)),
-    }
+    steps.push(alloc, step_ref_of(named, word))
 }
 
 /// What a word names as a step behind `count` steps of a proof of the assertion with a label, or why it names nothing.
@@ -195,12 +202,13 @@ pub(crate) fn step_at(
     count: usize,
     word: &[u8],
 ) -> Result<Named, FaultKind>
-    ensures { step_or_fault word.now result ≡ step_of symbols.now label.now (block_of (seen_scope scope.now)).hyps count word.now }
+    ensures named { step_or_fault word.now result ≡ step_of symbols.now label.now (block_of (seen_scope scope.now)).hyps count word.now }
+    ensures small { IfOk result IsSmallNamed }
 {
-    name_of_step(symbols, label, hypothesis_in(scope, word), count, word)
+    named_step(symbols, label, hypothesis_in(scope, word), count, word)
 }
 
-/// As [`name_of_step`], of a word of which all is known.
+/// As [`named_step`], of a word of which all is known.
 fn name_by_recall(
     symbols: &SymbolTable,
     label: &[u8],
@@ -208,12 +216,14 @@ fn name_by_recall(
     count: usize,
     known: &Recalled<'_>,
 ) -> Result<Named, FaultKind>
-    requires { IsTrueOf symbols.now known.now }
-    ensures { step_or_fault known.now.word.now result ≡ unless_faulty (first_fault (step_tests count known.now.word.now))
+    requires known { IsTrueOf symbols.now known.now }
+    requires few { (n : ℕ) → hypothesis ≡ Some n → n < 1000 }
+    ensures named { step_or_fault known.now.word.now result ≡ unless_faulty (first_fault (step_tests count known.now.word.now))
         (step_named label.now known.now.word.now (float_named (meaning symbols.now known.now.word.now)) hypothesis) }
+    ensures small { IfOk result IsSmallNamed }
 {
     if !known.is_label || count >= MOST_STEPS {
-        return name_of_step(symbols, label, hypothesis, count, known.word);
+        return named_step(symbols, label, hypothesis, count, known.word);
     }
     match float_named(known.name) {
         Some(j) => Ok(Named::Float(j)),
@@ -230,17 +240,16 @@ pub fn recalled_named_step<'a>(
     hypothesis: Option<u32>,
     count: usize,
     word: &'a [u8],
-) -> Result<Result<Step, FaultKind>, AllocError>
-    requires { Knows symbols.now recent.old }
+) -> Result<Result<Named, FaultKind>, AllocError>
+    requires knows { Knows symbols.now recent.old }
+    requires few { (n : ℕ) → hypothesis ≡ Some n → n < 1000 }
     ensures knows { Knows symbols.now recent.new }
-    ensures step { IfOk result (λ r. r ≡ unless_faulty (first_fault (step_tests count word.now))
+    ensures named { IfOk result (λ r. step_or_fault word.now r ≡ unless_faulty (first_fault (step_tests count word.now))
         (step_named label.now word.now (float_named (meaning symbols.now word.now)) hypothesis)) }
+    ensures small { IfOk result (λ r. IfOk r IsSmallNamed) }
 {
     let place = recent.look_up(alloc, symbols, word)?;
-    match name_by_recall(symbols, label, hypothesis, count, recent.at(place)) {
-        Ok(named) => Ok(Ok(step_for(alloc, named, word)?)),
-        Err(kind) => Ok(Err(kind)),
-    }
+    Ok(name_by_recall(symbols, label, hypothesis, count, recent.at(place)))
 }
 
 /// What a word names as a step by what is known of it, or why it names nothing. Of a `$f` the block isn't asked.
@@ -249,8 +258,10 @@ pub(crate) fn recalled_step(
     scope: &Scope<'_>,
     known: &Recalled<'_>,
 ) -> Result<Named, FaultKind>
-    ensures { step_or_fault known.now.word.now result ≡ step_named label.now known.now.word.now (float_named known.now.name)
+    requires { (j : ℕ) → known.now.name ≡ Some (Name.Label j) → j < 65535 }
+    ensures named { step_or_fault known.now.word.now result ≡ step_named label.now known.now.word.now (float_named known.now.name)
         (hypothesis_named (block_of (seen_scope scope.now)).hyps known.now.word.now) }
+    ensures small { IfOk result IsSmallNamed }
 {
     if let Some(j) = float_named(known.name) {
         return Ok(Named::Float(j));

@@ -15,8 +15,8 @@ ghost use Rattle.statementreader.specs.Views.{seen_scope, seen_behind, seen_unit
 
 use crate::labels::{assertion_label_fault, float_label_fault, hypothesis_label_fault, symbol_at};
 use crate::place::{Behind, Place, PreludePlace, Scope, Theorem, UnitPlace};
-use crate::steps::{restrict, step_at, step_for};
-use mmsyntax::{Assertion, Kind, Label, Sequence, Step, Symbol, SymbolTable};
+use crate::steps::{push_named, restrict, step_at};
+use mmsyntax::{Assertion, Kind, Label, Proof, ProofBuilder, Sequence, Symbol, SymbolTable};
 use mmtext::{FaultKind, Mark, Stop, Token, fault_at, is_label_token};
 use mmunits::{Block, Units};
 use std::alloc::{AllocError, Global};
@@ -297,9 +297,9 @@ fn assertion_in(
     label: &[u8],
     kind: Kind,
     symbols: Vec<Symbol>,
-    steps: Vec<Step>,
+    steps: Proof,
 ) -> Result<Assertion, AllocError>
-    ensures { IfOk result (λ a. a ≡ assertion_of (block_of (seen_scope scope.entry)) label.now kind symbols.items steps.items) }
+    ensures { IfOk result (λ a. a ≡ assertion_of (block_of (seen_scope scope.entry)) label.now kind symbols.items steps) }
 {
     let (pairs, hyps) = match scope {
         Scope::Outside => (Vec::new(alloc), Vec::new(alloc)),
@@ -311,7 +311,7 @@ fn assertion_in(
         pairs: Sequence::from_vec(pairs),
         hyps: Sequence::from_vec(hyps),
         statement: Sequence::from_vec(symbols),
-        proof: Sequence::from_vec(steps),
+        proof: steps,
     })
 }
 
@@ -324,11 +324,11 @@ fn end_assertion<'a>(
     label: &[u8],
     kind: Kind,
     expression: Vec<Symbol>,
-    steps: Vec<Step>,
+    steps: Proof,
 ) -> Result<Place<'a>, Stop>
     ensures { Leads symbols.now units.new result
         (at (with_assertion (known_of symbols.now units.old)
-        (assertion_of (block_of (seen_scope scope.entry)) label.now kind expression.items steps.items)) (behind (seen_scope scope.entry))) }
+        (assertion_of (block_of (seen_scope scope.entry)) label.now kind expression.items steps)) (behind (seen_scope scope.entry))) }
 {
     let next = behind(&scope);
     let assertion = assertion_in(alloc, scope, label, kind, expression, steps)?;
@@ -351,7 +351,7 @@ fn axiom_symbol<'a>(
         (axiom_row (known_of symbols.now units.old) (seen_scope scope.entry) label.entry.now expression.items (seen token.entry) mark) }
 {
     if mark == Mark::End && !expression.is_empty() {
-        let steps = Vec::new(alloc);
+        let steps = Proof::new(alloc);
         return end_assertion(
             alloc,
             symbols,
@@ -386,7 +386,7 @@ fn theorem_symbol<'a>(
             scope,
             label,
             expression,
-            steps: Vec::new(alloc),
+            steps: ProofBuilder::new(alloc, symbols.keys()),
         };
         return Ok(Place::Unit(UnitPlace::InProof(theorem)));
     }
@@ -404,7 +404,7 @@ fn end_theorem<'a>(
     ensures { Leads symbols.now units.new result
         (at (with_assertion (known_of symbols.now units.old)
         (theorem_of (block_of (seen_scope theorem.entry.scope)) theorem.entry.label.now theorem.entry.expression.items
-        theorem.entry.steps.items)) (behind (seen_scope theorem.entry.scope))) }
+        theorem.entry.steps)) (behind (seen_scope theorem.entry.scope))) }
 {
     let Theorem {
         scope,
@@ -420,7 +420,7 @@ fn end_theorem<'a>(
         label,
         Kind::Theorem,
         expression,
-        steps,
+        steps.into_proof(),
     )
 }
 
@@ -434,12 +434,12 @@ fn next_step<'a>(
 ) -> Result<Place<'a>, Stop>
     ensures { Leads symbols.now units.now result
         (next_step (known_of symbols.now units.now) (seen_scope theorem.entry.scope) theorem.entry.label.now theorem.entry.expression.items
-        theorem.entry.steps.items (seen token.entry)) }
+        theorem.entry.steps (seen token.entry)) }
 {
     let count = theorem.steps.len();
     match step_at(symbols, theorem.label, &theorem.scope, count, token.text) {
         Ok(named) => {
-            theorem.steps.push(step_for(alloc, named, token.text)?)?;
+            push_named(alloc, &mut theorem.steps, named, token.text)?;
             Ok(Place::Unit(UnitPlace::InProof(theorem)))
         }
         Err(kind) => Err(fault_at(token, kind)),
@@ -457,7 +457,7 @@ fn proof_step<'a>(
 ) -> Result<Place<'a>, Stop>
     ensures { Leads symbols.now units.new result
         (proof_row (known_of symbols.now units.old) (seen_scope theorem.entry.scope) theorem.entry.label.now theorem.entry.expression.items
-        theorem.entry.steps.items (seen token.entry) mark) }
+        theorem.entry.steps (seen token.entry) mark) }
 {
     if mark == Mark::End && !theorem.steps.is_empty() {
         return end_theorem(alloc, symbols, units, theorem);

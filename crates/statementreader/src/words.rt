@@ -7,14 +7,14 @@ ghost use Rattle.mmsyntax.specs.Faults.{block_of, unit_at};
 ghost use Rattle.mmtext.specs.Views.{seen};
 ghost use Rattle.statementreader.specs.Recalls.{IsTrueOf, Knows};
 ghost use Rattle.statementreader.specs.Standing.{Stands};
-ghost use Rattle.statementreader.specs.Takings.{TakesItem, TakesWord, step_or_fault};
+ghost use Rattle.statementreader.specs.Takings.{IsSmallNamed, TakesItem, TakesWord, step_or_fault};
 ghost use Rattle.mmunits.specs.Views.{known_of};
 ghost use Rattle.statementreader.specs.Views.{seen_scope, seen_unit_place, seen_place};
 
 use crate::labels::symbol_named;
 use crate::place::{Place, Scope, Theorem, UnitPlace};
 use crate::recent::{Recalled, Recent};
-use crate::steps::{MOST_STEPS, Named, recalled_step, step_at, step_for};
+use crate::steps::{MOST_STEPS, Named, push_named, recalled_step, step_at};
 use mmsyntax::{Symbol, SymbolTable};
 use mmtext::{FaultKind, Stop, Token, fault_at};
 use std::alloc::Global;
@@ -30,8 +30,9 @@ fn known_step(
     known: &Recalled<'_>,
 ) -> Result<Named, FaultKind>
     requires { IsTrueOf symbols.now known.now }
-    ensures { step_or_fault known.now.word.now result
+    ensures named { step_or_fault known.now.word.now result
         ≡ step_of symbols.now label.now (block_of (seen_scope scope.now)).hyps count known.now.word.now }
+    ensures small { IfOk result IsSmallNamed }
 {
     if !known.is_label || count >= MOST_STEPS {
         return step_at(symbols, label, scope, count, known.word);
@@ -78,8 +79,8 @@ fn take_step<'a>(
     requires { Knows symbols.now recent.old }
     ensures knows { Knows symbols.now recent.new }
     ensures kept { theorem.new ≡ record theorem.old { steps = theorem.new.steps } }
-    ensures taken { TakesItem (seen token.entry) theorem.old.steps.items theorem.new.steps.items
-        (step_of symbols.now theorem.old.label.now (block_of (seen_scope theorem.old.scope)).hyps (length theorem.old.steps.items)
+    ensures taken { TakesItem (seen token.entry) theorem.old.steps theorem.new.steps
+        (step_of symbols.now theorem.old.label.now (block_of (seen_scope theorem.old.scope)).hyps (length theorem.old.steps)
         token.entry.text.now) result }
 {
     let place = recent.look_up(alloc, symbols, token.text)?;
@@ -90,7 +91,7 @@ fn take_step<'a>(
     let count = theorem.steps.len();
     match known_step(symbols, theorem.label, &theorem.scope, count, known) {
         Ok(named) => {
-            theorem.steps.push(step_for(alloc, named, token.text)?)?;
+            push_named(alloc, &mut theorem.steps, named, token.text)?;
             Ok(true)
         }
         Err(kind) => Err(fault_at(token, kind)),

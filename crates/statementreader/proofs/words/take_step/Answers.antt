@@ -11,31 +11,31 @@ use Rattle.statementreader.proofs.words.take_step.Goals as goal
 pub known_step-requires : goal.known_step-requires
 known_step-requires c = (c.at-known.ensures c.args.symbols.now c.args.token.text.now c.in_ok-place.ensures.found).1
 
-pub returns-in_ok-push-in-Ok-clause-taken : goal.returns-in_ok-push-in-Ok-clause-taken
-returns-in_ok-push-in-Ok-clause-taken c =
+pub returns-in_ok-push_named-in-Ok-clause-taken : goal.returns-in_ok-push_named-in-Ok-clause-taken
+returns-in_ok-push_named-in-Ok-clause-taken c =
     let t = c.args.symbols.now in
     let w = c.args.token.text.now in
     let r = c.at-known.result.now in
-    let old = c.args.theorem.now.steps.items in
+    let old = c.args.theorem.now.steps in
     let kept = c.at-known.ensures t w c.in_ok-place.ensures.found in
     let step = step_of t c.args.theorem.now.label.now (block_of (seen_scope c.args.theorem.now.scope)).hyps in
     let count : length old ≡ c.len-count.result = omega arith in
-    let given : step (length old) w ≡ Ok c.in_ok-step_for-in-Ok.field-0 =
-    ap (λ n. step n w) count ∙ ap (step c.len-count.result) (sym kept.0) ∙ sym c.known_step.ensures ∙ ap (step_or_fault r.word.now) c.in-Ok.is
-    ∙ ap (λ x. Ok (step_as x c.in-Ok.named)) kept.0 ∙ ap Ok (sym c.in_ok-step_for-in-Ok.ensures) in
-    taken_item (seen c.args.token) old c.push.new.self.items (step (length old) w) c.in_ok-step_for-in-Ok.field-0
-    (kept_plain t w r kept c.if-known.false) given c.in_ok-push-in-Ok.ensures.items
+    let given : step (length old) w ≡ Ok (step_as w c.in-Ok.named) =
+    ap (λ n. step n w) count ∙ ap (step c.len-count.result) (sym kept.0) ∙ sym c.known_step.ensures.named ∙ ap (step_or_fault r.word.now) c.in-Ok.is
+    ∙ ap (λ x. Ok (step_as x c.in-Ok.named)) kept.0 in
+    taken_item (seen c.args.token) old c.push_named.new.steps (step (length old) w) (step_as w c.in-Ok.named)
+    (kept_plain t w r kept c.if-known.false) given c.in_ok-push_named-in-Ok.ensures
 
 pub returns-in-Err-clause-taken : goal.returns-in-Err-clause-taken
 returns-in-Err-clause-taken c =
     let t = c.args.symbols.now in
     let w = c.args.token.text.now in
     let r = c.at-known.result.now in
-    let old = c.args.theorem.now.steps.items in
+    let old = c.args.theorem.now.steps in
     let kept = c.at-known.ensures t w c.in_ok-place.ensures.found in
     let step = step_of t c.args.theorem.now.label.now (block_of (seen_scope c.args.theorem.now.scope)).hyps in
     let count : length old ≡ c.len-count.result = omega arith in
     let given : step (length old) w ≡ Err c.in-Err.kind =
-    ap (λ n. step n w) count ∙ ap (step c.len-count.result) (sym kept.0) ∙ sym c.known_step.ensures ∙ ap (step_or_fault r.word.now) c.in-Err.is in
+    ap (λ n. step n w) count ∙ ap (step c.len-count.result) (sym kept.0) ∙ sym c.known_step.ensures.named ∙ ap (step_or_fault r.word.now) c.in-Err.is in
     refused_item (seen c.args.token) old old (step (length old) w) c.in-Err.kind c.fault_at.result (kept_plain t w r kept c.if-known.false) given
     c.fault_at.ensures
