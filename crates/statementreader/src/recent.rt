@@ -33,6 +33,8 @@ pub(crate) struct Recalled<'a> {
     pub name: Option<Name>,
     pub with_dollar: bool,
     pub is_label: bool,
+    /// Where it stood last among the labels that a proof cites: a hint, and nothing is known of it.
+    pub cited_at: usize,
 }
 
 /// Words that were looked up lately among the symbols of a prelude: one for each place, or none at all. A new word takes the place of an
@@ -54,6 +56,7 @@ fn looked_up<'a>(symbols: &SymbolTable, word: &'a [u8]) -> Recalled<'a>
         name: symbols.look_up(word),
         with_dollar: contains_dollar(word),
         is_label: is_label_token(word),
+        cited_at: 0,
     }
 }
 
@@ -129,6 +132,14 @@ impl<'a> Recent<'a> {
         if self.entries[place].word != word {
             self.entries[place] = looked_up(symbols, word);
         }
+    }
+
+    /// Notes where the word that is kept at a place stands among the labels that a proof cites.
+    pub(crate) fn note(&mut self, place: usize, cited_at: usize)
+        requires { place < length self.old.entries.items }
+        ensures { (t : Tables) → Knows t self.old → Knows t self.new }
+    {
+        self.entries[place].cited_at = cited_at;
     }
 
     /// What is known of the word that is kept at a place.

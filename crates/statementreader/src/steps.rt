@@ -176,6 +176,25 @@ fn step_ref_of(named: Named, word: &[u8]) -> StepRef<'_>
     }
 }
 
+/// Puts the step that a word is, by what it names, behind others. Its label is looked for first at a hint among those that are cited: any
+/// number will do. The hint for this word from now on.
+///
+/// # Errors
+///
+/// Want of memory. The step may stand there then.
+pub(crate) fn push_named_near(
+    alloc: Global,
+    steps: &mut ProofBuilder,
+    hint: usize,
+    named: Named,
+    word: &[u8],
+) -> Result<usize, AllocError>
+    requires { IsSmallNamed named }
+    ensures { OnOk result (steps.new ≡ steps.old ++ step_as word.now named ∷ []) }
+{
+    steps.push_near(alloc, hint, step_ref_of(named, word))
+}
+
 /// Puts the step that a word is, by what it names, behind others.
 ///
 /// # Errors

@@ -14,7 +14,7 @@ ghost use Rattle.statementreader.specs.Views.{seen_scope, seen_unit_place, seen_
 use crate::labels::symbol_named;
 use crate::place::{Place, Scope, Theorem, UnitPlace};
 use crate::recent::{Recalled, Recent};
-use crate::steps::{MOST_STEPS, Named, push_named, recalled_step, step_at};
+use crate::steps::{MOST_STEPS, Named, push_named_near, recalled_step, step_at};
 use mmsyntax::{Symbol, SymbolTable};
 use mmtext::{FaultKind, Stop, Token, fault_at};
 use std::alloc::Global;
@@ -88,10 +88,12 @@ fn take_step<'a>(
     if known.with_dollar {
         return Ok(false);
     }
+    let hint = known.cited_at;
     let count = theorem.steps.len();
     match known_step(symbols, theorem.label, &theorem.scope, count, known) {
         Ok(named) => {
-            push_named(alloc, &mut theorem.steps, named, token.text)?;
+            let cited_at = push_named_near(alloc, &mut theorem.steps, hint, named, token.text)?;
+            recent.note(place, cited_at);
             Ok(true)
         }
         Err(kind) => Err(fault_at(token, kind)),

@@ -11,8 +11,8 @@ use Rattle.statementreader.proofs.words.take_step.Goals as goal
 pub known_step-requires : goal.known_step-requires
 known_step-requires c = (c.at-known.ensures c.args.symbols.now c.args.token.text.now c.in_ok-place.ensures.found).1
 
-pub returns-in_ok-push_named-in-Ok-clause-taken : goal.returns-in_ok-push_named-in-Ok-clause-taken
-returns-in_ok-push_named-in-Ok-clause-taken c =
+pub returns-in_ok-cited_at-in-Ok-clause-taken : goal.returns-in_ok-cited_at-in-Ok-clause-taken
+returns-in_ok-cited_at-in-Ok-clause-taken c =
     let t = c.args.symbols.now in
     let w = c.args.token.text.now in
     let r = c.at-known.result.now in
@@ -23,8 +23,11 @@ returns-in_ok-push_named-in-Ok-clause-taken c =
     let given : step (length old) w ≡ Ok (step_as w c.in-Ok.named) =
     ap (λ n. step n w) count ∙ ap (step c.len-count.result) (sym kept.0) ∙ sym c.known_step.ensures.named ∙ ap (step_or_fault r.word.now) c.in-Ok.is
     ∙ ap (λ x. Ok (step_as x c.in-Ok.named)) kept.0 in
-    taken_item (seen c.args.token) old c.push_named.new.steps (step (length old) w) (step_as w c.in-Ok.named)
-    (kept_plain t w r kept c.if-known.false) given c.in_ok-push_named-in-Ok.ensures
+    taken_item (seen c.args.token) old c.push_named_near.new.steps (step (length old) w) (step_as w c.in-Ok.named)
+    (kept_plain t w r kept c.if-known.false) given c.in_ok-cited_at-in-Ok.ensures
+
+pub returns-in_ok-cited_at-in-Ok-clause-knows : goal.returns-in_ok-cited_at-in-Ok-clause-knows
+returns-in_ok-cited_at-in-Ok-clause-knows c = c.note.ensures c.args.symbols.now c.in_ok-place.ensures.knows
 
 pub returns-in-Err-clause-taken : goal.returns-in-Err-clause-taken
 returns-in-Err-clause-taken c =
