@@ -55,7 +55,7 @@ returns g c =
       pairs = c.in_ok-pairs-2.pairs;
       hyps = c.in_ok-hyps.hyps;
       statement = c.in_ok-statement.statement;
-      proof = c.from_vec.result;
+      proof = c.new-2.result;
     } in
     let made : p ≡ made_of t hs = search rules in
     let active : option_map (λ (x : Assertion). x.active) o ≡ Some hs = search rules in
