@@ -9,16 +9,11 @@ use Rattle.mmsyntax.specs.declared.statement.Float.{Float}
 use Rattle.mmsyntax.specs.declared.symbols.Name.TheVariants.{Label}
 use Rattle.mmsyntax.specs.Tables.{Tables, place_of, named, meaning}
 use Rattle.mmsyntax.proofs.Names.{place_of-at, same_bytes}
-
-named_label : (fs : List Float) (c v l : Option ℕ) (j : ℕ) → named fs c v l ≡ Some (Label j) → l ≡ Some j
-named_label fs (Some i) v l j e = absurd cc
-named_label fs None (Some i) l j e = absurd cc
-named_label fs None None None j e = absurd cc
-named_label fs None None (Some k) j e = cc
+use Rattle.mmsyntax.proofs.Found.{label_place}
 
 float_placed : (t : Tables) (w : Word) (j : ℕ) → meaning t w ≡ Some (Label j) → place_of (λ f. bytes_eq w f.label) t.floats ≡ Some j
 unfolding meaning
-float_placed t w j e = named_label t.floats _ _ _ j e
+float_placed t w j e = label_place t.floats _ _ _ j e
 
 -- what is found at its place
 pub is_labelled : (t : Tables) (w : Word) (j : ℕ) (r : Option (Bor Float)) → meaning t w ≡ Some (Label j)

@@ -40,7 +40,7 @@ constant_place fs None (Some j) l i h = absurd cc
 constant_place fs None None (Some j) i h = absurd cc
 constant_place fs None None None i h = absurd cc
 
-label_place : (fs : List Float) (c v l : Option ℕ) (j : ℕ) → named fs c v l ≡ Some (Label j) → l ≡ Some j
+pub label_place : (fs : List Float) (c v l : Option ℕ) (j : ℕ) → named fs c v l ≡ Some (Label j) → l ≡ Some j
 label_place fs (Some i) v l j h = absurd cc
 label_place fs None (Some i) l j h = absurd cc
 label_place fs None None (Some k) j h = ap (λ n. Some n) (let e : k ≡ j = cc in e)

@@ -1,8 +1,10 @@
 -- The steps of words: each kind of word, one more word, one more label.
-use Rattle.std.proofs.Common.{◌≡◌, ℕ, ◌+◌, ◌*◌, ◌/◌, ◌%◌, ◌<◌, ◌≤◌, ◌^◌, List, [], ◌∷◌, ◌++◌, map, take, length, get_or, refl, sym, ap, subst, ◌∙◌, inl, inr, arith}
+use Rattle.std.proofs.Common.{◌≡◌, ℕ, ◌+◌, ◌*◌, ◌/◌, ◌%◌, ◌<◌, ◌≤◌, ◌^◌, List, [], ◌∷◌, ◌++◌, map, take, length, get_or}
+use Rattle.std.proofs.Common.{refl, sym, ap, subst, ◌∙◌, inl, inr, arith}
 use Rattle.std.specs.Prelude.{All}
 use Rattle.std.proofs.lemmas.Bool.Decides.{nat_tests}
 use Rattle.std.proofs.lemmas.Bool.{cases_eq}
+use Rattle.std.proofs.lemmas.Simd.{map-map}
 use Rattle.std.proofs.lemmas.List.{map_push, get_or-map, get_or-take, get_or_default, get_or_read, length-take, length-map}
 use Rattle.std.proofs.lemmas.List.Elements.{All-push, All-weaker, All-map, recursion_from_All}
 use Rattle.std.specs.List.{AllByRecursion as ByRecursion}
@@ -108,7 +110,8 @@ cited_steps cited words all = All-map (IsCitedIn cited) (step_of cited) words
 -- ---- two lists of labels
 
 -- words in order over one list stand for what they stand for over another, up to a change of each step
-same_map : (P : ℕ → Type 0) (f g : ℕ → Step) → ((w : ℕ) → P w → f w ≡ g w) → (words : List ℕ) → ByRecursion P words → map f words ≡ map g words
+same_map : (P : ℕ → Type 0) (f g : ℕ → Step) → ((w : ℕ) → P w → f w ≡ g w) → (words : List ℕ) → ByRecursion P words
+    → map f words ≡ map g words
 same_map P f g h [] all = refl
 same_map P f g h (w ∷ words) all = ap (λ s. s ∷ map f words) (h w all.0) ∙ ap (λ ss. g w ∷ ss) (same_map P f g h words all.1)
 
@@ -145,7 +148,8 @@ push_cite_words cited words n all within small = All-push (IsWord (length cited)
 
 pub push_cite_steps : (cited : List (List ℕ)) (words : List ℕ) (n : ℕ)
     → steps_of cited (words ++ (3 * n + 2) ∷ []) ≡ steps_of cited words ++ Cite (get_or cited n []) ∷ []
-push_cite_steps cited words n = map_push (step_of cited) words (3 * n + 2) ∙ ap (λ s. steps_of cited words ++ s ∷ []) (cite_word cited n)
+push_cite_steps cited words n =
+    map_push (step_of cited) words (3 * n + 2) ∙ ap (λ s. steps_of cited words ++ s ∷ []) (cite_word cited n)
 
 -- ---- changed labels
 
@@ -156,10 +160,6 @@ relabelled_step change cited w h = by_kind w (step_of (map change cited) w ≡ s
     (λ e. hyp_at (map change cited) w e ∙ sym (ap (step_relabelled change) (hyp_at cited w e)))
     (λ e. cite_at (map change cited) w e ∙ ap (λ l. Cite l) (get_or-map change cited (w / 3) [] [] (h.within e))
     ∙ sym (ap (step_relabelled change) (cite_at cited w e)))
-
-map-map : (f : Step → Step) (g : ℕ → Step) (words : List ℕ) → map f (map g words) ≡ map (λ w. f (g w)) words
-map-map f g [] = refl
-map-map f g (w ∷ words) = ap (λ ss. f (g w) ∷ ss) (map-map f g words)
 
 pub relabelled_steps : (change : List ℕ → List ℕ) (cited : List (List ℕ)) (words : List ℕ) → AreWords cited words
     → steps_of (map change cited) words ≡ map (step_relabelled change) (steps_of cited words)
@@ -195,17 +195,6 @@ cite_seen cited words i w l all lt e ne0 ne1 is =
     let word : IsWord (length cited) w = subst (IsWord (length cited)) (sym e) (all i w lt) in
     sym (step_at cited words i w (Cite l) lt e ∙ cite_at cited w r
     ∙ ap (λ l. Cite l) (sym (get_or_read cited (w / 3) l (word.within r) is [])))
-
--- ---- the same step again
-
-pub push_same_words : (cited : List (List ℕ)) (words : List ℕ) (i w : ℕ) → AreWords cited words → i < length words → w ≡ get_or words i w
-    → AreWords cited (words ++ w ∷ [])
-push_same_words cited words i w all lt e = All-push (IsWord (length cited)) words w all (subst (IsWord (length cited)) (sym e) (all i w lt))
-
-pub push_same_steps : (cited : List (List ℕ)) (words : List ℕ) (i w : ℕ) (d : Step) → i < length words → w ≡ get_or words i w
-    → steps_of cited (words ++ w ∷ []) ≡ steps_of cited words ++ get_or (steps_of cited words) i d ∷ []
-push_same_steps cited words i w d lt e =
-    map_push (step_of cited) words w ∙ ap (λ s. steps_of cited words ++ s ∷ []) (sym (step_at cited words i w d lt e))
 
 pub cite_placed : (cited : List (List ℕ)) (words : List ℕ) (i w : ℕ) → i < length words → w ≡ get_or words i w
     → (w % 3 ≡ 0 → ⊥) → (w % 3 ≡ 1 → ⊥)

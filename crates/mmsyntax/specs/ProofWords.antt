@@ -1,6 +1,7 @@
 -- Which steps the words of a proof stand for, beside the labels that it cites. A compressed proof of Metamath lists the labels that it
 -- cites once, too, and names them by numbers (Metamath book, appendix B); the layout of the words is this project's own.
-use Rattle.std.specs.Prelude.{◌≡◌, ℕ, ◌/◌, ◌%◌, ◌<◌, ◌^◌, ◌==◌, List, [], map, length, slice_index_or, if◌then◌else◌, All}
+use Rattle.std.specs.Prelude.{◌≡◌, ℕ, ◌/◌, ◌%◌, ◌<◌, ◌^◌, ◌==◌, List, [], map, length, slice_index_or, if◌then◌else◌}
+use Rattle.std.specs.Prelude.{All}
 use Rattle.std.specs.List.{Contains}
 use Rattle.std.specs.Str.{bytes_eq}
 use Rattle.mmsyntax.specs.declared.statement.Step.{Step}

@@ -1,7 +1,8 @@
 //! What fits a prelude: assertions, and their labels.
 
 ghost use Rattle.std.specs.Prelude.{◌≡◌, ◌≤◌, ◌↔◌, IsTrue, [], All, length};
-ghost use Rattle.mmsyntax.specs.Assertions.{IsSymbolOf, BeginsWithConstant, IsExpression, IsPairOf, ComesBefore, AreAscending, CitesApart, Fits};
+ghost use Rattle.mmsyntax.specs.Assertions.{IsSymbolOf, BeginsWithConstant, IsExpression};
+ghost use Rattle.mmsyntax.specs.Assertions.{IsPairOf, ComesBefore, AreAscending, CitesApart, Fits};
 ghost use Rattle.mmsyntax.specs.ProofWords.{seen_step};
 ghost use Rattle.mmsyntax.specs.Assertions.{is_lawful_label};
 ghost use Rattle.mmsyntax.specs.declared.statement.Kind.TheVariants.{Axiom};

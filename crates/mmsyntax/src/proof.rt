@@ -1,6 +1,7 @@
 //! A proof as words beside the labels that they cite, which clauses see as its steps.
 
-ghost use Rattle.std.specs.Prelude.{◌≡◌, ◌<◌, ◌^◌, ◌++◌, ◌∷◌, [], length, map, All, OnOk, OnErr, IfOk, IsTrue, ◌↔◌, slice_index_or};
+ghost use Rattle.std.specs.Prelude.{◌≡◌, ◌↔◌, ◌<◌, ◌^◌, ◌++◌, ◌∷◌, [], length, map, All, slice_index_or};
+ghost use Rattle.std.specs.Prelude.{OnOk, OnErr, IfOk, IsTrue};
 ghost use Rattle.mmsyntax.specs.declared.statement.Step.{Step};
 ghost use Rattle.mmsyntax.specs.declared.statement.Step.TheVariants.{Float, Hyp, Cite};
 ghost use Rattle.mmsyntax.specs.ProofWords.{IsSmall, IsCitedIn, AreWords, seen_step, steps_of, step_relabelled, replacing};
@@ -53,16 +54,6 @@ impl Proof {
             cited: Vec::new(alloc),
             words: Vec::new(alloc),
         }
-    }
-
-    /// No step, with room for so many.
-    pub fn with_capacity(alloc: Global, steps: usize) -> Result<Proof, AllocError>
-        ensures { IfOk result (λ made. made ≡ []) }
-    {
-        Ok(Proof {
-            cited: Vec::new(alloc),
-            words: Vec::with_capacity(alloc, steps)?,
-        })
     }
 
     /// The proof of these words over these labels: `3 i` is the `$f` at the place `i`, `3 k + 1` the hypothesis at the place `k`,

@@ -1,6 +1,7 @@
 //! The symbol table of a prelude: constants, variables and `$f` statements, with a fast look-up by name.
 
-ghost use Rattle.std.specs.Prelude.{◌≡◌, ◌<◌, ◌^◌, ◌++◌, ◌∷◌, [], length, None, Some, OnOk, IfOk, IsSome, List, ℕ, cond};
+ghost use Rattle.std.specs.Prelude.{◌≡◌, ◌<◌, ◌^◌, ◌++◌, ◌∷◌, [], length, None, Some, OnOk, IfOk};
+ghost use Rattle.std.specs.Prelude.{IsSome, List, ℕ, cond};
 ghost use Rattle.std.specs.HashMap.{get_by};
 ghost use Rattle.std.specs.Str.{bytes_eq};
 ghost use Rattle.mmsyntax.specs.Tables.{meaning};
