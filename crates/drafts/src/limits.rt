@@ -216,7 +216,5 @@ fn many_pairs(assertions: &[Assertion]) -> Option<usize>
 fn many_steps(assertions: &[Assertion]) -> Option<usize>
     ensures { result ≡ position (λ a. nat_lt 16384 (length a.proof)) assertions.now }
 {
-    assertions
-        .iter()
-        .position(|a| a.proof.as_slice().len() > MOST_STEPS)
+    assertions.iter().position(|a| a.proof.len() > MOST_STEPS)
 }

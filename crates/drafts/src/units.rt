@@ -1,14 +1,15 @@
 //! The assertions of a draft: each is admitted behind those before it.
 
-ghost use Rattle.std.specs.Prelude.{◌≡◌, ◌≢◌, ◌↔◌, ◌≤◌, ◌++◌, ◌∷◌, [], length, true, IsTrue, OnOk, IfOk, IfErr};
+ghost use Rattle.std.specs.Prelude.{◌≡◌, ◌≢◌, ◌↔◌, ◌≤◌, ◌++◌, ◌∷◌, [], length, true, All, IsTrue, OnOk, IfOk, IfErr};
 ghost use Rattle.mmsyntax.specs.Layout.{HasSpelling, IsSoundPrelude};
 ghost use Rattle.mmsyntax.specs.Assertions.{IsNameable, IsUnit, is_citable_label, is_float_label};
+ghost use Rattle.mmsyntax.specs.ProofWords.{seen_step};
 ghost use Rattle.drafts.specs.News.{IsAdmissible};
 ghost use Rattle.drafts.specs.declared.refusal.Refusal.TheVariants.{NoMemory};
 
 use crate::refusal::Refusal;
 use crate::words::is_plain_label;
-use mmsyntax::{Assertion, Kind, Name, Prelude, Sequence, Step, fits, is_lawful_label};
+use mmsyntax::{Assertion, Kind, Name, Prelude, Proof, Sequence, StepRef, fits, is_lawful_label};
 use mmunits::Units;
 use std::alloc::Global;
 
@@ -67,20 +68,32 @@ fn is_unit(prelude: &Prelude, assertion: &Assertion) -> bool
     ensures { IsTrue result ↔ IsUnit prelude.now assertion.now }
 {
     let hyps = assertion.hyps.as_slice().len();
-    let steps = assertion.proof.as_slice();
+    let steps = &assertion.proof;
     fits(prelude, assertion)
         && (assertion.kind == Kind::Axiom || !steps.is_empty())
-        && steps.iter().all(|step| is_nameable(prelude, hyps, step))
+        && are_nameable(prelude, hyps, steps)
+}
+
+/// Whether a text can name each step in the proof of an assertion with so many hypotheses.
+fn are_nameable(prelude: &Prelude, hyps: usize, steps: &Proof) -> bool
+    ensures { IsTrue result ↔ All (IsNameable prelude.now hyps) steps.now }
+{
+    for i in 0..steps.len() {
+        if !is_nameable(prelude, hyps, steps.step(i)) {
+            return false;
+        }
+    }
+    true
 }
 
 /// Whether a text can name a step in the proof of an assertion with so many hypotheses.
-fn is_nameable(prelude: &Prelude, hyps: usize, step: &Step) -> bool
-    ensures { IsTrue result ↔ IsNameable prelude.now hyps step.now }
+fn is_nameable(prelude: &Prelude, hyps: usize, step: StepRef<'_>) -> bool
+    ensures { IsTrue result ↔ IsNameable prelude.now hyps (seen_step step.entry) }
 {
     match step {
-        Step::Float(place) => (*place as usize) < prelude.floats().len(),
-        Step::Hyp(place) => (*place as usize) < hyps,
-        Step::Cite(label) => is_citable(prelude, label.as_slice()),
+        StepRef::Float(place) => (place as usize) < prelude.floats().len(),
+        StepRef::Hyp(place) => (place as usize) < hyps,
+        StepRef::Cite(label) => is_citable(prelude, label),
     }
 }
 

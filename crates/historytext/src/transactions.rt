@@ -10,7 +10,7 @@ ghost use Rattle.historytext.specs.Layout.{command_text, transaction_text};
 
 use crate::numbers::put_number;
 use library::Command;
-use mmsyntax::{Assertion, Label, Prelude, Step};
+use mmsyntax::{Assertion, Label, Prelude, Proof};
 use mmwriter::{put_assertion, put_steps, put_word};
 use std::alloc::AllocError;
 
@@ -34,7 +34,7 @@ fn put_reprove(
     out: &mut Vec<u8>,
     prelude: &Prelude,
     label: &Label,
-    steps: &[Step],
+    steps: &Proof,
 ) -> Result<(), AllocError>
     ensures { OnOk result (out.new.items ≡ out.old.items ++ command_text prelude.now (Command.Reprove label.now steps.now)) }
 {
@@ -89,7 +89,7 @@ fn put_command(out: &mut Vec<u8>, prelude: &Prelude, command: &Command) -> Resul
 {
     match command {
         Command::Add { rank, assertion } => put_add(out, prelude, *rank, assertion),
-        Command::Reprove { label, steps } => put_reprove(out, prelude, label, steps.as_slice()),
+        Command::Reprove { label, steps } => put_reprove(out, prelude, label, steps),
         Command::Replace { label, old, new } => put_replace(out, label, old, new),
         Command::Rename { old, new } => put_rename(out, old, new),
         Command::Move { label, rank } => put_move(out, label, *rank),

@@ -11,6 +11,7 @@ pub use Rattle.mmsyntax.specs.Tables
 pub use Rattle.mmsyntax.specs.Rows
 pub use Rattle.mmsyntax.specs.Blocks
 pub use Rattle.mmsyntax.specs.Steps
+pub use Rattle.mmsyntax.specs.ProofWords
 pub use Rattle.mmsyntax.specs.Faults
 pub use Rattle.mmsyntax.specs.Grammar
 pub use Rattle.mmsyntax.specs.Layout

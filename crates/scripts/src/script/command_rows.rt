@@ -6,7 +6,7 @@ ghost use Rattle.mmtext.specs.Views.{seen, Gives};
 ghost use Rattle.mmsyntax.specs.Tables.{Tables};
 ghost use Rattle.mmsyntax.specs.Faults.{row};
 ghost use Rattle.statementreader.specs.UnitReadings.{position_of};
-ghost use Rattle.statementreader.specs.Takings.{TakesItem};
+ghost use Rattle.statementreader.specs.Takings.{IsSmallNamed, TakesItem, step_or_fault};
 ghost use Rattle.statementreader.specs.Recalls.{Knows};
 ghost use Rattle.scripts.specs.Scripts.{other_step_of};
 ghost use Rattle.scripts.specs.ScriptFaults.{command_word, in_command, proof_start, step_row, unit_row};
@@ -17,9 +17,11 @@ use super::numerals::{hypothesis_place, is_numeral};
 use super::place::{CommandPlace, Led};
 use library::Command;
 use mmsyntax::numeral::number;
-use mmsyntax::{Label, Prelude, Sequence, Step};
+use mmsyntax::{Label, Prelude, ProofBuilder};
 use mmtext::{FaultKind, Mark, Stop, Token, contains_dollar, fault_at, mark_word};
-use statementreader::{Recent, UnitProgress, UnitReader, named_step, recalled_named_step};
+use statementreader::{
+    Named, Recent, UnitProgress, UnitReader, named_step, push_named, recalled_named_step,
+};
 use std::alloc::{AllocError, Global};
 
 /// A label: a word without `$`.
@@ -71,28 +73,34 @@ fn read_in_unit<'a>(
 }
 
 /// Behind `reprove` and a label: `$=`.
-fn read_proof_start<'a>(alloc: Global, label: Label, token: Token<'a>) -> Result<Led<'a>, Stop>
+fn read_proof_start<'a>(
+    alloc: Global,
+    prelude: &Prelude,
+    label: Label,
+    token: Token<'a>,
+) -> Result<Led<'a>, Stop>
     ensures { (t : Tables) → Gives (seen_led t) result
         (decided (seen token.entry) (proof_start label (mark_of token.entry.text.now))) }
 {
     if mark_word(token.text) != Mark::Proof {
         return Err(fault_at(token, FaultKind::BadToken));
     }
-    Ok(Led::Inside(CommandPlace::InProof(label, Vec::new(alloc))))
+    let steps = ProofBuilder::new(alloc, prelude.keys());
+    Ok(Led::Inside(CommandPlace::InProof(label, steps)))
 }
 
-/// The step that a word is behind `count` steps of another proof of an assertion with a label, or why it is none.
+/// What a word names as a step behind `count` steps of another proof of an assertion with a label, or why it names nothing.
 fn other_step(
-    alloc: Global,
     prelude: &Prelude,
     label: &[u8],
     count: usize,
     word: &[u8],
-) -> Result<Result<Step, FaultKind>, AllocError>
-    ensures { IfOk result (λ r. r ≡ other_step_of prelude.now label.now count word.now) }
+) -> Result<Named, FaultKind>
+    ensures named { step_or_fault word.now result ≡ other_step_of prelude.now label.now count word.now }
+    ensures small { IfOk result IsSmallNamed }
 {
     let hypothesis = hypothesis_place(label, word);
-    named_step(alloc, prelude.symbols(), label, hypothesis, count, word)
+    named_step(prelude.symbols(), label, hypothesis, count, word)
 }
 
 /// The same, of a word that was looked up lately or is looked up now.
@@ -103,10 +111,11 @@ fn recalled_other_step<'a>(
     label: &[u8],
     count: usize,
     word: &'a [u8],
-) -> Result<Result<Step, FaultKind>, AllocError>
+) -> Result<Result<Named, FaultKind>, AllocError>
     requires { Knows prelude.now recent.old }
     ensures knows { Knows prelude.now recent.new }
-    ensures step { IfOk result (λ r. r ≡ other_step_of prelude.now label.now count word.now) }
+    ensures named { IfOk result (λ r. step_or_fault word.now r ≡ other_step_of prelude.now label.now count word.now) }
+    ensures small { IfOk result (λ r. IfOk r IsSmallNamed) }
 {
     let hypothesis = hypothesis_place(label, word);
     let symbols = prelude.symbols();
@@ -118,19 +127,19 @@ fn read_step<'a>(
     alloc: Global,
     prelude: &Prelude,
     label: Label,
-    mut steps: Vec<Step>,
+    mut steps: ProofBuilder,
     token: Token<'a>,
 ) -> Result<Led<'a>, Stop>
     ensures { Gives (seen_led prelude.now) result
-        (decided (seen token.entry) (step_row prelude.now label steps.items (seen token.entry) (mark_of token.entry.text.now))) }
+        (decided (seen token.entry) (step_row prelude.now label steps (seen token.entry) (mark_of token.entry.text.now))) }
 {
     if mark_word(token.text) == Mark::End && !steps.is_empty() {
-        let steps = Sequence::from_vec(steps);
+        let steps = steps.into_proof();
         return Ok(Led::Whole(Command::Reprove { label, steps }));
     }
-    match other_step(alloc, prelude, label.as_slice(), steps.len(), token.text)? {
-        Ok(step) => {
-            steps.push(step)?;
+    match other_step(prelude, label.as_slice(), steps.len(), token.text) {
+        Ok(named) => {
+            push_named(alloc, &mut steps, named, token.text)?;
             Ok(Led::Inside(CommandPlace::InProof(label, steps)))
         }
         Err(kind) => Err(fault_at(token, kind)),
@@ -144,20 +153,20 @@ fn take_step<'a>(
     prelude: &Prelude,
     recent: &mut Recent<'a>,
     label: &[u8],
-    steps: &mut Vec<Step>,
+    steps: &mut ProofBuilder,
     token: Token<'a>,
 ) -> Result<bool, Stop>
     requires { Knows prelude.now recent.old }
     ensures knows { Knows prelude.now recent.new }
-    ensures taken { TakesItem (seen token.entry) steps.old.items steps.new.items
-        (other_step_of prelude.now label.now (length steps.old.items) token.entry.text.now) result }
+    ensures taken { TakesItem (seen token.entry) steps.old steps.new
+        (other_step_of prelude.now label.now (length steps.old) token.entry.text.now) result }
 {
     if contains_dollar(token.text) {
         return Ok(false);
     }
     match recalled_other_step(alloc, prelude, recent, label, steps.len(), token.text)? {
-        Ok(step) => {
-            steps.push(step)?;
+        Ok(named) => {
+            push_named(alloc, steps, named, token.text)?;
             Ok(true)
         }
         Err(kind) => Err(fault_at(token, kind)),
@@ -293,7 +302,7 @@ pub fn read_in_command<'a>(
             return read_in_unit(alloc, prelude, rank, reader, token);
         }
         CommandPlace::AtReproved => CommandPlace::AtProof(read_label(alloc, token)?),
-        CommandPlace::AtProof(label) => return read_proof_start(alloc, label, token),
+        CommandPlace::AtProof(label) => return read_proof_start(alloc, prelude, label, token),
         CommandPlace::InProof(label, steps) => {
             return read_step(alloc, prelude, label, steps, token);
         }

@@ -1,6 +1,6 @@
 //! Decimal numbers without leading zero: ranks, and the numbers of hypotheses.
 
-ghost use Rattle.std.specs.Prelude.{◌≡◌};
+ghost use Rattle.std.specs.Prelude.{◌≡◌, ◌<◌, ℕ, Some};
 ghost use Rattle.scripts.specs.ScriptFaults.{is_numeral};
 ghost use Rattle.scripts.specs.ScriptViews.{place_numbered};
 
@@ -17,7 +17,8 @@ pub fn is_numeral(word: &[u8]) -> bool
 /// The place of the hypothesis that a word names in another proof of an assertion, whose label is given: `L.k` names the one at k - 1, for
 /// k from 1 to 1,000.
 pub(super) fn hypothesis_place(label: &[u8], word: &[u8]) -> Option<u32>
-    ensures { result ≡ place_numbered label.now word.now }
+    ensures place { result ≡ place_numbered label.now word.now }
+    ensures few { (n : ℕ) → result ≡ Some n → n < 1000 }
 {
     let k = hypothesis_number(label, word)?;
     Some(k - 1)

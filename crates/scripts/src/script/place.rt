@@ -1,7 +1,7 @@
 //! Places in a script.
 
 use library::{Command, Transaction};
-use mmsyntax::{Label, Prelude, Step};
+use mmsyntax::{Label, Prelude, ProofBuilder};
 use statementreader::{Recent, UnitReader};
 
 /// What was read of the command in which a token stands.
@@ -16,7 +16,7 @@ pub enum CommandPlace<'a> {
     /// Behind `reprove` and a label.
     AtProof(Label),
     /// Behind `$=` and steps.
-    InProof(Label, Vec<Step>),
+    InProof(Label, ProofBuilder),
     /// Behind `replace`.
     AtRecited,
     /// Behind `replace` and a label.

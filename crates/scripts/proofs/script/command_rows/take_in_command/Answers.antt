@@ -13,8 +13,8 @@ returns-in-InProof-clause-taken c =
     let t = c.args.prelude.now in
     let u = seen c.args.token in
     let label = c.in-InProof.label in
-    let old = c.in-InProof.steps.items in
-    let new = c.take_step.new.steps.items in
+    let old = c.in-InProof.steps in
+    let new = c.take_step.new.steps in
     subst (λ (x : CommandPlace). TakesInCommand t (seen_command_place t x) u (in_proof label new) c.take_step.result) (sym c.in-InProof.is)
     (step_taken t label c.as_slice.result.now old new u c.take_step.result c.as_slice.ensures c.take_step.ensures.taken)
 
