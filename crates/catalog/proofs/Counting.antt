@@ -1,6 +1,6 @@
 -- How often each assertion is cited, counted by places: one step more, and one proof more.
 use Rattle.std.proofs.Common.{◌≡◌, ◌<◌, ◌≤◌, ◌+◌, ℕ, true, false, cond, List, [], ◌∷◌, ◌++◌, Option, None, Some, length, get_or, take, set}
-use Rattle.std.proofs.Common.{refl, sym, ap, subst, ◌∙◌, inl, inr, arith}
+use Rattle.std.proofs.Common.{Bor, refl, sym, ap, subst, ◌∙◌, inl, inr, arith}
 use Rattle.std.specs.Prelude.{◌||◌, slice_index}
 use Rattle.std.specs.List.{count_by, slice_get}
 use Rattle.std.specs.Str.{bytes_eq}
@@ -9,7 +9,10 @@ use Rattle.std.proofs.lemmas.List.{get_or-set_same, get_or-set_other}
 use Rattle.std.proofs.lemmas.List.Sums.{sum_by_more}
 use Rattle.std.proofs.lemmas.Option.{slice_get_within}
 use Rattle.mmsyntax.specs.declared.statement.Step.{Step}
-use Rattle.mmsyntax.specs.declared.statement.Step.TheVariants.{Float, Hyp, Cite}
+use Rattle.mmsyntax.specs.declared.statement.Step.TheVariants.{Cite}
+use Rattle.mmsyntax.specs.declared.step_ref.StepRef.{StepRef}
+use Rattle.mmsyntax.specs.declared.step_ref.StepRef.TheVariants as lent
+use Rattle.mmsyntax.specs.ProofWords.{seen_step}
 use Rattle.mmsyntax.proofs.Names.{same_bytes, bytes_eq-same}
 use Rattle.library.specs.declared.library.Ranked.{Ranked}
 use Rattle.library.specs.Library.{label_of}
@@ -34,10 +37,10 @@ push_else [] s w h = ap (λ b. b || false) h
 push_else (t ∷ ts) s w h = ap (λ b. is_citation w t || b) (push_else ts s w h)
 
 -- a step that cites no label
-pub no-citation : (s : Step) (w : List ℕ) → ((l : List ℕ) → s ≡ Cite l → ⊥) → is_citation w s ≡ false
-no-citation (Float i) w h = refl
-no-citation (Hyp k) w h = refl
-no-citation (Cite l) w h = absurd (h l refl)
+pub no-citation : (s : StepRef) (w : List ℕ) → ((l : Bor (List ℕ)) → s ≡ lent.Cite l → ⊥) → is_citation w (seen_step s) ≡ false
+no-citation (lent.Float i) w h = refl
+no-citation (lent.Hyp k) w h = refl
+no-citation (lent.Cite l) w h = absurd (h l refl)
 
 -- a place is within what is kept for each place
 pub place-within : (xs : Entries) (w : List ℕ) (place : ℕ) (kept : List ℕ) → StandsAt xs w place → length kept ≡ length xs

@@ -1,18 +1,23 @@
 -- Who may cite whom: the lists of citers cover the assertions, also after a change of one place.
-use Rattle.std.proofs.Common.{◌≡◌, ℕ, ◌<◌, true, false, List, [], ◌∷◌, ◌++◌, Vec, None, Some, length, set, sym, ap, subst, ◌∙◌}
+use Rattle.std.proofs.Common.{◌≡◌, ℕ, ◌<◌, true, false, List, [], ◌∷◌, ◌++◌, Vec, None, Some, length, map, set, sym, ap, subst}
+use Rattle.std.proofs.Common.{◌∙◌}
 use Rattle.std.proofs.Common.{◌⊎◌, inl, inr, arith}
 use Rattle.std.specs.Prelude.{◌||◌}
-use Rattle.std.specs.List.{Contains, slice_get}
+use Rattle.std.specs.List.{All, Contains, slice_get}
+use Rattle.std.proofs.lemmas.List.Elements.{All-head, All-tail}
 use Rattle.std.specs.declared.alloc.Global.{Global}
 use Rattle.std.proofs.lemmas.Bool.{cases_Bool, cases_eq, both_ways}
 use Rattle.std.proofs.lemmas.Option.{slice_get_within}
 use Rattle.std.specs.Str.{bytes_eq}
 use Rattle.mmsyntax.specs.declared.statement.Step.{Step}
-use Rattle.mmsyntax.specs.declared.statement.Step.TheVariants.{Cite}
+use Rattle.mmsyntax.specs.declared.statement.Step.TheVariants.{Float, Hyp, Cite}
+use Rattle.mmsyntax.specs.ProofWords.{IsCitedIn}
 use Rattle.mmsyntax.proofs.Names.{same_bytes}
 use Rattle.library.specs.declared.library.Ranked.{Ranked}
 use Rattle.library.specs.Library.{label_of}
 use Rattle.library.specs.Edits.{is_citation, cites}
+use Rattle.library.proofs.Citations.{none_contained}
+use Rattle.library.proofs.Filtered.{contains_mapped}
 use Rattle.catalog.specs.Entries.{Entries, StandsIn}
 use Rattle.catalog.specs.Places.{Places, IsIndex, StandsAt}
 use Rattle.catalog.specs.Listing.{some_cites}
@@ -199,6 +204,30 @@ entered-push c d es steps s q k h last = record {
     | inl front ↦ k.keeps p q (h.entered p e at front)
     | inr own ↦ last.entered p e at own
   ];
+}
+
+-- ---- the labels that a proof lists
+
+-- a label that steps cite is among those that they list
+some-listed : (labels : List (List ℕ)) (w : List ℕ) (steps : List Step) → All (IsCitedIn labels) steps → some_cites steps w ≡ true
+    → some_cites (map Cite labels) w ≡ true
+some-listed labels w [] all h = absurd cc
+some-listed labels w (Float i ∷ steps) all h = some-listed labels w steps (All-tail (IsCitedIn labels) (Float i) steps all) h
+some-listed labels w (Hyp k ∷ steps) all h = some-listed labels w steps (All-tail (IsCitedIn labels) (Hyp k) steps all) h
+some-listed labels w (Cite l ∷ steps) all h =
+    let there = contains_mapped Cite labels l (All-head (IsCitedIn labels) (Cite l) steps all) in
+    let rest = All-tail (IsCitedIn labels) (Cite l) steps all in
+    elim (cases_Bool (some_cites (map Cite labels) w)) [
+      | inl y ↦ y
+      | inr none ↦
+          let other : bytes_eq w l ≡ false = none_contained (is_citation w) (map Cite labels) (Cite l) none there in
+          some-listed labels w steps rest (sym (ap (λ b. b || some_cites steps w) other) ∙ h)
+    ]
+
+pub entered-listed : (c : Citers) (es : Entries) (labels : List (List ℕ)) (steps : List Step) (q : ℕ) → All (IsCitedIn labels) steps
+    → AreEntered c es (map Cite labels) q → AreEntered c es steps q
+entered-listed c es labels steps q all h = record {
+  entered = λ p e at here. h.entered p e at (some-listed labels (label_of e) steps all here);
 }
 
 -- ---- an assertion has another label

@@ -2,12 +2,13 @@
 
 ghost use Rattle.std.specs.Prelude.{◌≡◌, ◌∷◌, [], ℕ, length, Contains, IfOk, OnOk};
 ghost use Rattle.std.specs.List.Sorted.{IsStrictlyIncreasing};
+ghost use Rattle.mmsyntax.specs.declared.statement.Step.TheVariants.{Cite};
 ghost use Rattle.catalog.specs.Places.{IsIndex};
 ghost use Rattle.catalog.specs.Citers.{EachAscends, AreEntered, Covers, KeepsCiters};
 
 use crate::places::{Places, find_label};
 use library::Ranked;
-use mmsyntax::Step;
+use mmsyntax::Proof;
 use std::alloc::{AllocError, Global};
 
 /// For each place, the places whose proof may cite the assertion there, in ascending order.
@@ -37,12 +38,12 @@ pub fn enter(list: &mut Vec<usize>, place: usize) -> Result<(), AllocError>
     Ok(())
 }
 
-/// Puts a place into the list of the assertion that a step cites, if it cites one.
-fn enter_step(
+/// Puts a place into the list of the assertion with a label, if one has it.
+fn enter_label(
     entries: &[Option<Ranked>],
     places: &Places,
     citers: &mut [Vec<usize>],
-    step: &Step,
+    label: &[u8],
     place: usize,
 ) -> Result<(), AllocError>
     requires indexed { IsIndex places.now entries.now }
@@ -50,19 +51,16 @@ fn enter_step(
     requires ascending { EachAscends citers.old }
     ensures ascending { EachAscends citers.new }
     ensures kept { KeepsCiters citers.old citers.new }
-    ensures entered { OnOk result (AreEntered citers.new entries.now (step.now ∷ []) place) }
+    ensures entered { OnOk result (AreEntered citers.new entries.now (Cite label.now ∷ []) place) }
 {
-    let Step::Cite(label) = step else {
-        return Ok(());
-    };
-    let Some(cited) = find_label(entries, places, label.as_slice()) else {
+    let Some(cited) = find_label(entries, places, label) else {
         return Ok(());
     };
     enter(&mut citers[cited], place)
 }
 
-/// Puts a place into the list of each assertion that some steps cite: one look-up for each citation. After an error it stands in some
-/// of them.
+/// Puts a place into the list of each assertion that some steps cite: one look-up for each label that they list. After an error it stands
+/// in some of them.
 ///
 /// # Errors
 ///
@@ -71,7 +69,7 @@ pub fn enter_citer(
     entries: &[Option<Ranked>],
     places: &Places,
     citers: &mut [Vec<usize>],
-    steps: &[Step],
+    steps: &Proof,
     place: usize,
 ) -> Result<(), AllocError>
     requires indexed { IsIndex places.now entries.now }
@@ -82,8 +80,9 @@ pub fn enter_citer(
     ensures kept { KeepsCiters citers.old citers.new }
     ensures entered { OnOk result (AreEntered citers.new entries.now steps.now place) }
 {
-    for step in steps {
-        enter_step(entries, places, citers, step, place)?;
+    let labels = steps.cited();
+    for label in labels {
+        enter_label(entries, places, citers, label.as_slice(), place)?;
     }
     Ok(())
 }
@@ -100,7 +99,7 @@ fn empty_lists(alloc: Global, count: usize) -> Result<Citers, AllocError>
     Ok(citers)
 }
 
-/// The lists of the assertions at their places: one look-up for each citation.
+/// The lists of the assertions at their places: one look-up for each label that a proof lists.
 ///
 /// # Errors
 ///
@@ -118,7 +117,7 @@ pub fn open_citers(
     let mut citers = empty_lists(alloc, entries.len())?;
     for (place, entry) in entries.iter().enumerate() {
         if let Some(entry) = entry {
-            let steps = entry.assertion.proof.as_slice();
+            let steps = &entry.assertion.proof;
             enter_citer(entries, places, citers.as_mut_slice(), steps, place)?;
         }
     }

@@ -1,40 +1,12 @@
 //! Copies of assertions with another label, and with another label in the place of one that the proof cites.
 
-ghost use Rattle.std.specs.Prelude.{◌≡◌, map, IfOk};
-ghost use Rattle.derivation.specs.Laws.{replacing, step_relabelled};
+ghost use Rattle.std.specs.Prelude.{◌≡◌, IfOk};
 ghost use Rattle.library.specs.Edits.{with_proof};
 ghost use Rattle.catalog.specs.Changes.{with_label, citing};
 
-use crate::testing::is_citation;
 use library::Ranked;
-use mmsyntax::{Assertion, Expr, Label, Sequence, Step};
+use mmsyntax::{Assertion, Expr, Label, Proof, Sequence};
 use std::alloc::{AllocError, Global};
-
-fn renamed_step(alloc: Global, step: &Step, old: &[u8], new: &Label) -> Result<Step, AllocError>
-    ensures { IfOk result (λ made. made ≡ step_relabelled (replacing old.now new.now) step.now) }
-{
-    if is_citation(step, old) {
-        Ok(Step::Cite(new.copy(alloc)?))
-    } else {
-        step.copy(alloc)
-    }
-}
-
-/// The steps of a proof with a label in the place of another.
-fn renamed_steps(
-    alloc: Global,
-    steps: &[Step],
-    old: &[u8],
-    new: &Label,
-) -> Result<Sequence<Step>, AllocError>
-    ensures { IfOk result (λ made. made ≡ map (step_relabelled (replacing old.now new.now)) steps.now) }
-{
-    let mut made = Vec::new(alloc);
-    for step in steps {
-        made.push(renamed_step(alloc, step, old, new)?)?;
-    }
-    Ok(Sequence::from_vec(made))
-}
 
 fn copy_expressions(alloc: Global, expressions: &[Expr]) -> Result<Sequence<Expr>, AllocError>
     ensures { IfOk result (λ made. made ≡ expressions.now) }
@@ -76,7 +48,7 @@ fn copy_said(alloc: Global, assertion: &Assertion) -> Result<Said, AllocError>
 /// # Errors
 ///
 /// Want of memory.
-pub fn reproved(alloc: Global, entry: &Ranked, proof: Sequence<Step>) -> Result<Ranked, AllocError>
+pub fn reproved(alloc: Global, entry: &Ranked, proof: Proof) -> Result<Ranked, AllocError>
     ensures { IfOk result (λ made. made ≡ with_proof proof entry.now) }
 {
     let label = entry.assertion.label.copy(alloc)?;
@@ -102,7 +74,8 @@ pub fn reproved(alloc: Global, entry: &Ranked, proof: Sequence<Step>) -> Result<
 pub fn recited(alloc: Global, entry: &Ranked, old: &[u8], new: &Label) -> Result<Ranked, AllocError>
     ensures { IfOk result (λ made. made ≡ citing old.now new.now entry.now) }
 {
-    let proof = renamed_steps(alloc, entry.assertion.proof.as_slice(), old, new)?;
+    let mut proof = entry.assertion.proof.copy(alloc)?;
+    proof.rename(alloc, old, new.as_slice())?;
     reproved(alloc, entry, proof)
 }
 

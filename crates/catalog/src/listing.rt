@@ -2,6 +2,7 @@
 
 ghost use Rattle.std.specs.Prelude.{◌≡◌, ◌<◌, ◌∷◌, ◌++◌, [], ℕ, List, length, map, slice_index, IfOk};
 ghost use Rattle.mmsyntax.specs.declared.statement.Step.{Step};
+ghost use Rattle.mmsyntax.specs.ProofWords.{seen_step};
 ghost use Rattle.library.specs.declared.library.Ranked.{Ranked};
 ghost use Rattle.library.specs.Library.{label_of, in_export_order};
 ghost use Rattle.library.specs.Edits.{line};
@@ -11,7 +12,7 @@ ghost use Rattle.catalog.specs.Listing.{line_cmp, AreNoted, AreCounted};
 
 use crate::places::{Places, find_label};
 use library::{Line, Ranked};
-use mmsyntax::{Sequence, Step};
+use mmsyntax::{Proof, Sequence, StepRef};
 use std::alloc::{AllocError, Global};
 use std::cmp::Ordering;
 
@@ -21,7 +22,7 @@ fn note_step(
     entries: &[Option<Ranked>],
     places: &Places,
     number: usize,
-    step: &Step,
+    step: StepRef<'_>,
     counts: &mut [u64],
     stamps: &mut [usize],
 )
@@ -31,12 +32,12 @@ fn note_step(
     requires room { (p : ℕ) (e : Ranked) → StandsIn entries.now p e → slice_index stamps.old p < number
         → slice_index counts.old p < number }
     ensures { (steps : List Step) (first : List ℕ) → AreNoted entries.now number steps first counts.old stamps.old
-        → AreNoted entries.now number (steps ++ step.now ∷ []) first counts.new stamps.new }
+        → AreNoted entries.now number (steps ++ seen_step step.entry ∷ []) first counts.new stamps.new }
 {
-    let Step::Cite(label) = step else {
+    let StepRef::Cite(label) = step else {
         return;
     };
-    let Some(place) = find_label(entries, places, label.as_slice()) else {
+    let Some(place) = find_label(entries, places, label) else {
         return;
     };
     if stamps[place] < number {
@@ -50,7 +51,7 @@ fn note_proof(
     entries: &[Option<Ranked>],
     places: &Places,
     number: usize,
-    steps: &[Step],
+    steps: &Proof,
     counts: &mut [u64],
     stamps: &mut [usize],
 )
@@ -61,8 +62,8 @@ fn note_proof(
     requires older { (p : ℕ) (e : Ranked) → StandsIn entries.now p e → slice_index stamps.old p < number }
     ensures { AreNoted entries.now number steps.now counts.old counts.new stamps.new }
 {
-    for step in steps {
-        note_step(entries, places, number, step, counts, stamps);
+    for i in 0..steps.len() {
+        note_step(entries, places, number, steps.step(i), counts, stamps);
     }
 }
 
@@ -83,7 +84,7 @@ fn count_by_place(
                 entries,
                 places,
                 place + 1,
-                entry.assertion.proof.as_slice(),
+                &entry.assertion.proof,
                 counts.as_mut_slice(),
                 stamps.as_mut_slice(),
             );

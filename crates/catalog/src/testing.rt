@@ -5,6 +5,7 @@ ghost use Rattle.std.specs.List.{list_any};
 ghost use Rattle.std.specs.List.Sorted.{IsStrictlyIncreasing};
 ghost use Rattle.std.specs.Option.{option_copied};
 ghost use Rattle.mmsyntax.specs.declared.statement.Kind.TheVariants.{Theorem};
+ghost use Rattle.mmsyntax.specs.ProofWords.{seen_step};
 ghost use Rattle.library.specs.Edits.{found, is_citation, cites, citers as citers_of, is_of_unknown, cites_not_below, proof_fails};
 ghost use Rattle.library.specs.declared.reason.Reason.TheVariants as reason;
 ghost use Rattle.catalog.specs.Entries.{living, AreFramed};
@@ -15,16 +16,16 @@ ghost use Rattle.catalog.specs.Testing.{passes_at, cites_from};
 use crate::places::{Places, entry_at, find_label};
 use derivation::{ProofFault, ProofFaultKind};
 use library::Ranked;
-use mmsyntax::{Assertion, Frame, Label, Prelude, Step};
+use mmsyntax::{Assertion, Frame, Label, Prelude, Proof, StepRef};
 use std::alloc::{AllocError, Global};
 use stepcheck::{Frames, check};
 
-pub(crate) fn is_citation(step: &Step, label: &[u8]) -> bool
-    ensures { result ≡ is_citation label.now step.now }
+fn is_citation(step: StepRef<'_>, label: &[u8]) -> bool
+    ensures { result ≡ is_citation label.now (seen_step step.entry) }
 {
     match step {
-        Step::Float(_) | Step::Hyp(_) => false,
-        Step::Cite(cited) => label == cited.as_slice(),
+        StepRef::Float(_) | StepRef::Hyp(_) => false,
+        StepRef::Cite(cited) => label == cited,
     }
 }
 
@@ -32,8 +33,13 @@ pub(crate) fn is_citation(step: &Step, label: &[u8]) -> bool
 pub fn cites(entry: &Ranked, label: &[u8]) -> bool
     ensures { result ≡ cites label.now entry.now }
 {
-    let steps = entry.assertion.proof.as_slice();
-    steps.iter().any(|step| is_citation(step, label))
+    let steps = &entry.assertion.proof;
+    for i in 0..steps.len() {
+        if is_citation(steps.step(i), label) {
+            return true;
+        }
+    }
+    false
 }
 
 /// Whether a place has an assertion whose proof cites a label.
@@ -91,24 +97,27 @@ pub fn count_citers(entries: &[Option<Ranked>], citers: &[usize], label: &[u8]) 
 }
 
 /// Whether a step cites a label that no assertion has.
-fn is_of_unknown(entries: &[Option<Ranked>], places: &Places, step: &Step) -> bool
+fn is_of_unknown(entries: &[Option<Ranked>], places: &Places, step: StepRef<'_>) -> bool
     requires { IsIndex places.now entries.now }
-    ensures { result ≡ is_of_unknown (living entries.now) step.now }
+    ensures { result ≡ is_of_unknown (living entries.now) (seen_step step.entry) }
 {
     match step {
-        Step::Float(_) | Step::Hyp(_) => false,
-        Step::Cite(label) => find_label(entries, places, label.as_slice()).is_none(),
+        StepRef::Float(_) | StepRef::Hyp(_) => false,
+        StepRef::Cite(label) => find_label(entries, places, label).is_none(),
     }
 }
 
 /// Whether some step cites a label that no assertion has.
-pub fn cites_unknown(entries: &[Option<Ranked>], places: &Places, steps: &[Step]) -> bool
+pub fn cites_unknown(entries: &[Option<Ranked>], places: &Places, steps: &Proof) -> bool
     requires { IsIndex places.now entries.now }
     ensures { result ≡ list_any (is_of_unknown (living entries.now)) steps.now }
 {
-    steps
-        .iter()
-        .any(|step| is_of_unknown(entries, places, step))
+    for i in 0..steps.len() {
+        if is_of_unknown(entries, places, steps.step(i)) {
+            return true;
+        }
+    }
+    false
 }
 
 /// The assertion that has a label, if one has it.
@@ -125,13 +134,18 @@ fn find_entry<'a>(
 }
 
 /// Whether a step cites an assertion of this rank or a higher one.
-fn is_of_one_not_below(entries: &[Option<Ranked>], places: &Places, rank: u32, step: &Step) -> bool
+fn is_of_one_not_below(
+    entries: &[Option<Ranked>],
+    places: &Places,
+    rank: u32,
+    step: StepRef<'_>,
+) -> bool
     requires { IsIndex places.now entries.now }
-    ensures { result ≡ cites_not_below (living entries.now) rank step.now }
+    ensures { result ≡ cites_not_below (living entries.now) rank (seen_step step.entry) }
 {
     match step {
-        Step::Float(_) | Step::Hyp(_) => false,
-        Step::Cite(label) => match find_entry(entries, places, label.as_slice()) {
+        StepRef::Float(_) | StepRef::Hyp(_) => false,
+        StepRef::Cite(label) => match find_entry(entries, places, label) {
             None => false,
             Some(entry) => rank <= entry.rank,
         },
@@ -143,13 +157,13 @@ pub fn cites_not_below(
     entries: &[Option<Ranked>],
     places: &Places,
     rank: u32,
-    steps: &[Step],
+    steps: &Proof,
 ) -> bool
     requires { IsIndex places.now entries.now }
     ensures { result ≡ list_any (cites_not_below (living entries.now) rank) steps.now }
 {
-    for step in steps {
-        if is_of_one_not_below(entries, places, rank, step) {
+    for i in 0..steps.len() {
+        if is_of_one_not_below(entries, places, rank, steps.step(i)) {
             return true;
         }
     }

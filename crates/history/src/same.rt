@@ -3,24 +3,7 @@
 ghost use Rattle.std.specs.Prelude.{◌≡◌, ◌↔◌, IsTrue};
 
 use library::{Line, Ranked, Reply};
-use mmsyntax::{Assertion, Expr, Step};
-
-fn same_step(a: &Step, b: &Step) -> bool
-    ensures { IsTrue result ↔ (a.now ≡ b.now) }
-{
-    match (a, b) {
-        (Step::Float(i), Step::Float(j)) => i == j,
-        (Step::Hyp(i), Step::Hyp(j)) => i == j,
-        (Step::Cite(i), Step::Cite(j)) => i == j,
-        _ => false,
-    }
-}
-
-fn same_steps(a: &[Step], b: &[Step]) -> bool
-    ensures { IsTrue result ↔ (a.now ≡ b.now) }
-{
-    a.len() == b.len() && a.iter().zip(b).all(|(x, y)| same_step(x, y))
-}
+use mmsyntax::{Assertion, Expr};
 
 fn same_expression(a: &Expr, b: &Expr) -> bool
     ensures { IsTrue result ↔ (a.now ≡ b.now) }
@@ -48,7 +31,7 @@ fn same_assertion(a: &Assertion, b: &Assertion) -> bool
         && same_pairs(a.pairs.as_slice(), b.pairs.as_slice())
         && same_expressions(a.hyps.as_slice(), b.hyps.as_slice())
         && same_expression(&a.statement, &b.statement)
-        && same_steps(a.proof.as_slice(), b.proof.as_slice())
+        && a.proof.has_same_steps(&b.proof)
 }
 
 fn same_ranked(a: &Ranked, b: &Ranked) -> bool

@@ -13,7 +13,7 @@ ghost use Rattle.history.specs.Drafts.{now_in, Exchanges, KeepsStart};
 use super::Draft;
 use catalog::{Note, enter, enter_citer};
 use library::Ranked;
-use mmsyntax::{Frame, Step};
+use mmsyntax::{Frame, Proof};
 use std::alloc::{AllocError, Global};
 use std::mem;
 
@@ -78,7 +78,7 @@ impl Draft {
     }
 
     /// Puts a place into the list of each assertion that some steps cite. The library stays.
-    pub(super) fn cite(&mut self, place: usize, steps: &[Step]) -> Result<(), AllocError>
+    pub(super) fn cite(&mut self, place: usize, steps: &Proof) -> Result<(), AllocError>
         ensures entered { OnOk result (AreEntered self.new.citers self.new.entries steps.now place) }
         ensures covered { Covers self.new.citers self.new.entries }
         ensures entries { self.new.entries ≡ self.old.entries }

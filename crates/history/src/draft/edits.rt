@@ -24,7 +24,7 @@ use catalog::{
 };
 use library::{Command, Ranked, Reason, Refused, Reply, is_alike};
 use mmframes::frame_of;
-use mmsyntax::{Assertion, Kind, Label, Sequence, Step, copy_steps, is_lawful_label};
+use mmsyntax::{Assertion, Kind, Label, Proof, Sequence, is_lawful_label};
 use std::alloc::{AllocError, Global};
 
 impl Draft {
@@ -57,7 +57,7 @@ impl Draft {
         ensures { IfOk result (λ found. found ≡ first_reason (proof_tests self.now.setting (now_in self.now) rank assertion.now)) }
     {
         let entries = self.entries.as_slice();
-        let steps = assertion.proof.as_slice();
+        let steps = &assertion.proof;
         if cites_unknown(entries, &self.places, steps) {
             return Ok(Some(Reason::CitesUnknown));
         }
@@ -142,7 +142,7 @@ impl Draft {
         }
         let frame = frame_of(alloc, &self.prelude, assertion)?;
         let place = self.open_place(alloc, frame)?;
-        self.cite(place, assertion.proof.as_slice())?;
+        self.cite(place, &assertion.proof)?;
         let assertion = assertion.copy(alloc)?;
         self.put(alloc, place, Ranked { rank, assertion })?;
         Ok(Reply::Done)
@@ -153,7 +153,7 @@ impl Draft {
         alloc: Global,
         index: usize,
         label: &Label,
-        steps: &Sequence<Step>,
+        steps: &Proof,
     ) -> Result<Reply, ApplyError>
         ensures taken { Takes index self.old (command.Reprove label.now steps.now) result self.new }
         ensures kept { KeepsStart self.old self.new }
@@ -168,13 +168,13 @@ impl Draft {
         if let Kind::Axiom = entry.assertion.kind {
             return Err(refused(index, Reason::NotATheorem));
         }
-        let proof = copy_steps(alloc, steps.as_slice())?;
+        let proof = steps.copy(alloc)?;
         let new = reproved(alloc, entry, proof)?;
         if let Some(reason) = self.refuse_proof(alloc, new.rank, &new.assertion)? {
             drop(new);
             return Err(refused(index, reason));
         }
-        self.cite(place, steps.as_slice())?;
+        self.cite(place, steps)?;
         self.replace(place, new)?;
         Ok(Reply::Done)
     }
@@ -319,12 +319,7 @@ impl Draft {
         if rank == 0 {
             return Err(refused(index, Reason::BadRank));
         }
-        if cites_not_below(
-            entries,
-            &self.places,
-            rank,
-            entry.assertion.proof.as_slice(),
-        ) {
+        if cites_not_below(entries, &self.places, rank, &entry.assertion.proof) {
             return Err(refused(index, Reason::CitedNotLower));
         }
         let citers = self.citers[place].as_slice();

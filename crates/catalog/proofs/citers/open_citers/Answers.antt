@@ -37,7 +37,7 @@ loop-place-preserved c =
                   let one_f : f ≡ w.in-Some.entry = cc in
                   let steps = ap (λ (x : Ranked). some_cites x.assertion.proof (label_of e)) one_f in
                   subst (λ n. IsCiter new p n) (sym same)
-                  (one.entered.entered p e at_p (ap (λ ss. some_cites ss (label_of e)) w.as_slice-steps.ensures ∙ sym steps ∙ here))
+                  (one.entered.entered p e at_p (sym steps ∙ here))
               | inr ne ↦ kept.keeps p q (inv.listed p q e f (omega arith) at_p at_q here)
             ];
           })

@@ -1,4 +1,4 @@
-use Rattle.std.proofs.Common.{◌≡◌, sym, ◌∙◌}
+use Rattle.std.proofs.Common.{sym, ◌∙◌}
 use Rattle.library.proofs.Clashing.{clashes-without}
 use Rattle.catalog.specs.Entries.{living}
 use Rattle.catalog.specs.Testing.{clashes_beside}

@@ -30,7 +30,7 @@ loop-place-preserved c =
           let stamps = c.loop-place.stamps in
           let counts' = w.note_proof.new.counts in
           let stamps' = w.note_proof.new.stamps in
-          let noted = rw (w.as_slice.ensures, w.as_mut_slice.ensures.value) at w.note_proof.ensures in
+          let noted = rw w.as_mut_slice.ensures.value at w.note_proof.ensures in
           let counts_kept : length counts' ≡ length counts.items = w.note_proof.auto.counts ∙ ap length w.as_mut_slice.ensures.value in
           let stamps_kept : length stamps' ≡ length stamps.items =
           w.note_proof.auto.stamps ∙ ap length w.as_mut_slice-in-Some.ensures.value in

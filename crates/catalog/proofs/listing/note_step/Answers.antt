@@ -1,5 +1,6 @@
 use Rattle.std.proofs.Common.{◌<◌, length, ◌∙◌, rules}
 use Rattle.mmsyntax.specs.declared.statement.Step.TheVariants.{Cite}
+use Rattle.mmsyntax.specs.ProofWords.{seen_step}
 use Rattle.mmsyntax.proofs.Names.{bytes_eq-sym}
 use Rattle.library.specs.Library.{label_of}
 use Rattle.catalog.proofs.Counting.{no-citation, place-within, noted-else, noted-again, noted-new}
@@ -8,13 +9,13 @@ use Rattle.catalog.proofs.listing.note_step.Goals as goal
 
 pub returns-in_default : goal.returns-in_default
 returns-in_default c = λ steps first h.
-    noted-else c.args.entries.now c.args.number steps first c.args.counts.now c.args.stamps.now c.args.step.now h
-    (λ p e at. no-citation c.args.step.now (label_of e) c.in_default.not-Cite)
+    noted-else c.args.entries.now c.args.number steps first c.args.counts.now c.args.stamps.now (seen_step c.args.step) h
+    (λ p e at. no-citation c.args.step (label_of e) c.in_default.not-Cite)
 
 pub returns-in_default-find_label : goal.returns-in_default-find_label
 returns-in_default-find_label c = λ steps first h.
-    let w = c.as_slice.result.now in
-    rw (c.in-Cite.is, ← c.as_slice.ensures)
+    let w = c.in-Cite.label.now in
+    rw c.in-Cite.is
     (noted-else c.args.entries.now c.args.number steps first c.args.counts.now c.args.stamps.now (Cite w) h
     (λ p e at. bytes_eq-sym (label_of e) w ∙ has-not-at c.args.entries.now w p e c.in_default-find_label.ensures at))
 
@@ -54,12 +55,12 @@ pub returns-then-stamps-place : goal.returns-then-stamps-place
 returns-then-stamps-place c = λ steps first h.
     let c_in = place-within c.args.entries.now _ c.in-Some.place c.args.counts.now c.in-Some.ensures c.requires.counts_long in
     let s_in = place-within c.args.entries.now _ c.in-Some.place c.args.stamps.now c.in-Some.ensures c.requires.stamps_long in
-    rw (c.in-Cite.is, ← c.as_slice.ensures)
+    rw c.in-Cite.is
     (noted-new c.args.entries.now c.args.number steps first c.args.counts.now c.args.stamps.now c.args.places.now c.requires.indexed
-    c.as_slice.result.now c.in-Some.place c.in-Some.ensures h c.if-stamps-place.true c_in s_in)
+    c.in-Cite.label.now c.in-Some.place c.in-Some.ensures h c.if-stamps-place.true c_in s_in)
 
 pub returns-else-stamps-place : goal.returns-else-stamps-place
 returns-else-stamps-place c = λ steps first h.
-    rw (c.in-Cite.is, ← c.as_slice.ensures)
+    rw c.in-Cite.is
     (noted-again c.args.entries.now c.args.number steps first c.args.counts.now c.args.stamps.now c.args.places.now c.requires.indexed
-    c.as_slice.result.now c.in-Some.place c.in-Some.ensures h c.if-stamps-place.false)
+    c.in-Cite.label.now c.in-Some.place c.in-Some.ensures h c.if-stamps-place.false)

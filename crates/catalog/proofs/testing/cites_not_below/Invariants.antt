@@ -4,5 +4,5 @@ use Rattle.library.specs.Edits.{cites_not_below}
 use Rattle.catalog.specs.Entries.{living}
 use Rattle.catalog.proofs.testing.cites_not_below.Given as goal
 
-abbrev pub invariant-loop-step : goal.invariant-loop-step
-invariant-loop-step l = list_any (cites_not_below (living l.entries) l.rank) (take l.step-index l.steps) ≡ false
+abbrev pub invariant-loop-i : goal.invariant-loop-i
+invariant-loop-i l = list_any (cites_not_below (living l.entries) l.rank) (take l.i l.steps) ≡ false

@@ -5,5 +5,5 @@ use Rattle.catalog.proofs.testing.is_of_unknown.Goals as goal
 
 pub returns-in-Cite : goal.returns-in-Cite
 returns-in-Cite c =
-    let known = some-known c.args.entries.now c.as_slice.result.now c.find_label.result c.find_label.ensures in
-    rw (c.in-Cite.is, ← c.as_slice.ensures) (sym (not-not c.is_none.result) ∙ ap not (sym c.is_none.ensures ∙ known))
+    let known = some-known c.args.entries.now c.in-Cite.label.now c.find_label.result c.find_label.ensures in
+    rw c.in-Cite.is (sym (not-not c.is_none.result) ∙ ap not (sym c.is_none.ensures ∙ known))

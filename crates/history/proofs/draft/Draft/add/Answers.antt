@@ -66,7 +66,7 @@ put-requires-clause-covered c =
     let known : list_any (is_of_unknown lib) b.proof ≡ false =
     ap (λ (x : Assertion). list_any (is_of_unknown lib) x.proof) c.in_ok-assertion.ensures ∙ add_known d.setting lib c.args.rank a tests in
     let now : next.entries ≡ d.entries ++ None ∷ [] = cited.entries ∙ c.in_ok-place.ensures.entries in
-    let listed : c.as_slice.result.now ≡ b.proof = c.as_slice.ensures ∙ ap (λ (x : Assertion). x.proof) (sym c.in_ok-assertion.ensures) in
+    let listed : a.proof ≡ b.proof = ap (λ (x : Assertion). x.proof) (sym c.in_ok-assertion.ensures) in
     covers-fresh next.citers next.entries p new cited.covered
     (λ q f at. verified-uncited d.setting d.entries b.label c.requires free q f
     (stands-opened d.entries q f (subst (λ es. StandsIn es q f) now at)))

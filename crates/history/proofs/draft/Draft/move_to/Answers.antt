@@ -52,10 +52,9 @@ returns-then-rank-eq0-clause-taken c =
     )
 
 -- what the test of the cited assertions answers, over the library and the proof
-below : (slice held : Entries) (rank : ℕ) (read steps : List Step) (b c : Bool) → slice ≡ held → read ≡ steps
-    → b ≡ list_any (cites_not_below (living slice) rank) read → b ≡ c → list_any (cites_not_below (living held) rank) steps ≡ c
-below slice held rank read steps b c same own h k =
-    sym (h ∙ ap (λ l. list_any (cites_not_below (living l) rank) read) same ∙ ap (list_any (cites_not_below (living held) rank)) own) ∙ k
+below : (slice held : Entries) (rank : ℕ) (steps : List Step) (b c : Bool) → slice ≡ held
+    → b ≡ list_any (cites_not_below (living slice) rank) steps → b ≡ c → list_any (cites_not_below (living held) rank) steps ≡ c
+below slice held rank steps b c same h k = sym (h ∙ ap (λ l. list_any (cites_not_below (living l) rank) steps) same) ∙ k
 
 -- what the test of the citing ones answers
 above : (slice held : Entries) (rank : ℕ) (v w : List ℕ) (b c : Bool) → slice ≡ held → v ≡ w
@@ -82,8 +81,8 @@ returns-then-cites_not_below-clause-taken c =
     let steps = e.assertion.proof in
     let rank = c.args.rank in
     let ranked = not_so (rank == 0) reason.BadRank (ne_eqb rank 0 c.if-rank-eq0.false) in
-    let not_below = below _ d.entries rank _ steps _ true
-    (slice ∙ held) c.as_slice-2.ensures c.cites_not_below.ensures c.if-cites_not_below.true in
+    let not_below = below _ d.entries rank steps _ true
+    (slice ∙ held) c.cites_not_below.ensures c.if-cites_not_below.true in
     let first = first-none (bad_rank rank) _ ranked ∙ first-some (cited_not_lower lib rank steps) _ reason.CitedNotLower
     (so _ reason.CitedNotLower not_below) in
     rw c.refused-then-cites_not_below.ensures (
@@ -107,7 +106,7 @@ has_citer_below-requires c =
     let within = list-within i.citers.items i.entries.items (label_of e) p stands c.self.invariant.3.long in
     let own = slice_get_read i.citers.items (length i.citers.items) p c.index.result.now refl within c.index.ensures in
     let all = all-listed i.citers.items i.entries.items p e c.index.result.now c.self.invariant.3.covers_now at own in
-    rw (slice, c.as_slice-3.ensures, c.as_slice-citers.ensures.value)
+    rw (slice, c.as_slice-2.ensures, c.as_slice-citers.ensures.value)
     (subst (λ l. HasAllCiters i.entries.items l c.index.result.now.items) (found.1 ∙ c.as_slice.ensures) all)
 
 pub replace-requires-clause-covered : goal.replace-requires-clause-covered
@@ -143,11 +142,11 @@ returns-then-has_citer_below-clause-taken c =
     let steps = e.assertion.proof in
     let rank = c.args.rank in
     let ranked = not_so (rank == 0) reason.BadRank (ne_eqb rank 0 c.if-rank-eq0.false) in
-    let all_below = below _ d.entries rank _ steps _ false
-    (slice ∙ held) c.as_slice-2.ensures c.cites_not_below.ensures c.if-cites_not_below.false in
+    let all_below = below _ d.entries rank steps _ false
+    (slice ∙ held) c.cites_not_below.ensures c.if-cites_not_below.false in
     let not_above =
     above _ d.entries rank _ (label_of e) _ true (slice ∙ held)
-    (c.as_slice-3.ensures ∙ sym own.labelled) c.has_citer_below.ensures c.if-has_citer_below.true in
+    (c.as_slice-2.ensures ∙ sym own.labelled) c.has_citer_below.ensures c.if-has_citer_below.true in
     let first =
     first-none (bad_rank rank) _ ranked ∙ first-none (cited_not_lower lib rank steps) _ (not_so _ reason.CitedNotLower all_below)
     ∙ first-some (citer_not_higher lib rank (label_of e)) _ reason.CiterNotHigher (so _ reason.CiterNotHigher not_above) in
@@ -174,11 +173,11 @@ returns-clause-taken c =
     let steps = e.assertion.proof in
     let rank = c.args.rank in
     let ranked = not_so (rank == 0) reason.BadRank (ne_eqb rank 0 c.if-rank-eq0.false) in
-    let all_below = below _ d.entries rank _ steps _ false
-    (slice ∙ held) c.as_slice-2.ensures c.cites_not_below.ensures c.if-cites_not_below.false in
+    let all_below = below _ d.entries rank steps _ false
+    (slice ∙ held) c.cites_not_below.ensures c.if-cites_not_below.false in
     let all_above =
     above _ d.entries rank _ (label_of e) _ false (slice ∙ held)
-    (c.as_slice-3.ensures ∙ sym own.labelled) c.has_citer_below.ensures c.if-has_citer_below.false in
+    (c.as_slice-2.ensures ∙ sym own.labelled) c.has_citer_below.ensures c.if-has_citer_below.false in
     let first =
     first-none (bad_rank rank) _ ranked ∙ first-none (cited_not_lower lib rank steps) _ (not_so _ reason.CitedNotLower all_below)
     ∙ first-none (citer_not_higher lib rank (label_of e)) _ (not_so _ reason.CiterNotHigher all_above) in

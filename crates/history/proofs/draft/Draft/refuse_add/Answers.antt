@@ -1,5 +1,5 @@
-use Rattle.std.proofs.Common.{rules, ◌≡◌, ◌∷◌, [], List, ℕ, true, false, None, Some, length, refl, sym, ap, ◌∙◌}
-use Rattle.std.specs.Prelude.{◌==◌, nat_le}
+use Rattle.std.proofs.Common.{rules, ◌≡◌, List, ℕ, true, false, length, refl, sym, ap, ◌∙◌}
+use Rattle.std.specs.Prelude.{nat_le}
 use Rattle.std.proofs.lemmas.Bool.{ne_eqb}
 use Rattle.mmsyntax.specs.declared.statement.Kind.{Kind}
 use Rattle.mmsyntax.specs.declared.statement.Kind.TheVariants.{Axiom, Theorem}

@@ -1,7 +1,6 @@
-use Rattle.std.proofs.Common.{◌≡◌, ℕ, refl, Bool, List, Option, None, Some, false, [], ◌∷◌, sym, ap, ◌∙◌}
+use Rattle.std.proofs.Common.{◌≡◌, ℕ, refl, Bool, Option, None, Some, false, [], ◌∷◌, sym, ap, ◌∙◌}
 use Rattle.std.specs.List.{list_any}
 use Rattle.std.specs.Option.{option_map}
-use Rattle.mmsyntax.specs.declared.statement.Step.{Step}
 use Rattle.mmsyntax.specs.declared.statement.Assertion.{Assertion}
 use Rattle.derivation.specs.declared.fault.ProofFault.{ProofFault}
 use Rattle.library.specs.declared.reason.Reason.{Reason}
@@ -15,18 +14,17 @@ use Rattle.history.proofs.Commands.{not_so, first-none}
 use Rattle.history.proofs.draft.Draft.refuse_proof.Goals as goal
 
 -- the steps pass, and what is left is the fault of the proof
-passed : (s : Setting) (slice held : Entries) (rank : ℕ) (steps : List Step) (a : Assertion) (u v : Bool) (o : Option ProofFault)
-    → slice ≡ held → steps ≡ a.proof
-    → u ≡ list_any (is_of_unknown (living slice)) steps → u ≡ false → v ≡ list_any (cites_not_below (living slice) rank) steps → v ≡ false
+passed : (s : Setting) (slice held : Entries) (rank : ℕ) (a : Assertion) (u v : Bool) (o : Option ProofFault) → slice ≡ held
+    → u ≡ list_any (is_of_unknown (living slice)) a.proof → u ≡ false
+    → v ≡ list_any (cites_not_below (living slice) rank) a.proof → v ≡ false
     → option_map reason.ProofFails o ≡ proof_fails s (living slice) rank a
     → option_map reason.ProofFails o ≡ first_reason (proof_tests s (living held) rank a)
-passed s slice held rank steps a u v o same own known no_unknown below no_above fault =
+passed s slice held rank a u v o same known no_unknown below no_above fault =
     let lib = living held in
     let first : list_any (is_of_unknown lib) a.proof ≡ false =
-    sym (known ∙ ap (λ l. list_any (is_of_unknown (living l)) steps) same ∙ ap (list_any (is_of_unknown lib)) own) ∙ no_unknown in
+    sym (known ∙ ap (λ l. list_any (is_of_unknown (living l)) a.proof) same) ∙ no_unknown in
     let second : list_any (cites_not_below lib rank) a.proof ≡ false =
-    sym (below ∙ ap (λ l. list_any (cites_not_below (living l) rank) steps) same ∙ ap (list_any (cites_not_below lib rank)) own)
-    ∙ no_above in
+    sym (below ∙ ap (λ l. list_any (cites_not_below (living l) rank) a.proof) same) ∙ no_above in
     fault ∙ ap (λ l. proof_fails s (living l) rank a) same ∙ only (proof_fails s lib rank a)
     ∙ sym (first-none (cites_unknown lib a.proof) _ (not_so _ reason.CitesUnknown first)
     ∙ first-none (cited_not_lower lib rank a.proof) _ (not_so _ reason.CitedNotLower second))
@@ -44,8 +42,8 @@ returns-in-Some c =
     let fault = c.in_ok-fault.ensures i.slots ∙ ap (λ (x : Drafted). proof_fails x.setting
     (living c.as_slice-entries.result.now) c.args.rank a) c.self.view_is in
     ap (option_map reason.ProofFails) (sym c.in-Some.is)
-    ∙ passed d.setting c.as_slice-entries.result.now d.entries c.args.rank c.as_slice-steps.result.now a _ _ c.in_ok-fault.fault held
-    c.as_slice-steps.ensures c.cites_unknown.ensures c.if-cites_unknown.false c.cites_not_below.ensures c.if-cites_not_below.false fault
+    ∙ passed d.setting c.as_slice-entries.result.now d.entries c.args.rank a _ _ c.in_ok-fault.fault held
+    c.cites_unknown.ensures c.if-cites_unknown.false c.cites_not_below.ensures c.if-cites_not_below.false fault
 
 pub returns-in-None : goal.returns-in-None
 returns-in-None c =
@@ -56,5 +54,5 @@ returns-in-None c =
     let fault = c.in_ok-fault.ensures i.slots ∙ ap (λ (x : Drafted). proof_fails x.setting
     (living c.as_slice-entries.result.now) c.args.rank a) c.self.view_is in
     ap (option_map reason.ProofFails) (sym c.in-None.is)
-    ∙ passed d.setting c.as_slice-entries.result.now d.entries c.args.rank c.as_slice-steps.result.now a _ _ c.in_ok-fault.fault held
-    c.as_slice-steps.ensures c.cites_unknown.ensures c.if-cites_unknown.false c.cites_not_below.ensures c.if-cites_not_below.false fault
+    ∙ passed d.setting c.as_slice-entries.result.now d.entries c.args.rank a _ _ c.in_ok-fault.fault held
+    c.cites_unknown.ensures c.if-cites_unknown.false c.cites_not_below.ensures c.if-cites_not_below.false fault

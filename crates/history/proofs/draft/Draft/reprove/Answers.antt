@@ -1,10 +1,8 @@
-use Rattle.std.proofs.Common.{◌≡◌, Some, Ok, true, set, refl, sym, ap, subst, ◌∙◌}
+use Rattle.std.proofs.Common.{◌≡◌, Some, Ok, set, refl, sym, ap, subst, ◌∙◌}
 use Rattle.library.specs.declared.library.Ranked.{Ranked}
 use Rattle.library.specs.declared.reason.Reason.TheVariants as reason
 use Rattle.library.specs.Edits.{is_axiom, where_so, done, with_proof, reprove_tests}
-use Rattle.library.specs.Library.{label_of}
 use Rattle.catalog.specs.Entries.{Entries, living, StandsIn}
-use Rattle.catalog.specs.Listing.{some_cites}
 use Rattle.history.specs.Drafts.{Drafted, now_in}
 use Rattle.history.specs.Refusals.{first_reason, proof_tests}
 use Rattle.catalog.proofs.Covering.{covers-replaced}
@@ -69,7 +67,7 @@ returns-in-Some-2-clause-taken c =
     let front = first-none (where_so (is_axiom e.assertion.kind) reason.NotATheorem)
     (proof_tests d.setting lib e.rank (with_proof steps e).assertion) theorem in
     let made : c.in_ok-new.new ≡ with_proof steps e =
-    c.in_ok-new.ensures ∙ ap (λ s. with_proof s e) (c.in_ok-proof.ensures ∙ c.as_slice-3.ensures) in
+    c.in_ok-new.ensures ∙ ap (λ s. with_proof s e) c.in_ok-proof.ensures in
     let tested : c.in_ok-reason.field-0 ≡ first_reason (proof_tests d.setting lib e.rank (with_proof steps e).assertion) =
     c.in_ok-reason.ensures ∙ ap (λ (x : Ranked). first_reason (proof_tests d.setting lib x.rank x.assertion)) made in
     rw c.refused-in-Some-2.ensures (
@@ -96,11 +94,11 @@ replace-requires-clause-covered c =
     let cited = c.in_ok-cite.ensures in
     let steps = c.args.steps.now in
     let made : c.in_ok-new.new ≡ with_proof steps e =
-    c.in_ok-new.ensures ∙ ap (λ s. with_proof s e) (c.in_ok-proof.ensures ∙ c.as_slice-3.ensures) in
+    c.in_ok-new.ensures ∙ ap (λ s. with_proof s e) c.in_ok-proof.ensures in
     let at_p : StandsIn next.entries p e = subst (λ es. StandsIn es p e) (sym cited.entries) own.at in
     rw made
     (covers-replaced next.citers next.entries p (with_proof steps e) cited.covered e at_p refl
-    (λ r x at_r here. cited.entered.entered r x at_r (subst (λ ss. some_cites ss (label_of x) ≡ true) (sym c.as_slice-4.ensures) here)))
+    (λ r x at_r here. cited.entered.entered r x at_r here))
 
 pub returns-clause-taken : goal.returns-clause-taken
 returns-clause-taken c =
@@ -122,7 +120,7 @@ returns-clause-taken c =
     let front = first-none (where_so (is_axiom e.assertion.kind) reason.NotATheorem)
     (proof_tests d.setting lib e.rank (with_proof steps e).assertion) theorem in
     let made : c.in_ok-new.new ≡ with_proof steps e =
-    c.in_ok-new.ensures ∙ ap (λ s. with_proof s e) (c.in_ok-proof.ensures ∙ c.as_slice-3.ensures) in
+    c.in_ok-new.ensures ∙ ap (λ s. with_proof s e) c.in_ok-proof.ensures in
     let tested : c.in_ok-reason.field-0 ≡ first_reason (proof_tests d.setting lib e.rank (with_proof steps e).assertion) =
     c.in_ok-reason.ensures ∙ ap (λ (x : Ranked). first_reason (proof_tests d.setting lib x.rank x.assertion)) made in
     let now =

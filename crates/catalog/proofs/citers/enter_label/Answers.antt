@@ -7,14 +7,13 @@ use Rattle.library.specs.Library.{label_of}
 use Rattle.catalog.proofs.Changing.{get-set_same}
 use Rattle.catalog.proofs.Covering.{entered-cited, entered-unknown, keeps-set, list-within}
 use Rattle.catalog.proofs.Living.{has-not-at}
-use Rattle.catalog.proofs.citers.enter_step.Goals as goal
+use Rattle.catalog.proofs.citers.enter_label.Goals as goal
 
-pub returns-in_default-find_label-clause-entered : goal.returns-in_default-find_label-clause-entered
-returns-in_default-find_label-clause-entered c =
-    let w = c.as_slice.result.now in
-    rw (c.in-Cite.is, ← c.as_slice.ensures)
-    (entered-unknown c.args.citers.now c.args.entries.now (Cite w) c.args.place
-    (λ p e at. bytes_eq-sym (label_of e) w ∙ has-not-at c.args.entries.now w p e c.in_default-find_label.ensures at))
+pub returns-in_default-clause-entered : goal.returns-in_default-clause-entered
+returns-in_default-clause-entered c =
+    let w = c.args.label.now in
+    entered-unknown c.args.citers.now c.args.entries.now (Cite w) c.args.place
+    (λ p e at. bytes_eq-sym (label_of e) w ∙ has-not-at c.args.entries.now w p e c.in_default.ensures at)
 
 pub bounds-citers-cited : goal.bounds-citers-cited
 bounds-citers-cited c = list-within c.args.citers.now c.args.entries.now _ c.in-Some.cited c.in-Some.ensures c.requires.long
@@ -43,8 +42,8 @@ returns-clause-entered c =
     let cs = c.args.citers.now in
     let p = c.in-Some.cited in
     let list = c.enter.new.list in
-    let w = c.as_slice.result.now in
+    let w = c.args.label.now in
     let within : p < length cs = list-within cs c.args.entries.now _ p c.in-Some.ensures c.requires.long in
-    rw (c.in-Cite.is, ← c.as_slice.ensures) (on_ok_weaker c.enter.result (λ member.
+    on_ok_weaker c.enter.result (λ member.
     entered-cited (set cs p list) c.args.places.now c.args.entries.now w p c.args.place c.requires.indexed c.in-Some.ensures
-    (record { list = list; at = get-set_same cs p list within; member = member })) c.enter.ensures.entered)
+    (record { list = list; at = get-set_same cs p list within; member = member })) c.enter.ensures.entered
