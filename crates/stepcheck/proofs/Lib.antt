@@ -1,3 +1,4 @@
 pub mod Apart
+pub mod LookedUp
 pub mod Replaced
 pub mod Spans

@@ -2,8 +2,10 @@
 //!
 //! The steps are taken in order over a stack of what their trees derive. No definition knows the stack: contracts speak of trees.
 
-ghost use Rattle.std.specs.Prelude.{◌≡◌, ◌≢◌, ◌↔◌, [], ◌∷◌, IsTrue, IfOk, OnOk, IfErr, MatchResult};
-ghost use Rattle.derivation.specs.Derivation.{Proves, Checks};
+ghost use Rattle.std.specs.Prelude.{◌≡◌, ◌≢◌, ◌↔◌, List, ℕ, [], ◌∷◌, length, map, IsTrue, IfOk, OnOk, IfErr, MatchResult};
+ghost use Rattle.std.specs.Option.{option_copied};
+ghost use Rattle.mmsyntax.specs.ProofWords.{IsWithin, step_in};
+ghost use Rattle.derivation.specs.Derivation.{Citable, Proves, Checks};
 ghost use Rattle.derivation.specs.Faults.{StepFails, EndFails, HasFault, HasProofFault};
 ghost use Rattle.derivation.specs.Moves.{Moves, GivesOnLast, FailsOnLast};
 
@@ -13,8 +15,8 @@ use crate::stack::Stack;
 use crate::substitutes::Conclusion;
 use crate::thesis::Thesis;
 use derivation::{ProofFault, ProofFaultKind};
-use mmsyntax::{Assertion, Expr, Frame, Kind, Prelude, Step, Symbol};
-use std::alloc::Global;
+use mmsyntax::{Assertion, Expr, Frame, Kind, Label, Prelude, Symbol, WordStep};
+use std::alloc::{AllocError, Global};
 
 /// Puts what a citation of the frame gives in the place of the last expressions, which it takes.
 fn cite<'a>(
@@ -43,36 +45,54 @@ fn cite<'a>(
     Ok(())
 }
 
-/// Takes one step. What a citation makes is put together in `made`.
-fn take_step<'a, F: Frames>(
+/// The frame of each label, if it may be cited, in their order.
+fn frames_of<'a, F: Frames>(
+    alloc: Global,
+    frames: &'a F,
+    labels: &[Label],
+) -> Result<Vec<Option<&'a Frame>>, AllocError>
+    ensures { IfOk result (λ found. map option_copied found.items ≡ map (F.frames frames.now) labels.now) }
+{
+    let mut found = Vec::with_capacity(alloc, labels.len())?;
+    for label in labels {
+        found.push(frames.frame(label))?;
+    }
+    Ok(found)
+}
+
+/// Takes one step, whose label is one of those with these frames. What a citation makes is put together in `made`.
+fn take_step<'a>(
     alloc: Global,
     prelude: &Prelude,
-    frames: &'a F,
+    frames: &[Option<&'a Frame>],
     thesis: &Thesis<'a>,
     stack: &mut Stack<'a>,
     made: &mut Vec<Symbol>,
-    step: &Step,
+    step: WordStep,
 ) -> Result<(), ProofFaultKind>
-    ensures ok { OnOk result (Moves (F.frames frames.now) prelude.now thesis.now stack.old step.now stack.new) }
+    requires { IsWithin (length frames.now) step }
+    ensures ok { OnOk result ((lib : Citable) (labels : List (List ℕ)) → map option_copied frames.now ≡ map lib labels →
+        Moves lib prelude.now thesis.now stack.old (step_in labels step) stack.new) }
     ensures err { IfErr result (λ kind. kind ≢ ProofFaultKind.NoMemory →
-        StepFails (F.frames frames.now) prelude.now thesis.now stack.old step.now kind) }
+        (lib : Citable) (labels : List (List ℕ)) → map option_copied frames.now ≡ map lib labels →
+        StepFails lib prelude.now thesis.now stack.old (step_in labels step) kind) }
 {
     match step {
-        Step::Float(i) => match prelude.floats().get(*i as usize) {
+        WordStep::Float(i) => match prelude.floats().get(i as usize) {
             None => Err(ProofFaultKind::UnknownStep),
             Some(float) => {
-                stack.push_two(Symbol::Const(float.type_code), Symbol::Var(*i))?;
+                stack.push_two(Symbol::Const(float.type_code), Symbol::Var(i))?;
                 Ok(())
             }
         },
-        Step::Hyp(k) => match thesis.assertion().hyps.as_slice().get(*k as usize) {
+        WordStep::Hyp(k) => match thesis.assertion().hyps.as_slice().get(k as usize) {
             None => Err(ProofFaultKind::UnknownStep),
             Some(hyp) => {
                 stack.lend(hyp.as_slice())?;
                 Ok(())
             }
         },
-        Step::Cite(label) => match frames.frame(label) {
+        WordStep::Cite(n) => match frames[n as usize] {
             None => Err(ProofFaultKind::UnknownStep),
             Some(frame) => cite(alloc, prelude, thesis, frame, stack, made),
         },
@@ -102,11 +122,11 @@ fn check_end(statement: &Expr, left: &Stack) -> Result<(), ProofFaultKind>
 }
 
 /// Whether the steps are the listing of a tree that derives the statement, and if not, their fault.
-fn check_steps<F: Frames>(
+fn check_steps<'a, F: Frames>(
     alloc: Global,
     prelude: &Prelude,
-    frames: &F,
-    assertion: &Assertion,
+    frames: &'a F,
+    assertion: &'a Assertion,
 ) -> Result<(), ProofFault>
     ensures yes { OnOk result (Proves (F.frames frames.now) prelude.now assertion.now assertion.now.proof assertion.now.statement) }
     ensures fault { IfErr result (λ fault. fault.kind ≢ ProofFaultKind.NoMemory →
@@ -115,9 +135,18 @@ fn check_steps<F: Frames>(
     let thesis = Thesis::new(assertion);
     let mut stack = Stack::new(alloc);
     let mut made = Vec::new(alloc);
-    let steps = assertion.proof.as_slice();
-    for (done, step) in steps.iter().enumerate() {
-        match take_step(alloc, prelude, frames, &thesis, &mut stack, &mut made, step) {
+    let steps = assertion.proof.word_steps();
+    let count = steps.words.len();
+    let Ok(found) = frames_of(alloc, frames, steps.cited) else {
+        return Err(ProofFault {
+            step: 0,
+            kind: ProofFaultKind::NoMemory,
+        });
+    };
+    let cited = found.as_slice();
+    for done in 0..count {
+        let step = steps.step(done);
+        match take_step(alloc, prelude, cited, &thesis, &mut stack, &mut made, step) {
             Ok(()) => {}
             Err(kind) => return Err(ProofFault {
                 step: done + 1,
@@ -127,10 +156,7 @@ fn check_steps<F: Frames>(
     }
     match check_end(&assertion.statement, &stack) {
         Ok(()) => Ok(()),
-        Err(kind) => Err(ProofFault {
-            step: steps.len(),
-            kind,
-        }),
+        Err(kind) => Err(ProofFault { step: count, kind }),
     }
 }
 
@@ -144,8 +170,8 @@ fn check_steps<F: Frames>(
 /// found by halving among those of the assertion, or at once where it stands close behind the one before, and the expression of a variable
 /// among the `$f` of a frame, by halving where they are many. Pairs or `$f` that don't ascend are gone through instead: no assertion that
 /// fits a prelude and no frame of `frame_of` has such. A step that names a `$e`, or an assertion without mandatory variables, copies
-/// nothing. Each other citation writes its expression down twice, the second time behind those that are left. No step allocates, but
-/// where the room for all of them grows.
+/// nothing. Each other citation writes its expression down twice, the second time behind those that are left. Each label of the proof is
+/// looked up once, before the first step. No step allocates, but where the room for all of them grows.
 pub fn check<F: Frames>(
     alloc: Global,
     prelude: &Prelude,

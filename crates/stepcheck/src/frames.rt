@@ -10,7 +10,7 @@ use mmsyntax::{Frame, Label};
 pub trait Frames {
     ghost frames: { Self → List ℕ → Option Frame };
 
-    /// The frame of the assertion with this label, if it may be cited. A proof asks once a citation.
+    /// The frame of the assertion with this label, if it may be cited. A proof asks once for each label that it lists.
     fn frame(&self, label: &Label) -> Option<&Frame>
         ensures { option_copied result ≡ frames self.now label.now };
 }

@@ -1,6 +1,8 @@
-use Rattle.std.proofs.Common.{◌≡◌, ◌+◌, length, take, [], ◌∷◌, ◌++◌, refl, sym, ap, ◌∙◌}
-use Rattle.std.proofs.lemmas.List.{take_more, take_all}
+use Rattle.std.proofs.Common.{◌≡◌, ◌+◌, length, map, take, get_or, [], ◌∷◌, ◌++◌, refl, sym, ap, ◌∙◌}
+use Rattle.std.specs.Option.{option_copied}
+use Rattle.std.proofs.lemmas.List.{take_more, take_all, length-map}
 use Rattle.std.proofs.lemmas.Option.{slice_get_read}
+use Rattle.mmsyntax.specs.ProofWords.{step_of, step_in}
 use Rattle.derivation.proofs.Forests.{Runs-more}
 use Rattle.derivation.proofs.Stuck.{step-fault, end-fault, proved}
 use Rattle.stepcheck.proofs.checking.check_steps.Goals as goal
@@ -8,35 +10,52 @@ use Rattle.stepcheck.proofs.checking.check_steps.Goals as goal
 pub returns-in-Err-clause-fault : goal.returns-in-Err-clause-fault
 returns-in-Err-clause-fault g c = λ n.
     let lib = g.F.Frames.frames c.args.frames.now in
-    let steps = c.as_slice-steps.ensures in
-    let at = slice_get_read c.as_slice-steps.result.now _ c.loop-done.done c.index-steps-done.result refl c.loop-done-test.true
-    c.index-steps-done.is in
-    step-fault lib c.args.prelude.now c.args.assertion.now c.loop-done.done c.loop-done.stack c.index-steps-done.result
+    let labels = c.word_steps-steps.result.cited.now in
+    let words = c.word_steps-steps.result.words.now in
+    let xs = c.args.assertion.now.proof in
+    let step = step_in labels c.step-step.result in
+    let long : length words ≡ length xs = sym (length-map words (step_of labels)) ∙ ap length c.word_steps-steps.ensures in
+    let here : step ≡ get_or xs c.loop-done.done step = rw c.word_steps-steps.ensures at c.step-step.ensures.step in
+    let at = slice_get_read xs _ c.loop-done.done step long c.loop-done-test.true here in
+    let same = ap (map option_copied) c.as_slice-cited.ensures.value ∙ c.in-Ok.ensures in
+    step-fault lib c.args.prelude.now c.args.assertion.now c.loop-done.done c.loop-done.stack step
     (record { step = c.loop-done.done + 1; kind = c.in-Err.kind })
-    (rw steps at c.loop-done.invariant) (rw steps at at) refl (rw c.new-thesis.ensures at (c.in-Err.ensures.err n))
+    c.loop-done.invariant at refl (rw c.new-thesis.ensures at (c.in-Err.ensures.err n lib labels same))
 
 pub loop-done-preserved : goal.loop-done-preserved
 loop-done-preserved g c =
     let lib = g.F.Frames.frames c.args.frames.now in
-    let xs = c.as_slice-steps.result.now in
-    let more = take_more xs c.loop-done.done c.index-steps-done.result c.loop-done-test.true in
-    let front : take (c.loop-done.done + 1) xs ≡ take c.loop-done.done xs ++ c.index-steps-done.result ∷ [] =
-    more ∙ ap (λ x. take c.loop-done.done xs ++ x ∷ []) (sym c.index-steps-done.is) in
-    rw front (Runs-more lib c.args.prelude.now c.args.assertion.now _ (c.index-steps-done.result ∷ []) [] c.loop-done.stack
-    c.take_step.new.stack
-    c.loop-done.invariant (c.take_step.new.stack, rw c.new-thesis.ensures at c.in-Ok.ensures.ok, refl))
+    let labels = c.word_steps-steps.result.cited.now in
+    let words = c.word_steps-steps.result.words.now in
+    let xs = c.args.assertion.now.proof in
+    let step = step_in labels c.step-step.result in
+    let long : length words ≡ length xs = sym (length-map words (step_of labels)) ∙ ap length c.word_steps-steps.ensures in
+    let here : step ≡ get_or xs c.loop-done.done step = rw c.word_steps-steps.ensures at c.step-step.ensures.step in
+    let same = ap (map option_copied) c.as_slice-cited.ensures.value ∙ c.in-Ok.ensures in
+    let lt = rw long at c.loop-done-test.true in
+    let front : take (c.loop-done.done + 1) xs ≡ take c.loop-done.done xs ++ step ∷ [] =
+    take_more xs c.loop-done.done step lt ∙ ap (λ x. take c.loop-done.done xs ++ x ∷ []) (sym here) in
+    rw front (Runs-more lib c.args.prelude.now c.args.assertion.now _ (step ∷ []) [] c.loop-done.stack c.take_step.new.stack
+    c.loop-done.invariant (c.take_step.new.stack, rw c.new-thesis.ensures at (c.in-Ok-take_step.ensures.ok lib labels same), refl))
 
 pub returns-in-Ok-check_end-clause-yes : goal.returns-in-Ok-check_end-clause-yes
 returns-in-Ok-check_end-clause-yes g c =
-    let whole = take_all c.loop-done.done c.as_slice-steps.result.now c.loop-done-test.false in
+    let labels = c.word_steps-steps.result.cited.now in
+    let words = c.word_steps-steps.result.words.now in
+    let xs = c.args.assertion.now.proof in
+    let long : length words ≡ length xs = sym (length-map words (step_of labels)) ∙ ap length c.word_steps-steps.ensures in
+    let whole = take_all c.loop-done.done xs (rw long at c.loop-done-test.false) in
     let left = c.in-Ok-check_end.ensures.yes in
     proved (g.F.Frames.frames c.args.frames.now) c.args.prelude.now c.args.assertion.now c.args.assertion.now.statement
-    (rw (whole, c.as_slice-steps.ensures, left) at c.loop-done.invariant)
+    (rw (whole, left) at c.loop-done.invariant)
 
 pub returns-clause-fault : goal.returns-clause-fault
 returns-clause-fault g c = λ n.
-    let whole = take_all c.loop-done.done c.as_slice-steps.result.now c.loop-done-test.false in
+    let labels = c.word_steps-steps.result.cited.now in
+    let words = c.word_steps-steps.result.words.now in
+    let xs = c.args.assertion.now.proof in
+    let long : length words ≡ length xs = sym (length-map words (step_of labels)) ∙ ap length c.word_steps-steps.ensures in
+    let whole = take_all c.loop-done.done xs (rw long at c.loop-done-test.false) in
     end-fault (g.F.Frames.frames c.args.frames.now) c.args.prelude.now c.args.assertion.now c.loop-done.stack
-    (record { step = length c.as_slice-steps.result.now; kind = c.in-Err-check_end.kind })
-    (rw (whole, c.as_slice-steps.ensures) at c.loop-done.invariant) (ap length c.as_slice-steps.ensures)
-    c.in-Err-check_end.ensures.fault
+    (record { step = length words; kind = c.in-Err-check_end.kind })
+    (rw whole at c.loop-done.invariant) long c.in-Err-check_end.ensures.fault

@@ -1,0 +1,24 @@
+use Rattle.std.proofs.Common.{None, Some}
+use Rattle.std.proofs.lemmas.Result.{on_ok_weaker, IfErr-weaker}
+use Rattle.stepcheck.proofs.LookedUp.{looked_up, cite_fails}
+use Rattle.stepcheck.proofs.checking.take_step.Goals as goal
+
+pub returns-in-None-frames-clause-err : goal.returns-in-None-frames-clause-err
+returns-in-None-frames-clause-err c = λ _ lib labels same.
+    let within = rw c.in-Cite.is at c.requires in
+    rw c.in-Cite.is (looked_up lib labels c.args.frames.now c.in-Cite.n _ None same within c.in-None-frames.is)
+
+pub returns-in-Some-frames-clause-ok : goal.returns-in-Some-frames-clause-ok
+returns-in-Some-frames-clause-ok c =
+    let within = rw c.in-Cite.is at c.requires in
+    on_ok_weaker c.cite.result (λ gives lib labels same.
+    let is = looked_up lib labels c.args.frames.now c.in-Cite.n _ (Some c.in-Some-frames.frame) same within c.in-Some-frames.is in
+    rw c.in-Cite.is (c.in-Some-frames.frame.now, is, gives)) c.cite.ensures.ok
+
+pub returns-in-Some-frames-clause-err : goal.returns-in-Some-frames-clause-err
+returns-in-Some-frames-clause-err c =
+    let within = rw c.in-Cite.is at c.requires in
+    IfErr-weaker c.cite.result _ _ (λ kind fails n lib labels same.
+    let is = looked_up lib labels c.args.frames.now c.in-Cite.n _ (Some c.in-Some-frames.frame) same within c.in-Some-frames.is in
+    rw c.in-Cite.is (cite_fails lib c.args.prelude.now c.args.thesis.now c.args.stack.now _ c.in-Some-frames.frame.now kind is (fails n)))
+    c.cite.ensures.err
