@@ -2,7 +2,7 @@
 
 ghost use Rattle.std.specs.Prelude.{◌≡◌};
 
-use mmsyntax::{Assertion, Expr, Kind, Label, Sequence, Step};
+use mmsyntax::{Assertion, Expr, Kind, Label, Proof, Sequence};
 
 /// All of an assertion but its label and its proof: what one statement body stands for.
 #[derive(Debug, Drop)]
@@ -18,7 +18,7 @@ pub struct Statement {
 
 impl Statement {
     /// The assertion with this statement, a label and a proof. It takes no memory.
-    pub fn into_assertion(self, label: Label, proof: Sequence<Step>) -> Assertion
+    pub fn into_assertion(self, label: Label, proof: Proof) -> Assertion
         ensures { result
             ≡ record { label = label; kind = self.kind; pairs = self.pairs; hyps = self.hyps; statement = self.statement; proof = proof } }
     {

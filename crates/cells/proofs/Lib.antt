@@ -25,5 +25,6 @@ pub mod Counted
 pub mod Reproving
 pub mod Small
 pub mod ReadBack
+pub mod NamedWords
 pub mod Resolving
 pub mod AskingSteps

@@ -6,6 +6,7 @@ use Rattle.std.specs.List.{All, AllZip, Contains}
 use Rattle.std.proofs.lemmas.Bool.Decides.{nat_tests}
 use Rattle.std.proofs.lemmas.List.Elements.{All-nil, All-cons, All-head, All-tail, All-weaker, All-contains}
 use Rattle.std.proofs.lemmas.List.Sums.{AllPass-from_list_all}
+use Rattle.std.proofs.lemmas.Slice.Zip.{AllZip-long}
 use Rattle.mmtext.specs.Words.{is_label_byte, is_label}
 use Rattle.mmsyntax.specs.declared.statement.Step.{Step}
 use Rattle.mmsyntax.specs.declared.statement.Step.TheVariants.{Float, Hyp, Cite}
@@ -23,6 +24,7 @@ use Rattle.bodystore.proofs.Small.{fitting_small}
 use Rattle.cells.specs.State.{State}
 use Rattle.cells.specs.Shows.{IsNamed, IsStoredAs}
 use Rattle.cells.specs.Lookups.{IsShortLabelled}
+use Rattle.cells.specs.Words.{HasSmallPlace}
 
 -- ---- labels
 
@@ -77,14 +79,27 @@ module _ (t : Tables) (sound : AreSound t) where
   small_step slots hyps st (Cite w) (stored.Hyp j) few short h is = absurd is
   small_step slots hyps st (Cite w) (stored.Slot j) few short h is = let lt = is.within in omega (arith, lt, few)
 
-  small_steps : (slots hyps : ℕ) (st : State) (xs : List Step) (ys : List StoredStep) → slots ≤ 4096 → hyps ≤ 1000
-      → All (IsNameable t hyps) xs → AllZip (IsStoredAs (IsNamed slots st)) xs ys → All IsSmallStep ys
-  small_steps slots hyps st [] [] few short h z = All-nil IsSmallStep
-  small_steps slots hyps st [] (y ∷ ys) few short h z = absurd z
-  small_steps slots hyps st (x ∷ xs) [] few short h z = absurd z
-  small_steps slots hyps st (x ∷ xs) (y ∷ ys) few short h z =
-      All-cons IsSmallStep y ys (small_step slots hyps st x y few short (All-head (IsNameable t hyps) x xs h) z.0)
-      (small_steps slots hyps st xs ys few short (All-tail (IsNameable t hyps) x xs h) z.1)
+  -- words can stand for it
+  small_place : (slots hyps : ℕ) (st : State) (x : Step) (y : StoredStep) → hyps ≤ 1000 → IsNameable t hyps x → IsStoredAs (IsNamed slots st) x y
+      → HasSmallPlace y
+  small_place slots hyps st (Float i) (stored.Float j) short h is = let fit = sound.floats_fit in omega (arith, h, is, fit)
+  small_place slots hyps st (Float i) (stored.Hyp j) short h is = absurd is
+  small_place slots hyps st (Float i) (stored.Slot j) short h is = absurd is
+  small_place slots hyps st (Hyp k) (stored.Float j) short h is = absurd is
+  small_place slots hyps st (Hyp k) (stored.Hyp j) short h is = omega (arith, h, is, short)
+  small_place slots hyps st (Hyp k) (stored.Slot j) short h is = absurd is
+  small_place slots hyps st (Cite w) (stored.Float j) short h is = absurd is
+  small_place slots hyps st (Cite w) (stored.Hyp j) short h is = absurd is
+  small_place slots hyps st (Cite w) (stored.Slot j) short h is = tt
+
+-- what holds of a step that is stored, where a text can name it, holds of all
+each_stored : (Named : Step → Type 0) (R : Step → StoredStep → Type 0) (P : StoredStep → Type 0)
+    → ((x : Step) (y : StoredStep) → Named x → R x y → P y) → (xs : List Step) (ys : List StoredStep) → All Named xs → AllZip R xs ys → All P ys
+each_stored Named R P one [] [] h z = All-nil P
+each_stored Named R P one [] (y ∷ ys) h z = absurd z
+each_stored Named R P one (x ∷ xs) [] h z = absurd z
+each_stored Named R P one (x ∷ xs) (y ∷ ys) h z =
+    All-cons P y ys (one x y (All-head Named x xs h) z.0) (each_stored Named R P one xs ys (All-tail Named x xs h) z.1)
 
 -- ---- an assertion of a library that verifies
 
@@ -104,8 +119,20 @@ module _ (s : Setting) (lib : List Ranked) (v : Verifies s lib) (e : Ranked) (at
 
   pub steps_small : (st : State) (kept : List StoredStep) → AllZip (IsStoredAs (IsNamed s.slots st)) e.assertion.proof kept → All IsSmallStep kept
   steps_small st kept z =
-      small_steps s.prelude ((sound_where_apart s.prelude).0 v.setting.sound) s.slots (length e.assertion.hyps) st e.assertion.proof kept
-      v.setting.few unit_of.fits.few_hyps unit_of.steps z
+      each_stored (IsNameable s.prelude (length e.assertion.hyps)) (IsStoredAs (IsNamed s.slots st)) IsSmallStep
+      (λ x y named is. small_step s.prelude ((sound_where_apart s.prelude).0 v.setting.sound) s.slots (length e.assertion.hyps) st x y
+      v.setting.few unit_of.fits.few_hyps named is) e.assertion.proof kept unit_of.steps z
+
+  pub places_small : (st : State) (kept : List StoredStep) → AllZip (IsStoredAs (IsNamed s.slots st)) e.assertion.proof kept
+      → (length kept ≤ 2 ^ 30) × All HasSmallPlace kept
+  places_small st kept z =
+      let long = AllZip-long (IsStoredAs (IsNamed s.slots st)) e.assertion.proof kept z in
+      let few = unit_of.fits.few_steps in (
+        omega (arith, long, few),
+        each_stored (IsNameable s.prelude (length e.assertion.hyps)) (IsStoredAs (IsNamed s.slots st)) HasSmallPlace
+        (λ x y named is. small_place s.prelude ((sound_where_apart s.prelude).0 v.setting.sound) s.slots (length e.assertion.hyps) st x y
+        unit_of.fits.few_hyps named is) e.assertion.proof kept unit_of.steps z,
+      )
 
   pub rank_small : e.rank < 2 ^ 32
   rank_small =

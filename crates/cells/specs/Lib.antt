@@ -5,6 +5,7 @@ pub mod Sight
 pub mod Aside
 pub mod Footprints
 pub mod Lookups
+pub mod Words
 pub mod Clashing
 pub mod Counts
 pub mod Answers

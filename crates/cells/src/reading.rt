@@ -1,15 +1,19 @@
 //! Reads an assertion back from its slot.
 
-ghost use Rattle.std.specs.Prelude.{◌≡◌, ◌<◌, ◌⊎◌, IfOk, Some, true, length, take};
+ghost use Rattle.std.specs.Prelude.{◌≡◌, ◌<◌, ◌≤◌, ◌+◌, ◌^◌, ◌⊎◌, ◌↔◌, IfOk, IsTrue, Some, All, true, length, take};
+ghost use Rattle.mmsyntax.specs.declared.statement.Step.TheVariants.{Cite};
+ghost use Rattle.mmsyntax.specs.ProofWords.{IsWord, AreWords, step_of, steps_of, seen_step};
 ghost use Rattle.mmframes.specs.Frames.{frame};
 ghost use Rattle.library.specs.Library.{label_of};
 ghost use Rattle.library.specs.Edits.{citers};
+ghost use Rattle.bodystore.specs.declared.stored.StoredStep.TheVariants.{Slot};
 ghost use Rattle.bodystore.specs.Bodies.{kind_word, statement_of};
 ghost use Rattle.std.specs.Option.{option_map};
 ghost use Rattle.cells.specs.Sight.{Looks, ReadsWithin};
 ghost use Rattle.cells.specs.Slots.{name_cell, statement_cell, proof_cell, rank_cell, citers_cell};
 ghost use Rattle.cells.specs.Footprints.{ReadsWhere, IsOfProof, IsOfAssertion, IsOfStep, IsOfResolving, IsNameCited};
 ghost use Rattle.cells.specs.Lookups.{ForEachHeld, TellsLabelOf, IsNameAt, AreStepsAt, IsStepOf, AreStepsOf, StoresStep, Resolves};
+ghost use Rattle.cells.specs.Words.{HasSmallPlace};
 
 use crate::again::{Hints, number_of};
 use crate::cells::Cells;
@@ -20,7 +24,7 @@ use crate::words::{first_word, words_of};
 use bodystore::{Statement, StoredStep, decode_label, decode_proof, decode_statement};
 use library::Ranked;
 use mmframes::frame_of;
-use mmsyntax::{Assertion, Frame, Kind, Label, Prelude, Sequence, Step};
+use mmsyntax::{Assertion, Frame, Kind, Label, PLACES, Prelude, Proof, StepRef};
 use std::alloc::Global;
 
 /// How many assertions cite the one in the slot.
@@ -150,22 +154,44 @@ pub fn proof<C: Cells>(
     alloc: Global,
     cells: &mut C,
     slot: usize,
-) -> Result<Sequence<Step>, Halt<C::Stop>>
+) -> Result<Proof, Halt<C::Stop>>
     requires { slot < (C.sight cells.old).setting.slots }
     ensures looks { Looks (C.sight cells.old) (C.sight cells.new) }
     ensures ok { IfOk result (λ made. ForEachHeld (C.sight cells.new) slot (λ st lib e. made ≡ e.assertion.proof)) }
     ensures reads { ForEachHeld (C.sight cells.new) slot (λ st lib e. ReadsWithin (IsOfProof (C.sight cells.old).setting.slots slot e.assertion.proof st) (C.sight cells.old) (C.sight cells.new)) }
 {
     let kept = stored_proof(alloc, cells, slot)?;
+    if !are_small(&kept) {
+        // no assertion of a library has these
+        return Ok(Proof::new(alloc));
+    }
     let slots = slot_count(cells);
-    let mut steps = Vec::with_capacity(alloc, kept.len())?;
+    let mut cited = Vec::new(alloc);
+    let mut words = Vec::with_capacity(alloc, kept.len())?;
     let mut hints = Hints::new();
     for (i, step) in kept.iter().enumerate() {
         let hint = hints.exchange(number_of_stored(*step), i);
-        let made = named_again(alloc, cells, slots, &kept, &steps, hint, *step)?;
-        steps.push(made)?;
+        let word = word_again(alloc, cells, slots, &kept, &mut cited, &words, hint, *step)?;
+        words.push(word)?;
     }
-    Ok(Sequence::from_vec(steps))
+    Ok(Proof::from_words(cited, words))
+}
+
+/// Whether words can stand for a step in the store, up to the slot that it cites.
+fn is_small(step: StoredStep) -> bool
+    ensures { IsTrue result ↔ HasSmallPlace step }
+{
+    match step {
+        StoredStep::Float(place) | StoredStep::Hyp(place) => place < PLACES,
+        StoredStep::Slot(_) => true,
+    }
+}
+
+/// Whether words can stand for steps in the store: they name small places, and the steps aren't too many for each to cite another label.
+fn are_small(steps: &[StoredStep]) -> bool
+    ensures { IsTrue result ↔ ((length steps.now ≤ 2 ^ 30) × All HasSmallPlace steps.now) }
+{
+    steps.len() <= PLACES as usize && steps.iter().all(|step| is_small(*step))
 }
 
 /// A number for a step in the store.
@@ -177,48 +203,82 @@ fn number_of_stored(step: StoredStep) -> usize {
     }
 }
 
-/// The step with the label of the slot that it cites: that of the step at a place, if it is stored as the same, so that the label of an
+/// The word of a step in the store over labels: that of the step at a place, if it is stored as the same, so that the label of an
 /// assertion that a proof cites again and again is read once.
-fn named_again<C: Cells>(
+fn word_again<C: Cells>(
     alloc: Global,
     cells: &mut C,
     slots: usize,
     kept: &[StoredStep],
-    steps: &[Step],
+    cited: &mut Vec<Label>,
+    words: &[u32],
     hint: usize,
     step: StoredStep,
-) -> Result<Step, Halt<C::Stop>>
+) -> Result<u32, Halt<C::Stop>>
     requires slots { slots ≡ (C.sight cells.old).setting.slots }
-    requires steps { AreStepsOf slots (C.sight cells.old) kept.now steps.now }
+    requires words { AreWords cited.old.items words.now }
+    requires steps { AreStepsOf slots (C.sight cells.old) kept.now (steps_of cited.old.items words.now) }
+    requires few { length cited.old.items < 2 ^ 30 }
+    requires small { HasSmallPlace step }
     ensures looks { Looks (C.sight cells.old) (C.sight cells.new) }
-    ensures ok { IfOk result (λ made. IsStepOf slots (C.sight cells.new) step made) }
+    ensures kept { take (length cited.old.items) cited.new.items ≡ cited.old.items }
+    ensures few { length cited.new.items ≤ length cited.old.items + 1 }
+    ensures word { IfOk result (λ w. IsWord (length cited.new.items) w) }
+    ensures ok { IfOk result (λ w. IsStepOf slots (C.sight cells.new) step (step_of cited.new.items w)) }
     ensures reads { ReadsWithin (IsNameCited step) (C.sight cells.old) (C.sight cells.new) }
 {
-    if hint < steps.len() && hint < kept.len() && kept[hint] == step {
-        return Ok(steps[hint].copy(alloc)?);
+    if hint < words.len() && hint < kept.len() && kept[hint] == step {
+        return Ok(words[hint]);
     }
-    named_step(alloc, cells, slots, step)
+    word_of(alloc, cells, slots, cited, step)
 }
 
-/// The step with the label of the slot that it cites.
-fn named_step<C: Cells>(
+/// The word of a step in the store over labels, behind which that of the slot is put which it cites.
+fn word_of<C: Cells>(
     alloc: Global,
     cells: &mut C,
     slots: usize,
+    cited: &mut Vec<Label>,
     step: StoredStep,
-) -> Result<Step, Halt<C::Stop>>
-    requires { slots ≡ (C.sight cells.old).setting.slots }
+) -> Result<u32, Halt<C::Stop>>
+    requires slots { slots ≡ (C.sight cells.old).setting.slots }
+    requires few { length cited.old.items < 2 ^ 30 }
+    requires small { HasSmallPlace step }
     ensures looks { Looks (C.sight cells.old) (C.sight cells.new) }
-    ensures ok { IfOk result (λ made. IsStepOf slots (C.sight cells.new) step made) }
+    ensures kept { take (length cited.old.items) cited.new.items ≡ cited.old.items }
+    ensures few { length cited.new.items ≤ length cited.old.items + 1 }
+    ensures word { IfOk result (λ w. IsWord (length cited.new.items) w) }
+    ensures ok { IfOk result (λ w. IsStepOf slots (C.sight cells.new) step (step_of cited.new.items w)) }
     ensures reads { ReadsWithin (IsNameCited step) (C.sight cells.old) (C.sight cells.new) }
 {
     match step {
-        StoredStep::Float(place) => Ok(Step::Float(place)),
-        StoredStep::Hyp(place) => Ok(Step::Hyp(place)),
-        StoredStep::Slot(slot) if (slot as usize) < slots => {
-            Ok(Step::Cite(name_of(alloc, cells, slot as usize)?))
+        StoredStep::Float(place) => Ok(3 * place),
+        StoredStep::Hyp(place) => Ok(3 * place + 1),
+        StoredStep::Slot(slot) => {
+            let label = cited_label(alloc, cells, slots, slot)?;
+            let place = cited.len() as u32;
+            cited.push(label)?;
+            Ok(3 * place + 2)
         }
-        StoredStep::Slot(_) => Ok(Step::Cite(Label::new(alloc))),
+    }
+}
+
+/// The label of a slot that a step cites.
+fn cited_label<C: Cells>(
+    alloc: Global,
+    cells: &mut C,
+    slots: usize,
+    slot: u32,
+) -> Result<Label, Halt<C::Stop>>
+    requires { slots ≡ (C.sight cells.old).setting.slots }
+    ensures looks { Looks (C.sight cells.old) (C.sight cells.new) }
+    ensures ok { IfOk result (λ made. IsStepOf slots (C.sight cells.new) (Slot slot) (Cite made)) }
+    ensures reads { ReadsWithin (IsNameCited (Slot slot)) (C.sight cells.old) (C.sight cells.new) }
+{
+    if (slot as usize) < slots {
+        name_of(alloc, cells, slot as usize)
+    } else {
+        Ok(Label::new(alloc))
     }
 }
 
@@ -271,7 +331,7 @@ pub fn frame<C: Cells>(
     ensures reads { ReadsWithin (λ c. c ≡ statement_cell slot) (C.sight cells.old) (C.sight cells.new) }
 {
     let statement = statement(alloc, cells, slot)?;
-    let bare = statement.into_assertion(Label::new(alloc), Sequence::from_vec(Vec::new(alloc)));
+    let bare = statement.into_assertion(Label::new(alloc), Proof::new(alloc));
     Ok(frame_of(alloc, prelude, &bare)?)
 }
 
@@ -279,7 +339,7 @@ pub fn frame<C: Cells>(
 pub fn resolve<C: Cells>(
     alloc: Global,
     cells: &mut C,
-    steps: &[Step],
+    steps: &Proof,
 ) -> Result<Option<Vec<StoredStep>>, Halt<C::Stop>>
     ensures looks { Looks (C.sight cells.old) (C.sight cells.new) }
     ensures ok { IfOk result (λ kept. Resolves (C.sight cells.new) steps.now (option_map (λ v. v.items) kept)) }
@@ -287,7 +347,8 @@ pub fn resolve<C: Cells>(
 {
     let mut kept = Vec::with_capacity(alloc, steps.len())?;
     let mut hints = Hints::new();
-    for (i, step) in steps.iter().enumerate() {
+    for i in 0..steps.len() {
+        let step = steps.step(i);
         let hint = hints.exchange(number_of_step(step), i);
         let Some(stored) = stored_again(cells, steps, &kept, hint, step).map_err(Halt::Stopped)?
         else {
@@ -299,20 +360,20 @@ pub fn resolve<C: Cells>(
 }
 
 /// A number for a step.
-fn number_of_step(step: &Step) -> usize {
+fn number_of_step(step: StepRef<'_>) -> usize {
     match step {
-        Step::Float(place) => *place as usize,
-        Step::Hyp(place) => *place as usize,
-        Step::Cite(label) => number_of(label.as_slice()),
+        StepRef::Float(place) => place as usize,
+        StepRef::Hyp(place) => place as usize,
+        StepRef::Cite(label) => number_of(label),
     }
 }
 
 /// Whether both steps cite one label.
-fn cite_the_same(step: &Step, other: &Step) -> bool
-    ensures { result ≡ true → step.now ≡ other.now }
+fn cite_the_same(step: StepRef<'_>, other: StepRef<'_>) -> bool
+    ensures { result ≡ true → seen_step step.entry ≡ seen_step other.entry }
 {
     match (step, other) {
-        (Step::Cite(label), Step::Cite(cited)) => label == cited,
+        (StepRef::Cite(label), StepRef::Cite(cited)) => label == cited,
         _ => false,
     }
 }
@@ -322,17 +383,17 @@ fn cite_the_same(step: &Step, other: &Step) -> bool
 /// for once.
 fn stored_again<C: Cells>(
     cells: &mut C,
-    steps: &[Step],
+    steps: &Proof,
     kept: &[StoredStep],
     hint: usize,
-    step: &Step,
+    step: StepRef<'_>,
 ) -> Result<Option<StoredStep>, C::Stop>
     requires { Resolves (C.sight cells.old) (take (length kept.now) steps.now) (Some kept.now) }
     ensures looks { Looks (C.sight cells.old) (C.sight cells.new) }
-    ensures ok { IfOk result (λ stored. StoresStep (C.sight cells.new) step.now stored) }
-    ensures reads { ReadsWhere (IsOfStep (C.sight cells.old).setting.slots step.now) (C.sight cells.old) (C.sight cells.new) }
+    ensures ok { IfOk result (λ stored. StoresStep (C.sight cells.new) (seen_step step.entry) stored) }
+    ensures reads { ReadsWhere (IsOfStep (C.sight cells.old).setting.slots (seen_step step.entry)) (C.sight cells.old) (C.sight cells.new) }
 {
-    if hint < kept.len() && hint < steps.len() && cite_the_same(&steps[hint], step) {
+    if hint < kept.len() && hint < steps.len() && cite_the_same(steps.step(hint), step) {
         return Ok(Some(kept[hint]));
     }
     stored_step(cells, step)
@@ -340,16 +401,16 @@ fn stored_again<C: Cells>(
 
 /// The step with a cited label as the slot that has it; none where it cites a label that no assertion has.
 #[tactic(auto, using(crate::proofs::Resolving::float_stored, crate::proofs::Resolving::hyp_stored))]
-fn stored_step<C: Cells>(cells: &mut C, step: &Step) -> Result<Option<StoredStep>, C::Stop>
+fn stored_step<C: Cells>(cells: &mut C, step: StepRef<'_>) -> Result<Option<StoredStep>, C::Stop>
     ensures looks { Looks (C.sight cells.old) (C.sight cells.new) }
-    ensures ok { IfOk result (λ kept. StoresStep (C.sight cells.new) step.now kept) }
-    ensures reads { ReadsWhere (IsOfStep (C.sight cells.old).setting.slots step.now) (C.sight cells.old) (C.sight cells.new) }
+    ensures ok { IfOk result (λ kept. StoresStep (C.sight cells.new) (seen_step step.entry) kept) }
+    ensures reads { ReadsWhere (IsOfStep (C.sight cells.old).setting.slots (seen_step step.entry)) (C.sight cells.old) (C.sight cells.new) }
 {
     let _slots = slot_count(cells);
     match step {
-        Step::Float(place) => Ok(Some(StoredStep::Float(*place))),
-        Step::Hyp(place) => Ok(Some(StoredStep::Hyp(*place))),
-        Step::Cite(label) => match find(cells, label.as_slice())? {
+        StepRef::Float(place) => Ok(Some(StoredStep::Float(place))),
+        StepRef::Hyp(place) => Ok(Some(StoredStep::Hyp(place))),
+        StepRef::Cite(label) => match find(cells, label)? {
             Some(slot) => Ok(Some(StoredStep::Slot(slot as u32))),
             None => Ok(None),
         },

@@ -1,6 +1,6 @@
 -- The frames that are noted along the steps of a proof, by the labels that the steps cite.
 use Rattle.std.proofs.Common.{◌≡◌, ◌≢◌, ◌⊎◌, ℕ, ◌+◌, ◌<◌, true, false, List, [], ◌∷◌, Option, Some, None, length, get_or, take}
-use Rattle.std.proofs.Common.{refl, sym, ap, subst, ◌∙◌, inl, inr, arith}
+use Rattle.std.proofs.Common.{Bor, refl, sym, ap, subst, ◌∙◌, inl, inr, arith}
 use Rattle.std.specs.Prelude.{min}
 use Rattle.std.specs.Option.{option_map, is_some}
 use Rattle.std.specs.Str.{bytes_eq}
@@ -10,6 +10,9 @@ use Rattle.std.proofs.lemmas.Slice.Zip.{AllZip-long}
 use Rattle.mmsyntax.specs.declared.statement.Frame.{Frame}
 use Rattle.mmsyntax.specs.declared.statement.Step.{Step}
 use Rattle.mmsyntax.specs.declared.statement.Step.TheVariants.{Cite}
+use Rattle.mmsyntax.specs.declared.step_ref.StepRef.{StepRef}
+use Rattle.mmsyntax.specs.declared.step_ref.StepRef.TheVariants as lent
+use Rattle.mmsyntax.specs.ProofWords.{seen_step}
 use Rattle.mmsyntax.specs.Tables.{Tables}
 use Rattle.mmsyntax.proofs.Names.{same_bytes, bytes_eq-same}
 use Rattle.mmframes.specs.Frames.{frame}
@@ -135,6 +138,12 @@ noted_more s s' t steps kept i label slot old new d e looks each lt cite slot_is
         ]
       ];
     }
+
+-- a step that is lent and that is no citation
+pub no_citation : (step : StepRef) (label : List ℕ) → ((l : Bor (List ℕ)) → step ≡ lent.Cite l → ⊥) → seen_step step ≡ Cite label → ⊥
+no_citation (lent.Float i) label other is = absurd cc
+no_citation (lent.Hyp k) label other is = absurd cc
+no_citation (lent.Cite l) label other is = other l refl
 
 -- a step further that is no citation which is stored as a slot
 pub noted_past : {O : Type 0} → (s : Sight O) (t : Tables) (steps : List Step) (kept : List StoredStep) (i : ℕ) (frames : Citable)

@@ -185,12 +185,11 @@ passes r s t rank a kept frames looks resolved sifted tells =
     }
 
 -- what one call after another tells of the steps
-pub sifted : {O : Type 0} → (s0 s1 s2 s3 : Sight O) (t : Tables) (rank : ℕ) (a : Assertion) (steps : List Step) (kept first second : List StoredStep)
-    (frames : Citable)
-    → t ≡ s0.setting.prelude → Looks s0 s1 → Looks s1 s2 → Looks s2 s3 → steps ≡ a.proof → first ≡ kept → second ≡ kept
+pub sifted : {O : Type 0} → (s0 s1 s2 s3 : Sight O) (t : Tables) (rank : ℕ) (a : Assertion) (kept first second : List StoredStep) (frames : Citable)
+    → t ≡ s0.setting.prelude → Looks s0 s1 → Looks s1 s2 → Looks s2 s3 → first ≡ kept → second ≡ kept
     → Resolves s1 a.proof (Some kept) → TellsNotBelow s2 rank first false
-    → TellsFrames s3 t steps second frames → IsSifted s3 t rank a kept frames
-sifted s0 s1 s2 s3 t rank a steps kept first second frames prelude looks1 looks2 looks3 own is_first is_second resolved below noted =
+    → TellsFrames s3 t a.proof second frames → IsSifted s3 t rank a kept frames
+sifted s0 s1 s2 s3 t rank a kept first second frames prelude looks1 looks2 looks3 is_first is_second resolved below noted =
     let later = looks_trans s1 s2 s3 looks2 looks3 in
     let all = looks_trans s0 s1 s3 looks1 later in
     record {
@@ -198,6 +197,5 @@ sifted s0 s1 s2 s3 t rank a steps kept first second frames prelude looks1 looks2
       stored = stored_on s1 s3 a.proof kept later resolved.2;
       below = stored_later s2 s3 kept (λ lib xs. false ≡ list_any (cites_not_below lib rank) xs) looks3
           (subst (λ (ks : List StoredStep). TellsNotBelow s2 rank ks false) is_first below);
-      are_frames = subst (λ (xs : List Step). TellsFrames s3 t xs kept frames) own
-          (subst (λ (ks : List StoredStep). TellsFrames s3 t steps ks frames) is_second noted);
+      are_frames = subst (λ (ks : List StoredStep). TellsFrames s3 t a.proof ks frames) is_second noted;
     }

@@ -12,7 +12,7 @@ use bodystore::StoredStep;
 use cells::{Cells, CommandError, Halt, cited_slots, frame, rank, resolve, slot_count};
 use derivation::{ProofFault, ProofFaultKind};
 use library::Reason;
-use mmsyntax::{Assertion, Frame, Label, Prelude, Step};
+use mmsyntax::{Assertion, Frame, Label, Prelude, Proof, StepRef};
 use std::alloc::{AllocError, Global};
 use std::collections::BTreeMap;
 use stepcheck::{Frames, check};
@@ -37,14 +37,13 @@ pub fn test_proof<C: Cells>(
     ensures err { IfErr result (λ error. TellsRefusal (C.sight cells.new) rank theorem.now error) }
     ensures reads { TestReads (C.sight cells.old) (C.sight cells.new) theorem.now.proof }
 {
-    let steps = theorem.proof.as_slice();
-    let Some(kept) = resolve(alloc, cells, steps)? else {
+    let Some(kept) = resolve(alloc, cells, &theorem.proof)? else {
         return Err(Reason::CitesUnknown.into());
     };
     if cites_not_below(alloc, cells, rank, kept.as_slice())? {
         return Err(Reason::CitedNotLower.into());
     }
-    let frames = cited_frames(alloc, prelude, cells, steps, kept.as_slice())?;
+    let frames = cited_frames(alloc, prelude, cells, &theorem.proof, kept.as_slice())?;
     match proof_fault(alloc, prelude, &frames, theorem)? {
         Some(fault) => Err(Reason::ProofFails(fault).into()),
         None => Ok(kept),
@@ -98,7 +97,7 @@ fn cited_frames<C: Cells>(
     alloc: Global,
     prelude: &Prelude,
     cells: &mut C,
-    steps: &[Step],
+    steps: &Proof,
     kept: &[StoredStep],
 ) -> Result<CitedFrames, Halt<C::Stop>>
     requires { AreWithin (C.sight cells.old).setting.slots kept.now }
@@ -107,14 +106,14 @@ fn cited_frames<C: Cells>(
     ensures reads { ReadsWithin (IsStatementOfSteps kept.now) (C.sight cells.old) (C.sight cells.new) }
 {
     let mut by_label = BTreeMap::new(alloc);
-    for (step, stored) in steps.iter().zip(kept) {
-        let Step::Cite(label) = step else {
+    for i in 0..steps.len().min(kept.len()) {
+        let StepRef::Cite(label) = steps.step(i) else {
             continue;
         };
-        let StoredStep::Slot(slot) = stored else {
+        let StoredStep::Slot(slot) = kept[i] else {
             continue;
         };
-        note_frame(alloc, prelude, cells, &mut by_label, label, *slot as usize)?;
+        note_frame(alloc, prelude, cells, &mut by_label, label, slot as usize)?;
     }
     Ok(CitedFrames { by_label })
 }
@@ -125,7 +124,7 @@ fn note_frame<C: Cells>(
     prelude: &Prelude,
     cells: &mut C,
     by_label: &mut BTreeMap<Vec<u8>, Frame>,
-    label: &Label,
+    label: &[u8],
     slot: usize,
 ) -> Result<(), Halt<C::Stop>>
     requires { slot < (C.sight cells.old).setting.slots }
@@ -133,10 +132,10 @@ fn note_frame<C: Cells>(
     ensures ok { OnOk result (NotesFrame (C.sight cells.new) prelude.now slot label.now (frames_in by_label.old) (frames_in by_label.new)) }
     ensures reads { ReadsWithin (λ c. c ≡ statement_cell slot) (C.sight cells.old) (C.sight cells.new) }
 {
-    if by_label.contains_key(label.as_slice()) {
+    if by_label.contains_key(label) {
         return Ok(());
     }
-    let key = Vec::from_slice(alloc, label.as_slice())?;
+    let key = Vec::from_slice(alloc, label)?;
     by_label.insert(key, frame(alloc, prelude, cells, slot)?)?;
     Ok(())
 }

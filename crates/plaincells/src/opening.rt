@@ -116,7 +116,7 @@ fn put_next(
 {
     let assertion = &database.assertions()[slot];
     let rank = 100 * (slot as u32 + 1);
-    let steps = match resolve(alloc, cells, assertion.proof.as_slice()) {
+    let steps = match resolve(alloc, cells, &assertion.proof) {
         Ok(Some(steps)) => steps,
         Ok(None) => unreachable!(),
         Err(_) => return Err(AllocError),
@@ -152,7 +152,7 @@ fn room_behind(assertion: &Assertion, room: usize) -> Option<usize>
     let left = room
         .checked_sub(assertion.label.as_slice().len())?
         .checked_sub(assertion.pairs.as_slice().len())?
-        .checked_sub(assertion.proof.as_slice().len())?
+        .checked_sub(assertion.proof.len())?
         .checked_sub(3)?;
     room_behind_expressions(assertion.hyps.as_slice(), left)?
         .checked_sub(1)?

@@ -11,7 +11,7 @@ ghost use Rattle.groundwork.specs.Footprints.{ReadsFor};
 use cells::{Cells, CommandError, Halt, find, rank, statement};
 use groundwork::{put_steps, test_proof};
 use library::{Reason, Reply};
-use mmsyntax::{Kind, Label, Prelude, Sequence, Step, copy_steps};
+use mmsyntax::{Kind, Label, Prelude, Proof};
 use std::alloc::Global;
 
 /// Gives the theorem with the label another proof, and stages it, even where it is equal to the former.
@@ -24,7 +24,7 @@ pub fn reprove<C: Cells>(
     prelude: &Prelude,
     cells: &mut C,
     label: &Label,
-    steps: &Sequence<Step>,
+    steps: &Proof,
 ) -> Result<Reply, CommandError<C::Stop>>
     requires may { ((C.sight cells.old).may_write ≡ true) × ((C.sight cells.old).may_stage ≡ true) }
     requires prelude { prelude.now ≡ (C.sight cells.old).setting.prelude }
@@ -42,7 +42,7 @@ pub fn reprove<C: Cells>(
         return Err(Reason::NotATheorem.into());
     }
     let rank = rank(cells, slot).map_err(Halt::Stopped)?;
-    let proof = copy_steps(alloc, steps.as_slice())?;
+    let proof = steps.copy(alloc)?;
     let theorem = statement.into_assertion(label.copy(alloc)?, proof);
     let kept = test_proof(alloc, prelude, cells, rank, &theorem)?;
     put_steps(alloc, cells, slot, kept.as_slice())?;

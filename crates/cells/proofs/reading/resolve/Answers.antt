@@ -2,6 +2,7 @@ use Rattle.std.proofs.Common.{rules, ◌≡◌, ◌∙◌, ◌++◌, [], ◌∷�
 use Rattle.bodystore.specs.declared.stored.StoredStep.{StoredStep}
 use Rattle.cells.specs.Lookups.{StoresStep}
 use Rattle.mmsyntax.specs.declared.statement.Step.{Step}
+use Rattle.mmsyntax.specs.ProofWords.{seen_step}
 use Rattle.library.specs.Library.{Setting}
 use Rattle.ranges.specs.Ranges.{Has}
 use Rattle.cells.specs.Footprints.{IsOfLook}
@@ -30,9 +31,9 @@ pub returns-in_default-clause-ok : goal.returns-in_default-clause-ok
 returns-in_default-clause-ok g c =
     let s = g.C.Cells.sight c.stored_again.new.cells in
     let ok : c.stored_again.result ≡ Ok c.in_ok-stored.field-0 = search rules in
-    let stores = IfOk-at_ok (λ (o : Option StoredStep). StoresStep s c.index-steps-i.result o) ok c.stored_again.ensures.ok in
-    resolve_fails s c.loop-i.i c.args.steps.now c.index-steps-i.result (subst (StoresStep s c.index-steps-i.result) c.in_default.is stores)
-    c.index-steps-i.is (omega arith)
+    let stores = IfOk-at_ok (λ (o : Option StoredStep). StoresStep s (seen_step c.step-step.result) o) ok c.stored_again.ensures.ok in
+    resolve_fails s c.loop-i.i c.args.steps.now (seen_step c.step-step.result) (subst (StoresStep s (seen_step c.step-step.result)) c.in_default.is stores)
+    c.step-step.ensures (omega arith)
 
 pub returns-in_err-push-clause-looks : goal.returns-in_err-push-clause-looks
 returns-in_err-push-clause-looks g c = looks_trans _ _ _ c.loop-i.invariant.0 c.stored_again.ensures.looks
@@ -42,19 +43,19 @@ loop-i-preserved g c =
     let old = g.C.Cells.sight c.args.cells.now in
     let between = g.C.Cells.sight c.loop-i.cells in
     let s = g.C.Cells.sight c.stored_again.new.cells in
-    let x = c.index-steps-i.result in
+    let x = seen_step c.step-step.result in
     let looks = looks_trans _ _ _ c.loop-i.invariant.0 c.stored_again.ensures.looks in
     let ok : c.stored_again.result ≡ Ok c.in_ok-stored.field-0 = search rules in
     let stores = IfOk-at_ok (λ (o : Option StoredStep). StoresStep s x o) ok c.stored_again.ensures.ok in
     let push : c.push.new.self.items ≡ c.loop-i.kept.items ++ c.in-Some.stored ∷ [] = c.in_ok-push.ensures.items in (
       looks,
       resolve_on between s old.setting.slots c.loop-i.i c.args.steps.now c.loop-i.kept.items c.push.new.self.items x c.in-Some.stored
-          (sym (same_slots old s looks)) c.stored_again.ensures.looks c.loop-i.invariant.1 (subst (StoresStep s x) c.in-Some.is stores) c.index-steps-i.is
+          (sym (same_slots old s looks)) c.stored_again.ensures.looks c.loop-i.invariant.1 (subst (StoresStep s x) c.in-Some.is stores) c.step-step.ensures
           (omega arith) push,
       where_trans c.loop-i.invariant.2 c.loop-i.invariant.0 c.stored_again.ensures.looks.onward c.stored_again.ensures.reads
           (λ st k at. (
             at.0,
-            subst (λ (y : Step). Has y c.args.steps.now) (sym c.index-steps-i.is ∙ at.1) (item_has c.args.steps.now c.loop-i.i x (omega arith)),
+            subst (λ (y : Step). Has y c.args.steps.now) (sym c.step-step.ensures ∙ at.1) (item_has c.args.steps.now c.loop-i.i x (omega arith)),
             subst (λ (q : Setting). IsOfLook q.slots at.0 st k) c.loop-i.invariant.0.onward.setting at.2,
           )),
     )
@@ -70,30 +71,30 @@ returns-clause-ok g c =
 
 pub returns-in_err-stored-clause-reads : goal.returns-in_err-stored-clause-reads
 returns-in_err-stored-clause-reads g c =
-    let x = c.index-steps-i.result in
+    let x = seen_step c.step-step.result in
     where_trans c.loop-i.invariant.2 c.loop-i.invariant.0 c.stored_again.ensures.looks.onward c.stored_again.ensures.reads
     (λ st k at. (
       at.0,
-      subst (λ (y : Step). Has y c.args.steps.now) (sym c.index-steps-i.is ∙ at.1) (item_has c.args.steps.now c.loop-i.i x (omega arith)),
+      subst (λ (y : Step). Has y c.args.steps.now) (sym c.step-step.ensures ∙ at.1) (item_has c.args.steps.now c.loop-i.i x (omega arith)),
       subst (λ (q : Setting). IsOfLook q.slots at.0 st k) c.loop-i.invariant.0.onward.setting at.2,
     ))
 
 pub returns-in_default-clause-reads : goal.returns-in_default-clause-reads
 returns-in_default-clause-reads g c =
-    let x = c.index-steps-i.result in
+    let x = seen_step c.step-step.result in
     where_trans c.loop-i.invariant.2 c.loop-i.invariant.0 c.stored_again.ensures.looks.onward c.stored_again.ensures.reads
     (λ st k at. (
       at.0,
-      subst (λ (y : Step). Has y c.args.steps.now) (sym c.index-steps-i.is ∙ at.1) (item_has c.args.steps.now c.loop-i.i x (omega arith)),
+      subst (λ (y : Step). Has y c.args.steps.now) (sym c.step-step.ensures ∙ at.1) (item_has c.args.steps.now c.loop-i.i x (omega arith)),
       subst (λ (q : Setting). IsOfLook q.slots at.0 st k) c.loop-i.invariant.0.onward.setting at.2,
     ))
 
 pub returns-in_err-push-clause-reads : goal.returns-in_err-push-clause-reads
 returns-in_err-push-clause-reads g c =
-    let x = c.index-steps-i.result in
+    let x = seen_step c.step-step.result in
     where_trans c.loop-i.invariant.2 c.loop-i.invariant.0 c.stored_again.ensures.looks.onward c.stored_again.ensures.reads
     (λ st k at. (
       at.0,
-      subst (λ (y : Step). Has y c.args.steps.now) (sym c.index-steps-i.is ∙ at.1) (item_has c.args.steps.now c.loop-i.i x (omega arith)),
+      subst (λ (y : Step). Has y c.args.steps.now) (sym c.step-step.ensures ∙ at.1) (item_has c.args.steps.now c.loop-i.i x (omega arith)),
       subst (λ (q : Setting). IsOfLook q.slots at.0 st k) c.loop-i.invariant.0.onward.setting at.2,
     ))

@@ -1,5 +1,4 @@
-use Rattle.std.proofs.Common.{◌≡◌, ◌≢◌, ◌∙◌, List, ℕ, true, false, Some, sym, subst}
-use Rattle.std.specs.Option.{is_some}
+use Rattle.std.proofs.Common.{◌≡◌, ◌≢◌, ◌∙◌, List, ℕ, Some, sym, subst}
 use Rattle.groundwork.specs.Citing.{frames_in}
 use Rattle.groundwork.proofs.NotedFrames.{notes_none, notes_one}
 use Rattle.groundwork.proofs.ByteKeys.{found_elsewhere}
@@ -8,8 +7,7 @@ use Rattle.groundwork.proofs.citing.note_frame.Goals as goal
 pub returns-then-contains_key-clause-ok : goal.returns-then-contains_key-clause-ok
 returns-then-contains_key-clause-ok g c =
     notes_none (g.C.Cells.sight c.args.cells.now) c.args.prelude.now c.args.slot c.args.label.now (frames_in c.args.by_label.now)
-    (subst (λ (l : List ℕ). is_some (frames_in c.args.by_label.now l) ≡ true) c.as_slice.ensures
-    (sym c.contains_key.ensures ∙ c.if-contains_key.true))
+    (sym c.contains_key.ensures ∙ c.if-contains_key.true)
 
 pub returns-clause-ok : goal.returns-clause-ok
 returns-clause-ok g c =
@@ -17,11 +15,10 @@ returns-clause-ok g c =
     let new = c.insert.new.self in
     let f = c.in_ok-frame.field-0 in
     let updates = c.in_ok-insert.ensures.updates in
-    let key : c.in_ok-key.key.items ≡ c.args.label.now = c.in_ok-key.ensures.items ∙ c.as_slice-2.ensures in
+    let key : c.in_ok-key.key.items ≡ c.args.label.now = c.in_ok-key.ensures.items in
     notes_one (g.C.Cells.sight c.frame.new.cells) c.args.prelude.now c.args.slot c.args.label.now (frames_in c.args.by_label.now)
     (frames_in c.insert.new.self) f
-    (subst (λ (l : List ℕ). is_some (frames_in c.args.by_label.now l) ≡ false) c.as_slice.ensures
-    (sym c.contains_key.ensures ∙ c.if-contains_key.false))
+    (sym c.contains_key.ensures ∙ c.if-contains_key.false)
     (subst (λ (l : List ℕ). frames_in c.insert.new.self l ≡ Some c.in_ok-frame.field-0) key updates.1)
     (subst (λ (l : List ℕ). (other : List ℕ) → other ≢ l → frames_in c.insert.new.self other ≡ frames_in c.args.by_label.now other) key
     (found_elsewhere c.in_ok-key.key.items old new (Some f) updates))

@@ -21,12 +21,10 @@ use Rattle.groundwork.proofs.Since.{ReadsSince, since_then, since_where}
 use Rattle.groundwork.proofs.TestReads.{OfTest, since_cited}
 use Rattle.groundwork.proofs.citing.test_proof.Goals as goal
 
--- what is resolved of the slice is of the proof
-of_proof : {O : Type 0} → (s : Sight O) (steps proof : List Step) (found other : Option (Vec StoredStep Global)) → steps ≡ proof → found ≡ other
-    → Resolves s steps (option_map (λ v. v.items) found) → Resolves s proof (option_map (λ v. v.items) other)
-of_proof s steps proof found other own is h =
-    subst (λ (xs : List Step). Resolves s xs (option_map (λ v. v.items) other)) own
-    (subst (λ (o : Option (Vec StoredStep Global)). Resolves s steps (option_map (λ v. v.items) o)) is h)
+-- what is resolved of the proof
+of_proof : {O : Type 0} → (s : Sight O) (proof : List Step) (found other : Option (Vec StoredStep Global)) → found ≡ other
+    → Resolves s proof (option_map (λ v. v.items) found) → Resolves s proof (option_map (λ v. v.items) other)
+of_proof s proof found other is h = subst (λ (o : Option (Vec StoredStep Global)). Resolves s proof (option_map (λ v. v.items) o)) is h
 
 pub returns-in_default-clause-err : goal.returns-in_default-clause-err
 returns-in_default-clause-err g c =
@@ -35,8 +33,7 @@ returns-in_default-clause-err g c =
     let a = c.args.theorem.now in
     subst (TellsRefusal s rank a) (sym c.into.ensures)
     (fails_unknown s rank a
-    (of_proof s c.as_slice-steps.result.now c.args.theorem.now.proof c.in_ok-kept.field-0 None c.as_slice-steps.ensures
-    c.in_default.is c.in_ok-kept.ensures.ok))
+    (of_proof s c.args.theorem.now.proof c.in_ok-kept.field-0 None c.in_default.is c.in_ok-kept.ensures.ok))
 
 pub returns-in_err-cites_not_below-clause-looks : goal.returns-in_err-cites_not_below-clause-looks
 returns-in_err-cites_not_below-clause-looks g c = looks_trans _ _ _ c.resolve.ensures.looks c.cites_not_below.ensures.looks
@@ -51,8 +48,7 @@ returns-then-branch-clause-err g c =
     let rank = c.args.rank in
     let a = c.args.theorem.now in
     let kept = c.in-Some.kept.items in
-    let resolved = of_proof s1 c.as_slice-steps.result.now c.args.theorem.now.proof c.in_ok-kept.field-0 (Some c.in-Some.kept)
-    c.as_slice-steps.ensures c.in-Some.is c.in_ok-kept.ensures.ok in
+    let resolved = of_proof s1 c.args.theorem.now.proof c.in_ok-kept.field-0 (Some c.in-Some.kept) c.in-Some.is c.in_ok-kept.ensures.ok in
     let told : TellsNotBelow (g.C.Cells.sight c.cites_not_below.new.cells) c.args.rank c.as_slice.result.now c.in_ok-cites_not_below.field-0 =
     c.in_ok-cites_not_below.ensures.ok in
     subst (TellsRefusal s2 rank a) (sym c.into-then-branch.ensures)
@@ -63,8 +59,7 @@ returns-then-branch-clause-err g c =
 pub cited_frames-requires : goal.cited_frames-requires
 cited_frames-requires g c = λ i h.
     let s1 = g.C.Cells.sight c.resolve.new.cells in
-    let resolved = of_proof s1 c.as_slice-steps.result.now c.args.theorem.now.proof c.in_ok-kept.field-0 (Some c.in-Some.kept)
-    c.as_slice-steps.ensures c.in-Some.is c.in_ok-kept.ensures.ok in
+    let resolved = of_proof s1 c.args.theorem.now.proof c.in_ok-kept.field-0 (Some c.in-Some.kept) c.in-Some.is c.in_ok-kept.ensures.ok in
     subst (λ (n : ℕ). i < n) (sym (same_slots _ _ c.cites_not_below.ensures.looks))
     (resolved.1 i (subst (λ (ks : List StoredStep). Has (Slot i) ks) c.as_slice-2.ensures.value h))
 
@@ -91,12 +86,11 @@ returns-in-Some-2-clause-err g c =
     let t = c.args.prelude.now in
     let kept = c.in-Some.kept.items in
     let frames = frames_in c.in_ok-frames.frames.by_label in
-    let resolved = of_proof s1 c.as_slice-steps.result.now c.args.theorem.now.proof c.in_ok-kept.field-0 (Some c.in-Some.kept)
-    c.as_slice-steps.ensures c.in-Some.is c.in_ok-kept.ensures.ok in
+    let resolved = of_proof s1 c.args.theorem.now.proof c.in_ok-kept.field-0 (Some c.in-Some.kept) c.in-Some.is c.in_ok-kept.ensures.ok in
     let told : TellsNotBelow (g.C.Cells.sight c.cites_not_below.new.cells) c.args.rank c.as_slice.result.now c.in_ok-cites_not_below.field-0 =
     c.in_ok-cites_not_below.ensures.ok in
-    let known = sifted s0 s1 s2 s3 t rank a c.as_slice-steps.result.now kept c.as_slice.result.now c.as_slice-2.result.now frames
-    c.requires.prelude c.resolve.ensures.looks c.cites_not_below.ensures.looks c.cited_frames.ensures.looks c.as_slice-steps.ensures
+    let known = sifted s0 s1 s2 s3 t rank a kept c.as_slice.result.now c.as_slice-2.result.now frames
+    c.requires.prelude c.resolve.ensures.looks c.cites_not_below.ensures.looks c.cited_frames.ensures.looks
     c.as_slice.ensures.value c.as_slice-2.ensures.value resolved
     (subst (λ b. TellsNotBelow s2 rank c.as_slice.result.now b) c.if-branch.false told) c.in_ok-frames.ensures.ok in
     subst (TellsRefusal s3 rank a) (sym c.into-in-Some-2.ensures)
@@ -118,12 +112,11 @@ returns-in-None-clause-ok g c =
     let t = c.args.prelude.now in
     let kept = c.in-Some.kept.items in
     let frames = frames_in c.in_ok-frames.frames.by_label in
-    let resolved = of_proof s1 c.as_slice-steps.result.now c.args.theorem.now.proof c.in_ok-kept.field-0 (Some c.in-Some.kept)
-    c.as_slice-steps.ensures c.in-Some.is c.in_ok-kept.ensures.ok in
+    let resolved = of_proof s1 c.args.theorem.now.proof c.in_ok-kept.field-0 (Some c.in-Some.kept) c.in-Some.is c.in_ok-kept.ensures.ok in
     let told : TellsNotBelow (g.C.Cells.sight c.cites_not_below.new.cells) c.args.rank c.as_slice.result.now c.in_ok-cites_not_below.field-0 =
     c.in_ok-cites_not_below.ensures.ok in
-    let known = sifted s0 s1 s2 s3 t rank a c.as_slice-steps.result.now kept c.as_slice.result.now c.as_slice-2.result.now frames
-    c.requires.prelude c.resolve.ensures.looks c.cites_not_below.ensures.looks c.cited_frames.ensures.looks c.as_slice-steps.ensures
+    let known = sifted s0 s1 s2 s3 t rank a kept c.as_slice.result.now c.as_slice-2.result.now frames
+    c.requires.prelude c.resolve.ensures.looks c.cites_not_below.ensures.looks c.cited_frames.ensures.looks
     c.as_slice.ensures.value c.as_slice-2.ensures.value resolved
     (subst (λ b. TellsNotBelow s2 rank c.as_slice.result.now b) c.if-branch.false told) c.in_ok-frames.ensures.ok in
     passes s1 s3 t rank a kept frames (looks_trans _ _ _ c.cites_not_below.ensures.looks c.cited_frames.ensures.looks) resolved known
@@ -136,7 +129,7 @@ returns-in_err-kept-clause-reads g c =
     let steps = c.args.theorem.now.proof in
     let r1 : ReadsSince (OfTest s0 c.args.theorem.now.proof) s0 s0 s1 =
     since_where (OfTest s0 steps) s0 s0 s1 (looks_refl s0) (λ n. IsOfResolving n steps) (λ st lib k is. inl is)
-    (subst (λ (xs : List Step). ReadsWhere (IsOfResolving s0.setting.slots xs) s0 s1) c.as_slice-steps.ensures c.resolve.ensures.reads) in
+    c.resolve.ensures.reads in
     r1
 
 pub returns-in_default-clause-reads : goal.returns-in_default-clause-reads
@@ -146,7 +139,7 @@ returns-in_default-clause-reads g c =
     let steps = c.args.theorem.now.proof in
     let r1 : ReadsSince (OfTest s0 c.args.theorem.now.proof) s0 s0 s1 =
     since_where (OfTest s0 steps) s0 s0 s1 (looks_refl s0) (λ n. IsOfResolving n steps) (λ st lib k is. inl is)
-    (subst (λ (xs : List Step). ReadsWhere (IsOfResolving s0.setting.slots xs) s0 s1) c.as_slice-steps.ensures c.resolve.ensures.reads) in
+    c.resolve.ensures.reads in
     r1
 
 pub returns-in_err-cites_not_below-clause-reads : goal.returns-in_err-cites_not_below-clause-reads
@@ -156,11 +149,10 @@ returns-in_err-cites_not_below-clause-reads g c =
     let steps = c.args.theorem.now.proof in
     let r1 : ReadsSince (OfTest s0 c.args.theorem.now.proof) s0 s0 s1 =
     since_where (OfTest s0 steps) s0 s0 s1 (looks_refl s0) (λ n. IsOfResolving n steps) (λ st lib k is. inl is)
-    (subst (λ (xs : List Step). ReadsWhere (IsOfResolving s0.setting.slots xs) s0 s1) c.as_slice-steps.ensures c.resolve.ensures.reads) in
+    c.resolve.ensures.reads in
     let s2 = g.C.Cells.sight c.cites_not_below.new.cells in
     let kept = c.in-Some.kept.items in
-    let resolved = of_proof s1 c.as_slice-steps.result.now c.args.theorem.now.proof c.in_ok-kept.field-0 (Some c.in-Some.kept)
-    c.as_slice-steps.ensures c.in-Some.is c.in_ok-kept.ensures.ok in
+    let resolved = of_proof s1 c.args.theorem.now.proof c.in_ok-kept.field-0 (Some c.in-Some.kept) c.in-Some.is c.in_ok-kept.ensures.ok in
     let ranks : ReadsWithin (IsRankOfSteps c.in-Some.kept.items) s1 s2 =
     subst (λ (ks : List StoredStep). ReadsWithin (IsRankOfSteps ks) s1 s2) c.as_slice.ensures.value c.cites_not_below.ensures.reads in
     let r2 : ReadsSince (OfTest s0 c.args.theorem.now.proof) s0 s0 s2 =
@@ -176,11 +168,10 @@ returns-then-branch-clause-reads g c =
     let steps = c.args.theorem.now.proof in
     let r1 : ReadsSince (OfTest s0 c.args.theorem.now.proof) s0 s0 s1 =
     since_where (OfTest s0 steps) s0 s0 s1 (looks_refl s0) (λ n. IsOfResolving n steps) (λ st lib k is. inl is)
-    (subst (λ (xs : List Step). ReadsWhere (IsOfResolving s0.setting.slots xs) s0 s1) c.as_slice-steps.ensures c.resolve.ensures.reads) in
+    c.resolve.ensures.reads in
     let s2 = g.C.Cells.sight c.cites_not_below.new.cells in
     let kept = c.in-Some.kept.items in
-    let resolved = of_proof s1 c.as_slice-steps.result.now c.args.theorem.now.proof c.in_ok-kept.field-0 (Some c.in-Some.kept)
-    c.as_slice-steps.ensures c.in-Some.is c.in_ok-kept.ensures.ok in
+    let resolved = of_proof s1 c.args.theorem.now.proof c.in_ok-kept.field-0 (Some c.in-Some.kept) c.in-Some.is c.in_ok-kept.ensures.ok in
     let ranks : ReadsWithin (IsRankOfSteps c.in-Some.kept.items) s1 s2 =
     subst (λ (ks : List StoredStep). ReadsWithin (IsRankOfSteps ks) s1 s2) c.as_slice.ensures.value c.cites_not_below.ensures.reads in
     let r2 : ReadsSince (OfTest s0 c.args.theorem.now.proof) s0 s0 s2 =
@@ -196,11 +187,10 @@ returns-in_err-frames-clause-reads g c =
     let steps = c.args.theorem.now.proof in
     let r1 : ReadsSince (OfTest s0 c.args.theorem.now.proof) s0 s0 s1 =
     since_where (OfTest s0 steps) s0 s0 s1 (looks_refl s0) (λ n. IsOfResolving n steps) (λ st lib k is. inl is)
-    (subst (λ (xs : List Step). ReadsWhere (IsOfResolving s0.setting.slots xs) s0 s1) c.as_slice-steps.ensures c.resolve.ensures.reads) in
+    c.resolve.ensures.reads in
     let s2 = g.C.Cells.sight c.cites_not_below.new.cells in
     let kept = c.in-Some.kept.items in
-    let resolved = of_proof s1 c.as_slice-steps.result.now c.args.theorem.now.proof c.in_ok-kept.field-0 (Some c.in-Some.kept)
-    c.as_slice-steps.ensures c.in-Some.is c.in_ok-kept.ensures.ok in
+    let resolved = of_proof s1 c.args.theorem.now.proof c.in_ok-kept.field-0 (Some c.in-Some.kept) c.in-Some.is c.in_ok-kept.ensures.ok in
     let ranks : ReadsWithin (IsRankOfSteps c.in-Some.kept.items) s1 s2 =
     subst (λ (ks : List StoredStep). ReadsWithin (IsRankOfSteps ks) s1 s2) c.as_slice.ensures.value c.cites_not_below.ensures.reads in
     let r2 : ReadsSince (OfTest s0 c.args.theorem.now.proof) s0 s0 s2 =
@@ -221,11 +211,10 @@ returns-in_err-fault-clause-reads g c =
     let steps = c.args.theorem.now.proof in
     let r1 : ReadsSince (OfTest s0 c.args.theorem.now.proof) s0 s0 s1 =
     since_where (OfTest s0 steps) s0 s0 s1 (looks_refl s0) (λ n. IsOfResolving n steps) (λ st lib k is. inl is)
-    (subst (λ (xs : List Step). ReadsWhere (IsOfResolving s0.setting.slots xs) s0 s1) c.as_slice-steps.ensures c.resolve.ensures.reads) in
+    c.resolve.ensures.reads in
     let s2 = g.C.Cells.sight c.cites_not_below.new.cells in
     let kept = c.in-Some.kept.items in
-    let resolved = of_proof s1 c.as_slice-steps.result.now c.args.theorem.now.proof c.in_ok-kept.field-0 (Some c.in-Some.kept)
-    c.as_slice-steps.ensures c.in-Some.is c.in_ok-kept.ensures.ok in
+    let resolved = of_proof s1 c.args.theorem.now.proof c.in_ok-kept.field-0 (Some c.in-Some.kept) c.in-Some.is c.in_ok-kept.ensures.ok in
     let ranks : ReadsWithin (IsRankOfSteps c.in-Some.kept.items) s1 s2 =
     subst (λ (ks : List StoredStep). ReadsWithin (IsRankOfSteps ks) s1 s2) c.as_slice.ensures.value c.cites_not_below.ensures.reads in
     let r2 : ReadsSince (OfTest s0 c.args.theorem.now.proof) s0 s0 s2 =
@@ -246,11 +235,10 @@ returns-in-Some-2-clause-reads g c =
     let steps = c.args.theorem.now.proof in
     let r1 : ReadsSince (OfTest s0 c.args.theorem.now.proof) s0 s0 s1 =
     since_where (OfTest s0 steps) s0 s0 s1 (looks_refl s0) (λ n. IsOfResolving n steps) (λ st lib k is. inl is)
-    (subst (λ (xs : List Step). ReadsWhere (IsOfResolving s0.setting.slots xs) s0 s1) c.as_slice-steps.ensures c.resolve.ensures.reads) in
+    c.resolve.ensures.reads in
     let s2 = g.C.Cells.sight c.cites_not_below.new.cells in
     let kept = c.in-Some.kept.items in
-    let resolved = of_proof s1 c.as_slice-steps.result.now c.args.theorem.now.proof c.in_ok-kept.field-0 (Some c.in-Some.kept)
-    c.as_slice-steps.ensures c.in-Some.is c.in_ok-kept.ensures.ok in
+    let resolved = of_proof s1 c.args.theorem.now.proof c.in_ok-kept.field-0 (Some c.in-Some.kept) c.in-Some.is c.in_ok-kept.ensures.ok in
     let ranks : ReadsWithin (IsRankOfSteps c.in-Some.kept.items) s1 s2 =
     subst (λ (ks : List StoredStep). ReadsWithin (IsRankOfSteps ks) s1 s2) c.as_slice.ensures.value c.cites_not_below.ensures.reads in
     let r2 : ReadsSince (OfTest s0 c.args.theorem.now.proof) s0 s0 s2 =
@@ -271,11 +259,10 @@ returns-in-None-clause-reads g c =
     let steps = c.args.theorem.now.proof in
     let r1 : ReadsSince (OfTest s0 c.args.theorem.now.proof) s0 s0 s1 =
     since_where (OfTest s0 steps) s0 s0 s1 (looks_refl s0) (λ n. IsOfResolving n steps) (λ st lib k is. inl is)
-    (subst (λ (xs : List Step). ReadsWhere (IsOfResolving s0.setting.slots xs) s0 s1) c.as_slice-steps.ensures c.resolve.ensures.reads) in
+    c.resolve.ensures.reads in
     let s2 = g.C.Cells.sight c.cites_not_below.new.cells in
     let kept = c.in-Some.kept.items in
-    let resolved = of_proof s1 c.as_slice-steps.result.now c.args.theorem.now.proof c.in_ok-kept.field-0 (Some c.in-Some.kept)
-    c.as_slice-steps.ensures c.in-Some.is c.in_ok-kept.ensures.ok in
+    let resolved = of_proof s1 c.args.theorem.now.proof c.in_ok-kept.field-0 (Some c.in-Some.kept) c.in-Some.is c.in_ok-kept.ensures.ok in
     let ranks : ReadsWithin (IsRankOfSteps c.in-Some.kept.items) s1 s2 =
     subst (λ (ks : List StoredStep). ReadsWithin (IsRankOfSteps ks) s1 s2) c.as_slice.ensures.value c.cites_not_below.ensures.reads in
     let r2 : ReadsSince (OfTest s0 c.args.theorem.now.proof) s0 s0 s2 =

@@ -1,7 +1,6 @@
 use Rattle.std.proofs.Common.{◌≡◌, ◌+◌, List, get_or, Option, Some, None, Vec, Global, sym, ap, subst, ◌∙◌}
 use Rattle.std.specs.Prelude.{option_map}
 use Rattle.mmsyntax.specs.declared.statement.Assertion.{Assertion}
-use Rattle.mmsyntax.specs.declared.statement.Step.{Step}
 use Rattle.bodystore.specs.declared.stored.StoredStep.{StoredStep}
 use Rattle.library.specs.Library.{Setting, opening}
 use Rattle.cells.specs.State.{State}
@@ -21,9 +20,8 @@ unreachable-requires c =
     let at : a ≡ get_or db.assertions c.args.slot a =
     c.index-assertions-slot.is ∙ ap (λ (xs : List Assertion). get_or xs c.args.slot a) c.assertions.ensures.value in
     let unknown : Resolves (sight_of q) a.proof None =
-    subst (λ (steps : List Step). Resolves (sight_of q) steps None) c.as_slice.ensures
-    (subst (λ (o : Option (Vec StoredStep Global)). Resolves (sight_of q) c.as_slice.result.now (option_map (λ (v : Vec StoredStep Global). v.items) o))
-    c.in-Ok-None.field-0-is c.in-Ok-None.ensures.ok) in
+    subst (λ (o : Option (Vec StoredStep Global)). Resolves (sight_of q) a.proof (option_map (λ (v : Vec StoredStep Global). v.items) o))
+    c.in-Ok-None.field-0-is c.in-Ok-None.ensures.ok in
     none_unknown db c.args.slot a c.requires.next at c.assertions.ensures.sound c.requires.checks p c.requires.fits c.requires.opened q
     c.in-Ok-None.ensures.looks unknown
 
@@ -33,14 +31,13 @@ fill-requires-clause-fillable c =
     let q = c.resolve.new.cells in
     let a = c.index-assertions-slot.result in
     let db = c.args.database.now in
-    let kept : List StoredStep = c.as_slice-2.result.now in
+    let kept : List StoredStep = c.as_slice.result.now in
     let at : a ≡ get_or db.assertions c.args.slot a =
     c.index-assertions-slot.is ∙ ap (λ (xs : List Assertion). get_or xs c.args.slot a) c.assertions.ensures.value in
     let resolved : Resolves (sight_of q) a.proof (Some kept) =
-    subst (λ (ys : List StoredStep). Resolves (sight_of q) a.proof (Some ys)) (sym c.as_slice-2.ensures.value)
-    (subst (λ (steps : List Step). Resolves (sight_of q) steps (Some c.in-Ok-Some.steps.items)) c.as_slice.ensures
-    (subst (λ (o : Option (Vec StoredStep Global)). Resolves (sight_of q) c.as_slice.result.now (option_map (λ (v : Vec StoredStep Global). v.items) o))
-    c.in-Ok-Some.field-0-is c.in-Ok-Some.ensures.ok)) in
+    subst (λ (ys : List StoredStep). Resolves (sight_of q) a.proof (Some ys)) (sym c.as_slice.ensures.value)
+    (subst (λ (o : Option (Vec StoredStep Global)). Resolves (sight_of q) a.proof (option_map (λ (v : Vec StoredStep Global). v.items) o))
+    c.in-Ok-Some.field-0-is c.in-Ok-Some.ensures.ok) in
     resolved_fillable db c.args.slot a c.requires.next at c.assertions.ensures.sound c.requires.checks p c.requires.fits c.requires.opened q kept
     c.in-Ok-Some.ensures.looks resolved
 
@@ -52,16 +49,15 @@ keep-requires c =
     let a = c.index-assertions-slot.result in
     let db = c.args.database.now in
     let k = c.args.slot in
-    let kept : List StoredStep = c.as_slice-2.result.now in
+    let kept : List StoredStep = c.as_slice.result.now in
     let looks = c.in-Ok-Some.ensures.looks in
     let onward = c.in-Ok.ensures.onward in
     let at : a ≡ get_or db.assertions k a =
     c.index-assertions-slot.is ∙ ap (λ (xs : List Assertion). get_or xs k a) c.assertions.ensures.value in
     let resolved : Resolves (sight_of q) a.proof (Some kept) =
-    subst (λ (ys : List StoredStep). Resolves (sight_of q) a.proof (Some ys)) (sym c.as_slice-2.ensures.value)
-    (subst (λ (steps : List Step). Resolves (sight_of q) steps (Some c.in-Ok-Some.steps.items)) c.as_slice.ensures
-    (subst (λ (o : Option (Vec StoredStep Global)). Resolves (sight_of q) c.as_slice.result.now (option_map (λ (v : Vec StoredStep Global). v.items) o))
-    c.in-Ok-Some.field-0-is c.in-Ok-Some.ensures.ok)) in
+    subst (λ (ys : List StoredStep). Resolves (sight_of q) a.proof (Some ys)) (sym c.as_slice.ensures.value)
+    (subst (λ (o : Option (Vec StoredStep Global)). Resolves (sight_of q) a.proof (option_map (λ (v : Vec StoredStep Global). v.items) o))
+    c.in-Ok-Some.field-0-is c.in-Ok-Some.ensures.ok) in
     let setting : setting_of r ≡ setting_of p = onward.setting ∙ looks.onward.setting in
     let held : ShowsHeld p.slots (now_state r) (opening (front (k + 1) db)) (held_from 0 (opening (front (k + 1) db))) =
     filled_held db k a c.requires.next at c.assertions.ensures.sound c.requires.checks p c.requires.fits c.requires.opened q r kept looks onward
@@ -76,16 +72,15 @@ returns-in-Ok c =
     let a = c.index-assertions-slot.result in
     let db = c.args.database.now in
     let k = c.args.slot in
-    let kept : List StoredStep = c.as_slice-2.result.now in
+    let kept : List StoredStep = c.as_slice.result.now in
     let looks = c.in-Ok-Some.ensures.looks in
     let onward = c.in-Ok.ensures.onward in
     let at : a ≡ get_or db.assertions k a =
     c.index-assertions-slot.is ∙ ap (λ (xs : List Assertion). get_or xs k a) c.assertions.ensures.value in
     let resolved : Resolves (sight_of q) a.proof (Some kept) =
-    subst (λ (ys : List StoredStep). Resolves (sight_of q) a.proof (Some ys)) (sym c.as_slice-2.ensures.value)
-    (subst (λ (steps : List Step). Resolves (sight_of q) steps (Some c.in-Ok-Some.steps.items)) c.as_slice.ensures
-    (subst (λ (o : Option (Vec StoredStep Global)). Resolves (sight_of q) c.as_slice.result.now (option_map (λ (v : Vec StoredStep Global). v.items) o))
-    c.in-Ok-Some.field-0-is c.in-Ok-Some.ensures.ok)) in
+    subst (λ (ys : List StoredStep). Resolves (sight_of q) a.proof (Some ys)) (sym c.as_slice.ensures.value)
+    (subst (λ (o : Option (Vec StoredStep Global)). Resolves (sight_of q) a.proof (option_map (λ (v : Vec StoredStep Global). v.items) o))
+    c.in-Ok-Some.field-0-is c.in-Ok-Some.ensures.ok) in
     let setting : setting_of r ≡ setting_of p = onward.setting ∙ looks.onward.setting in
     let held : ShowsHeld p.slots (now_state r) (opening (front (k + 1) db)) (held_from 0 (opening (front (k + 1) db))) =
     filled_held db k a c.requires.next at c.assertions.ensures.sound c.requires.checks p c.requires.fits c.requires.opened q r kept looks onward
