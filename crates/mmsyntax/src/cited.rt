@@ -7,14 +7,6 @@ use crate::label::Label;
 use crate::proof::PLACES;
 use std::alloc::{AllocError, Global};
 
-/// Where a label stands first; behind all, if nowhere.
-pub(crate) fn place_of(labels: &[Label], label: &[u8]) -> usize {
-    labels
-        .iter()
-        .position(|known| known.as_slice() == label)
-        .unwrap_or(labels.len())
-}
-
 /// Whether a label stands at a place.
 pub(crate) fn stands_at(labels: &[Label], place: usize, label: &[u8]) -> bool
     ensures { result ≡ true → (place < length labels.now) × (slice_index_or labels.now place [] ≡ label.now) }

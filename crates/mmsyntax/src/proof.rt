@@ -6,7 +6,7 @@ ghost use Rattle.mmsyntax.specs.declared.statement.Step.{Step};
 ghost use Rattle.mmsyntax.specs.declared.statement.Step.TheVariants.{Float, Hyp, Cite};
 ghost use Rattle.mmsyntax.specs.ProofWords.{IsSmall, IsCitedIn, AreWords, seen_step, steps_of, step_relabelled, replacing};
 
-use crate::cited::{copy_labels, place_for, place_of, replaced_labels};
+use crate::cited::{copy_labels, place_for, replaced_labels};
 use crate::label::Label;
 use crate::step_ref::{StepRef, is_same_step};
 use crate::word_steps::WordSteps;
@@ -106,12 +106,7 @@ impl Proof {
     /// One more step: a citation of a label, which is looked for at the guessed place of those that are cited already, and else is put
     /// behind them. The place at which it stands, which is a good guess from now on.
     #[tactic(auto, using(crate::proofs::ProofSteps::kept_steps, crate::proofs::ProofSteps::kept_words, crate::proofs::ProofSteps::push_cite_steps))]
-    pub(crate) fn push_cite(
-        &mut self,
-        alloc: Global,
-        guess: usize,
-        label: &[u8],
-    ) -> Result<usize, AllocError>
+    fn push_cite(&mut self, alloc: Global, guess: usize, label: &[u8]) -> Result<usize, AllocError>
         ensures ok { OnOk result (self.new ≡ self.old ++ Cite label.now ∷ []) }
         ensures err { OnErr result (self.new ≡ self.old) }
     {
@@ -120,8 +115,13 @@ impl Proof {
         Ok(place as usize)
     }
 
-    /// One more step, whose label is looked for at a guessed place. The place at which it stands, if it has one.
-    pub(crate) fn push_guessed(
+    /// One more step. A label is looked for at a guessed place of those that are cited already, counted from 0, and else is put behind them.
+    /// The place at which it stands, which is a good guess for it from now on; the guess, of a step that cites none.
+    ///
+    /// # Errors
+    ///
+    /// Want of memory: the steps are the same then.
+    pub fn push(
         &mut self,
         alloc: Global,
         guess: usize,
@@ -142,20 +142,6 @@ impl Proof {
             }
             StepRef::Cite(label) => self.push_cite(alloc, guess, label),
         }
-    }
-
-    /// One more step. A label is looked for among all that are cited already: where these are many, a `ProofBuilder` is quicker.
-    pub fn push(&mut self, alloc: Global, step: StepRef<'_>) -> Result<(), AllocError>
-        requires { IsSmall (seen_step step) }
-        ensures ok { OnOk result (self.new ≡ self.old ++ seen_step step.entry ∷ []) }
-        ensures err { OnErr result (self.new ≡ self.old) }
-    {
-        let guess = match step {
-            StepRef::Cite(label) => place_of(self.cited.as_slice(), label),
-            StepRef::Float(_) | StepRef::Hyp(_) => 0,
-        };
-        self.push_guessed(alloc, guess, step)?;
-        Ok(())
     }
 
     /// The step at a place, counted from 0.

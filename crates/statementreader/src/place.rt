@@ -3,9 +3,9 @@
 ghost use Rattle.std.specs.Prelude.{◌≡◌};
 ghost use Rattle.statementreader.specs.Views.{seen_place, seen_behind, is_outermost};
 
-use mmsyntax::{ProofBuilder, Symbol};
+use mmsyntax::Symbol;
 use mmtext::Token;
-use mmunits::Block;
+use mmunits::{Block, ProofBuilder};
 
 /// Outermost, or in a block that holds this much.
 #[derive(Drop)]

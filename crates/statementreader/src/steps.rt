@@ -15,9 +15,9 @@ ghost use Rattle.statementreader.specs.Views.{seen_scope};
 use crate::labels::{MOST_LABEL_BYTES, MOST_SYMBOLS};
 use crate::place::Scope;
 use crate::recent::{Recalled, Recent};
-use mmsyntax::{Name, ProofBuilder, StepRef, SymbolTable, is_dotted};
+use mmsyntax::{Name, StepRef, SymbolTable, is_dotted};
 use mmtext::{FaultKind, contains_dollar, is_label_token};
-use mmunits::Block;
+use mmunits::{Block, ProofBuilder};
 use std::alloc::{AllocError, Global};
 
 /// The most steps of a proof.

@@ -16,7 +16,7 @@ ghost use Rattle.statementreader.specs.Views.{seen_scope, seen_behind, seen_unit
 use crate::labels::{assertion_label_fault, float_label_fault, hypothesis_label_fault, symbol_at};
 use crate::place::{Behind, Place, PreludePlace, Scope, Theorem, UnitPlace};
 use crate::steps::{push_named, restrict, step_at};
-use mmsyntax::{Assertion, Kind, Label, Proof, ProofBuilder, Sequence, Symbol, SymbolTable};
+use mmsyntax::{Assertion, Kind, Label, Proof, Sequence, Symbol, SymbolTable};
 use mmtext::{FaultKind, Mark, Stop, Token, fault_at, is_label_token};
 use mmunits::{Block, Units};
 use std::alloc::{AllocError, Global};

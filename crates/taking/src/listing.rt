@@ -7,7 +7,8 @@ ghost use Rattle.taking.specs.Walks.{TakesAll, picked, arranged, IsListing};
 
 use crate::named::Named;
 use crate::nodes::Nodes;
-use mmsyntax::{Proof, ProofBuilder, Step, StepRef};
+use mmsyntax::{Proof, Step, StepRef};
+use mmunits::ProofBuilder;
 use std::alloc::{AllocError, Global};
 use std::hash::RandomState;
 

@@ -17,7 +17,8 @@ use super::numerals::{hypothesis_place, is_numeral};
 use super::place::{CommandPlace, Led};
 use library::Command;
 use mmsyntax::numeral::number;
-use mmsyntax::{Label, Prelude, ProofBuilder};
+use mmsyntax::{Label, Prelude};
+use mmunits::ProofBuilder;
 use mmtext::{FaultKind, Mark, Stop, Token, contains_dollar, fault_at, mark_word};
 use statementreader::{
     Named, Recent, UnitProgress, UnitReader, named_step, push_named, recalled_named_step,

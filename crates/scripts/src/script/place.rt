@@ -1,7 +1,8 @@
 //! Places in a script.
 
 use library::{Command, Transaction};
-use mmsyntax::{Label, Prelude, ProofBuilder};
+use mmsyntax::{Label, Prelude};
+use mmunits::ProofBuilder;
 use statementreader::{Recent, UnitReader};
 
 /// What was read of the command in which a token stands.

@@ -3,9 +3,7 @@
 ghost use Rattle.std.specs.Prelude.{◌≡◌, ◌↔◌, ◌++◌, ◌∷◌, [], length, IsTrue, OnOk};
 ghost use Rattle.mmsyntax.specs.ProofWords.{IsSmall, seen_step};
 
-use crate::cited::{place_of, stands_at};
-use crate::proof::Proof;
-use crate::step_ref::StepRef;
+use mmsyntax::{Label, Proof, StepRef};
 use std::alloc::{AllocError, Global};
 use std::collections::HashMap;
 use std::hash::RandomState;
@@ -41,6 +39,14 @@ impl Drop for ProofBuilder {
     }
 }
 
+/// Where a label stands first; behind all, if nowhere.
+fn place_of(labels: &[Label], label: &[u8]) -> usize {
+    labels
+        .iter()
+        .position(|known| known.as_slice() == label)
+        .unwrap_or(labels.len())
+}
+
 impl ProofBuilder {
     /// No step. The keys are those from which the map draws its hashes. It asks for no memory.
     pub fn new(alloc: Global, keys: RandomState) -> ProofBuilder
@@ -69,7 +75,7 @@ impl ProofBuilder {
     /// Where a label is looked for among those that are cited: at the hint, if it stands there.
     fn guess(&self, hint: usize, label: &[u8]) -> usize {
         let cited = self.proof.cited();
-        if stands_at(cited, hint, label) {
+        if hint < cited.len() && cited[hint].as_slice() == label {
             return hint;
         }
         if cited.len() <= FEW {
@@ -114,11 +120,11 @@ impl ProofBuilder {
         ensures { OnOk result (self.new ≡ self.old ++ seen_step step.entry ∷ []) }
     {
         let StepRef::Cite(label) = step else {
-            return self.proof.push_guessed(alloc, hint, step);
+            return self.proof.push(alloc, hint, step);
         };
         let guess = self.guess(hint, label);
         let count = self.proof.cited().len();
-        let place = self.proof.push_cite(alloc, guess, label)?;
+        let place = self.proof.push(alloc, guess, step)?;
         if self.proof.cited().len() > count {
             self.note_last(alloc)?;
         }
