@@ -43,7 +43,7 @@ seen_unit_place (unit.InDistinct b vs) = in_distinct b vs.items
 seen_unit_place (unit.InHypothesis b label e) = in_hypothesis b label.now e.items
 seen_unit_place (unit.InAxiom s label e) = in_axiom (seen_scope s) label.now e.items
 seen_unit_place (unit.InTheorem s label e) = in_theorem (seen_scope s) label.now e.items
-seen_unit_place (unit.InProof p) = in_proof (seen_scope p.scope) p.label.now p.expression.items p.steps
+seen_unit_place (unit.InProof p) = in_proof (seen_scope p.scope) p.label.now p.expression.items p.steps.value
 
 -- a place of the code
 abbrev pub seen_place : CodePlace → Place

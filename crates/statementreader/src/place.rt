@@ -6,6 +6,7 @@ ghost use Rattle.statementreader.specs.Views.{seen_place, seen_behind, is_outerm
 use mmsyntax::Symbol;
 use mmtext::Token;
 use mmunits::{Block, ProofBuilder};
+use std::alloc::Global;
 
 /// Outermost, or in a block that holds this much.
 #[derive(Drop)]
@@ -56,7 +57,8 @@ pub struct Theorem<'a> {
     pub scope: Scope<'a>,
     pub label: &'a [u8],
     pub expression: Vec<Symbol>,
-    pub steps: ProofBuilder,
+    /// On the heap: a place moves with each token.
+    pub steps: Box<ProofBuilder, Global>,
 }
 
 /// What was read of the statement that a token stands in.

@@ -141,7 +141,7 @@ fn label_named(label: &[u8], hypothesis: Option<u32>, word: &[u8]) -> Result<Nam
 }
 
 /// What a word names as a step behind `count` steps of a proof of the assertion with a label, where it names, if any, the hypothesis at a
-/// place, counted from 0; or why it names nothing. No assertion is looked up.
+/// place, counted from 0, of at most 1,000; or why it names nothing. No assertion is looked up.
 pub fn named_step(
     symbols: &SymbolTable,
     label: &[u8],

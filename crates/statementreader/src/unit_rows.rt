@@ -18,7 +18,7 @@ use crate::place::{Behind, Place, PreludePlace, Scope, Theorem, UnitPlace};
 use crate::steps::{push_named, restrict, step_at};
 use mmsyntax::{Assertion, Kind, Label, Proof, Sequence, Symbol, SymbolTable};
 use mmtext::{FaultKind, Mark, Stop, Token, fault_at, is_label_token};
-use mmunits::{Block, Units};
+use mmunits::{Block, ProofBuilder, Units};
 use std::alloc::{AllocError, Global};
 
 /// Start of a statement, outermost.
@@ -386,7 +386,7 @@ fn theorem_symbol<'a>(
             scope,
             label,
             expression,
-            steps: ProofBuilder::new(alloc, symbols.keys()),
+            steps: Box::new(alloc, ProofBuilder::new(alloc, symbols.keys()))?,
         };
         return Ok(Place::Unit(UnitPlace::InProof(theorem)));
     }
@@ -404,7 +404,7 @@ fn end_theorem<'a>(
     ensures { Leads symbols.now units.new result
         (at (with_assertion (known_of symbols.now units.old)
         (theorem_of (block_of (seen_scope theorem.entry.scope)) theorem.entry.label.now theorem.entry.expression.items
-        theorem.entry.steps)) (behind (seen_scope theorem.entry.scope))) }
+        theorem.entry.steps.value)) (behind (seen_scope theorem.entry.scope))) }
 {
     let Theorem {
         scope,
@@ -420,7 +420,7 @@ fn end_theorem<'a>(
         label,
         Kind::Theorem,
         expression,
-        steps.into_proof(),
+        Box::into_inner(steps).into_proof(),
     )
 }
 
@@ -434,7 +434,7 @@ fn next_step<'a>(
 ) -> Result<Place<'a>, Stop>
     ensures { Leads symbols.now units.now result
         (next_step (known_of symbols.now units.now) (seen_scope theorem.entry.scope) theorem.entry.label.now theorem.entry.expression.items
-        theorem.entry.steps (seen token.entry)) }
+        theorem.entry.steps.value (seen token.entry)) }
 {
     let count = theorem.steps.len();
     match step_at(symbols, theorem.label, &theorem.scope, count, token.text) {
@@ -457,7 +457,7 @@ fn proof_step<'a>(
 ) -> Result<Place<'a>, Stop>
     ensures { Leads symbols.now units.new result
         (proof_row (known_of symbols.now units.old) (seen_scope theorem.entry.scope) theorem.entry.label.now theorem.entry.expression.items
-        theorem.entry.steps (seen token.entry) mark) }
+        theorem.entry.steps.value (seen token.entry) mark) }
 {
     if mark == Mark::End && !theorem.steps.is_empty() {
         return end_theorem(alloc, symbols, units, theorem);

@@ -79,8 +79,8 @@ fn take_step<'a>(
     requires { Knows symbols.now recent.old }
     ensures knows { Knows symbols.now recent.new }
     ensures kept { theorem.new ≡ record theorem.old { steps = theorem.new.steps } }
-    ensures taken { TakesItem (seen token.entry) theorem.old.steps theorem.new.steps
-        (step_of symbols.now theorem.old.label.now (block_of (seen_scope theorem.old.scope)).hyps (length theorem.old.steps)
+    ensures taken { TakesItem (seen token.entry) theorem.old.steps.value theorem.new.steps.value
+        (step_of symbols.now theorem.old.label.now (block_of (seen_scope theorem.old.scope)).hyps (length theorem.old.steps.value)
         token.entry.text.now) result }
 {
     let place = recent.look_up(alloc, symbols, token.text)?;
