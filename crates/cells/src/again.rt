@@ -1,6 +1,5 @@
 //! Steps that stand in a proof again: hints where they stood before.
 
-use std::hash::{FoldHasher, Hasher};
 use std::mem;
 
 /// How many hints there are.
@@ -23,11 +22,4 @@ impl Hints {
     pub(crate) fn exchange(&mut self, number: usize, place: usize) -> usize {
         mem::replace(&mut self.places[number % HINTS], place)
     }
-}
-
-/// A number for a label.
-pub(crate) fn number_of(label: &[u8]) -> usize {
-    let mut hasher = FoldHasher::default();
-    hasher.write(label);
-    hasher.finish() as usize
 }
