@@ -150,11 +150,7 @@ pub fn stored_proof<C: Cells>(
 }
 
 /// The proof of the assertion in the slot, with each cited assertion by its label; no steps of an axiom.
-pub fn proof<C: Cells>(
-    alloc: Global,
-    cells: &mut C,
-    slot: usize,
-) -> Result<Proof, Halt<C::Stop>>
+pub fn proof<C: Cells>(alloc: Global, cells: &mut C, slot: usize) -> Result<Proof, Halt<C::Stop>>
     requires { slot < (C.sight cells.old).setting.slots }
     ensures looks { Looks (C.sight cells.old) (C.sight cells.new) }
     ensures ok { IfOk result (λ made. ForEachHeld (C.sight cells.new) slot (λ st lib e. made ≡ e.assertion.proof)) }
@@ -168,9 +164,9 @@ pub fn proof<C: Cells>(
     let slots = slot_count(cells);
     let mut cited = Vec::new(alloc);
     let mut words = Vec::with_capacity(alloc, kept.len())?;
-    let mut hints = Hints::new();
+    let mut hints = Hints::new(alloc, &kept)?;
     for (i, step) in kept.iter().enumerate() {
-        let hint = hints.exchange(number_of_stored(*step), i);
+        let hint = hints.exchange(*step, i);
         let word = word_again(alloc, cells, slots, &kept, &mut cited, &words, hint, *step)?;
         words.push(word)?;
     }
@@ -194,17 +190,8 @@ fn are_small(steps: &[StoredStep]) -> bool
     steps.len() <= PLACES as usize && steps.iter().all(|step| is_small(*step))
 }
 
-/// A number for a step in the store.
-fn number_of_stored(step: StoredStep) -> usize {
-    match step {
-        StoredStep::Float(place) => place as usize,
-        StoredStep::Hyp(place) => place as usize,
-        StoredStep::Slot(slot) => slot as usize,
-    }
-}
-
-/// The word of a step in the store over labels: that of the step at a place, if it is stored as the same, so that the label of an
-/// assertion that a proof cites again and again is read once.
+/// The word of a step in the store over labels: that of the step at a place, if it is stored as the same, so that the label of each
+/// assertion that a proof cites is read once.
 fn word_again<C: Cells>(
     alloc: Global,
     cells: &mut C,
@@ -353,8 +340,7 @@ pub fn resolve<C: Cells>(
     found.resize(over.cited.len(), None)?;
     for i in 0..count {
         let step = over.step(i);
-        let Some(stored) =
-            stored_step(cells, over.cited, &mut found, step).map_err(Halt::Stopped)?
+        let Some(stored) = stored_step(cells, over.cited, &mut found, step).map_err(Halt::Stopped)?
         else {
             return Ok(None);
         };
