@@ -1,25 +1,27 @@
 -- Steps with each cited label as the slot that has it.
-use Rattle.std.proofs.Common.{◌≡◌, ℕ, ◌+◌, ◌<◌, true, false, List, [], ◌∷◌, ◌++◌, Some, None, length, get_or, take, refl, sym, ap, subst, ◌∙◌, inl, inr, arith, length-append}
+use Rattle.std.proofs.Common.{◌≡◌, ℕ, ◌+◌, ◌<◌, true, false, List, [], ◌∷◌, ◌++◌, Some, None, length, get_or, take, drop, refl, sym, ap, subst, ◌∙◌, inl, inr, arith, length-append}
 use Rattle.std.proofs.lemmas.Grind.{common_steps}
 use mathlib.Core.Bool.{not}
 use Rattle.std.specs.List.{AllZip}
-use Rattle.std.proofs.lemmas.Bool.{cases_Bool, cond-true, cond-false}
-use Rattle.std.proofs.lemmas.List.{take_more, take_all, length-take-le, get_or-take, get_or_default}
+use Rattle.std.specs.Prelude.{Option, slice_set}
+use Rattle.std.proofs.lemmas.Bool.{cases_Bool, cases_eq, cond-true, cond-false}
+use Rattle.std.proofs.lemmas.List.{take_more, take_all, drop_all, append-nil, length-set, get_or-set_same, get_or-set_other}
 use Rattle.std.proofs.lemmas.List.Folds.{list_any_at}
 use Rattle.mmsyntax.specs.declared.statement.Step.{Step}
-use Rattle.mmsyntax.specs.declared.statement.Step.TheVariants.{Cite, Float as FloatStep, Hyp as HypStep}
+use Rattle.mmsyntax.specs.declared.statement.Step.TheVariants.{Cite}
 use Rattle.library.specs.declared.library.Ranked.{Ranked}
 use Rattle.library.specs.Edits.{is_labelled, has, found, is_of_unknown}
 use Rattle.library.proofs.Places.{found_in}
 use Rattle.bodystore.specs.declared.stored.StoredStep.{StoredStep}
-use Rattle.bodystore.specs.declared.stored.StoredStep.TheVariants.{Slot, Float, Hyp}
+use Rattle.bodystore.specs.declared.stored.StoredStep.TheVariants.{Slot}
 use Rattle.cells.specs.Shows.{IsNamed, IsStoredAs, AreStoredAs}
 use Rattle.cells.specs.Sight.{Sight, Looks, after}
 use Rattle.ranges.specs.Ranges.{Has}
-use Rattle.cells.specs.Lookups.{ForEach, Finds, AreWithin, StoresStep, Resolves}
-use Rattle.ranges.proofs.Members.{has_append_cases, has_from_contains}
+use Rattle.cells.specs.Lookups.{ForEach, Finds, IsFoundAt, AreWithin, StoresStep, Resolves}
+use Rattle.cells.specs.Words.{AreFound}
+use Rattle.ranges.proofs.Members.{has_append_cases}
 use Rattle.cells.proofs.Sights.{for_each_later}
-use Rattle.cells.proofs.ReadBack.{zip_at}
+use Rattle.cells.proofs.Settings.{same_slots}
 
 -- ---- one step
 
@@ -45,26 +47,45 @@ found_stored s label i step is finds = (within_one, told)
         let named : IsNamed s.setting.slots (after s st) i label = subst (IsNamed s.setting.slots (after s st) i) (sym at.1) f.holds.name in
         subst (λ (x : Step). IsStoredAs (IsNamed s.setting.slots (after s st)) x (Slot i)) (sym is) named
 
--- a step that names no slot
-no_slot : (n : ℕ) (x : StoredStep) → ((i : ℕ) → Slot i ≡ x → ⊥) → AreWithin n (x ∷ [])
-no_slot n x other i (inl e) = absurd (other i e)
-no_slot n x other i (inr h) = absurd h
-
-pub float_stored : {O : Type 0} → (s : Sight O) (place : ℕ) (step : Step) → step ≡ FloatStep place → StoresStep s step (Some (Float place))
-float_stored s place step is = (
-  no_slot s.setting.slots (Float place) (λ i e. cc),
-  λ st lib v. subst (λ (x : Step). IsStoredAs (IsNamed s.setting.slots (after s st)) x (Float place)) (sym is) refl,
-)
-
-pub hyp_stored : {O : Type 0} → (s : Sight O) (place : ℕ) (step : Step) → step ≡ HypStep place → StoresStep s step (Some (Hyp place))
-hyp_stored s place step is = (
-  no_slot s.setting.slots (Hyp place) (λ i e. cc),
-  λ st lib v. subst (λ (x : Step). IsStoredAs (IsNamed s.setting.slots (after s st)) x (Hyp place)) (sym is) refl,
-)
-
 pub none_stored : {O : Type 0} → (s : Sight O) (label : List ℕ) (step : Step) → step ≡ Cite label → Finds s label None → StoresStep s step None
 none_stored s label step is finds = λ st lib v.
     subst (λ (x : Step). is_of_unknown lib x ≡ true) (sym is) (ap not (none_known lib label (finds st lib v)))
+
+-- ---- the slots that were found before
+
+finds_after : {O : Type 0} → (r s : Sight O) (label : List ℕ) (i : ℕ) → Looks r s → Finds r label (Some i) → Finds s label (Some i)
+finds_after r s label i looks finds = (
+  subst (λ (k : ℕ). i < k) (sym (same_slots r s looks)) finds.0,
+  for_each_later r s (λ st lib. IsFoundAt s.setting.slots st lib label i) looks
+      (subst (λ (k : ℕ). ForEach r (λ st lib. IsFoundAt k st lib label i)) (sym (same_slots r s looks)) finds.1),
+)
+
+pub found_later : {O : Type 0} → (r s : Sight O) (labels : List (List ℕ)) (found : List (Option ℕ)) → Looks r s → AreFound r labels found
+    → AreFound s labels found
+found_later r s labels found looks are =
+    (are.0, λ k i lt some. finds_after r s (get_or labels k []) i looks (are.1 k i lt some))
+
+-- and one more
+pub found_more : {O : Type 0} → (r s : Sight O) (labels : List (List ℕ)) (found : List (Option ℕ)) (n i : ℕ) → Looks r s → n < length labels
+    → AreFound r labels found → Finds s (get_or labels n []) (Some i) → AreFound s labels (slice_set found n (Some i))
+found_more r s labels found n i looks lt are one = (
+  length-set found n (Some i) ∙ are.0,
+  λ k j below some. elim (cases_eq k n) [
+    | inl here ↦
+        let at : Some i ≡ Some j = sym (get_or-set_same found n (Some i) None (let long = are.0 in omega (arith, long, lt)))
+        ∙ ap (λ (m : ℕ). get_or (slice_set found n (Some i)) m None) (sym here) ∙ some in
+        let same : i ≡ j = cc in
+        subst (λ (m : ℕ). Finds s (get_or labels m []) (Some j)) (sym here) (subst (λ (m : ℕ). Finds s (get_or labels n []) (Some m)) same one)
+    | inr other ↦
+        finds_after r s (get_or labels k []) j looks (are.1 k j below (sym (get_or-set_other found n k (Some i) None other) ∙ some))
+  ],
+)
+
+-- a list that is lent and given back with as many items
+pub written_back : {A : Type 0} → (items new : List A) (n : ℕ) → n ≡ length items → length new ≡ length items → take n (new ++ drop (length new) items) ≡ new
+written_back items new n is same =
+    ap (λ rest. take n (new ++ rest)) (drop_all (length new) items (omega (arith, same))) ∙ ap (take n) (append-nil new)
+    ∙ take_all n new (omega (arith, is, same))
 
 -- ---- one after another
 
@@ -111,34 +132,6 @@ resolve_on r s slots i steps kept more x y is looks each stores here lt push = (
 pub resolve_fails : {O : Type 0} → (s : Sight O) (i : ℕ) (steps : List Step) (x : Step) → StoresStep s x None → x ≡ get_or steps i x → i < length steps → Resolves s steps None
 resolve_fails s i steps x stores here lt = λ st lib v.
     list_any_at (is_of_unknown lib) steps i x lt (subst (λ (z : Step). is_of_unknown lib z ≡ true) here (stores st lib v))
-
--- what is stored so far
-pub resolved_so_far : {O : Type 0} → (s : Sight O) (slots i : ℕ) (steps : List Step) (kept seen : List StoredStep) → slots ≡ s.setting.slots
-    → i < length steps → AreResolved s slots (take i steps) kept → seen ≡ kept → Resolves s (take (length seen) steps) (Some seen)
-resolved_so_far s slots i steps kept seen is lt each same =
-    let front = each.0 in
-    let n : length kept ≡ i = omega (arith, front, length-take-le i steps (omega arith)) in
-    subst (λ (ks : List StoredStep). Resolves s (take (length ks) steps) (Some ks)) (sym same)
-    (subst (λ (m : ℕ). Resolves s (take m steps) (Some kept)) (sym n) (
-      front,
-      subst (λ (m : ℕ). AreWithin m kept) is each.1,
-      λ st lib v. subst (λ (m : ℕ). AreStoredAs m (after s st) (take i steps) kept) is (each.2 st lib v),
-    ))
-
--- and a step that is one of those is stored as that one
-pub stored_at : {O : Type 0} → (s : Sight O) (steps : List Step) (kept : List StoredStep) (k : ℕ) (x : Step) (d : StoredStep)
-    → Resolves s (take (length kept) steps) (Some kept) → k < length kept → x ≡ get_or steps k x → StoresStep s x (Some (get_or kept k d))
-stored_at s steps kept k x d each lt stands = (within, told)
-  where
-    within : AreWithin s.setting.slots (get_or kept k d ∷ [])
-    within i (inl e) = each.1 i (has_from_contains kept (Slot i) (k, lt, get_or_default kept k (Slot i) d lt ∙ sym e))
-    within i (inr h) = absurd h
-
-    told : ForEach s (λ st lib. IsStoredAs (IsNamed s.setting.slots st) x (get_or kept k d))
-    told st lib v =
-        let at = zip_at (IsStoredAs (IsNamed s.setting.slots (after s st))) (take (length kept) steps) kept k x d (each.2 st lib v) lt in
-        let same : get_or (take (length kept) steps) k x ≡ x = get_or-take (length kept) steps k x lt ∙ sym stands in
-        subst (λ (y : Step). IsStoredAs (IsNamed s.setting.slots (after s st)) y (get_or kept k d)) same at.0
 
 pub resolve_all : {O : Type 0} → (s : Sight O) (slots i : ℕ) (steps : List Step) (kept : List StoredStep) → slots ≡ s.setting.slots → length steps ≡ i
     → AreResolved s slots (take i steps) kept → Resolves s steps (Some kept)

@@ -130,8 +130,8 @@ module _ (s : Setting) (lib : List Ranked) (v : Verifies s lib) (e : Ranked) (at
       let few = unit_of.fits.few_steps in (
         omega (arith, long, few),
         each_stored (IsNameable s.prelude (length e.assertion.hyps)) (IsStoredAs (IsNamed s.slots st)) HasSmallPlace
-        (λ x y named is. small_place s.prelude ((sound_where_apart s.prelude).0 v.setting.sound) s.slots (length e.assertion.hyps) st x y
-        unit_of.fits.few_hyps named is) e.assertion.proof kept unit_of.steps z,
+            (λ x y named is. small_place s.prelude ((sound_where_apart s.prelude).0 v.setting.sound) s.slots (length e.assertion.hyps) st x y
+            unit_of.fits.few_hyps named is) e.assertion.proof kept unit_of.steps z,
       )
 
   pub rank_small : e.rank < 2 ^ 32

@@ -1,33 +1,36 @@
-//! Steps that stand in a proof again: hints where they stood before.
+//! Slots that the steps of a proof cite again: hints where they were cited before.
 
-use std::hash::{FoldHasher, Hasher};
+use crate::counts::cited_slots;
+use bodystore::StoredStep;
+use std::alloc::{AllocError, Global};
 use std::mem;
 
-/// How many hints there are.
-const HINTS: usize = 64;
-
-/// Of each of a few numbers the place of the step that had it last. A number may be that of other steps too, so whoever takes a hint
-/// compares what stands there.
+/// Of each slot that the steps of a proof cite the place of the last step that cited it, once there was one. Whoever takes a hint compares
+/// what stands there.
 #[derive(Drop)]
 pub(crate) struct Hints {
-    places: [usize; HINTS],
+    /// Ascending.
+    slots: Vec<usize>,
+    places: Vec<usize>,
 }
 
 impl Hints {
-    /// The first place for each number.
-    pub(crate) fn new() -> Hints {
-        Hints { places: [0; HINTS] }
+    /// No place yet: behind all steps.
+    pub(crate) fn new(alloc: Global, steps: &[StoredStep]) -> Result<Hints, AllocError> {
+        let slots = cited_slots(alloc, steps)?;
+        let mut places = Vec::new(alloc);
+        places.resize(slots.len(), steps.len())?;
+        Ok(Hints { slots, places })
     }
 
-    /// The place that was noted for a number, in whose stead this one is.
-    pub(crate) fn exchange(&mut self, number: usize, place: usize) -> usize {
-        mem::replace(&mut self.places[number % HINTS], place)
+    /// The place that was noted for the slot that a step cites, in whose stead the step's own is; its own, where it cites none.
+    pub(crate) fn exchange(&mut self, step: StoredStep, place: usize) -> usize {
+        let StoredStep::Slot(slot) = step else {
+            return place;
+        };
+        match self.slots.binary_search(&(slot as usize)) {
+            Ok(n) if n < self.places.len() => mem::replace(&mut self.places[n], place),
+            _ => place,
+        }
     }
-}
-
-/// A number for a label.
-pub(crate) fn number_of(label: &[u8]) -> usize {
-    let mut hasher = FoldHasher::default();
-    hasher.write(label);
-    hasher.finish() as usize
 }

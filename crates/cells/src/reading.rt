@@ -1,8 +1,8 @@
 //! Reads an assertion back from its slot.
 
-ghost use Rattle.std.specs.Prelude.{◌≡◌, ◌<◌, ◌≤◌, ◌+◌, ◌^◌, ◌⊎◌, ◌↔◌, IfOk, IsTrue, Some, All, true, length, take};
+ghost use Rattle.std.specs.Prelude.{◌≡◌, ◌<◌, ◌≤◌, ◌+◌, ◌^◌, ◌⊎◌, ◌↔◌, IfOk, IsTrue, [], All, length, take, slice_index_or};
 ghost use Rattle.mmsyntax.specs.declared.statement.Step.TheVariants.{Cite};
-ghost use Rattle.mmsyntax.specs.ProofWords.{IsWord, AreWords, step_of, steps_of, seen_step};
+ghost use Rattle.mmsyntax.specs.ProofWords.{IsWord, AreWords, IsWithin, step_of, steps_of, step_in};
 ghost use Rattle.mmframes.specs.Frames.{frame};
 ghost use Rattle.library.specs.Library.{label_of};
 ghost use Rattle.library.specs.Edits.{citers};
@@ -11,11 +11,11 @@ ghost use Rattle.bodystore.specs.Bodies.{kind_word, statement_of};
 ghost use Rattle.std.specs.Option.{option_map};
 ghost use Rattle.cells.specs.Sight.{Looks, ReadsWithin};
 ghost use Rattle.cells.specs.Slots.{name_cell, statement_cell, proof_cell, rank_cell, citers_cell};
-ghost use Rattle.cells.specs.Footprints.{ReadsWhere, IsOfProof, IsOfAssertion, IsOfStep, IsOfResolving, IsNameCited};
-ghost use Rattle.cells.specs.Lookups.{ForEachHeld, TellsLabelOf, IsNameAt, AreStepsAt, IsStepOf, AreStepsOf, StoresStep, Resolves};
-ghost use Rattle.cells.specs.Words.{HasSmallPlace};
+ghost use Rattle.cells.specs.Footprints.{ReadsWhere, IsOfProof, IsOfAssertion, IsOfLook, IsOfStep, IsOfResolving, IsNameCited};
+ghost use Rattle.cells.specs.Lookups.{ForEachHeld, TellsLabelOf, IsNameAt, AreStepsAt, IsStepOf, AreStepsOf, Finds, StoresStep, Resolves};
+ghost use Rattle.cells.specs.Words.{HasSmallPlace, AreFound};
 
-use crate::again::{Hints, number_of};
+use crate::again::Hints;
 use crate::cells::Cells;
 use crate::finding::find;
 use crate::halt::Halt;
@@ -24,7 +24,7 @@ use crate::words::{first_word, words_of};
 use bodystore::{Statement, StoredStep, decode_label, decode_proof, decode_statement};
 use library::Ranked;
 use mmframes::frame_of;
-use mmsyntax::{Assertion, Frame, Kind, Label, PLACES, Prelude, Proof, StepRef};
+use mmsyntax::{Assertion, Frame, Kind, Label, PLACES, Prelude, Proof, WordStep};
 use std::alloc::Global;
 
 /// How many assertions cite the one in the slot.
@@ -150,11 +150,7 @@ pub fn stored_proof<C: Cells>(
 }
 
 /// The proof of the assertion in the slot, with each cited assertion by its label; no steps of an axiom.
-pub fn proof<C: Cells>(
-    alloc: Global,
-    cells: &mut C,
-    slot: usize,
-) -> Result<Proof, Halt<C::Stop>>
+pub fn proof<C: Cells>(alloc: Global, cells: &mut C, slot: usize) -> Result<Proof, Halt<C::Stop>>
     requires { slot < (C.sight cells.old).setting.slots }
     ensures looks { Looks (C.sight cells.old) (C.sight cells.new) }
     ensures ok { IfOk result (λ made. ForEachHeld (C.sight cells.new) slot (λ st lib e. made ≡ e.assertion.proof)) }
@@ -168,9 +164,9 @@ pub fn proof<C: Cells>(
     let slots = slot_count(cells);
     let mut cited = Vec::new(alloc);
     let mut words = Vec::with_capacity(alloc, kept.len())?;
-    let mut hints = Hints::new();
+    let mut hints = Hints::new(alloc, &kept)?;
     for (i, step) in kept.iter().enumerate() {
-        let hint = hints.exchange(number_of_stored(*step), i);
+        let hint = hints.exchange(*step, i);
         let word = word_again(alloc, cells, slots, &kept, &mut cited, &words, hint, *step)?;
         words.push(word)?;
     }
@@ -194,17 +190,8 @@ fn are_small(steps: &[StoredStep]) -> bool
     steps.len() <= PLACES as usize && steps.iter().all(|step| is_small(*step))
 }
 
-/// A number for a step in the store.
-fn number_of_stored(step: StoredStep) -> usize {
-    match step {
-        StoredStep::Float(place) => place as usize,
-        StoredStep::Hyp(place) => place as usize,
-        StoredStep::Slot(slot) => slot as usize,
-    }
-}
-
-/// The word of a step in the store over labels: that of the step at a place, if it is stored as the same, so that the label of an
-/// assertion that a proof cites again and again is read once.
+/// The word of a step in the store over labels: that of the step at a place, if it is stored as the same, so that the label of each
+/// assertion that a proof cites is read once.
 fn word_again<C: Cells>(
     alloc: Global,
     cells: &mut C,
@@ -335,7 +322,8 @@ pub fn frame<C: Cells>(
     Ok(frame_of(alloc, prelude, &bare)?)
 }
 
-/// The steps with each cited label as the slot that has it; none where some step cites a label that no assertion has.
+/// The steps with each cited label as the slot that has it; none where some step cites a label that no assertion has. A label is looked for
+/// at the first step that cites it, and not again.
 pub fn resolve<C: Cells>(
     alloc: Global,
     cells: &mut C,
@@ -345,12 +333,14 @@ pub fn resolve<C: Cells>(
     ensures ok { IfOk result (λ kept. Resolves (C.sight cells.new) steps.now (option_map (λ v. v.items) kept)) }
     ensures reads { ReadsWhere (IsOfResolving (C.sight cells.old).setting.slots steps.now) (C.sight cells.old) (C.sight cells.new) }
 {
-    let mut kept = Vec::with_capacity(alloc, steps.len())?;
-    let mut hints = Hints::new();
-    for i in 0..steps.len() {
-        let step = steps.step(i);
-        let hint = hints.exchange(number_of_step(step), i);
-        let Some(stored) = stored_again(cells, steps, &kept, hint, step).map_err(Halt::Stopped)?
+    let over = steps.word_steps();
+    let count = over.words.len();
+    let mut kept = Vec::with_capacity(alloc, count)?;
+    let mut found = Vec::new(alloc);
+    found.resize(over.cited.len(), None)?;
+    for i in 0..count {
+        let step = over.step(i);
+        let Some(stored) = stored_step(cells, over.cited, &mut found, step).map_err(Halt::Stopped)?
         else {
             return Ok(None);
         };
@@ -359,60 +349,53 @@ pub fn resolve<C: Cells>(
     Ok(Some(kept))
 }
 
-/// A number for a step.
-fn number_of_step(step: StepRef<'_>) -> usize {
-    match step {
-        StepRef::Float(place) => place as usize,
-        StepRef::Hyp(place) => place as usize,
-        StepRef::Cite(label) => number_of(label),
-    }
-}
-
-/// Whether both steps cite one label.
-fn cite_the_same(step: StepRef<'_>, other: StepRef<'_>) -> bool
-    ensures { result ≡ true → seen_step step.entry ≡ seen_step other.entry }
-{
-    match (step, other) {
-        (StepRef::Cite(label), StepRef::Cite(cited)) => label == cited,
-        _ => false,
-    }
-}
-
-/// The step with a cited label as the slot that has it; none where it cites a label that no assertion has. If the step at a place, which
-/// is stored already, cites the same label, it is stored as that one, so that an assertion that a proof cites again and again is looked
-/// for once.
-fn stored_again<C: Cells>(
+/// The step with a cited label as the slot that has it; none where it cites a label that no assertion has. The labels are those of the
+/// proof, with the slots of those that were found before.
+fn stored_step<C: Cells>(
     cells: &mut C,
-    steps: &Proof,
-    kept: &[StoredStep],
-    hint: usize,
-    step: StepRef<'_>,
+    labels: &[Label],
+    found: &mut [Option<u32>],
+    step: WordStep,
 ) -> Result<Option<StoredStep>, C::Stop>
-    requires { Resolves (C.sight cells.old) (take (length kept.now) steps.now) (Some kept.now) }
+    requires within { IsWithin (length labels.now) step }
+    requires found { AreFound (C.sight cells.old) labels.now found.old }
     ensures looks { Looks (C.sight cells.old) (C.sight cells.new) }
-    ensures ok { IfOk result (λ stored. StoresStep (C.sight cells.new) (seen_step step.entry) stored) }
-    ensures reads { ReadsWhere (IsOfStep (C.sight cells.old).setting.slots (seen_step step.entry)) (C.sight cells.old) (C.sight cells.new) }
+    ensures found { AreFound (C.sight cells.new) labels.now found.new }
+    ensures ok { IfOk result (λ kept. StoresStep (C.sight cells.new) (step_in labels.now step) kept) }
+    ensures reads { ReadsWhere (IsOfStep (C.sight cells.old).setting.slots (step_in labels.now step)) (C.sight cells.old) (C.sight cells.new) }
 {
-    if hint < kept.len() && hint < steps.len() && cite_the_same(steps.step(hint), step) {
-        return Ok(Some(kept[hint]));
-    }
-    stored_step(cells, step)
-}
-
-/// The step with a cited label as the slot that has it; none where it cites a label that no assertion has.
-#[tactic(auto, using(crate::proofs::Resolving::float_stored, crate::proofs::Resolving::hyp_stored))]
-fn stored_step<C: Cells>(cells: &mut C, step: StepRef<'_>) -> Result<Option<StoredStep>, C::Stop>
-    ensures looks { Looks (C.sight cells.old) (C.sight cells.new) }
-    ensures ok { IfOk result (λ kept. StoresStep (C.sight cells.new) (seen_step step.entry) kept) }
-    ensures reads { ReadsWhere (IsOfStep (C.sight cells.old).setting.slots (seen_step step.entry)) (C.sight cells.old) (C.sight cells.new) }
-{
-    let _slots = slot_count(cells);
     match step {
-        StepRef::Float(place) => Ok(Some(StoredStep::Float(place))),
-        StepRef::Hyp(place) => Ok(Some(StoredStep::Hyp(place))),
-        StepRef::Cite(label) => match find(cells, label)? {
-            Some(slot) => Ok(Some(StoredStep::Slot(slot as u32))),
+        WordStep::Float(place) => Ok(Some(StoredStep::Float(place))),
+        WordStep::Hyp(place) => Ok(Some(StoredStep::Hyp(place))),
+        WordStep::Cite(n) => match slot_of(cells, labels, found, n as usize)? {
+            Some(slot) => Ok(Some(StoredStep::Slot(slot))),
             None => Ok(None),
         },
     }
+}
+
+/// The slot with the assertion that has the label at a place, or none where no assertion has it. Where it wasn't found before, it is looked
+/// for, and noted.
+fn slot_of<C: Cells>(
+    cells: &mut C,
+    labels: &[Label],
+    found: &mut [Option<u32>],
+    n: usize,
+) -> Result<Option<u32>, C::Stop>
+    requires within { n < length labels.now }
+    requires found { AreFound (C.sight cells.old) labels.now found.old }
+    ensures looks { Looks (C.sight cells.old) (C.sight cells.new) }
+    ensures found { AreFound (C.sight cells.new) labels.now found.new }
+    ensures ok { IfOk result (λ slot. Finds (C.sight cells.new) (slice_index_or labels.now n []) slot) }
+    ensures reads { ReadsWhere (IsOfLook (C.sight cells.old).setting.slots (slice_index_or labels.now n [])) (C.sight cells.old) (C.sight cells.new) }
+{
+    if let Some(slot) = found[n] {
+        return Ok(Some(slot));
+    }
+    let _slots = slot_count(cells);
+    let Some(slot) = find(cells, labels[n].as_slice())? else {
+        return Ok(None);
+    };
+    found[n] = Some(slot as u32);
+    Ok(Some(slot as u32))
 }

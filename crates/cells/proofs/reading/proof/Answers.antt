@@ -38,9 +38,15 @@ loop-i-init g c =
     let none : length c.in_ok-words.words.items ≡ 0 = ap (λ (ws : List ℕ). length ws) c.in_ok-words.ensures.items in
     let empty : steps_of c.new-cited.result.items c.in_ok-words.words.items ≡ [] = ap (λ (ws : List ℕ). steps_of c.new-cited.result.items ws) c.in_ok-words.ensures.items in
     let no_step : length (steps_of c.new-cited.result.items c.in_ok-words.words.items) ≡ 0 = ap (λ (ys : List Step). length ys) empty in
-    let no_label : length c.new-cited.result.items ≡ 0 = ap (λ (ls : List (List ℕ)). length ls) c.new-cited.ensures.items in
-    (looks_refl _, λ st xs m short z. empty, none, λ k d e lt. absurd (omega (arith, no_step, lt)), asks_nothing (nothing_same _),
-    λ k d lt. absurd (omega (arith, none, lt)), omega (arith, no_label))
+    let no_label : length c.new-cited.result.items ≡ 0 = ap (λ (ls : List (List ℕ)). length ls) c.new-cited.ensures.items in (
+      looks_refl _,
+      λ st xs m short z. empty,
+      none,
+      λ k d e lt. absurd (omega (arith, no_step, lt)),
+      asks_nothing (nothing_same _),
+      λ k d lt. absurd (omega (arith, none, lt)),
+      omega (arith, no_label),
+    )
 
 pub loop-i-preserved : goal.loop-i-preserved
 loop-i-preserved g c =
@@ -105,6 +111,9 @@ returns-then-not-are_small-clause-ok g c = λ st lib v e at h.
 
 pub returns-in_err-words-clause-reads : goal.returns-in_err-words-clause-reads
 returns-in_err-words-clause-reads g c = λ st lib v e at h. asks_cell (inl refl) c.stored_proof.ensures.reads
+
+pub returns-in_err-hints-clause-reads : goal.returns-in_err-hints-clause-reads
+returns-in_err-hints-clause-reads g c = λ st lib v e at h. asks_cell (inl refl) c.stored_proof.ensures.reads
 
 pub returns-in_err-word-clause-reads : goal.returns-in_err-word-clause-reads
 returns-in_err-word-clause-reads g c =

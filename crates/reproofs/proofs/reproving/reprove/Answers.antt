@@ -106,7 +106,7 @@ returns-in_err-kept-clause-answers g c =
     let theorem = c.in_default-kind.is in
     let is = c.into_assertion-theorem.ensures
     ∙ retitled c.in_ok-statement.statement c.in_ok-copy.field-0 c.args.label.now c.in_ok-proof.proof c.args.steps.now c.in_ok-copy.ensures
-    (c.in_ok-proof.ensures ∙ c.as_slice-2.ensures) in
+    c.in_ok-proof.ensures in
     answers_tested s0 s4 (command.Reprove label steps) rank a c.from_residual-in_err-kept.result c.in_err-kept.field-0.0
     c.from_residual-in_err-kept.ensures.1 c.in_err-kept.ensures.err (λ r fails.
     refused_later s0 s4 (command.Reprove label steps) r looks
@@ -114,7 +114,7 @@ returns-in_err-kept-clause-answers g c =
 
 pub put_steps-requires-clause-within : goal.put_steps-requires-clause-within
 put_steps-requires-clause-within g c =
-    subst (AreWithin (g.C.Cells.sight c.test_proof.new.cells).setting.slots) (sym c.as_slice-3.ensures.value) c.in_ok-kept.ensures.ok.within
+    subst (AreWithin (g.C.Cells.sight c.test_proof.new.cells).setting.slots) (sym c.as_slice-2.ensures.value) c.in_ok-kept.ensures.ok.within
 
 pub returns-in_err-put_steps-clause-onward : goal.returns-in_err-put_steps-clause-onward
 returns-in_err-put_steps-clause-onward g c =
@@ -152,10 +152,10 @@ returns-clause-answers g c =
     let theorem = c.in_default-kind.is in
     let is = c.into_assertion-theorem.ensures
     ∙ retitled c.in_ok-statement.statement c.in_ok-copy.field-0 c.args.label.now c.in_ok-proof.proof c.args.steps.now c.in_ok-copy.ensures
-    (c.in_ok-proof.ensures ∙ c.as_slice-2.ensures) in
+    c.in_ok-proof.ensures in
     let s5 = g.C.Cells.sight c.put_steps.new.cells in
     let kept = c.in_ok-kept.kept.items in
-    let reproves = subst (ReprovesAt s4 s5 i label) c.as_slice-3.ensures.value (c.in_ok-put_steps.ensures.ok label) in
+    let reproves = subst (ReprovesAt s4 s5 i label) c.as_slice-2.ensures.value (c.in_ok-put_steps.ensures.ok label) in
     reproved s4 i label made stated here steps theorem rank ranked a is s0 s5 kept looks c.put_steps.ensures.onward c.in_ok-kept.ensures.ok
     reproves c.in_ok-put_steps.ensures.written
 
@@ -166,11 +166,11 @@ returns-in_err-put_steps-clause-taken g c st lib m v =
     let a = c.into_assertion-theorem.result in
     let is = c.into_assertion-theorem.ensures
     ∙ retitled c.in_ok-statement.statement c.in_ok-copy.field-0 c.args.label.now c.in_ok-proof.proof c.args.steps.now c.in_ok-copy.ensures
-    (c.in_ok-proof.ensures ∙ c.as_slice-2.ensures) in
+    c.in_ok-proof.ensures in
     let long = stored_taken (g.C.Cells.sight c.args.cells.now) (g.C.Cells.sight c.test_proof.new.cells) (g.C.Cells.sight c.put_steps.new.cells)
     looks c.put_steps.ensures.onward a.proof c.in_ok-kept.kept.items c.in_ok-kept.ensures.ok.stored st lib m v in
     let steps = ap (λ (x : Assertion). length x.proof) is in
-    let same = ap (λ (ks : List StoredStep). length (proof_body ks)) c.as_slice-3.ensures.value in
+    let same = ap (λ (ks : List StoredStep). length (proof_body ks)) c.as_slice-2.ensures.value in
     omega (arith, long, steps, same, c.put_steps.ensures.taken, looks.taken)
 
 pub returns-clause-taken : goal.returns-clause-taken
@@ -180,11 +180,11 @@ returns-clause-taken g c st lib m v =
     let a = c.into_assertion-theorem.result in
     let is = c.into_assertion-theorem.ensures
     ∙ retitled c.in_ok-statement.statement c.in_ok-copy.field-0 c.args.label.now c.in_ok-proof.proof c.args.steps.now c.in_ok-copy.ensures
-    (c.in_ok-proof.ensures ∙ c.as_slice-2.ensures) in
+    c.in_ok-proof.ensures in
     let long = stored_taken (g.C.Cells.sight c.args.cells.now) (g.C.Cells.sight c.test_proof.new.cells) (g.C.Cells.sight c.put_steps.new.cells)
     looks c.put_steps.ensures.onward a.proof c.in_ok-kept.kept.items c.in_ok-kept.ensures.ok.stored st lib m v in
     let steps = ap (λ (x : Assertion). length x.proof) is in
-    let same = ap (λ (ks : List StoredStep). length (proof_body ks)) c.as_slice-3.ensures.value in
+    let same = ap (λ (ks : List StoredStep). length (proof_body ks)) c.as_slice-2.ensures.value in
     omega (arith, long, steps, same, c.put_steps.ensures.taken, looks.taken)
 
 pub returns-clause-keeps : goal.returns-clause-keeps
@@ -204,12 +204,12 @@ returns-clause-keeps g c =
     (ok_mapped _ _ _ _ _ c.in_ok-slot.was c.map_err.ensures.cases c.find.ensures.ok)) in
     let is = c.into_assertion-theorem.ensures
     ∙ retitled c.in_ok-statement.statement c.in_ok-copy.field-0 c.args.label.now c.in_ok-proof.proof c.args.steps.now c.in_ok-copy.ensures
-    (c.in_ok-proof.ensures ∙ c.as_slice-2.ensures) in
+    c.in_ok-proof.ensures in
     let stored = subst (λ (xs : List Step). ForEach s4 (λ st lib. AreStoredAs s4.setting.slots st xs kept))
     (ap (λ (a : Assertion). a.proof) is) c.in_ok-kept.ensures.ok.stored in
     keeps_to_since s0 s4 s5 (command.Reprove label steps) (looks_trans _ _ _ c.find.ensures.looks since) c.put_steps.ensures.onward
     (reprove_keeps s4 s5 i label steps kept (finds_later s1 s4 label i since finds).1 stored
-    (subst (ReprovesWithin s4 s5 i label) c.as_slice-3.ensures.value (c.in_ok-put_steps.ensures.keeps label)))
+    (subst (ReprovesWithin s4 s5 i label) c.as_slice-2.ensures.value (c.in_ok-put_steps.ensures.keeps label)))
 
 pub returns-in_err-slot-clause-reads : goal.returns-in_err-slot-clause-reads
 returns-in_err-slot-clause-reads g c =
@@ -383,7 +383,7 @@ returns-in_err-kept-clause-reads g c =
     let l3 = looks_trans _ _ _ l2 c.rank.ensures.looks in
     let is = c.into_assertion-theorem.ensures
     ∙ retitled c.in_ok-statement.statement c.in_ok-copy.field-0 c.args.label.now c.in_ok-proof.proof c.args.steps.now c.in_ok-copy.ensures
-    (c.in_ok-proof.ensures ∙ c.as_slice-2.ensures) in
+    c.in_ok-proof.ensures in
     let tests : TestReads s3 s4 c.args.steps.now =
     subst (λ (xs : List Step). TestReads s3 s4 xs) (ap (λ (a : Assertion). a.proof) is) c.test_proof.ensures.reads in
     let r4 : ReadsFor s0 s4 (command.Reprove c.args.label.now c.args.steps.now) =
@@ -420,7 +420,7 @@ returns-in_err-put_steps-clause-reads g c =
     let l3 = looks_trans _ _ _ l2 c.rank.ensures.looks in
     let is = c.into_assertion-theorem.ensures
     ∙ retitled c.in_ok-statement.statement c.in_ok-copy.field-0 c.args.label.now c.in_ok-proof.proof c.args.steps.now c.in_ok-copy.ensures
-    (c.in_ok-proof.ensures ∙ c.as_slice-2.ensures) in
+    c.in_ok-proof.ensures in
     let tests : TestReads s3 s4 c.args.steps.now =
     subst (λ (xs : List Step). TestReads s3 s4 xs) (ap (λ (a : Assertion). a.proof) is) c.test_proof.ensures.reads in
     let r4 : ReadsFor s0 s4 (command.Reprove c.args.label.now c.args.steps.now) =
@@ -433,7 +433,7 @@ returns-in_err-put_steps-clause-reads g c =
     let stored = subst (λ (xs : List Step). ForEach s4 (λ st lib. AreStoredAs s4.setting.slots st xs kept))
     (ap (λ (a : Assertion). a.proof) is) c.in_ok-kept.ensures.ok.stored in
     let reads = reprove_reads s4 s5 i label steps kept (finds_later s1 s4 label i since finds).1 stored
-    (subst (ReprovesReading s4 s5 i label) c.as_slice-3.ensures.value (c.put_steps.ensures.reads label)) in
+    (subst (ReprovesReading s4 s5 i label) c.as_slice-2.ensures.value (c.put_steps.ensures.reads label)) in
     since_then (OfCommand s0 x) r4 c.put_steps.ensures.onward
     (since_before (OfCommand s0 x) s0 s4 s5 (looks_trans _ _ _ l3 c.test_proof.ensures.looks) (λ n st lib k. Touches n st lib (command.Reprove c.args.label.now c.args.steps.now) k)
     (λ st lib k it. inr (inr (inr it))) c.put_steps.ensures.onward reads)
@@ -466,7 +466,7 @@ returns-clause-reads g c =
     let l3 = looks_trans _ _ _ l2 c.rank.ensures.looks in
     let is = c.into_assertion-theorem.ensures
     ∙ retitled c.in_ok-statement.statement c.in_ok-copy.field-0 c.args.label.now c.in_ok-proof.proof c.args.steps.now c.in_ok-copy.ensures
-    (c.in_ok-proof.ensures ∙ c.as_slice-2.ensures) in
+    c.in_ok-proof.ensures in
     let tests : TestReads s3 s4 c.args.steps.now =
     subst (λ (xs : List Step). TestReads s3 s4 xs) (ap (λ (a : Assertion). a.proof) is) c.test_proof.ensures.reads in
     let r4 : ReadsFor s0 s4 (command.Reprove c.args.label.now c.args.steps.now) =
@@ -479,7 +479,7 @@ returns-clause-reads g c =
     let stored = subst (λ (xs : List Step). ForEach s4 (λ st lib. AreStoredAs s4.setting.slots st xs kept))
     (ap (λ (a : Assertion). a.proof) is) c.in_ok-kept.ensures.ok.stored in
     let reads = reprove_reads s4 s5 i label steps kept (finds_later s1 s4 label i since finds).1 stored
-    (subst (ReprovesReading s4 s5 i label) c.as_slice-3.ensures.value (c.put_steps.ensures.reads label)) in
+    (subst (ReprovesReading s4 s5 i label) c.as_slice-2.ensures.value (c.put_steps.ensures.reads label)) in
     since_then (OfCommand s0 x) r4 c.put_steps.ensures.onward
     (since_before (OfCommand s0 x) s0 s4 s5 (looks_trans _ _ _ l3 c.test_proof.ensures.looks) (λ n st lib k. Touches n st lib (command.Reprove c.args.label.now c.args.steps.now) k)
     (λ st lib k it. inr (inr (inr it))) c.put_steps.ensures.onward reads)
