@@ -138,6 +138,8 @@ pub(crate) fn outcome_at<'a, D: Declared<'a>, P: StepPlaces>(
     match read_proof(alloc, keys, declared, frames, places, place)? {
         ProofForm::Absent => Ok(Outcome::Axiom),
         ProofForm::Unfinished => Ok(Outcome::AsAxiom(Reason::Unfinished)),
-        ProofForm::Tree(tree) => outcome_of_tree(alloc, keys, declared, chosen, front, place, &tree),
+        ProofForm::Tree(tree) => outcome_of_tree(
+            alloc, keys, declared, chosen, front, place, &tree,
+        ),
     }
 }

@@ -65,8 +65,7 @@ impl Command {
         match self {
             Command::Add { rank, assertion } => *rank <= HIGHEST_RANK && fits(prelude, assertion),
             Command::Reprove { label, steps } => {
-                steps.len() <= MOST_STEPS
-                    && are_citing_apart(label.as_slice(), steps)
+                steps.len() <= MOST_STEPS && are_citing_apart(label.as_slice(), steps)
             }
             Command::Move { rank, .. } => *rank <= HIGHEST_RANK,
             Command::Replace { .. }

@@ -53,11 +53,7 @@ fn lend(step: &Step) -> StepRef<'_>
 }
 
 /// The proof of these steps.
-fn proof_of(
-    alloc: Global,
-    keys: RandomState,
-    steps: &[&Step],
-) -> Result<Proof, AllocError>
+fn proof_of(alloc: Global, keys: RandomState, steps: &[&Step]) -> Result<Proof, AllocError>
     ensures { IfOk result (λ made. made ≡ map (λ s. s.now) steps.now) }
 {
     let mut made = ProofBuilder::new(alloc, keys);

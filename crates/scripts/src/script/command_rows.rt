@@ -18,8 +18,8 @@ use super::place::{CommandPlace, Led};
 use library::Command;
 use mmsyntax::numeral::number;
 use mmsyntax::{Label, Prelude};
-use mmunits::ProofBuilder;
 use mmtext::{FaultKind, Mark, Stop, Token, contains_dollar, fault_at, mark_word};
+use mmunits::ProofBuilder;
 use statementreader::{
     Named, Recent, UnitProgress, UnitReader, named_step, push_named, recalled_named_step,
 };
