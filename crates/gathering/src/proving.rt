@@ -76,7 +76,6 @@ fn cites_left_out<'a, D: Declared<'a>>(
 /// What becomes of a tree: the first reason that holds, or else its listing.
 fn outcome_of_tree<'a, D: Declared<'a>>(
     alloc: Global,
-    keys: RandomState,
     declared: &D,
     chosen: &[bool],
     front: &[bool],
@@ -103,7 +102,7 @@ fn outcome_of_tree<'a, D: Declared<'a>>(
     if cites_left_out(declared, chosen, place, tree) {
         return Ok(Outcome::AsAxiom(Reason::CitesUnchosen));
     }
-    match list(alloc, keys, tree.named.as_slice(), &tree.proof.nodes, root)? {
+    match list(alloc, tree.named.as_slice(), &tree.proof.nodes, root)? {
         Some(steps) => Ok(Outcome::Theorem(steps)),
         // A label without a step isn't chosen either: where the steps of what is chosen are known, this was told above.
         None => Ok(Outcome::AsAxiom(Reason::CitesUnchosen)),
@@ -138,8 +137,6 @@ pub(crate) fn outcome_at<'a, D: Declared<'a>, P: StepPlaces>(
     match read_proof(alloc, keys, declared, frames, places, place)? {
         ProofForm::Absent => Ok(Outcome::Axiom),
         ProofForm::Unfinished => Ok(Outcome::AsAxiom(Reason::Unfinished)),
-        ProofForm::Tree(tree) => outcome_of_tree(
-            alloc, keys, declared, chosen, front, place, &tree,
-        ),
+        ProofForm::Tree(tree) => outcome_of_tree(alloc, declared, chosen, front, place, &tree),
     }
 }

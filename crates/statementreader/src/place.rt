@@ -3,9 +3,9 @@
 ghost use Rattle.std.specs.Prelude.{◌≡◌};
 ghost use Rattle.statementreader.specs.Views.{seen_place, seen_behind, is_outermost};
 
-use mmsyntax::Symbol;
+use mmsyntax::{Proof, Symbol};
 use mmtext::Token;
-use mmunits::{Block, ProofBuilder};
+use mmunits::Block;
 use std::alloc::Global;
 
 /// Outermost, or in a block that holds this much.
@@ -58,7 +58,7 @@ pub struct Theorem<'a> {
     pub label: &'a [u8],
     pub expression: Vec<Symbol>,
     /// On the heap: a place moves with each token.
-    pub steps: Box<ProofBuilder, Global>,
+    pub steps: Box<Proof, Global>,
 }
 
 /// What was read of the statement that a token stands in.

@@ -1,12 +1,14 @@
 //! Words that were looked up lately. Most words of a text stand in it again and again.
 
-ghost use Rattle.std.specs.Prelude.{◌≡◌, ◌<◌, [], IfOk, OnOk, length};
+ghost use Rattle.std.specs.Prelude.{◌≡◌, ◌<◌, ◌++◌, ◌∷◌, [], IfOk, OnOk, length};
 ghost use Rattle.mmsyntax.specs.Tables.{Tables};
 ghost use Rattle.mmtext.specs.Words.{Word};
 ghost use Rattle.statementreader.specs.Recalls.{IsTrueOf, IsKept, IsKeptAt, Knows};
+ghost use Rattle.statementreader.specs.Takings.{IsSmallNamed, step_as};
 
 use crate::place::Place;
-use mmsyntax::{Name, SymbolTable};
+use crate::steps::{Named, push_named, push_named_near};
+use mmsyntax::{Name, Proof, SymbolTable};
 use mmtext::{contains_dollar, is_label_token};
 use std::alloc::{AllocError, Global};
 use std::hash::{FoldHasher, Hasher};
@@ -140,6 +142,33 @@ impl<'a> Recent<'a> {
         ensures { (t : Tables) → Knows t self.old → Knows t self.new }
     {
         self.entries[place].cited_at = cited_at;
+    }
+
+    /// Puts the step that a word is, by what it names, behind others. Its label is looked for where it stood last among those that are cited,
+    /// and else put behind them.
+    ///
+    /// # Errors
+    ///
+    /// Want of memory: the steps are the same then.
+    pub fn push_named(
+        &mut self,
+        alloc: Global,
+        steps: &mut Proof,
+        named: Named,
+        word: &[u8],
+    ) -> Result<(), AllocError>
+        requires { IsSmallNamed named }
+        ensures known { (t : Tables) → Knows t self.old → Knows t self.new }
+        ensures pushed { OnOk result (steps.new ≡ steps.old ++ step_as word.now named ∷ []) }
+    {
+        if self.entries.is_empty() {
+            return push_named(alloc, steps, named, word);
+        }
+        let place = place_of(word, self.entries.len());
+        let hint = self.entries[place].cited_at;
+        let cited_at = push_named_near(alloc, steps, hint, named, word)?;
+        self.note(place, cited_at);
+        Ok(())
     }
 
     /// What is known of the word that is kept at a place.

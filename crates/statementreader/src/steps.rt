@@ -15,9 +15,9 @@ ghost use Rattle.statementreader.specs.Views.{seen_scope};
 use crate::labels::{MOST_LABEL_BYTES, MOST_SYMBOLS};
 use crate::place::Scope;
 use crate::recent::{Recalled, Recent};
-use mmsyntax::{Name, StepRef, SymbolTable, is_dotted};
+use mmsyntax::{Name, Proof, StepRef, SymbolTable, is_dotted};
 use mmtext::{FaultKind, contains_dollar, is_label_token};
-use mmunits::{Block, ProofBuilder};
+use mmunits::Block;
 use std::alloc::{AllocError, Global};
 
 /// The most steps of a proof.
@@ -176,15 +176,15 @@ fn step_ref_of(named: Named, word: &[u8]) -> StepRef<'_>
     }
 }
 
-/// Puts the step that a word is, by what it names, behind others. Its label is looked for first at a hint among those that are cited: any
-/// number will do. The hint for this word from now on.
+/// Puts the step that a word is, by what it names, behind others. Its label is looked for at a hint among those that are cited, and else put
+/// behind them: any number will do. The hint for this word from now on.
 ///
 /// # Errors
 ///
-/// Want of memory. The step may stand there then.
+/// Want of memory: the steps are the same then.
 pub(crate) fn push_named_near(
     alloc: Global,
-    steps: &mut ProofBuilder,
+    steps: &mut Proof,
     hint: usize,
     named: Named,
     word: &[u8],
@@ -192,24 +192,26 @@ pub(crate) fn push_named_near(
     requires { IsSmallNamed named }
     ensures { OnOk result (steps.new ≡ steps.old ++ step_as word.now named ∷ []) }
 {
-    steps.push_near(alloc, hint, step_ref_of(named, word))
+    steps.push(alloc, hint, step_ref_of(named, word))
 }
 
-/// Puts the step that a word is, by what it names, behind others.
+/// Puts the step that a word is, by what it names, behind others. Its label is put behind those that are cited, without a look at them.
 ///
 /// # Errors
 ///
-/// Want of memory. The step may stand there then.
+/// Want of memory: the steps are the same then.
 pub fn push_named(
     alloc: Global,
-    steps: &mut ProofBuilder,
+    steps: &mut Proof,
     named: Named,
     word: &[u8],
 ) -> Result<(), AllocError>
     requires { IsSmallNamed named }
     ensures { OnOk result (steps.new ≡ steps.old ++ step_as word.now named ∷ []) }
 {
-    steps.push(alloc, step_ref_of(named, word))
+    let behind = steps.cited().len();
+    push_named_near(alloc, steps, behind, named, word)?;
+    Ok(())
 }
 
 /// What a word names as a step behind `count` steps of a proof of the assertion with a label, or why it names nothing.

@@ -18,7 +18,7 @@ use crate::place::{Behind, Place, PreludePlace, Scope, Theorem, UnitPlace};
 use crate::steps::{push_named, restrict, step_at};
 use mmsyntax::{Assertion, Kind, Label, Proof, Sequence, Symbol, SymbolTable};
 use mmtext::{FaultKind, Mark, Stop, Token, fault_at, is_label_token};
-use mmunits::{Block, ProofBuilder, Units};
+use mmunits::{Block, Units};
 use std::alloc::{AllocError, Global};
 
 /// Start of a statement, outermost.
@@ -386,7 +386,7 @@ fn theorem_symbol<'a>(
             scope,
             label,
             expression,
-            steps: Box::new(alloc, ProofBuilder::new(alloc, symbols.keys()))?,
+            steps: Box::new(alloc, Proof::new(alloc))?,
         };
         return Ok(Place::Unit(UnitPlace::InProof(theorem)));
     }
@@ -420,7 +420,7 @@ fn end_theorem<'a>(
         label,
         Kind::Theorem,
         expression,
-        Box::into_inner(steps).into_proof(),
+        Box::into_inner(steps),
     )
 }
 

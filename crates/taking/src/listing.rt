@@ -8,9 +8,7 @@ ghost use Rattle.taking.specs.Walks.{TakesAll, picked, arranged, IsListing};
 use crate::named::Named;
 use crate::nodes::Nodes;
 use mmsyntax::{Proof, Step, StepRef};
-use mmunits::ProofBuilder;
 use std::alloc::{AllocError, Global};
-use std::hash::RandomState;
 
 /// Arguments at the `$f`, or at the `$e`, go to the end.
 fn push_where(
@@ -52,25 +50,31 @@ fn lend(step: &Step) -> StepRef<'_>
     }
 }
 
-/// The proof of these steps.
-fn proof_of(alloc: Global, keys: RandomState, steps: &[&Step]) -> Result<Proof, AllocError>
-    ensures { IfOk result (λ made. made ≡ map (λ s. s.now) steps.now) }
+/// The proof of these steps, each with its number among so many different ones: a label is looked for where that number stood last.
+fn proof_of(alloc: Global, count: usize, steps: &[(usize, &Step)]) -> Result<Proof, AllocError>
+    ensures { IfOk result (λ made. made ≡ map (λ s. s.1.now) steps.now) }
 {
-    let mut made = ProofBuilder::new(alloc, keys);
-    for step in steps {
+    let mut made = Proof::new(alloc);
+    let mut places = Vec::new(alloc);
+    places.resize(count, 0)?;
+    for numbered in steps {
+        let (number, step) = *numbered;
         let step = lend(step);
         if !step.is_small() {
             return Err(AllocError);
         }
-        made.push(alloc, step)?;
+        let hint = places.as_slice().get(number).copied().unwrap_or(0);
+        let place = made.push(alloc, hint, step)?;
+        if number < places.len() {
+            places[number] = place;
+        }
     }
-    Ok(made.into_proof())
+    Ok(made)
 }
 
 /// The steps of the proof that the node at a place stands for, in the profile's order: nothing where it names what isn't taken.
 ///
-/// It takes memory and turns for as many steps as there are. The keys make the hashes by which a label is found among those that are cited
-/// already.
+/// It takes memory and turns for as many steps as there are.
 ///
 /// # Errors
 ///
@@ -78,7 +82,6 @@ fn proof_of(alloc: Global, keys: RandomState, steps: &[&Step]) -> Result<Proof, 
 /// bytes, has so many.
 pub fn list(
     alloc: Global,
-    keys: RandomState,
     named: &[Named],
     nodes: &Nodes,
     root: usize,
@@ -93,13 +96,14 @@ pub fn list(
     pending.push(root)?;
     while let Some(place) = pending.pop() {
         let arguments = nodes.arguments(place);
-        let cited = &named[nodes.named(place)];
+        let number = nodes.named(place);
+        let cited = &named[number];
         let Some(step) = &cited.step else {
             return Ok(None);
         };
-        steps.push(step)?;
+        steps.push((number, step))?;
         push_arguments(&mut pending, arguments, cited.floats.as_slice())?;
     }
     steps.reverse();
-    Ok(Some(proof_of(alloc, keys, steps.as_slice())?))
+    Ok(Some(proof_of(alloc, named.len(), steps.as_slice())?))
 }

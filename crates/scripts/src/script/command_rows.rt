@@ -17,9 +17,8 @@ use super::numerals::{hypothesis_place, is_numeral};
 use super::place::{CommandPlace, Led};
 use library::Command;
 use mmsyntax::numeral::number;
-use mmsyntax::{Label, Prelude};
+use mmsyntax::{Label, Prelude, Proof};
 use mmtext::{FaultKind, Mark, Stop, Token, contains_dollar, fault_at, mark_word};
-use mmunits::ProofBuilder;
 use statementreader::{
     Named, Recent, UnitProgress, UnitReader, named_step, push_named, recalled_named_step,
 };
@@ -74,20 +73,14 @@ fn read_in_unit<'a>(
 }
 
 /// Behind `reprove` and a label: `$=`.
-fn read_proof_start<'a>(
-    alloc: Global,
-    prelude: &Prelude,
-    label: Label,
-    token: Token<'a>,
-) -> Result<Led<'a>, Stop>
+fn read_proof_start<'a>(alloc: Global, label: Label, token: Token<'a>) -> Result<Led<'a>, Stop>
     ensures { (t : Tables) → Gives (seen_led t) result
         (decided (seen token.entry) (proof_start label (mark_of token.entry.text.now))) }
 {
     if mark_word(token.text) != Mark::Proof {
         return Err(fault_at(token, FaultKind::BadToken));
     }
-    let steps = ProofBuilder::new(alloc, prelude.keys());
-    Ok(Led::Inside(CommandPlace::InProof(label, steps)))
+    Ok(Led::Inside(CommandPlace::InProof(label, Proof::new(alloc))))
 }
 
 /// What a word names as a step behind `count` steps of another proof of an assertion with a label, or why it names nothing.
@@ -128,14 +121,13 @@ fn read_step<'a>(
     alloc: Global,
     prelude: &Prelude,
     label: Label,
-    mut steps: ProofBuilder,
+    mut steps: Proof,
     token: Token<'a>,
 ) -> Result<Led<'a>, Stop>
     ensures { Gives (seen_led prelude.now) result
         (decided (seen token.entry) (step_row prelude.now label steps (seen token.entry) (mark_of token.entry.text.now))) }
 {
     if mark_word(token.text) == Mark::End && !steps.is_empty() {
-        let steps = steps.into_proof();
         return Ok(Led::Whole(Command::Reprove { label, steps }));
     }
     match other_step(prelude, label.as_slice(), steps.len(), token.text) {
@@ -154,7 +146,7 @@ fn take_step<'a>(
     prelude: &Prelude,
     recent: &mut Recent<'a>,
     label: &[u8],
-    steps: &mut ProofBuilder,
+    steps: &mut Proof,
     token: Token<'a>,
 ) -> Result<bool, Stop>
     requires { Knows prelude.now recent.old }
@@ -167,7 +159,7 @@ fn take_step<'a>(
     }
     match recalled_other_step(alloc, prelude, recent, label, steps.len(), token.text)? {
         Ok(named) => {
-            push_named(alloc, steps, named, token.text)?;
+            recent.push_named(alloc, steps, named, token.text)?;
             Ok(true)
         }
         Err(kind) => Err(fault_at(token, kind)),
@@ -303,7 +295,7 @@ pub fn read_in_command<'a>(
             return read_in_unit(alloc, prelude, rank, reader, token);
         }
         CommandPlace::AtReproved => CommandPlace::AtProof(read_label(alloc, token)?),
-        CommandPlace::AtProof(label) => return read_proof_start(alloc, prelude, label, token),
+        CommandPlace::AtProof(label) => return read_proof_start(alloc, label, token),
         CommandPlace::InProof(label, steps) => {
             return read_step(alloc, prelude, label, steps, token);
         }

@@ -1,8 +1,7 @@
 //! Places in a script.
 
 use library::{Command, Transaction};
-use mmsyntax::{Label, Prelude};
-use mmunits::ProofBuilder;
+use mmsyntax::{Label, Prelude, Proof};
 use statementreader::{Recent, UnitReader};
 
 /// What was read of the command in which a token stands.
@@ -17,7 +16,7 @@ pub enum CommandPlace<'a> {
     /// Behind `reprove` and a label.
     AtProof(Label),
     /// Behind `$=` and steps.
-    InProof(Label, ProofBuilder),
+    InProof(Label, Proof),
     /// Behind `replace`.
     AtRecited,
     /// Behind `replace` and a label.

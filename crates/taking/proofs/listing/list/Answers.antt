@@ -32,7 +32,7 @@ loop-place-preserved c =
     let pushed = c.in_ok-push_arguments.ensures
     ∙ ap (λ fs. c.pop.new.self.items ++ arranged fs c.arguments-arguments.result.now) c.as_slice.ensures in
     let more : seen_steps c.push-in-Some.new.self.items ≡ seen_steps l.steps.items ++ c.in-Some-step.step ∷ [] =
-    ap seen_steps c.in_ok-push-2.ensures.items ∙ map_push (λ s. s.now) l.steps.items _ in
+    ap seen_steps c.in_ok-push-2.ensures.items ∙ map_push (λ s. s.1.now) l.steps.items _ in
     subst (λ (ps : List ℕ). Goes c.args.named.now c.args.nodes.now c.args.root ps (seen_steps c.push-in-Some.new.self.items)) (sym pushed)
     (subst
     (λ (ss : List Step). Goes c.args.named.now c.args.nodes.now c.args.root
@@ -48,7 +48,7 @@ returns c =
     let l = c.loop-place in
     let e : l.pending.items ≡ [] = search rules in
     let turned : c.in_ok-proof_of.field-0 ≡ reverse (seen_steps l.steps.items) = c.in_ok-proof_of.ensures
-    ∙ ap seen_steps (c.as_slice-2.ensures.value ∙ c.reverse.ensures.items) ∙ turned_map (λ (s : Bor Step). s.now) l.steps.items in
+    ∙ ap seen_steps (c.as_slice-2.ensures.value ∙ c.reverse.ensures.items) ∙ turned_map (λ (s : ℕ × Bor Step). s.1.now) l.steps.items in
     is_listing c.args.named.now c.args.nodes.now c.args.root (Some c.in_ok-proof_of.field-0) c.requires.whole
     (finish c.args.named.now c.args.nodes.now c.args.root (seen_steps l.steps.items)
     (subst (λ (ps : List ℕ). Goes c.args.named.now c.args.nodes.now c.args.root ps (seen_steps l.steps.items)) e l.invariant)
