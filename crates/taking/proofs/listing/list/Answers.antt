@@ -22,9 +22,9 @@ loop-place-smaller c =
     ∙ ap (λ fs. c.pop.new.self.items ++ arranged fs c.arguments-arguments.result.now) c.as_slice.ensures in
     subst (λ (ps : List ℕ). weight c.args.nodes.now ps < weight c.args.nodes.now l.pending.items) (sym pushed)
     (lighter_on c.args.named.now c.args.nodes.now c.args.root l.pending.items c.pop.new.self.items c.in-Some.place (seen_steps l.steps.items)
-    c.named.result
-    c.arguments-arguments.result.now c.index-named-named.result c.requires.whole l.invariant c.in-Some.ensures.items c.named.ensures
-    c.arguments-arguments.ensures.value c.arguments-arguments.ensures.below c.index-named-named.is)
+    c.named-number.result
+    c.arguments-arguments.result.now c.index-named-number.result c.requires.whole l.invariant c.in-Some.ensures.items c.named-number.ensures
+    c.arguments-arguments.ensures.value c.arguments-arguments.ensures.below c.index-named-number.is)
 
 pub loop-place-preserved : goal.loop-place-preserved
 loop-place-preserved c =
@@ -36,12 +36,12 @@ loop-place-preserved c =
     subst (λ (ps : List ℕ). Goes c.args.named.now c.args.nodes.now c.args.root ps (seen_steps c.push-in-Some.new.self.items)) (sym pushed)
     (subst
     (λ (ss : List Step). Goes c.args.named.now c.args.nodes.now c.args.root
-    (c.pop.new.self.items ++ arranged c.index-named-named.result.floats c.arguments-arguments.result.now) ss)
+    (c.pop.new.self.items ++ arranged c.index-named-number.result.floats c.arguments-arguments.result.now) ss)
     (sym more)
     (turn_on c.args.named.now c.args.nodes.now c.args.root l.pending.items c.pop.new.self.items c.in-Some.place (seen_steps l.steps.items)
-    c.named.result
-    c.arguments-arguments.result.now c.index-named-named.result c.requires.whole l.invariant c.in-Some.ensures.items c.named.ensures
-    c.arguments-arguments.ensures.value c.arguments-arguments.ensures.below c.index-named-named.is c.in-Some-step.step c.in-Some-step.is))
+    c.named-number.result
+    c.arguments-arguments.result.now c.index-named-number.result c.requires.whole l.invariant c.in-Some.ensures.items c.named-number.ensures
+    c.arguments-arguments.ensures.value c.arguments-arguments.ensures.below c.index-named-number.is c.in-Some-step.step c.in-Some-step.is))
 
 pub returns : goal.returns
 returns c =
@@ -57,6 +57,6 @@ returns c =
 pub returns-in_default-step : goal.returns-in_default-step
 returns-in_default-step c =
     let l = c.loop-place in
-    stop_on c.args.named.now c.args.nodes.now c.args.root l.pending.items c.pop.new.self.items c.in-Some.place (seen_steps l.steps.items) c.named.result
-    c.arguments-arguments.result.now c.index-named-named.result c.requires.whole l.invariant c.in-Some.ensures.items c.named.ensures
-    c.arguments-arguments.ensures.value c.arguments-arguments.ensures.below c.index-named-named.is c.in_default-step.is
+    stop_on c.args.named.now c.args.nodes.now c.args.root l.pending.items c.pop.new.self.items c.in-Some.place (seen_steps l.steps.items) c.named-number.result
+    c.arguments-arguments.result.now c.index-named-number.result c.requires.whole l.invariant c.in-Some.ensures.items c.named-number.ensures
+    c.arguments-arguments.ensures.value c.arguments-arguments.ensures.below c.index-named-number.is c.in_default-step.is
