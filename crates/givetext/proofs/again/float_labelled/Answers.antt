@@ -11,4 +11,4 @@ returns c =
     let here : IfSome c.get.result (λ f. f.now ≡ get_or c.args.prelude.now.floats place f.now) =
     subst (λ (fs : List Float). IfSome c.get.result (λ f. f.now ≡ get_or fs place f.now)) c.floats.ensures.value c.get.ensures.lookup.1 in
     is_labelled c.args.prelude.now c.args.label.now place c.get.result
-    (sym c.look_up.ensures ∙ c.in-Some-Label.is ∙ ap (λ n. Some n) c.in-Some-Label.field-0-is) here
+    (sym c.look_up.ensures.value ∙ c.in-Some-Label.is ∙ ap (λ n. Some n) c.in-Some-Label.field-0-is) here
