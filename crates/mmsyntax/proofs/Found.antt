@@ -46,11 +46,11 @@ label_place fs None (Some i) l j h = absurd cc
 label_place fs None None (Some k) j h = ap (λ n. Some n) (let e : k ≡ j = cc in e)
 label_place fs None None None j h = absurd cc
 
-constant_within : (t : Tables) (w : Word) (i : ℕ) → meaning t w ≡ Some (Constant i) → i < length t.constants
+pub constant_within : (t : Tables) (w : Word) (i : ℕ) → meaning t w ≡ Some (Constant i) → i < length t.constants
 unfolding meaning
 constant_within t w i h = (place_of-at (bytes_eq w) t.constants i [] (constant_place t.floats _ _ _ i h)).0
 
-typed_within : (t : Tables) (w : Word) (i j : ℕ) → meaning t w ≡ Some (Variable i (Some j)) → j < length t.floats
+pub typed_within : (t : Tables) (w : Word) (i j : ℕ) → meaning t w ≡ Some (Variable i (Some j)) → j < length t.floats
 unfolding meaning
 typed_within t w i j h = (place_of-at (λ f. eqb f.variable i) t.floats j no_float (variable_from_named t.floats _ _ _ i (Some j) h).2).0
 

@@ -19,3 +19,4 @@ pub mod Numerals
 pub mod DottedWords
 pub mod Apart
 pub mod ProofSteps
+pub mod SymbolWords

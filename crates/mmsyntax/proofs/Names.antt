@@ -135,9 +135,9 @@ meaning-constant t w q new =
 
 pub indexed-constant : (m n : HashMap (Vec ℕ Global) Name RandomState) (k : Vec ℕ Global) (t : Tables) (w : List ℕ) (place : ℕ)
     (after : List (List ℕ))
-    → IsSymbolTable m t → meaning t w ≡ None → k.items ≡ w → place ≡ length t.constants → after ≡ t.constants ++ w ∷ []
+    → IsSymbolTable m t → length t.constants < 65535 → meaning t w ≡ None → k.items ≡ w → place ≡ length t.constants → after ≡ t.constants ++ w ∷ []
     → hash.Updates (λ x y. bytes_eq x.items y.items) m n k (Some (Constant place)) → IsSymbolTable n (record t { constants = after })
-indexed-constant m n k t w place after at_m new key at_end pushed h = record {
+indexed-constant m n k t w place after at_m room new key at_end pushed h = record {
   indexed = λ q.
       after_update k.items m n (Some (Constant place)) h q
       ∙ ap (λ x. cond (bytes_eq x q) (Some (Constant place)) (hash.get_by (λ x. bytes_eq q x.items) m)) key
@@ -147,6 +147,7 @@ indexed-constant m n k t w place after at_m new key at_end pushed h = record {
       ∙ ap (λ cs. meaning (record t { constants = cs }) q) (sym pushed);
   typed = at_m.typed;
   few = at_m.few;
+  few_constants = omega (arith, ap length pushed, length-append t.constants (w ∷ []), room);
 }
 
 -- ---- variables
@@ -214,6 +215,7 @@ indexed-variable m n k t w place after at_m new key at_end pushed h = record {
       (typed-more t.floats (length t.variables) (length (t.variables ++ w ∷ []))
       (omega (arith, length-append t.variables (w ∷ []))) at_m.typed);
   few = at_m.few;
+  few_constants = at_m.few_constants;
 }
 
 -- ---- $f
@@ -322,6 +324,7 @@ indexed-float m n p kl t f w place after at_m room new var key_l at_end pushed h
   typed = subst (λ fs. AreTyped fs (length t.variables)) (sym pushed)
       (typed-push t.floats f (length t.variables) at_m.typed (variable_within t w f.variable var));
   few = omega (arith, ap length pushed, length-append t.floats (f ∷ []), room);
+  few_constants = at_m.few_constants;
 }
 
 -- the variable of a $f is still found once its label is in the map

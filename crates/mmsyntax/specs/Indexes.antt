@@ -22,3 +22,4 @@ pub record IsSymbolTable (m : HashMap (Vec ℕ Global) Name RandomState) (t : Ta
   pub indexed : IsIndexed m t
   pub typed : AreTyped t.floats (length t.variables)
   pub few : length t.floats ≤ 65535
+  pub few_constants : length t.constants ≤ 65535

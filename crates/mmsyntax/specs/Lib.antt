@@ -3,6 +3,7 @@ pub mod Dotted
 pub mod Rows
 pub mod Blocks
 pub mod Steps
+pub mod SymbolWords
 pub mod ProofWords
 pub mod Faults
 pub mod Grammar

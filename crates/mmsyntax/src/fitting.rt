@@ -12,35 +12,36 @@ use crate::prelude::Prelude;
 use crate::proof::Proof;
 use crate::statement::{Assertion, Expr, Kind, Symbol};
 use crate::step_ref::StepRef;
+use crate::symbol_word::SymbolWord;
 use mmtext::is_label_token;
 
 /// Whether a symbol is one of the prelude.
-fn is_symbol_of(prelude: &Prelude, symbol: Symbol) -> bool
+fn is_symbol_of(prelude: &Prelude, symbol: SymbolWord) -> bool
     ensures { IsTrue result ↔ IsSymbolOf prelude.now symbol }
 {
-    match symbol {
+    match symbol.symbol() {
         Symbol::Const(i) => (i as usize) < prelude.constants().len(),
         Symbol::Var(j) => (j as usize) < prelude.floats().len(),
     }
 }
 
-fn begins_with_constant(symbols: &[Symbol]) -> bool
+fn begins_with_constant(symbols: &[SymbolWord]) -> bool
     ensures { IsTrue result ↔ BeginsWithConstant symbols.now }
 {
     match symbols {
-        [Symbol::Const(_), ..] => true,
-        _ => false,
+        [first, ..] => matches!(first.symbol(), Symbol::Const(_)),
+        [] => false,
     }
 }
 
-fn are_symbols_of(prelude: &Prelude, symbols: &[Symbol]) -> bool
+fn are_symbols_of(prelude: &Prelude, symbols: &[SymbolWord]) -> bool
     ensures { IsTrue result ↔ All (IsSymbolOf prelude.now) symbols.now }
 {
     symbols.iter().all(|s| is_symbol_of(prelude, *s))
 }
 
 /// Whether symbols may stand behind `$e`, `$a` or `$p`.
-fn is_expression(prelude: &Prelude, symbols: &[Symbol]) -> bool
+fn is_expression(prelude: &Prelude, symbols: &[SymbolWord]) -> bool
     ensures { IsTrue result ↔ IsExpression prelude.now symbols.now }
 {
     begins_with_constant(symbols) && symbols.len() <= 65535 && are_symbols_of(prelude, symbols)

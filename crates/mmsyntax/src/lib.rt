@@ -14,6 +14,7 @@ mod proof;
 mod sequence;
 mod statement;
 mod step_ref;
+mod symbol_word;
 mod symbols;
 mod word_steps;
 
@@ -27,5 +28,6 @@ pub use proof::{PLACES, Proof};
 pub use sequence::Sequence;
 pub use statement::{Assertion, Expr, Float, Frame, Kind, Step, Symbol};
 pub use step_ref::{StepRef, is_same_step};
+pub use symbol_word::SymbolWord;
 pub use symbols::{Name, SymbolTable};
 pub use word_steps::{WordStep, WordSteps};

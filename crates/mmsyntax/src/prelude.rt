@@ -3,6 +3,7 @@
 ghost use Rattle.std.specs.Prelude.{◌≡◌, ◌<◌, ℕ, [], Some, IfOk};
 ghost use Rattle.mmsyntax.specs.Tables.{meaning};
 ghost use Rattle.mmsyntax.specs.Layout.{IsSoundPrelude};
+ghost use Rattle.mmsyntax.specs.SymbolWords.{NamesFew};
 
 use crate::label::Label;
 use crate::statement::Float;
@@ -56,10 +57,11 @@ impl Prelude {
         self.symbols.keys()
     }
 
-    /// What a word names in the prelude: one look-up in a map. There are at most 65,535 `$f`.
+    /// What a word names in the prelude: one look-up in a map. There are at most 65,535 constants, and as many `$f`.
     pub fn look_up(&self, word: &[u8]) -> Option<Name>
         ensures value { result ≡ meaning self.now word.now }
         ensures few { (j : ℕ) → result ≡ Some (Name.Label j) → j < 65535 }
+        ensures symbol { NamesFew result }
     {
         self.symbols.look_up(word)
     }

@@ -5,9 +5,10 @@ ghost use Rattle.std.specs.Prelude.{◌≡◌, IfOk};
 use crate::label::Label;
 use crate::proof::Proof;
 use crate::sequence::Sequence;
+use crate::symbol_word::SymbolWord;
 use std::alloc::{AllocError, Global};
 
-/// A math symbol by its place. Places count from 0.
+/// A math symbol by its place, as clauses see it. Places count from 0. An expression keeps it as a `SymbolWord`.
 #[derive(Clone, Copy, Debug, PartialEq, Eq)]
 pub enum Symbol {
     /// The constant declared at this place.
@@ -17,7 +18,7 @@ pub enum Symbol {
 }
 
 /// The symbols of a statement or of a hypothesis.
-pub type Expr = Sequence<Symbol>;
+pub type Expr = Sequence<SymbolWord>;
 
 /// A step of a proof, as clauses see it: what it names. A `Proof` keeps its steps as words, and lends each as a `StepRef`.
 #[derive(Debug, Drop)]

@@ -6,6 +6,7 @@ ghost use Rattle.std.specs.HashMap.{get_by};
 ghost use Rattle.std.specs.Str.{bytes_eq};
 ghost use Rattle.mmsyntax.specs.Tables.{meaning};
 ghost use Rattle.mmsyntax.specs.Layout.{IsSoundPrelude};
+ghost use Rattle.mmsyntax.specs.SymbolWords.{NamesFew};
 ghost use Rattle.mmsyntax.specs.declared.symbols.Name.TheVariants.{Variable};
 
 use crate::label::Label;
@@ -75,10 +76,11 @@ impl SymbolTable {
         *self.names.hasher()
     }
 
-    /// What a word names: one look-up in a map. There are at most 65,535 `$f`.
+    /// What a word names: one look-up in a map. There are at most 65,535 constants, and as many `$f`.
     pub fn look_up(&self, word: &[u8]) -> Option<Name>
         ensures value { result ≡ meaning self.now word.now }
         ensures few { (j : ℕ) → result ≡ Some (Name.Label j) → j < 65535 }
+        ensures symbol { NamesFew result }
     {
         self.names.get(word).copied()
     }

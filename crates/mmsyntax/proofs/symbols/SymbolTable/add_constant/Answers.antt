@@ -1,5 +1,5 @@
 -- What is left to show of `add_constant`.
-use Rattle.std.proofs.Common.{◌≡◌, length, sym, subst, None, rules}
+use Rattle.std.proofs.Common.{◌≡◌, ◌<◌, length, sym, subst, None, rules}
 use Rattle.mmsyntax.specs.Tables.{Tables, meaning}
 use Rattle.mmsyntax.proofs.Names.{indexed-constant}
 use Rattle.mmsyntax.proofs.symbols.SymbolTable.add_constant.Goals as goal
@@ -11,5 +11,6 @@ invariant_of-self-in-Ok c =
     indexed-constant i.names c.insert.new.self c.in_ok-key.key
     (record { constants = i.constants.items; variables = i.variables.items; floats = i.floats.items }) c.args.word.now
     c.len-place.result c.push.new.self.items
-    c.self.invariant (subst (λ (t : Tables). meaning t c.args.word.now ≡ None) (sym c.self.view_is) c.requires.new)
+    c.self.invariant (subst (λ (t : Tables). length t.constants < 65535) (sym c.self.view_is) c.requires.room)
+    (subst (λ (t : Tables). meaning t c.args.word.now ≡ None) (sym c.self.view_is) c.requires.new)
     c.in_ok-key.ensures.items len (search rules) c.in-Ok.ensures.updates
