@@ -61,11 +61,11 @@ step_word (Slot s) = 3 * s + 2
 abbrev pub proof_body : List StoredStep → List ℕ
 proof_body steps = map step_word steps
 
--- ---- what the values of the code are: all places are below 2^32
+-- ---- what the values of the code are: the places of symbols are below 2^31, all others below 2^32
 
 abbrev pub IsSmallSymbol : Symbol → Type 0
-IsSmallSymbol (Const i) = i < 2 ^ 32
-IsSmallSymbol (Var j) = j < 2 ^ 32
+IsSmallSymbol (Const i) = i < 2 ^ 31
+IsSmallSymbol (Var j) = j < 2 ^ 31
 
 abbrev pub IsSmallPair : ℕ × ℕ → Type 0
 IsSmallPair p = (p.0 < 2 ^ 32) × (p.1 < 2 ^ 32)

@@ -5,7 +5,7 @@ ghost use Rattle.bodystore.specs.Bodies.{label_body, expression_words, expressio
 
 use crate::stored::StoredStep;
 use crate::words::{kind_word, pair_word, symbol_word};
-use mmsyntax::{Assertion, Expr, Symbol};
+use mmsyntax::{Assertion, Expr, SymbolWord};
 use std::alloc::{AllocError, Global};
 
 /// The body of a label: one word for each byte.
@@ -59,7 +59,7 @@ pub fn encode_proof(alloc: Global, steps: &[StoredStep]) -> Result<Vec<u64>, All
     Ok(words)
 }
 
-fn push_expression(words: &mut Vec<u64>, symbols: &[Symbol]) -> Result<(), AllocError>
+fn push_expression(words: &mut Vec<u64>, symbols: &[SymbolWord]) -> Result<(), AllocError>
     ensures { OnOk result (words.new.items ≡ words.old.items ++ expression_words symbols.now) }
 {
     words.push(symbols.len() as u64)?;

@@ -3,7 +3,7 @@
 ghost use Rattle.std.specs.Prelude.{◌≡◌};
 ghost use Rattle.bodystore.specs.Bodies.{kind_word, pair_word, symbol_word, IsSmallPair, IsSmallSymbol};
 
-use mmsyntax::{Kind, Symbol};
+use mmsyntax::{Kind, Symbol, SymbolWord};
 
 /// How many values a place has: 2^32.
 const PLACES: u64 = 4_294_967_296;
@@ -41,23 +41,23 @@ pub(crate) fn pair_of(word: u64) -> (u32, u32)
     ((word / PLACES) as u32, (word % PLACES) as u32)
 }
 
-pub(crate) fn symbol_word(symbol: Symbol) -> u64
+pub(crate) fn symbol_word(symbol: SymbolWord) -> u64
     ensures { result ≡ symbol_word symbol }
 {
-    match symbol {
+    match symbol.symbol() {
         Symbol::Const(place) => 2 * place as u64,
         Symbol::Var(place) => 2 * place as u64 + 1,
     }
 }
 
 /// The symbol of a word. A word that no symbol has gives some symbol.
-pub(crate) fn symbol_of(word: u64) -> Symbol
+pub(crate) fn symbol_of(word: u64) -> SymbolWord
     ensures { (symbol : _) → IsSmallSymbol symbol → symbol_word symbol ≡ word → result ≡ symbol }
 {
-    let place = (word / 2 & 0xffff_ffff) as u32;
+    let place = (word / 2 & 0x7fff_ffff) as u32;
     if word % 2 == 0 {
-        Symbol::Const(place)
+        SymbolWord::new(Symbol::Const(place))
     } else {
-        Symbol::Var(place)
+        SymbolWord::new(Symbol::Var(place))
     }
 }

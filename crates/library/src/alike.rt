@@ -5,10 +5,10 @@ ghost use Rattle.derivation.specs.Lookups.{ArePairsSorted, IsPlaceOfPair};
 ghost use Rattle.library.specs.Edits.{is_alike};
 ghost use Rattle.library.specs.LikeFrames.{SaysNoLess};
 
-use mmsyntax::{Expr, Frame, Symbol};
+use mmsyntax::{Expr, Frame, SymbolWord};
 
 /// Whether expressions are equal.
-fn is_same(one: &[Symbol], other: &[Symbol]) -> bool
+fn is_same(one: &[SymbolWord], other: &[SymbolWord]) -> bool
     ensures { IsTrue result ↔ (one.now ≡ other.now) }
 {
     one == other

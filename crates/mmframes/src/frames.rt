@@ -5,15 +5,15 @@ ghost use Rattle.std.specs.List.{list_any};
 ghost use Rattle.std.specs.List.Sorted.{IsStrictlyIncreasing};
 ghost use Rattle.mmframes.specs.Frames.{frame, is_mandatory, is_variable, occurs};
 
-use mmsyntax::{Assertion, Expr, Frame, Prelude, Sequence, Symbol};
+use mmsyntax::{Assertion, Expr, Frame, Prelude, Sequence, Symbol, SymbolWord};
 use std::alloc::{AllocError, Global};
 
 /// Adds the symbol's place, if it is a variable of one of the first `count` `$f`.
-fn note_symbol(found: &mut Vec<u32>, symbol: Symbol, count: usize) -> Result<(), AllocError>
+fn note_symbol(found: &mut Vec<u32>, symbol: SymbolWord, count: usize) -> Result<(), AllocError>
     ensures { OnOk result ((j : ℕ) → list_any (λ k. k == j) found.new.items
         ≡ (list_any (λ k. k == j) found.old.items || (nat_lt j count && is_variable j symbol))) }
 {
-    match symbol {
+    match symbol.symbol() {
         Symbol::Const(_) => {}
         Symbol::Var(k) => {
             if (k as usize) < count {
@@ -25,7 +25,7 @@ fn note_symbol(found: &mut Vec<u32>, symbol: Symbol, count: usize) -> Result<(),
 }
 
 /// Adds the variables of an expression.
-fn note_variables(found: &mut Vec<u32>, symbols: &[Symbol], count: usize) -> Result<(), AllocError>
+fn note_variables(found: &mut Vec<u32>, symbols: &[SymbolWord], count: usize) -> Result<(), AllocError>
     ensures { OnOk result ((j : ℕ) → list_any (λ k. k == j) found.new.items
         ≡ (list_any (λ k. k == j) found.old.items || (nat_lt j count && occurs j symbols.now))) }
 {

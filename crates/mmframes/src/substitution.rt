@@ -8,7 +8,7 @@ ghost use Rattle.std.specs.BTreeMap.{get};
 ghost use Rattle.mmframes.specs.Places.{IsFirstPlace};
 ghost use Rattle.mmframes.specs.Substitution.{replacement, subst};
 
-use mmsyntax::{Expr, Sequence, Symbol};
+use mmsyntax::{Expr, Sequence, Symbol, SymbolWord};
 use std::alloc::{AllocError, Global};
 use std::collections::BTreeMap;
 use std::error::Error;
@@ -109,7 +109,7 @@ fn substitute_of<'a>(
     pairs: &'a [(u32, Expr)],
     places: &BTreeMap<u32, usize>,
     variable: u32,
-) -> Option<&'a [Symbol]>
+) -> Option<&'a [SymbolWord]>
     requires { (v : ℕ) → IsFirstPlace (map (λ p. p.0) pairs.now) v (get nat_cmp places.now v) }
     ensures { MatchOption result
         (replacement pairs.now variable ≡ Symbol.Var variable ∷ [])
@@ -125,14 +125,14 @@ fn substitute_of<'a>(
 fn piece<'a>(
     pairs: &'a [(u32, Expr)],
     places: &BTreeMap<u32, usize>,
-    symbol: &'a Symbol,
-) -> &'a [Symbol]
+    symbol: &'a SymbolWord,
+) -> &'a [SymbolWord]
     requires { (v : ℕ) → IsFirstPlace (map (λ p. p.0) pairs.now) v (get nat_cmp places.now v) }
     ensures { result.now ≡ subst pairs.now (symbol.now ∷ []) }
 {
-    match symbol {
+    match symbol.symbol() {
         Symbol::Const(_) => slice::from_ref(symbol),
-        Symbol::Var(j) => match substitute_of(pairs, places, *j) {
+        Symbol::Var(j) => match substitute_of(pairs, places, j) {
             Some(found) => found,
             None => slice::from_ref(symbol),
         },
@@ -146,7 +146,7 @@ fn piece<'a>(
 pub fn substitute(
     alloc: Global,
     pairs: &[(u32, Expr)],
-    symbols: &[Symbol],
+    symbols: &[SymbolWord],
 ) -> Result<Expr, SubstituteError>
     ensures value { IfOk result (λ made. made ≡ subst pairs.now symbols.now) }
     ensures short { IfOk result (λ made. length made ≤ 65535) }

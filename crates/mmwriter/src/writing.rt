@@ -13,7 +13,7 @@ ghost use Rattle.mmsyntax.specs.Preludes.{IsFloatSound};
 ghost use Rattle.mmsyntax.specs.ProofWords.{seen_step};
 
 use itoa::Buffer;
-use mmsyntax::{Assertion, Database, Expr, Float, Kind, Label, Prelude, Proof, StepRef, Symbol};
+use mmsyntax::{Assertion, Database, Expr, Float, Kind, Label, Prelude, Proof, StepRef, Symbol, SymbolWord};
 use std::alloc::{AllocError, Global};
 
 /// Puts a space and a word behind `out`.
@@ -80,12 +80,12 @@ fn put_float(out: &mut Vec<u8>, prelude: &Prelude, float: &Float) -> Result<(), 
     put_end(out)
 }
 
-fn put_symbols(out: &mut Vec<u8>, prelude: &Prelude, symbols: &[Symbol]) -> Result<(), AllocError>
+fn put_symbols(out: &mut Vec<u8>, prelude: &Prelude, symbols: &[SymbolWord]) -> Result<(), AllocError>
     requires { All (IsSymbolOf prelude.now) symbols.now }
     ensures { OnOk result (out.new.items ≡ out.old.items ++ spaced (map (symbol_word prelude.now) symbols.now)) }
 {
     for symbol in symbols {
-        put_word(out, word_of(prelude, *symbol))?;
+        put_word(out, word_of(prelude, symbol.symbol()))?;
     }
     Ok(())
 }
@@ -208,7 +208,7 @@ fn put_hypothesis(
     prelude: &Prelude,
     label: &[u8],
     number: u64,
-    symbols: &[Symbol],
+    symbols: &[SymbolWord],
 ) -> Result<(), AllocError>
     requires { All (IsSymbolOf prelude.now) symbols.now }
     ensures { OnOk result (out.new.items ≡ out.old.items

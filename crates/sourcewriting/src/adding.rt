@@ -8,7 +8,7 @@ use crate::shared::Shared;
 use crate::wording::{put_compressed, put_normal};
 use giving::Changes;
 use mmframes::frame_of;
-use mmsyntax::{Assertion, Expr, Kind, Label, Prelude, Symbol};
+use mmsyntax::{Assertion, Expr, Kind, Label, Prelude, Symbol, SymbolWord};
 use source::Declared;
 use std::alloc::{AllocError, Global};
 use std::hash::RandomState;
@@ -166,11 +166,11 @@ fn put_statement(
 fn words_of<'x>(
     alloc: Global,
     words: &SymbolWords<'x>,
-    symbols: &[Symbol],
+    symbols: &[SymbolWord],
 ) -> Result<Vec<&'x [u8]>, AllocError> {
     let mut made = Vec::new(alloc);
     for symbol in symbols {
-        made.push(words.word(*symbol))?;
+        made.push(words.word(symbol.symbol()))?;
     }
     Ok(made)
 }

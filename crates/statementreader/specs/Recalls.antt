@@ -4,17 +4,19 @@ use Rattle.std.specs.List.{All}
 use Rattle.mmtext.specs.Words.{Word, has_dollar, is_label}
 use Rattle.mmsyntax.specs.declared.symbols.Name.TheVariants as name
 use Rattle.mmsyntax.specs.Tables.{Tables, meaning}
+use Rattle.mmsyntax.specs.SymbolWords.{NamesFew}
 use Rattle.statementreader.specs.declared.recent.Recalled.{Recalled}
 use Rattle.statementreader.specs.declared.recent.Recent.{Recent}
 use Rattle.statementreader.specs.declared.place.Place.{Place}
 use Rattle.statementreader.specs.declared.place.Place.TheVariants as place
 
--- what is kept of a word is so, and a $f is one of 65,535
+-- what is kept of a word is so, and a $f and a constant are one of 65,535
 pub record IsTrueOf (t : Tables) (r : Recalled) : Type 0 where
   pub names : r.name ≡ meaning t r.word.now
   pub dollar : r.with_dollar ≡ has_dollar r.word.now
   pub label : r.is_label ≡ is_label r.word.now
   pub few : (j : ℕ) → r.name ≡ Some (name.Label j) → j < 65535
+  pub symbol : NamesFew r.name
 
 -- all that is kept is so
 abbrev pub Knows : Tables → Recent → Type 0

@@ -3,10 +3,11 @@
 ghost use Rattle.std.specs.Prelude.{◌≡◌, ◌==◌};
 ghost use Rattle.mmsyntax.specs.Rows.{first_fault, symbol_tests, float_label_tests, assertion_label_tests};
 ghost use Rattle.mmsyntax.specs.Rows.{symbol_named, unless_full, symbol_of};
+ghost use Rattle.mmsyntax.specs.SymbolWords.{NamesFew};
 ghost use Rattle.mmsyntax.specs.Blocks.{hypothesis_label_tests};
 ghost use Rattle.mmunits.specs.Views.{known_of};
 
-use mmsyntax::{Name, Symbol, SymbolTable};
+use mmsyntax::{Name, Symbol, SymbolTable, SymbolWord};
 use mmtext::{FaultKind, contains_dollar, contains_dot, names_hypothesis};
 use mmunits::{Block, Units, has_name};
 
@@ -113,7 +114,8 @@ pub(crate) fn hypothesis_label_fault(
 }
 
 /// The symbol that a word without `$` is by what it names, behind `count` symbols of an expression, or why it is none.
-pub(crate) fn symbol_named(name: Option<Name>, count: usize) -> Result<Symbol, FaultKind>
+pub(crate) fn symbol_named(name: Option<Name>, count: usize) -> Result<SymbolWord, FaultKind>
+    requires { NamesFew name }
     ensures { result ≡ unless_full count (symbol_named (count == 0) name) }
 {
     let symbol = match name {
@@ -125,7 +127,7 @@ pub(crate) fn symbol_named(name: Option<Name>, count: usize) -> Result<Symbol, F
     if count >= MOST_SYMBOLS {
         return Err(FaultKind::TooLong);
     }
-    Ok(symbol)
+    Ok(SymbolWord::new(symbol))
 }
 
 /// The symbol that a word is behind `count` symbols of an expression, or why it is none.
@@ -134,7 +136,7 @@ pub(crate) fn symbol_at(
     symbols: &SymbolTable,
     count: usize,
     word: &[u8],
-) -> Result<Symbol, FaultKind>
+) -> Result<SymbolWord, FaultKind>
     ensures { result ≡ symbol_of symbols.now count word.now }
 {
     if contains_dollar(word) {

@@ -3,7 +3,7 @@
 ghost use Rattle.std.specs.Prelude.{◌≡◌};
 ghost use Rattle.statementreader.specs.Views.{seen_place, seen_behind, is_outermost};
 
-use mmsyntax::{Proof, Symbol};
+use mmsyntax::{Proof, SymbolWord};
 use mmtext::Token;
 use mmunits::Block;
 use std::alloc::Global;
@@ -42,11 +42,11 @@ pub enum UnitPlace<'a> {
     /// Behind `$d` and variables, each by its `$f`.
     InDistinct(Block<'a>, Vec<u32>),
     /// Behind a label, `$e` and symbols.
-    InHypothesis(Block<'a>, &'a [u8], Vec<Symbol>),
+    InHypothesis(Block<'a>, &'a [u8], Vec<SymbolWord>),
     /// Behind a label, `$a` and symbols.
-    InAxiom(Scope<'a>, &'a [u8], Vec<Symbol>),
+    InAxiom(Scope<'a>, &'a [u8], Vec<SymbolWord>),
     /// Behind a label, `$p` and symbols.
-    InTheorem(Scope<'a>, &'a [u8], Vec<Symbol>),
+    InTheorem(Scope<'a>, &'a [u8], Vec<SymbolWord>),
     /// Behind `$=` and steps.
     InProof(Theorem<'a>),
 }
@@ -56,7 +56,7 @@ pub enum UnitPlace<'a> {
 pub struct Theorem<'a> {
     pub scope: Scope<'a>,
     pub label: &'a [u8],
-    pub expression: Vec<Symbol>,
+    pub expression: Vec<SymbolWord>,
     /// On the heap: a place moves with each token.
     pub steps: Box<Proof, Global>,
 }

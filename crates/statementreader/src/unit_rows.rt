@@ -16,7 +16,7 @@ ghost use Rattle.statementreader.specs.Views.{seen_scope, seen_behind, seen_unit
 use crate::labels::{assertion_label_fault, float_label_fault, hypothesis_label_fault, symbol_at};
 use crate::place::{Behind, Place, PreludePlace, Scope, Theorem, UnitPlace};
 use crate::steps::{push_named, restrict, step_at};
-use mmsyntax::{Assertion, Kind, Label, Proof, Sequence, Symbol, SymbolTable};
+use mmsyntax::{Assertion, Kind, Label, Proof, Sequence, SymbolTable, SymbolWord};
 use mmtext::{FaultKind, Mark, Stop, Token, fault_at, is_label_token};
 use mmunits::{Block, Units};
 use std::alloc::{AllocError, Global};
@@ -224,9 +224,9 @@ fn distinct<'a>(
 /// An expression with one more symbol.
 fn with_symbol(
     symbols: &SymbolTable,
-    mut expression: Vec<Symbol>,
+    mut expression: Vec<SymbolWord>,
     token: Token<'_>,
-) -> Result<Vec<Symbol>, Stop>
+) -> Result<Vec<SymbolWord>, Stop>
     ensures { Gives (λ e. e.items) result
         (pushed (seen token.entry) expression.items (symbol_of symbols.now (length expression.items) token.entry.text.now)) }
 {
@@ -246,7 +246,7 @@ fn end_hypothesis<'a>(
     units: &mut Units,
     mut block: Block<'a>,
     label: &'a [u8],
-    expression: Vec<Symbol>,
+    expression: Vec<SymbolWord>,
 ) -> Result<Place<'a>, Stop>
     requires { length block.hyps < 1000 }
     ensures { Leads symbols.now units.new result
@@ -265,7 +265,7 @@ fn hypothesis<'a>(
     units: &mut Units,
     block: Block<'a>,
     label: &'a [u8],
-    expression: Vec<Symbol>,
+    expression: Vec<SymbolWord>,
     token: Token<'a>,
     mark: Mark,
 ) -> Result<Place<'a>, Stop>
@@ -296,7 +296,7 @@ fn assertion_in(
     scope: Scope<'_>,
     label: &[u8],
     kind: Kind,
-    symbols: Vec<Symbol>,
+    symbols: Vec<SymbolWord>,
     steps: Proof,
 ) -> Result<Assertion, AllocError>
     ensures { IfOk result (λ a. a ≡ assertion_of (block_of (seen_scope scope.entry)) label.now kind symbols.items steps) }
@@ -323,7 +323,7 @@ fn end_assertion<'a>(
     scope: Scope<'a>,
     label: &[u8],
     kind: Kind,
-    expression: Vec<Symbol>,
+    expression: Vec<SymbolWord>,
     steps: Proof,
 ) -> Result<Place<'a>, Stop>
     ensures { Leads symbols.now units.new result
@@ -343,7 +343,7 @@ fn axiom_symbol<'a>(
     units: &mut Units,
     scope: Scope<'a>,
     label: &'a [u8],
-    expression: Vec<Symbol>,
+    expression: Vec<SymbolWord>,
     token: Token<'a>,
     mark: Mark,
 ) -> Result<Place<'a>, Stop>
@@ -374,7 +374,7 @@ fn theorem_symbol<'a>(
     units: &Units,
     scope: Scope<'a>,
     label: &'a [u8],
-    expression: Vec<Symbol>,
+    expression: Vec<SymbolWord>,
     token: Token<'a>,
     mark: Mark,
 ) -> Result<Place<'a>, Stop>

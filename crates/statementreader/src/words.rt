@@ -15,7 +15,7 @@ use crate::labels::symbol_named;
 use crate::place::{Place, Scope, Theorem, UnitPlace};
 use crate::recent::{Recalled, Recent};
 use crate::steps::{MOST_STEPS, Named, push_named_near, recalled_step, step_at};
-use mmsyntax::{Symbol, SymbolTable};
+use mmsyntax::{SymbolTable, SymbolWord};
 use mmtext::{FaultKind, Stop, Token, fault_at};
 use std::alloc::Global;
 
@@ -46,7 +46,7 @@ fn take_symbol<'a>(
     alloc: Global,
     symbols: &SymbolTable,
     recent: &mut Recent<'a>,
-    expression: &mut Vec<Symbol>,
+    expression: &mut Vec<SymbolWord>,
     token: Token<'a>,
 ) -> Result<bool, Stop>
     requires { Knows symbols.now recent.old }

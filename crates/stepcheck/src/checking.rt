@@ -15,7 +15,7 @@ use crate::stack::Stack;
 use crate::substitutes::Conclusion;
 use crate::thesis::Thesis;
 use derivation::{ProofFault, ProofFaultKind};
-use mmsyntax::{Assertion, Expr, Frame, Kind, Label, Prelude, Symbol, WordStep};
+use mmsyntax::{Assertion, Expr, Frame, Kind, Label, Prelude, Symbol, SymbolWord, WordStep};
 use std::alloc::{AllocError, Global};
 
 /// Puts what a citation of the frame gives in the place of the last expressions, which it takes.
@@ -25,7 +25,7 @@ fn cite<'a>(
     thesis: &Thesis,
     frame: &'a Frame,
     stack: &mut Stack<'a>,
-    made: &mut Vec<Symbol>,
+    made: &mut Vec<SymbolWord>,
 ) -> Result<(), ProofFaultKind>
     ensures ok { OnOk result (GivesOnLast prelude.now thesis.now frame.now stack.old stack.new) }
     ensures err { IfErr result (λ kind. kind ≢ ProofFaultKind.NoMemory →
@@ -67,7 +67,7 @@ fn take_step<'a>(
     frames: &[Option<&'a Frame>],
     thesis: &Thesis<'a>,
     stack: &mut Stack<'a>,
-    made: &mut Vec<Symbol>,
+    made: &mut Vec<SymbolWord>,
     step: WordStep,
 ) -> Result<(), ProofFaultKind>
     requires { IsWithin (length frames.now) step }
@@ -81,7 +81,10 @@ fn take_step<'a>(
         WordStep::Float(i) => match prelude.floats().get(i as usize) {
             None => Err(ProofFaultKind::UnknownStep),
             Some(float) => {
-                stack.push_two(Symbol::Const(float.type_code), Symbol::Var(i))?;
+                stack.push_two(
+                    SymbolWord::new(Symbol::Const(float.type_code)),
+                    SymbolWord::new(Symbol::Var(i)),
+                )?;
                 Ok(())
             }
         },
@@ -100,7 +103,7 @@ fn take_step<'a>(
 }
 
 /// Whether expressions are equal.
-fn are_same(one: &[Symbol], other: &[Symbol]) -> bool
+fn are_same(one: &[SymbolWord], other: &[SymbolWord]) -> bool
     ensures { IsTrue result ↔ (one.now ≡ other.now) }
 {
     one == other

@@ -10,11 +10,11 @@ use crate::stack::Args;
 use crate::substitutes::{Conclusion, Substitution, are_substituted, conclude};
 use crate::thesis::Thesis;
 use derivation::ProofFaultKind;
-use mmsyntax::{Frame, Prelude, Symbol};
+use mmsyntax::{Frame, Prelude, Symbol, SymbolWord};
 use std::alloc::Global;
 
 /// Whether an expression begins with the type of the `$f` at a place.
-fn has_type(prelude: &Prelude, float: u32, symbols: &[Symbol]) -> bool
+fn has_type(prelude: &Prelude, float: u32, symbols: &[SymbolWord]) -> bool
     ensures { IsTrue result ↔ HasType prelude.now float symbols.now }
 {
     let floats = prelude.floats();
@@ -25,7 +25,7 @@ fn has_type(prelude: &Prelude, float: u32, symbols: &[Symbol]) -> bool
     let typed = &floats[place];
     match symbols.first() {
         None => false,
-        Some(first) => match *first {
+        Some(first) => match first.symbol() {
             Symbol::Const(c) => c == typed.type_code,
             Symbol::Var(_) => false,
         },
@@ -52,7 +52,7 @@ pub(crate) fn node<'a>(
     thesis: &Thesis,
     frame: &'a Frame,
     args: &Args,
-    made: &mut Vec<Symbol>,
+    made: &mut Vec<SymbolWord>,
 ) -> Result<Conclusion<'a>, ProofFaultKind>
     requires { length args.now ≡ arity frame.now }
     ensures ok { IfOk result (λ e. Gives prelude.now thesis.now frame.now args.now (concluded e made.new.items)) }

@@ -8,7 +8,7 @@ ghost use Rattle.derivation.specs.Lookups.{AreVariablesOf, PassesAbove};
 
 use crate::substitutes::Substitution;
 use crate::thesis::Thesis;
-use mmsyntax::Symbol;
+use mmsyntax::{Symbol, SymbolWord};
 use std::alloc::{AllocError, Global};
 use std::slice;
 
@@ -61,10 +61,10 @@ fn are_apart(thesis: &Thesis, us: &[u32], vs: &[u32]) -> bool
 }
 
 /// Adds the symbol, if it is a variable.
-fn note(found: &mut Vec<u32>, symbol: Symbol) -> Result<(), AllocError>
+fn note(found: &mut Vec<u32>, symbol: SymbolWord) -> Result<(), AllocError>
     ensures { OnOk result ((u : ℕ) → Contains found.new.items u ↔ Contains found.old.items u ⊎ (symbol ≡ Symbol.Var u)) }
 {
-    match symbol {
+    match symbol.symbol() {
         Symbol::Const(_) => Ok(()),
         Symbol::Var(v) => {
             found.push(v)?;
@@ -74,7 +74,7 @@ fn note(found: &mut Vec<u32>, symbol: Symbol) -> Result<(), AllocError>
 }
 
 /// The variables of an expression, in the order of their symbols.
-fn listed_variables(alloc: Global, symbols: &[Symbol]) -> Result<Vec<u32>, AllocError>
+fn listed_variables(alloc: Global, symbols: &[SymbolWord]) -> Result<Vec<u32>, AllocError>
     ensures { IfOk result (λ found. AreVariablesOf found.items symbols.now) }
 {
     let mut found = Vec::new(alloc);
@@ -85,7 +85,7 @@ fn listed_variables(alloc: Global, symbols: &[Symbol]) -> Result<Vec<u32>, Alloc
 }
 
 /// The variables of an expression, ascending, each once.
-fn variables_of(alloc: Global, symbols: &[Symbol]) -> Result<Vec<u32>, AllocError>
+fn variables_of(alloc: Global, symbols: &[SymbolWord]) -> Result<Vec<u32>, AllocError>
     ensures { IfOk result (λ found. AreVariablesOf found.items symbols.now) }
 {
     let mut found = listed_variables(alloc, symbols)?;

@@ -3,7 +3,7 @@
 ghost use Rattle.std.specs.Prelude.{◌≡◌, ◌-◌, ◌<◌, ◌≤◌, ◌++◌, ◌∷◌, [], OnOk, length, take, drop, slice_index_or};
 ghost use Rattle.stepcheck.specs.Spans.{start};
 
-use mmsyntax::Symbol;
+use mmsyntax::SymbolWord;
 use std::alloc::{AllocError, Global};
 use std::marker::Model;
 
@@ -18,7 +18,7 @@ pub(crate) enum Entry<'a> {
     /// The stack's own symbols from a place to another.
     Own(usize, usize),
     /// Symbols that stand elsewhere, and how many symbols of the stack's own lie below.
-    Lent(usize, &'a [Symbol]),
+    Lent(usize, &'a [SymbolWord]),
 }
 
 /// How many symbols of the stack's own lie below an entry.
@@ -34,7 +34,7 @@ fn start_of(entry: &Entry) -> usize
 /// The last expressions of a stack. Contracts see them as a list.
 #[derive(Drop)]
 pub(crate) struct Args<'a> {
-    symbols: &'a [Symbol],
+    symbols: &'a [SymbolWord],
     entries: &'a [Entry<'a>],
 }
 
@@ -59,7 +59,7 @@ impl<'a> Args<'a> {
     }
 
     /// The expression at a place.
-    pub(crate) fn at(&self, place: usize) -> &'a [Symbol]
+    pub(crate) fn at(&self, place: usize) -> &'a [SymbolWord]
         requires { place < length self.now }
         ensures { result.now ≡ slice_index_or self.now place result.now }
     {
@@ -86,7 +86,7 @@ impl<'a> Args<'a> {
 /// The expressions of the trees so far, the last one on top. Contracts see them as a list.
 #[derive(Drop)]
 pub(crate) struct Stack<'a> {
-    symbols: Vec<Symbol>,
+    symbols: Vec<SymbolWord>,
     entries: Vec<Entry<'a>>,
 }
 
@@ -136,7 +136,7 @@ impl<'a> Stack<'a> {
     }
 
     /// Puts a copy of an expression on top.
-    pub(crate) fn push(&mut self, expression: &[Symbol]) -> Result<(), AllocError>
+    pub(crate) fn push(&mut self, expression: &[SymbolWord]) -> Result<(), AllocError>
         ensures { OnOk result (self.new ≡ self.old ++ expression.now ∷ []) }
     {
         let start = self.symbols.len();
@@ -147,7 +147,7 @@ impl<'a> Stack<'a> {
     }
 
     /// Puts an expression of two symbols on top, each where it is to stand.
-    pub(crate) fn push_two(&mut self, first: Symbol, second: Symbol) -> Result<(), AllocError>
+    pub(crate) fn push_two(&mut self, first: SymbolWord, second: SymbolWord) -> Result<(), AllocError>
         ensures { OnOk result (self.new ≡ self.old ++ (first ∷ second ∷ []) ∷ []) }
     {
         let start = self.symbols.len();
@@ -159,7 +159,7 @@ impl<'a> Stack<'a> {
     }
 
     /// Puts an expression that stands elsewhere on top, without a copy.
-    pub(crate) fn lend(&mut self, expression: &'a [Symbol]) -> Result<(), AllocError>
+    pub(crate) fn lend(&mut self, expression: &'a [SymbolWord]) -> Result<(), AllocError>
         ensures { OnOk result (self.new ≡ self.old ++ expression.now ∷ []) }
     {
         let below = self.symbols.len();

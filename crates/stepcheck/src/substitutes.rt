@@ -9,7 +9,7 @@ ghost use Rattle.stepcheck.specs.Conclusions.{concluded};
 
 use crate::stack::Args;
 use derivation::ProofFaultKind;
-use mmsyntax::{Expr, Symbol};
+use mmsyntax::{Expr, Symbol, SymbolWord};
 use std::alloc::AllocError;
 use std::marker::Model;
 use std::slice;
@@ -43,7 +43,7 @@ fn first_place(numbers: &[u32], ascend: bool, n: u32) -> Option<usize>
 }
 
 /// An expression without its type.
-fn without_type(typed: &[Symbol]) -> &[Symbol]
+fn without_type(typed: &[SymbolWord]) -> &[SymbolWord]
     ensures { result.now ≡ drop 1 typed.now }
 {
     if typed.is_empty() {
@@ -107,7 +107,7 @@ impl<'a> Substitution<'a> {
     }
 
     /// The substitute at a place.
-    pub(crate) fn at(&self, place: usize) -> &'a [Symbol]
+    pub(crate) fn at(&self, place: usize) -> &'a [SymbolWord]
         requires { place < length self.now }
         ensures { (d : ℕ × List Symbol) → result.now ≡ (slice_index_or self.now place d).1 }
     {
@@ -120,18 +120,18 @@ impl<'a> Substitution<'a> {
 #[derive(Clone, Copy)]
 pub(crate) enum Conclusion<'a> {
     /// As it stands, where nothing is substituted: it isn't copied.
-    Unchanged(&'a [Symbol]),
+    Unchanged(&'a [SymbolWord]),
     /// What was put together.
     Made,
 }
 
 /// What the substitution makes of one symbol.
-fn piece<'s>(substitution: &'s Substitution, symbol: &'s Symbol) -> &'s [Symbol]
+fn piece<'s>(substitution: &'s Substitution, symbol: &'s SymbolWord) -> &'s [SymbolWord]
     ensures { result.now ≡ subst substitution.now (symbol.now ∷ []) }
 {
-    match symbol {
+    match symbol.symbol() {
         Symbol::Const(_) => slice::from_ref(symbol),
-        Symbol::Var(j) => match substitution.place_of(*j) {
+        Symbol::Var(j) => match substitution.place_of(j) {
             Some(place) => substitution.at(place),
             None => slice::from_ref(symbol),
         },
@@ -139,7 +139,7 @@ fn piece<'s>(substitution: &'s Substitution, symbol: &'s Symbol) -> &'s [Symbol]
 }
 
 /// Whether an expression after substitution is the target.
-fn is_substituted(substitution: &Substitution, symbols: &[Symbol], target: &[Symbol]) -> bool
+fn is_substituted(substitution: &Substitution, symbols: &[SymbolWord], target: &[SymbolWord]) -> bool
     ensures { IsTrue result ↔ (subst substitution.now symbols.now ≡ target.now) }
 {
     let mut rest = target;
@@ -166,7 +166,7 @@ pub(crate) fn are_substituted(substitution: &Substitution, hyps: &[Expr], target
 }
 
 /// Adds a symbol, if the expression keeps to 65,535 symbols.
-fn add_one(made: &mut Vec<Symbol>, symbol: Symbol) -> Result<(), ProofFaultKind>
+fn add_one(made: &mut Vec<SymbolWord>, symbol: SymbolWord) -> Result<(), ProofFaultKind>
     requires { length made.old.items ≤ 65535 }
     ensures value { OnOk result ((made.new.items ≡ made.old.items ++ symbol ∷ []) × (length made.new.items ≤ 65535)) }
     ensures kinds { IfErr result (λ kind. IsTooLongOrNoMemory kind (65535 < length made.old.items + 1)) }
@@ -179,7 +179,7 @@ fn add_one(made: &mut Vec<Symbol>, symbol: Symbol) -> Result<(), ProofFaultKind>
 }
 
 /// Adds symbols, if the expression keeps to 65,535 symbols.
-fn add_all(made: &mut Vec<Symbol>, symbols: &[Symbol]) -> Result<(), ProofFaultKind>
+fn add_all(made: &mut Vec<SymbolWord>, symbols: &[SymbolWord]) -> Result<(), ProofFaultKind>
     requires { length made.old.items ≤ 65535 }
     ensures value { OnOk result ((made.new.items ≡ made.old.items ++ symbols.now) × (length made.new.items ≤ 65535)) }
     ensures kinds { IfErr result (λ kind. IsTooLongOrNoMemory kind (65535 < length made.old.items + length symbols.now)) }
@@ -194,8 +194,8 @@ fn add_all(made: &mut Vec<Symbol>, symbols: &[Symbol]) -> Result<(), ProofFaultK
 /// Adds what the substitution makes of one symbol, if the expression keeps to 65,535 symbols.
 fn add_piece(
     substitution: &Substitution,
-    symbol: &Symbol,
-    made: &mut Vec<Symbol>,
+    symbol: &SymbolWord,
+    made: &mut Vec<SymbolWord>,
 ) -> Result<(), ProofFaultKind>
     requires { length made.old.items ≤ 65535 }
     ensures value { OnOk result ((made.new.items ≡ made.old.items ++ subst substitution.now (symbol.now ∷ []))
@@ -203,7 +203,7 @@ fn add_piece(
     ensures kinds { IfErr result (λ kind. IsTooLongOrNoMemory kind
         (65535 < length made.old.items + length (subst substitution.now (symbol.now ∷ [])))) }
 {
-    match symbol {
+    match symbol.symbol() {
         Symbol::Const(_) => add_one(made, *symbol),
         Symbol::Var(_) => add_all(made, piece(substitution, symbol)),
     }
@@ -212,8 +212,8 @@ fn add_piece(
 /// Makes the expression after substitution, of at most 65,535 symbols.
 fn make(
     substitution: &Substitution,
-    symbols: &[Symbol],
-    made: &mut Vec<Symbol>,
+    symbols: &[SymbolWord],
+    made: &mut Vec<SymbolWord>,
 ) -> Result<(), ProofFaultKind>
     ensures value { OnOk result ((made.new.items ≡ subst substitution.now symbols.now) × (length made.new.items ≤ 65535)) }
     ensures kinds { IfErr result (λ kind. IsTooLongOrNoMemory kind (65535 < length (subst substitution.now symbols.now))) }
@@ -228,8 +228,8 @@ fn make(
 /// The expression after substitution, of at most 65,535 symbols: put together in `made`, but where nothing is substituted.
 pub(crate) fn conclude<'a>(
     substitution: &Substitution,
-    symbols: &'a [Symbol],
-    made: &mut Vec<Symbol>,
+    symbols: &'a [SymbolWord],
+    made: &mut Vec<SymbolWord>,
 ) -> Result<Conclusion<'a>, ProofFaultKind>
     ensures value { IfOk result (λ e. (concluded e made.new.items ≡ subst substitution.now symbols.now)
         × (length (concluded e made.new.items) ≤ 65535)) }
