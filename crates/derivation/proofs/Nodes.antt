@@ -1,11 +1,11 @@
 -- Substitution symbol by symbol, and the tests of a citation.
-use Rattle.std.proofs.Common.{◌≡◌, ◌≢◌, ◌↔◌, ℕ, suc, ◌+◌, ◌<◌, ◌≤◌, List, [], ◌∷◌, ◌++◌, length, drop, get_or, refl}
-use Rattle.std.proofs.Common.{ap, append-nil, add-one}
+use Rattle.std.proofs.Common.{◌≡◌, ◌≢◌, ◌↔◌, ℕ, suc, ◌+◌, ◌*◌, ◌<◌, ◌≤◌, List, [], ◌∷◌, ◌++◌, length, drop, get_or, refl}
+use Rattle.std.proofs.Common.{ap, append-nil, add-one, arith}
 use Rattle.std.proofs.Math.Seq.{drop-cons}
 use Rattle.std.proofs.lemmas.List.{append_cancel_left}
 use Rattle.std.specs.Bool.{Decides}
 use Rattle.std.proofs.lemmas.Bool.Decides.{Decides-eqb}
-use Rattle.mmsyntax.specs.contracts.statement.SymbolPartialEq.TheImpl.{eq-value}
+use Rattle.mmsyntax.specs.contracts.symbol_word.SymbolWordPartialEq.TheImpl.{eq-value}
 use Rattle.mmsyntax.specs.declared.statement.Symbol.{Symbol}
 use Rattle.mmsyntax.specs.declared.statement.Symbol.TheVariants.{Const, Var}
 use Rattle.mmsyntax.specs.Tables.{Tables}
@@ -36,12 +36,20 @@ subst-none s (Const c ∷ e) none = ap (λ d. Const c ∷ d) (subst-none s e non
 subst-none [] (Var j ∷ e) none = ap (λ d. Var j ∷ d) (subst-none [] e none)
 subst-none (x ∷ xs) (Var j ∷ e) none = cc
 
--- `==` at symbols
+-- `==` at the words of symbols
 pub symbol_decides : (a b : Symbol) → Decides (eq-value.it a b) (a ≡ b)
-symbol_decides (Const c) (Const d) = (λ e. ap Const ((Decides-eqb c d).0 e), λ e. let same : c ≡ d = cc in (Decides-eqb c d).1 same)
-symbol_decides (Const c) (Var k) = (λ e. cc, λ e. cc)
-symbol_decides (Var j) (Const d) = (λ e. cc, λ e. cc)
-symbol_decides (Var j) (Var k) = (λ e. ap Var ((Decides-eqb j k).0 e), λ e. let same : j ≡ k = cc in (Decides-eqb j k).1 same)
+symbol_decides (Const c) (Const d) =
+    let words = Decides-eqb (2 * c) (2 * d) in
+    (λ e. let h = words.0 e in ap Const (omega (arith, h)), λ e. let is : c ≡ d = cc in words.1 (ap (λ n. 2 * n) is))
+symbol_decides (Const c) (Var k) =
+    let words = Decides-eqb (2 * c) (2 * k + 1) in
+    (λ e. let h = words.0 e in absurd (omega (arith, h)), λ e. cc)
+symbol_decides (Var j) (Const d) =
+    let words = Decides-eqb (2 * j + 1) (2 * d) in
+    (λ e. let h = words.0 e in absurd (omega (arith, h)), λ e. cc)
+symbol_decides (Var j) (Var k) =
+    let words = Decides-eqb (2 * j + 1) (2 * k + 1) in
+    (λ e. let h = words.0 e in ap Var (omega (arith, h)), λ e. let is : j ≡ k = cc in words.1 (ap (λ n. 2 * n + 1) is))
 
 -- the next piece stands at the front of what is left, or there is no match
 pub piece-matches : (all piece after next later rest : Expression) (G : Type 0) → all ≡ piece ++ after → next ≡ piece → rest ≡ next ++ later

@@ -2,3 +2,4 @@ pub mod Apart
 pub mod LookedUp
 pub mod Replaced
 pub mod Spans
+mod FewPlaces

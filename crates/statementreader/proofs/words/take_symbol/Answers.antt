@@ -5,6 +5,9 @@ use Rattle.mmtext.specs.Views.{seen}
 use Rattle.statementreader.proofs.TakenWords.{kept_plain, kept_symbol, taken_item, refused_item}
 use Rattle.statementreader.proofs.words.take_symbol.Goals as goal
 
+pub symbol_named-requires : goal.symbol_named-requires
+symbol_named-requires c = (c.at-known.ensures c.args.symbols.now c.args.token.text.now c.in_ok-place.ensures.found).1.symbol
+
 pub returns-in_ok-push-in-Ok-clause-taken : goal.returns-in_ok-push-in-Ok-clause-taken
 returns-in_ok-push-in-Ok-clause-taken c =
     let t = c.args.symbols.now in
