@@ -10,7 +10,7 @@ use Rattle.mmtext.specs.Text.{Token}
 use Rattle.mmtext.specs.Words.{Word, has_dollar}
 use Rattle.mmtext.specs.Comments.{words_of}
 use Rattle.mmtext.specs.Languages.{fault}
-use Rattle.mmtext.proofs.CommentLaws.{walk, walk_none, walk_cons, same_word}
+use Rattle.walks.proofs.Walks.{walk, walk_none, walk_cons, same_word}
 use Rattle.mmsyntax.specs.declared.statement.Kind.{Kind}
 use Rattle.mmsyntax.specs.Tables.{Tables}
 use Rattle.mmsyntax.specs.Grammar.{spelling}

@@ -7,7 +7,7 @@ use Rattle.mmtext.specs.declared.fault.TextFault.{TextFault}
 use Rattle.mmtext.specs.Text.{Token}
 use Rattle.mmtext.specs.Words.{Word, has_dollar}
 use Rattle.mmtext.specs.Comments.{words_of}
-use Rattle.mmtext.proofs.CommentLaws.{walk, walk_ends, IsOrdinary}
+use Rattle.walks.proofs.Walks.{walk, walk_ends, IsOrdinary}
 use Rattle.mmsyntax.specs.declared.statement.Kind.{Kind}
 use Rattle.mmsyntax.specs.declared.statement.Kind.TheVariants.{Axiom, Theorem}
 use Rattle.mmsyntax.specs.Tables.{Tables}

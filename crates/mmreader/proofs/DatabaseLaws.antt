@@ -9,7 +9,7 @@ use Rattle.mmtext.specs.Laws.{IsGrammarOf}
 use Rattle.mmsyntax.specs.Rows.{Known, nothing}
 use Rattle.mmsyntax.specs.Faults.{outside, inside, Place, at_start, Position, database_of, whole, database_language}
 use Rattle.mmsyntax.specs.Grammar.{spelling, Spells}
-use Rattle.mmtext.proofs.CommentLaws.{here, walk, walks_outside, runs_all}
+use Rattle.walks.proofs.Walks.{here, walk, walks_outside, runs_all}
 use Rattle.statementreader.proofs.Ordinary.{statements_ordinary}
 use Rattle.statementreader.proofs.Leading.{home}
 use Rattle.statementreader.proofs.LeadingStatements.{statements_lead}

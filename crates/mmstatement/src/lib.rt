@@ -5,8 +5,8 @@ pub use mmframes::{SubstituteError, frame_of, substitute};
 pub use mmreader::read_database;
 pub use mmsyntax::{
     Assertion, Database, Expr, Float, Frame, Kind, Label, Name, Prelude, Proof, Sequence, Step,
-    StepRef, Symbol, are_citing_apart, fits, hypothesis_number, is_dotted, is_lawful_label, laws,
-    trunk,
+    StepRef, Symbol, SymbolWord, are_citing_apart, fits, hypothesis_number, is_dotted,
+    is_lawful_label, laws, trunk,
 };
 pub use mmtext::{FaultKind, TextFault};
 pub use mmwriter::{put_assertion, put_prelude, write_assertion, write_database};

@@ -1,6 +1,5 @@
 pub mod Tokens
 pub mod Marks
 pub mod Readings
-pub mod CommentLaws
 pub mod Turns
 pub mod TextLaws

@@ -11,7 +11,7 @@ use Rattle.mmtext.specs.Text.{Token}
 use Rattle.mmtext.specs.Words.{Word, has_dollar}
 use Rattle.mmtext.specs.Comments.{words_of}
 use Rattle.mmtext.specs.Languages.{Language}
-use Rattle.mmtext.proofs.CommentLaws.{walk, walk_none, walk_cons, same_word}
+use Rattle.walks.proofs.Walks.{walk, walk_none, walk_cons, same_word}
 use Rattle.mmsyntax.specs.declared.statement.Step.{Step}
 use Rattle.mmsyntax.specs.Tables.{Tables}
 use Rattle.mmsyntax.specs.Grammar.{spelling}

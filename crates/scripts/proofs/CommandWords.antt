@@ -9,7 +9,7 @@ use Rattle.mmtext.specs.Text.{Token, mark_of}
 use Rattle.mmtext.specs.Words.{Word, has_dollar}
 use Rattle.mmtext.specs.Comments.{words_of}
 use Rattle.mmtext.specs.Languages.{Language, fault}
-use Rattle.mmtext.proofs.CommentLaws.{walk, walk_step, IsOrdinary, plain_is_ordinary}
+use Rattle.walks.proofs.Walks.{walk, walk_step, IsOrdinary, plain_is_ordinary}
 use Rattle.mmsyntax.specs.declared.statement.Step.{Step}
 use Rattle.mmsyntax.specs.declared.statement.Assertion.{Assertion}
 use Rattle.mmsyntax.specs.Tables.{Tables}

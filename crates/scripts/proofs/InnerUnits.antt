@@ -9,7 +9,7 @@ use Rattle.mmtext.specs.Text.{Token}
 use Rattle.mmtext.specs.Words.{Word}
 use Rattle.mmtext.specs.Comments.{words_of}
 use Rattle.mmtext.specs.Languages.{Language, fault}
-use Rattle.mmtext.proofs.CommentLaws.{walk, walk_ends, walk_none, walk_step, walk_cons}
+use Rattle.walks.proofs.Walks.{walk, walk_ends, walk_none, walk_step, walk_cons}
 use Rattle.mmsyntax.specs.declared.statement.Assertion.{Assertion}
 use Rattle.mmsyntax.specs.Tables.{Tables}
 use Rattle.mmsyntax.specs.Faults.{Position, row, unit_at, unit_language, first_of}

@@ -9,7 +9,7 @@ use Rattle.mmtext.specs.Text.{tokens, IsClean}
 use Rattle.mmtext.specs.Words.{Word}
 use Rattle.mmtext.specs.Languages.{run, ended, token_reading}
 use Rattle.mmtext.specs.Laws.{IsGrammarOf, IsRead}
-use Rattle.mmtext.proofs.CommentLaws.{here, walks_outside, runs_all}
+use Rattle.walks.proofs.Walks.{here, walks_outside, runs_all}
 use Rattle.mmsyntax.specs.declared.statement.Step.{Step}
 use Rattle.mmsyntax.specs.declared.statement.Assertion.{Assertion}
 use Rattle.mmsyntax.specs.Tables.{Tables}

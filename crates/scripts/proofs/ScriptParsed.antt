@@ -8,7 +8,7 @@ use Rattle.mmtext.specs.declared.fault.TextFault.{TextFault}
 use Rattle.mmtext.specs.Text.{Token}
 use Rattle.mmtext.specs.Comments.{words_of}
 use Rattle.mmtext.specs.Languages.{fault}
-use Rattle.mmtext.proofs.CommentLaws.{walk, walk_none, walk_cons, same_word}
+use Rattle.walks.proofs.Walks.{walk, walk_none, walk_cons, same_word}
 use Rattle.mmsyntax.specs.Tables.{Tables}
 use Rattle.scripts.specs.Scripts.{SpellsEach, SpellsTransaction}
 use Rattle.scripts.specs.ScriptFaults.{Place, outermost, at_command, within, Progress, at, script_language}

@@ -7,7 +7,7 @@ use Rattle.mmtext.specs.Text.{Token}
 use Rattle.mmtext.specs.Words.{Word}
 use Rattle.mmtext.specs.Comments.{words_of}
 use Rattle.mmtext.specs.Languages.{fault}
-use Rattle.mmtext.proofs.CommentLaws.{walk, walk_ends, IsOrdinary}
+use Rattle.walks.proofs.Walks.{walk, walk_ends, IsOrdinary}
 use Rattle.mmsyntax.specs.Tables.{Tables}
 use Rattle.library.specs.declared.command.Command.{Command}
 use Rattle.scripts.specs.Scripts.{SpellsEach, SpellsTransaction}

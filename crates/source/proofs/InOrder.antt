@@ -5,7 +5,7 @@ use Rattle.std.specs.List.{list_all}
 use Rattle.std.proofs.lemmas.Bool.{and_parts, le-leb}
 use Rattle.std.proofs.lemmas.List.Elements.{All-nil, All-cons}
 use Rattle.mmtext.specs.Words.{Word, has_dollar}
-use Rattle.mmtext.proofs.CommentLaws.{IsOrdinary, plain_is_ordinary}
+use Rattle.walks.proofs.Walks.{IsOrdinary, plain_is_ordinary}
 use Rattle.mmsyntax.specs.Rows.{Tests}
 use Rattle.source.specs.Statements.{constants, variables}
 use Rattle.source.specs.Scopes.{Scope, behind}

@@ -4,7 +4,7 @@ use Rattle.std.proofs.lemmas.Bool.{and_parts}
 use Rattle.mmtext.specs.Words.{Word}
 use Rattle.mmtext.specs.Text.{Token}
 use Rattle.mmtext.specs.Comments.{words_of}
-use Rattle.mmtext.proofs.CommentLaws.{walk, walk_ends, walk_none, walk_step, walk_cons}
+use Rattle.walks.proofs.Walks.{walk, walk_ends, walk_none, walk_step, walk_cons}
 use Rattle.mmsyntax.specs.Rows.{Tests}
 use Rattle.source.specs.Scopes.{Scope}
 use Rattle.source.specs.Tests.{passes, all_pass}

@@ -7,7 +7,7 @@ use Rattle.std.proofs.lemmas.List.Elements.{All-nil, All-cons, All-append}
 use Rattle.mmtext.specs.Words.{Word}
 use Rattle.mmtext.specs.Text.{mark_of}
 use Rattle.mmtext.proofs.Marks.{label_plain}
-use Rattle.mmtext.proofs.CommentLaws.{IsOrdinary, plain_is_ordinary}
+use Rattle.walks.proofs.Walks.{IsOrdinary, plain_is_ordinary}
 use Rattle.source.specs.Statements.{Proof, normal, compressed, Statement, constants, variables, float, hypothesis, distinct, asserted}
 use Rattle.source.specs.Statements.{proved}
 use Rattle.source.specs.Statements.{block, Statements, none, some, proof_spelling, spelling, spellings}

@@ -7,7 +7,7 @@ use Rattle.std.proofs.lemmas.Bool.{and_parts, and_from}
 use Rattle.mmtext.specs.Words.{Word}
 use Rattle.mmtext.specs.Text.{Token}
 use Rattle.mmtext.specs.Comments.{words_of}
-use Rattle.mmtext.proofs.CommentLaws.{walk, walk_none, walk_cons}
+use Rattle.walks.proofs.Walks.{walk, walk_none, walk_cons}
 use Rattle.mmsyntax.specs.Rows.{Tests}
 use Rattle.source.specs.Statements.{Proof, normal, compressed, float, proved, proof_spelling}
 use Rattle.source.specs.Scopes.{Scope, behind}

@@ -6,7 +6,7 @@ use Rattle.std.proofs.lemmas.Bool.{and_from}
 use Rattle.mmtext.specs.Words.{Word, is_label}
 use Rattle.mmtext.specs.Text.{Token}
 use Rattle.mmtext.specs.Comments.{words_of}
-use Rattle.mmtext.proofs.CommentLaws.{walk, walk_none, walk_cons}
+use Rattle.walks.proofs.Walks.{walk, walk_none, walk_cons}
 use Rattle.source.specs.Statements.{Statement, constants, variables, float, hypothesis, distinct, asserted, proved, block, Statements, none}
 use Rattle.source.specs.Statements.{some, proof_spelling, spelling, spellings}
 use Rattle.source.specs.Scopes.{Scope, enter, leave, behind, behind_all}

@@ -6,7 +6,7 @@ use Rattle.mmtext.specs.Text.{Token, tokens, IsClean}
 use Rattle.mmtext.specs.Comments.{words_of, without_comments}
 use Rattle.mmtext.specs.Languages.{State, run, finished, ended, token_reading}
 use Rattle.mmtext.specs.Laws.{IsGrammarOf}
-use Rattle.mmtext.proofs.CommentLaws.{here, walk, walks_outside, runs_all}
+use Rattle.walks.proofs.Walks.{here, walk, walks_outside, runs_all}
 use Rattle.source.specs.Statements.{spellings}
 use Rattle.source.specs.Scopes.{Scope, Stand, nothing, behind_all}
 use Rattle.source.specs.Sources.{DeclaresText}

@@ -20,7 +20,7 @@ use Rattle.mmsyntax.specs.Faults.{Scope, outside, inside, block_of, Place, at_st
 use Rattle.mmsyntax.specs.Faults.{in_distinct, in_proof, Position, at, faulted, tested, given, labelled}
 use Rattle.mmsyntax.specs.Faults.{next_variable, next_symbol, next_step, in_place, row}
 use Rattle.mmsyntax.specs.Grammar.{DeclaresConstants, DeclaresVariables, ReadsAfter, Restricts, StepsAfter}
-use Rattle.mmtext.proofs.CommentLaws.{walk, walk_step}
+use Rattle.walks.proofs.Walks.{walk, walk_step}
 use Rattle.statementreader.proofs.Keywords.{mark_plain, label_plain, declared_plain, symbol_plain, distinct_plain, step_plain, end_mark}
 
 -- ---- positions

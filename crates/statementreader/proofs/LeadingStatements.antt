@@ -23,7 +23,7 @@ use Rattle.mmsyntax.specs.Faults.{Position, at, tested, given, next_symbol, behi
 use Rattle.mmsyntax.specs.Grammar.{Claim, asserted, proved, Piece, distinct, hypothesis, Statement, constants, variables, float}
 use Rattle.mmsyntax.specs.Grammar.{alone, block}
 use Rattle.mmsyntax.specs.Grammar.{claim_spelling, piece_spelling, spelling, Claims, Holds, HoldAll, Declares, DeclareAll}
-use Rattle.mmtext.proofs.CommentLaws.{walk, walk_ends}
+use Rattle.walks.proofs.Walks.{walk, walk_ends}
 use Rattle.statementreader.proofs.Keywords.{constants_mark, variables_mark, float_mark, axiom_mark, provable_mark, essential_mark}
 use Rattle.statementreader.proofs.Keywords.{disjoint_mark}
 use Rattle.statementreader.proofs.Keywords.{opening_mark, closing_mark, proof_mark, end_mark, mark_plain, type_plain, variable_plain}

@@ -16,7 +16,7 @@ use Rattle.mmsyntax.specs.Grammar.{alone, block}
 use Rattle.mmsyntax.specs.Grammar.{claim_spelling, piece_spelling, spelling, DeclaresConstants, DeclaresVariables, ReadsAfter}
 use Rattle.mmsyntax.specs.Grammar.{Restricts}
 use Rattle.mmsyntax.specs.Grammar.{StepsAfter, Claims, Holds, HoldAll, Declares, DeclareAll}
-use Rattle.mmtext.proofs.CommentLaws.{IsOrdinary, plain_is_ordinary}
+use Rattle.walks.proofs.Walks.{IsOrdinary, plain_is_ordinary}
 use Rattle.statementreader.proofs.Keywords.{label_plain, declared_plain, symbol_plain, type_plain, variable_plain, distinct_plain}
 use Rattle.statementreader.proofs.Keywords.{step_plain}
 

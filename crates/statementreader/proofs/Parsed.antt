@@ -13,7 +13,7 @@ use Rattle.mmsyntax.specs.Blocks.{Block, with_distinct}
 use Rattle.mmsyntax.specs.Faults.{Scope, outside, inside, block_of, Place, at_start, in_constants, in_variables}
 use Rattle.mmsyntax.specs.Faults.{float_type, float_variable, float_end, in_distinct, in_proof, Position, row}
 use Rattle.mmsyntax.specs.Grammar.{DeclaresConstants, DeclaresVariables, ReadsAfter, Restricts, StepsAfter}
-use Rattle.mmtext.proofs.CommentLaws.{walk, walk_none, walk_cons}
+use Rattle.walks.proofs.Walks.{walk, walk_none, walk_cons}
 use Rattle.statementreader.proofs.Leading.{there, home, IsInner}
 use Rattle.statementreader.proofs.ParsedRows.{constant_leads, variable_leads, type_leads, float_variable_leads, float_end_leads}
 use Rattle.statementreader.proofs.ParsedRows.{distinct_leads}

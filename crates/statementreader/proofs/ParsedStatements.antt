@@ -18,7 +18,7 @@ use Rattle.mmsyntax.specs.Faults.{in_hypothesis, in_axiom, in_theorem, in_proof,
 use Rattle.mmsyntax.specs.Grammar.{Claim, asserted, proved, Piece, distinct, hypothesis, Statement, constants, variables, float}
 use Rattle.mmsyntax.specs.Grammar.{alone, block}
 use Rattle.mmsyntax.specs.Grammar.{claim_spelling, piece_spelling, spelling, Claims, Holds, HoldAll, Declares, DeclareAll}
-use Rattle.mmtext.proofs.CommentLaws.{walk, walk_none, walk_cons}
+use Rattle.walks.proofs.Walks.{walk, walk_none, walk_cons}
 use Rattle.statementreader.proofs.Leading.{there, home}
 use Rattle.statementreader.proofs.LeadingStatements.{regroup, regroup_theorem, regroup_block}
 use Rattle.statementreader.proofs.ParsedRows.{hypothesis_leads, hypothesis_end, axiom_leads, axiom_end, theorem_leads, Asserts}

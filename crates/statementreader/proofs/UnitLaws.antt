@@ -17,7 +17,7 @@ use Rattle.mmsyntax.specs.Faults.{outside, inside, Place, at_start, Position, ro
 use Rattle.mmsyntax.specs.Faults.{first_of, unit_at, unit_language}
 use Rattle.mmsyntax.specs.Grammar.{Piece, distinct, hypothesis, Statement, constants, variables, float, alone, block, spelling}
 use Rattle.mmsyntax.specs.Grammar.{HoldAll, Declares, SpellsUnit}
-use Rattle.mmtext.proofs.CommentLaws.{here, walk, walk_ends, walk_none, walk_cons, walks_outside, runs_all}
+use Rattle.walks.proofs.Walks.{here, walk, walk_ends, walk_none, walk_cons, walks_outside, runs_all}
 use Rattle.statementreader.proofs.Ordinary.{statement_ordinary}
 use Rattle.statementreader.proofs.Leading.{there, home, IsInner, GoesOnInside}
 use Rattle.statementreader.proofs.LeadingStatements.{statement_leads}
