@@ -1,48 +1,23 @@
 -- A source with edits that was looked at.
 use Rattle.std.proofs.Common.{◌≡◌, ℕ, Bool, List, map, subst, ap}
 use Rattle.std.specs.Prelude.{All, IsTrue}
-use Rattle.std.specs.Borrow.{Bor}
 use Rattle.mmtext.specs.Words.{Word}
 use Rattle.source.specs.Scopes.{Scope}
 use Rattle.source.specs.Sources.{DeclaresText}
-use Rattle.source.specs.Views.{seen_words}
 use Rattle.taking.specs.Reasons.{Choice}
-use Rattle.choosing.specs.declared.wish.Wish.TheVariants.{These}
-use Rattle.giving.specs.Staying.{Change, StayAll, others}
+use Rattle.giving.specs.Staying.{Change, others}
 use Rattle.checking.specs.Checks.{LeadsTo}
 use Rattle.intake.specs.declared.taken.Taken.{Taken}
-use Rattle.intake.specs.Intakes.{IsLibraryOf, axioms_of, names_of}
+use Rattle.intake.specs.Intakes.{axioms_of}
 use Rattle.library.specs.declared.history.Entry.{Entry}
 use Rattle.library.specs.Library.{Listed}
 use Rattle.comments.specs.Kept.{AreKept}
 use Rattle.sourceediting.specs.Following.{Following, all_commands, behind_all, opening, changes_of, label_then, own_flags}
 use Rattle.sourceediting.specs.Following.{names_none}
-use Rattle.givetext.specs.Again.{IsFloatOf, database_lines, edited_lines}
 use Rattle.sourceediting.specs.Written.{IsWrittenAnew}
-use Rattle.givetext.specs.Parts.{IsLookedAt, IsEdited}
+use Rattle.secondlook.specs.Looked.{IsLookedAt}
+use Rattle.givetext.specs.Parts.{IsEdited}
 use Rattle.givetext.specs.Given.{IsTakenText, IsGiven}
-
-module _ (new : Scope) (then axioms : Bor (List (Bor (List ℕ)))) (t : Taken) (l : IsLibraryOf new (These then axioms) t) (flags : List Bool)
-    (are : flags ≡ own_flags l.taken.choice (axioms_of t) new) where
-  pub looked_at : (old : Scope) (out : List ℕ) (changes : List Change) (own : List Bool) (edited : Listed) → DeclaresText out new
-      → All (IsFloatOf t.database.prelude edited.setting.prelude) t.database.prelude.floats → database_lines t.database ≡ edited_lines edited
-      → StayAll changes (others own old.assertions) (others flags new.assertions)
-      → IsLookedAt old out changes own (seen_words then.now) edited
-  looked_at old out changes own edited declares floats same stay = record {
-    new = new;
-    declares = declares;
-    choice = l.taken.choice;
-    axioms = axioms_of t;
-    again = record {
-      chosen = ap (λ (x : Choice). x.chosen) l.taken.is_choice;
-      db = t.database;
-      names = names_of t;
-      takes = l.taken.takes;
-      floats = floats;
-      same = same;
-    };
-    stays = subst (λ (fs : List Bool). StayAll changes (others own old.assertions) (others fs new.assertions)) are stay;
-  }
 
 module _ (source out : List ℕ) (old : Scope) (choice : Choice) (taken : Taken) (entries : List Entry) (edited : Listed) (followed : Following)
     (changes : List Change) (own : List Bool) (follows : followed ≡ behind_all (all_commands entries) (opening old choice taken.database))

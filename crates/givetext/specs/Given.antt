@@ -16,7 +16,7 @@ use Rattle.taketext.specs.Answers.{taken_text}
 use Rattle.comments.specs.Kept.{AreKept}
 use Rattle.sourceediting.specs.Following.{Following, all_commands, behind_all, opening, changes_of, label_then, own_flags}
 use Rattle.sourceediting.specs.Following.{names_none}
-use Rattle.givetext.specs.Again.{IsTakenAgain}
+use Rattle.secondlook.specs.Again.{IsTakenAgain}
 use Rattle.sourceediting.specs.Written.{IsWrittenAnew}
 
 -- the text is what is printed where a library is taken of the source, by some wish

@@ -1,4 +1,3 @@
 pub mod Given
 pub mod Answers
-pub mod Again
 pub mod Parts

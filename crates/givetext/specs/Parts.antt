@@ -1,11 +1,8 @@
 -- Of the code's inside, apart from the rules: what is known of a source with edits before it is printed.
-use Rattle.std.specs.Prelude.{◌≡◌, ℕ, Bool, List, map, All, IsTrue}
-use Rattle.mmtext.specs.Words.{Word}
+use Rattle.std.specs.Prelude.{◌≡◌, ℕ, List, map, All, IsTrue}
 use Rattle.source.specs.Scopes.{Scope}
-use Rattle.source.specs.Sources.{DeclaresText}
-use Rattle.taking.specs.declared.reason.Reason.{Reason}
 use Rattle.taking.specs.Reasons.{Choice}
-use Rattle.giving.specs.Staying.{Change, StayAll, others}
+use Rattle.giving.specs.Staying.{others}
 use Rattle.library.specs.declared.history.Entry.{Entry}
 use Rattle.library.specs.Library.{Listed}
 use Rattle.intake.specs.declared.taken.Taken.{Taken}
@@ -13,17 +10,8 @@ use Rattle.intake.specs.Intakes.{axioms_of}
 use Rattle.comments.specs.Kept.{AreKept}
 use Rattle.sourceediting.specs.Following.{Following, all_commands, behind_all, opening, changes_of, label_then, own_flags}
 use Rattle.sourceediting.specs.Following.{names_none}
-use Rattle.givetext.specs.Again.{IsTakenAgain}
+use Rattle.secondlook.specs.Looked.{IsLookedAt}
 use Rattle.sourceediting.specs.Written.{IsWrittenAnew}
-
--- the text declares a source, of which the edited library is taken by these labels, and what isn't its own stays
-pub record IsLookedAt (old : Scope) (out : List ℕ) (changes : List Change) (own : List Bool) (then : List Word) (edited : Listed) : Type 0 where
-  pub new : Scope
-  pub declares : DeclaresText out new
-  pub choice : Choice
-  pub axioms : List (Word × Reason)
-  pub again : IsTakenAgain new then edited choice axioms
-  pub stays : StayAll changes (others own old.assertions) (others (own_flags choice axioms new) new.assertions)
 
 -- it is the source with the edits of a history over a library that was taken of it by a choice, and was looked at
 pub record IsEdited (source : List ℕ) (old : Scope) (choice : Choice) (taken : Taken) (entries : List Entry) (edited : Listed) (out : List ℕ)

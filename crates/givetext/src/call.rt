@@ -4,24 +4,27 @@
 ghost use Rattle.std.specs.Prelude.{◌≡◌, IfOk, OnOk, length, map};
 ghost use Rattle.source.specs.Scopes.{Assertion, is_in};
 ghost use Rattle.source.specs.Sources.{DeclaresText};
+ghost use Rattle.source.specs.Views.{seen_words};
 ghost use Rattle.source.specs.Whole.{IsWhole};
 ghost use Rattle.taking.specs.Reasons.{Choice};
+ghost use Rattle.comments.specs.Kept.{AreKept};
 ghost use Rattle.checking.specs.Checks.{LeadsTo};
-ghost use Rattle.sourceediting.specs.Following.{all_commands, behind_all, opening};
+ghost use Rattle.sourceediting.specs.Following.{all_commands, behind_all, label_then, opening};
 ghost use Rattle.sourceediting.specs.Views.{seen_following};
 ghost use Rattle.sourceediting.specs.Written.{IsWrittenAnew};
+ghost use Rattle.secondlook.specs.Looked.{IsLookedAt};
 ghost use Rattle.givetext.specs.Parts.{IsEdited};
 ghost use Rattle.givetext.specs.Given.{IsTakenText, IsGiven};
 
-use crate::again::{Edits, keep_comments, look_again};
+use crate::again::{keep_comments, unprinted};
 use crate::origin::origin_of;
-use crate::own::{own_of, told_of};
 use checking::{Fault, replay_library};
 use giving::Changes;
 use intake::{Follow, Taken, take_declared};
 use library::{Entry, History, PlainLibrary};
 use mmtext::{FaultKind, TextFault};
 use scopes::Scopes;
+use secondlook::{Edits, look_again, own_of, told_of};
 use source::Declared;
 use source::laws::sources_are_whole;
 use sourceediting::{
@@ -58,11 +61,19 @@ fn read_old<'a>(
 }
 
 /// A library that `take` doesn't print of the source.
-fn another(alloc: Global) -> Result<Refusal, AllocError> {
-    Ok(Refusal::Text(
-        File::Library,
-        format!(in alloc; "not what `take` prints of the source")?,
-    ))
+fn another(alloc: Global) -> Refusal {
+    match format!(in alloc; "not what `take` prints of the source") {
+        Ok(why) => Refusal::Text(File::Library, why),
+        Err(_) => Refusal::NoMemory,
+    }
+}
+
+/// Why no library is taken of the source.
+fn untaken(alloc: Global, refusal: intake::Refusal<'_, '_>) -> Refusal {
+    match refusal {
+        intake::Refusal::NoMemory => Refusal::NoMemory,
+        _ => another(alloc),
+    }
 }
 
 /// The library is taken of the source again, by the choice that its comment tells: it has just this text.
@@ -79,17 +90,16 @@ fn take_old<'a, D: Declared<'a>>(
     ensures { IfOk result (IsTakenText source.now (D.scope declared.now) library.now) }
 {
     let Some(origin) = origin_of(alloc, library)? else {
-        return Err(another(alloc)?);
+        return Err(another(alloc));
     };
     let wish = origin.wished.wish();
     let taken = match take_declared(rt, alloc, keys, declared, wish, follow) {
         Ok(taken) => taken,
-        Err(intake::Refusal::NoMemory) => return Err(Refusal::NoMemory),
-        Err(_) => return Err(another(alloc)?),
+        Err(refusal) => return Err(untaken(alloc, refusal)),
     };
     let text = write_taken(alloc, origin.path, source, wish, &taken)?;
     if text.as_slice() != library {
-        return Err(another(alloc)?);
+        return Err(another(alloc));
     }
     Ok(taken)
 }
@@ -206,6 +216,67 @@ fn write_anew(
     write_edits(alloc, keys, old, source, &planned, entries, changes)
 }
 
+/// The second look at the source with the edits, by the labels of the library's assertions then.
+fn look_at<'x>(
+    rt: &(impl Threads + Sync),
+    alloc: Global,
+    keys: RandomState,
+    old: &Scopes<'_>,
+    out: &[u8],
+    edited: &'x PlainLibrary,
+    following: &Following<'x>,
+    changes: &Changes<'x>,
+    own: &[bool],
+) -> Result<(), Refusal>
+    requires { length own.now ≡ length old.now.stand.scope.assertions }
+    ensures { OnOk result (IsLookedAt old.now.stand.scope out.now changes.now own.now (map label_then (seen_following following.now).living)
+        edited.now) }
+{
+    let then = following.labels_then(alloc)?;
+    let axioms = axioms_then(alloc, keys, edited, following.living.as_slice())?;
+    let edits = Edits {
+        changes,
+        own,
+        then: then.as_slice(),
+        axioms: axioms.as_slice(),
+        edited,
+    };
+    match look_again(rt, alloc, keys, old, out, edits) {
+        Ok(()) => Ok(()),
+        Err(why) => Err(unprinted(alloc, keys, old, out, edits, why)?),
+    }
+}
+
+/// The source with the edits, once it was looked at again.
+fn write_and_look<'x>(
+    rt: &(impl Threads + Sync),
+    alloc: Global,
+    keys: RandomState,
+    old: &Scopes<'_>,
+    source: &[u8],
+    taken: &Taken<'_>,
+    replayed: &'x Replayed,
+    following: &Following<'x>,
+    changes: &Changes<'x>,
+    own: &[bool],
+) -> Result<Vec<u8>, Refusal>
+    requires { length own.now ≡ length old.now.stand.scope.assertions }
+    ensures written { IfOk result (λ out. IsWrittenAnew (all_commands replayed.now.entries) changes.now source.now out.items) }
+    ensures comments { IfOk result (λ out. AreKept changes.now (seen_words following.now.gone.items) source.now out.items) }
+    ensures looked { IfOk result (λ out. IsLookedAt old.now.stand.scope out.items changes.now own.now
+        (map label_then (seen_following following.now).living) replayed.now.edited) }
+{
+    let out = write_anew(
+        alloc, keys, old, source, taken, replayed, following, changes, own,
+    )?;
+    let text = out.as_slice();
+    let edited = &replayed.edited;
+    look_at(rt, alloc, keys, old, text, edited, following, changes, own)?;
+    let gone = following.gone.as_slice();
+    keep_comments(alloc, keys, changes, gone, source, text)?;
+    Ok(out)
+}
+
 /// The source with the edits of a history that was done again over a library which was taken of it. It is looked at again.
 fn give_edits<'x, 'a: 'x>(
     rt: &(impl Threads + Sync),
@@ -224,35 +295,10 @@ fn give_edits<'x, 'a: 'x>(
     let changes = Changes::new(alloc, keys, following.changes(alloc)?)?;
     are_free(alloc, old, &following, &changes)?;
     let own = own_of(alloc, keys, old, taken)?;
-    are_uncited(alloc, keys, old, own.as_slice(), following.gone.as_slice())?;
-    let out = write_anew(
-        alloc,
-        keys,
-        old,
-        source,
-        taken,
-        replayed,
-        &following,
-        &changes,
-        own.as_slice(),
-    )?;
-    let then = following.labels_then(alloc)?;
-    let axioms = axioms_then(alloc, keys, &replayed.edited, following.living.as_slice())?;
-    let edits = Edits {
-        changes: &changes,
-        own: own.as_slice(),
-        then: then.as_slice(),
-        axioms: axioms.as_slice(),
-        edited: &replayed.edited,
-    };
-    look_again(rt, alloc, keys, old, out.as_slice(), edits)?;
-    keep_comments(
-        alloc,
-        keys,
-        &changes,
-        following.gone.as_slice(),
-        source,
-        out.as_slice(),
+    let own = own.as_slice();
+    are_uncited(alloc, keys, old, own, following.gone.as_slice())?;
+    let out = write_and_look(
+        rt, alloc, keys, old, source, taken, replayed, &following, &changes, own,
     )?;
     Ok(out)
 }

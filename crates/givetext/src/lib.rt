@@ -6,7 +6,6 @@ mod again;
 mod answering;
 mod call;
 mod origin;
-mod own;
 mod standing;
 
 pub use answering::{Paths, Returned, answer_give};

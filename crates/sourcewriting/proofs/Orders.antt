@@ -2,9 +2,9 @@
 use Rattle.std.proofs.Common.{◌≡◌, ℕ, ◌+◌, ◌-◌, ◌<◌, ◌≤◌, Bool, true, false, cond, List, [], ◌∷◌, ◌++◌, length, get_or, take, drop}
 use Rattle.std.proofs.Common.{refl, sym, ap, ◌∙◌, append-nil, length-append, arith}
 use Rattle.std.specs.Prelude.{count_by}
-use Rattle.std.proofs.lemmas.List.{take_more, length-take-le, length-drop, get_or-drop}
+use Rattle.std.proofs.lemmas.List.{take_more, length-take-le, length-drop, get_or-drop, take_all, take_rest, drop_all, take-append-drop}
 use Rattle.std.proofs.lemmas.List.Sums.{sum_by-drop_more, sum_by-take-drop, count_by-le-length}
-use Rattle.taking.specs.Walks.{is_wanted, in_front, picked}
+use Rattle.taking.specs.Walks.{is_wanted, in_front, picked, arranged}
 
 -- how many are of a `$f`
 abbrev pub count_of : List Bool → ℕ
@@ -17,6 +17,23 @@ pub record ArePlaced (kinds : List Bool) (arguments : List ℕ) (i floats premis
   pub premises_left : premises ≡ count_of (drop i kinds) + i
   pub at_floats : picked true (take i kinds) made ≡ take floats arguments
   pub at_premises : picked false (take i kinds) made ≡ take (premises - count_of kinds) (drop (count_of kinds) arguments)
+
+-- behind all
+pub all_placed : (kinds : List Bool) (arguments : List ℕ) (i floats premises : ℕ) (made : List ℕ)
+    → ArePlaced kinds arguments i floats premises made → length kinds ≤ i → i ≤ length kinds → length kinds ≡ length arguments
+    → arranged kinds made ≡ arguments
+all_placed kinds arguments i floats premises made placed at_end within same =
+    let c = count_of kinds in
+    let none : count_of (drop i kinds) ≡ 0 = ap count_of (drop_all i kinds at_end) in
+    let all : take i kinds ≡ kinds = take_all i kinds at_end in
+    let front : floats ≡ c = omega (arith, none, placed.floats_left) in
+    let rest : premises - c ≡ length arguments - c = omega (arith, none, placed.premises_left, same) in
+    ap (λ (ks : List Bool). picked true ks made ++ picked false kinds made) (sym all)
+    ∙ ap (λ (xs : List ℕ). xs ++ picked false kinds made) (placed.at_floats ∙ ap (λ (n : ℕ). take n arguments) front)
+    ∙ ap (λ (ks : List Bool). take c arguments ++ picked false ks made) (sym all)
+    ∙ ap (λ (xs : List ℕ). take c arguments ++ xs)
+    (placed.at_premises ∙ ap (λ (n : ℕ). take n (drop c arguments)) rest ∙ take_rest arguments c)
+    ∙ take-append-drop c arguments
 
 front_append : (b : Bool) (x : ℕ) (xs ys : List ℕ) → in_front b x (xs ++ ys) ≡ in_front b x xs ++ ys
 front_append true x xs ys = refl
@@ -44,6 +61,12 @@ module _ (kinds : List Bool) (arguments : List ℕ) (i floats premises : ℕ) (m
   few_left : count_of (drop (i + 1) kinds) + (i + 1) ≤ length kinds
   few_left = omega (arith, count_by-le-length (λ k. k) (drop (i + 1) kinds), length-drop (i + 1) kinds)
 
+  pub float_there : get_or kinds i false ≡ true → floats < length arguments
+  float_there kind-is = omega (arith, few, same, left true kind-is, placed.floats_left)
+
+  pub premise_there : get_or kinds i false ≡ false → premises < length arguments
+  premise_there kind-is = omega (arith, few_left, same, left false kind-is, placed.premises_left)
+
   as_many : (x : ℕ) → new ≡ made ++ x ∷ [] → length new ≡ i + 1
   as_many x is = ap length is ∙ length-append made (x ∷ []) ∙ ap (λ n. n + 1) placed.as_many
 
@@ -58,7 +81,7 @@ module _ (kinds : List Bool) (arguments : List ℕ) (i floats premises : ℕ) (m
       → ArePlaced kinds arguments (i + 1) (floats + 1) premises new
   float_placed kind-is is =
       let more : count_of (drop i kinds) ≡ 1 + count_of (drop (i + 1) kinds) = left true kind-is in
-      let there : floats < length arguments = omega (arith, few, same, placed.floats_left) in
+      let there : floats < length arguments = float_there kind-is in
       record {
         as_many = as_many (get_or arguments floats 0) is;
         floats_left = omega (arith, more, placed.floats_left);

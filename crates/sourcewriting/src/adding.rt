@@ -3,7 +3,7 @@
 ghost use Rattle.std.specs.Prelude.{◌≤◌};
 
 use crate::layout::Layout;
-use crate::listing::{Names, nodes_of};
+use crate::listing::{Names, put_nodes};
 use crate::shared::Shared;
 use crate::wording::{put_compressed, put_normal};
 use giving::Changes;
@@ -43,6 +43,11 @@ impl Statement<'_> {
         ensures { result ≤ IN_BLOCK }
     {
         if self.is_block() { IN_BLOCK } else { OUTSIDE }
+    }
+
+    /// What stands in front of it: an empty line, and the keyword of its block.
+    fn beginning(&self) -> &'static [u8] {
+        if self.is_block() { b"\n\n  ${" } else { b"\n" }
     }
 
     /// The keyword of its statement, and what ends its symbols.
@@ -244,7 +249,7 @@ fn put_premises(
     Ok(())
 }
 
-/// Puts an assertion up to its proof: the beginning of its block, the pairs, the `$e`, of which these are the labels, and behind its comment the
+/// Puts an assertion up to its proof behind an empty line: the beginning of its block, the pairs, the `$e`, of which these are the labels, and behind its comment the
 /// statement.
 fn put_front(
     alloc: Global,
@@ -254,9 +259,7 @@ fn put_front(
     labels: &[Vec<u8>],
 ) -> Result<(), AllocError> {
     let assertion = statement.assertion;
-    if statement.is_block() {
-        out.extend_from_slice(b"\n  ${")?;
-    }
+    out.extend_from_slice(statement.beginning())?;
     put_pairs(alloc, out, words, assertion.pairs.as_slice())?;
     put_premises(alloc, out, words, assertion.hyps.as_slice(), labels)?;
     out.extend_from_slice(statement.comment)?;
@@ -282,6 +285,19 @@ fn slices_of<'p>(alloc: Global, texts: &'p [Vec<u8>]) -> Result<Vec<&'p [u8]>, A
     Ok(slices)
 }
 
+/// The labels of `$f`, by their places.
+fn float_labels<'p>(
+    alloc: Global,
+    names: &Names<'p>,
+    floats: &[u32],
+) -> Result<Vec<&'p [u8]>, AllocError> {
+    let mut labels = Vec::new(alloc);
+    for place in floats {
+        labels.push(names.floats.get(*place as usize).copied().unwrap_or(b"?"))?;
+    }
+    Ok(labels)
+}
+
 /// The labels of the mandatory hypotheses: those of `$f`, and then those of `$e`.
 fn mandatory_labels<'p>(
     alloc: Global,
@@ -291,10 +307,8 @@ fn mandatory_labels<'p>(
     premises: &[&'p [u8]],
 ) -> Result<Vec<&'p [u8]>, AllocError> {
     let frame = frame_of(alloc, prelude, assertion)?;
-    let mut labels = Vec::new(alloc);
-    for place in frame.floats.as_slice() {
-        labels.push(names.floats.get(*place as usize).copied().unwrap_or(b"?"))?;
-    }
+    let mut labels = float_labels(alloc, names, frame.floats.as_slice())?;
+    drop(frame);
     labels.extend_from_slice(premises)?;
     Ok(labels)
 }
@@ -324,6 +338,32 @@ fn put_end(out: &mut Vec<u8>, layout: Layout) -> Result<(), AllocError> {
     out.extend_from_slice(b"$.")
 }
 
+/// Puts a proof by its nodes, up to the end of its statement. Whether it has at most 16,384 steps.
+fn put_tree<'p>(
+    alloc: Global,
+    out: &mut Vec<u8>,
+    prelude: &Prelude,
+    names: &Names<'p>,
+    statement: &Statement<'_>,
+    premises: &[&'p [u8]],
+    shared: &Shared<'_>,
+    root: usize,
+) -> Result<bool, AllocError> {
+    let mut layout = Layout::new(alloc, statement.indent() + 2)?;
+    let is_whole = put_words_of_proof(
+        alloc,
+        &mut layout,
+        prelude,
+        names,
+        statement,
+        premises,
+        shared,
+        root,
+    )?;
+    put_end(out, layout)?;
+    Ok(is_whole)
+}
+
 /// Puts the proof of a theorem whose `$e` have these labels. Whether it could be written.
 fn put_proof<'p, 'a, D: Declared<'a>>(
     alloc: Global,
@@ -336,23 +376,13 @@ fn put_proof<'p, 'a, D: Declared<'a>>(
     premises: &[&'p [u8]],
 ) -> Result<bool, AllocError> {
     let steps = &statement.assertion.proof;
-    let Some((shared, root)) = nodes_of(alloc, keys, declared, names, premises, steps)? else {
-        return Ok(false);
-    };
-    let mut layout = Layout::new(alloc, statement.indent() + 2)?;
-    let is_whole = put_words_of_proof(
-        alloc,
-        &mut layout,
-        prelude,
-        names,
-        statement,
-        premises,
-        &shared,
-        root,
-    )?;
-    drop(shared);
-    put_end(out, layout)?;
-    Ok(is_whole)
+    let mut shared = Shared::new(alloc, keys);
+    match put_nodes(alloc, &mut shared, declared, names, premises, steps)? {
+        Some(root) => put_tree(
+            alloc, out, prelude, names, statement, premises, &shared, root,
+        ),
+        None => Ok(false),
+    }
 }
 
 /// Puts what stands behind the statement of an assertion whose `$e` have these labels. Whether it could be written.
@@ -376,6 +406,14 @@ fn put_rest<'p, 'a, D: Declared<'a>>(
     )
 }
 
+/// The text of an assertion with the end of its block, by what stands in front of that.
+fn ended(mut out: Vec<u8>, statement: &Statement<'_>) -> Result<Vec<u8>, AllocError> {
+    if statement.is_block() {
+        out.extend_from_slice(b"\n  $}")?;
+    }
+    Ok(out)
+}
+
 /// The text of an assertion behind an empty line, in a block of its own where it has pairs or `$e`. None where its proof can't be written.
 pub fn assertion_text<'x, 'a, D: Declared<'a>>(
     alloc: Global,
@@ -389,15 +427,12 @@ pub fn assertion_text<'x, 'a, D: Declared<'a>>(
     let premises = statement.assertion.hyps.as_slice().len();
     let labels = premise_labels(alloc, declared, names, statement.label, premises)?;
     let labels = labels.as_slice();
-    let mut out = Vec::from_slice(alloc, b"\n")?;
+    let mut out = Vec::new(alloc);
     put_front(alloc, &mut out, words, statement, labels)?;
     if !put_rest(
         alloc, keys, &mut out, declared, prelude, names, statement, labels,
     )? {
         return Ok(None);
     }
-    if statement.is_block() {
-        out.extend_from_slice(b"\n  $}")?;
-    }
-    Ok(Some(out))
+    Ok(Some(ended(out, statement)?))
 }

@@ -176,33 +176,24 @@ fn take_step<'x, 'a, D: Declared<'a>>(
     }
 }
 
-/// The nodes of a proof, by its steps, and which of them is the proof. None where the steps denote no tree.
-pub(crate) fn nodes_of<'x, 'a, D: Declared<'a>>(
+/// Puts the nodes of a proof, by its steps, and tells which of them is the proof. None where the steps denote no tree.
+pub(crate) fn put_nodes<'x, 'a, D: Declared<'a>>(
     alloc: Global,
-    keys: RandomState,
+    shared: &mut Shared<'x>,
     declared: &D,
     names: &Names<'x>,
     premises: &[&'x [u8]],
     steps: &Proof,
-) -> Result<Option<(Shared<'x>, usize)>, AllocError> {
-    let mut shared = Shared::new(alloc, keys);
+) -> Result<Option<usize>, AllocError> {
     let mut stack = Vec::new(alloc);
     for place in 0..steps.len() {
         let step = steps.step(place);
-        if !take_step(
-            alloc,
-            declared,
-            names,
-            premises,
-            &mut shared,
-            &mut stack,
-            step,
-        )? {
+        if !take_step(alloc, declared, names, premises, shared, &mut stack, step)? {
             return Ok(None);
         }
     }
     match stack.as_slice() {
-        [root] => Ok(Some((shared, *root))),
+        [root] => Ok(Some(*root)),
         _ => Ok(None),
     }
 }

@@ -3,7 +3,7 @@
 ghost use Rattle.std.specs.Prelude.{◌<◌, length};
 
 use crate::layout::Layout;
-use crate::listing::{Names, nodes_of};
+use crate::listing::{Names, put_nodes};
 use crate::shared::Shared;
 use crate::wording::{put_compressed, put_normal};
 use mmsyntax::Proof;
@@ -24,6 +24,14 @@ struct Hypotheses<'x> {
     premises: Vec<&'x [u8]>,
 }
 
+/// The label of a hypothesis, and whether it is a `$e`.
+fn label_of<'a>(hypothesis: &HypothesisWords<'a>) -> (&'a [u8], bool) {
+    match hypothesis {
+        HypothesisWords::Typing(label, _, _) => (*label, false),
+        HypothesisWords::Premise(label, _) => (*label, true),
+    }
+}
+
 /// The labels of the mandatory hypotheses of the assertion at a place.
 fn hypotheses_of<'x, D: Declared<'x>>(
     alloc: Global,
@@ -35,12 +43,10 @@ fn hypotheses_of<'x, D: Declared<'x>>(
     let mut mandatory = Vec::new(alloc);
     let mut premises = Vec::new(alloc);
     for hypothesis in declared.mandatory(alloc, place)? {
-        match hypothesis {
-            HypothesisWords::Typing(label, _, _) => mandatory.push(*label)?,
-            HypothesisWords::Premise(label, _) => {
-                mandatory.push(*label)?;
-                premises.push(*label)?;
-            }
+        let (label, is_premise) = label_of(hypothesis);
+        mandatory.push(label)?;
+        if is_premise {
+            premises.push(label)?;
         }
     }
     Ok(Hypotheses {
@@ -64,6 +70,46 @@ fn put_in_form(
     }
 }
 
+/// The text of a proof by its nodes, in the form of another, of a theorem with these hypotheses. None where it has over 16,384 steps.
+fn text_in_form(
+    alloc: Global,
+    old: Option<&ProofWords<'_>>,
+    shared: &Shared<'_>,
+    hypotheses: &Hypotheses<'_>,
+    root: usize,
+) -> Result<Option<Vec<u8>>, AllocError> {
+    let indent = if hypotheses.premises.is_empty() {
+        OUTSIDE
+    } else {
+        IN_BLOCK
+    };
+    let mut layout = Layout::new(alloc, indent)?;
+    let mandatory = hypotheses.mandatory.as_slice();
+    if !put_in_form(alloc, &mut layout, old, shared, mandatory, root)? {
+        return Ok(None);
+    }
+    Ok(Some(layout.finish()?))
+}
+
+/// The text of a proof, by its steps in the library, in the form of another, of a theorem with these hypotheses. None where they denote no
+/// tree, or one of over 16,384 steps.
+fn text_of<'p, 'a, D: Declared<'a>>(
+    alloc: Global,
+    keys: RandomState,
+    declared: &D,
+    names: &Names<'p>,
+    old: Option<&ProofWords<'_>>,
+    hypotheses: &Hypotheses<'p>,
+    steps: &Proof,
+) -> Result<Option<Vec<u8>>, AllocError> {
+    let premises = hypotheses.premises.as_slice();
+    let mut shared = Shared::new(alloc, keys);
+    match put_nodes(alloc, &mut shared, declared, names, premises, steps)? {
+        Some(root) => text_in_form(alloc, old, &shared, hypotheses, root),
+        None => Ok(None),
+    }
+}
+
 /// The text of a proof of the theorem at a place of the source, by its steps in the library. None where they denote no tree, or one of over
 /// 16,384 steps.
 pub fn proof_text<'x, D: Declared<'x>>(
@@ -77,26 +123,6 @@ pub fn proof_text<'x, D: Declared<'x>>(
     requires { place < length (D.scope declared.now).assertions }
 {
     let hypotheses = hypotheses_of(alloc, declared, place)?;
-    let premises = hypotheses.premises.as_slice();
-    let Some((shared, root)) = nodes_of(alloc, keys, declared, names, premises, steps)? else {
-        return Ok(None);
-    };
-    let indent = if premises.is_empty() {
-        OUTSIDE
-    } else {
-        IN_BLOCK
-    };
-    let mut layout = Layout::new(alloc, indent)?;
-    let mandatory = hypotheses.mandatory.as_slice();
-    if !put_in_form(
-        alloc,
-        &mut layout,
-        declared.proof(place),
-        &shared,
-        mandatory,
-        root,
-    )? {
-        return Ok(None);
-    }
-    Ok(Some(layout.finish()?))
+    let old = declared.proof(place);
+    text_of(alloc, keys, declared, names, old, &hypotheses, steps)
 }

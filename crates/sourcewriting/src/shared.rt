@@ -17,7 +17,6 @@ struct Node {
 
 /// The nodes of a proof: equal subproofs are one node, which stands behind its arguments. Labels and nodes are numbered from 0, in the
 /// order of their first use.
-#[derive(Drop)]
 pub(crate) struct Shared<'x> {
     /// The labels that nodes name.
     words: Vec<&'x [u8]>,
@@ -26,6 +25,27 @@ pub(crate) struct Shared<'x> {
     arguments: Vec<usize>,
     /// Nodes by their label's number and their arguments.
     places: HashMap<Vec<usize>, usize, RandomState>,
+}
+
+// Proved once: a derived drop is written out at each exit of a function that holds such a value.
+impl<'x> Drop for Shared<'x> {
+    fn drop(self) {
+        let Shared {
+            words: _,
+            numbers: _,
+            nodes: _,
+            arguments: _,
+            places: _,
+        } = self;
+    }
+}
+
+/// The key of a node: the number of its label, and its arguments.
+fn key_of(alloc: Global, number: usize, arguments: &[usize]) -> Result<Vec<usize>, AllocError> {
+    let mut key = Vec::with_capacity(alloc, arguments.len() + 1)?;
+    key.push(number)?;
+    key.extend_from_slice(arguments)?;
+    Ok(key)
 }
 
 impl<'x> Shared<'x> {
@@ -63,6 +83,24 @@ impl<'x> Shared<'x> {
         }
     }
 
+    /// A new node, of the label with a number.
+    fn push(&mut self, word: usize, arguments: &[usize]) -> Result<usize, AllocError> {
+        let begin = self.arguments.len();
+        self.arguments.extend_from_slice(arguments)?;
+        for argument in arguments {
+            self.use_again(*argument);
+        }
+        let node = self.nodes.len();
+        let end = self.arguments.len();
+        self.nodes.push(Node {
+            word,
+            begin,
+            end,
+            uses: 0,
+        })?;
+        Ok(node)
+    }
+
     /// The node of a label over nodes: the one that there is, or a new one.
     pub(crate) fn node(
         &mut self,
@@ -71,24 +109,11 @@ impl<'x> Shared<'x> {
         arguments: &[usize],
     ) -> Result<usize, AllocError> {
         let number = self.number_of(word)?;
-        let mut key = Vec::with_capacity(alloc, arguments.len() + 1)?;
-        key.push(number)?;
-        key.extend_from_slice(arguments)?;
+        let key = key_of(alloc, number, arguments)?;
         if let Some(node) = self.places.get(&key) {
             return Ok(*node);
         }
-        let begin = self.arguments.len();
-        self.arguments.extend_from_slice(arguments)?;
-        for argument in arguments {
-            self.use_again(*argument);
-        }
-        let node = self.nodes.len();
-        self.nodes.push(Node {
-            word: number,
-            begin,
-            end: self.arguments.len(),
-            uses: 0,
-        })?;
+        let node = self.push(number, arguments)?;
         self.places.insert(key, node)?;
         Ok(node)
     }

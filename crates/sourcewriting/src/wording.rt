@@ -63,9 +63,9 @@ pub(crate) fn put_normal(
 
 /// The letters of a compressed proof, and what they count: the mandatory hypotheses, the labels in parentheses, the marked subproofs.
 #[derive(Drop)]
-struct Letters {
+struct Letters<'n> {
     /// The number of each label, from 0.
-    numbers: Vec<usize>,
+    numbers: &'n [usize],
     /// How many numbers are those of labels.
     labels: usize,
     /// The number of each marked node, behind those of labels.
@@ -75,7 +75,7 @@ struct Letters {
     text: Vec<u8>,
 }
 
-impl Letters {
+impl Letters<'_> {
     /// A node that is marked stands there again: whether it is.
     fn repeat(&mut self, node: usize) -> Result<bool, AllocError> {
         match self.marks.get(node) {
@@ -131,25 +131,63 @@ impl Letters {
     }
 }
 
-/// The numbers of labels, and the labels in parentheses: those of the mandatory hypotheses have the first numbers, in their order, and the
-/// others the next, in the order of their first use.
+/// The number of a label: that of the mandatory hypothesis, or that of the place in parentheses which it gets, behind the others.
+fn number_of<'x>(
+    mandatory: &[&[u8]],
+    others: &mut Vec<&'x [u8]>,
+    word: &'x [u8],
+) -> Result<usize, AllocError> {
+    if let Some(place) = mandatory.iter().position(|label| *label == word) {
+        return Ok(place);
+    }
+    let number = mandatory.len().saturating_add(others.len());
+    others.push(word)?;
+    Ok(number)
+}
+
+/// The numbers of labels: those of the mandatory hypotheses have the first numbers, in their order, and the others the next, in the order of
+/// their first use. The others are put behind those that there are.
 fn numbers_of<'x>(
     alloc: Global,
     words: &[&'x [u8]],
     mandatory: &[&[u8]],
-) -> Result<(Vec<usize>, Vec<&'x [u8]>), AllocError> {
+    others: &mut Vec<&'x [u8]>,
+) -> Result<Vec<usize>, AllocError> {
     let mut numbers = Vec::with_capacity(alloc, words.len())?;
-    let mut others = Vec::new(alloc);
     for word in words {
-        match mandatory.iter().position(|label| label == word) {
-            Some(place) => numbers.push(place)?,
-            None => {
-                numbers.push(mandatory.len().saturating_add(others.len()))?;
-                others.push(*word)?;
-            }
-        }
+        numbers.push(number_of(mandatory, others, word)?)?;
     }
-    Ok((numbers, others))
+    Ok(numbers)
+}
+
+/// Puts labels in parentheses.
+fn put_in_parentheses(layout: &mut Layout, labels: &[&[u8]]) -> Result<(), AllocError> {
+    layout.put_word(b"(")?;
+    for label in labels {
+        layout.put_word(label)?;
+    }
+    layout.put_word(b")")
+}
+
+/// Puts the letters of a tree whose labels have these numbers, which are below `labels`. Whether it has at most 16,384 steps.
+fn put_letters(
+    alloc: Global,
+    layout: &mut Layout,
+    shared: &Shared<'_>,
+    numbers: &[usize],
+    labels: usize,
+    root: usize,
+) -> Result<bool, AllocError> {
+    let mut letters = Letters {
+        numbers,
+        labels,
+        marks: vec![in alloc; None; shared.len()]?,
+        marked: 0,
+        text: Vec::new(alloc),
+    };
+    let is_whole = letters.put_tree(alloc, shared, root)?;
+    layout.put_letters(letters.text.as_slice())?;
+    Ok(is_whole)
 }
 
 /// Puts a compressed proof of a theorem with these mandatory hypotheses. Whether it has at most 16,384 steps, where a marked subproof that
@@ -161,20 +199,10 @@ pub(crate) fn put_compressed(
     mandatory: &[&[u8]],
     root: usize,
 ) -> Result<bool, AllocError> {
-    let (numbers, others) = numbers_of(alloc, shared.words(), mandatory)?;
-    let mut letters = Letters {
-        numbers,
-        labels: mandatory.len().saturating_add(others.len()),
-        marks: vec![in alloc; None; shared.len()]?,
-        marked: 0,
-        text: Vec::new(alloc),
-    };
-    let is_whole = letters.put_tree(alloc, shared, root)?;
-    layout.put_word(b"(")?;
-    for word in others {
-        layout.put_word(word)?;
-    }
-    layout.put_word(b")")?;
-    layout.put_letters(letters.text.as_slice())?;
-    Ok(is_whole)
+    let mut others = Vec::new(alloc);
+    let numbers = numbers_of(alloc, shared.words(), mandatory, &mut others)?;
+    put_in_parentheses(layout, others.as_slice())?;
+    let labels = mandatory.len().saturating_add(others.len());
+    drop(others);
+    put_letters(alloc, layout, shared, numbers.as_slice(), labels, root)
 }

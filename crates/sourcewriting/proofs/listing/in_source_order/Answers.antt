@@ -1,7 +1,20 @@
 -- What is left to show of `in_source_order`.
-use Rattle.sourcewriting.proofs.Orders.{float_placed, premise_placed}
+use Rattle.std.proofs.Common.{[], arith}
+use Rattle.sourcewriting.proofs.Orders.{float_placed, premise_placed, float_there, premise_there, all_placed}
 use Rattle.sourcewriting.proofs.listing.in_source_order.Goals as goal
 use Rattle.sourcewriting.proofs.listing.in_source_order.Goals.{then-is_float+in_ok-push, else-is_float+in_ok-push-2}
+
+pub bounds-arguments-floats : goal.bounds-arguments-floats
+bounds-arguments-floats c =
+    let l = c.loop-is_float in
+    float_there c.args.kinds.now c.args.arguments.now l.is_float-index l.floats l.premises l.made.items [] l.invariant c.loop-is_float-test.true
+    c.requires c.if-is_float.true
+
+pub bounds-arguments-premises : goal.bounds-arguments-premises
+bounds-arguments-premises c =
+    let l = c.loop-is_float in
+    premise_there c.args.kinds.now c.args.arguments.now l.is_float-index l.floats l.premises l.made.items [] l.invariant c.loop-is_float-test.true
+    c.requires c.if-is_float.false
 
 pub loop-is_float-preserved : goal.loop-is_float-preserved
 loop-is_float-preserved c =
@@ -16,3 +29,8 @@ loop-is_float-preserved c =
           rw (w.floats-is, w.premises-is, w.made-is) (premise_placed kinds arguments l.is_float-index l.floats l.premises
           l.made.items _ l.invariant c.loop-is_float-test.true c.requires w.if-is_float.false w.in_ok-push-2.ensures.items)
     ]
+
+pub returns : goal.returns
+returns c =
+    let l = c.loop-is_float in
+    all_placed c.args.kinds.now c.args.arguments.now l.is_float-index l.floats l.premises l.made.items l.invariant (omega arith) (omega arith) c.requires

@@ -1,0 +1,25 @@
+-- What is left to show of `write_and_look`.
+use Rattle.std.proofs.Common.{List, ℕ, ap, subst}
+use Rattle.mmtext.specs.Words.{Word}
+use Rattle.source.specs.Views.{seen_words}
+use Rattle.comments.specs.Kept.{AreKept}
+use Rattle.sourceediting.specs.Following.{label_then}
+use Rattle.sourceediting.specs.Views.{seen_following}
+use Rattle.std.specs.Prelude.{map}
+use Rattle.secondlook.specs.Looked.{IsLookedAt}
+use Rattle.givetext.proofs.call.write_and_look.Goals as goal
+
+pub returns-clause-comments : goal.returns-clause-comments
+returns-clause-comments g c =
+    let changes = c.args.changes.now in
+    let source = c.args.source.now in
+    subst (λ (text : List ℕ). AreKept changes (seen_words c.args.following.now.gone.items) source text) c.as_slice-text.ensures.value
+    (subst (λ (ws : List Word). AreKept changes ws source c.as_slice-text.result.now) (ap seen_words c.as_slice-gone.ensures.value)
+    c.in_ok-keep_comments.ensures)
+
+pub returns-clause-looked : goal.returns-clause-looked
+returns-clause-looked g c =
+    let old = c.args.old.now.stand.scope in
+    let then = map label_then (seen_following c.args.following.now).living in
+    subst (λ (text : List ℕ). IsLookedAt old text c.args.changes.now c.args.own.now then c.args.replayed.now.edited) c.as_slice-text.ensures.value
+    c.in_ok-look_at.ensures

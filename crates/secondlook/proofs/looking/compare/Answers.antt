@@ -1,0 +1,22 @@
+-- What is left to show of `compare`.
+use Rattle.std.proofs.Common.{◌∙◌, length, ap, refl}
+use Rattle.std.proofs.lemmas.Result.{on_ok_weaker}
+use Rattle.giving.specs.Staying.{StayAll, others}
+use Rattle.secondlook.proofs.Looked.{looked_at}
+use Rattle.secondlook.proofs.looking.compare.Goals as goal
+
+pub stay-requires : goal.stay-requires
+stay-requires c κs = ((refl, tt), (c.requires.own, ap length c.as_slice.ensures.value ∙ c.in_ok-own.ensures.many))
+
+pub returns : goal.returns
+returns c l out declares =
+    let old = c.args.old.now.stand.scope in
+    let new = c.args.new.now.stand.scope in
+    let taken = c.args.taken.now in
+    let edits = c.args.edits in
+    let flags = c.as_slice.result.now in
+    let are = c.as_slice.ensures.value ∙ c.in_ok-own.ensures.flags l.taken.choice l.chosen_are in
+    on_ok_weaker c.stay.result
+    (λ (stay : StayAll edits.changes.now (others edits.own.now old.assertions) (others flags new.assertions)).
+    looked_at new edits.then edits.axioms taken l flags are old out edits.changes.now edits.own.now edits.edited.now declares
+    c.in_ok-is_edited.ensures.floats c.in_ok-is_edited.ensures.same stay) c.stay.ensures

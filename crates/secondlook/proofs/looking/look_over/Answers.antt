@@ -1,0 +1,9 @@
+-- What is left to show of `look_over`.
+use Rattle.std.proofs.Common.{refl, rules}
+use Rattle.secondlook.proofs.looking.look_over.Goals as goal
+
+pub take_again-requires-sync-typeof-rt : goal.take_again-requires-sync-typeof-rt
+take_again-requires-sync-typeof-rt g c κs within = (search rules, ((refl, tt), c.requires.whole))
+
+pub returns : goal.returns
+returns g c out declares = c.compare.ensures c.in_ok-taken.ensures out declares

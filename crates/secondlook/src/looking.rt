@@ -1,0 +1,158 @@
+//! Looking again at what is about to be printed.
+
+ghost use Rattle.std.specs.Prelude.{◌≡◌, ℕ, List, IfOk, OnOk, length};
+ghost use Rattle.source.specs.Sources.{DeclaresText};
+ghost use Rattle.source.specs.Views.{seen_words};
+ghost use Rattle.source.specs.Whole.{IsWhole};
+ghost use Rattle.choosing.specs.declared.wish.Wish.TheVariants.{These};
+ghost use Rattle.intake.specs.Intakes.{IsLibraryOf};
+ghost use Rattle.giving.specs.Staying.{StayAll, others};
+ghost use Rattle.secondlook.specs.Looked.{IsLookedAt};
+
+use crate::edited::is_edited;
+use crate::own::own_of;
+use crate::unlike::Unlike;
+use choosing::Wish;
+use giving::{Changes, first_not_staying};
+use intake::{Refusal, Taken, Unfollowed, take_declared};
+use library::PlainLibrary;
+use scopes::Scopes;
+use source::Declared;
+use source::laws::sources_are_whole;
+use sourcereader::read_source;
+use std::alloc::Global;
+use std::hash::RandomState;
+use std::thread::Threads;
+
+/// The source with the edits, as it declares.
+fn read_again<'o>(alloc: Global, keys: RandomState, out: &'o [u8]) -> Result<Scopes<'o>, Unlike>
+    ensures { IfOk result (λ s. DeclaresText out.now s.stand.scope) }
+{
+    match read_source(alloc, Scopes::new(alloc, keys), out) {
+        Ok(scopes) => Ok(scopes),
+        Err(fault) => Err(Unlike::Unread(fault)),
+    }
+}
+
+/// Why no library is taken again.
+fn untaken(refusal: Refusal<'_, '_>) -> Unlike {
+    match refusal {
+        Refusal::NoMemory => Unlike::NoMemory,
+        _ => Unlike::Untaken,
+    }
+}
+
+/// The library that is taken again, by the labels of its assertions then.
+fn take_again<'o, D: Declared<'o>>(
+    rt: &(impl Threads + Sync),
+    alloc: Global,
+    keys: RandomState,
+    scopes: &D,
+    then: &[&[u8]],
+    axioms: &[&[u8]],
+) -> Result<Taken<'o>, Unlike>
+    requires { IsWhole (D.scope scopes.now) }
+    ensures { IfOk result (IsLibraryOf (D.scope scopes.now) (These then.entry axioms.entry)) }
+{
+    let wish = Wish::These(then, axioms);
+    match take_declared(rt, alloc, keys, scopes, wish, &Unfollowed) {
+        Ok(taken) => Ok(taken),
+        Err(refusal) => Err(untaken(refusal)),
+    }
+}
+
+/// Every other assertion of the source stays.
+fn stay<'a, D: Declared<'a>, E: Declared<'a>>(
+    alloc: Global,
+    changes: &Changes<'_>,
+    old: &D,
+    new: &E,
+    chosen: &[bool],
+    taken: &[bool],
+) -> Result<(), Unlike>
+    requires chosen { length chosen.now ≡ length (D.scope old.now).assertions }
+    requires taken { length taken.now ≡ length (E.scope new.now).assertions }
+    ensures { OnOk result (StayAll changes.now (others chosen.now (D.scope old.now).assertions)
+        (others taken.now (E.scope new.now).assertions)) }
+{
+    match first_not_staying(alloc, changes, old, new, chosen, taken)? {
+        None => Ok(()),
+        Some(_) => Err(Unlike::AnotherAssertion),
+    }
+}
+
+/// What is known of a source and of the edits in it.
+#[derive(Clone, Copy)]
+pub struct Edits<'e, 'x> {
+    /// The labels that change, with their new ones.
+    pub changes: &'e Changes<'x>,
+    /// Of each assertion of the source: whether it is the library's, with its proof.
+    pub own: &'e [bool],
+    /// The labels of the library's assertions in the source then.
+    pub then: &'e [&'x [u8]],
+    /// Those of its axioms.
+    pub axioms: &'e [&'x [u8]],
+    /// The library behind the edits.
+    pub edited: &'e PlainLibrary,
+}
+
+/// The library that was taken again, and all other assertions of the source with the edits, are compared.
+fn compare<'o>(
+    alloc: Global,
+    keys: RandomState,
+    old: &Scopes<'o>,
+    new: &Scopes<'o>,
+    taken: &Taken<'o>,
+    edits: Edits<'_, '_>,
+) -> Result<(), Unlike>
+    requires own { length edits.own.now ≡ length old.now.stand.scope.assertions }
+    requires chosen { length taken.now.chosen.items ≡ length new.now.stand.scope.assertions }
+    ensures { IsLibraryOf new.now.stand.scope (These edits.entry.then edits.entry.axioms) taken.now → (out : List ℕ)
+        → DeclaresText out new.now.stand.scope → OnOk result (IsLookedAt old.now.stand.scope out edits.entry.changes.now edits.entry.own.now
+        (seen_words edits.entry.then.now) edits.entry.edited.now) }
+{
+    is_edited(alloc, &taken.database, edits.edited)?;
+    let own = own_of(alloc, keys, new, taken)?;
+    stay(alloc, edits.changes, old, new, edits.own, own.as_slice())
+}
+
+/// The library is taken of the source with the edits again, and it and all other assertions are compared.
+fn look_over<'o>(
+    rt: &(impl Threads + Sync),
+    alloc: Global,
+    keys: RandomState,
+    old: &Scopes<'o>,
+    new: &Scopes<'o>,
+    edits: Edits<'_, '_>,
+) -> Result<(), Unlike>
+    requires own { length edits.own.now ≡ length old.now.stand.scope.assertions }
+    requires whole { IsWhole new.now.stand.scope }
+    ensures { (out : List ℕ) → DeclaresText out new.now.stand.scope → OnOk result (IsLookedAt old.now.stand.scope out
+        edits.entry.changes.now edits.entry.own.now (seen_words edits.entry.then.now) edits.entry.edited.now) }
+{
+    let taken = take_again(rt, alloc, keys, new, edits.then, edits.axioms)?;
+    compare(alloc, keys, old, new, &taken, edits)
+}
+
+/// Looks again at a source with edits: it is read, the library is taken of it again, and it and all other assertions are compared.
+///
+/// # Errors
+///
+/// Why it isn't as it should be; want of memory.
+pub fn look_again(
+    rt: &(impl Threads + Sync),
+    alloc: Global,
+    keys: RandomState,
+    old: &Scopes<'_>,
+    out: &[u8],
+    edits: Edits<'_, '_>,
+) -> Result<(), Unlike>
+    requires { length edits.own.now ≡ length old.now.stand.scope.assertions }
+    ensures { OnOk result (IsLookedAt old.now.stand.scope out.now edits.entry.changes.now edits.entry.own.now
+        (seen_words edits.entry.then.now) edits.entry.edited.now) }
+{
+    let new = read_again(alloc, keys, out)?;
+    // For the proof: what is read is whole.
+    sources_are_whole();
+    look_over(rt, alloc, keys, old, &new, edits)
+}
