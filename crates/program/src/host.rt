@@ -1,6 +1,6 @@
 //! The program on the files and streams of the system.
 
-use crate::conduct::obey;
+use crate::conduct::{obey, refuse};
 use crate::progress::Progress;
 use crate::world::{Trouble, World};
 use std::alloc::Global;
@@ -20,23 +20,24 @@ fn trouble_of(error: &io::Error) -> Trouble {
     }
 }
 
-/// The files and streams of the system. Of what it did nothing is known.
+/// The files of one runtime and the streams of another one. Of what they did nothing is known.
 #[derive(Drop)]
-struct Host<'r, R> {
+struct Host<'r, F, R> {
+    files: &'r F,
     rt: &'r R,
 }
 
 #[tactic(auto, using(crate::proofs::Behind::adds_unknown))]
-impl<R: Files + AllocGlobal + Print + Eprint> World for Host<'_, R> {
+impl<F: Files + AllocGlobal, R: AllocGlobal + Print + Eprint> World for Host<'_, F, R> {
     fn read(&mut self, _alloc: Global, path: &str) -> Result<Vec<u8>, Trouble> {
-        match fs::read(self.rt, path) {
+        match fs::read(self.files, path) {
             Ok(text) => Ok(text),
             Err(error) => Err(trouble_of(&error)),
         }
     }
 
     fn write(&mut self, path: &str, text: &[u8]) -> Result<(), Trouble> {
-        match fs::write(self.rt, path, text) {
+        match fs::write(self.files, path, text) {
             Ok(()) => Ok(()),
             Err(error) => Err(trouble_of(&error)),
         }
@@ -59,6 +60,14 @@ impl<R: Files + AllocGlobal + Print + Eprint> World for Host<'_, R> {
     }
 }
 
+/// Why nothing was done: the words of the command line are not read.
+fn unread_line(trouble: Trouble) -> &'static str {
+    match trouble {
+        Trouble::NoMemory => "no memory",
+        Trouble::Refused => "the command line cannot be read",
+    }
+}
+
 /// The words of the command line, of which the first is the program's name.
 fn words_of<R: Env + AllocGlobal>(rt: &R) -> Result<Vec<String>, Trouble> {
     match env::args(rt) {
@@ -73,17 +82,19 @@ pub fn run<R>(rt: &R, is_terminal: bool) -> u8
 where
     R: Files + AllocGlobal + Print + Eprint + RandomSource + Env + Clock + Threads + Wait + Sync,
 {
-    let mut host = Host { rt };
+    run_over(rt, rt, is_terminal)
+}
+
+/// The same, where the files are those of one runtime, and all else is that of another one. It may wait.
+pub fn run_over<F, R>(files: &F, rt: &R, is_terminal: bool) -> u8
+where
+    F: Files + AllocGlobal,
+    R: AllocGlobal + Print + Eprint + RandomSource + Env + Clock + Threads + Wait + Sync,
+{
+    let mut host = Host { files, rt };
     let words = match words_of(rt) {
         Ok(words) => words,
-        Err(Trouble::NoMemory) => {
-            host.say("no memory");
-            return 1;
-        }
-        Err(Trouble::Refused) => {
-            host.say("the command line cannot be read");
-            return 1;
-        }
+        Err(trouble) => return refuse(&mut host, unread_line(trouble)),
     };
     let progress = Progress::new(rt, is_terminal);
     let keys = RandomState::new(rt).ok();

@@ -10,5 +10,5 @@ mod world;
 
 pub use commandline::{GiveOrder, Order, TakeOrder, give_of, order_of, take_of};
 pub use conduct::obey;
-pub use host::run;
+pub use host::{run, run_over};
 pub use world::{Trouble, World};

@@ -142,7 +142,7 @@ fn put_stand<'w>(
     ensures { All (StandsAt words.now) stands.new.items }
 {
     if place < stands.len() {
-        let _ = mem::replace(&mut stands[place], stand);
+        drop(mem::replace(&mut stands[place], stand));
     }
 }
 

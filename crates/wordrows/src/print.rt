@@ -1,7 +1,7 @@
 //! How answers are written.
 
 use crate::written::Written;
-use tlwords::{ClosedWords, Conflict, Outcome};
+use tlwords::{ClosedCell, ClosedWords, Conflict, Outcome};
 
 /// What is said of a line that can't be read, or can't be done now.
 pub const CANNOT: &[u8] = b"cannot do this line";
@@ -34,16 +34,26 @@ pub fn put_outcome(out: &mut Written, outcome: &Outcome) {
     }
 }
 
+/// Lock word and value of each cell.
+fn put_cells(out: &mut Written, cells: &[ClosedCell]) {
+    for cell in cells {
+        let (lock, value) = (cell.lock, cell.value);
+        out.show(format_args!(" {lock}:{value}"));
+    }
+}
+
+/// Each word of a store.
+fn put_words(out: &mut Written, words: &[u64]) {
+    for word in words {
+        out.show(format_args!(" {word}"));
+    }
+}
+
 /// The clock, the tail of the store, lock word and value of each cell, and the store.
 pub fn put_closed(out: &mut Written, closed: &ClosedWords) {
     let (clock, tail) = (closed.clock, closed.tail);
     out.show(format_args!("clock {clock} tail {tail} cells"));
-    for cell in &closed.cells {
-        let (lock, value) = (cell.lock, cell.value);
-        out.show(format_args!(" {lock}:{value}"));
-    }
+    put_cells(out, closed.cells.as_slice());
     out.put(b" store");
-    for word in &closed.store {
-        out.show(format_args!(" {word}"));
-    }
+    put_words(out, closed.store.as_slice());
 }

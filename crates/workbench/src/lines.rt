@@ -23,7 +23,7 @@
 
 pub(crate) mod stage;
 
-use crate::lines::stage::{Mode, Stage};
+use crate::lines::stage::Mode;
 use crate::making::{cut, made};
 use std::alloc::{AllocError, Global};
 use std::rt::Files;
@@ -59,16 +59,30 @@ fn write_text(rt: &(impl Files + AllocGlobal), path: &str, lines: &[Vec<u8>]) ->
     fs::write(rt, path, text.as_slice())
 }
 
+/// What the recipe makes that is the text of lines.
+fn made_of(alloc: Global, lines: &[Vec<u8>]) -> Result<Vec<u8>, AllocError> {
+    let recipe = text_of(alloc, lines)?;
+    made(alloc, recipe.as_slice())
+}
+
+/// Writes a text into a file, and prints how many bytes that has.
+fn write_counted(
+    rt: &(impl Files + AllocGlobal + Print),
+    path: &str,
+    text: &[u8],
+) -> io::Result<()> {
+    fs::write(rt, path, text)?;
+    println!(rt; "{} bytes", text.len())
+}
+
 /// Writes what a recipe makes into a file.
 fn write_made(
     rt: &(impl Files + AllocGlobal + Print),
     path: &str,
     lines: &[Vec<u8>],
 ) -> io::Result<()> {
-    let recipe = text_of(rt.alloc(), lines)?;
-    let text = made(rt.alloc(), recipe.as_slice())?;
-    fs::write(rt, path, text.as_slice())?;
-    println!(rt; "{} bytes", text.len())
+    let text = made_of(rt.alloc(), lines)?;
+    write_counted(rt, path, text.as_slice())
 }
 
 /// What stands behind the first line that is `library`. It is all of a text that has no such line.
@@ -84,40 +98,51 @@ fn library_of(text: &[u8]) -> &[u8] {
     text
 }
 
-/// The part of a file that a row prints.
-fn part_of<'t>(row: &str, text: &'t [u8]) -> &'t [u8] {
+/// The part of a file that a row prints, and what ends it: a first line is all of its line.
+fn part_of<'t>(row: &str, text: &'t [u8]) -> (&'t [u8], &'static [u8]) {
     match row {
-        "first" => cut(text, b'\n').0,
-        "library" => library_of(text),
-        _ => text,
+        "first" => (cut(text, b'\n').0, b"\n"),
+        "library" => (library_of(text), b""),
+        _ => (text, b""),
     }
 }
 
-/// Prints a part of what a file has. Of a first line that is all, so that it ends.
+/// Prints the part of a text that a row prints of a file.
+fn print_part(rt: &impl Print, row: &str, text: &[u8]) -> io::Result<()> {
+    let (part, end) = part_of(row, text);
+    rt.write_all(part)?;
+    rt.write_all(end)
+}
+
+/// Prints a part of what a file has.
 fn print_file(rt: &(impl Files + AllocGlobal + Print), row: &str, path: &str) -> io::Result<()> {
     match fs::read(rt, path) {
-        Ok(text) => rt.write_all(part_of(row, text.as_slice()))?,
-        Err(_) => println!(rt; "no such file")?,
+        Ok(text) => print_part(rt, row, text.as_slice()),
+        Err(_) => println!(rt; "no such file"),
     }
-    if row == "first" {
-        println!(rt; "")
-    } else {
-        Ok(())
-    }
+}
+
+/// Prints whether a text and a file have the same behind their lines `library`.
+fn print_same_as(
+    rt: &(impl Files + AllocGlobal + Print),
+    one: &[u8],
+    path: &str,
+) -> io::Result<()> {
+    let other = fs::read(rt, path)?;
+    let is_same = library_of(one) == library_of(other.as_slice());
+    println!(rt; "{is_same}")
 }
 
 /// Prints whether two files have the same behind their lines `library`.
 fn print_same(rt: &(impl Files + AllocGlobal + Print), paths: &str) -> io::Result<()> {
     let (one, other) = paths.split_once(' ').unwrap_or((paths, ""));
     let one = fs::read(rt, one)?;
-    let other = fs::read(rt, other)?;
-    let is_same = library_of(one.as_slice()) == library_of(other.as_slice());
-    println!(rt; "{is_same}")
+    print_same_as(rt, one.as_slice(), other)
 }
 
 /// How the streams of a row's command line are. None of a row that is none.
-fn mode_of(row: &str) -> Option<Mode> {
-    match row {
+pub(crate) fn mode_of(row: &str) -> Option<Mode> {
+    match row.split_once(' ').unwrap_or((row, "")).0 {
         "line" => Some(Mode::Open),
         "closed" => Some(Mode::Closed),
         "terminal" => Some(Mode::Terminal),
@@ -128,44 +153,27 @@ fn mode_of(row: &str) -> Option<Mode> {
     }
 }
 
-/// Does what a row asks for that is no command line.
-fn do_other(
-    rt: &(impl Files + AllocGlobal + Print),
-    row: &str,
-    behind: &str,
-    lines: &[Vec<u8>],
-) -> io::Result<()> {
-    match row {
-        "made" => write_made(rt, behind, lines),
-        "same" => print_same(rt, behind),
-        _ => print_file(rt, row, behind),
-    }
+/// Whether nothing is printed of a row: it is empty, a comment, or writes its text.
+pub(crate) fn is_silent(row: &str) -> bool {
+    row.is_empty() || row.starts_with("#") || row.starts_with("text ")
 }
 
-/// Prints a row of the table, and does what it asks for where it is no command line; for a command line, the runtime for it. Of an empty row, of a comment,
-/// and of one that writes its text, nothing is printed.
+/// Does what a row asks for that is no command line.
 ///
 /// # Errors
 ///
 /// Those of printing, and of files that a row writes or tells of.
-pub fn begin_row<'r, R: Files + AllocGlobal + Print>(
-    rt: &'r R,
-    line: &str,
+pub(crate) fn do_row(
+    rt: &(impl Files + AllocGlobal + Print),
+    row: &str,
     lines: &[Vec<u8>],
-) -> io::Result<Option<Stage<'r, R>>> {
-    let (row, behind) = line.split_once(' ').unwrap_or((line, ""));
-    if row == "text" {
-        write_text(rt, behind, lines)?;
-        return Ok(None);
+) -> io::Result<()> {
+    let (word, behind) = row.split_once(' ').unwrap_or((row, ""));
+    match word {
+        "text" => write_text(rt, behind, lines),
+        "made" => write_made(rt, behind, lines),
+        "same" => print_same(rt, behind),
+        _ if is_silent(row) => Ok(()),
+        _ => print_file(rt, word, behind),
     }
-    if row.is_empty() || row.starts_with("#") {
-        return Ok(None);
-    }
-    println!(rt; "== {line}")?;
-    let Some(mode) = mode_of(row) else {
-        do_other(rt, row, behind, lines)?;
-        return Ok(None);
-    };
-    let words = if mode == Mode::Kept { behind } else { line };
-    Ok(Some(Stage::new(rt, mode, words_of(rt.alloc(), words)?)))
 }

@@ -13,17 +13,19 @@ use std::{fs, io};
 /// The large database, of 4,096 assertions, which a row of the table of command lines made.
 const LARGE: &str = "large.mm";
 
-/// How many threads the process has, by the system's file on it; 0 where that can't be read.
+/// How many threads a process has, by the text of the system's file on it; 0 where that doesn't say.
+fn threads_in(status: &str) -> usize {
+    let (_, behind) = status.split_once("\nThreads:").unwrap_or((status, ""));
+    let count = behind.split_ascii_whitespace().next().unwrap_or("");
+    count.parse::<usize>().unwrap_or(0)
+}
+
+/// How many threads the process has; 0 where the system's file on it can't be read.
 fn threads_now(rt: &(impl Files + AllocGlobal)) -> usize {
-    let Ok(text) = fs::read_to_string(rt, "/proc/self/status") else {
-        return 0;
-    };
-    for line in text.as_str().lines() {
-        if let Some(count) = line.strip_prefix("Threads:") {
-            return count.trim().parse::<usize>().unwrap_or(0);
-        }
+    match fs::read_to_string(rt, "/proc/self/status") {
+        Ok(status) => threads_in(status.as_str()),
+        Err(_) => 0,
     }
-    0
 }
 
 /// The most threads that the process has at once until a word says that the work is done.
@@ -61,13 +63,13 @@ where
 }
 
 /// Prints whether a check was made on more threads than one where there are processors for two: two are the one who checks and the one who
-/// watches.
-pub fn print_watched(rt: &(impl Threads + Print), most: usize, sound: bool) -> io::Result<()> {
+/// watches. Whether it is printed.
+pub fn print_watched(rt: &(impl Threads + Print), most: usize, sound: bool) -> bool {
     // Where the system doesn't say how many processors there are, there is one.
     let is_one = match available_parallelism(rt) {
         Ok(count) => count.get() == 1,
         Err(_) => true,
     };
     let many = sound && (most > 2 || is_one);
-    println!(rt; "check on more than one thread, where there are processors: {many}")
+    println!(rt; "check on more than one thread, where there are processors: {many}").is_ok()
 }

@@ -2,10 +2,9 @@
 
 ghost use Rattle.std.specs.Io.{WritesAtMost};
 
-use std::alloc::{Allocator, Global};
+use std::alloc::Global;
 use std::env::FillError;
 use std::fmt::Display;
-use std::fs::{Metadata, OpenOptions};
 use std::random::RandomSource;
 use std::rt::{Clock, Env, Files};
 use std::sync::Wait;
@@ -32,18 +31,23 @@ pub enum Mode {
     Garbled,
 }
 
-/// A runtime for one command line.
+/// A runtime for one command line. The files are those of the runtime that it stands on.
 #[derive(Drop)]
 pub struct Stage<'r, R> {
     rt: &'r R,
     mode: Mode,
-    words: Vec<String>,
+    words: &'r str,
     looks: AtomicU64,
 }
 
 impl<'r, R> Stage<'r, R> {
-    /// The words are those of the command line, of which the first is the program's name.
-    pub fn new(rt: &'r R, mode: Mode, words: Vec<String>) -> Self {
+    /// The words are those of a row, between single spaces: the first, which says how the streams are, stands for the program's name. A row whose output
+    /// is kept has the path in front of them.
+    pub fn new(rt: &'r R, mode: Mode, row: &'r str) -> Self {
+        let words = match mode {
+            Mode::Kept => row.split_once(' ').unwrap_or((row, "")).1,
+            _ => row,
+        };
         Stage {
             rt,
             mode,
@@ -105,8 +109,8 @@ impl<R: Files + Print + AllocGlobal> Print for Stage<'_, R> {
     fn write_all(&self, bytes: &[u8]) -> io::Result<()> {
         match self.mode {
             Mode::Closed => Err(io::Error::from(io::ErrorKind::BrokenPipe)),
-            Mode::Kept => match self.words.first() {
-                Some(path) => fs::write(self.rt, path.as_str(), bytes),
+            Mode::Kept => match self.words.split(' ').next() {
+                Some(path) => fs::write(self.rt, path, bytes),
                 None => Ok(()),
             },
             _ => self.rt.write_all(bytes),
@@ -141,7 +145,7 @@ fn fill(buf: &mut [u8], text: &[u8]) -> Result<usize, FillError>
 
 impl<R> Env for Stage<'_, R> {
     fn arg(&self, i: usize, buf: &mut [u8]) -> Result<usize, FillError> {
-        match self.words.get(i) {
+        match self.words.split(' ').nth(i) {
             Some(_) if self.mode == Mode::Garbled => fill(buf, GARBLE),
             Some(word) => fill(buf, word.as_bytes()),
             None => Err(FillError::NotPresent),
@@ -166,51 +170,5 @@ impl<R> Clock for Stage<'_, R> {
 
     fn since_1970(&self) -> io::Result<Duration> {
         self.monotonic()
-    }
-}
-
-impl<R: Files> Files for Stage<'_, R> {
-    type File = R::File;
-
-    type Dir = R::Dir;
-
-    fn open_file(&self, how: &OpenOptions, path: &str) -> io::Result<R::File> {
-        self.rt.open_file(how, path)
-    }
-
-    fn open_dir(&self, path: &str) -> io::Result<R::Dir> {
-        self.rt.open_dir(path)
-    }
-
-    fn metadata(&self, path: &str) -> io::Result<Metadata> {
-        self.rt.metadata(path)
-    }
-
-    fn symlink_metadata(&self, path: &str) -> io::Result<Metadata> {
-        self.rt.symlink_metadata(path)
-    }
-
-    fn copy(&self, from: &str, to: &str) -> io::Result<u64> {
-        self.rt.copy(from, to)
-    }
-
-    fn rename(&self, from: &str, to: &str) -> io::Result<()> {
-        self.rt.rename(from, to)
-    }
-
-    fn remove_file(&self, path: &str) -> io::Result<()> {
-        self.rt.remove_file(path)
-    }
-
-    fn create_dir(&self, path: &str) -> io::Result<()> {
-        self.rt.create_dir(path)
-    }
-
-    fn remove_dir(&self, path: &str) -> io::Result<()> {
-        self.rt.remove_dir(path)
-    }
-
-    fn remove_dir_all<B: Allocator>(&self, alloc: B, path: &str) -> io::Result<()> {
-        self.rt.remove_dir_all(alloc, path)
     }
 }
