@@ -156,6 +156,58 @@ module _ (t : Tables) (final : Progress) (ends : final.place ≡ at_entry 0) whe
         })
         (λ x. not_wrong rs r.token r.rest BadToken x) r.leads
 
+    -- the kind and the citers of a line, and a walk on from behind it
+    record ReadsLineEnd (rs : List Reply) (n : ℕ) (front : List Line) (rank : ℕ) (label : Word) (ts : List Token) : Type 0 where
+      kind : Kind
+      citers : ℕ
+      count : Word
+      rest : List Token
+      parts : words_of ts ≡ kind_word kind ∷ count ∷ words_of rest
+      is : IsCount count citers
+      walks : Walks (at_lines_left es left cs rs n (front ++ record { rank = rank; label = label; kind = kind; citers = citers } ∷ [])) rest
+
+    reads_line_end : (rs : List Reply) (n : ℕ) (front : List Line) (rank : ℕ) (label : Word) (ts : List Token)
+        → Walks (place rs (at_kind n front rank label)) ts → ReadsLineEnd rs n front rank label ts
+    reads_line_end rs n front rank label ts h =
+        let k = reads_kind rs n front rank label ts h in
+        let c = reads_count rs (at_citers n front rank label k.kind)
+        (λ m. lines_left n (front ++ record { rank = rank; label = label; kind = k.kind; citers = m } ∷ [])) k.rest (λ u. refl) k.walks in
+        let x : Line = record { rank = rank; label = label; kind = k.kind; citers = c.number } in
+        let after = at_lines_left es left cs rs n (front ++ x ∷ []) in
+        record {
+          kind = k.kind;
+          citers = c.number;
+          count = c.token.text;
+          rest = c.rest;
+          parts = k.parts ∙ ap (λ ws. kind_word k.kind ∷ ws) (ap words_of c.whole);
+          is = number_count c.token.text c.number c.is;
+          walks = moved after c.leads.0 c.rest (sym (lines_are es left cs rs c.token n (front ++ x ∷ [])) ∙ c.leads.1) c.leads.2;
+        }
+
+    -- a line, and a walk on from behind it
+    record ReadsLine (rs : List Reply) (n : ℕ) (front : List Line) (ts : List Token) : Type 0 where
+      line : Line
+      words : List Word
+      rest : List Token
+      parts : words_of ts ≡ words ++ words_of rest
+      spells : SpellsLine line words
+      walks : Walks (at_lines_left es left cs rs n (front ++ line ∷ [])) rest
+
+    reads_line : (rs : List Reply) (n : ℕ) (front : List Line) (ts : List Token) → Walks (place rs (at_line n front)) ts
+        → ReadsLine rs n front ts
+    reads_line rs n front ts h =
+        let a = reads_rank rs (at_line n front) (λ m. going (at_label n front m)) ts (λ u. refl) h in
+        let b = reads_label rs n front a.number a.rest (moved (place rs (at_label n front a.number)) a.leads.0 a.rest a.leads.1 a.leads.2) in
+        let o = reads_line_end rs n front a.number b.label b.rest b.walks in
+        record {
+          line = record { rank = a.number; label = b.label; kind = o.kind; citers = o.citers };
+          words = a.token.text ∷ b.label ∷ kind_word o.kind ∷ o.count ∷ [];
+          rest = o.rest;
+          parts = ap words_of a.whole ∙ ap (λ ws. a.token.text ∷ ws) (b.parts ∙ ap (λ ws. b.label ∷ ws) o.parts);
+          spells = (a.token.text, o.count, number_rank a.token.text a.number a.is, b.plain, o.is, refl);
+          walks = o.walks;
+        }
+
     -- lines that were announced, and a walk on from behind them
     record ReadsLines (rs : List Reply) (n : ℕ) (front : List Line) (ts : List Token) : Type 0 where
       lines : List Line
@@ -178,34 +230,16 @@ module _ (t : Tables) (final : Progress) (ends : final.place ≡ at_entry 0) whe
       walks = subst (λ x. Walks (behind es left cs (rs ++ Listed x ∷ [])) ts) (sym (append-nil front)) h;
     }
     reads_lines rs (suc n) front ts h =
-        let a = reads_rank rs (at_line n front) (λ m. going (at_label n front m)) ts (λ u. refl) h in
-        let b = reads_label rs n front a.number a.rest (moved (place rs (at_label n front a.number)) a.leads.0 a.rest a.leads.1 a.leads.2) in
-        let k = reads_kind rs n front a.number b.label b.rest b.walks in
-        let c = reads_count rs (at_citers n front a.number b.label k.kind)
-        (λ m. lines_left n (front ++ record { rank = a.number; label = b.label; kind = k.kind; citers = m } ∷ [])) k.rest (λ u. refl) k.walks in
-        let x : Line = record { rank = a.number; label = b.label; kind = k.kind; citers = c.number } in
-        let after = at_lines_left es left cs rs n (front ++ x ∷ []) in
-        let o = reads_lines rs n (front ++ x ∷ []) c.rest
-        (moved after c.leads.0 c.rest (sym (lines_are es left cs rs c.token n (front ++ x ∷ [])) ∙ c.leads.1) c.leads.2) in
-        let line : List Word = a.token.text ∷ b.label ∷ kind_word k.kind ∷ c.token.text ∷ [] in
+        let x = reads_line rs n front ts h in
+        let o = reads_lines rs n (front ++ x.line ∷ []) x.rest x.walks in
         record {
-          lines = x ∷ o.lines;
-          words = line ++ o.words;
+          lines = x.line ∷ o.lines;
+          words = x.words ++ o.words;
           rest = o.rest;
-          parts =
-              ap words_of a.whole
-              ∙ ap (λ ws. a.token.text ∷ ws)
-              (b.parts ∙ ap (λ ws. b.label ∷ ws)
-              (k.parts ∙ ap (λ ws. kind_word k.kind ∷ ws) (ap words_of c.whole ∙ ap (λ ws. c.token.text ∷ ws) o.parts)));
-          spells = (
-            line,
-            o.words,
-            refl,
-            (a.token.text, c.token.text, number_rank a.token.text a.number a.is, b.plain, number_count c.token.text c.number c.is, refl),
-            o.spells,
-          );
+          parts = x.parts ∙ ap (λ ws. x.words ++ ws) o.parts ∙ sym (append_assoc x.words o.words (words_of o.rest));
+          spells = (x.words, o.words, refl, x.spells, o.spells);
           counted = ap (λ m. suc m) o.counted;
-          walks = subst (λ y. Walks (behind es left cs (rs ++ Listed y ∷ [])) o.rest) (append_assoc front (x ∷ []) o.lines) o.walks;
+          walks = subst (λ y. Walks (behind es left cs (rs ++ Listed y ∷ [])) o.rest) (append_assoc front (x.line ∷ []) o.lines) o.walks;
         }
 
     -- a reply, and a walk on from behind it

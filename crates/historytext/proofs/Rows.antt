@@ -1,4 +1,4 @@
--- Rows of a history that stop, and rows of commands and replies that lead on.
+-- Rows of numbers in a history, that stop and that lead on.
 use Rattle.std.proofs.Common.{◌≡◌, ℕ, Bool, true, false, cond, ltb, List, Ok, Err, ap}
 use Rattle.std.specs.Str.Parse.{digits_value}
 use Rattle.mmtext.specs.declared.fault.FaultKind.TheVariants.{BadToken, TooLong}
@@ -7,13 +7,11 @@ use Rattle.mmtext.specs.declared.fault.Stop.TheVariants as stop
 use Rattle.mmtext.specs.Text.{Token}
 use Rattle.mmtext.specs.Languages.{fault}
 use Rattle.mmtext.specs.Views.{Fails}
-use Rattle.library.specs.declared.command.Command.{Command}
-use Rattle.library.specs.declared.command.Reply.{Reply}
-use Rattle.scripts.specs.ScriptFaults.{Led, inside, whole_command, bad, bad_text, is_numeral}
-use Rattle.scripts.specs.ScriptViews.{decided, number_at}
+use Rattle.scripts.specs.ScriptFaults.{is_numeral}
+use Rattle.scripts.specs.ScriptViews.{number_at}
 use Rattle.library.specs.declared.history.Entry.{Entry}
 use Rattle.historytext.specs.Grammar.{highest_count}
-use Rattle.historytext.specs.Places.{Answered, Progress, at, at_entry, count_row, going, whole_reply, wrong, wrong_text, number_row, asked, answered}
+use Rattle.historytext.specs.Places.{Answered, Progress, at, at_entry, count_row, wrong, number_row}
 use Rattle.historytext.specs.Views.{answer, count_at}
 
 -- where a number isn't one, the row of the number stops
@@ -61,28 +59,3 @@ count_fails entries u (stop.Fault f) h = go (is_numeral u.text) (ltb highest_cou
       where
         h_is : fault {X = ℕ} u BadToken ≡ Err f → fault {X = Progress} u BadToken ≡ Err f
         h_is e = cc
-
--- where a command stops, the entry does
-pub asked_fails : (entries : List Entry) (left : ℕ) (commands : List Command) (u : Token) (next : Led) (why : Stop)
-    → Fails why (decided u next) → Fails why (asked entries left commands u next)
-asked_fails entries left commands u next stop.Memory h = tt
-asked_fails entries left commands u (inside p) (stop.Fault f) h = absurd cc
-asked_fails entries left commands u (whole_command c) (stop.Fault f) h = absurd cc
-asked_fails entries left commands u (bad kind) (stop.Fault f) h = cc
-asked_fails entries left commands u (bad_text g) (stop.Fault f) h = cc
-
--- where a reply stops, the entry does
-pub answered_fails : (entries : List Entry) (left : ℕ) (commands : List Command) (replies : List Reply) (u : Token) (next : Answered)
-    (why : Stop) → Fails why (answer u next) → Fails why (answered entries left commands replies u next)
-answered_fails entries left commands replies u next stop.Memory h = tt
-answered_fails entries left commands replies u (going p) (stop.Fault f) h = absurd cc
-answered_fails entries left commands replies u (whole_reply r) (stop.Fault f) h = absurd cc
-answered_fails entries left commands replies u (wrong kind) (stop.Fault f) h = cc
-answered_fails entries left commands replies u (wrong_text g) (stop.Fault f) h = cc
-
--- where a reply leads
-pub answer_ok : (u : Token) (next led : Answered) → answer u next ≡ Ok led → next ≡ led
-answer_ok u (going p) led h = cc
-answer_ok u (whole_reply r) led h = cc
-answer_ok u (wrong kind) led h = absurd cc
-answer_ok u (wrong_text f) led h = absurd cc

@@ -1,35 +1,57 @@
 //! Reading an entry of a history.
 
-ghost use Rattle.std.specs.Prelude.{List};
+ghost use Rattle.std.specs.Prelude.{◌≡◌, ◌∷◌, ◌++◌, [], List, OnOk};
 ghost use Rattle.mmtext.specs.Text.{Token as SeenToken};
 ghost use Rattle.mmtext.specs.Views.{seen, Gives};
 ghost use Rattle.mmsyntax.specs.Tables.{Tables};
-ghost use Rattle.scripts.specs.ScriptViews.{seen_command_place, seen_led};
+ghost use Rattle.scripts.specs.ScriptFaults.{Led as SeenLed};
+ghost use Rattle.scripts.specs.ScriptViews.{decided, seen_led};
 ghost use Rattle.library.specs.declared.history.Entry.{Entry};
-ghost use Rattle.historytext.specs.Places.{answered, answering, asked, at_reply, begin_row, command_row, in_entry_row, replies_left, within};
-ghost use Rattle.historytext.specs.Views.{seen_answered, seen_entry_place, seen_reply_place, seen_at};
+ghost use Rattle.library.specs.declared.history.Entry.TheVariants as entry;
+ghost use Rattle.historytext.specs.Places.{Answered as SeenAnswered, answered, asked, begin_row, command_row, in_entry_row, replies_left};
+ghost use Rattle.historytext.specs.Views.{answer, seen_answered, seen_entry_place, seen_at};
 
-use crate::place::{Answered, EntryPlace, Place, ReplyPlace};
+use crate::place::{Answered, EntryPlace, Place};
 use crate::reply_rows::{read_in_reply, read_reply_word};
 use library::{Command, Entry, Reply};
 use mmsyntax::{Prelude, Sequence};
 use mmtext::{FaultKind, Stop, Token, fault_at};
-use scripts::{CommandPlace, Led, read_command_word, read_in_command};
-use std::alloc::Global;
+use scripts::{Led, read_command_word, read_in_command};
+use std::alloc::{AllocError, Global};
 
-/// A place in a command, or one more command behind the others.
-fn go_on_asking<'a>(left: u64, mut commands: Vec<Command>, next: Led<'a>) -> Result<Place<'a>, Stop>
-    ensures { (t : Tables) (entries : List Entry) (token : SeenToken) → Gives (seen_at t entries) result
-        (asked entries left commands.items token (seen_led t next.entry)) }
+/// A place in a command, or one more command behind the others, unless the token that was read there has a fault.
+fn go_on_asking<'a>(
+    left: u64,
+    mut commands: Vec<Command>,
+    next: Result<Led<'a>, Stop>,
+) -> Result<Place<'a>, Stop>
+    ensures { (t : Tables) (entries : List Entry) (token : SeenToken) (leads : SeenLed) → Gives (seen_led t) next.entry (decided token leads)
+        → Gives (seen_at t entries) result (asked entries left commands.items token leads) }
 {
     let place = match next {
-        Led::Inside(place) => EntryPlace::Within(commands, place),
-        Led::Whole(command) => {
+        Ok(Led::Inside(place)) => EntryPlace::Within(commands, place),
+        Ok(Led::Whole(command)) => {
             commands.push(command)?;
             EntryPlace::AtCommand(commands)
         }
+        Err(stop) => return Err(stop),
     };
     Ok(Place::InEntry(left, place))
+}
+
+/// Puts an entry behind the others.
+fn add_done(
+    entries: &mut Vec<Entry>,
+    commands: Vec<Command>,
+    replies: Vec<Reply>,
+) -> Result<(), AllocError>
+    ensures { OnOk result (entries.new.items ≡ entries.old.items ++ entry.Done commands.items replies.items ∷ []) }
+{
+    entries.push(Entry::Done {
+        commands: Sequence::from_vec(commands),
+        replies: Sequence::from_vec(replies),
+    })?;
+    Ok(())
 }
 
 /// Behind whole replies: the entry is whole when each command has one.
@@ -46,33 +68,45 @@ fn go_on_replying<'a>(
         let place = EntryPlace::AtReply(commands, replies);
         return Ok(Place::InEntry(left, place));
     }
-    entries.push(Entry::Done {
-        commands: Sequence::from_vec(commands),
-        replies: Sequence::from_vec(replies),
-    })?;
-    Ok(Place::AtEntry(left))
+    match add_done(entries, commands, replies) {
+        Ok(()) => Ok(Place::AtEntry(left)),
+        Err(_) => Err(Stop::Memory),
+    }
 }
 
-/// A place in a reply, or one more reply behind the others.
-fn go_on_answering<'a>(
+/// One more reply behind the others.
+fn take_reply<'a>(
     entries: &mut Vec<Entry>,
     left: u64,
     commands: Vec<Command>,
     mut replies: Vec<Reply>,
-    next: Answered<'a>,
+    reply: Reply,
 ) -> Result<Place<'a>, Stop>
-    ensures { (t : Tables) (token : SeenToken) → Gives (seen_at t entries.new.items) result
-        (answered entries.old.items left commands.items replies.items token (seen_answered t next.entry)) }
+    ensures { (t : Tables) → Gives (seen_at t entries.new.items) result
+        (replies_left entries.old.items left commands.items (replies.items ++ reply ∷ [])) }
+{
+    replies.push(reply)?;
+    go_on_replying(entries, left, commands, replies)
+}
+
+/// A place in a reply, or one more reply behind the others, unless the token that was read there has a fault.
+fn go_on_answering<'a>(
+    entries: &mut Vec<Entry>,
+    left: u64,
+    commands: Vec<Command>,
+    replies: Vec<Reply>,
+    next: Result<Answered<'a>, Stop>,
+) -> Result<Place<'a>, Stop>
+    ensures { (t : Tables) (token : SeenToken) (leads : SeenAnswered) → Gives (seen_answered t) next.entry (answer token leads)
+        → Gives (seen_at t entries.new.items) result (answered entries.old.items left commands.items replies.items token leads) }
 {
     match next {
-        Answered::Going(place) => {
+        Ok(Answered::Going(place)) => {
             let place = EntryPlace::Answering(commands, replies, place);
             Ok(Place::InEntry(left, place))
         }
-        Answered::Whole(reply) => {
-            replies.push(reply)?;
-            go_on_replying(entries, left, commands, replies)
-        }
+        Ok(Answered::Whole(reply)) => take_reply(entries, left, commands, replies, reply),
+        Err(stop) => Err(stop),
     }
 }
 
@@ -101,57 +135,7 @@ fn read_at_command<'a>(
     if token.text == b"commit".as_slice() {
         return go_on_replying(entries, left, commands, Vec::new(alloc));
     }
-    go_on_asking(left, commands, read_command_word(token)?)
-}
-
-/// In a command behind whole ones.
-fn read_within<'a>(
-    alloc: Global,
-    prelude: &Prelude,
-    left: u64,
-    commands: Vec<Command>,
-    place: CommandPlace<'a>,
-    token: Token<'a>,
-) -> Result<Place<'a>, Stop>
-    ensures { (entries : List Entry) → Gives (seen_at prelude.now entries) result
-        (in_entry_row prelude.now entries left (within commands.items (seen_command_place prelude.now place.entry)) (seen token.entry)) }
-{
-    let next = read_in_command(alloc, prelude, place, token)?;
-    go_on_asking(left, commands, next)
-}
-
-/// Behind `commit` and whole replies: the word of a reply.
-fn read_at_reply<'a>(
-    entries: &mut Vec<Entry>,
-    left: u64,
-    commands: Vec<Command>,
-    replies: Vec<Reply>,
-    token: Token<'a>,
-) -> Result<Place<'a>, Stop>
-    ensures { (t : Tables) → Gives (seen_at t entries.new.items) result
-        (in_entry_row t entries.old.items left (at_reply commands.items replies.items) (seen token.entry)) }
-{
-    let next = read_reply_word(token)?;
-    go_on_answering(entries, left, commands, replies, next)
-}
-
-/// In a reply behind whole ones.
-fn read_answering<'a>(
-    alloc: Global,
-    prelude: &Prelude,
-    entries: &mut Vec<Entry>,
-    left: u64,
-    commands: Vec<Command>,
-    replies: Vec<Reply>,
-    place: ReplyPlace<'a>,
-    token: Token<'a>,
-) -> Result<Place<'a>, Stop>
-    ensures { Gives (seen_at prelude.now entries.new.items) result
-        (in_entry_row prelude.now entries.old.items left
-        (answering commands.items replies.items (seen_reply_place prelude.now place.entry)) (seen token.entry)) }
-{
-    let next = read_in_reply(alloc, prelude, place, token)?;
-    go_on_answering(entries, left, commands, replies, next)
+    go_on_asking(left, commands, read_command_word(token))
 }
 
 /// Where a token leads that stands in an entry, with so many others left.
@@ -172,15 +156,18 @@ pub(crate) fn read_in_entry<'a>(
             read_at_command(alloc, entries, left, commands, token)
         }
         EntryPlace::Within(commands, place) => {
-            read_within(alloc, prelude, left, commands, place, token)
+            go_on_asking(
+                left,
+                commands,
+                read_in_command(alloc, prelude, place, token),
+            )
         }
         EntryPlace::AtReply(commands, replies) => {
-            read_at_reply(entries, left, commands, replies, token)
+            go_on_answering(entries, left, commands, replies, read_reply_word(token))
         }
         EntryPlace::Answering(commands, replies, place) => {
-            read_answering(
-                alloc, prelude, entries, left, commands, replies, place, token,
-            )
+            let next = read_in_reply(alloc, prelude, place, token);
+            go_on_answering(entries, left, commands, replies, next)
         }
     }
 }

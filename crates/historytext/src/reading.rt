@@ -1,10 +1,9 @@
 //! Reading a history, token by token.
 
-ghost use Rattle.std.specs.Prelude.{◌≡◌, List, Some, None, All, IfOk, if◌then◌else◌};
+ghost use Rattle.std.specs.Prelude.{◌≡◌, All, IfOk};
 ghost use Rattle.mmtext.specs.Views.{seen, Gives};
 ghost use Rattle.mmtext.specs.Laws.{IsRead};
 ghost use Rattle.mmsyntax.specs.Tables.{Tables};
-ghost use Rattle.library.specs.declared.history.Entry.{Entry};
 ghost use Rattle.historytext.specs.Grammar.{SpellsHistory};
 ghost use Rattle.historytext.specs.Layout.{EntryFits};
 ghost use Rattle.historytext.specs.Places.{entry_row, in_place, whole, history_language};
@@ -81,26 +80,14 @@ fn advance<'a>(
     Ok(())
 }
 
-/// Whether a history may end at a place: no entry is left.
-fn may_end(place: &Place<'_>) -> bool
-    ensures { (t : Tables) (entries : List Entry) → whole entries (seen_place t place.now) ≡ (if result then Some entries else None) }
+/// The history of the entries that were read, where it may end at a place: no entry is left.
+fn ended_at(entries: Vec<Entry>, place: &Place<'_>) -> Option<History>
+    ensures { (t : Tables) → result ≡ whole entries.items (seen_place t place.now) }
 {
-    matches!(place, Place::AtEntry(0))
-}
-
-/// The entries that were read.
-fn into_entries(reader: HistoryReader<'_>) -> Vec<Entry>
-    ensures { result ≡ reader.entry.entries }
-{
-    let HistoryReader {
-        prelude: _,
-        recent,
-        entries,
-        place,
-    } = reader;
-    drop(recent);
-    drop(place);
-    entries
+    match place {
+        Place::AtEntry(0) => Some(Sequence::from_vec(entries)),
+        _ => None,
+    }
 }
 
 impl<'a> Reader<'a> for HistoryReader<'a> {
@@ -151,13 +138,16 @@ impl<'a> Reader<'a> for HistoryReader<'a> {
     }
 
     fn finish(self) -> Option<History> {
-        let is_whole = may_end(&self.place);
-        let entries = into_entries(self);
-        if is_whole {
-            Some(Sequence::from_vec(entries))
-        } else {
-            None
-        }
+        let HistoryReader {
+            prelude: _,
+            recent,
+            entries,
+            place,
+        } = self;
+        drop(recent);
+        let ended = ended_at(entries, &place);
+        drop(place);
+        ended
     }
 }
 

@@ -107,8 +107,10 @@ fn read_line_rank<'a>(left: u64, lines: Vec<Line>, token: Token<'a>) -> Result<A
     ensures { (t : Tables) → Gives (seen_answered t) result
         (answer (seen token.entry) (in_reply t (at_line left lines.items) (seen token.entry))) }
 {
-    let rank = read_rank(token)?;
-    Ok(Answered::Going(ReplyPlace::AtLabel(left, lines, rank)))
+    match read_rank(token) {
+        Ok(rank) => Ok(Answered::Going(ReplyPlace::AtLabel(left, lines, rank))),
+        Err(stop) => Err(stop),
+    }
 }
 
 /// At its label.
@@ -122,8 +124,10 @@ fn read_line_label<'a>(
     ensures { (t : Tables) → Gives (seen_answered t) result
         (answer (seen token.entry) (in_reply t (at_label left lines.items rank) (seen token.entry))) }
 {
-    let label = read_label(alloc, token)?;
-    Ok(Answered::Going(ReplyPlace::AtKind(left, lines, rank, label)))
+    match read_label(alloc, token) {
+        Ok(label) => Ok(Answered::Going(ReplyPlace::AtKind(left, lines, rank, label))),
+        Err(stop) => Err(stop),
+    }
 }
 
 /// At its kind.
@@ -137,8 +141,10 @@ fn read_line_kind<'a>(
     ensures { (t : Tables) → Gives (seen_answered t) result
         (answer (seen token.entry) (in_reply t (at_kind left lines.items rank label) (seen token.entry))) }
 {
-    let kind = read_kind(token)?;
-    Ok(Answered::Going(ReplyPlace::AtCiters(left, lines, rank, label, kind)))
+    match read_kind(token) {
+        Ok(kind) => Ok(Answered::Going(ReplyPlace::AtCiters(left, lines, rank, label, kind))),
+        Err(stop) => Err(stop),
+    }
 }
 
 /// At its number of citers.

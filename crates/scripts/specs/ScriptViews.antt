@@ -65,6 +65,15 @@ seen_command_place t (code.AtNewRank label) = at_new_rank label
 seen_command_place t code.AtDeleted = at_deleted
 seen_command_place t code.AtShown = at_shown
 
+-- a label is wanted at a place of the code in a command
+abbrev pub AsksLabel : CodeCommandPlace → Type 0
+AsksLabel code.AtRank = ⊥
+AsksLabel (code.InUnit rank r) = ⊥
+AsksLabel (code.AtProof label) = ⊥
+AsksLabel (code.InProof label steps) = ⊥
+AsksLabel (code.AtNewRank label) = ⊥
+AsksLabel _ = Unit {0}
+
 -- a place of the code
 abbrev pub seen_place : Tables → CodePlace → Place
 seen_place t outer.Outermost = outermost

@@ -1,6 +1,6 @@
 //! Reading a script, token by token.
 
-ghost use Rattle.std.specs.Prelude.{◌≡◌, List, Some, None, All, IfOk, if◌then◌else◌};
+ghost use Rattle.std.specs.Prelude.{◌≡◌, List, All, IfOk};
 ghost use Rattle.mmtext.specs.Text.{Token as SeenToken};
 ghost use Rattle.mmtext.specs.Views.{seen, Gives};
 ghost use Rattle.mmtext.specs.Laws.{IsRead};
@@ -8,13 +8,14 @@ ghost use Rattle.mmsyntax.specs.Tables.{Tables};
 ghost use Rattle.library.specs.declared.command.Command.{Command};
 ghost use Rattle.library.specs.Fitting.{CommandFits};
 ghost use Rattle.scripts.specs.Scripts.{SpellsScript};
-ghost use Rattle.scripts.specs.ScriptFaults.{led, command_row, in_place, whole, script_language};
-ghost use Rattle.scripts.specs.ScriptViews.{seen_led, seen_place, seen_at};
+ghost use Rattle.scripts.specs.ScriptFaults.{Led as SeenLed, led, command_row, in_place, whole, script_language};
+ghost use Rattle.scripts.specs.ScriptViews.{decided, seen_led, seen_place, seen_at};
 
 mod command_rows;
 mod numerals;
 mod place;
 
+use command_rows::is_word;
 pub use command_rows::{
     read_command_word, read_in_command, read_label, read_rank, take_in_command,
 };
@@ -28,17 +29,19 @@ use statementreader::Recent;
 use std::alloc::Global;
 use std::mem;
 
-/// A place in a command, or one more command behind the others.
-fn go_on<'a>(mut commands: Vec<Command>, next: Led<'a>) -> Result<Place<'a>, Stop>
-    ensures { (t : Tables) (script : List (List Command)) (token : SeenToken) → Gives (seen_at t script) result
-        (led script commands.items token (seen_led t next.entry)) }
+/// A place in a command, or one more command behind the others, unless the token that was read there has a fault.
+fn go_on<'a>(mut commands: Vec<Command>, next: Result<Led<'a>, Stop>) -> Result<Place<'a>, Stop>
+    ensures { (t : Tables) (script : List (List Command)) (token : SeenToken) (leads : SeenLed)
+        → Gives (seen_led t) next.entry (decided token leads)
+        → Gives (seen_at t script) result (led script commands.items token leads) }
 {
     match next {
-        Led::Inside(place) => Ok(Place::Within(commands, place)),
-        Led::Whole(command) => {
+        Ok(Led::Inside(place)) => Ok(Place::Within(commands, place)),
+        Ok(Led::Whole(command)) => {
             commands.push(command)?;
             Ok(Place::AtCommand(commands))
         }
+        Err(stop) => Err(stop),
     }
 }
 
@@ -51,12 +54,11 @@ fn read_at_command<'a>(
     ensures { (t : Tables) → Gives (seen_at t script.new.items) result
         (command_row script.old.items commands.items (seen token.entry)) }
 {
-    if token.text == b"commit".as_slice() {
+    if is_word(token, b"commit") {
         script.push(Sequence::from_vec(commands))?;
         return Ok(Place::Outermost);
     }
-    let next = read_command_word(token)?;
-    go_on(commands, next)
+    go_on(commands, read_command_word(token))
 }
 
 /// Where a token leads that stands in no comment and opens none. A transaction that it ends is put behind the others.
@@ -71,14 +73,11 @@ fn next_place<'a>(
         (in_place prelude.now script.old.items (seen_place prelude.now place.entry) (seen token.entry)) }
 {
     match place {
-        Place::Outermost if token.text == b"begin".as_slice() => {
-            Ok(Place::AtCommand(Vec::new(alloc)))
-        }
+        Place::Outermost if is_word(token, b"begin") => { Ok(Place::AtCommand(Vec::new(alloc))) }
         Place::Outermost => Err(fault_at(token, FaultKind::BadToken)),
         Place::AtCommand(commands) => read_at_command(script, commands, token),
         Place::Within(commands, place) => {
-            let next = read_in_command(alloc, prelude, place, token)?;
-            go_on(commands, next)
+            go_on(commands, read_in_command(alloc, prelude, place, token))
         }
     }
 }
@@ -100,18 +99,14 @@ fn advance<'a>(
     Ok(())
 }
 
-/// Whether a script may end at a place: no transaction is open.
-fn may_end(place: &Place<'_>) -> bool
-    ensures { (t : Tables) (script : List (List Command)) → whole script (seen_place t place.now) ≡ (if result then Some script else None) }
+/// The script of the transactions that were committed, where it may end at a place: no transaction is open.
+fn ended_at(script: Vec<Transaction>, place: &Place<'_>) -> Option<Script>
+    ensures { (t : Tables) → result ≡ whole script.items (seen_place t place.now) }
 {
-    matches!(place, Place::Outermost)
-}
-
-/// The transactions that were read.
-fn into_script(reader: ScriptReader<'_>) -> Vec<Transaction>
-    ensures { result ≡ reader.entry.script }
-{
-    reader.script
+    match place {
+        Place::Outermost => Some(Sequence::from_vec(script)),
+        _ => None,
+    }
 }
 
 impl<'a> Reader<'a> for ScriptReader<'a> {
@@ -159,13 +154,16 @@ impl<'a> Reader<'a> for ScriptReader<'a> {
     }
 
     fn finish(self) -> Option<Script> {
-        let is_whole = may_end(&self.place);
-        let script = into_script(self);
-        if is_whole {
-            Some(Sequence::from_vec(script))
-        } else {
-            None
-        }
+        let ScriptReader {
+            prelude: _,
+            recent,
+            script,
+            place,
+        } = self;
+        drop(recent);
+        let ended = ended_at(script, &place);
+        drop(place);
+        ended
     }
 }
 

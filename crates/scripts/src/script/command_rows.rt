@@ -1,7 +1,8 @@
 //! Reading a command: one function for each kind of word in it.
 
-ghost use Rattle.std.specs.Prelude.{◌≡◌, length, IfOk};
-ghost use Rattle.mmtext.specs.Text.{mark_of};
+ghost use Rattle.std.specs.Prelude.{◌≡◌, Ok, length, IfOk};
+ghost use Rattle.std.specs.Str.{bytes_eq};
+ghost use Rattle.mmtext.specs.Text.{mark_of, Token as SeenToken};
 ghost use Rattle.mmtext.specs.Views.{seen, Gives};
 ghost use Rattle.mmsyntax.specs.Tables.{Tables};
 ghost use Rattle.mmsyntax.specs.Faults.{row};
@@ -10,8 +11,8 @@ ghost use Rattle.statementreader.specs.Takings.{IsSmallNamed, TakesItem, step_or
 ghost use Rattle.statementreader.specs.Recalls.{Knows};
 ghost use Rattle.scripts.specs.Scripts.{other_step_of};
 ghost use Rattle.scripts.specs.ScriptFaults.{command_word, in_command, proof_start, step_row, unit_row};
-ghost use Rattle.scripts.specs.ScriptFaults.{at_rank, at_old_citation, at_new_citation, at_new_label, at_new_rank};
-ghost use Rattle.scripts.specs.ScriptViews.{label_at, rank_at, decided, seen_command_place, seen_led, TakesInCommand};
+ghost use Rattle.scripts.specs.ScriptFaults.{at_rank, at_new_rank};
+ghost use Rattle.scripts.specs.ScriptViews.{label_at, rank_at, decided, seen_command_place, seen_led, AsksLabel, TakesInCommand};
 
 use super::numerals::{hypothesis_place, is_numeral};
 use super::place::{CommandPlace, Led};
@@ -193,6 +194,13 @@ pub fn take_in_command<'a>(
     }
 }
 
+/// Whether a token is a word.
+pub(super) fn is_word(token: Token<'_>, word: &[u8]) -> bool
+    ensures { result ≡ bytes_eq token.entry.text.now word.now }
+{
+    token.text == word
+}
+
 /// Where the word of a command leads.
 ///
 /// # Errors
@@ -201,22 +209,21 @@ pub fn take_in_command<'a>(
 pub fn read_command_word<'a>(token: Token<'a>) -> Result<Led<'a>, Stop>
     ensures { (t : Tables) → Gives (seen_led t) result (decided (seen token.entry) (command_word token.entry.text.now)) }
 {
-    let word = token.text;
-    let place = if word == b"add".as_slice() {
+    let place = if is_word(token, b"add") {
         CommandPlace::AtRank
-    } else if word == b"reprove".as_slice() {
+    } else if is_word(token, b"reprove") {
         CommandPlace::AtReproved
-    } else if word == b"replace".as_slice() {
+    } else if is_word(token, b"replace") {
         CommandPlace::AtRecited
-    } else if word == b"rename".as_slice() {
+    } else if is_word(token, b"rename") {
         CommandPlace::AtOldLabel
-    } else if word == b"move".as_slice() {
+    } else if is_word(token, b"move") {
         CommandPlace::AtMoved
-    } else if word == b"delete".as_slice() {
+    } else if is_word(token, b"delete") {
         CommandPlace::AtDeleted
-    } else if word == b"show".as_slice() {
+    } else if is_word(token, b"show") {
         CommandPlace::AtShown
-    } else if word == b"list".as_slice() {
+    } else if is_word(token, b"list") {
         return Ok(Led::Whole(Command::List));
     } else {
         return Err(fault_at(token, FaultKind::BadToken));
@@ -234,36 +241,51 @@ fn read_added_rank<'a>(alloc: Global, prelude: &Prelude, token: Token<'a>) -> Re
     Ok(Led::Inside(CommandPlace::InUnit(rank, reader)))
 }
 
-/// Behind `replace` and a label: the label whose citations are replaced.
-fn read_old_citation<'a>(alloc: Global, label: Label, token: Token<'a>) -> Result<Led<'a>, Stop>
-    ensures { (t : Tables) → Gives (seen_led t) result
-        (decided (seen token.entry) (in_command t (at_old_citation label) (seen token.entry))) }
+/// Where a label leads at a place that asks for one.
+fn behind_label<'a>(place: CommandPlace<'a>, label: Label) -> Led<'a>
+    requires { AsksLabel place }
+    ensures { (t : Tables) (behind : SeenToken) → label_at behind ≡ Ok label → seen_led t result ≡ in_command t (seen_command_place t place.entry) behind }
 {
-    let old = read_label(alloc, token)?;
-    Ok(Led::Inside(CommandPlace::AtNewCitation { label, old }))
+    match place {
+        CommandPlace::AtReproved => Led::Inside(CommandPlace::AtProof(label)),
+        CommandPlace::AtRecited => Led::Inside(CommandPlace::AtOldCitation(label)),
+        CommandPlace::AtOldCitation(citer) => {
+            Led::Inside(CommandPlace::AtNewCitation {
+                label: citer,
+                old: label,
+            })
+        }
+        CommandPlace::AtNewCitation { label: citer, old } => Led::Whole(Command::Replace {
+            label: citer,
+            old,
+            new: label,
+        }),
+        CommandPlace::AtOldLabel => Led::Inside(CommandPlace::AtNewLabel(label)),
+        CommandPlace::AtNewLabel(old) => Led::Whole(Command::Rename { old, new: label }),
+        CommandPlace::AtMoved => Led::Inside(CommandPlace::AtNewRank(label)),
+        CommandPlace::AtDeleted => Led::Whole(Command::Delete { label }),
+        CommandPlace::AtShown => Led::Whole(Command::Show { label }),
+        _ => unreachable!(),
+    }
 }
 
-/// Behind `replace` and two labels: the label that is cited instead.
-fn read_new_citation<'a>(
+/// At a place that asks for a label.
+fn read_at_label<'a>(
     alloc: Global,
-    label: Label,
-    old: Label,
+    place: CommandPlace<'a>,
     token: Token<'a>,
 ) -> Result<Led<'a>, Stop>
+    requires { AsksLabel place }
     ensures { (t : Tables) → Gives (seen_led t) result
-        (decided (seen token.entry) (in_command t (at_new_citation label old) (seen token.entry))) }
+        (decided (seen token.entry) (in_command t (seen_command_place t place.entry) (seen token.entry))) }
 {
-    let new = read_label(alloc, token)?;
-    Ok(Led::Whole(Command::Replace { label, old, new }))
-}
-
-/// Behind `rename` and the old label: the new one.
-fn read_new_label<'a>(alloc: Global, old: Label, token: Token<'a>) -> Result<Led<'a>, Stop>
-    ensures { (t : Tables) → Gives (seen_led t) result
-        (decided (seen token.entry) (in_command t (at_new_label old) (seen token.entry))) }
-{
-    let new = read_label(alloc, token)?;
-    Ok(Led::Whole(Command::Rename { old, new }))
+    match read_label(alloc, token) {
+        Ok(label) => Ok(behind_label(place, label)),
+        Err(stop) => {
+            drop(place);
+            Err(stop)
+        }
+    }
 }
 
 /// Behind `move` and a label: the new rank.
@@ -289,33 +311,12 @@ pub fn read_in_command<'a>(
     ensures { Gives (seen_led prelude.now) result
         (decided (seen token.entry) (in_command prelude.now (seen_command_place prelude.now place.entry) (seen token.entry))) }
 {
-    let next = match place {
-        CommandPlace::AtRank => return read_added_rank(alloc, prelude, token),
-        CommandPlace::InUnit(rank, reader) => {
-            return read_in_unit(alloc, prelude, rank, reader, token);
-        }
-        CommandPlace::AtReproved => CommandPlace::AtProof(read_label(alloc, token)?),
-        CommandPlace::AtProof(label) => return read_proof_start(alloc, label, token),
-        CommandPlace::InProof(label, steps) => {
-            return read_step(alloc, prelude, label, steps, token);
-        }
-        CommandPlace::AtRecited => CommandPlace::AtOldCitation(read_label(alloc, token)?),
-        CommandPlace::AtOldCitation(label) => return read_old_citation(alloc, label, token),
-        CommandPlace::AtNewCitation { label, old } => {
-            return read_new_citation(alloc, label, old, token);
-        }
-        CommandPlace::AtOldLabel => CommandPlace::AtNewLabel(read_label(alloc, token)?),
-        CommandPlace::AtNewLabel(old) => return read_new_label(alloc, old, token),
-        CommandPlace::AtMoved => CommandPlace::AtNewRank(read_label(alloc, token)?),
-        CommandPlace::AtNewRank(label) => return read_new_rank(label, token),
-        CommandPlace::AtDeleted => {
-            let label = read_label(alloc, token)?;
-            return Ok(Led::Whole(Command::Delete { label }));
-        }
-        CommandPlace::AtShown => {
-            let label = read_label(alloc, token)?;
-            return Ok(Led::Whole(Command::Show { label }));
-        }
-    };
-    Ok(Led::Inside(next))
+    match place {
+        CommandPlace::AtRank => read_added_rank(alloc, prelude, token),
+        CommandPlace::InUnit(rank, reader) => read_in_unit(alloc, prelude, rank, reader, token),
+        CommandPlace::AtProof(label) => read_proof_start(alloc, label, token),
+        CommandPlace::InProof(label, steps) => read_step(alloc, prelude, label, steps, token),
+        CommandPlace::AtNewRank(label) => read_new_rank(label, token),
+        _ => read_at_label(alloc, place, token),
+    }
 }
