@@ -1,4 +1,4 @@
--- What is left to show of `name_all`.
+-- What is left to show of `named_by`.
 use Rattle.std.proofs.Common.{◌≡◌, ◌∙◌, List, [], ℕ, Bool, true, false, length, refl, sym, ap}
 use Rattle.std.specs.Prelude.{◌&&◌}
 use mathlib.Core.Bool.{not}
@@ -12,7 +12,7 @@ use Rattle.taking.specs.Names.{is_fresh}
 use Rattle.naming.specs.Changes.{has, has_given}
 use Rattle.naming.proofs.Flags.{free_parts, given_named, given_variables, length-variables_changing}
 use Rattle.naming.proofs.Apart.{changing, given_apart}
-use Rattle.naming.proofs.names.name_all.Goals as goal
+use Rattle.naming.proofs.names.named_by.Goals as goal
 
 no_trunk : (t d : Bool) → t ≡ false → (d ≡ true → t ≡ true) → d ≡ false
 no_trunk t false none there = refl
@@ -26,14 +26,13 @@ named-requires-2 g c =
 
 pub returns-clause-names : goal.returns-clause-names
 returns-clause-names g c =
-    let s : Scope = g.D.Declared.scope c.args.declared.now in
-    let f = c.in_ok-names.names in
+    let f = c.args.names.now in
+    let s : Scope = g.D.Declared.scope f.declared.now in
     let free : Word → Bool =
     λ w. is_fresh (g.D.Declared.scope f.declared.now) w && (not (has f.trunks w) && (not (has_given f.given w) && not (has_dot w))) in
     let fresh : (w : Word) → free w ≡ true → is_fresh s w ≡ true =
     λ w h.
-    ap (λ d. is_fresh (g.D.Declared.scope d) w) (sym c.in_ok-names.ensures.declared)
-    ∙ (free_parts (is_fresh (g.D.Declared.scope f.declared.now) w) (has f.trunks w) (has_given f.given w) (has_dot w) h).0 in
+    (free_parts (is_fresh (g.D.Declared.scope f.declared.now) w) (has f.trunks w) (has_given f.given w) (has_dot w) h).0 in
     let ls = seen_words c.args.labels.now in
     record {
       as_many_constants = c.in_ok-constants.ensures.given.as_many;
@@ -53,7 +52,7 @@ returns-clause-names g c =
 
 pub returns-clause-apart : goal.returns-clause-apart
 returns-clause-apart g c =
-    let f = c.in_ok-names.names in
+    let f = c.args.names.now in
     let free : Word → Bool =
     λ w. is_fresh (g.D.Declared.scope f.declared.now) w && (not (has f.trunks w) && (not (has_given f.given w) && not (has_dot w))) in
     let parts : (w : Word) → free w ≡ true
@@ -64,4 +63,4 @@ returns-clause-apart g c =
     (λ l w h in'.
     no_trunk (has f.trunks l) (is_dotted l w)
     (parts l (c.in_ok-constants.ensures.left l (c.in_ok-variables.ensures.left l (c.in_ok-floats.ensures.left l h)))).1
-    (c.in_ok-names.ensures.trunks l w in'))
+    (c.requires l w in'))
