@@ -1,5 +1,6 @@
 -- What is left to show of `named_by`.
-use Rattle.std.proofs.Common.{◌≡◌, ◌∙◌, List, [], ℕ, Bool, true, false, length, refl, sym, ap}
+use Rattle.std.proofs.Common.{◌≡◌, ◌∙◌, List, [], ℕ, Bool, true, false, length, inl, inr, refl, ap, subst}
+use Rattle.std.proofs.lemmas.Result.{err_from_is_err_and}
 use Rattle.std.specs.Prelude.{◌&&◌}
 use mathlib.Core.Bool.{not}
 use Rattle.std.specs.Borrow.{Bor}
@@ -9,7 +10,7 @@ use Rattle.mmsyntax.specs.Dotted.{is_dotted}
 use Rattle.source.specs.Scopes.{Scope}
 use Rattle.source.specs.Views.{seen_words}
 use Rattle.taking.specs.Names.{is_fresh}
-use Rattle.naming.specs.Changes.{has, has_given}
+use Rattle.naming.specs.Changes.{has, has_given, IsUnnamedBy}
 use Rattle.naming.proofs.Flags.{free_parts, given_named, given_variables, length-variables_changing}
 use Rattle.naming.proofs.Apart.{changing, given_apart}
 use Rattle.naming.proofs.names.named_by.Goals as goal
@@ -64,3 +65,55 @@ returns-clause-apart g c =
     no_trunk (has f.trunks l) (is_dotted l w)
     (parts l (c.in_ok-constants.ensures.left l (c.in_ok-variables.ensures.left l (c.in_ok-floats.ensures.left l h)))).1
     (c.requires l w in'))
+
+pub returns-in_err-changes-clause-refused : goal.returns-in_err-changes-clause-refused
+returns-in_err-changes-clause-refused g c =
+    let p = err_from_is_err_and c.from_residual.result c.from_residual.ensures.1 in
+    rw (p.1, p.2) (inl tt)
+
+pub returns-in_err-constants-clause-refused : goal.returns-in_err-constants-clause-refused
+returns-in_err-constants-clause-refused g c =
+    let p = err_from_is_err_and c.from_residual-in_err-constants.result c.from_residual-in_err-constants.ensures.1 in
+    let is =
+    subst (λ (flags : List Bool). IsUnnamedBy flags (seen_words c.args.constants.now) c.in_err-constants.field-0.0) c.in_ok-changes.ensures
+    c.in_err-constants.ensures.refused in
+    rw (p.1, p.2) (inl is)
+
+pub returns-in_err-changes-2-clause-refused : goal.returns-in_err-changes-2-clause-refused
+returns-in_err-changes-2-clause-refused g c =
+    let p = err_from_is_err_and c.from_residual-in_err-changes-2.result c.from_residual-in_err-changes-2.ensures.1 in
+    rw (p.1, p.2) (inl tt)
+
+pub returns-in_err-variables-clause-refused : goal.returns-in_err-variables-clause-refused
+returns-in_err-variables-clause-refused g c =
+    let p = err_from_is_err_and c.from_residual-in_err-variables.result c.from_residual-in_err-variables.ensures.1 in
+    let is =
+    subst (λ (flags : List Bool). IsUnnamedBy flags (seen_words c.args.variables.now) c.in_err-variables.field-0.0) c.in_ok-changes-2.ensures
+    c.in_err-variables.ensures.refused in
+    rw (p.1, p.2) (inr (inl is))
+
+pub returns-in_err-changes-3-clause-refused : goal.returns-in_err-changes-3-clause-refused
+returns-in_err-changes-3-clause-refused g c =
+    let p = err_from_is_err_and c.from_residual-in_err-changes-3.result c.from_residual-in_err-changes-3.ensures.1 in
+    rw (p.1, p.2) (inl tt)
+
+pub returns-in_err-floats-clause-refused : goal.returns-in_err-floats-clause-refused
+returns-in_err-floats-clause-refused g c =
+    let p = err_from_is_err_and c.from_residual-in_err-floats.result c.from_residual-in_err-floats.ensures.1 in
+    let is =
+    subst (λ (flags : List Bool). IsUnnamedBy flags (seen_words c.args.floats.now) c.in_err-floats.field-0.0) c.in_ok-changes-3.ensures
+    c.in_err-floats.ensures.refused in
+    rw (p.1, p.2) (inr (inr (inl is)))
+
+pub returns-in_err-changes-4-clause-refused : goal.returns-in_err-changes-4-clause-refused
+returns-in_err-changes-4-clause-refused g c =
+    let p = err_from_is_err_and c.from_residual-in_err-changes-4.result c.from_residual-in_err-changes-4.ensures.1 in
+    rw (p.1, p.2) (inl tt)
+
+pub returns-in_err-labels-clause-refused : goal.returns-in_err-labels-clause-refused
+returns-in_err-labels-clause-refused g c =
+    let p = err_from_is_err_and c.from_residual-in_err-labels.result c.from_residual-in_err-labels.ensures.1 in
+    let is =
+    subst (λ (flags : List Bool). IsUnnamedBy flags (seen_words c.args.labels.now) c.in_err-labels.field-0.0) c.in_ok-changes-4.ensures
+    c.in_err-labels.ensures.refused in
+    rw (p.1, p.2) (inr (inr (inr is)))
