@@ -19,12 +19,23 @@ use taking::FreeNames;
 
 /// The names that may be given: no symbol or label of a source has them, none was given yet, none is L of a label L.k that is taken, and
 /// none has a dot.
-#[derive(Drop)]
 pub(crate) struct Free<'d, 'a, D: Declared<'a>> {
     alloc: Global,
     declared: &'d D,
     trunks: HashSet<&'a [u8], RandomState>,
     given: HashSet<Vec<u8>, RandomState>,
+}
+
+// Proved here once: a derived drop is proved again at each exit that drops such a value.
+impl<'d, 'a, D: Declared<'a>> Drop for Free<'d, 'a, D> {
+    fn drop(self) {
+        let Free {
+            alloc: _,
+            declared: _,
+            trunks: _,
+            given: _,
+        } = self;
+    }
 }
 
 impl<'d, 'a, D: Declared<'a>> FreeNames for Free<'d, 'a, D> {

@@ -5,7 +5,7 @@ ghost use Rattle.mmtext.specs.Words.{Word};
 ghost use Rattle.mmsyntax.specs.Dotted.{AreApart};
 ghost use Rattle.source.specs.Views.{seen_words};
 ghost use Rattle.taking.specs.Fresh.{AreGiven, IsRefused};
-ghost use Rattle.naming.specs.Changes.{IsAmongChanging, IsUnnamedBy};
+ghost use Rattle.naming.specs.Changes.{HasTrunks, IsAmongChanging, IsUnnamedBy};
 ghost use Rattle.naming.specs.Namings.{AreNamedWell, IsUnnamed};
 
 use crate::changes::{constants_changing, floats_changing, labels_changing, variables_changing};
@@ -103,14 +103,37 @@ pub fn name_all<'a, D: Declared<'a>>(
         (seen_words labels.now)) }
 {
     let mut names = Free::new(alloc, keys, declared, labels)?;
+    named_by(
+        alloc, keys, &mut names, constants, variables, floats, labels,
+    )
+}
+
+/// The same by free names, of which none was given yet, and the L of each label L.k among the labels is taken. They are borrowed: so no way out
+/// drops them. After an error nothing is said of them.
+fn named_by<'a, D: Declared<'a>>(
+    alloc: Global,
+    keys: RandomState,
+    names: &mut Free<'_, 'a, D>,
+    constants: &[&'a [u8]],
+    variables: &[&'a [u8]],
+    floats: &[&'a [u8]],
+    labels: &[&'a [u8]],
+) -> Result<LibraryNames, Unnamed<'a>>
+    requires { HasTrunks names.old.trunks (seen_words labels.now) }
+    ensures names { IfOk result (AreNamedWell (D.scope names.old.declared.now) (seen_words constants.now) (seen_words variables.now)
+        (seen_words floats.now) (seen_words labels.now)) }
+    ensures apart { IfOk result (λ names. AreApart names.labels) }
+    ensures refused { IfErr result (IsUnnamed (seen_words constants.now) (seen_words variables.now) (seen_words floats.now)
+        (seen_words labels.now)) }
+{
     let changes = constants_changing(alloc, constants)?;
-    let constants = named(alloc, &mut names, changes, constants)?;
+    let constants = named(alloc, names, changes, constants)?;
     let changes = variables_changing(alloc, keys, variables)?;
-    let variables = named(alloc, &mut names, changes, variables)?;
+    let variables = named(alloc, names, changes, variables)?;
     let changes = floats_changing(alloc, floats)?;
-    let floats = named(alloc, &mut names, changes, floats)?;
+    let floats = named(alloc, names, changes, floats)?;
     let changes = labels_changing(alloc, keys, labels)?;
-    let labels = named(alloc, &mut names, changes, labels)?;
+    let labels = named(alloc, names, changes, labels)?;
     Ok(LibraryNames {
         constants,
         variables,

@@ -1,6 +1,6 @@
 //! Blocks that are opened and closed.
 
-ghost use Rattle.std.specs.Prelude.{◌≡◌, IfOk, Some, None, true, false, if◌then◌else◌};
+ghost use Rattle.std.specs.Prelude.{◌≡◌, OnOk, Some, None, true, false, if◌then◌else◌};
 ghost use Rattle.source.specs.Scopes.{opened, closed};
 ghost use Rattle.scopes.specs.Views.{kept_of, stand_of};
 ghost use Rattle.scopes.specs.Sound.{IsSoundTables};
@@ -9,12 +9,11 @@ use crate::tables::{Block, Tables};
 use std::alloc::AllocError;
 
 /// A block is opened.
-pub(crate) fn with_block<'a>(tables: Tables<'a>) -> Result<Tables<'a>, AllocError>
-    requires { IsSoundTables tables }
-    ensures sound { IfOk result (λ made. IsSoundTables made) }
-    ensures stand { IfOk result (λ made. stand_of (kept_of made) ≡ opened (stand_of (kept_of tables.entry))) }
+pub(crate) fn open_block(tables: &mut Tables<'_>) -> Result<(), AllocError>
+    requires { IsSoundTables tables.old }
+    ensures sound { OnOk result (IsSoundTables tables.new) }
+    ensures stand { OnOk result (stand_of (kept_of tables.new) ≡ opened (stand_of (kept_of tables.old))) }
 {
-    let mut tables = tables;
     let block = Block {
         constants: tables.constants.len(),
         variables: tables.variables.len(),
@@ -25,7 +24,7 @@ pub(crate) fn with_block<'a>(tables: Tables<'a>) -> Result<Tables<'a>, AllocErro
         assertions: tables.assertions.len(),
     };
     tables.blocks.push(block)?;
-    Ok(tables)
+    Ok(())
 }
 
 /// The block that is open is closed: whether there is one. What was active in it alone is taken off.

@@ -1,6 +1,6 @@
 //! What is put into the tables.
 
-ghost use Rattle.std.specs.Prelude.{◌≡◌, ◌++◌, ◌∷◌, [], length, cond, ℕ, Option, None, Some, IfOk, true};
+ghost use Rattle.std.specs.Prelude.{◌≡◌, ◌++◌, ◌∷◌, [], length, cond, ℕ, Option, None, Some, OnOk, true};
 ghost use Rattle.std.specs.Option.{option_map};
 ghost use Rattle.std.specs.Str.{bytes_eq};
 ghost use Rattle.mmtext.specs.Words.{Word};
@@ -18,20 +18,19 @@ use source::{HypothesisWords, ProofWords};
 use std::alloc::AllocError;
 
 /// One more constant.
-pub(crate) fn with_constant<'a>(
-    tables: Tables<'a>,
+pub(crate) fn add_constant<'a>(
+    tables: &mut Tables<'a>,
     word: &'a [u8],
-) -> Result<Tables<'a>, AllocError>
-    requires sound { IsSoundTables tables }
-    requires lawful { is_lawful (scope_of (kept_of tables)) (a_constant word.now) ≡ true }
-    ensures sound { IfOk result (λ made. IsSoundTables made) }
-    ensures stand { IfOk result (λ made. stand_of (kept_of made) ≡ declared (stand_of (kept_of tables.entry)) (a_constant word.entry.now)) }
+) -> Result<(), AllocError>
+    requires sound { IsSoundTables tables.old }
+    requires lawful { is_lawful (scope_of (kept_of tables.old)) (a_constant word.now) ≡ true }
+    ensures sound { OnOk result (IsSoundTables tables.new) }
+    ensures stand { OnOk result (stand_of (kept_of tables.new) ≡ declared (stand_of (kept_of tables.old)) (a_constant word.entry.now)) }
 {
-    let mut tables = tables;
     tables.names.insert(word, Name::Constant)?;
     tables.constants.push(word)?;
     tables.symbols.push(word)?;
-    Ok(tables)
+    Ok(())
 }
 
 /// The place of the `$f` that was noted last for a variable.
@@ -45,21 +44,20 @@ fn noted_float(tables: &Tables<'_>, word: &[u8]) -> Option<usize>
 }
 
 /// One more variable.
-pub(crate) fn with_variable<'a>(
-    tables: Tables<'a>,
+pub(crate) fn add_variable<'a>(
+    tables: &mut Tables<'a>,
     word: &'a [u8],
-) -> Result<Tables<'a>, AllocError>
-    requires sound { IsSoundTables tables }
-    requires lawful { is_lawful (scope_of (kept_of tables)) (a_variable word.now) ≡ true }
-    ensures sound { IfOk result (λ made. IsSoundTables made) }
-    ensures stand { IfOk result (λ made. stand_of (kept_of made) ≡ declared (stand_of (kept_of tables.entry)) (a_variable word.entry.now)) }
+) -> Result<(), AllocError>
+    requires sound { IsSoundTables tables.old }
+    requires lawful { is_lawful (scope_of (kept_of tables.old)) (a_variable word.now) ≡ true }
+    ensures sound { OnOk result (IsSoundTables tables.new) }
+    ensures stand { OnOk result (stand_of (kept_of tables.new) ≡ declared (stand_of (kept_of tables.old)) (a_variable word.entry.now)) }
 {
-    let mut tables = tables;
-    let name = Name::Variable(tables.variables.len(), noted_float(&tables, word));
+    let name = Name::Variable(tables.variables.len(), noted_float(tables, word));
     tables.names.insert(word, name)?;
     tables.variables.push(word)?;
     tables.symbols.push(word)?;
-    Ok(tables)
+    Ok(())
 }
 
 /// The number of the last active hypothesis.
@@ -73,45 +71,45 @@ fn last_active(active: &[Active]) -> Option<usize>
 }
 
 /// One more hypothesis, and its label. The place of a `$f` is not noted yet for its variable.
-fn with_hypothesis<'a>(
-    tables: Tables<'a>,
+fn add_hypothesis<'a>(
+    tables: &mut Tables<'a>,
     label: &'a [u8],
     hypothesis: HypothesisWords<'a>,
-) -> Result<Tables<'a>, AllocError>
+) -> Result<(), AllocError>
     requires { label_of (seen_hypothesis hypothesis) ≡ label.now }
-    ensures kept { IfOk result (λ made. kept_of made ≡ with_link (kept_of tables.entry) (seen_hypothesis hypothesis.entry)) }
-    ensures names { IfOk result (λ made. (w : Word) → looks_up made.names w
-        ≡ cond (bytes_eq label.entry.now w) (Some (name.Hypothesis (length tables.entry.active.items))) (looks_up tables.entry.names w)) }
+    ensures kept { OnOk result (kept_of tables.new ≡ with_link (kept_of tables.old) (seen_hypothesis hypothesis.entry)) }
+    ensures names { OnOk result ((w : Word) → looks_up tables.new.names w
+        ≡ cond (bytes_eq label.entry.now w) (Some (name.Hypothesis (length tables.old.active.items))) (looks_up tables.old.names w)) }
 {
-    let mut tables = tables;
     let before = last_active(tables.active.as_slice());
     let link = tables.links.len();
     let place = tables.active.len();
+    // What is owned goes first, so that no later way out drops it.
+    tables.links.push(Link { before, hypothesis })?;
     tables.names.insert(label, Name::Hypothesis(place))?;
     tables.labels.push(label)?;
-    tables.links.push(Link { before, hypothesis })?;
     tables.active.push(Active {
         link,
         is_mandatory: false,
     })?;
-    Ok(tables)
+    Ok(())
 }
 
 /// One more `$e`.
-pub(crate) fn with_premise<'a>(
-    tables: Tables<'a>,
+pub(crate) fn add_premise<'a>(
+    tables: &mut Tables<'a>,
     label: &'a [u8],
     expression: Vec<&'a [u8]>,
-) -> Result<Tables<'a>, AllocError>
-    requires sound { IsSoundTables tables }
-    requires lawful { is_lawful (scope_of (kept_of tables)) (hypothesis label.now (seen_words expression.items)) ≡ true }
-    ensures sound { IfOk result (λ made. IsSoundTables made) }
-    ensures stand { IfOk result (λ made. stand_of (kept_of made)
-        ≡ declared (stand_of (kept_of tables.entry)) (hypothesis label.entry.now (seen_words expression.entry.items))) }
+) -> Result<(), AllocError>
+    requires sound { IsSoundTables tables.old }
+    requires lawful { is_lawful (scope_of (kept_of tables.old)) (hypothesis label.now (seen_words expression.items)) ≡ true }
+    ensures sound { OnOk result (IsSoundTables tables.new) }
+    ensures stand { OnOk result (stand_of (kept_of tables.new)
+        ≡ declared (stand_of (kept_of tables.old)) (hypothesis label.entry.now (seen_words expression.entry.items))) }
 {
     let words = HypothesisWords::Premise(label, expression);
-    let made = with_hypothesis(tables, label, words)?;
-    Ok(made)
+    add_hypothesis(tables, label, words)?;
+    Ok(())
 }
 
 /// The place that was noted for a variable.
@@ -125,67 +123,64 @@ fn noted_place(tables: &Tables<'_>, word: &[u8]) -> usize
 }
 
 /// One more `$f`.
-pub(crate) fn with_float<'a>(
-    tables: Tables<'a>,
+pub(crate) fn add_float<'a>(
+    tables: &mut Tables<'a>,
     label: &'a [u8],
     type_code: &'a [u8],
     variable: &'a [u8],
-) -> Result<Tables<'a>, AllocError>
-    requires sound { IsSoundTables tables }
-    requires lawful { is_lawful (scope_of (kept_of tables)) (float label.now type_code.now variable.now) ≡ true }
-    ensures sound { IfOk result (λ made. IsSoundTables made) }
-    ensures stand { IfOk result (λ made. stand_of (kept_of made)
-        ≡ declared (stand_of (kept_of tables.entry)) (float label.entry.now type_code.entry.now variable.entry.now)) }
+) -> Result<(), AllocError>
+    requires sound { IsSoundTables tables.old }
+    requires lawful { is_lawful (scope_of (kept_of tables.old)) (float label.now type_code.now variable.now) ≡ true }
+    ensures sound { OnOk result (IsSoundTables tables.new) }
+    ensures stand { OnOk result (stand_of (kept_of tables.new)
+        ≡ declared (stand_of (kept_of tables.old)) (float label.entry.now type_code.entry.now variable.entry.now)) }
 {
     let place = tables.active.len();
-    let name = Name::Variable(noted_place(&tables, variable), Some(place));
+    let name = Name::Variable(noted_place(tables, variable), Some(place));
     let words = HypothesisWords::Typing(label, type_code, variable);
-    let mut made = with_hypothesis(tables, label, words)?;
-    made.names.insert(variable, name)?;
-    Ok(made)
+    add_hypothesis(tables, label, words)?;
+    tables.names.insert(variable, name)?;
+    Ok(())
 }
 
 /// One more `$d`.
-pub(crate) fn with_distinct<'a>(
-    tables: Tables<'a>,
+pub(crate) fn add_distinct<'a>(
+    tables: &mut Tables<'a>,
     variables: Vec<&'a [u8]>,
-) -> Result<Tables<'a>, AllocError>
-    requires { IsSoundTables tables }
-    ensures sound { IfOk result (λ made. IsSoundTables made) }
-    ensures stand { IfOk result (λ made. stand_of (kept_of made)
-        ≡ declared (stand_of (kept_of tables.entry)) (distinct (seen_words variables.entry.items))) }
+) -> Result<(), AllocError>
+    requires { IsSoundTables tables.old }
+    ensures sound { OnOk result (IsSoundTables tables.new) }
+    ensures stand { OnOk result (stand_of (kept_of tables.new)
+        ≡ declared (stand_of (kept_of tables.old)) (distinct (seen_words variables.entry.items))) }
 {
-    let mut tables = tables;
     let last = tables.aparts.len();
     let before = tables.last_apart;
     tables.aparts.push(Apart { before, variables })?;
     tables.last_apart = Some(last);
-    Ok(tables)
+    Ok(())
 }
 
 /// One more assertion, with the count of its mandatory hypotheses.
-pub(crate) fn with_asserted<'a>(
-    tables: Tables<'a>,
+pub(crate) fn add_asserted<'a>(
+    tables: &mut Tables<'a>,
     label: &'a [u8],
     statement: Vec<&'a [u8]>,
     proof: Option<ProofWords<'a>>,
     arity: usize,
-) -> Result<Tables<'a>, AllocError>
-    requires sound { IsSoundTables tables }
-    requires lawful { is_lawful (scope_of (kept_of tables)) (asserted label.now (seen_words statement.items)) ≡ true }
-    requires counted { arity ≡ length (mandatory (scope_of (kept_of tables)).hypotheses (seen_words statement.items)) }
-    ensures sound { IfOk result (λ made. IsSoundTables made) }
-    ensures stand { IfOk result (λ made. stand_of (kept_of made) ≡ record (stand_of (kept_of tables.entry)) {
+) -> Result<(), AllocError>
+    requires sound { IsSoundTables tables.old }
+    requires lawful { is_lawful (scope_of (kept_of tables.old)) (asserted label.now (seen_words statement.items)) ≡ true }
+    requires counted { arity ≡ length (mandatory (scope_of (kept_of tables.old)).hypotheses (seen_words statement.items)) }
+    ensures sound { OnOk result (IsSoundTables tables.new) }
+    ensures stand { OnOk result (stand_of (kept_of tables.new) ≡ record (stand_of (kept_of tables.old)) {
       scope =
-          with_assertion (scope_of (kept_of tables.entry)) label.entry.now (seen_words statement.entry.items) (option_map seen_proof proof.entry);
+          with_assertion (scope_of (kept_of tables.old)) label.entry.now (seen_words statement.entry.items) (option_map seen_proof proof.entry);
     }) }
 {
-    let mut tables = tables;
     let hypotheses = last_active(tables.active.as_slice());
     let apart = tables.last_apart;
     let place = tables.assertions.len();
-    tables.names.insert(label, Name::Assertion(place))?;
-    tables.labels.push(label)?;
+    // What is owned goes first, so that no later way out drops it.
     tables.assertions.push(Asserted {
         label,
         statement,
@@ -194,5 +189,7 @@ pub(crate) fn with_asserted<'a>(
         apart,
         arity,
     })?;
-    Ok(tables)
+    tables.names.insert(label, Name::Assertion(place))?;
+    tables.labels.push(label)?;
+    Ok(())
 }

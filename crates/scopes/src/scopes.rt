@@ -116,14 +116,16 @@ impl<'a> Standing<'a> for Scopes<'a> {
     }
 
     fn declare_constant(&mut self, alloc: Global, word: &'a [u8]) -> Result<(), AllocError> {
-        let tables = self.take(alloc);
-        self.tables = declaring::with_constant(tables, word)?;
+        let mut tables = self.take(alloc);
+        declaring::add_constant(&mut tables, word)?;
+        self.tables = tables;
         Ok(())
     }
 
     fn declare_variable(&mut self, alloc: Global, word: &'a [u8]) -> Result<(), AllocError> {
-        let tables = self.take(alloc);
-        self.tables = declaring::with_variable(tables, word)?;
+        let mut tables = self.take(alloc);
+        declaring::add_variable(&mut tables, word)?;
+        self.tables = tables;
         Ok(())
     }
 
@@ -134,8 +136,9 @@ impl<'a> Standing<'a> for Scopes<'a> {
         type_code: &'a [u8],
         variable: &'a [u8],
     ) -> Result<(), AllocError> {
-        let tables = self.take(alloc);
-        self.tables = declaring::with_float(tables, label, type_code, variable)?;
+        let mut tables = self.take(alloc);
+        declaring::add_float(&mut tables, label, type_code, variable)?;
+        self.tables = tables;
         Ok(())
     }
 
@@ -145,8 +148,9 @@ impl<'a> Standing<'a> for Scopes<'a> {
         label: &'a [u8],
         expression: Vec<&'a [u8]>,
     ) -> Result<(), AllocError> {
-        let tables = self.take(alloc);
-        self.tables = declaring::with_premise(tables, label, expression)?;
+        let mut tables = self.take(alloc);
+        declaring::add_premise(&mut tables, label, expression)?;
+        self.tables = tables;
         Ok(())
     }
 
@@ -155,8 +159,9 @@ impl<'a> Standing<'a> for Scopes<'a> {
         alloc: Global,
         variables: Vec<&'a [u8]>,
     ) -> Result<(), AllocError> {
-        let tables = self.take(alloc);
-        self.tables = declaring::with_distinct(tables, variables)?;
+        let mut tables = self.take(alloc);
+        declaring::add_distinct(&mut tables, variables)?;
+        self.tables = tables;
         Ok(())
     }
 
@@ -167,8 +172,9 @@ impl<'a> Standing<'a> for Scopes<'a> {
         expression: Vec<&'a [u8]>,
     ) -> Result<(), AllocError> {
         let arity = frames::count_marked(&self.tables);
-        let tables = self.take(alloc);
-        self.tables = declaring::with_asserted(tables, label, expression, None, arity)?;
+        let mut tables = self.take(alloc);
+        declaring::add_asserted(&mut tables, label, expression, None, arity)?;
+        self.tables = tables;
         Ok(())
     }
 
@@ -180,14 +186,16 @@ impl<'a> Standing<'a> for Scopes<'a> {
         proof: ProofWords<'a>,
     ) -> Result<(), AllocError> {
         let arity = frames::count_marked(&self.tables);
-        let tables = self.take(alloc);
-        self.tables = declaring::with_asserted(tables, label, expression, Some(proof), arity)?;
+        let mut tables = self.take(alloc);
+        declaring::add_asserted(&mut tables, label, expression, Some(proof), arity)?;
+        self.tables = tables;
         Ok(())
     }
 
     fn open_block(&mut self, alloc: Global) -> Result<(), AllocError> {
-        let tables = self.take(alloc);
-        self.tables = blocks::with_block(tables)?;
+        let mut tables = self.take(alloc);
+        blocks::open_block(&mut tables)?;
+        self.tables = tables;
         Ok(())
     }
 

@@ -14,7 +14,7 @@ use crate::tables::{Name, Tables};
 use source::HypothesisWords;
 
 /// What a word is.
-#[derive(Clone, Copy, Debug, PartialEq, Eq)]
+#[derive(Clone, Copy)]
 pub(crate) enum Sort {
     /// Nothing has been declared by this name.
     Unknown,

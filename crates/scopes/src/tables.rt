@@ -11,7 +11,7 @@ use std::collections::HashMap;
 use std::hash::RandomState;
 
 /// What a word was declared as, and where it was put then. What is at that place by now may be something else.
-#[derive(Clone, Copy, Debug, PartialEq, Eq)]
+#[derive(Clone, Copy)]
 pub(crate) enum Name {
     /// A constant.
     Constant,

@@ -1,6 +1,8 @@
 -- Words that grow by one in a statement that doesn't end: where that leads, and why it may not.
-use Rattle.std.proofs.Common.{◌≡◌, ◌≤◌, ◌∙◌, ℕ, Bool, true, false, List, [], ◌∷◌, ◌++◌, length, Option, Some, None, Ok, refl, sym, ap, arith}
+use Rattle.std.proofs.Common.{◌≡◌, ◌≤◌, ◌∙◌, ℕ, Bool, true, false, cond, List, [], ◌∷◌, ◌++◌, length, Option, Some, None, Ok, refl, sym, ap, arith}
 use Rattle.std.specs.Borrow.{Bor}
+use Rattle.std.specs.Prelude.{codes}
+use Rattle.std.specs.Str.{bytes_eq}
 use Rattle.mmtext.specs.declared.fault.FaultKind.{FaultKind}
 use Rattle.mmtext.specs.declared.fault.Stop.{Stop}
 use Rattle.mmtext.specs.declared.fault.Stop.TheVariants as stop
@@ -10,9 +12,9 @@ use Rattle.mmtext.specs.Text.{Token}
 use Rattle.mmtext.specs.Views.{Fails}
 use Rattle.mmtext.specs.Words.{Word}
 use Rattle.source.specs.Scopes.{Stand}
-use Rattle.source.specs.Tests.{distinct_tests}
+use Rattle.source.specs.Tests.{distinct_tests, cited_tests, letter_tests}
 use Rattle.source.specs.Faults.{Place, in_distinct, in_hypothesis, in_axiom, in_theorem, Position, Next, to, faulted, tested, next_symbol}
-use Rattle.source.specs.Faults.{distinct_row, hypothesis_row, axiom_row, theorem_row}
+use Rattle.source.specs.Faults.{distinct_row, hypothesis_row, axiom_row, theorem_row, in_labels, in_letters, next_step, proof_row, labels_row, letters_row}
 use Rattle.source.specs.Views.{seen_words}
 use Rattle.sourcereader.specs.Takings.{one_more}
 use Rattle.sourcereader.specs.Views.{standing_at}
@@ -25,6 +27,10 @@ not_both b is isnt = let both = sym is ∙ isnt in cc
 pub none_seen : (ws : List (Bor (List ℕ))) → length ws ≡ 0 → seen_words ws ≡ []
 none_seen [] h = refl
 none_seen (w ∷ ws) h = absurd (omega arith)
+
+pub some_seen : (ws : List (Bor (List ℕ))) → (length ws ≡ 0 → ⊥) → seen_words ws ≡ [] → ⊥
+some_seen [] h none = h refl
+some_seen (w ∷ ws) h none = cc
 
 pub few_seen : (ws : List (Bor (List ℕ))) → length ws ≤ 1 → length (seen_words ws) ≤ 1
 few_seen [] h = omega arith
@@ -52,6 +58,31 @@ pub theorem_grows : (p : Position) (label : Word) (e : List Word) (t : Token) (m
     → theorem_row p label e t m ≡ next_symbol p e t (λ x. in_theorem label x)
 theorem_grows p label (c ∷ e) t mark.Proof h = absurd (let none : c ∷ e ≡ [] = h refl in cc)
 theorem_grows p label e t m h = refl
+
+-- ---- rows of proofs that don't end
+
+-- behind $= a step stands, and no (
+pub proof_begins : (p : Position) (label : Word) (e ws : List Word) (t : Token) (m : Mark) → ws ≡ [] → bytes_eq t.text (codes "(") ≡ false
+    → proof_row p label e ws t m ≡ next_step p label e ws t
+proof_begins p label e [] t m none h = ap (λ b. cond b (to p (in_labels label e [])) (next_step p label e [] t)) h
+proof_begins p label e (w ∷ ws) t m none h = absurd cc
+
+pub proof_grows : (p : Position) (label : Word) (e ws : List Word) (t : Token) (m : Mark) → (ws ≡ [] → ⊥) → (m ≡ mark.End → ⊥)
+    → proof_row p label e ws t m ≡ next_step p label e ws t
+proof_grows p label e [] t m some h = absurd (some refl)
+proof_grows p label e (w ∷ ws) t mark.End some h = absurd (h refl)
+proof_grows p label e (w ∷ ws) t m some h = refl
+
+pub labels_grow : (p : Position) (label : Word) (e ws : List Word) (t : Token) → bytes_eq t.text (codes ")") ≡ false
+    → labels_row p label e ws t ≡ tested t (cited_tests p.stand.scope e t.text) (to p (in_labels label e (ws ++ t.text ∷ [])))
+labels_grow p label e ws t h =
+    ap (λ b. cond b (to p (in_letters label e ws [])) (tested t (cited_tests p.stand.scope e t.text) (to p (in_labels label e (ws ++ t.text ∷ []))))) h
+
+pub letters_grow : (p : Position) (label : Word) (e ws ls : List Word) (t : Token) (m : Mark) → (m ≡ mark.End → ls ≡ [])
+    → letters_row p label e ws ls t m
+    ≡ tested t (letter_tests p.stand.scope e ws ls t.text) (to p (in_letters label e ws (ls ++ t.text ∷ [])))
+letters_grow p label e ws (l ∷ ls) t mark.End h = absurd (let none : l ∷ ls ≡ [] = h refl in cc)
+letters_grow p label e ws ls t m h = refl
 
 -- ---- one word more
 

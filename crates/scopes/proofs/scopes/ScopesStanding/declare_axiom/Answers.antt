@@ -8,15 +8,15 @@ use Rattle.scopes.specs.Views.{kept_of, scope_of, stand_of, marks_of}
 use Rattle.scopes.proofs.Seeing.{seen_scope, seen_marks, lawful_there, same_scope, asserted_there}
 use Rattle.scopes.proofs.scopes.ScopesStanding.declare_axiom.Goals as goal
 
-pub with_asserted-requires-clause-lawful : goal.with_asserted-requires-clause-lawful
-with_asserted-requires-clause-lawful c =
+pub add_asserted-requires-clause-lawful : goal.add_asserted-requires-clause-lawful
+add_asserted-requires-clause-lawful c =
     let stands : stand_of (kept_of c.take-tables.result) ≡ c.args.self.now.stand =
     c.take-tables.ensures.stand in
     lawful_there (kept_of c.take-tables.result) c.args.self.now.stand (asserted c.args.label.now (seen_words c.args.expression.items)) stands
     c.requires.lawful
 
-pub with_asserted-requires-clause-counted : goal.with_asserted-requires-clause-counted
-with_asserted-requires-clause-counted c =
+pub add_asserted-requires-clause-counted : goal.add_asserted-requires-clause-counted
+add_asserted-requires-clause-counted c =
     let here = kept_of c.self.inside.tables in
     let taken = kept_of c.take-tables.result in
     let ws = seen_words c.args.expression.items in
@@ -31,5 +31,5 @@ pub returns : goal.returns
 returns c =
     let stands : stand_of (kept_of c.take-tables.result) ≡ c.args.self.now.stand =
     c.take-tables.ensures.stand in
-    c.in_ok-self-inside.ensures.stand
+    c.in_ok-add_asserted.ensures.stand
     ∙ asserted_there (kept_of c.take-tables.result) c.args.self.now.stand c.args.label.now (seen_words c.args.expression.items) (None) stands

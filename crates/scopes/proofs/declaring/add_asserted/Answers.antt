@@ -1,4 +1,4 @@
--- What is left to show of `with_asserted`.
+-- What is left to show of `add_asserted`.
 use Rattle.std.proofs.Common.{◌≡◌, ℕ, ◌∙◌, ◌++◌, ◌∷◌, [], Some, Option, length, map, cond, ap, sym, rules}
 use Rattle.std.specs.Option.{option_map}
 use Rattle.std.specs.Str.{bytes_eq}
@@ -10,17 +10,17 @@ use Rattle.scopes.specs.Views.{Entry, kept_of, entry_of}
 use Rattle.scopes.specs.Sound.{looks_up, last_link}
 use Rattle.scopes.proofs.Symbols.{sound_looks}
 use Rattle.scopes.proofs.Effects.{entry_here, sound_entry, stand_entry}
-use Rattle.scopes.proofs.declaring.with_asserted.Goals as goal
+use Rattle.scopes.proofs.declaring.add_asserted.Goals as goal
 
 pub returns-clause-sound : goal.returns-clause-sound
 returns-clause-sound c =
-    let t = c.args.tables in
+    let t = c.args.tables.now in
     let label = c.args.label.now in
     let ws = seen_words c.args.statement.items in
     let proof = option_map seen_proof c.args.proof in
-    let pushed : c.push.new.self.items ≡ t.labels.items ++ c.args.label ∷ [] = search rules in
-    let labels : seen_words c.push.new.self.items ≡ seen_words t.labels.items ++ label ∷ [] = ap seen_words pushed ∙ map-append _ t.labels.items (c.args.label ∷ []) in
-    let also : c.push-2.new.self.items ≡ t.assertions.items ++ record {
+    let pushed : c.push-2.new.self.items ≡ t.labels.items ++ c.args.label ∷ [] = search rules in
+    let labels : seen_words c.push-2.new.self.items ≡ seen_words t.labels.items ++ label ∷ [] = ap seen_words pushed ∙ map-append _ t.labels.items (c.args.label ∷ []) in
+    let also : c.push.new.self.items ≡ t.assertions.items ++ record {
       label = c.args.label;
       statement = c.args.statement;
       proof = c.args.proof;
@@ -31,7 +31,7 @@ returns-clause-sound c =
     let seen : c.as_slice.result.now ≡ t.active.items = search rules in
     let last : c.last_active-hypotheses.result ≡ last_link t.active.items = c.last_active-hypotheses.ensures ∙ ap last_link seen in
     let put : Option ℕ → Entry = λ o. record { label = label; statement = ws; proof = proof; hypotheses = o; apart = t.last_apart; arity = c.args.arity } in
-    let entries : map entry_of c.push-2.new.self.items ≡ map entry_of t.assertions.items ++ entry_here (kept_of t) label ws proof c.args.arity ∷ [] =
+    let entries : map entry_of c.push.new.self.items ≡ map entry_of t.assertions.items ++ entry_here (kept_of t) label ws proof c.args.arity ∷ [] =
     ap (map entry_of) also ∙ map-append entry_of t.assertions.items _ ∙ ap (λ o. map entry_of t.assertions.items ++ put o ∷ []) last in
     let count : c.len-place.result ≡ length t.assertions.items = search rules in
     let place : c.len-place.result ≡ length (kept_of t).entries = count ∙ sym (length-map t.assertions.items entry_of) in
@@ -42,13 +42,13 @@ returns-clause-sound c =
 
 pub returns-clause-stand : goal.returns-clause-stand
 returns-clause-stand c =
-    let t = c.args.tables in
+    let t = c.args.tables.now in
     let label = c.args.label.now in
     let ws = seen_words c.args.statement.items in
     let proof = option_map seen_proof c.args.proof in
-    let pushed : c.push.new.self.items ≡ t.labels.items ++ c.args.label ∷ [] = search rules in
-    let labels : seen_words c.push.new.self.items ≡ seen_words t.labels.items ++ label ∷ [] = ap seen_words pushed ∙ map-append _ t.labels.items (c.args.label ∷ []) in
-    let also : c.push-2.new.self.items ≡ t.assertions.items ++ record {
+    let pushed : c.push-2.new.self.items ≡ t.labels.items ++ c.args.label ∷ [] = search rules in
+    let labels : seen_words c.push-2.new.self.items ≡ seen_words t.labels.items ++ label ∷ [] = ap seen_words pushed ∙ map-append _ t.labels.items (c.args.label ∷ []) in
+    let also : c.push.new.self.items ≡ t.assertions.items ++ record {
       label = c.args.label;
       statement = c.args.statement;
       proof = c.args.proof;
@@ -59,6 +59,6 @@ returns-clause-stand c =
     let seen : c.as_slice.result.now ≡ t.active.items = search rules in
     let last : c.last_active-hypotheses.result ≡ last_link t.active.items = c.last_active-hypotheses.ensures ∙ ap last_link seen in
     let put : Option ℕ → Entry = λ o. record { label = label; statement = ws; proof = proof; hypotheses = o; apart = t.last_apart; arity = c.args.arity } in
-    let entries : map entry_of c.push-2.new.self.items ≡ map entry_of t.assertions.items ++ entry_here (kept_of t) label ws proof c.args.arity ∷ [] =
+    let entries : map entry_of c.push.new.self.items ≡ map entry_of t.assertions.items ++ entry_here (kept_of t) label ws proof c.args.arity ∷ [] =
     ap (map entry_of) also ∙ map-append entry_of t.assertions.items _ ∙ ap (λ o. map entry_of t.assertions.items ++ put o ∷ []) last in
     rw (labels, entries) (stand_entry (looks_up t.names) (kept_of t) label ws proof c.args.arity c.requires.sound)

@@ -1,4 +1,4 @@
--- What is left to show of `with_variable`.
+-- What is left to show of `add_variable`.
 use Rattle.std.proofs.Common.{◌≡◌, ◌∙◌, ◌++◌, ◌∷◌, [], Some, length, ap, cond, sym, rules}
 use Rattle.std.specs.Str.{bytes_eq}
 use Rattle.std.proofs.lemmas.List.{map-append, length-map}
@@ -8,11 +8,11 @@ use Rattle.scopes.specs.declared.tables.Name.TheVariants as name
 use Rattle.scopes.specs.Views.{kept_of}
 use Rattle.scopes.specs.Sound.{looks_up}
 use Rattle.scopes.proofs.Symbols.{sound_looks, sound_variable, stand_variable}
-use Rattle.scopes.proofs.declaring.with_variable.Goals as goal
+use Rattle.scopes.proofs.declaring.add_variable.Goals as goal
 
 pub returns-clause-sound : goal.returns-clause-sound
 returns-clause-sound c =
-    let t = c.args.tables in
+    let t = c.args.tables.now in
     let w = c.args.word.now in
     let pushed : c.push.new.self.items ≡ t.variables.items ++ c.args.word ∷ [] = search rules in
     let also : c.push-2.new.self.items ≡ t.symbols.items ++ c.args.word ∷ [] = search rules in
@@ -27,7 +27,7 @@ returns-clause-sound c =
 
 pub returns-clause-stand : goal.returns-clause-stand
 returns-clause-stand c =
-    let t = c.args.tables in
+    let t = c.args.tables.now in
     let w = c.args.word.now in
     let pushed : c.push.new.self.items ≡ t.variables.items ++ c.args.word ∷ [] = search rules in
     let also : c.push-2.new.self.items ≡ t.symbols.items ++ c.args.word ∷ [] = search rules in

@@ -1,15 +1,15 @@
--- What is left to show of `with_block`.
+-- What is left to show of `open_block`.
 use Rattle.std.proofs.Common.{◌≡◌, ◌∙◌, ◌++◌, ◌∷◌, [], length, ap, sym, rules}
 use Rattle.std.proofs.lemmas.List.{length-map}
 use Rattle.scopes.specs.declared.tables.Block.{Block}
 use Rattle.scopes.specs.Views.{kept_of}
 use Rattle.scopes.specs.Sound.{looks_up}
 use Rattle.scopes.proofs.Closing.{block_here, sound_block, stand_block}
-use Rattle.scopes.proofs.blocks.with_block.Goals as goal
+use Rattle.scopes.proofs.blocks.open_block.Goals as goal
 
-pushed : (c : goal.In_ok-push) → c.push.new.self.items ≡ c.args.tables.blocks.items ++ block_here (kept_of c.args.tables) ∷ []
+pushed : (c : goal.In_ok-push) → c.push.new.self.items ≡ c.args.tables.now.blocks.items ++ block_here (kept_of c.args.tables.now) ∷ []
 pushed c =
-    let t = c.args.tables in
+    let t = c.args.tables.now in
     let e1 : c.len.result ≡ length t.constants.items = search rules in
     let e2 : c.len-2.result ≡ length t.variables.items = search rules in
     let e3 : c.len-3.result ≡ length t.active.items = search rules in
@@ -35,7 +35,7 @@ pushed c =
     is ∙ ap (λ x. t.blocks.items ++ x ∷ []) here
 
 pub returns-clause-sound : goal.returns-clause-sound
-returns-clause-sound c = rw (pushed c) (sound_block (looks_up c.args.tables.names) (kept_of c.args.tables) c.requires)
+returns-clause-sound c = rw (pushed c) (sound_block (looks_up c.args.tables.now.names) (kept_of c.args.tables.now) c.requires)
 
 pub returns-clause-stand : goal.returns-clause-stand
-returns-clause-stand c = rw (pushed c) (stand_block (looks_up c.args.tables.names) (kept_of c.args.tables) c.requires)
+returns-clause-stand c = rw (pushed c) (stand_block (looks_up c.args.tables.now.names) (kept_of c.args.tables.now) c.requires)
