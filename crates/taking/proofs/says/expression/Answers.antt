@@ -1,8 +1,9 @@
 -- What is left to show of `expression`.
-use Rattle.std.proofs.Common.{◌<◌, ◌≤◌, ◌+◌, ◌∙◌, [], sym, ap, subst, length, ℕ, List, drop}
+use Rattle.std.proofs.Common.{◌≡◌, ◌<◌, ◌≤◌, ◌+◌, ◌++◌, ◌∷◌, ◌∙◌, [], sym, ap, subst, length, ℕ, List, drop}
 use Rattle.std.specs.Prelude.{Some}
 use Rattle.std.proofs.lemmas.List.{length-map, get_or-map}
 use Rattle.std.specs.Borrow.{Bor}
+use Rattle.mmsyntax.specs.declared.statement.Symbol.{Symbol}
 use Rattle.source.specs.Views.{seen_words}
 use Rattle.taking.specs.Says.{each}
 use Rattle.taking.proofs.Symbols.{following, none_yet, each_more, each_none, each_all}
@@ -21,9 +22,11 @@ loop-word-preserved g c =
     let long : l.word-index < length (seen_words words) =
     subst (λ (n : ℕ). l.word-index < n) (sym (length-map words (λ (w : Bor (List ℕ)). w.now))) c.loop-word-test.true in
     let at = ap placed (get_or-map (λ (w : Bor (List ℕ)). w.now) words l.word-index _ [] c.loop-word-test.true) ∙ sym c.symbol.ensures in
+    let pushed : c.push.new.self.items ≡ l.symbols.items ++ c.in-Some.symbol ∷ [] =
+    c.in_ok-push.ensures.items ∙ ap (λ (x : Symbol). l.symbols.items ++ x ∷ []) c.new.ensures in
     l.invariant
     ∙ each_more placed (seen_words words) l.symbols.items l.word-index [] long c.in-Some.symbol (at ∙ c.in-Some.is)
-    ∙ ap (λ xs. following xs (each placed (drop (l.word-index + 1) (seen_words words)))) (sym c.in_ok-push.ensures.items)
+    ∙ ap (λ xs. following xs (each placed (drop (l.word-index + 1) (seen_words words)))) (sym pushed)
 
 pub returns-in_default : goal.returns-in_default
 returns-in_default g c =
