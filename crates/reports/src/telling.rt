@@ -1,7 +1,9 @@
 //! The report of a run: a line for each transaction, then its replies.
 
-ghost use Rattle.std.specs.Prelude.{◌≡◌, ◌++◌, All, IfOk, OnOk, map};
+ghost use Rattle.std.specs.Prelude.{◌≡◌, ◌++◌, ◌∷◌, [], All, IfOk, OnOk, map};
 ghost use Rattle.std.specs.List.{flat_map};
+ghost use Rattle.std.specs.Fmt.{decimal};
+ghost use Rattle.mmsyntax.specs.Layout.{line};
 ghost use Rattle.library.specs.Fitting.{ReplyFits};
 ghost use Rattle.historytext.specs.Layout.{reply_text};
 ghost use Rattle.transaction.specs.declared.outcome.Outcome.TheVariants as outcome;
@@ -9,7 +11,7 @@ ghost use Rattle.reports.specs.Reports.{OutcomeFits, OutcomesFit, outcome_text, 
 
 use historytext::put_reply;
 use library::{Refused, Reply};
-use mmsyntax::Prelude;
+use mmsyntax::{Prelude, Sequence};
 use std::alloc::{AllocError, Global};
 use transaction::Outcome;
 
@@ -44,6 +46,24 @@ fn put_refusal(
     out.extend_from_slice(line.as_bytes())
 }
 
+/// A line with a word and a number, and the lines of replies.
+fn put_answered(
+    alloc: Global,
+    out: &mut Vec<u8>,
+    prelude: &Prelude,
+    word: &str,
+    number: u64,
+    replies: &Sequence<Reply>,
+) -> Result<(), AllocError>
+    requires { All (ReplyFits prelude.now) replies.now }
+    ensures { OnOk result (out.new.items ≡ out.old.items
+        ++ (line (word.now ∷ decimal number ∷ []) ++ flat_map (reply_text prelude.now) replies.now)) }
+{
+    let line = format!(in alloc; "{word} {number}\n")?;
+    out.extend_from_slice(line.as_bytes())?;
+    put_replies(alloc, out, prelude, replies.as_slice())
+}
+
 /// The lines of one transaction behind `S.T `. Its outcome is no conflict.
 fn put_outcome(
     alloc: Global,
@@ -56,14 +76,10 @@ fn put_outcome(
 {
     match outcome {
         Outcome::Committed { number, replies } => {
-            let line = format!(in alloc; "committed {number}\n")?;
-            out.extend_from_slice(line.as_bytes())?;
-            put_replies(alloc, out, prelude, replies.as_slice())
+            put_answered(alloc, out, prelude, "committed", *number, replies)
         }
         Outcome::Read { place, replies } => {
-            let line = format!(in alloc; "read {place}\n")?;
-            out.extend_from_slice(line.as_bytes())?;
-            put_replies(alloc, out, prelude, replies.as_slice())
+            put_answered(alloc, out, prelude, "read", *place, replies)
         }
         Outcome::Refused { place, refused } => put_refusal(alloc, out, prelude, *place, *refused),
         Outcome::Conflict(_) => unreachable!(),

@@ -33,7 +33,7 @@ use Rattle.scripts.specs.Scripts.{IsRank, other_step_of}
 use Rattle.scripts.specs.ScriptFaults.{at_rank, at_reproved, in_proof, at_old_label}
 use Rattle.scripts.specs.ScriptFaults.{at_recited}
 use Rattle.scripts.specs.ScriptFaults.{at_moved, at_deleted, at_shown, Place, outermost, Progress, Led}
-use Rattle.scripts.specs.ScriptFaults.{inside, whole_command, bad, bad_text, label_row, is_numeral, rank_row, proof_start, step_led}
+use Rattle.scripts.specs.ScriptFaults.{inside, whole_command, bad, label_row, is_numeral, rank_row, proof_start, step_led}
 use Rattle.scripts.specs.ScriptFaults.{in_unit, unit_led, unit_row, step_row, command_word, at, led, command_row}
 use Rattle.mmtext.specs.declared.fault.Stop.{Stop}
 use Rattle.mmtext.specs.declared.fault.Stop.TheVariants as stop
@@ -191,20 +191,6 @@ rank_fails u behind (stop.Fault f) h = go (is_numeral u.text) (ltb highest_rank 
     go true true e = cc
     go true false e = absurd cc
     go false b e = cc
-
-pub decided_is : (u : Token) (x y : Led) → decided u x ≡ Ok y → x ≡ y
-decided_is u (inside p) y h = cc
-decided_is u (whole_command c) y h = cc
-decided_is u (bad kind) y h = absurd cc
-decided_is u (bad_text f) y h = absurd cc
-
--- where a token of a command fails, so does it in the script
-pub led_fails : (s : Script) (cs : List Command) (u : Token) (x : Led) (e : Stop) → Fails e (decided u x) → Fails e (led s cs u x)
-led_fails s cs u x stop.Memory h = tt
-led_fails s cs u (inside p) (stop.Fault f) h = absurd cc
-led_fails s cs u (whole_command c) (stop.Fault f) h = absurd cc
-led_fails s cs u (bad kind) (stop.Fault f) h = cc
-led_fails s cs u (bad_text g) (stop.Fault f) h = cc
 
 -- behind whole commands, a word other than commit
 pub word_row : (s : Script) (cs : List Command) (u : Token) (commit : Word) (b : Bool) → commit ≡ codes "commit"

@@ -1,19 +1,20 @@
 //! Commands, one by one: each is done, or refused by the first test that fails.
 
-ghost use Rattle.std.specs.Prelude.{◌≡◌, ℕ, All, Contains, None, Some, IfErr, IfOk, OnOk};
+ghost use Rattle.std.specs.Prelude.{◌≡◌, ℕ, All, Contains, None, Some, Err, IfErr, IfOk, OnOk, set};
 ghost use Rattle.std.specs.List.Sorted.{IsStrictlyIncreasing};
 ghost use Rattle.mmsyntax.specs.declared.statement.Kind.TheVariants.{Theorem};
 ghost use Rattle.library.specs.declared.command.Command.TheVariants as command;
-ghost use Rattle.library.specs.Edits.{add_tests, replace_tests, citers};
+ghost use Rattle.library.specs.Edits.{add_tests, replace_tests, citers, with_proof, with_rank};
 ghost use Rattle.library.specs.Fitting.{CommandFits};
 ghost use Rattle.library.specs.Library.{Verifies, label_of};
 ghost use Rattle.library.specs.declared.library.Ranked.{Ranked};
 ghost use Rattle.catalog.specs.Entries.{StandsIn};
-ghost use Rattle.catalog.specs.Citers.{HasAllCiters, IsCiter};
+ghost use Rattle.catalog.specs.Citers.{Covers, HasAllCiters, IsCiter};
 ghost use Rattle.catalog.specs.Places.{StandsAt};
 ghost use Rattle.catalog.specs.Changes.{citing, changed_at, changed_all};
 ghost use Rattle.history.specs.Drafts.{now_in, KeepsStart, Takes, TakesAll};
 ghost use Rattle.history.specs.Refusals.{first_reason, proof_tests, label_tests};
+ghost use Rattle.history.specs.OneChanged.{ChangesOne};
 ghost use Rattle.history.specs.declared.editor.ApplyError.TheVariants as error;
 
 use super::Draft;
@@ -148,15 +149,17 @@ impl Draft {
         Ok(Reply::Done)
     }
 
-    fn reprove(
-        &mut self,
+    /// The place of the theorem with a label, and the theorem with another proof, which passed all tests.
+    fn try_proof(
+        &self,
         alloc: Global,
         index: usize,
         label: &Label,
         steps: &Proof,
-    ) -> Result<Reply, ApplyError>
-        ensures taken { Takes index self.old (command.Reprove label.now steps.now) result self.new }
-        ensures kept { KeepsStart self.old self.new }
+    ) -> Result<(usize, Ranked), ApplyError>
+        ensures refused { IfErr result (λ error. Takes index self.now (command.Reprove label.now steps.now) (Err error) self.now) }
+        ensures passed { IfOk result (λ made.
+            ChangesOne self.now (command.Reprove label.now steps.now) (with_proof steps.now) made.0 made.1) }
     {
         let Some((place, entry)) = find_entry(
             self.entries.as_slice(),
@@ -174,6 +177,20 @@ impl Draft {
             drop(new);
             return Err(refused(index, reason));
         }
+        Ok((place, new))
+    }
+
+    fn reprove(
+        &mut self,
+        alloc: Global,
+        index: usize,
+        label: &Label,
+        steps: &Proof,
+    ) -> Result<Reply, ApplyError>
+        ensures taken { Takes index self.old (command.Reprove label.now steps.now) result self.new }
+        ensures kept { KeepsStart self.old self.new }
+    {
+        let (place, new) = self.try_proof(alloc, index, label, steps)?;
         self.cite(place, steps)?;
         self.replace(place, new)?;
         Ok(Reply::Done)
@@ -302,15 +319,17 @@ impl Draft {
         Ok(Reply::Done)
     }
 
-    fn move_to(
-        &mut self,
+    /// The place of the assertion with a label, and the assertion with another rank, which passed all tests.
+    fn try_rank(
+        &self,
         alloc: Global,
         index: usize,
         label: &Label,
         rank: u32,
-    ) -> Result<Reply, ApplyError>
-        ensures taken { Takes index self.old (command.Move label.now rank) result self.new }
-        ensures kept { KeepsStart self.old self.new }
+    ) -> Result<(usize, Ranked), ApplyError>
+        ensures refused { IfErr result (λ error. Takes index self.now (command.Move label.now rank) (Err error) self.now) }
+        ensures passed { IfOk result (λ made. ChangesOne self.now (command.Move label.now rank) (with_rank rank) made.0 made.1) }
+        ensures covered { IfOk result (λ made. Covers self.now.citers (set self.now.entries made.0 (Some made.1))) }
     {
         let entries = self.entries.as_slice();
         let Some((place, entry)) = find_entry(entries, &self.places, label.as_slice()) else {
@@ -328,6 +347,20 @@ impl Draft {
         }
         let mut moved = entry.copy(alloc)?;
         moved.rank = rank;
+        Ok((place, moved))
+    }
+
+    fn move_to(
+        &mut self,
+        alloc: Global,
+        index: usize,
+        label: &Label,
+        rank: u32,
+    ) -> Result<Reply, ApplyError>
+        ensures taken { Takes index self.old (command.Move label.now rank) result self.new }
+        ensures kept { KeepsStart self.old self.new }
+    {
+        let (place, moved) = self.try_rank(alloc, index, label, rank)?;
         self.replace(place, moved)?;
         Ok(Reply::Done)
     }
