@@ -4,7 +4,7 @@ use crate::draft::Undeclared;
 use std::alloc::AllocError;
 
 /// Why something of a draft isn't declared behind what stands before it.
-#[derive(Clone, Copy, Debug, PartialEq, Eq)]
+#[derive(Clone, Copy)]
 pub(crate) enum Refusal {
     /// No text declares it there.
     Unlawful,

@@ -2,6 +2,7 @@ pub mod LeftOut
 pub mod Listable
 pub mod Reasons
 pub mod Forms
+mod Premised
 mod Zipped
 mod Said
 mod Stated

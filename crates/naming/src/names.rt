@@ -108,8 +108,8 @@ pub fn name_all<'a, D: Declared<'a>>(
     )
 }
 
-/// The same by free names, of which none was given yet, and the L of each label L.k among the labels is taken. They are borrowed: so no way out
-/// drops them. After an error nothing is said of them.
+/// The same by free names: none of them was given yet, and the L of each label L.k among the labels is taken. They are borrowed, so that no
+/// way out drops them. After an error nothing is said of them.
 fn named_by<'a, D: Declared<'a>>(
     alloc: Global,
     keys: RandomState,

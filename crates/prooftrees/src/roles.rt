@@ -13,7 +13,7 @@ use std::collections::HashMap;
 use std::hash::RandomState;
 
 /// What the label of a hypothesis names.
-#[derive(Clone, Copy, Debug, PartialEq, Eq)]
+#[derive(Clone, Copy)]
 pub(crate) enum Role {
     /// A `$f`.
     Float,
@@ -41,7 +41,7 @@ fn stays(so_far: Option<Role>, role: Role) -> bool
 {
     match so_far {
         None => false,
-        Some(Role::Float) => role == Role::Float,
+        Some(Role::Float) => matches!(role, Role::Float),
         Some(Role::Premise(_)) => true,
     }
 }

@@ -18,10 +18,7 @@ use source::{HypothesisWords, ProofWords};
 use std::alloc::AllocError;
 
 /// One more constant.
-pub(crate) fn add_constant<'a>(
-    tables: &mut Tables<'a>,
-    word: &'a [u8],
-) -> Result<(), AllocError>
+pub(crate) fn add_constant<'a>(tables: &mut Tables<'a>, word: &'a [u8]) -> Result<(), AllocError>
     requires sound { IsSoundTables tables.old }
     requires lawful { is_lawful (scope_of (kept_of tables.old)) (a_constant word.now) ≡ true }
     ensures sound { OnOk result (IsSoundTables tables.new) }
@@ -44,10 +41,7 @@ fn noted_float(tables: &Tables<'_>, word: &[u8]) -> Option<usize>
 }
 
 /// One more variable.
-pub(crate) fn add_variable<'a>(
-    tables: &mut Tables<'a>,
-    word: &'a [u8],
-) -> Result<(), AllocError>
+pub(crate) fn add_variable<'a>(tables: &mut Tables<'a>, word: &'a [u8]) -> Result<(), AllocError>
     requires sound { IsSoundTables tables.old }
     requires lawful { is_lawful (scope_of (kept_of tables.old)) (a_variable word.now) ≡ true }
     ensures sound { OnOk result (IsSoundTables tables.new) }
