@@ -3,3 +3,4 @@ pub mod UpTo
 pub mod RuleSteps
 pub mod Gathered
 pub mod Sent
+pub mod Claiming

@@ -1,5 +1,5 @@
 -- Of the code's inside, apart from the rules: the places of labels, and what the checks of some assertions find.
-use Rattle.std.specs.Prelude.{◌≡◌, ◌≢◌, ℕ, ◌+◌, ◌%◌, ◌<◌, Option, None, Some, List, [], ◌∷◌, slice_get, nat_lt}
+use Rattle.std.specs.Prelude.{◌≡◌, ◌≢◌, ℕ, ◌+◌, ◌<◌, Option, None, Some, List, [], ◌∷◌, slice_get, nat_lt}
 use Rattle.std.specs.Prelude.{if◌then◌else◌}
 use Rattle.std.specs.Str.{bytes_eq}
 use Rattle.mmsyntax.specs.declared.statement.Frame.{Frame}
@@ -32,11 +32,7 @@ first_of_two (Some n) o = Some n
 abbrev pub FoundAmong : Contents → (ℕ → Type 0) → Option (ℕ × ProofFault) → Type 0
 FoundAmong db P None = (k : ℕ) → P k → ChecksAt db k
 FoundAmong db P (Some found) =
-    (k : ℕ) × (found.0 ≡ k + 1) × (found.1.kind ≢ NoMemory → HasFaultAt db k found.1) × ((j : ℕ) → j < k → P j → ChecksAt db j)
-
--- what is found in one lane: at every sixteenth place
-abbrev pub FoundInLane : Contents → ℕ → Option (ℕ × ProofFault) → Type 0
-FoundInLane db lane found = FoundAmong db (λ k. k % 16 ≡ lane) found
+    (k : ℕ) × P k × (found.0 ≡ k + 1) × (found.1.kind ≢ NoMemory → HasFaultAt db k found.1) × ((j : ℕ) → j < k → P j → ChecksAt db j)
 
 -- the one with the lower place
 abbrev pub earlier : Option (ℕ × ProofFault) → Option (ℕ × ProofFault) → Option (ℕ × ProofFault)

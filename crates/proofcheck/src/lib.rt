@@ -4,6 +4,7 @@
 //! that fault. `check_all` looks at each proof over the assertions before it, by many threads; `check` of `stepcheck` at one.
 #![tactic(auto)]
 
+mod checkers;
 mod databases;
 mod earlier;
 mod labels;

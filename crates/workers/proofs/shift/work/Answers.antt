@@ -1,5 +1,5 @@
 use Rattle.std.proofs.Common.{◌<◌, length, ◌∙◌, arith}
-use Rattle.workers.proofs.Claiming.{claim_nears}
+use Rattle.claims.proofs.Claiming.{claim_nears}
 use Rattle.workers.proofs.Steps.{runs_next, claims_on, claimed_next, rising_next, same_table, same_count}
 use Rattle.workers.proofs.shift.work.Goals as goal
 

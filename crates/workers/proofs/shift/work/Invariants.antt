@@ -3,7 +3,7 @@ use Rattle.std.specs.List.Sorted.{IsStrictlyIncreasing}
 use Rattle.claims.specs.Claims.{IsOf as Claims}
 use Rattle.transaction.specs.Members.{IsOf}
 use Rattle.workers.specs.Shifts.{RunsAll}
-use Rattle.workers.proofs.Claiming.{past_all}
+use Rattle.claims.proofs.Claiming.{past_all}
 use Rattle.workers.proofs.shift.work.Given as goal
 
 abbrev pub invariant-loop-script : goal.invariant-loop-script

@@ -5,7 +5,7 @@ use Rattle.derivation.specs.Derivation.{Citable}
 use Rattle.derivation.specs.Databases.{citable_at}
 use Rattle.proofcheck.specs.Reports.{frame_below, place_from}
 use Rattle.proofcheck.proofs.Places.{below-cited, checks-at, fault-at}
-use Rattle.proofcheck.proofs.databases.check_at.Goals as goal
+use Rattle.proofcheck.proofs.checkers.check_at.Goals as goal
 
 pub returns-clause-yes : goal.returns-clause-yes
 returns-clause-yes c =
