@@ -25,7 +25,8 @@ fn go_on_asking<'a>(
     mut commands: Vec<Command>,
     next: Result<Led<'a>, Stop>,
 ) -> Result<Place<'a>, Stop>
-    ensures { (t : Tables) (entries : List Entry) (token : SeenToken) (leads : SeenLed) → Gives (seen_led t) next.entry (decided token leads)
+    ensures { (t : Tables) (entries : List Entry) (token : SeenToken) (leads : SeenLed)
+        → Gives (seen_led t) next.entry (decided token leads)
         → Gives (seen_at t entries) result (asked entries left commands.items token leads) }
 {
     let place = match next {

@@ -244,7 +244,8 @@ fn read_added_rank<'a>(alloc: Global, prelude: &Prelude, token: Token<'a>) -> Re
 /// Where a label leads at a place that asks for one.
 fn behind_label<'a>(place: CommandPlace<'a>, label: Label) -> Led<'a>
     requires { AsksLabel place }
-    ensures { (t : Tables) (behind : SeenToken) → label_at behind ≡ Ok label → seen_led t result ≡ in_command t (seen_command_place t place.entry) behind }
+    ensures { (t : Tables) (behind : SeenToken) → label_at behind ≡ Ok label
+        → seen_led t result ≡ in_command t (seen_command_place t place.entry) behind }
 {
     match place {
         CommandPlace::AtReproved => Led::Inside(CommandPlace::AtProof(label)),
