@@ -45,8 +45,8 @@ fn no_memory() -> (usize, ProofFault)
 /// Ok only where the steps of each are the listing of a tree that derives its statement. Else the first assertion whose proof has a
 /// fault, counted from 1, and that fault: the answer of one thread. With the kind `NoMemory` the number says nothing.
 ///
-/// Each frame is made once, and so is what finds the places of labels. Each thread claims one assertion after another, so that none is
-/// idle while another has many left. A fault stops only the checks of the thread that finds it.
+/// Each frame is made once, and so is what finds the places of labels. Each thread claims one assertion after another until all are
+/// claimed. A fault stops only the checks of the thread that finds it.
 pub fn check_all(
     rt: &(impl Threads + Sync),
     alloc: Global,
