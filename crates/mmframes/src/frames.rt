@@ -25,7 +25,11 @@ fn note_symbol(found: &mut Vec<u32>, symbol: SymbolWord, count: usize) -> Result
 }
 
 /// Adds the variables of an expression.
-fn note_variables(found: &mut Vec<u32>, symbols: &[SymbolWord], count: usize) -> Result<(), AllocError>
+fn note_variables(
+    found: &mut Vec<u32>,
+    symbols: &[SymbolWord],
+    count: usize,
+) -> Result<(), AllocError>
     ensures { OnOk result ((j : ℕ) → list_any (λ k. k == j) found.new.items
         ≡ (list_any (λ k. k == j) found.old.items || (nat_lt j count && occurs j symbols.now))) }
 {

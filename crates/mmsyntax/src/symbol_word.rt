@@ -37,7 +37,9 @@ impl SymbolWord {
     {
         match symbol {
             Symbol::Const(place) => SymbolWord { word: 2 * place },
-            Symbol::Var(place) => SymbolWord { word: 2 * place + 1 },
+            Symbol::Var(place) => SymbolWord {
+                word: 2 * place + 1,
+            },
         }
     }
 

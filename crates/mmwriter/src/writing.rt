@@ -13,7 +13,9 @@ ghost use Rattle.mmsyntax.specs.Preludes.{IsFloatSound};
 ghost use Rattle.mmsyntax.specs.ProofWords.{seen_step};
 
 use itoa::Buffer;
-use mmsyntax::{Assertion, Database, Expr, Float, Kind, Label, Prelude, Proof, StepRef, Symbol, SymbolWord};
+use mmsyntax::{
+    Assertion, Database, Expr, Float, Kind, Label, Prelude, Proof, StepRef, Symbol, SymbolWord,
+};
 use std::alloc::{AllocError, Global};
 
 /// Puts a space and a word behind `out`.
@@ -80,7 +82,11 @@ fn put_float(out: &mut Vec<u8>, prelude: &Prelude, float: &Float) -> Result<(), 
     put_end(out)
 }
 
-fn put_symbols(out: &mut Vec<u8>, prelude: &Prelude, symbols: &[SymbolWord]) -> Result<(), AllocError>
+fn put_symbols(
+    out: &mut Vec<u8>,
+    prelude: &Prelude,
+    symbols: &[SymbolWord],
+) -> Result<(), AllocError>
     requires { All (IsSymbolOf prelude.now) symbols.now }
     ensures { OnOk result (out.new.items ≡ out.old.items ++ spaced (map (symbol_word prelude.now) symbols.now)) }
 {

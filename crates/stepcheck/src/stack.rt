@@ -147,7 +147,11 @@ impl<'a> Stack<'a> {
     }
 
     /// Puts an expression of two symbols on top, each where it is to stand.
-    pub(crate) fn push_two(&mut self, first: SymbolWord, second: SymbolWord) -> Result<(), AllocError>
+    pub(crate) fn push_two(
+        &mut self,
+        first: SymbolWord,
+        second: SymbolWord,
+    ) -> Result<(), AllocError>
         ensures { OnOk result (self.new ≡ self.old ++ (first ∷ second ∷ []) ∷ []) }
     {
         let start = self.symbols.len();

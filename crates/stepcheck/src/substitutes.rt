@@ -139,7 +139,11 @@ fn piece<'s>(substitution: &'s Substitution, symbol: &'s SymbolWord) -> &'s [Sym
 }
 
 /// Whether an expression after substitution is the target.
-fn is_substituted(substitution: &Substitution, symbols: &[SymbolWord], target: &[SymbolWord]) -> bool
+fn is_substituted(
+    substitution: &Substitution,
+    symbols: &[SymbolWord],
+    target: &[SymbolWord],
+) -> bool
     ensures { IsTrue result ↔ (subst substitution.now symbols.now ≡ target.now) }
 {
     let mut rest = target;
