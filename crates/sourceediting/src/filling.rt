@@ -34,26 +34,6 @@ fn labels_by_now<'x>(
     Ok(labels)
 }
 
-/// Where the assertions of a library stand in the text of an outline, by the places in it and their labels in the source then.
-fn stretches_in(
-    alloc: Global,
-    outline: &Outline<'_>,
-    places: &HashMap<&[u8], usize, RandomState>,
-    labels: &HashMap<&[u8], &[u8], RandomState>,
-    entries: &[Ranked],
-) -> Result<Vec<Option<Stretch>>, AllocError> {
-    let mut stretches = Vec::new(alloc);
-    for entry in entries {
-        let now = entry.assertion.label.as_slice();
-        let then = labels.get(now).copied().unwrap_or(now);
-        let standing = places
-            .get(then)
-            .and_then(|place| outline.assertions.get(*place));
-        stretches.push(standing.map(|standing| outline.whole(standing)))?;
-    }
-    Ok(stretches)
-}
-
 /// Where the assertions of a library stand in a text, in the library's order: the outermost block around each, or else its statement.
 /// None for those that aren't there.
 fn stretches_of(
@@ -66,7 +46,16 @@ fn stretches_of(
     let outline = outline_of(alloc, text)?;
     let places = outline.by_label(alloc, keys)?;
     let labels = labels_by_now(alloc, keys, living)?;
-    stretches_in(alloc, &outline, &places, &labels, entries)
+    let mut stretches = Vec::new(alloc);
+    for entry in entries {
+        let now = entry.assertion.label.as_slice();
+        let then = labels.get(now).copied().unwrap_or(now);
+        let standing = places
+            .get(then)
+            .and_then(|place| outline.assertions.get(*place));
+        stretches.push(standing.map(|standing| outline.whole(standing)))?;
+    }
+    Ok(stretches)
 }
 
 /// Where the first of these begins that stands in a text, or else where its last token ends.

@@ -19,21 +19,12 @@ type Places<'x> = HashMap<&'x [u8], usize, RandomState>;
 type Member<'x> = (&'x [u8], &'x [u8]);
 
 /// Those that are to stand elsewhere.
+#[derive(Drop)]
 pub(crate) struct Moving<'x> {
     /// Their labels in the source, with those in the library now.
     pub labels: Changes<'x>,
     /// The same of those that go in front of the block that they leave.
     pub in_front: Changes<'x>,
-}
-
-// Proved once: a derived drop is written out at each exit of a function that holds such a value.
-impl<'x> Drop for Moving<'x> {
-    fn drop(self) {
-        let Moving {
-            labels: _,
-            in_front: _,
-        } = self;
-    }
 }
 
 /// A block of the source of which assertions stay in their order.
@@ -196,32 +187,6 @@ impl<'x> Walk<'x> {
         self.row.push(member)
     }
 
-    /// The next assertion of the edited library, of which this became if it was there at the opening. `is_other` says whether the order is
-    /// another one than the old.
-    fn take(
-        &mut self,
-        alloc: Global,
-        outline: &Outline<'_>,
-        places: &Places<'_>,
-        followed: Option<&Followed<'x>>,
-        is_other: bool,
-    ) -> Result<(), AllocError> {
-        let Some(followed) = followed else {
-            self.row.is_put = true;
-            return Ok(());
-        };
-        let Some(source) = followed.source else {
-            return Ok(());
-        };
-        let member = (source, followed.now);
-        if is_other && followed.moved {
-            return self.put_moved(member);
-        }
-        let place = places.get(source);
-        let block = place.and_then(|place| outline.outermost_at(*place));
-        self.pass(alloc, block, member)
-    }
-
     /// Another row begins, and the former ends.
     fn begin(&mut self, next: Row<'x>) -> Result<(), AllocError> {
         let row = std::mem::replace(&mut self.row, next);
@@ -246,8 +211,21 @@ fn walk_over<'x>(
     let mut walk = Walk::new(alloc);
     for entry in entries {
         let place = opened.get(entry.assertion.label.as_slice());
-        let followed = place.and_then(|place| edits.planned.living.get(*place));
-        walk.take(alloc, outline, places, followed, is_other)?;
+        let Some(followed) = place.and_then(|place| edits.planned.living.get(*place)) else {
+            walk.row.is_put = true;
+            continue;
+        };
+        let Some(source) = followed.source else {
+            continue;
+        };
+        let member = (source, followed.now);
+        if is_other && followed.moved {
+            walk.put_moved(member)?;
+        } else {
+            let place = places.get(source);
+            let block = place.and_then(|place| outline.outermost_at(*place));
+            walk.pass(alloc, block, member)?;
+        }
     }
     walk.begin(Row::new(alloc, None))?;
     Ok(walk)

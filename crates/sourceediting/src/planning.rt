@@ -203,34 +203,6 @@ fn other_proof<'x, D: Declared<'x>>(
     }
 }
 
-/// The theorems that have another proof than at the opening, but for labels that change, by their labels in the source, with the texts of
-/// these proofs.
-fn proofs_since<'x, D: Declared<'x>>(
-    alloc: Global,
-    keys: RandomState,
-    declared: &D,
-    opened: &ByLabel<'x>,
-    edited: &ByLabel<'x>,
-    names: &Names<'x>,
-    changes: &Changes<'x>,
-    living: &[Followed<'x>],
-) -> Result<Vec<(&'x [u8], Vec<u8>)>, Refusal> {
-    let mut proofs = Vec::new(alloc);
-    for followed in living {
-        let (Some(source), Some(old), Some(new)) = (
-            followed.source,
-            opened.get(&followed.first),
-            edited.get(&followed.now),
-        ) else {
-            continue;
-        };
-        if let Some(text) = other_proof(alloc, keys, declared, names, changes, source, old, new)? {
-            proofs.push((source, text))?;
-        }
-    }
-    Ok(proofs)
-}
-
 /// The theorems that have another proof, by their labels in the source, with the texts of these proofs.
 pub(crate) fn other_proofs<'x, D: Declared<'x>>(
     alloc: Global,
@@ -242,10 +214,20 @@ pub(crate) fn other_proofs<'x, D: Declared<'x>>(
 ) -> Result<Vec<(&'x [u8], Vec<u8>)>, Refusal> {
     let opened = opened_by_label(alloc, keys, planned.database.assertions())?;
     let changes = changes_in_library(alloc, keys, planned.living)?;
-    let living = planned.living;
-    proofs_since(
-        alloc, keys, declared, &opened, edited, names, &changes, living,
-    )
+    let mut proofs = Vec::new(alloc);
+    for followed in planned.living {
+        let (Some(source), Some(old), Some(new)) = (
+            followed.source,
+            opened.get(&followed.first),
+            edited.get(&followed.now),
+        ) else {
+            continue;
+        };
+        if let Some(text) = other_proof(alloc, keys, declared, names, &changes, source, old, new)? {
+            proofs.push((source, text))?;
+        }
+    }
+    Ok(proofs)
 }
 
 /// The labels in the source then of those that are axioms in the edited library.

@@ -80,24 +80,6 @@ fn is_compressed<'a, D: Declared<'a>>(declared: &D, label: &[u8]) -> bool {
     matches!(declared.proof(place), Some(ProofWords::Compressed(..)))
 }
 
-/// The text of an assertion with its proof, which has this label in the library now.
-fn text_of<'x, 'a, D: Declared<'a>>(
-    alloc: Global,
-    keys: RandomState,
-    declared: &D,
-    words: &SymbolWords<'x>,
-    edits: &Rearranged<'x>,
-    now: &[u8],
-    statement: &Statement<'_>,
-) -> Result<Vec<u8>, Refusal> {
-    let prelude = edits.planned.edited.prelude();
-    let names = edits.names;
-    match assertion_text(alloc, keys, declared, prelude, names, words, statement)? {
-        Some(text) => Ok(text),
-        None => Err(unwritten(alloc, now)?),
-    }
-}
-
 /// The text of an assertion that leaves a block in which others stand: with its comment, and its `$e` with labels of their own.
 fn parted_text<'x, 'a, D: Declared<'a>>(
     alloc: Global,
@@ -126,38 +108,19 @@ fn parted_text<'x, 'a, D: Declared<'a>>(
         comment: comment.as_slice(),
         is_compressed: is_compressed(declared, standing.label),
     };
-    text_of(alloc, keys, declared, words, edits, now, &statement)
-}
-
-/// The text of one that stands elsewhere then, which has this label in the library now.
-fn text_elsewhere<'x, 'a, D: Declared<'a>>(
-    alloc: Global,
-    keys: RandomState,
-    declared: &D,
-    source: &[u8],
-    outline: &Outline<'_>,
-    standing: &Standing<'_>,
-    now: &'x [u8],
-    words: &SymbolWords<'x>,
-    edits: &Rearranged<'x>,
-) -> Result<Vec<u8>, Refusal> {
-    if outline.is_alone(standing) {
-        let stretch = outline.whole(standing);
-        moved_text(alloc, source, stretch, standing.label, edits)
-    } else {
-        parted_text(alloc, keys, declared, source, standing, now, words, edits)
+    let prelude = edits.planned.edited.prelude();
+    match assertion_text(
+        alloc,
+        keys,
+        declared,
+        prelude,
+        edits.names,
+        words,
+        &statement,
+    )? {
+        Some(text) => Ok(text),
+        None => Err(unwritten(alloc, now)?),
     }
-}
-
-/// One more text that is put in.
-fn put_text<'x>(
-    texts: &mut Texts<'x>,
-    now: &'x [u8],
-    text: Vec<u8>,
-    is_in_front: bool,
-) -> Result<(), AllocError> {
-    texts.insert(now, Piece { text, is_in_front })?;
-    Ok(())
 }
 
 /// The texts of those that stand elsewhere then.
@@ -174,11 +137,19 @@ fn put_moved<'x, 'a, D: Declared<'a>>(
 ) -> Result<(), Refusal> {
     for standing in outline.assertions.as_slice() {
         if let Some(now) = moving.labels.text_for(standing.label) {
-            let text = text_elsewhere(
-                alloc, keys, declared, source, outline, standing, now, words, edits,
-            )?;
+            let text = if outline.is_alone(standing) {
+                moved_text(
+                    alloc,
+                    source,
+                    outline.whole(standing),
+                    standing.label,
+                    edits,
+                )?
+            } else {
+                parted_text(alloc, keys, declared, source, standing, now, words, edits)?
+            };
             let is_in_front = moving.in_front.text_for(standing.label).is_some();
-            put_text(texts, now, text, is_in_front)?;
+            texts.insert(now, Piece { text, is_in_front })?;
         }
     }
     Ok(())
@@ -204,6 +175,7 @@ fn put_added<'x, 'a, D: Declared<'a>>(
     texts: &mut Texts<'x>,
 ) -> Result<(), Refusal> {
     let is_compressed = has_compressed(declared);
+    let prelude = edits.planned.edited.prelude();
     for followed in edits.planned.living {
         let (None, Some(assertion)) = (followed.source, edits.edited.get(&followed.now)) else {
             continue;
@@ -214,9 +186,21 @@ fn put_added<'x, 'a, D: Declared<'a>>(
             comment: b"",
             is_compressed,
         };
-        let now = followed.now;
-        let text = text_of(alloc, keys, declared, words, edits, now, &statement)?;
-        put_text(texts, now, text, false)?;
+        match assertion_text(
+            alloc,
+            keys,
+            declared,
+            prelude,
+            edits.names,
+            words,
+            &statement,
+        )? {
+            Some(text) => {
+                let is_in_front = false;
+                texts.insert(followed.now, Piece { text, is_in_front })?;
+            }
+            None => return Err(unwritten(alloc, followed.now)?),
+        }
     }
     Ok(())
 }
@@ -231,9 +215,9 @@ fn texts_of<'x, 'a, D: Declared<'a>>(
     moving: &Moving<'x>,
     edits: &Rearranged<'x>,
 ) -> Result<Texts<'x>, Refusal> {
+    let mut texts = HashMap::with_hasher(alloc, keys);
     let prelude = edits.planned.database.prelude();
     let words = symbol_words(alloc, keys, prelude, edits.planned.names)?;
-    let mut texts = HashMap::with_hasher(alloc, keys);
     put_moved(
         alloc, keys, declared, source, outline, moving, &words, edits, &mut texts,
     )?;

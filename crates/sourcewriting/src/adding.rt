@@ -60,21 +60,12 @@ impl Statement<'_> {
 }
 
 /// The words of a library's symbols in the source.
+#[derive(Drop)]
 pub struct SymbolWords<'x> {
     /// Those of the constants, by their places.
     constants: Vec<&'x [u8]>,
     /// Those of the variables of `$f`, by the places of these.
     variables: Vec<&'x [u8]>,
-}
-
-// Proved here once: a derived drop is proved again in each crate that drops such a value.
-impl<'x> Drop for SymbolWords<'x> {
-    fn drop(self) {
-        let SymbolWords {
-            constants: _,
-            variables: _,
-        } = self;
-    }
 }
 
 /// What a name of the library is in the source.
