@@ -23,20 +23,28 @@ const STEPS: &[StoredStep] = &[
 
 const STEP_WORDS: &[u64] = &[6, 4, 11, 2];
 
-/// A label has a word for each byte.
-fn is_label_words(alloc: Global) -> Result<bool, AllocError> {
-    Ok(
-        encode_label(alloc, b"we")?.as_slice() == LABEL_WORDS
-            && decode_label(alloc, LABEL_WORDS)?.as_slice() == b"we".as_slice(),
-    )
+/// Whether the words that were made are the wanted ones.
+fn are_these(made: Result<Vec<u64>, AllocError>, wanted: &[u64]) -> Result<bool, AllocError> {
+    Ok(made?.as_slice() == wanted)
+}
+
+/// Whether words are read as the label.
+fn is_label(alloc: Global) -> Result<bool, AllocError> {
+    Ok(decode_label(alloc, LABEL_WORDS)?.as_slice() == b"we".as_slice())
+}
+
+/// Whether words are read as the proof.
+fn is_proof(alloc: Global) -> Result<bool, AllocError> {
+    Ok(decode_proof(alloc, STEP_WORDS)?.as_slice() == STEPS)
 }
 
 /// A label has a word for each byte, and a proof one for each step.
 pub(crate) fn are_words(alloc: Global) -> Result<bool, AllocError> {
     Ok(
-        is_label_words(alloc)?
-            && encode_proof(alloc, STEPS)?.as_slice() == STEP_WORDS
-            && decode_proof(alloc, STEP_WORDS)?.as_slice() == STEPS,
+        are_these(encode_label(alloc, b"we"), LABEL_WORDS)?
+            && are_these(encode_proof(alloc, STEPS), STEP_WORDS)?
+            && is_label(alloc)?
+            && is_proof(alloc)?,
     )
 }
 
@@ -76,7 +84,7 @@ fn is_read(alloc: Global, assertion: &Assertion, words: &[u64]) -> Result<bool, 
 
 /// Whether the statement of an assertion has these words, and they are those of the statement.
 fn is_in_words(alloc: Global, assertion: &Assertion, words: &[u64]) -> Result<bool, AllocError> {
-    Ok(is_read(alloc, assertion, words)? && encode_statement(alloc, assertion)?.as_slice() == words)
+    Ok(is_read(alloc, assertion, words)? && are_these(encode_statement(alloc, assertion), words)?)
 }
 
 /// Whether those of a database of an axiom and a theorem have.

@@ -29,6 +29,149 @@ const CALLS: usize = 16;
 /// No script.
 const NONE: usize = usize::MAX;
 
+/// Scripts that workers run, and what becomes of them. A row of texts and numbers alone costs the check little.
+struct Row {
+    name: &'static str,
+    /// The texts of the scripts, or the one that all have.
+    texts: &'static str,
+    scripts: usize,
+    workers: usize,
+    /// The script that waits for the end of another one, and that one.
+    waiting: usize,
+    awaited: usize,
+    /// How many entries the history has.
+    entries: usize,
+    /// The letter of each script's last outcome, or that of all; and what it may be in place of that.
+    wanted: &'static str,
+    or: &'static str,
+    /// How many calls the gate has, where it is asked whether these are the right ones.
+    calls: usize,
+}
+
+/// Each of the scripts shows an assertion.
+const SHOW: &str = "begin show we commit";
+
+/// Two scripts, each of which gives the same assertion another label.
+const RENAMES: &str = "begin rename we u commit|begin rename we v commit";
+
+/// Three scripts, with two transactions, with none, and with one, which is refused.
+const UNEVEN: &str = "begin show we commit begin show we commit||begin show none commit";
+
+const ROWS: [Row; 9] = [
+    // So many scripts are run at once, as one of them waits for another one's end.
+    Row {
+        name: "two_scripts_are_run_at_once",
+        texts: SHOW,
+        scripts: 2,
+        workers: 2,
+        waiting: 0,
+        awaited: 1,
+        entries: 0,
+        wanted: "r",
+        or: "r",
+        calls: 0,
+    },
+    Row {
+        name: "two_scripts_are_run_at_once",
+        texts: SHOW,
+        scripts: 2,
+        workers: 2,
+        waiting: 1,
+        awaited: 0,
+        entries: 0,
+        wanted: "r",
+        or: "r",
+        calls: 0,
+    },
+    Row {
+        name: "sixty_four_scripts_are_run_at_once",
+        texts: SHOW,
+        scripts: 64,
+        workers: 64,
+        waiting: 0,
+        awaited: 63,
+        entries: 0,
+        wanted: "r",
+        or: "r",
+        calls: 0,
+    },
+    Row {
+        name: "sixty_four_scripts_are_run_at_once",
+        texts: SHOW,
+        scripts: 64,
+        workers: 64,
+        waiting: 63,
+        awaited: 0,
+        entries: 0,
+        wanted: "r",
+        or: "r",
+        calls: 0,
+    },
+    // A script that waits comes behind the awaited one, which does what both ask for.
+    Row {
+        name: "a_script_waits_before_its_first_transaction",
+        texts: RENAMES,
+        scripts: 2,
+        workers: 2,
+        waiting: 0,
+        awaited: 1,
+        entries: 1,
+        wanted: "1|c",
+        or: "1|c",
+        calls: 0,
+    },
+    Row {
+        name: "a_script_waits_before_its_first_transaction",
+        texts: RENAMES,
+        scripts: 2,
+        workers: 2,
+        waiting: 1,
+        awaited: 0,
+        entries: 1,
+        wanted: "c|1",
+        or: "c|1",
+        calls: 0,
+    },
+    // A gate is told of each script in its order, and where one worker alone runs them, of one script behind another.
+    Row {
+        name: "one_worker_tells_its_gate_of_each_script_in_turn",
+        texts: UNEVEN,
+        scripts: 3,
+        workers: 1,
+        waiting: NONE,
+        awaited: NONE,
+        entries: 0,
+        wanted: "r|-|0",
+        or: "r|-|0",
+        calls: 9,
+    },
+    Row {
+        name: "two_workers_tell_a_gate_of_each_script",
+        texts: UNEVEN,
+        scripts: 3,
+        workers: 2,
+        waiting: NONE,
+        awaited: NONE,
+        entries: 0,
+        wanted: "r|-|0",
+        or: "r|-|0",
+        calls: 9,
+    },
+    // Of two renamings on two threads one is done, and the other refused behind it, where none waits.
+    Row {
+        name: "one_of_two_renames_on_threads_is_done",
+        texts: RENAMES,
+        scripts: 2,
+        workers: 2,
+        waiting: NONE,
+        awaited: NONE,
+        entries: 1,
+        wanted: "c|1",
+        or: "1|c",
+        calls: 0,
+    },
+];
+
 /// Keeps one script waiting until another has its last outcome, for so many turns, and writes down the first calls, one after another.
 struct Watch {
     waiting: usize,
@@ -95,6 +238,21 @@ impl Watch {
         }
         at == calls.len()
     }
+
+    /// Whether no turns went by, and where a row asks for that, this was told of each of its scripts in order, and of one behind another
+    /// where one worker runs them.
+    fn is_right(&self, row: &Row) -> bool {
+        let has_waited = !self.gave_up.load(SeqCst);
+        if row.calls == 0 {
+            return has_waited;
+        }
+        has_waited
+            && self.count.load(SeqCst) == row.calls
+            && (row.workers > 1 || self.tells(0, 0, b"0PPp1q2Rr"))
+            && self.tells(15, 0, b"0PPp")
+            && self.tells(15, 1, b"1q")
+            && self.tells(15, 2, b"2Rr")
+    }
 }
 
 impl Gate for Watch {
@@ -125,41 +283,59 @@ impl Gate for Watch {
     }
 }
 
-/// The scripts of texts.
-fn scripts_of(alloc: Global, library: &Library, texts: &[&[u8]]) -> Result<Vec<Script>, Fail>
+/// The part of a script in a text: one of its parts between bars, or all of a text that has none for it.
+fn part_of(text: &str, script: usize) -> &str {
+    text.split('|').nth(script).unwrap_or(text)
+}
+
+/// The scripts of a row.
+fn scripts_of(alloc: Global, library: &Library, row: &Row) -> Result<Vec<Script>, Fail>
     ensures { IfOk result (λ scripts. All (All (All (CommandFits (setting_of library.now.given).prelude))) scripts.items) }
 {
     let prelude = library.prelude();
     let mut scripts = Vec::new(alloc);
-    for text in texts {
-        scripts.push(read_script(alloc, prelude, text)?)?;
+    for script in 0..row.scripts {
+        let text = part_of(row.texts, script);
+        scripts.push(read_script(alloc, prelude, text.as_bytes())?)?;
     }
     Ok(scripts)
 }
 
-/// The last outcome of each script: it read the library at its opening, is the first entry of the history, was refused at the place 0 or
-/// 1, or is another one, or there is none.
-fn letters(alloc: Global, outcomes: &[Vec<Outcome>]) -> Result<Vec<u8>, AllocError> {
-    let mut letters = Vec::new(alloc);
-    for own in outcomes {
-        letters.push(match own.last() {
-            None => b'-',
-            Some(Outcome::Read { place: 0, .. }) => b'r',
-            Some(Outcome::Committed { number: 1, .. }) => b'c',
-            Some(Outcome::Refused { place: 0, .. }) => b'0',
-            Some(Outcome::Refused { place: 1, .. }) => b'1',
-            Some(_) => b'?',
-        })?;
+/// The letter of a script's last outcome: it read the library at its opening, is the first entry of the history, was refused at the place
+/// 0 or 1, or is another one, or there is none.
+fn letter_of(outcomes: &[Outcome]) -> &'static str {
+    match outcomes.last() {
+        None => "-",
+        Some(Outcome::Read { place: 0, .. }) => "r",
+        Some(Outcome::Committed { number: 1, .. }) => "c",
+        Some(Outcome::Refused { place: 0, .. }) => "0",
+        Some(Outcome::Refused { place: 1, .. }) => "1",
+        Some(_) => "?",
     }
-    Ok(letters)
 }
 
-/// What becomes of the scripts of texts, where these sessions run them and a gate is told of them.
+/// Whether the last outcomes of scripts have these letters.
+fn are_these(outcomes: &[Vec<Outcome>], wanted: &str) -> bool {
+    for (script, own) in outcomes.iter().enumerate() {
+        if letter_of(own.as_slice()) != part_of(wanted, script) {
+            return false;
+        }
+    }
+    true
+}
+
+/// Whether so many scripts as a row has had the last outcomes that it wants.
+fn are_wanted(row: &Row, outcomes: &[Vec<Outcome>]) -> bool {
+    outcomes.len() == row.scripts
+        && (are_these(outcomes, row.wanted) || are_these(outcomes, row.or))
+}
+
+/// What becomes of the scripts of a row, where these sessions run them and a gate is told of them.
 fn work<R: AllocGlobal + Threads + Wait + Sync>(
     rt: &R,
     library: &Library,
     sessions: Vec<Session>,
-    texts: &[&[u8]],
+    row: &Row,
     gate: &Watch,
 ) -> Result<Worked, Fail>
     requires { All (IsOf library.now) sessions.items }
@@ -168,7 +344,7 @@ fn work<R: AllocGlobal + Threads + Wait + Sync>(
     if sessions.is_empty() {
         return Err(Fail::from("there are sessions"));
     }
-    let scripts = scripts_of(rt.alloc(), library, texts)?;
+    let scripts = scripts_of(rt.alloc(), library, row)?;
     let Worked { outcomes, sessions } = run_scripts(
         rt,
         rt.alloc(),
@@ -180,110 +356,48 @@ fn work<R: AllocGlobal + Threads + Wait + Sync>(
     Ok(Worked { outcomes, sessions })
 }
 
-/// The last outcomes of the scripts of texts, where so many sessions run them and a gate is told of them. At its end the library has its
-/// one assertion, and so many entries.
-fn run<R: AllocGlobal + RandomSource + Threads + Wait + Sync>(
+/// Whether the scripts of a row have the wanted outcomes, where sessions run them and a gate is told of them. At its end the library has
+/// its one assertion, and an entry for each that commits.
+fn is_done<R: AllocGlobal + RandomSource + Threads + Wait + Sync>(
     rt: &R,
-    texts: &[&[u8]],
-    workers: usize,
+    row: &Row,
     gate: &Watch,
-    entries: usize,
-) -> Result<Vec<u8>, Fail> {
-    let (library, sessions) = opened(rt, mini(), 1000, workers)?;
-    let Worked { outcomes, sessions } = work(rt, &library, sessions, texts, gate)?;
-    if end_of(rt.alloc(), library, sessions) != Ok((entries, 1)) {
-        return Err(Fail::from("an entry for each that commits"));
-    }
-    letters(rt.alloc(), outcomes.as_slice()).map_err(Fail::from)
+) -> Result<bool, Fail> {
+    let (library, sessions) = opened(rt, mini(), 1000, row.workers)?;
+    let Worked { outcomes, sessions } = work(rt, &library, sessions, row, gate)?;
+    let end = end_of(rt.alloc(), library, sessions);
+    Ok(end == Ok((row.entries, 1)) && are_wanted(row, outcomes.as_slice()) && gate.is_right(row))
 }
 
-/// Whether the outcomes begin with the first and end with the last of two, and those between are the same as the first.
-fn are_these(outcomes: &[u8], wanted: &[u8]) -> bool {
-    let Some((last, front)) = outcomes.split_last() else {
-        return false;
-    };
-    let Some(first) = front.first() else {
-        return false;
-    };
-    wanted == [*first, *last].as_slice() && front.iter().all(|outcome| outcome == first)
-}
-
-/// Whether as many sessions as scripts run all of them with these outcomes, where one of these waits for another one's end.
-fn wait<R: AllocGlobal + RandomSource + Threads + Wait + Sync>(
+/// Whether the calls of a row are answered as is wanted.
+fn is_answered<R: AllocGlobal + RandomSource + Threads + Wait + Sync>(
     rt: &R,
-    texts: &[&[u8]],
-    waiting: usize,
-    awaited: usize,
-    entries: usize,
-    wanted: &[u8],
+    row: &Row,
 ) -> Result<bool, Fail> {
-    let gate = Watch::new(rt.alloc(), waiting, awaited)?;
-    let outcomes = run(rt, texts, texts.len(), &gate, entries)?;
-    Ok(are_these(outcomes.as_slice(), wanted) && !gate.gave_up.load(SeqCst))
+    let gate = Watch::new(rt.alloc(), row.waiting, row.awaited)?;
+    is_done(rt, row, &gate)
 }
 
-/// Scripts each of which shows an assertion.
-const SHOWS: [&[u8]; 64] = [b"begin show we commit"; 64];
+/// Whether there are calls of this name.
+pub(crate) fn has_rows(name: &str) -> bool {
+    for row in &ROWS {
+        if row.name == name {
+            return true;
+        }
+    }
+    false
+}
 
-/// What becomes of the first and the last of them.
-const READS: &[u8] = b"rr";
-
-/// So many scripts are run at once, each of which shows an assertion: one of them waits for another one's end.
-pub(crate) fn are_run_at_once(
+/// Makes the calls of this name, and says whether the answers are the wanted ones.
+pub(crate) fn make(
     rt: &(impl AllocGlobal + RandomSource + Threads + Wait + Sync),
-    count: usize,
+    name: &str,
 ) -> Result<bool, Fail> {
-    let texts = SHOWS.get(..count).unwrap_or(&SHOWS);
-    let last = count.saturating_sub(1);
-    Ok(wait(rt, texts, 0, last, 0, READS)? && wait(rt, texts, last, 0, 0, READS)?)
-}
-
-/// Two scripts, each of which gives the same assertion another label.
-const RENAMES: &[&[u8]] = &[b"begin rename we u commit", b"begin rename we v commit"];
-
-/// A script that waits comes behind the awaited one, which does what both ask for.
-pub(crate) fn waits_at_its_begin(
-    rt: &(impl AllocGlobal + RandomSource + Threads + Wait + Sync),
-) -> Result<bool, Fail> {
-    Ok(wait(rt, RENAMES, 0, 1, 1, b"1c")? && wait(rt, RENAMES, 1, 0, 1, b"c1")?)
-}
-
-/// Whether one of two is the first entry, and the other is refused behind it.
-fn is_one_done(outcomes: &[u8]) -> bool {
-    outcomes == b"c1".as_slice() || outcomes == b"1c".as_slice()
-}
-
-/// Of two renamings on two threads one is done, and the other refused behind it, where none waits.
-pub(crate) fn one_of_two_is_done(
-    rt: &(impl AllocGlobal + RandomSource + Threads + Wait + Sync),
-) -> Result<bool, Fail> {
-    let gate = Watch::new(rt.alloc(), NONE, NONE)?;
-    let outcomes = run(rt, RENAMES, 2, &gate, 1)?;
-    Ok(is_one_done(outcomes.as_slice()))
-}
-
-/// Three scripts, with two transactions, with none, and with one, which is refused.
-const UNEVEN: &[&[u8]] = &[
-    b"begin show we commit begin show we commit",
-    b"",
-    b"begin show none commit",
-];
-
-/// Whether a gate was told of each of these scripts in its order, and of one behind another where that is wanted.
-fn tells_all(gate: &Watch, is_in_turn: bool) -> bool {
-    gate.count.load(SeqCst) == 9
-        && (!is_in_turn || gate.tells(0, 0, b"0PPp1q2Rr"))
-        && gate.tells(15, 0, b"0PPp")
-        && gate.tells(15, 1, b"1q")
-        && gate.tells(15, 2, b"2Rr")
-}
-
-/// A gate is told of each script in its order, and where one worker alone runs them, of one script behind another.
-pub(crate) fn is_told(
-    rt: &(impl AllocGlobal + RandomSource + Threads + Wait + Sync),
-    workers: usize,
-) -> Result<bool, Fail> {
-    let gate = Watch::new(rt.alloc(), NONE, NONE)?;
-    let outcomes = run(rt, UNEVEN, workers, &gate, 0)?;
-    Ok(outcomes.as_slice() == b"r-0".as_slice() && tells_all(&gate, workers == 1))
+    let mut are_so = true;
+    for row in &ROWS {
+        if row.name == name {
+            are_so = are_so && is_answered(rt, row)?;
+        }
+    }
+    Ok(are_so)
 }

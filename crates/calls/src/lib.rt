@@ -46,13 +46,8 @@ fn make_on_sessions(
     name: &str,
 ) -> Result<bool, Fail> {
     match name {
-        "two_scripts_are_run_at_once" => gates::are_run_at_once(rt, 2),
-        "sixty_four_scripts_are_run_at_once" => gates::are_run_at_once(rt, 64),
-        "a_script_waits_before_its_first_transaction" => gates::waits_at_its_begin(rt),
-        "one_worker_tells_its_gate_of_each_script_in_turn" => gates::is_told(rt, 1),
-        "two_workers_tell_a_gate_of_each_script" => gates::is_told(rt, 2),
-        "one_of_two_renames_on_threads_is_done" => gates::one_of_two_is_done(rt),
         "conflicted_tries_take_no_further_word" => meeting::took_no_further_word(rt),
+        _ if gates::has_rows(name) => gates::make(rt, name),
         _ => memory::make(rt, name),
     }
 }
@@ -68,13 +63,14 @@ pub fn make(
     subject: &[u8],
     name: &str,
 ) -> Result<(), Fail> {
-    let is_so = match subject {
-        b"calls on cells" => make_on_cells(rt, name),
-        _ => make_on_sessions(rt, name),
-    };
-    if is_so? {
-        Ok(())
+    let is_so = if subject == b"calls on cells".as_slice() {
+        make_on_cells(rt, name)
     } else {
-        Err(Fail::from("each answer is the wanted one"))
+        make_on_sessions(rt, name)
+    };
+    match is_so {
+        Ok(true) => Ok(()),
+        Ok(false) => Err(Fail::from("each answer is the wanted one")),
+        Err(fail) => Err(fail),
     }
 }

@@ -7,7 +7,7 @@
 ghost use Rattle.std.specs.Prelude.{All};
 ghost use Rattle.transaction.specs.Members.{IsOf};
 
-use crate::samples::{database, demo};
+use crate::samples::{DEMO, database};
 use crate::sessions::{end_of, opened, tried};
 use export::write_library;
 use finishing::FinishError;
@@ -138,7 +138,7 @@ replace th3 th th rename th3 rule move rule 501 show rule list delete rule commi
 ];
 
 /// A database with `$d` and `$e`, whose second theorem cites the first: both are of the same rule.
-const RULES: &[u8] = b"$c wff |- $.
+const RULES: &str = "$c wff |- $.
 $v x y $.
 wx $f wff x $.
 wy $f wff y $.
@@ -162,13 +162,10 @@ pub(crate) fn make(
     name: &str,
 ) -> Result<bool, Fail> {
     for row in &ROWS {
-        if row.name != name {
-            continue;
+        if row.name == name {
+            let text = if row.database == "rules" { RULES } else { DEMO };
+            return is_answered(rt, row, text.as_bytes());
         }
-        if row.database == "rules" {
-            return is_answered(rt, row, RULES);
-        }
-        return is_answered(rt, row, demo(rt.alloc())?.as_slice());
     }
     Err(Fail::from("there are no calls of this name"))
 }

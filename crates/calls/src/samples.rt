@@ -5,7 +5,7 @@ ghost use Rattle.derivation.specs.Databases.{AllCheck};
 
 use mmstatement::{Database, read_database};
 use proofcheck::check_all;
-use std::alloc::{AllocError, AllocGlobal, Global};
+use std::alloc::AllocGlobal;
 use std::hash::RandomState;
 use std::random::RandomSource;
 use std::test::Fail;
@@ -55,21 +55,15 @@ $}
 "
 }
 
-/// The declarations of `examples/demo.mm`.
-fn demo_prelude() -> &'static [u8] {
-    b"$c 0 + = -> ( ) term wff |- $.
+/// The text of `examples/demo.mm`, in the canonical layout.
+pub(crate) const DEMO: &str = "$c 0 + = -> ( ) term wff |- $.
 $v t r s P Q $.
 tt $f term t $.
 tr $f term r $.
 ts $f term s $.
 wp $f wff P $.
 wq $f wff Q $.
-"
-}
-
-/// Its assertions.
-fn demo_assertions() -> &'static [u8] {
-    b"tze $a term 0 $.
+tze $a term 0 $.
 tpl $a term ( t + r ) $.
 weq $a wff t = r $.
 wim $a wff ( P -> Q ) $.
@@ -81,12 +75,4 @@ ${
   mp $a |- Q $.
 $}
 th1 $p |- t = t $= tt tze tpl tt weq tt tt weq tt a2 tt tze tpl tt weq tt tze tpl tt weq tt tt weq wim tt a2 tt tze tpl tt tt a1 mp mp $.
-"
-}
-
-/// The text of `examples/demo.mm`, in the canonical layout.
-pub(crate) fn demo(alloc: Global) -> Result<Vec<u8>, AllocError> {
-    let mut text = Vec::from_slice(alloc, demo_prelude())?;
-    text.extend_from_slice(demo_assertions())?;
-    Ok(text)
-}
+";

@@ -26,33 +26,35 @@ pub(crate) fn read_db(
     read_database(rt.alloc(), keys, text.as_slice()).ok()
 }
 
-/// The script in a file. None where there is none, or no memory.
-fn read_one(rt: &(impl AllocGlobal + Files), prelude: &Prelude, path: &str) -> Option<Script>
-    ensures { IfSome result (All (All (CommandFits prelude.now))) }
+/// Puts the script in a file behind others. None where there is none, or no memory.
+fn put_script(
+    rt: &(impl AllocGlobal + Files),
+    prelude: &Prelude,
+    path: &str,
+    scripts: &mut Vec<Script>,
+) -> Option<()>
+    requires { All (All (All (CommandFits prelude.now))) scripts.old.items }
+    ensures { All (All (All (CommandFits prelude.now))) scripts.new.items }
 {
     let text = fs::read(rt, path).ok()?;
-    read_script(rt.alloc(), prelude, text.as_slice()).ok()
+    let script = read_script(rt.alloc(), prelude, text.as_slice()).ok()?;
+    scripts.push(script).ok()
 }
 
-/// Puts the scripts in files behind others; false where one of the files has none, or there is no memory.
+/// Puts the scripts in files behind others. None where one of the files has none, or there is no memory.
 fn put_scripts(
     rt: &(impl AllocGlobal + Files),
     prelude: &Prelude,
     paths: &[String],
     scripts: &mut Vec<Script>,
-) -> bool
+) -> Option<()>
     requires { All (All (All (CommandFits prelude.now))) scripts.old.items }
     ensures { All (All (All (CommandFits prelude.now))) scripts.new.items }
 {
     for path in paths {
-        let Some(script) = read_one(rt, prelude, path.as_str()) else {
-            return false;
-        };
-        if scripts.push(script).ok().is_none() {
-            return false;
-        }
+        put_script(rt, prelude, path.as_str(), scripts)?;
     }
-    true
+    Some(())
 }
 
 /// The scripts in files. None where one of them has none, or there is no memory.
@@ -64,6 +66,6 @@ pub(crate) fn read_scripts(
     ensures { IfSome result (λ v. All (All (All (CommandFits prelude.now))) v.items) }
 {
     let mut scripts = Vec::new(rt.alloc());
-    let are_read = put_scripts(rt, prelude, paths, &mut scripts);
+    let are_read = put_scripts(rt, prelude, paths, &mut scripts).is_some();
     are_read.then_some(scripts)
 }

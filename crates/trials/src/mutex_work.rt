@@ -42,13 +42,16 @@ fn work<R: Wait>(
 
 /// All that shares count, together.
 fn sum_of(shares: &[Counts]) -> Counts {
-    let mut counts = [0_u64; 4];
-    for share in shares {
-        for (count, own) in counts.iter_mut().zip(share) {
-            *count = count.saturating_add(*own);
-        }
+    let mut sum: Counts = [0; 4];
+    for [committed, read, refused, other] in shares {
+        sum = [
+            sum[0].saturating_add(*committed),
+            sum[1].saturating_add(*read),
+            sum[2].saturating_add(*refused),
+            sum[3].saturating_add(*other),
+        ];
     }
-    counts
+    sum
 }
 
 /// Does the scripts by so many threads. None where there is no memory or a clock can't be read.

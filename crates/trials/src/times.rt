@@ -47,7 +47,10 @@ pub(crate) fn tell(
     voids: u64,
     counts: Counts,
 ) -> Option<Ending> {
-    say(rt, start?, end?, voids);
+    let (Some(start), Some(end)) = (start, end) else {
+        return None;
+    };
+    say(rt, start, end, voids);
     let [committed, read, refused, other] = counts;
     finish(
         rt,

@@ -22,15 +22,12 @@ fn do_at_rest<'w>(
     requires { RestsAt words.now rest }
     ensures { StandsAt words.now result.0 }
 {
-    if step.letter != b'b' {
-        return (Stand::AtRest(rest), false);
-    }
-    match mode_of(step.words) {
-        Some(mode) => {
+    match (step.letter, mode_of(step.words)) {
+        (b'b', Some(mode)) => {
             let playing = begin_run(alloc, out, words, rest, mode);
             (Stand::Running(playing), true)
         }
-        None => (Stand::AtRest(rest), false),
+        _ => (Stand::AtRest(rest), false),
     }
 }
 
@@ -46,12 +43,9 @@ fn do_running<'w>(
     requires runs { RunsAt words.now playing }
     ensures { StandsAt words.now result.0 }
 {
-    match step.letter {
-        b'e' => (Stand::AtRest(leave(out, words, playing)), true),
-        b'c' => match step.numbers {
-            [note] => (Stand::AtRest(commit(out, words, playing, *note)), true),
-            _ => (Stand::Running(playing), false),
-        },
+    match (step.letter, step.numbers) {
+        (b'e', _) => (Stand::AtRest(leave(out, words, playing)), true),
+        (b'c', [note]) => (Stand::AtRest(commit(out, words, playing, *note)), true),
         _ => {
             let is_done = go_on(out, words, named, &mut playing, step);
             (Stand::Running(playing), is_done)

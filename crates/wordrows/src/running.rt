@@ -258,29 +258,17 @@ pub fn go_on(
     requires runs { RunsAt words.now playing.old }
     ensures { RunsAt words.now playing.new }
 {
-    match step.letter {
-        b's' => stage(out, words, playing, step.numbers),
-        b'f' => forget(out, words, playing),
-        b'r' => match step.numbers {
-            [cell] => read(out, words, named, playing, *cell as usize),
-            _ => false,
-        },
-        b'w' => match step.numbers {
-            [cell, value] => write(out, words, named, playing, *cell as usize, *value),
-            _ => false,
-        },
-        b'n' => match step.numbers {
-            [cell, start, len] => {
-                name(out, words, playing, *cell as usize, range_of(*start, *len))
-            }
-            _ => false,
-        },
-        b'l' => match step.numbers {
-            [start, len, index] => {
-                load(out, words, playing, range_of(*start, *len), *index as usize)
-            }
-            _ => false,
-        },
+    match (step.letter, step.numbers) {
+        (b's', staged) => stage(out, words, playing, staged),
+        (b'f', _) => forget(out, words, playing),
+        (b'r', [cell]) => read(out, words, named, playing, *cell as usize),
+        (b'w', [cell, value]) => write(out, words, named, playing, *cell as usize, *value),
+        (b'n', [cell, start, len]) => {
+            name(out, words, playing, *cell as usize, range_of(*start, *len))
+        }
+        (b'l', [start, len, index]) => {
+            load(out, words, playing, range_of(*start, *len), *index as usize)
+        }
         _ => false,
     }
 }
