@@ -1,6 +1,7 @@
 -- What is stated of an assertion whose names all have places, and what becomes of it.
-use Rattle.std.proofs.Common.{◌≡◌, ◌∙◌, List, [], true, refl, sym, ap, subst}
-use Rattle.std.specs.Prelude.{Option, Some, None, is_some, IfSome, filter_map}
+use Rattle.std.proofs.Common.{◌≡◌, ◌∙◌, List, [], true, refl, sym, ap, subst, Result, Ok, Err}
+use Rattle.std.specs.declared.alloc.AllocError.{AllocError}
+use Rattle.std.specs.Prelude.{Option, Some, None, is_some, IfSome, IfOk, filter_map}
 use Rattle.std.specs.Option.{option_map}
 use Rattle.std.proofs.lemmas.Option.{same_Some}
 use Rattle.mmtext.specs.Words.{Word}
@@ -18,7 +19,7 @@ use Rattle.sites.specs.Actives.{Placed, float_at}
 use Rattle.sites.specs.Sites.{Sited}
 use Rattle.naming.specs.declared.names.LibraryNames.{LibraryNames}
 use Rattle.gathering.specs.Placed.{map_of, symbols_by}
-use Rattle.gathering.specs.Assembled.{HasAllPlaces, IsStated, IsMade, one_of}
+use Rattle.gathering.specs.Assembled.{HasAllPlaces, IsStatedBy, IsStated, IsMade, one_of}
 use Rattle.gathering.specs.Outcomes.{IsOutcome, HasStepsFor}
 use Rattle.gathering.specs.declared.assembling.One.{One}
 use Rattle.gathering.specs.declared.proving.Outcome.{Outcome}
@@ -63,20 +64,17 @@ module _ (t : Sited) (names : LibraryNames) (tables : Tables) (p : Placed) (hs :
       not_none (label_in (map_of t names) x.label) known.label
       (subst (λ (v : Word). label_in (map_of t names) v ≡ None) same none)
 
-  pub stated_same : (o : Option Assertion) (words : List Word) (own : Word) (ps : List Pair) (a : Unit')
+  stated_one : (o : Option Assertion) (words : List Word) (own name : Word) (ps : List Pair) (a : Unit')
       → IfSome o (HasAllPlaces (map_of t names) tables)
       → option_map (λ x. x.active) o ≡ Some hs
       → option_map (λ x. x.statement) o ≡ Some words
       → option_map (λ x. x.label) o ≡ Some own
       → option_map (λ x. x.pairs) o ≡ Some ps
-      → label_in (map_of t names) own ≡ Some a.label
-      → Some a.hyps ≡ each (each (symbols_by p)) (premises hs)
-      → Some a.statement ≡ each (symbols_by p) words
-      → a.pairs ≡ ascending (filter_map (λ q. pair_at (float_at p q.0) (float_at p q.1)) ps)
-      → a.kind ≡ Axiom → a.proof ≡ []
+      → label_in (map_of t names) own ≡ Some name
+      → IsStatedBy p name ps hs words a
       → IfSome o (λ x. IsStated (map_of t names) tables x a)
-  stated_same None words own ps a known h w l q label hyps statement pairs kind proof = absurd cc
-  stated_same (Some x) words own ps a known h w l q label hyps statement pairs kind proof =
+  stated_one None words own name ps a known h w l q label by = absurd cc
+  stated_one (Some x) words own name ps a known h w l q label by =
       let m = map_of t names in
       let active : hs ≡ x.active = sym (same_Some x.active hs h) in
       let said : words ≡ x.statement = sym (same_Some x.statement words w) in
@@ -85,22 +83,34 @@ module _ (t : Sited) (names : LibraryNames) (tables : Tables) (p : Placed) (hs :
       let here : p ≡ made_of t x.active = made ∙ ap (made_of t) active in
       record {
         says = record {
-          label = subst (λ (v : Word). label_in m v ≡ Some a.label) named label;
+          label = subst (λ (v : Word). label_in m v ≡ Some a.label) named (label ∙ ap Some (sym by.label));
           floats = known.floats;
           hyps =
               sym (subst (λ (r : Placed). Some a.hyps ≡ each (each (symbols_by r)) (premises x.active)) here
-              (subst (λ (ks : List Hypothesis). Some a.hyps ≡ each (each (symbols_by p)) (premises ks)) active hyps));
+              (subst (λ (ks : List Hypothesis). Some a.hyps ≡ each (each (symbols_by p)) (premises ks)) active by.hyps));
           statement =
               sym (subst (λ (r : Placed). Some a.statement ≡ each (symbols_by r) x.statement) here
-              (subst (λ (ws : List Word). Some a.statement ≡ each (symbols_by p) ws) said statement));
+              (subst (λ (ws : List Word). Some a.statement ≡ each (symbols_by p) ws) said by.statement));
           pairs =
               sym (subst (λ (r : Placed). a.pairs ≡ ascending (filter_map (λ q. pair_at (float_at r q.0) (float_at r q.1)) x.pairs)) here
               (subst (λ (qs : List Pair). a.pairs ≡ ascending (filter_map (λ q. pair_at (float_at p q.0) (float_at p q.1)) qs)) apart
-              pairs));
+              by.pairs));
         };
-        kind = kind;
-        proof = proof;
+        kind = by.kind;
+        proof = by.proof;
       }
+
+  pub stated_same : (o : Option Assertion) (words : List Word) (own name : Word) (ps : List Pair) (made : Result Unit' AllocError)
+      → IfSome o (HasAllPlaces (map_of t names) tables)
+      → option_map (λ x. x.active) o ≡ Some hs
+      → option_map (λ x. x.statement) o ≡ Some words
+      → option_map (λ x. x.label) o ≡ Some own
+      → option_map (λ x. x.pairs) o ≡ Some ps
+      → label_in (map_of t names) own ≡ Some name
+      → IfOk made (IsStatedBy p name ps hs words)
+      → IfOk made (λ a. IfSome o (λ x. IsStated (map_of t names) tables x a))
+  stated_same o words own name ps (Ok a) known h w l q label by = stated_one o words own name ps a known h w l q label by
+  stated_same o words own name ps (Err e) known h w l q label by = tt
 
 -- ---- proofs
 

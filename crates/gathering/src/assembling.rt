@@ -1,25 +1,28 @@
 //! The assertions of a library: what each says, and what becomes of its proof.
 
-ghost use Rattle.std.specs.Prelude.{◌≡◌, ◌<◌, ◌++◌, ◌∷◌, [], length, take, slice_get, IfOk, OnOk, IfSome};
+ghost use Rattle.std.specs.Prelude.{◌≡◌, ◌≢◌, ◌<◌, ◌++◌, ◌∷◌, [], None, length, take, slice_get, IfOk, OnOk, IfSome};
 ghost use Rattle.std.specs.Option.{option_map};
+ghost use Rattle.source.specs.Views.{seen_pairs, seen_words};
 ghost use Rattle.source.specs.Whole.{IsWhole};
 ghost use Rattle.taking.specs.Reasons.{Choice, AreFlags, kept};
+ghost use Rattle.taking.specs.Says.{each, premises};
 ghost use Rattle.taking.specs.Taken.{AreTaken, told};
 ghost use Rattle.prooftrees.specs.Frames.{Holds};
+ghost use Rattle.sites.specs.Given.{given_hypotheses};
 ghost use Rattle.sites.specs.Sites.{AreSites};
-ghost use Rattle.gathering.specs.Assembled.{HasAllPlaces, IsStated, IsMade, one_of, told_with};
+ghost use Rattle.gathering.specs.Assembled.{HasAllPlaces, IsStatedBy, IsStated, IsMade, one_of, told_with};
 ghost use Rattle.gathering.specs.Gatherings.{told_in};
 ghost use Rattle.gathering.specs.Outcomes.{HasStepsFor};
-ghost use Rattle.gathering.specs.Placed.{map_of, tables_of};
+ghost use Rattle.gathering.specs.Placed.{map_of, tables_of, symbols_by};
 
 use crate::following::Follow;
 use crate::places::Placed;
 use crate::proving::{Outcome, outcome_at};
 use crate::saying::{placed_expression, placed_premises, restrictions};
-use mmsyntax::{Assertion, Kind, Proof};
+use mmsyntax::{Assertion, Kind, Label, Proof};
 use prooftrees::Frames;
 use sites::{Active, active_at};
-use source::Declared;
+use source::{Declared, HypothesisWords};
 use std::alloc::{AllocError, Global};
 use std::hash::RandomState;
 use taking::Reason;
@@ -29,6 +32,33 @@ use taking::Reason;
 pub(crate) struct One {
     pub(crate) assertion: Assertion,
     pub(crate) reason: Option<Reason>,
+}
+
+/// An assertion with a label, pairs, hypotheses and a statement, without a proof, by the places that its words have.
+fn stated_by(
+    alloc: Global,
+    keys: RandomState,
+    places: &Active<'_, '_>,
+    label: &Label,
+    pairs: &[(&[u8], &[u8])],
+    hypotheses: &[HypothesisWords<'_>],
+    words: &[&[u8]],
+) -> Result<Assertion, AllocError>
+    requires hyps { each (each (symbols_by places.now)) (premises (given_hypotheses hypotheses.now)) ≢ None }
+    requires statement { each (symbols_by places.now) (seen_words words.now) ≢ None }
+    ensures { IfOk result (IsStatedBy places.now label.now (seen_pairs pairs.now) (given_hypotheses hypotheses.now) (seen_words words.now)) }
+{
+    let pairs = restrictions(alloc, keys, places, pairs)?;
+    let hyps = placed_premises(alloc, places, hypotheses)?;
+    let statement = placed_expression(alloc, places, words)?;
+    Ok(Assertion {
+        label: label.copy(alloc)?,
+        kind: Kind::Axiom,
+        pairs,
+        hyps,
+        statement,
+        proof: Proof::new(alloc),
+    })
 }
 
 /// The assertion at a place without its proof: its label, pairs, hypotheses and statement.
@@ -56,20 +86,12 @@ fn stated<'a, D: Declared<'a>>(
     let Some(label) = placed.label(own) else {
         unreachable!()
     };
-    let hypotheses = active_at(alloc, declared, place)?;
-    let places = Active::new(alloc, keys, placed.sites, hypotheses.as_slice())?;
     let pairs = declared.pairs(alloc, place)?;
-    let pairs = restrictions(alloc, keys, &places, pairs.as_slice())?;
-    let hyps = placed_premises(alloc, &places, hypotheses.as_slice())?;
-    let statement = placed_expression(alloc, &places, words)?;
-    Ok(Assertion {
-        label: label.copy(alloc)?,
-        kind: Kind::Axiom,
-        pairs,
-        hyps,
-        statement,
-        proof: Proof::new(alloc),
-    })
+    let pairs = pairs.as_slice();
+    let hypotheses = active_at(alloc, declared, place)?;
+    let hypotheses = hypotheses.as_slice();
+    let places = Active::new(alloc, keys, placed.sites, hypotheses)?;
+    stated_by(alloc, keys, &places, label, pairs, hypotheses, words)
 }
 
 /// An assertion with what becomes of its proof.

@@ -97,18 +97,18 @@ pub struct Edits<'e, 'x> {
 }
 
 /// The library that was taken again, and all other assertions of the source with the edits, are compared.
-fn compare<'o>(
+fn compare<'o, D: Declared<'o>, E: Declared<'o>>(
     alloc: Global,
     keys: RandomState,
-    old: &Scopes<'o>,
-    new: &Scopes<'o>,
+    old: &D,
+    new: &E,
     taken: &Taken<'o>,
     edits: Edits<'_, '_>,
 ) -> Result<(), Unlike>
-    requires own { length edits.own.now ≡ length old.now.stand.scope.assertions }
-    requires chosen { length taken.now.chosen.items ≡ length new.now.stand.scope.assertions }
-    ensures { IsLibraryOf new.now.stand.scope (These edits.entry.then edits.entry.axioms) taken.now → (out : List ℕ)
-        → DeclaresText out new.now.stand.scope → OnOk result (IsLookedAt old.now.stand.scope out edits.entry.changes.now edits.entry.own.now
+    requires own { length edits.own.now ≡ length (D.scope old.now).assertions }
+    requires chosen { length taken.now.chosen.items ≡ length (E.scope new.now).assertions }
+    ensures { IsLibraryOf (E.scope new.now) (These edits.entry.then edits.entry.axioms) taken.now → (out : List ℕ)
+        → DeclaresText out (E.scope new.now) → OnOk result (IsLookedAt (D.scope old.now) out edits.entry.changes.now edits.entry.own.now
         (seen_words edits.entry.then.now) edits.entry.edited.now) }
 {
     is_edited(alloc, &taken.database, edits.edited)?;
@@ -117,17 +117,17 @@ fn compare<'o>(
 }
 
 /// The library is taken of the source with the edits again, and it and all other assertions are compared.
-fn look_over<'o>(
+fn look_over<'o, D: Declared<'o>, E: Declared<'o>>(
     rt: &(impl Threads + Sync),
     alloc: Global,
     keys: RandomState,
-    old: &Scopes<'o>,
-    new: &Scopes<'o>,
+    old: &D,
+    new: &E,
     edits: Edits<'_, '_>,
 ) -> Result<(), Unlike>
-    requires own { length edits.own.now ≡ length old.now.stand.scope.assertions }
-    requires whole { IsWhole new.now.stand.scope }
-    ensures { (out : List ℕ) → DeclaresText out new.now.stand.scope → OnOk result (IsLookedAt old.now.stand.scope out
+    requires own { length edits.own.now ≡ length (D.scope old.now).assertions }
+    requires whole { IsWhole (E.scope new.now) }
+    ensures { (out : List ℕ) → DeclaresText out (E.scope new.now) → OnOk result (IsLookedAt (D.scope old.now) out
         edits.entry.changes.now edits.entry.own.now (seen_words edits.entry.then.now) edits.entry.edited.now) }
 {
     let taken = take_again(rt, alloc, keys, new, edits.then, edits.axioms)?;

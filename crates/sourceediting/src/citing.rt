@@ -10,7 +10,7 @@ ghost use Rattle.giving.specs.Staying.{others};
 ghost use Rattle.sourceediting.specs.Following.{names_none};
 ghost use Rattle.sourceediting.specs.Marked.{marked};
 
-use crate::refusal::{File, Refusal, shown};
+use crate::refusal::{Refusal, shown};
 use giving::Changes;
 use source::{Declared, ProofWords};
 use std::alloc::{AllocError, Global};
@@ -58,10 +58,9 @@ fn first_gone<'a>(gone: &Changes<'_>, labels: &[&'a [u8]]) -> Option<&'a [u8]>
 }
 
 /// An assertion is still cited.
-fn still_cited(alloc: Global, label: &[u8], by: Option<&[u8]>) -> Result<Refusal, AllocError> {
+fn still_cited(alloc: Global, label: &[u8], by: Option<&[u8]>) -> Refusal {
     let (label, by) = (shown(label), shown(by.unwrap_or(b"?")));
-    let why = format!(in alloc; "{label} is still cited by {by}, which was not taken")?;
-    Ok(Refusal::Text(File::History, why))
+    Refusal::of_history(format!(in alloc; "{label} is still cited by {by}, which was not taken"))
 }
 
 /// The first label of one that is gone which the proof of the assertion at a place names.
@@ -99,7 +98,7 @@ pub fn are_uncited<'a, D: Declared<'a>>(
             continue;
         }
         if let Some(label) = first_gone_at(declared, &gone, place) {
-            return Err(still_cited(alloc, label, declared.label(place))?);
+            return Err(still_cited(alloc, label, declared.label(place)));
         }
     }
     Ok(())

@@ -34,6 +34,17 @@ fn labels_by_now<'x>(
     Ok(labels)
 }
 
+/// Where the assertion with a label stands in a text: the outermost block around it, or else its statement. None where it isn't there.
+fn stretch_of(
+    outline: &Outline<'_>,
+    places: &HashMap<&[u8], usize, RandomState>,
+    label: &[u8],
+) -> Option<Stretch> {
+    let place = places.get(label)?;
+    let standing = outline.assertions.get(*place)?;
+    Some(outline.whole(standing))
+}
+
 /// Where the assertions of a library stand in a text, in the library's order: the outermost block around each, or else its statement.
 /// None for those that aren't there.
 fn stretches_of(
@@ -43,17 +54,14 @@ fn stretches_of(
     living: &[Followed<'_>],
     entries: &[Ranked],
 ) -> Result<Vec<Option<Stretch>>, AllocError> {
+    let labels = labels_by_now(alloc, keys, living)?;
     let outline = outline_of(alloc, text)?;
     let places = outline.by_label(alloc, keys)?;
-    let labels = labels_by_now(alloc, keys, living)?;
     let mut stretches = Vec::new(alloc);
     for entry in entries {
         let now = entry.assertion.label.as_slice();
         let then = labels.get(now).copied().unwrap_or(now);
-        let standing = places
-            .get(then)
-            .and_then(|place| outline.assertions.get(*place));
-        stretches.push(standing.map(|standing| outline.whole(standing)))?;
+        stretches.push(stretch_of(&outline, &places, then))?;
     }
     Ok(stretches)
 }

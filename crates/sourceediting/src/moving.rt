@@ -19,7 +19,6 @@ type Places<'x> = HashMap<&'x [u8], usize, RandomState>;
 type Member<'x> = (&'x [u8], &'x [u8]);
 
 /// Those that are to stand elsewhere.
-#[derive(Drop)]
 pub(crate) struct Moving<'x> {
     /// Their labels in the source, with those in the library now.
     pub labels: Changes<'x>,
@@ -27,8 +26,27 @@ pub(crate) struct Moving<'x> {
     pub in_front: Changes<'x>,
 }
 
+// Proved once: a derived drop is written out at each exit of a function that holds such a value.
+impl<'x> Drop for Moving<'x> {
+    fn drop(self) {
+        let Moving {
+            labels: _,
+            in_front: _,
+        } = self;
+    }
+}
+
+/// Whether one of these has one of these labels in the source.
+fn have_one(members: &[Member<'_>], labels: &Changes<'_>) -> bool {
+    for (source, _) in members {
+        if labels.text_for(source).is_some() {
+            return true;
+        }
+    }
+    false
+}
+
 /// A block of the source of which assertions stay in their order.
-#[derive(Drop)]
 struct Row<'x> {
     /// The outermost block; none outside of blocks.
     block: Option<usize>,
@@ -39,6 +57,19 @@ struct Row<'x> {
     last: usize,
     /// Whether something is put behind the last member.
     is_put: bool,
+}
+
+// Proved once: a derived drop is written out at each exit of a function that holds such a value.
+impl<'x> Drop for Row<'x> {
+    fn drop(self) {
+        let Row {
+            block: _,
+            members: _,
+            first: _,
+            last: _,
+            is_put: _,
+        } = self;
+    }
 }
 
 impl<'x> Row<'x> {
@@ -69,52 +100,25 @@ impl<'x> Row<'x> {
         block.is_some() && block == self.block
     }
 
-    /// How many members stand in front of the first thing that is put among them.
-    fn before_first(&self) -> usize {
-        self.first.unwrap_or(self.members.len())
+    /// The members in front of the last thing that is put among them.
+    fn front(&self) -> &[Member<'x>] {
+        let end = self.last.min(self.members.len());
+        &self.members.as_slice()[..end]
     }
 
-    /// Whether one of those in front of the last thing has one of these labels in the source.
-    fn front_has(&self, labels: &Changes<'_>) -> bool {
-        for (source, _) in self.members.as_slice().iter().take(self.last) {
-            if labels.text_for(source).is_some() {
-                return true;
-            }
-        }
-        false
-    }
-
-    /// Whether one of those behind the first thing has one of these labels in the source.
-    fn back_has(&self, labels: &Changes<'_>) -> bool {
-        for (source, _) in self.members.as_slice().iter().skip(self.before_first()) {
-            if labels.text_for(source).is_some() {
-                return true;
-            }
-        }
-        false
-    }
-
-    /// Those in front of the last thing.
-    fn put_front(&self, members: &mut Vec<Member<'x>>) -> Result<(), AllocError> {
-        for member in self.members.as_slice().iter().take(self.last) {
-            members.push(*member)?;
-        }
-        Ok(())
-    }
-
-    /// Those behind the first thing.
-    fn put_back(&self, members: &mut Vec<Member<'x>>) -> Result<(), AllocError> {
-        for member in self.members.as_slice().iter().skip(self.before_first()) {
-            members.push(*member)?;
-        }
-        Ok(())
+    /// The members behind the first thing that is put among them.
+    fn back(&self) -> &[Member<'x>] {
+        let count = self.members.len();
+        let begin = self.first.unwrap_or(count).min(count);
+        &self.members.as_slice()[begin..]
     }
 
     /// Whether those in front go in front of the block: where no theorem that was taken as an axiom is among them, and those behind are
     /// more, or can't go behind it.
     fn front_leaves(&self, told: &Changes<'_>, cited: &Changes<'_>) -> bool {
-        let behind = self.members.len().saturating_sub(self.before_first());
-        !self.front_has(told) && (self.last < behind || self.back_has(told) || self.back_has(cited))
+        let back = self.back();
+        !have_one(self.front(), told)
+            && (self.last < back.len() || have_one(back, told) || have_one(back, cited))
     }
 }
 
@@ -148,13 +152,42 @@ fn has_another_order(opened: &Places<'_>, entries: &[Ranked]) -> bool {
 }
 
 /// How far the assertions of the edited library were walked over, in its order.
-#[derive(Drop)]
 struct Walk<'x> {
     /// Those that were moved.
     moved: Vec<Member<'x>>,
     /// The blocks among whose members something is put.
     parted: Vec<Row<'x>>,
     row: Row<'x>,
+}
+
+// Proved once: a derived drop is written out at each exit of a function that holds such a value.
+impl<'x> Drop for Walk<'x> {
+    fn drop(self) {
+        let Walk {
+            moved: _,
+            parted: _,
+            row: _,
+        } = self;
+    }
+}
+
+/// Those of these rows that leave them, and of these those that go in front of their block.
+fn part<'x>(
+    rows: &[Row<'x>],
+    told: &Changes<'_>,
+    cited: &Changes<'_>,
+    leaving: &mut Vec<Member<'x>>,
+    in_front: &mut Vec<Member<'x>>,
+) -> Result<(), AllocError> {
+    for row in rows {
+        if row.front_leaves(told, cited) {
+            leaving.extend_from_slice(row.front())?;
+            in_front.extend_from_slice(row.front())?;
+        } else {
+            leaving.extend_from_slice(row.back())?;
+        }
+    }
+    Ok(())
 }
 
 impl<'x> Walk<'x> {
@@ -187,6 +220,32 @@ impl<'x> Walk<'x> {
         self.row.push(member)
     }
 
+    /// The next assertion of the edited library, of which this became if it was there at the opening. `is_other` says whether the order is
+    /// another one than the old.
+    fn take(
+        &mut self,
+        alloc: Global,
+        outline: &Outline<'_>,
+        places: &Places<'_>,
+        followed: Option<&Followed<'x>>,
+        is_other: bool,
+    ) -> Result<(), AllocError> {
+        let Some(followed) = followed else {
+            self.row.is_put = true;
+            return Ok(());
+        };
+        let Some(source) = followed.source else {
+            return Ok(());
+        };
+        let member = (source, followed.now);
+        if is_other && followed.moved {
+            return self.put_moved(member);
+        }
+        let place = places.get(source);
+        let block = place.and_then(|place| outline.outermost_at(*place));
+        self.pass(alloc, block, member)
+    }
+
     /// Another row begins, and the former ends.
     fn begin(&mut self, next: Row<'x>) -> Result<(), AllocError> {
         let row = std::mem::replace(&mut self.row, next);
@@ -194,6 +253,27 @@ impl<'x> Walk<'x> {
             self.parted.push(row)?;
         }
         Ok(())
+    }
+
+    /// Those that were moved, and those that leave their rows.
+    fn into_moving(
+        self,
+        alloc: Global,
+        keys: RandomState,
+        told: &Changes<'_>,
+        cited: &Changes<'_>,
+    ) -> Result<Moving<'x>, AllocError> {
+        let Walk {
+            moved: mut leaving,
+            parted,
+            row: _,
+        } = self;
+        let mut in_front = Vec::new(alloc);
+        part(parted.as_slice(), told, cited, &mut leaving, &mut in_front)?;
+        drop(parted);
+        let labels = Changes::new(alloc, keys, leaving)?;
+        let in_front = Changes::new(alloc, keys, in_front)?;
+        Ok(Moving { labels, in_front })
     }
 }
 
@@ -211,21 +291,8 @@ fn walk_over<'x>(
     let mut walk = Walk::new(alloc);
     for entry in entries {
         let place = opened.get(entry.assertion.label.as_slice());
-        let Some(followed) = place.and_then(|place| edits.planned.living.get(*place)) else {
-            walk.row.is_put = true;
-            continue;
-        };
-        let Some(source) = followed.source else {
-            continue;
-        };
-        let member = (source, followed.now);
-        if is_other && followed.moved {
-            walk.put_moved(member)?;
-        } else {
-            let place = places.get(source);
-            let block = place.and_then(|place| outline.outermost_at(*place));
-            walk.pass(alloc, block, member)?;
-        }
+        let followed = place.and_then(|place| edits.planned.living.get(*place));
+        walk.take(alloc, outline, places, followed, is_other)?;
     }
     walk.begin(Row::new(alloc, None))?;
     Ok(walk)
@@ -312,47 +379,6 @@ fn cited_beside<'a, D: Declared<'a>>(
     Changes::new(alloc, keys, pairs)
 }
 
-/// Those of these rows that leave them, and of these those that go in front of their block.
-fn part<'x>(
-    rows: &[Row<'x>],
-    told: &Changes<'_>,
-    cited: &Changes<'_>,
-    leaving: &mut Vec<Member<'x>>,
-    in_front: &mut Vec<Member<'x>>,
-) -> Result<(), AllocError> {
-    for row in rows {
-        if row.front_leaves(told, cited) {
-            row.put_front(leaving)?;
-            row.put_front(in_front)?;
-        } else {
-            row.put_back(leaving)?;
-        }
-    }
-    Ok(())
-}
-
-/// Those that were moved, and those that leave their rows.
-fn leavers_of<'x>(
-    alloc: Global,
-    keys: RandomState,
-    walk: Walk<'x>,
-    told: &Changes<'_>,
-    cited: &Changes<'_>,
-) -> Result<Moving<'x>, AllocError> {
-    let Walk {
-        moved: mut leaving,
-        parted,
-        row,
-    } = walk;
-    drop(row);
-    let mut in_front = Vec::new(alloc);
-    part(parted.as_slice(), told, cited, &mut leaving, &mut in_front)?;
-    drop(parted);
-    let labels = Changes::new(alloc, keys, leaving)?;
-    let in_front = Changes::new(alloc, keys, in_front)?;
-    Ok(Moving { labels, in_front })
-}
-
 /// The assertions of a source that are to stand elsewhere.
 ///
 /// Where something is put between members of a block, those in front of it leave the block, or those behind it: whichever are fewer and can.
@@ -369,5 +395,5 @@ pub(crate) fn moving_of<'x, 'a, D: Declared<'a>>(
     let parted = walk.parted.as_slice();
     let own = edits.planned.own;
     let cited = cited_beside(alloc, keys, declared, outline, &places, parted, own)?;
-    leavers_of(alloc, keys, walk, edits.planned.told, &cited)
+    walk.into_moving(alloc, keys, edits.planned.told, &cited)
 }

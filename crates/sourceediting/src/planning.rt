@@ -1,7 +1,7 @@
 //! Which theorems have another proof behind the edits of a history, and the texts of these proofs.
 
 use crate::following::Followed;
-use crate::refusal::{File, Refusal, shown};
+use crate::refusal::{Refusal, shown};
 use giving::Changes;
 use library::{PlainLibrary, Ranked};
 use mmframes::frame_of;
@@ -174,32 +174,26 @@ fn changes_in_library<'x>(
 }
 
 /// A proof that can't be written.
-pub(crate) fn unwritten(alloc: Global, label: &[u8]) -> Result<Refusal, AllocError> {
+pub(crate) fn unwritten(alloc: Global, label: &[u8]) -> Refusal {
     let label = shown(label);
-    let why = format!(in alloc; "the proof of {label} can't be written")?;
-    Ok(Refusal::Text(File::History, why))
+    Refusal::of_history(format!(in alloc; "the proof of {label} can't be written"))
 }
 
-/// The text of the proof of an assertion that stands in the source, if it has another one now.
+/// The text of another proof of an assertion that stands in the source.
 fn other_proof<'x, D: Declared<'x>>(
     alloc: Global,
     keys: RandomState,
     declared: &D,
     names: &Names<'x>,
-    changes: &Changes<'x>,
     source: &'x [u8],
-    old: &Assertion,
     new: &Assertion,
-) -> Result<Option<Vec<u8>>, Refusal> {
-    if is_proof(changes, &old.proof, &new.proof) {
-        return Ok(None);
-    }
+) -> Result<Vec<u8>, Refusal> {
     let Some(place) = declared.place_of(source) else {
-        return Err(unwritten(alloc, source)?);
+        return Err(unwritten(alloc, source));
     };
     match proof_text(alloc, keys, declared, names, place, &new.proof)? {
-        Some(text) => Ok(Some(text)),
-        None => Err(unwritten(alloc, source)?),
+        Some(text) => Ok(text),
+        None => Err(unwritten(alloc, source)),
     }
 }
 
@@ -223,7 +217,8 @@ pub(crate) fn other_proofs<'x, D: Declared<'x>>(
         ) else {
             continue;
         };
-        if let Some(text) = other_proof(alloc, keys, declared, names, &changes, source, old, new)? {
+        if !is_proof(&changes, &old.proof, &new.proof) {
+            let text = other_proof(alloc, keys, declared, names, source, new)?;
             proofs.push((source, text))?;
         }
     }

@@ -9,7 +9,7 @@ use crate::citing::marked;
 use crate::filling::{Piece, Texts, fills_of};
 use crate::moving::{Moving, moving_of};
 use crate::planning::{ByLabel, Planned, unwritten};
-use crate::refusal::{File, Refusal, shown};
+use crate::refusal::{Refusal, shown};
 use giving::Changes;
 use outlining::{Leaving, Outline, Standing, Stretch, cuts_of, outline_of};
 use rewriting::{Span, cut_out, put_in, rewrite};
@@ -35,9 +35,9 @@ pub(crate) struct Rearranged<'x> {
 }
 
 /// An assertion that can't be given back, and why.
-fn refused(alloc: Global, label: &[u8], why: &str) -> Result<Refusal, AllocError> {
+fn refused(alloc: Global, label: &[u8], why: &str) -> Refusal {
     let label = shown(label);
-    Ok(Refusal::Text(File::History, format!(in alloc; "{label} {why}")?))
+    Refusal::of_history(format!(in alloc; "{label} {why}"))
 }
 
 /// Those that leave their places, in order. What moves is written anew, unless it stands alone, and then its block goes along.
@@ -67,7 +67,7 @@ fn moved_text(
     edits: &Rearranged<'_>,
 ) -> Result<Vec<u8>, Refusal> {
     let Some(text) = source.get(stretch.begin..stretch.end) else {
-        return Err(refused(alloc, label, "can't be moved")?);
+        return Err(refused(alloc, label, "can't be moved"));
     };
     Ok(rewrite(alloc, edits.changes, edits.proofs, text)?)
 }
@@ -78,6 +78,24 @@ fn is_compressed<'a, D: Declared<'a>>(declared: &D, label: &[u8]) -> bool {
         return false;
     };
     matches!(declared.proof(place), Some(ProofWords::Compressed(..)))
+}
+
+/// The text of an assertion with its proof, which has this label in the library now.
+fn text_of<'x, 'a, D: Declared<'a>>(
+    alloc: Global,
+    keys: RandomState,
+    declared: &D,
+    words: &SymbolWords<'x>,
+    edits: &Rearranged<'x>,
+    now: &[u8],
+    statement: &Statement<'_>,
+) -> Result<Vec<u8>, Refusal> {
+    let prelude = edits.planned.edited.prelude();
+    let names = edits.names;
+    match assertion_text(alloc, keys, declared, prelude, names, words, statement)? {
+        Some(text) => Ok(text),
+        None => Err(unwritten(alloc, now)),
+    }
 }
 
 /// The text of an assertion that leaves a block in which others stand: with its comment, and its `$e` with labels of their own.
@@ -92,7 +110,7 @@ fn parted_text<'x, 'a, D: Declared<'a>>(
     edits: &Rearranged<'x>,
 ) -> Result<Vec<u8>, Refusal> {
     let Some(assertion) = edits.edited.get(&now) else {
-        return Err(unwritten(alloc, now)?);
+        return Err(unwritten(alloc, now));
     };
     let comment = Stretch {
         begin: standing.stretch.begin,
@@ -108,19 +126,18 @@ fn parted_text<'x, 'a, D: Declared<'a>>(
         comment: comment.as_slice(),
         is_compressed: is_compressed(declared, standing.label),
     };
-    let prelude = edits.planned.edited.prelude();
-    match assertion_text(
-        alloc,
-        keys,
-        declared,
-        prelude,
-        edits.names,
-        words,
-        &statement,
-    )? {
-        Some(text) => Ok(text),
-        None => Err(unwritten(alloc, now)?),
-    }
+    text_of(alloc, keys, declared, words, edits, now, &statement)
+}
+
+/// One more text that is put in.
+fn put_text<'x>(
+    texts: &mut Texts<'x>,
+    now: &'x [u8],
+    text: Vec<u8>,
+    is_in_front: bool,
+) -> Result<(), AllocError> {
+    texts.insert(now, Piece { text, is_in_front })?;
+    Ok(())
 }
 
 /// The texts of those that stand elsewhere then.
@@ -144,12 +161,12 @@ fn put_moved<'x, 'a, D: Declared<'a>>(
                     outline.whole(standing),
                     standing.label,
                     edits,
-                )?
+                )
             } else {
-                parted_text(alloc, keys, declared, source, standing, now, words, edits)?
+                parted_text(alloc, keys, declared, source, standing, now, words, edits)
             };
             let is_in_front = moving.in_front.text_for(standing.label).is_some();
-            texts.insert(now, Piece { text, is_in_front })?;
+            put_text(texts, now, text?, is_in_front)?;
         }
     }
     Ok(())
@@ -175,7 +192,6 @@ fn put_added<'x, 'a, D: Declared<'a>>(
     texts: &mut Texts<'x>,
 ) -> Result<(), Refusal> {
     let is_compressed = has_compressed(declared);
-    let prelude = edits.planned.edited.prelude();
     for followed in edits.planned.living {
         let (None, Some(assertion)) = (followed.source, edits.edited.get(&followed.now)) else {
             continue;
@@ -186,21 +202,9 @@ fn put_added<'x, 'a, D: Declared<'a>>(
             comment: b"",
             is_compressed,
         };
-        match assertion_text(
-            alloc,
-            keys,
-            declared,
-            prelude,
-            edits.names,
-            words,
-            &statement,
-        )? {
-            Some(text) => {
-                let is_in_front = false;
-                texts.insert(followed.now, Piece { text, is_in_front })?;
-            }
-            None => return Err(unwritten(alloc, followed.now)?),
-        }
+        let now = followed.now;
+        let text = text_of(alloc, keys, declared, words, edits, now, &statement)?;
+        put_text(texts, now, text, false)?;
     }
     Ok(())
 }
@@ -226,11 +230,8 @@ fn texts_of<'x, 'a, D: Declared<'a>>(
 }
 
 /// Stretches that can't be cut out of a text, or put into it.
-fn unfit(alloc: Global) -> Result<Refusal, AllocError> {
-    Ok(Refusal::Text(
-        File::History,
-        format!(in alloc; "the edits can't be written")?,
-    ))
+fn unfit(alloc: Global) -> Refusal {
+    Refusal::of_history(format!(in alloc; "the edits can't be written"))
 }
 
 /// The stretches to cut out of a source: those of what was deleted, and of what moves.
@@ -260,7 +261,7 @@ fn without(
     let cuts = cuts_for(alloc, keys, outline, gone, moving)?;
     match cut_out(alloc, source, cuts.as_slice())? {
         Some(kept) => Ok(kept),
-        None => Err(unfit(alloc)?),
+        None => Err(unfit(alloc)),
     }
 }
 
@@ -293,7 +294,7 @@ fn filled(
     let fills = fills_of(alloc, keys, text, planned.living, entries, texts)?;
     match put_in(alloc, text, fills.as_slice())? {
         Some(out) => Ok(out),
-        None => Err(unfit(alloc)?),
+        None => Err(unfit(alloc)),
     }
 }
 

@@ -22,6 +22,16 @@ pub enum Refusal {
     NoMemory,
 }
 
+impl Refusal {
+    /// What is said of the history, if there was memory for it.
+    pub(crate) fn of_history(why: Result<String, AllocError>) -> Refusal {
+        match why {
+            Ok(why) => Refusal::Text(File::History, why),
+            Err(_) => Refusal::NoMemory,
+        }
+    }
+}
+
 impl From<AllocError> for Refusal {
     fn from(_error: AllocError) -> Refusal {
         Refusal::NoMemory

@@ -18,6 +18,19 @@ pub record ArePlaced (kinds : List Bool) (arguments : List ℕ) (i floats premis
   pub at_floats : picked true (take i kinds) made ≡ take floats arguments
   pub at_premises : picked false (take i kinds) made ≡ take (premises - count_of kinds) (drop (count_of kinds) arguments)
 
+-- before any
+pub none_placed : (kinds : List Bool) (arguments : List ℕ) (premises : ℕ) (made : List ℕ) → premises ≡ count_of kinds → made ≡ []
+    → ArePlaced kinds arguments 0 0 premises made
+none_placed kinds arguments premises made all none =
+    let no_premise : 0 ≡ premises - count_of kinds = omega (arith, all) in
+    record {
+      as_many = ap length none;
+      floats_left = omega arith;
+      premises_left = omega (arith, all);
+      at_floats = refl;
+      at_premises = ap (λ n. take n (drop (count_of kinds) arguments)) no_premise;
+    }
+
 -- behind all
 pub all_placed : (kinds : List Bool) (arguments : List ℕ) (i floats premises : ℕ) (made : List ℕ)
     → ArePlaced kinds arguments i floats premises made → length kinds ≤ i → i ≤ length kinds → length kinds ≡ length arguments

@@ -139,14 +139,6 @@ impl<'x> SymbolWords<'x> {
     }
 }
 
-/// Puts words.
-fn put_words(layout: &mut Layout, words: &[&[u8]]) -> Result<(), AllocError> {
-    for word in words {
-        layout.put_word(word)?;
-    }
-    Ok(())
-}
-
 /// Puts a statement in lines of its own: its label, if it has one, its keyword, its symbols, and what ends it.
 fn put_statement(
     alloc: Global,
@@ -157,14 +149,14 @@ fn put_statement(
     symbols: &[&[u8]],
     end: &[u8],
 ) -> Result<(), AllocError> {
-    let mut layout = Layout::new(alloc, indent)?;
+    let mut layout = Layout::new(alloc, indent);
     if !label.is_empty() {
-        layout.put_word(label)?;
+        layout.put_word(label);
     }
-    layout.put_word(keyword)?;
-    put_words(&mut layout, symbols)?;
-    layout.put_word(end)?;
-    out.extend_from_slice(layout.into_text().as_slice())
+    layout.put_word(keyword);
+    layout.put_words(symbols);
+    layout.put_word(end);
+    out.extend_from_slice(layout.into_text()?.as_slice())
 }
 
 /// The words of symbols.
@@ -349,7 +341,7 @@ fn put_tree<'p>(
     shared: &Shared<'_>,
     root: usize,
 ) -> Result<bool, AllocError> {
-    let mut layout = Layout::new(alloc, statement.indent() + 2)?;
+    let mut layout = Layout::new(alloc, statement.indent() + 2);
     let is_whole = put_words_of_proof(
         alloc,
         &mut layout,

@@ -18,10 +18,19 @@ const IN_BLOCK: usize = 6;
 const OUTSIDE: usize = 4;
 
 /// The labels of the mandatory hypotheses of a theorem, and those of its `$e`, in order of appearance.
-#[derive(Drop)]
 struct Hypotheses<'x> {
     mandatory: Vec<&'x [u8]>,
     premises: Vec<&'x [u8]>,
+}
+
+// Proved once: a derived drop is written out at each exit of a function that holds such a value.
+impl<'x> Drop for Hypotheses<'x> {
+    fn drop(self) {
+        let Hypotheses {
+            mandatory: _,
+            premises: _,
+        } = self;
+    }
 }
 
 /// The label of a hypothesis, and whether it is a `$e`.
@@ -29,6 +38,17 @@ fn label_of<'a>(hypothesis: &HypothesisWords<'a>) -> (&'a [u8], bool) {
     match hypothesis {
         HypothesisWords::Typing(label, _, _) => (*label, false),
         HypothesisWords::Premise(label, _) => (*label, true),
+    }
+}
+
+impl<'x> Hypotheses<'x> {
+    /// One more hypothesis, and whether it is a `$e`.
+    fn push(&mut self, label: &'x [u8], is_premise: bool) -> Result<(), AllocError> {
+        self.mandatory.push(label)?;
+        if is_premise {
+            self.premises.push(label)?;
+        }
+        Ok(())
     }
 }
 
@@ -40,19 +60,15 @@ fn hypotheses_of<'x, D: Declared<'x>>(
 ) -> Result<Hypotheses<'x>, AllocError>
     requires { place < length (D.scope declared.now).assertions }
 {
-    let mut mandatory = Vec::new(alloc);
-    let mut premises = Vec::new(alloc);
+    let mut hypotheses = Hypotheses {
+        mandatory: Vec::new(alloc),
+        premises: Vec::new(alloc),
+    };
     for hypothesis in declared.mandatory(alloc, place)? {
         let (label, is_premise) = label_of(hypothesis);
-        mandatory.push(label)?;
-        if is_premise {
-            premises.push(label)?;
-        }
+        hypotheses.push(label, is_premise)?;
     }
-    Ok(Hypotheses {
-        mandatory,
-        premises,
-    })
+    Ok(hypotheses)
 }
 
 /// Puts the words of a proof in the form of another. Whether it has at most 16,384 steps.
@@ -83,12 +99,11 @@ fn text_in_form(
     } else {
         IN_BLOCK
     };
-    let mut layout = Layout::new(alloc, indent)?;
+    let mut layout = Layout::new(alloc, indent);
     let mandatory = hypotheses.mandatory.as_slice();
-    if !put_in_form(alloc, &mut layout, old, shared, mandatory, root)? {
-        return Ok(None);
-    }
-    Ok(Some(layout.finish()?))
+    let is_whole = put_in_form(alloc, &mut layout, old, shared, mandatory, root)?;
+    let text = layout.finish()?;
+    Ok(is_whole.then_some(text))
 }
 
 /// The text of a proof, by its steps in the library, in the form of another, of a theorem with these hypotheses. None where they denote no

@@ -55,7 +55,7 @@ pub(crate) fn put_normal(
         };
         match shared.arguments(turn.node).get(turn.argument) {
             Some(node) => push_both(&mut stack, turn, *node)?,
-            None => layout.put_word(word_at(shared, turn.node))?,
+            None => layout.put_word(word_at(shared, turn.node)),
         }
     }
     Ok(stack.is_empty())
@@ -161,12 +161,10 @@ fn numbers_of<'x>(
 }
 
 /// Puts labels in parentheses.
-fn put_in_parentheses(layout: &mut Layout, labels: &[&[u8]]) -> Result<(), AllocError> {
-    layout.put_word(b"(")?;
-    for label in labels {
-        layout.put_word(label)?;
-    }
-    layout.put_word(b")")
+fn put_in_parentheses(layout: &mut Layout, labels: &[&[u8]]) {
+    layout.put_word(b"(");
+    layout.put_words(labels);
+    layout.put_word(b")");
 }
 
 /// Puts the letters of a tree whose labels have these numbers, which are below `labels`. Whether it has at most 16,384 steps.
@@ -186,7 +184,7 @@ fn put_letters(
         text: Vec::new(alloc),
     };
     let is_whole = letters.put_tree(alloc, shared, root)?;
-    layout.put_letters(letters.text.as_slice())?;
+    layout.put_letters(letters.text.as_slice());
     Ok(is_whole)
 }
 
@@ -201,7 +199,7 @@ pub(crate) fn put_compressed(
 ) -> Result<bool, AllocError> {
     let mut others = Vec::new(alloc);
     let numbers = numbers_of(alloc, shared.words(), mandatory, &mut others)?;
-    put_in_parentheses(layout, others.as_slice())?;
+    put_in_parentheses(layout, others.as_slice());
     let labels = mandatory.len().saturating_add(others.len());
     drop(others);
     put_letters(alloc, layout, shared, numbers.as_slice(), labels, root)

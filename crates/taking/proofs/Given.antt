@@ -1,7 +1,7 @@
 -- Names that are given, one after the other.
 use Rattle.std.proofs.Common.{◌≡◌, ◌≢◌, ◌<◌, ℕ, ◌+◌, Bool, true, false, List, [], ◌∷◌, ◌++◌, length, map, get_or, refl, sym, ap}
 use Rattle.std.proofs.Common.{subst, ◌∙◌, arith, inl, inr}
-use Rattle.std.specs.Prelude.{Some, find, if◌then◌else◌, ◌&&◌, IsTrue}
+use Rattle.std.specs.Prelude.{Some, None, find, if◌then◌else◌, ◌&&◌, IsTrue}
 use mathlib.Core.Bool.{not}
 use Rattle.std.specs.List.{range_with_len}
 use Rattle.std.specs.Str.{bytes_eq}
@@ -11,7 +11,7 @@ use Rattle.std.proofs.Math.Seq.{get_or-append_seam}
 use Rattle.mmtext.specs.Words.{Word}
 use Rattle.mmsyntax.proofs.Names.{bytes_eq-same}
 use Rattle.taking.proofs.Values.{length_more}
-use Rattle.taking.specs.Fresh.{candidate, fresh, renamed_by, is_named_by, AreLeft}
+use Rattle.taking.specs.Fresh.{candidate, fresh, renamed_by, is_named_by, AreGiven, AreLeft}
 
 -- ---- a fresh name is free
 
@@ -36,6 +36,31 @@ pub record Given (free now : Word → Bool) (changes : List Bool) (words : List 
   pub named : (k : ℕ) → k < i → IsTrue (is_named_by free (get_or changes k false) (get_or words k []) (get_or names k []))
   pub apart : (j k : ℕ) → j < k → k < i → get_or changes k false ≡ true → get_or names j [] ≢ get_or names k []
   pub left : AreLeft free now names
+
+-- none yet
+pub none_given : (free : Word → Bool) (changes : List Bool) (words names : List Word) → names ≡ [] → Given free free changes words 0 names
+none_given free changes words names none =
+    let many : length names ≡ 0 = ap length none in
+    record {
+      as_many = many;
+      named = λ k h. absurd (omega arith);
+      apart = λ j k lt h ch. absurd (omega arith);
+      left = record { free = λ w h. h; others = λ w k h f. absurd (omega arith) };
+    }
+
+-- all of them
+pub all_given : (free now : Word → Bool) (changes : List Bool) (words : List Word) (i : ℕ) (names : List Word)
+    → Given free now changes words i names → i ≡ length words → AreGiven free changes words names
+all_given free now changes words i names given all = record {
+  as_many = given.as_many ∙ all;
+  named = λ k h. given.named k (omega arith);
+  apart = λ j k lt h ch. given.apart j k lt (omega arith) ch;
+}
+
+-- none is free for a word that changes
+pub refused : (free : Word → Bool) (changes : Bool) (w : Word) → renamed_by free changes w ≡ None → (changes ≡ true) × (fresh free w ≡ None)
+refused free true w h = (refl, h)
+refused free false w h = absurd cc
 
 -- ---- one more
 

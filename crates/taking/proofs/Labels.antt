@@ -3,7 +3,7 @@ use Rattle.std.proofs.Common.{◌≡◌, ◌<◌, ℕ, Bool, List, [], ◌∷◌
 use Rattle.std.specs.Prelude.{Option, Some, None, slice_get, slice_index_or, MatchOption, All}
 use Rattle.std.specs.Option.{option_map}
 use Rattle.std.specs.List.{AllByRecursion, flat_map}
-use Rattle.std.proofs.lemmas.Option.{slice_get-map, get_or_from_slice_get}
+use Rattle.std.proofs.lemmas.Option.{slice_get-map, slice_get_within, get_or_from_slice_get}
 use Rattle.std.proofs.lemmas.List.Elements.{recursion_from_All}
 use Rattle.mmtext.specs.Words.{Word}
 use Rattle.mmsyntax.specs.declared.statement.Step.{Step}
@@ -45,6 +45,13 @@ pub names_at : (named : List Named) (ns : List Shared) (k : ℕ) (n : Shared) �
 names_at named ns k n a is =
     there named n.named (length n.arguments) (slice_get named n.named) refl
     (all_at (TakesAll named) ns k n (recursion_from_All (TakesAll named) ns a) is)
+
+-- what a node names is there
+pub named_within : (named : List Named) (ns : List Shared) (k a : ℕ) (ks : List ℕ) → All (TakesAll named) ns
+    → option_map (λ n. n.named) (slice_get ns k) ≡ Some a → option_map (λ n. n.arguments) (slice_get ns k) ≡ Some ks → a < length named
+named_within named ns k a ks whole names takes =
+    let y = names_at named ns k (record { named = a; arguments = ks }) whole (node_at ns k a ks names takes) in
+    slice_get_within named a y.0 y.1
 
 -- ---- the profile's order
 

@@ -2,6 +2,8 @@
 use Rattle.std.proofs.Common.{◌≡◌, ◌∙◌, ◌<◌, ◌++◌, [], List, ℕ, length, get_or, sym, ap, subst}
 use Rattle.mmsyntax.specs.declared.statement.Assertion.{Assertion}
 use Rattle.mmsyntax.specs.Assertions.{Fits}
+use Rattle.std.specs.List.{flat_map}
+use Rattle.std.proofs.lemmas.List.{take_all}
 use Rattle.mmsyntax.specs.Tables.{Tables}
 use Rattle.mmsyntax.specs.Layout.{assertion_text}
 use Rattle.mmsyntax.proofs.Declarable.{declarable}
@@ -27,3 +29,13 @@ loop-assertion-preserved c =
     (c.in_ok-put_assertion.ensures
     ∙ ap (λ (t : Tables). c.loop-assertion.lines.items ++ assertion_text t a) c.prelude.ensures
     ∙ ap (λ (x : List ℕ). x ++ f a) c.loop-assertion.invariant)
+
+pub loop-assertion-init : goal.loop-assertion-init
+loop-assertion-init c = c.new-lines.ensures.items
+
+pub returns : goal.returns
+returns c =
+    let l = c.loop-assertion in
+    l.invariant
+    ∙ ap (flat_map (assertion_text c.args.database.now.prelude))
+    (take_all l.assertion-index c.assertions-assertions.result.now c.loop-assertion-test.false ∙ c.assertions-assertions.ensures.value)

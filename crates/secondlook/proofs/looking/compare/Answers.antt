@@ -6,12 +6,12 @@ use Rattle.secondlook.proofs.Looked.{looked_at}
 use Rattle.secondlook.proofs.looking.compare.Goals as goal
 
 pub stay-requires : goal.stay-requires
-stay-requires c κs = ((refl, tt), (c.requires.own, ap length c.as_slice.ensures.value ∙ c.in_ok-own.ensures.many))
+stay-requires g c κs = ((refl, tt), (c.requires.own, ap length c.as_slice.ensures.value ∙ c.in_ok-own.ensures.many))
 
 pub returns : goal.returns
-returns c l out declares =
-    let old = c.args.old.now.stand.scope in
-    let new = c.args.new.now.stand.scope in
+returns g c l out declares =
+    let old = g.D.Declared.scope c.args.old.now in
+    let new = g.E.Declared.scope c.args.new.now in
     let taken = c.args.taken.now in
     let edits = c.args.edits in
     let flags = c.as_slice.result.now in

@@ -1,10 +1,11 @@
 -- What is left to show of `look_again`.
+use Rattle.std.proofs.Common.{refl, rules}
 use Rattle.secondlook.proofs.looking.look_again.Goals as goal
 
-pub look_over-requires-clause-whole : goal.look_over-requires-clause-whole
-look_over-requires-clause-whole g c κs within =
+pub look_over-requires : goal.look_over-requires
+look_over-requires g c =
     let d = c.in_ok-new.ensures in
-    c.sources_are_whole.ensures d.statements c.in_ok-new.new.stand.scope d.declared
+    λ κs. (search rules, ((refl, tt), (c.requires, c.sources_are_whole.ensures d.statements c.in_ok-new.new.stand.scope d.declared)))
 
 pub returns : goal.returns
 returns g c = c.look_over.ensures c.args.out.now c.in_ok-new.ensures

@@ -54,3 +54,14 @@ returns-clause-flags g c choice are =
     let i = c.loop-place.place in
     subst (λ (ys : List Assertion). c.loop-place.own.items ≡ map (is_own choice (axioms_of c.args.taken.now)) ys) (take_all i xs (omega arith))
     (c.loop-place.invariant.flags choice are)
+
+pub loop-place-init : goal.loop-place-init
+loop-place-init g c = record {
+  many = ap length c.new-own.ensures.items;
+  flags = λ choice are. c.new-own.ensures.items;
+}
+
+pub returns-clause-many : goal.returns-clause-many
+returns-clause-many g c =
+    let at_end : c.loop-place.place ≡ length (g.D.Declared.scope c.args.declared.now).assertions = omega arith in
+    c.loop-place.invariant.many ∙ at_end

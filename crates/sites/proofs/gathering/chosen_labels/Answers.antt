@@ -8,7 +8,7 @@ use Rattle.mmtext.specs.Words.{Word}
 use Rattle.source.specs.Scopes.{Assertion}
 use Rattle.source.specs.Views.{seen_words}
 use Rattle.taking.specs.Reasons.{kept}
-use Rattle.sites.proofs.Keeping.{item_there, kept_one}
+use Rattle.sites.proofs.Keeping.{item_there, kept_one, kept_whole}
 use Rattle.sites.proofs.gathering.chosen_labels.Goals as goal
 use Rattle.sites.proofs.gathering.chosen_labels.Goals.{then-is_chosen+in-Some+in_ok-push, then-is_chosen+in_default, else-is_chosen}
 
@@ -50,3 +50,12 @@ loop-place-preserved g c =
           let no : get_or fs i false ≡ false = search rules in
           rw w.made-is (c.loop-place.invariant ∙ ap names (sym (kept_one fs xs i x.0 false below x.1 no ∙ append-nil front)))
     ]
+
+pub loop-place-init : goal.loop-place-init
+loop-place-init g c = ap seen_words c.new-made.ensures.items
+
+pub returns : goal.returns
+returns g c =
+    let l = c.loop-place in
+    let all = kept_whole c.args.chosen.now (g.D.Declared.scope c.args.declared.now).assertions l.place c.loop-place-test.false c.requires in
+    l.invariant ∙ ap (λ (xs : List Assertion). map (λ (x : Assertion). x.label) xs) all

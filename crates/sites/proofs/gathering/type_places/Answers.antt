@@ -2,6 +2,7 @@
 use Rattle.std.proofs.Common.{◌≡◌, ◌∙◌, ℕ, ◌+◌, ◌++◌, ◌∷◌, [], List, Option, Some, None, take, get_or, sym, ap, rules}
 use Rattle.std.specs.Prelude.{filter_map}
 use Rattle.std.specs.Borrow.{Bor}
+use Rattle.std.proofs.lemmas.List.{take_all}
 use Rattle.mmtext.specs.Words.{Word}
 use Rattle.source.specs.Views.{seen_words}
 use Rattle.sites.specs.Used.{noted, type_at}
@@ -26,3 +27,13 @@ loop-label-preserved c =
           let none : c.type_place.result ≡ None = search rules in
           rw w.types-is (c.loop-label.invariant ∙ sym (values_none f ws i d c.loop-label-test.true (sym c.type_place.ensures ∙ none)))
     ]
+
+pub loop-label-init : goal.loop-label-init
+loop-label-init c = c.new-types.ensures.items
+
+pub returns : goal.returns
+returns c =
+    let l = c.loop-label in
+    l.invariant
+    ∙ ap (λ (ws : List (Bor (List ℕ))). filter_map (type_at (noted c.args.used.now) c.args.constants.now) (seen_words ws))
+    (take_all l.label-index c.args.labels.now c.loop-label-test.false)

@@ -3,7 +3,7 @@ use Rattle.std.proofs.Common.{◌≡◌, ◌∙◌, ℕ, ◌+◌, ◌++◌, ◌�
 use Rattle.std.specs.Prelude.{filter_map}
 use Rattle.std.specs.Option.{option_map}
 use Rattle.std.specs.Borrow.{Bor}
-use Rattle.std.proofs.lemmas.List.{map-append}
+use Rattle.std.proofs.lemmas.List.{map-append, take_all}
 use Rattle.mmtext.specs.Words.{Word}
 use Rattle.source.specs.Views.{seen_words}
 use Rattle.sites.specs.Used.{noted, variable_at}
@@ -31,3 +31,13 @@ loop-label-preserved c =
           let is : f (get_or ws i d).now ≡ None = sym c.variable.ensures ∙ ap (option_map (λ (x : Bor (List ℕ)). x.now)) none in
           rw w.made-is (c.loop-label.invariant ∙ sym (values_none f ws i d c.loop-label-test.true is))
     ]
+
+pub loop-label-init : goal.loop-label-init
+loop-label-init c = ap seen_words c.new-made.ensures.items
+
+pub returns : goal.returns
+returns c =
+    let l = c.loop-label in
+    l.invariant
+    ∙ ap (λ (ws : List (Bor (List ℕ))). filter_map (variable_at (noted c.args.used.now)) (seen_words ws))
+    (take_all l.label-index c.args.labels.now c.loop-label-test.false)

@@ -4,16 +4,36 @@ use Rattle.std.proofs.lemmas.List.{map_push}
 use Rattle.std.specs.Prelude.{Some}
 use Rattle.mmsyntax.specs.declared.statement.Step.{Step}
 use Rattle.taking.specs.Walks.{arranged}
-use Rattle.taking.proofs.Listed.{Goes, weight, finish}
+use Rattle.taking.proofs.Listed.{Goes, weight, start, finish}
 use Rattle.taking.proofs.Lent.{seen_steps}
 use Rattle.taking.proofs.Turned.{turned_map}
-use Rattle.taking.proofs.Labels.{popped_within, turn_on, stop_on, lighter_on, is_listing}
+use Rattle.taking.proofs.Labels.{named_within, popped_within, turn_on, stop_on, lighter_on, is_listing}
 use Rattle.taking.proofs.listing.list.Goals as goal
+
+pub loop-place-init : goal.loop-place-init
+loop-place-init c =
+    let named = c.args.named.now in
+    let nodes = c.args.nodes.now in
+    let root = c.args.root in
+    let pending : c.push.new.self.items ≡ root ∷ [] = c.in_ok-push.ensures.items ∙ ap (λ ps. ps ++ root ∷ []) c.new-pending.ensures.items in
+    let steps : seen_steps c.in_ok-steps.steps.items ≡ [] = ap seen_steps c.in_ok-steps.ensures.items in
+    subst (λ (ps : List ℕ). Goes named nodes root ps (seen_steps c.in_ok-steps.steps.items)) (sym pending)
+    (subst (λ (ss : List Step). Goes named nodes root (root ∷ []) ss) (sym steps) (start named nodes root c.requires.within))
 
 pub arguments-arguments-requires : goal.arguments-arguments-requires
 arguments-arguments-requires c =
     popped_within c.args.named.now c.args.nodes.now c.args.root c.loop-place.pending.items c.pop.new.self.items c.in-Some.place
     (seen_steps c.loop-place.steps.items) c.loop-place.invariant c.in-Some.ensures.items
+
+pub named-number-requires : goal.named-number-requires
+named-number-requires c =
+    popped_within c.args.named.now c.args.nodes.now c.args.root c.loop-place.pending.items c.pop.new.self.items c.in-Some.place
+    (seen_steps c.loop-place.steps.items) c.loop-place.invariant c.in-Some.ensures.items
+
+pub bounds-named-number : goal.bounds-named-number
+bounds-named-number c =
+    named_within c.args.named.now c.args.nodes.now c.in-Some.place c.named-number.result c.arguments-arguments.result.now c.requires.whole
+    c.named-number.ensures c.arguments-arguments.ensures.value
 
 pub loop-place-smaller : goal.loop-place-smaller
 loop-place-smaller c =
