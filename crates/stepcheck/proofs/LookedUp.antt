@@ -1,7 +1,7 @@
 -- What was looked up of a label stands at its place, and a step that cites it takes that.
-use Rattle.std.proofs.Common.{◌≡◌, ℕ, ◌+◌, ◌<◌, List, [], ◌∷◌, ◌++◌, Option, None, Some, Bor, map, take, length, get_or, sym, ap, ◌∙◌, arith}
+use Rattle.std.proofs.Common.{◌≡◌, ℕ, ◌<◌, List, [], Option, None, Some, Bor, map, length, get_or, sym, ap, ◌∙◌, arith}
 use Rattle.std.specs.Option.{option_copied}
-use Rattle.std.proofs.lemmas.List.{get_or-map, length-map, map-append, take_more}
+use Rattle.std.proofs.lemmas.List.{get_or-map, length-map}
 use Rattle.mmsyntax.specs.Tables.{Tables}
 use Rattle.mmsyntax.specs.declared.statement.Frame.{Frame}
 use Rattle.mmsyntax.specs.declared.statement.Assertion.{Assertion}
@@ -33,13 +33,3 @@ cite_fails lib p a es label f NotOneLeft is h = absurd h.1
 cite_fails lib p a es label f StatementDiffers is h = absurd h.1
 cite_fails lib p a es label f TooLong is h = (f, is, h.0, h.1)
 cite_fails lib p a es label f NoMemory is h = absurd h.1
-
--- one frame more, as the code goes on
-pub looked_up_more : (lib : Citable) (labels : List (List ℕ)) (found after : List (Option (Bor Frame))) (i : ℕ) (r : Option (Bor Frame)) (label : List ℕ)
-    → i < length labels → map option_copied found ≡ map lib (take i labels) → after ≡ found ++ r ∷ [] → label ≡ get_or labels i label
-    → option_copied r ≡ lib label → map option_copied after ≡ map lib (take (i + 1) labels)
-looked_up_more lib labels found after i r label within so_far pushed is here =
-    let fronts : take (i + 1) labels ≡ take i labels ++ label ∷ [] =
-    take_more labels i label within ∙ ap (λ (z : List ℕ). take i labels ++ z ∷ []) (sym is) in
-    ap (map option_copied) pushed ∙ map-append option_copied found (r ∷ []) ∙ ap (λ z. z ++ option_copied r ∷ []) so_far
-    ∙ ap (λ z. map lib (take i labels) ++ z ∷ []) here ∙ sym (ap (map lib) fronts ∙ map-append lib (take i labels) (label ∷ []))

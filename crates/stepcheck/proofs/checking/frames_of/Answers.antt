@@ -1,16 +1,10 @@
 use Rattle.std.proofs.Common.{◌≡◌, length, map, take, ap, ◌∙◌, arith}
 use Rattle.std.specs.Option.{option_copied}
 use Rattle.std.proofs.Math.Seq.{take-length}
-use Rattle.stepcheck.proofs.LookedUp.{looked_up_more}
 use Rattle.stepcheck.proofs.checking.frames_of.Goals as goal
 
 pub loop-label-init : goal.loop-label-init
 loop-label-init g c = ap (map option_copied) c.in_ok-found.ensures.items
-
-pub loop-label-preserved : goal.loop-label-preserved
-loop-label-preserved g c =
-    looked_up_more (g.F.Frames.frames c.args.frames.now) c.args.labels.now c.loop-label.found.items c.push.new.self.items c.loop-label.label-index
-    c.frame.result c.label-item.result c.loop-label-test.true c.loop-label.invariant c.in_ok-push.ensures.items c.label-item.is c.frame.ensures
 
 pub returns : goal.returns
 returns g c =
