@@ -1,9 +1,12 @@
 -- Expressions that lie in one list of symbols stay where they are when more come behind them.
 use Rattle.std.proofs.Common.{◌≡◌, ℕ, zero, suc, ◌+◌, ◌-◌, ◌<◌, ◌≤◌, List, [], ◌∷◌, ◌++◌, length, drop, take, get_or, refl, sym, ap}
-use Rattle.std.proofs.Common.{◌∙◌, arith}
+use Rattle.std.proofs.Common.{◌∙◌, inl, inr, arith}
 use Rattle.std.specs.Prelude.{slice_range}
 use Rattle.std.proofs.Math.Seq.{take-length, drop-append_seam}
 use Rattle.std.proofs.lemmas.List.{take-append-le, drop-append-le, length-drop, length-take-le, take-append-drop, get_or-take, map-append}
+use Rattle.std.proofs.lemmas.Bool.{cases_lt}
+use Rattle.std.proofs.lemmas.List.{length-append, get_or_append_left, get_or-append_right}
+use Rattle.std.proofs.lemmas.List.Elements.{All-push}
 use Rattle.std.proofs.lemmas.List.{take-map}
 use Rattle.mmsyntax.specs.declared.statement.Symbol.{Symbol}
 use Rattle.stepcheck.specs.declared.stack.Entry.{Entry}
@@ -81,3 +84,29 @@ pub only-one : {X : Type 0} (xs : List X) (x : X) → length xs ≡ 1 → x ≡ 
 only-one [] x n is = cc
 only-one (y ∷ []) x n is = ap (λ z. z ∷ []) (sym is)
 only-one (y ∷ z ∷ zs) x n is = absurd (omega arith)
+
+-- as many symbols, or more
+pub spans-more : (n m : ℕ) (ps : List Entry) → n ≤ m → AreSpans n ps → AreSpans m ps
+spans-more n m ps le h =
+    record {
+      within = λ k d lt. (let here = h.within k d lt in let ends = here.1 in (here.0, omega (arith, ends, le)));
+      apart = h.apart;
+    }
+
+-- one more behind all of them
+pub spans-push : (n m : ℕ) (ps : List Entry) (p : Entry) → AreSpans n ps → n ≤ start p → start p ≤ end p → end p ≤ m → AreSpans m (ps ++ p ∷ [])
+spans-push n m ps p h behind some within =
+    record {
+      within = All-push (λ e. (start e ≤ end e) × (end e ≤ m)) ps p (spans-more n m ps (omega (arith, behind, some, within)) h).within (some, within);
+      apart = λ j k d less below.
+          let size = length-append ps (p ∷ []) in
+          let first = get_or_append_left ps (p ∷ []) d j (omega (arith, size, less, below)) in
+          elim (cases_lt k (length ps)) [
+            | inl inside ↦ rw (first, get_or_append_left ps (p ∷ []) d k inside) (h.apart j k d less inside)
+            | inr last ↦
+                let at : k - length ps ≡ 0 = omega (arith, size, below, last) in
+                let second = get_or-append_right ps (p ∷ []) (length ps) k d refl last ∙ ap (λ i. get_or (p ∷ []) i d) at in
+                let ends = (h.within j d (omega (arith, size, less, below))).1 in
+                rw (first, second) (omega (arith, ends, behind))
+          ];
+    }

@@ -72,6 +72,14 @@ impl Session {
     }
 }
 
+/// The mode of a run, by whether a command is an edit.
+fn mode_of(edits: bool) -> Mode
+    ensures writes { is_writing result ≡ edits }
+    ensures reads { edits ≡ false → result ≡ Reading }
+{
+    if edits { Mode::Writing } else { Mode::Reading }
+}
+
 /// Runs a transaction once, to its end. Before its first read there is memory for one record more, or the run is given up.
 fn transact(
     alloc: Global,
@@ -90,7 +98,7 @@ fn transact(
     ensures room { is_some result.drawn ≡ true → vec_len records.new < vec_capacity records.new }
 {
     let edits = has_edit(commands.as_slice());
-    let mode = if edits { Mode::Writing } else { Mode::Reading };
+    let mode = mode_of(edits);
     let may_stage = has_staging(commands.as_slice());
     let mut live = library.begin(alloc, kit, mode, may_stage);
     if records.reserve(1).is_err() {

@@ -11,11 +11,11 @@ use Rattle.std.proofs.lemmas.Option.{slice_get-get_or}
 use Rattle.std.proofs.lemmas.List.{map-append, take_more}
 use Rattle.library.specs.declared.command.Command.{Command}
 use Rattle.transaction.specs.declared.outcome.Outcome.{Outcome}
-use Rattle.transaction.specs.Members.{Member}
+use Rattle.transaction.specs.Members.{Member, Stands}
 use Rattle.transaction.specs.Attempts.{Submits}
-use Rattle.claims.specs.Claims.{Home, Claimant, IsOf, Claims}
+use Rattle.claims.specs.Claims.{Home, Claimant, IsOf, Claims, Ends}
 use Rattle.workers.specs.declared.shift.Row.{Row}
-use Rattle.workers.specs.Shifts.{SubmitsAll, RunsAll}
+use Rattle.workers.specs.Shifts.{SubmitsAll, RunsAll, IsShift}
 
 submits_more : (script : List (List Command)) (old mid new : Member) (os : List Outcome) (cs : List Command) (o : Outcome)
     → SubmitsAll script old mid os → Submits cs mid new o → SubmitsAll (script ++ cs ∷ []) old new (os ++ o ∷ [])
@@ -104,3 +104,19 @@ module _ (home : Home) (n : ℕ) (old new : Claimant) (claims : Claims home n ol
       let behind = All-drop (λ m. m < n) (length first) (first ++ own) (subst (All (λ m. m < n)) so_far claims.later) in
       let below = subst (All (λ m. m < n)) (drop-append_seam first own) behind in
       subst IsStrictlyIncreasing (sym mapped) (rises_more own n rises below)
+
+-- a worker that is told that there are no more ends its shift
+pub shift_ends : (scripts : List (List (List Command))) (session after : Member) (claimant last told : Claimant) (rows : List Row)
+    → RunsAll scripts session after rows → Stands after → last.table ≡ claimant.table → last.count ≡ claimant.count
+    → last.claimed ≡ claimant.claimed ++ map (λ row. row.script) rows → IsStrictlyIncreasing (map (λ row. row.script) rows) → Ends last told
+    → IsShift scripts session claimant after told rows
+shift_ends scripts session after claimant last told rows runs stands table count claimed rises ends =
+    record {
+      runs = runs;
+      stands = stands;
+      table = ap (λ (c : Claimant). c.table) ends ∙ table;
+      count = ap (λ (c : Claimant). c.count) ends ∙ count;
+      claimed = ap (λ (c : Claimant). c.claimed) ends ∙ claimed;
+      rises = rises;
+      ended = ap (λ (c : Claimant). c.ended) ends;
+    }

@@ -1,7 +1,10 @@
 -- What threads promise and hand back, one for each session.
 use Rattle.std.proofs.Common.{◌≡◌, List, [], ◌∷◌, ◌++◌, length, length-append, map, ap, sym, subst, ◌∙◌, arith}
+use Rattle.std.specs.Prelude.{All}
 use Rattle.std.specs.List.{AllZip}
+use Rattle.std.proofs.Math.Seq.{drop-append_seam}
 use Rattle.std.proofs.lemmas.List.{append-nil, append_assoc, map-append, length-map, nil_from_length}
+use Rattle.std.proofs.lemmas.List.Elements.{All-drop}
 use Rattle.claims.specs.Claims.{Claimant}
 use Rattle.library.specs.declared.command.Command.{Command}
 use Rattle.transaction.specs.Members.{Member}
@@ -64,3 +67,9 @@ walked_all f xs rest all is long =
     let whole = ap length is in
     let none = nil_from_length rest (omega (arith, sum, same, whole, long)) in
     sym (append-nil (map f xs)) ∙ ap (λ l. map f xs ++ l) (sym none) ∙ is
+
+-- the next one is as all of them are
+pub walked_next : {B : Type 0} (P : B → Type 0) (front rest more all : List B) (y : B) → front ++ rest ≡ all → rest ≡ y ∷ more → All P all → P y
+walked_next P front rest more all y is step each =
+    let behind = All-drop P (length front) (front ++ rest) (subst (All P) (sym is) each) in
+    subst (All P) (drop-append_seam front rest ∙ step) behind 0 y (omega arith)

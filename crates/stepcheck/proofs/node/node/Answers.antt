@@ -37,3 +37,14 @@ returns-clause-err c =
     IfErr-weaker c.conclude.result _ _
     (λ kind h n. too-long-only c.args.prelude.now c.args.thesis.now c.args.frame.now c.args.args.now kind types hyps pairs
     (rw (c.new-substitution.ensures, c.as_slice-floats.ensures, c.as_slice-3.ensures) at h) n) c.conclude.ensures.kinds
+
+pub returns-then-not-have_types-clause-err : goal.returns-then-not-have_types-clause-err
+returns-then-not-have_types-clause-err c = λ _ h.
+    let types = rw c.as_slice-floats.ensures at c.have_types.ensures in
+    let both = sym c.if-not-have_types.true ∙ types.1 h in cc
+
+pub returns-then-not-are_substituted-clause-err : goal.returns-then-not-are_substituted-clause-err
+returns-then-not-are_substituted-clause-err c = λ _.
+    let types = rw c.as_slice-floats.ensures at (c.have_types.ensures.0 c.if-not-have_types.false) in
+    let hyps = rw (c.new-substitution.ensures, c.as_slice.ensures, c.behind-logical.ensures, c.as_slice-floats.ensures) at c.are_substituted.ensures in
+    (types, λ h. let both = sym c.if-not-are_substituted.true ∙ hyps.1 h in cc)

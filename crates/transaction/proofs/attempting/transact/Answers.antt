@@ -1,4 +1,6 @@
-use Rattle.std.proofs.Common.{◌≡◌, Bool, true, false, List, Err, refl, sym, ap, subst, ◌∙◌, arith}
+use Rattle.std.proofs.Common.{◌≡◌, Bool, true, false, List, Result, Ok, Err, refl, sym, ap, subst, ◌∙◌, arith}
+use Rattle.std.specs.Result.{OnOk, is_ok}
+use Rattle.std.specs.Option.{is_some}
 use Rattle.library.specs.declared.command.Command.{Command}
 use Rattle.library.specs.Transactions.{has_edit}
 use Rattle.cells.specs.declared.ending.RunError.{RunError}
@@ -7,10 +9,9 @@ use Rattle.lending.specs.declared.live.Stopped.{Stopped}
 use Rattle.cells.proofs.Sights.{onward_refl}
 use Rattle.commands.proofs.Allowed.{may_do_all}
 use Rattle.lending.specs.Lent.{Pass, Lends, is_writing, sight_of}
-use Rattle.transaction.specs.Tries.{EndsWithin}
+use Rattle.transaction.specs.Tries.{Tries, EndsWithin}
 use Rattle.transaction.proofs.Applying.{may_be_done, may_be_refused, none_asked, asks_within, keeps_within, stored}
 use Rattle.transaction.proofs.attempting.transact.Goals as goal
-use Rattle.transaction.proofs.attempting.transact.Goals.{then-edits, else-edits}
 
 pub run-requires-clause-may : goal.run-requires-clause-may
 run-requires-clause-may c =
@@ -18,10 +19,7 @@ run-requires-clause-may c =
     let edits : has_edit cs ≡ c.has_edit-edits.result =
     ap has_edit (c.as_slice-3.ensures ∙ sym c.as_slice.ensures) ∙ sym c.has_edit-edits.ensures in
     may_do_all (sight_of c.begin-live.result.run) cs
-    (λ is. ap is_writing c.begin-live.ensures.mode_is ∙ elim c.if-edits.branch [
-      | then-edits w ↦ ap is_writing w.mode-is
-      | else-edits w ↦ (let no : true ≡ false = sym is ∙ (edits ∙ w.if-edits.false) in absurd cc)
-    ])
+    (λ is. ap is_writing c.begin-live.ensures.mode_is ∙ (c.mode_of-mode.ensures.writes ∙ (sym edits ∙ is)))
     (λ is. c.begin-live.ensures.may ∙ (c.has_staging-may_stage.ensures ∙ (ap has_staging (c.as_slice-2.ensures ∙ sym c.as_slice-3.ensures) ∙ is)))
 
 pub commit-requires-clause-lawful : goal.commit-requires-clause-lawful
@@ -30,9 +28,9 @@ commit-requires-clause-lawful c =
     let old = c.begin-live.result.run in
     let new = c.run.new.cells.run in
     let cs = c.args.commands.now in
-    let lends = subst (λ (b : Bool). Lends g c.args.kit c.if-edits.mode b old) (c.has_staging-may_stage.ensures ∙ ap has_staging c.as_slice-2.ensures)
+    let lends = subst (λ (b : Bool). Lends g c.args.kit c.mode_of-mode.result b old) (c.has_staging-may_stage.ensures ∙ ap has_staging c.as_slice-2.ensures)
     c.begin-live.ensures in
-    may_be_done g c.args.kit c.if-edits.mode cs old lends new c.run.ensures.onward c.requires.fit c.in-Ok.replies
+    may_be_done g c.args.kit c.mode_of-mode.result cs old lends new c.run.ensures.onward c.requires.fit c.in-Ok.replies
     (subst (λ (x : List Command). DoesAll (sight_of old) (sight_of new) x c.in-Ok.replies) c.as_slice-3.ensures c.in-Ok.ensures.answers)
 
 pub answer-requires-clause-lawful : goal.answer-requires-clause-lawful
@@ -41,9 +39,9 @@ answer-requires-clause-lawful c =
     let old = c.begin-live.result.run in
     let new = c.run.new.cells.run in
     let cs = c.args.commands.now in
-    let lends = subst (λ (b : Bool). Lends g c.args.kit c.if-edits.mode b old) (c.has_staging-may_stage.ensures ∙ ap has_staging c.as_slice-2.ensures)
+    let lends = subst (λ (b : Bool). Lends g c.args.kit c.mode_of-mode.result b old) (c.has_staging-may_stage.ensures ∙ ap has_staging c.as_slice-2.ensures)
     c.begin-live.ensures in
-    may_be_done g c.args.kit c.if-edits.mode cs old lends new c.run.ensures.onward c.requires.fit c.in-Ok.replies
+    may_be_done g c.args.kit c.mode_of-mode.result cs old lends new c.run.ensures.onward c.requires.fit c.in-Ok.replies
     (subst (λ (x : List Command). DoesAll (sight_of old) (sight_of new) x c.in-Ok.replies) c.as_slice-3.ensures c.in-Ok.ensures.answers)
 
 pub refuse-requires-clause-lawful : goal.refuse-requires-clause-lawful
@@ -52,11 +50,11 @@ refuse-requires-clause-lawful c = λ commands reason is why.
     let old = c.begin-live.result.run in
     let new = c.run.new.cells.run in
     let cs = c.args.commands.now in
-    let lends = subst (λ (b : Bool). Lends g c.args.kit c.if-edits.mode b old) (c.has_staging-may_stage.ensures ∙ ap has_staging c.as_slice-2.ensures)
+    let lends = subst (λ (b : Bool). Lends g c.args.kit c.mode_of-mode.result b old) (c.has_staging-may_stage.ensures ∙ ap has_staging c.as_slice-2.ensures)
     c.begin-live.ensures in
     let answers = subst (λ (x : List Command). RunAnswers {S = Stopped} (sight_of old) (sight_of new) x (Err c.in-Err-Refused.field-0))
     c.as_slice-3.ensures c.in-Err-Refused.ensures.answers in
-    may_be_refused g c.args.kit c.if-edits.mode cs old lends new c.run.ensures.onward c.requires.fit c.in-Err-Refused.refused
+    may_be_refused g c.args.kit c.mode_of-mode.result cs old lends new c.run.ensures.onward c.requires.fit c.in-Err-Refused.refused
     (subst (λ (e : RunError Stopped). RunAnswers {S = Stopped} (sight_of old) (sight_of new) cs (Err e)) c.in-Err-Refused.field-0-is answers)
     commands reason is (why ∙ c.in-Err-Refused.refused-is)
 
@@ -142,3 +140,87 @@ pub returns-then-is_err-clause-within : goal.returns-then-is_err-clause-within
 returns-then-is_err-clause-within c =
     subst (λ (z : Pass). EndsWithin z c.args.commands.now c.stop.result.kit.pass c.stop.result.outcome) c.begin-live.ensures.began
     c.stop.ensures.within
+
+pub returns-in-Ok-clause-tries : goal.returns-in-Ok-clause-tries
+returns-in-Ok-clause-tries c =
+    let made = c.commit.result in
+    subst (λ (z : Pass). Tries c.args.commands.now z made.kit.pass made.outcome made.drawn)
+    (c.run.ensures.onward.origin ∙ c.begin-live.ensures.began) c.commit.ensures.tries
+
+pub returns-in-Ok-2-clause-tries : goal.returns-in-Ok-2-clause-tries
+returns-in-Ok-2-clause-tries c =
+    let made = c.answer.result in
+    subst (λ (z : Pass). Tries c.args.commands.now z made.kit.pass made.outcome made.drawn)
+    (c.run.ensures.onward.origin ∙ c.begin-live.ensures.began) c.answer.ensures.tries
+
+pub returns-in-Err-Refused-clause-tries : goal.returns-in-Err-Refused-clause-tries
+returns-in-Err-Refused-clause-tries c =
+    let made = c.refuse.result in
+    subst (λ (z : Pass). Tries c.args.commands.now z made.kit.pass made.outcome made.drawn)
+    (c.run.ensures.onward.origin ∙ c.begin-live.ensures.began) c.refuse.ensures.tries
+
+pub returns-in-Err-clause-tries : goal.returns-in-Err-clause-tries
+returns-in-Err-clause-tries c =
+    let made = c.stop-in-Err.result in
+    subst (λ (z : Pass). Tries c.args.commands.now z made.kit.pass made.outcome made.drawn)
+    (c.run.ensures.onward.origin ∙ c.begin-live.ensures.began) c.stop-in-Err.ensures.tries
+
+pub returns-then-is_err-clause-tries : goal.returns-then-is_err-clause-tries
+returns-then-is_err-clause-tries c =
+    let made = c.stop.result in
+    subst (λ (z : Pass). Tries c.args.commands.now z made.kit.pass made.outcome made.drawn) c.begin-live.ensures.began c.stop.ensures.tries
+
+pub stop-requires-clause-stages : goal.stop-requires-clause-stages
+stop-requires-clause-stages c = c.begin-live.ensures.may ∙ (c.has_staging-may_stage.ensures ∙ ap has_staging c.as_slice-2.ensures)
+
+pub commit-requires-clause-stages : goal.commit-requires-clause-stages
+commit-requires-clause-stages c =
+    c.run.ensures.onward.may_stage ∙ (c.begin-live.ensures.may ∙ (c.has_staging-may_stage.ensures ∙ ap has_staging c.as_slice-2.ensures))
+
+pub stop-requires-in-Err-clause-stages : goal.stop-requires-in-Err-clause-stages
+stop-requires-in-Err-clause-stages c =
+    c.run.ensures.onward.may_stage ∙ (c.begin-live.ensures.may ∙ (c.has_staging-may_stage.ensures ∙ ap has_staging c.as_slice-2.ensures))
+
+pub stop-requires-clause-writes : goal.stop-requires-clause-writes
+stop-requires-clause-writes c =
+    ap is_writing c.begin-live.ensures.mode_is ∙ (c.mode_of-mode.ensures.writes ∙ (c.has_edit-edits.ensures ∙ ap has_edit c.as_slice.ensures))
+
+pub commit-requires-clause-writes : goal.commit-requires-clause-writes
+commit-requires-clause-writes c =
+    c.run.ensures.onward.may_write
+    ∙ (ap is_writing c.begin-live.ensures.mode_is ∙ (c.mode_of-mode.ensures.writes ∙ (c.has_edit-edits.ensures ∙ ap has_edit c.as_slice.ensures)))
+
+pub refuse-requires-clause-writes : goal.refuse-requires-clause-writes
+refuse-requires-clause-writes c =
+    c.run.ensures.onward.may_write
+    ∙ (ap is_writing c.begin-live.ensures.mode_is ∙ (c.mode_of-mode.ensures.writes ∙ (c.has_edit-edits.ensures ∙ ap has_edit c.as_slice.ensures)))
+
+pub stop-requires-in-Err-clause-writes : goal.stop-requires-in-Err-clause-writes
+stop-requires-in-Err-clause-writes c =
+    c.run.ensures.onward.may_write
+    ∙ (ap is_writing c.begin-live.ensures.mode_is ∙ (c.mode_of-mode.ensures.writes ∙ (c.has_edit-edits.ensures ∙ ap has_edit c.as_slice.ensures)))
+
+-- ---- memory was had for one record more
+
+had : {A E : Type 0} (P : Type 0) (r : Result A E) → is_ok r ≡ true → OnOk r P → P
+had P (Ok x) ok h = h
+had P (Err e) ok h = absurd cc
+
+pub returns-in-Ok-clause-room : goal.returns-in-Ok-clause-room
+returns-in-Ok-clause-room c = λ drawn.
+    let room = had _ c.reserve.result c.if-is_err.ensures.negation c.reserve.ensures.ok in omega (arith, room)
+
+pub returns-in-Ok-2-clause-room : goal.returns-in-Ok-2-clause-room
+returns-in-Ok-2-clause-room c = λ drawn.
+    let room = had _ c.reserve.result c.if-is_err.ensures.negation c.reserve.ensures.ok in omega (arith, room)
+
+pub returns-in-Err-Refused-clause-room : goal.returns-in-Err-Refused-clause-room
+returns-in-Err-Refused-clause-room c = λ drawn.
+    let room = had _ c.reserve.result c.if-is_err.ensures.negation c.reserve.ensures.ok in omega (arith, room)
+
+pub returns-in-Err-clause-room : goal.returns-in-Err-clause-room
+returns-in-Err-clause-room c = λ drawn.
+    let room = had _ c.reserve.result c.if-is_err.ensures.negation c.reserve.ensures.ok in omega (arith, room)
+
+pub returns-then-is_err-clause-room : goal.returns-then-is_err-clause-room
+returns-then-is_err-clause-room c = λ drawn. let no : true ≡ false = sym drawn ∙ ap is_some c.stop.ensures.undrawn in absurd cc

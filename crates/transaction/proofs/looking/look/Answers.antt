@@ -1,8 +1,9 @@
-use Rattle.std.proofs.Common.{◌≡◌, ap, sym, ◌∙◌}
+use Rattle.std.proofs.Common.{◌≡◌, ap, sym, subst, ◌∙◌}
 use Rattle.cells.specs.Sight.{Looks as LooksOn}
 use Rattle.lawful.specs.Lawful.{setting_of}
-use Rattle.lending.specs.Lent.{Carried, Lending, sight_of}
-use Rattle.transaction.specs.Tries.{StoresNothing, carried_by}
+use Rattle.lending.specs.Lent.{Pass, Carried, Lending, sight_of}
+use Rattle.transaction.specs.Looks.{Sees}
+use Rattle.transaction.specs.Tries.{IsLaterPass, StoresNothing, carried_by}
 use Rattle.transaction.proofs.Looked.{may_be_looked}
 use Rattle.transaction.proofs.looking.look.Goals as goal
 
@@ -27,3 +28,23 @@ returns-in-Err-clause-stored c =
     let lends = c.begin-live.ensures in
     stored_since c.args.kit c.stop.result.0 c.begin-live.result.run c.read_all.new.live.run lends.taken lends.staged
     c.read_all.ensures.looks c.stop.ensures.stored
+
+pub returns-in-Ok-clause-later : goal.returns-in-Ok-clause-later
+returns-in-Ok-clause-later c =
+    subst (λ (z : Pass). IsLaterPass z c.show.result.0.pass) (c.read_all.ensures.looks.onward.origin ∙ c.begin-live.ensures.began)
+    c.show.ensures.later
+
+pub returns-in-Ok-clause-sees : goal.returns-in-Ok-clause-sees
+returns-in-Ok-clause-sees c =
+    subst (λ (z : Pass). Sees z c.show.result.0.pass c.show.result.1) (c.read_all.ensures.looks.onward.origin ∙ c.begin-live.ensures.began)
+    c.show.ensures.sees
+
+pub returns-in-Err-clause-later : goal.returns-in-Err-clause-later
+returns-in-Err-clause-later c =
+    subst (λ (z : Pass). IsLaterPass z c.stop.result.0.pass) (c.read_all.ensures.looks.onward.origin ∙ c.begin-live.ensures.began)
+    c.stop.ensures.later
+
+pub returns-in-Err-clause-sees : goal.returns-in-Err-clause-sees
+returns-in-Err-clause-sees c =
+    subst (λ (z : Pass). Sees z c.stop.result.0.pass c.stop.result.1) (c.read_all.ensures.looks.onward.origin ∙ c.begin-live.ensures.began)
+    c.stop.ensures.sees

@@ -1,6 +1,6 @@
-use Rattle.std.proofs.Common.{◌<◌, length, ◌∙◌, arith}
+use Rattle.std.proofs.Common.{◌≡◌, ◌<◌, length, refl, sym, ◌∙◌, append-nil, arith}
 use Rattle.claims.proofs.Claiming.{claim_nears}
-use Rattle.workers.proofs.Steps.{runs_next, claims_on, claimed_next, rising_next, same_table, same_count}
+use Rattle.workers.proofs.Steps.{shift_ends, runs_next, claims_on, claimed_next, rising_next, same_table, same_count}
 use Rattle.workers.proofs.shift.work.Goals as goal
 
 pub loop-script-smaller : goal.loop-script-smaller
@@ -35,3 +35,34 @@ loop-script-preserved g c =
           rising_next home n old new claims c.args.claimant.claimed c.loop-script.rows.items c.push.new.self.items outcomes
           c.in_ok-push.ensures.items i.claimed i.rises;
     }
+
+pub loop-script-init : goal.loop-script-init
+loop-script-init g c =
+    let none = c.new-rows.ensures.items in
+    record {
+      own = c.requires.own;
+      claims = c.requires.claims;
+      runs = rw none refl;
+      table = refl;
+      count = refl;
+      claimed = rw none (sym (append-nil c.args.claimant.claimed));
+      rises = rw none (λ k lt. absurd (omega arith));
+    }
+
+pub bounds-shop-script : goal.bounds-shop-script
+bounds-shop-script g c =
+    let below = c.in-Some.ensures.some.below in
+    omega (arith, below, c.requires.indexes)
+
+pub submit_all-outcomes-requires-clause-fit : goal.submit_all-outcomes-requires-clause-fit
+submit_all-outcomes-requires-clause-fit g c =
+    let n = c.in-Some.script in
+    let below = c.in-Some.ensures.some.below in
+    let within : n < length c.args.shop.scripts.now = omega (arith, below, c.requires.indexes) in
+    rw c.as_slice-transactions.ensures (c.requires.fit n c.index-shop-script.result within)
+
+pub returns : goal.returns
+returns g c =
+    let i = c.loop-script.invariant in
+    shift_ends c.args.shop.scripts.now c.args.session c.loop-script.session c.args.claimant c.loop-script.claimant c.claim.new.self
+    c.loop-script.rows.items i.runs c.records.ensures.stands i.table i.count i.claimed i.rises c.in_default.ensures.none

@@ -1,4 +1,4 @@
-use Rattle.std.proofs.Common.{◌≡◌, List, [], ◌∷◌, ◌++◌, length-append, map, sym, subst, arith}
+use Rattle.std.proofs.Common.{◌≡◌, List, [], ◌∷◌, ◌++◌, length-append, length, map, ap, sym, subst, arith}
 use Rattle.std.specs.List.{AllZip}
 use Rattle.std.proofs.lemmas.List.{map-append}
 use Rattle.std.proofs.lemmas.Slice.Zip.{all_zipped_more}
@@ -29,3 +29,10 @@ loop-handle-preserved g c =
       omega (arith, more, many, long),
       omega (arith, room, wide),
     )
+
+pub loop-handle-init : goal.loop-handle-init
+loop-handle-init g c =
+    let none = c.in_ok-shifts.ensures.items in
+    let wide = c.in_ok-shifts.ensures.capacity in
+    let long = c.len.ensures in
+    (rw none tt, ap length none, omega (arith, wide, long))

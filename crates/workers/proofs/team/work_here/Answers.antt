@@ -1,9 +1,11 @@
-use Rattle.std.proofs.Common.{◌≡◌, List, [], ◌∷◌, ◌++◌, length, length-append, map, sym, subst, inl, inr, arith}
-use Rattle.claims.specs.Claims.{Claimant}
-use Rattle.transaction.specs.Members.{Member}
+use Rattle.std.proofs.Common.{◌≡◌, List, [], ◌∷◌, ◌++◌, length, length-append, map, ap, sym, subst, ◌∙◌, inl, inr, arith}
+use Rattle.std.specs.Iterator.Adapters.{zip_first, zip_second}
+use Rattle.std.specs.Vec.Iter.{into_iter_items, into_iter_len}
+use Rattle.claims.specs.Claims.{Claimant, IsOf as Claims}
+use Rattle.transaction.specs.Members.{Member, IsOf}
 use Rattle.workers.specs.declared.shift.Shift.{Shift}
 use Rattle.workers.specs.Shifts.{AreShifts}
-use Rattle.workers.proofs.Teams.{shifts_more, walked_more, walked_all}
+use Rattle.workers.proofs.Teams.{shifts_more, walked_next, walked_more, walked_all}
 use Rattle.workers.proofs.team.work_here.Goals as goal
 
 pub loop-session-preserved : goal.loop-session-preserved
@@ -13,6 +15,9 @@ loop-session-preserved g c =
     let claimant : Claimant = c.in-Some.claimant in
     let pair : Member × Claimant = (session, claimant) in
     let was = c.loop-session.invariant in
+    let shift : Shift = c.in_ok-work.field-0 in
+    let shifts : List Shift = c.loop-session.shifts.items in
+    let pushed : c.push_reserved.new.self.items ≡ shifts ++ shift ∷ [] = c.push_reserved.ensures.items in
     let steps = c.in-Some.ensures.steps in
     let more = length-append done (pair ∷ []) in
     let many = c.push_reserved.ensures.len in
@@ -25,9 +30,8 @@ loop-session-preserved g c =
     let room = was.6 in
     let fewer = steps.0.1 in
     let fewer' = steps.1.1 in (
-      subst (λ (ss : List Shift). AreShifts c.args.shop.scripts.now sessions claimants ss) (sym c.push_reserved.ensures.items)
-          (shifts_more c.args.shop.scripts.now done c.loop-session.shifts.items session claimant c.in_ok-work.field-0 was.0
-          c.in_ok-work.ensures),
+      subst (λ (ss : List Shift). AreShifts c.args.shop.scripts.now sessions claimants ss) (sym {A = List Shift} pushed)
+          (shifts_more c.args.shop.scripts.now done shifts session claimant shift was.0 c.in_ok-work.ensures),
       walked_more (λ (p : Member × Claimant). p.0) done pair _ _ _ was.1 steps.0.0,
       walked_more (λ (p : Member × Claimant). p.1) done pair _ _ _ was.2 steps.1.0,
       omega (arith, more, first, fewer),
@@ -53,3 +57,36 @@ returns g c =
     (walked_all (λ (p : Member × Claimant). p.0) done _ _ was.1 all)
     (subst (λ (cs : List Claimant). AreShifts c.args.shop.scripts.now (map (λ d. d.0) done) cs shifts)
     (walked_all (λ (p : Member × Claimant). p.1) done _ _ was.2 (omega (arith, all, pairs))) was.0)
+
+pub work-requires-clause-own : goal.work-requires-clause-own
+work-requires-clause-own g c =
+    walked_next (IsOf c.args.shop.library.now) _ _ _ _ c.in-Some.session c.loop-session.invariant.1 c.in-Some.ensures.steps.0.0 c.requires.own
+
+pub work-requires-clause-claims : goal.work-requires-clause-claims
+work-requires-clause-claims g c =
+    walked_next (Claims c.args.shop.numbers.now) _ _ _ _ c.in-Some.claimant c.loop-session.invariant.2 c.in-Some.ensures.steps.1.0 c.requires.claims
+
+pub loop-session-smaller : goal.loop-session-smaller
+loop-session-smaller g c =
+    let first = c.in-Some.ensures.steps.0.1 in
+    let second = c.in-Some.ensures.steps.1.1 in
+    omega (arith, first, second)
+
+pub loop-session-init : goal.loop-session-init
+loop-session-init g c =
+    let none = c.in_ok-shifts.ensures.items in
+    let wide = c.in_ok-shifts.ensures.capacity in
+    let long = c.len.ensures in
+    let same = c.into_iter-session-iterator.ensures.into_iter_gives in
+    let first = ap (λ z. zip_first z) same ∙ c.zip-session-items.ensures.first in
+    let second = c.zip-session-items.ensures.second in
+    let fewer = ap (λ i. into_iter_len i) first ∙ c.into_iter.ensures.len in
+    let fewer' = ap (λ z. into_iter_len (zip_second z)) same ∙ second.1 in (
+      rw none tt,
+      ap (λ i. into_iter_items i) first ∙ c.into_iter.ensures.rest,
+      ap (λ z. into_iter_items (zip_second z)) same ∙ second.0,
+      omega (arith, fewer),
+      omega (arith, fewer'),
+      ap length none,
+      omega (arith, wide, long),
+    )
