@@ -1,15 +1,12 @@
 -- For which cells those calls ask that read the steps of a proof, or walk along a chain to a slot.
 use Rattle.std.proofs.Common.{◌≡◌, ◌<◌, ℕ, ◌+◌, List, [], ◌∷◌, length, get_or, refl, sym, subst, inl, inr, arith}
 use Rattle.std.specs.List.{AllZip}
-use Rattle.std.proofs.lemmas.List.Sorted.{IsPermutation-sym}
 use Rattle.mmsyntax.specs.declared.statement.Step.{Step}
 use Rattle.mmsyntax.specs.declared.statement.Step.TheVariants.{Float, Hyp, Cite}
-use Rattle.library.specs.declared.library.Ranked.{Ranked}
 use Rattle.library.specs.Library.{Setting}
 use Rattle.bodystore.specs.declared.stored.StoredStep.{StoredStep}
 use Rattle.bodystore.specs.declared.stored.StoredStep.TheVariants as stored
 use Rattle.ranges.specs.Ranges.{Has}
-use Rattle.ranges.proofs.Members.{has_permutation}
 use Rattle.cells.specs.State.{State}
 use Rattle.cells.specs.Slots.{name_cell, proof_cell, bucket_cell, next_cell}
 use Rattle.cells.specs.Shows.{IsNamed, IsStoredAs, AreStoredAs, IsChain, Shows, slots_of, of_bucket}
@@ -97,11 +94,3 @@ module _ (slots : ℕ) (st : State) where
       next (k ∷ ks) word c (inl e) =
           inr (head ks (st.value (next_cell slots k)) c.2 (subst (λ (n : ℕ). st.value (next_cell slots n) ≡ i + 1) e at.0))
       next (k ∷ ks) word c (inr h) = inr (next ks (st.value (next_cell slots k)) c.2 h)
-
-  -- a slot in the chain of a bucket holds an assertion of the library whose label is of the bucket
-  pub member_holds : (lib : List Ranked) (shows : Shows slots st lib) (b i : ℕ) → b < slots → IsMember slots st b i
-      → Has i (slots_of (of_bucket slots b shows.held))
-  member_holds lib shows b i lt member =
-      let c = shows.chained b lt in
-      has_permutation c.chain (slots_of (of_bucket slots b shows.held)) i (IsPermutation-sym (slots_of (of_bucket slots b shows.held)) c.chain c.has)
-      (chain_has b c.chain member.before i c.starts member.behind)

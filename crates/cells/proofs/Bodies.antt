@@ -2,7 +2,6 @@
 use Rattle.std.proofs.Common.{◌≡◌, ◌≢◌, ℕ, zero, suc, ◌+◌, ◌*◌, ◌/◌, ◌%◌, ◌^◌, ◌<◌, List, [], ◌∷◌, length, refl, sym, ap, subst, ◌∙◌, inl, inr, arith, Some}
 use Rattle.std.specs.Prelude.{slice_get}
 use Rattle.std.specs.Prelude.{◌↔◌}
-use Rattle.std.specs.Coded.{Coded-set, coded_list, coded_ℕ}
 use Rattle.std.proofs.Math.Bridge.{le_prop}
 use Rattle.std.proofs.Math.Logic.{∥∥₁_elim}
 use Rattle.library.specs.declared.library.Ranked.{Ranked}
@@ -64,11 +63,6 @@ knows_later s t range words on k =
     record { finished = on.ranges (record { start = range.start; words = words }) k.finished; len = k.len }
 
 module _ {O : Type 0} (s : Sight O) (st : State) (matches : Matches s st) where
-  -- a known range has one list of words
-  pub knows_one : (range : Place) (words others : List ℕ) → Knows s range words → Knows s range others → words ≡ others
-  knows_one range words others a b =
-      one_named st.ranges (record { start = range.start; words = words }) (record { start = range.start; words = others }) matches.store
-      (matches.has _ a.finished) (matches.has _ b.finished) (ap (λ (n : ℕ). range.start * 2 ^ 25 + n) (sym a.len ∙ b.len))
 
   -- the words of a known range are those of the body of the cell that names it
   pub words_known : (range : Place) (cell : ℕ) (words body : List ℕ) → Knows s range words
@@ -90,9 +84,6 @@ module _ {O : Type 0} (s : Sight O) (st : State) (matches : Matches s st) where
 -- ---- with no state at hand
 
 module _ {O : Type 0} (s : Sight O) (grounded : ∥ ((st : State) × (lib : List Ranked) × Suits s st lib) ∥₁) where
-  pub one_known : (range : Place) (words others : List ℕ) → Knows s range words → Knows s range others → words ≡ others
-  one_known range words others a b =
-      ∥∥₁_elim grounded (Coded-set (coded_list coded_ℕ) _ _) (λ x. knows_one s x.0 x.2.matches range words others a b)
 
   -- a word that is not 0 and names a range: where it starts, and how many words it has
   pub named_known : (word : ℕ) (range : Place) → word ≢ 0 → Names s.ranges word → range.start ≡ word / 2 ^ 25 → range.len ≡ word % 2 ^ 25

@@ -17,7 +17,6 @@ use Rattle.cells.specs.Slots.{citers_cell}
 use Rattle.cells.specs.Shows.{Held, IsNamed, Holds, Shows}
 use Rattle.cells.specs.Lookups.{IsFoundAt}
 use Rattle.ranges.proofs.Members.{contains_from_has, all_has, has_from_contains, mapped_has}
-use Rattle.cells.proofs.Holders.{found_at}
 use Rattle.cells.proofs.Linking.{one_held}
 use Rattle.cells.proofs.Holding.{named_held, held_in, one_label}
 
@@ -96,10 +95,3 @@ module _ (slots : ℕ) (st : State) (lib : List Ranked) (shows : Shows slots st 
 
     pub found_entry : (e : Ranked) → found lib label ≡ Some e → at.entry ≡ e
     found_entry e is = let same : Some at.entry ≡ Some e = sym at.found ∙ is in cc
-
-  -- a slot with the label of an assertion holds it
-  pub named_holds : (store : AreOfOneStore most_words st.ranges) → (apart : Distinct bytes_eq (map label_of lib)) → (label : List ℕ) (i : ℕ) (e : Ranked)
-      → found lib label ≡ Some e → IsNamed slots st i label → Holds slots st lib i e
-  named_holds store apart label i e is named =
-      let at = found_at slots st lib shows store i label apart named in
-      subst (Holds slots st lib i) (found_entry store apart label i at e is) at.holds

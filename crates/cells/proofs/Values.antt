@@ -3,7 +3,6 @@ use Rattle.std.proofs.Common.{◌≡◌, ◌≢◌, ℕ, ◌*◌, ◌≤◌, ◌
 use Rattle.std.specs.Prelude.{◌==◌, nat_lt}
 use Rattle.std.proofs.lemmas.Bool.{cond-true, cond-false, eq-eqb, ne_eqb, le-ltb, and_left}
 use Rattle.cells.specs.State.{State, with_value}
-use Rattle.cells.specs.Slots.{is_ranged}
 
 pub value_there : (cell v : ℕ) (st : State) → (with_value cell v st).value cell ≡ v
 value_there cell v st = cond-true (cell == cell) v (st.value cell) (eq-eqb cell cell refl)

@@ -3,12 +3,10 @@ use Rattle.std.proofs.Common.{◌≡◌, ℕ, Bool, true, false, cond, List, [],
 use Rattle.std.specs.Prelude.{filter, ◌&&◌, ◌||◌}
 use mathlib.Core.Bool.{not}
 use Rattle.std.specs.List.{list_any, Contains}
-use Rattle.std.specs.List.Sorted.{IsPermutation}
 use Rattle.std.specs.Str.{bytes_eq}
 use Rattle.std.proofs.lemmas.Bool.{cases_Bool, cond-true, not-true, not_from_false, or_parts}
 use Rattle.std.proofs.lemmas.List.Elements.{All-contains, Contains-get_or, filter_passes}
 use Rattle.std.proofs.lemmas.List.Folds.{list_any_at, list_any_none, Any-from_list_any}
-use Rattle.std.proofs.lemmas.List.Sorted.{list_any-IsPermutation}
 use Rattle.mmsyntax.specs.Dotted.{clash, AreApart}
 use Rattle.mmsyntax.proofs.Apart.{apart_cons, apart_with, apart_within}
 use Rattle.mmsyntax.proofs.Distinct.{any-map}
@@ -27,11 +25,6 @@ pub clashes_with_none : (lib : List Ranked) (label : List ℕ) (e : Ranked) → 
     → clash (label_of e) label ≡ false
 clashes_with_none lib label e h at = none_contained (λ f. clash (label_of f) label) lib e h at
 
-pub clashes_nowhere : (lib : List Ranked) (label : List ℕ) → ((e : Ranked) → Contains lib e → clash (label_of e) label ≡ false)
-    → clashes lib label ≡ false
-clashes_nowhere lib label h =
-    list_any_none (λ e. clash (label_of e) label) lib (λ i d lt. h (get_or lib i d) (Contains-get_or lib i d lt))
-
 pub clashes_at : (lib : List Ranked) (label : List ℕ) (e : Ranked) → Contains lib e → clash (label_of e) label ≡ true
     → clashes lib label ≡ true
 clashes_at lib label e at h =
@@ -45,10 +38,6 @@ clashes_somewhere lib label h =
 
 pub clashes-labels : (lib : List Ranked) (label : List ℕ) → list_any (λ l. clash l label) (map label_of lib) ≡ clashes lib label
 clashes-labels lib label = any-map (λ l. clash l label) label_of lib
-
--- in whatever order
-pub clashes-permutation : (lib other : List Ranked) (label : List ℕ) → IsPermutation lib other → clashes lib label ≡ clashes other label
-clashes-permutation lib other label p = list_any-IsPermutation (λ e. clash (label_of e) label) lib other p
 
 -- ---- one left out
 
@@ -65,13 +54,6 @@ any-filter p q (x ∷ xs) =
 pub clashes-without : (lib : List Ranked) (own label : List ℕ)
     → clashes (without own lib) label ≡ list_any (λ e. not (is_labelled own e) && clash (label_of e) label) lib
 clashes-without lib own label = any-filter (λ e. not (is_labelled own e)) (λ e. clash (label_of e) label) lib
-
-pub clashes_without-permutation : (lib other : List Ranked) (own label : List ℕ) → IsPermutation lib other
-    → clashes (without own lib) label ≡ clashes (without own other) label
-clashes_without-permutation lib other own label p =
-    clashes-without lib own label
-    ∙ list_any-IsPermutation (λ e. not (is_labelled own e) && clash (label_of e) label) lib other p
-    ∙ sym (clashes-without other own label)
 
 pub clashes_without_at : (lib : List Ranked) (own label : List ℕ) (e : Ranked) → Contains lib e → is_labelled own e ≡ false
     → clash (label_of e) label ≡ true → clashes (without own lib) label ≡ true

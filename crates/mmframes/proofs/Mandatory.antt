@@ -7,7 +7,6 @@ use Rattle.std.proofs.Math.Seq.{drop-cons}
 use Rattle.std.specs.Prelude.{filter, is_ok, MatchResult}
 use Rattle.std.specs.List.{dedup, list_any, range_with_len}
 use Rattle.std.specs.List.Sorted.{IsPermutation, IsStrictlyIncreasing}
-use Rattle.std.proofs.lemmas.Bool.{le-ltb}
 use Rattle.std.proofs.lemmas.Bool.Decides.{Decides-eqb, Decides-ltb, leb_tells}
 use Rattle.std.proofs.lemmas.List.Kept.{Contains-dedup_nat, Contains-from_dedup}
 use Rattle.std.proofs.lemmas.List.Sorted.{Contains-permutation, IsPermutation-sym}
@@ -29,19 +28,6 @@ and-false false = refl
 pub note_constant : (old b : Bool) → old ≡ (old || (b && false))
 note_constant old b = rw (and-false b) (sym (or-false old))
 
-pub note_variable : (old : Bool) (k j count : ℕ) → k < count → (old || (eqb k j || false)) ≡ (old || (ltb j count && eqb k j))
-note_variable old k j count lt = elim (eqb k j)
-    as (λ b. eqb k j ≡ b → (old || (b || false)) ≡ (old || (ltb j count && b))) [
-      | true ↦ λ e. let same : k ≡ j = (Decides-eqb k j).0 e in let low : j < count = omega arith in rw ((Decides-ltb j count).1 low) refl
-      | false ↦ λ e. rw (and-false (ltb j count)) refl
-    ] refl
-
-pub note_other : (old : Bool) (k j count : ℕ) → count ≤ k → old ≡ (old || (ltb j count && eqb k j))
-note_other old k j count le = elim (eqb k j) as (λ b. eqb k j ≡ b → old ≡ (old || (ltb j count && b))) [
-  | true ↦ λ e. let same : k ≡ j = (Decides-eqb k j).0 e in rw (le-ltb j count (omega arith)) (sym (or-false old))
-  | false ↦ λ e. note_constant old (ltb j count)
-] refl
-
 pub list_any-drop : {X : Type 0} (p : X → Bool) (xs : List X) (i : ℕ) (d : X) → i < length xs
     → list_any p (drop i xs) ≡ (p (get_or xs i d) || list_any p (drop (i + 1) xs))
 list_any-drop p xs i d lt = rw (drop-cons xs i d, add-one) refl
@@ -60,10 +46,6 @@ pub one_more : {X : Type 0} (p : X → Bool) (xs : List X) (i : ℕ) (d : X) (ne
 one_more p xs i d new old b done lt e h =
     front new old b (p (get_or xs i d)) (list_any p (drop (i + 1) xs)) done e
     (ap (λ x. old || (b && x)) (sym (list_any-drop p xs i d lt)) ∙ h)
-
-pub both_found : (b one other : Bool) → ((false || (b && one)) || (b && other)) ≡ (b && (one || other))
-both_found true one other = refl
-both_found false one other = refl
 
 -- ---- in order, each once
 

@@ -13,15 +13,6 @@ use Rattle.mmsyntax.proofs.Distinct.{any_at}
 
 -- ---- two labels
 
-pub clash-sym : (l w : Word) → clash l w ≡ clash w l
-clash-sym l w = swapped (is_dotted l w) (is_dotted w l)
-  where
-    swapped : (a b : Bool) → (a || b) ≡ (b || a)
-    swapped true true = refl
-    swapped true false = refl
-    swapped false true = refl
-    swapped false false = refl
-
 -- ---- lists
 
 pub apart_nil : AreApart []

@@ -48,28 +48,11 @@ cite_word cited n =
 
 -- ---- words that are in order
 
-pub float_is_word : (count i : ℕ) → i < 2 ^ 30 → IsWord count (3 * i)
-float_is_word count i h = record { small = omega arith; within = λ r. absurd (omega arith) }
-
-pub hyp_is_word : (count k : ℕ) → k < 2 ^ 30 → IsWord count (3 * k + 1)
-hyp_is_word count k h = record { small = omega arith; within = λ r. absurd (omega arith) }
-
-pub cite_is_word : (count n : ℕ) → n < count → n < 2 ^ 30 → IsWord count (3 * n + 2)
-cite_is_word count n w h = record { small = omega arith; within = λ r. omega arith }
-
 -- ---- one more word
-
-pub push_float_words : (cited : List (List ℕ)) (words : List ℕ) (i : ℕ) → i < 2 ^ 30 → AreWords cited words
-    → AreWords cited (words ++ (3 * i) ∷ [])
-push_float_words cited words i h all = All-push (IsWord (length cited)) words (3 * i) all (float_is_word (length cited) i h)
 
 pub push_float_steps : (cited : List (List ℕ)) (words : List ℕ) (i : ℕ)
     → steps_of cited (words ++ (3 * i) ∷ []) ≡ steps_of cited words ++ Float i ∷ []
 push_float_steps cited words i = map_push (step_of cited) words (3 * i) ∙ ap (λ s. steps_of cited words ++ s ∷ []) (float_word cited i)
-
-pub push_hyp_words : (cited : List (List ℕ)) (words : List ℕ) (k : ℕ) → k < 2 ^ 30 → AreWords cited words
-    → AreWords cited (words ++ (3 * k + 1) ∷ [])
-push_hyp_words cited words k h all = All-push (IsWord (length cited)) words (3 * k + 1) all (hyp_is_word (length cited) k h)
 
 pub push_hyp_steps : (cited : List (List ℕ)) (words : List ℕ) (k : ℕ)
     → steps_of cited (words ++ (3 * k + 1) ∷ []) ≡ steps_of cited words ++ Hyp k ∷ []
@@ -139,12 +122,6 @@ pub kept_words : (cited more : List (List ℕ)) (words : List ℕ) → take (len
     → AreWords more words
 kept_words cited more words kept all = All-weaker (IsWord (length cited)) (IsWord (length more))
     (λ w h. record { small = h.small; within = λ e. let lt = h.within e in omega (arith, kept_length cited more kept) }) words all
-
--- one more citation
-pub push_cite_words : (cited : List (List ℕ)) (words : List ℕ) (n : ℕ) → AreWords cited words → n < length cited → n < 2 ^ 30
-    → AreWords cited (words ++ (3 * n + 2) ∷ [])
-push_cite_words cited words n all within small = All-push (IsWord (length cited)) words (3 * n + 2) all
-    (cite_is_word (length cited) n within small)
 
 pub push_cite_steps : (cited : List (List ℕ)) (words : List ℕ) (n : ℕ)
     → steps_of cited (words ++ (3 * n + 2) ∷ []) ≡ steps_of cited words ++ Cite (get_or cited n []) ∷ []

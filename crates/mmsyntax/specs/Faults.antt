@@ -275,7 +275,3 @@ unit_language t = record {
   row = unit_row;
   said = λ p. unit_at p.known p.place;
 }
-
--- the fault of a text as one unit
-abbrev pub FaultyUnit : Tables → List ℕ → TextFault → Type 0
-FaultyUnit t bytes f = Faulty (unit_language t) bytes f

@@ -89,27 +89,6 @@ abbrev pub OnPlace : {P : Type 0} → (P → Type 0) → Result P TextFault → 
 OnPlace Q (Ok p) = Q p
 OnPlace Q (Err f) = Unit {0}
 
-abbrev OnState : {P : Type 0} → (P → Type 0) → Result (State P) TextFault → Type 0
-OnState Q (Ok s) = Q s.place
-OnState Q (Err f) = Unit {0}
-
-led_keeps : {P : Type 0} (Q : P → Type 0) (r : Result P TextFault) → OnPlace Q r → OnState Q (led r)
-led_keeps Q (Ok p) h = h
-led_keeps Q (Err f) h = tt
-
-turn_keeps : {P : Type 0} (Q : P → Type 0) (p : P) (decided : Result P TextFault) (r : Result Turn TextFault) → Q p → OnPlace Q decided
-    → OnState Q (after_turn p decided r)
-turn_keeps Q p decided (Ok (turn.Skipped b)) h g = h
-turn_keeps Q p decided (Ok turn.Read) h g = led_keeps Q decided g
-turn_keeps Q p decided (Err f) h g = tt
-
--- what each row keeps stays true at each step
-pub keeps_step : {P A : Type 0} (l : Language P A) (Q : P → Type 0) → ((p : P) (t : Token) → Q p → OnPlace Q (l.row p t))
-    → (s q : State P) (t : Token) → Q s.place → step l s t ≡ Ok q → Q q.place
-keeps_step l Q rows s q t h e =
-    subst (OnState Q) (sym (step_turned l s t) ∙ e)
-    (turn_keeps Q s.place (l.row s.place t) (turn_at s.in_comment t (mark_of t.text)) h (rows s.place t h))
-
 -- ---- texts
 
 -- a token at which reading stops

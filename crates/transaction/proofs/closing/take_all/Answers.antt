@@ -2,8 +2,6 @@ use Rattle.std.proofs.Common.{◌≡◌, List, [], ◌∷◌, ◌++◌, Vec, len
 use Rattle.std.specs.declared.alloc.Global.{Global}
 use Rattle.lending.specs.Lent.{Pass}
 use Rattle.transaction.specs.declared.outcome.Record.{Record}
-use Rattle.transaction.specs.Members.{Member, IsMember}
-use Rattle.transaction.specs.Kits.{known_in}
 use Rattle.transaction.specs.Closings.{AreTaken}
 use Rattle.transaction.proofs.Taken.{one_taken}
 use Rattle.transaction.proofs.closing.take_all.Goals as goal
