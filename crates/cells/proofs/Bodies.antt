@@ -63,7 +63,6 @@ knows_later s t range words on k =
     record { finished = on.ranges (record { start = range.start; words = words }) k.finished; len = k.len }
 
 module _ {O : Type 0} (s : Sight O) (st : State) (matches : Matches s st) where
-
   -- the words of a known range are those of the body of the cell that names it
   pub words_known : (range : Place) (cell : ℕ) (words body : List ℕ) → Knows s range words
       → (after s st).value cell ≡ range.start * 2 ^ 25 + range.len → HasBody (after s st) cell body → words ≡ body
@@ -84,7 +83,6 @@ module _ {O : Type 0} (s : Sight O) (st : State) (matches : Matches s st) where
 -- ---- with no state at hand
 
 module _ {O : Type 0} (s : Sight O) (grounded : ∥ ((st : State) × (lib : List Ranked) × Suits s st lib) ∥₁) where
-
   -- a word that is not 0 and names a range: where it starts, and how many words it has
   pub named_known : (word : ℕ) (range : Place) → word ≢ 0 → Names s.ranges word → range.start ≡ word / 2 ^ 25 → range.len ≡ word % 2 ^ 25
       → (words : List ℕ) × Knows s range words
