@@ -1,12 +1,21 @@
--- How far a range of the store is filled, and what a run knows after steps on the store.
-use Rattle.std.proofs.Common.{◌≡◌, ◌≢◌, ℕ, ◌+◌, ◌<◌, ◌≤◌, ◌⊎◌, inl, inr, Bool, true, false, is_some, Option, Some, None, List, [], ◌∷◌}
-use Rattle.std.proofs.Common.{length, slice_get, sym, refl, ap, ◌∙◌, subst, arith}
-use Rattle.tlcore.proofs.Growth.{get_exists, Grows-trans}
+-- How far a range of the store is filled, and what a run tells of steps on the store.
+use Rattle.std.proofs.Common.{◌≡◌, ◌≢◌, ℕ, ◌+◌, ◌<◌, ◌≤◌, inl, inr, Bool, false, is_some, Option, Some, None, List, [], ◌∷◌}
+use Rattle.std.proofs.Common.{length, min, slice_get, sym, refl, ap, ◌∙◌, arith}
+use Rattle.atomic_table.specs.Seated.{TableId}
+use Rattle.atomic_table.specs.declared.shared.Seat.{Seat as TableSeat}
+use Rattle.tlcore.proofs.Growth.{get_exists}
+use Rattle.ranges.specs.Ranges.{Has}
+use Rattle.tlwords.specs.declared.log.Slot.{Slot}
+use Rattle.tlwords.specs.declared.mode.Mode.{Mode}
+use Rattle.tlwords.specs.declared.outcome.Conflict.{Conflict}
 use Rattle.tlwords.specs.Terms.{Terms}
-use Rattle.tlwords.specs.Seen.{Seen, SeenGrows}
 use Rattle.tlwords.specs.Views.{Staging, View}
-use Rattle.tlwords.specs.Plays.{Mine, Sees, Advances, Fills}
-use Rattle.tlwords.specs.Runs.{IsRunOf, KnowsStore, Stages, Finishes}
+use Rattle.tlwords.specs.Known.{Stands, going_of}
+use Rattle.tlwords.specs.Plays.{Mine, Sees, IsSameSeat, Advances, Fills}
+use Rattle.tlwords.specs.Runs.{Finishes, Runs}
+use Rattle.tlwords.specs.Calls.{HasLoaded, HasStaged, FindsFull}
+use Rattle.tlwords.proofs.Turns.{Moves, moves_then}
+use Rattle.tlwords.proofs.Knows.{stands_of, runs_on}
 
 pub some_words : {A : Type 0} (xs : List A) → xs ≢ [] → 0 < length xs
 some_words [] ne = absurd (ne refl)
@@ -19,14 +28,6 @@ range_word words i n l all =
     b.1 ∙ ap (λ (w : ℕ). Some w) (sym (all b.0 b.1))
 
 module _ {S N : Type 0} (terms : Terms S N) where
-  grows_on : (f g h : Seen N) → SeenGrows f g → SeenGrows g h → SeenGrows f h
-  grows_on f g h p q =
-      (Grows-trans f.history g.history h.history p.0 q.0, λ i n e. q.1 i n (p.1 i n e), λ r has. q.2 r (p.2 r has))
-
-  sees_on : (u v w : View S N) → Sees terms u v → Sees terms v w → Sees terms u w
-  sees_on u v w p q =
-      record { own = grows_on u.seen v.seen w.seen p.own q.own; told = grows_on u.told.seen v.seen w.seen p.told q.own; sound = q.sound }
-
   module _ (words : List ℕ) (start : ℕ) where
     -- the range, of whose words so many are stored
     abbrev pub with_done : ℕ → Staging
@@ -34,7 +35,7 @@ module _ {S N : Type 0} (terms : Terms S N) where
 
     -- from m on so many of its words were stored, and with the last one it is finished
     pub record Filled (m : Mine S N) (done : ℕ) (r : Mine S N) : Type 0 where
-      pub sees : (r ≡ m) ⊎ Sees terms m.0 r.0
+      pub sees : Moves terms m r
       pub goes_on : done < length words → r.0 ≡ record m.0 { seen = r.0.seen; staging = Some (with_done done) }
       pub ends : done ≡ length words → Finishes terms words start m r
 
@@ -51,7 +52,7 @@ module _ {S N : Type 0} (terms : Terms S N) where
     filled_more m r q k l f s =
         let is : r.0 ≡ record m.0 { seen = r.0.seen; staging = Some (with_done k) } = f.goes_on l in
         let here : r.0.staging ≡ Some (with_done k) = ap (λ v. v.staging) is in
-        let all : Sees terms m.0 q.0 = seen f.sees in
+        let all : Sees terms m.0 q.0 = moves_then terms m r q f.sees s.sees in
         record {
           sees = inr all;
           goes_on = λ more. s.next (with_done k) here more ∙ ap
@@ -65,46 +66,70 @@ module _ {S N : Type 0} (terms : Terms S N) where
                     (λ (v : View S N). let w : View S N = record v { seen = q.0.seen; staging = None } in w) is;
               };
         }
-      where
-        seen : (r ≡ m) ⊎ Sees terms m.0 r.0 → Sees terms m.0 q.0
-        seen (inl e) = subst (λ (x : Mine S N). Sees terms x.0 q.0) e s.sees
-        seen (inr p) = sees_on m.0 r.0 q.0 p s.sees
-
-  -- ---- what a run knows after a step on the store
-
-  some_setting : {A : Type 0} (o : Option A) → is_some o ≡ true → (x : A) × (o ≡ Some x)
-  some_setting None e = absurd (cc)
-  some_setting (Some x) e = (x, refl)
 
   pub no_refusal : {A : Type 0} (o : Option A) (b : Bool) → is_some o ≡ b → b ≡ false → o ≡ None
   no_refusal None b e f = refl
   no_refusal (Some x) b e f = absurd (cc)
 
-  module _ (m r : Mine S N) (o : Option (ℕ × ℕ)) (taken added : ℕ)
-      (is : r.0 ≡ record m.0 { seen = r.0.seen; full = o; taken = taken; added = added }) where
-    pub fits_on : (count place : ℕ) (b : Bool) → IsRunOf m count place b → IsRunOf r count place b
-    fits_on count place b f = subst (λ (v : View S N). IsRunOf {S = S} {N = N} (v, r.1) count place b) (sym is) f
-
-    pub knows_on : (b : Bool) → is_some m.0.setting ≡ true → m.0.staging ≡ None → m.0.gone ≡ [] → Sees terms m.0 r.0 → is_some o ≡ b
-        → KnowsStore r.0 b
-    knows_on b set rest alone s f =
-        let y : (x : S) × (m.0.setting ≡ Some x) = some_setting m.0.setting set in
-        record {
-          at_rest = ap (λ v. v.staging) is ∙ rest;
-          alone = ap (λ v. v.gone) is ∙ alone;
-          full = ap (λ (v : View S N). is_some v.full) is ∙ f;
-          ranges = (s.sound).ranges y.0 (ap (λ v. v.setting) is ∙ y.1);
-        }
-
   -- the words were taken at n and filled
-  pub staged : (words : List ℕ) (n : ℕ) (m r q : Mine S N) → m.0.staging ≡ None → m.0.full ≡ None → n + length words ≤ m.0.room
-      → Advances terms words m n r → Finishes terms words n r q → Stages terms words n m q
-  staged words n m r q rest unrefused l a f =
+  module _ (words : List ℕ) (n : ℕ) (m r q : Mine S N) (rest : m.0.staging ≡ None) (l : n + length words ≤ m.0.room) (a : Advances terms words m n r)
+      (f : Finishes terms words n r q) where
+    pub staged_sees : Sees terms m.0 q.0
+    staged_sees = moves_then terms m r q (inr a.sees) f.sees
+
+    pub staged_is : q.0 ≡ record m.0 { seen = q.0.seen; taken = m.0.taken + length words }
+    staged_is =
+        f.is ∙ (ap (λ (v : View S N). let w : View S N = record v { seen = q.0.seen; staging = None } in w) (a.taken l)
+        ∙ ap (λ s. let w : View S N = record m.0 { seen = q.0.seen; staging = s; taken = m.0.taken + length words } in w) (sym rest))
+
+-- ---- a run after a step on the store
+
+past_room : (room tail count : ℕ) → room < tail + count → room < tail + min count (room + 1)
+past_room room tail count above = grind arith
+
+module _ {S N : Type 0} (terms : Terms S N) (table : TableId) (cells words count place : ℕ) (mode : Mode) (over : Option Conflict) (full : Bool)
+    (slots : List Slot) (p q : TableSeat (Unit {0}) (View S N)) (i : Runs table cells words p slots mode count place (is_some over) full)
+    (same : IsSameSeat p q) (s : Sees terms p.me.0 q.me.0) where
+  module _ (o : Option (ℕ × ℕ)) (taken added : ℕ) (is : q.me.0 ≡ record p.me.0 { seen = q.me.0.seen; full = o; taken = taken; added = added }) where
+    pub store_runs : (refused : Bool) → is_some o ≡ refused → Runs table cells words q slots mode count place (is_some over) refused
+    store_runs refused e =
+        runs_on terms table cells words count place mode (is_some over) full slots p q i same p.me.0.seat o taken added is s.sound slots (is_some over)
+        refused i.fits.1 refl refl i.kept refl e
+
+    stands : Stands terms (going_of q.table_id q.me.0 place mode over slots)
+    stands = stands_of terms q.table_id q.me mode count place over slots s.sound (store_runs (is_some o) refl).fits
+
+  pub load_tells : q.me.0 ≡ record p.me.0 { seen = q.me.0.seen }
+      → HasLoaded terms (going_of p.table_id p.me.0 place mode over slots) (going_of q.table_id q.me.0 place mode over slots)
+  load_tells is =
       record {
-        sees = sees_on m.0 r.0 q.0 a.sees f.sees;
+        grows = s.own;
+        stands = stands p.me.0.full p.me.0.taken p.me.0.added is;
+        is = λ j. going_of (same.0 j) (is j) place mode over slots;
+      }
+
+  pub stage_tells : (range : List ℕ) (start : ℕ) → q.me.0 ≡ record p.me.0 { seen = q.me.0.seen; taken = p.me.0.taken + length range }
+      → p.me.0.full ≡ None → start + length range ≤ p.me.0.room → Has (record { start = start; words = range }) q.me.0.seen.ranges
+      → HasStaged terms range start (going_of p.table_id p.me.0 place mode over slots) (going_of q.table_id q.me.0 place mode over slots)
+  stage_tells range start is unrefused inside finished =
+      record {
+        grows = s.own;
+        stands = stands p.me.0.full (p.me.0.taken + length range) p.me.0.added is;
         unrefused = unrefused;
-        inside = l;
-        finished = f.finished;
-        is = f.is ∙ (ap (λ (v : View S N). let w : View S N = record v { seen = q.0.seen; staging = None } in w) (a.taken l)
-            ∙ ap (λ s. let w : View S N = record m.0 { seen = q.0.seen; staging = s; taken = m.0.taken + length words } in w) (sym rest));
+        inside = inside;
+        finished = finished;
+        is = λ j. going_of (same.0 j) (is j) place mode over slots;
+      }
+
+  pub refuse_tells : (number tail : ℕ) → p.me.0.full ≡ None → p.me.0.room < tail + number
+      → q.me.0 ≡ record p.me.0 { seen = q.me.0.seen; full = Some (tail, number); added = min number (p.me.0.room + 1) }
+      → FindsFull terms number tail (going_of p.table_id p.me.0 place mode over slots) (going_of q.table_id q.me.0 place mode over slots)
+  refuse_tells number tail unrefused above is =
+      record {
+        grows = s.own;
+        stands = stands (Some (tail, number)) p.me.0.taken (min number (p.me.0.room + 1)) is;
+        unrefused = unrefused;
+        above = above;
+        past = past_room p.me.0.room tail number above;
+        is = λ j. going_of (same.0 j) (is j) place mode over slots;
       }

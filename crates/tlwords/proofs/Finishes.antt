@@ -15,7 +15,7 @@ use Rattle.tlwords.specs.Commits.{writes_kept, work_kept, HasAnswered, IsLawfulN
 use Rattle.tlwords.specs.Committing.{held_in, locking, Goes}
 use Rattle.tlwords.specs.Walks.{NoneWanted}
 use Rattle.tlwords.proofs.Seens.{permits_grow}
-use Rattle.tlwords.proofs.RunSteps.{left_fits, known_setting}
+use Rattle.tlwords.proofs.Knows.{left_fits, known_setting}
 use Rattle.tlwords.proofs.Held.{no_writes}
 use Rattle.tlwords.proofs.Turns.{unkept_of, moves_grow, goes_seat, goes_setting}
 use Rattle.tlwords.proofs.Settles.{some_held}

@@ -1,95 +1,141 @@
--- What a pass knows of the store, as its calls go.
-use Rattle.std.proofs.Common.{◌≡◌, Bool, true, is_some, Option, ℕ, Some, None, List, sym, ap, ◌∙◌, subst}
+-- What a pass and a run know, as their calls go.
+use Rattle.std.proofs.Common.{◌≡◌, ℕ, ◌≤◌, ◌^◌, Bool, true, false, if◌then◌else◌, ◌==◌, is_some, Option, Some, None, List, [], ◌∷◌, length, ◌⊎◌, inl, inr, ⊎_elim}
+use Rattle.std.proofs.Common.{sym, refl, ap, ◌∙◌, subst, arith}
+use Rattle.std.proofs.lemmas.Bool.{cases_Bool}
+use Rattle.std.proofs.lemmas.Bool.Decides.{Decides-eqb}
+use Rattle.std.specs.Option.{option_map}
+use Rattle.atomic_table.specs.Seated.{TableId}
+use Rattle.atomic_table.specs.declared.shared.Seat.{Seat as TableSeat}
+use Rattle.tlcore.specs.Seats.{Seat, find_read, is_nil, is_reading, is_resting, number_at, reads_of}
+use Rattle.tlcore.specs.declared.seats.Place.{Place}
+use Rattle.tlcore.specs.declared.seats.Read.{Read}
+use Rattle.tlcore.specs.History.{One}
+use Rattle.tlcore.proofs.Words.{reading_at, resting_at}
+use Rattle.ranges.specs.Ranges.{Has}
+use Rattle.ranges.specs.Pairs.{written}
 use Rattle.tlwords.specs.declared.log.Slot.{Slot}
-use Rattle.tlwords.specs.declared.outcome.Outcome.{Outcome}
-use Rattle.tlwords.specs.declared.outcome.Outcome.TheVariants.{Committed as EndsDone, Read as EndsRead, Conflict as EndsConflict, NumbersUsed}
+use Rattle.tlwords.specs.declared.mode.Mode.{Mode}
+use Rattle.tlwords.specs.declared.mode.Mode.TheVariants.{Reading, Writing}
+use Rattle.tlwords.specs.declared.outcome.Conflict.{Conflict}
 use Rattle.tlwords.specs.Terms.{Terms}
 use Rattle.tlwords.specs.Views.{Staging, Gone, View, Sound}
-use Rattle.tlwords.specs.Plays.{Mine, Sampled, Refreshes, told_by}
-use Rattle.tlwords.specs.Runs.{KnowsStore, ReadsCell, Stops}
-use Rattle.tlwords.specs.Commits.{writes_kept, writes_below, cells_of, work_kept, HasEnded, HasCommitted, HasAnswered, HasConflicted}
-use Rattle.tlwords.proofs.RunSteps.{known_setting}
+use Rattle.tlwords.specs.Known.{Knows, Stands, known_of, going_of, found_of, word_told}
+use Rattle.tlwords.specs.Plays.{Mine, IsSameSeat}
+use Rattle.tlwords.specs.Runs.{KnowsStore, IsPassOf, IsRunOf, IsKeptOf, Rests, Runs, IsBlank, noted, word_seen}
+
+pub known_setting : {A : Type 0} (o : Option A) → is_some o ≡ true → (x : A) × (o ≡ Some x)
+known_setting None e = absurd (cc)
+known_setting (Some x) e = (x, refl)
 
 -- the range that a pass is staging, and the passes that were given up to it
 abbrev pub rest_of : {S N : Type 0} → View S N → Option Staging × List (Gone S N)
 rest_of v = (v.staging, v.gone)
 
+none_some : {A : Type 0} (i : ℕ) → None ≡ Some i → A
+none_some i e = absurd (cc)
+
+-- a seat that rests has drawn no number for a run
+not_drawing : {A : Type 0} (p : Place) (i : ℕ) → is_resting p ≡ true → (number_at p ≡ Some i) ⊎ A → A
+not_drawing p i e (inr a) = a
+not_drawing p i e (inl q) =
+    none_some i (sym (⊎_elim (λ r. ap number_at r) (λ r. ap number_at r) (resting_at p e)) ∙ q)
+
+-- the word that the slots have of a cell is the one that its newest read found
+pub newest : (c : ℕ) (rs : List Read) → option_map (λ (r : Read). r.word) (find_read c rs) ≡ written c (found_of rs)
+newest c [] = refl
+newest c (r ∷ rs) = go (r.cell == c) (newest c rs)
+  where
+    go : (b : Bool) → option_map (λ (r : Read). r.word) (find_read c rs) ≡ written c (found_of rs)
+        → option_map (λ (r : Read). r.word) (if b then Some r else find_read c rs) ≡ (if b then Some r.word else written c (found_of rs))
+    go true e = refl
+    go false e = e
+
+pub told_of : (mode : Mode) (t : Seat) (slots : List Slot) (c : ℕ) → IsKeptOf (noted mode t) slots
+    → word_seen slots c ≡ word_told mode c (found_of t.reads)
+told_of Reading t slots c k = k.0 c
+told_of Writing t slots c k = k.0 c ∙ newest c t.reads
+
+-- a cell whose read has ended has a value among the reads
+ended_reads : (rs : List Read) (c w : ℕ) → written c (found_of rs) ≡ Some w → (v : ℕ) × Has (c, v) (reads_of rs)
+ended_reads [] c w is = none_some w is
+ended_reads (r ∷ rs) c w is =
+    elim (cases_Bool (r.cell == c)) [
+      | inl same ↦ (r.value, inl (λ i. (sym ((Decides-eqb r.cell c).0 same) i, r.value)))
+      | inr other ↦
+          let later = ended_reads rs c w (ap (λ (b : Bool). if b then Some r.word else written c (found_of rs)) (sym other) ∙ is) in
+          (later.0, inr later.1)
+    ]
+
+few_by : (n count : ℕ) → n ≡ count → count ≤ 2 ^ 40 → n ≤ 2 ^ 40
+few_by n count e l = omega (arith, e, l)
+
 module _ {S N : Type 0} (terms : Terms S N) where
-  -- what was known stays so, where the range that is staged and the staging that was refused do
-  pub knows_on : (v w : View S N) (o : Bool) → Sound terms w → is_some w.setting ≡ true → rest_of w ≡ rest_of v → w.full ≡ v.full
-      → KnowsStore v o → KnowsStore w o
-  knows_on v w o s set st fl k =
+  pub left_fits : (m : Mine S N) (count place : ℕ) (o : Bool) → IsRunOf m count place o → IsPassOf m count
+  left_fits m count place o f = (f.0, rests m.0.seat.place o f.1, f.2, f.3, f.4)
+    where
+      rests : (p : Place) (o : Bool) → (if o then is_resting p else is_reading p) ≡ true → is_resting p ≡ true
+      rests p true e = e
+      rests p false e = ap is_resting (reading_at p e)
+
+  pub knows_of : (table : TableId) (r : Mine S N) (count : ℕ) → Sound terms r.0 → IsPassOf r count → Knows terms (known_of table r.0)
+  knows_of table r count s f =
+      record {
+        legal = s.legal;
+        noted = s.noted;
+        mine = s.mine;
+        opening = s.opening;
+        ranges = s.ranges;
+        few = few_by (length r.0.drawn) count f.3 f.4;
+        settled = λ i has. not_drawing r.0.seat.place i f.1 (s.settled i has);
+      }
+
+  pub stands_of : (table : TableId) (r : Mine S N) (mode : Mode) (count place : ℕ) (over : Option Conflict) (slots : List Slot) → Sound terms r.0
+      → IsRunOf r count place (is_some over) → Stands terms (going_of table r.0 place mode over slots)
+  stands_of table r mode count place over slots s f =
+      record {
+        knows = knows_of table r count s (left_fits r count place (is_some over) f);
+        placed = subst (λ (n : ℕ). n ≤ length r.0.seen.history) f.5 s.placed;
+        one = λ x e. subst (λ (n : ℕ). One r.0.base r.0.seen.history n (reads_of r.0.seat.reads)) f.5 (s.one x e);
+        ended = ended_reads r.0.seat.reads;
+      }
+
+  -- what was known of the store stays so, where the range that is staged does
+  pub knows_on : (v w : View S N) (o p : Bool) → Sound terms w → is_some w.setting ≡ true → rest_of w ≡ rest_of v → is_some w.full ≡ p
+      → KnowsStore v o → KnowsStore w p
+  knows_on v w o p s set st fl k =
       let y = known_setting w.setting set in
-      record { at_rest = ap (λ r. r.0) st ∙ k.at_rest; alone = ap (λ r. r.1) st ∙ k.alone; full = ap is_some fl ∙ k.full; ranges = s.ranges y.0 y.1 }
+      record { at_rest = ap (λ r. r.0) st ∙ k.at_rest; alone = ap (λ r. r.1) st ∙ k.alone; full = fl; ranges = s.ranges y.0 y.1 }
 
-  pub begun_knows : (m r : Mine S N) (n : ℕ) (o : Bool) → Sampled terms m n r → is_some m.0.setting ≡ true → KnowsStore m.0 o
-      → KnowsStore r.0 o
-  begun_knows m r n o t set k =
-      knows_on m.0 r.0 o t.sees.sound (ap (λ (v : View S N). is_some v.setting) t.is ∙ set) (ap (λ (v : View S N). rest_of v) t.is)
-      (ap (λ (v : View S N). v.full) t.is) k
+  -- ---- a run goes on: no more of its seat has changed than this
 
-  pub read_knows : (c word value : ℕ) (m r : Mine S N) (o : Bool) → ReadsCell terms c word value m r → is_some m.0.setting ≡ true
-      → KnowsStore m.0 o → KnowsStore r.0 o
-  read_knows c word value m r o t set k =
-      knows_on m.0 r.0 o t.sees.sound (ap (λ (v : View S N). is_some v.setting) t.is ∙ set) (ap (λ (v : View S N). rest_of v) t.is)
-      (ap (λ (v : View S N). v.full) t.is) k
+  module _ (table : TableId) (cells words count place : ℕ) (mode : Mode) (over full : Bool) (slots : List Slot)
+      (p q : TableSeat (Unit {0}) (View S N)) (i : Runs table cells words p slots mode count place over full) (same : IsSameSeat p q)
+      (t : Seat) (o : Option (ℕ × ℕ)) (taken added : ℕ)
+      (is : q.me.0 ≡ record p.me.0 { seen = q.me.0.seen; seat = t; full = o; taken = taken; added = added }) (s : Sound terms q.me.0) where
+    pub runs_on : (after : List Slot) (stopped refused : Bool) → (if stopped then is_resting t.place else is_reading t.place) ≡ true
+        → t.rv ≡ p.me.0.seat.rv → is_nil t.held ≡ is_nil p.me.0.seat.held → IsKeptOf (noted mode t) after → length after ≡ length slots
+        → is_some o ≡ refused → Runs table cells words q after mode count place stopped refused
+    runs_on after stopped refused at rv held kept size fl =
+        let y = known_setting p.me.0.setting i.fits.0 in
+        subst (λ (v : View S N). let z : TableSeat (Unit {0}) (View S N) = record q { me = (v, q.me.1) } in
+        Runs table cells words z after mode count place stopped refused) (sym is) (record {
+          table_is = (same.0 ∙ i.table_is.0, i.table_is.1);
+          room_is = i.room_is;
+          fits = (i.fits.0, at, i.fits.2, i.fits.3, i.fits.4, rv ∙ i.fits.5, held ∙ i.fits.6);
+          kept = kept;
+          room = size ∙ i.room;
+          knows = record {
+            at_rest = i.knows.at_rest;
+            alone = i.knows.alone;
+            full = fl;
+            ranges = (subst (λ (v : View S N). Sound terms v) is s).ranges y.0 y.1;
+          };
+          bare = same.2 ∙ i.bare;
+        })
 
-  pub stop_knows : (c word : ℕ) (m r : Mine S N) (o : Bool) → Stops terms c word m r → is_some m.0.setting ≡ true → KnowsStore m.0 o
-      → KnowsStore r.0 o
-  stop_knows c word m r o t set k =
-      knows_on m.0 r.0 o t.sees.sound (ap (λ (v : View S N). is_some v.setting) t.is ∙ set) (ap (λ (v : View S N). rest_of v) t.is)
-      (ap (λ (v : View S N). v.full) t.is) k
-
-  pub ended_knows : (slots : List Slot) (n : N) (m r : Mine S N) (e : Outcome) (o : Bool) → HasEnded terms slots n m r e
-      → is_some m.0.setting ≡ true → KnowsStore m.0 o → KnowsStore r.0 o
-  ended_knows slots n m r (EndsDone number) o h set k =
-      let c : HasCommitted terms (cells_of (writes_kept slots)) number (work_kept m.0.seat slots n) m r = h.1 in
-      knows_on m.0 r.0 o c.sees.sound (ap (λ (v : View S N). is_some v.setting) c.is ∙ set) (ap (λ (v : View S N). rest_of v) c.is)
-      (ap (λ (v : View S N). v.full) c.is) k
-  ended_knows slots n m r (EndsRead place) o h set k =
-      let a : HasAnswered terms (work_kept m.0.seat slots n) m r = h.2 in
-      knows_on m.0 r.0 o a.sees.sound (ap (λ (v : View S N). is_some v.setting) a.is ∙ set) (ap (λ (v : View S N). rest_of v) a.is)
-      (ap (λ (v : View S N). v.full) a.is) k
-  ended_knows slots n m r (EndsConflict j None) o h set k =
-      let c : HasConflicted terms slots (cells_of (writes_below slots j.cell)) n j None m r = h.1 in
-      knows_on m.0 r.0 o c.sees.sound (ap (λ (v : View S N). is_some v.setting) c.entry ∙ set) (ap (λ (v : View S N). rest_of v) c.entry)
-      (ap (λ (v : View S N). v.full) c.entry) k
-  ended_knows slots n m r (EndsConflict j (Some number)) o h set k =
-      let c : HasConflicted terms slots (cells_of (writes_kept slots)) n j (Some number) m r = h.1 in
-      let e = c.entry.4 in
-      knows_on m.0 r.0 o c.sees.sound (ap (λ (v : View S N). is_some v.setting) e ∙ set) (ap (λ (v : View S N). rest_of v) e)
-      (ap (λ (v : View S N). v.full) e) k
-  ended_knows slots n m r NumbersUsed o h set k = subst (λ (z : Mine S N). KnowsStore z.0 o) (sym h.2) k
-
-  pub learned_knows : (m0 m1 m2 : Mine S N) (u : View S N) (n : ℕ) (o : Bool) → m1 ≡ (told_by m0.0 u, m0.1) → Sampled terms m1 n m2
-      → is_some m0.0.setting ≡ true → KnowsStore m0.0 o → KnowsStore m2.0 o
-  learned_knows m0 m1 m2 u n o a p set k =
-      let e : m1.0 ≡ told_by m0.0 u = ap (λ (m : Mine S N). m.0) a in
-      knows_on m0.0 m2.0 o p.sees.sound
-      (ap (λ (v : View S N). is_some v.setting) p.is ∙ (ap (λ (v : View S N). is_some v.setting) e ∙ set))
-      (ap (λ (v : View S N). rest_of v) p.is ∙ ap (λ (v : View S N). rest_of v) e)
-      (ap (λ (v : View S N). v.full) p.is ∙ ap (λ (v : View S N). v.full) e) k
-
-  pub refreshed_knows : (m0 m1 m2 : Mine S N) (o : Bool) → Refreshes terms m0 m1 → m2 ≡ m1 → is_some m0.0.setting ≡ true
-      → KnowsStore m0.0 o → KnowsStore m2.0 o
-  refreshed_knows m0 m1 m2 o q a set k =
-      subst (λ (m : Mine S N). KnowsStore m.0 o) (sym a)
-      (knows_on m0.0 m1.0 o q.sees.sound (ap (λ (v : View S N). is_some v.setting) q.is ∙ set) (ap (λ (v : View S N). rest_of v) q.is)
-      (ap (λ (v : View S N). v.full) q.is) k)
-
-  -- a commit leaves the opening values and the room as they are
-  pub ended_same : (slots : List Slot) (n : N) (m r : Mine S N) (e : Outcome) → HasEnded terms slots n m r e
-      → (r.0.base ≡ m.0.base) × (r.0.room ≡ m.0.room)
-  ended_same slots n m r (EndsDone number) h =
-      let c : HasCommitted terms (cells_of (writes_kept slots)) number (work_kept m.0.seat slots n) m r = h.1 in
-      (ap (λ (v : View S N). v.base) c.is, ap (λ (v : View S N). v.room) c.is)
-  ended_same slots n m r (EndsRead place) h =
-      let a : HasAnswered terms (work_kept m.0.seat slots n) m r = h.2 in
-      (ap (λ (v : View S N). v.base) a.is, ap (λ (v : View S N). v.room) a.is)
-  ended_same slots n m r (EndsConflict k None) h =
-      let c : HasConflicted terms slots (cells_of (writes_below slots k.cell)) n k None m r = h.1 in
-      (ap (λ (v : View S N). v.base) c.entry, ap (λ (v : View S N). v.room) c.entry)
-  ended_same slots n m r (EndsConflict k (Some number)) h =
-      let c : HasConflicted terms slots (cells_of (writes_kept slots)) n k (Some number) m r = h.1 in
-      (ap (λ (v : View S N). v.base) c.entry.4, ap (λ (v : View S N). v.room) c.entry.4)
-  ended_same slots n m r NumbersUsed h = (ap (λ (z : Mine S N). z.0.base) h.2, ap (λ (z : Mine S N). z.0.room) h.2)
+  -- what holds of a pass, of what its run left
+  pub rests_as : (p q : TableSeat (Unit {0}) (View S N)) (slots : List Slot) (a b : ℕ) (full : Bool) → q ≡ p → b ≡ a → IsPassOf p.me a
+      → KnowsStore p.me.0 full → p.me.1 ≡ [] → IsBlank slots → length slots ≡ length p.me.0.base → Rests q slots b full
+  rests_as p q slots a b full e f fits knows bare blank room =
+      subst (λ (s : TableSeat (Unit {0}) (View S N)). Rests s slots b full) (sym e)
+      (subst (λ (n : ℕ). Rests p slots n full) (sym f) (record { fits = fits; knows = knows; bare = bare; blank = blank; room = room }))

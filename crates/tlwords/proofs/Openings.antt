@@ -5,6 +5,7 @@ use lib.ListN.{get_elem?}
 use Rattle.std.specs.Prelude.{slice_index_or}
 use Rattle.std.proofs.lemmas.List.{append_assoc, map-append, length-append, length-replicate, take_all}
 use Rattle.std.proofs.lemmas.List.Elements.{All-append}
+use Rattle.atomic_table.specs.Seated.{TableId}
 use Rattle.atomic_table.specs.Table.{opening}
 use Rattle.tlcore.specs.Schedules.{start, opened}
 use Rattle.tlcore.proofs.Lists.{get-append_left, get_within}
@@ -14,11 +15,13 @@ use Rattle.ranges.proofs.Named.{named_stored, named_of_one}
 use Rattle.ranges.specs.Ranges.{Range, Has, IsStored, AreOfOneStore, ranges_named}
 use Rattle.tlwords.specs.Terms.{Terms, AreNamed}
 use Rattle.tlwords.specs.Seen.{Seen, opening_seen}
-use Rattle.tlwords.specs.Views.{Staging, View, Sound, untold, fresh}
+use Rattle.tlwords.specs.Views.{Staging, View, untold, fresh}
 use Rattle.tlwords.specs.Layout.{store_at, paired, opening_words, unused, front_of, shelf_of}
 use Rattle.tlwords.specs.Rule.{at_opening, IsTold, Suits, Kept, Adds, Shelf, Ruled, first_view}
 use Rattle.tlwords.specs.Runs.{down, dealer, IsNew, KnowsStore}
 use Rattle.tlwords.specs.Plays.{Mine, newcomer}
+use Rattle.tlwords.specs.Known.{Known, Knows}
+use Rattle.tlwords.specs.Calls.{new_pass, IsDealt}
 use Rattle.tlwords.proofs.Logs.{take_next}
 use Rattle.tlwords.proofs.Seens.{seen_refl}
 use Rattle.tlwords.proofs.Keeps.{untold_is}
@@ -233,18 +236,11 @@ module _ {S N : Type 0} (setting : S) (base : List ℕ) (room : ℕ) (ranges : L
   pub new_knows : (r : Mine S N) → IsNew setting base room ranges r.0 → AreOfOneStore room ranges → KnowsStore r.0 false
   new_knows r is lie = subst (λ (v : View S N). KnowsStore v false) (sym is) (record { at_rest = refl; alone = refl; full = refl; ranges = lie })
 
-  -- a pass of a lawful opening is sound
-  pub new_sound : (terms : Terms S N) (v : View S N) → IsNew setting base room ranges v → terms.opens setting ranges base
-      → AreOfOneStore room ranges → Sound terms v
-  new_sound terms v is opens one = subst (λ (v : View S N). Sound terms v) (sym is) sound
-    where
-      new : View S N
-      new = fresh (Some setting) base room ranges v.name 1
-
-      sound : Sound terms new
-      sound = record {
-        placed = omega arith;
-        one = λ x e. tt;
+  -- a pass of a lawful opening
+  pub new_pass_knows : (terms : Terms S N) (table : TableId) (name : ℕ) → terms.opens setting ranges base → AreOfOneStore room ranges
+      → Knows terms (new_pass (record { table = table; setting = Some setting; base = base; room = room }) ranges name)
+  new_pass_knows terms table name opens one =
+      record {
         legal = λ x e i w d. let b = d.here in absurd (cc);
         noted = refl;
         mine = λ x e. tt;
@@ -252,5 +248,13 @@ module _ {S N : Type 0} (setting : S) (base : List ℕ) (room : ℕ) (ranges : L
             let same : setting ≡ x = cc in
             record { some = ranges; among = λ r has. has; opens = subst (λ (x : S). terms.opens x ranges base) same opens };
         ranges = λ x e. one;
+        few = omega arith;
         settled = λ i has. absurd has;
       }
+
+-- a pass of an opening, told by equal words
+pub same_home : {S N : Type 0} (table : TableId) (x y : S) (xs ys : List ℕ) (room : ℕ) (ranges : List Range) (k : Known S N)
+    → IsDealt x xs room ranges table k → y ≡ x → ys ≡ xs
+    → k ≡ new_pass (record { table = table; setting = Some y; base = ys; room = room }) ranges k.name
+same_home table x y xs ys room ranges k e p q =
+    e ∙ (λ j. new_pass (record { table = table; setting = Some (sym p j); base = sym q j; room = room }) ranges k.name)

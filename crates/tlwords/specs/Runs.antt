@@ -1,23 +1,18 @@
 -- What a pass and a run keep, and what their calls tell.
-use Rattle.std.specs.Prelude.{◌≡◌, ◌≢◌, ℕ, zero, suc, ◌+◌, ◌-◌, ◌/◌, ◌%◌, ◌^◌, ◌<◌, ◌≤◌, Bool, true, is_some, if◌then◌else◌, Option}
+use Rattle.std.specs.Prelude.{◌≡◌, ◌≢◌, ℕ, zero, suc, ◌-◌, ◌/◌, ◌%◌, ◌^◌, ◌<◌, ◌≤◌, Bool, true, is_some, if◌then◌else◌, Option}
 use Rattle.std.specs.Prelude.{Some, None, List, [], ◌∷◌, length, slice_get, ◌⊎◌, option_and_then}
 use Rattle.std.specs.Option.{option_map}
-use Rattle.tlcore.specs.History.{WasWritten}
-use Rattle.tlcore.specs.Seats.{Seat, find_read, is_nil}
-use Rattle.tlcore.specs.Machine.{conflict, saw}
+use Rattle.tlcore.specs.Seats.{Seat, find_read, is_nil, is_resting, is_reading}
 use Rattle.tlcore.specs.declared.seats.Read.{Read}
-use Rattle.tlcore.specs.declared.seats.Place.TheVariants.{Idle, Reading as AtReading}
-use Rattle.tlcore.specs.Seats.{is_resting, is_reading}
 use Rattle.atomic_table.specs.Seated.{TableId}
 use Rattle.atomic_table.specs.declared.shared.Seat.{Seat as TableSeat}
 use Rattle.tlwords.specs.declared.log.Slot.{Slot}
 use Rattle.tlwords.specs.declared.mode.Mode.{Mode}
 use Rattle.tlwords.specs.declared.mode.Mode.TheVariants.{Reading, Writing}
-use Rattle.ranges.specs.Ranges.{Range, Has, Names, AreOfOneStore}
+use Rattle.ranges.specs.Ranges.{Range, Has, AreOfOneStore}
 use Rattle.tlwords.specs.Terms.{Terms}
-use Rattle.tlwords.specs.Seen.{SeenGrows, Agree}
-use Rattle.tlwords.specs.Views.{View, Sound, fresh, untold}
-use Rattle.tlwords.specs.Plays.{Mine, Sees, began}
+use Rattle.tlwords.specs.Views.{View, fresh}
+use Rattle.tlwords.specs.Plays.{Mine, Sees}
 
 -- ---- what is kept of the cells
 
@@ -119,57 +114,15 @@ abbrev pub down : ℕ → ℕ → List ℕ
 down n zero = []
 down n (suc k) = n ∷ down (n - 1) k
 
--- ---- what a read tells
+-- ---- what calls tell
 
 -- the word shows the lock held, or a version above the place
 abbrev pub HasCause : ℕ → ℕ → Type 0
 HasCause place word = (word % 2 ≡ 1) ⊎ (place < word / 2)
 
 module _ {S N : Type 0} (terms : Terms S N) where
-  -- the cell was read: it had this value under this lock word
-  pub record ReadsCell (c word value : ℕ) (m r : Mine S N) : Type 0 where
-    pub sees : Sees terms m.0 r.0
-    pub free : word % 2 ≡ 0
-    pub below : word / 2 ≤ m.0.seat.rv
-    pub named : (x : S) → m.0.setting ≡ Some x → terms.ranged x c ≡ true → Names r.0.seen.ranges value
-    pub is : r.0 ≡ record m.0 {
-      seen = r.0.seen;
-      seat =
-          record (saw m.0.seat c word) { place = AtReading; reads = record { cell = c; word = word; value = value } ∷ m.0.seat.reads };
-    }
-
-  -- the words are a finished range of the store now, from this start on, and the pass has taken as many words more
-  pub record Stages (words : List ℕ) (start : ℕ) (m r : Mine S N) : Type 0 where
-    pub sees : Sees terms m.0 r.0
-    pub unrefused : m.0.full ≡ None
-    pub inside : start + length words ≤ m.0.room
-    pub finished : Has (record { start = start; words = words }) r.0.seen.ranges
-    pub is : r.0 ≡ record m.0 { seen = r.0.seen; taken = m.0.taken + length words }
-
   -- the seat's range of these words was finished
   pub record Finishes (words : List ℕ) (start : ℕ) (m r : Mine S N) : Type 0 where
     pub sees : Sees terms m.0 r.0
     pub finished : Has (record { start = start; words = words }) r.0.seen.ranges
     pub is : r.0 ≡ record m.0 { seen = r.0.seen; staging = None }
-
-  -- a look found this word, and the run is over
-  pub record Stops (c word : ℕ) (m r : Mine S N) : Type 0 where
-    pub sees : Sees terms m.0 r.0
-    pub written : WasWritten r.0.seen.history c (word / 2)
-    pub cause : HasCause m.0.seat.rv word
-    pub is : r.0 ≡ record m.0 { seen = r.0.seen; seat = conflict (saw m.0.seat c word) Idle }
-
-  -- a pass v has learnt of u: they are v2 and u2 now
-  pub record Learns (v u v2 u2 : View S N) : Type 0 where
-    pub own : SeenGrows v.seen v2.seen
-    pub told : SeenGrows u.seen v2.seen
-    pub other : SeenGrows u.seen u2.seen
-    -- the calls of u agree with what v has seen now
-    pub calls : (x : S) → v.setting ≡ Some x → Agree terms x v.base v2.seen u.mine
-    pub sound : Sound terms v2
-    pub other_sound : Sound terms u2
-    -- the numbers of passes with two names are different
-    pub apart : v.name ≢ u.name → (k : ℕ) → Has k v.drawn → Has k u.drawn → ⊥
-    pub same : (x y : S) → v.setting ≡ Some x → u.setting ≡ Some y → (x ≡ y) × (v.base ≡ u.base)
-    pub is : v2 ≡ record v { seen = v2.seen; seat = began v.seat (length v2.seen.history); told = untold }
-    pub other_is : u2 ≡ record u { seen = u2.seen }

@@ -20,7 +20,7 @@ use crate::log::{Log, Touched};
 use crate::mode::Mode;
 use crate::outcome::{Conflict, Outcome};
 use crate::rule::Place;
-use crate::steps::{check, draw, recall, release, store, take};
+use crate::steps::{check, draw, passes, recall, release, store, take};
 use crate::words::Words;
 
 // Locks the cells to be written, in ascending order. An error is the try that failed; the smaller cells are locked still.
@@ -75,7 +75,7 @@ fn check_all<L: Law>(
     for i in 0..log.checks.len() {
         let read = log.checks[i];
         let word = check(words, seat, read.cell);
-        if word % 2 != 0 || word / 2 > place {
+        if !passes(word, place) {
             return Err(Conflict {
                 cell: read.cell,
                 word,

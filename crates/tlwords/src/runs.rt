@@ -17,8 +17,8 @@ use crate::mode::Mode;
 use crate::outcome::{Conflict, Outcome};
 use crate::passes::Pass;
 use crate::rule::Place;
-use crate::steps;
-use crate::words::{Words, fetch};
+use crate::steps::{self, load, look, passes, relook};
+use crate::words::Words;
 use std::marker::Model;
 
 /// A transaction as it goes. Contracts see what its pass knows, its place, what it has read and what it keeps of the cells.
@@ -107,21 +107,37 @@ impl<'w, L: Law> Run<'w, L> {
         if let Some(value) = slot.kept {
             return Ok(value);
         }
-        match fetch(self.words, &mut self.seat, cell, self.place) {
-            Ok(found) => {
-                self.log.note(self.mode, cell, found.word);
-                Ok(found.value)
-            }
-            Err(word) => {
-                let conflict = Conflict {
-                    cell,
-                    word,
-                    before: slot.word,
-                };
-                self.over = Some(conflict);
-                Err(conflict)
-            }
+        self.fetch(cell, slot.word)
+    }
+
+    // The three steps of a read of a cell for which no value is kept. `before` is the lock word that the run's newest read of it had found.
+    fn fetch(&mut self, cell: usize, before: Option<u64>) -> Result<u64, Conflict>
+        requires cell { cell < length self.old.known.home.base }
+        requires open { self.old.over ≡ None }
+        requires before { word_seen self.old.slots cell ≡ before }
+        ensures ok { IfOk result (λ v. HasRead L.terms cell v self.old self.new) }
+        ensures err { IfErr result (λ k. HasStopped L.terms cell k self.old self.new) }
+        ensures noted { self.old.mode ≡ Writing → IfOk result (λ _. was_read self.new.slots cell ≡ true) }
+    {
+        let word = look(self.words, &mut self.seat, cell);
+        if !passes(word, self.place) {
+            let late = Conflict { cell, word, before };
+            self.over = Some(late);
+            return Err(late);
         }
+        let value = load(self.words, &mut self.seat, cell, word);
+        let again = relook(self.words, &mut self.seat, cell, word, value);
+        if again != word {
+            let changed = Conflict {
+                cell,
+                word: again,
+                before,
+            };
+            self.over = Some(changed);
+            return Err(changed);
+        }
+        self.log.note(self.mode, cell, word);
+        Ok(value)
     }
 
     /// Keeps a value aside for a cell that this run has read, in Writing mode. It makes no step on the words.

@@ -2,13 +2,14 @@
 //! `recall` and `refresh`, which load the spare word, one event of the machine.
 #![tactic(auto)]
 
-ghost use Rattle.std.specs.Prelude.{◌≡◌, ◌≢◌, ℕ, suc, ◌+◌, ◌*◌, ◌^◌, ◌<◌, ◌≤◌, ◌⊎◌, ◌||◌, Some, [], length, true, false};
+ghost use Rattle.std.specs.Prelude.{◌≡◌, ◌≢◌, ℕ, suc, ◌+◌, ◌*◌, ◌/◌, ◌%◌, ◌^◌, ◌<◌, ◌≤◌, ◌⊎◌, ◌||◌, Some, [], length, true, false};
 ghost use Rattle.tlcore.specs.Seats.{reads_of, writes_of, find_read, find_held, all_below, all_settled, is_due, is_next};
 ghost use Rattle.tlcore.specs.History.{wv};
 ghost use Rattle.tlwords.specs.Terms.{Permits};
 ghost use Rattle.tlcore.specs.declared.seats.Read.{Read};
 ghost use Rattle.tlcore.specs.declared.seats.Held.{Held};
 ghost use Rattle.tlcore.specs.declared.seats.Place.TheVariants.{Idle, Reading, Looked, Loaded, Taking, Checking, Storing, Failing, Voiding};
+ghost use Rattle.tlwords.specs.Runs.{HasCause};
 ghost use Rattle.tlwords.specs.Plays.{IsSameSeat, GivesBack, MayStore, Sampled, Looks, Loads, Relooks, Takes, Draws, Checks, Stores, Releases, Recalls, Refreshes, told_by, witness};
 
 use crate::law::Law;
@@ -19,6 +20,14 @@ use crate::plays::{
 use crate::rule::Place;
 use crate::words::Words;
 use std::marker::Brand;
+
+/// Whether a run at this place goes on after a look that found this lock word: it is free, and of no version above the place.
+pub(crate) fn passes(word: u64, place: u64) -> bool
+    ensures yes { result ≡ true → (word % 2 ≡ 0) × (word / 2 ≤ place) }
+    ensures no { result ≡ false → HasCause place word }
+{
+    word % 2 == 0 && word / 2 <= place
+}
 
 /// Samples the clock as the place of a new run.
 pub(crate) fn begin<L: Law>(words: &Words<L>, seat: &mut Place<L>) -> u64

@@ -1,13 +1,13 @@
-use Rattle.std.proofs.Common.{arith, refl, sym, subst, inl, inr, ◌∙◌, ◌<◌, ◌≤◌, ◌+◌, length, false}
+use Rattle.std.proofs.Common.{arith, refl, sym, subst, ◌∙◌, ◌<◌, ◌≤◌, ◌+◌, length, false}
 use Rattle.tlcore.specs.Machine.{placed}
 use Rattle.tlcore.specs.declared.seats.Place.TheVariants.{Checking}
+use Rattle.tlwords.specs.Runs.{HasCause}
 use Rattle.tlwords.specs.Walks.{low_of, IsPlan}
 use Rattle.tlwords.specs.Committing.{Goes}
 use Rattle.tlwords.proofs.Plans.{plan_at, plan_next, plan_end}
 use Rattle.tlwords.proofs.Turns.{read_found, goes_setting, goes_base, goes_read, seat_trans}
 use Rattle.tlwords.proofs.Checks.{check_starts, check_skips, check_place, check_goes, check_fails, check_ends}
 use Rattle.tlwords.proofs.commits.check_all.Goals as goal
-use Rattle.tlwords.proofs.commits.check_all.Goals.{then-word-ne0-via-then-word-ne0, then-word-ne0-via-else-word-ne0+then-word-place}
 
 pub returns-then-index-place-clause-ok : goal.returns-then-index-place-clause-ok
 returns-then-index-place-clause-ok g c =
@@ -62,12 +62,12 @@ check-word-requires-clause-read g c =
     let d = read_found c.args.seat.now.me.0.seat c.args.log.now.slots c.requires.kept t.cell t.word s.1 in
     (d.0, goes_read g.L.Law.terms _ _ _ c.loop-i.invariant.1 refl t.cell d.0 d.1)
 
-pub returns-then-word-ne0-clause-seat : goal.returns-then-word-ne0-clause-seat
-returns-then-word-ne0-clause-seat g c = seat_trans c.args.seat.now c.loop-i.seat c.check-word.new.seat c.loop-i.invariant.0
+pub returns-then-not-passes-clause-seat : goal.returns-then-not-passes-clause-seat
+returns-then-not-passes-clause-seat g c = seat_trans c.args.seat.now c.loop-i.seat c.check-word.new.seat c.loop-i.invariant.0
     c.check-word.ensures.seat
 
-pub returns-then-word-ne0-clause-err : goal.returns-then-word-ne0-clause-err
-returns-then-word-ne0-clause-err g c =
+pub returns-then-not-passes-clause-err : goal.returns-then-not-passes-clause-err
+returns-then-not-passes-clause-err g c =
     let ws = c.plan_checks.new.self.checks.items in
     let t = c.index-read.result.now in
     let n : c.loop-i.i < length ws = let a = c.loop-i-test.true in let b = c.len-i-end.ensures in let d =
@@ -77,10 +77,7 @@ returns-then-word-ne0-clause-err g c =
     check_fails g.L.Law.terms c.args.log.now.slots c.args.index c.args.seat.now.me c.requires.kept c.requires.run.2
     (low_of ws c.loop-i.i) _ c.loop-i.invariant.1
     t.cell c.check-word.result _ c.check-word.ensures.told t.word _ refl s.1
-    (elim c.then-word-ne0.branch [
-      | then-word-ne0-via-then-word-ne0 w ↦ inl (let a = w.if-word-ne0.true in omega arith)
-      | then-word-ne0-via-else-word-ne0+then-word-place w ↦ inr (let a = w.if-word-place.true in let b = c.requires.run.1 in omega arith)
-    ])
+    (subst (λ n. HasCause n c.check-word.result) (sym c.requires.run.1) (c.passes.ensures.no c.if-not-passes.true))
 
 pub loop-i-preserved : goal.loop-i-preserved
 loop-i-preserved g c =
@@ -97,7 +94,8 @@ loop-i-preserved g c =
           (sym (plan_next c.args.log.now.slots false ws p c.loop-i.i t n c.index-read.ensures))
           (check_goes g.L.Law.terms c.args.log.now.slots c.args.index c.args.seat.now.me c.requires.kept c.requires.run.2
           (low_of ws c.loop-i.i) _ c.loop-i.invariant.1
-          t.cell c.check-word.result _ c.check-word.ensures.told (omega arith) (let a = c.requires.run.1 in omega arith)),
+          t.cell c.check-word.result _ c.check-word.ensures.told (c.passes.ensures.yes c.if-not-passes.false).0
+          (let a = c.requires.run.1 in let b = (c.passes.ensures.yes c.if-not-passes.false).1 in omega arith)),
     )
 
 pub returns-clause-seat : goal.returns-clause-seat

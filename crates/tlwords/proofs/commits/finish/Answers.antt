@@ -6,7 +6,7 @@ use Rattle.tlwords.proofs.Held.{held_writes}
 use Rattle.tlwords.proofs.Plans.{plan_none, plan_some}
 use Rattle.tlwords.proofs.Settles.{failed_ends, committed_from, conflicted_from}
 use Rattle.tlwords.proofs.Finishes.{unwritten_lawful, nothing_kept, answers, answered_fits, taken_run, taken_lawful}
-use Rattle.tlwords.proofs.RunSteps.{known_setting}
+use Rattle.tlwords.proofs.Knows.{known_setting}
 use Rattle.tlwords.proofs.commits.finish.Goals as goal
 
 pub recall-requires-clause-setting : goal.recall-requires-clause-setting

@@ -3,8 +3,7 @@ use Rattle.ranges.proofs.Named.{named_of_one}
 use Rattle.ranges.specs.Ranges.{ranges_named}
 use Rattle.tlwords.specs.Layout.{store_at}
 use Rattle.tlwords.specs.Known.{Knows}
-use Rattle.tlwords.proofs.Tellings.{new_pass_knows, same_home}
-use Rattle.tlwords.proofs.Openings.{opens_so, words_length}
+use Rattle.tlwords.proofs.Openings.{new_pass_knows, opens_so, same_home, words_length}
 use Rattle.tlwords.proofs.opening.open.Goals as goal
 
 pub of_words-made-requires : goal.of_words-made-requires
@@ -35,7 +34,7 @@ deal_all-requires-clause-store g c = let l = c.if-store-room.false in named_of_o
 
 pub returns-clause-passes : goal.returns-clause-passes
 returns-clause-passes g c = λ k d l.
-    same_home g.L.Law.terms c.in-Ok.table.shared.table_id c.args.setting.now c.in-Ok.table.shared.key.setting.value c.args.values.now
+    same_home c.in-Ok.table.shared.table_id c.args.setting.now c.in-Ok.table.shared.key.setting.value c.args.values.now
     c.in-Ok.table.shared.key.values.value.items c.args.room _ _ (c.in_ok-passes.ensures.passes k d l)
     (ap (λ k. k.setting.value) c.in-Ok.ensures.5 ∙ c.of.ensures)
     (ap (λ k. k.values.value.items) c.in-Ok.ensures.5 ∙ (ap (λ v. v.items) c.of-2.ensures ∙ c.in_ok-copied.ensures))
@@ -45,12 +44,12 @@ returns-clause-sound g c = λ k d l.
     let small = c.if-store-room.false in
     let ranges = ranges_named (g.L.Law.terms.ranged c.args.setting.now) c.args.store.now c.args.values.now in
     subst (Knows g.L.Law.terms) (sym (c.in_ok-passes.ensures.passes k d l))
-    (new_pass_knows g.L.Law.terms c.in-Ok.table.shared.table_id c.args.setting.now c.args.values.now c.args.room ranges c.args.sessions _ c.requires.opens
+    (new_pass_knows c.args.setting.now c.args.values.now c.args.room ranges c.args.sessions g.L.Law.terms c.in-Ok.table.shared.table_id _ c.requires.opens
     (named_of_one (g.L.Law.terms.ranged c.args.setting.now) c.args.store.now c.args.values.now c.args.room (omega arith)))
 
 pub returns-clause-opening : goal.returns-clause-opening
 returns-clause-opening g c = λ k d l. ap (λ p. p.home)
-    (same_home g.L.Law.terms c.in-Ok.table.shared.table_id c.args.setting.now c.in-Ok.table.shared.key.setting.value c.args.values.now
+    (same_home c.in-Ok.table.shared.table_id c.args.setting.now c.in-Ok.table.shared.key.setting.value c.args.values.now
     c.in-Ok.table.shared.key.values.value.items c.args.room _ _ (c.in_ok-passes.ensures.passes k d l)
     (ap (λ k. k.setting.value) c.in-Ok.ensures.5 ∙ c.of.ensures)
     (ap (λ k. k.values.value.items) c.in-Ok.ensures.5 ∙ (ap (λ v. v.items) c.of-2.ensures ∙ c.in_ok-copied.ensures)))

@@ -1,8 +1,6 @@
 use Rattle.std.proofs.Common.{◌∙◌, ap, length, None, subst, sym, ◌≤◌}
 use Rattle.tlcore.proofs.Words.{resting_at}
-use Rattle.tlwords.proofs.RunSteps.{begun_fits, begun_at}
-use Rattle.tlwords.proofs.Knows.{begun_knows}
-use Rattle.tlwords.proofs.Tellings.{begin_tells}
+use Rattle.tlwords.proofs.RunSteps.{begun_fits, begun_at, begun_knows, begin_tells}
 use Rattle.tlwords.specs.Runs.{noted}
 use Rattle.tlwords.specs.Known.{going_of}
 use Rattle.tlwords.specs.Calls.{Begins}
@@ -42,7 +40,7 @@ returns-clause-begins g c =
     let b = c.begin-place in
     let f = p.ensures.rests in
     subst (λ k. Begins g.L.Law.terms c.args.mode k (going_of b.new.seat.table_id b.new.seat.me.0 b.result c.args.mode None p.result.1.slots)) p.ensures.known
-    (begin_tells g.L.Law.terms c.args.mode p.result.2 b.result p.result.0.table_id b.new.seat.table_id p.result.0.me b.new.seat.me p.result.1.slots
+    (begin_tells g.L.Law.terms p.result.0.table_id b.new.seat.table_id p.result.0.me b.new.seat.me c.args.mode p.result.2 b.result p.result.1.slots
     b.ensures.seat.0 b.ensures.told (begun_fits g.L.Law.terms _ _ _ _ b.ensures.told f.fits) f.blank f.room)
 
 pub returns-clause-place : goal.returns-clause-place

@@ -2,9 +2,7 @@ use Rattle.std.proofs.Common.{ap, sym, length, subst, ◌∙◌}
 use Rattle.tlwords.specs.Plays.{witness}
 use Rattle.tlwords.specs.Known.{known_of}
 use Rattle.tlwords.specs.Calls.{Learns}
-use Rattle.tlwords.proofs.RunSteps.{learned, learned_fits}
-use Rattle.tlwords.proofs.Knows.{learned_knows, refreshed_knows}
-use Rattle.tlwords.proofs.Tellings.{learn_tells, refreshed_fits}
+use Rattle.tlwords.proofs.RunSteps.{learned_fits, learned_knows, refreshed_fits, refreshed_knows, learn_tells}
 use Rattle.tlwords.proofs.runs.learn.Goals as goal
 
 pub invariant_of-pass : goal.invariant_of-pass
@@ -43,9 +41,8 @@ returns g c =
     let a = c.tell.ensures in
     let k = known_of c.begin.new.seat.table_id c.begin.new.seat.me.0 in
     let j = known_of c.tell.new.other.table_id c.tell.new.other.me.0 in
-    let l = learned g.L.Law.terms p.me o.me c.refresh.new.seat.me c.tell.new.seat.me c.tell.new.other.me c.begin.new.seat.me _ c.other.invariant.fits.0
-    c.refresh.ensures.told a.seat.1 a.other.1 c.begin.ensures.told in
     subst (λ x. Learns g.L.Law.terms x c.args.other.now k j) c.pass.view_is
     (subst (λ y. Learns g.L.Law.terms (known_of p.table_id p.me.0) y k j) c.other.view_is
-    (learn_tells g.L.Law.terms p.table_id o.table_id c.begin.new.seat.table_id c.tell.new.other.table_id p.me.0 o.me.0 c.begin.new.seat.me.0
-    c.tell.new.other.me.0 _ _ (c.begin.ensures.seat.0 ∙ a.seat.0.0) (a.other.0.0 ∙ c.refresh.ensures.seat.0) c.pass.invariant.fits c.other.invariant.fits l))
+    (learn_tells g.L.Law.terms p.table_id o.table_id c.begin.new.seat.table_id c.tell.new.other.table_id p.me o.me c.refresh.new.seat.me
+    c.tell.new.seat.me c.tell.new.other.me c.begin.new.seat.me _ _ _ (c.begin.ensures.seat.0 ∙ a.seat.0.0) (a.other.0.0 ∙ c.refresh.ensures.seat.0)
+    c.pass.invariant.fits c.other.invariant.fits c.refresh.ensures.told a.seat.1 a.other.1 c.begin.ensures.told))

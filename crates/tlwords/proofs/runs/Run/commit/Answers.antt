@@ -1,9 +1,8 @@
 use Rattle.std.proofs.Common.{◌≡◌, None, ap, sym, subst, length, ◌∙◌}
 use Rattle.tlwords.specs.Known.{known_of, going_of}
 use Rattle.tlwords.specs.Calls.{IsLawful, Ends}
-use Rattle.tlwords.proofs.RunSteps.{left_fits}
-use Rattle.tlwords.proofs.Knows.{ended_knows, ended_same}
-use Rattle.tlwords.proofs.Tellings.{rests_as, end_tells, ends_home}
+use Rattle.tlwords.proofs.Knows.{left_fits, rests_as}
+use Rattle.tlwords.proofs.Tellings.{ended_knows, ended_same, end_tells, ends_home}
 use Rattle.tlwords.proofs.runs.Run.commit.Goals as goal
 use Rattle.tlwords.proofs.runs.Run.commit.Goals.{in-Some, in-None}
 

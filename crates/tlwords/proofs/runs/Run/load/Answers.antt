@@ -1,10 +1,8 @@
-use Rattle.std.proofs.Common.{arith, sym, ap, refl, ◌∙◌, subst, length, ◌+◌, ◌<◌}
+use Rattle.std.proofs.Common.{arith, sym, refl, subst, ◌+◌, ◌<◌}
 use Rattle.ranges.specs.Ranges.{Range, Has}
-use Rattle.tlwords.specs.Runs.{IsKeptOf, noted}
 use Rattle.tlwords.specs.Known.{going_of}
 use Rattle.tlwords.specs.Calls.{HasLoaded}
-use Rattle.tlwords.proofs.Fillings.{fits_on, knows_on, range_word}
-use Rattle.tlwords.proofs.Tellings.{load_tells}
+use Rattle.tlwords.proofs.Fillings.{load_tells, range_word, store_runs}
 use Rattle.tlwords.proofs.runs.Run.load.Goals as goal
 
 pub overflow_add-range : goal.overflow_add-range
@@ -33,17 +31,9 @@ fetch_word-requires-clause-sizes g c =
 pub invariant_of-self : goal.invariant_of-self
 invariant_of-self g c =
     let s = c.self.inside in
-    let i = c.self.invariant in
-    let t = c.fetch_word.ensures.told in
-    let is = t.is in record {
-      table_is = (c.fetch_word.ensures.seat.0 ∙ i.table_is.0, i.table_is.1 ∙ ap (λ v. length v.base) (sym is));
-      room_is = i.room_is ∙ ap (λ v. v.room) (sym is);
-      fits = fits_on g.L.Law.terms s.seat.me c.fetch_word.new.seat.me _ _ _ is _ _ _ i.fits;
-      kept = subst (λ u. IsKeptOf (noted s.mode u) s.log.slots) (ap (λ v. v.seat) (sym is)) i.kept;
-      room = i.room ∙ ap (λ v. length v.base) (sym is);
-      knows = knows_on g.L.Law.terms s.seat.me c.fetch_word.new.seat.me _ _ _ is _ i.fits.0 i.knows.at_rest i.knows.alone t.sees i.knows.full;
-      bare = c.fetch_word.ensures.seat.2 ∙ i.bare;
-    }
+    let e = c.fetch_word.ensures in
+    store_runs g.L.Law.terms _ _ _ _ _ s.mode s.over s.full s.log.slots s.seat c.fetch_word.new.seat c.self.invariant e.seat e.told.sees
+    s.seat.me.0.full s.seat.me.0.taken s.seat.me.0.added e.told.is s.full c.self.invariant.knows.full
 
 pub returns-clause-value : goal.returns-clause-value
 returns-clause-value g c = λ words has len.
@@ -55,8 +45,7 @@ returns-clause-value g c = λ words has len.
 pub returns-clause-loaded : goal.returns-clause-loaded
 returns-clause-loaded g c =
     let s = c.self.inside in
-    let t = c.fetch_word.ensures.told in
+    let e = c.fetch_word.ensures in
     let r = c.fetch_word.new.seat in
     subst (λ x. HasLoaded g.L.Law.terms x (going_of r.table_id r.me.0 s.place s.mode s.over s.log.slots)) c.self.view_is
-    (load_tells g.L.Law.terms s.mode s.count s.place s.seat.table_id r.table_id s.seat.me r.me s.over s.log.slots c.fetch_word.ensures.seat.0 t.sees t.is
-    (fits_on g.L.Law.terms s.seat.me r.me _ _ _ t.is _ _ _ c.self.invariant.fits))
+    (load_tells g.L.Law.terms _ _ _ _ _ s.mode s.over s.full s.log.slots s.seat r c.self.invariant e.seat e.told.sees e.told.is)
