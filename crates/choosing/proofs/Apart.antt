@@ -4,16 +4,16 @@ use Rattle.std.proofs.Common.{◌∙◌, arith, inl, inr}
 use Rattle.std.specs.Prelude.{◌||◌, ◌&&◌, filter, replicate}
 use Rattle.std.specs.List.{list_any, list_all, AllByRecursion}
 use Rattle.std.specs.Str.{bytes_eq}
-use Rattle.std.proofs.lemmas.Bool.{cases_Bool, cond-true, cond-false, or_parts, or_from}
+use Rattle.std.proofs.lemmas.Bool.{cases_Bool, cond-true, cond-false, or_parts, or_from, or_right}
 use Rattle.std.proofs.lemmas.List.{map-append}
 use Rattle.std.proofs.lemmas.List.Folds.{list_any-append}
 use Rattle.mmtext.specs.Words.{Word}
 use Rattle.mmsyntax.specs.Assertions.{Distinct}
 use Rattle.mmsyntax.proofs.Names.{bytes_eq-same, bytes_eq-sym}
+use Rattle.mmsyntax.proofs.Distinct.{all_right}
 use Rattle.source.specs.Scopes.{Assertion, is_in}
 use Rattle.taking.proofs.Values.{all_more}
 use Rattle.choosing.specs.Choices.{labels_of}
-use Rattle.choosing.proofs.Marked.{or_second}
 
 -- ---- lists
 
@@ -32,14 +32,6 @@ pub both_of : {A : Type 0} {P Q R : A → Type 0} (f : (x : A) → P x → Q x �
     → AllByRecursion R xs
 both_of f [] a b = tt
 both_of f (x ∷ xs) a b = (f x a.0 b.0, both_of f xs a.1 b.1)
-
-pub front_of_all : {A : Type 0} (P : A → Type 0) (xs ys : List A) → AllByRecursion P (xs ++ ys) → AllByRecursion P xs
-front_of_all P [] ys a = tt
-front_of_all P (x ∷ xs) ys a = (a.0, front_of_all P xs ys a.1)
-
-pub behind_of_all : {A : Type 0} (P : A → Type 0) (xs ys : List A) → AllByRecursion P (xs ++ ys) → AllByRecursion P ys
-behind_of_all P [] ys a = a
-behind_of_all P (x ∷ xs) ys a = behind_of_all P xs ys a.1
 
 -- ---- labels that differ
 
@@ -83,7 +75,7 @@ pub behind_apart : (xs ys : List Assertion) → Distinct bytes_eq (labels_of (xs
 behind_apart [] ys d = all_none ys
 behind_apart (x ∷ xs) ys d =
     both_of (λ y e f. or_from (bytes_eq y.label x.label) (is_in (labels_of xs) y.label) e f) ys
-    (behind_of_all (λ y. bytes_eq y.label x.label ≡ false) xs ys (other x.label (xs ++ ys) d.0)) (behind_apart xs ys d.1)
+    (all_right (λ y. bytes_eq y.label x.label ≡ false) xs ys (other x.label (xs ++ ys) d.0)) (behind_apart xs ys d.1)
 
 -- a label is among those that pass where its assertion passes
 pub own_flags : (p : Assertion → Bool) (xs : List Assertion) → Distinct bytes_eq (labels_of xs)
@@ -116,7 +108,7 @@ there_of : (q : Word → Bool) (xs : List Assertion) → ((w : Word) → is_in (
 there_of q [] h = tt
 there_of q (x ∷ xs) h = (
   h x.label (ap (λ b. b || is_in (labels_of xs) x.label) (bytes_eq-same x.label)),
-  there_of q xs (λ w e. h w (or_second (bytes_eq w x.label) (is_in (labels_of xs) w) e)),
+  there_of q xs (λ w e. h w (or_right (bytes_eq w x.label) (is_in (labels_of xs) w) e)),
 )
 
 pub there : (xs : List Assertion) → AllByRecursion (λ x. is_in (labels_of xs) x.label ≡ true) xs

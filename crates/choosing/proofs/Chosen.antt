@@ -7,7 +7,7 @@ use Rattle.std.specs.Prelude.{◌||◌, ◌&&◌, filter, find, replicate, rever
 use mathlib.Core.Bool.{not}
 use Rattle.std.specs.List.{list_all}
 use Rattle.std.specs.Str.{bytes_eq}
-use Rattle.std.proofs.lemmas.Bool.{cases_Bool, cond-true, cond-false}
+use Rattle.std.proofs.lemmas.Bool.{cases_Bool, cond-true, cond-false, or_right}
 use Rattle.std.proofs.lemmas.List.{length-map}
 use Rattle.std.proofs.lemmas.List.Folds.{list_any-append}
 use Rattle.mmtext.specs.Words.{Word}
@@ -24,7 +24,7 @@ use Rattle.choosing.specs.Choices.{asked_of, between}
 use Rattle.choosing.specs.Choices.{IsChosen, IsUnchosen}
 use Rattle.choosing.specs.Marks.{AreMarked, unknown_among, IsUnknownAmong}
 use Rattle.choosing.proofs.Apart.{map_alike, there, labels_pass, all_pass, count_flags}
-use Rattle.choosing.proofs.Marked.{found_at, or_second}
+use Rattle.choosing.proofs.Marked.{found_at}
 use Rattle.choosing.proofs.Going.{unmarked_all}
 use Rattle.choosing.proofs.Known.{is_unknown, known_of_both, unknown_of_first, unknown_of_second, first_is_unknown, second_is_unknown}
 use Rattle.choosing.proofs.Known.{known_both, in_order}
@@ -101,7 +101,7 @@ among_first : (ws vs : List Word) (w : Word) → is_in ws w ≡ true → is_in (
 among_first ws vs w h = list_any-append (bytes_eq w) ws vs ∙ ap (λ b. b || is_in vs w) h
 
 among_second : (ws vs : List Word) (w : Word) → is_in vs w ≡ true → is_in (ws ++ vs) w ≡ true
-among_second ws vs w h = list_any-append (bytes_eq w) ws vs ∙ or_second (is_in ws w) (is_in vs w) h
+among_second ws vs w h = list_any-append (bytes_eq w) ws vs ∙ or_right (is_in ws w) (is_in vs w) h
 
 -- the labels are those of assertions, as none is unknown
 all_known : (q : Word → Bool) (ws : List Word) → find (λ l. not (q l)) ws ≡ None → list_all q ws ≡ true

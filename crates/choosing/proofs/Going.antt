@@ -1,6 +1,6 @@
 -- What the choice of the nearest keeps from turn to turn.
 use Rattle.std.proofs.Common.{◌≡◌, ◌<◌, ℕ, suc, zero, Bool, true, false, List, [], ◌∷◌, ◌++◌, length, map, take, set, get_or, Some, refl}
-use Rattle.std.proofs.Common.{sym, ap, subst, ◌∙◌, arith}
+use Rattle.std.proofs.Common.{sym, ap, subst, ◌∙◌, arith, inl, inr}
 use Rattle.std.specs.Prelude.{◌||◌, ◌&&◌, if◌then◌else◌, nat_lt, pred, reverse, slice_get, replicate}
 use Rattle.std.specs.Option.{option_map}
 use Rattle.std.specs.Str.{bytes_eq}
@@ -8,14 +8,15 @@ use Rattle.std.proofs.Math.Bool.{or_assoc, or-false}
 use Rattle.std.proofs.lemmas.Bool.{cond-true, cond-false}
 use Rattle.std.proofs.lemmas.List.{reverse-append, reverse-reverse, take_all, length-map}
 use Rattle.std.proofs.lemmas.List.Folds.{list_any-append}
-use Rattle.std.proofs.lemmas.Option.{slice_get-map, slice_get-get_or}
+use Rattle.std.proofs.lemmas.Option.{slice_get-map, slice_get-get_or, slice_get_cases}
 use Rattle.mmtext.specs.Words.{Word}
 use Rattle.mmsyntax.specs.Assertions.{Distinct}
+use Rattle.mmsyntax.proofs.Names.{swap_or}
 use Rattle.source.specs.Scopes.{Assertion, is_in}
 use Rattle.taking.specs.Reasons.{needed}
 use Rattle.choosing.specs.Choices.{nearest}
 use Rattle.choosing.specs.Marks.{AreMarked, AreMarkedToo}
-use Rattle.choosing.proofs.Marked.{marks_agree, marked_at, item, swap_or}
+use Rattle.choosing.proofs.Marked.{marks_agree, marked_at}
 
 -- so many are left, the first of all, with room for so many: these were wanted and chosen so far
 pub record Stands (xs : List Assertion) (asked : List Word) (all place room : ℕ) (wanted chosen : List Bool) : Type 0 where
@@ -174,7 +175,8 @@ pub turned_left : (xs : List Assertion) (asked : List Word) (all place left room
     → a ≡ get_or marks left b → w ≡ get_or wanted left v → takes a w room ≡ false → after ≡ room_behind a w room
     → Stands xs asked all place room wanted chosen → Stands xs asked all left after wanted chosen
 turned_left xs asked all place left room after wanted chosen marks a w b v d within place-is are a-is w-is h after-is s =
-    let x = item xs left within in
+    let x : (x : Assertion) × (slice_get xs left ≡ Some x) =
+    elim (slice_get_cases xs left).1 [ | inl y ↦ (y.0, y.2) | inr past ↦ absurd (omega arith) ] in
     let long : length marks ≡ length xs = ap length (sym are) ∙ length-map xs (λ (y : Assertion). is_in asked y.label) in
     let same : length wanted ≡ length xs = ap length (sym s.wanted_are) ∙ length-map xs (λ (y : Assertion). is_in s.needs y.label) in
     let at : slice_get marks left ≡ Some a = slice_get-get_or marks left b (omega arith) ∙ ap (λ z. Some z) (sym a-is) in
@@ -190,7 +192,8 @@ pub turned_taken : (xs : List Assertion) (asked : List Word) (all place left roo
     → ((test : Word → Bool) → AreMarked xs test wanted → AreMarkedToo xs left test more (slice_get xs left))
     → Stands xs asked all left after more (set chosen left true)
 turned_taken xs asked all place left room after wanted chosen marks a w b v d within place-is are a-is w-is h after-is s more too =
-    let x = item xs left within in
+    let x : (x : Assertion) × (slice_get xs left ≡ Some x) =
+    elim (slice_get_cases xs left).1 [ | inl y ↦ (y.0, y.2) | inr past ↦ absurd (omega arith) ] in
     let long : length marks ≡ length xs = ap length (sym are) ∙ length-map xs (λ (y : Assertion). is_in asked y.label) in
     let same : length wanted ≡ length xs = ap length (sym s.wanted_are) ∙ length-map xs (λ (y : Assertion). is_in s.needs y.label) in
     let at : slice_get marks left ≡ Some a = slice_get-get_or marks left b (omega arith) ∙ ap (λ z. Some z) (sym a-is) in

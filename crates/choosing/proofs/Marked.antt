@@ -1,5 +1,5 @@
 -- One more label: the assertion that has it is marked, and no other.
-use Rattle.std.proofs.Common.{◌≡◌, ◌<◌, ℕ, suc, zero, Bool, true, false, List, [], ◌∷◌, length, map, take, get_or, set, Option, Some}
+use Rattle.std.proofs.Common.{◌≡◌, ◌<◌, ℕ, suc, zero, Bool, true, false, List, [], ◌∷◌, length, map, take, get_or, set, Some}
 use Rattle.std.proofs.Common.{None, ◌+◌, refl, sym, ap, subst, ◌∙◌, arith, add-one}
 use Rattle.std.proofs.Common.{Bor}
 use Rattle.std.specs.Prelude.{◌||◌, slice_get, slice_index_or, is_some, All}
@@ -7,13 +7,13 @@ use Rattle.std.specs.Option.{option_map}
 use Rattle.std.specs.List.{list_any}
 use Rattle.std.specs.Str.{bytes_eq}
 use Rattle.std.proofs.Math.Bool.{or_assoc}
-use Rattle.std.proofs.lemmas.Bool.{or_parts}
+use Rattle.std.proofs.lemmas.Bool.{or_parts, or_right}
 use Rattle.std.proofs.lemmas.Option.{slice_get-get_or, get_or_from_slice_get, slice_get_within}
 use Rattle.mmtext.specs.Words.{Word}
 use Rattle.mmtext.proofs.Marks.{same_word}
 use Rattle.mmsyntax.specs.Tables.{place_of}
 use Rattle.mmsyntax.specs.Assertions.{Distinct}
-use Rattle.mmsyntax.proofs.Names.{bytes_eq-same, bytes_eq-sym, place_of-at}
+use Rattle.mmsyntax.proofs.Names.{bytes_eq-same, bytes_eq-sym, place_of-at, swap_or}
 use Rattle.mmsyntax.proofs.Distinct.{any-map, is_some-place_of}
 use Rattle.source.specs.Scopes.{Assertion, is_in}
 use Rattle.source.specs.Views.{seen_words}
@@ -33,28 +33,12 @@ pub marks_agree : (xs : List Assertion) (p q : Word → Bool) (marks : List Bool
     → AreMarked xs q marks
 marks_agree xs p q marks same are = each_same p q same xs ∙ are
 
-pub swap_or : (a b c : Bool) → (a || (b || c)) ≡ (b || (a || c))
-swap_or true true c = refl
-swap_or true false c = refl
-swap_or false true c = refl
-swap_or false false c = refl
-
-pub or_second : (a b : Bool) → b ≡ true → (a || b) ≡ true
-or_second true b h = refl
-or_second false b h = h
-
 -- one more item
 pub any_more : {A : Type 0} (p : A → Bool) (xs : List A) (i : ℕ) (x : A) → slice_get xs i ≡ Some x
     → list_any p (take (suc i) xs) ≡ (p x || list_any p (take i xs))
 any_more p [] i x is = absurd cc
 any_more p (y ∷ ys) zero x is = let e : y ≡ x = cc in ap (λ z. p z || false) e
 any_more p (y ∷ ys) (suc i) x is = ap (λ b. p y || b) (any_more p ys i x is) ∙ swap_or (p y) (p x) (list_any p (take i ys))
-
--- the item at a place
-pub item : {A : Type 0} (xs : List A) (k : ℕ) → k < length xs → (x : A) × (slice_get xs k ≡ Some x)
-item [] k h = absurd (omega arith)
-item (x ∷ xs) zero h = (x, refl)
-item (x ∷ xs) (suc k) h = item xs k (omega arith)
 
 -- ---- one label
 
@@ -166,11 +150,7 @@ pub is_in_at : (labels : List (Bor (List ℕ))) (k : ℕ) (d : Bor (List ℕ)) �
 is_in_at [] k d h = absurd (omega arith)
 is_in_at (l ∷ ls) zero d h = ap (λ b. b || is_in (seen_words ls) l.now) (bytes_eq-same l.now)
 is_in_at (l ∷ ls) (suc k) d h =
-    or_second (bytes_eq (get_or ls k d).now l.now) (is_in (seen_words ls) (get_or ls k d).now) (is_in_at ls k d (omega arith))
-
-pub none_there : {A : Type 0} (o : Option A) → is_some o ≡ false → o ≡ None
-none_there None h = refl
-none_there (Some x) h = absurd cc
+    or_right (bytes_eq (get_or ls k d).now l.now) (is_in (seen_words ls) (get_or ls k d).now) (is_in_at ls k d (omega arith))
 
 any_grown : (test : Word → Bool) (labels : List (Bor (List ℕ))) (k : ℕ) (d : Bor (List ℕ)) → k < length labels
     → list_any test (seen_words (take (suc k) labels)) ≡ (test (get_or labels k d).now || list_any test (seen_words (take k labels)))

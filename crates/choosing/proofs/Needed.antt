@@ -1,60 +1,32 @@
 -- What a proof needs: the labels that its nodes name, unless it is too long.
-use Rattle.std.proofs.Common.{◌≡◌, ◌<◌, ◌≤◌, ℕ, suc, Bool, true, false, List, [], ◌∷◌, length, map, take, Option, Some, None}
-use Rattle.std.proofs.Common.{refl, sym, ap, subst, ◌∙◌, arith}
+use Rattle.std.proofs.Common.{◌≡◌, ◌<◌, ◌≤◌, ℕ, Bool, true, false, List, [], length, map, take, Option, Some, None}
+use Rattle.std.proofs.Common.{refl, sym, ap, subst, ◌∙◌, arith, inl, inr}
 use Rattle.std.proofs.Common.{Bor}
-use Rattle.std.specs.Prelude.{slice_get, slice_index_or, nat_lt, All, MatchOption, IfSome, ◌||◌}
+use Rattle.std.specs.Prelude.{slice_get, nat_lt, All, IfSome, ◌||◌}
 use Rattle.std.specs.Option.{option_map}
-use Rattle.std.specs.List.{AllByRecursion}
 use Rattle.std.specs.Str.{bytes_eq}
 use Rattle.std.proofs.lemmas.Bool.{cond-true, cond-false}
 use Rattle.std.proofs.lemmas.Bool.Decides.{nat_tests}
-use Rattle.std.proofs.lemmas.Option.{slice_get-map, slice_get_within}
+use Rattle.std.proofs.lemmas.Option.{slice_get_cases}
 use Rattle.std.proofs.lemmas.List.{length-map}
-use Rattle.std.proofs.lemmas.List.Elements.{All-from_recursion, recursion_from_All}
 use Rattle.mmtext.specs.Words.{Word}
 use Rattle.source.specs.Statements.{Proof}
 use Rattle.source.specs.Scopes.{Assertion, is_in}
 use Rattle.source.specs.Views.{seen_words}
-use Rattle.source.specs.Proofs.{Tree, node, over, denoted, is_unfinished, size, sizes, total, taken_by}
+use Rattle.source.specs.Proofs.{Tree, denoted, is_unfinished, size, taken_by}
 use Rattle.taking.specs.declared.named.Named.{Named}
 use Rattle.taking.specs.Names.{Map}
-use Rattle.taking.specs.Nodes.{Shared, trees, counted}
+use Rattle.taking.specs.Nodes.{counted}
 use Rattle.taking.specs.Nodes as nodes
 use Rattle.taking.specs.Reasons.{labels_of, needed, needed_by, needed_by_tree}
-use Rattle.taking.specs.Walks.{TakesAll}
-use Rattle.taking.proofs.Values.{natural, all_more}
 use Rattle.taking.specs.Settings.{is_float}
 use Rattle.prooftrees.specs.declared.form.ProofTree.{ProofTree}
 use Rattle.prooftrees.specs.declared.form.ProofForm.{ProofForm}
 use Rattle.prooftrees.specs.declared.form.ProofForm.TheVariants as form
 use Rattle.prooftrees.specs.Forms.{IsForm, IsTree}
+use Rattle.prooftrees.proofs.Trees.{nodes_are_labelled, counted_is}
 use Rattle.choosing.specs.Marks.{AreMarked, AreMarkedToo, is_named}
-use Rattle.choosing.proofs.Marked.{marks_agree, item}
-
--- ---- how many steps list a tree
-
-size_of_each : (ts : List Tree) → sizes (over ts) ≡ total (map size ts)
-size_of_each [] = refl
-size_of_each (t ∷ ts) = let e = size_of_each ts in omega arith
-
-each : {A : Type 0} (P : A → Type 0) → ((x : A) → P x) → (xs : List A) → AllByRecursion P xs
-each P f [] = tt
-each P f (x ∷ xs) = (f x, each P f xs)
-
-sized : (labels : List Word) (ns : List Shared) → map size (trees labels ns) ≡ nodes.sizes ns
-sized labels ns =
-    natural size (λ n ts. node (slice_index_or labels n []) (over ts)) (λ n ks. suc (total ks)) ns
-    (each (λ n. (ts : List Tree) → size (node (slice_index_or labels n.named []) (over ts)) ≡ suc (total (map size ts)))
-    (λ n ts. ap suc (size_of_each ts)) ns)
-
--- the number that is told of a node
-counted_is : (labels : List Word) (ns : List Shared) (root k : ℕ) (tree : Tree) → slice_get (trees labels ns) root ≡ Some tree
-    → option_map counted (slice_get (nodes.sizes ns) root) ≡ Some k → counted (size tree) ≡ k
-counted_is labels ns root k tree stands told =
-    let e : slice_get (nodes.sizes ns) root ≡ Some (size tree) =
-    ap (λ ks. slice_get ks root) (sym (sized labels ns)) ∙ slice_get-map size (trees labels ns) root ∙ ap (option_map size) stands in
-    let f : Some (counted (size tree)) ≡ Some k = ap (option_map counted) (sym e) ∙ told in
-    cc
+use Rattle.choosing.proofs.Marked.{marks_agree}
 
 -- ---- what is needed
 
@@ -112,21 +84,9 @@ as_many m earlier x t is =
     ∙ length-map (seen_words t.labels.items) F
     ∙ length-map t.labels.items (λ w. w.now)
 
-within : (named : List Named) (a n : ℕ) (o : Option Named) → slice_get named a ≡ o → MatchOption o ⊥ (λ y. n ≡ length y.floats)
-    → a < length named
-within named a n None is h = absurd h
-within named a n (Some y) is h = slice_get_within named a y is
-
 pub named_within : (m : Map) (earlier : List Assertion) (x : Assertion) (t : ProofTree) → IsForm m earlier x (form.Tree t)
     → All (λ n. n.named < length t.labels.items) t.proof.nodes
-named_within m earlier x t is =
-    let e = as_many m earlier x t is.3 in
-    All-from_recursion (λ n. n.named < length t.labels.items) t.proof.nodes
-    (all_more {P = TakesAll t.named.items} {Q = λ n. n.named < length t.labels.items}
-    (λ n h. subst (λ (k : ℕ). n.named < k) e
-    (within t.named.items n.named (length n.arguments) (slice_get t.named.items n.named) refl h))
-    t.proof.nodes
-    (recursion_from_All (TakesAll t.named.items) t.proof.nodes is.3.whole))
+named_within m earlier x t is = nodes_are_labelled t is.3.whole (sym (as_many m earlier x t is.3))
 
 -- ---- what is marked
 
@@ -137,7 +97,7 @@ form_of m earlier f o x is h = subst (λ (p : Option Assertion). IfSome p (λ x.
 module _ (m : Map) (xs : List Assertion) (place : ℕ) (f : ProofForm) (within : place < length xs)
     (is : IfSome (slice_get xs place) (λ x. IsForm m (take place xs) x f)) where
   here : (x : Assertion) × (slice_get xs place ≡ Some x)
-  here = item xs place within
+  here = elim (slice_get_cases xs place).1 [ | inl y ↦ (y.0, y.2) | inr past ↦ absurd (omega arith) ]
 
   read : IsForm m (take place xs) here.0 f
   read = form_of m (take place xs) f (slice_get xs place) here.0 here.1 is

@@ -6,24 +6,21 @@ use Rattle.std.specs.List.{list_all, AllByRecursion}
 use Rattle.std.specs.Str.{bytes_eq}
 use Rattle.std.proofs.lemmas.List.{map-append, length-map, length-append, length-drop, length-take-le, length-replicate, take-append-drop}
 use Rattle.std.proofs.lemmas.List.{take-map, take-take, take_all}
+use Rattle.std.proofs.lemmas.Bool.{and_from, or_right}
 use Rattle.std.proofs.lemmas.List.Elements.{filter-append}
 use Rattle.std.proofs.lemmas.List.Folds.{list_any-append, list_all-append}
 use Rattle.mmsyntax.specs.Assertions.{Distinct}
-use Rattle.mmsyntax.proofs.Distinct.{distinct_left, distinct_right}
+use Rattle.mmsyntax.proofs.Distinct.{distinct_left, distinct_right, all_left, all_right}
 use Rattle.source.specs.Scopes.{Assertion, is_in}
 use Rattle.taking.proofs.Values.{all_more}
 use Rattle.choosing.specs.Choices.{labels_of}
 use Rattle.choosing.specs.Marks.{from_to}
-use Rattle.choosing.proofs.Marked.{or_second}
-use Rattle.choosing.proofs.Apart.{map_same, map_alike, both_of, front_of_all, behind_of_all, fewer, front_apart, behind_apart}
+use Rattle.choosing.proofs.Apart.{map_same, map_alike, both_of, fewer, front_apart, behind_apart}
 use Rattle.choosing.proofs.Apart.{own_flags, there, labels_pass, filter_hold, count_flags, count_trues, count_falses}
 
 or_none : (a b : Bool) → b ≡ false → (a || b) ≡ a
 or_none true b h = refl
 or_none false b h = h
-
-both_true : (a b : Bool) → a ≡ true → b ≡ true → (a && b) ≡ true
-both_true a b e f = ap (λ c. c && b) e ∙ f
 
 -- the first so many, and all others
 pub parts_first : (xs : List Assertion) (i : ℕ) (p : Assertion → Bool) → Distinct bytes_eq (labels_of xs)
@@ -104,7 +101,7 @@ module _ (xs : List Assertion) (i e : ℕ) (p : Assertion → Bool) (order : i �
 
     on_middle : AllByRecursion (λ x. chosen x ≡ true) inner
     on_middle =
-        all_more (λ x e. either x ∙ or_second (is_in (labels_of (filter p ahead)) x.label) (is_in (labels_of inner) x.label) e) inner
+        all_more (λ x e. either x ∙ or_right (is_in (labels_of (filter p ahead)) x.label) (is_in (labels_of inner) x.label) e) inner
         (there inner)
 
     on_last : AllByRecursion (λ x. chosen x ≡ false) after
@@ -114,7 +111,7 @@ module _ (xs : List Assertion) (i e : ℕ) (p : Assertion → Bool) (order : i �
         either x
         ∙ or_none (is_in (labels_of (filter p ahead)) x.label) (is_in (labels_of inner) x.label) f
         ∙ fewer p x.label ahead e)
-        after (behind_of_all (λ x. is_in (labels_of ahead) x.label ≡ false) inner after (behind_apart ahead (inner ++ after) all_apart))
+        after (all_right (λ x. is_in (labels_of ahead) x.label ≡ false) inner after (behind_apart ahead (inner ++ after) all_apart))
         (behind_apart inner after rest_apart)
 
     pub parts_flags : map (λ x. is_in (labels_of (filter p (take i xs)) ++ labels_of (from_to i e xs)) x.label) xs
@@ -159,10 +156,10 @@ module _ (xs : List Assertion) (i e : ℕ) (p : Assertion → Bool) (order : i �
   parts_there =
       let P = λ (x : Assertion). is_in (labels_of xs) x.label ≡ true in
       let all : AllByRecursion P (ahead ++ (inner ++ after)) = subst (AllByRecursion P) (sym parts) (there xs) in
-      let front = filter_hold P p ahead (front_of_all P ahead (inner ++ after) all) in
-      let behind = front_of_all P inner after (behind_of_all P ahead (inner ++ after) all) in
+      let front = filter_hold P p ahead (all_left P ahead (inner ++ after) all) in
+      let behind = all_left P inner after (all_right P ahead (inner ++ after) all) in
       list_all-append (is_in (labels_of xs)) (labels_of (filter p ahead)) (labels_of inner)
-      ∙ both_true (list_all (is_in (labels_of xs)) (labels_of (filter p ahead))) (list_all (is_in (labels_of xs)) (labels_of inner))
+      ∙ and_from (list_all (is_in (labels_of xs)) (labels_of (filter p ahead))) (list_all (is_in (labels_of xs)) (labels_of inner))
       (labels_pass (is_in (labels_of xs)) (filter p ahead) front) (labels_pass (is_in (labels_of xs)) inner behind)
 
 -- ---- flags that are made longer

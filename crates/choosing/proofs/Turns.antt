@@ -3,7 +3,7 @@ use Rattle.std.proofs.Common.{◌≡◌, ◌≤◌, ◌+◌, ℕ, suc, zero, Boo
 use Rattle.std.proofs.Common.{◌∙◌, arith, ◌⊎◌, inl, inr}
 use Rattle.std.specs.Prelude.{◌&&◌, if◌then◌else◌, nat_lt, pred, reverse, filter}
 use Rattle.std.specs.List.{list_all}
-use Rattle.std.proofs.lemmas.Bool.{cases_Bool, cond-true, cond-false, and_parts}
+use Rattle.std.proofs.lemmas.Bool.{cases_Bool, cond-true, cond-false, and_parts, and_from}
 use Rattle.std.proofs.lemmas.List.{reverse-append, length-append}
 use Rattle.std.proofs.lemmas.List.Folds.{list_all-append}
 use Rattle.std.proofs.lemmas.List.Elements.{filter-append}
@@ -95,9 +95,6 @@ filter_reverse p (x ∷ xs) =
 
 -- ---- all are of the source
 
-both : (a b : Bool) → a ≡ true → b ≡ true → (a && b) ≡ true
-both a b e f = ap (λ c. c && b) e ∙ f
-
 pub all_there : (q : Word → Bool) (asked : List Word) (room : ℕ) (wanted : List Word) (xs : List Assertion)
     → list_all (λ x. q x.label) xs ≡ true → list_all q (nearest asked room wanted xs) ≡ true
 all_there q asked room wanted [] all = refl
@@ -105,11 +102,11 @@ all_there q asked room wanted (x ∷ before) all =
     let one : q x.label ≡ true = (and_parts (q x.label) (list_all (λ x. q x.label) before) all).0 in
     let rest : list_all (λ x. q x.label) before ≡ true = (and_parts (q x.label) (list_all (λ x. q x.label) before) all).1 in
     elim (turn asked room wanted x before) [
-      | inl y ↦ ap (list_all q) y.1 ∙ both (q x.label) _ one (all_there q asked room (needed (reverse before) x ++ wanted) before rest)
+      | inl y ↦ ap (list_all q) y.1 ∙ and_from (q x.label) _ one (all_there q asked room (needed (reverse before) x ++ wanted) before rest)
       | inr r ↦ elim r [
         | inl y ↦
             ap (list_all q) y.2
-            ∙ both (q x.label) _ one (all_there q asked (pred room) (needed (reverse before) x ++ wanted) before rest)
+            ∙ and_from (q x.label) _ one (all_there q asked (pred room) (needed (reverse before) x ++ wanted) before rest)
         | inr n ↦ ap (list_all q) n.2 ∙ all_there q asked room wanted before rest
       ]
     ]
@@ -119,5 +116,5 @@ all_reverse p [] all = refl
 all_reverse p (x ∷ xs) all =
     ap (list_all p) (reverse-append (x ∷ []) xs)
     ∙ list_all-append p (reverse xs) (x ∷ [])
-    ∙ both (list_all p (reverse xs)) (p x && true) (all_reverse p xs (and_parts (p x) (list_all p xs) all).1)
-    (both (p x) true (and_parts (p x) (list_all p xs) all).0 refl)
+    ∙ and_from (list_all p (reverse xs)) (p x && true) (all_reverse p xs (and_parts (p x) (list_all p xs) all).1)
+    (and_from (p x) true (and_parts (p x) (list_all p xs) all).0 refl)

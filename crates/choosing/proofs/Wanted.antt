@@ -1,18 +1,19 @@
 -- What the proofs of those between two places need: one more place.
 use Rattle.std.proofs.Common.{◌≡◌, ◌<◌, ◌≤◌, ◌+◌, ℕ, Bool, false, List, [], ◌∷◌, ◌++◌, length, take, drop, sym, ap, subst}
-use Rattle.std.proofs.Common.{◌∙◌, arith, append_assoc, add-one}
+use Rattle.std.proofs.Common.{◌∙◌, arith, append_assoc, add-one, Some, inl, inr}
 use Rattle.std.specs.Prelude.{◌||◌, slice_get, replicate}
 use Rattle.std.specs.Str.{bytes_eq}
 use Rattle.std.proofs.Math.Bool.{or_comm}
 use Rattle.std.proofs.Math.ListN.{drop_of_length-le}
 use Rattle.std.proofs.lemmas.List.{append-nil, drop-append-le, length-take, length-take-le}
 use Rattle.std.proofs.lemmas.List.Folds.{list_any-append}
+use Rattle.std.proofs.lemmas.Option.{slice_get_cases}
 use Rattle.mmtext.specs.Words.{Word}
 use Rattle.source.specs.Scopes.{Assertion, is_in}
 use Rattle.taking.specs.Reasons.{needed}
 use Rattle.choosing.specs.Choices.{needed_by_all}
 use Rattle.choosing.specs.Marks.{AreMarked, AreMarkedToo, from_to}
-use Rattle.choosing.proofs.Marked.{marks_agree, item}
+use Rattle.choosing.proofs.Marked.{marks_agree}
 use Rattle.choosing.proofs.Going.{unmarked_all, one_more}
 use Rattle.choosing.proofs.Parts.{first}
 
@@ -38,7 +39,8 @@ pub wanted_more : (xs : List Assertion) (i k : ℕ) (marks after : List Bool) �
     → ((test : Word → Bool) → AreMarked xs test marks → AreMarkedToo xs k test after (slice_get xs k))
     → AreMarked xs (is_in (needed_by_all (take i xs) (from_to i (k + 1) xs))) after
 wanted_more xs i k marks after order within are too =
-    let x = item xs k within in
+    let x : (x : Assertion) × (slice_get xs k ≡ Some x) =
+    elim (slice_get_cases xs k).1 [ | inl y ↦ (y.0, y.2) | inr past ↦ absurd (omega arith) ] in
     let old = needed_by_all (take i xs) (from_to i k xs) in
     let long : i ≤ length (take k xs) = let e = length-take-le k xs (omega arith) in omega arith in
     let grown : from_to i (k + 1) xs ≡ from_to i k xs ++ x.0 ∷ [] =

@@ -19,6 +19,10 @@ use Rattle.choosing.specs.declared.wish.Unchosen.TheVariants as unchosen
 abbrev pub labels_of : List Assertion → List Word
 labels_of xs = map (λ x. x.label) xs
 
+-- each of some labels is that of an assertion
+abbrev pub AreThere : Scope → List Word → Type 0
+AreThere s labels = IsTrue (list_all (is_in (labels_of s.assertions)) labels)
+
 -- ---- all
 
 abbrev pub all_chosen : Scope → Choice
@@ -96,7 +100,7 @@ pub record IsChosen (s : Scope) (w : Wish) (sel : Selection) : Type 0 where
   pub choice : Choice
   pub is_choice : IsChoice s w choice
   pub flags : AreFlags s choice sel.chosen.items sel.front.items
-  pub there : IsTrue (list_all (is_in (labels_of s.assertions)) choice.chosen)
+  pub there : AreThere s choice.chosen
   pub few : length choice.chosen ≤ 4096
   pub known : first_unknown s w ≡ None
   pub in_order : StandsBehind s w → ⊥

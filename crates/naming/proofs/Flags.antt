@@ -8,15 +8,17 @@ use Rattle.std.specs.Borrow.{Bor}
 use Rattle.std.specs.HashSet as bag
 use Rattle.std.specs.HashSet.{HashSet}
 use Rattle.std.specs.declared.random_state.RandomState.{RandomState}
-use Rattle.std.proofs.lemmas.Bool.{cases_Bool, cond-true, cond-false}
+use Rattle.std.proofs.lemmas.Bool.{cases_Bool, cond-true, cond-false, and_from, and_parts, or_left, or_right}
+use Rattle.std.proofs.lemmas.Bool.Decides.{same_from_decides}
 use Rattle.std.proofs.lemmas.List.{map_more, map-append, append-nil, append_assoc}
 use Rattle.std.proofs.lemmas.List.Folds.{list_any-append}
 use Rattle.mmtext.specs.Words.{Word, has_hypothesis_form}
 use Rattle.mmsyntax.specs.Dotted.{is_dotted, trunk}
 use Rattle.mmsyntax.proofs.DottedWords.{dotted_trunk}
-use Rattle.mmsyntax.proofs.Names.{bytes_eq-same, bytes_eq-sym, same_bytes}
+use Rattle.mmsyntax.proofs.Names.{bytes_eq-same, same_bytes}
 use Rattle.source.specs.Scopes.{Scope, is_in}
-use Rattle.source.specs.Views.{seen_words}
+use Rattle.source.specs.Views.{has, seen_words}
+use Rattle.source.proofs.Lent.{has_more}
 use Rattle.taking.specs.Names.{is_named_well, is_fresh, are_variables_named_well}
 use Rattle.taking.specs.Fresh.{is_named_by, AreGiven}
 use mathlib.Core.Bool.{not}
@@ -25,7 +27,7 @@ use Rattle.std.specs.declared.alloc.Global.{Global}
 use Rattle.std.specs.Map.{IsKeyTest, AreApart}
 use Rattle.std.specs.Set.{KeepsOthers}
 use Rattle.std.proofs.lemmas.Cmp.{nat_list_eq_equiv}
-use Rattle.naming.specs.Changes.{has, has_given, variables_changing, HasTrunks}
+use Rattle.naming.specs.Changes.{has_given, variables_changing, HasTrunks}
 
 -- one more word's flag
 pub flags_more : (P : Word → Bool) (words : List (Bor (List ℕ))) (i : ℕ) (d : Bor (List ℕ)) → i < length words
@@ -47,12 +49,6 @@ variable_more front (v ∷ ws) w =
 
 -- ---- sets of words
 
-or_cond : (b c : Bool) → cond b true c ≡ (c || b)
-or_cond true true = refl
-or_cond true false = refl
-or_cond false true = refl
-or_cond false false = refl
-
 or_last : (b c : Bool) → (b || (c || false)) ≡ (b || c)
 or_last true c = refl
 or_last false true = refl
@@ -63,45 +59,19 @@ pub set_more : (s n : HashSet (Bor (List ℕ)) RandomState) (ws : List Word) (x 
     → bag.UpdatesBy (λ x y. bytes_eq x.now y.now) (λ k. bytes_eq x k.now) s n true
     → ((w : Word) → has s w ≡ is_in ws w) → (w : Word) → has n w ≡ is_in (ws ++ x ∷ []) w
 set_more s n ws x h so w =
-    h.0 (record { ref_ptr = (0, 0); now = w })
-    ∙ or_cond (bytes_eq x w) (has s w)
-    ∙ ap (λ b. b || bytes_eq x w) (so w)
-    ∙ ap (λ b. is_in ws w || b) (bytes_eq-sym x w)
+    has_more s n x h w
+    ∙ ap (λ b. b || bytes_eq w x) (so w)
     ∙ sym (or_last (is_in ws w) (bytes_eq w x))
     ∙ sym (list_any-append (bytes_eq w) ws (x ∷ []))
 
 -- ---- L.k beside L
 
-either_way : (a b : Bool) → (a ≡ true → b ≡ true) → (b ≡ true → a ≡ true) → a ≡ b
-either_way true true f g = refl
-either_way false false f g = refl
-either_way true false f g = sym (f refl)
-either_way false true f g = g refl
-
-both_are : (a b : Bool) → (a && b) ≡ true → (a ≡ true) × (b ≡ true)
-both_are true true h = (refl, refl)
-both_are true false h = absurd cc
-both_are false b h = absurd cc
-
-are_both : (a b : Bool) → a ≡ true → b ≡ true → (a && b) ≡ true
-are_both true true h g = refl
-are_both true false h g = absurd cc
-are_both false b h g = absurd cc
-
-or_tail : (a b : Bool) → b ≡ true → (a || b) ≡ true
-or_tail true b h = refl
-or_tail false b h = h
-
-or_head : (a b : Bool) → a ≡ true → (a || b) ≡ true
-or_head true b h = refl
-or_head false b h = absurd cc
-
 pub any_of : (test : Word → Bool) (w : Word) → test w ≡ true → (ls : List Word) → is_in ls w ≡ true → list_any test ls ≡ true
 any_of test w passes [] h = absurd cc
 any_of test w passes (l ∷ ls) h =
     elim (cases_Bool (bytes_eq w l)) [
-      | inl y ↦ or_head (test l) (list_any test ls) (ap test (sym (same_bytes w l y)) ∙ passes)
-      | inr n ↦ or_tail (test l) (list_any test ls) (any_of test w passes ls (ap (λ b. b || is_in ls w) (sym n) ∙ h))
+      | inl y ↦ or_left (test l) (list_any test ls) (ap test (sym (same_bytes w l y)) ∙ passes)
+      | inr n ↦ or_right (test l) (list_any test ls) (any_of test w passes ls (ap (λ b. b || is_in ls w) (sym n) ∙ h))
     ]
 
 trunk_of_any : (w : Word) (ls : List Word) → list_any (λ l. is_dotted l w) ls ≡ true → (is_dotted (trunk w) w && is_in ls (trunk w)) ≡ true
@@ -110,21 +80,22 @@ trunk_of_any w (l ∷ ls) h =
     elim (cases_Bool (is_dotted l w)) [
       | inl y ↦
           let is : trunk w ≡ l = dotted_trunk l w y in
-          are_both (is_dotted (trunk w) w) (is_in (l ∷ ls) (trunk w)) (ap (λ t. is_dotted t w) is ∙ y)
-          (or_head (bytes_eq (trunk w) l) (is_in ls (trunk w)) (ap (λ t. bytes_eq t l) is ∙ bytes_eq-same l))
+          and_from (is_dotted (trunk w) w) (is_in (l ∷ ls) (trunk w)) (ap (λ t. is_dotted t w) is ∙ y)
+          (or_left (bytes_eq (trunk w) l) (is_in ls (trunk w)) (ap (λ t. bytes_eq t l) is ∙ bytes_eq-same l))
       | inr n ↦
-          let rest = both_are (is_dotted (trunk w) w) (is_in ls (trunk w))
+          let rest = and_parts (is_dotted (trunk w) w) (is_in ls (trunk w))
           (trunk_of_any w ls (ap (λ b. b || list_any (λ l. is_dotted l w) ls) (sym n) ∙ h)) in
-          are_both (is_dotted (trunk w) w) (is_in (l ∷ ls) (trunk w)) rest.0
-          (or_tail (bytes_eq (trunk w) l) (is_in ls (trunk w)) rest.1)
+          and_from (is_dotted (trunk w) w) (is_in (l ∷ ls) (trunk w)) rest.0
+          (or_right (bytes_eq (trunk w) l) (is_in ls (trunk w)) rest.1)
     ]
 
 -- a word is L.k for a label L of some, where its trunk is one that it isn't itself
 pub dotted_among : (w : Word) (ls : List Word) → (is_dotted (trunk w) w && is_in ls (trunk w)) ≡ list_any (λ l. is_dotted l w) ls
 dotted_among w ls =
-    either_way (is_dotted (trunk w) w && is_in ls (trunk w)) (list_any (λ l. is_dotted l w) ls)
-    (λ h. let b = both_are (is_dotted (trunk w) w) (is_in ls (trunk w)) h in any_of (λ l. is_dotted l w) (trunk w) b.0 ls b.1)
-    (trunk_of_any w ls)
+    same_from_decides {P = list_any (λ l. is_dotted l w) ls ≡ true} (is_dotted (trunk w) w && is_in ls (trunk w))
+    (list_any (λ l. is_dotted l w) ls)
+    (λ h. let b = and_parts (is_dotted (trunk w) w) (is_in ls (trunk w)) h in any_of (λ l. is_dotted l w) (trunk w) b.0 ls b.1, trunk_of_any w ls)
+    (λ h. h, λ h. h)
 
 -- ---- names that were given
 
@@ -142,7 +113,7 @@ all_named free s fresh test [] [] many h = refl
 all_named free s fresh test [] (n ∷ ns) many h = refl
 all_named free s fresh test (w ∷ ws) [] many h = refl
 all_named free s fresh test (w ∷ ws) (n ∷ ns) many h =
-    are_both (is_named_well s (test w) (w, n)) (list_all (λ p. is_named_well s (test p.0) p) (zip ws ns))
+    and_from (is_named_well s (test w) (w, n)) (list_all (λ p. is_named_well s (test p.0) p) (zip ws ns))
     (named_one free s fresh (test w) w n (h 0 (omega arith)))
     (all_named free s fresh test ws ns (omega arith) (λ k lt. h (suc k) (omega arith)))
 
@@ -155,12 +126,9 @@ variables_named free s fresh front [] [] many h = refl
 variables_named free s fresh front [] (n ∷ ns) many h = refl
 variables_named free s fresh front (w ∷ ws) [] many h = refl
 variables_named free s fresh front (w ∷ ws) (n ∷ ns) many h =
-    are_both (is_named_well s (has_hypothesis_form w || is_in front w) (w, n)) (are_variables_named_well s (front ++ w ∷ []) (zip ws ns))
+    and_from (is_named_well s (has_hypothesis_form w || is_in front w) (w, n)) (are_variables_named_well s (front ++ w ∷ []) (zip ws ns))
     (named_one free s fresh (has_hypothesis_form w || is_in front w) w n (h 0 (omega arith)))
     (variables_named free s fresh (front ++ w ∷ []) ws ns (omega arith) (λ k lt. h (suc k) (omega arith)))
-
-pub first_of : (a b : Bool) → (a && b) ≡ true → a ≡ true
-first_of a b h = (both_are a b h).0
 
 -- ---- what is free
 
@@ -174,9 +142,6 @@ given_more true false true false false = refl
 given_more true false false true d = refl
 given_more true false false false true = refl
 given_more true false false false false = refl
-
-apart_bytes : (bs cs ks : List ℕ) → bytes_eq bs cs ≡ false → bytes_eq bs ks ≡ true → bytes_eq cs ks ≡ false
-apart_bytes bs cs ks n y = nat_list_eq_equiv.symm cs ks ∙ sym (nat_list_eq_equiv.congr bs ks cs y) ∙ n
 
 module _ {K : Type 0} (eq : K → K → Bool) (test : K → Bool) where
   other_keys : (old new : List K) → KeepsOthers eq test old new → (other : K → Bool) → IsKeyTest eq other → AreApart test other
@@ -194,7 +159,8 @@ given_has bs s n h cs =
           subst (λ l. has_given n l ≡ true) (same_bytes bs cs y) h.1
           ∙ sym (cond-true (bytes_eq bs cs) true (has_given s cs) y)
       | inr e ↦
-          other_keys _ _ _ _ h.3 _ (λ x y. nat_list_eq_equiv.congr cs x.items y.items) (λ q. apart_bytes bs cs q.items e)
+          other_keys _ _ _ _ h.3 _ (λ x y. nat_list_eq_equiv.congr cs x.items y.items)
+          (λ q y. nat_list_eq_equiv.symm cs q.items ∙ sym (nat_list_eq_equiv.congr bs q.items cs y) ∙ e)
           ∙ sym (cond-false (bytes_eq bs cs) true (has_given s cs) e)
     ]
 
@@ -202,14 +168,14 @@ given_has bs s n h cs =
 pub trunks_more : (s n : HashSet (Bor (List ℕ)) RandomState) (ws : List Word) (x t : Word) → t ≡ trunk x
     → bag.UpdatesBy (λ x y. bytes_eq x.now y.now) (λ k. bytes_eq t k.now) s n true → HasTrunks s ws → HasTrunks n (ws ++ x ∷ [])
 trunks_more s n ws x t is h all l w in' dotted =
-    let one : has n l ≡ (has s l || bytes_eq t l) = h.0 (record { ref_ptr = (0, 0); now = l }) ∙ or_cond (bytes_eq t l) (has s l) in
+    let one = has_more s n t h l in
     elim (cases_Bool (is_in ws w)) [
-      | inl y ↦ one ∙ or_head (has s l) (bytes_eq t l) (all l w y dotted)
+      | inl y ↦ one ∙ or_left (has s l) (bytes_eq l t) (all l w y dotted)
       | inr none ↦
           let last : bytes_eq w x ≡ true =
           sym (ap (λ b. b || bytes_eq w x) none) ∙ sym (or_last (is_in ws w) (bytes_eq w x)) ∙ sym (list_any-append (bytes_eq w) ws (x ∷ [])) ∙ in' in
           let same : t ≡ l = is ∙ ap trunk (sym (same_bytes w x last)) ∙ dotted_trunk l w dotted in
-          one ∙ or_tail (has s l) (bytes_eq t l) (ap (λ u. bytes_eq u l) same ∙ bytes_eq-same l)
+          one ∙ or_right (has s l) (bytes_eq l t) (ap (bytes_eq l) same ∙ bytes_eq-same l)
     ]
 
 -- what is free is fresh, has no dot, and is no trunk

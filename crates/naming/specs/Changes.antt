@@ -11,11 +11,9 @@ use Rattle.naming.specs.declared.names.Unnamed.TheVariants.{NoFreshName, NoMemor
 use Rattle.mmtext.specs.Words.{Word, has_hypothesis_form}
 use Rattle.mmsyntax.specs.Dotted.{is_dotted}
 use Rattle.source.specs.Scopes.{is_in}
+use Rattle.source.specs.Views.{has}
 
--- a set has a word
-abbrev pub has : HashSet (Bor (List ℕ)) RandomState → Word → Bool
-has set w = contains_by (λ k. bytes_eq w k.now) set
-
+-- a set has a word that was given
 abbrev pub has_given : HashSet (Vec ℕ Global) RandomState → Word → Bool
 has_given set w = contains_by (λ k. bytes_eq w k.items) set
 

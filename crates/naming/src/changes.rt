@@ -5,8 +5,8 @@ ghost use Rattle.std.specs.List.{list_any};
 ghost use Rattle.mmtext.specs.Words.{Word, has_dot, has_hypothesis_form};
 ghost use Rattle.mmsyntax.specs.Dotted.{is_dotted};
 ghost use Rattle.source.specs.Scopes.{is_in};
-ghost use Rattle.source.specs.Views.{seen_words};
-ghost use Rattle.naming.specs.Changes.{variables_changing, has};
+ghost use Rattle.source.specs.Views.{has, seen_words};
+ghost use Rattle.naming.specs.Changes.{variables_changing};
 
 use mmsyntax::{is_dotted, trunk};
 use mmtext::{contains_dot, names_hypothesis};

@@ -7,7 +7,8 @@ ghost use Rattle.mmtext.specs.Words.{Word, has_dot};
 ghost use Rattle.source.specs.Scopes.{is_in};
 ghost use Rattle.source.specs.Views.{seen_words};
 ghost use Rattle.taking.specs.Names.{is_fresh};
-ghost use Rattle.naming.specs.Changes.{has, has_given, HasTrunks};
+ghost use Rattle.source.specs.Views.{has};
+ghost use Rattle.naming.specs.Changes.{has_given, HasTrunks};
 
 use mmsyntax::trunk;
 use mmtext::contains_dot;

@@ -1,15 +1,10 @@
 -- What is so of an item that may be there, and tests.
-use Rattle.std.proofs.Common.{◌≡◌, ℕ, zero, suc, ◌<◌, List, [], ◌∷◌, length, refl, ap, Bool, true, false, Option, Some, None, arith}
-use Rattle.std.specs.Prelude.{◌||◌, Result, Ok, Err, slice_get, IfOk, IfSome}
+use Rattle.std.proofs.Common.{◌≡◌, ℕ, List, [], ◌∷◌, refl, ap, Bool, Option, Some, None}
+use Rattle.std.specs.Prelude.{◌||◌, Result, Ok, Err, IfOk, IfSome}
 use Rattle.std.specs.List.{list_any}
 use Rattle.std.specs.Borrow.{Bor}
 use Rattle.mmtext.specs.Words.{Word}
 use Rattle.source.specs.Views.{seen_words}
-
-pub item_at : {A : Type 0} (xs : List A) (k : ℕ) → k < length xs → (x : A) × (slice_get xs k ≡ Some x)
-item_at [] k h = absurd (omega arith)
-item_at (x ∷ xs) zero h = (x, refl)
-item_at (x ∷ xs) (suc k) h = item_at xs k (omega arith)
 
 pub if_there : {A : Type 0} {P : A → Type 0} (o : Option A) → ((x : A) → o ≡ Some x → P x) → IfSome o P
 if_there None f = tt
@@ -20,14 +15,6 @@ if_both (Ok x) f p q = f x p q
 if_both (Err e) f p q = tt
 
 -- ---- tests
-
-pub or_left : (a b : Bool) → a ≡ true → (a || b) ≡ true
-or_left true b h = refl
-or_left false b h = absurd cc
-
-pub or_right : (a b : Bool) → b ≡ true → (a || b) ≡ true
-or_right true b h = refl
-or_right false b h = h
 
 -- a test of words is one of slices of the text
 pub any_seen : (test : Word → Bool) (ws : List (Bor (List ℕ))) → list_any (λ w. test w.now) ws ≡ list_any test (seen_words ws)

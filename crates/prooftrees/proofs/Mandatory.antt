@@ -18,7 +18,7 @@ use Rattle.prooftrees.specs.declared.roles.Role.{Role}
 use Rattle.prooftrees.specs.declared.roles.Role.TheVariants.{Float}
 use Rattle.prooftrees.specs.Names.{IsKnown}
 use Rattle.prooftrees.specs.Roles.{role_in, is_label_of, role_of}
-use Rattle.prooftrees.proofs.Cases.{or_right}
+use Rattle.std.proofs.lemmas.Bool.{or_right}
 use Rattle.prooftrees.proofs.Found.{found_in_front}
 use Rattle.prooftrees.proofs.Named.{or_both, neither_in, known_assertion}
 use Rattle.prooftrees.proofs.Whole.{whole_at}

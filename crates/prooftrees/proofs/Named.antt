@@ -19,7 +19,7 @@ use Rattle.prooftrees.specs.declared.roles.Role.{Role}
 use Rattle.prooftrees.specs.declared.roles.Role.TheVariants.{Float, Premise}
 use Rattle.prooftrees.specs.Roles.{role_in, is_label_of, role_of, number_of}
 use Rattle.prooftrees.specs.Names.{IsKnown, IsNamed}
-use Rattle.prooftrees.proofs.Cases.{or_right}
+use Rattle.std.proofs.lemmas.Bool.{or_right}
 
 pub or_both : (a b c : Bool) → (b ≡ true → c ≡ true) → (a || b) ≡ true → (a || c) ≡ true
 or_both true b c f h = refl

@@ -1,25 +1,58 @@
 -- A proof that is decoded is the tree that the steps denote.
-use Rattle.std.proofs.Common.{◌≡◌, ℕ, ◌<◌, List, length, map, Some, None, sym, ap, ◌∙◌, subst}
-use Rattle.std.specs.Prelude.{All, slice_index_or, []}
-use Rattle.std.specs.Option.{option_and_then}
+use Rattle.std.proofs.Common.{◌≡◌, ℕ, suc, ◌<◌, List, length, map, Option, Some, None, sym, ap, ◌∙◌, subst, arith, inl, inr}
+use Rattle.std.specs.Prelude.{All, MatchOption, slice_get, slice_index_or, []}
+use Rattle.std.specs.Option.{option_and_then, option_map}
+use Rattle.std.proofs.lemmas.List.Elements.{All-weaker, recursion_from_All}
+use Rattle.std.proofs.lemmas.Option.{same_Some, slice_get-map, slice_get_cases}
 use Rattle.mmtext.specs.Words.{Word}
 use Rattle.source.specs.declared.letters.Code.{Code}
 use Rattle.source.specs.Statements.{Proof}
 use Rattle.source.specs.Scopes.{Assertion}
-use Rattle.source.specs.Proofs.{Tree, node, over, step_of, steps_of, denoted, denoted_by}
+use Rattle.source.specs.Proofs.{Tree, node, over, size, total, step_of, steps_of, denoted, denoted_by}
+use Rattle.source.specs.Proofs as tree
 use Rattle.source.specs.Views.{seen_words}
+use Rattle.source.proofs.Sizes.{each_size}
 use Rattle.taking.specs.declared.named.Named.{Named}
 use Rattle.taking.specs.Names.{Map}
-use Rattle.taking.specs.Nodes.{trees}
+use Rattle.taking.specs.Nodes.{Shared, trees, sizes, counted}
 use Rattle.taking.specs.Walks.{TakesAll}
 use Rattle.taking.specs.Decoded.{AreDecoded, AreLabelsOf, tree_of}
-use Rattle.taking.proofs.Values.{as_many}
+use Rattle.taking.proofs.Values.{as_many, natural}
 use Rattle.prooftrees.specs.declared.form.ProofTree.{ProofTree}
 use Rattle.prooftrees.specs.declared.counting.Counted.{Counted}
 use Rattle.prooftrees.specs.Counted.{IsCounted}
 use Rattle.prooftrees.specs.Forms.{IsTree}
-use Rattle.prooftrees.proofs.Cases.{item_at}
 use Rattle.prooftrees.proofs.Named.{NamesOf}
+
+-- ---- nodes
+
+-- each names a label, where what is named stands for the labels
+pub nodes_are_labelled : (t : ProofTree) → All (TakesAll t.named.items) t.proof.nodes → length t.labels.items ≡ length t.named.items
+    → All (λ n. n.named < length t.labels.items) t.proof.nodes
+nodes_are_labelled t all same =
+    All-weaker (TakesAll t.named.items) (λ n. n.named < length t.labels.items)
+    (λ n h. subst (λ (k : ℕ). n.named < k) (sym same)
+    (elim (slice_get_cases t.named.items n.named).1 [
+      | inl y ↦ y.1
+      | inr past ↦ absurd (subst (λ (o : Option Named). MatchOption o ⊥ (λ y. length n.arguments ≡ length y.floats)) past.1 h)
+    ])) t.proof.nodes all
+
+-- their sizes are those of their trees
+sizes_of_trees : (labels : List Word) (ns : List Shared) → map size (trees labels ns) ≡ sizes ns
+sizes_of_trees labels ns =
+    natural size (λ n ts. node (slice_index_or labels n []) (over ts)) (λ n ks. suc (total ks)) ns
+    (recursion_from_All (λ (n : Shared). (ts : List Tree) → suc (tree.sizes (over ts)) ≡ suc (total (map size ts))) ns
+    (λ k d h ts. ap suc (each_size ts)))
+
+-- the number that is told of one
+pub counted_is : (labels : List Word) (ns : List Shared) (root k : ℕ) (tree : Tree) → slice_get (trees labels ns) root ≡ Some tree
+    → option_map counted (slice_get (sizes ns) root) ≡ Some k → counted (size tree) ≡ k
+counted_is labels ns root k tree stands told =
+    let e : slice_get (sizes ns) root ≡ Some (size tree) =
+    ap (λ ks. slice_get ks root) (sym (sizes_of_trees labels ns)) ∙ slice_get-map size (trees labels ns) root ∙ ap (option_map size) stands in
+    same_Some (counted (size tree)) k (ap (option_map counted) (sym e) ∙ told)
+
+-- ---- trees
 
 pub tree_is : (m : Map) (earlier : List Assertion) (x : Assertion) (codes : List Code) (t : ProofTree)
     → t.proof.root < length t.proof.nodes
@@ -32,8 +65,8 @@ pub tree_is : (m : Map) (earlier : List Assertion) (x : Assertion) (codes : List
 tree_is m earlier x codes t within steps named whole decoded cites =
     let ws = seen_words t.labels.items in
     let many = as_many (λ n ts. node (slice_index_or ws n []) (over ts)) t.proof.nodes in
-    let there = item_at (trees ws t.proof.nodes) t.proof.root
-    (subst (λ (k : ℕ). t.proof.root < k) (sym many) within) in
+    let there : (u : Tree) × (slice_get (trees ws t.proof.nodes) t.proof.root ≡ Some u) =
+    elim (slice_get_cases (trees ws t.proof.nodes) t.proof.root).1 [ | inl y ↦ (y.0, y.2) | inr past ↦ absurd (omega arith) ] in
     record {
       tree = there.0;
       denotes = sym steps

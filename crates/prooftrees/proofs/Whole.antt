@@ -5,20 +5,20 @@ use Rattle.std.specs.Prelude.{◌||◌, slice_get, All, IfSome, is_some, filter,
 use Rattle.std.specs.List.{AllByRecursion, list_any}
 use Rattle.std.specs.Option.{option_map, option_and_then}
 use Rattle.std.specs.Str.{bytes_eq}
+use Rattle.std.proofs.lemmas.Bool.{or_left, or_right}
 use Rattle.std.proofs.lemmas.List.Folds.{list_any-append}
 use Rattle.std.proofs.lemmas.List.Elements.{All-from_recursion, recursion_from_All}
 use Rattle.mmtext.specs.Words.{Word}
 use Rattle.mmsyntax.proofs.Names.{bytes_eq-same}
+use Rattle.mmsyntax.proofs.Distinct.{all_append}
 use Rattle.source.specs.Statements.{Proof, normal, compressed}
 use Rattle.source.specs.Scopes.{Hypothesis, label_of, Assertion, Scope, is_mandatory, mandatory}
 use Rattle.source.specs.Proofs.{Tree, Step, node, over, there, denoted, denoted_by, made, steps_of, is_unfinished}
 use Rattle.source.specs.Whole.{IsProofWhole, IsAssertionWhole, AreAssertionsWhole, IsWhole, labels_in}
 use Rattle.source.proofs.Alike.{made_alike}
-use Rattle.taking.proofs.Listed.{all_both}
 use Rattle.taking.proofs.Values.{all_more}
 use Rattle.prooftrees.specs.Counted.{counted_labels}
 use Rattle.prooftrees.specs.Names.{IsKnown}
-use Rattle.prooftrees.proofs.Cases.{or_left, or_right}
 
 -- ---- the assertion at a place
 
@@ -84,7 +84,7 @@ module _ (s : Scope) (earlier : List Assertion) (x : Assertion) (proof : Proof) 
       → AllByRecursion (IsKnown earlier x.active) (counted_labels x.hypotheses p)
   labels_known (normal ws) a = a
   labels_known (compressed labels letters) a =
-      all_both (IsKnown earlier x.active) (map label_of x.hypotheses) labels
+      all_append (IsKnown earlier x.active) (map label_of x.hypotheses) labels
       (subst (λ (hs : List Hypothesis). AllByRecursion (IsKnown earlier x.active) (map label_of hs)) whole.mandatory
       (mandatory_known earlier x.active x.statement)) a
 
@@ -103,10 +103,6 @@ module _ (s : Scope) (earlier : List Assertion) (x : Assertion) (proof : Proof) 
       let none : made there earlier x.active steps ≡ None = alike ∙ ap (option_map f) e in
       absurd cc
 
-  passes : (a b : Bool) → a ≡ false → (a || b) ≡ true → b ≡ true
-  passes true b e h = absurd cc
-  passes false b e h = h
-
   denoted_is : denoted earlier x ≡ option_and_then (denoted_by earlier x.active) (steps_of x.hypotheses proof)
   denoted_is = ap (λ o. option_and_then (λ p. option_and_then (denoted_by earlier x.active) (steps_of x.hypotheses p)) o) is
 
@@ -114,8 +110,8 @@ module _ (s : Scope) (earlier : List Assertion) (x : Assertion) (proof : Proof) 
   pub tree_there : denoted earlier x ≡ None → ⊥
   tree_there e =
       as_there (steps_of x.hypotheses proof)
-      (passes (is_unfinished proof) (is_some (option_and_then (made there earlier x.active) (steps_of x.hypotheses proof))) finished
-      proof_whole.denotes)
+      (ap (λ b. b || is_some (option_and_then (made there earlier x.active) (steps_of x.hypotheses proof))) (sym finished)
+      ∙ proof_whole.denotes)
       (sym denoted_is ∙ e)
 
   pub steps_there : steps_of x.hypotheses proof ≡ None → ⊥

@@ -1,7 +1,7 @@
 -- The tables behind the bounds of a block.
 use Rattle.std.proofs.Common.{◌≡◌, inl, inr, ℕ, suc, ◌<◌, ◌≤◌, Bool, List, [], ◌∷◌, ◌++◌, length, take, reverse, Option, Some, None}
 use Rattle.std.proofs.Common.{refl, sym, ap, ◌∙◌, subst, arith}
-use Rattle.std.proofs.lemmas.List.{reverse-append, take-map, take-take, length-take, length-take-le, length-map}
+use Rattle.std.proofs.lemmas.List.{reverse-append, take-map, take-take, length-take, length-take-le, length-map, nil_from_length}
 use Rattle.std.proofs.Math.Seq.{take-length}
 use Rattle.mmtext.specs.Words.{Word}
 use Rattle.source.specs.Scopes.{Scope, Stand, opened, closed, closed_in, leave}
@@ -192,11 +192,7 @@ stand_closed look k front b s split =
     let f : Scope → List Scope → Option Stand = λ t a. Some (record { scope = t; around = a }) in
     step ∙ ap (λ t. f t inner.around) (sym here) ∙ ap (f (scope_of j)) (sym around)
 
-no_items : {A : Type 0} (xs : List A) → length xs ≡ 0 → xs ≡ []
-no_items [] e = refl
-no_items (y ∷ ys) e = absurd (let n : suc (length ys) ≡ 0 = e in omega arith)
-
 -- no block is open
 pub none_closed : (k : Kept) → length k.blocks ≡ 0 → closed (stand_of k) ≡ None
 unfolding stand_of
-none_closed k none = ap (λ bs. closed_in (scope_of k) (scopes_around k (reverse bs))) (no_items k.blocks none)
+none_closed k none = ap (λ bs. closed_in (scope_of k) (scopes_around k (reverse bs))) (nil_from_length k.blocks none)

@@ -19,7 +19,8 @@ use Rattle.scopes.specs.Effects.{with_link}
 use Rattle.scopes.proofs.Paths.{path_stays, path_grows}
 use Rattle.scopes.proofs.Naming.{knows_premise, knows_float, knows_assertion}
 use Rattle.scopes.proofs.Growing.{sizes_of, IsMore, Agree, nested_more, around_stays, take_stays, push_more}
-use Rattle.scopes.proofs.Linking.{all_push, all_map, all_listed, last_within, entries_stay, counted_stay, links_stay, listed_more, scope_link}
+use Rattle.mmsyntax.proofs.Distinct.{all_push}
+use Rattle.scopes.proofs.Linking.{all_map, all_listed, last_within, entries_stay, counted_stay, links_stay, listed_more, scope_link}
 use Rattle.scopes.proofs.Linking.{active_grows}
 use Rattle.scopes.proofs.Lawful.{lawful_hypothesis, lawful_float, lawful_asserted}
 

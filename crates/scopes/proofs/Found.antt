@@ -4,7 +4,7 @@ use Rattle.std.proofs.Common.{Option, Some, None, refl, sym, ap, ◌∙◌}
 use Rattle.std.specs.Prelude.{◌||◌, is_some}
 use Rattle.std.specs.List.{list_any, slice_get, find}
 use Rattle.std.specs.Option.{option_map_or, option_and_then}
-use Rattle.std.proofs.lemmas.Bool.{cases_Bool}
+use Rattle.std.proofs.lemmas.Bool.{cases_Bool, or_parts}
 use Rattle.scopes.specs.Found.{Found, passes_at, passing, passing_at}
 
 -- ---- items at places
@@ -22,17 +22,13 @@ get-take [] (suc m) i x h = absurd cc
 get-take (z ∷ zs) (suc m) zero x h = h
 get-take (z ∷ zs) (suc m) (suc i) x h = get-take zs m i x h
 
-or_false : (a b : Bool) → (a || b) ≡ false → (a ≡ false) × (b ≡ false)
-or_false true b h = absurd cc
-or_false false b h = (refl, h)
-
 pub none_passes : {A : Type 0} (test : A → Bool) (xs : List A) (i : ℕ) (x : A) → list_any test xs ≡ false → slice_get xs i ≡ Some x
     → test x ≡ false
 none_passes test [] i x h at = absurd cc
 none_passes test (z ∷ zs) zero x h at =
     let e : z ≡ x = cc in
-    ap test (sym e) ∙ (or_false (test z) (list_any test zs) h).0
-none_passes test (z ∷ zs) (suc i) x h at = none_passes test zs i x (or_false (test z) (list_any test zs) h).1 at
+    ap test (sym e) ∙ (or_parts (test z) (list_any test zs) h).0
+none_passes test (z ∷ zs) (suc i) x h at = none_passes test zs i x (or_parts (test z) (list_any test zs) h).1 at
 
 pub some_passes : {A : Type 0} (test : A → Bool) (xs : List A) → list_any test xs ≡ true
     → (i : ℕ) × (x : A) × (slice_get xs i ≡ Some x) × (test x ≡ true)
@@ -114,7 +110,7 @@ there_within test (x ∷ xs) (suc i) h = let later : i < length xs = there_withi
 pub finds_none : {A : Type 0} (test : A → Bool) (xs : List A) → list_any test xs ≡ false → find test xs ≡ None
 finds_none test [] none = refl
 finds_none test (z ∷ zs) none =
-    let parts = or_false (test z) (list_any test zs) none in
+    let parts = or_parts (test z) (list_any test zs) none in
     ap (λ b. cond b (Some z) (find test zs)) parts.0 ∙ finds_none test zs parts.1
 
 -- the first item that passes

@@ -3,7 +3,9 @@ use Rattle.std.proofs.Common.{◌≡◌, ◌⊎◌, inl, inr, ℕ, zero, suc, �
 use Rattle.std.proofs.Common.{Option, Some, None, refl, sym, ap, ◌∙◌, subst, arith, length-append}
 use Rattle.std.specs.List.{AllByRecursion, slice_get}
 use Rattle.std.specs.Option.{option_map}
-use Rattle.std.proofs.lemmas.List.{map-append, get_or_append_left, take-append-le}
+use Rattle.std.proofs.lemmas.List.{map-append, get_or_append_left, take-append-le, length_push, get_or_push}
+use Rattle.std.proofs.lemmas.List.Elements.{All-from_recursion}
+use Rattle.std.proofs.lemmas.Option.{slice_get_read, slice_get_within, get_or_from_slice_get}
 use Rattle.std.proofs.Math.Seq.{get_or-append_seam, take-length}
 use Rattle.source.specs.Scopes.{Hypothesis, label_of, mandatory}
 use Rattle.scopes.specs.declared.tables.Active.{Active}
@@ -16,10 +18,6 @@ use Rattle.scopes.proofs.Growing.{within_more}
 
 -- ---- lists
 
-pub all_push : {A : Type 0} (P : A → Type 0) (xs : List A) (x : A) → AllByRecursion P xs → P x → AllByRecursion P (xs ++ x ∷ [])
-all_push P [] x h p = (p, tt)
-all_push P (y ∷ ys) x h p = (h.0, all_push P ys x h.1 p)
-
 pub all_map : {A : Type 0} (P Q : A → Type 0) → ((x : A) → P x → Q x) → (xs : List A) → AllByRecursion P xs → AllByRecursion Q xs
 all_map P Q f [] h = tt
 all_map P Q f (y ∷ ys) h = (f y h.0, all_map P Q f ys h.1)
@@ -28,15 +26,6 @@ pub all_take : {A : Type 0} (P : A → Type 0) (n : ℕ) (xs : List A) → AllBy
 all_take P zero xs h = tt
 all_take P (suc n) [] h = tt
 all_take P (suc n) (y ∷ ys) h = (h.0, all_take P n ys h.1)
-
-pub all_at : {A : Type 0} (P : A → Type 0) (xs : List A) (i : ℕ) (x : A) → AllByRecursion P xs → slice_get xs i ≡ Some x → P x
-all_at P [] i x h at = absurd cc
-all_at P (y ∷ ys) zero x h at = let e : y ≡ x = cc in subst P e h.0
-all_at P (y ∷ ys) (suc i) x h at = all_at P ys i x h.1 at
-
-pub get_seam : {A : Type 0} (xs : List A) (x : A) → slice_get (xs ++ x ∷ []) (length xs) ≡ Some x
-get_seam [] x = refl
-get_seam (y ∷ ys) x = get_seam ys x
 
 pub take_past : {A : Type 0} (n : ℕ) (xs : List A) → length xs ≤ n → take n xs ≡ xs
 take_past zero [] le = refl
@@ -53,15 +42,22 @@ split_at (suc n) (suc m) = elim (split_at n m) [ inl le ↦ inl (omega arith) | 
 
 pub last-push : (xs : List Active) (a : Active) → last_link (xs ++ a ∷ []) ≡ Some a.link
 last-push xs a =
-    let len : length (xs ++ a ∷ []) - 1 ≡ length xs = omega (arith, length-append xs (a ∷ [])) in
-    ap (λ n. option_map (λ a. a.link) (slice_get (xs ++ a ∷ []) n)) len ∙ ap (option_map (λ a. a.link)) (get_seam xs a)
+    let more = length_push xs a in
+    let len : length (xs ++ a ∷ []) - 1 ≡ length xs = omega arith in
+    let at : slice_get (xs ++ a ∷ []) (length xs) ≡ Some a =
+    slice_get_read (xs ++ a ∷ []) _ (length xs) a refl (omega arith) (sym (get_or_push xs a a (length xs) refl)) in
+    ap (λ n. option_map (λ a. a.link) (slice_get (xs ++ a ∷ []) n)) len ∙ ap (option_map (λ a. a.link)) at
 
 within_some : (n : ℕ) (o : Option Active) → ((a : Active) → o ≡ Some a → a.link < n) → IsWithin (option_map (λ a. a.link) o) n
 within_some n None h = tt
 within_some n (Some a) h = h a refl
 
 pub last_within : (n : ℕ) (xs : List Active) → AllByRecursion (λ a. a.link < n) xs → IsWithin (last_link xs) n
-last_within n xs h = within_some n (slice_get xs (length xs - 1)) (λ a at. all_at (λ a. a.link < n) xs (length xs - 1) a h at)
+last_within n xs h =
+    let i = length xs - 1 in
+    within_some n (slice_get xs i)
+    (λ a at. subst (λ (b : Active). b.link < n) (get_or_from_slice_get xs i a a at)
+    (All-from_recursion (λ b. b.link < n) xs h i a (slice_get_within xs i a at)))
 
 -- the path of the last link is the active hypotheses
 pub all_listed : (links : List Linked) (active : List Active)

@@ -1,6 +1,6 @@
 -- The marks for one more word, and for one more hypothesis.
 use Rattle.std.proofs.Common.{◌≡◌, inl, inr, ℕ, zero, suc, Bool, true, false, cond, List, [], ◌∷◌, ◌++◌, length, take, map}
-use Rattle.std.proofs.Common.{Option, Some, None, refl, sym, ap, ◌∙◌, append_assoc}
+use Rattle.std.proofs.Common.{Option, Some, None, refl, sym, ap, ◌∙◌, append_assoc, take-suc}
 use Rattle.std.specs.Prelude.{◌||◌, filter, count_by}
 use Rattle.std.specs.List.{list_any, slice_get}
 use Rattle.std.specs.Option.{option_map_or}
@@ -8,6 +8,7 @@ use Rattle.std.specs.Str.{bytes_eq}
 use Rattle.std.proofs.Math.Bool.{or-false, or-true, or_assoc, or_comm}
 use Rattle.std.proofs.Math.ListN.{set}
 use Rattle.std.proofs.lemmas.Bool.{cases_Bool}
+use Rattle.std.proofs.lemmas.Option.{slice_get_within, get_or_from_slice_get}
 use Rattle.std.proofs.lemmas.List.Folds.{list_any-append}
 use Rattle.std.proofs.lemmas.List.Sums.{length-filter}
 use Rattle.mmtext.specs.Words.{Word}
@@ -90,11 +91,6 @@ mark_one xs hs ws w i h there =
 
 -- ---- the words behind others
 
-pub take_there : {A : Type 0} (xs : List A) (i : ℕ) (x : A) → slice_get xs i ≡ Some x → take (suc i) xs ≡ take i xs ++ x ∷ []
-take_there [] i x at = absurd cc
-take_there (y ∷ ys) zero x at = let e : y ≡ x = cc in ap (λ z. z ∷ []) e
-take_there (y ∷ ys) (suc i) x at = ap (λ rest. y ∷ rest) (take_there ys i x at)
-
 pub take_none : {A : Type 0} (xs : List A) (i : ℕ) → slice_get xs i ≡ None → take (suc i) xs ≡ take i xs
 take_none [] zero at = refl
 take_none [] (suc i) at = refl
@@ -103,7 +99,10 @@ take_none (y ∷ ys) (suc i) at = ap (λ rest. y ∷ rest) (take_none ys i at)
 
 pub behind_there : {A : Type 0} (front xs : List A) (i : ℕ) (x : A) → slice_get xs i ≡ Some x
     → (front ++ take i xs) ++ x ∷ [] ≡ front ++ take (suc i) xs
-behind_there front xs i x at = append_assoc front (take i xs) (x ∷ []) ∙ ap (λ rest. front ++ rest) (sym (take_there xs i x at))
+behind_there front xs i x at =
+    append_assoc front (take i xs) (x ∷ [])
+    ∙ ap (λ y. front ++ (take i xs ++ y ∷ [])) (sym (get_or_from_slice_get xs i x x at))
+    ∙ ap (λ rest. front ++ rest) (sym (take-suc xs i x (slice_get_within xs i x at)))
 
 pub behind_none : {A : Type 0} (front xs : List A) (i : ℕ) → slice_get xs i ≡ None → front ++ take i xs ≡ front ++ take (suc i) xs
 behind_none front xs i at = ap (λ rest. front ++ rest) (sym (take_none xs i at))

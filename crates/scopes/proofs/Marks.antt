@@ -7,7 +7,7 @@ use Rattle.std.specs.Option.{option_map, option_map_or, unwrap_or}
 use Rattle.std.proofs.lemmas.List.{take-map, length-map}
 use Rattle.std.proofs.lemmas.Option.{slice_get-map}
 use Rattle.std.proofs.Math.ListN.{set}
-use Rattle.std.proofs.lemmas.Bool.{cases_Bool}
+use Rattle.std.proofs.lemmas.Bool.{cases_Bool, and_parts}
 use Rattle.mmtext.specs.Words.{Word}
 use Rattle.source.specs.Scopes.{Scope}
 use Rattle.scopes.specs.declared.tables.Name.{Name}
@@ -116,10 +116,6 @@ and_true : (b : Bool) → (b && true) ≡ b
 and_true true = refl
 and_true false = refl
 
-both_true : (a b : Bool) → (a && b) ≡ true → b ≡ true
-both_true true b h = h
-both_true false b h = absurd cc
-
 read_both : {A : Type 0} (test q : A → Bool) (o : Option A) → option_map_or test o false ≡ true
     → option_map_or (λ x. q x && test x) o false ≡ unwrap_or (option_map q o) false
 read_both test q None h = absurd cc
@@ -130,7 +126,7 @@ pub found_filter : {A : Type 0} (test q : A → Bool) (xs : List A) (i : ℕ) �
     → list_any test (filter q xs) ≡ unwrap_or (slice_get (map q xs) i) false
 found_filter test q xs i h there =
     any_filter test q xs
-    ∙ found_any (λ x. q x && test x) xs (Some i) (λ k x at both. h k x at (both_true (q x) (test x) both))
+    ∙ found_any (λ x. q x && test x) xs (Some i) (λ k x at both. h k x at (and_parts (q x) (test x) both).1)
     ∙ read_both test q (slice_get xs i) there
     ∙ ap (λ o. unwrap_or o false) (sym (slice_get-map q xs i))
 
@@ -140,7 +136,7 @@ none_filter {A} test q xs none =
       | inl y ↦
           let r = some_passes (λ x. q x && test x) xs (sym (any_filter test q xs) ∙ y) in
           let fails : test r.1 ≡ false = none_passes test xs r.0 r.1 none r.2 in
-          let passes : test r.1 ≡ true = both_true (q r.1) (test r.1) r.3 in
+          let passes : test r.1 ≡ true = (and_parts (q r.1) (test r.1) r.3).1 in
           absurd (let e : true ≡ false = sym passes ∙ fails in cc)
       | inr n ↦ n
     ]

@@ -4,6 +4,7 @@ use Rattle.std.proofs.Common.{refl, sym, ap, ◌∙◌, subst, inl, inr}
 use Rattle.std.specs.Prelude.{◌||◌}
 use Rattle.std.specs.List.{list_any}
 use Rattle.std.specs.Str.{bytes_eq}
+use Rattle.std.proofs.Math.Bool.{or-true, or-false}
 use Rattle.std.proofs.lemmas.Bool.{cases_Bool, cond-true, cond-false}
 use Rattle.std.proofs.lemmas.List.Folds.{list_any-append}
 use Rattle.mmtext.specs.Words.{Word}
@@ -17,22 +18,14 @@ use Rattle.scopes.proofs.Found.{found_push, found_here, found_any, found_take}
 
 -- ---- words
 
-or_nothing : (b : Bool) → (b || false) ≡ b
-or_nothing true = refl
-or_nothing false = refl
-
-or_true : (b : Bool) → (b || true) ≡ true
-or_true true = refl
-or_true false = refl
-
 push_in : (w x : Word) (xs : List Word) → is_in (xs ++ x ∷ []) w ≡ (is_in xs w || bytes_eq w x)
-push_in w x xs = list_any-append (bytes_eq w) xs (x ∷ []) ∙ ap (λ b. is_in xs w || b) (or_nothing (bytes_eq w x))
+push_in w x xs = list_any-append (bytes_eq w) xs (x ∷ []) ∙ ap (λ b. is_in xs w || b) (or-false (bytes_eq w x))
 
 push_here : (w : Word) (xs : List Word) → is_in (xs ++ w ∷ []) w ≡ true
-push_here w xs = push_in w w xs ∙ ap (λ b. is_in xs w || b) (bytes_eq-same w) ∙ or_true (is_in xs w)
+push_here w xs = push_in w w xs ∙ ap (λ b. is_in xs w || b) (bytes_eq-same w) ∙ or-true (is_in xs w)
 
 push_other : (w x : Word) (xs : List Word) (b : Bool) → bytes_eq w x ≡ false → is_in xs w ≡ b → is_in (xs ++ x ∷ []) w ≡ b
-push_other w x xs b differ h = push_in w x xs ∙ ap (λ t. is_in xs w || t) differ ∙ or_nothing (is_in xs w) ∙ h
+push_other w x xs b differ h = push_in w x xs ∙ ap (λ t. is_in xs w || t) differ ∙ or-false (is_in xs w) ∙ h
 
 -- what holds of a new word with its name, and of every other word with its own, holds of all
 module _ (P : Word → Option Name → Type 0) (c : Word) (new : Name) (look : Word → Option Name) where

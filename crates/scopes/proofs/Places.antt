@@ -1,18 +1,11 @@
 -- The first place of an item, from the place that is noted for it.
-use Rattle.std.proofs.Common.{◌≡◌, inl, inr, ℕ, suc, Bool, true, cond, List, [], ◌∷◌, length, Bor, Option, Some, None, refl, sym, ap, ◌∙◌}
+use Rattle.std.proofs.Common.{◌≡◌, inl, inr, ℕ, suc, Bool, true, cond, List, [], ◌∷◌, Option, Some, refl, sym, ap, ◌∙◌}
 use Rattle.std.specs.Prelude.{◌||◌}
 use Rattle.std.specs.List.{list_any, slice_get}
 use Rattle.std.specs.Option.{option_map}
-use Rattle.std.specs.Slice.{IsItemAt}
 use Rattle.std.proofs.lemmas.Bool.{cases_Bool}
-use Rattle.std.proofs.lemmas.Option.{slice_get_read, slice_get_past}
 use Rattle.mmsyntax.specs.Tables.{place_of}
 use Rattle.scopes.specs.Found.{Found}
-
--- what a look at a place gives
-pub item_at : {A : Type 0} (xs : List A) (i : ℕ) (o : Option (Bor A)) → IsItemAt xs i o → option_map (λ x. x.now) o ≡ slice_get xs i
-item_at xs i None h = sym (slice_get_past xs i h.3)
-item_at xs i (Some x) h = sym (slice_get_read xs (length xs) i x.now refl h.3.0 h.1)
 
 -- the first item that passes
 place_first : {A : Type 0} (test : A → Bool) (xs : List A) → list_any test xs ≡ true

@@ -1,26 +1,18 @@
 -- Sets of words with more words.
-use Rattle.std.proofs.Common.{◌≡◌, ◌∙◌, Bool, true, false, cond, List, [], ◌∷◌, ◌++◌, refl, sym, ap}
+use Rattle.std.proofs.Common.{◌≡◌, ◌∙◌, Bool, List, [], ◌∷◌, ◌++◌, refl, sym, ap}
 use Rattle.std.specs.Prelude.{◌||◌}
 use Rattle.std.specs.Str.{bytes_eq}
+use Rattle.std.proofs.Math.Bool.{or_assoc, or-false}
 use Rattle.std.proofs.lemmas.List.Folds.{list_any-append}
 use Rattle.mmtext.specs.Words.{Word}
-use Rattle.mmsyntax.proofs.Names.{bytes_eq-sym}
 use Rattle.source.specs.Scopes.{Hypothesis, is_in, typing, premise, is_mandatory, is_mandatory_variable}
 use Rattle.scopes.specs.Chosen.{is_chosen}
 
-one_or : (b h a : Bool) → cond b true (h || a) ≡ (h || (a || (b || false)))
-one_or true true a = refl
-one_or true false true = refl
-one_or true false false = refl
-one_or false true a = refl
-one_or false false true = refl
-one_or false false false = refl
-
 -- one more word
-pub word_more : (w k : Word) (old : Bool) (ws : List Word) → cond (bytes_eq k w) true (old || is_in ws w) ≡ (old || is_in (ws ++ k ∷ []) w)
+pub word_more : (w k : Word) (old : Bool) (ws : List Word) → ((old || is_in ws w) || bytes_eq w k) ≡ (old || is_in (ws ++ k ∷ []) w)
 word_more w k old ws =
-    ap (λ b. cond b true (old || is_in ws w)) (bytes_eq-sym k w)
-    ∙ one_or (bytes_eq w k) old (is_in ws w)
+    or_assoc old (is_in ws w) (bytes_eq w k)
+    ∙ ap (λ b. old || (is_in ws w || b)) (sym (or-false (bytes_eq w k)))
     ∙ ap (λ b. old || b) (sym (list_any-append (bytes_eq w) ws (k ∷ [])))
 
 -- what is chosen by the words of a statement and of the $e is mandatory

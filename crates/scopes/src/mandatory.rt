@@ -5,10 +5,10 @@ ghost use Rattle.std.specs.List.{list_any};
 ghost use Rattle.std.specs.Option.{option_map};
 ghost use Rattle.mmtext.specs.Words.{Word};
 ghost use Rattle.source.specs.Scopes.{is_in, stands_in, is_mandatory_variable};
-ghost use Rattle.source.specs.Views.{seen_words, seen_hypothesis, seen_hypotheses};
+ghost use Rattle.source.specs.Views.{has, seen_words, seen_hypothesis, seen_hypotheses};
 ghost use Rattle.scopes.specs.Paths.{path};
 ghost use Rattle.scopes.specs.Views.{kept_of, scope_of, linked};
-ghost use Rattle.scopes.specs.Chosen.{holds, is_chosen};
+ghost use Rattle.scopes.specs.Chosen.{is_chosen};
 ghost use Rattle.scopes.specs.Sound.{IsSoundTables};
 
 use crate::chains::hypothesis_at;
@@ -24,7 +24,7 @@ fn add_words<'a>(
     set: &mut HashSet<&'a [u8], RandomState>,
     words: &[&'a [u8]],
 ) -> Result<(), AllocError>
-    ensures { IfOk result (λ _. (w : Word) → holds set.new w ≡ (holds set.old w || is_in (seen_words words.entry.now) w)) }
+    ensures { IfOk result (λ _. (w : Word) → has set.new w ≡ (has set.old w || is_in (seen_words words.entry.now) w)) }
 {
     for word in words {
         set.insert(*word)?;
@@ -37,7 +37,7 @@ fn add_symbols<'a>(
     set: &mut HashSet<&'a [u8], RandomState>,
     hypothesis: &HypothesisWords<'a>,
 ) -> Result<(), AllocError>
-    ensures { IfOk result (λ _. (w : Word) → holds set.new w ≡ (holds set.old w || stands_in w (seen_hypothesis hypothesis.entry.now))) }
+    ensures { IfOk result (λ _. (w : Word) → has set.new w ≡ (has set.old w || stands_in w (seen_hypothesis hypothesis.entry.now))) }
 {
     match hypothesis {
         HypothesisWords::Typing(_, _, _) => Ok(()),
@@ -51,8 +51,8 @@ fn add_premises<'a>(
     links: &[Link<'a>],
     last: Option<usize>,
 ) -> Result<(), AllocError>
-    ensures { IfOk result (λ _. (w : Word) → holds set.new w
-        ≡ (holds set.old w || list_any (stands_in w) (path (map linked links.entry.now) last))) }
+    ensures { IfOk result (λ _. (w : Word) → has set.new w
+        ≡ (has set.old w || list_any (stands_in w) (path (map linked links.entry.now) last))) }
 {
     let mut number = last;
     while let Some((hypothesis, before)) = hypothesis_at(links, number) {
@@ -70,7 +70,7 @@ fn words_of<'a>(
     links: &[Link<'a>],
     last: Option<usize>,
 ) -> Result<HashSet<&'a [u8], RandomState>, AllocError>
-    ensures { IfOk result (λ set. (w : Word) → holds set w
+    ensures { IfOk result (λ set. (w : Word) → has set w
         ≡ is_mandatory_variable (path (map linked links.entry.now) last) (seen_words expression.entry.now) w) }
 {
     let mut set = HashSet::with_hasher(alloc, keys);
@@ -81,7 +81,7 @@ fn words_of<'a>(
 
 /// Whether a hypothesis is a `$e`, or the `$f` of a word of a set.
 fn is_chosen(set: &HashSet<&[u8], RandomState>, hypothesis: &HypothesisWords<'_>) -> bool
-    ensures { result ≡ is_chosen (holds set.now) (seen_hypothesis hypothesis.now) }
+    ensures { result ≡ is_chosen (has set.now) (seen_hypothesis hypothesis.now) }
 {
     match hypothesis {
         HypothesisWords::Typing(_, _, variable) => set.contains(variable),
@@ -96,7 +96,7 @@ fn chosen<'t, 'a>(
     links: &'t [Link<'a>],
     last: Option<usize>,
 ) -> Result<Vec<&'t HypothesisWords<'a>>, AllocError>
-    ensures { IfOk result (λ hs. seen_hypotheses hs.items ≡ filter (is_chosen (holds set.entry.now)) (path (map linked links.now) last)) }
+    ensures { IfOk result (λ hs. seen_hypotheses hs.items ≡ filter (is_chosen (has set.entry.now)) (path (map linked links.now) last)) }
 {
     let mut chosen = Vec::new(alloc);
     let mut number = last;

@@ -13,6 +13,7 @@ use Rattle.mmtext.specs.Words.{Word}
 use Rattle.mmsyntax.specs.Tables.{place_of}
 use Rattle.mmsyntax.proofs.Names.{bytes_eq-sym, same_bytes, option_or-none}
 use Rattle.source.specs.Scopes.{Hypothesis, typing, premise, label_of, is_float_of}
+use Rattle.source.proofs.CountedWords.{mapped_some}
 use Rattle.sites.specs.Indexes.{looks_up}
 use Rattle.sites.specs.Actives.{FindsFloats}
 
@@ -21,10 +22,6 @@ false_true e = cc
 
 abbrev pub place_in : List Word → Hypothesis → Option ℕ
 place_in floats h = place_of (bytes_eq (label_of h)) floats
-
-pub still_some : {A B : Type 0} (f : A → B) (o : Option A) → is_some (option_map f o) ≡ is_some o
-still_some f None = refl
-still_some f (Some x) = refl
 
 one_kept : {A B : Type 0} (f : A → B) (b : Bool) (o : Option A) (x : A) → (b ≡ true → is_some o ≡ true)
     → option_map f o ≡ option_map f (option_or o (cond b (Some x) None))
@@ -50,7 +47,7 @@ pub floats_again : (m : HashMap (Bor (List ℕ)) (Option ℕ) RandomState) (floa
 floats_again m floats hs label c v found there w =
     let here : bytes_eq w v ≡ true → is_some (find (is_float_of w) hs) ≡ true =
     λ e. subst (λ u. is_some (find (is_float_of u) hs) ≡ true) (sym (same_bytes w v e))
-    (sym (still_some (place_in floats) (find (is_float_of v) hs)) ∙ ap is_some (sym (found v)) ∙ there) in
+    (sym (mapped_some (place_in floats) (find (is_float_of v) hs)) ∙ ap is_some (sym (found v)) ∙ there) in
     found w
     ∙ one_kept (place_in floats) (bytes_eq w v) (find (is_float_of w) hs) (typing label c v) here
     ∙ ap (option_map (place_in floats)) (sym (find-append (is_float_of w) hs (typing label c v ∷ [])))
@@ -63,7 +60,7 @@ floats_new m n floats hs label c v place found is absent updates w =
     let b = bytes_eq w v in
     let none : b ≡ true → is_some (find (is_float_of w) hs) ≡ false =
     λ e. subst (λ u. is_some (find (is_float_of u) hs) ≡ false) (sym (same_bytes w v e))
-    (sym (still_some (place_in floats) (find (is_float_of v) hs)) ∙ ap is_some (sym (found v)) ∙ absent) in
+    (sym (mapped_some (place_in floats) (find (is_float_of v) hs)) ∙ ap is_some (sym (found v)) ∙ absent) in
     hash_map_updates_str v m n (Some place) updates w
     ∙ ap (λ t. cond t (Some place) (looks_up m w)) (bytes_eq-sym v w)
     ∙ ap (λ o. cond b (Some place) o) (found w)

@@ -28,12 +28,6 @@ kept_all P [] xs h = tt
 kept_all P (f ∷ fs) [] h = tt
 kept_all P (f ∷ fs) (x ∷ xs) h = kept_all_at P f x (kept fs xs) h.0 (kept_all P fs xs h.1)
 
--- an item within
-pub item_there : {A : Type 0} (xs : List A) (k : ℕ) → k < length xs → (x : A) × (slice_get xs k ≡ Some x)
-item_there [] k h = absurd (omega arith)
-item_there (x ∷ xs) zero h = (x, refl)
-item_there (x ∷ xs) (suc k) h = item_there xs k (omega arith)
-
 -- one more item of two lists, kept or not
 pub kept_one : {A : Type 0} (fs : List Bool) (xs : List A) (i : ℕ) (x : A) (b : Bool) → i < length fs → slice_get xs i ≡ Some x
     → get_or fs i false ≡ b → kept (take (i + 1) fs) (take (i + 1) xs) ≡ kept (take i fs) (take i xs) ++ kept_at b x []

@@ -8,8 +8,6 @@ use Rattle.std.specs.Str.{bytes_eq}
 use Rattle.std.specs.Borrow.{Bor}
 use Rattle.std.specs.HashMap as hash
 use Rattle.std.specs.HashMap.{HashMap}
-use Rattle.std.specs.HashSet as bag
-use Rattle.std.specs.HashSet.{HashSet, contains_by}
 use Rattle.std.specs.Map.{lookup, IsKeyTest, AreApart, KeepsOthers}
 use Rattle.std.specs.declared.random_state.RandomState.{RandomState}
 use Rattle.std.proofs.lemmas.Bool.{cases_Bool, cond-true, cond-false}
@@ -23,15 +21,10 @@ use Rattle.source.specs.Scopes.{Hypothesis, typing, premise, Assertion, is_in}
 use Rattle.taking.specs.Names.{is_symbol_of, is_symbol_of_hypothesis}
 use Rattle.sites.specs.Indexes.{looks_up}
 use Rattle.sites.specs.declared.used.Used.{Used}
-use Rattle.sites.specs.Used.{has, noted, typed_by, typed, Uses}
+use Rattle.source.specs.Views.{has}
+use Rattle.sites.specs.Used.{noted, typed_by, typed, Uses}
 
 -- ---- tests
-
-or_cond : (b c : Bool) → cond b true c ≡ (c || b)
-or_cond true true = refl
-or_cond true false = refl
-or_cond false true = refl
-or_cond false false = refl
 
 or_three : (a b c : Bool) → (a || (b || (c || false))) ≡ ((a || b) || c)
 or_three true b c = refl
@@ -43,13 +36,6 @@ or_three false false false = refl
 pub any_more : {A : Type 0} (test : A → Bool) (b : Bool) (xs : List A) (x : A)
     → (b || list_any test (xs ++ x ∷ [])) ≡ ((b || list_any test xs) || test x)
 any_more test b xs x = ap (λ t. b || t) (list_any-append test xs (x ∷ [])) ∙ or_three b (list_any test xs) (test x)
-
--- ---- words
-
-pub has_more : (s n : HashSet (Bor (List ℕ)) RandomState) (x : Word)
-    → bag.UpdatesBy (λ x y. bytes_eq x.now y.now) (λ k. bytes_eq x k.now) s n true → (w : Word) → has n w ≡ (has s w || bytes_eq w x)
-has_more s n x h w =
-    h.0 (record { ref_ptr = (0, 0); now = w }) ∙ or_cond (bytes_eq x w) (has s w) ∙ ap (λ b. has s w || b) (bytes_eq-sym x w)
 
 -- ---- what is noted for a label
 

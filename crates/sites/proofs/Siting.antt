@@ -5,7 +5,7 @@ use Rattle.std.specs.Prelude.{◌||◌, All, filter, filter_map, map}
 use Rattle.std.specs.Option.{option_map, option_and_then, is_some}
 use Rattle.std.specs.List.{list_any, flat_map, slice_get, AllByRecursion, cons_option}
 use Rattle.std.specs.Str.{bytes_eq}
-use Rattle.std.proofs.lemmas.Bool.{cases_Bool, cond-true, cond-false}
+use Rattle.std.proofs.lemmas.Bool.{cases_Bool, cond-true, cond-false, or_left, or_right, or_parts}
 use Rattle.std.proofs.lemmas.List.{get_or_default}
 use Rattle.std.proofs.lemmas.List.Folds.{list_any-append, list_any_at, Any-from_list_any}
 use Rattle.std.proofs.lemmas.List.Elements.{recursion_from_All, All-from_recursion}
@@ -13,28 +13,21 @@ use Rattle.std.proofs.Math.Bool.{or-false}
 use Rattle.mmtext.specs.Words.{Word}
 use Rattle.mmsyntax.specs.Tables.{place_of}
 use Rattle.mmsyntax.proofs.Names.{bytes_eq-same, bytes_eq-sym, same_bytes}
-use Rattle.mmsyntax.proofs.Distinct.{is_some-place_of}
+use Rattle.mmsyntax.proofs.Distinct.{is_some-place_of, all_append, all_weaker}
 use Rattle.source.specs.Scopes.{Hypothesis, typing, premise, label_of, Assertion, Scope, is_in}
 use Rattle.source.specs.Whole.{IsWhole, IsHypothesisWhole, AreAssertionsWhole, AgreeOnLabels}
+use Rattle.source.proofs.CountedWords.{mapped_some}
 use Rattle.taking.specs.Names.{is_symbol_of, is_symbol_of_hypothesis, is_float_labelled, has_float_labelled}
 use Rattle.taking.specs.Reasons.{kept}
+use Rattle.taking.proofs.Values.{mapped}
 use Rattle.sites.specs.Sites.{Sited, IsFloatSited, AreSites}
 use Rattle.std.specs.Borrow.{Bor}
 use Rattle.sites.specs.Indexes.{looks_up}
 use Rattle.sites.specs.declared.used.Used.{Used}
 use Rattle.sites.specs.Used.{noted, is_noted, typed_by, typed, type_at, variable_at}
-use Rattle.sites.proofs.Actives.{still_some}
 use Rattle.sites.proofs.Keeping.{kept_all}
 
 -- ---- tests of lists
-
-or_tail : (a b : Bool) → b ≡ true → (a || b) ≡ true
-or_tail true b h = refl
-or_tail false b h = h
-
-or_head : (a b : Bool) → a ≡ true → (a || b) ≡ true
-or_head true b h = refl
-or_head false b h = absurd cc
 
 in_kept : (test : Word → Bool) (w : Word) → test w ≡ true → (ws : List Word) → is_in ws w ≡ true → is_in (filter test ws) w ≡ true
 in_kept test w passes [] h = absurd cc
@@ -43,14 +36,14 @@ in_kept test w passes (x ∷ ws) h =
       | inl y ↦
           let here : test x ≡ true = ap test (sym (same_bytes w x y)) ∙ passes in
           ap (λ us. is_in us w) (cond-true (test x) (x ∷ filter test ws) (filter test ws) here)
-          ∙ or_head (bytes_eq w x) (is_in (filter test ws) w) y
+          ∙ or_left (bytes_eq w x) (is_in (filter test ws) w) y
       | inr n ↦
           let later : is_in ws w ≡ true = ap (λ b. b || is_in ws w) (sym n) ∙ h in
           let ih = in_kept test w passes ws later in
           elim (cases_Bool (test x)) [
             | inl t ↦
                 ap (λ us. is_in us w) (cond-true (test x) (x ∷ filter test ws) (filter test ws) t)
-                ∙ or_tail (bytes_eq w x) (is_in (filter test ws) w) ih
+                ∙ or_right (bytes_eq w x) (is_in (filter test ws) w) ih
             | inr f ↦ ap (λ us. is_in us w) (cond-false (test x) (x ∷ filter test ws) (filter test ws) f) ∙ ih
           ]
     ]
@@ -78,22 +71,18 @@ filter_same p q same (x ∷ xs) =
 
 -- ---- values of words of a list
 
-some_is : {A : Type 0} (o : Option A) → is_some o ≡ true → (x : A) × (o ≡ Some x)
-some_is None h = absurd cc
-some_is (Some x) h = (x, refl)
+-- one that is there stands in front of others
+first_value : {A : Type 0} (o : Option A) (xs : List A) → is_some o ≡ true → (x : A) × (o ≡ Some x) × (cons_option o xs ≡ x ∷ xs)
+first_value None xs h = absurd cc
+first_value (Some x) xs h = (x, refl, refl)
 
 -- as many values as words
 pub length_values : {A : Type 0} (f : Word → Option A) (ws : List Word) → ((w : Word) → is_in ws w ≡ true → is_some (f w) ≡ true)
     → length (filter_map f ws) ≡ length ws
 length_values f [] h = refl
 length_values {A} f (w ∷ ws) h =
-    let x = some_is (f w) (h w (or_head (bytes_eq w w) (is_in ws w) (bytes_eq-same w))) in
-    ap (λ o. length (cons_option o (filter_map f ws))) x.1
-    ∙ ap (λ n. suc n) (length_values f ws (λ v is. h v (or_tail (bytes_eq v w) (is_in ws v) is)))
-
-one_less : (o : Option ℕ) (j : ℕ) → option_map (λ n. suc n) o ≡ Some j → (i : ℕ) × (o ≡ Some i) × (j ≡ suc i)
-one_less None j h = absurd cc
-one_less (Some i) j h = (i, refl, cc)
+    let x = first_value (f w) (filter_map f ws) (h w (or_left (bytes_eq w w) (is_in ws w) (bytes_eq-same w))) in
+    ap length x.2 ∙ ap (λ n. suc n) (length_values f ws (λ v is. h v (or_right (bytes_eq v w) (is_in ws v) is)))
 
 -- the value of a word stands at its place
 pub value_at : {A : Type 0} (f : Word → Option A) (w : Word) (x : A) → f w ≡ Some x → (ws : List Word)
@@ -101,8 +90,8 @@ pub value_at : {A : Type 0} (f : Word → Option A) (w : Word) (x : A) → f w �
     → slice_get (filter_map f ws) j ≡ Some x
 value_at f w x is [] h j at = absurd cc
 value_at {A} f w x is (v ∷ ws) h j at =
-    let y = some_is (f v) (h v (or_head (bytes_eq v v) (is_in ws v) (bytes_eq-same v))) in
-    let values : filter_map f (v ∷ ws) ≡ y.0 ∷ filter_map f ws = ap (λ o. cons_option o (filter_map f ws)) y.1 in
+    let y = first_value (f v) (filter_map f ws) (h v (or_left (bytes_eq v v) (is_in ws v) (bytes_eq-same v))) in
+    let values : filter_map f (v ∷ ws) ≡ y.0 ∷ filter_map f ws = y.2 in
     elim (cases_Bool (bytes_eq w v)) [
       | inl e ↦
           let first : Some 0 ≡ Some j =
@@ -113,21 +102,17 @@ value_at {A} f w x is (v ∷ ws) h j at =
       | inr n ↦
           let later : option_map (λ n. suc n) (place_of (bytes_eq w) ws) ≡ Some j =
           sym (cond-false (bytes_eq w v) (Some 0) (option_map (λ n. suc n) (place_of (bytes_eq w) ws)) n) ∙ at in
-          let p = one_less (place_of (bytes_eq w) ws) j later in
+          let p = mapped (λ (n : ℕ). suc n) (place_of (bytes_eq w) ws) j later in
           ap (λ us. slice_get us j) values
-          ∙ ap (λ n. slice_get (y.0 ∷ filter_map f ws) n) p.2
-          ∙ value_at f w x is ws (λ u in'. h u (or_tail (bytes_eq u v) (is_in ws u) in')) p.0 p.1
+          ∙ ap (λ n. slice_get (y.0 ∷ filter_map f ws) n) (sym p.2)
+          ∙ value_at f w x is ws (λ u in'. h u (or_right (bytes_eq u v) (is_in ws u) in')) p.0 p.1
     ]
 
 -- ---- what is noted for the label of a $f
 
-or_none : (a b : Bool) → (a || b) ≡ false → (a ≡ false) × (b ≡ false)
-or_none true b h = absurd cc
-or_none false b h = (refl, h)
-
-or_left : (a b : Bool) → b ≡ false → (a || b) ≡ true → a ≡ true
-or_left true b n h = refl
-or_left false b n h = absurd cc
+or_first : (a b : Bool) → b ≡ false → (a || b) ≡ true → a ≡ true
+or_first true b n h = refl
+or_first false b n h = absurd cc
 
 some_cond : {A : Type 0} (b : Bool) (x : A) (o : Option A) (t : Bool) → (is_some (cond b (Some x) o) || t) ≡ (is_some o || (b || t))
 some_cond true x None t = refl
@@ -141,7 +126,7 @@ Only label c v h = is_float_labelled label h ≡ true → h ≡ typing label c v
 typed_none : (w : Word) (o : Option (Word × Word)) (hs : List Hypothesis) → list_any (is_float_labelled w) hs ≡ false → typed w o hs ≡ o
 typed_none w o [] h = refl
 typed_none w o (typing label c v ∷ hs) h =
-    let both = or_none (bytes_eq w label) (list_any (is_float_labelled w) hs) h in
+    let both = or_parts (bytes_eq w label) (list_any (is_float_labelled w) hs) h in
     ap (λ (b : Bool). typed w (cond b (Some (c, v)) o) hs) both.0 ∙ typed_none w o hs both.1
 typed_none w o (premise label ws ∷ hs) h = typed_none w o hs h
 
@@ -152,7 +137,7 @@ typed_only w c v o (k ∷ hs) all h =
     elim (cases_Bool (list_any (is_float_labelled w) hs)) [
       | inl later ↦ typed_only w c v (typed_by w o k) hs all.1 later
       | inr none ↦
-          let here : is_float_labelled w k ≡ true = or_left (is_float_labelled w k) (list_any (is_float_labelled w) hs) none h in
+          let here : is_float_labelled w k ≡ true = or_first (is_float_labelled w k) (list_any (is_float_labelled w) hs) none h in
           let is : k ≡ typing w c v = all.0 here in
           typed_none w (typed_by w o k) hs none
           ∙ ap (typed_by w o) is
@@ -175,18 +160,10 @@ any_flat test f [] = refl
 any_flat test f (x ∷ xs) =
     list_any-append test (f x) (flat_map f xs) ∙ ap (λ b. list_any test (f x) || b) (any_flat test f xs)
 
-all_append : {A : Type 0} (P : A → Type 0) (xs ys : List A) → AllByRecursion P xs → AllByRecursion P ys → AllByRecursion P (xs ++ ys)
-all_append P [] ys h g = g
-all_append P (x ∷ xs) ys h g = (h.0, all_append P xs ys h.1 g)
-
 all_flat : {A B : Type 0} (P : B → Type 0) (f : A → List B) (xs : List A) → AllByRecursion (λ x. All P (f x)) xs
     → AllByRecursion P (flat_map f xs)
 all_flat P f [] h = tt
 all_flat P f (x ∷ xs) h = all_append P (f x) (flat_map f xs) (recursion_from_All P (f x) h.0) (all_flat P f xs h.1)
-
-all_map : {A : Type 0} (P Q : A → Type 0) (xs : List A) → ((x : A) → P x → Q x) → AllByRecursion P xs → AllByRecursion Q xs
-all_map P Q [] f h = tt
-all_map P Q (x ∷ xs) f h = (f x h.0, all_map P Q xs f h.1)
 
 -- ---- an active $f of a source
 
@@ -210,7 +187,7 @@ agree_kept : (s : Scope) → IsWhole s → (fs : List Bool)
     → AllByRecursion (λ x. AllByRecursion (λ y. AgreeOnLabels x.active y.active) (kept fs s.assertions)) (kept fs s.assertions)
 agree_kept s whole fs =
     kept_all (λ x. AllByRecursion (λ y. AgreeOnLabels x.active y.active) (kept fs s.assertions)) fs s.assertions
-    (all_map (λ x. All (λ y. AgreeOnLabels x.active y.active) s.assertions)
+    (all_weaker (λ x. All (λ y. AgreeOnLabels x.active y.active) s.assertions)
     (λ x. AllByRecursion (λ y. AgreeOnLabels x.active y.active) (kept fs s.assertions)) s.assertions
     (λ x h. kept_all (λ y. AgreeOnLabels x.active y.active) fs s.assertions (recursion_from_All _ s.assertions h))
     (recursion_from_All _ s.assertions whole.agree))
@@ -231,7 +208,7 @@ module _ (s : Scope) (whole : IsWhole s) (fs : List Bool) (k : ℕ) (x : Asserti
       subst (λ (z : Assertion). AllByRecursion (λ y. AgreeOnLabels z.active y.active) taken) is-x
       (All-from_recursion (λ z. AllByRecursion (λ y. AgreeOnLabels z.active y.active) taken) taken (agree_kept s whole fs) k x within) in
       all_flat (Only label c v) (λ y. y.active) taken
-      (all_map (λ y. AgreeOnLabels x.active y.active) (λ y. All (Only label c v) y.active) taken
+      (all_weaker (λ y. AgreeOnLabels x.active y.active) (λ y. All (Only label c v) y.active) taken
       (λ y ag. λ i f lt labelled.
       let here : get_or x.active j h ≡ typing label c v = is-h ∙ is in
       let same : label_of (get_or x.active j h) ≡ label_of (get_or y.active i f) =
@@ -254,7 +231,7 @@ module _ (s : Scope) (whole : IsWhole s) (fs : List Bool) (k : ℕ) (x : Asserti
   type_there =
       list_any_at (is_symbol_of c) (kept fs s.assertions) k x within
       (ap (is_symbol_of c) is-x
-      ∙ or_tail (is_in x.statement c) (list_any (is_symbol_of_hypothesis c) x.active)
+      ∙ or_right (is_in x.statement c) (list_any (is_symbol_of_hypothesis c) x.active)
       (list_any_at (is_symbol_of_hypothesis c) x.active j h among type_here))
 
   declared : (is_in s.labels label ≡ true) × (is_in s.constants c ≡ true)
@@ -364,7 +341,7 @@ module _ (s : Scope) (whole : IsWhole s) (fs : List Bool) (look : Word → Optio
 pub floats_noted : (used : Used) (taken : List Assertion) → ((w : Word) → noted used w ≡ typed w None (hypotheses_of taken))
     → (w : Word) → is_noted used w ≡ list_any (has_float_labelled w) taken
 floats_noted used taken are w =
-    sym (still_some (λ (p : Bor (List ℕ) × Bor (List ℕ)). (p.0.now, p.1.now)) (looks_up used.floats w))
+    sym (mapped_some (λ (p : Bor (List ℕ) × Bor (List ℕ)). (p.0.now, p.1.now)) (looks_up used.floats w))
     ∙ ap is_some (are w)
     ∙ is_some-typed w None (hypotheses_of taken)
     ∙ any_flat (is_float_labelled w) (λ x. x.active) taken

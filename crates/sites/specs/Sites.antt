@@ -22,11 +22,15 @@ IsFloatSited t (typing label c v) =
     × (slice_get t.types j ≡ Some i) × (slice_get t.variables j ≡ Some v)
 IsFloatSited t (premise label ws) = Unit {0}
 
+-- a type for each $f
+abbrev pub AreTyped : Sited → Type 0
+AreTyped t = length t.types ≡ length t.floats
+
 -- the sites of some assertions of a source
 pub record AreSites (s : Scope) (taken : List Assertion) (t : Sited) : Type 0 where
   pub constants : t.constants ≡ filter (λ w. list_any (is_symbol_of w) taken) s.constants
   pub floats : t.floats ≡ filter (λ w. list_any (has_float_labelled w) taken) s.labels
   pub labels : t.labels ≡ map (λ x. x.label) taken
-  pub types : length t.types ≡ length t.floats
+  pub types : AreTyped t
   pub variables : length t.variables ≡ length t.floats
   pub sited : All (λ x. All (IsFloatSited t) x.active) taken

@@ -4,18 +4,13 @@ use Rattle.std.specs.Option.{option_map, option_and_then, is_some}
 use Rattle.std.specs.List.{list_any, flat_map}
 use Rattle.std.specs.Borrow.{Bor}
 use Rattle.std.specs.Str.{bytes_eq}
-use Rattle.std.specs.HashSet.{HashSet, contains_by}
-use Rattle.std.specs.declared.random_state.RandomState.{RandomState}
 use Rattle.mmtext.specs.Words.{Word}
 use Rattle.mmsyntax.specs.Tables.{place_of}
 use Rattle.source.specs.Scopes.{Hypothesis, typing, premise, Assertion}
 use Rattle.taking.specs.Names.{is_symbol_of}
+use Rattle.source.specs.Views.{has}
 use Rattle.sites.specs.Indexes.{looks_up}
 use Rattle.sites.specs.declared.used.Used.{Used}
-
--- a set has a word
-abbrev pub has : HashSet (Bor (List ℕ)) RandomState → Word → Bool
-has set w = contains_by (λ k. bytes_eq w k.now) set
 
 -- the type and the variable that are noted for a label of a $f
 abbrev pub noted : Used → Word → Option (Word × Word)

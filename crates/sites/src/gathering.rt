@@ -3,13 +3,13 @@
 ghost use Rattle.std.specs.Prelude.{◌≡◌, ◌<◌, ◌≤◌, ◌⊎◌, length, filter, filter_map, map, IfOk, MatchOption, true, false};
 ghost use Rattle.std.specs.List.{list_any};
 ghost use Rattle.std.specs.Option.{option_map};
-ghost use Rattle.source.specs.Views.{seen_words};
+ghost use Rattle.source.specs.Views.{has, seen_words};
 ghost use Rattle.source.specs.Whole.{IsWhole};
 ghost use Rattle.taking.specs.Names.{is_symbol_of, has_float_labelled};
 ghost use Rattle.taking.specs.Reasons.{kept};
 ghost use Rattle.sites.specs.Indexes.{HasRoom};
 ghost use Rattle.sites.specs.Sites.{AreSites};
-ghost use Rattle.sites.specs.Used.{Uses, has, is_noted, noted, type_at, variable_at};
+ghost use Rattle.sites.specs.Used.{Uses, is_noted, noted, type_at, variable_at};
 
 use crate::indexed::Indexed;
 use crate::sites::Sites;

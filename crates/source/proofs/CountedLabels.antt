@@ -2,6 +2,7 @@
 use Rattle.std.proofs.Common.{◌≡◌, Bool, true, false, List, [], ◌∷◌, ◌++◌, map, refl, sym, ap, subst, ◌∙◌, inl, inr}
 use Rattle.std.specs.Prelude.{Some, None, ◌||◌, if◌then◌else◌}
 use Rattle.std.specs.List.{list_any}
+use Rattle.std.proofs.Math.Bool.{or-true}
 use Rattle.std.proofs.lemmas.Bool.{cases_Bool, not-true, not-false}
 use Rattle.std.proofs.lemmas.List.{map-append, append-nil}
 use Rattle.std.proofs.lemmas.List.Folds.{list_any-append}
@@ -13,10 +14,6 @@ use Rattle.source.specs.Proofs.{names, empty, run, there, known_labels, labels_g
 use Rattle.source.specs.Counts.{counts, LabelsAreCounted, IsStep}
 use Rattle.source.proofs.Fronts.{open_front, shut_front, whole_front, stopped}
 use Rattle.source.proofs.Counted.{one_more, counted_some}
-
-pub or_true : (a : Bool) → (a || true) ≡ true
-or_true true = refl
-or_true false = refl
 
 -- a ? was read, or none
 pub known_none : {A : Type 0} (q : A → Bool) (xs : List A) (known : Bool) → known ≡ not (list_any q xs)
@@ -73,7 +70,7 @@ module _ (earlier : List Assertion) (active : List Hypothesis) where
       found : list_any is_unknown (ws ++ w ∷ []) ≡ true
       found =
           list_any-append is_unknown ws (w ∷ []) ∙ ap (λ b. list_any is_unknown ws || (b || false)) unknown
-          ∙ or_true (list_any is_unknown ws)
+          ∙ or-true (list_any is_unknown ws)
 
   -- a label
   pub label_counted : (ws : List Word) (w : Word) (old new : Entries) (goes : Bool) → LabelsAreCounted earlier active ws old

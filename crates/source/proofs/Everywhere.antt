@@ -1,17 +1,14 @@
 -- What is so of each hypothesis of a scope: of those that are active there, and of those that are active at its assertions.
-use Rattle.std.proofs.Common.{List, [], ◌∷◌, ◌++◌, subst}
+use Rattle.std.proofs.Common.{List, [], ◌++◌, length, refl, subst}
 use Rattle.std.specs.Prelude.{All, Option, None}
-use Rattle.std.proofs.lemmas.List.Elements.{All-nil, All-cons, All-head, All-tail, All-push}
+use Rattle.std.proofs.lemmas.List.{take_at}
+use Rattle.std.proofs.lemmas.List.Elements.{All-push, All-take}
 use Rattle.mmtext.specs.Words.{Word}
 use Rattle.source.specs.Statements.{Proof}
 use Rattle.source.specs.Scopes.{Hypothesis, Assertion, Scope, with_hypothesis, with_assertion, mandatory, leave}
 use Rattle.source.proofs.Growing.{Extends}
 
 -- ---- lists
-
-pub all_in_front : {A : Type 0} (P : A → Type 0) (xs ys : List A) → All P (xs ++ ys) → All P xs
-all_in_front P [] ys h = All-nil P
-all_in_front P (x ∷ xs) ys h = All-cons P x xs (All-head P x (xs ++ ys) h) (all_in_front P xs ys (All-tail P x (xs ++ ys) h))
 
 pub all_both : {A : Type 0} (P Q R : A → Type 0) → ((x : A) → P x → Q x → R x) → (xs : List A) → All P xs → All Q xs → All R xs
 all_both P Q R f xs p q = λ k d lt. f _ (p k d lt) (q k d lt)
@@ -60,4 +57,6 @@ module _ (P : Hypothesis → Type 0) (s : Scope) where
 
   -- behind a block: what was active in front of it is active at its end
   pub everywhere_left : (before : Scope) → Extends before.hypotheses s.hypotheses → Everywhere P s → Everywhere P (leave before s)
-  everywhere_left before e p = (all_in_front P before.hypotheses e.0 (subst (All P) e.1 p.0), p.1)
+  everywhere_left before e p =
+      let n = length before.hypotheses in
+      (subst (All P) (take_at before.hypotheses e.0 n refl) (All-take P n (before.hypotheses ++ e.0) (subst (All P) e.1 p.0)), p.1)

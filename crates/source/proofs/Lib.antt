@@ -1,6 +1,7 @@
 pub mod Decoded
 pub mod Alike
 pub mod Sizes
+pub mod Lent
 pub mod Passing
 pub mod InOrder
 pub mod Labels

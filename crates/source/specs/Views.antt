@@ -1,6 +1,9 @@
 -- How contracts see the words of a text that the code keeps.
-use Rattle.std.specs.Prelude.{ℕ, List, map}
+use Rattle.std.specs.Prelude.{ℕ, Bool, List, map}
 use Rattle.std.specs.Borrow.{Bor}
+use Rattle.std.specs.HashSet.{HashSet, contains_by}
+use Rattle.std.specs.Str.{bytes_eq}
+use Rattle.std.specs.declared.random_state.RandomState.{RandomState}
 use Rattle.mmtext.specs.Words.{Word}
 use Rattle.source.specs.declared.standing.ProofWords.{ProofWords}
 use Rattle.source.specs.declared.standing.ProofWords.TheVariants as words
@@ -12,6 +15,10 @@ use Rattle.source.specs.Scopes.{Hypothesis, typing, premise, Pair}
 -- slices of the text
 abbrev pub seen_words : List (Bor (List ℕ)) → List Word
 seen_words ws = map (λ w. w.now) ws
+
+-- a set has a word
+abbrev pub has : HashSet (Bor (List ℕ)) RandomState → Word → Bool
+has set w = contains_by (λ k. bytes_eq w k.now) set
 
 -- the words of a proof
 abbrev pub seen_proof : ProofWords → Proof

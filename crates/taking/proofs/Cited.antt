@@ -2,7 +2,7 @@
 use Rattle.std.proofs.Common.{◌≡◌, ◌<◌, ℕ, ◌+◌, ◌-◌, List, [], ◌∷◌, ◌++◌, length, take, drop, sym, ap, ◌∙◌, subst, arith}
 use Rattle.std.specs.Prelude.{Option, Some, slice_get, slice_index_or, All, MatchOption}
 use Rattle.std.specs.List.{AllByRecursion, list_any, flat_map}
-use Rattle.std.proofs.lemmas.List.{take_all, take-append-drop, length-drop}
+use Rattle.std.proofs.lemmas.List.{take_all, take-append-drop, length-drop, length_push}
 use Rattle.std.proofs.lemmas.List.Elements.{All-from_recursion, recursion_from_All}
 use Rattle.source.specs.Proofs.{taken_by, cite}
 use Rattle.taking.specs.declared.named.Named.{Named}
@@ -11,8 +11,8 @@ use Rattle.taking.specs.Nodes.{Shared, AreBelow}
 use Rattle.taking.specs.Walks.{TakesAll}
 use Rattle.taking.specs.Reasons.{labels_of}
 use Rattle.taking.specs.Decoding.{grown, stack_on, trees_at, AreCovered}
-use Rattle.taking.proofs.Values.{length_more, all_more}
-use Rattle.taking.proofs.Listed.{all_both, all_front}
+use Rattle.mmsyntax.proofs.Distinct.{all_append, all_left, all_right}
+use Rattle.taking.proofs.Values.{all_more}
 use Rattle.taking.proofs.Stacked.{cites}
 use Rattle.taking.proofs.Covered.{over_entries}
 
@@ -20,20 +20,16 @@ pub last_args : (es' es : List ℕ) (n : ℕ) → es' ≡ es → take (length es
 last_args es' es n e =
     ap (λ xs. take (length xs - n) (drop n xs)) e ∙ take_all (length es - n) (drop n es) (omega (arith, length-drop n es))
 
-all_back : {A : Type 0} (P : A → Type 0) (xs ys : List A) → AllByRecursion P (xs ++ ys) → AllByRecursion P ys
-all_back P [] ys a = a
-all_back P (x ∷ xs) ys a = all_back P xs ys a.1
-
 module _ (named : List Named) (ns : List Shared) (es ms : List ℕ) (n place : ℕ) (x : Named) (is : slice_get named place ≡ Some x)
     (in_es : AreBelow (length ns) es) (in_ms : AreBelow (length ns) ms) (long : length es ≡ n + length x.floats) where
   front : AllByRecursion (λ k. k < length ns) (take n es)
   front =
-      all_front (λ k. k < length ns) (take n es) (drop n es)
+      all_left (λ k. k < length ns) (take n es) (drop n es)
       (subst (AllByRecursion (λ k. k < length ns)) (sym (take-append-drop n es)) (recursion_from_All (λ k. k < length ns) es in_es))
 
   back : AllByRecursion (λ k. k < length ns) (drop n es)
   back =
-      all_back (λ k. k < length ns) (take n es) (drop n es)
+      all_right (λ k. k < length ns) (take n es) (drop n es)
       (subst (AllByRecursion (λ k. k < length ns)) (sym (take-append-drop n es)) (recursion_from_All (λ k. k < length ns) es in_es))
 
   whole : length (drop n es) ≡ length x.floats
@@ -55,16 +51,16 @@ module _ (named : List Named) (ns : List Shared) (es ms : List ℕ) (n place : �
   own = record { named = place; arguments = drop n es }
 
   more : (ks : List ℕ) → AllByRecursion (λ k. k < length ns) ks → AllByRecursion (λ k. k < length (ns ++ own ∷ [])) ks
-  more ks a = let e = length_more ns own in all_more (λ k h. omega arith) ks a
+  more ks a = let e = length_push ns own in all_more (λ k h. omega arith) ks a
 
   -- the entries are nodes
   pub entries_stand : AreBelow (length (ns ++ record { named = place; arguments = drop n es } ∷ [])) (take n es ++ length ns ∷ [])
   unfolding own
   entries_stand =
-      let e = length_more ns own in
+      let e = length_push ns own in
       let last : length ns < length (ns ++ own ∷ []) = omega arith in
       All-from_recursion (λ k. k < length (ns ++ own ∷ [])) (take n es ++ length ns ∷ [])
-      (all_both (λ k. k < length (ns ++ own ∷ [])) (take n es) (length ns ∷ []) (more (take n es) front) (last, tt))
+      (all_append (λ k. k < length (ns ++ own ∷ [])) (take n es) (length ns ∷ []) (more (take n es) front) (last, tt))
 
   pub marked_stand : AreBelow (length (ns ++ record { named = place; arguments = drop n es } ∷ [])) ms
   unfolding own
@@ -77,7 +73,7 @@ module _ (named : List Named) (ns : List Shared) (es ms : List ℕ) (n place : �
       let here : TakesAll named own =
       subst (λ (o : Option Named). MatchOption o ⊥ (λ y. length (drop n es) ≡ length y.floats)) (sym is) whole in
       All-from_recursion (TakesAll named) (ns ++ own ∷ [])
-      (all_both (TakesAll named) ns (own ∷ []) (recursion_from_All (TakesAll named) ns a) (here, tt))
+      (all_append (TakesAll named) ns (own ∷ []) (recursion_from_All (TakesAll named) ns a) (here, tt))
 
   pub covered_stand : AreCovered ns es
       → AreCovered (ns ++ record { named = place; arguments = drop n es } ∷ []) (take n es ++ length ns ∷ [])

@@ -3,7 +3,8 @@ use Rattle.std.proofs.Common.{◌≡◌, ◌<◌, ℕ, zero, suc, Bool, true, fa
 use Rattle.std.proofs.Common.{append-nil}
 use Rattle.std.specs.Prelude.{◌||◌, Option, Some, None, slice_get, slice_index_or, filter_map}
 use Rattle.std.specs.List.{AllByRecursion, list_any, flat_map, cons_option}
-use Rattle.std.proofs.lemmas.Bool.{cases_Bool}
+use Rattle.std.proofs.Math.Bool.{or-false}
+use Rattle.std.proofs.lemmas.Bool.{cases_Bool, or_left, or_right}
 use Rattle.std.proofs.lemmas.List.Folds.{list_any-append}
 use Rattle.std.proofs.lemmas.List.Elements.{filter_map-append}
 use Rattle.std.proofs.lemmas.Grind.{flat_map-append}
@@ -16,10 +17,6 @@ use Rattle.taking.proofs.Stacked.{kept_trees, new_tree}
 
 -- ---- tests
 
-or_nothing : (b : Bool) → (b || false) ≡ b
-or_nothing true = refl
-or_nothing false = refl
-
 or_either : (a b c : Bool) → (a ≡ true → c ≡ true) → (b ≡ true → c ≡ true) → (a || b) ≡ true → c ≡ true
 or_either true b c f g h = f refl
 or_either false b c f g h = g h
@@ -28,14 +25,6 @@ or_kept : (a b c : Bool) → a ≡ c → (b ≡ true → c ≡ true) → (a || b
 or_kept true b c e f = e
 or_kept false true c e f = sym (f refl)
 or_kept false false c e f = e
-
-or_left : (a b : Bool) → a ≡ true → (a || b) ≡ true
-or_left true b h = refl
-or_left false b h = absurd cc
-
-or_right : (a b : Bool) → b ≡ true → (a || b) ≡ true
-or_right true b h = refl
-or_right false b h = h
 
 -- what is taken comes behind what takes it
 or_turned : (f w a : Bool) → (f || ((w || a) || false)) ≡ ((f || a) || (w || false))
@@ -70,7 +59,7 @@ module _ (labels : List Word) (test : Word → Bool) where
   labelled_node w ts =
       ap (list_any test) (append-nil (labels_of (node w (over ts))))
       ∙ ap (λ ws. test w || list_any test ws) (each_label ts)
-      ∙ sym (or_nothing (test w || list_any test (flat_map labels_of ts)))
+      ∙ sym (or-false (test w || list_any test (flat_map labels_of ts)))
 
   -- ---- each label is one that a node names
 
@@ -113,7 +102,7 @@ module _ (labels : List Word) (test : Word → Bool) where
       let more : labelled (front ++ make n.named args ∷ []) ≡ true → b ≡ true =
       λ a.
       or_either (labelled front) ((test w || labelled args) || false) b f
-      (λ z. or_either (test w) (labelled args) b own taken (sym (or_nothing (test w || labelled args)) ∙ z))
+      (λ z. or_either (test w) (labelled args) b own taken (sym (or-false (test w || labelled args)) ∙ z))
       (sym (ap (λ z. labelled front || z) (labelled_node w args)) ∙ sym (labelled_both front (make n.named args ∷ [])) ∙ a) in
       labelled_behind (front ++ make n.named args ∷ []) ns b more (λ a. g (or_right (test w) (names ns) a)) h
 

@@ -5,12 +5,11 @@ use Rattle.std.specs.Prelude.{Some, None, find, if◌then◌else◌, ◌&&◌, I
 use mathlib.Core.Bool.{not}
 use Rattle.std.specs.List.{range_with_len}
 use Rattle.std.specs.Str.{bytes_eq}
-use Rattle.std.proofs.lemmas.Bool.{cases_lt}
-use Rattle.std.proofs.lemmas.List.{get_or_append_left}
+use Rattle.std.proofs.lemmas.Bool.{cases_lt, and_parts}
+use Rattle.std.proofs.lemmas.List.{get_or_append_left, length_push}
 use Rattle.std.proofs.Math.Seq.{get_or-append_seam}
 use Rattle.mmtext.specs.Words.{Word}
 use Rattle.mmsyntax.proofs.Names.{bytes_eq-same}
-use Rattle.taking.proofs.Values.{length_more}
 use Rattle.taking.specs.Fresh.{candidate, fresh, renamed_by, is_named_by, AreGiven, AreLeft}
 
 -- ---- a fresh name is free
@@ -63,12 +62,6 @@ refused free true w h = (refl, h)
 refused free false w h = absurd cc
 
 -- ---- one more
-
-both_true : (a b : Bool) → (a && b) ≡ true → (a ≡ true) × (b ≡ true)
-both_true true true h = (refl, refl)
-both_true true false h = absurd cc
-both_true false true h = absurd cc
-both_true false false h = absurd cc
 
 not_both : (b : Bool) → not b ≡ true → b ≡ true → ⊥
 not_both true h g = cc
@@ -124,12 +117,12 @@ module _ (free now later : Word → Bool) (changes : List Bool) (words : List Wo
       ]
 
   still : (w : Word) → later w ≡ true → (now w ≡ true) × (not (bytes_eq w name) ≡ true)
-  still w h = both_true (now w) (not (bytes_eq w name)) (sym (noted w) ∙ h)
+  still w h = and_parts (now w) (not (bytes_eq w name)) (sym (noted w) ∙ h)
 
   others_at : (w : Word) (k : ℕ) → k < length (names ++ name ∷ []) → later w ≡ true → w ≢ get_or (names ++ name ∷ []) k []
   others_at w k h free' =
       let many = given.as_many in
-      let more = length_more names name in
+      let more = length_push names name in
       elim (cases_lt k i) [
         | inl lt ↦ λ e. given.left.others w k (omega arith) (still w free').0 (e ∙ before k lt)
         | inr ge ↦
@@ -141,7 +134,7 @@ module _ (free now later : Word → Bool) (changes : List Bool) (words : List Wo
 
   pub give : Given free later changes words (i + 1) (names ++ name ∷ [])
   give = record {
-    as_many = let many = given.as_many in let more = length_more names name in omega arith;
+    as_many = let many = given.as_many in let more = length_push names name in omega arith;
     named = named_at;
     apart = apart_at;
     left = record { free = λ w h. given.left.free w (still w h).0; others = others_at };

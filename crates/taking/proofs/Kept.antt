@@ -8,15 +8,16 @@ use Rattle.std.proofs.lemmas.List.{map-append, length-append, length-drop, drop-
 use Rattle.std.proofs.Math.Seq.{drop-append_seam}
 use Rattle.std.proofs.lemmas.Bool.{cases_lt}
 use Rattle.std.proofs.lemmas.List.Elements.{filter_map-append}
-use Rattle.std.proofs.lemmas.List.{take_all}
+use Rattle.std.proofs.lemmas.List.{take_all, length_push}
 use Rattle.std.proofs.lemmas.List.Elements.{All-from_recursion, recursion_from_All}
 use Rattle.std.proofs.lemmas.Option.{slice_get-map, slice_get_within}
 use Rattle.source.specs.Proofs.{total}
 use Rattle.taking.specs.declared.nodes.Node.{Node}
 use Rattle.taking.specs.Nodes.{AreBelow, values, sizes, counted}
 use Rattle.taking.specs.Views.{seen_node, seen_nodes, AreSound, size_over}
-use Rattle.taking.proofs.Values.{mapped, get_front, get_last, length_more, values_more}
-use Rattle.taking.proofs.Listed.{all_at, all_both}
+use Rattle.mmsyntax.proofs.Distinct.{all_append}
+use Rattle.taking.proofs.Values.{mapped, get_front, get_last, values_more}
+use Rattle.taking.proofs.Listed.{all_at}
 use Rattle.taking.proofs.Picked.{total_append}
 
 pub sound_none : AreSound [] []
@@ -109,11 +110,11 @@ module _ (args ks : List ℕ) (ns : List Node) (x : Node) (sound : AreSound args
 
   below_at : (k : ℕ) (n : Node) → slice_get (ns ++ x ∷ []) k ≡ Some n → AreBelow k (slice_range (args ++ ks) n.begin n.end)
   below_at k n is =
-      let more = length_more ns x in
+      let more = length_push ns x in
       let within = slice_get_within (ns ++ x ∷ []) k n is in
       elim (cases_lt k (length ns)) [
         | inl h ↦
-            let at : slice_get ns k ≡ Some n = sym (get_front ns (x ∷ []) k h) ∙ is in
+            let at : slice_get ns k ≡ Some n = sym (get_front ns x k h) ∙ is in
             let w = all_at (λ n. (n.begin ≤ n.end) × (n.end ≤ length args)) ns k n inside at in
             subst (AreBelow k) (sym (range_front args ks n.begin n.end w.0 w.1)) (sound.below k n at)
         | inr g ↦
@@ -128,7 +129,7 @@ module _ (args ks : List ℕ) (ns : List Node) (x : Node) (sound : AreSound args
   pub sound_more : AreSound (args ++ ks) (ns ++ x ∷ [])
   sound_more = record {
     within = All-from_recursion (λ n. (n.begin ≤ n.end) × (n.end ≤ length (args ++ ks))) (ns ++ x ∷ [])
-        (all_both (λ n. (n.begin ≤ n.end) × (n.end ≤ length (args ++ ks))) ns (x ∷ []) (all_wider args ks ns inside)
+        (all_append (λ n. (n.begin ≤ n.end) × (n.end ≤ length (args ++ ks))) ns (x ∷ []) (all_wider args ks ns inside)
         ((omega arith, omega (arith, length-append args ks)), tt));
     below = below_at;
     sizes_are =

@@ -8,6 +8,7 @@ use Rattle.std.proofs.lemmas.List.{map-append, reverse-append, length-map}
 use Rattle.std.proofs.lemmas.Grind.{flat_map-append}
 use Rattle.std.proofs.lemmas.Option.{get_or_from_slice_get, slice_get_within}
 use Rattle.mmsyntax.specs.declared.statement.Step.{Step}
+use Rattle.mmsyntax.proofs.Distinct.{all_append, all_left}
 use Rattle.source.specs.Proofs.{total}
 use Rattle.taking.specs.declared.named.Named.{Named}
 use Rattle.taking.specs.Nodes.{Shared, values, sizes}
@@ -22,14 +23,6 @@ pub all_at : {A : Type 0} (P : A → Type 0) (xs : List A) (k : ℕ) (x : A) →
 all_at P [] k x a h = absurd cc
 all_at P (y ∷ ys) zero x a h = let e : y ≡ x = cc in subst P e a.0
 all_at P (y ∷ ys) (suc k) x a h = all_at P ys k x a.1 h
-
-pub all_both : {A : Type 0} (P : A → Type 0) (xs ys : List A) → AllByRecursion P xs → AllByRecursion P ys → AllByRecursion P (xs ++ ys)
-all_both P [] ys a b = b
-all_both P (x ∷ xs) ys a b = (a.0, all_both P xs ys a.1 b)
-
-pub all_front : {A : Type 0} (P : A → Type 0) (xs ys : List A) → AllByRecursion P (xs ++ ys) → AllByRecursion P xs
-all_front P [] ys a = tt
-all_front P (x ∷ xs) ys a = (a.0, all_front P xs ys a.1)
 
 -- ---- values at places
 
@@ -138,9 +131,9 @@ module _ (named : List Named) (ns : List Shared) (root : ℕ) (front : List ℕ)
       let inside = slice_get_within ns k n is in
       let args : AllByRecursion (λ i. i < length ns) n.arguments = all_more (λ i h. omega arith) n.arguments below in
       record {
-        within = all_both (λ i. i < length ns) front (arranged x.floats n.arguments) (all_front (λ i. i < length ns) front (k ∷ [])
+        within = all_append (λ i. i < length ns) front (arranged x.floats n.arguments) (all_left (λ i. i < length ns) front (k ∷ [])
             g.within)
-            (all_both (λ i. i < length ns) (picked true x.floats n.arguments) (picked false x.floats n.arguments)
+            (all_append (λ i. i < length ns) (picked true x.floats n.arguments) (picked false x.floats n.arguments)
             (picked_hold (λ i. i < length ns) true x.floats n.arguments args)
             (picked_hold (λ i. i < length ns) false x.floats n.arguments args));
         goes =

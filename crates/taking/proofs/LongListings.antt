@@ -22,7 +22,8 @@ use Rattle.taking.specs.Listings.{at_floats, at_premises, in_profile_order, join
 use Rattle.taking.specs.Reasons.{Choice, reason_of, reason_of_finished}
 use Rattle.taking.specs.Taken.{HasProof}
 use Rattle.taking.specs.Lengths.{how_many, TakesEnough, TakeEnough}
-use Rattle.taking.proofs.Listed.{all_at, all_both}
+use Rattle.mmsyntax.proofs.Distinct.{all_append}
+use Rattle.taking.proofs.Listed.{all_at}
 use Rattle.taking.proofs.Picked.{total_append}
 
 -- ---- proofs denote such trees
@@ -79,7 +80,7 @@ module _ (earlier : List Assertion) (active : List Hypothesis) where
       → AllByRecursion (TakesEnough earlier active) ms → Sound s'
   marked [] ms s' e a b = absurd cc
   marked (x ∷ xs) ms s' e a b =
-      subst Sound (same_Some _ _ e) (a, all_both (TakesEnough earlier active) ms (x ∷ []) b (a.0, tt))
+      subst Sound (same_Some _ _ e) (a, all_append (TakesEnough earlier active) ms (x ∷ []) b (a.0, tt))
 
   one : (s s' : Stack Tree) (x : Step) → stepped make earlier active s x ≡ Some s' → Sound s → Sound s'
   one s s' (names w) e a = cited w s s' (taken_by earlier active w) refl e a

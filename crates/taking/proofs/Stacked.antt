@@ -86,7 +86,7 @@ module _ (labels : List Word) (ns : List Shared) where
       let ts = trees labels ns in
       let t = node (slice_index_or labels n.named []) (over (trees_at labels ns n.arguments)) in
       ap (λ us. filter_map (slice_get us) ks) (values_more (λ n ts. node (slice_index_or labels n []) (over ts)) ns n)
-      ∙ same_filter_map (slice_get (ts ++ t ∷ [])) (slice_get ts) ks (all_more (λ k h. get_front ts (t ∷ []) k (omega arith)) ks a)
+      ∙ same_filter_map (slice_get (ts ++ t ∷ [])) (slice_get ts) ks (all_more (λ k h. get_front ts t k (omega arith)) ks a)
 
   -- and has its own
   pub new_tree : (n : Shared) → slice_get (trees labels (ns ++ n ∷ [])) (length ns)

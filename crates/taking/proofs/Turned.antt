@@ -3,14 +3,11 @@ use Rattle.std.proofs.Common.{◌≡◌, ℕ, zero, suc, ◌<◌, ◌-◌, get_o
 use Rattle.std.proofs.Common.{arith, append-nil, subst}
 use Rattle.std.specs.Prelude.{Option, Some, None, slice_get, filter_map}
 use Rattle.std.specs.Prelude.{Result, Ok, Err, IfOk}
-use Rattle.std.specs.Option.{option_map}
-use Rattle.std.specs.Borrow.{Bor}
-use Rattle.std.specs.Slice.{IsItemAt}
-use Rattle.std.proofs.lemmas.Option.{slice_get_within, slice_get-get_or, slice_get_past}
+use Rattle.std.proofs.lemmas.Option.{slice_get_within, slice_get-get_or}
 use Rattle.std.specs.List.{AllByRecursion, cons_option}
 use Rattle.std.proofs.lemmas.List.{map_push, reverse-append}
 use Rattle.std.proofs.lemmas.List.Elements.{filter_map-append}
-use Rattle.taking.proofs.Listed.{all_both}
+use Rattle.mmsyntax.proofs.Distinct.{all_append}
 
 pub turned_cons : {A : Type 0} (x : A) (xs : List A) → reverse (x ∷ xs) ≡ reverse xs ++ x ∷ []
 turned_cons x xs = reverse-append (x ∷ []) xs
@@ -23,7 +20,7 @@ turned_back (x ∷ xs) =
 pub all_turned : {A : Type 0} (P : A → Type 0) (xs : List A) → AllByRecursion P xs → AllByRecursion P (reverse xs)
 all_turned P [] a = tt
 all_turned P (x ∷ xs) a =
-    subst (AllByRecursion P) (sym (turned_cons x xs)) (all_both P (reverse xs) (x ∷ []) (all_turned P xs a.1) (a.0, tt))
+    subst (AllByRecursion P) (sym (turned_cons x xs)) (all_append P (reverse xs) (x ∷ []) (all_turned P xs a.1) (a.0, tt))
 
 turned_option : {A : Type 0} (o : Option A) (xs : List A) → reverse xs ++ cons_option o [] ≡ reverse (cons_option o xs)
 turned_option None xs = append-nil (reverse xs)
@@ -59,11 +56,6 @@ none_at_last (x ∷ xs) h =
     let in' : length (x ∷ xs) - 1 < length (x ∷ xs) = omega arith in
     let e : Some (get_or (x ∷ xs) (length (x ∷ xs) - 1) x) ≡ None = sym (slice_get-get_or (x ∷ xs) (length (x ∷ xs) - 1) x in') ∙ h in
     absurd cc
-
--- what `get` lends, copied
-pub got_copied : (xs : List ℕ) (i : ℕ) (r : Option (Bor ℕ)) → IsItemAt xs i r → option_map (λ x. x.now) r ≡ slice_get xs i
-got_copied xs i None h = sym (slice_get_past xs i h.3)
-got_copied xs i (Some x) h = sym (slice_get-get_or xs i x.now h.3.0 ∙ ap (λ y. Some y) (sym h.1))
 
 -- a clause that follows from another
 pub if_ok : {T E : Type 0} {P Q : T → Type 0} (r : Result T E) → ((x : T) → P x → Q x) → IfOk r P → IfOk r Q

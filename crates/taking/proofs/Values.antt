@@ -3,24 +3,25 @@ use Rattle.std.proofs.Common.{◌≡◌, ◌<◌, ℕ, suc, zero, ◌+◌, List,
 use Rattle.std.specs.Prelude.{Option, Some, None, slice_get, filter_map}
 use Rattle.std.specs.Option.{option_map}
 use Rattle.std.specs.List.{AllByRecursion, cons_option}
-use Rattle.std.proofs.lemmas.List.{map-append}
-use Rattle.std.proofs.lemmas.Option.{slice_get-map}
+use Rattle.std.proofs.lemmas.List.{map-append, length_push, get_or_push, get_or_append_left}
+use Rattle.std.proofs.lemmas.Option.{slice_get-map, slice_get-get_or}
 use Rattle.taking.specs.Nodes.{Shared, values_behind, values}
 
 -- ---- lists
 
-pub get_front : {A : Type 0} (xs ys : List A) (i : ℕ) → i < length xs → slice_get (xs ++ ys) i ≡ slice_get xs i
-get_front [] ys i h = absurd (omega arith)
-get_front (z ∷ xs) ys zero h = refl
-get_front (z ∷ xs) ys (suc i) h = get_front xs ys i (omega arith)
+-- one more item leaves those in front of it, and has a place behind them
+module _ {A : Type 0} (xs : List A) (y : A) where
+  pub get_front : (i : ℕ) → i < length xs → slice_get (xs ++ y ∷ []) i ≡ slice_get xs i
+  get_front i h =
+      let e = length_push xs y in
+      slice_get-get_or (xs ++ y ∷ []) i y (omega arith)
+      ∙ ap (λ z. Some z) (get_or_append_left xs (y ∷ []) y i h)
+      ∙ sym (slice_get-get_or xs i y h)
 
-pub get_last : {A : Type 0} (xs : List A) (y : A) → slice_get (xs ++ y ∷ []) (length xs) ≡ Some y
-get_last [] y = refl
-get_last (z ∷ xs) y = get_last xs y
-
-pub length_more : {A : Type 0} (xs : List A) (y : A) → length (xs ++ y ∷ []) ≡ suc (length xs)
-length_more [] y = refl
-length_more (z ∷ xs) y = ap suc (length_more xs y)
+  pub get_last : slice_get (xs ++ y ∷ []) (length xs) ≡ Some y
+  get_last =
+      let e = length_push xs y in
+      slice_get-get_or (xs ++ y ∷ []) (length xs) y (omega arith) ∙ ap (λ z. Some z) (get_or_push xs y y (length xs) refl)
 
 -- where two functions agree on the items
 pub same_filter_map : {A B : Type 0} (g h : A → Option B) (xs : List A) → AllByRecursion (λ x. g x ≡ h x) xs → filter_map g xs ≡
@@ -64,14 +65,13 @@ module _ {A : Type 0} (make : ℕ → List A → A) where
   unfolding one
   kept front [] k h = refl
   kept front (n ∷ ns) k h =
-      kept (front ++ one front n ∷ []) ns k (let e = length_more front (one front n) in omega arith) ∙ get_front front (one front n ∷
-      []) k h
+      kept (front ++ one front n ∷ []) ns k (let e = length_push front (one front n) in omega arith) ∙ get_front front (one front n) k h
 
   as_long : (front : List A) (ns : List Shared) → length (values_behind make front ns) ≡ length front + length ns
   unfolding one
   as_long front [] = omega arith
   as_long front (n ∷ ns) =
-      let e = length_more front (one front n) in
+      let e = length_push front (one front n) in
       let r = as_long (front ++ one front n ∷ []) ns in
       omega arith
 
@@ -100,11 +100,11 @@ module _ {A : Type 0} (make : ℕ → List A → A) where
       let same : x ≡ n = cc in
       let here : k ≡ length front = omega arith in
       let vs = values_behind make (front ++ one front x ∷ []) ns in
-      let more = length_more front (one front x) in
+      let more = length_push front (one front x) in
       let agree : (i : ℕ) → i < k → slice_get front i ≡ slice_get vs i =
       λ i h.
       sym (kept (front ++ one front x ∷ []) ns i (omega arith)
-      ∙ get_front front (one front x ∷ []) i (omega arith)) in
+      ∙ get_front front (one front x) i (omega arith)) in
       kept (front ++ one front x ∷ []) ns k (omega arith)
       ∙ ap (slice_get (front ++ one front x ∷ [])) here
       ∙ get_last front (one front x)
@@ -112,7 +112,7 @@ module _ {A : Type 0} (make : ℕ → List A → A) where
       ∙ ap (λ args. Some (make n.named args)) (same_filter_map (slice_get front) (slice_get vs) n.arguments (all_more agree n.arguments
       below))
   unrolled_behind front (x ∷ ns) (suc j) k n at is below =
-      let more = length_more front (one front x) in
+      let more = length_push front (one front x) in
       unrolled_behind (front ++ one front x ∷ []) ns j k n (omega arith) is below
 
   -- a value comes from those of its arguments

@@ -66,11 +66,14 @@ IsFloatTaken m t (typing label c v) =
     × (slice_get m.variables j ≡ Some v)
 IsFloatTaken m t (premise label ws) = Unit {0}
 
+abbrev pub AreFloatsTaken : Map → Tables → Assertion → Type 0
+AreFloatsTaken m t x = All (IsFloatTaken m t) x.active
+
 -- an assertion of the library says what one of the source says: its hypotheses, its statement and its pairs, over all active $f, those of
 -- dummy variables too
 pub record SaysSame (m : Map) (t : Tables) (x : Assertion) (a : Unit') : Type 0 where
   pub label : label_in m x.label ≡ Some a.label
-  pub floats : All (IsFloatTaken m t) x.active
+  pub floats : AreFloatsTaken m t x
   pub hyps : each (expression_in m x.active) (premises x.active) ≡ Some a.hyps
   pub statement : expression_in m x.active x.statement ≡ Some a.statement
   pub pairs : pairs_in m x.active x.pairs ≡ a.pairs

@@ -15,14 +15,12 @@ use Rattle.mmtext.specs.Text.{Token, dollar_mark, mark_of, has_comment_mark}
 use Rattle.mmtext.specs.Words.{Word}
 use Rattle.mmtext.specs.Comments.{words_of, without_comments}
 use Rattle.mmtext.specs.Languages.{Language, State, fault, led, outside_comment, inside_comment, step, then_run, run}
+pub use Rattle.mmtext.specs.Views.{state_at as here}
 pub use Rattle.mmtext.proofs.Marks.{same_word}
 use Rattle.mmtext.proofs.Marks.{Says, says}
 use Rattle.mmtext.proofs.Readings.{run_step, run_none, run_nil, run_cons}
 
 -- ---- walks
-
-abbrev pub here : {P : Type 0} → P → Bool → State P
-here p c = record { place = p; in_comment = c }
 
 -- where tokens lead that all stand outside of comments
 unfoldable pub walk : {P A : Type 0} → Language P A → P → List Token → Result P TextFault

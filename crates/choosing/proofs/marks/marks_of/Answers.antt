@@ -2,12 +2,13 @@
 use Rattle.std.proofs.Common.{◌≡◌, ◌∙◌, arith, refl, subst, sym}
 use Rattle.std.specs.Prelude.{None, find}
 use Rattle.std.proofs.lemmas.List.{take_all, with_items_is}
+use Rattle.mmsyntax.proofs.Again.{none_is}
 use Rattle.source.specs.Scopes.{is_in}
 use Rattle.source.specs.Views.{seen_words}
 use Rattle.choosing.specs.Marks.{AreMarked}
 use Rattle.choosing.proofs.Going.{unmarked_all}
 use Rattle.choosing.proofs.Known.{is_unknown, known_more, unknown_found}
-use Rattle.choosing.proofs.Marked.{is_in_at, none_there, labels_more}
+use Rattle.choosing.proofs.Marked.{is_in_at, labels_more}
 use Rattle.choosing.proofs.marks.marks_of.Goals as goal
 
 pub loop-label-init : goal.loop-label-init
@@ -22,7 +23,7 @@ pub returns-then-not-mark-clause-refused : goal.returns-then-not-mark-clause-ref
 returns-then-not-mark-clause-refused g c =
     λ other. (
       is_in_at c.args.labels.now c.loop-label.label-index _ c.loop-label-test.true,
-      none_there _ (sym c.if-not-mark.ensures.there),
+      none_is _ (sym c.if-not-mark.ensures.there),
       unknown_found (g.D.Declared.scope c.args.declared.now).assertions c.args.labels.now c.loop-label.label-index _ c.loop-label-test.true
           (sym c.if-not-mark.ensures.there) c.loop-label.invariant.known,
     )

@@ -2,8 +2,8 @@
 use Rattle.std.proofs.Common.{◌≡◌, [], take}
 use Rattle.mmtext.specs.Words.{Word}
 use Rattle.source.specs.Scopes.{is_in}
-use Rattle.source.specs.Views.{seen_words}
-use Rattle.naming.specs.Changes.{has, variables_changing}
+use Rattle.source.specs.Views.{has, seen_words}
+use Rattle.naming.specs.Changes.{variables_changing}
 use Rattle.naming.proofs.changes.variables_changing.Given as goal
 
 abbrev pub invariant-loop-word : goal.invariant-loop-word

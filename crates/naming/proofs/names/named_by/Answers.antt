@@ -8,9 +8,9 @@ use Rattle.std.proofs.lemmas.List.{length-map}
 use Rattle.mmtext.specs.Words.{Word, has_dot, has_hypothesis_form}
 use Rattle.mmsyntax.specs.Dotted.{is_dotted}
 use Rattle.source.specs.Scopes.{Scope}
-use Rattle.source.specs.Views.{seen_words}
+use Rattle.source.specs.Views.{has, seen_words}
 use Rattle.taking.specs.Names.{is_fresh}
-use Rattle.naming.specs.Changes.{has, has_given, IsUnnamedBy}
+use Rattle.naming.specs.Changes.{has_given, IsUnnamedBy}
 use Rattle.naming.proofs.Flags.{free_parts, given_named, given_variables, length-variables_changing}
 use Rattle.naming.proofs.Apart.{changing, given_apart}
 use Rattle.naming.proofs.names.named_by.Goals as goal

@@ -1,7 +1,10 @@
 -- What is left to show of `name_other`.
-use Rattle.std.proofs.Common.{◌∙◌, Some, take, refl, sym}
+use Rattle.std.proofs.Common.{◌≡◌, ◌∙◌, arith, inl, inr, Some, take, refl, sym}
+use Rattle.std.specs.Prelude.{slice_get}
+use Rattle.std.proofs.lemmas.Option.{slice_get_cases}
+use Rattle.source.specs.Scopes.{Assertion}
 use Rattle.prooftrees.specs.declared.roles.Role.TheVariants.{Float}
-use Rattle.prooftrees.proofs.Cases.{item_at, if_both}
+use Rattle.prooftrees.proofs.Cases.{if_both}
 use Rattle.prooftrees.proofs.Named.{named_hypothesis, named_assertion, known_assertion}
 use Rattle.prooftrees.proofs.Mandatory.{role_of_assertion, role_of_other}
 use Rattle.prooftrees.proofs.naming.name_other.Goals as goal
@@ -10,7 +13,9 @@ pub name_assertion-requires : goal.name_assertion-requires
 name_assertion-requires g c =
     let s = g.D.Declared.scope c.args.declared.now in
     let w = c.args.label.now in
-    let there = item_at s.assertions c.args.place c.requires.within in
+    let within = c.requires.within in
+    let there : (x : Assertion) × (slice_get s.assertions c.args.place ≡ Some x) =
+    elim (slice_get_cases s.assertions c.args.place).1 [ | inl y ↦ (y.0, y.2) | inr past ↦ absurd (omega arith) ] in
     let x = there.0 in
     let none =
     role_of_assertion s c.args.place x w c.requires.whole there.1 c.in-Some.field-0 (c.requires.other x there.1)

@@ -1,13 +1,15 @@
 -- What is left to show of `read_proof`.
-use Rattle.std.proofs.Common.{◌≡◌, ◌∙◌, Option, Some, None, take, refl, sym, ap, subst}
+use Rattle.std.proofs.Common.{◌≡◌, ◌∙◌, arith, inl, inr, Option, Some, None, take, refl, sym, ap, subst}
 use Rattle.std.specs.Prelude.{slice_get, MatchOption}
 use Rattle.std.specs.Option.{option_map}
+use Rattle.std.proofs.lemmas.Option.{slice_get_cases}
+use Rattle.source.specs.Scopes.{Assertion}
 use Rattle.source.specs.Proofs.{denoted}
 use Rattle.source.specs.Views.{seen_proof}
 use Rattle.prooftrees.specs.declared.form.ProofTree.{ProofTree}
 use Rattle.prooftrees.specs.Forms.{IsTree}
 use Rattle.prooftrees.proofs.Asked.{proof_is}
-use Rattle.prooftrees.proofs.Cases.{item_at, if_there}
+use Rattle.prooftrees.proofs.Cases.{if_there}
 use Rattle.prooftrees.proofs.Whole.{whole_at, counted_known, tree_there}
 use Rattle.prooftrees.proofs.reading.read_proof.Goals as goal
 
@@ -57,7 +59,9 @@ unreachable-requires g c =
     let s = g.D.Declared.scope c.args.declared.now in
     let m = g.P.StepPlaces.places c.args.places.now in
     let own = seen_proof c.in-Some.proof.now in
-    let there = item_at s.assertions c.args.place c.requires.within in
+    let within = c.requires.within in
+    let there : (x : Assertion) × (slice_get s.assertions c.args.place ≡ Some x) =
+    elim (slice_get_cases s.assertions c.args.place).1 [ | inl y ↦ (y.0, y.2) | inr past ↦ absurd (omega arith) ] in
     let x = there.0 in
     let is = proof_is s.assertions c.args.place x there.1 (Some own)
     (sym (ap (option_map (λ p. seen_proof p.now)) c.in-Some.is) ∙ c.proof.ensures) in

@@ -2,14 +2,14 @@
 use Rattle.std.proofs.Common.{◌≡◌, ◌∙◌, List, [], Some, cond, length, map, ap, refl, subst, sym}
 use Rattle.std.specs.List.{slice_get, find}
 use Rattle.std.specs.Option.{option_map}
-use Rattle.std.proofs.lemmas.Option.{slice_get-map, slice_get_read}
+use Rattle.std.proofs.lemmas.List.Elements.{All-from_recursion}
+use Rattle.std.proofs.lemmas.Option.{slice_get-map, slice_get_read, slice_get_within, get_or_from_slice_get}
 use Rattle.std.specs.Str.{bytes_eq}
 use Rattle.source.specs.Scopes.{Hypothesis}
 use Rattle.scopes.specs.Views.{kept_of, scope_of, linked, set_apart, entry_of, assertion_of}
 use Rattle.scopes.specs.Sound.{IsCounted}
 use Rattle.scopes.specs.declared.sorts.Sort.{Sort}
 use Rattle.scopes.specs.Sorts.{IsSortOf}
-use Rattle.scopes.proofs.Linking.{all_at}
 use Rattle.scopes.proofs.labels.arity_of.Goals as goal
 
 pub returns-in_ok-assertion-in-Assertion : goal.returns-in_ok-assertion-in-Assertion
@@ -27,7 +27,9 @@ returns-in_ok-assertion-in-Assertion c =
     slice_get-map entry_of t.assertions.items i ∙ ap (option_map entry_of) at in
     let seen : slice_get s.assertions i ≡ Some (assertion_of links aparts (entry_of a)) =
     slice_get-map (assertion_of links aparts) (map entry_of t.assertions.items) i ∙ ap (option_map (assertion_of links aparts)) entry in
-    let counted = all_at (IsCounted links (length aparts)) (map entry_of t.assertions.items) i (entry_of a) c.requires.sound.counted entry in
+    let es = map entry_of t.assertions.items in
+    let counted = subst (IsCounted links (length aparts)) (get_or_from_slice_get es i (entry_of a) (entry_of a) entry)
+    (All-from_recursion (IsCounted links (length aparts)) es c.requires.sound.counted i (entry_of a) (slice_get_within es i (entry_of a) entry)) in
     let w = c.args._word.now in
     let k = subst (λ (o : Sort). IsSortOf s w o) c.in-Assertion.is c.requires.sort in
     let none : List Hypothesis = [] in

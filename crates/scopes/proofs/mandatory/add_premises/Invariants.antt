@@ -4,15 +4,15 @@ use Rattle.std.specs.Prelude.{◌||◌}
 use Rattle.std.specs.List.{list_any}
 use Rattle.mmtext.specs.Words.{Word}
 use Rattle.source.specs.Scopes.{stands_in}
+use Rattle.source.specs.Views.{has}
 use Rattle.scopes.specs.Paths.{path, count_to}
 use Rattle.scopes.specs.Views.{linked}
-use Rattle.scopes.specs.Chosen.{holds}
 use Rattle.scopes.proofs.mandatory.add_premises.Given as goal
 
 abbrev pub invariant-loop-hypothesis : goal.invariant-loop-hypothesis
 invariant-loop-hypothesis l = (w : Word) →
-    (holds l.set w || list_any (stands_in w) (path (map linked l.links) l.number))
-    ≡ (holds l.initial.set w || list_any (stands_in w) (path (map linked l.links) l.fn.last))
+    (has l.set w || list_any (stands_in w) (path (map linked l.links) l.number))
+    ≡ (has l.initial.set w || list_any (stands_in w) (path (map linked l.links) l.fn.last))
 
 abbrev pub decreases-loop-hypothesis : goal.decreases-loop-hypothesis
 decreases-loop-hypothesis l = count_to l.number

@@ -3,9 +3,8 @@ use Rattle.std.proofs.Common.{◌≡◌, take}
 use Rattle.std.specs.Prelude.{◌||◌}
 use Rattle.mmtext.specs.Words.{Word}
 use Rattle.source.specs.Scopes.{is_in}
-use Rattle.source.specs.Views.{seen_words}
-use Rattle.scopes.specs.Chosen.{holds}
+use Rattle.source.specs.Views.{has, seen_words}
 use Rattle.scopes.proofs.mandatory.add_words.Given as goal
 
 abbrev pub invariant-loop-word : goal.invariant-loop-word
-invariant-loop-word l = (w : Word) → holds l.set w ≡ (holds l.initial.set w || is_in (seen_words (take l.word-index l.words)) w)
+invariant-loop-word l = (w : Word) → has l.set w ≡ (has l.initial.set w || is_in (seen_words (take l.word-index l.words)) w)

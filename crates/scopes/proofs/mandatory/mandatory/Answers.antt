@@ -7,8 +7,8 @@ use Rattle.std.proofs.lemmas.List.Elements.{filter_agree}
 use Rattle.mmtext.specs.Words.{Word}
 use Rattle.source.specs.Scopes.{Hypothesis, is_mandatory, is_mandatory_variable}
 use Rattle.source.specs.declared.contents.HypothesisWords.{HypothesisWords}
-use Rattle.source.specs.Views.{seen_words, seen_hypotheses}
-use Rattle.scopes.specs.Chosen.{holds, is_chosen}
+use Rattle.source.specs.Views.{has, seen_words, seen_hypotheses}
+use Rattle.scopes.specs.Chosen.{is_chosen}
 use Rattle.scopes.specs.Paths.{path}
 use Rattle.scopes.specs.Views.{linked}
 use Rattle.scopes.proofs.Sets.{chosen_mandatory}
@@ -19,7 +19,7 @@ returns c =
     let t = c.args.tables.now in
     let a = c.asserted_there-asserted.result.now in
     let active = path (map linked t.links.items) a.hypotheses in
-    let test = holds c.in_ok-set.set in
+    let test = has c.in_ok-set.set in
     let links : path (map linked c.as_slice-links.result.now) a.hypotheses ≡ active =
     ap (λ ls. path (map linked ls) a.hypotheses) c.as_slice-links.ensures.value in
     let words : seen_words c.as_slice-statement.result.now ≡ seen_words a.statement.items = ap seen_words c.as_slice-statement.ensures.value in

@@ -5,7 +5,7 @@ use Rattle.std.specs.Option.{option_map}
 use Rattle.std.proofs.lemmas.Option.{slice_get-map}
 use Rattle.scopes.specs.declared.tables.Asserted.{Asserted}
 use Rattle.scopes.specs.Views.{Linked, SetApart, linked, set_apart, entry_of, assertion_of}
-use Rattle.scopes.proofs.Places.{item_at}
+use Rattle.source.proofs.Lent.{got_lent}
 use Rattle.scopes.proofs.shown.asserted.Goals as goal
 
 -- a look behind a reference, and then at the assertion
@@ -23,6 +23,6 @@ returns c =
     let aparts = map set_apart t.aparts.items in
     split links aparts c.get.result
     ∙ ap (λ o. option_map (assertion_of links aparts) (option_map entry_of o))
-    (item_at c.deref.result.now i c.get.result c.get.ensures.lookup ∙ ap (λ xs. slice_get xs i) c.deref.ensures.value)
+    (got_lent c.deref.result.now i c.get.result c.get.ensures.lookup ∙ ap (λ xs. slice_get xs i) c.deref.ensures.value)
     ∙ ap (option_map (assertion_of links aparts)) (sym (slice_get-map entry_of t.assertions.items i))
     ∙ sym (slice_get-map (assertion_of links aparts) (map entry_of t.assertions.items) i)

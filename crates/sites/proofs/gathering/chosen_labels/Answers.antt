@@ -1,6 +1,8 @@
 -- What is left to show of `chosen_labels`.
 use Rattle.std.proofs.Common.{◌≡◌, ◌∙◌, ℕ, ◌+◌, ◌<◌, ◌++◌, ◌∷◌, [], List, Option, Some, None, take, length, get_or, map, true, false, sym, ap}
-use Rattle.std.proofs.Common.{arith, rules}
+use Rattle.std.proofs.Common.{arith, rules, inl, inr}
+use Rattle.std.specs.List.{slice_get}
+use Rattle.std.proofs.lemmas.Option.{slice_get_cases}
 use Rattle.std.specs.Option.{option_map}
 use Rattle.std.specs.Borrow.{Bor}
 use Rattle.std.proofs.lemmas.List.{map-append, append-nil}
@@ -8,7 +10,7 @@ use Rattle.mmtext.specs.Words.{Word}
 use Rattle.source.specs.Scopes.{Assertion}
 use Rattle.source.specs.Views.{seen_words}
 use Rattle.taking.specs.Reasons.{kept}
-use Rattle.sites.proofs.Keeping.{item_there, kept_one, kept_whole}
+use Rattle.sites.proofs.Keeping.{kept_one, kept_whole}
 use Rattle.sites.proofs.gathering.chosen_labels.Goals as goal
 use Rattle.sites.proofs.gathering.chosen_labels.Goals.{then-is_chosen+in-Some+in_ok-push, then-is_chosen+in_default, else-is_chosen}
 
@@ -27,7 +29,8 @@ loop-place-preserved g c =
     let names : List Assertion → List Word = map (λ x. x.label) in
     let below : i < length fs = c.loop-place-test.true in
     let within : i < length xs = omega (arith, c.requires) in
-    let x = item_there xs i within in
+    let x : (x : Assertion) × (slice_get xs i ≡ Some x) =
+    elim (slice_get_cases xs i).1 [ | inl y ↦ (y.0, y.2) | inr past ↦ absurd (omega arith) ] in
     elim c.if-is_chosen.branch [
       | then-is_chosen+in-Some+in_ok-push w ↦
           let yes : get_or fs i false ≡ true = search rules in

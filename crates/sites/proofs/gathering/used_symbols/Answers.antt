@@ -4,8 +4,7 @@ use Rattle.std.specs.Prelude.{filter}
 use Rattle.std.specs.Borrow.{Bor}
 use Rattle.std.proofs.lemmas.List.{map-append, take_all}
 use Rattle.mmtext.specs.Words.{Word}
-use Rattle.source.specs.Views.{seen_words}
-use Rattle.sites.specs.Used.{has}
+use Rattle.source.specs.Views.{has, seen_words}
 use Rattle.sites.proofs.Listing.{passes, fails}
 use Rattle.sites.proofs.gathering.used_symbols.Goals as goal
 use Rattle.sites.proofs.gathering.used_symbols.Goals.{then-contains+in_ok-push, else-contains}

@@ -1,8 +1,7 @@
 -- What the loop of `used_symbols` keeps: those so far.
 use Rattle.std.proofs.Common.{◌≡◌, take}
 use Rattle.std.specs.Prelude.{filter}
-use Rattle.source.specs.Views.{seen_words}
-use Rattle.sites.specs.Used.{has}
+use Rattle.source.specs.Views.{has, seen_words}
 use Rattle.sites.proofs.gathering.used_symbols.Given as goal
 
 abbrev pub invariant-loop-word : goal.invariant-loop-word

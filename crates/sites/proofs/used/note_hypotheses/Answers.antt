@@ -4,10 +4,10 @@ use Rattle.std.specs.Prelude.{◌||◌}
 use Rattle.std.specs.List.{list_any}
 use Rattle.std.proofs.lemmas.List.{map_more}
 use Rattle.source.specs.Scopes.{Hypothesis}
-use Rattle.source.specs.Views.{seen_hypothesis}
+use Rattle.source.specs.Views.{has, seen_hypothesis}
 use Rattle.sites.specs.Given.{given_hypotheses}
 use Rattle.taking.specs.Names.{is_symbol_of_hypothesis}
-use Rattle.sites.specs.Used.{has, noted, typed_by, typed}
+use Rattle.sites.specs.Used.{noted, typed_by, typed}
 use Rattle.sites.proofs.Noted.{any_more, typed_more}
 use Rattle.sites.proofs.used.note_hypotheses.Goals as goal
 

@@ -5,7 +5,8 @@ use Rattle.std.specs.List.{list_any}
 use Rattle.mmtext.specs.Words.{Word}
 use Rattle.sites.specs.Given.{given_hypotheses}
 use Rattle.taking.specs.Names.{is_symbol_of_hypothesis}
-use Rattle.sites.specs.Used.{has, noted, typed}
+use Rattle.source.specs.Views.{has}
+use Rattle.sites.specs.Used.{noted, typed}
 use Rattle.sites.proofs.used.note_hypotheses.Given as goal
 
 abbrev pub invariant-loop-hypothesis : goal.invariant-loop-hypothesis

@@ -2,10 +2,11 @@
 use Rattle.std.proofs.Common.{◌≡◌, ◌∙◌, sym, ap, ℕ, List}
 use Rattle.std.specs.Prelude.{◌||◌}
 use Rattle.std.specs.Borrow.{Bor}
-use Rattle.source.specs.Views.{seen_hypothesis}
+use Rattle.source.specs.Views.{has, seen_hypothesis}
 use Rattle.taking.specs.Names.{is_symbol_of_hypothesis}
-use Rattle.sites.specs.Used.{has, noted, typed_by}
-use Rattle.sites.proofs.Noted.{has_more, noted_more}
+use Rattle.sites.specs.Used.{noted, typed_by}
+use Rattle.source.proofs.Lent.{has_more}
+use Rattle.sites.proofs.Noted.{noted_more}
 use Rattle.sites.proofs.used.note_hypothesis.Goals as goal
 
 pub returns-in_ok-insert-in-Typing-2-clause-symbols : goal.returns-in_ok-insert-in-Typing-2-clause-symbols

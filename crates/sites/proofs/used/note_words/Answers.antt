@@ -6,9 +6,9 @@ use Rattle.std.specs.Str.{bytes_eq}
 use Rattle.std.proofs.lemmas.List.{map_more}
 use Rattle.mmtext.specs.Words.{Word}
 use Rattle.source.specs.Scopes.{is_in}
-use Rattle.source.specs.Views.{seen_words}
-use Rattle.sites.specs.Used.{has}
-use Rattle.sites.proofs.Noted.{any_more, has_more}
+use Rattle.source.specs.Views.{has, seen_words}
+use Rattle.source.proofs.Lent.{has_more}
+use Rattle.sites.proofs.Noted.{any_more}
 use Rattle.sites.proofs.used.note_words.Goals as goal
 
 pub loop-word-preserved : goal.loop-word-preserved

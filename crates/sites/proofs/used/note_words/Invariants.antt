@@ -3,8 +3,7 @@ use Rattle.std.proofs.Common.{◌≡◌, take}
 use Rattle.std.specs.Prelude.{◌||◌}
 use Rattle.mmtext.specs.Words.{Word}
 use Rattle.source.specs.Scopes.{is_in}
-use Rattle.source.specs.Views.{seen_words}
-use Rattle.sites.specs.Used.{has}
+use Rattle.source.specs.Views.{has, seen_words}
 use Rattle.sites.proofs.used.note_words.Given as goal
 
 abbrev pub invariant-loop-word : goal.invariant-loop-word

@@ -1,11 +1,13 @@
 -- What is left to show of `used_by`.
-use Rattle.std.proofs.Common.{◌≡◌, ◌∙◌, ◌+◌, ◌<◌, ◌≤◌, ◌++◌, ◌∷◌, [], take, length, get_or, true, false, sym, subst, List, arith, rules}
+use Rattle.std.proofs.Common.{◌≡◌, ◌∙◌, ◌+◌, ◌<◌, ◌≤◌, ◌++◌, ◌∷◌, [], take, length, get_or, true, false, sym, subst, List, Some, arith, rules, inl, inr}
+use Rattle.std.specs.List.{slice_get}
+use Rattle.std.proofs.lemmas.Option.{slice_get_cases}
 use Rattle.std.proofs.lemmas.List.{append-nil}
 use Rattle.source.specs.Scopes.{Assertion}
 use Rattle.taking.specs.Reasons.{kept}
 use Rattle.sites.specs.declared.used.Used.{Used}
 use Rattle.sites.specs.Used.{Uses}
-use Rattle.sites.proofs.Keeping.{item_there, kept_one, kept_whole}
+use Rattle.sites.proofs.Keeping.{kept_one, kept_whole}
 use Rattle.sites.proofs.Noted.{uses_more}
 use Rattle.sites.proofs.used.used_by.Goals as goal
 use Rattle.sites.proofs.used.used_by.Goals.{then-is_chosen+in_ok-note_assertion, else-is_chosen}
@@ -18,7 +20,8 @@ loop-place-preserved g c =
     let front : List Assertion = kept (take i fs) (take i xs) in
     let below : i < length fs = c.loop-place-test.true in
     let within : i < length xs = omega (arith, c.requires) in
-    let x = item_there xs i within in
+    let x : (x : Assertion) × (slice_get xs i ≡ Some x) =
+    elim (slice_get_cases xs i).1 [ | inl y ↦ (y.0, y.2) | inr past ↦ absurd (omega arith) ] in
     elim c.if-is_chosen.branch [
       | then-is_chosen+in_ok-note_assertion w ↦
           let yes : get_or fs i false ≡ true = search rules in

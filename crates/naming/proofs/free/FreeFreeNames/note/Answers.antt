@@ -6,7 +6,8 @@ use Rattle.std.specs.Str.{bytes_eq}
 use Rattle.mmtext.specs.Words.{has_dot}
 use Rattle.mmsyntax.proofs.Names.{bytes_eq-sym}
 use Rattle.taking.specs.Names.{is_fresh}
-use Rattle.naming.specs.Changes.{has, has_given}
+use Rattle.source.specs.Views.{has}
+use Rattle.naming.specs.Changes.{has_given}
 use Rattle.naming.proofs.Flags.{given_more, given_has}
 use Rattle.naming.proofs.free.FreeFreeNames.note.Goals as goal
 
