@@ -122,9 +122,9 @@ module _ {S N : Type 0} (terms : Terms S N) (slots : List Slot) (x : N) (p : Tab
         let t : Seat = over_seat m.0.seat true (cells_of (writes_below slots k.cell)) q.me.0.seat.looked in
         let is : q.me.0 ≡ record m.0 { seen = q.me.0.seen; seat = t } =
         back.goes.is ∙ (ap (λ (v : View S N). let w : View S N =
-            record v { seen = q.me.0.seen; seat = record v.seat { place = Idle; held = []; looked = q.me.0.seat.looked } } in w) f.goes.is
+        record v { seen = q.me.0.seen; seat = record v.seat { place = Idle; held = []; looked = q.me.0.seat.looked } } in w) f.goes.is
         ∙ ap (λ (ps : Pairs). let w : View S N =
-            record m.0 { seen = q.me.0.seen; seat = over_seat m.0.seat true (cells_of ps) q.me.0.seat.looked } in w) (held_writes slots 0 k.cell)) in
+        record m.0 { seen = q.me.0.seen; seat = over_seat m.0.seat true (cells_of ps) q.me.0.seat.looked } in w) (held_writes slots 0 k.cell)) in
         concludes terms Writing slots x p q same count place count fits s t m.0.note m.0.drawn m.0.mine is refl fits.3 fits.4 (EndsConflict k None)
         (rejected q s k None (meets_on k r q.me back f.meets) (ap (λ (v : View S N). v.seat.reads) is) (ap is_some f.differs.1) (inr f.differs)
         (λ j. known_of (same.0 j) (is j)))
@@ -211,9 +211,9 @@ module _ {S N : Type 0} (terms : Terms S N) (slots : List Slot) (x : N) (p : Tab
             let ds : List ℕ = m.0.drawn ++ number ∷ [] in
             let is : q.me.0 ≡ record m.0 { seen = q.me.0.seen; seat = t; note = Some x; drawn = ds } =
             back.goes.is ∙ (ap (λ (v : View S N). let w : View S N =
-                record v { seen = q.me.0.seen; seat = record v.seat { place = Idle; held = []; looked = q.me.0.seat.looked } } in w) f.goes.is
+            record v { seen = q.me.0.seen; seat = record v.seat { place = Idle; held = []; looked = q.me.0.seat.looked } } in w) f.goes.is
             ∙ (ap (λ (v : View S N). let w : View S N =
-                record v { seen = q.me.0.seen; seat = over_seat v.seat true [] q.me.0.seat.looked } in w) drawn_is
+            record v { seen = q.me.0.seen; seat = over_seat v.seat true [] q.me.0.seat.looked } in w) drawn_is
             ∙ (λ j. let w : View S N = record m.0 {
               seen = q.me.0.seen;
               seat = over_seat m.0.seat true (cells_of (held_writes slots 0 (length slots) j)) q.me.0.seat.looked;
@@ -276,7 +276,7 @@ module _ {S N : Type 0} (terms : Terms S N) (slots : List Slot) (x : N) (p : Tab
                 mine = m.0.mine ++ Committed number (work_kept m.0.seat slots x) ∷ [];
               } =
               back.goes.is ∙ (ap (λ (v : View S N). let w : View S N =
-                  record v { seen = q.me.0.seen; seat = record v.seat { place = Idle; held = []; looked = q.me.0.seat.looked } } in w) c.is
+              record v { seen = q.me.0.seen; seat = record v.seat { place = Idle; held = []; looked = q.me.0.seat.looked } } in w) c.is
               ∙ (ap (ended q.me n (work_kept s.0.seat slots x)) b.goes.is ∙ (ap (ended q.me n (work_kept s.0.seat slots x)) drawn_is
               ∙ (λ j. let w : View S N = record m.0 {
                 seen = q.me.0.seen;

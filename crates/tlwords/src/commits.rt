@@ -21,6 +21,7 @@ use crate::outcome::{Conflict, Outcome};
 use crate::rule::Place;
 use crate::steps::{check, draw, passes, recall, release, store, take};
 use crate::words::Words;
+use std::marker::Brand;
 
 // Locks the cells to be written, in ascending order. An error is the try that failed; the smaller cells are locked still.
 fn take_all<L: Law>(words: &Words<L>, seat: &mut Place<L>, log: &Log) -> Result<(), Conflict>
@@ -36,7 +37,7 @@ fn take_all<L: Law>(words: &Words<L>, seat: &mut Place<L>, log: &Log) -> Result<
 {
     for i in 0..log.writes.len() {
         let Touched { cell, word, value } = log.writes[i];
-        let found = take(words, seat, cell, word, value);
+        let found = take::<L, Brand>(words, seat, cell, word, value);
         if found != word {
             return Err(Conflict {
                 cell,
@@ -160,7 +161,7 @@ fn settle<L: Law>(
             drawn: None,
         };
     }
-    let index = draw(words, seat, note);
+    let index = draw::<L, Brand>(words, seat, note);
     *count += 1;
     let number = index + 1;
     if let Err(conflict) = check_all(words, seat, log, place, index) {
@@ -194,7 +195,7 @@ fn finish<L: Law>(
 {
     log.plan_writes();
     if log.writes.is_empty() {
-        recall(words, seat, note);
+        recall::<L, Brand>(words, seat, note);
         return Outcome::Read(place);
     }
     if *count >= MOST_NUMBERS {
@@ -224,7 +225,7 @@ pub(crate) fn conclude<L: Law>(
 {
     match mode {
         Mode::Reading => {
-            recall(words, seat, note);
+            recall::<L, Brand>(words, seat, note);
             Outcome::Read(place)
         }
         Mode::Writing => finish(words, seat, log, count, place, note),

@@ -16,6 +16,7 @@ use crate::words::Words;
 use ranges::Range;
 use std::error::Error;
 use std::fmt;
+use std::marker::Brand;
 
 /// The store has no room for the words, or had none for those that this session wanted to stage before.
 #[derive(Clone, Copy, Debug, PartialEq, Eq)]
@@ -80,7 +81,7 @@ impl<'w, L: Law> Run<'w, L> {
             return Err(StoreFull);
         }
         let room = self.words.room;
-        let start = advance(self.words, &mut self.seat, words);
+        let start = advance::<L, Brand>(self.words, &mut self.seat, words);
         if words.len() > room || start > (room - words.len()) as u64 {
             self.full = true;
             return Err(StoreFull);

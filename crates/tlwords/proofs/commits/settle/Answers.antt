@@ -57,10 +57,12 @@ returns-in-Err-check_all-clause-ended g c =
 
 pub store_all-requires-clause-setting : goal.store_all-requires-clause-setting
 store_all-requires-clause-setting g c =
-    let y = known_setting c.args.seat.now.me.0.setting c.requires.run.0 in
-    (y.0, passed_setting g.L.Law.terms c.args.log.now.slots c.args.note.now c.args.seat.now _ c.args.place c.requires.run c.requires.kept c.requires.writes
-    _ c.in_default.ensures.ok _ c.draw-index.result c.draw-index.ensures.told
-    _ c.in_default-check_all.ensures.ok y.0 y.1)
+    let y = known_setting c.args.seat.now.me.0.setting c.requires.run.0 in (
+      y.0,
+      passed_setting g.L.Law.terms c.args.log.now.slots c.args.note.now c.args.seat.now _ c.args.place c.requires.run c.requires.kept c.requires.writes
+          _ c.in_default.ensures.ok _ c.draw-index.result c.draw-index.ensures.told
+          _ c.in_default-check_all.ensures.ok y.0 y.1,
+    )
 
 pub store_all-requires-clause-plan : goal.store_all-requires-clause-plan
 store_all-requires-clause-plan g c =
