@@ -200,10 +200,6 @@ impl<'w> Cells for Live<'w> {
     }
 
     fn load(&mut self, range: Range, index: usize) -> u64 {
-        let range = tlwords::Range {
-            start: range.start,
-            len: range.len,
-        };
         self.run.load(range, index)
     }
 
@@ -211,13 +207,9 @@ impl<'w> Cells for Live<'w> {
         if let Some(range) = self.stage.find(words) {
             return Ok(range);
         }
-        let Ok(staged) = self.run.stage(words) else {
+        let Ok(range) = self.run.stage(words) else {
             self.full = true;
             return Err(Stopped);
-        };
-        let range = Range {
-            start: staged.start,
-            len: staged.len,
         };
         // Where there is no memory for the note, a later body of the same words is staged anew.
         let _ = self.stage.note(self.alloc, words, range);

@@ -1,5 +1,5 @@
 -- How far a range of the store is filled, and what a run tells of steps on the store.
-use Rattle.std.proofs.Common.{◌≡◌, ◌≢◌, ℕ, ◌+◌, ◌<◌, ◌≤◌, inl, inr, Bool, false, is_some, Option, Some, None, List, [], ◌∷◌}
+use Rattle.std.proofs.Common.{◌≡◌, ℕ, ◌+◌, ◌<◌, ◌≤◌, inr, Bool, false, is_some, Option, Some, None, List}
 use Rattle.std.proofs.Common.{length, min, slice_get, sym, refl, ap, ◌∙◌, arith}
 use Rattle.atomic_table.specs.Seated.{TableId}
 use Rattle.atomic_table.specs.declared.shared.Seat.{Seat as TableSeat}
@@ -16,10 +16,6 @@ use Rattle.tlwords.specs.Runs.{Finishes, Runs}
 use Rattle.tlwords.specs.Calls.{HasLoaded, HasStaged, FindsFull}
 use Rattle.tlwords.proofs.Turns.{Moves, moves_then}
 use Rattle.tlwords.proofs.Knows.{stands_of, runs_on}
-
-pub some_words : {A : Type 0} (xs : List A) → xs ≢ [] → 0 < length xs
-some_words [] ne = absurd (ne refl)
-some_words (x ∷ xs) ne = omega arith
 
 -- a number that is each word at this index is the word at this index
 pub range_word : (words : List ℕ) (i n : ℕ) → i < length words → ((w : ℕ) → slice_get words i ≡ Some w → n ≡ w) → slice_get words i ≡ Some n
@@ -38,15 +34,6 @@ module _ {S N : Type 0} (terms : Terms S N) where
       pub sees : Moves terms m r
       pub goes_on : done < length words → r.0 ≡ record m.0 { seen = r.0.seen; staging = Some (with_done done) }
       pub ends : done ≡ length words → Finishes terms words start m r
-
-    pub filled_start : (m : Mine S N) → words ≢ [] → m.0.staging ≡ Some (with_done 0) → Filled m 0 m
-    filled_start m ne e =
-        record {
-          sees = inl refl;
-          goes_on = λ l. let keep : m.0 ≡ record m.0 { staging = m.0.staging } = refl in
-              keep ∙ ap (λ s. let v : View S N = record m.0 { staging = s } in v) e;
-          ends = λ n. let l : 0 < length words = some_words words ne in absurd (omega (arith, l, n));
-        }
 
     pub filled_more : (m r q : Mine S N) (k : ℕ) → k < length words → Filled m k r → Fills terms r q → Filled m (k + 1) q
     filled_more m r q k l f s =

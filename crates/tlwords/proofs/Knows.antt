@@ -17,10 +17,15 @@ use Rattle.tlwords.specs.declared.log.Slot.{Slot}
 use Rattle.tlwords.specs.declared.mode.Mode.{Mode}
 use Rattle.tlwords.specs.declared.mode.Mode.TheVariants.{Reading, Writing}
 use Rattle.tlwords.specs.declared.outcome.Conflict.{Conflict}
+use Rattle.tlwords.specs.declared.outcome.Outcome.{Outcome}
+use Rattle.tlwords.specs.declared.outcome.Outcome.TheVariants.{Committed as EndsDone, Read as EndsRead, Conflict as EndsConflict, NumbersUsed}
 use Rattle.tlwords.specs.Terms.{Terms}
 use Rattle.tlwords.specs.Views.{Staging, Gone, View, Sound}
-use Rattle.tlwords.specs.Known.{Knows, Stands, known_of, going_of, found_of, word_told}
-use Rattle.tlwords.specs.Plays.{Mine, IsSameSeat}
+use Rattle.tlwords.specs.Seen.{Call}
+use Rattle.tlwords.specs.Known.{Known, Going, Knows, Stands, known_of, going_of, found_of, word_told}
+use Rattle.tlwords.specs.Plays.{Mine, Sees, IsSameSeat}
+use Rattle.tlwords.specs.Calls.{work_done, Ends, IsCommitted, IsAnswered, IsRejected}
+use Rattle.tlwords.specs.Committing.{Concludes}
 use Rattle.tlwords.specs.Runs.{KnowsStore, IsPassOf, IsRunOf, IsKeptOf, Rests, Runs, IsBlank, noted, word_seen}
 
 pub known_setting : {A : Type 0} (o : Option A) → is_some o ≡ true → (x : A) × (o ≡ Some x)
@@ -132,6 +137,41 @@ module _ {S N : Type 0} (terms : Terms S N) where
           };
           bare = same.2 ∙ i.bare;
         })
+
+  -- ---- a run is over: no more of its view has changed than this
+
+  module _ (mode : Mode) (slots : List Slot) (x : N) (p q : TableSeat (Unit {0}) (View S N)) (same : IsSameSeat p q) (count place now : ℕ)
+      (fits : IsRunOf p.me count place false) (s : Sees terms p.me.0 q.me.0) (t : Seat) (note : Option N) (ds : List ℕ) (cs : List (Call N))
+      (is : q.me.0 ≡ record p.me.0 { seen = q.me.0.seen; seat = t; note = note; drawn = ds; mine = cs })
+      (rests : is_resting t.place ≡ true) (many : length ds ≡ now) (few : now ≤ 2 ^ 40) where
+    pub concludes : (o : Outcome) → (Knows terms (known_of q.table_id q.me.0)
+        → Ends terms x (going_of p.table_id p.me.0 place mode None slots) (known_of q.table_id q.me.0) o) → Concludes terms x mode place slots now p q o
+    concludes o ends =
+        let pass : IsPassOf q.me now =
+        subst (λ (v : View S N). IsPassOf {S = S} {N = N} (v, q.me.1) now) (sym is) (fits.0, rests, fits.2, many, few) in
+        record {
+          seat = same;
+          pass = pass;
+          store = λ full k. knows_on p.me.0 q.me.0 full full s.sound pass.0 (ap (λ (v : View S N). rest_of v) is)
+              (ap (λ (v : View S N). is_some v.full) is ∙ k.full) k;
+          ends = ends (knows_of q.table_id q.me now s.sound pass);
+        }
+
+  ends_home : (n : N) (g : Going S N) (r : Known S N) (o : Outcome) → Ends terms n g r o → r.home ≡ g.known.home
+  ends_home n g r (EndsDone number) h =
+      let c : IsCommitted terms number (work_done g n) g.known r = h.1 in ap (λ (k : Known S N). k.home) c.is
+  ends_home n g r (EndsRead p) h = let a : IsAnswered terms p (work_done g n) g.known r = h.2 in ap (λ (k : Known S N). k.home) a.is
+  ends_home n g r (EndsConflict k None) h =
+      let c : IsRejected terms k None g r = h.1 in ap (λ (x : Known S N). x.home) c.entry
+  ends_home n g r (EndsConflict k (Some number)) h =
+      let c : IsRejected terms k (Some number) g r = h.1 in ap (λ (x : Known S N). x.home) c.entry.4
+  ends_home n g r NumbersUsed h = ap (λ (k : Known S N). k.home) h.2
+
+  -- a commit leaves the pass at its opening
+  pub concluded_home : (n : N) (mode : Mode) (place : ℕ) (slots : List Slot) (count : ℕ) (p q : TableSeat (Unit {0}) (View S N)) (o : Outcome)
+      → Concludes terms n mode place slots count p q o → (known_of q.table_id q.me.0).home ≡ (known_of p.table_id p.me.0).home
+  concluded_home n mode place slots count p q o c =
+      ends_home n (going_of p.table_id p.me.0 place mode None slots) (known_of q.table_id q.me.0) o c.ends
 
   -- what holds of a pass, of what its run left
   pub rests_as : (p q : TableSeat (Unit {0}) (View S N)) (slots : List Slot) (a b : ℕ) (full : Bool) → q ≡ p → b ≡ a → IsPassOf p.me a

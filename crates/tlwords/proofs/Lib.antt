@@ -28,5 +28,4 @@ pub mod Fillings
 pub mod Modes
 pub mod StoreSteps
 pub mod Events
-pub mod Tellings
 pub mod Sent

@@ -59,10 +59,6 @@ module _ {S N : Type 0} (terms : Terms S N) where
         sound = p.sound;
       }
 
-  pub moves_on : (m r s : Mine S N) → Moves m r → Moves r s → Moves m s
-  moves_on m r s p (inl e) = subst (λ (z : Mine S N). Moves m z) (sym e) p
-  moves_on m r s p (inr q) = inr (moves_then m r s p q)
-
   pub sees_on : (m r s : Mine S N) → Sees terms m.0 r.0 → Moves r s → Sees terms m.0 s.0
   sees_on m r s p (inl e) = subst (λ (z : Mine S N). Sees terms m.0 z.0) (sym e) p
   sees_on m r s p (inr q) = moves_then m r s (inr p) q
@@ -161,7 +157,7 @@ module _ {S N : Type 0} (terms : Terms S N) where
                 (λ o. if_false (n == w) hit miss (ne_eqb n w ne)
                 ∙ ap (λ (ks : List Held). let z : Seat = record (locking (conflict m.0.seat Idle) Failing Idle ks) { looked = Some (c, n) } in z)
                 (sym (held_on slots 0 0 low c l unkept)));
-            finds = record {
+            meets = record {
               looked = ap (λ (v : View S N). v.seat.looked) t.is ∙ if_known (λ (z : Seat). z.looked ≡ Some (c, n)) (n == w)
                   (record (saw r.0.seat c n) {
                     place = Taking;

@@ -1,19 +1,25 @@
 -- Of the code's inside, apart from the rules: what the steps inside a commit tell, and the cells that it holds on the way.
-use Rattle.std.specs.Prelude.{◌≡◌, ◌≢◌, ℕ, zero, suc, ◌*◌, ◌<◌, nat_lt, nat_le, ◌||◌, true, is_some, if◌then◌else◌, Option, Some, None, List, []}
+use Rattle.std.specs.Prelude.{◌≡◌, ◌≢◌, ℕ, zero, suc, ◌*◌, ◌/◌, ◌<◌, Bool, nat_lt, nat_le, ◌||◌, true, is_some, if◌then◌else◌, Option, Some, None, List, []}
 use Rattle.std.specs.Prelude.{◌∷◌, ◌++◌, length, ◌⊎◌}
-use Rattle.tlcore.specs.History.{wv}
+use Rattle.atomic_table.specs.declared.shared.Seat.{Seat as TableSeat}
+use Rattle.tlcore.specs.History.{WasWritten, wv}
 use Rattle.tlcore.specs.Seats.{Seat, is_nil, writes_of, is_next, all_settled}
 use Rattle.tlcore.specs.Machine.{placed, conflict}
 use Rattle.tlcore.specs.declared.seats.Held.{Held}
 use Rattle.tlcore.specs.declared.seats.Place.{Place}
 use Rattle.tlcore.specs.declared.seats.Place.TheVariants.{Idle, Checking, Storing, Failing, Voiding}
 use Rattle.tlwords.specs.declared.log.Slot.{Slot}
+use Rattle.tlwords.specs.declared.mode.Mode.{Mode}
 use Rattle.tlwords.specs.declared.outcome.Conflict.{Conflict as ConflictValue}
+use Rattle.tlwords.specs.declared.outcome.Outcome.{Outcome}
 use Rattle.tlwords.specs.Terms.{Terms}
 use Rattle.tlwords.specs.Seen.{Work, Committed, IsDone}
-use Rattle.tlwords.specs.Plays.{Mine, Sees}
-use Rattle.tlwords.specs.Runs.{word_seen, value_kept, HasCause}
-use Rattle.tlwords.specs.Commits.{cells_of, Finds, IsVoid}
+use Rattle.tlwords.specs.Views.{View}
+use Rattle.tlwords.specs.Known.{known_of, going_of}
+use Rattle.tlwords.specs.Plays.{Mine, Sees, IsSameSeat}
+use Rattle.tlwords.specs.Runs.{word_seen, value_kept, HasCause, IsPassOf, KnowsStore}
+use Rattle.tlwords.specs.Commits.{cells_of, IsVoid}
+use Rattle.tlwords.specs.Calls.{Ends}
 
 abbrev pub word_or_zero : Option ℕ → ℕ
 word_or_zero None = 0
@@ -44,18 +50,24 @@ module _ {S N : Type 0} (terms : Terms S N) where
     pub moves : (r ≡ m) ⊎ Sees terms m.0 r.0
     pub is : r.0 ≡ record m.0 { seen = r.0.seen; seat = record t { looked = r.0.seat.looked } }
 
+  -- a look or a take of the conflict's cell found its word, and the run's newest read of it the one before
+  pub record Meets (slots : List Slot) (k : ConflictValue) (r : Mine S N) : Type 0 where
+    pub looked : r.0.seat.looked ≡ Some (k.cell, k.word)
+    pub written : WasWritten r.0.seen.history k.cell (k.word / 2)
+    pub before : word_seen slots k.cell ≡ k.before
+
   -- the take of the conflict's cell failed, and the smaller cells are held
   pub record FailsToTake (slots : List Slot) (k : ConflictValue) (m r : Mine S N) : Type 0 where
     pub goes : Goes m (locking (conflict m.0.seat Idle) Failing Idle (held_in slots 0 0 k.cell)) r
     pub sees : Sees terms m.0 r.0
-    pub finds : Finds terms slots k r
+    pub meets : Meets slots k r
     pub differs : (w : ℕ) × (k.before ≡ Some w) × (w ≢ k.word)
     pub within : k.cell < length slots
 
   -- a check of the conflict's cell failed
   pub record FailsTheCheck (slots : List Slot) (i : ℕ) (k : ConflictValue) (m r : Mine S N) : Type 0 where
     pub goes : Goes m (conflict m.0.seat (Voiding i)) r
-    pub finds : Finds terms slots k r
+    pub meets : Meets slots k r
     pub read : is_some k.before ≡ true
     pub cause : HasCause m.0.seat.rv k.word
 
@@ -92,3 +104,11 @@ module _ {S N : Type 0} (terms : Terms S N) where
     pub goes : Goes m (record m.0.seat { place = Idle; held = [] }) r
     pub looked : r.0.seat.looked ≡ m.0.seat.looked
     pub void : (i : ℕ) → m.0.seat.place ≡ Voiding i → IsVoid r.0.seen i
+
+  -- a commit with this note has ended so, of a run in this mode at this place that kept this; its pass has drawn so many numbers
+  pub record Concludes (n : N) (mode : Mode) (place : ℕ) (slots : List Slot) (count : ℕ) (p q : TableSeat (Unit {0}) (View S N)) (o : Outcome) :
+      Type 0 where
+    pub seat : IsSameSeat p q
+    pub pass : IsPassOf q.me count
+    pub store : (full : Bool) → KnowsStore p.me.0 full → KnowsStore q.me.0 full
+    pub ends : Ends terms n (going_of p.table_id p.me.0 place mode None slots) (known_of q.table_id q.me.0) o

@@ -1,19 +1,18 @@
 //! The end of a run: the steps of a commit, in order.
 #![tactic(auto)]
 
-ghost use Rattle.std.specs.Prelude.{◌≡◌, ◌≢◌, ℕ, ◌*◌, ◌^◌, ◌+◌, ◌<◌, ◌≤◌, ◌⊎◌, ◌||◌, Some, None, [], length, take, true, false, IfOk, IfErr};
+ghost use Rattle.std.specs.Prelude.{◌≡◌, ◌≢◌, ℕ, ◌^◌, ◌<◌, ◌≤◌, ◌||◌, Some, None, [], length, true, false, IfOk, IfErr};
 ghost use Rattle.tlwords.specs.Walks.{IsPlan};
-ghost use Rattle.tlcore.specs.History.{wv};
-ghost use Rattle.tlcore.specs.Seats.{is_next, all_settled, is_nil, reads_of};
-ghost use Rattle.tlcore.specs.Machine.{placed, conflict};
-ghost use Rattle.tlcore.specs.declared.seats.Place.TheVariants.{Idle, Reading as AtReading, Taking, Checking, Storing, Failing, Voiding};
+ghost use Rattle.tlcore.specs.Seats.{is_next, all_settled};
+ghost use Rattle.tlcore.specs.declared.seats.Place.TheVariants.{Reading as AtReading, Taking, Checking};
 ghost use Rattle.tlwords.specs.Plays.{IsSameSeat};
-ghost use Rattle.tlwords.specs.Terms.{Permits};
-ghost use Rattle.tlwords.specs.Runs.{IsKeptOf, noted, IsPassOf, IsRunOf};
-ghost use Rattle.tlwords.specs.declared.mode.Mode.TheVariants.{Reading};
+ghost use Rattle.tlwords.specs.Runs.{IsKeptOf, noted, IsRunOf};
+ghost use Rattle.tlwords.specs.declared.mode.Mode.TheVariants.{Reading, Writing};
 ghost use Rattle.tlwords.specs.declared.outcome.Outcome.TheVariants.{Read as EndsRead};
-ghost use Rattle.tlwords.specs.Commits.{writes_kept, work_kept, HasCommitted, HasConflicted, IsLawfulNow, HasEnded};
-ghost use Rattle.tlwords.specs.Committing.{held_in, locking, Goes, FailsToTake, FailsTheCheck, Passes, StoresTo, Releasing, ReleasesAll};
+ghost use Rattle.tlwords.specs.Commits.{writes_kept, work_kept};
+ghost use Rattle.tlwords.specs.Known.{going_of};
+ghost use Rattle.tlwords.specs.Calls.{IsLawful};
+ghost use Rattle.tlwords.specs.Committing.{held_in, locking, Goes, FailsToTake, FailsTheCheck, Passes, StoresTo, Releasing, ReleasesAll, Concludes};
 
 use crate::law::Law;
 use crate::log::{Log, Touched};
@@ -22,6 +21,7 @@ use crate::outcome::{Conflict, Outcome};
 use crate::rule::Place;
 use crate::steps::{check, draw, passes, recall, release, store, take};
 use crate::words::Words;
+use std::marker::Brand;
 
 // Locks the cells to be written, in ascending order. An error is the try that failed; the smaller cells are locked still.
 fn take_all<L: Law>(words: &Words<L>, seat: &mut Place<L>, log: &Log) -> Result<(), Conflict>
@@ -37,7 +37,7 @@ fn take_all<L: Law>(words: &Words<L>, seat: &mut Place<L>, log: &Log) -> Result<
 {
     for i in 0..log.writes.len() {
         let Touched { cell, word, value } = log.writes[i];
-        let found = take(words, seat, cell, word, value);
+        let found = take::<L, Brand>(words, seat, cell, word, value);
         if found != word {
             return Err(Conflict {
                 cell,
@@ -131,40 +131,50 @@ fn release_all<L: Law>(
     }
 }
 
-// From the draw on: the cells to be written are held. An error is the check that failed, and the number that was drawn.
+// How many numbers a pass may draw.
+const MOST_NUMBERS: u64 = 1 << 40;
+
+// Ends a run that is to write something, of a pass that may draw a number: locks, draws, checks, stores and gives the locks back.
 fn settle<L: Law>(
     words: &Words<L>,
     seat: &mut Place<L>,
     log: &mut Log,
+    count: &mut u64,
     place: u64,
     note: &L::Note,
-) -> Result<u64, (Conflict, u64)>
+) -> Outcome
     requires table { seat.old.table_id ≡ words.now.table.shared.table_id }
-    requires setting { (y : L.Setting) × (seat.old.me.0.setting ≡ Some y) × Permits L.terms y seat.old.me.0.seen.ranges (reads_of seat.old.me.0.seat.reads) (writes_kept log.old.slots) note.now }
     requires cells { (length log.old.slots ≡ words.now.cells) × (length log.old.slots ≡ length seat.old.me.0.base) }
-    requires run { (seat.old.me.0.seat.place ≡ Taking) × (seat.old.me.0.seat.rv ≡ place) × (seat.old.me.0.seat.held ≡ held_in log.old.slots 0 0 (length log.old.slots)) }
+    requires run { IsRunOf seat.old.me count.old place false }
     requires kept { IsKeptOf seat.old.me.0.seat log.old.slots }
+    requires lawful { IsLawful L.terms (going_of seat.old.table_id seat.old.me.0 place Writing None log.old.slots) note.now }
     requires writes { writes_kept log.old.slots ≢ [] }
-    requires room { length seat.old.me.0.drawn + 1 ≤ 2 ^ 40 * seat.old.me.0.rights }
+    requires room { count.old < 2 ^ 40 }
     requires plan { IsPlan log.old.slots true log.old.writes.items }
     ensures log { log.new.slots ≡ log.old.slots }
-    ensures seat { IsSameSeat seat.old seat.new }
-    ensures ok { IfOk result (λ n. HasCommitted L.terms [] n (work_kept seat.old.me.0.seat log.old.slots note.now) seat.old.me seat.new.me) }
-    ensures err { IfErr result (λ k. HasConflicted L.terms log.old.slots [] note.now k.0 (Some k.1) seat.old.me seat.new.me × (length seat.new.me.0.drawn ≡ length seat.old.me.0.drawn + 1)) }
+    ensures ended { Concludes L.terms note.now Writing place log.old.slots count.new seat.old seat.new result }
 {
-    let index = draw(words, seat, note);
+    if let Err(conflict) = take_all(words, seat, log) {
+        release_all(words, seat, log, conflict.cell, None);
+        return Outcome::Conflict {
+            conflict,
+            drawn: None,
+        };
+    }
+    let index = draw::<L, Brand>(words, seat, note);
+    *count += 1;
     let number = index + 1;
     if let Err(conflict) = check_all(words, seat, log, place, index) {
         release_all(words, seat, log, words.cells, None);
-        return Err((conflict, number));
+        return Outcome::Conflict {
+            conflict,
+            drawn: Some(number),
+        };
     }
     store_all(words, seat, log, index, note);
     release_all(words, seat, log, words.cells, Some(2 * number));
-    Ok(number)
+    Outcome::Committed(number)
 }
-
-// How many numbers a pass may draw.
-const MOST_NUMBERS: u64 = 1 << 40;
 
 // Ends a run in Writing mode that hasn't met a conflict, and makes what it wrote an entry of the history.
 fn finish<L: Law>(
@@ -179,35 +189,19 @@ fn finish<L: Law>(
     requires cells { (length log.old.slots ≡ words.now.cells) × (length log.old.slots ≡ length seat.old.me.0.base) }
     requires run { IsRunOf seat.old.me count.old place false }
     requires kept { IsKeptOf seat.old.me.0.seat log.old.slots }
-    requires lawful { IsLawfulNow L.terms seat.old.me.0 log.old.slots note.now }
+    requires lawful { IsLawful L.terms (going_of seat.old.table_id seat.old.me.0 place Writing None log.old.slots) note.now }
     ensures log { log.new.slots ≡ log.old.slots }
-    ensures seat { IsSameSeat seat.old seat.new }
-    ensures pass { IsPassOf seat.new.me count.new }
-    ensures ended { HasEnded L.terms log.old.slots note.now seat.old.me seat.new.me result }
+    ensures ended { Concludes L.terms note.now Writing place log.old.slots count.new seat.old seat.new result }
 {
     log.plan_writes();
     if log.writes.is_empty() {
-        recall(words, seat, note);
+        recall::<L, Brand>(words, seat, note);
         return Outcome::Read(place);
     }
     if *count >= MOST_NUMBERS {
         return Outcome::NumbersUsed;
     }
-    if let Err(conflict) = take_all(words, seat, log) {
-        release_all(words, seat, log, conflict.cell, None);
-        return Outcome::Conflict {
-            conflict,
-            drawn: None,
-        };
-    }
-    *count += 1;
-    match settle(words, seat, log, place, note) {
-        Ok(number) => Outcome::Committed(number),
-        Err((conflict, number)) => Outcome::Conflict {
-            conflict,
-            drawn: Some(number),
-        },
-    }
+    settle(words, seat, log, count, place, note)
 }
 
 /// Ends a run that hasn't met a conflict. The count is that of the numbers drawn.
@@ -224,16 +218,14 @@ pub(crate) fn conclude<L: Law>(
     requires cells { (length log.old.slots ≡ words.now.cells) × (length log.old.slots ≡ length seat.old.me.0.base) }
     requires run { IsRunOf seat.old.me count.old place false }
     requires kept { IsKeptOf (noted mode seat.old.me.0.seat) log.old.slots }
-    requires lawful { IsLawfulNow L.terms seat.old.me.0 log.old.slots note.now }
-    ensures seat { IsSameSeat seat.old seat.new }
-    ensures pass { IsPassOf seat.new.me count.new }
+    requires lawful { IsLawful L.terms (going_of seat.old.table_id seat.old.me.0 place mode None log.old.slots) note.now }
     ensures log { log.new.slots ≡ log.old.slots }
     ensures reading { mode ≡ Reading → result ≡ EndsRead place }
-    ensures ended { HasEnded L.terms log.old.slots note.now seat.old.me seat.new.me result }
+    ensures ended { Concludes L.terms note.now mode place log.old.slots count.new seat.old seat.new result }
 {
     match mode {
         Mode::Reading => {
-            recall(words, seat, note);
+            recall::<L, Brand>(words, seat, note);
             Outcome::Read(place)
         }
         Mode::Writing => finish(words, seat, log, count, place, note),

@@ -32,6 +32,7 @@ pub use mode::Mode;
 pub use opening::{MOST_CELLS, MOST_ROOM, OpenFault, open};
 pub use outcome::{Conflict, Outcome};
 pub use passes::Pass;
+pub use ranges::Range;
 pub use runs::{Run, begin, learn};
-pub use store::{Range, StoreFull};
+pub use store::StoreFull;
 pub use words::Words;

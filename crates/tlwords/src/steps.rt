@@ -19,7 +19,6 @@ use crate::plays::{
 };
 use crate::rule::Place;
 use crate::words::Words;
-use std::marker::Brand;
 
 /// Whether a run at this place goes on after a look that found this lock word: it is free, and of no version above the place.
 pub(crate) fn passes(word: u64, place: u64) -> bool
@@ -90,7 +89,8 @@ pub(crate) fn relook<L: Law>(
         .load::<Relook<L>>(seat, 2 * cell + FIRST_LOCK)
 }
 
-fn take_saying<L: Law, G: Said<L::Note>>(
+/// One try to lock the cell, from the word that its read has seen. The value is the one to be stored.
+pub(crate) fn take<L: Law, G: Said<L::Note>>(
     words: &Words<L>,
     seat: &mut Place<L>,
     cell: usize,
@@ -113,27 +113,8 @@ fn take_saying<L: Law, G: Said<L::Note>>(
         .compare_exchange::<Take<L, G>>(seat, 2 * cell + FIRST_LOCK, word, word + 1)
 }
 
-/// One try to lock the cell, from the word that its read has seen. The value is the one to be stored.
-pub(crate) fn take<L: Law>(
-    words: &Words<L>,
-    seat: &mut Place<L>,
-    cell: usize,
-    word: u64,
-    value: u64,
-) -> u64
-    requires table { seat.old.table_id ≡ words.now.table.shared.table_id }
-    requires setting { (y : L.Setting) × (seat.old.me.0.setting ≡ Some y) }
-    requires cell { (cell < words.now.cells) × (cell < length seat.old.me.0.base) }
-    requires place { (seat.old.me.0.seat.place ≡ Reading) ⊎ ((seat.old.me.0.seat.place ≡ Taking) × (all_below cell seat.old.me.0.seat.held ≡ true)) }
-    requires read { (d : Read) × (find_read cell seat.old.me.0.seat.reads ≡ Some d) × (d.word ≡ word) }
-    requires room { (word + 1 < 2 ^ 64) × (1 ≤ seat.old.me.0.rights) }
-    ensures seat { IsSameSeat seat.old seat.new }
-    ensures told { Takes L.terms cell value word seat.old.me result seat.new.me }
-{
-    take_saying::<L, Brand>(words, seat, cell, word, value)
-}
-
-fn draw_saying<L: Law, G: Said<L::Note>>(
+/// Advances the clock. The run's number is one more than the result.
+pub(crate) fn draw<L: Law, G: Said<L::Note>>(
     words: &Words<L>,
     seat: &mut Place<L>,
     note: &L::Note,
@@ -148,19 +129,6 @@ fn draw_saying<L: Law, G: Said<L::Note>>(
     ensures told { Draws L.terms (Some note.now) seat.old.me result seat.new.me }
 {
     words.table.shared.fetch_add::<Draw<L, G>>(seat, CLOCK, 1)
-}
-
-/// Advances the clock. The run's number is one more than the result.
-pub(crate) fn draw<L: Law>(words: &Words<L>, seat: &mut Place<L>, note: &L::Note) -> u64
-    requires table { seat.old.table_id ≡ words.now.table.shared.table_id }
-    requires setting { (y : L.Setting) × (seat.old.me.0.setting ≡ Some y) × Permits L.terms y seat.old.me.0.seen.ranges (reads_of seat.old.me.0.seat.reads) (writes_of seat.old.me.0.seat.held) note.now }
-    requires place { seat.old.me.0.seat.place ≡ Taking }
-    requires writes { writes_of seat.old.me.0.seat.held ≢ [] }
-    requires room { length seat.old.me.0.drawn + 1 ≤ 2 ^ 40 * seat.old.me.0.rights }
-    ensures seat { IsSameSeat seat.old seat.new }
-    ensures told { Draws L.terms (Some note.now) seat.old.me result seat.new.me }
-{
-    draw_saying::<L, Brand>(words, seat, note)
 }
 
 /// Look at the lock word of a cell that was read and isn't held, after the draw.
@@ -210,7 +178,12 @@ pub(crate) fn release<L: Law>(words: &Words<L>, seat: &mut Place<L>, cell: usize
         .store::<Release<L>>(seat, 2 * cell + FIRST_LOCK, word);
 }
 
-fn recall_saying<L: Law, G: Said<L::Note>>(words: &Words<L>, seat: &mut Place<L>, note: &L::Note)
+/// Adds a call that wrote nothing to those of the pass, by a load of the spare word.
+pub(crate) fn recall<L: Law, G: Said<L::Note>>(
+    words: &Words<L>,
+    seat: &mut Place<L>,
+    note: &L::Note,
+)
     requires table { seat.old.table_id ≡ words.now.table.shared.table_id }
     requires setting { (y : L.Setting) × (seat.old.me.0.setting ≡ Some y) × Permits L.terms y seat.old.me.0.seen.ranges (reads_of seat.old.me.0.seat.reads) [] note.now }
     requires said { G.note ≡ Some note.now }
@@ -218,16 +191,6 @@ fn recall_saying<L: Law, G: Said<L::Note>>(words: &Words<L>, seat: &mut Place<L>
     ensures told { Recalls L.terms (Some note.now) seat.old.me seat.new.me }
 {
     words.table.shared.load::<Recall<L, G>>(seat, SPARE);
-}
-
-/// Adds a call that wrote nothing to those of the pass, by a load of the spare word.
-pub(crate) fn recall<L: Law>(words: &Words<L>, seat: &mut Place<L>, note: &L::Note)
-    requires table { seat.old.table_id ≡ words.now.table.shared.table_id }
-    requires setting { (y : L.Setting) × (seat.old.me.0.setting ≡ Some y) × Permits L.terms y seat.old.me.0.seen.ranges (reads_of seat.old.me.0.seat.reads) [] note.now }
-    ensures seat { IsSameSeat seat.old seat.new }
-    ensures told { Recalls L.terms (Some note.now) seat.old.me seat.new.me }
-{
-    recall_saying::<L, Brand>(words, seat, note);
 }
 
 /// Sees the history so far, by a load of the spare word.

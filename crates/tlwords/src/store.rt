@@ -13,17 +13,10 @@ use crate::rule::Place;
 use crate::runs::Run;
 use crate::store_steps::{advance, fetch_word, fill};
 use crate::words::Words;
+use ranges::Range;
 use std::error::Error;
 use std::fmt;
-
-/// A range of the store.
-#[derive(Clone, Copy, Debug, PartialEq, Eq)]
-pub struct Range {
-    /// The index of its first word in the store, from 0.
-    pub start: usize,
-    /// How many words it has.
-    pub len: usize,
-}
+use std::marker::Brand;
 
 /// The store has no room for the words, or had none for those that this session wanted to stage before.
 #[derive(Clone, Copy, Debug, PartialEq, Eq)]
@@ -88,7 +81,7 @@ impl<'w, L: Law> Run<'w, L> {
             return Err(StoreFull);
         }
         let room = self.words.room;
-        let start = advance(self.words, &mut self.seat, words);
+        let start = advance::<L, Brand>(self.words, &mut self.seat, words);
         if words.len() > room || start > (room - words.len()) as u64 {
             self.full = true;
             return Err(StoreFull);

@@ -10,9 +10,10 @@ use crate::layout::{STORE, TAIL};
 use crate::plays::{Advance, Fetch, Fill, Said};
 use crate::rule::Place;
 use crate::words::Words;
-use std::marker::Brand;
 
-fn advance_saying<L: Law, G: Said<L::Note>>(
+/// Advances the tail of the store by the number of these words, or by the room and one where that is less, so that it never wraps. The
+/// result is the tail before.
+pub(crate) fn advance<L: Law, G: Said<L::Note>>(
     words: &Words<L>,
     seat: &mut Place<L>,
     range: &[u64],
@@ -31,20 +32,6 @@ fn advance_saying<L: Law, G: Said<L::Note>>(
         .table
         .shared
         .fetch_add::<Advance<L, G>>(seat, 2 * words.cells + TAIL, count as u64)
-}
-
-/// Advances the tail of the store by the number of these words, or by the room and one where that is less, so that it never wraps. The
-/// result is the tail before.
-pub(crate) fn advance<L: Law>(words: &Words<L>, seat: &mut Place<L>, range: &[u64]) -> u64
-    requires table { seat.old.table_id ≡ words.now.table.shared.table_id }
-    requires setting { (y : L.Setting) × (seat.old.me.0.setting ≡ Some y) }
-    requires sizes { (words.now.cells ≡ length seat.old.me.0.base) × (words.now.room ≡ seat.old.me.0.room) }
-    requires some_words { range.now ≢ [] }
-    requires open { (seat.old.me.0.staging ≡ None) × (seat.old.me.0.full ≡ None) × (1 ≤ seat.old.me.0.rights) }
-    ensures seat { IsSameSeat seat.old seat.new }
-    ensures told { Advances L.terms range.now seat.old.me result seat.new.me }
-{
-    advance_saying::<L, Brand>(words, seat, range)
 }
 
 /// Stores the next word of the range that the seat has taken, at this index of the store.

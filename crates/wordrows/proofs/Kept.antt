@@ -6,7 +6,7 @@ use Rattle.std.proofs.lemmas.List.Elements.{All-weaker}
 use Rattle.ranges.specs.Ranges.{Range, Has, Within, Names, AreOfOneStore}
 use Rattle.ranges.specs.Pairs.{Pairs}
 use Rattle.tlwords.specs.declared.log.Slot.{Slot}
-use Rattle.tlwords.specs.declared.store.Range.{Range as Place}
+use Rattle.ranges.specs.declared.range.Range.{Range as Place}
 use Rattle.tlwords.specs.Runs.{value_kept}
 use Rattle.tlwords.specs.Commits.{with_write, writes_below, writes_kept}
 use Rattle.wordrows.specs.Seats.{IsThere}

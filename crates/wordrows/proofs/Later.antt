@@ -12,7 +12,7 @@ use Rattle.tlwords.specs.declared.mode.Mode.TheVariants.{Reading, Writing}
 use Rattle.tlwords.specs.declared.outcome.Conflict.{Conflict}
 use Rattle.tlwords.specs.declared.outcome.Outcome.{Outcome}
 use Rattle.tlwords.specs.declared.outcome.Outcome.TheVariants.{Committed as EndsDone, Read as EndsRead, Conflict as EndsConflict, NumbersUsed}
-use Rattle.tlwords.specs.declared.store.Range.{Range as Place}
+use Rattle.ranges.specs.declared.range.Range.{Range as Place}
 use Rattle.tlwords.specs.declared.words.Words.{Words}
 use Rattle.tlwords.specs.Callers.{home_of}
 use Rattle.tlwords.specs.Terms.{Terms}

@@ -2,7 +2,7 @@
 use Rattle.std.specs.Prelude.{◌≡◌, ◌<◌, ◌≤◌, ◌+◌, ◌/◌, ◌%◌, ◌^◌, ◌⊎◌, ℕ, Bool, true, Some, List, length, All}
 use Rattle.ranges.specs.Ranges.{Has, Names, AreOfOneStore}
 use Rattle.ranges.specs.Ranges.{Range as Stored}
-use Rattle.tlwords.specs.declared.store.Range.{Range}
+use Rattle.ranges.specs.declared.range.Range.{Range}
 use Rattle.tlwords.specs.declared.words.Words.{Words}
 use Rattle.tlwords.specs.Callers.{home_of, AreOfOneOpening}
 use Rattle.tlwords.specs.Runs.{was_read, value_kept}

@@ -1,6 +1,6 @@
 //! What runs do.
 
-ghost use Rattle.std.specs.Prelude.{◌≡◌, ◌/◌, ◌%◌, ◌^◌, true, IsTrue};
+ghost use Rattle.std.specs.Prelude.{◌≡◌, true, IsTrue};
 ghost use Rattle.std.specs.List.{Contains};
 ghost use Rattle.tlwords.specs.Runs.{was_read};
 ghost use Rattle.wordrows.specs.Seats.{is_named, IsThere, RestsAt, RunsAt};
@@ -11,9 +11,6 @@ use crate::seat::{Anything, Playing, Resting};
 use crate::written::Written;
 use std::alloc::{AllocError, Global};
 use tlwords::{Mode, Range, Words, begin};
-
-/// One more than the greatest length that a word can tell: 2^25.
-const LENGTHS: u64 = 33_554_432;
 
 /// Writes a number behind a word.
 fn put_number(out: &mut Written, word: &str, number: u64) {
@@ -54,17 +51,6 @@ fn has_range(ranges: &[Range], range: Range) -> bool
     ensures { IsTrue result → Contains ranges.now range }
 {
     ranges.contains(&range)
-}
-
-/// The range that a word names.
-fn named_by(word: u64) -> Range
-    ensures start { result.start ≡ word / 2 ^ 25 }
-    ensures len { result.len ≡ word % 2 ^ 25 }
-{
-    Range {
-        start: (word / LENGTHS) as usize,
-        len: (word % LENGTHS) as usize,
-    }
 }
 
 /// Notes that a cell was read, where the run may write.
@@ -124,7 +110,7 @@ fn read(
     let noted = note_cell(words, playing, cell);
     out.note(noted);
     put_number(out, "read", value);
-    let range = named_by(value);
+    let range = Range::named(value);
     if named && range.len != 0 {
         let known = note_range(words, playing, range);
         out.note(known);
@@ -179,7 +165,7 @@ fn name(
     if !has_cell(playing.read.as_slice(), cell) || !has_range(playing.ranges.as_slice(), range) {
         return false;
     }
-    let value = range.start as u64 * LENGTHS + range.len as u64;
+    let value = range.word();
     playing.run.write(cell, value);
     out.put(b"kept");
     true

@@ -1,4 +1,4 @@
-use Rattle.std.proofs.Common.{refl, rules}
+use Rattle.std.proofs.Common.{rules}
 use Rattle.std.proofs.lemmas.List.Elements.{All-contains}
 use Rattle.wordrows.specs.Seats.{IsThere}
 use Rattle.wordrows.proofs.Kept.{place_named}
@@ -10,4 +10,4 @@ returns c =
     let ranges = c.args.playing.now.run.known.seen.ranges in
     let there = All-contains (IsThere ranges) c.args.playing.now.ranges.items c.args.range c.requires.there (search rules) in
     runs_written c.args.words.now c.args.playing.now c.write.new.self c.args.cell _ c.write.ensures.same c.write.ensures.kept
-    (λ _. place_named ranges c.args.range _ there refl) c.requires
+    (λ _. place_named ranges c.args.range _ there c.word-value.ensures) c.requires

@@ -32,7 +32,7 @@ note_range-known-requires-clause-there c =
     let named : is_named c.args.words.now ≡ true = c.requires.named ∙ c.if-named.true in
     let set = ap (λ h. h.setting) old.home ∙ ap (λ (b : Bool). let o : Option Bool = Some b in o) named in
     let names = read_names p.run c.read.new.self c.args.cell c.in-Ok.value reads set (old.kept named) in
-    let range = c.named_by-range.ensures in
-    subst (λ g. IsThere g.known.seen.ranges c.named_by-range.result) (sym c.note_cell-noted.ensures.same)
-    (named_there c.args.words.now.room c.in-Ok.value c.read.new.self.known.seen.ranges c.named_by-range.result c.args.words.now.small.1 runs.store names
+    let range = c.named-range.ensures in
+    subst (λ g. IsThere g.known.seen.ranges c.named-range.result) (sym c.note_cell-noted.ensures.same)
+    (named_there c.args.words.now.room c.in-Ok.value c.read.new.self.known.seen.ranges c.named-range.result c.args.words.now.small.1 runs.store names
     range.start range.len c.if-range-ne0.true)

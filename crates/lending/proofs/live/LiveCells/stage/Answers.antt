@@ -1,5 +1,4 @@
 use Rattle.std.proofs.Common.{◌≡◌, true, length, refl, sym, subst, ◌∙◌}
-use Rattle.ranges.specs.declared.range.Range.{Range as Place}
 use Rattle.cells.specs.Sight.{Looks, Stages, ReadsNothing}
 use Rattle.cells.proofs.Asking.{nothing_same}
 use Rattle.lending.specs.Lent.{sight_of}
@@ -32,14 +31,14 @@ returns-in_default-stage-clause-err c =
 pub invariant_of-self-2 : goal.invariant_of-self-2
 invariant_of-self-2 c =
     let s = c.self.inside in
-    let lent = staged_lent (lending_in s) s.stage s.over c.self.invariant.1 c.args.words.now c.in-Ok.staged.start c.stage.new.self
+    let lent = staged_lent (lending_in s) s.stage s.over c.self.invariant.1 c.args.words.now c.in-Ok.range.start c.stage.new.self
     c.note.new.self c.note.result c.in-Ok.ensures.ok.1 c.note.ensures.ok c.note.ensures.err in
     (c.self.invariant.0, lent)
 
 pub invariant_of-self-inside-2 : goal.invariant_of-self-inside-2
 invariant_of-self-inside-2 c =
     let s = c.self.inside in
-    let lent = staged_lent (lending_in s) s.stage s.over c.self.invariant.1 c.args.words.now c.in-Ok.staged.start c.stage.new.self
+    let lent = staged_lent (lending_in s) s.stage s.over c.self.invariant.1 c.args.words.now c.in-Ok.range.start c.stage.new.self
     c.note.new.self c.note.result c.in-Ok.ensures.ok.1 c.note.ensures.ok c.note.ensures.err in
     (∣ agrees_of _ c.note.new.self s.over lent ∣₁, tt)
 
@@ -56,7 +55,7 @@ returns-clause-ok c =
     let l = lending_in s in
     let r = c.stage.new.self in
     let words = c.args.words.now in
-    let range : Place = record { start = c.in-Ok.staged.start; len = c.in-Ok.staged.len } in
+    let range = c.in-Ok.range in
     let none = none_staged s.stage words (sym c.find.ensures ∙ c.in_default.is) in
     subst (λ x. Stages words range (sight_of x.run) (sight_of (record l { going = r; staged = c.note.new.self }))) c.self.view_is
     (stages_sight l words range r c.note.new.self c.note.result c.in-Ok.ensures.ok.1 none c.note.ensures.ok c.note.ensures.err
@@ -77,4 +76,4 @@ returns-clause-reads c =
     let l = lending_in c.self.inside in
     let r = c.stage.new.self in
     subst (λ x. ReadsNothing (sight_of x.run) (sight_of (record l { going = r; staged = c.note.new.self }))) c.self.view_is
-    (stages_nothing l c.args.words.now c.in-Ok.staged.start r c.note.new.self c.in-Ok.ensures.ok.1)
+    (stages_nothing l c.args.words.now c.in-Ok.range.start r c.note.new.self c.in-Ok.ensures.ok.1)

@@ -1,8 +1,7 @@
 use Rattle.std.proofs.Common.{◌≡◌, None, ap, sym, subst, length, ◌∙◌}
 use Rattle.tlwords.specs.Known.{known_of, going_of}
 use Rattle.tlwords.specs.Calls.{IsLawful, Ends}
-use Rattle.tlwords.proofs.Knows.{left_fits, rests_as}
-use Rattle.tlwords.proofs.Tellings.{ended_knows, ended_same, end_tells, ends_home}
+use Rattle.tlwords.proofs.Knows.{concluded_home, left_fits, rests_as}
 use Rattle.tlwords.proofs.runs.Run.commit.Goals as goal
 use Rattle.tlwords.proofs.runs.Run.commit.Goals.{in-Some, in-None}
 
@@ -22,11 +21,11 @@ invariant_of-pass g c =
           (size ∙ (ap (λ l. length l.slots) w.log-is ∙ i.room))
       | in-None w ↦
           let e = w.conclude-outcome in
-          let same = ended_same g.L.Law.terms s.log.slots c.args.note.now s.seat.me e.new.seat.me e.result e.ensures.ended in
-          rests_as g.L.Law.terms e.new.seat c.match-over.seat c.clear.new.self.slots e.new.count c.match-over.count s.full w.seat-is w.count-is e.ensures.pass
-          (ended_knows g.L.Law.terms s.log.slots c.args.note.now s.seat.me e.new.seat.me e.result s.full e.ensures.ended i.fits.0 i.knows)
-          (e.ensures.seat.2 ∙ i.bare) c.clear.ensures.blank
-          (size ∙ (ap (λ l. length l.slots) w.log-is ∙ (ap length e.ensures.log ∙ (i.room ∙ sym (ap length same.0)))))
+          let d = e.ensures.ended in
+          rests_as g.L.Law.terms e.new.seat c.match-over.seat c.clear.new.self.slots e.new.count c.match-over.count s.full w.seat-is w.count-is d.pass
+          (d.store s.full i.knows) (d.seat.2 ∙ i.bare) c.clear.ensures.blank
+          (size ∙ (ap (λ l. length l.slots) w.log-is ∙ (ap length e.ensures.log
+          ∙ (i.room ∙ sym (ap (λ h. length h.base) (concluded_home g.L.Law.terms _ _ _ _ _ _ _ _ d))))))
     ]
 
 pub returns-clause-ended : goal.returns-clause-ended
@@ -37,24 +36,20 @@ returns-clause-ended g c = λ o.
       | in-Some w ↦ let q = w.in-Some.is in absurd (cc)
       | in-None w ↦
           let e = w.conclude-outcome in
+          let k = known_of e.new.seat.table_id e.new.seat.me.0 in
           subst (λ t. Ends g.L.Law.terms c.args.note.now c.args.self (known_of t.table_id t.me.0) c.match-over.outcome) (sym w.seat-is)
-          (subst (λ x. Ends g.L.Law.terms c.args.note.now c.args.self (known_of e.new.seat.table_id e.new.seat.me.0) x) (sym w.outcome-is)
-          (subst (λ x. Ends g.L.Law.terms c.args.note.now x (known_of e.new.seat.table_id e.new.seat.me.0) e.result) c.self.view_is
-          (end_tells g.L.Law.terms s.seat.table_id e.new.seat.table_id s.place e.new.count s.mode s.over s.log.slots c.args.note.now s.seat.me e.new.seat.me
-          e.result e.ensures.seat.0 c.self.invariant.fits.5 c.self.invariant.kept e.ensures.pass e.ensures.ended)))
+          (subst (λ x. Ends g.L.Law.terms c.args.note.now c.args.self k x) (sym w.outcome-is)
+          (subst (λ x. Ends g.L.Law.terms c.args.note.now x k e.result) c.self.view_is
+          (subst (λ x. Ends g.L.Law.terms c.args.note.now (going_of s.seat.table_id s.seat.me.0 s.place s.mode x s.log.slots) k e.result)
+          (sym open_now) e.ensures.ended.ends)))
     ]
 
 pub returns-clause-home : goal.returns-clause-home
 returns-clause-home g c =
-    let s = c.self.inside in
     elim c.match-over.branch [
       | in-Some w ↦ ap (λ t. (known_of t.table_id t.me.0).home) w.seat-is ∙ ap (λ x. x.known.home) c.self.view_is
       | in-None w ↦
-          let e = w.conclude-outcome in
           ap (λ t. (known_of t.table_id t.me.0).home) w.seat-is
-          ∙ (ends_home g.L.Law.terms c.args.note.now (going_of s.seat.table_id s.seat.me.0 s.place s.mode s.over s.log.slots)
-          (known_of e.new.seat.table_id e.new.seat.me.0) e.result
-          (end_tells g.L.Law.terms s.seat.table_id e.new.seat.table_id s.place e.new.count s.mode s.over s.log.slots c.args.note.now s.seat.me e.new.seat.me
-          e.result e.ensures.seat.0 c.self.invariant.fits.5 c.self.invariant.kept e.ensures.pass e.ensures.ended)
+          ∙ (concluded_home g.L.Law.terms _ _ _ _ _ _ _ _ w.conclude-outcome.ensures.ended
           ∙ ap (λ x. x.known.home) c.self.view_is)
     ]

@@ -69,8 +69,7 @@ returns-clause-ok g c =
     let a = c.advance-start in
     let ws = c.args.words.now in
     let l : c.advance-start.result + length c.args.words.now ≤ s.seat.me.0.room =
-    let a = c.if-words-room.false in let b = c.if-start-room.false in omega arith in
-    (
+    let a = c.if-words-room.false in let b = c.if-start-room.false in omega arith in (
       refl,
       subst (λ x. HasStaged g.L.Law.terms ws a.result x (going_of r.table_id r.me.0 s.place s.mode s.over s.log.slots)) c.self.view_is
           (stage_tells g.L.Law.terms _ _ _ _ _ s.mode s.over s.full s.log.slots s.seat r i

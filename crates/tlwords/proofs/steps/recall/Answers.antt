@@ -1,6 +1,6 @@
 use Rattle.std.proofs.Common.{rules, arith}
 use Rattle.tlwords.proofs.OpenSteps.{recalls}
-use Rattle.tlwords.proofs.steps.recall_saying.Goals as goal
+use Rattle.tlwords.proofs.steps.recall.Goals as goal
 
 pub load-requires : goal.load-requires
 load-requires g c = (

@@ -1,6 +1,6 @@
 use Rattle.std.proofs.Common.{rules, arith}
 use Rattle.tlwords.proofs.CommitSteps.{draws}
-use Rattle.tlwords.proofs.steps.draw_saying.Goals as goal
+use Rattle.tlwords.proofs.steps.draw.Goals as goal
 
 pub fetch_add-requires : goal.fetch_add-requires
 fetch_add-requires g c = (

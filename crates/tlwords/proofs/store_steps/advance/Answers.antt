@@ -1,6 +1,6 @@
 use Rattle.std.proofs.Common.{rules, ℕ, ◌+◌, length, min, ap, ◌∙◌, arith}
 use Rattle.tlwords.proofs.StoreSteps.{advances}
-use Rattle.tlwords.proofs.store_steps.advance_saying.Goals as goal
+use Rattle.tlwords.proofs.store_steps.advance.Goals as goal
 
 pub fetch_add-requires : goal.fetch_add-requires
 fetch_add-requires g c =

@@ -1,6 +1,6 @@
 use Rattle.std.proofs.Common.{rules, arith, refl}
 use Rattle.tlwords.proofs.CommitSteps.{takes}
-use Rattle.tlwords.proofs.steps.take_saying.Goals as goal
+use Rattle.tlwords.proofs.steps.take.Goals as goal
 
 pub compare_exchange-requires : goal.compare_exchange-requires
 compare_exchange-requires g c = (
