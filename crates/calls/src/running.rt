@@ -4,10 +4,10 @@ ghost use Rattle.std.specs.Prelude.{◌≡◌, All};
 ghost use Rattle.library.specs.Fitting.{CommandFits};
 
 use crate::samples::{checked, mini, three};
-use commands::{RunError, run};
+use commands::{Halt, RunError, run};
 use library::Command;
 use mmstatement::Prelude;
-use plaincells::{PlainCells, PlainStop};
+use plaincells::PlainCells;
 use scripts::read_script;
 use std::alloc::{AllocGlobal, Global};
 use std::random::RandomSource;
@@ -166,7 +166,7 @@ fn done(alloc: Global, prelude: &Prelude, cells: &mut PlainCells, commands: &[Co
 {
     let answer = match run(alloc, prelude, cells, commands) {
         Ok(replies) => return b'0'.wrapping_add((replies.as_slice().len() & 0xf) as u8),
-        Err(RunError::Stopped(PlainStop::StoreFull)) => b'f',
+        Err(RunError::Halted(Halt::StoreFull)) => b'f',
         Err(RunError::Refused(_)) => b'r',
         Err(_) => b'-',
     };

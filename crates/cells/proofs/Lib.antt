@@ -15,7 +15,6 @@ pub mod Counting
 pub mod Citing
 pub mod Holding
 pub mod Staging
-pub mod Mapped
 pub mod Ones
 pub mod Recounting
 pub mod Storing

@@ -12,8 +12,6 @@ use Rattle.library.specs.Transactions.{apply, has_edit}
 use Rattle.cells.specs.State.{State}
 use Rattle.cells.specs.Shows.{Shows}
 use Rattle.cells.specs.Sight.{Sight, WasWritten, Matches, Views, Looks, after}
-use Rattle.cells.specs.declared.halt.Halt.{Halt}
-use Rattle.cells.specs.declared.halt.Halt.TheVariants as halt
 use Rattle.cells.specs.declared.ending.CommandError.{CommandError}
 use Rattle.cells.specs.declared.ending.CommandError.TheVariants as command
 use Rattle.cells.specs.declared.ending.RunError.{RunError}
@@ -57,15 +55,9 @@ WritesIfEdit false old new = Looks old new
 -- ---- how a command or a transaction ends early
 
 -- the error of a transaction whose n-th command ends so
-abbrev pub error_at : {S : Type 0} → ℕ → CommandError S → RunError S
-error_at n (command.Stopped stop) = run.Stopped stop
+abbrev pub error_at : ℕ → CommandError → RunError
+error_at n (command.Halted halt) = run.Halted halt
 error_at n (command.Refused reason) = run.Refused (record { index = n; reason = reason })
-error_at n command.NoMemory = run.NoMemory
-
--- the error of a command whose call on cells ends so
-abbrev pub halted : {S : Type 0} → Halt S → CommandError S
-halted (halt.Stopped stop) = command.Stopped stop
-halted halt.NoMemory = command.NoMemory
 
 -- ---- one command
 
@@ -80,8 +72,8 @@ pub record IsRefused {O : Type 0} (old new : Sight O) (c : Command) (reason : Re
   pub refuses : ForEachBefore old new (λ st lib. edit old.setting lib c ≡ Err reason)
   pub looks : Looks old new
 
--- that memory ran out or that the run was stopped may be answered of every command
-abbrev pub CommandAnswers : {O : Type 0} → {S : Type 0} → Sight O → Sight O → Command → Result Reply (CommandError S) → Type 0
+-- that it halts may be answered of every command
+abbrev pub CommandAnswers : {O : Type 0} → Sight O → Sight O → Command → Result Reply CommandError → Type 0
 CommandAnswers old new c (Ok reply) = Does old new c reply
 CommandAnswers old new c (Err (command.Refused reason)) = IsRefused old new c reason
 CommandAnswers old new c (Err _) = Unit {0}
@@ -98,7 +90,7 @@ pub record DoesAll {O : Type 0} (old new : Sight O) (cs : List Command) (replies
 abbrev pub RefusesAll : {O : Type 0} → Sight O → Sight O → List Command → Refused → Type 0
 RefusesAll old new cs refused = ForEachBefore old new (λ st lib. apply old.setting lib cs ≡ Err refused)
 
-abbrev pub RunAnswers : {O : Type 0} → {S : Type 0} → Sight O → Sight O → List Command → Result (List Reply) (RunError S) → Type 0
+abbrev pub RunAnswers : {O : Type 0} → Sight O → Sight O → List Command → Result (List Reply) RunError → Type 0
 RunAnswers old new cs (Ok replies) = DoesAll old new cs replies
 RunAnswers old new cs (Err (run.Refused refused)) = RefusesAll old new cs refused
 RunAnswers old new cs (Err _) = Unit {0}

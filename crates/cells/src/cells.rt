@@ -7,6 +7,7 @@ ghost use Rattle.cells.specs.State.{State};
 ghost use Rattle.cells.specs.Slots.{cell_count, is_ranged};
 ghost use Rattle.cells.specs.Sight.{Sight, WasRead, Suits, Looks, Reads, Writes, Stages, Knows, ReadsWithin, ReadsNothing};
 
+use crate::halt::Halt;
 use ranges::Range;
 
 /// The cells of a library and the store of its bodies, as one run sees them. What it writes is kept aside: it reads it back, and nobody
@@ -16,9 +17,6 @@ use ranges::Range;
 /// what it has read, and what it keeps aside; of what it may do; and of what it began with, which no call changes: so whoever lends a run
 /// gets the same one back.
 pub trait Cells {
-    /// Why a run is stopped.
-    type Stop: Drop;
-
     /// What a run began with, for contracts alone.
     type Origin;
 
@@ -33,8 +31,8 @@ pub trait Cells {
     ///
     /// # Errors
     ///
-    /// The run is stopped. What was kept aside stays.
-    fn read(&mut self, cell: usize) -> Result<u64, Self::Stop>
+    /// The run halts. What was kept aside stays.
+    fn read(&mut self, cell: usize) -> Result<u64, Halt>
         requires { cell < cell_count (sight self.old).setting.slots }
         ensures ok { IfOk result (λ v. Reads cell v (sight self.old) (sight self.new)) }
         ensures err { IfErr result (λ _. Looks (sight self.old) (sight self.new)) }
@@ -59,8 +57,8 @@ pub trait Cells {
     ///
     /// # Errors
     ///
-    /// The run is stopped. What was kept aside stays.
-    fn stage(&mut self, words: &[u64]) -> Result<Range, Self::Stop>
+    /// The run halts. What was kept aside stays.
+    fn stage(&mut self, words: &[u64]) -> Result<Range, Halt>
         requires may { (sight self.old).may_stage ≡ true }
         requires some { words.now ≢ [] }
         ensures ok { IfOk result (λ range. Stages words.now range (sight self.old) (sight self.new)) }

@@ -7,6 +7,7 @@ ghost use Rattle.std.specs.List.Sorted.{IsStrictlyIncreasing};
 ghost use Rattle.cells.specs.Aside.{KeepsAside, IsCitersOf};
 
 use crate::cells::Cells;
+use crate::halt::Halt;
 use crate::places::{citers_cell, slot_count};
 use bodystore::StoredStep;
 use std::alloc::{AllocError, Global};
@@ -53,8 +54,8 @@ pub fn only_in(alloc: Global, slots: &[usize], others: &[usize]) -> Result<Vec<u
 ///
 /// # Errors
 ///
-/// The run is stopped.
-pub fn count_in<C: Cells>(cells: &mut C, cited: &[usize]) -> Result<(), C::Stop>
+/// The run halts.
+pub fn count_in<C: Cells>(cells: &mut C, cited: &[usize]) -> Result<(), Halt>
     requires may { (C.sight cells.old).may_write ≡ true }
     requires slots { All (λ i. i < (C.sight cells.old).setting.slots) cited.now }
     ensures onward { Onward (C.sight cells.old) (C.sight cells.new) }
@@ -75,8 +76,8 @@ pub fn count_in<C: Cells>(cells: &mut C, cited: &[usize]) -> Result<(), C::Stop>
 ///
 /// # Errors
 ///
-/// The run is stopped.
-pub fn count_out<C: Cells>(cells: &mut C, cited: &[usize]) -> Result<(), C::Stop>
+/// The run halts.
+pub fn count_out<C: Cells>(cells: &mut C, cited: &[usize]) -> Result<(), Halt>
     requires { (C.sight cells.old).may_write ≡ true }
     ensures onward { Onward (C.sight cells.old) (C.sight cells.new) }
     ensures ok { IfOk result (λ _. CountsAnyOut cited.now (C.sight cells.old) (C.sight cells.new)) }

@@ -3,70 +3,57 @@
 use crate::halt::Halt;
 use library::{Reason, Refused};
 use std::alloc::{AllocError, AllocFailed};
-use std::fmt;
 use thiserror::Error;
 
 /// Why a command over cells has no reply. What was kept aside by then is the caller's to throw away.
-#[derive(Debug, Drop, Error)]
-#[error_bound(S: fmt::Display)]
-pub enum CommandError<S> {
-    /// The run was stopped.
-    #[error("the run was stopped: {0}")]
-    Stopped(S),
+#[derive(Clone, Copy, Debug, PartialEq, Eq, Error)]
+pub enum CommandError {
+    /// A call over cells ended early.
+    #[error("{0}")]
+    Halted(Halt),
     /// The command is refused. It kept nothing aside, and staged nothing.
     #[error("{0}")]
     Refused(Reason),
-    /// Memory ran out.
-    #[error("out of memory")]
-    NoMemory,
 }
 
 /// Why a transaction over cells has no replies. What was kept aside by then is the caller's to throw away.
-#[derive(Debug, Drop, Error)]
-#[error_bound(S: fmt::Display)]
-pub enum RunError<S> {
-    /// The run was stopped.
-    #[error("the run was stopped: {0}")]
-    Stopped(S),
+#[derive(Clone, Copy, Debug, PartialEq, Eq, Error)]
+pub enum RunError {
+    /// A call over cells ended early.
+    #[error("{0}")]
+    Halted(Halt),
     /// A command was refused, and with it the transaction.
     #[error("{0}")]
     Refused(Refused),
-    /// Memory ran out.
-    #[error("out of memory")]
-    NoMemory,
 }
 
-impl<S> CommandError<S> {
+impl CommandError {
     ghost use Rattle.std.specs.Prelude.{◌≡◌};
     ghost use Rattle.cells.specs.Answers.{error_at};
 
     /// Why a transaction ends whose command with this number, counted from 1, ends so.
-    pub fn at(self, index: usize) -> RunError<S>
+    pub fn at(self, index: usize) -> RunError
         ensures { result ≡ error_at index self }
     {
         match self {
-            CommandError::Stopped(stop) => RunError::Stopped(stop),
+            CommandError::Halted(halt) => RunError::Halted(halt),
             CommandError::Refused(reason) => RunError::Refused(Refused { index, reason }),
-            CommandError::NoMemory => RunError::NoMemory,
         }
     }
 }
 
-impl<S> From<Halt<S>> for CommandError<S> {
+impl From<Halt> for CommandError {
     ghost use Rattle.std.specs.Prelude.{◌≡◌};
-    ghost use Rattle.cells.specs.Answers.{halted};
+    ghost use Rattle.cells.specs.declared.ending.CommandError.TheVariants.{Halted};
 
-    ghost from_gives = { λ halt e. e ≡ halted halt };
+    ghost from_gives = { λ halt e. e ≡ Halted halt };
 
-    fn from(halt: Halt<S>) -> Self {
-        match halt {
-            Halt::Stopped(stop) => CommandError::Stopped(stop),
-            Halt::NoMemory => CommandError::NoMemory,
-        }
+    fn from(halt: Halt) -> Self {
+        CommandError::Halted(halt)
     }
 }
 
-impl<S> From<Reason> for CommandError<S> {
+impl From<Reason> for CommandError {
     ghost use Rattle.std.specs.Prelude.{◌≡◌};
     ghost use Rattle.cells.specs.declared.ending.CommandError.TheVariants.{Refused};
 
@@ -77,46 +64,50 @@ impl<S> From<Reason> for CommandError<S> {
     }
 }
 
-impl<S> From<AllocError> for CommandError<S> {
+impl From<AllocError> for CommandError {
     ghost use Rattle.std.specs.Prelude.{◌≡◌};
-    ghost use Rattle.cells.specs.declared.ending.CommandError.TheVariants.{NoMemory};
+    ghost use Rattle.cells.specs.declared.halt.Halt.TheVariants.{NoMemory};
+    ghost use Rattle.cells.specs.declared.ending.CommandError.TheVariants.{Halted};
 
-    ghost from_gives = { λ _ e. e ≡ NoMemory };
+    ghost from_gives = { λ _ e. e ≡ Halted NoMemory };
 
     fn from(_error: AllocError) -> Self {
-        CommandError::NoMemory
+        CommandError::Halted(Halt::NoMemory)
     }
 }
 
-impl<S, T: Drop> From<AllocFailed<T>> for CommandError<S> {
+impl<T: Drop> From<AllocFailed<T>> for CommandError {
     ghost use Rattle.std.specs.Prelude.{◌≡◌};
-    ghost use Rattle.cells.specs.declared.ending.CommandError.TheVariants.{NoMemory};
+    ghost use Rattle.cells.specs.declared.halt.Halt.TheVariants.{NoMemory};
+    ghost use Rattle.cells.specs.declared.ending.CommandError.TheVariants.{Halted};
 
-    ghost from_gives = { λ _ e. e ≡ NoMemory };
+    ghost from_gives = { λ _ e. e ≡ Halted NoMemory };
 
     fn from(_error: AllocFailed<T>) -> Self {
-        CommandError::NoMemory
+        CommandError::Halted(Halt::NoMemory)
     }
 }
 
-impl<S> From<AllocError> for RunError<S> {
+impl From<AllocError> for RunError {
     ghost use Rattle.std.specs.Prelude.{◌≡◌};
-    ghost use Rattle.cells.specs.declared.ending.RunError.TheVariants.{NoMemory};
+    ghost use Rattle.cells.specs.declared.halt.Halt.TheVariants.{NoMemory};
+    ghost use Rattle.cells.specs.declared.ending.RunError.TheVariants.{Halted};
 
-    ghost from_gives = { λ _ e. e ≡ NoMemory };
+    ghost from_gives = { λ _ e. e ≡ Halted NoMemory };
 
     fn from(_error: AllocError) -> Self {
-        RunError::NoMemory
+        RunError::Halted(Halt::NoMemory)
     }
 }
 
-impl<S, T: Drop> From<AllocFailed<T>> for RunError<S> {
+impl<T: Drop> From<AllocFailed<T>> for RunError {
     ghost use Rattle.std.specs.Prelude.{◌≡◌};
-    ghost use Rattle.cells.specs.declared.ending.RunError.TheVariants.{NoMemory};
+    ghost use Rattle.cells.specs.declared.halt.Halt.TheVariants.{NoMemory};
+    ghost use Rattle.cells.specs.declared.ending.RunError.TheVariants.{Halted};
 
-    ghost from_gives = { λ _ e. e ≡ NoMemory };
+    ghost from_gives = { λ _ e. e ≡ Halted NoMemory };
 
     fn from(_error: AllocFailed<T>) -> Self {
-        RunError::NoMemory
+        RunError::Halted(Halt::NoMemory)
     }
 }

@@ -7,11 +7,12 @@ ghost use Rattle.cells.specs.Footprints.{ReadsWhere, IsOfLook, IsOfRound};
 ghost use Rattle.cells.specs.Lookups.{Finds, FindsFree, TellsLabel};
 
 use crate::cells::Cells;
+use crate::halt::Halt;
 use crate::places::{bucket, bucket_cell, link, name_cell, next_cell, slot_count};
 use crate::words::{has_words, range_of};
 
 /// Whether the slot has the label.
-pub(crate) fn has_label<C: Cells>(cells: &mut C, slot: usize, label: &[u8]) -> Result<bool, C::Stop>
+pub(crate) fn has_label<C: Cells>(cells: &mut C, slot: usize, label: &[u8]) -> Result<bool, Halt>
     requires { slot < (C.sight cells.old).setting.slots }
     ensures looks { Looks (C.sight cells.old) (C.sight cells.new) }
     ensures ok { IfOk result (λ b. TellsLabel (C.sight cells.new) slot label.now b) }
@@ -33,8 +34,8 @@ pub(crate) fn has_label<C: Cells>(cells: &mut C, slot: usize, label: &[u8]) -> R
 ///
 /// # Errors
 ///
-/// The run is stopped. What was kept aside stays.
-pub fn find<C: Cells>(cells: &mut C, label: &[u8]) -> Result<Option<usize>, C::Stop>
+/// The run halts. What was kept aside stays.
+pub fn find<C: Cells>(cells: &mut C, label: &[u8]) -> Result<Option<usize>, Halt>
     ensures looks { Looks (C.sight cells.old) (C.sight cells.new) }
     ensures ok { IfOk result (λ slot. Finds (C.sight cells.new) label.now slot) }
     ensures reads { ReadsWhere (IsOfLook (C.sight cells.old).setting.slots label.now) (C.sight cells.old) (C.sight cells.new) }
@@ -59,8 +60,8 @@ pub fn find<C: Cells>(cells: &mut C, label: &[u8]) -> Result<Option<usize>, C::S
 ///
 /// # Errors
 ///
-/// The run is stopped. What was kept aside stays.
-pub fn free_slot<C: Cells>(cells: &mut C, from: usize) -> Result<Option<usize>, C::Stop>
+/// The run halts. What was kept aside stays.
+pub fn free_slot<C: Cells>(cells: &mut C, from: usize) -> Result<Option<usize>, Halt>
     requires { from < (C.sight cells.old).setting.slots }
     ensures looks { Looks (C.sight cells.old) (C.sight cells.new) }
     ensures ok { IfOk result (λ slot. FindsFree (C.sight cells.new) from slot) }

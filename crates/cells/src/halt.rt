@@ -1,22 +1,23 @@
 //! Why a call over cells ends early.
 
 use std::alloc::{AllocError, AllocFailed};
-use std::fmt;
 use thiserror::Error;
 
 /// Why a call over cells ends early. What was kept aside by then is the caller's to throw away.
-#[derive(Debug, Drop, Error)]
-#[error_bound(S: fmt::Display)]
-pub enum Halt<S> {
-    /// The run was stopped.
-    #[error("the run was stopped: {0}")]
-    Stopped(S),
+#[derive(Clone, Copy, Debug, PartialEq, Eq, Error)]
+pub enum Halt {
+    /// A read met another session's run. The run knows with whom.
+    #[error("the run met another session")]
+    Conflict,
+    /// The store has no room for words that were to be staged.
+    #[error("the store has no room for the words")]
+    StoreFull,
     /// Memory ran out.
     #[error("out of memory")]
     NoMemory,
 }
 
-impl<S> From<AllocError> for Halt<S> {
+impl From<AllocError> for Halt {
     ghost use Rattle.std.specs.Prelude.{◌≡◌};
     ghost use Rattle.cells.specs.declared.halt.Halt.TheVariants.{NoMemory};
 
@@ -27,7 +28,7 @@ impl<S> From<AllocError> for Halt<S> {
     }
 }
 
-impl<S, T: Drop> From<AllocFailed<T>> for Halt<S> {
+impl<T: Drop> From<AllocFailed<T>> for Halt {
     ghost use Rattle.std.specs.Prelude.{◌≡◌};
     ghost use Rattle.cells.specs.declared.halt.Halt.TheVariants.{NoMemory};
 

@@ -9,6 +9,7 @@ ghost use Rattle.cells.specs.Lookups.{TellsStanding};
 ghost use Rattle.cells.specs.Clashing.{TellsStandingAt, TellsStandingIn};
 
 use crate::cells::Cells;
+use crate::halt::Halt;
 use crate::places::{bucket, bucket_cell, hash, link, name_cell, next_cell, slot_count};
 use crate::words::{has_dotted, has_words, range_of};
 use mmsyntax::trunk;
@@ -33,8 +34,8 @@ pub enum Standing {
 ///
 /// # Errors
 ///
-/// The run is stopped. What was kept aside stays.
-pub fn standing_of<C: Cells>(cells: &mut C, own: &[u8], label: &[u8]) -> Result<Standing, C::Stop>
+/// The run halts. What was kept aside stays.
+pub fn standing_of<C: Cells>(cells: &mut C, own: &[u8], label: &[u8]) -> Result<Standing, Halt>
     ensures looks { Looks (C.sight cells.old) (C.sight cells.new) }
     ensures ok { IfOk result (λ standing. TellsStanding (C.sight cells.new) own.now label.now standing) }
     ensures reads { ReadsWhere (λ st c. IsOfLook (C.sight cells.old).setting.slots label.now st c ⊎ IsOfClash (C.sight cells.old).setting.slots own.now label.now st c) (C.sight cells.old) (C.sight cells.new) }
@@ -67,7 +68,7 @@ fn standing_in<C: Cells>(
     chain: usize,
     own: &[u8],
     label: &[u8],
-) -> Result<Standing, C::Stop>
+) -> Result<Standing, Halt>
     requires { chain < (C.sight cells.old).setting.slots }
     ensures looks { Looks (C.sight cells.old) (C.sight cells.new) }
     ensures ok { IfOk result (λ standing. TellsStandingIn (C.sight cells.new) chain own.now label.now standing) }
@@ -94,7 +95,7 @@ fn standing_at<C: Cells>(
     slot: usize,
     own: &[u8],
     label: &[u8],
-) -> Result<Standing, C::Stop>
+) -> Result<Standing, Halt>
     requires { slot < (C.sight cells.old).setting.slots }
     ensures looks { Looks (C.sight cells.old) (C.sight cells.new) }
     ensures ok { IfOk result (λ standing. TellsStandingAt (C.sight cells.new) slot own.now label.now standing) }

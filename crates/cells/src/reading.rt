@@ -31,8 +31,8 @@ use std::alloc::Global;
 ///
 /// # Errors
 ///
-/// The run is stopped. What was kept aside stays, here and below.
-pub fn citers<C: Cells>(cells: &mut C, slot: usize) -> Result<u64, C::Stop>
+/// The run halts. What was kept aside stays, here and below.
+pub fn citers<C: Cells>(cells: &mut C, slot: usize) -> Result<u64, Halt>
     requires { slot < (C.sight cells.old).setting.slots }
     ensures looks { Looks (C.sight cells.old) (C.sight cells.new) }
     ensures ok { IfOk result (λ n. ForEachHeld (C.sight cells.new) slot (λ st lib e. n ≡ citers lib (label_of e))) }
@@ -46,8 +46,8 @@ pub fn citers<C: Cells>(cells: &mut C, slot: usize) -> Result<u64, C::Stop>
 ///
 /// # Errors
 ///
-/// The run is stopped.
-pub fn kind<C: Cells>(cells: &mut C, slot: usize) -> Result<Kind, C::Stop>
+/// The run halts.
+pub fn kind<C: Cells>(cells: &mut C, slot: usize) -> Result<Kind, Halt>
     requires { slot < (C.sight cells.old).setting.slots }
     ensures looks { Looks (C.sight cells.old) (C.sight cells.new) }
     ensures ok { IfOk result (λ made. ForEachHeld (C.sight cells.new) slot (λ st lib e. made ≡ e.assertion.kind)) }
@@ -71,8 +71,8 @@ fn kind_of(word: u64) -> Kind
 ///
 /// # Errors
 ///
-/// The run is stopped.
-pub fn rank<C: Cells>(cells: &mut C, slot: usize) -> Result<u32, C::Stop>
+/// The run halts.
+pub fn rank<C: Cells>(cells: &mut C, slot: usize) -> Result<u32, Halt>
     requires { slot < (C.sight cells.old).setting.slots }
     ensures looks { Looks (C.sight cells.old) (C.sight cells.new) }
     ensures ok { IfOk result (λ n. ForEachHeld (C.sight cells.new) slot (λ st lib e. n ≡ e.rank)) }
@@ -86,12 +86,8 @@ pub fn rank<C: Cells>(cells: &mut C, slot: usize) -> Result<u32, C::Stop>
 ///
 /// # Errors
 ///
-/// The run is stopped, or memory ran out, here and below.
-pub fn label<C: Cells>(
-    alloc: Global,
-    cells: &mut C,
-    slot: usize,
-) -> Result<Option<Label>, Halt<C::Stop>>
+/// The run halts, here and below.
+pub fn label<C: Cells>(alloc: Global, cells: &mut C, slot: usize) -> Result<Option<Label>, Halt>
     requires { slot < (C.sight cells.old).setting.slots }
     ensures looks { Looks (C.sight cells.old) (C.sight cells.new) }
     ensures ok { IfOk result (λ made. TellsLabelOf (C.sight cells.new) slot made) }
@@ -106,7 +102,7 @@ pub fn label<C: Cells>(
 }
 
 /// The label that the slot's name cell names, if it names one.
-fn name_of<C: Cells>(alloc: Global, cells: &mut C, slot: usize) -> Result<Label, Halt<C::Stop>>
+fn name_of<C: Cells>(alloc: Global, cells: &mut C, slot: usize) -> Result<Label, Halt>
     requires { slot < (C.sight cells.old).setting.slots }
     ensures looks { Looks (C.sight cells.old) (C.sight cells.new) }
     ensures ok { IfOk result (λ made. IsNameAt (C.sight cells.new) slot made) }
@@ -118,11 +114,7 @@ fn name_of<C: Cells>(alloc: Global, cells: &mut C, slot: usize) -> Result<Label,
 }
 
 /// The statement of the assertion in the slot: its kind, its pairs, its hypotheses and its symbols.
-pub fn statement<C: Cells>(
-    alloc: Global,
-    cells: &mut C,
-    slot: usize,
-) -> Result<Statement, Halt<C::Stop>>
+pub fn statement<C: Cells>(alloc: Global, cells: &mut C, slot: usize) -> Result<Statement, Halt>
     requires { slot < (C.sight cells.old).setting.slots }
     ensures looks { Looks (C.sight cells.old) (C.sight cells.new) }
     ensures ok { IfOk result (λ made. ForEachHeld (C.sight cells.new) slot (λ st lib e. made ≡ statement_of e.assertion)) }
@@ -138,7 +130,7 @@ pub fn stored_proof<C: Cells>(
     alloc: Global,
     cells: &mut C,
     slot: usize,
-) -> Result<Vec<StoredStep>, Halt<C::Stop>>
+) -> Result<Vec<StoredStep>, Halt>
     requires { slot < (C.sight cells.old).setting.slots }
     ensures looks { Looks (C.sight cells.old) (C.sight cells.new) }
     ensures ok { IfOk result (λ made. AreStepsAt (C.sight cells.new) slot made.items) }
@@ -150,7 +142,7 @@ pub fn stored_proof<C: Cells>(
 }
 
 /// The proof of the assertion in the slot, with each cited assertion by its label; no steps of an axiom.
-pub fn proof<C: Cells>(alloc: Global, cells: &mut C, slot: usize) -> Result<Proof, Halt<C::Stop>>
+pub fn proof<C: Cells>(alloc: Global, cells: &mut C, slot: usize) -> Result<Proof, Halt>
     requires { slot < (C.sight cells.old).setting.slots }
     ensures looks { Looks (C.sight cells.old) (C.sight cells.new) }
     ensures ok { IfOk result (λ made. ForEachHeld (C.sight cells.new) slot (λ st lib e. made ≡ e.assertion.proof)) }
@@ -201,7 +193,7 @@ fn word_again<C: Cells>(
     words: &[u32],
     hint: usize,
     step: StoredStep,
-) -> Result<u32, Halt<C::Stop>>
+) -> Result<u32, Halt>
     requires slots { slots ≡ (C.sight cells.old).setting.slots }
     requires words { AreWords cited.old.items words.now }
     requires steps { AreStepsOf slots (C.sight cells.old) kept.now (steps_of cited.old.items words.now) }
@@ -227,7 +219,7 @@ fn word_of<C: Cells>(
     slots: usize,
     cited: &mut Vec<Label>,
     step: StoredStep,
-) -> Result<u32, Halt<C::Stop>>
+) -> Result<u32, Halt>
     requires slots { slots ≡ (C.sight cells.old).setting.slots }
     requires few { length cited.old.items < 2 ^ 30 }
     requires small { HasSmallPlace step }
@@ -256,7 +248,7 @@ fn cited_label<C: Cells>(
     cells: &mut C,
     slots: usize,
     slot: u32,
-) -> Result<Label, Halt<C::Stop>>
+) -> Result<Label, Halt>
     requires { slots ≡ (C.sight cells.old).setting.slots }
     ensures looks { Looks (C.sight cells.old) (C.sight cells.new) }
     ensures ok { IfOk result (λ made. IsStepOf slots (C.sight cells.new) (Slot slot) (Cite made)) }
@@ -275,7 +267,7 @@ fn assertion<C: Cells>(
     cells: &mut C,
     slot: usize,
     label: Label,
-) -> Result<Assertion, Halt<C::Stop>>
+) -> Result<Assertion, Halt>
     requires slot { slot < (C.sight cells.old).setting.slots }
     requires label { ForEachHeld (C.sight cells.old) slot (λ st lib e. label ≡ label_of e) }
     ensures looks { Looks (C.sight cells.old) (C.sight cells.new) }
@@ -293,14 +285,14 @@ pub fn entry<C: Cells>(
     cells: &mut C,
     slot: usize,
     label: Label,
-) -> Result<Ranked, Halt<C::Stop>>
+) -> Result<Ranked, Halt>
     requires slot { slot < (C.sight cells.old).setting.slots }
     requires label { ForEachHeld (C.sight cells.old) slot (λ st lib e. label ≡ label_of e) }
     ensures looks { Looks (C.sight cells.old) (C.sight cells.new) }
     ensures ok { IfOk result (λ made. ForEachHeld (C.sight cells.new) slot (λ st lib e. made ≡ e)) }
     ensures reads { ForEachHeld (C.sight cells.new) slot (λ st lib e. ReadsWithin (λ c. (c ≡ rank_cell slot) ⊎ IsOfAssertion (C.sight cells.old).setting.slots slot e.assertion.proof st c) (C.sight cells.old) (C.sight cells.new)) }
 {
-    let rank = rank(cells, slot).map_err(Halt::Stopped)?;
+    let rank = rank(cells, slot)?;
     let assertion = assertion(alloc, cells, slot, label)?;
     Ok(Ranked { rank, assertion })
 }
@@ -311,7 +303,7 @@ pub fn frame<C: Cells>(
     prelude: &Prelude,
     cells: &mut C,
     slot: usize,
-) -> Result<Frame, Halt<C::Stop>>
+) -> Result<Frame, Halt>
     requires { slot < (C.sight cells.old).setting.slots }
     ensures looks { Looks (C.sight cells.old) (C.sight cells.new) }
     ensures ok { IfOk result (λ made. ForEachHeld (C.sight cells.new) slot (λ st lib e. made ≡ frame prelude.now e.assertion)) }
@@ -328,7 +320,7 @@ pub fn resolve<C: Cells>(
     alloc: Global,
     cells: &mut C,
     steps: &Proof,
-) -> Result<Option<Vec<StoredStep>>, Halt<C::Stop>>
+) -> Result<Option<Vec<StoredStep>>, Halt>
     ensures looks { Looks (C.sight cells.old) (C.sight cells.new) }
     ensures ok { IfOk result (λ kept. Resolves (C.sight cells.new) steps.now (option_map (λ v. v.items) kept)) }
     ensures reads { ReadsWhere (IsOfResolving (C.sight cells.old).setting.slots steps.now) (C.sight cells.old) (C.sight cells.new) }
@@ -340,8 +332,7 @@ pub fn resolve<C: Cells>(
     found.resize(over.cited.len(), None)?;
     for i in 0..count {
         let step = over.step(i);
-        let Some(stored) = stored_step(cells, over.cited, &mut found, step).map_err(Halt::Stopped)?
-        else {
+        let Some(stored) = stored_step(cells, over.cited, &mut found, step)? else {
             return Ok(None);
         };
         kept.push(stored)?;
@@ -356,7 +347,7 @@ fn stored_step<C: Cells>(
     labels: &[Label],
     found: &mut [Option<u32>],
     step: WordStep,
-) -> Result<Option<StoredStep>, C::Stop>
+) -> Result<Option<StoredStep>, Halt>
     requires within { IsWithin (length labels.now) step }
     requires found { AreFound (C.sight cells.old) labels.now found.old }
     ensures looks { Looks (C.sight cells.old) (C.sight cells.new) }
@@ -381,7 +372,7 @@ fn slot_of<C: Cells>(
     labels: &[Label],
     found: &mut [Option<u32>],
     n: usize,
-) -> Result<Option<u32>, C::Stop>
+) -> Result<Option<u32>, Halt>
     requires within { n < length labels.now }
     requires found { AreFound (C.sight cells.old) labels.now found.old }
     ensures looks { Looks (C.sight cells.old) (C.sight cells.new) }

@@ -118,14 +118,14 @@ pub(crate) fn words_of<C: Cells>(
     alloc: Global,
     cells: &mut C,
     cell: usize,
-) -> Result<Vec<u64>, Halt<C::Stop>>
+) -> Result<Vec<u64>, Halt>
     requires cell { cell < cell_count (C.sight cells.old).setting.slots }
     requires ranged { is_ranged (C.sight cells.old).setting.slots cell ≡ true }
     ensures looks { Looks (C.sight cells.old) (C.sight cells.new) }
     ensures ok { IfOk result (λ made. ForEachState (C.sight cells.new) (λ st. AreWordsOf st cell made.items)) }
     ensures reads { ReadsWithin (λ c. c ≡ cell) (C.sight cells.old) (C.sight cells.new) }
 {
-    let word = cells.read(cell).map_err(Halt::Stopped)?;
+    let word = cells.read(cell)?;
     if word == 0 {
         return Ok(Vec::new(alloc));
     }
@@ -134,7 +134,7 @@ pub(crate) fn words_of<C: Cells>(
 }
 
 /// The first word of the body that a range cell names; 0 where it holds 0.
-pub(crate) fn first_word<C: Cells>(cells: &mut C, cell: usize) -> Result<u64, C::Stop>
+pub(crate) fn first_word<C: Cells>(cells: &mut C, cell: usize) -> Result<u64, Halt>
     requires cell { cell < cell_count (C.sight cells.old).setting.slots }
     requires ranged { is_ranged (C.sight cells.old).setting.slots cell ≡ true }
     ensures looks { Looks (C.sight cells.old) (C.sight cells.new) }

@@ -7,9 +7,10 @@ ghost use Rattle.cells.specs.Sight.{Sight, WasWritten, ForEachState, KeepsOthers
 ghost use Rattle.cells.specs.Aside.{KeepsAside};
 
 use crate::cells::Cells;
+use crate::halt::Halt;
 
 /// Reads a cell and writes a value to it.
-pub fn put<C: Cells>(cells: &mut C, cell: usize, value: u64) -> Result<(), C::Stop>
+pub fn put<C: Cells>(cells: &mut C, cell: usize, value: u64) -> Result<(), Halt>
     requires may { (C.sight cells.old).may_write ≡ true }
     requires cell { cell < cell_count (C.sight cells.old).setting.slots }
     requires plain { is_ranged (C.sight cells.old).setting.slots cell ≡ false }
@@ -26,7 +27,7 @@ pub fn put<C: Cells>(cells: &mut C, cell: usize, value: u64) -> Result<(), C::St
 }
 
 /// Stages words and has a cell name their range. It takes at most these words, and none where they were staged.
-pub fn put_body<C: Cells>(cells: &mut C, cell: usize, words: &[u64]) -> Result<(), C::Stop>
+pub fn put_body<C: Cells>(cells: &mut C, cell: usize, words: &[u64]) -> Result<(), Halt>
     requires may { ((C.sight cells.old).may_write ≡ true) × ((C.sight cells.old).may_stage ≡ true) }
     requires cell { cell < cell_count (C.sight cells.old).setting.slots }
     requires some { words.now ≢ [] }

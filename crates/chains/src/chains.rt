@@ -6,14 +6,14 @@ ghost use Rattle.cells.specs.Footprints.{ReadsWhere, IsOfTakingOut};
 ghost use Rattle.cells.specs.Aside.{KeepsAside, IsOfFront};
 ghost use Rattle.chains.specs.Chains.{PutsIn, TakesOut, GoesToFront, KeepsLeaving};
 
-use cells::{Cells, bucket, bucket_cell, link, next_cell, slot_count};
+use cells::{Cells, Halt, bucket, bucket_cell, link, next_cell, slot_count};
 
 /// Puts a slot that is in no chain at the front of the chain of a label's bucket.
 ///
 /// # Errors
 ///
-/// The run is stopped.
-pub fn put_in<C: Cells>(cells: &mut C, slot: usize, label: &[u8]) -> Result<(), C::Stop>
+/// The run halts.
+pub fn put_in<C: Cells>(cells: &mut C, slot: usize, label: &[u8]) -> Result<(), Halt>
     requires may { (C.sight cells.old).may_write ≡ true }
     requires slot { slot < (C.sight cells.old).setting.slots }
     ensures onward { Onward (C.sight cells.old) (C.sight cells.new) }
@@ -36,8 +36,8 @@ pub fn put_in<C: Cells>(cells: &mut C, slot: usize, label: &[u8]) -> Result<(), 
 ///
 /// # Errors
 ///
-/// The run is stopped.
-pub fn take_out<C: Cells>(cells: &mut C, slot: usize, label: &[u8]) -> Result<(), C::Stop>
+/// The run halts.
+pub fn take_out<C: Cells>(cells: &mut C, slot: usize, label: &[u8]) -> Result<(), Halt>
     requires may { (C.sight cells.old).may_write ≡ true }
     requires slot { slot < (C.sight cells.old).setting.slots }
     ensures onward { Onward (C.sight cells.old) (C.sight cells.new) }

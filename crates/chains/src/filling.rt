@@ -25,7 +25,7 @@ use std::alloc::Global;
 ///
 /// # Errors
 ///
-/// The run is stopped, or memory ran out.
+/// The run halts.
 pub fn fill<C: Cells>(
     alloc: Global,
     cells: &mut C,
@@ -33,7 +33,7 @@ pub fn fill<C: Cells>(
     rank: u32,
     assertion: &Assertion,
     steps: &[StoredStep],
-) -> Result<(), Halt<C::Stop>>
+) -> Result<(), Halt>
     requires may { ((C.sight cells.old).may_write ≡ true) × ((C.sight cells.old).may_stage ≡ true) }
     requires slot { slot < (C.sight cells.old).setting.slots }
     requires fillable { IsFillable (C.sight cells.old).setting.slots assertion.now steps.now }
@@ -46,8 +46,8 @@ pub fn fill<C: Cells>(
 {
     lay_down(alloc, cells, slot, rank, assertion, steps)?;
     let cited = cited_slots(alloc, steps)?;
-    count_in(cells, cited.as_slice()).map_err(Halt::Stopped)?;
-    put_in(cells, slot, assertion.label.as_slice()).map_err(Halt::Stopped)
+    count_in(cells, cited.as_slice())?;
+    put_in(cells, slot, assertion.label.as_slice())
 }
 
 /// Stages the label, the statement and the proof of an assertion, and writes the five cells of its slot, with no citer.
@@ -58,7 +58,7 @@ fn lay_down<C: Cells>(
     rank: u32,
     assertion: &Assertion,
     steps: &[StoredStep],
-) -> Result<(), Halt<C::Stop>>
+) -> Result<(), Halt>
     requires may { ((C.sight cells.old).may_write ≡ true) × ((C.sight cells.old).may_stage ≡ true) }
     requires slot { slot < (C.sight cells.old).setting.slots }
     requires labelled { assertion.now.label ≢ [] }
@@ -74,17 +74,12 @@ fn lay_down<C: Cells>(
     put_label(alloc, cells, slot, assertion.label.as_slice())?;
     put_statement(alloc, cells, slot, assertion)?;
     put_proof(alloc, cells, slot, assertion.kind, steps)?;
-    put(cells, rank_cell(slot), rank as u64).map_err(Halt::Stopped)?;
-    put(cells, citers_cell(slot), 0).map_err(Halt::Stopped)
+    put(cells, rank_cell(slot), rank as u64)?;
+    put(cells, citers_cell(slot), 0)
 }
 
 /// Stages a label and has the name cell of a slot name it.
-fn put_label<C: Cells>(
-    alloc: Global,
-    cells: &mut C,
-    slot: usize,
-    label: &[u8],
-) -> Result<(), Halt<C::Stop>>
+fn put_label<C: Cells>(alloc: Global, cells: &mut C, slot: usize, label: &[u8]) -> Result<(), Halt>
     requires may { ((C.sight cells.old).may_write ≡ true) × ((C.sight cells.old).may_stage ≡ true) }
     requires slot { slot < (C.sight cells.old).setting.slots }
     requires some { label.now ≢ [] }
@@ -98,7 +93,7 @@ fn put_label<C: Cells>(
 {
     let _slots = slot_count(cells);
     let words = encode_label(alloc, label)?;
-    put_body(cells, name_cell(slot), words.as_slice()).map_err(Halt::Stopped)
+    put_body(cells, name_cell(slot), words.as_slice())
 }
 
 /// Stages the statement of an assertion and has the statement cell of a slot name it.
@@ -107,7 +102,7 @@ fn put_statement<C: Cells>(
     cells: &mut C,
     slot: usize,
     assertion: &Assertion,
-) -> Result<(), Halt<C::Stop>>
+) -> Result<(), Halt>
     requires may { ((C.sight cells.old).may_write ≡ true) × ((C.sight cells.old).may_stage ≡ true) }
     requires slot { slot < (C.sight cells.old).setting.slots }
     ensures onward { Onward (C.sight cells.old) (C.sight cells.new) }
@@ -119,7 +114,7 @@ fn put_statement<C: Cells>(
 {
     let _slots = slot_count(cells);
     let words = encode_statement(alloc, assertion)?;
-    put_body(cells, statement_cell(slot), words.as_slice()).map_err(Halt::Stopped)
+    put_body(cells, statement_cell(slot), words.as_slice())
 }
 
 /// Stages the steps of a theorem and has the proof cell of its slot name them; nothing where the assertion is an axiom.
@@ -129,7 +124,7 @@ fn put_proof<C: Cells>(
     slot: usize,
     kind: Kind,
     steps: &[StoredStep],
-) -> Result<(), Halt<C::Stop>>
+) -> Result<(), Halt>
     requires may { ((C.sight cells.old).may_write ≡ true) × ((C.sight cells.old).may_stage ≡ true) }
     requires slot { slot < (C.sight cells.old).setting.slots }
     requires some { kind ≡ Theorem → steps.now ≢ [] }
@@ -145,7 +140,7 @@ fn put_proof<C: Cells>(
         Kind::Axiom => Ok(()),
         Kind::Theorem => {
             let proof = encode_proof(alloc, steps)?;
-            put_body(cells, proof_cell(slot), proof.as_slice()).map_err(Halt::Stopped)
+            put_body(cells, proof_cell(slot), proof.as_slice())
         }
     }
 }
@@ -154,8 +149,8 @@ fn put_proof<C: Cells>(
 ///
 /// # Errors
 ///
-/// The run is stopped.
-pub fn vacate<C: Cells>(cells: &mut C, slot: usize) -> Result<(), C::Stop>
+/// The run halts.
+pub fn vacate<C: Cells>(cells: &mut C, slot: usize) -> Result<(), Halt>
     requires may { (C.sight cells.old).may_write ≡ true }
     requires slot { slot < (C.sight cells.old).setting.slots }
     ensures onward { Onward (C.sight cells.old) (C.sight cells.new) }

@@ -178,8 +178,7 @@ module _ {O : Type 0} (s t u : Sight O) (cs : List Command) (replies : List Repl
       apply_refused s.setting 1 lib cs c more (record { library = now.next; replies = replies }) reason now.applied is
 
   -- a command that has no reply ends the transaction
-  pub ends : {S : Type 0} (c : Command) (more : List Command) (error : CommandError S) → CommandAnswers t u c (Err error)
+  pub ends : (c : Command) (more : List Command) (error : CommandError) → CommandAnswers t u c (Err error)
       → RunAnswers s u (cs ++ c ∷ more) (Err (error_at (1 + length cs) error))
-  ends c more (command.Stopped stop) h = tt
+  ends c more (command.Halted halt) h = tt
   ends c more (command.Refused reason) h = refuses_more c more reason h
-  ends c more command.NoMemory h = tt

@@ -4,7 +4,7 @@
 mod rights;
 mod running;
 
-pub use cells::{CommandError, RunError};
+pub use cells::{CommandError, Halt, RunError};
 pub use rights::{has_staging, stages};
 pub use running::{run, take};
 pub use shows::entries;

@@ -32,14 +32,14 @@ use std::alloc::Global;
 ///
 /// # Errors
 ///
-/// The first command that is refused, counted from 1, with its reason. The run is stopped, or memory ran out. What was kept aside by then is the
+/// The first command that is refused, counted from 1, with its reason. The run halts. What was kept aside by then is the
 /// caller's to throw away.
 pub fn run<C: Cells>(
     alloc: Global,
     prelude: &Prelude,
     cells: &mut C,
     commands: &[Command],
-) -> Result<Sequence<Reply>, RunError<C::Stop>>
+) -> Result<Sequence<Reply>, RunError>
     requires may { All (MayDo (C.sight cells.old)) commands.now }
     requires prelude { prelude.now ≡ (C.sight cells.old).setting.prelude }
     requires fits { All (CommandFits prelude.now) commands.now }
@@ -64,13 +64,13 @@ pub fn run<C: Cells>(
 ///
 /// # Errors
 ///
-/// It is refused: nothing was kept aside or staged. The run is stopped, or memory ran out.
+/// It is refused: nothing was kept aside or staged. The run halts.
 pub fn take<C: Cells>(
     alloc: Global,
     prelude: &Prelude,
     cells: &mut C,
     command: &Command,
-) -> Result<Reply, CommandError<C::Stop>>
+) -> Result<Reply, CommandError>
     requires may { MayDo (C.sight cells.old) command.now }
     requires prelude { prelude.now ≡ (C.sight cells.old).setting.prelude }
     requires fits { CommandFits prelude.now command.now }

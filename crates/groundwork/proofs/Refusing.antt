@@ -14,6 +14,7 @@ use Rattle.cells.specs.Sight.{Sight, Looks}
 use Rattle.cells.specs.Lookups.{ForEach}
 use Rattle.cells.specs.Answers.{IsRefused, CommandAnswers}
 use Rattle.groundwork.specs.Citing.{TellsRefusal, Fails}
+use Rattle.groundwork.specs.Known.{TellsUnknown}
 use Rattle.cells.specs.declared.ending.CommandError.{CommandError}
 use Rattle.cells.specs.declared.ending.CommandError.TheVariants as command
 use Rattle.groundwork.proofs.Seeing.{views_later}
@@ -52,19 +53,32 @@ refused_later s t c r looks each =
     refused s t c r looks (λ st lib v. subst (λ (x : Setting). edit x lib c ≡ Err r) looks.onward.setting (each st lib v))
 
 -- so the answer is this reason
-pub answers_refused : {O : Type 0} → {S : Type 0} (s t : Sight O) (c : Command) (r : Reason) (error : CommandError S) → error ≡ command.Refused r
+pub answers_refused : {O : Type 0} → (s t : Sight O) (c : Command) (r : Reason) (error : CommandError) → error ≡ command.Refused r
     → IsRefused s t c r → CommandAnswers s t c (Err error)
 answers_refused s t c r error is h = subst (λ e. CommandAnswers s t c (Err e)) (sym is) h
 
+-- the answer of a command that ends by the error of a call
+pub answers_ended : {O : Type 0} → (s t : Sight O) (c : Command) (result : Result Reply CommandError) (error : CommandError)
+    → IsErrAnd result (λ e. e ≡ error) → CommandAnswers s t c (Err error) → CommandAnswers s t c result
+answers_ended s t c (Ok reply) error is h = absurd is
+answers_ended s t c (Err e) error is h = subst (λ x. CommandAnswers s t c (Err x)) (sym is) h
+
 -- the test of a proof that ended early ends the command: refused where a test refuses it
-pub answers_tested : {O : Type 0} → {S : Type 0} (s t : Sight O) (c : Command) (rank : ℕ) (a : Assertion) (result : Result Reply (CommandError S))
-    (error : CommandError S) → IsErrAnd result (λ e. e ≡ error) → TellsRefusal t rank a error
+pub answers_tested : {O : Type 0} → (s t : Sight O) (c : Command) (rank : ℕ) (a : Assertion) (result : Result Reply CommandError)
+    (error : CommandError) → IsErrAnd result (λ e. e ≡ error) → TellsRefusal t rank a error
     → ((r : Reason) → Fails t rank a r → IsRefused s t c r) → CommandAnswers s t c result
-answers_tested s t c rank a (Ok reply) error is tells refuses = absurd is
-answers_tested {S} s t c rank a (Err e) error is tells refuses =
-    subst (λ x. CommandAnswers s t c (Err x)) (sym is) (of_error error tells)
+answers_tested s t c rank a result error is tells refuses = answers_ended s t c result error is (of_error error tells)
   where
-    of_error : (error : CommandError S) → TellsRefusal t rank a error → CommandAnswers s t c (Err error)
+    of_error : (error : CommandError) → TellsRefusal t rank a error → CommandAnswers s t c (Err error)
     of_error (command.Refused r) fails = refuses r fails
-    of_error (command.Stopped stop) fails = tt
-    of_error command.NoMemory fails = tt
+    of_error (command.Halted halt) fails = tt
+
+-- a label that was looked for in vain ends the command
+pub answers_unknown : {O : Type 0} → (s t : Sight O) (c : Command) (label : List ℕ) (result : Result Reply CommandError)
+    (error : CommandError) → IsErrAnd result (λ e. e ≡ error) → TellsUnknown t label error
+    → (ForEach t (λ st lib. found lib label ≡ None) → IsRefused s t c reason.UnknownLabel) → CommandAnswers s t c result
+answers_unknown s t c label result error is tells refuses = answers_ended s t c result error is (of_error error tells)
+  where
+    of_error : (error : CommandError) → TellsUnknown t label error → CommandAnswers s t c (Err error)
+    of_error (command.Refused r) tells = subst (λ x. IsRefused s t c x) (sym tells.0) (refuses tells.1)
+    of_error (command.Halted halt) tells = tt

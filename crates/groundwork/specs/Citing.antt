@@ -71,8 +71,8 @@ pub record Passes {O : Type 0} (s : Sight O) (rank : ℕ) (a : Assertion) (kept 
 abbrev pub Fails : {O : Type 0} → Sight O → ℕ → Assertion → Reason → Type 0
 Fails s rank a reason = ForEach s (λ st lib. (more : Tests) (edited : Edited) → tested (proof_tests s lib rank a more) edited ≡ Err reason)
 
--- why the test of a proof ends early: it was refused, or the run was stopped, or memory ran out
-abbrev pub TellsRefusal : {O : Type 0} → {S : Type 0} → Sight O → ℕ → Assertion → CommandError S → Type 0
+-- why the test of a proof ends early: it was refused, or the run halts
+abbrev pub TellsRefusal : {O : Type 0} → Sight O → ℕ → Assertion → CommandError → Type 0
 TellsRefusal s rank a (Refused reason) = Fails s rank a reason
 TellsRefusal s rank a _ = Unit {0}
 

@@ -1,4 +1,5 @@
 pub mod Citing
+pub mod Known
 pub mod Changes
 pub mod Touches
 pub mod Takes

@@ -29,7 +29,7 @@ pub fn test_proof<C: Cells>(
     cells: &mut C,
     rank: u32,
     theorem: &Assertion,
-) -> Result<Vec<StoredStep>, CommandError<C::Stop>>
+) -> Result<Vec<StoredStep>, CommandError>
     requires prelude { prelude.now ≡ (C.sight cells.old).setting.prelude }
     requires theorem { theorem.now.kind ≡ Theorem }
     ensures looks { Looks (C.sight cells.old) (C.sight cells.new) }
@@ -55,13 +55,13 @@ pub fn test_proof<C: Cells>(
 ///
 /// # Errors
 ///
-/// The run is stopped, or memory ran out.
+/// The run halts.
 pub fn cites_not_below<C: Cells>(
     alloc: Global,
     cells: &mut C,
     limit: u32,
     steps: &[StoredStep],
-) -> Result<bool, Halt<C::Stop>>
+) -> Result<bool, Halt>
     ensures looks { Looks (C.sight cells.old) (C.sight cells.new) }
     ensures ok { IfOk result (λ b. TellsNotBelow (C.sight cells.new) limit steps.now b) }
     ensures reads { ReadsWithin (IsRankOfSteps steps.now) (C.sight cells.old) (C.sight cells.new) }
@@ -69,7 +69,7 @@ pub fn cites_not_below<C: Cells>(
     let slots = slot_count(cells);
     let cited = cited_slots(alloc, steps)?;
     for slot in cited.as_slice() {
-        if *slot < slots && limit <= rank(cells, *slot).map_err(Halt::Stopped)? {
+        if *slot < slots && limit <= rank(cells, *slot)? {
             return Ok(true);
         }
     }
@@ -99,7 +99,7 @@ fn cited_frames<C: Cells>(
     cells: &mut C,
     steps: &Proof,
     kept: &[StoredStep],
-) -> Result<CitedFrames, Halt<C::Stop>>
+) -> Result<CitedFrames, Halt>
     requires { AreWithin (C.sight cells.old).setting.slots kept.now }
     ensures looks { Looks (C.sight cells.old) (C.sight cells.new) }
     ensures ok { IfOk result (λ made. TellsFrames (C.sight cells.new) prelude.now steps.now kept.now (frames_in made.by_label)) }
@@ -126,7 +126,7 @@ fn note_frame<C: Cells>(
     by_label: &mut BTreeMap<Vec<u8>, Frame>,
     label: &[u8],
     slot: usize,
-) -> Result<(), Halt<C::Stop>>
+) -> Result<(), Halt>
     requires { slot < (C.sight cells.old).setting.slots }
     ensures looks { Looks (C.sight cells.old) (C.sight cells.new) }
     ensures ok { OnOk result (NotesFrame (C.sight cells.new) prelude.now slot label.now (frames_in by_label.old) (frames_in by_label.new)) }

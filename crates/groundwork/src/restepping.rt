@@ -21,13 +21,13 @@ use std::alloc::Global;
 ///
 /// # Errors
 ///
-/// The run is stopped, or memory ran out. What was kept aside by then is the caller's to throw away.
+/// The run halts. What was kept aside by then is the caller's to throw away.
 pub fn put_steps<C: Cells>(
     alloc: Global,
     cells: &mut C,
     slot: usize,
     kept: &[StoredStep],
-) -> Result<(), Halt<C::Stop>>
+) -> Result<(), Halt>
     requires may { ((C.sight cells.old).may_write ≡ true) × ((C.sight cells.old).may_stage ≡ true) }
     requires slot { slot < (C.sight cells.old).setting.slots }
     requires some { kept.now ≢ [] }
@@ -46,7 +46,7 @@ pub fn put_steps<C: Cells>(
     let dropped = only_in(alloc, before.as_slice(), now.as_slice())?;
     let gained = only_in(alloc, now.as_slice(), before.as_slice())?;
     let body = encode_proof(alloc, kept)?;
-    put_body(cells, proof_cell(slot), body.as_slice()).map_err(Halt::Stopped)?;
-    count_out(cells, dropped.as_slice()).map_err(Halt::Stopped)?;
-    count_in(cells, gained.as_slice()).map_err(Halt::Stopped)
+    put_body(cells, proof_cell(slot), body.as_slice())?;
+    count_out(cells, dropped.as_slice())?;
+    count_in(cells, gained.as_slice())
 }

@@ -8,4 +8,4 @@ mod kit;
 mod live;
 
 pub use kit::Kit;
-pub use live::{GivenUp, Live, Stopped};
+pub use live::{GivenUp, Live};

@@ -5,19 +5,13 @@ ghost use Rattle.lending.specs.Lent.{Agrees};
 
 use crate::kit::Kit;
 use bodystore::Stage;
-use cells::Cells;
+use cells::{Cells, Halt};
 use lawful::{Given, LibraryLaw, Note};
 use ranges::Range;
 use std::alloc::Global;
 use std::marker::Model;
 use std::snapshot::Snapshot;
-use thiserror::Error;
 use tlwords::{Conflict, Mode, Outcome, Pass, Run, Words, begin};
-
-/// A run was stopped: it met a conflict, or the store had no room. The run itself knows which.
-#[derive(Clone, Copy, Debug, PartialEq, Eq, Error)]
-#[error("the run met another session, or the store has no room")]
-pub struct Stopped;
 
 /// Why a run is given up.
 #[derive(Clone, Copy)]
@@ -175,8 +169,6 @@ impl<'w> Live<'w> {
 impl<'w> Cells for Live<'w> {
     ghost use Rattle.lending.specs.Lent.{sight_of};
 
-    type Stop = Stopped;
-
     type Origin = Pass<LibraryLaw>;
 
     ghost sight = { λ l. sight_of l.run };
@@ -185,12 +177,12 @@ impl<'w> Cells for Live<'w> {
         self.slots
     }
 
-    fn read(&mut self, cell: usize) -> Result<u64, Stopped> {
+    fn read(&mut self, cell: usize) -> Result<u64, Halt> {
         match self.run.read(cell) {
             Ok(value) => Ok(value),
             Err(conflict) => {
                 self.over = Some(conflict);
-                Err(Stopped)
+                Err(Halt::Conflict)
             }
         }
     }
@@ -203,13 +195,13 @@ impl<'w> Cells for Live<'w> {
         self.run.load(range, index)
     }
 
-    fn stage(&mut self, words: &[u64]) -> Result<Range, Stopped> {
+    fn stage(&mut self, words: &[u64]) -> Result<Range, Halt> {
         if let Some(range) = self.stage.find(words) {
             return Ok(range);
         }
         let Ok(range) = self.run.stage(words) else {
             self.full = true;
-            return Err(Stopped);
+            return Err(Halt::StoreFull);
         };
         // Where there is no memory for the note, a later body of the same words is staged anew.
         let _ = self.stage.note(self.alloc, words, range);

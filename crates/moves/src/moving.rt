@@ -12,10 +12,8 @@ ghost use Rattle.groundwork.specs.Takes.{TakesBodies};
 ghost use Rattle.groundwork.specs.Touches.{KeepsTo};
 
 use bodystore::StoredStep;
-use cells::{
-    Cells, CommandError, Halt, citers, find, put, rank, rank_cell, slot_count, stored_proof,
-};
-use groundwork::cites_not_below;
+use cells::{Cells, CommandError, Halt, citers, put, rank, rank_cell, slot_count, stored_proof};
+use groundwork::{cites_not_below, known_slot};
 use library::{Reason, Reply};
 use mmsyntax::Label;
 use std::alloc::Global;
@@ -24,13 +22,13 @@ use std::alloc::Global;
 ///
 /// # Errors
 ///
-/// It is refused: nothing was kept aside or staged. The run is stopped, or memory ran out.
+/// It is refused: nothing was kept aside or staged. The run halts.
 pub fn move_to<C: Cells>(
     alloc: Global,
     cells: &mut C,
     label: &Label,
     rank: u32,
-) -> Result<Reply, CommandError<C::Stop>>
+) -> Result<Reply, CommandError>
     requires { (C.sight cells.old).may_write ≡ true }
     ensures onward { Onward (C.sight cells.old) (C.sight cells.new) }
     ensures answers { CommandAnswers (C.sight cells.old) (C.sight cells.new) (command.Move label.now rank) result }
@@ -38,9 +36,7 @@ pub fn move_to<C: Cells>(
     ensures keeps { IfOk result (λ _. KeepsTo (C.sight cells.old) (C.sight cells.new) (command.Move label.now rank)) }
     ensures reads { ReadsFor (C.sight cells.old) (C.sight cells.new) (command.Move label.now rank) }
 {
-    let Some(slot) = find(cells, label.as_slice()).map_err(Halt::Stopped)? else {
-        return Err(Reason::UnknownLabel.into());
-    };
+    let slot = known_slot(cells, label)?;
     if rank == 0 {
         return Err(Reason::BadRank.into());
     }
@@ -52,7 +48,7 @@ pub fn move_to<C: Cells>(
         return Err(Reason::CiterNotHigher.into());
     }
     let _slots = slot_count(cells);
-    put(cells, rank_cell(slot), rank as u64).map_err(CommandError::Stopped)?;
+    put(cells, rank_cell(slot), rank as u64)?;
     Ok(Reply::Done)
 }
 
@@ -65,19 +61,19 @@ fn is_cited_up_to<C: Cells>(
     cells: &mut C,
     slot: usize,
     limit: u32,
-) -> Result<bool, Halt<C::Stop>>
+) -> Result<bool, Halt>
     requires { slot < (C.sight cells.old).setting.slots }
     ensures looks { Looks (C.sight cells.old) (C.sight cells.new) }
     ensures ok { IfOk result (λ b. TellsCitedUpTo (C.sight cells.new) slot limit b) }
     ensures reads { ForEachHeld (C.sight cells.new) slot (λ st lib e. ReadsWithin (IsOfRise (C.sight cells.old).setting.slots st lib slot e limit) (C.sight cells.old) (C.sight cells.new)) }
 {
-    let current = rank(cells, slot).map_err(Halt::Stopped)?;
-    if limit <= current || citers(cells, slot).map_err(Halt::Stopped)? == 0 {
+    let current = rank(cells, slot)?;
+    if limit <= current || citers(cells, slot)? == 0 {
         return Ok(false);
     }
     for other in 0..slot_count(cells) {
         // That of an empty slot is 0.
-        let rank = cells.read(rank_cell(other)).map_err(Halt::Stopped)?;
+        let rank = cells.read(rank_cell(other))?;
         if rank > current as u64 && rank <= limit as u64 && cites_slot(alloc, cells, other, slot)? {
             return Ok(true);
         }
@@ -91,7 +87,7 @@ fn cites_slot<C: Cells>(
     cells: &mut C,
     citing: usize,
     cited: usize,
-) -> Result<bool, Halt<C::Stop>>
+) -> Result<bool, Halt>
     requires citing { citing < (C.sight cells.old).setting.slots }
     requires cited { cited < (C.sight cells.old).setting.slots }
     ensures looks { Looks (C.sight cells.old) (C.sight cells.new) }

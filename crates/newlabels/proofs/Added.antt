@@ -30,7 +30,7 @@ use Rattle.cells.proofs.Found.{length_held}
 use Rattle.cells.proofs.Sights.{views_back, matches_back, looks_trans}
 use Rattle.cells.specs.Answers.{Does, IsRefused, CommandAnswers}
 use Rattle.cells.specs.declared.ending.CommandError.{CommandError}
-use Rattle.cells.specs.declared.ending.CommandError.TheVariants.{Stopped, Refused, NoMemory}
+use Rattle.cells.specs.declared.ending.CommandError.TheVariants.{Halted, Refused}
 use Rattle.groundwork.specs.Citing.{Passes, TellsRefusal}
 use Rattle.newlabels.specs.Naming.{PassesAsNew, TellsNotNew, label_tests}
 use Rattle.groundwork.proofs.Seeing.{views_later}
@@ -106,10 +106,9 @@ module _ {O : Type 0} (s t : Sight O) (rank : ℕ) (a : Assertion) (ranked : (ra
       (to_label t.setting lib rank a ranked)
 
   -- a label that is refused is why it is not added
-  pub add_unlabelled : {S : Type 0} (error : CommandError S) → TellsNotNew t a.label a.label error
+  pub add_unlabelled : (error : CommandError) → TellsNotNew t a.label a.label error
       → CommandAnswers s t (command.Add rank a) (Err error)
-  add_unlabelled (Stopped stop) tells = tt
-  add_unlabelled NoMemory tells = tt
+  add_unlabelled (Halted halt) tells = tt
   add_unlabelled (Refused r) fails =
       refused s t (command.Add rank a) r looks (λ st lib v.
       by_label lib ∙ fails st lib v (of_kind t.setting lib rank a) (done (added lib rank a)))
@@ -152,10 +151,9 @@ module _ {O : Type 0} (s t u : Sight O) (rank : ℕ) (a : Assertion) (may : MayT
       ∙ ap (λ (x : Setting). tested (of_proof x lib rank a) (done (added lib rank a))) (sym later.onward.setting)
 
   -- a proof that is refused is why it is not added
-  pub add_refused : {S : Type 0} (error : CommandError S) → TellsRefusal u rank a error
+  pub add_refused : (error : CommandError) → TellsRefusal u rank a error
       → CommandAnswers s u (command.Add rank a) (Err error)
-  add_refused (Stopped stop) tells = tt
-  add_refused NoMemory tells = tt
+  add_refused (Halted halt) tells = tt
   add_refused (Refused r) tells =
       refused s u (command.Add rank a) r all_looks (λ st lib v.
       to_proof st lib v ∙ tells st lib v (of_room u.setting lib) (done (added lib rank a)))

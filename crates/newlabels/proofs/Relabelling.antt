@@ -20,7 +20,7 @@ use Rattle.chains.proofs.Renaming.{still_chained, renamed_shows}
 use Rattle.chains.proofs.Unlinking.{slot_gone}
 use Rattle.cells.specs.Answers.{WritesSome, Does, CommandAnswers}
 use Rattle.cells.specs.declared.ending.CommandError.{CommandError}
-use Rattle.cells.specs.declared.ending.CommandError.TheVariants.{Stopped, Refused, NoMemory}
+use Rattle.cells.specs.declared.ending.CommandError.TheVariants.{Halted, Refused}
 use Rattle.newlabels.specs.Changes.{RenamesAt}
 use Rattle.newlabels.specs.Naming.{PassesAsNew, TellsNotNew, label_tests}
 use Rattle.chains.proofs.Chaining.{TakesOut, PutsIn, taken_out, put_in_chain}
@@ -74,10 +74,9 @@ module _ {O : Type 0} (s t u : Sight O) (i : ℕ) (from to : List ℕ) (found : 
       (to_label u.setting lib from to at.entry at.found)
 
   -- a label that is refused is why it is not renamed
-  pub rename_unlabelled : {S : Type 0} (error : CommandError S) → TellsNotNew u from to error
+  pub rename_unlabelled : (error : CommandError) → TellsNotNew u from to error
       → CommandAnswers s u (command.Rename from to) (Err error)
-  rename_unlabelled (Stopped stop) tells = tt
-  rename_unlabelled NoMemory tells = tt
+  rename_unlabelled (Halted halt) tells = tt
   rename_unlabelled (Refused r) fails =
       refused s u (command.Rename from to) r all_looks (λ st lib v.
       by_label st lib v ∙ fails st lib v [] (done (rename from to lib)))

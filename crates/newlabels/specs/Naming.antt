@@ -25,7 +25,7 @@ abbrev pub FailsAsNew : {O : Type 0} → Sight O → List ℕ → List ℕ → R
 FailsAsNew s own label reason = ForEach s (λ st lib. (more : Tests) (edited : Edited)
     → tested (label_tests s.setting lib own label more) edited ≡ Err reason)
 
--- why the test of a new label ends early: it was refused, or the run was stopped
-abbrev pub TellsNotNew : {O : Type 0} → {S : Type 0} → Sight O → List ℕ → List ℕ → CommandError S → Type 0
+-- why the test of a new label ends early: it was refused, or the run halts
+abbrev pub TellsNotNew : {O : Type 0} → Sight O → List ℕ → List ℕ → CommandError → Type 0
 TellsNotNew s own label (Refused reason) = FailsAsNew s own label reason
 TellsNotNew s own label _ = Unit {0}

@@ -10,7 +10,7 @@ ghost use Rattle.groundwork.specs.Touches.{KeepsTo};
 ghost use Rattle.groundwork.specs.Footprints.{ReadsFor};
 
 use crate::naming::test_new_label;
-use cells::{Cells, CommandError, Halt, bucket, free_slot, slot_count};
+use cells::{Cells, CommandError, bucket, free_slot, slot_count};
 use chains::fill;
 use groundwork::test_proof;
 use library::{Reason, Reply};
@@ -23,14 +23,14 @@ use std::alloc::Global;
 ///
 /// # Errors
 ///
-/// It is refused: nothing was kept aside or staged. The run is stopped, or memory ran out.
+/// It is refused: nothing was kept aside or staged. The run halts.
 pub fn add<C: Cells>(
     alloc: Global,
     prelude: &Prelude,
     cells: &mut C,
     rank: u32,
     assertion: &Assertion,
-) -> Result<Reply, CommandError<C::Stop>>
+) -> Result<Reply, CommandError>
     requires may { ((C.sight cells.old).may_write ≡ true) × ((C.sight cells.old).may_stage ≡ true) }
     requires prelude { prelude.now ≡ (C.sight cells.old).setting.prelude }
     requires fits { CommandFits prelude.now (command.Add rank assertion.now) }
@@ -50,7 +50,7 @@ pub fn add<C: Cells>(
     }
     let kept = test_proof(alloc, prelude, cells, rank, assertion)?;
     let from = bucket(label, slot_count(cells));
-    let Some(slot) = free_slot(cells, from).map_err(Halt::Stopped)? else {
+    let Some(slot) = free_slot(cells, from)? else {
         return Err(Reason::LibraryFull.into());
     };
     fill(alloc, cells, slot, rank, assertion, kept.as_slice())?;

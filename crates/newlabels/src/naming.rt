@@ -6,7 +6,7 @@ ghost use Rattle.cells.specs.Footprints.{ReadsWhere};
 ghost use Rattle.groundwork.specs.Footprints.{IsOfNewLabel};
 ghost use Rattle.newlabels.specs.Naming.{PassesAsNew, TellsNotNew};
 
-use cells::{Cells, CommandError, Halt, Standing, standing_of};
+use cells::{Cells, CommandError, Standing, standing_of};
 use library::Reason;
 use mmsyntax::{Prelude, is_lawful_label};
 
@@ -15,13 +15,13 @@ use mmsyntax::{Prelude, is_lawful_label};
 ///
 /// # Errors
 ///
-/// In this order: no assertion may have the label; one has it; it clashes with that of one whose label isn't `own`. Or the run is stopped.
+/// In this order: no assertion may have the label; one has it; it clashes with that of one whose label isn't `own`. Or the run halts.
 pub(crate) fn test_new_label<C: Cells>(
     prelude: &Prelude,
     cells: &mut C,
     own: &[u8],
     label: &[u8],
-) -> Result<(), CommandError<C::Stop>>
+) -> Result<(), CommandError>
     requires { prelude.now ≡ (C.sight cells.old).setting.prelude }
     ensures looks { Looks (C.sight cells.old) (C.sight cells.new) }
     ensures ok { OnOk result (PassesAsNew (C.sight cells.new) own.now label.now) }
@@ -31,7 +31,7 @@ pub(crate) fn test_new_label<C: Cells>(
     if !is_lawful_label(prelude, label) {
         return Err(Reason::BadLabel.into());
     }
-    match standing_of(cells, own, label).map_err(Halt::Stopped)? {
+    match standing_of(cells, own, label)? {
         Standing::Taken => Err(Reason::LabelTaken.into()),
         Standing::Clashing => Err(Reason::LabelClashes.into()),
         Standing::Free => Ok(()),

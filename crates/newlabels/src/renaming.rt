@@ -13,9 +13,10 @@ ghost use Rattle.groundwork.specs.Footprints.{ReadsFor, ReadsForFound};
 
 use crate::naming::test_new_label;
 use bodystore::encode_label;
-use cells::{Cells, CommandError, Halt, find, name_cell, put_body, slot_count};
+use cells::{Cells, CommandError, Halt, name_cell, put_body, slot_count};
 use chains::{put_in, take_out};
-use library::{Reason, Reply};
+use groundwork::known_slot;
+use library::Reply;
 use mmsyntax::{Label, Prelude};
 use std::alloc::Global;
 
@@ -24,14 +25,14 @@ use std::alloc::Global;
 ///
 /// # Errors
 ///
-/// It is refused: nothing was kept aside or staged. The run is stopped, or memory ran out.
+/// It is refused: nothing was kept aside or staged. The run halts.
 pub fn rename<C: Cells>(
     alloc: Global,
     prelude: &Prelude,
     cells: &mut C,
     old: &Label,
     new: &Label,
-) -> Result<Reply, CommandError<C::Stop>>
+) -> Result<Reply, CommandError>
     requires may { ((C.sight cells.old).may_write ≡ true) × ((C.sight cells.old).may_stage ≡ true) }
     requires prelude { prelude.now ≡ (C.sight cells.old).setting.prelude }
     ensures onward { Onward (C.sight cells.old) (C.sight cells.new) }
@@ -40,12 +41,10 @@ pub fn rename<C: Cells>(
     ensures keeps { IfOk result (λ _. KeepsTo (C.sight cells.old) (C.sight cells.new) (command.Rename old.now new.now)) }
     ensures reads { ReadsFor (C.sight cells.old) (C.sight cells.new) (command.Rename old.now new.now) }
 {
-    let Some(slot) = find(cells, old.as_slice()).map_err(Halt::Stopped)? else {
-        return Err(Reason::UnknownLabel.into());
-    };
+    let slot = known_slot(cells, old)?;
     test_new_label(prelude, cells, old.as_slice(), new.as_slice())?;
     let body = encode_label(alloc, new.as_slice())?;
-    relabel(cells, slot, old, new, body.as_slice()).map_err(CommandError::Stopped)?;
+    relabel(cells, slot, old, new, body.as_slice())?;
     Ok(Reply::Done)
 }
 
@@ -56,7 +55,7 @@ fn relabel<C: Cells>(
     old: &Label,
     new: &Label,
     body: &[u64],
-) -> Result<(), C::Stop>
+) -> Result<(), Halt>
     requires may { ((C.sight cells.old).may_write ≡ true) × ((C.sight cells.old).may_stage ≡ true) }
     requires slot { slot < (C.sight cells.old).setting.slots }
     requires body { body.now ≡ label_body new.now }

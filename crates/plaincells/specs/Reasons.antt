@@ -1,9 +1,7 @@
--- The number and the name of each reason for which a database is not opened, or a run over plain cells is stopped.
+-- The number and the name of each reason for which a database is not opened.
 use Rattle.std.specs.Prelude.{ℕ, List, codes}
 use Rattle.plaincells.specs.declared.opening.OpenError.{OpenError}
 use Rattle.plaincells.specs.declared.opening.OpenError.TheVariants as opening
-use Rattle.plaincells.specs.declared.plain.PlainStop.{PlainStop}
-use Rattle.plaincells.specs.declared.plain.PlainStop.TheVariants as stop
 
 abbrev pub open_number_of : OpenError → ℕ
 open_number_of opening.TooMany = 1
@@ -14,11 +12,3 @@ abbrev pub open_name_of : OpenError → List ℕ
 open_name_of opening.TooMany = codes "TooMany"
 open_name_of opening.StoreFull = codes "StoreFull"
 open_name_of opening.NoMemory = codes "NoMemory"
-
-abbrev pub stop_number_of : PlainStop → ℕ
-stop_number_of stop.StoreFull = 1
-stop_number_of stop.NoMemory = 2
-
-abbrev pub stop_name_of : PlainStop → List ℕ
-stop_name_of stop.StoreFull = codes "StoreFull"
-stop_name_of stop.NoMemory = codes "NoMemory"

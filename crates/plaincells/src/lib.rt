@@ -5,4 +5,4 @@ mod opening;
 mod plain;
 
 pub use opening::OpenError;
-pub use plain::{PlainCells, PlainStop};
+pub use plain::PlainCells;

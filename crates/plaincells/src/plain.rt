@@ -5,46 +5,10 @@ ghost use Rattle.cells.specs.Sight.{Looks, Reads, Stages, ReadsWithin, ReadsNoth
 ghost use Rattle.cells.specs.Slots.{cell_count};
 ghost use Rattle.plaincells.specs.Plain.{undone, ranges_in, ShowsSome, BeganWithSome, HoldNames, LieInStore, IsLogOf, AreNamedBy, behind, with_place};
 
-use cells::{Cells, is_range_cell};
+use cells::{Cells, Halt, is_range_cell};
 use mmsyntax::Prelude;
 use ranges::Range;
 use std::alloc::{AllocError, Global};
-use thiserror::Error;
-
-/// Why a run over plain cells is stopped.
-#[derive(Clone, Copy, Debug, PartialEq, Eq, Error)]
-pub enum PlainStop {
-    /// The store has no room for the words.
-    #[error("the store has no room for the words")]
-    StoreFull,
-    /// Memory ran out.
-    #[error("out of memory")]
-    NoMemory,
-}
-
-impl PlainStop {
-    ghost use Rattle.plaincells.specs.Reasons.{stop_number_of, stop_name_of};
-
-    /// The number of the reason, from 1 to 2.
-    pub fn number(self) -> u32
-        ensures { result ≡ stop_number_of self }
-    {
-        match self {
-            PlainStop::StoreFull => 1,
-            PlainStop::NoMemory => 2,
-        }
-    }
-
-    /// The name of the reason.
-    pub fn name(self) -> &'static str
-        ensures { result.now ≡ stop_name_of self }
-    {
-        match self {
-            PlainStop::StoreFull => "StoreFull",
-            PlainStop::NoMemory => "NoMemory",
-        }
-    }
-}
 
 /// A library in cells, and the store of its bodies, on plain vectors.
 ///
@@ -268,8 +232,6 @@ impl Cells for PlainCells {
     ghost use mathlib.Core.Logic.{∥∥₁_map};
     ghost use Rattle.plaincells.specs.PlainViews.{sight_of, first_state};
 
-    type Stop = PlainStop;
-
     type Origin = ();
 
     ghost sight = { sight_of };
@@ -278,18 +240,18 @@ impl Cells for PlainCells {
         self.slots
     }
 
-    // the trait's clauses, and why it is stopped
-    fn read(&mut self, cell: usize) -> Result<u64, PlainStop>
+    // the trait's clauses, and why it halts
+    fn read(&mut self, cell: usize) -> Result<u64, Halt>
         requires { cell < cell_count (sight_of self.old).setting.slots }
         ensures ok { IfOk result (λ v. Reads cell v (sight_of self.old) (sight_of self.new)) }
         ensures err { IfErr result (λ _. Looks (sight_of self.old) (sight_of self.new)) }
         ensures reads { ReadsWithin (λ c. c ≡ cell) (sight_of self.old) (sight_of self.new) }
-        ensures memory { IsOkUnless result PlainStop.NoMemory }
+        ensures memory { IsOkUnless result Halt.NoMemory }
     {
         let value = self.values[cell];
         match self.log.push((cell, value)) {
             Ok(()) => Ok(value),
-            Err(_) => Err(PlainStop::NoMemory),
+            Err(_) => Err(Halt::NoMemory),
         }
     }
 
@@ -302,20 +264,20 @@ impl Cells for PlainCells {
     }
 
     // the trait's clauses, and when the store is full
-    fn stage(&mut self, words: &[u64]) -> Result<Range, PlainStop>
+    fn stage(&mut self, words: &[u64]) -> Result<Range, Halt>
         requires may { (sight_of self.old).may_stage ≡ true }
         requires some { words.now ≢ [] }
         ensures ok { IfOk result (λ range. Stages words.now range (sight_of self.old) (sight_of self.new)) }
         ensures err { IfErr result (λ _. Looks (sight_of self.old) (sight_of self.new)) }
         ensures reads { ReadsNothing (sight_of self.old) (sight_of self.new) }
-        ensures full { IsErrOf result PlainStop.StoreFull ↔ (self.old.room < length self.old.store.items + length words.now) }
+        ensures full { IsErrOf result Halt.StoreFull ↔ (self.old.room < length self.old.store.items + length words.now) }
     {
         if words.len() > self.room - self.store.len() {
-            return Err(PlainStop::StoreFull);
+            return Err(Halt::StoreFull);
         }
         match put_behind(&mut self.store, &mut self.ranges, words) {
             Ok(range) => Ok(range),
-            Err(_) => Err(PlainStop::NoMemory),
+            Err(_) => Err(Halt::NoMemory),
         }
     }
 

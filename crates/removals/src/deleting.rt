@@ -10,8 +10,9 @@ ghost use Rattle.groundwork.specs.Touches.{KeepsTo};
 ghost use Rattle.removals.specs.Changes.{DeletesWithin};
 ghost use Rattle.groundwork.specs.Footprints.{ReadsFor, ReadsForFound};
 
-use cells::{Cells, CommandError, Halt, cited_slots, citers, count_out, find, stored_proof};
+use cells::{Cells, CommandError, Halt, cited_slots, citers, count_out, stored_proof};
 use chains::{take_out, vacate};
+use groundwork::known_slot;
 use library::{Reason, Reply};
 use mmsyntax::Label;
 use std::alloc::Global;
@@ -20,12 +21,8 @@ use std::alloc::Global;
 ///
 /// # Errors
 ///
-/// It is refused: nothing was kept aside or staged. The run is stopped, or memory ran out.
-pub fn delete<C: Cells>(
-    alloc: Global,
-    cells: &mut C,
-    label: &Label,
-) -> Result<Reply, CommandError<C::Stop>>
+/// It is refused: nothing was kept aside or staged. The run halts.
+pub fn delete<C: Cells>(alloc: Global, cells: &mut C, label: &Label) -> Result<Reply, CommandError>
     requires { (C.sight cells.old).may_write ≡ true }
     ensures onward { Onward (C.sight cells.old) (C.sight cells.new) }
     ensures answers { CommandAnswers (C.sight cells.old) (C.sight cells.new) (command.Delete label.now) result }
@@ -33,10 +30,8 @@ pub fn delete<C: Cells>(
     ensures keeps { IfOk result (λ _. KeepsTo (C.sight cells.old) (C.sight cells.new) (command.Delete label.now)) }
     ensures reads { ReadsFor (C.sight cells.old) (C.sight cells.new) (command.Delete label.now) }
 {
-    let Some(slot) = find(cells, label.as_slice()).map_err(Halt::Stopped)? else {
-        return Err(Reason::UnknownLabel.into());
-    };
-    let citers = citers(cells, slot).map_err(Halt::Stopped)?;
+    let slot = known_slot(cells, label)?;
+    let citers = citers(cells, slot)?;
     if citers > 0 {
         return Err(Reason::StillCited(citers).into());
     }
@@ -45,12 +40,7 @@ pub fn delete<C: Cells>(
 }
 
 /// Counts out what the proof in the slot cites, takes the slot out of its chain, and empties it.
-fn remove<C: Cells>(
-    alloc: Global,
-    cells: &mut C,
-    slot: usize,
-    label: &Label,
-) -> Result<(), Halt<C::Stop>>
+fn remove<C: Cells>(alloc: Global, cells: &mut C, slot: usize, label: &Label) -> Result<(), Halt>
     requires may { (C.sight cells.old).may_write ≡ true }
     requires slot { slot < (C.sight cells.old).setting.slots }
     ensures onward { Onward (C.sight cells.old) (C.sight cells.new) }
@@ -62,7 +52,7 @@ fn remove<C: Cells>(
 {
     let former = stored_proof(alloc, cells, slot)?;
     let cited = cited_slots(alloc, former.as_slice())?;
-    count_out(cells, cited.as_slice()).map_err(Halt::Stopped)?;
-    take_out(cells, slot, label.as_slice()).map_err(Halt::Stopped)?;
-    vacate(cells, slot).map_err(Halt::Stopped)
+    count_out(cells, cited.as_slice())?;
+    take_out(cells, slot, label.as_slice())?;
+    vacate(cells, slot)
 }

@@ -1,8 +1,7 @@
 -- The tests of another citation in a proof, and what becomes of the library where they pass.
-use Rattle.std.proofs.Common.{◌≡◌, ◌≢◌, ℕ, Bool, true, false, List, [], ◌∷◌, Some, None, Result, Ok, Err, map, refl, sym, ap, subst, ◌∙◌}
+use Rattle.std.proofs.Common.{◌≡◌, ◌≢◌, ℕ, Bool, true, false, List, [], ◌∷◌, Some, None, Ok, Err, map, refl, sym, ap, subst, ◌∙◌}
 use Rattle.std.proofs.Common.{inl, inr, ⊎_elim}
 use Rattle.std.specs.Prelude.{nat_le, Contains}
-use Rattle.std.specs.Result.{IsErrAnd}
 use Rattle.std.proofs.Math.Bool.{or-false}
 use Rattle.std.specs.List.{list_any}
 use Rattle.std.proofs.lemmas.List.Elements.{All-contains}
@@ -14,9 +13,7 @@ use Rattle.mmsyntax.specs.declared.statement.Step.TheVariants.{Cite}
 use Rattle.mmsyntax.specs.Tables.{Tables}
 use Rattle.mmframes.specs.Frames.{frame}
 use Rattle.library.specs.declared.library.Ranked.{Ranked}
-use Rattle.library.specs.declared.command.Command.{Command}
 use Rattle.library.specs.declared.command.Command.TheVariants.{Replace}
-use Rattle.library.specs.declared.command.Reply.{Reply}
 use Rattle.library.specs.declared.command.Reply.TheVariants.{Done}
 use Rattle.library.specs.declared.reason.Reason.TheVariants.{UnknownLabel, NotATheorem, NotAlike, CitedNotLower}
 use Rattle.library.specs.Library.{Setting}
@@ -30,9 +27,7 @@ use Rattle.cells.specs.State.{State}
 use Rattle.cells.specs.Shows.{HoldsProof, AreStoredAs, Holds}
 use Rattle.cells.specs.Sight.{Sight, Views, Looks, Onward, after, ReadsWithin}
 use Rattle.cells.specs.Lookups.{ForEach, Finds, AreStepsAt}
-use Rattle.cells.specs.Answers.{WritesSome, Does, IsRefused, CommandAnswers, ForEachBefore}
-use Rattle.cells.specs.declared.ending.CommandError.{CommandError}
-use Rattle.cells.specs.declared.ending.CommandError.TheVariants as command
+use Rattle.cells.specs.Answers.{WritesSome, Does, IsRefused, ForEachBefore}
 use Rattle.cells.proofs.Found.{unfound, found_named}
 use Rattle.cells.proofs.ReadBack.{held_later}
 use Rattle.cells.proofs.Settings.{same_slots}
@@ -44,7 +39,7 @@ use Rattle.groundwork.specs.Footprints.{ReprovesReading}
 use Rattle.groundwork.proofs.OnlyLooks.{finds_later, stored_since}
 use Rattle.groundwork.proofs.Refusing.{of_some, first_refuses, first_passes, refused_later}
 use Rattle.groundwork.proofs.Seeing.{has_found, views_later}
-use Rattle.replacements.specs.Replacing.{TellsUnknown, TellsAlike, TellsNotLower, recited_step}
+use Rattle.replacements.specs.Replacing.{TellsAlike, TellsNotLower, recited_step}
 use Rattle.replacements.proofs.Recited.{recited_stored}
 
 -- ---- the tests
@@ -184,21 +179,6 @@ module _ {O : Type 0} (i j k : ℕ) (label old new : List ℕ) (kept : List Stor
         finds_new = finds_later s t new k looks known.finds_new;
         stored = stored_since s t i kept looks known.stored;
       }
-
--- ---- answers
-
--- a label that was looked for in vain ends the command
-pub answers_unknown : {O : Type 0} → {S : Type 0} (s t : Sight O) (c : Command) (label : List ℕ) (result : Result Reply (CommandError S))
-    (error : CommandError S) → IsErrAnd result (λ e. e ≡ error) → TellsUnknown t label error
-    → (ForEach t (λ st lib. found lib label ≡ None) → IsRefused s t c UnknownLabel) → CommandAnswers s t c result
-answers_unknown s t c label (Ok reply) error is tells refuses = absurd is
-answers_unknown {S} s t c label (Err e) error is tells refuses =
-    subst (λ x. CommandAnswers s t c (Err x)) (sym is) (of_error error tells)
-  where
-    of_error : (error : CommandError S) → TellsUnknown t label error → CommandAnswers s t c (Err error)
-    of_error (command.Refused r) tells = subst (λ x. IsRefused s t c x) (sym tells.0) (refuses tells.1)
-    of_error (command.Stopped stop) tells = tt
-    of_error command.NoMemory tells = tt
 
 -- ---- the assertions in three slots
 

@@ -1,22 +1,14 @@
 -- Of the code's inside, apart from the rules: what the tests of another citation tell, for every state that may be under the run.
-use Rattle.std.specs.Prelude.{◌≡◌, ℕ, ◌==◌, ◌||◌, if◌then◌else◌, nat_le, List, Bool, None, Contains}
+use Rattle.std.specs.Prelude.{◌≡◌, ℕ, ◌==◌, ◌||◌, if◌then◌else◌, nat_le, Bool, Contains}
 use Rattle.mmsyntax.specs.Tables.{Tables}
 use Rattle.mmframes.specs.Frames.{frame}
 use Rattle.library.specs.declared.library.Ranked.{Ranked}
-use Rattle.library.specs.declared.reason.Reason.TheVariants.{UnknownLabel}
-use Rattle.library.specs.Edits.{found, is_alike}
+use Rattle.library.specs.Edits.{is_alike}
 use Rattle.bodystore.specs.declared.stored.StoredStep.{StoredStep}
 use Rattle.bodystore.specs.declared.stored.StoredStep.TheVariants.{Float, Hyp, Slot}
 use Rattle.cells.specs.Shows.{Holds}
 use Rattle.cells.specs.Sight.{Sight}
-use Rattle.cells.specs.Lookups.{ForEach, ForEachHeld}
-use Rattle.cells.specs.declared.ending.CommandError.{CommandError}
-use Rattle.cells.specs.declared.ending.CommandError.TheVariants.{Refused}
-
--- why no slot has a label: no assertion has it, or the run was stopped, or memory ran out
-abbrev pub TellsUnknown : {O : Type 0} → {S : Type 0} → Sight O → List ℕ → CommandError S → Type 0
-TellsUnknown s label (Refused reason) = (reason ≡ UnknownLabel) × ForEach s (λ st lib. found lib label ≡ None)
-TellsUnknown s label _ = Unit {0}
+use Rattle.cells.specs.Lookups.{ForEachHeld}
 
 -- whether the assertion in the slot `new` may stand where the one in the slot `old` is cited
 abbrev pub TellsAlike : {O : Type 0} → Sight O → Tables → ℕ → ℕ → Bool → Type 0

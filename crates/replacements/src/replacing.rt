@@ -1,20 +1,18 @@
 //! Has the proof of a theorem cite one assertion in place of another.
 
-ghost use Rattle.std.specs.Prelude.{◌≡◌, ◌<◌, ◌⊎◌, true, Some, IfOk, IfErr, map};
+ghost use Rattle.std.specs.Prelude.{◌≡◌, ◌<◌, ◌⊎◌, true, IfOk, map};
 ghost use Rattle.library.specs.declared.command.Command.TheVariants as command;
 ghost use Rattle.cells.specs.Sight.{Onward, Looks, ReadsWithin};
-ghost use Rattle.cells.specs.Lookups.{Finds};
 ghost use Rattle.cells.specs.Answers.{CommandAnswers};
 ghost use Rattle.cells.specs.Slots.{statement_cell, rank_cell};
-ghost use Rattle.cells.specs.Footprints.{ReadsWhere, IsOfLook};
 ghost use Rattle.groundwork.specs.Touches.{KeepsTo};
 ghost use Rattle.groundwork.specs.Footprints.{ReadsFor};
-ghost use Rattle.replacements.specs.Replacing.{TellsUnknown, TellsAlike, TellsNotLower, recited_step};
+ghost use Rattle.replacements.specs.Replacing.{TellsAlike, TellsNotLower, recited_step};
 ghost use Rattle.groundwork.specs.Takes.{TakesBodies};
 
 use bodystore::StoredStep;
-use cells::{Cells, CommandError, Halt, find, frame, rank, slot_count, stored_proof};
-use groundwork::put_steps;
+use cells::{Cells, CommandError, Halt, frame, rank, slot_count, stored_proof};
+use groundwork::{known_slot, put_steps};
 use library::{Reason, Reply, is_alike};
 use mmsyntax::{Label, Prelude};
 use std::alloc::Global;
@@ -25,7 +23,7 @@ use std::alloc::Global;
 ///
 /// # Errors
 ///
-/// It is refused: nothing was kept aside or staged. The run is stopped, or memory ran out.
+/// It is refused: nothing was kept aside or staged. The run halts.
 pub fn replace<C: Cells>(
     alloc: Global,
     prelude: &Prelude,
@@ -33,7 +31,7 @@ pub fn replace<C: Cells>(
     label: &Label,
     old: &Label,
     new: &Label,
-) -> Result<Reply, CommandError<C::Stop>>
+) -> Result<Reply, CommandError>
     requires may { ((C.sight cells.old).may_write ≡ true) × ((C.sight cells.old).may_stage ≡ true) }
     requires prelude { prelude.now ≡ (C.sight cells.old).setting.prelude }
     ensures onward { Onward (C.sight cells.old) (C.sight cells.new) }
@@ -42,9 +40,9 @@ pub fn replace<C: Cells>(
     ensures keeps { IfOk result (λ _. KeepsTo (C.sight cells.old) (C.sight cells.new) (command.Replace label.now old.now new.now)) }
     ensures reads { ReadsFor (C.sight cells.old) (C.sight cells.new) (command.Replace label.now old.now new.now) }
 {
-    let slot = slot_of(cells, label)?;
-    let former = slot_of(cells, old)?;
-    let next = slot_of(cells, new)?;
+    let slot = known_slot(cells, label)?;
+    let former = known_slot(cells, old)?;
+    let next = known_slot(cells, new)?;
     let mut kept = stored_proof(alloc, cells, slot)?;
     // A theorem has a step, and an axiom has none.
     if kept.is_empty() {
@@ -53,7 +51,7 @@ pub fn replace<C: Cells>(
     if !are_alike(alloc, prelude, cells, former, next)? {
         return Err(Reason::NotAlike.into());
     }
-    if is_not_lower(cells, slot, next).map_err(CommandError::Stopped)? {
+    if is_not_lower(cells, slot, next)? {
         return Err(Reason::CitedNotLower.into());
     }
     recite(
@@ -66,23 +64,6 @@ pub fn replace<C: Cells>(
     Ok(Reply::Done)
 }
 
-/// The slot of the assertion that has the label.
-///
-/// # Errors
-///
-/// No assertion has it. The run is stopped.
-fn slot_of<C: Cells>(cells: &mut C, label: &Label) -> Result<usize, CommandError<C::Stop>>
-    ensures looks { Looks (C.sight cells.old) (C.sight cells.new) }
-    ensures ok { IfOk result (λ slot. Finds (C.sight cells.new) label.now (Some slot)) }
-    ensures err { IfErr result (λ error. TellsUnknown (C.sight cells.new) label.now error) }
-    ensures reads { ReadsWhere (IsOfLook (C.sight cells.old).setting.slots label.now) (C.sight cells.old) (C.sight cells.new) }
-{
-    let Some(slot) = find(cells, label.as_slice()).map_err(Halt::Stopped)? else {
-        return Err(Reason::UnknownLabel.into());
-    };
-    Ok(slot)
-}
-
 /// Whether the assertion in the slot `new` may stand where the one in the slot `old` is cited.
 fn are_alike<C: Cells>(
     alloc: Global,
@@ -90,7 +71,7 @@ fn are_alike<C: Cells>(
     cells: &mut C,
     old: usize,
     new: usize,
-) -> Result<bool, Halt<C::Stop>>
+) -> Result<bool, Halt>
     requires old { old < (C.sight cells.old).setting.slots }
     requires new { new < (C.sight cells.old).setting.slots }
     ensures looks { Looks (C.sight cells.old) (C.sight cells.new) }
@@ -103,7 +84,7 @@ fn are_alike<C: Cells>(
 }
 
 /// Whether the assertion in the slot `cited` isn't of a lower rank than the one in the slot `citing`.
-fn is_not_lower<C: Cells>(cells: &mut C, citing: usize, cited: usize) -> Result<bool, C::Stop>
+fn is_not_lower<C: Cells>(cells: &mut C, citing: usize, cited: usize) -> Result<bool, Halt>
     requires citing { citing < (C.sight cells.old).setting.slots }
     requires cited { cited < (C.sight cells.old).setting.slots }
     ensures looks { Looks (C.sight cells.old) (C.sight cells.new) }

@@ -8,8 +8,8 @@ ghost use Rattle.groundwork.specs.Takes.{TakesBodies};
 ghost use Rattle.groundwork.specs.Touches.{KeepsTo};
 ghost use Rattle.groundwork.specs.Footprints.{ReadsFor};
 
-use cells::{Cells, CommandError, Halt, find, rank, statement};
-use groundwork::{put_steps, test_proof};
+use cells::{Cells, CommandError, rank, statement};
+use groundwork::{known_slot, put_steps, test_proof};
 use library::{Reason, Reply};
 use mmsyntax::{Kind, Label, Prelude, Proof};
 use std::alloc::Global;
@@ -18,14 +18,14 @@ use std::alloc::Global;
 ///
 /// # Errors
 ///
-/// It is refused: nothing was kept aside or staged. The run is stopped, or memory ran out.
+/// It is refused: nothing was kept aside or staged. The run halts.
 pub fn reprove<C: Cells>(
     alloc: Global,
     prelude: &Prelude,
     cells: &mut C,
     label: &Label,
     steps: &Proof,
-) -> Result<Reply, CommandError<C::Stop>>
+) -> Result<Reply, CommandError>
     requires may { ((C.sight cells.old).may_write ≡ true) × ((C.sight cells.old).may_stage ≡ true) }
     requires prelude { prelude.now ≡ (C.sight cells.old).setting.prelude }
     ensures onward { Onward (C.sight cells.old) (C.sight cells.new) }
@@ -34,14 +34,12 @@ pub fn reprove<C: Cells>(
     ensures keeps { IfOk result (λ _. KeepsTo (C.sight cells.old) (C.sight cells.new) (command.Reprove label.now steps.now)) }
     ensures reads { ReadsFor (C.sight cells.old) (C.sight cells.new) (command.Reprove label.now steps.now) }
 {
-    let Some(slot) = find(cells, label.as_slice()).map_err(Halt::Stopped)? else {
-        return Err(Reason::UnknownLabel.into());
-    };
+    let slot = known_slot(cells, label)?;
     let statement = statement(alloc, cells, slot)?;
     if let Kind::Axiom = statement.kind {
         return Err(Reason::NotATheorem.into());
     }
-    let rank = rank(cells, slot).map_err(Halt::Stopped)?;
+    let rank = rank(cells, slot)?;
     let proof = steps.copy(alloc)?;
     let theorem = statement.into_assertion(label.copy(alloc)?, proof);
     let kept = test_proof(alloc, prelude, cells, rank, &theorem)?;

@@ -12,8 +12,8 @@ use std::alloc::Global;
 ///
 /// # Errors
 ///
-/// The run is stopped, or memory ran out. What was kept aside stays.
-pub fn entries<C: Cells>(alloc: Global, cells: &mut C) -> Result<Vec<Ranked>, Halt<C::Stop>>
+/// The run halts. What was kept aside stays.
+pub fn entries<C: Cells>(alloc: Global, cells: &mut C) -> Result<Vec<Ranked>, Halt>
     ensures looks { Looks (C.sight cells.old) (C.sight cells.new) }
     ensures ok { IfOk result (λ made. AreEntries (C.sight cells.new) made.items) }
 {

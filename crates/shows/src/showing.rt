@@ -10,8 +10,9 @@ ghost use Rattle.shows.specs.Listing.{line_cmp, TellsLine, AreAllLines};
 ghost use Rattle.groundwork.specs.Takes.{TakesBodies};
 ghost use Rattle.groundwork.specs.Footprints.{IsOfLine, ReadsFor};
 
-use cells::{Cells, CommandError, Halt, citers, entry, find, kind, label, rank, slot_count};
-use library::{Line, Reason, Reply};
+use cells::{Cells, CommandError, Halt, citers, entry, kind, label, rank, slot_count};
+use groundwork::known_slot;
+use library::{Line, Reply};
 use mmsyntax::{Label, Sequence};
 use std::alloc::Global;
 use std::cmp::Ordering;
@@ -20,22 +21,16 @@ use std::cmp::Ordering;
 ///
 /// # Errors
 ///
-/// No assertion has the label. The run is stopped, or memory ran out.
-pub fn show<C: Cells>(
-    alloc: Global,
-    cells: &mut C,
-    label: &Label,
-) -> Result<Reply, CommandError<C::Stop>>
+/// No assertion has the label. The run halts.
+pub fn show<C: Cells>(alloc: Global, cells: &mut C, label: &Label) -> Result<Reply, CommandError>
     ensures onward { Onward (C.sight cells.old) (C.sight cells.new) }
     ensures answers { CommandAnswers (C.sight cells.old) (C.sight cells.new) (command.Show label.now) result }
     ensures taken { TakesBodies (command.Show label.now) (C.sight cells.old) (C.sight cells.new) }
     ensures reads { ReadsFor (C.sight cells.old) (C.sight cells.new) (command.Show label.now) }
 {
-    let Some(slot) = find(cells, label.as_slice()).map_err(Halt::Stopped)? else {
-        return Err(Reason::UnknownLabel.into());
-    };
+    let slot = known_slot(cells, label)?;
     let shown = entry(alloc, cells, slot, label.copy(alloc)?)?;
-    let citers = citers(cells, slot).map_err(Halt::Stopped)?;
+    let citers = citers(cells, slot)?;
     Ok(Reply::Shown { citers, shown })
 }
 
@@ -43,8 +38,8 @@ pub fn show<C: Cells>(
 ///
 /// # Errors
 ///
-/// The run is stopped, or memory ran out.
-pub fn list<C: Cells>(alloc: Global, cells: &mut C) -> Result<Reply, CommandError<C::Stop>>
+/// The run halts.
+pub fn list<C: Cells>(alloc: Global, cells: &mut C) -> Result<Reply, CommandError>
     ensures onward { Onward (C.sight cells.old) (C.sight cells.new) }
     ensures answers { CommandAnswers (C.sight cells.old) (C.sight cells.new) command.List result }
     ensures taken { TakesBodies command.List (C.sight cells.old) (C.sight cells.new) }
@@ -58,7 +53,7 @@ pub fn list<C: Cells>(alloc: Global, cells: &mut C) -> Result<Reply, CommandErro
 }
 
 /// The lines of all assertions, by slot.
-fn all_lines<C: Cells>(alloc: Global, cells: &mut C) -> Result<Vec<Line>, Halt<C::Stop>>
+fn all_lines<C: Cells>(alloc: Global, cells: &mut C) -> Result<Vec<Line>, Halt>
     ensures looks { Looks (C.sight cells.old) (C.sight cells.new) }
     ensures ok { IfOk result (λ made. AreAllLines (C.sight cells.new) made.items) }
     ensures reads { ReadsFor (C.sight cells.old) (C.sight cells.new) command.List }
@@ -66,14 +61,14 @@ fn all_lines<C: Cells>(alloc: Global, cells: &mut C) -> Result<Vec<Line>, Halt<C
     let mut lines = Vec::new(alloc);
     for slot in 0..slot_count(cells) {
         if let Some(label) = label(alloc, cells, slot)? {
-            lines.push(line(cells, slot, label).map_err(Halt::Stopped)?)?;
+            lines.push(line(cells, slot, label)?)?;
         }
     }
     Ok(lines)
 }
 
 /// What is listed of the assertion in the slot, whose label is known.
-fn line<C: Cells>(cells: &mut C, slot: usize, label: Label) -> Result<Line, C::Stop>
+fn line<C: Cells>(cells: &mut C, slot: usize, label: Label) -> Result<Line, Halt>
     requires slot { slot < (C.sight cells.old).setting.slots }
     requires label { ForEachHeld (C.sight cells.old) slot (λ st lib e. label ≡ label_of e) }
     ensures looks { Looks (C.sight cells.old) (C.sight cells.new) }

@@ -19,7 +19,7 @@ use crate::session::Session;
 use cells::Halt;
 use commands::entries;
 use lawful::Note;
-use lending::{GivenUp, Kit, Live, Stopped};
+use lending::{GivenUp, Kit, Live};
 use library::PlainLibrary;
 use std::alloc::Global;
 use std::snapshot::Snapshot;
@@ -63,7 +63,7 @@ fn read_all(
     alloc: Global,
     library: &Library,
     live: &mut Live<'_>,
-) -> Result<PlainLibrary, Halt<Stopped>>
+) -> Result<PlainLibrary, Halt>
     requires given { live.old.run.given ≡ library.now.given }
     requires blank { writes_kept live.old.run.going.slots ≡ [] }
     ensures looks { LooksOn (sight_of live.old.run) (sight_of live.new.run) }

@@ -5,11 +5,11 @@ ghost use Rattle.std.specs.Prelude.{◌≡◌, All, IsTrue};
 ghost use Rattle.library.specs.Fitting.{CommandFits};
 ghost use Rattle.trials.specs.InCells.{ShowsSomeNow};
 
-use commands::{RunError, run};
+use commands::{Halt, RunError, run};
 use history::{ApplyError, Editor};
 use library::{Command, Reply};
 use mmsyntax::{Database, Prelude, Sequence};
-use plaincells::{OpenError, PlainCells, PlainStop};
+use plaincells::{OpenError, PlainCells};
 use std::alloc::Global;
 
 /// A library in plain cells that verifies.
@@ -65,9 +65,9 @@ impl InCells {
         &mut self,
         alloc: Global,
         commands: &[Command],
-    ) -> Result<Sequence<Reply>, RunError<PlainStop>> {
+    ) -> Result<Sequence<Reply>, RunError> {
         if !all_fit(&self.prelude, commands) {
-            return Err(RunError::Stopped(PlainStop::NoMemory));
+            return Err(RunError::Halted(Halt::NoMemory));
         }
         match run(alloc, &self.prelude, &mut self.cells, commands) {
             Ok(replies) => {

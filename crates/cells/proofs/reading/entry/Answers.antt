@@ -1,12 +1,10 @@
 -- What is left to show of `entry`.
-use Rattle.std.proofs.Common.{rules, ◌≡◌, ℕ, Ok, subst, refl, inl, inr}
+use Rattle.std.proofs.Common.{◌≡◌, subst, refl, inl, inr}
 use Rattle.library.specs.Library.{Setting, label_of}
-use Rattle.cells.specs.Lookups.{ForEachHeld}
 use Rattle.cells.specs.Sight.{after}
 use Rattle.cells.specs.Footprints.{IsOfAssertion}
 use Rattle.cells.proofs.Asking.{asks_cell, asks_more}
 use Rattle.cells.proofs.Sights.{looks_trans}
-use Rattle.std.proofs.lemmas.Result.{IfOk-at_ok}
 use Rattle.cells.proofs.ReadBack.{held_later}
 use Rattle.cells.proofs.reading.entry.Goals as goal
 
@@ -24,10 +22,8 @@ pub returns-clause-ok : goal.returns-clause-ok
 returns-clause-ok g c = λ st lib v e at h.
     let first = g.C.Cells.sight c.rank.new.cells in
     let s = g.C.Cells.sight c.assertion.new.cells in
-    let ok : c.rank.result ≡ Ok c.in_ok-rank.rank = search rules in
     let r : c.in_ok-rank.rank ≡ e.rank =
-    held_later first s c.args.slot (λ x l f. c.in_ok-rank.rank ≡ f.rank) c.assertion.ensures.looks
-    (IfOk-at_ok (λ (n : ℕ). ForEachHeld first c.args.slot (λ x l f. n ≡ f.rank)) ok c.rank.ensures.ok) st lib v e at h in
+    held_later first s c.args.slot (λ x l f. c.in_ok-rank.rank ≡ f.rank) c.assertion.ensures.looks c.in_ok-rank.ensures.ok st lib v e at h in
     let a : c.in_ok-assertion.assertion ≡ e.assertion = c.in_ok-assertion.ensures.ok st lib v e at h in
     λ k. record { rank = r k; assertion = a k }
 

@@ -1,6 +1,5 @@
-use Rattle.std.proofs.Common.{rules, ◌≡◌, ◌<◌, ◌∙◌, ◌++◌, [], ◌∷◌, List, Option, Ok, length, get_or, sym, ap, subst, arith}
+use Rattle.std.proofs.Common.{◌≡◌, ◌<◌, ◌∙◌, ◌++◌, [], ◌∷◌, List, length, get_or, sym, ap, subst, arith}
 use Rattle.std.proofs.lemmas.List.{length-map}
-use Rattle.bodystore.specs.declared.stored.StoredStep.{StoredStep}
 use Rattle.cells.specs.Lookups.{StoresStep}
 use Rattle.mmsyntax.specs.declared.statement.Step.{Step}
 use Rattle.mmsyntax.specs.ProofWords.{step_of, step_in}
@@ -12,7 +11,6 @@ use Rattle.cells.proofs.Asking.{item_has}
 use Rattle.cells.proofs.Along.{where_trans}
 use Rattle.cells.proofs.Sights.{looks_trans}
 use Rattle.cells.proofs.Settings.{same_slots}
-use Rattle.std.proofs.lemmas.Result.{IfOk-at_ok}
 use Rattle.cells.proofs.Resolving.{resolve_on, resolve_fails, resolve_all, written_back}
 use Rattle.cells.proofs.reading.resolve.Goals as goal
 
@@ -30,9 +28,7 @@ returns-in_default-clause-ok g c =
     c.step-step.ensures.step ∙ ap (λ (ss : List Step). get_or ss c.loop-i.i x) c.word_steps-over.ensures in
     let within : c.loop-i.i < length c.args.steps.now = let long = ap (λ (ss : List Step). length ss) c.word_steps-over.ensures in
     omega (arith, long, length-map c.word_steps-over.result.words.now (step_of c.word_steps-over.result.cited.now)) in
-    let ok : c.stored_step.result ≡ Ok c.in_ok-stored.field-0 = search rules in
-    let stores = IfOk-at_ok (λ (o : Option StoredStep). StoresStep s x o) ok c.stored_step.ensures.ok in
-    resolve_fails s c.loop-i.i c.args.steps.now x (subst (StoresStep s x) c.in_default.is stores) here within
+    resolve_fails s c.loop-i.i c.args.steps.now x (subst (StoresStep s x) c.in_default.is c.in_ok-stored.ensures.ok) here within
 
 pub returns-in_err-push-clause-looks : goal.returns-in_err-push-clause-looks
 returns-in_err-push-clause-looks g c = looks_trans _ _ _ c.loop-i.invariant.0 c.stored_step.ensures.looks
@@ -51,13 +47,11 @@ loop-i-preserved g c =
     let back = written_back c.loop-i.found.items c.stored_step.new.found c.loop-i.found.len c.loop-i.found.ok.0
     (c.stored_step.ensures.found.0 ∙ sym c.loop-i.invariant.3.0) in
     let looks = looks_trans _ _ _ c.loop-i.invariant.0 c.stored_step.ensures.looks in
-    let ok : c.stored_step.result ≡ Ok c.in_ok-stored.field-0 = search rules in
-    let stores = IfOk-at_ok (λ (o : Option StoredStep). StoresStep s x o) ok c.stored_step.ensures.ok in
     let push : c.push.new.self.items ≡ c.loop-i.kept.items ++ c.in-Some.stored ∷ [] = c.in_ok-push.ensures.items in (
       looks,
       resolve_on between s old.setting.slots c.loop-i.i c.args.steps.now c.loop-i.kept.items c.push.new.self.items x c.in-Some.stored
-          (sym (same_slots old s looks)) c.stored_step.ensures.looks c.loop-i.invariant.1 (subst (StoresStep s x) c.in-Some.is stores) here
-          within push,
+          (sym (same_slots old s looks)) c.stored_step.ensures.looks c.loop-i.invariant.1
+          (subst (StoresStep s x) c.in-Some.is c.in_ok-stored.ensures.ok) here within push,
       where_trans c.loop-i.invariant.2 c.loop-i.invariant.0 c.stored_step.ensures.looks.onward c.stored_step.ensures.reads
           (λ st k at. (
             at.0,

@@ -18,7 +18,7 @@ use Rattle.cells.specs.Sight.{Matches, Views, after}
 use Rattle.cells.proofs.Sights.{onward_trans, matches_back}
 use Rattle.ranges.proofs.Members.{all_from_has}
 use Rattle.cells.proofs.Holding.{empty_free}
-use Rattle.cells.proofs.Mapped.{if_mapped, ok_mapped}
+use Rattle.std.proofs.lemmas.Result.{MatchResult-weaker}
 use Rattle.chains.proofs.Filled.{cited_few, still_chained, filled}
 use Rattle.chains.proofs.filling.fill.Goals as goal
 
@@ -28,8 +28,8 @@ count_in-requires-clause-slots g c =
     subst (λ (s : Setting). i < s.slots) (sym c.lay_down.ensures.onward.setting)
     (c.requires.fillable.within i (c.in_ok-cited.ensures.cited i (subst (Has i) c.as_slice.ensures.value h))))
 
-pub returns-in_err-map_err-clause-onward : goal.returns-in_err-map_err-clause-onward
-returns-in_err-map_err-clause-onward g c = onward_trans _ _ _ c.lay_down.ensures.onward c.count_in.ensures.onward
+pub returns-in_err-count_in-clause-onward : goal.returns-in_err-count_in-clause-onward
+returns-in_err-count_in-clause-onward g c = onward_trans _ _ _ c.lay_down.ensures.onward c.count_in.ensures.onward
 
 pub returns-clause-onward : goal.returns-clause-onward
 returns-clause-onward g c =
@@ -45,7 +45,7 @@ returns-clause-ok g c =
     let a = c.args.assertion.now in
     let steps = c.args.steps.now in
     let cited = c.as_slice.result.now in
-    let counting = ok_mapped _ _ _ _ _ c.in_ok-map_err.was c.map_err.ensures.cases c.count_in.ensures.ok in
+    let counting = c.in_ok-count_in.ensures.ok in
     let setting = c.count_in.ensures.onward.setting ∙ c.lay_down.ensures.onward.setting in
     let cites_are = subst (AreCitedSlots c.args.steps.now) (sym c.as_slice.ensures.value) c.in_ok-cited.ensures in
     let then : (x : Unit {0}) → ((st : State) (held : List Held) (e : Ranked) → Matches s3 st → AreChained s2.setting.slots (after s2 st) held
@@ -75,7 +75,7 @@ returns-clause-ok g c =
     filled slots (after old st) (after s1 st) lib shows store c.args.slot c.args.rank a steps cited c.requires.slot lays cites_are
     (after s2 st) counts c.requires.fillable (after s3 st) refl refl views.verifies.library.distinct may
     (subst (λ (s : Setting). Rechains s.slots (after s2 st) (after s3 st) shows.held (here ∷ shows.held)) setting chains) in
-    if_mapped _ _ _ _ _ c.map_err-2.ensures.cases c.put_in.ensures.ok then
+    MatchResult-weaker c.put_in.result c.put_in.ensures.ok then (λ _ t. t)
 
 pub returns-clause-written : goal.returns-clause-written
 returns-clause-written g c =
@@ -83,7 +83,7 @@ returns-clause-written g c =
     let s3 = g.C.Cells.sight c.put_in.new.cells in
     let later = onward_trans _ _ _ c.count_in.ensures.onward c.put_in.ensures.onward in
     let done = later.written (name_cell c.args.slot) c.in_ok-lay_down.ensures.written in
-    if_mapped _ _ _ _ _ c.map_err-2.ensures.cases c.put_in.ensures.ok (λ x put. done)
+    MatchResult-weaker c.put_in.result c.put_in.ensures.ok (λ x put. done) (λ _ t. t)
 
 pub returns-clause-keeps : goal.returns-clause-keeps
 returns-clause-keeps g c =
@@ -100,12 +100,12 @@ returns-clause-keeps g c =
     let own = keeps_wider (IsOfSlot c.args.slot) such s0 s1 (λ k is. inl is) c.in_ok-lay_down.ensures.keeps in
     let counted = keeps_wider (IsCitersOf c.as_slice.result.now) such s1 s2
     (λ k is. inr (inr (is.0, c.in_ok-cited.ensures.cited is.0 (subst (Has is.0) c.as_slice.ensures.value is.1), is.2)))
-    (ok_mapped _ _ _ _ _ c.in_ok-map_err.was c.map_err.ensures.cases c.count_in.ensures.keeps) in
-    if_mapped _ _ (λ _. KeepsAside such s0 s3) _ _ c.map_err-2.ensures.cases c.put_in.ensures.keeps (λ _ front.
+    c.in_ok-count_in.ensures.keeps in
+    MatchResult-weaker c.put_in.result {P' = λ _. KeepsAside such s0 s3} c.put_in.ensures.keeps (λ _ front.
     keeps_trans such s0 s2 s3 (keeps_trans such s0 s1 s2 own counted)
     (keeps_wider (IsOfFront s2.setting.slots c.args.slot c.as_slice-2.result.now) such s2 s3
     (λ k is. inr (inl (subst (λ (l : List ℕ). IsOfFront s0.setting.slots c.args.slot l k) c.as_slice-2.ensures
-    (subst (λ (s : Setting). IsOfFront s.slots c.args.slot c.as_slice-2.result.now k) setting is)))) front))
+    (subst (λ (s : Setting). IsOfFront s.slots c.args.slot c.as_slice-2.result.now k) setting is)))) front)) (λ _ t. t)
 
 pub returns-in_err-lay_down-clause-reads : goal.returns-in_err-lay_down-clause-reads
 returns-in_err-lay_down-clause-reads g c = asks_wider (λ k is. inl is) c.lay_down.ensures.reads
@@ -113,8 +113,8 @@ returns-in_err-lay_down-clause-reads g c = asks_wider (λ k is. inl is) c.lay_do
 pub returns-in_err-cited-clause-reads : goal.returns-in_err-cited-clause-reads
 returns-in_err-cited-clause-reads g c = asks_wider (λ k is. inl is) c.lay_down.ensures.reads
 
-pub returns-in_err-map_err-clause-reads : goal.returns-in_err-map_err-clause-reads
-returns-in_err-map_err-clause-reads g c =
+pub returns-in_err-count_in-clause-reads : goal.returns-in_err-count_in-clause-reads
+returns-in_err-count_in-clause-reads g c =
     asks_more (asks_wider (λ k is. inl is) c.lay_down.ensures.reads)
     (λ k is. inr (inr (is.0, c.in_ok-cited.ensures.cited is.0 (subst (Has is.0) c.as_slice.ensures.value is.1), is.2))) c.count_in.ensures.reads
 

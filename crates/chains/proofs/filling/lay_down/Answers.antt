@@ -9,7 +9,7 @@ use Rattle.cells.proofs.Keeping.{keeps_same, keeps_trans, keeps_wider}
 use Rattle.cells.proofs.Asking.{nothing_same, asks_nothing, asks_cell, asks_trans}
 use Rattle.chains.specs.Filling.{LaysDown}
 use Rattle.cells.proofs.Sights.{onward_trans, matches_back}
-use Rattle.cells.proofs.Mapped.{if_mapped, ok_mapped}
+use Rattle.std.proofs.lemmas.Result.{MatchResult-weaker}
 use Rattle.chains.proofs.Laying.{laid_down}
 use Rattle.chains.proofs.filling.lay_down.Goals as goal
 
@@ -20,8 +20,8 @@ pub returns-in_err-put_proof-clause-onward : goal.returns-in_err-put_proof-claus
 returns-in_err-put_proof-clause-onward g c =
     onward_trans _ _ _ c.put_label.ensures.onward (onward_trans _ _ _ c.put_statement.ensures.onward c.put_proof.ensures.onward)
 
-pub returns-in_err-map_err-clause-onward : goal.returns-in_err-map_err-clause-onward
-returns-in_err-map_err-clause-onward g c =
+pub returns-in_err-put-clause-onward : goal.returns-in_err-put-clause-onward
+returns-in_err-put-clause-onward g c =
     onward_trans _ _ _ c.put_label.ensures.onward (onward_trans _ _ _ c.put_statement.ensures.onward
     (onward_trans _ _ _ c.put_proof.ensures.onward c.put.ensures.onward))
 
@@ -41,7 +41,7 @@ returns-clause-ok g c =
     let named = c.in_ok-put_label.ensures in
     let stated = c.in_ok-put_statement.ensures in
     let proven = c.in_ok-put_proof.ensures in
-    let ranked = ok_mapped _ _ _ _ _ c.in_ok-map_err.was c.map_err.ensures.cases c.put.ensures.ok in
+    let ranked = c.in_ok-put.ensures.ok in
     let on3 = onward_trans _ _ _ c.put.ensures.onward c.put-2.ensures.onward in
     let then : (x : Unit {0}) → ((st : State) → after s5 st ≡ with_value c.citers_cell.result 0 (after s4 st)) → (st : State) → Matches s5 st
     → LaysDown (after old st) (after s5 st) c.args.slot c.args.rank c.args.assertion.now c.args.steps.now =
@@ -57,7 +57,7 @@ returns-clause-ok g c =
     (proven.ok st m3) (proven.others st)
     (put st ∙ (λ i. with_value (c.citers_cell.ensures i) 0
     ((ranked st ∙ ap (λ (n : ℕ). with_value n c.args.rank (after s3 st)) c.rank_cell.ensures) i))) in
-    if_mapped _ _ _ _ _ c.map_err-2.ensures.cases c.put-2.ensures.ok then
+    MatchResult-weaker c.put-2.result c.put-2.ensures.ok then (λ _ t. t)
 
 pub returns-clause-written : goal.returns-clause-written
 returns-clause-written g c =
@@ -66,7 +66,7 @@ returns-clause-written g c =
     (onward_trans _ _ _ c.put.ensures.onward c.put-2.ensures.onward)) in
     let done = later.written (name_cell c.args.slot) c.in_ok-put_label.ensures.written in
     let then : (x : Unit {0}) → WasWritten s5 c.citers_cell.result → WasWritten s5 (name_cell c.args.slot) = λ x w. done in
-    if_mapped _ _ _ _ _ c.map_err-2.ensures.cases c.put-2.ensures.written then
+    MatchResult-weaker c.put-2.result c.put-2.ensures.written then (λ _ t. t)
 
 -- a cell of the slot is kept aside after others of it
 one_more : {O : Type 0} → (slot part cell : ℕ) (r s t : Sight O) → cell ≡ 5 * slot + part → part < 5 → KeepsAside (IsOfSlot slot) r s
@@ -87,10 +87,9 @@ returns-clause-keeps g c =
     let named = one_more i 0 _ s0 s0 s1 (omega arith) (omega arith) (keeps_same (IsOfSlot c.args.slot) s0 s0 refl) c.in_ok-put_label.ensures.keeps in
     let stated = one_more i 1 _ s0 s1 s2 refl (omega arith) named c.in_ok-put_statement.ensures.keeps in
     let proven = one_more i 2 _ s0 s2 s3 refl (omega arith) stated c.in_ok-put_proof.ensures.keeps in
-    let ranked = one_more i 3 _ s0 s3 s4 c.rank_cell.ensures (omega arith) proven
-    (ok_mapped _ _ _ _ _ c.in_ok-map_err.was c.map_err.ensures.cases c.put.ensures.keeps) in
-    if_mapped _ _ (λ _. KeepsAside (IsOfSlot c.args.slot) s0 s5) _ _ c.map_err-2.ensures.cases c.put-2.ensures.keeps
-    (λ _ last. one_more i 4 _ s0 s4 s5 c.citers_cell.ensures (omega arith) ranked last)
+    let ranked = one_more i 3 _ s0 s3 s4 c.rank_cell.ensures (omega arith) proven c.in_ok-put.ensures.keeps in
+    MatchResult-weaker c.put-2.result {P' = λ _. KeepsAside (IsOfSlot c.args.slot) s0 s5} c.put-2.ensures.keeps
+    (λ _ last. one_more i 4 _ s0 s4 s5 c.citers_cell.ensures (omega arith) ranked last) (λ _ t. t)
 
 -- a cell of the slot is read after others of it
 one_read : {O : Type 0} → {cell : ℕ} → {r s t : Sight O} → (slot part : ℕ) → cell ≡ 5 * slot + part → part < 5 → ReadsWithin (IsOfSlot slot) r s
@@ -111,8 +110,8 @@ returns-in_err-put_proof-clause-reads g c =
     one_read c.args.slot 2 refl (omega arith) (one_read c.args.slot 1 refl (omega arith) (one_read c.args.slot 0 (omega arith) (omega arith) (asks_nothing (nothing_same _)) c.put_label.ensures.reads)
     c.put_statement.ensures.reads) c.put_proof.ensures.reads
 
-pub returns-in_err-map_err-clause-reads : goal.returns-in_err-map_err-clause-reads
-returns-in_err-map_err-clause-reads g c =
+pub returns-in_err-put-clause-reads : goal.returns-in_err-put-clause-reads
+returns-in_err-put-clause-reads g c =
     one_read c.args.slot 3 c.rank_cell.ensures (omega arith) (one_read c.args.slot 2 refl (omega arith) (one_read c.args.slot 1 refl (omega arith) (one_read c.args.slot 0 (omega arith) (omega arith) (asks_nothing (nothing_same _)) c.put_label.ensures.reads)
     c.put_statement.ensures.reads) c.put_proof.ensures.reads)
     c.put.ensures.reads

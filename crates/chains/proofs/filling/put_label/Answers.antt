@@ -1,23 +1,21 @@
 -- What is left to show of `put_label`.
 use Rattle.std.proofs.Common.{◌≡◌, ℕ, subst}
+use Rattle.std.specs.Prelude.{IfOk}
 use Rattle.cells.specs.Slots.{name_cell}
 use Rattle.cells.specs.Sight.{WasWritten, ReadsWithin}
 use Rattle.cells.specs.Aside.{KeepsAside}
-use Rattle.cells.proofs.Mapped.{if_mapped}
 use Rattle.chains.proofs.filling.put_label.Goals as goal
 
 pub returns-clause-written : goal.returns-clause-written
 returns-clause-written g c =
     let new = g.C.Cells.sight c.put_body.new.cells in
-    if_mapped _ _ (λ _. WasWritten new (name_cell c.args.slot)) _ _ c.map_err.ensures.cases c.put_body.ensures.written (λ _ written.
-    subst (WasWritten new) c.name_cell.ensures written)
+    subst (λ (n : ℕ). IfOk c.put_body.result (λ _. WasWritten new n)) c.name_cell.ensures c.put_body.ensures.written
 
 pub returns-clause-keeps : goal.returns-clause-keeps
 returns-clause-keeps g c =
     let old = g.C.Cells.sight c.args.cells.now in
     let new = g.C.Cells.sight c.put_body.new.cells in
-    if_mapped _ _ (λ _. KeepsAside (λ k. k ≡ name_cell c.args.slot) old new) _ _ c.map_err.ensures.cases c.put_body.ensures.keeps (λ _ keeps.
-    subst (λ (n : ℕ). KeepsAside (λ k. k ≡ n) old new) c.name_cell.ensures keeps)
+    subst (λ (n : ℕ). IfOk c.put_body.result (λ _. KeepsAside (λ k. k ≡ n) old new)) c.name_cell.ensures c.put_body.ensures.keeps
 
 pub returns-clause-reads : goal.returns-clause-reads
 returns-clause-reads g c =

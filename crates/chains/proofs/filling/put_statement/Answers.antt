@@ -1,17 +1,16 @@
 -- What is left to show of `put_statement`.
 use Rattle.std.proofs.Common.{◌≡◌, ℕ, subst}
+use Rattle.std.specs.Prelude.{IfOk}
 use Rattle.cells.specs.Slots.{statement_cell}
 use Rattle.cells.specs.Sight.{ReadsWithin}
 use Rattle.cells.specs.Aside.{KeepsAside}
-use Rattle.cells.proofs.Mapped.{if_mapped}
 use Rattle.chains.proofs.filling.put_statement.Goals as goal
 
 pub returns-clause-keeps : goal.returns-clause-keeps
 returns-clause-keeps g c =
     let old = g.C.Cells.sight c.args.cells.now in
     let new = g.C.Cells.sight c.put_body.new.cells in
-    if_mapped _ _ (λ _. KeepsAside (λ k. k ≡ statement_cell c.args.slot) old new) _ _ c.map_err.ensures.cases c.put_body.ensures.keeps (λ _ keeps.
-    subst (λ (n : ℕ). KeepsAside (λ k. k ≡ n) old new) c.statement_cell.ensures keeps)
+    subst (λ (n : ℕ). IfOk c.put_body.result (λ _. KeepsAside (λ k. k ≡ n) old new)) c.statement_cell.ensures c.put_body.ensures.keeps
 
 pub returns-clause-reads : goal.returns-clause-reads
 returns-clause-reads g c =

@@ -6,11 +6,10 @@ use Rattle.cells.specs.Lookups.{ForEachHeld}
 use Rattle.cells.proofs.Sights.{looks_refl, looks_trans}
 use Rattle.cells.proofs.Settings.{same_slots}
 use Rattle.cells.proofs.Asking.{nothing_same, asks_nothing, asks_trans}
-use Rattle.cells.proofs.Mapped.{ok_mapped}
 use Rattle.groundwork.specs.Footprints.{IsRankOfSteps}
 use Rattle.groundwork.proofs.TestReads.{rank_of_one}
 use Rattle.groundwork.proofs.CitedRanks.{AreBelow, past_below, ranked_below, below_none, below_one_more, tells_below, tells_not_below, is_cited}
-use Rattle.groundwork.proofs.citing.cites_not_below.Goals.{else-slot-slots-via-then-slot-slots+in_ok-map_err+else-branch, else-slot-slots-via-else-slot-slots}
+use Rattle.groundwork.proofs.citing.cites_not_below.Goals.{else-slot-slots-via-then-slot-slots+in_ok-rank+else-branch, else-slot-slots-via-else-slot-slots}
 use Rattle.groundwork.proofs.citing.cites_not_below.Goals as goal
 
 pub loop-slot-init : goal.loop-slot-init
@@ -23,11 +22,11 @@ rank-requires g c =
     let lt = c.if-slot-slots.true in
     omega (arith, n, m, lt)
 
-pub returns-in_err-map_err-clause-looks : goal.returns-in_err-map_err-clause-looks
-returns-in_err-map_err-clause-looks g c = looks_trans _ _ _ c.loop-slot.invariant.0 c.rank.ensures.looks
+pub returns-in_err-rank-clause-looks : goal.returns-in_err-rank-clause-looks
+returns-in_err-rank-clause-looks g c = looks_trans _ _ _ c.loop-slot.invariant.0 c.rank.ensures.looks
 
-pub returns-in_err-map_err-clause-reads : goal.returns-in_err-map_err-clause-reads
-returns-in_err-map_err-clause-reads g c =
+pub returns-in_err-rank-clause-reads : goal.returns-in_err-rank-clause-reads
+returns-in_err-rank-clause-reads g c =
     let are = subst (AreCitedSlots c.args.steps.now) (sym c.as_slice-slot-items.ensures.value) c.in_ok-cited.ensures in
     asks_trans c.loop-slot.invariant.2
     (rank_of_one c.args.steps.now c.as_slice-slot-items.result.now c.loop-slot.slot-index are (omega arith) c.rank.ensures.reads)
@@ -42,10 +41,10 @@ returns-then-branch-clause-ok g c =
     let i = c.loop-slot.slot-index in
     let cited = c.as_slice-slot-items.result.now in
     let are = subst (AreCitedSlots c.args.steps.now) (sym c.as_slice-slot-items.ensures.value) c.in_ok-cited.ensures in
-    let ranked : ForEachHeld s (get_or c.as_slice-slot-items.result.now c.loop-slot.slot-index 0) (λ st lib e. c.in_ok-map_err.field-0 ≡ e.rank) =
-    ok_mapped _ _ _ _ _ c.in_ok-map_err.was c.map_err.ensures.cases c.rank.ensures.ok in
+    let ranked : ForEachHeld s (get_or c.as_slice-slot-items.result.now c.loop-slot.slot-index 0) (λ st lib e. c.in_ok-rank.field-0 ≡ e.rank) =
+    c.in_ok-rank.ensures.ok in
     tells_not_below s limit (get_or cited i 0) c.args.steps.now (is_cited c.args.steps.now cited i are (omega arith))
-    (ranked_below s limit (get_or cited i 0) c.in_ok-map_err.field-0 true ranked (le-leb limit c.in_ok-map_err.field-0 c.if-branch.true))
+    (ranked_below s limit (get_or cited i 0) c.in_ok-rank.field-0 true ranked (le-leb limit c.in_ok-rank.field-0 c.if-branch.true))
 
 pub returns-then-branch-clause-reads : goal.returns-then-branch-clause-reads
 returns-then-branch-clause-reads g c =
@@ -69,11 +68,11 @@ loop-slot-preserved g c =
     let looks = c.loop-slot.invariant.0 in
     let below = c.loop-slot.invariant.1 in
     elim c.else-slot-slots.branch [
-      | else-slot-slots-via-then-slot-slots+in_ok-map_err+else-branch w ↦
+      | else-slot-slots-via-then-slot-slots+in_ok-rank+else-branch w ↦
           let s = g.C.Cells.sight w.rank.new.cells in
-          let ranked : ForEachHeld s (get_or c.as_slice-slot-items.result.now c.loop-slot.slot-index 0) (λ st lib e. w.in_ok-map_err.field-0 ≡ e.rank) =
-          ok_mapped _ _ _ _ _ w.in_ok-map_err.was w.map_err.ensures.cases w.rank.ensures.ok in
-          let one = ranked_below s limit slot w.in_ok-map_err.field-0 false ranked (lt-leb limit w.in_ok-map_err.field-0 w.if-branch.false) in
+          let ranked : ForEachHeld s (get_or c.as_slice-slot-items.result.now c.loop-slot.slot-index 0) (λ st lib e. w.in_ok-rank.field-0 ≡ e.rank) =
+          w.in_ok-rank.ensures.ok in
+          let one = ranked_below s limit slot w.in_ok-rank.field-0 false ranked (lt-leb limit w.in_ok-rank.field-0 w.if-branch.false) in
           subst Q (sym (ap (λ x. g.C.Cells.sight x) w.cells-is)) (
             looks_trans _ _ _ looks w.rank.ensures.looks,
             below_one_more now s limit i cited w.rank.ensures.looks below one,

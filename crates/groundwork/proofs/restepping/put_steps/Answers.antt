@@ -8,7 +8,7 @@ use Rattle.cells.specs.Sight.{Matches, after}
 use Rattle.cells.specs.Counts.{AreCitedSlots, AreOnlyIn}
 use Rattle.cells.specs.Aside.{KeepsAside, IsCitersOf}
 use Rattle.cells.proofs.Sights.{onward_trans}
-use Rattle.cells.proofs.Mapped.{if_mapped, ok_mapped}
+use Rattle.std.proofs.lemmas.Result.{MatchResult-weaker}
 use Rattle.ranges.proofs.Members.{all_from_has}
 use Rattle.cells.specs.Answers.{WritesSome}
 use Rattle.groundwork.specs.Changes.{ReprovesAt}
@@ -20,11 +20,11 @@ use Rattle.groundwork.proofs.Since.{ReadsSince, since_then}
 use Rattle.groundwork.proofs.RestepReads.{OfResteps, resteps_end, resteps_proof, resteps_out, resteps_in}
 use Rattle.groundwork.proofs.restepping.put_steps.Goals as goal
 
-pub returns-in_err-map_err-clause-onward : goal.returns-in_err-map_err-clause-onward
-returns-in_err-map_err-clause-onward g c = onward_trans _ _ _ c.stored_proof.ensures.looks.onward c.put_body.ensures.onward
+pub returns-in_err-put_body-clause-onward : goal.returns-in_err-put_body-clause-onward
+returns-in_err-put_body-clause-onward g c = onward_trans _ _ _ c.stored_proof.ensures.looks.onward c.put_body.ensures.onward
 
-pub returns-in_err-map_err-2-clause-onward : goal.returns-in_err-map_err-2-clause-onward
-returns-in_err-map_err-2-clause-onward g c =
+pub returns-in_err-count_out-clause-onward : goal.returns-in_err-count_out-clause-onward
+returns-in_err-count_out-clause-onward g c =
     onward_trans _ _ _ c.stored_proof.ensures.looks.onward (onward_trans _ _ _ c.put_body.ensures.onward c.count_out.ensures.onward)
 
 -- what is told of the slices is told of the lists
@@ -46,9 +46,9 @@ returns-clause-onward g c =
 
 pub returns-clause-written : goal.returns-clause-written
 returns-clause-written g c =
-    let written = ok_mapped _ _ _ _ _ c.in_ok-map_err.was c.map_err.ensures.cases c.put_body.ensures.written in
-    if_mapped _ _ (λ _. WritesSome (g.C.Cells.sight c.count_in.new.cells)) _ _ c.map_err-3.ensures.cases c.count_in.ensures.ok (λ _ _.
-    (c.proof_cell.result, c.count_in.ensures.onward.written _ (c.count_out.ensures.onward.written _ written)))
+    let written = c.in_ok-put_body.ensures.written in
+    MatchResult-weaker c.count_in.result {P' = λ _. WritesSome (g.C.Cells.sight c.count_in.new.cells)} c.count_in.ensures.ok (λ _ _.
+    (c.proof_cell.result, c.count_in.ensures.onward.written _ (c.count_out.ensures.onward.written _ written))) (λ _ t. t)
 
 pub returns-clause-ok : goal.returns-clause-ok
 returns-clause-ok g c =
@@ -71,16 +71,14 @@ returns-clause-ok g c =
     let drops = only_there _ _ _ _ _ c.as_slice-2.ensures.value c.as_slice-3.ensures.value c.in_ok-dropped.ensures in
     let gains = only_there _ _ _ _ _ c.as_slice-4.ensures.value c.as_slice-5.ensures.value c.in_ok-gained.ensures in
     let named = subst (λ (w : List ℕ). (st : State) → Matches s2 st → HasBody (after s2 st) (proof_cell i) w) c.as_slice-6.ensures.value
-    (subst (λ (n : ℕ). (st : State) → Matches s2 st → HasBody (after s2 st) n c.as_slice-6.result.now) cell
-    (ok_mapped _ _ _ _ _ c.in_ok-map_err.was c.map_err.ensures.cases c.put_body.ensures.ok)) in
+    (subst (λ (n : ℕ). (st : State) → Matches s2 st → HasBody (after s2 st) n c.as_slice-6.result.now) cell c.in_ok-put_body.ensures.ok) in
     let others = subst (λ (n : ℕ). (st : State) (k : ℕ) → k ≢ n → (after s2 st).value k ≡ (after s1 st).value k) cell
-    (ok_mapped _ _ _ _ _ c.in_ok-map_err.was c.map_err.ensures.cases c.put_body.ensures.others) in
-    let counts = subst (CountsOutOf s2 s3) c.as_slice-7.ensures.value
-    (ok_mapped _ _ _ _ _ c.in_ok-map_err-2.was c.map_err-2.ensures.cases c.count_out.ensures.ok) in
-    if_mapped _ _ (λ _. (label : List ℕ) → ReprovesAt s0 s4 i label kept) _ _ c.map_err-3.ensures.cases c.count_in.ensures.ok
+    c.in_ok-put_body.ensures.others in
+    let counts = subst (CountsOutOf s2 s3) c.as_slice-7.ensures.value c.in_ok-count_out.ensures.ok in
+    MatchResult-weaker c.count_in.result {P' = λ _. (label : List ℕ) → ReprovesAt s0 s4 i label kept} c.count_in.ensures.ok
     (λ _ adds label. restepped s0 s1 s2 s3 s4 i label former kept before now dropped gained words c.stored_proof.ensures.looks
     c.put_body.ensures.onward c.count_out.ensures.onward c.count_in.ensures.onward c.in_ok-former.ensures.ok cited_before c.in_ok-now.ensures
-    drops gains c.in_ok-body.ensures named others counts (subst (CountsInOf s3 s4) c.as_slice-8.ensures.value adds))
+    drops gains c.in_ok-body.ensures named others counts (subst (CountsInOf s3 s4) c.as_slice-8.ensures.value adds)) (λ _ t. t)
 
 pub returns-clause-keeps : goal.returns-clause-keeps
 returns-clause-keeps g c =
@@ -96,15 +94,13 @@ returns-clause-keeps g c =
     c.in_ok-before.ensures in
     let drops = only_there _ _ _ _ _ c.as_slice-2.ensures.value c.as_slice-3.ensures.value c.in_ok-dropped.ensures in
     let gains = only_there _ _ _ _ _ c.as_slice-4.ensures.value c.as_slice-5.ensures.value c.in_ok-gained.ensures in
-    let proven = subst (λ (n : ℕ). KeepsAside (λ k. k ≡ n) s1 s2) c.proof_cell.ensures
-    (ok_mapped _ _ _ _ _ c.in_ok-map_err.was c.map_err.ensures.cases c.put_body.ensures.keeps) in
-    let out = subst (λ (l : List ℕ). KeepsAside (IsCitersOf l) s2 s3) c.as_slice-7.ensures.value
-    (ok_mapped _ _ _ _ _ c.in_ok-map_err-2.was c.map_err-2.ensures.cases c.count_out.ensures.keeps) in
-    if_mapped _ _ (λ _. (label : List ℕ) → ReprovesWithin s0 s4 i label kept) _ _ c.map_err-3.ensures.cases c.count_in.ensures.keeps
+    let proven = subst (λ (n : ℕ). KeepsAside (λ k. k ≡ n) s1 s2) c.proof_cell.ensures c.in_ok-put_body.ensures.keeps in
+    let out = subst (λ (l : List ℕ). KeepsAside (IsCitersOf l) s2 s3) c.as_slice-7.ensures.value c.in_ok-count_out.ensures.keeps in
+    MatchResult-weaker c.count_in.result {P' = λ _. (label : List ℕ) → ReprovesWithin s0 s4 i label kept} c.count_in.ensures.keeps
     (λ _ more label. resteps_within s0 s1 s2 s3 s4 i label former kept c.in_ok-before.before.items c.in_ok-now.now.items
     c.in_ok-dropped.dropped.items c.in_ok-gained.gained.items c.stored_proof.ensures.looks c.put_body.ensures.onward
     c.count_out.ensures.onward c.count_in.ensures.onward c.in_ok-former.ensures.ok cited_before c.in_ok-now.ensures drops gains proven out
-    (subst (λ (l : List ℕ). KeepsAside (IsCitersOf l) s3 s4) c.as_slice-8.ensures.value more))
+    (subst (λ (l : List ℕ). KeepsAside (IsCitersOf l) s3 s4) c.as_slice-8.ensures.value more)) (λ _ t. t)
 
 pub returns-in_err-former-clause-reads : goal.returns-in_err-former-clause-reads
 returns-in_err-former-clause-reads g c label =
@@ -160,8 +156,8 @@ returns-in_err-body-clause-reads g c label =
     let r1 : ReadsSince (OfResteps s0 c.args.slot label c.args.kept.now) s0 s0 s1 = resteps_proof s0 i label kept s0 s1 c.stored_proof.ensures.reads in
     resteps_end s0 i label kept s1 r1
 
-pub returns-in_err-map_err-clause-reads : goal.returns-in_err-map_err-clause-reads
-returns-in_err-map_err-clause-reads g c label =
+pub returns-in_err-put_body-clause-reads : goal.returns-in_err-put_body-clause-reads
+returns-in_err-put_body-clause-reads g c label =
     let s0 = g.C.Cells.sight c.args.cells.now in
     let s1 = g.C.Cells.sight c.stored_proof.new.cells in
     let i = c.args.slot in
@@ -174,8 +170,8 @@ returns-in_err-map_err-clause-reads g c label =
     (subst (λ (n : ℕ). ReadsWithin (λ k. k ≡ n) s1 s2) c.proof_cell.ensures c.put_body.ensures.reads)) in
     resteps_end s0 i label kept s2 r2
 
-pub returns-in_err-map_err-2-clause-reads : goal.returns-in_err-map_err-2-clause-reads
-returns-in_err-map_err-2-clause-reads g c label =
+pub returns-in_err-count_out-clause-reads : goal.returns-in_err-count_out-clause-reads
+returns-in_err-count_out-clause-reads g c label =
     let s0 = g.C.Cells.sight c.args.cells.now in
     let s1 = g.C.Cells.sight c.stored_proof.new.cells in
     let i = c.args.slot in

@@ -6,7 +6,6 @@ use Rattle.cells.specs.Slots.{rank_cell, citers_cell}
 use Rattle.cells.specs.Sight.{Matches, Reads, ReadsWithin, after}
 use Rattle.cells.specs.Lookups.{ForEachHeld}
 use Rattle.cells.proofs.Bodies.{value_later}
-use Rattle.cells.proofs.Mapped.{ok_mapped}
 use Rattle.cells.proofs.ReadBack.{held_later}
 use Rattle.cells.proofs.Settings.{same_slots}
 use Rattle.cells.proofs.Sights.{looks_trans}
@@ -17,14 +16,14 @@ use Rattle.moves.proofs.Citers.{all_uncited, low_uncited, count_uncited, one_low
 use Rattle.groundwork.proofs.OnlyLooks.{read_looks}
 use Rattle.moves.proofs.moving.is_cited_up_to.Goals as goal
 
-pub returns-in_err-map_err-clause-looks : goal.returns-in_err-map_err-clause-looks
-returns-in_err-map_err-clause-looks g c = looks_trans _ _ _ c.rank.ensures.looks c.citers.ensures.looks
+pub returns-in_err-citers-clause-looks : goal.returns-in_err-citers-clause-looks
+returns-in_err-citers-clause-looks g c = looks_trans _ _ _ c.rank.ensures.looks c.citers.ensures.looks
 
 pub returns-then-limit-current-clause-looks : goal.returns-then-limit-current-clause-looks
 returns-then-limit-current-clause-looks g c =
     elim c.then-limit-current.branch [
       | goal.then-limit-current-via-then-limit-current w ↦ rw w.cells-is c.rank.ensures.looks
-      | goal.then-limit-current-via-else-limit-current+in_ok-map_err+then-branch-eq0 w ↦
+      | goal.then-limit-current-via-else-limit-current+in_ok-citers+then-branch-eq0 w ↦
           rw w.cells-is (looks_trans _ _ _ c.rank.ensures.looks w.citers.ensures.looks)
     ]
 
@@ -32,16 +31,14 @@ pub returns-then-limit-current-clause-ok : goal.returns-then-limit-current-claus
 returns-then-limit-current-clause-ok g c =
     let s = g.C.Cells.sight c.rank.new.cells in
     let i = c.args.slot in
-    let own : ForEachHeld s i (λ st lib e. c.in_ok-current.current ≡ e.rank) =
-    ok_mapped _ _ _ _ _ c.in_ok-current.was c.map_err.ensures.cases c.rank.ensures.ok in
+    let own : ForEachHeld s i (λ st lib e. c.in_ok-current.current ≡ e.rank) = c.in_ok-current.ensures.ok in
     elim c.then-limit-current.branch [
       | goal.then-limit-current-via-then-limit-current w ↦
           rw w.cells-is (low_uncited s i c.args.limit c.in_ok-current.current own w.if-limit-current.true)
-      | goal.then-limit-current-via-else-limit-current+in_ok-map_err+then-branch-eq0 w ↦
+      | goal.then-limit-current-via-else-limit-current+in_ok-citers+then-branch-eq0 w ↦
           let t = g.C.Cells.sight w.citers.new.cells in
-          let n = w.in_ok-map_err.field-0 in
-          let counted : ForEachHeld t i (λ st lib e. n ≡ citers lib (label_of e)) =
-          ok_mapped _ _ _ _ _ w.in_ok-map_err.was w.map_err-else-limit-current.ensures.cases w.citers.ensures.ok in
+          let n = w.in_ok-citers.field-0 in
+          let counted : ForEachHeld t i (λ st lib e. n ≡ citers lib (label_of e)) = w.in_ok-citers.ensures.ok in
           rw w.cells-is (count_uncited t i c.args.limit n w.if-branch-eq0.true counted)
     ]
 
@@ -69,8 +66,7 @@ returns-then-branch-clause-ok g c =
     let t = g.C.Cells.sight c.cites_slot.new.cells in
     let other = c.loop-other.other in
     let rank = c.in_ok-rank.rank in
-    let read : Reads c.rank_cell.result c.in_ok-rank.rank r s =
-    ok_mapped _ _ _ _ _ c.in_ok-rank.was c.map_err-in-loop-other.ensures.cases c.read.ensures.ok in
+    let read : Reads c.rank_cell.result c.in_ok-rank.rank r s = c.in_ok-rank.ensures.ok in
     let value : (st : State) → Matches t st → rank ≡ (after t st).value (rank_cell other) = λ st m.
     value_later r s t c.rank_cell.result rank st read c.cites_slot.ensures.looks m
     ∙ ap (λ (n : ℕ). (after t st).value n) c.rank_cell.ensures in
@@ -94,13 +90,11 @@ loop-other-preserved g c =
     let current = c.in_ok-current.current in
     let rank = c.in_ok-rank.rank in
     let slots = (g.C.Cells.sight c.args.cells.now).setting.slots in
-    let read : Reads c.rank_cell.result c.in_ok-rank.rank r s =
-    ok_mapped _ _ _ _ _ c.in_ok-rank.was c.map_err-in-loop-other.ensures.cases c.read.ensures.ok in
+    let read : Reads c.rank_cell.result c.in_ok-rank.rank r s = c.in_ok-rank.ensures.ok in
     let value : (st : State) → Matches s st → rank ≡ (after s st).value (rank_cell other) = λ st m.
     read.value st m ∙ ap (λ (n : ℕ). (after s st).value n) c.rank_cell.ensures in
     let since = looks_trans _ _ _ c.citers.ensures.looks (looks_trans _ _ _ c.loop-other.invariant.looks read.looks) in
-    let own : ForEachHeld first i (λ st lib e. c.in_ok-current.current ≡ e.rank) =
-    ok_mapped _ _ _ _ _ c.in_ok-current.was c.map_err.ensures.cases c.rank.ensures.ok in
+    let own : ForEachHeld first i (λ st lib e. c.in_ok-current.current ≡ e.rank) = c.in_ok-current.ensures.ok in
     let own_now = held_later first s i (λ st lib e. c.in_ok-current.current ≡ e.rank) since own in
     let is = sym (same_slots old s (looks_trans _ _ _ c.rank.ensures.looks since)) in
     let before = c.loop-other.invariant.uncited in
@@ -155,8 +149,8 @@ pub returns-in_err-current-clause-reads : goal.returns-in_err-current-clause-rea
 returns-in_err-current-clause-reads g c =
     λ st lib v e at h. asks_cell (inl refl) c.rank.ensures.reads
 
-pub returns-in_err-map_err-clause-reads : goal.returns-in_err-map_err-clause-reads
-returns-in_err-map_err-clause-reads g c =
+pub returns-in_err-citers-clause-reads : goal.returns-in_err-citers-clause-reads
+returns-in_err-citers-clause-reads g c =
     λ st lib v e at h.
     asks_trans (asks_cell (inl refl) c.rank.ensures.reads) (asks_cell (inr (inl refl)) c.citers.ensures.reads)
 
@@ -164,7 +158,7 @@ pub returns-then-limit-current-clause-reads : goal.returns-then-limit-current-cl
 returns-then-limit-current-clause-reads g c =
     elim c.then-limit-current.branch [
       | goal.then-limit-current-via-then-limit-current w ↦ rw w.cells-is (λ st lib v e at h. asks_cell (inl refl) c.rank.ensures.reads)
-      | goal.then-limit-current-via-else-limit-current+in_ok-map_err+then-branch-eq0 w ↦
+      | goal.then-limit-current-via-else-limit-current+in_ok-citers+then-branch-eq0 w ↦
           rw w.cells-is (λ st lib v e at h.
           asks_trans (asks_cell (inl refl) c.rank.ensures.reads) (asks_cell (inr (inl refl)) w.citers.ensures.reads))
     ]
@@ -175,13 +169,11 @@ returns-in_err-rank-clause-reads g c =
     let first = g.C.Cells.sight c.rank.new.cells in
     let second = g.C.Cells.sight c.citers.new.cells in
     let i = c.args.slot in
-    let n = c.in_ok-map_err.field-0 in
+    let n = c.in_ok-citers.field-0 in
     let current = c.in_ok-current.current in
     let ranked : ForEachHeld second i (λ st lib e. c.in_ok-current.current ≡ e.rank) =
-    held_later first second i (λ st lib e. c.in_ok-current.current ≡ e.rank) c.citers.ensures.looks
-    (ok_mapped _ _ _ _ _ c.in_ok-current.was c.map_err.ensures.cases c.rank.ensures.ok) in
-    let counted : ForEachHeld second i (λ st lib e. c.in_ok-map_err.field-0 ≡ citers lib (label_of e)) =
-    ok_mapped _ _ _ _ _ c.in_ok-map_err.was c.map_err-else-limit-current.ensures.cases c.citers.ensures.ok in
+    held_later first second i (λ st lib e. c.in_ok-current.current ≡ e.rank) c.citers.ensures.looks c.in_ok-current.ensures.ok in
+    let counted : ForEachHeld second i (λ st lib e. c.in_ok-citers.field-0 ≡ citers lib (label_of e)) = c.in_ok-citers.ensures.ok in
     let own : ReadsWithin (λ k. (k ≡ rank_cell c.args.slot) ⊎ (k ≡ citers_cell c.args.slot)) old second =
     asks_trans (asks_cell (inl refl) c.rank.ensures.reads) (asks_cell (inr refl) c.citers.ensures.reads) in
     rise_within old second (g.C.Cells.sight c.read.new.self) i c.args.limit current n (looks_trans _ _ _ c.rank.ensures.looks c.citers.ensures.looks)
@@ -195,20 +187,17 @@ returns-in_err-cites_slot-clause-reads g c =
     let first = g.C.Cells.sight c.rank.new.cells in
     let second = g.C.Cells.sight c.citers.new.cells in
     let i = c.args.slot in
-    let n = c.in_ok-map_err.field-0 in
+    let n = c.in_ok-citers.field-0 in
     let current = c.in_ok-current.current in
     let ranked : ForEachHeld second i (λ st lib e. c.in_ok-current.current ≡ e.rank) =
-    held_later first second i (λ st lib e. c.in_ok-current.current ≡ e.rank) c.citers.ensures.looks
-    (ok_mapped _ _ _ _ _ c.in_ok-current.was c.map_err.ensures.cases c.rank.ensures.ok) in
-    let counted : ForEachHeld second i (λ st lib e. c.in_ok-map_err.field-0 ≡ citers lib (label_of e)) =
-    ok_mapped _ _ _ _ _ c.in_ok-map_err.was c.map_err-else-limit-current.ensures.cases c.citers.ensures.ok in
+    held_later first second i (λ st lib e. c.in_ok-current.current ≡ e.rank) c.citers.ensures.looks c.in_ok-current.ensures.ok in
+    let counted : ForEachHeld second i (λ st lib e. c.in_ok-citers.field-0 ≡ citers lib (label_of e)) = c.in_ok-citers.ensures.ok in
     let own : ReadsWithin (λ k. (k ≡ rank_cell c.args.slot) ⊎ (k ≡ citers_cell c.args.slot)) old second =
     asks_trans (asks_cell (inl refl) c.rank.ensures.reads) (asks_cell (inr refl) c.citers.ensures.reads) in
     let r = g.C.Cells.sight c.loop-other.cells in
     let s = g.C.Cells.sight c.read.new.self in
     let rank = c.in_ok-rank.rank in
-    let read : Reads c.rank_cell.result c.in_ok-rank.rank r s =
-    ok_mapped _ _ _ _ _ c.in_ok-rank.was c.map_err-in-loop-other.ensures.cases c.read.ensures.ok in
+    let read : Reads c.rank_cell.result c.in_ok-rank.rank r s = c.in_ok-rank.ensures.ok in
     let value : (st : State) → Matches s st → rank ≡ (after s st).value (rank_cell c.loop-other.other) = λ st m.
     read.value st m ∙ ap (λ (n : ℕ). (after s st).value n) c.rank_cell.ensures in
     rise_within old second (g.C.Cells.sight c.cites_slot.new.cells) i c.args.limit current n (looks_trans _ _ _ c.rank.ensures.looks c.citers.ensures.looks)
@@ -226,20 +215,17 @@ returns-then-branch-clause-reads g c =
     let first = g.C.Cells.sight c.rank.new.cells in
     let second = g.C.Cells.sight c.citers.new.cells in
     let i = c.args.slot in
-    let n = c.in_ok-map_err.field-0 in
+    let n = c.in_ok-citers.field-0 in
     let current = c.in_ok-current.current in
     let ranked : ForEachHeld second i (λ st lib e. c.in_ok-current.current ≡ e.rank) =
-    held_later first second i (λ st lib e. c.in_ok-current.current ≡ e.rank) c.citers.ensures.looks
-    (ok_mapped _ _ _ _ _ c.in_ok-current.was c.map_err.ensures.cases c.rank.ensures.ok) in
-    let counted : ForEachHeld second i (λ st lib e. c.in_ok-map_err.field-0 ≡ citers lib (label_of e)) =
-    ok_mapped _ _ _ _ _ c.in_ok-map_err.was c.map_err-else-limit-current.ensures.cases c.citers.ensures.ok in
+    held_later first second i (λ st lib e. c.in_ok-current.current ≡ e.rank) c.citers.ensures.looks c.in_ok-current.ensures.ok in
+    let counted : ForEachHeld second i (λ st lib e. c.in_ok-citers.field-0 ≡ citers lib (label_of e)) = c.in_ok-citers.ensures.ok in
     let own : ReadsWithin (λ k. (k ≡ rank_cell c.args.slot) ⊎ (k ≡ citers_cell c.args.slot)) old second =
     asks_trans (asks_cell (inl refl) c.rank.ensures.reads) (asks_cell (inr refl) c.citers.ensures.reads) in
     let r = g.C.Cells.sight c.loop-other.cells in
     let s = g.C.Cells.sight c.read.new.self in
     let rank = c.in_ok-rank.rank in
-    let read : Reads c.rank_cell.result c.in_ok-rank.rank r s =
-    ok_mapped _ _ _ _ _ c.in_ok-rank.was c.map_err-in-loop-other.ensures.cases c.read.ensures.ok in
+    let read : Reads c.rank_cell.result c.in_ok-rank.rank r s = c.in_ok-rank.ensures.ok in
     let value : (st : State) → Matches s st → rank ≡ (after s st).value (rank_cell c.loop-other.other) = λ st m.
     read.value st m ∙ ap (λ (n : ℕ). (after s st).value n) c.rank_cell.ensures in
     rise_within old second (g.C.Cells.sight c.cites_slot.new.cells) i c.args.limit current n (looks_trans _ _ _ c.rank.ensures.looks c.citers.ensures.looks)
@@ -257,13 +243,11 @@ returns-clause-reads g c =
     let first = g.C.Cells.sight c.rank.new.cells in
     let second = g.C.Cells.sight c.citers.new.cells in
     let i = c.args.slot in
-    let n = c.in_ok-map_err.field-0 in
+    let n = c.in_ok-citers.field-0 in
     let current = c.in_ok-current.current in
     let ranked : ForEachHeld second i (λ st lib e. c.in_ok-current.current ≡ e.rank) =
-    held_later first second i (λ st lib e. c.in_ok-current.current ≡ e.rank) c.citers.ensures.looks
-    (ok_mapped _ _ _ _ _ c.in_ok-current.was c.map_err.ensures.cases c.rank.ensures.ok) in
-    let counted : ForEachHeld second i (λ st lib e. c.in_ok-map_err.field-0 ≡ citers lib (label_of e)) =
-    ok_mapped _ _ _ _ _ c.in_ok-map_err.was c.map_err-else-limit-current.ensures.cases c.citers.ensures.ok in
+    held_later first second i (λ st lib e. c.in_ok-current.current ≡ e.rank) c.citers.ensures.looks c.in_ok-current.ensures.ok in
+    let counted : ForEachHeld second i (λ st lib e. c.in_ok-citers.field-0 ≡ citers lib (label_of e)) = c.in_ok-citers.ensures.ok in
     let own : ReadsWithin (λ k. (k ≡ rank_cell c.args.slot) ⊎ (k ≡ citers_cell c.args.slot)) old second =
     asks_trans (asks_cell (inl refl) c.rank.ensures.reads) (asks_cell (inr refl) c.citers.ensures.reads) in
     rise_within old second (g.C.Cells.sight c.loop-other.cells) i c.args.limit current n (looks_trans _ _ _ c.rank.ensures.looks c.citers.ensures.looks)

@@ -1,4 +1,4 @@
-use Rattle.std.proofs.Common.{◌≡◌, ℕ, List, Some, None, true, false, subst, ap, ◌∙◌, inl, inr}
+use Rattle.std.proofs.Common.{◌≡◌, ℕ, true, false, subst, ap, ◌∙◌, inl, inr}
 use Rattle.library.specs.declared.command.Command.TheVariants.{Move}
 use Rattle.std.specs.List.{list_any}
 use Rattle.library.specs.Edits.{cites_not_below}
@@ -7,9 +7,7 @@ use Rattle.cells.specs.State.{State, with_value}
 use Rattle.library.specs.Library.{Setting}
 use Rattle.cells.specs.Slots.{proof_cell}
 use Rattle.cells.specs.Sight.{WasWritten, ReadsWithin, after}
-use Rattle.cells.specs.Footprints.{ReadsWhere, IsOfLook}
-use Rattle.cells.specs.Lookups.{Finds, ForEachHeld}
-use Rattle.cells.proofs.Mapped.{ok_mapped}
+use Rattle.cells.specs.Lookups.{ForEachHeld}
 use Rattle.cells.proofs.Sights.{onward_trans, looks_trans}
 use Rattle.cells.specs.Aside.{KeepsAside}
 use Rattle.groundwork.specs.Citing.{TellsNotBelow}
@@ -22,92 +20,83 @@ use Rattle.groundwork.proofs.CitedRanks.{stored_later}
 use Rattle.groundwork.proofs.OnlyLooks.{finds_later}
 use Rattle.groundwork.proofs.OnlyLooks.{stored_since}
 use Rattle.moves.proofs.Ranking.{refused_unranked, refused_not_above, refused_not_below, does_move}
-use Rattle.groundwork.proofs.Refusing.{of_none, refused, answers_refused}
+use Rattle.groundwork.proofs.Refusing.{of_none, refused, answers_refused, answers_unknown}
 use Rattle.moves.proofs.moving.move_to.Goals as goal
 
-pub returns-in_default-clause-answers : goal.returns-in_default-clause-answers
-returns-in_default-clause-answers g c =
-    let old = g.C.Cells.sight c.args.cells.now in
-    let s = g.C.Cells.sight c.find.new.cells in
+pub returns-in_err-slot-clause-answers : goal.returns-in_err-slot-clause-answers
+returns-in_err-slot-clause-answers g c =
+    let s0 = g.C.Cells.sight c.args.cells.now in
+    let s1 = g.C.Cells.sight c.known_slot.new.cells in
     let label = c.args.label.now in
-    let command = Move c.args.label.now c.args.rank in
-    let finds = ok_mapped _ _ _ _ _ c.in_ok-slot.was c.map_err.ensures.cases c.find.ensures.ok in
-    let none : Finds s c.args.label.now None =
-    subst (Finds s c.args.label.now) c.in_default.is (subst (λ l. Finds s l c.in_ok-slot.field-0) c.as_slice.ensures finds) in
-    answers_refused old s command UnknownLabel c.into.result c.into.ensures
-    (refused old s command UnknownLabel c.find.ensures.looks (λ st lib v. of_none lib label _ (none st lib v)))
+    let x = Move c.args.label.now c.args.rank in
+    answers_unknown s0 s1 x label c.from_residual.result c.in_err-slot.field-0.0 c.from_residual.ensures.1 c.in_err-slot.ensures.err
+    (λ none. refused s0 s1 x UnknownLabel c.known_slot.ensures.looks (λ st lib v. of_none lib label _ (none st lib v)))
 
 pub returns-then-rank-eq0-clause-answers : goal.returns-then-rank-eq0-clause-answers
 returns-then-rank-eq0-clause-answers g c =
     let old = g.C.Cells.sight c.args.cells.now in
-    let s = g.C.Cells.sight c.find.new.cells in
+    let s = g.C.Cells.sight c.known_slot.new.cells in
     let label = c.args.label.now in
-    let finds = ok_mapped _ _ _ _ _ c.in_ok-slot.was c.map_err.ensures.cases c.find.ensures.ok in
-    let some : Finds s c.args.label.now (Some c.in-Some.slot) =
-    subst (Finds s c.args.label.now) c.in-Some.is (subst (λ l. Finds s l c.in_ok-slot.field-0) c.as_slice.ensures finds) in
-    answers_refused old s (Move label c.args.rank) BadRank c.into-then-rank-eq0.result c.into-then-rank-eq0.ensures
-    (refused_unranked old s c.find.ensures.looks c.in-Some.slot label c.args.rank some c.if-rank-eq0.true)
+    let some = c.in_ok-slot.ensures.ok in
+    answers_refused old s (Move label c.args.rank) BadRank c.into.result c.into.ensures
+    (refused_unranked old s c.known_slot.ensures.looks c.in_ok-slot.slot label c.args.rank some c.if-rank-eq0.true)
 
 pub returns-in_err-kept-clause-onward : goal.returns-in_err-kept-clause-onward
-returns-in_err-kept-clause-onward g c = let looks = looks_trans _ _ _ c.find.ensures.looks c.stored_proof.ensures.looks in looks.onward
+returns-in_err-kept-clause-onward g c = let looks = looks_trans _ _ _ c.known_slot.ensures.looks c.stored_proof.ensures.looks in looks.onward
 
 pub returns-in_err-cites_not_below-clause-onward : goal.returns-in_err-cites_not_below-clause-onward
 returns-in_err-cites_not_below-clause-onward g c =
-    let looks = looks_trans _ _ _ c.find.ensures.looks
+    let looks = looks_trans _ _ _ c.known_slot.ensures.looks
     (looks_trans _ _ _ c.stored_proof.ensures.looks c.cites_not_below.ensures.looks) in looks.onward
 
 pub returns-then-branch-clause-onward : goal.returns-then-branch-clause-onward
 returns-then-branch-clause-onward g c =
-    let looks = looks_trans _ _ _ c.find.ensures.looks
+    let looks = looks_trans _ _ _ c.known_slot.ensures.looks
     (looks_trans _ _ _ c.stored_proof.ensures.looks c.cites_not_below.ensures.looks) in looks.onward
 
 pub returns-then-branch-clause-answers : goal.returns-then-branch-clause-answers
 returns-then-branch-clause-answers g c =
     let old = g.C.Cells.sight c.args.cells.now in
-    let first = g.C.Cells.sight c.find.new.cells in
+    let first = g.C.Cells.sight c.known_slot.new.cells in
     let second = g.C.Cells.sight c.stored_proof.new.cells in
     let third = g.C.Cells.sight c.cites_not_below.new.cells in
     let label = c.args.label.now in
-    let i = c.in-Some.slot in
+    let i = c.in_ok-slot.slot in
     let kept = c.in_ok-kept.kept.items in
-    let finds = ok_mapped _ _ _ _ _ c.in_ok-slot.was c.map_err.ensures.cases c.find.ensures.ok in
-    let some : Finds first c.args.label.now (Some c.in-Some.slot) =
-    subst (Finds first c.args.label.now) c.in-Some.is (subst (λ l. Finds first l c.in_ok-slot.field-0) c.as_slice.ensures finds) in
+    let some = c.in_ok-slot.ensures.ok in
     let told : TellsNotBelow third c.args.rank c.in_ok-kept.kept.items c.in_ok-cites_not_below.field-0 =
-    subst (λ ks. TellsNotBelow third c.args.rank ks c.in_ok-cites_not_below.field-0) c.as_slice-2.ensures.value
+    subst (λ ks. TellsNotBelow third c.args.rank ks c.in_ok-cites_not_below.field-0) c.as_slice.ensures.value
     c.in_ok-cites_not_below.ensures.ok in
     let on = c.cites_not_below.ensures.looks in
     let since = looks_trans _ _ _ c.stored_proof.ensures.looks on in
     answers_refused old third (Move label c.args.rank) CitedNotLower c.into-then-branch.result c.into-then-branch.ensures
-    (refused_not_above old third (looks_trans _ _ _ c.find.ensures.looks since) i label c.args.rank
+    (refused_not_above old third (looks_trans _ _ _ c.known_slot.ensures.looks since) i label c.args.rank
     (finds_later first third label i since some)
     c.if-rank-eq0.false kept (stored_since second third i kept on c.in_ok-kept.ensures.ok)
     (subst (TellsNotBelow third c.args.rank kept) c.if-branch.true told))
 
 pub returns-in_err-is_cited_up_to-clause-onward : goal.returns-in_err-is_cited_up_to-clause-onward
 returns-in_err-is_cited_up_to-clause-onward g c =
-    let looks = looks_trans _ _ _ c.find.ensures.looks (looks_trans _ _ _ c.stored_proof.ensures.looks
+    let looks = looks_trans _ _ _ c.known_slot.ensures.looks (looks_trans _ _ _ c.stored_proof.ensures.looks
     (looks_trans _ _ _ c.cites_not_below.ensures.looks c.is_cited_up_to.ensures.looks)) in looks.onward
 
 pub returns-then-branch-2-clause-onward : goal.returns-then-branch-2-clause-onward
 returns-then-branch-2-clause-onward g c =
-    let looks = looks_trans _ _ _ c.find.ensures.looks (looks_trans _ _ _ c.stored_proof.ensures.looks
+    let looks = looks_trans _ _ _ c.known_slot.ensures.looks (looks_trans _ _ _ c.stored_proof.ensures.looks
     (looks_trans _ _ _ c.cites_not_below.ensures.looks c.is_cited_up_to.ensures.looks)) in looks.onward
 
 pub returns-then-branch-2-clause-answers : goal.returns-then-branch-2-clause-answers
 returns-then-branch-2-clause-answers g c =
     let old = g.C.Cells.sight c.args.cells.now in
-    let first = g.C.Cells.sight c.find.new.cells in
+    let first = g.C.Cells.sight c.known_slot.new.cells in
     let second = g.C.Cells.sight c.stored_proof.new.cells in
     let third = g.C.Cells.sight c.cites_not_below.new.cells in
     let label = c.args.label.now in
-    let i = c.in-Some.slot in
+    let i = c.in_ok-slot.slot in
     let kept = c.in_ok-kept.kept.items in
-    let finds = ok_mapped _ _ _ _ _ c.in_ok-slot.was c.map_err.ensures.cases c.find.ensures.ok in
-    let some : Finds first c.args.label.now (Some c.in-Some.slot) =
-    subst (Finds first c.args.label.now) c.in-Some.is (subst (λ l. Finds first l c.in_ok-slot.field-0) c.as_slice.ensures finds) in
+    let some = c.in_ok-slot.ensures.ok in
     let told : TellsNotBelow third c.args.rank c.in_ok-kept.kept.items c.in_ok-cites_not_below.field-0 =
-    subst (λ ks. TellsNotBelow third c.args.rank ks c.in_ok-cites_not_below.field-0) c.as_slice-2.ensures.value
+    subst (λ ks. TellsNotBelow third c.args.rank ks c.in_ok-cites_not_below.field-0) c.as_slice.ensures.value
     c.in_ok-cites_not_below.ensures.ok in
     let t = g.C.Cells.sight c.is_cited_up_to.new.cells in
     let last = c.is_cited_up_to.ensures.looks in
@@ -119,35 +108,33 @@ returns-then-branch-2-clause-answers g c =
     let low : TellsCitedUpTo t i c.args.rank true =
     subst (TellsCitedUpTo t i c.args.rank) c.if-branch-2.true c.in_ok-is_cited_up_to.ensures.ok in
     answers_refused old t (Move label c.args.rank) CiterNotHigher c.into-then-branch-2.result c.into-then-branch-2.ensures
-    (refused_not_below old t (looks_trans _ _ _ c.find.ensures.looks since) i label c.args.rank (finds_later first t label i since some)
+    (refused_not_below old t (looks_trans _ _ _ c.known_slot.ensures.looks since) i label c.args.rank (finds_later first t label i since some)
     c.if-rank-eq0.false kept (stored_since second t i kept on c.in_ok-kept.ensures.ok) high low)
 
-pub returns-in_err-map_err-clause-onward : goal.returns-in_err-map_err-clause-onward
-returns-in_err-map_err-clause-onward g c =
-    let looks = looks_trans _ _ _ c.find.ensures.looks (looks_trans _ _ _ c.stored_proof.ensures.looks
+pub returns-in_err-put-clause-onward : goal.returns-in_err-put-clause-onward
+returns-in_err-put-clause-onward g c =
+    let looks = looks_trans _ _ _ c.known_slot.ensures.looks (looks_trans _ _ _ c.stored_proof.ensures.looks
     (looks_trans _ _ _ c.cites_not_below.ensures.looks c.is_cited_up_to.ensures.looks)) in
     onward_trans _ _ _ looks.onward c.put.ensures.onward
 
 pub returns-clause-onward : goal.returns-clause-onward
 returns-clause-onward g c =
-    let looks = looks_trans _ _ _ c.find.ensures.looks (looks_trans _ _ _ c.stored_proof.ensures.looks
+    let looks = looks_trans _ _ _ c.known_slot.ensures.looks (looks_trans _ _ _ c.stored_proof.ensures.looks
     (looks_trans _ _ _ c.cites_not_below.ensures.looks c.is_cited_up_to.ensures.looks)) in
     onward_trans _ _ _ looks.onward c.put.ensures.onward
 
 pub returns-clause-answers : goal.returns-clause-answers
 returns-clause-answers g c =
     let old = g.C.Cells.sight c.args.cells.now in
-    let first = g.C.Cells.sight c.find.new.cells in
+    let first = g.C.Cells.sight c.known_slot.new.cells in
     let second = g.C.Cells.sight c.stored_proof.new.cells in
     let third = g.C.Cells.sight c.cites_not_below.new.cells in
     let label = c.args.label.now in
-    let i = c.in-Some.slot in
+    let i = c.in_ok-slot.slot in
     let kept = c.in_ok-kept.kept.items in
-    let finds = ok_mapped _ _ _ _ _ c.in_ok-slot.was c.map_err.ensures.cases c.find.ensures.ok in
-    let some : Finds first c.args.label.now (Some c.in-Some.slot) =
-    subst (Finds first c.args.label.now) c.in-Some.is (subst (λ l. Finds first l c.in_ok-slot.field-0) c.as_slice.ensures finds) in
+    let some = c.in_ok-slot.ensures.ok in
     let told : TellsNotBelow third c.args.rank c.in_ok-kept.kept.items c.in_ok-cites_not_below.field-0 =
-    subst (λ ks. TellsNotBelow third c.args.rank ks c.in_ok-cites_not_below.field-0) c.as_slice-2.ensures.value
+    subst (λ ks. TellsNotBelow third c.args.rank ks c.in_ok-cites_not_below.field-0) c.as_slice.ensures.value
     c.in_ok-cites_not_below.ensures.ok in
     let t = g.C.Cells.sight c.is_cited_up_to.new.cells in
     let last = c.is_cited_up_to.ensures.looks in
@@ -159,11 +146,9 @@ returns-clause-answers g c =
     let u = g.C.Cells.sight c.put.new.cells in
     let low : TellsCitedUpTo t i c.args.rank false =
     subst (TellsCitedUpTo t i c.args.rank) c.if-branch-2.false c.in_ok-is_cited_up_to.ensures.ok in
-    let put : (st : State) → after u st ≡ with_value c.rank_cell.result c.args.rank (after t st) =
-    ok_mapped _ _ _ _ _ c.in_ok-map_err.was c.map_err-2.ensures.cases c.put.ensures.ok in
-    let written : WasWritten u c.rank_cell.result =
-    ok_mapped _ _ _ _ _ c.in_ok-map_err.was c.map_err-2.ensures.cases c.put.ensures.written in
-    does_move old t (looks_trans _ _ _ c.find.ensures.looks since) i label c.args.rank (finds_later first t label i since some)
+    let put : (st : State) → after u st ≡ with_value c.rank_cell.result c.args.rank (after t st) = c.in_ok-put.ensures.ok in
+    let written : WasWritten u c.rank_cell.result = c.in_ok-put.ensures.written in
+    does_move old t (looks_trans _ _ _ c.known_slot.ensures.looks since) i label c.args.rank (finds_later first t label i since some)
     c.if-rank-eq0.false kept (stored_since second t i kept on c.in_ok-kept.ensures.ok) high u c.put.ensures.onward low
     (λ st. put st ∙ ap (λ (n : ℕ). with_value n c.args.rank (after t st)) c.rank_cell.ensures)
     (subst (WasWritten u) c.rank_cell.ensures written)
@@ -171,102 +156,80 @@ returns-clause-answers g c =
 pub returns-clause-keeps : goal.returns-clause-keeps
 returns-clause-keeps g c =
     let old = g.C.Cells.sight c.args.cells.now in
-    let first = g.C.Cells.sight c.find.new.cells in
+    let first = g.C.Cells.sight c.known_slot.new.cells in
     let t = g.C.Cells.sight c.is_cited_up_to.new.cells in
     let u = g.C.Cells.sight c.put.new.cells in
     let label = c.args.label.now in
-    let i = c.in-Some.slot in
-    let finds = ok_mapped _ _ _ _ _ c.in_ok-slot.was c.map_err.ensures.cases c.find.ensures.ok in
-    let some : Finds first c.args.label.now (Some c.in-Some.slot) =
-    subst (Finds first c.args.label.now) c.in-Some.is (subst (λ l. Finds first l c.in_ok-slot.field-0) c.as_slice.ensures finds) in
+    let i = c.in_ok-slot.slot in
+    let some = c.in_ok-slot.ensures.ok in
     let since = looks_trans _ _ _ c.stored_proof.ensures.looks
     (looks_trans _ _ _ c.cites_not_below.ensures.looks c.is_cited_up_to.ensures.looks) in
-    keeps_to_since old t u (Move c.args.label.now c.args.rank) (looks_trans _ _ _ c.find.ensures.looks since) c.put.ensures.onward
+    keeps_to_since old t u (Move c.args.label.now c.args.rank) (looks_trans _ _ _ c.known_slot.ensures.looks since) c.put.ensures.onward
     (move_keeps t u i label c.args.rank (finds_later first t label i since some).1
     (subst (λ (n : ℕ). KeepsAside (λ k. k ≡ n) t u) c.rank_cell.ensures
-    (ok_mapped _ _ _ _ _ c.in_ok-map_err.was c.map_err-2.ensures.cases c.put.ensures.keeps)))
+    c.in_ok-put.ensures.keeps))
 
 pub returns-in_err-slot-clause-reads : goal.returns-in_err-slot-clause-reads
 returns-in_err-slot-clause-reads g c =
     let old = g.C.Cells.sight c.args.cells.now in
-    let s1 = g.C.Cells.sight c.find.new.cells in
+    let s1 = g.C.Cells.sight c.known_slot.new.cells in
     let label = c.args.label.now in
     let rank = c.args.rank in
-    let l1 = c.find.ensures.looks in
+    let l1 = c.known_slot.ensures.looks in
     let m1 : MovesSo c.args.label.now c.args.rank old s1 =
-    move_looks old label rank s1 l1
-    (subst (λ (l : List ℕ). ReadsWhere (IsOfLook old.setting.slots l) old s1) c.as_slice.ensures c.find.ensures.reads) in
-    move_now old label rank s1 l1 m1
-
-pub returns-in_default-clause-reads : goal.returns-in_default-clause-reads
-returns-in_default-clause-reads g c =
-    let old = g.C.Cells.sight c.args.cells.now in
-    let s1 = g.C.Cells.sight c.find.new.cells in
-    let label = c.args.label.now in
-    let rank = c.args.rank in
-    let l1 = c.find.ensures.looks in
-    let m1 : MovesSo c.args.label.now c.args.rank old s1 =
-    move_looks old label rank s1 l1
-    (subst (λ (l : List ℕ). ReadsWhere (IsOfLook old.setting.slots l) old s1) c.as_slice.ensures c.find.ensures.reads) in
+    move_looks old label rank s1 l1 c.known_slot.ensures.reads in
     move_now old label rank s1 l1 m1
 
 pub returns-then-rank-eq0-clause-reads : goal.returns-then-rank-eq0-clause-reads
 returns-then-rank-eq0-clause-reads g c =
     let old = g.C.Cells.sight c.args.cells.now in
-    let s1 = g.C.Cells.sight c.find.new.cells in
+    let s1 = g.C.Cells.sight c.known_slot.new.cells in
     let label = c.args.label.now in
     let rank = c.args.rank in
-    let l1 = c.find.ensures.looks in
+    let l1 = c.known_slot.ensures.looks in
     let m1 : MovesSo c.args.label.now c.args.rank old s1 =
-    move_looks old label rank s1 l1
-    (subst (λ (l : List ℕ). ReadsWhere (IsOfLook old.setting.slots l) old s1) c.as_slice.ensures c.find.ensures.reads) in
+    move_looks old label rank s1 l1 c.known_slot.ensures.reads in
     move_now old label rank s1 l1 m1
 
 pub returns-in_err-kept-clause-reads : goal.returns-in_err-kept-clause-reads
 returns-in_err-kept-clause-reads g c =
     let old = g.C.Cells.sight c.args.cells.now in
-    let s1 = g.C.Cells.sight c.find.new.cells in
+    let s1 = g.C.Cells.sight c.known_slot.new.cells in
     let label = c.args.label.now in
     let rank = c.args.rank in
-    let l1 = c.find.ensures.looks in
+    let l1 = c.known_slot.ensures.looks in
     let m1 : MovesSo c.args.label.now c.args.rank old s1 =
-    move_looks old label rank s1 l1
-    (subst (λ (l : List ℕ). ReadsWhere (IsOfLook old.setting.slots l) old s1) c.as_slice.ensures c.find.ensures.reads) in
-    let i = c.in-Some.slot in
-    let finds = ok_mapped _ _ _ _ _ c.in_ok-slot.was c.map_err.ensures.cases c.find.ensures.ok in
-    let some : Finds s1 c.args.label.now (Some c.in-Some.slot) =
-    subst (Finds s1 c.args.label.now) c.in-Some.is (subst (λ l. Finds s1 l c.in_ok-slot.field-0) c.as_slice.ensures finds) in
+    move_looks old label rank s1 l1 c.known_slot.ensures.reads in
+    let i = c.in_ok-slot.slot in
+    let some = c.in_ok-slot.ensures.ok in
     let s2 = g.C.Cells.sight c.stored_proof.new.cells in
     let l2 = looks_trans _ _ _ l1 c.stored_proof.ensures.looks in
     let m2 : MovesSo c.args.label.now c.args.rank old s2 =
-    move_more old label rank s1 s2 i (λ st lib e k. k ≡ proof_cell c.in-Some.slot) l1 c.stored_proof.ensures.looks some m1
+    move_more old label rank s1 s2 i (λ st lib e k. k ≡ proof_cell c.in_ok-slot.slot) l1 c.stored_proof.ensures.looks some m1
     (λ st lib v e at h. c.stored_proof.ensures.reads) (λ st lib e k is. inl is) in
     move_now old label rank s2 l2 m2
 
 pub returns-in_err-cites_not_below-clause-reads : goal.returns-in_err-cites_not_below-clause-reads
 returns-in_err-cites_not_below-clause-reads g c =
     let old = g.C.Cells.sight c.args.cells.now in
-    let s1 = g.C.Cells.sight c.find.new.cells in
+    let s1 = g.C.Cells.sight c.known_slot.new.cells in
     let label = c.args.label.now in
     let rank = c.args.rank in
-    let l1 = c.find.ensures.looks in
+    let l1 = c.known_slot.ensures.looks in
     let m1 : MovesSo c.args.label.now c.args.rank old s1 =
-    move_looks old label rank s1 l1
-    (subst (λ (l : List ℕ). ReadsWhere (IsOfLook old.setting.slots l) old s1) c.as_slice.ensures c.find.ensures.reads) in
-    let i = c.in-Some.slot in
-    let finds = ok_mapped _ _ _ _ _ c.in_ok-slot.was c.map_err.ensures.cases c.find.ensures.ok in
-    let some : Finds s1 c.args.label.now (Some c.in-Some.slot) =
-    subst (Finds s1 c.args.label.now) c.in-Some.is (subst (λ l. Finds s1 l c.in_ok-slot.field-0) c.as_slice.ensures finds) in
+    move_looks old label rank s1 l1 c.known_slot.ensures.reads in
+    let i = c.in_ok-slot.slot in
+    let some = c.in_ok-slot.ensures.ok in
     let s2 = g.C.Cells.sight c.stored_proof.new.cells in
     let l2 = looks_trans _ _ _ l1 c.stored_proof.ensures.looks in
     let m2 : MovesSo c.args.label.now c.args.rank old s2 =
-    move_more old label rank s1 s2 i (λ st lib e k. k ≡ proof_cell c.in-Some.slot) l1 c.stored_proof.ensures.looks some m1
+    move_more old label rank s1 s2 i (λ st lib e k. k ≡ proof_cell c.in_ok-slot.slot) l1 c.stored_proof.ensures.looks some m1
     (λ st lib v e at h. c.stored_proof.ensures.reads) (λ st lib e k is. inl is) in
     let kept = c.in_ok-kept.kept.items in
     let s3 = g.C.Cells.sight c.cites_not_below.new.cells in
     let l3 = looks_trans _ _ _ l2 c.cites_not_below.ensures.looks in
     let ranks : ReadsWithin (IsRankOfSteps c.in_ok-kept.kept.items) s2 s3 =
-    subst (λ ks. ReadsWithin (IsRankOfSteps ks) s2 s3) c.as_slice-2.ensures.value c.cites_not_below.ensures.reads in
+    subst (λ ks. ReadsWithin (IsRankOfSteps ks) s2 s3) c.as_slice.ensures.value c.cites_not_below.ensures.reads in
     let m3 : MovesSo c.args.label.now c.args.rank old s3 =
     move_more old label rank s2 s3 i (λ st lib e. IsRankOfCited old.setting.slots st lib e.assertion.proof) l2 c.cites_not_below.ensures.looks
     (finds_later s1 s2 label i c.stored_proof.ensures.looks some) m2
@@ -277,27 +240,24 @@ returns-in_err-cites_not_below-clause-reads g c =
 pub returns-then-branch-clause-reads : goal.returns-then-branch-clause-reads
 returns-then-branch-clause-reads g c =
     let old = g.C.Cells.sight c.args.cells.now in
-    let s1 = g.C.Cells.sight c.find.new.cells in
+    let s1 = g.C.Cells.sight c.known_slot.new.cells in
     let label = c.args.label.now in
     let rank = c.args.rank in
-    let l1 = c.find.ensures.looks in
+    let l1 = c.known_slot.ensures.looks in
     let m1 : MovesSo c.args.label.now c.args.rank old s1 =
-    move_looks old label rank s1 l1
-    (subst (λ (l : List ℕ). ReadsWhere (IsOfLook old.setting.slots l) old s1) c.as_slice.ensures c.find.ensures.reads) in
-    let i = c.in-Some.slot in
-    let finds = ok_mapped _ _ _ _ _ c.in_ok-slot.was c.map_err.ensures.cases c.find.ensures.ok in
-    let some : Finds s1 c.args.label.now (Some c.in-Some.slot) =
-    subst (Finds s1 c.args.label.now) c.in-Some.is (subst (λ l. Finds s1 l c.in_ok-slot.field-0) c.as_slice.ensures finds) in
+    move_looks old label rank s1 l1 c.known_slot.ensures.reads in
+    let i = c.in_ok-slot.slot in
+    let some = c.in_ok-slot.ensures.ok in
     let s2 = g.C.Cells.sight c.stored_proof.new.cells in
     let l2 = looks_trans _ _ _ l1 c.stored_proof.ensures.looks in
     let m2 : MovesSo c.args.label.now c.args.rank old s2 =
-    move_more old label rank s1 s2 i (λ st lib e k. k ≡ proof_cell c.in-Some.slot) l1 c.stored_proof.ensures.looks some m1
+    move_more old label rank s1 s2 i (λ st lib e k. k ≡ proof_cell c.in_ok-slot.slot) l1 c.stored_proof.ensures.looks some m1
     (λ st lib v e at h. c.stored_proof.ensures.reads) (λ st lib e k is. inl is) in
     let kept = c.in_ok-kept.kept.items in
     let s3 = g.C.Cells.sight c.cites_not_below.new.cells in
     let l3 = looks_trans _ _ _ l2 c.cites_not_below.ensures.looks in
     let ranks : ReadsWithin (IsRankOfSteps c.in_ok-kept.kept.items) s2 s3 =
-    subst (λ ks. ReadsWithin (IsRankOfSteps ks) s2 s3) c.as_slice-2.ensures.value c.cites_not_below.ensures.reads in
+    subst (λ ks. ReadsWithin (IsRankOfSteps ks) s2 s3) c.as_slice.ensures.value c.cites_not_below.ensures.reads in
     let m3 : MovesSo c.args.label.now c.args.rank old s3 =
     move_more old label rank s2 s3 i (λ st lib e. IsRankOfCited old.setting.slots st lib e.assertion.proof) l2 c.cites_not_below.ensures.looks
     (finds_later s1 s2 label i c.stored_proof.ensures.looks some) m2
@@ -308,27 +268,24 @@ returns-then-branch-clause-reads g c =
 pub returns-in_err-is_cited_up_to-clause-reads : goal.returns-in_err-is_cited_up_to-clause-reads
 returns-in_err-is_cited_up_to-clause-reads g c =
     let old = g.C.Cells.sight c.args.cells.now in
-    let s1 = g.C.Cells.sight c.find.new.cells in
+    let s1 = g.C.Cells.sight c.known_slot.new.cells in
     let label = c.args.label.now in
     let rank = c.args.rank in
-    let l1 = c.find.ensures.looks in
+    let l1 = c.known_slot.ensures.looks in
     let m1 : MovesSo c.args.label.now c.args.rank old s1 =
-    move_looks old label rank s1 l1
-    (subst (λ (l : List ℕ). ReadsWhere (IsOfLook old.setting.slots l) old s1) c.as_slice.ensures c.find.ensures.reads) in
-    let i = c.in-Some.slot in
-    let finds = ok_mapped _ _ _ _ _ c.in_ok-slot.was c.map_err.ensures.cases c.find.ensures.ok in
-    let some : Finds s1 c.args.label.now (Some c.in-Some.slot) =
-    subst (Finds s1 c.args.label.now) c.in-Some.is (subst (λ l. Finds s1 l c.in_ok-slot.field-0) c.as_slice.ensures finds) in
+    move_looks old label rank s1 l1 c.known_slot.ensures.reads in
+    let i = c.in_ok-slot.slot in
+    let some = c.in_ok-slot.ensures.ok in
     let s2 = g.C.Cells.sight c.stored_proof.new.cells in
     let l2 = looks_trans _ _ _ l1 c.stored_proof.ensures.looks in
     let m2 : MovesSo c.args.label.now c.args.rank old s2 =
-    move_more old label rank s1 s2 i (λ st lib e k. k ≡ proof_cell c.in-Some.slot) l1 c.stored_proof.ensures.looks some m1
+    move_more old label rank s1 s2 i (λ st lib e k. k ≡ proof_cell c.in_ok-slot.slot) l1 c.stored_proof.ensures.looks some m1
     (λ st lib v e at h. c.stored_proof.ensures.reads) (λ st lib e k is. inl is) in
     let kept = c.in_ok-kept.kept.items in
     let s3 = g.C.Cells.sight c.cites_not_below.new.cells in
     let l3 = looks_trans _ _ _ l2 c.cites_not_below.ensures.looks in
     let ranks : ReadsWithin (IsRankOfSteps c.in_ok-kept.kept.items) s2 s3 =
-    subst (λ ks. ReadsWithin (IsRankOfSteps ks) s2 s3) c.as_slice-2.ensures.value c.cites_not_below.ensures.reads in
+    subst (λ ks. ReadsWithin (IsRankOfSteps ks) s2 s3) c.as_slice.ensures.value c.cites_not_below.ensures.reads in
     let m3 : MovesSo c.args.label.now c.args.rank old s3 =
     move_more old label rank s2 s3 i (λ st lib e. IsRankOfCited old.setting.slots st lib e.assertion.proof) l2 c.cites_not_below.ensures.looks
     (finds_later s1 s2 label i c.stored_proof.ensures.looks some) m2
@@ -338,9 +295,9 @@ returns-in_err-is_cited_up_to-clause-reads g c =
     let l4 = looks_trans _ _ _ l3 c.is_cited_up_to.ensures.looks in
     let since = looks_trans _ _ _ c.stored_proof.ensures.looks c.cites_not_below.ensures.looks in
     let m4 : MovesSo c.args.label.now c.args.rank old t =
-    move_more old label rank s3 t i (λ st lib e. IsOfRise old.setting.slots st lib c.in-Some.slot e c.args.rank) l3 c.is_cited_up_to.ensures.looks
+    move_more old label rank s3 t i (λ st lib e. IsOfRise old.setting.slots st lib c.in_ok-slot.slot e c.args.rank) l3 c.is_cited_up_to.ensures.looks
     (finds_later s1 s3 label i since some) m3
-    (subst (λ (x : Setting). ForEachHeld t c.in-Some.slot (λ st lib e. ReadsWithin (IsOfRise x.slots st lib c.in-Some.slot e c.args.rank) s3 t))
+    (subst (λ (x : Setting). ForEachHeld t c.in_ok-slot.slot (λ st lib e. ReadsWithin (IsOfRise x.slots st lib c.in_ok-slot.slot e c.args.rank) s3 t))
     l3.onward.setting c.is_cited_up_to.ensures.reads)
     (λ st lib e k is. inr (inr is)) in
     move_now old label rank t l4 m4
@@ -348,27 +305,24 @@ returns-in_err-is_cited_up_to-clause-reads g c =
 pub returns-then-branch-2-clause-reads : goal.returns-then-branch-2-clause-reads
 returns-then-branch-2-clause-reads g c =
     let old = g.C.Cells.sight c.args.cells.now in
-    let s1 = g.C.Cells.sight c.find.new.cells in
+    let s1 = g.C.Cells.sight c.known_slot.new.cells in
     let label = c.args.label.now in
     let rank = c.args.rank in
-    let l1 = c.find.ensures.looks in
+    let l1 = c.known_slot.ensures.looks in
     let m1 : MovesSo c.args.label.now c.args.rank old s1 =
-    move_looks old label rank s1 l1
-    (subst (λ (l : List ℕ). ReadsWhere (IsOfLook old.setting.slots l) old s1) c.as_slice.ensures c.find.ensures.reads) in
-    let i = c.in-Some.slot in
-    let finds = ok_mapped _ _ _ _ _ c.in_ok-slot.was c.map_err.ensures.cases c.find.ensures.ok in
-    let some : Finds s1 c.args.label.now (Some c.in-Some.slot) =
-    subst (Finds s1 c.args.label.now) c.in-Some.is (subst (λ l. Finds s1 l c.in_ok-slot.field-0) c.as_slice.ensures finds) in
+    move_looks old label rank s1 l1 c.known_slot.ensures.reads in
+    let i = c.in_ok-slot.slot in
+    let some = c.in_ok-slot.ensures.ok in
     let s2 = g.C.Cells.sight c.stored_proof.new.cells in
     let l2 = looks_trans _ _ _ l1 c.stored_proof.ensures.looks in
     let m2 : MovesSo c.args.label.now c.args.rank old s2 =
-    move_more old label rank s1 s2 i (λ st lib e k. k ≡ proof_cell c.in-Some.slot) l1 c.stored_proof.ensures.looks some m1
+    move_more old label rank s1 s2 i (λ st lib e k. k ≡ proof_cell c.in_ok-slot.slot) l1 c.stored_proof.ensures.looks some m1
     (λ st lib v e at h. c.stored_proof.ensures.reads) (λ st lib e k is. inl is) in
     let kept = c.in_ok-kept.kept.items in
     let s3 = g.C.Cells.sight c.cites_not_below.new.cells in
     let l3 = looks_trans _ _ _ l2 c.cites_not_below.ensures.looks in
     let ranks : ReadsWithin (IsRankOfSteps c.in_ok-kept.kept.items) s2 s3 =
-    subst (λ ks. ReadsWithin (IsRankOfSteps ks) s2 s3) c.as_slice-2.ensures.value c.cites_not_below.ensures.reads in
+    subst (λ ks. ReadsWithin (IsRankOfSteps ks) s2 s3) c.as_slice.ensures.value c.cites_not_below.ensures.reads in
     let m3 : MovesSo c.args.label.now c.args.rank old s3 =
     move_more old label rank s2 s3 i (λ st lib e. IsRankOfCited old.setting.slots st lib e.assertion.proof) l2 c.cites_not_below.ensures.looks
     (finds_later s1 s2 label i c.stored_proof.ensures.looks some) m2
@@ -378,37 +332,34 @@ returns-then-branch-2-clause-reads g c =
     let l4 = looks_trans _ _ _ l3 c.is_cited_up_to.ensures.looks in
     let since = looks_trans _ _ _ c.stored_proof.ensures.looks c.cites_not_below.ensures.looks in
     let m4 : MovesSo c.args.label.now c.args.rank old t =
-    move_more old label rank s3 t i (λ st lib e. IsOfRise old.setting.slots st lib c.in-Some.slot e c.args.rank) l3 c.is_cited_up_to.ensures.looks
+    move_more old label rank s3 t i (λ st lib e. IsOfRise old.setting.slots st lib c.in_ok-slot.slot e c.args.rank) l3 c.is_cited_up_to.ensures.looks
     (finds_later s1 s3 label i since some) m3
-    (subst (λ (x : Setting). ForEachHeld t c.in-Some.slot (λ st lib e. ReadsWithin (IsOfRise x.slots st lib c.in-Some.slot e c.args.rank) s3 t))
+    (subst (λ (x : Setting). ForEachHeld t c.in_ok-slot.slot (λ st lib e. ReadsWithin (IsOfRise x.slots st lib c.in_ok-slot.slot e c.args.rank) s3 t))
     l3.onward.setting c.is_cited_up_to.ensures.reads)
     (λ st lib e k is. inr (inr is)) in
     move_now old label rank t l4 m4
 
-pub returns-in_err-map_err-clause-reads : goal.returns-in_err-map_err-clause-reads
-returns-in_err-map_err-clause-reads g c =
+pub returns-in_err-put-clause-reads : goal.returns-in_err-put-clause-reads
+returns-in_err-put-clause-reads g c =
     let old = g.C.Cells.sight c.args.cells.now in
-    let s1 = g.C.Cells.sight c.find.new.cells in
+    let s1 = g.C.Cells.sight c.known_slot.new.cells in
     let label = c.args.label.now in
     let rank = c.args.rank in
-    let l1 = c.find.ensures.looks in
+    let l1 = c.known_slot.ensures.looks in
     let m1 : MovesSo c.args.label.now c.args.rank old s1 =
-    move_looks old label rank s1 l1
-    (subst (λ (l : List ℕ). ReadsWhere (IsOfLook old.setting.slots l) old s1) c.as_slice.ensures c.find.ensures.reads) in
-    let i = c.in-Some.slot in
-    let finds = ok_mapped _ _ _ _ _ c.in_ok-slot.was c.map_err.ensures.cases c.find.ensures.ok in
-    let some : Finds s1 c.args.label.now (Some c.in-Some.slot) =
-    subst (Finds s1 c.args.label.now) c.in-Some.is (subst (λ l. Finds s1 l c.in_ok-slot.field-0) c.as_slice.ensures finds) in
+    move_looks old label rank s1 l1 c.known_slot.ensures.reads in
+    let i = c.in_ok-slot.slot in
+    let some = c.in_ok-slot.ensures.ok in
     let s2 = g.C.Cells.sight c.stored_proof.new.cells in
     let l2 = looks_trans _ _ _ l1 c.stored_proof.ensures.looks in
     let m2 : MovesSo c.args.label.now c.args.rank old s2 =
-    move_more old label rank s1 s2 i (λ st lib e k. k ≡ proof_cell c.in-Some.slot) l1 c.stored_proof.ensures.looks some m1
+    move_more old label rank s1 s2 i (λ st lib e k. k ≡ proof_cell c.in_ok-slot.slot) l1 c.stored_proof.ensures.looks some m1
     (λ st lib v e at h. c.stored_proof.ensures.reads) (λ st lib e k is. inl is) in
     let kept = c.in_ok-kept.kept.items in
     let s3 = g.C.Cells.sight c.cites_not_below.new.cells in
     let l3 = looks_trans _ _ _ l2 c.cites_not_below.ensures.looks in
     let ranks : ReadsWithin (IsRankOfSteps c.in_ok-kept.kept.items) s2 s3 =
-    subst (λ ks. ReadsWithin (IsRankOfSteps ks) s2 s3) c.as_slice-2.ensures.value c.cites_not_below.ensures.reads in
+    subst (λ ks. ReadsWithin (IsRankOfSteps ks) s2 s3) c.as_slice.ensures.value c.cites_not_below.ensures.reads in
     let m3 : MovesSo c.args.label.now c.args.rank old s3 =
     move_more old label rank s2 s3 i (λ st lib e. IsRankOfCited old.setting.slots st lib e.assertion.proof) l2 c.cites_not_below.ensures.looks
     (finds_later s1 s2 label i c.stored_proof.ensures.looks some) m2
@@ -418,9 +369,9 @@ returns-in_err-map_err-clause-reads g c =
     let l4 = looks_trans _ _ _ l3 c.is_cited_up_to.ensures.looks in
     let since = looks_trans _ _ _ c.stored_proof.ensures.looks c.cites_not_below.ensures.looks in
     let m4 : MovesSo c.args.label.now c.args.rank old t =
-    move_more old label rank s3 t i (λ st lib e. IsOfRise old.setting.slots st lib c.in-Some.slot e c.args.rank) l3 c.is_cited_up_to.ensures.looks
+    move_more old label rank s3 t i (λ st lib e. IsOfRise old.setting.slots st lib c.in_ok-slot.slot e c.args.rank) l3 c.is_cited_up_to.ensures.looks
     (finds_later s1 s3 label i since some) m3
-    (subst (λ (x : Setting). ForEachHeld t c.in-Some.slot (λ st lib e. ReadsWithin (IsOfRise x.slots st lib c.in-Some.slot e c.args.rank) s3 t))
+    (subst (λ (x : Setting). ForEachHeld t c.in_ok-slot.slot (λ st lib e. ReadsWithin (IsOfRise x.slots st lib c.in_ok-slot.slot e c.args.rank) s3 t))
     l3.onward.setting c.is_cited_up_to.ensures.reads)
     (λ st lib e k is. inr (inr is)) in
     move_put old label rank t (g.C.Cells.sight c.put.new.cells) i l4 c.put.ensures.onward
@@ -430,27 +381,24 @@ returns-in_err-map_err-clause-reads g c =
 pub returns-clause-reads : goal.returns-clause-reads
 returns-clause-reads g c =
     let old = g.C.Cells.sight c.args.cells.now in
-    let s1 = g.C.Cells.sight c.find.new.cells in
+    let s1 = g.C.Cells.sight c.known_slot.new.cells in
     let label = c.args.label.now in
     let rank = c.args.rank in
-    let l1 = c.find.ensures.looks in
+    let l1 = c.known_slot.ensures.looks in
     let m1 : MovesSo c.args.label.now c.args.rank old s1 =
-    move_looks old label rank s1 l1
-    (subst (λ (l : List ℕ). ReadsWhere (IsOfLook old.setting.slots l) old s1) c.as_slice.ensures c.find.ensures.reads) in
-    let i = c.in-Some.slot in
-    let finds = ok_mapped _ _ _ _ _ c.in_ok-slot.was c.map_err.ensures.cases c.find.ensures.ok in
-    let some : Finds s1 c.args.label.now (Some c.in-Some.slot) =
-    subst (Finds s1 c.args.label.now) c.in-Some.is (subst (λ l. Finds s1 l c.in_ok-slot.field-0) c.as_slice.ensures finds) in
+    move_looks old label rank s1 l1 c.known_slot.ensures.reads in
+    let i = c.in_ok-slot.slot in
+    let some = c.in_ok-slot.ensures.ok in
     let s2 = g.C.Cells.sight c.stored_proof.new.cells in
     let l2 = looks_trans _ _ _ l1 c.stored_proof.ensures.looks in
     let m2 : MovesSo c.args.label.now c.args.rank old s2 =
-    move_more old label rank s1 s2 i (λ st lib e k. k ≡ proof_cell c.in-Some.slot) l1 c.stored_proof.ensures.looks some m1
+    move_more old label rank s1 s2 i (λ st lib e k. k ≡ proof_cell c.in_ok-slot.slot) l1 c.stored_proof.ensures.looks some m1
     (λ st lib v e at h. c.stored_proof.ensures.reads) (λ st lib e k is. inl is) in
     let kept = c.in_ok-kept.kept.items in
     let s3 = g.C.Cells.sight c.cites_not_below.new.cells in
     let l3 = looks_trans _ _ _ l2 c.cites_not_below.ensures.looks in
     let ranks : ReadsWithin (IsRankOfSteps c.in_ok-kept.kept.items) s2 s3 =
-    subst (λ ks. ReadsWithin (IsRankOfSteps ks) s2 s3) c.as_slice-2.ensures.value c.cites_not_below.ensures.reads in
+    subst (λ ks. ReadsWithin (IsRankOfSteps ks) s2 s3) c.as_slice.ensures.value c.cites_not_below.ensures.reads in
     let m3 : MovesSo c.args.label.now c.args.rank old s3 =
     move_more old label rank s2 s3 i (λ st lib e. IsRankOfCited old.setting.slots st lib e.assertion.proof) l2 c.cites_not_below.ensures.looks
     (finds_later s1 s2 label i c.stored_proof.ensures.looks some) m2
@@ -460,9 +408,9 @@ returns-clause-reads g c =
     let l4 = looks_trans _ _ _ l3 c.is_cited_up_to.ensures.looks in
     let since = looks_trans _ _ _ c.stored_proof.ensures.looks c.cites_not_below.ensures.looks in
     let m4 : MovesSo c.args.label.now c.args.rank old t =
-    move_more old label rank s3 t i (λ st lib e. IsOfRise old.setting.slots st lib c.in-Some.slot e c.args.rank) l3 c.is_cited_up_to.ensures.looks
+    move_more old label rank s3 t i (λ st lib e. IsOfRise old.setting.slots st lib c.in_ok-slot.slot e c.args.rank) l3 c.is_cited_up_to.ensures.looks
     (finds_later s1 s3 label i since some) m3
-    (subst (λ (x : Setting). ForEachHeld t c.in-Some.slot (λ st lib e. ReadsWithin (IsOfRise x.slots st lib c.in-Some.slot e c.args.rank) s3 t))
+    (subst (λ (x : Setting). ForEachHeld t c.in_ok-slot.slot (λ st lib e. ReadsWithin (IsOfRise x.slots st lib c.in_ok-slot.slot e c.args.rank) s3 t))
     l3.onward.setting c.is_cited_up_to.ensures.reads)
     (λ st lib e k is. inr (inr is)) in
     move_put old label rank t (g.C.Cells.sight c.put.new.cells) i l4 c.put.ensures.onward

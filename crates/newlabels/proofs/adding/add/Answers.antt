@@ -1,6 +1,5 @@
-use Rattle.std.proofs.Common.{◌≡◌, ◌∙◌, ◌<◌, ℕ, List, length, Some, None, Err, sym, ap, subst, inl, inr, arith}
+use Rattle.std.proofs.Common.{◌≡◌, ◌∙◌, ◌<◌, ℕ, List, length, Some, None, sym, ap, subst, inl, inr, arith}
 use Rattle.std.proofs.lemmas.Bool.{ne_eqb}
-use Rattle.std.proofs.lemmas.Result.{err_from_is_err_and}
 use Rattle.library.specs.declared.command.Command.TheVariants as command
 use Rattle.library.specs.declared.reason.Reason.TheVariants as reason
 use Rattle.bodystore.specs.declared.stored.StoredStep.{StoredStep}
@@ -17,10 +16,8 @@ use Rattle.groundwork.proofs.ProofTests.{stored_on}
 use Rattle.groundwork.proofs.Touching.{keeps_to_since}
 use Rattle.newlabels.proofs.Touching.{add_touches, add_keeps}
 use Rattle.cells.proofs.Settings.{same_slots}
-use Rattle.cells.proofs.Mapped.{ok_mapped}
-use Rattle.cells.specs.Answers.{CommandAnswers}
 use Rattle.newlabels.specs.Naming.{PassesAsNew, TellsNotNew}
-use Rattle.groundwork.proofs.Refusing.{answers_refused}
+use Rattle.groundwork.proofs.Refusing.{answers_ended, answers_refused}
 use Rattle.newlabels.proofs.Added.{add_unlabelled, add_axiom, add_refused, add_full, add_done, MayTest}
 use Rattle.groundwork.proofs.Taking.{stored_taken}
 use Rattle.cells.specs.Sight.{ReadsWithin}
@@ -45,8 +42,7 @@ returns-in_err-test_new_label-clause-answers g c =
     let error = c.in_err-test_new_label.field-0.0 in
     let told : TellsNotNew s1 a.label a.label error =
     subst (λ (x : List ℕ). TellsNotNew s1 x x error) c.as_slice-label.ensures c.in_err-test_new_label.ensures.err in
-    let p = err_from_is_err_and c.from_residual.result c.from_residual.ensures.1 in
-    subst (CommandAnswers s0 s1 (command.Add rank a)) (sym (p.1 ∙ ap (λ e. Err e) p.2))
+    answers_ended s0 s1 (command.Add rank a) c.from_residual.result error c.from_residual.ensures.1
     (add_unlabelled s0 s1 rank a (ne_eqb c.args.rank 0 c.if-rank-eq0.false) c.test_new_label.ensures.looks error told)
 
 pub returns-in-Axiom-clause-answers : goal.returns-in-Axiom-clause-answers
@@ -76,8 +72,7 @@ returns-in_err-kept-clause-answers g c =
       theorem = c.in_default.is;
       looks = c.test_new_label.ensures.looks;
     } in
-    let p = err_from_is_err_and c.from_residual-in_err-kept.result c.from_residual-in_err-kept.ensures.1 in
-    subst (CommandAnswers s0 s2 (command.Add rank a)) (sym (p.1 ∙ ap (λ e. Err e) p.2))
+    answers_ended s0 s2 (command.Add rank a) c.from_residual-in_err-kept.result c.in_err-kept.field-0.0 c.from_residual-in_err-kept.ensures.1
     (add_refused s0 s1 s2 rank a may c.test_proof.ensures.looks c.in_err-kept.field-0.0 c.in_err-kept.ensures.err)
 
 pub returns-in_err-slot-clause-onward : goal.returns-in_err-slot-clause-onward
@@ -106,8 +101,7 @@ returns-in_default-2-clause-answers g c =
       looks = c.test_new_label.ensures.looks;
     } in
     let full : FindsFree s3 c.bucket-from.result None =
-    subst (FindsFree s3 c.bucket-from.result) c.in_default-2.is
-    (ok_mapped _ _ _ _ _ c.in_ok-slot.was c.map_err.ensures.cases c.free_slot.ensures.ok) in
+    subst (FindsFree s3 c.bucket-from.result) c.in_default-2.is c.in_ok-slot.ensures.ok in
     answers_refused s0 s3 (command.Add rank a) reason.LibraryFull c.into-in_default-2.result c.into-in_default-2.ensures
     (add_full s0 s1 s2 rank a may c.test_proof.ensures.looks c.in_ok-kept.kept.items c.in_ok-kept.ensures.ok s3 c.free_slot.ensures.looks
     c.bucket-from.result full)
@@ -154,8 +148,7 @@ returns-clause-answers g c =
       looks = c.test_new_label.ensures.looks;
     } in
     let first : FindsFree s3 c.bucket-from.result (Some c.in-Some.slot) =
-    subst (FindsFree s3 c.bucket-from.result) c.in-Some.is
-    (ok_mapped _ _ _ _ _ c.in_ok-slot.was c.map_err.ensures.cases c.free_slot.ensures.ok) in
+    subst (FindsFree s3 c.bucket-from.result) c.in-Some.is c.in_ok-slot.ensures.ok in
     add_done s0 s1 s2 rank a may c.test_proof.ensures.looks c.in_ok-kept.kept.items c.in_ok-kept.ensures.ok s3 c.free_slot.ensures.looks s4
     c.bucket-from.result c.in-Some.slot c.as_slice.result.now first c.fill.ensures.onward c.as_slice.ensures.value c.in_ok-fill.ensures.ok
     c.in_ok-fill.ensures.written
@@ -189,8 +182,7 @@ returns-clause-keeps g c =
     let kept = c.in_ok-kept.kept.items in
     let on = c.free_slot.ensures.looks in
     let first : FindsFree s3 c.bucket-from.result (Some c.in-Some.slot) =
-    subst (FindsFree s3 c.bucket-from.result) c.in-Some.is
-    (ok_mapped _ _ _ _ _ c.in_ok-slot.was c.map_err.ensures.cases c.free_slot.ensures.ok) in
+    subst (FindsFree s3 c.bucket-from.result) c.in-Some.is c.in_ok-slot.ensures.ok in
     let from_is : c.bucket-from.result ≡ bucket s3.setting.slots a.label =
     c.bucket-from.ensures.value
     ∙ ap (λ (n : ℕ). bucket n c.as_slice-label.result.now) (c.slot_count.ensures.value ∙ sym (same_slots s2 s3 on))
@@ -326,8 +318,7 @@ returns-in_err-fill-clause-reads g c =
     let kept = c.in_ok-kept.kept.items in
     let on = c.free_slot.ensures.looks in
     let first : FindsFree s3 c.bucket-from.result (Some c.in-Some.slot) =
-    subst (FindsFree s3 c.bucket-from.result) c.in-Some.is
-    (ok_mapped _ _ _ _ _ c.in_ok-slot.was c.map_err.ensures.cases c.free_slot.ensures.ok) in
+    subst (FindsFree s3 c.bucket-from.result) c.in-Some.is c.in_ok-slot.ensures.ok in
     let from_is : c.bucket-from.result ≡ bucket s3.setting.slots c.args.assertion.now.label =
     round_is ∙ ap (λ (n : ℕ). bucket n c.args.assertion.now.label) (sym (same_slots s2 s3 on)) in
     let filled : ReadsWithin (IsOfFilling s3.setting.slots c.in-Some.slot c.args.assertion.now.label c.in_ok-kept.kept.items) s3 s4 =
@@ -368,8 +359,7 @@ returns-clause-reads g c =
     let kept = c.in_ok-kept.kept.items in
     let on = c.free_slot.ensures.looks in
     let first : FindsFree s3 c.bucket-from.result (Some c.in-Some.slot) =
-    subst (FindsFree s3 c.bucket-from.result) c.in-Some.is
-    (ok_mapped _ _ _ _ _ c.in_ok-slot.was c.map_err.ensures.cases c.free_slot.ensures.ok) in
+    subst (FindsFree s3 c.bucket-from.result) c.in-Some.is c.in_ok-slot.ensures.ok in
     let from_is : c.bucket-from.result ≡ bucket s3.setting.slots c.args.assertion.now.label =
     round_is ∙ ap (λ (n : ℕ). bucket n c.args.assertion.now.label) (sym (same_slots s2 s3 on)) in
     let filled : ReadsWithin (IsOfFilling s3.setting.slots c.in-Some.slot c.args.assertion.now.label c.in_ok-kept.kept.items) s3 s4 =

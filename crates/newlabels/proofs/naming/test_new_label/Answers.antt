@@ -1,6 +1,5 @@
 use Rattle.std.proofs.Common.{sym, subst, ◌∙◌}
 use Rattle.cells.specs.Lookups.{TellsStanding}
-use Rattle.cells.proofs.Mapped.{ok_mapped}
 use Rattle.newlabels.specs.Naming.{TellsNotNew}
 use Rattle.newlabels.proofs.NewLabels.{lawful_later, taken_refuses, clash_refuses, new_passes}
 use Rattle.cells.proofs.Along.{where_same}
@@ -13,7 +12,7 @@ returns-in-Taken-clause-err g c =
     let label = c.args.label.now in
     let lawful = lawful_later _ s c.args.prelude.now label c.requires c.standing_of.ensures.looks
     (sym c.is_lawful_label.ensures ∙ c.if-not-is_lawful_label.false) in
-    let told = ok_mapped _ (TellsStanding s own label) _ _ _ c.in_ok-map_err.was c.map_err.ensures.cases c.standing_of.ensures.ok in
+    let told = c.in_ok-standing_of.ensures.ok in
     subst (TellsNotNew s own label) (sym c.into-in-Taken.ensures)
     (taken_refuses s own label lawful (subst (TellsStanding s own label) c.in-Taken.is told))
 
@@ -24,7 +23,7 @@ returns-in-Clashing-clause-err g c =
     let label = c.args.label.now in
     let lawful = lawful_later _ s c.args.prelude.now label c.requires c.standing_of.ensures.looks
     (sym c.is_lawful_label.ensures ∙ c.if-not-is_lawful_label.false) in
-    let told = ok_mapped _ (TellsStanding s own label) _ _ _ c.in_ok-map_err.was c.map_err.ensures.cases c.standing_of.ensures.ok in
+    let told = c.in_ok-standing_of.ensures.ok in
     subst (TellsNotNew s own label) (sym c.into-in-Clashing.ensures)
     (clash_refuses s own label lawful (subst (TellsStanding s own label) c.in-Clashing.is told))
 
@@ -35,7 +34,7 @@ returns-in-Free-clause-ok g c =
     let label = c.args.label.now in
     let lawful = lawful_later _ s c.args.prelude.now label c.requires c.standing_of.ensures.looks
     (sym c.is_lawful_label.ensures ∙ c.if-not-is_lawful_label.false) in
-    let told = ok_mapped _ (TellsStanding s own label) _ _ _ c.in_ok-map_err.was c.map_err.ensures.cases c.standing_of.ensures.ok in
+    let told = c.in_ok-standing_of.ensures.ok in
     new_passes s own label lawful (subst (TellsStanding s own label) c.in-Free.is told)
 
 pub returns-then-not-is_lawful_label-clause-reads : goal.returns-then-not-is_lawful_label-clause-reads

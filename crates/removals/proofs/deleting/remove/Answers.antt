@@ -2,7 +2,7 @@ use Rattle.std.proofs.Common.{List, ℕ, sym, subst}
 use Rattle.bodystore.specs.declared.stored.StoredStep.{StoredStep}
 use Rattle.cells.specs.Counts.{AreCitedSlots}
 use Rattle.cells.proofs.Sights.{onward_trans}
-use Rattle.cells.proofs.Mapped.{if_mapped, ok_mapped}
+use Rattle.std.proofs.lemmas.Result.{MatchResult-weaker}
 use Rattle.removals.specs.Changes.{DeletesAt}
 use Rattle.removals.specs.Changes.{DeletesWithin}
 use Rattle.removals.proofs.Touching.{removes_within}
@@ -14,11 +14,11 @@ use Rattle.groundwork.proofs.Since.{ReadsSince, OfCommandFound, found_end}
 use Rattle.removals.proofs.DeleteReads.{removal_proof, removal_counts, removal_chain, removal_slot}
 use Rattle.removals.proofs.deleting.remove.Goals as goal
 
-pub returns-in_err-map_err-clause-onward : goal.returns-in_err-map_err-clause-onward
-returns-in_err-map_err-clause-onward g c = onward_trans _ _ _ c.stored_proof.ensures.looks.onward c.count_out.ensures.onward
+pub returns-in_err-count_out-clause-onward : goal.returns-in_err-count_out-clause-onward
+returns-in_err-count_out-clause-onward g c = onward_trans _ _ _ c.stored_proof.ensures.looks.onward c.count_out.ensures.onward
 
-pub returns-in_err-map_err-2-clause-onward : goal.returns-in_err-map_err-2-clause-onward
-returns-in_err-map_err-2-clause-onward g c =
+pub returns-in_err-take_out-clause-onward : goal.returns-in_err-take_out-clause-onward
+returns-in_err-take_out-clause-onward g c =
     onward_trans _ _ _ c.stored_proof.ensures.looks.onward (onward_trans _ _ _ c.count_out.ensures.onward c.take_out.ensures.onward)
 
 pub returns-clause-onward : goal.returns-clause-onward
@@ -38,12 +38,11 @@ returns-clause-ok g c =
     let former_cited = subst (λ (kept : List StoredStep). AreCitedSlots kept c.in_ok-cited.cited.items) c.as_slice.ensures.value
     c.in_ok-cited.ensures in
     let cited = subst (AreCitedSlots c.in_ok-former.former.items) (sym c.as_slice-2.ensures.value) former_cited in
-    let counts = ok_mapped _ _ _ _ _ c.in_ok-map_err.was c.map_err.ensures.cases c.count_out.ensures.ok in
-    let takes = subst (TakesOut s2 s3 c.args.slot) c.as_slice-3.ensures
-    (ok_mapped _ _ _ _ _ c.in_ok-map_err-2.was c.map_err-2.ensures.cases c.take_out.ensures.ok) in
-    if_mapped _ _ (λ _. DeletesAt s0 s4 c.args.slot c.args.label.now) _ _ c.map_err-3.ensures.cases c.vacate.ensures.ok (λ _ empties.
+    let counts = c.in_ok-count_out.ensures.ok in
+    let takes = subst (TakesOut s2 s3 c.args.slot) c.as_slice-3.ensures c.in_ok-take_out.ensures.ok in
+    MatchResult-weaker c.vacate.result {P' = λ _. DeletesAt s0 s4 c.args.slot c.args.label.now} c.vacate.ensures.ok (λ _ empties.
     removed s0 s1 s2 s3 s4 c.args.slot c.args.label.now former listed c.stored_proof.ensures.looks c.count_out.ensures.onward
-    c.take_out.ensures.onward c.vacate.ensures.onward c.in_ok-former.ensures.ok cited counts takes empties)
+    c.take_out.ensures.onward c.vacate.ensures.onward c.in_ok-former.ensures.ok cited counts takes empties) (λ _ t. t)
 
 pub returns-clause-keeps : goal.returns-clause-keeps
 returns-clause-keeps g c =
@@ -57,12 +56,12 @@ returns-clause-keeps g c =
     let former_cited = subst (λ (kept : List StoredStep). AreCitedSlots kept c.in_ok-cited.cited.items) c.as_slice.ensures.value
     c.in_ok-cited.ensures in
     let cited = subst (AreCitedSlots c.in_ok-former.former.items) (sym c.as_slice-2.ensures.value) former_cited in
-    let counts = ok_mapped _ _ _ _ _ c.in_ok-map_err.was c.map_err.ensures.cases c.count_out.ensures.ok in
-    let out = ok_mapped _ _ _ _ _ c.in_ok-map_err.was c.map_err.ensures.cases c.count_out.ensures.keeps in
-    let leaves = ok_mapped _ _ _ _ _ c.in_ok-map_err-2.was c.map_err-2.ensures.cases c.take_out.ensures.keeps in
-    if_mapped _ _ (λ _. DeletesWithin s0 s4 c.args.slot c.args.label.now) _ _ c.map_err-3.ensures.cases c.vacate.ensures.keeps (λ _ emptied.
+    let counts = c.in_ok-count_out.ensures.ok in
+    let out = c.in_ok-count_out.ensures.keeps in
+    let leaves = c.in_ok-take_out.ensures.keeps in
+    MatchResult-weaker c.vacate.result {P' = λ _. DeletesWithin s0 s4 c.args.slot c.args.label.now} c.vacate.ensures.keeps (λ _ emptied.
     removes_within s0 s1 s2 s3 s4 c.args.slot c.args.label.now former listed c.stored_proof.ensures.looks c.count_out.ensures.onward
-    c.take_out.ensures.onward c.vacate.ensures.onward c.in_ok-former.ensures.ok cited counts out leaves emptied)
+    c.take_out.ensures.onward c.vacate.ensures.onward c.in_ok-former.ensures.ok cited counts out leaves emptied) (λ _ t. t)
 
 pub returns-in_err-former-clause-reads : goal.returns-in_err-former-clause-reads
 returns-in_err-former-clause-reads g c =
@@ -82,8 +81,8 @@ returns-in_err-cited-clause-reads g c =
     let r1 : ReadsSince (OfCommandFound s0 c.args.slot c.args.label.now (Delete c.args.label.now)) s0 s0 s1 = removal_proof s0 s1 i label c.stored_proof.ensures.reads in
     found_end s0 s1 i label (Delete c.args.label.now) r1
 
-pub returns-in_err-map_err-clause-reads : goal.returns-in_err-map_err-clause-reads
-returns-in_err-map_err-clause-reads g c =
+pub returns-in_err-count_out-clause-reads : goal.returns-in_err-count_out-clause-reads
+returns-in_err-count_out-clause-reads g c =
     let s0 = g.C.Cells.sight c.args.cells.now in
     let s1 = g.C.Cells.sight c.stored_proof.new.cells in
     let i = c.args.slot in
@@ -100,8 +99,8 @@ returns-in_err-map_err-clause-reads g c =
     c.count_out.ensures.reads r1 in
     found_end s0 s2 i label (Delete c.args.label.now) r2
 
-pub returns-in_err-map_err-2-clause-reads : goal.returns-in_err-map_err-2-clause-reads
-returns-in_err-map_err-2-clause-reads g c =
+pub returns-in_err-take_out-clause-reads : goal.returns-in_err-take_out-clause-reads
+returns-in_err-take_out-clause-reads g c =
     let s0 = g.C.Cells.sight c.args.cells.now in
     let s1 = g.C.Cells.sight c.stored_proof.new.cells in
     let i = c.args.slot in
@@ -117,7 +116,7 @@ returns-in_err-map_err-2-clause-reads g c =
     removal_counts s0 s1 i label s2 former listed c.stored_proof.ensures.looks c.in_ok-former.ensures.ok cited c.count_out.ensures.onward
     c.count_out.ensures.reads r1 in
     let s3 = g.C.Cells.sight c.take_out.new.cells in
-    let counts = ok_mapped _ _ _ _ _ c.in_ok-map_err.was c.map_err.ensures.cases c.count_out.ensures.ok in
+    let counts = c.in_ok-count_out.ensures.ok in
     let chain = subst (λ (l : List ℕ). ReadsWhere (IsOfTakingOut s2.setting.slots c.args.slot l) s2 s3) c.as_slice-3.ensures
     c.take_out.ensures.reads in
     let r3 : ReadsSince (OfCommandFound s0 c.args.slot c.args.label.now (Delete c.args.label.now)) s0 s0 s3 =
@@ -142,7 +141,7 @@ returns-clause-reads g c =
     removal_counts s0 s1 i label s2 former listed c.stored_proof.ensures.looks c.in_ok-former.ensures.ok cited c.count_out.ensures.onward
     c.count_out.ensures.reads r1 in
     let s3 = g.C.Cells.sight c.take_out.new.cells in
-    let counts = ok_mapped _ _ _ _ _ c.in_ok-map_err.was c.map_err.ensures.cases c.count_out.ensures.ok in
+    let counts = c.in_ok-count_out.ensures.ok in
     let chain = subst (λ (l : List ℕ). ReadsWhere (IsOfTakingOut s2.setting.slots c.args.slot l) s2 s3) c.as_slice-3.ensures
     c.take_out.ensures.reads in
     let r3 : ReadsSince (OfCommandFound s0 c.args.slot c.args.label.now (Delete c.args.label.now)) s0 s0 s3 =

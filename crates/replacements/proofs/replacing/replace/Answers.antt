@@ -7,7 +7,6 @@ use Rattle.library.specs.declared.reason.Reason.TheVariants.{UnknownLabel, NotAT
 use Rattle.bodystore.specs.declared.stored.StoredStep.{StoredStep}
 use Rattle.bodystore.specs.Bodies.{proof_body}
 use Rattle.cells.specs.Lookups.{AreWithin}
-use Rattle.cells.proofs.Mapped.{ok_mapped}
 use Rattle.cells.proofs.Sights.{looks_trans, onward_trans}
 use Rattle.groundwork.specs.Changes.{ReprovesAt}
 use Rattle.groundwork.specs.Touches.{ReprovesWithin}
@@ -15,8 +14,8 @@ use Rattle.groundwork.proofs.Touching.{keeps_to_since}
 use Rattle.replacements.specs.Replacing.{TellsAlike, TellsNotLower, recited_step}
 use Rattle.groundwork.proofs.OnlyLooks.{finds_later}
 use Rattle.replacements.proofs.Recited.{recited_within}
-use Rattle.groundwork.proofs.Refusing.{of_none, refused_later, answers_refused}
-use Rattle.replacements.proofs.Replaced.{answers_unknown, refuses_old, refuses_new, sought, sought_later, alike_later}
+use Rattle.groundwork.proofs.Refusing.{of_none, refused_later, answers_refused, answers_unknown}
+use Rattle.replacements.proofs.Replaced.{refuses_old, refuses_new, sought, sought_later, alike_later}
 use Rattle.replacements.proofs.Replaced.{refuses_axiom, refuses_unlike, refuses_not_lower, replaced, replace_keeps, replace_reads}
 use Rattle.replacements.proofs.Taking.{found_taken, recited_length}
 use Rattle.cells.specs.Slots.{proof_cell}
@@ -30,68 +29,68 @@ use Rattle.replacements.proofs.replacing.replace.Goals as goal
 pub returns-in_err-slot-clause-answers : goal.returns-in_err-slot-clause-answers
 returns-in_err-slot-clause-answers g c =
     let s0 = g.C.Cells.sight c.args.cells.now in
-    let s1 = g.C.Cells.sight c.slot_of.new.cells in
+    let s1 = g.C.Cells.sight c.known_slot.new.cells in
     let label = c.args.label.now in
     let command = Replace c.args.label.now c.args.old.now c.args.new.now in
     answers_unknown s0 s1 command label c.from_residual.result c.in_err-slot.field-0.0 c.from_residual.ensures.1 c.in_err-slot.ensures.err
-    (λ none. refused_later s0 s1 command UnknownLabel c.slot_of.ensures.looks (λ st lib v. of_none lib label _ (none st lib v)))
+    (λ none. refused_later s0 s1 command UnknownLabel c.known_slot.ensures.looks (λ st lib v. of_none lib label _ (none st lib v)))
 
 pub returns-in_err-former-clause-onward : goal.returns-in_err-former-clause-onward
-returns-in_err-former-clause-onward g c = onward_trans _ _ _ c.slot_of.ensures.looks.onward c.slot_of-2.ensures.looks.onward
+returns-in_err-former-clause-onward g c = onward_trans _ _ _ c.known_slot.ensures.looks.onward c.known_slot-2.ensures.looks.onward
 
 pub returns-in_err-former-clause-answers : goal.returns-in_err-former-clause-answers
 returns-in_err-former-clause-answers g c =
     let s0 = g.C.Cells.sight c.args.cells.now in
-    let s1 = g.C.Cells.sight c.slot_of.new.cells in
-    let s2 = g.C.Cells.sight c.slot_of-2.new.cells in
+    let s1 = g.C.Cells.sight c.known_slot.new.cells in
+    let s2 = g.C.Cells.sight c.known_slot-2.new.cells in
     let label = c.args.label.now in
     let old = c.args.old.now in
     let new = c.args.new.now in
     let command = Replace c.args.label.now c.args.old.now c.args.new.now in
-    let finds = finds_later s1 s2 label c.in_ok-slot.slot c.slot_of-2.ensures.looks c.in_ok-slot.ensures.ok in
+    let finds = finds_later s1 s2 label c.in_ok-slot.slot c.known_slot-2.ensures.looks c.in_ok-slot.ensures.ok in
     answers_unknown s0 s2 command old c.from_residual-in_err-former.result c.in_err-former.field-0.0 c.from_residual-in_err-former.ensures.1
     c.in_err-former.ensures.err (λ none.
-    refused_later s0 s2 command UnknownLabel (looks_trans s0 s1 s2 c.slot_of.ensures.looks c.slot_of-2.ensures.looks)
+    refused_later s0 s2 command UnknownLabel (looks_trans s0 s1 s2 c.known_slot.ensures.looks c.known_slot-2.ensures.looks)
     (refuses_old s2 c.in_ok-slot.slot label old new finds none))
 
 pub returns-in_err-next-clause-onward : goal.returns-in_err-next-clause-onward
 returns-in_err-next-clause-onward g c =
-    onward_trans _ _ _ c.slot_of.ensures.looks.onward (onward_trans _ _ _ c.slot_of-2.ensures.looks.onward c.slot_of-3.ensures.looks.onward)
+    onward_trans _ _ _ c.known_slot.ensures.looks.onward (onward_trans _ _ _ c.known_slot-2.ensures.looks.onward c.known_slot-3.ensures.looks.onward)
 
 pub returns-in_err-next-clause-answers : goal.returns-in_err-next-clause-answers
 returns-in_err-next-clause-answers g c =
     let s0 = g.C.Cells.sight c.args.cells.now in
-    let s1 = g.C.Cells.sight c.slot_of.new.cells in
-    let s2 = g.C.Cells.sight c.slot_of-2.new.cells in
-    let s3 = g.C.Cells.sight c.slot_of-3.new.cells in
+    let s1 = g.C.Cells.sight c.known_slot.new.cells in
+    let s2 = g.C.Cells.sight c.known_slot-2.new.cells in
+    let s3 = g.C.Cells.sight c.known_slot-3.new.cells in
     let label = c.args.label.now in
     let old = c.args.old.now in
     let new = c.args.new.now in
     let command = Replace c.args.label.now c.args.old.now c.args.new.now in
-    let since = looks_trans s1 s2 s3 c.slot_of-2.ensures.looks c.slot_of-3.ensures.looks in
+    let since = looks_trans s1 s2 s3 c.known_slot-2.ensures.looks c.known_slot-3.ensures.looks in
     let finds = finds_later s1 s3 label c.in_ok-slot.slot since c.in_ok-slot.ensures.ok in
-    let finds_old = finds_later s2 s3 old c.in_ok-former.former c.slot_of-3.ensures.looks c.in_ok-former.ensures.ok in
+    let finds_old = finds_later s2 s3 old c.in_ok-former.former c.known_slot-3.ensures.looks c.in_ok-former.ensures.ok in
     answers_unknown s0 s3 command new c.from_residual-in_err-next.result c.in_err-next.field-0.0 c.from_residual-in_err-next.ensures.1
     c.in_err-next.ensures.err (λ none.
-    refused_later s0 s3 command UnknownLabel (looks_trans s0 s1 s3 c.slot_of.ensures.looks since)
+    refused_later s0 s3 command UnknownLabel (looks_trans s0 s1 s3 c.known_slot.ensures.looks since)
     (refuses_new s3 c.in_ok-slot.slot label old new finds c.in_ok-former.former finds_old none))
 
 pub returns-in_err-kept-clause-onward : goal.returns-in_err-kept-clause-onward
 returns-in_err-kept-clause-onward g c =
-    onward_trans _ _ _ c.slot_of.ensures.looks.onward (onward_trans _ _ _ c.slot_of-2.ensures.looks.onward
-    (onward_trans _ _ _ c.slot_of-3.ensures.looks.onward c.stored_proof.ensures.looks.onward))
+    onward_trans _ _ _ c.known_slot.ensures.looks.onward (onward_trans _ _ _ c.known_slot-2.ensures.looks.onward
+    (onward_trans _ _ _ c.known_slot-3.ensures.looks.onward c.stored_proof.ensures.looks.onward))
 
 pub returns-then-is_empty-clause-onward : goal.returns-then-is_empty-clause-onward
 returns-then-is_empty-clause-onward g c =
-    onward_trans _ _ _ c.slot_of.ensures.looks.onward (onward_trans _ _ _ c.slot_of-2.ensures.looks.onward
-    (onward_trans _ _ _ c.slot_of-3.ensures.looks.onward c.stored_proof.ensures.looks.onward))
+    onward_trans _ _ _ c.known_slot.ensures.looks.onward (onward_trans _ _ _ c.known_slot-2.ensures.looks.onward
+    (onward_trans _ _ _ c.known_slot-3.ensures.looks.onward c.stored_proof.ensures.looks.onward))
 
 pub returns-then-is_empty-clause-answers : goal.returns-then-is_empty-clause-answers
 returns-then-is_empty-clause-answers g c =
     let s0 = g.C.Cells.sight c.args.cells.now in
-    let s1 = g.C.Cells.sight c.slot_of.new.cells in
-    let s2 = g.C.Cells.sight c.slot_of-2.new.cells in
-    let s3 = g.C.Cells.sight c.slot_of-3.new.cells in
+    let s1 = g.C.Cells.sight c.known_slot.new.cells in
+    let s2 = g.C.Cells.sight c.known_slot-2.new.cells in
+    let s3 = g.C.Cells.sight c.known_slot-3.new.cells in
     let s4 = g.C.Cells.sight c.stored_proof.new.cells in
     let i = c.in_ok-slot.slot in
     let j = c.in_ok-former.former in
@@ -100,7 +99,7 @@ returns-then-is_empty-clause-answers g c =
     let old = c.args.old.now in
     let new = c.args.new.now in
     let kept = c.in_ok-kept.kept.items in
-    let known = sought i j k label old new kept s0 s1 s2 s3 s4 c.slot_of.ensures.looks c.slot_of-2.ensures.looks c.slot_of-3.ensures.looks
+    let known = sought i j k label old new kept s0 s1 s2 s3 s4 c.known_slot.ensures.looks c.known_slot-2.ensures.looks c.known_slot-3.ensures.looks
     c.stored_proof.ensures.looks c.in_ok-slot.ensures.ok c.in_ok-former.ensures.ok c.in_ok-next.ensures.ok c.in_ok-kept.ensures.ok in
     let zero = (Decides-eqb (vec_len c.in_ok-kept.kept) 0).0 (sym c.is_empty.ensures ∙ c.if-is_empty.true) in
     let short : length c.in_ok-kept.kept.items ≡ 0 = omega (arith, zero) in
@@ -110,22 +109,22 @@ returns-then-is_empty-clause-answers g c =
 
 pub returns-in_err-are_alike-clause-onward : goal.returns-in_err-are_alike-clause-onward
 returns-in_err-are_alike-clause-onward g c =
-    onward_trans _ _ _ c.slot_of.ensures.looks.onward (onward_trans _ _ _ c.slot_of-2.ensures.looks.onward
-    (onward_trans _ _ _ c.slot_of-3.ensures.looks.onward
+    onward_trans _ _ _ c.known_slot.ensures.looks.onward (onward_trans _ _ _ c.known_slot-2.ensures.looks.onward
+    (onward_trans _ _ _ c.known_slot-3.ensures.looks.onward
     (onward_trans _ _ _ c.stored_proof.ensures.looks.onward c.are_alike.ensures.looks.onward)))
 
 pub returns-then-not-branch-clause-onward : goal.returns-then-not-branch-clause-onward
 returns-then-not-branch-clause-onward g c =
-    onward_trans _ _ _ c.slot_of.ensures.looks.onward (onward_trans _ _ _ c.slot_of-2.ensures.looks.onward
-    (onward_trans _ _ _ c.slot_of-3.ensures.looks.onward
+    onward_trans _ _ _ c.known_slot.ensures.looks.onward (onward_trans _ _ _ c.known_slot-2.ensures.looks.onward
+    (onward_trans _ _ _ c.known_slot-3.ensures.looks.onward
     (onward_trans _ _ _ c.stored_proof.ensures.looks.onward c.are_alike.ensures.looks.onward)))
 
 pub returns-then-not-branch-clause-answers : goal.returns-then-not-branch-clause-answers
 returns-then-not-branch-clause-answers g c =
     let s0 = g.C.Cells.sight c.args.cells.now in
-    let s1 = g.C.Cells.sight c.slot_of.new.cells in
-    let s2 = g.C.Cells.sight c.slot_of-2.new.cells in
-    let s3 = g.C.Cells.sight c.slot_of-3.new.cells in
+    let s1 = g.C.Cells.sight c.known_slot.new.cells in
+    let s2 = g.C.Cells.sight c.known_slot-2.new.cells in
+    let s3 = g.C.Cells.sight c.known_slot-3.new.cells in
     let s4 = g.C.Cells.sight c.stored_proof.new.cells in
     let s5 = g.C.Cells.sight c.are_alike.new.cells in
     let i = c.in_ok-slot.slot in
@@ -136,7 +135,7 @@ returns-then-not-branch-clause-answers g c =
     let new = c.args.new.now in
     let p = c.args.prelude.now in
     let kept = c.in_ok-kept.kept.items in
-    let known = sought i j k label old new kept s0 s1 s2 s3 s4 c.slot_of.ensures.looks c.slot_of-2.ensures.looks c.slot_of-3.ensures.looks
+    let known = sought i j k label old new kept s0 s1 s2 s3 s4 c.known_slot.ensures.looks c.known_slot-2.ensures.looks c.known_slot-3.ensures.looks
     c.stored_proof.ensures.looks c.in_ok-slot.ensures.ok c.in_ok-former.ensures.ok c.in_ok-next.ensures.ok c.in_ok-kept.ensures.ok in
     let there = sought_later i j k label old new kept s0 s4 s5 c.are_alike.ensures.looks known in
     let some : c.in_ok-kept.kept.items ≢ [] = search rules in
@@ -144,24 +143,24 @@ returns-then-not-branch-clause-answers g c =
     answers_refused s0 s5 (Replace label old new) NotAlike c.into-then-not-branch.result c.into-then-not-branch.ensures
     (refuses_unlike s0 s5 i j k label old new kept there some p c.requires.prelude unlike)
 
-pub returns-in_err-map_err-clause-onward : goal.returns-in_err-map_err-clause-onward
-returns-in_err-map_err-clause-onward g c =
-    onward_trans _ _ _ c.slot_of.ensures.looks.onward (onward_trans _ _ _ c.slot_of-2.ensures.looks.onward
-    (onward_trans _ _ _ c.slot_of-3.ensures.looks.onward (onward_trans _ _ _ c.stored_proof.ensures.looks.onward
+pub returns-in_err-is_not_lower-clause-onward : goal.returns-in_err-is_not_lower-clause-onward
+returns-in_err-is_not_lower-clause-onward g c =
+    onward_trans _ _ _ c.known_slot.ensures.looks.onward (onward_trans _ _ _ c.known_slot-2.ensures.looks.onward
+    (onward_trans _ _ _ c.known_slot-3.ensures.looks.onward (onward_trans _ _ _ c.stored_proof.ensures.looks.onward
     (onward_trans _ _ _ c.are_alike.ensures.looks.onward c.is_not_lower.ensures.looks.onward))))
 
 pub returns-then-branch-clause-onward : goal.returns-then-branch-clause-onward
 returns-then-branch-clause-onward g c =
-    onward_trans _ _ _ c.slot_of.ensures.looks.onward (onward_trans _ _ _ c.slot_of-2.ensures.looks.onward
-    (onward_trans _ _ _ c.slot_of-3.ensures.looks.onward (onward_trans _ _ _ c.stored_proof.ensures.looks.onward
+    onward_trans _ _ _ c.known_slot.ensures.looks.onward (onward_trans _ _ _ c.known_slot-2.ensures.looks.onward
+    (onward_trans _ _ _ c.known_slot-3.ensures.looks.onward (onward_trans _ _ _ c.stored_proof.ensures.looks.onward
     (onward_trans _ _ _ c.are_alike.ensures.looks.onward c.is_not_lower.ensures.looks.onward))))
 
 pub returns-then-branch-clause-answers : goal.returns-then-branch-clause-answers
 returns-then-branch-clause-answers g c =
     let s0 = g.C.Cells.sight c.args.cells.now in
-    let s1 = g.C.Cells.sight c.slot_of.new.cells in
-    let s2 = g.C.Cells.sight c.slot_of-2.new.cells in
-    let s3 = g.C.Cells.sight c.slot_of-3.new.cells in
+    let s1 = g.C.Cells.sight c.known_slot.new.cells in
+    let s2 = g.C.Cells.sight c.known_slot-2.new.cells in
+    let s3 = g.C.Cells.sight c.known_slot-3.new.cells in
     let s4 = g.C.Cells.sight c.stored_proof.new.cells in
     let s5 = g.C.Cells.sight c.are_alike.new.cells in
     let s6 = g.C.Cells.sight c.is_not_lower.new.cells in
@@ -173,22 +172,21 @@ returns-then-branch-clause-answers g c =
     let new = c.args.new.now in
     let p = c.args.prelude.now in
     let kept = c.in_ok-kept.kept.items in
-    let known = sought i j k label old new kept s0 s1 s2 s3 s4 c.slot_of.ensures.looks c.slot_of-2.ensures.looks c.slot_of-3.ensures.looks
+    let known = sought i j k label old new kept s0 s1 s2 s3 s4 c.known_slot.ensures.looks c.known_slot-2.ensures.looks c.known_slot-3.ensures.looks
     c.stored_proof.ensures.looks c.in_ok-slot.ensures.ok c.in_ok-former.ensures.ok c.in_ok-next.ensures.ok c.in_ok-kept.ensures.ok in
     let since = looks_trans s4 s5 s6 c.are_alike.ensures.looks c.is_not_lower.ensures.looks in
     let there = sought_later i j k label old new kept s0 s4 s6 since known in
     let some : c.in_ok-kept.kept.items ≢ [] = search rules in
     let like = alike_later s5 s6 p j k true c.is_not_lower.ensures.looks
     (subst (TellsAlike s5 p j k) c.if-not-branch.false c.in_ok-are_alike.ensures.ok) in
-    let told : TellsNotLower s6 c.in_ok-slot.slot c.in_ok-next.next c.in_ok-map_err.field-0 =
-    ok_mapped _ _ _ _ _ c.in_ok-map_err.was c.map_err.ensures.cases c.is_not_lower.ensures.ok in
+    let told : TellsNotLower s6 c.in_ok-slot.slot c.in_ok-next.next c.in_ok-is_not_lower.field-0 = c.in_ok-is_not_lower.ensures.ok in
     answers_refused s0 s6 (Replace label old new) CitedNotLower c.into-then-branch.result c.into-then-branch.ensures
     (refuses_not_lower s0 s6 i j k label old new kept there some p c.requires.prelude like
     (subst (TellsNotLower s6 i k) c.if-branch.true told))
 
 pub put_steps-requires-clause-within : goal.put_steps-requires-clause-within
 put_steps-requires-clause-within g c =
-    let s3 = g.C.Cells.sight c.slot_of-3.new.cells in
+    let s3 = g.C.Cells.sight c.known_slot-3.new.cells in
     let s4 = g.C.Cells.sight c.stored_proof.new.cells in
     let s5 = g.C.Cells.sight c.are_alike.new.cells in
     let s6 = g.C.Cells.sight c.is_not_lower.new.cells in
@@ -207,24 +205,24 @@ put_steps-requires-clause-within g c =
 
 pub returns-in_err-put_steps-clause-onward : goal.returns-in_err-put_steps-clause-onward
 returns-in_err-put_steps-clause-onward g c =
-    onward_trans _ _ _ c.slot_of.ensures.looks.onward (onward_trans _ _ _ c.slot_of-2.ensures.looks.onward
-    (onward_trans _ _ _ c.slot_of-3.ensures.looks.onward (onward_trans _ _ _ c.stored_proof.ensures.looks.onward
+    onward_trans _ _ _ c.known_slot.ensures.looks.onward (onward_trans _ _ _ c.known_slot-2.ensures.looks.onward
+    (onward_trans _ _ _ c.known_slot-3.ensures.looks.onward (onward_trans _ _ _ c.stored_proof.ensures.looks.onward
     (onward_trans _ _ _ c.are_alike.ensures.looks.onward
     (onward_trans _ _ _ c.is_not_lower.ensures.looks.onward c.put_steps.ensures.onward)))))
 
 pub returns-clause-onward : goal.returns-clause-onward
 returns-clause-onward g c =
-    onward_trans _ _ _ c.slot_of.ensures.looks.onward (onward_trans _ _ _ c.slot_of-2.ensures.looks.onward
-    (onward_trans _ _ _ c.slot_of-3.ensures.looks.onward (onward_trans _ _ _ c.stored_proof.ensures.looks.onward
+    onward_trans _ _ _ c.known_slot.ensures.looks.onward (onward_trans _ _ _ c.known_slot-2.ensures.looks.onward
+    (onward_trans _ _ _ c.known_slot-3.ensures.looks.onward (onward_trans _ _ _ c.stored_proof.ensures.looks.onward
     (onward_trans _ _ _ c.are_alike.ensures.looks.onward
     (onward_trans _ _ _ c.is_not_lower.ensures.looks.onward c.put_steps.ensures.onward)))))
 
 pub returns-clause-answers : goal.returns-clause-answers
 returns-clause-answers g c =
     let s0 = g.C.Cells.sight c.args.cells.now in
-    let s1 = g.C.Cells.sight c.slot_of.new.cells in
-    let s2 = g.C.Cells.sight c.slot_of-2.new.cells in
-    let s3 = g.C.Cells.sight c.slot_of-3.new.cells in
+    let s1 = g.C.Cells.sight c.known_slot.new.cells in
+    let s2 = g.C.Cells.sight c.known_slot-2.new.cells in
+    let s3 = g.C.Cells.sight c.known_slot-3.new.cells in
     let s4 = g.C.Cells.sight c.stored_proof.new.cells in
     let s5 = g.C.Cells.sight c.are_alike.new.cells in
     let s6 = g.C.Cells.sight c.is_not_lower.new.cells in
@@ -237,15 +235,14 @@ returns-clause-answers g c =
     let new = c.args.new.now in
     let p = c.args.prelude.now in
     let kept = c.in_ok-kept.kept.items in
-    let known = sought i j k label old new kept s0 s1 s2 s3 s4 c.slot_of.ensures.looks c.slot_of-2.ensures.looks c.slot_of-3.ensures.looks
+    let known = sought i j k label old new kept s0 s1 s2 s3 s4 c.known_slot.ensures.looks c.known_slot-2.ensures.looks c.known_slot-3.ensures.looks
     c.stored_proof.ensures.looks c.in_ok-slot.ensures.ok c.in_ok-former.ensures.ok c.in_ok-next.ensures.ok c.in_ok-kept.ensures.ok in
     let since = looks_trans s4 s5 s6 c.are_alike.ensures.looks c.is_not_lower.ensures.looks in
     let there = sought_later i j k label old new kept s0 s4 s6 since known in
     let some : c.in_ok-kept.kept.items ≢ [] = search rules in
     let like = alike_later s5 s6 p j k true c.is_not_lower.ensures.looks
     (subst (TellsAlike s5 p j k) c.if-not-branch.false c.in_ok-are_alike.ensures.ok) in
-    let told : TellsNotLower s6 c.in_ok-slot.slot c.in_ok-next.next c.in_ok-map_err.field-0 =
-    ok_mapped _ _ _ _ _ c.in_ok-map_err.was c.map_err.ensures.cases c.is_not_lower.ensures.ok in
+    let told : TellsNotLower s6 c.in_ok-slot.slot c.in_ok-next.next c.in_ok-is_not_lower.field-0 = c.in_ok-is_not_lower.ensures.ok in
     let written = c.as_slice.ensures.value
     ∙ with_items_is c.in_ok-kept.kept c.recite.new.steps (c.recite.auto.steps ∙ c.as_mut_slice.ensures.len) in
     let is = written ∙ c.recite.ensures ∙ ap (map (recited_step c.slot_count.result j k)) c.as_mut_slice.ensures.value
@@ -255,13 +252,13 @@ returns-clause-answers g c =
 
 pub returns-in_err-put_steps-clause-taken : goal.returns-in_err-put_steps-clause-taken
 returns-in_err-put_steps-clause-taken g c st lib m v =
-    let s1 = g.C.Cells.sight c.slot_of.new.cells in
+    let s1 = g.C.Cells.sight c.known_slot.new.cells in
     let s4 = g.C.Cells.sight c.stored_proof.new.cells in
     let j = c.in_ok-former.former in
     let k = c.in_ok-next.next in
     let kept = c.in_ok-kept.kept.items in
-    let since = looks_trans _ _ _ c.slot_of-2.ensures.looks (looks_trans _ _ _ c.slot_of-3.ensures.looks c.stored_proof.ensures.looks) in
-    let looks = looks_trans _ _ _ c.slot_of.ensures.looks since in
+    let since = looks_trans _ _ _ c.known_slot-2.ensures.looks (looks_trans _ _ _ c.known_slot-3.ensures.looks c.stored_proof.ensures.looks) in
+    let looks = looks_trans _ _ _ c.known_slot.ensures.looks since in
     let later = looks_trans _ _ _ c.are_alike.ensures.looks c.is_not_lower.ensures.looks in
     let on = onward_trans _ _ _ later.onward c.put_steps.ensures.onward in
     let finds = finds_later s1 s4 c.args.label.now c.in_ok-slot.slot since c.in_ok-slot.ensures.ok in
@@ -276,13 +273,13 @@ returns-in_err-put_steps-clause-taken g c st lib m v =
 
 pub returns-clause-taken : goal.returns-clause-taken
 returns-clause-taken g c st lib m v =
-    let s1 = g.C.Cells.sight c.slot_of.new.cells in
+    let s1 = g.C.Cells.sight c.known_slot.new.cells in
     let s4 = g.C.Cells.sight c.stored_proof.new.cells in
     let j = c.in_ok-former.former in
     let k = c.in_ok-next.next in
     let kept = c.in_ok-kept.kept.items in
-    let since = looks_trans _ _ _ c.slot_of-2.ensures.looks (looks_trans _ _ _ c.slot_of-3.ensures.looks c.stored_proof.ensures.looks) in
-    let looks = looks_trans _ _ _ c.slot_of.ensures.looks since in
+    let since = looks_trans _ _ _ c.known_slot-2.ensures.looks (looks_trans _ _ _ c.known_slot-3.ensures.looks c.stored_proof.ensures.looks) in
+    let looks = looks_trans _ _ _ c.known_slot.ensures.looks since in
     let later = looks_trans _ _ _ c.are_alike.ensures.looks c.is_not_lower.ensures.looks in
     let on = onward_trans _ _ _ later.onward c.put_steps.ensures.onward in
     let finds = finds_later s1 s4 c.args.label.now c.in_ok-slot.slot since c.in_ok-slot.ensures.ok in
@@ -298,9 +295,9 @@ returns-clause-taken g c st lib m v =
 pub returns-clause-keeps : goal.returns-clause-keeps
 returns-clause-keeps g c =
     let s0 = g.C.Cells.sight c.args.cells.now in
-    let s1 = g.C.Cells.sight c.slot_of.new.cells in
-    let s2 = g.C.Cells.sight c.slot_of-2.new.cells in
-    let s3 = g.C.Cells.sight c.slot_of-3.new.cells in
+    let s1 = g.C.Cells.sight c.known_slot.new.cells in
+    let s2 = g.C.Cells.sight c.known_slot-2.new.cells in
+    let s3 = g.C.Cells.sight c.known_slot-3.new.cells in
     let s4 = g.C.Cells.sight c.stored_proof.new.cells in
     let s5 = g.C.Cells.sight c.are_alike.new.cells in
     let s6 = g.C.Cells.sight c.is_not_lower.new.cells in
@@ -312,7 +309,7 @@ returns-clause-keeps g c =
     let old = c.args.old.now in
     let new = c.args.new.now in
     let kept = c.in_ok-kept.kept.items in
-    let known = sought i j k label old new kept s0 s1 s2 s3 s4 c.slot_of.ensures.looks c.slot_of-2.ensures.looks c.slot_of-3.ensures.looks
+    let known = sought i j k label old new kept s0 s1 s2 s3 s4 c.known_slot.ensures.looks c.known_slot-2.ensures.looks c.known_slot-3.ensures.looks
     c.stored_proof.ensures.looks c.in_ok-slot.ensures.ok c.in_ok-former.ensures.ok c.in_ok-next.ensures.ok c.in_ok-kept.ensures.ok in
     let since = looks_trans s4 s5 s6 c.are_alike.ensures.looks c.is_not_lower.ensures.looks in
     let there = sought_later i j k label old new kept s0 s4 s6 since known in
@@ -327,77 +324,77 @@ returns-clause-keeps g c =
 pub returns-in_err-slot-clause-reads : goal.returns-in_err-slot-clause-reads
 returns-in_err-slot-clause-reads g c =
     let s0 = g.C.Cells.sight c.args.cells.now in
-    let s1 = g.C.Cells.sight c.slot_of.new.cells in
+    let s1 = g.C.Cells.sight c.known_slot.new.cells in
     let label = c.args.label.now in
     let old = c.args.old.now in
     let new = c.args.new.now in
     let x = Replace label old new in
-    let r1 : ReadsFor s0 s1 (Replace c.args.label.now c.args.old.now c.args.new.now) = first_look s0 s1 x label (λ st lib c is. inl (inl is)) c.slot_of.ensures.reads in
+    let r1 : ReadsFor s0 s1 (Replace c.args.label.now c.args.old.now c.args.new.now) = first_look s0 s1 x label (λ st lib c is. inl (inl is)) c.known_slot.ensures.reads in
     r1
 
 pub returns-in_err-former-clause-reads : goal.returns-in_err-former-clause-reads
 returns-in_err-former-clause-reads g c =
     let s0 = g.C.Cells.sight c.args.cells.now in
-    let s1 = g.C.Cells.sight c.slot_of.new.cells in
+    let s1 = g.C.Cells.sight c.known_slot.new.cells in
     let label = c.args.label.now in
     let old = c.args.old.now in
     let new = c.args.new.now in
     let x = Replace label old new in
-    let r1 : ReadsFor s0 s1 (Replace c.args.label.now c.args.old.now c.args.new.now) = first_look s0 s1 x label (λ st lib c is. inl (inl is)) c.slot_of.ensures.reads in
-    let s2 = g.C.Cells.sight c.slot_of-2.new.cells in
-    let l1 = c.slot_of.ensures.looks in
+    let r1 : ReadsFor s0 s1 (Replace c.args.label.now c.args.old.now c.args.new.now) = first_look s0 s1 x label (λ st lib c is. inl (inl is)) c.known_slot.ensures.reads in
+    let s2 = g.C.Cells.sight c.known_slot-2.new.cells in
+    let l1 = c.known_slot.ensures.looks in
     let r2 : ReadsFor s0 s2 (Replace c.args.label.now c.args.old.now c.args.new.now) =
-    since_then (OfCommand s0 x) r1 c.slot_of-2.ensures.looks.onward
-    (since_where (OfCommand s0 x) s0 s1 s2 l1 (λ n. IsOfLook n old) (λ st lib c is. inl (inr (inl is))) c.slot_of-2.ensures.reads) in
+    since_then (OfCommand s0 x) r1 c.known_slot-2.ensures.looks.onward
+    (since_where (OfCommand s0 x) s0 s1 s2 l1 (λ n. IsOfLook n old) (λ st lib c is. inl (inr (inl is))) c.known_slot-2.ensures.reads) in
     r2
 
 pub returns-in_err-next-clause-reads : goal.returns-in_err-next-clause-reads
 returns-in_err-next-clause-reads g c =
     let s0 = g.C.Cells.sight c.args.cells.now in
-    let s1 = g.C.Cells.sight c.slot_of.new.cells in
+    let s1 = g.C.Cells.sight c.known_slot.new.cells in
     let label = c.args.label.now in
     let old = c.args.old.now in
     let new = c.args.new.now in
     let x = Replace label old new in
-    let r1 : ReadsFor s0 s1 (Replace c.args.label.now c.args.old.now c.args.new.now) = first_look s0 s1 x label (λ st lib c is. inl (inl is)) c.slot_of.ensures.reads in
-    let s2 = g.C.Cells.sight c.slot_of-2.new.cells in
-    let l1 = c.slot_of.ensures.looks in
+    let r1 : ReadsFor s0 s1 (Replace c.args.label.now c.args.old.now c.args.new.now) = first_look s0 s1 x label (λ st lib c is. inl (inl is)) c.known_slot.ensures.reads in
+    let s2 = g.C.Cells.sight c.known_slot-2.new.cells in
+    let l1 = c.known_slot.ensures.looks in
     let r2 : ReadsFor s0 s2 (Replace c.args.label.now c.args.old.now c.args.new.now) =
-    since_then (OfCommand s0 x) r1 c.slot_of-2.ensures.looks.onward
-    (since_where (OfCommand s0 x) s0 s1 s2 l1 (λ n. IsOfLook n old) (λ st lib c is. inl (inr (inl is))) c.slot_of-2.ensures.reads) in
-    let s3 = g.C.Cells.sight c.slot_of-3.new.cells in
-    let l2 = looks_trans _ _ _ l1 c.slot_of-2.ensures.looks in
+    since_then (OfCommand s0 x) r1 c.known_slot-2.ensures.looks.onward
+    (since_where (OfCommand s0 x) s0 s1 s2 l1 (λ n. IsOfLook n old) (λ st lib c is. inl (inr (inl is))) c.known_slot-2.ensures.reads) in
+    let s3 = g.C.Cells.sight c.known_slot-3.new.cells in
+    let l2 = looks_trans _ _ _ l1 c.known_slot-2.ensures.looks in
     let r3 : ReadsFor s0 s3 (Replace c.args.label.now c.args.old.now c.args.new.now) =
-    since_then (OfCommand s0 x) r2 c.slot_of-3.ensures.looks.onward
-    (since_where (OfCommand s0 x) s0 s2 s3 l2 (λ n. IsOfLook n new) (λ st lib c is. inl (inr (inr is))) c.slot_of-3.ensures.reads) in
+    since_then (OfCommand s0 x) r2 c.known_slot-3.ensures.looks.onward
+    (since_where (OfCommand s0 x) s0 s2 s3 l2 (λ n. IsOfLook n new) (λ st lib c is. inl (inr (inr is))) c.known_slot-3.ensures.reads) in
     r3
 
 pub returns-in_err-kept-clause-reads : goal.returns-in_err-kept-clause-reads
 returns-in_err-kept-clause-reads g c =
     let s0 = g.C.Cells.sight c.args.cells.now in
-    let s1 = g.C.Cells.sight c.slot_of.new.cells in
+    let s1 = g.C.Cells.sight c.known_slot.new.cells in
     let label = c.args.label.now in
     let old = c.args.old.now in
     let new = c.args.new.now in
     let x = Replace label old new in
-    let r1 : ReadsFor s0 s1 (Replace c.args.label.now c.args.old.now c.args.new.now) = first_look s0 s1 x label (λ st lib c is. inl (inl is)) c.slot_of.ensures.reads in
-    let s2 = g.C.Cells.sight c.slot_of-2.new.cells in
-    let l1 = c.slot_of.ensures.looks in
+    let r1 : ReadsFor s0 s1 (Replace c.args.label.now c.args.old.now c.args.new.now) = first_look s0 s1 x label (λ st lib c is. inl (inl is)) c.known_slot.ensures.reads in
+    let s2 = g.C.Cells.sight c.known_slot-2.new.cells in
+    let l1 = c.known_slot.ensures.looks in
     let r2 : ReadsFor s0 s2 (Replace c.args.label.now c.args.old.now c.args.new.now) =
-    since_then (OfCommand s0 x) r1 c.slot_of-2.ensures.looks.onward
-    (since_where (OfCommand s0 x) s0 s1 s2 l1 (λ n. IsOfLook n old) (λ st lib c is. inl (inr (inl is))) c.slot_of-2.ensures.reads) in
-    let s3 = g.C.Cells.sight c.slot_of-3.new.cells in
-    let l2 = looks_trans _ _ _ l1 c.slot_of-2.ensures.looks in
+    since_then (OfCommand s0 x) r1 c.known_slot-2.ensures.looks.onward
+    (since_where (OfCommand s0 x) s0 s1 s2 l1 (λ n. IsOfLook n old) (λ st lib c is. inl (inr (inl is))) c.known_slot-2.ensures.reads) in
+    let s3 = g.C.Cells.sight c.known_slot-3.new.cells in
+    let l2 = looks_trans _ _ _ l1 c.known_slot-2.ensures.looks in
     let r3 : ReadsFor s0 s3 (Replace c.args.label.now c.args.old.now c.args.new.now) =
-    since_then (OfCommand s0 x) r2 c.slot_of-3.ensures.looks.onward
-    (since_where (OfCommand s0 x) s0 s2 s3 l2 (λ n. IsOfLook n new) (λ st lib c is. inl (inr (inr is))) c.slot_of-3.ensures.reads) in
+    since_then (OfCommand s0 x) r2 c.known_slot-3.ensures.looks.onward
+    (since_where (OfCommand s0 x) s0 s2 s3 l2 (λ n. IsOfLook n new) (λ st lib c is. inl (inr (inr is))) c.known_slot-3.ensures.reads) in
     let s4 = g.C.Cells.sight c.stored_proof.new.cells in
     let i = c.in_ok-slot.slot in
     let j = c.in_ok-former.former in
     let n = c.in_ok-next.next in
-    let since = looks_trans _ _ _ c.slot_of-2.ensures.looks c.slot_of-3.ensures.looks in
+    let since = looks_trans _ _ _ c.known_slot-2.ensures.looks c.known_slot-3.ensures.looks in
     let r4 : ReadsFor s0 s4 (Replace c.args.label.now c.args.old.now c.args.new.now) =
-    then_cells s0 s3 s4 x label i (looks_trans _ _ _ l2 c.slot_of-3.ensures.looks) (finds_later s1 s3 label i since c.in_ok-slot.ensures.ok)
+    then_cells s0 s3 s4 x label i (looks_trans _ _ _ l2 c.known_slot-3.ensures.looks) (finds_later s1 s3 label i since c.in_ok-slot.ensures.ok)
     r3 c.stored_proof.ensures.looks.onward (λ m. m ≡ proof_cell i) (λ st lib at c is. inr (inr (inr (inr (i, at, inl is)))))
     c.stored_proof.ensures.reads in
     r4
@@ -405,29 +402,29 @@ returns-in_err-kept-clause-reads g c =
 pub returns-then-is_empty-clause-reads : goal.returns-then-is_empty-clause-reads
 returns-then-is_empty-clause-reads g c =
     let s0 = g.C.Cells.sight c.args.cells.now in
-    let s1 = g.C.Cells.sight c.slot_of.new.cells in
+    let s1 = g.C.Cells.sight c.known_slot.new.cells in
     let label = c.args.label.now in
     let old = c.args.old.now in
     let new = c.args.new.now in
     let x = Replace label old new in
-    let r1 : ReadsFor s0 s1 (Replace c.args.label.now c.args.old.now c.args.new.now) = first_look s0 s1 x label (λ st lib c is. inl (inl is)) c.slot_of.ensures.reads in
-    let s2 = g.C.Cells.sight c.slot_of-2.new.cells in
-    let l1 = c.slot_of.ensures.looks in
+    let r1 : ReadsFor s0 s1 (Replace c.args.label.now c.args.old.now c.args.new.now) = first_look s0 s1 x label (λ st lib c is. inl (inl is)) c.known_slot.ensures.reads in
+    let s2 = g.C.Cells.sight c.known_slot-2.new.cells in
+    let l1 = c.known_slot.ensures.looks in
     let r2 : ReadsFor s0 s2 (Replace c.args.label.now c.args.old.now c.args.new.now) =
-    since_then (OfCommand s0 x) r1 c.slot_of-2.ensures.looks.onward
-    (since_where (OfCommand s0 x) s0 s1 s2 l1 (λ n. IsOfLook n old) (λ st lib c is. inl (inr (inl is))) c.slot_of-2.ensures.reads) in
-    let s3 = g.C.Cells.sight c.slot_of-3.new.cells in
-    let l2 = looks_trans _ _ _ l1 c.slot_of-2.ensures.looks in
+    since_then (OfCommand s0 x) r1 c.known_slot-2.ensures.looks.onward
+    (since_where (OfCommand s0 x) s0 s1 s2 l1 (λ n. IsOfLook n old) (λ st lib c is. inl (inr (inl is))) c.known_slot-2.ensures.reads) in
+    let s3 = g.C.Cells.sight c.known_slot-3.new.cells in
+    let l2 = looks_trans _ _ _ l1 c.known_slot-2.ensures.looks in
     let r3 : ReadsFor s0 s3 (Replace c.args.label.now c.args.old.now c.args.new.now) =
-    since_then (OfCommand s0 x) r2 c.slot_of-3.ensures.looks.onward
-    (since_where (OfCommand s0 x) s0 s2 s3 l2 (λ n. IsOfLook n new) (λ st lib c is. inl (inr (inr is))) c.slot_of-3.ensures.reads) in
+    since_then (OfCommand s0 x) r2 c.known_slot-3.ensures.looks.onward
+    (since_where (OfCommand s0 x) s0 s2 s3 l2 (λ n. IsOfLook n new) (λ st lib c is. inl (inr (inr is))) c.known_slot-3.ensures.reads) in
     let s4 = g.C.Cells.sight c.stored_proof.new.cells in
     let i = c.in_ok-slot.slot in
     let j = c.in_ok-former.former in
     let n = c.in_ok-next.next in
-    let since = looks_trans _ _ _ c.slot_of-2.ensures.looks c.slot_of-3.ensures.looks in
+    let since = looks_trans _ _ _ c.known_slot-2.ensures.looks c.known_slot-3.ensures.looks in
     let r4 : ReadsFor s0 s4 (Replace c.args.label.now c.args.old.now c.args.new.now) =
-    then_cells s0 s3 s4 x label i (looks_trans _ _ _ l2 c.slot_of-3.ensures.looks) (finds_later s1 s3 label i since c.in_ok-slot.ensures.ok)
+    then_cells s0 s3 s4 x label i (looks_trans _ _ _ l2 c.known_slot-3.ensures.looks) (finds_later s1 s3 label i since c.in_ok-slot.ensures.ok)
     r3 c.stored_proof.ensures.looks.onward (λ m. m ≡ proof_cell i) (λ st lib at c is. inr (inr (inr (inr (i, at, inl is)))))
     c.stored_proof.ensures.reads in
     r4
@@ -435,33 +432,33 @@ returns-then-is_empty-clause-reads g c =
 pub returns-in_err-are_alike-clause-reads : goal.returns-in_err-are_alike-clause-reads
 returns-in_err-are_alike-clause-reads g c =
     let s0 = g.C.Cells.sight c.args.cells.now in
-    let s1 = g.C.Cells.sight c.slot_of.new.cells in
+    let s1 = g.C.Cells.sight c.known_slot.new.cells in
     let label = c.args.label.now in
     let old = c.args.old.now in
     let new = c.args.new.now in
     let x = Replace label old new in
-    let r1 : ReadsFor s0 s1 (Replace c.args.label.now c.args.old.now c.args.new.now) = first_look s0 s1 x label (λ st lib c is. inl (inl is)) c.slot_of.ensures.reads in
-    let s2 = g.C.Cells.sight c.slot_of-2.new.cells in
-    let l1 = c.slot_of.ensures.looks in
+    let r1 : ReadsFor s0 s1 (Replace c.args.label.now c.args.old.now c.args.new.now) = first_look s0 s1 x label (λ st lib c is. inl (inl is)) c.known_slot.ensures.reads in
+    let s2 = g.C.Cells.sight c.known_slot-2.new.cells in
+    let l1 = c.known_slot.ensures.looks in
     let r2 : ReadsFor s0 s2 (Replace c.args.label.now c.args.old.now c.args.new.now) =
-    since_then (OfCommand s0 x) r1 c.slot_of-2.ensures.looks.onward
-    (since_where (OfCommand s0 x) s0 s1 s2 l1 (λ n. IsOfLook n old) (λ st lib c is. inl (inr (inl is))) c.slot_of-2.ensures.reads) in
-    let s3 = g.C.Cells.sight c.slot_of-3.new.cells in
-    let l2 = looks_trans _ _ _ l1 c.slot_of-2.ensures.looks in
+    since_then (OfCommand s0 x) r1 c.known_slot-2.ensures.looks.onward
+    (since_where (OfCommand s0 x) s0 s1 s2 l1 (λ n. IsOfLook n old) (λ st lib c is. inl (inr (inl is))) c.known_slot-2.ensures.reads) in
+    let s3 = g.C.Cells.sight c.known_slot-3.new.cells in
+    let l2 = looks_trans _ _ _ l1 c.known_slot-2.ensures.looks in
     let r3 : ReadsFor s0 s3 (Replace c.args.label.now c.args.old.now c.args.new.now) =
-    since_then (OfCommand s0 x) r2 c.slot_of-3.ensures.looks.onward
-    (since_where (OfCommand s0 x) s0 s2 s3 l2 (λ n. IsOfLook n new) (λ st lib c is. inl (inr (inr is))) c.slot_of-3.ensures.reads) in
+    since_then (OfCommand s0 x) r2 c.known_slot-3.ensures.looks.onward
+    (since_where (OfCommand s0 x) s0 s2 s3 l2 (λ n. IsOfLook n new) (λ st lib c is. inl (inr (inr is))) c.known_slot-3.ensures.reads) in
     let s4 = g.C.Cells.sight c.stored_proof.new.cells in
     let i = c.in_ok-slot.slot in
     let j = c.in_ok-former.former in
     let n = c.in_ok-next.next in
-    let since = looks_trans _ _ _ c.slot_of-2.ensures.looks c.slot_of-3.ensures.looks in
+    let since = looks_trans _ _ _ c.known_slot-2.ensures.looks c.known_slot-3.ensures.looks in
     let r4 : ReadsFor s0 s4 (Replace c.args.label.now c.args.old.now c.args.new.now) =
-    then_cells s0 s3 s4 x label i (looks_trans _ _ _ l2 c.slot_of-3.ensures.looks) (finds_later s1 s3 label i since c.in_ok-slot.ensures.ok)
+    then_cells s0 s3 s4 x label i (looks_trans _ _ _ l2 c.known_slot-3.ensures.looks) (finds_later s1 s3 label i since c.in_ok-slot.ensures.ok)
     r3 c.stored_proof.ensures.looks.onward (λ m. m ≡ proof_cell i) (λ st lib at c is. inr (inr (inr (inr (i, at, inl is)))))
     c.stored_proof.ensures.reads in
-    let known = sought i j n label old new c.in_ok-kept.kept.items s0 s1 s2 s3 s4 c.slot_of.ensures.looks c.slot_of-2.ensures.looks
-    c.slot_of-3.ensures.looks c.stored_proof.ensures.looks c.in_ok-slot.ensures.ok c.in_ok-former.ensures.ok c.in_ok-next.ensures.ok
+    let known = sought i j n label old new c.in_ok-kept.kept.items s0 s1 s2 s3 s4 c.known_slot.ensures.looks c.known_slot-2.ensures.looks
+    c.known_slot-3.ensures.looks c.stored_proof.ensures.looks c.in_ok-slot.ensures.ok c.in_ok-former.ensures.ok c.in_ok-next.ensures.ok
     c.in_ok-kept.ensures.ok in
     let s5 = g.C.Cells.sight c.are_alike.new.cells in
     let r5 : ReadsFor s0 s5 (Replace c.args.label.now c.args.old.now c.args.new.now) =
@@ -471,69 +468,69 @@ returns-in_err-are_alike-clause-reads g c =
 pub returns-then-not-branch-clause-reads : goal.returns-then-not-branch-clause-reads
 returns-then-not-branch-clause-reads g c =
     let s0 = g.C.Cells.sight c.args.cells.now in
-    let s1 = g.C.Cells.sight c.slot_of.new.cells in
+    let s1 = g.C.Cells.sight c.known_slot.new.cells in
     let label = c.args.label.now in
     let old = c.args.old.now in
     let new = c.args.new.now in
     let x = Replace label old new in
-    let r1 : ReadsFor s0 s1 (Replace c.args.label.now c.args.old.now c.args.new.now) = first_look s0 s1 x label (λ st lib c is. inl (inl is)) c.slot_of.ensures.reads in
-    let s2 = g.C.Cells.sight c.slot_of-2.new.cells in
-    let l1 = c.slot_of.ensures.looks in
+    let r1 : ReadsFor s0 s1 (Replace c.args.label.now c.args.old.now c.args.new.now) = first_look s0 s1 x label (λ st lib c is. inl (inl is)) c.known_slot.ensures.reads in
+    let s2 = g.C.Cells.sight c.known_slot-2.new.cells in
+    let l1 = c.known_slot.ensures.looks in
     let r2 : ReadsFor s0 s2 (Replace c.args.label.now c.args.old.now c.args.new.now) =
-    since_then (OfCommand s0 x) r1 c.slot_of-2.ensures.looks.onward
-    (since_where (OfCommand s0 x) s0 s1 s2 l1 (λ n. IsOfLook n old) (λ st lib c is. inl (inr (inl is))) c.slot_of-2.ensures.reads) in
-    let s3 = g.C.Cells.sight c.slot_of-3.new.cells in
-    let l2 = looks_trans _ _ _ l1 c.slot_of-2.ensures.looks in
+    since_then (OfCommand s0 x) r1 c.known_slot-2.ensures.looks.onward
+    (since_where (OfCommand s0 x) s0 s1 s2 l1 (λ n. IsOfLook n old) (λ st lib c is. inl (inr (inl is))) c.known_slot-2.ensures.reads) in
+    let s3 = g.C.Cells.sight c.known_slot-3.new.cells in
+    let l2 = looks_trans _ _ _ l1 c.known_slot-2.ensures.looks in
     let r3 : ReadsFor s0 s3 (Replace c.args.label.now c.args.old.now c.args.new.now) =
-    since_then (OfCommand s0 x) r2 c.slot_of-3.ensures.looks.onward
-    (since_where (OfCommand s0 x) s0 s2 s3 l2 (λ n. IsOfLook n new) (λ st lib c is. inl (inr (inr is))) c.slot_of-3.ensures.reads) in
+    since_then (OfCommand s0 x) r2 c.known_slot-3.ensures.looks.onward
+    (since_where (OfCommand s0 x) s0 s2 s3 l2 (λ n. IsOfLook n new) (λ st lib c is. inl (inr (inr is))) c.known_slot-3.ensures.reads) in
     let s4 = g.C.Cells.sight c.stored_proof.new.cells in
     let i = c.in_ok-slot.slot in
     let j = c.in_ok-former.former in
     let n = c.in_ok-next.next in
-    let since = looks_trans _ _ _ c.slot_of-2.ensures.looks c.slot_of-3.ensures.looks in
+    let since = looks_trans _ _ _ c.known_slot-2.ensures.looks c.known_slot-3.ensures.looks in
     let r4 : ReadsFor s0 s4 (Replace c.args.label.now c.args.old.now c.args.new.now) =
-    then_cells s0 s3 s4 x label i (looks_trans _ _ _ l2 c.slot_of-3.ensures.looks) (finds_later s1 s3 label i since c.in_ok-slot.ensures.ok)
+    then_cells s0 s3 s4 x label i (looks_trans _ _ _ l2 c.known_slot-3.ensures.looks) (finds_later s1 s3 label i since c.in_ok-slot.ensures.ok)
     r3 c.stored_proof.ensures.looks.onward (λ m. m ≡ proof_cell i) (λ st lib at c is. inr (inr (inr (inr (i, at, inl is)))))
     c.stored_proof.ensures.reads in
-    let known = sought i j n label old new c.in_ok-kept.kept.items s0 s1 s2 s3 s4 c.slot_of.ensures.looks c.slot_of-2.ensures.looks
-    c.slot_of-3.ensures.looks c.stored_proof.ensures.looks c.in_ok-slot.ensures.ok c.in_ok-former.ensures.ok c.in_ok-next.ensures.ok
+    let known = sought i j n label old new c.in_ok-kept.kept.items s0 s1 s2 s3 s4 c.known_slot.ensures.looks c.known_slot-2.ensures.looks
+    c.known_slot-3.ensures.looks c.stored_proof.ensures.looks c.in_ok-slot.ensures.ok c.in_ok-former.ensures.ok c.in_ok-next.ensures.ok
     c.in_ok-kept.ensures.ok in
     let s5 = g.C.Cells.sight c.are_alike.new.cells in
     let r5 : ReadsFor s0 s5 (Replace c.args.label.now c.args.old.now c.args.new.now) =
     replace_alike s0 s4 s5 i j n label old new c.in_ok-kept.kept.items known c.are_alike.ensures.looks.onward r4 c.are_alike.ensures.reads in
     r5
 
-pub returns-in_err-map_err-clause-reads : goal.returns-in_err-map_err-clause-reads
-returns-in_err-map_err-clause-reads g c =
+pub returns-in_err-is_not_lower-clause-reads : goal.returns-in_err-is_not_lower-clause-reads
+returns-in_err-is_not_lower-clause-reads g c =
     let s0 = g.C.Cells.sight c.args.cells.now in
-    let s1 = g.C.Cells.sight c.slot_of.new.cells in
+    let s1 = g.C.Cells.sight c.known_slot.new.cells in
     let label = c.args.label.now in
     let old = c.args.old.now in
     let new = c.args.new.now in
     let x = Replace label old new in
-    let r1 : ReadsFor s0 s1 (Replace c.args.label.now c.args.old.now c.args.new.now) = first_look s0 s1 x label (λ st lib c is. inl (inl is)) c.slot_of.ensures.reads in
-    let s2 = g.C.Cells.sight c.slot_of-2.new.cells in
-    let l1 = c.slot_of.ensures.looks in
+    let r1 : ReadsFor s0 s1 (Replace c.args.label.now c.args.old.now c.args.new.now) = first_look s0 s1 x label (λ st lib c is. inl (inl is)) c.known_slot.ensures.reads in
+    let s2 = g.C.Cells.sight c.known_slot-2.new.cells in
+    let l1 = c.known_slot.ensures.looks in
     let r2 : ReadsFor s0 s2 (Replace c.args.label.now c.args.old.now c.args.new.now) =
-    since_then (OfCommand s0 x) r1 c.slot_of-2.ensures.looks.onward
-    (since_where (OfCommand s0 x) s0 s1 s2 l1 (λ n. IsOfLook n old) (λ st lib c is. inl (inr (inl is))) c.slot_of-2.ensures.reads) in
-    let s3 = g.C.Cells.sight c.slot_of-3.new.cells in
-    let l2 = looks_trans _ _ _ l1 c.slot_of-2.ensures.looks in
+    since_then (OfCommand s0 x) r1 c.known_slot-2.ensures.looks.onward
+    (since_where (OfCommand s0 x) s0 s1 s2 l1 (λ n. IsOfLook n old) (λ st lib c is. inl (inr (inl is))) c.known_slot-2.ensures.reads) in
+    let s3 = g.C.Cells.sight c.known_slot-3.new.cells in
+    let l2 = looks_trans _ _ _ l1 c.known_slot-2.ensures.looks in
     let r3 : ReadsFor s0 s3 (Replace c.args.label.now c.args.old.now c.args.new.now) =
-    since_then (OfCommand s0 x) r2 c.slot_of-3.ensures.looks.onward
-    (since_where (OfCommand s0 x) s0 s2 s3 l2 (λ n. IsOfLook n new) (λ st lib c is. inl (inr (inr is))) c.slot_of-3.ensures.reads) in
+    since_then (OfCommand s0 x) r2 c.known_slot-3.ensures.looks.onward
+    (since_where (OfCommand s0 x) s0 s2 s3 l2 (λ n. IsOfLook n new) (λ st lib c is. inl (inr (inr is))) c.known_slot-3.ensures.reads) in
     let s4 = g.C.Cells.sight c.stored_proof.new.cells in
     let i = c.in_ok-slot.slot in
     let j = c.in_ok-former.former in
     let n = c.in_ok-next.next in
-    let since = looks_trans _ _ _ c.slot_of-2.ensures.looks c.slot_of-3.ensures.looks in
+    let since = looks_trans _ _ _ c.known_slot-2.ensures.looks c.known_slot-3.ensures.looks in
     let r4 : ReadsFor s0 s4 (Replace c.args.label.now c.args.old.now c.args.new.now) =
-    then_cells s0 s3 s4 x label i (looks_trans _ _ _ l2 c.slot_of-3.ensures.looks) (finds_later s1 s3 label i since c.in_ok-slot.ensures.ok)
+    then_cells s0 s3 s4 x label i (looks_trans _ _ _ l2 c.known_slot-3.ensures.looks) (finds_later s1 s3 label i since c.in_ok-slot.ensures.ok)
     r3 c.stored_proof.ensures.looks.onward (λ m. m ≡ proof_cell i) (λ st lib at c is. inr (inr (inr (inr (i, at, inl is)))))
     c.stored_proof.ensures.reads in
-    let known = sought i j n label old new c.in_ok-kept.kept.items s0 s1 s2 s3 s4 c.slot_of.ensures.looks c.slot_of-2.ensures.looks
-    c.slot_of-3.ensures.looks c.stored_proof.ensures.looks c.in_ok-slot.ensures.ok c.in_ok-former.ensures.ok c.in_ok-next.ensures.ok
+    let known = sought i j n label old new c.in_ok-kept.kept.items s0 s1 s2 s3 s4 c.known_slot.ensures.looks c.known_slot-2.ensures.looks
+    c.known_slot-3.ensures.looks c.stored_proof.ensures.looks c.in_ok-slot.ensures.ok c.in_ok-former.ensures.ok c.in_ok-next.ensures.ok
     c.in_ok-kept.ensures.ok in
     let s5 = g.C.Cells.sight c.are_alike.new.cells in
     let r5 : ReadsFor s0 s5 (Replace c.args.label.now c.args.old.now c.args.new.now) =
@@ -548,33 +545,33 @@ returns-in_err-map_err-clause-reads g c =
 pub returns-then-branch-clause-reads : goal.returns-then-branch-clause-reads
 returns-then-branch-clause-reads g c =
     let s0 = g.C.Cells.sight c.args.cells.now in
-    let s1 = g.C.Cells.sight c.slot_of.new.cells in
+    let s1 = g.C.Cells.sight c.known_slot.new.cells in
     let label = c.args.label.now in
     let old = c.args.old.now in
     let new = c.args.new.now in
     let x = Replace label old new in
-    let r1 : ReadsFor s0 s1 (Replace c.args.label.now c.args.old.now c.args.new.now) = first_look s0 s1 x label (λ st lib c is. inl (inl is)) c.slot_of.ensures.reads in
-    let s2 = g.C.Cells.sight c.slot_of-2.new.cells in
-    let l1 = c.slot_of.ensures.looks in
+    let r1 : ReadsFor s0 s1 (Replace c.args.label.now c.args.old.now c.args.new.now) = first_look s0 s1 x label (λ st lib c is. inl (inl is)) c.known_slot.ensures.reads in
+    let s2 = g.C.Cells.sight c.known_slot-2.new.cells in
+    let l1 = c.known_slot.ensures.looks in
     let r2 : ReadsFor s0 s2 (Replace c.args.label.now c.args.old.now c.args.new.now) =
-    since_then (OfCommand s0 x) r1 c.slot_of-2.ensures.looks.onward
-    (since_where (OfCommand s0 x) s0 s1 s2 l1 (λ n. IsOfLook n old) (λ st lib c is. inl (inr (inl is))) c.slot_of-2.ensures.reads) in
-    let s3 = g.C.Cells.sight c.slot_of-3.new.cells in
-    let l2 = looks_trans _ _ _ l1 c.slot_of-2.ensures.looks in
+    since_then (OfCommand s0 x) r1 c.known_slot-2.ensures.looks.onward
+    (since_where (OfCommand s0 x) s0 s1 s2 l1 (λ n. IsOfLook n old) (λ st lib c is. inl (inr (inl is))) c.known_slot-2.ensures.reads) in
+    let s3 = g.C.Cells.sight c.known_slot-3.new.cells in
+    let l2 = looks_trans _ _ _ l1 c.known_slot-2.ensures.looks in
     let r3 : ReadsFor s0 s3 (Replace c.args.label.now c.args.old.now c.args.new.now) =
-    since_then (OfCommand s0 x) r2 c.slot_of-3.ensures.looks.onward
-    (since_where (OfCommand s0 x) s0 s2 s3 l2 (λ n. IsOfLook n new) (λ st lib c is. inl (inr (inr is))) c.slot_of-3.ensures.reads) in
+    since_then (OfCommand s0 x) r2 c.known_slot-3.ensures.looks.onward
+    (since_where (OfCommand s0 x) s0 s2 s3 l2 (λ n. IsOfLook n new) (λ st lib c is. inl (inr (inr is))) c.known_slot-3.ensures.reads) in
     let s4 = g.C.Cells.sight c.stored_proof.new.cells in
     let i = c.in_ok-slot.slot in
     let j = c.in_ok-former.former in
     let n = c.in_ok-next.next in
-    let since = looks_trans _ _ _ c.slot_of-2.ensures.looks c.slot_of-3.ensures.looks in
+    let since = looks_trans _ _ _ c.known_slot-2.ensures.looks c.known_slot-3.ensures.looks in
     let r4 : ReadsFor s0 s4 (Replace c.args.label.now c.args.old.now c.args.new.now) =
-    then_cells s0 s3 s4 x label i (looks_trans _ _ _ l2 c.slot_of-3.ensures.looks) (finds_later s1 s3 label i since c.in_ok-slot.ensures.ok)
+    then_cells s0 s3 s4 x label i (looks_trans _ _ _ l2 c.known_slot-3.ensures.looks) (finds_later s1 s3 label i since c.in_ok-slot.ensures.ok)
     r3 c.stored_proof.ensures.looks.onward (λ m. m ≡ proof_cell i) (λ st lib at c is. inr (inr (inr (inr (i, at, inl is)))))
     c.stored_proof.ensures.reads in
-    let known = sought i j n label old new c.in_ok-kept.kept.items s0 s1 s2 s3 s4 c.slot_of.ensures.looks c.slot_of-2.ensures.looks
-    c.slot_of-3.ensures.looks c.stored_proof.ensures.looks c.in_ok-slot.ensures.ok c.in_ok-former.ensures.ok c.in_ok-next.ensures.ok
+    let known = sought i j n label old new c.in_ok-kept.kept.items s0 s1 s2 s3 s4 c.known_slot.ensures.looks c.known_slot-2.ensures.looks
+    c.known_slot-3.ensures.looks c.stored_proof.ensures.looks c.in_ok-slot.ensures.ok c.in_ok-former.ensures.ok c.in_ok-next.ensures.ok
     c.in_ok-kept.ensures.ok in
     let s5 = g.C.Cells.sight c.are_alike.new.cells in
     let r5 : ReadsFor s0 s5 (Replace c.args.label.now c.args.old.now c.args.new.now) =
@@ -589,33 +586,33 @@ returns-then-branch-clause-reads g c =
 pub returns-in_err-put_steps-clause-reads : goal.returns-in_err-put_steps-clause-reads
 returns-in_err-put_steps-clause-reads g c =
     let s0 = g.C.Cells.sight c.args.cells.now in
-    let s1 = g.C.Cells.sight c.slot_of.new.cells in
+    let s1 = g.C.Cells.sight c.known_slot.new.cells in
     let label = c.args.label.now in
     let old = c.args.old.now in
     let new = c.args.new.now in
     let x = Replace label old new in
-    let r1 : ReadsFor s0 s1 (Replace c.args.label.now c.args.old.now c.args.new.now) = first_look s0 s1 x label (λ st lib c is. inl (inl is)) c.slot_of.ensures.reads in
-    let s2 = g.C.Cells.sight c.slot_of-2.new.cells in
-    let l1 = c.slot_of.ensures.looks in
+    let r1 : ReadsFor s0 s1 (Replace c.args.label.now c.args.old.now c.args.new.now) = first_look s0 s1 x label (λ st lib c is. inl (inl is)) c.known_slot.ensures.reads in
+    let s2 = g.C.Cells.sight c.known_slot-2.new.cells in
+    let l1 = c.known_slot.ensures.looks in
     let r2 : ReadsFor s0 s2 (Replace c.args.label.now c.args.old.now c.args.new.now) =
-    since_then (OfCommand s0 x) r1 c.slot_of-2.ensures.looks.onward
-    (since_where (OfCommand s0 x) s0 s1 s2 l1 (λ n. IsOfLook n old) (λ st lib c is. inl (inr (inl is))) c.slot_of-2.ensures.reads) in
-    let s3 = g.C.Cells.sight c.slot_of-3.new.cells in
-    let l2 = looks_trans _ _ _ l1 c.slot_of-2.ensures.looks in
+    since_then (OfCommand s0 x) r1 c.known_slot-2.ensures.looks.onward
+    (since_where (OfCommand s0 x) s0 s1 s2 l1 (λ n. IsOfLook n old) (λ st lib c is. inl (inr (inl is))) c.known_slot-2.ensures.reads) in
+    let s3 = g.C.Cells.sight c.known_slot-3.new.cells in
+    let l2 = looks_trans _ _ _ l1 c.known_slot-2.ensures.looks in
     let r3 : ReadsFor s0 s3 (Replace c.args.label.now c.args.old.now c.args.new.now) =
-    since_then (OfCommand s0 x) r2 c.slot_of-3.ensures.looks.onward
-    (since_where (OfCommand s0 x) s0 s2 s3 l2 (λ n. IsOfLook n new) (λ st lib c is. inl (inr (inr is))) c.slot_of-3.ensures.reads) in
+    since_then (OfCommand s0 x) r2 c.known_slot-3.ensures.looks.onward
+    (since_where (OfCommand s0 x) s0 s2 s3 l2 (λ n. IsOfLook n new) (λ st lib c is. inl (inr (inr is))) c.known_slot-3.ensures.reads) in
     let s4 = g.C.Cells.sight c.stored_proof.new.cells in
     let i = c.in_ok-slot.slot in
     let j = c.in_ok-former.former in
     let n = c.in_ok-next.next in
-    let since = looks_trans _ _ _ c.slot_of-2.ensures.looks c.slot_of-3.ensures.looks in
+    let since = looks_trans _ _ _ c.known_slot-2.ensures.looks c.known_slot-3.ensures.looks in
     let r4 : ReadsFor s0 s4 (Replace c.args.label.now c.args.old.now c.args.new.now) =
-    then_cells s0 s3 s4 x label i (looks_trans _ _ _ l2 c.slot_of-3.ensures.looks) (finds_later s1 s3 label i since c.in_ok-slot.ensures.ok)
+    then_cells s0 s3 s4 x label i (looks_trans _ _ _ l2 c.known_slot-3.ensures.looks) (finds_later s1 s3 label i since c.in_ok-slot.ensures.ok)
     r3 c.stored_proof.ensures.looks.onward (λ m. m ≡ proof_cell i) (λ st lib at c is. inr (inr (inr (inr (i, at, inl is)))))
     c.stored_proof.ensures.reads in
-    let known = sought i j n label old new c.in_ok-kept.kept.items s0 s1 s2 s3 s4 c.slot_of.ensures.looks c.slot_of-2.ensures.looks
-    c.slot_of-3.ensures.looks c.stored_proof.ensures.looks c.in_ok-slot.ensures.ok c.in_ok-former.ensures.ok c.in_ok-next.ensures.ok
+    let known = sought i j n label old new c.in_ok-kept.kept.items s0 s1 s2 s3 s4 c.known_slot.ensures.looks c.known_slot-2.ensures.looks
+    c.known_slot-3.ensures.looks c.stored_proof.ensures.looks c.in_ok-slot.ensures.ok c.in_ok-former.ensures.ok c.in_ok-next.ensures.ok
     c.in_ok-kept.ensures.ok in
     let s5 = g.C.Cells.sight c.are_alike.new.cells in
     let r5 : ReadsFor s0 s5 (Replace c.args.label.now c.args.old.now c.args.new.now) =
@@ -640,33 +637,33 @@ returns-in_err-put_steps-clause-reads g c =
 pub returns-clause-reads : goal.returns-clause-reads
 returns-clause-reads g c =
     let s0 = g.C.Cells.sight c.args.cells.now in
-    let s1 = g.C.Cells.sight c.slot_of.new.cells in
+    let s1 = g.C.Cells.sight c.known_slot.new.cells in
     let label = c.args.label.now in
     let old = c.args.old.now in
     let new = c.args.new.now in
     let x = Replace label old new in
-    let r1 : ReadsFor s0 s1 (Replace c.args.label.now c.args.old.now c.args.new.now) = first_look s0 s1 x label (λ st lib c is. inl (inl is)) c.slot_of.ensures.reads in
-    let s2 = g.C.Cells.sight c.slot_of-2.new.cells in
-    let l1 = c.slot_of.ensures.looks in
+    let r1 : ReadsFor s0 s1 (Replace c.args.label.now c.args.old.now c.args.new.now) = first_look s0 s1 x label (λ st lib c is. inl (inl is)) c.known_slot.ensures.reads in
+    let s2 = g.C.Cells.sight c.known_slot-2.new.cells in
+    let l1 = c.known_slot.ensures.looks in
     let r2 : ReadsFor s0 s2 (Replace c.args.label.now c.args.old.now c.args.new.now) =
-    since_then (OfCommand s0 x) r1 c.slot_of-2.ensures.looks.onward
-    (since_where (OfCommand s0 x) s0 s1 s2 l1 (λ n. IsOfLook n old) (λ st lib c is. inl (inr (inl is))) c.slot_of-2.ensures.reads) in
-    let s3 = g.C.Cells.sight c.slot_of-3.new.cells in
-    let l2 = looks_trans _ _ _ l1 c.slot_of-2.ensures.looks in
+    since_then (OfCommand s0 x) r1 c.known_slot-2.ensures.looks.onward
+    (since_where (OfCommand s0 x) s0 s1 s2 l1 (λ n. IsOfLook n old) (λ st lib c is. inl (inr (inl is))) c.known_slot-2.ensures.reads) in
+    let s3 = g.C.Cells.sight c.known_slot-3.new.cells in
+    let l2 = looks_trans _ _ _ l1 c.known_slot-2.ensures.looks in
     let r3 : ReadsFor s0 s3 (Replace c.args.label.now c.args.old.now c.args.new.now) =
-    since_then (OfCommand s0 x) r2 c.slot_of-3.ensures.looks.onward
-    (since_where (OfCommand s0 x) s0 s2 s3 l2 (λ n. IsOfLook n new) (λ st lib c is. inl (inr (inr is))) c.slot_of-3.ensures.reads) in
+    since_then (OfCommand s0 x) r2 c.known_slot-3.ensures.looks.onward
+    (since_where (OfCommand s0 x) s0 s2 s3 l2 (λ n. IsOfLook n new) (λ st lib c is. inl (inr (inr is))) c.known_slot-3.ensures.reads) in
     let s4 = g.C.Cells.sight c.stored_proof.new.cells in
     let i = c.in_ok-slot.slot in
     let j = c.in_ok-former.former in
     let n = c.in_ok-next.next in
-    let since = looks_trans _ _ _ c.slot_of-2.ensures.looks c.slot_of-3.ensures.looks in
+    let since = looks_trans _ _ _ c.known_slot-2.ensures.looks c.known_slot-3.ensures.looks in
     let r4 : ReadsFor s0 s4 (Replace c.args.label.now c.args.old.now c.args.new.now) =
-    then_cells s0 s3 s4 x label i (looks_trans _ _ _ l2 c.slot_of-3.ensures.looks) (finds_later s1 s3 label i since c.in_ok-slot.ensures.ok)
+    then_cells s0 s3 s4 x label i (looks_trans _ _ _ l2 c.known_slot-3.ensures.looks) (finds_later s1 s3 label i since c.in_ok-slot.ensures.ok)
     r3 c.stored_proof.ensures.looks.onward (λ m. m ≡ proof_cell i) (λ st lib at c is. inr (inr (inr (inr (i, at, inl is)))))
     c.stored_proof.ensures.reads in
-    let known = sought i j n label old new c.in_ok-kept.kept.items s0 s1 s2 s3 s4 c.slot_of.ensures.looks c.slot_of-2.ensures.looks
-    c.slot_of-3.ensures.looks c.stored_proof.ensures.looks c.in_ok-slot.ensures.ok c.in_ok-former.ensures.ok c.in_ok-next.ensures.ok
+    let known = sought i j n label old new c.in_ok-kept.kept.items s0 s1 s2 s3 s4 c.known_slot.ensures.looks c.known_slot-2.ensures.looks
+    c.known_slot-3.ensures.looks c.stored_proof.ensures.looks c.in_ok-slot.ensures.ok c.in_ok-former.ensures.ok c.in_ok-next.ensures.ok
     c.in_ok-kept.ensures.ok in
     let s5 = g.C.Cells.sight c.are_alike.new.cells in
     let r5 : ReadsFor s0 s5 (Replace c.args.label.now c.args.old.now c.args.new.now) =

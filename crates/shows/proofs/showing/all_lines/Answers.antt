@@ -2,7 +2,6 @@ use Rattle.std.proofs.Common.{◌≡◌, ◌<◌, ◌++◌, [], ◌∷◌, Some,
 use Rattle.library.specs.Edits.{line}
 use Rattle.shows.specs.Listing.{TellsLine}
 use Rattle.cells.specs.Lookups.{TellsLabelOf}
-use Rattle.cells.proofs.Mapped.{ok_mapped}
 use Rattle.cells.proofs.Settings.{same_slots}
 use Rattle.cells.proofs.Sights.{looks_refl, looks_trans}
 use Rattle.shows.proofs.Below.{told_none, one_empty, one_full, whole_told}
@@ -11,7 +10,7 @@ use Rattle.groundwork.specs.Footprints.{ReadsFor}
 use Rattle.cells.proofs.Asking.{nothing_same, asks_nothing}
 use Rattle.shows.proofs.ShowReads.{list_name, list_line}
 use Rattle.shows.proofs.showing.all_lines.Goals as goal
-use Rattle.shows.proofs.showing.all_lines.Goals.{in-Some+in_ok-map_err+in_ok-push, in_default}
+use Rattle.shows.proofs.showing.all_lines.Goals.{in-Some+in_ok-line+in_ok-push, in_default}
 
 pub loop-slot-init : goal.loop-slot-init
 loop-slot-init g c =
@@ -21,8 +20,8 @@ loop-slot-init g c =
 pub returns-in_err-label-clause-looks : goal.returns-in_err-label-clause-looks
 returns-in_err-label-clause-looks g c = looks_trans _ _ _ c.loop-slot.invariant.looks c.label.ensures.looks
 
-pub returns-in_err-map_err-clause-looks : goal.returns-in_err-map_err-clause-looks
-returns-in_err-map_err-clause-looks g c =
+pub returns-in_err-line-clause-looks : goal.returns-in_err-line-clause-looks
+returns-in_err-line-clause-looks g c =
     looks_trans _ _ _ c.loop-slot.invariant.looks (looks_trans _ _ _ c.label.ensures.looks c.line.ensures.looks)
 
 pub returns-in_err-push-clause-looks : goal.returns-in_err-push-clause-looks
@@ -45,17 +44,17 @@ loop-slot-preserved g c =
     let named : ReadsFor old s command.List =
     list_name old r s k c.loop-slot.invariant.looks inside c.loop-slot.invariant.reads c.label.ensures.looks c.label.ensures.reads in
     elim c.match-branch-2.branch [
-      | in-Some+in_ok-map_err+in_ok-push w ↦
+      | in-Some+in_ok-line+in_ok-push w ↦
           let t = g.C.Cells.sight w.line.new.cells in
-          let push : w.push.new.self.items ≡ made ++ w.in_ok-map_err.field-0 ∷ [] = w.in_ok-push.ensures.items in
+          let push : w.push.new.self.items ≡ made ++ w.in_ok-line.field-0 ∷ [] = w.in_ok-push.ensures.items in
           let on = w.line.ensures.looks in
           let yes : TellsLabelOf s k (Some w.in-Some.label) = subst (TellsLabelOf s k) w.in-Some.is told in
-          let line_is : TellsLine t k w.in_ok-map_err.field-0 = ok_mapped _ _ _ _ _ w.in_ok-map_err.was w.map_err.ensures.cases w.line.ensures.ok in
+          let line_is : TellsLine t k w.in_ok-line.field-0 = w.in_ok-line.ensures.ok in
           let more : ReadsFor old t command.List = list_line old s t k onto inside named on yes.0 w.line.ensures.reads in
           rw (w.cells-is, w.lines-is) (record {
             looks = looks_trans _ _ _ onto on;
             reads = more;
-            lines = one_full line r s slots k is c.label.ensures.looks made lines t on yes.0 w.in_ok-map_err.field-0 w.push.new.self.items
+            lines = one_full line r s slots k is c.label.ensures.looks made lines t on yes.0 w.in_ok-line.field-0 w.push.new.self.items
                 line_is push;
           })
       | in_default w ↦
@@ -82,8 +81,8 @@ returns-in_err-label-clause-reads g c =
     list_name old r s k c.loop-slot.invariant.looks inside c.loop-slot.invariant.reads c.label.ensures.looks c.label.ensures.reads in
     named
 
-pub returns-in_err-map_err-clause-reads : goal.returns-in_err-map_err-clause-reads
-returns-in_err-map_err-clause-reads g c =
+pub returns-in_err-line-clause-reads : goal.returns-in_err-line-clause-reads
+returns-in_err-line-clause-reads g c =
     let old = g.C.Cells.sight c.args.cells.now in
     let r = g.C.Cells.sight c.loop-slot.cells in
     let s = g.C.Cells.sight c.label.new.cells in

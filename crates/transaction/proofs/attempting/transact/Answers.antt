@@ -5,7 +5,6 @@ use Rattle.library.specs.declared.command.Command.{Command}
 use Rattle.library.specs.Transactions.{has_edit}
 use Rattle.cells.specs.declared.ending.RunError.{RunError}
 use Rattle.cells.specs.Answers.{has_staging, DoesAll, RunAnswers}
-use Rattle.lending.specs.declared.live.Stopped.{Stopped}
 use Rattle.cells.proofs.Sights.{onward_refl}
 use Rattle.commands.proofs.Allowed.{may_do_all}
 use Rattle.lending.specs.Lent.{Pass, Lends, is_writing, sight_of}
@@ -52,10 +51,10 @@ refuse-requires-clause-lawful c = λ commands reason is why.
     let cs = c.args.commands.now in
     let lends = subst (λ (b : Bool). Lends g c.args.kit c.mode_of-mode.result b old) (c.has_staging-may_stage.ensures ∙ ap has_staging c.as_slice-2.ensures)
     c.begin-live.ensures in
-    let answers = subst (λ (x : List Command). RunAnswers {S = Stopped} (sight_of old) (sight_of new) x (Err c.in-Err-Refused.field-0))
+    let answers = subst (λ (x : List Command). RunAnswers (sight_of old) (sight_of new) x (Err c.in-Err-Refused.field-0))
     c.as_slice-3.ensures c.in-Err-Refused.ensures.answers in
     may_be_refused g c.args.kit c.mode_of-mode.result cs old lends new c.run.ensures.onward c.requires.fit c.in-Err-Refused.refused
-    (subst (λ (e : RunError Stopped). RunAnswers {S = Stopped} (sight_of old) (sight_of new) cs (Err e)) c.in-Err-Refused.field-0-is answers)
+    (subst (λ (e : RunError). RunAnswers (sight_of old) (sight_of new) cs (Err e)) c.in-Err-Refused.field-0-is answers)
     commands reason is (why ∙ c.in-Err-Refused.refused-is)
 
 pub returns-in-Ok-clause-stored : goal.returns-in-Ok-clause-stored

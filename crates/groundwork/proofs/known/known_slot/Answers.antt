@@ -1,9 +1,8 @@
 use Rattle.std.proofs.Common.{ℕ, List, None, refl, sym, subst}
 use Rattle.cells.specs.Lookups.{Finds}
-use Rattle.cells.proofs.Mapped.{ok_mapped}
-use Rattle.replacements.specs.Replacing.{TellsUnknown}
+use Rattle.groundwork.specs.Known.{TellsUnknown}
 use Rattle.cells.specs.Footprints.{ReadsWhere, IsOfLook}
-use Rattle.replacements.proofs.replacing.slot_of.Goals as goal
+use Rattle.groundwork.proofs.known.known_slot.Goals as goal
 
 pub returns-in_default-clause-err : goal.returns-in_default-clause-err
 returns-in_default-clause-err g c =
@@ -11,8 +10,7 @@ returns-in_default-clause-err g c =
     let label = c.args.label.now in
     let finds : Finds s c.args.label.now None =
     subst (Finds s c.args.label.now) c.in_default.is
-    (subst (λ (l : List ℕ). Finds s l c.in_ok-slot.field-0) c.as_slice.ensures
-    (ok_mapped _ _ _ _ _ c.in_ok-slot.was c.map_err.ensures.cases c.find.ensures.ok)) in
+    (subst (λ (l : List ℕ). Finds s l c.in_ok-slot.field-0) c.as_slice.ensures c.in_ok-slot.ensures.ok) in
     subst (TellsUnknown s label) (sym c.into.ensures) (refl, finds)
 
 pub returns-in_err-slot-clause-reads : goal.returns-in_err-slot-clause-reads
