@@ -45,7 +45,8 @@ with_one_variable t w s room n =
 
 float_label_pass : (t : Tables) (f : Float) → IsNewFloat t f → length t.floats < 65535 → Pass (float_label_tests (bare t) f.label)
 float_label_pass t f n room =
-    none_cond _ _ _ n.label.plain (none_cond _ _ _ (unused t f.label n.new) (none_cond _ _ _ (lt-leb 65535 (length t.floats) room) refl))
+    none_cond _ _ _ n.sound.label.plain
+    (none_cond _ _ _ (unused t f.label n.new) (none_cond _ _ _ (lt-leb 65535 (length t.floats) room) refl))
 
 type_is : (t : Tables) (i : ℕ) → AreSound t → i < length t.constants → type_of t (word_at t.constants i) ≡ Ok i
 unfolding type_of meaning
@@ -66,8 +67,8 @@ pub with_one_float : (t : Tables) (f : Float) → AreSound t → length t.floats
     → AreSound (record t { floats = t.floats ++ f ∷ [] })
 with_one_float t f s room n =
     (float_sound (bare t) (with_float (bare t) f.label f.type_code f.variable) f.label (word_at t.constants f.type_code)
-    (word_at t.variables f.variable) f.type_code f.variable refl (alone_sound t _ s) n.label.word n.label.label
-    (float_label_pass t f n room) (type_is t f.type_code s n.type_within) (variable_is t f.variable s n.variable) refl).tables
+    (word_at t.variables f.variable) f.type_code f.variable refl (alone_sound t _ s) n.sound.label.word n.sound.label.label
+    (float_label_pass t f n room) (type_is t f.type_code s n.sound.type_within) (variable_is t f.variable s n.variable) refl).tables
 
 -- ---- the tables so far, with the name at the next place
 
@@ -131,9 +132,8 @@ module _ (t : Tables) (sound : IsSoundPrelude t) where
   float_at_place i lt =
       let f = floats_sound t sound i no_float lt in
       record {
-        label = f.label;
+        sound = record { label = f.label; type_within = f.type_within; variable_within = f.variable_within };
         new = float_label_is_new t sound i (float_at t.floats i) lt refl;
-        type_within = f.type_within;
         variable = record {
           within = f.variable_within;
           free = float_variable_is_free t sound i (float_at t.floats i) lt refl;

@@ -7,7 +7,7 @@ use Rattle.mmtext.specs.Words.{Word}
 use Rattle.mmsyntax.specs.Tables.{Tables, meaning}
 use Rattle.mmsyntax.specs.Rows.{Units, is_unit_label, clashes}
 use Rattle.mmsyntax.specs.Layout.{word_at}
-use Rattle.mmsyntax.specs.Preludes.{IsSymbolWord, IsLabelWord}
+use Rattle.mmsyntax.specs.Preludes.{IsSymbolWord, IsFloatSound}
 use Rattle.mmsyntax.specs.Assertions.{IsUnit, is_lawful_label}
 
 -- a constant or a variable that isn't declared yet
@@ -22,9 +22,8 @@ pub record IsFreeVariable (t : Tables) (v : ℕ) : Type 0 where
 
 -- a $f with a new label, a declared type, and a variable that has none
 pub record IsNewFloat (t : Tables) (f : Float) : Type 0 where
-  pub label : IsLabelWord f.label
+  pub sound : IsFloatSound t f
   pub new : meaning t f.label ≡ None
-  pub type_within : f.type_code < length t.constants
   pub variable : IsFreeVariable t f.variable
 
 -- an assertion over a prelude, with a lawful label that no unit has, and that clashes with that of none

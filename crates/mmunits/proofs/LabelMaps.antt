@@ -9,8 +9,7 @@ use Rattle.std.specs.HashMap as hash
 use Rattle.std.specs.HashMap.{HashMap}
 use Rattle.std.specs.declared.alloc.Global.{Global}
 use Rattle.std.specs.declared.random_state.RandomState.{RandomState}
-use Rattle.std.proofs.lemmas.Bool.{cases_Bool}
-use Rattle.std.proofs.lemmas.Bool.Decides.{nat_tests}
+use Rattle.std.proofs.lemmas.Bool.{cases_Bool, lt-ltb, le-ltb}
 use Rattle.mmtext.specs.Words.{Word}
 use Rattle.mmsyntax.specs.declared.statement.Assertion.{Assertion}
 use Rattle.mmsyntax.specs.Dotted.{is_dotted, trunk}
@@ -53,25 +52,19 @@ any_where p q b (x ∷ xs) same = ap (λ c. c || list_any p xs) (same x) ∙ ap 
 
 -- ---- the L of a word L.k
 
-shorter : (m n : ℕ) → m < n → ltb m n ≡ true
-shorter m n h = grind (arith, nat_tests)
-
-no_shorter : (m n : ℕ) → n ≤ m → ltb m n ≡ false
-no_shorter m n h = grind (arith, nat_tests)
-
 -- a word is L.k for its trunk alone, which is shorter then
 pub dotted_by_trunk : (l w : Word) → is_dotted l w ≡ (ltb (length (trunk w)) (length w) && bytes_eq (trunk w) l)
 dotted_by_trunk l w = elim (cases_Bool (is_dotted l w)) [
   | inl y ↦
       let is = dotted_trunk l w y in
-      let longer = shorter (length l) (length w) (dotted_longer l w y) in
+      let longer = lt-ltb (length l) (length w) (dotted_longer l w y) in
       y
       ∙ sym
       (ap (λ x. ltb (length x) (length w) && bytes_eq x l) is ∙ both (ltb (length l) (length w)) (bytes_eq l l) longer (bytes_eq-same l))
   | inr n ↦ n ∙ sym (elim (trunk_whole_or_dotted w) [
     | inl whole ↦
         ap (λ x. ltb (length x) (length w) && bytes_eq (trunk w) l) whole
-        ∙ ap (λ b. b && bytes_eq (trunk w) l) (no_shorter (length w) (length w) (omega arith))
+        ∙ ap (λ b. b && bytes_eq (trunk w) l) (le-ltb (length w) (length w) (omega arith))
     | inr dotted ↦ not_both (ltb (length (trunk w)) (length w)) (bytes_eq (trunk w) l)
         (λ y. sym (ap (λ x. is_dotted x w) (same_bytes (trunk w) l y)) ∙ dotted) n
   ])
@@ -100,13 +93,13 @@ clashes_by_trunk xs w =
 pub looked_up : (xs : List Assertion) (w front : Word) (b : Bool) → front ≡ trunk w → length front < length w
     → b ≡ is_assertion_label xs front → b ≡ has_trunk xs w
 looked_up xs w front b is short e =
-    e ∙ ap (λ x. x && is_assertion_label xs front) (sym (shorter (length front) (length w) short))
+    e ∙ ap (λ x. x && is_assertion_label xs front) (sym (lt-ltb (length front) (length w) short))
     ∙ ap (λ l. ltb (length l) (length w) && is_assertion_label xs l) is
 
 pub not_looked_up : (xs : List Assertion) (w front : Word) (b : Bool) → front ≡ trunk w → length w ≤ length front
     → b ≡ ltb (length front) (length w) → b ≡ has_trunk xs w
 not_looked_up xs w front b is long e =
-    let no = no_shorter (length front) (length w) long in
+    let no = le-ltb (length front) (length w) long in
     e ∙ no ∙ ap (λ x. x && is_assertion_label xs front) (sym no)
     ∙ ap (λ l. ltb (length l) (length w) && is_assertion_label xs l) is
 
@@ -159,7 +152,7 @@ pub trunk_put : (m n : HashMap (Vec ℕ Global) (Unit {0}) RandomState) (label f
 trunk_put m n label front is short h w =
     let others = is_some (hash.get_by (λ q. bytes_eq w q.items) m) in
     ap is_some (h w) ∙ is_some-cond (bytes_eq front w) (hash.get_by (λ q. bytes_eq w q.items) m)
-    ∙ ap (λ b. (b && bytes_eq front w) || others) (sym (shorter (length front) (length label) short))
+    ∙ ap (λ b. (b && bytes_eq front w) || others) (sym (lt-ltb (length front) (length label) short))
     ∙ ap (λ l. (ltb (length l) (length label) && bytes_eq l w) || others) is
     ∙ ap (λ b. b || others) (sym (dotted_by_trunk w label))
 
@@ -168,7 +161,7 @@ pub no_trunk : (m : HashMap (Vec ℕ Global) (Unit {0}) RandomState) (label fron
     → length label ≤ length front → FindsTrunkToo m label m
 no_trunk m label front is long w =
     let others = is_some (hash.get_by (λ q. bytes_eq w q.items) m) in
-    ap (λ b. (b && bytes_eq front w) || others) (sym (no_shorter (length front) (length label) long))
+    ap (λ b. (b && bytes_eq front w) || others) (sym (le-ltb (length front) (length label) long))
     ∙ ap (λ l. (ltb (length l) (length label) && bytes_eq l w) || others) is
     ∙ ap (λ b. b || others) (sym (dotted_by_trunk w label))
 

@@ -49,7 +49,9 @@ pub counted_is : (labels : List Word) (ns : List Shared) (root k : ℕ) (tree : 
     → option_map counted (slice_get (sizes ns) root) ≡ Some k → counted (size tree) ≡ k
 counted_is labels ns root k tree stands told =
     let e : slice_get (sizes ns) root ≡ Some (size tree) =
-    ap (λ ks. slice_get ks root) (sym (sizes_of_trees labels ns)) ∙ slice_get-map size (trees labels ns) root ∙ ap (option_map size) stands in
+    ap (λ ks. slice_get ks root) (sym (sizes_of_trees labels ns))
+    ∙ slice_get-map size (trees labels ns) root
+    ∙ ap (option_map size) stands in
     same_Some (counted (size tree)) k (ap (option_map counted) (sym e) ∙ told)
 
 -- ---- trees

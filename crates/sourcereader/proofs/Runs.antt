@@ -213,7 +213,7 @@ place_stands p (in_steps label e ws) t m h = proof_stands p label e ws t m h
 place_stands p (in_labels label e ws) t m h = labels_stands p label e ws t h
 place_stands p (in_letters label e ws ls) t m h = letters_stands p label e ws ls t m h
 
-pub row_stands : (p : Position) (t : Token) → StandsAt p → OkStands (row p t)
+pub row_stands : (p : Position) (t : Token) → Stands p.stand.scope p.place → OkStands (row p t)
 unfolding row
 row_stands p t h = place_stands p p.place t (mark_of t.text) h
 

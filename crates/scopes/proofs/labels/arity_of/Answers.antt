@@ -29,7 +29,8 @@ returns-in_ok-assertion-in-Assertion c =
     slice_get-map (assertion_of links aparts) (map entry_of t.assertions.items) i ∙ ap (option_map (assertion_of links aparts)) entry in
     let es = map entry_of t.assertions.items in
     let counted = subst (IsCounted links (length aparts)) (get_or_from_slice_get es i (entry_of a) (entry_of a) entry)
-    (All-from_recursion (IsCounted links (length aparts)) es c.requires.sound.counted i (entry_of a) (slice_get_within es i (entry_of a) entry)) in
+    (All-from_recursion (IsCounted links (length aparts)) es c.requires.sound.counted i (entry_of a)
+    (slice_get_within es i (entry_of a) entry)) in
     let w = c.args._word.now in
     let k = subst (λ (o : Sort). IsSortOf s w o) c.in-Assertion.is c.requires.sort in
     let none : List Hypothesis = [] in
