@@ -2,7 +2,6 @@ mod Across
 mod WordsRead
 mod Opened
 mod Passed
-mod Finds
 mod Asserted
 mod BlocksRead
 mod Skipped

@@ -1,3 +1,4 @@
 mod Changing
 pub mod Places
 mod Ordered
+pub mod Finding

@@ -1,7 +1,8 @@
 -- Assertions that stay, in their order.
 use Rattle.std.proofs.Common.{◌≡◌, ◌∙◌, ℕ, zero, suc, ◌+◌, ◌<◌, ◌≤◌, List, [], ◌∷◌, length, take, map, get_or, Option, Some, None, refl, sym, ap, subst}
-use Rattle.std.proofs.Common.{arith, add-one}
+use Rattle.std.proofs.Common.{arith, add-one, inl, inr}
 use Rattle.std.specs.Prelude.{slice_get}
+use Rattle.std.proofs.lemmas.Option.{slice_get_cases, slice_get_within}
 use Rattle.std.proofs.lemmas.List.{length-map, length-take-le, take_all}
 use Rattle.source.specs.Scopes.{Assertion}
 use Rattle.giving.specs.Staying.{Change, StayAll, IsFirstNotStaying}
@@ -51,23 +52,15 @@ as_many : (xs found : List Assertion) (ks : List ℕ) → map (slice_get xs) ks 
 as_many xs found ks e =
     sym (length-map found (λ (x : Assertion). Some x)) ∙ (ap length (sym e) ∙ length-map ks (slice_get xs))
 
-item : (xs : List Assertion) (n : ℕ) → n < length xs → (x : Assertion) × (slice_get xs n ≡ Some x)
-item [] n h = absurd (omega arith)
-item (x ∷ xs) zero h = (x, refl)
-item (x ∷ xs) (suc n) h = item xs n (omega arith)
-
-within : (xs : List Assertion) (n : ℕ) (x : Assertion) → slice_get xs n ≡ Some x → n < length xs
-within [] n x h = absurd cc
-within (y ∷ xs) zero x h = omega arith
-within (y ∷ xs) (suc n) x h = let l = within xs n x h in omega arith
-
 -- the place of one of them is within
 pub place_within : (xs found : List Assertion) (ks : List ℕ) (n k : ℕ) → map (slice_get xs) ks ≡ map (λ x. Some x) found → n < length ks
     → k ≡ get_or ks n 0 → k < length xs
 place_within xs found ks n k e l at =
     let many = as_many xs found ks e in
-    let x = item found n (omega (arith, many)) in
-    within xs k x.0 (ap (slice_get xs) at ∙ (at_place xs found ks n e l ∙ x.1))
+    elim (slice_get_cases found n).1 [
+      | inl x ↦ slice_get_within xs k x.0 (ap (slice_get xs) at ∙ (at_place xs found ks n e l ∙ x.2))
+      | inr m ↦ absurd (let past : length found ≤ n = m.0 in omega (arith, many))
+    ]
 
 -- ---- assertions that stand at places of two sources
 module _ (cs : List Change) (xs ys olds news : List Assertion) (ks js : List ℕ) (p : map (slice_get xs) ks ≡ map (λ x. Some x) olds)

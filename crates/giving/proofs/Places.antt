@@ -1,9 +1,10 @@
 -- The places of what flags don't choose, one after the other.
-use Rattle.std.proofs.Common.{◌≡◌, ◌∙◌, ℕ, zero, suc, ◌+◌, ◌<◌, Bool, true, false, List, [], ◌∷◌, ◌++◌, length, take, map, get_or, Option, Some, refl, sym, ap}
-use Rattle.std.proofs.Common.{arith, add-one}
+use Rattle.std.proofs.Common.{◌≡◌, ◌∙◌, ℕ, zero, suc, ◌+◌, ◌<◌, ◌≤◌, Bool, true, false, List, [], ◌∷◌, ◌++◌, length, take, map, get_or, Option, Some, refl, sym, ap}
+use Rattle.std.proofs.Common.{arith, add-one, inl, inr}
 use Rattle.std.specs.Prelude.{slice_get}
 use mathlib.Core.Bool.{not}
 use Rattle.std.proofs.lemmas.List.{map-append, append-nil}
+use Rattle.std.proofs.lemmas.Option.{slice_get_cases}
 use Rattle.taking.specs.Reasons.{kept_at}
 use Rattle.source.specs.Scopes.{Assertion}
 use Rattle.giving.specs.Staying.{others}
@@ -23,32 +24,31 @@ others_more (f ∷ fs) (y ∷ ys) (suc i) x h e =
     ap (kept_at (not f) y) (others_more fs ys i x (omega arith) e)
     ∙ step (not f) y (others (take i fs) (take i ys)) (kept_at (not (get_or fs i false)) x [])
 
-there : (xs : List Assertion) (k : ℕ) → k < length xs → (x : Assertion) × (slice_get xs k ≡ Some x)
-there [] k h = absurd (omega arith)
-there (x ∷ xs) zero h = (x, refl)
-there (x ∷ xs) (suc k) h = there xs k (omega arith)
-
 abbrev somes : List Assertion → List (Option Assertion)
 somes xs = map (λ x. Some x) xs
 
 pub other_more : (flags : List Bool) (i : ℕ) (ks : List ℕ) → i < length flags → get_or flags i false ≡ false
     → ArePlacesBefore i flags ks → ArePlacesBefore (i + 1) flags (ks ++ i ∷ [])
-other_more flags i ks h flag before xs many =
-    let x = there xs i (omega (arith, many)) in
-    rw add-one
-    (map-append (slice_get xs) ks (i ∷ [])
-    ∙ ap (λ ys. ys ++ slice_get xs i ∷ []) (before xs many)
-    ∙ ap (λ o. somes (others (take i flags) (take i xs)) ++ o ∷ []) x.1
-    ∙ sym (map-append (λ (x : Assertion). Some x) (others (take i flags) (take i xs)) (x.0 ∷ []))
-    ∙ ap (λ b. somes (others (take i flags) (take i xs) ++ kept_at (not b) x.0 [])) (sym flag)
-    ∙ ap somes (sym (others_more flags xs i x.0 h x.1)))
+other_more flags i ks h flag before xs many = elim (slice_get_cases xs i).1 [
+  | inl x ↦
+      rw add-one
+      (map-append (slice_get xs) ks (i ∷ [])
+      ∙ ap (λ ys. ys ++ slice_get xs i ∷ []) (before xs many)
+      ∙ ap (λ o. somes (others (take i flags) (take i xs)) ++ o ∷ []) x.2
+      ∙ sym (map-append (λ (x : Assertion). Some x) (others (take i flags) (take i xs)) (x.0 ∷ []))
+      ∙ ap (λ b. somes (others (take i flags) (take i xs) ++ kept_at (not b) x.0 [])) (sym flag)
+      ∙ ap somes (sym (others_more flags xs i x.0 h x.2)))
+  | inr m ↦ absurd (let past : length xs ≤ i = m.0 in omega (arith, many, h))
+]
 
 pub chosen_more : (flags : List Bool) (i : ℕ) (ks : List ℕ) → i < length flags → get_or flags i false ≡ true
     → ArePlacesBefore i flags ks → ArePlacesBefore (i + 1) flags ks
-chosen_more flags i ks h flag before xs many =
-    let x = there xs i (omega (arith, many)) in
-    rw add-one
-    (before xs many
-    ∙ ap somes (sym (append-nil (others (take i flags) (take i xs))))
-    ∙ ap (λ b. somes (others (take i flags) (take i xs) ++ kept_at (not b) x.0 [])) (sym flag)
-    ∙ ap somes (sym (others_more flags xs i x.0 h x.1)))
+chosen_more flags i ks h flag before xs many = elim (slice_get_cases xs i).1 [
+  | inl x ↦
+      rw add-one
+      (before xs many
+      ∙ ap somes (sym (append-nil (others (take i flags) (take i xs))))
+      ∙ ap (λ b. somes (others (take i flags) (take i xs) ++ kept_at (not b) x.0 [])) (sym flag)
+      ∙ ap somes (sym (others_more flags xs i x.0 h x.2)))
+  | inr m ↦ absurd (let past : length xs ≤ i = m.0 in omega (arith, many, h))
+]

@@ -25,36 +25,25 @@ not_word m k w v is marked differs = elim (cases_Bool (bytes_eq w v)) [
   | inr n ↦ n
 ]
 
-of_comment : mark_of (codes "$(") ≡ mark.Comment
-unfolding mark_of
-of_comment = refl
-
-of_uncomment : mark_of (codes "$)") ≡ mark.Uncomment
-unfolding mark_of
-of_uncomment = refl
-
-of_end : mark_of (codes "$.") ≡ mark.End
-unfolding mark_of
-of_end = refl
-
-of_proof : mark_of (codes "$=") ≡ mark.Proof
-unfolding mark_of
-of_proof = refl
-
 pub begins_none : (m : Mark) (w : Word) → m ≡ mark_of w → m ≢ mark.Proof → bytes_eq w (codes "$=") ≡ false
-begins_none m w = not_word m mark.Proof w (codes "$=") of_proof
+unfolding mark_of
+begins_none m w = not_word m mark.Proof w (codes "$=") refl
 
 pub is_no_end : (m : Mark) (w : Word) → m ≡ mark_of w → m ≢ mark.End → bytes_eq w (codes "$.") ≡ false
-is_no_end m w = not_word m mark.End w (codes "$.") of_end
+unfolding mark_of
+is_no_end m w = not_word m mark.End w (codes "$.") refl
 
 pub opens_none : (m : Mark) (w : Word) → m ≡ mark_of w → m ≢ mark.Comment → bytes_eq w (codes "$(") ≡ false
-opens_none m w = not_word m mark.Comment w (codes "$(") of_comment
+unfolding mark_of
+opens_none m w = not_word m mark.Comment w (codes "$(") refl
 
 pub closes_none : (m : Mark) (w : Word) → m ≡ mark_of w → m ≢ mark.Uncomment → bytes_eq w (codes "$)") ≡ false
-closes_none m w = not_word m mark.Uncomment w (codes "$)") of_uncomment
+unfolding mark_of
+closes_none m w = not_word m mark.Uncomment w (codes "$)") refl
 
 pub ends_none : (m : Mark) (w : Word) → m ≡ mark_of w → m ≢ mark.End → w ≢ codes "$."
-ends_none m w marked differs = λ e. differs (marked ∙ (ap mark_of e ∙ of_end))
+unfolding mark_of
+ends_none m w marked differs = λ e. differs (marked ∙ ap mark_of e)
 
 -- ---- comments
 

@@ -1,12 +1,12 @@
 -- Chosen assertions beside those of a library, one more at a time.
-use Rattle.std.proofs.Common.{◌≡◌, ◌∙◌, ℕ, ◌+◌, ◌<◌, ◌≤◌, Bool, true, false, List, [], ◌∷◌, ◌++◌, map, filter, take, drop, get_or, length, Option, Some, refl, sym, ap, arith, cond, subst, inl, inr}
+use Rattle.std.proofs.Common.{◌≡◌, ◌∙◌, ℕ, ◌+◌, ◌<◌, ◌≤◌, Bool, true, false, List, [], ◌∷◌, ◌++◌, map, filter, take, drop, get_or, length, Option, Some, refl, sym, ap, arith, cond, subst}
 use Rattle.std.specs.Prelude.{slice_get}
 use Rattle.std.specs.Borrow.{Bor}
 use Rattle.std.specs.List.{zip}
 use Rattle.std.specs.Option.{option_map}
 use Rattle.std.proofs.lemmas.List.{map-append, append-nil, length-append, length-map, take-append-drop, get_or-map}
 use Rattle.std.proofs.lemmas.List.Elements.{filter_more, filter-append}
-use Rattle.std.proofs.lemmas.Option.{slice_get-map, slice_get_within, slice_get_cases, get_or_from_slice_get, same_Some}
+use Rattle.std.proofs.lemmas.Option.{slice_get-map, slice_get_within, get_or_from_slice_get, same_Some}
 use Rattle.mmtext.specs.Words.{Word}
 use Rattle.mmsyntax.specs.declared.statement.Assertion.{Assertion as Unit'}
 use Rattle.source.specs.Scopes.{Assertion, Pair, is_in}
@@ -42,9 +42,6 @@ zip_past (x ∷ ks) more [] h = refl
 zip_past (x ∷ ks) more (v ∷ vs) h = ap (λ ps. (x, v) ∷ ps) (zip_past ks more vs (omega arith))
 
 -- ---- assertions
-
-pub there_is : (xs : List Assertion) (k : ℕ) → k < length xs → (x : Assertion) × (slice_get xs k ≡ Some x)
-there_is xs k h = elim (slice_get_cases xs k).1 [ inl y ↦ (y.0, y.2) | inr n ↦ absurd (let past : length xs ≤ k = n.0 in omega arith) ]
 
 -- the label that is found at a place is that of the assertion there
 pub label_is : (l : Bor (List ℕ)) (r : Option (Bor (List ℕ))) (x : Assertion) (o : Option Assertion) → r ≡ Some l

@@ -1,7 +1,7 @@
 -- What is left to show of `is_gone`.
 use Rattle.std.proofs.Common.{◌∙◌, sym, subst}
+use Rattle.giving.proofs.Finding.{text_found}
 use Rattle.comments.specs.Insides.{labels_in, IsGoneLabel}
-use Rattle.comments.proofs.Finds.{text_found}
 use Rattle.comments.proofs.inside.is_gone.Goals as goal
 
 pub returns-in-Some : goal.returns-in-Some

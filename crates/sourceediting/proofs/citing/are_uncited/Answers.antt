@@ -1,17 +1,16 @@
 -- What is left to show of `are_uncited`.
-use Rattle.std.proofs.Common.{◌≡◌, ◌∙◌, List, ℕ, Bool, true, false, take, refl, sym, ap, subst, arith, Option}
+use Rattle.std.proofs.Common.{◌≡◌, ◌∙◌, ◌≤◌, List, ℕ, Bool, true, false, inl, inr, length, take, refl, sym, ap, subst, arith, Option}
 use Rattle.std.specs.Prelude.{All, IsTrue, is_some}
 use mathlib.Core.Bool.{not}
 use Rattle.std.specs.Borrow.{Bor}
 use Rattle.std.proofs.lemmas.List.{take_all}
-use Rattle.std.proofs.lemmas.Option.{MatchOption-at_some}
+use Rattle.std.proofs.lemmas.Option.{MatchOption-at_some, slice_get_cases}
 use Rattle.mmtext.specs.Words.{Word}
 use Rattle.source.specs.Scopes.{Assertion}
 use Rattle.source.specs.Views.{seen_words}
 use Rattle.giving.specs.Staying.{others}
 use Rattle.sourceediting.specs.Following.{names_none}
 use Rattle.sourceediting.proofs.Marks.{firsts, firsts_marked}
-use Rattle.sourceediting.proofs.Origins.{there_is}
 use Rattle.sourceediting.proofs.Others.{own_passes, other_passes}
 use Rattle.sourceediting.proofs.citing.are_uncited.Goals as goal
 
@@ -26,23 +25,31 @@ pub loop-place-preserved-then-is_own : goal.loop-place-preserved-then-is_own
 loop-place-preserved-then-is_own g c =
     let xs : List Assertion = (g.D.Declared.scope c.args.declared.now).assertions in
     let i = c.loop-place.place in
-    let x = there_is xs i (omega (arith, c.requires)) in
-    own_passes (IsUncited (seen_words c.args.gone.now)) c.args.own.now xs i x.0 c.loop-place-test.true x.1 c.loop-place.invariant c.if-is_own.true
+    elim (slice_get_cases xs i).1 [
+      | inl x ↦
+          own_passes (IsUncited (seen_words c.args.gone.now)) c.args.own.now xs i x.0 c.loop-place-test.true x.2 c.loop-place.invariant
+          c.if-is_own.true
+      | inr m ↦ absurd (let past : length xs ≤ i = m.0 in omega (arith, c.requires))
+    ]
 
 pub loop-place-preserved : goal.loop-place-preserved
 loop-place-preserved g c =
     let xs : List Assertion = (g.D.Declared.scope c.args.declared.now).assertions in
     let i = c.loop-place.place in
-    let x = there_is xs i (omega (arith, c.requires)) in
     let gone = seen_words c.args.gone.now in
-    let among : firsts c.in_ok-gone.gone ≡ gone = ap firsts c.in_ok-gone.ensures ∙ firsts_marked gone in
-    let said : is_some c.first_gone_at.result ≡ not (names_none (firsts c.in_ok-gone.gone) x.0.proof) =
-    MatchOption-at_some _ (λ (x : Assertion). is_some c.first_gone_at.result ≡ not (names_none (firsts c.in_ok-gone.gone) x.proof)) x.0 x.1
-    c.first_gone_at.ensures in
-    let none : IsUncited gone x.0 =
-    ap (λ (ws : List Word). names_none ws x.0.proof) (sym among)
-    ∙ opposite (names_none (firsts c.in_ok-gone.gone) x.0.proof) (ap (λ (o : Option (Bor (List ℕ))). is_some o) (sym c.in_default.is) ∙ said) in
-    other_passes (IsUncited gone) c.args.own.now xs i x.0 c.loop-place-test.true x.1 c.loop-place.invariant c.if-is_own.false none
+    let firsts_gone = firsts c.in_ok-gone.gone in
+    let among : firsts_gone ≡ gone = ap firsts c.in_ok-gone.ensures ∙ firsts_marked gone in
+    elim (slice_get_cases xs i).1 [
+      | inl x ↦
+          let said : is_some c.first_gone_at.result ≡ not (names_none firsts_gone x.0.proof) =
+          MatchOption-at_some _ (λ (x : Assertion). is_some c.first_gone_at.result ≡ not (names_none firsts_gone x.proof)) x.0 x.2
+          c.first_gone_at.ensures in
+          let none : IsUncited gone x.0 =
+          ap (λ (ws : List Word). names_none ws x.0.proof) (sym among)
+          ∙ opposite (names_none firsts_gone x.0.proof) (ap (λ (o : Option (Bor (List ℕ))). is_some o) (sym c.in_default.is) ∙ said) in
+          other_passes (IsUncited gone) c.args.own.now xs i x.0 c.loop-place-test.true x.2 c.loop-place.invariant c.if-is_own.false none
+      | inr m ↦ absurd (let past : length xs ≤ i = m.0 in omega (arith, c.requires))
+    ]
 
 pub returns : goal.returns
 returns g c =

@@ -8,7 +8,8 @@ use Rattle.std.proofs.lemmas.List.Folds.{list_any_at, list_any_more}
 use Rattle.mmtext.specs.Words.{Word}
 use Rattle.source.specs.Scopes.{is_in}
 use Rattle.source.specs.Views.{seen_words}
-use Rattle.sourceediting.proofs.Marks.{firsts, text_found}
+use Rattle.giving.proofs.Finding.{text_found}
+use Rattle.sourceediting.proofs.Marks.{firsts}
 use Rattle.sourceediting.proofs.citing.first_gone.Goals as goal
 
 abbrev now : Bor (List ℕ) → Word
