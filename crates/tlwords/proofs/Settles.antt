@@ -28,7 +28,7 @@ use Rattle.tlwords.specs.Committing.{held_in, holding, locking, Goes, Meets, Fai
 use Rattle.tlwords.proofs.Seens.{done_grows, permits_grow}
 use Rattle.tlwords.proofs.Held.{held_cell, held_find, held_writes}
 use Rattle.tlwords.proofs.Knows.{concludes, told_of}
-use Rattle.tlwords.proofs.Turns.{moves_then, moves_grow, sees_on, goes_start, goes_seat, goes_setting}
+use Rattle.tlwords.proofs.Turns.{moves_then, moves_grow, sees_on, goes_start, goes_seat}
 use Rattle.tlwords.proofs.Releases.{nil_not}
 
 module _ (slots : List Slot) where
@@ -141,15 +141,13 @@ module _ {S N : Type 0} (terms : Terms S N) (slots : List Slot) (x : N) (p : Tab
     pub taken_writes : writes_of l.0.seat.held ≡ writes_kept slots
     taken_writes = ap (λ (t : Seat). writes_of t.held) taken_seat ∙ held_writes slots 0 (length slots)
 
-    pub taken_lawful : (y : S) → m.0.setting ≡ Some y → IsLawful terms g x
-        → (z : S) × (l.0.setting ≡ Some z) × Permits terms z l.0.seen.ranges (reads_of l.0.seat.reads) (writes_of l.0.seat.held) x
-    taken_lawful y e law = (
-      y,
-      goes_setting terms m l (locking m.0.seat Taking Reading all) y a e,
-      subst (λ (ws : Pairs). Permits terms y l.0.seen.ranges (reads_of l.0.seat.reads) ws x) (sym taken_writes)
-          (subst (λ (t : Seat). Permits terms y l.0.seen.ranges (reads_of t.reads) (writes_kept slots) x) (sym taken_seat)
-          (permits_grow terms y m.0.seen.ranges l.0.seen.ranges (moves_grow terms m l a.moves).2 (law y e))),
-    )
+    pub taken_lawful : IsLawful terms g x → (y : S) → l.0.setting ≡ Some y
+        → Permits terms y l.0.seen.ranges (reads_of l.0.seat.reads) (writes_of l.0.seat.held) x
+    taken_lawful law y e =
+        subst (λ (ws : Pairs). Permits terms y l.0.seen.ranges (reads_of l.0.seat.reads) ws x) (sym taken_writes)
+        (subst (λ (t : Seat). Permits terms y l.0.seen.ranges (reads_of t.reads) (writes_kept slots) x) (sym taken_seat)
+        (permits_grow terms y m.0.seen.ranges l.0.seen.ranges (moves_grow terms m l a.moves).2
+        (law y (ap (λ (v : View S N). v.setting) (sym a.is) ∙ e))))
 
     -- ---- a number was drawn
 
@@ -165,9 +163,6 @@ module _ {S N : Type 0} (terms : Terms S N) (slots : List Slot) (x : N) (p : Tab
 
       drawn_seat : r.0.seat ≡ record (locking m.0.seat Taking Reading all) { place = Checking n 0; looked = l.0.seat.looked }
       drawn_seat = ap (λ (v : View S N). v.seat) drawn_is
-
-      pub drawn_setting : (y : S) → m.0.setting ≡ Some y → r.0.setting ≡ Some y
-      drawn_setting y e = ap (λ (v : View S N). v.setting) drawn_is ∙ e
 
       sees_drawn : Sees terms m.0 r.0
       sees_drawn = moves_then terms m l r a.moves d.sees
@@ -239,8 +234,11 @@ module _ {S N : Type 0} (terms : Terms S N) (slots : List Slot) (x : N) (p : Tab
         passed_reads : s.0.seat.reads ≡ m.0.seat.reads
         passed_reads = ap (λ (t : Seat). t.reads) passed_seat ∙ ap (λ (t : Seat). t.reads) drawn_seat
 
-        pub passed_setting : (y : S) → m.0.setting ≡ Some y → s.0.setting ≡ Some y
-        passed_setting y e = ap (λ (v : View S N). v.setting) b.goes.is ∙ drawn_setting y e
+        pub passed_same : (s.0.setting ≡ m.0.setting) × (length s.0.base ≡ length m.0.base)
+        passed_same = (
+          ap (λ (v : View S N). v.setting) b.goes.is ∙ ap (λ (v : View S N). v.setting) drawn_is,
+          ap (λ (v : View S N). length v.base) b.goes.is ∙ ap (λ (v : View S N). length v.base) drawn_is,
+        )
 
         module _ (z : Mine S N) (c : StoresTo terms slots n (work_kept s.0.seat slots x) (length slots) s z) where
           pub done_releases : (high w : ℕ) → high ≡ length slots → w ≡ 2 * suc n → Releasing terms slots high (Some w) 0 z z

@@ -9,6 +9,7 @@ use Rattle.atomic_table.specs.declared.shared.Seat.{Seat as TableSeat}
 use Rattle.tlwords.specs.declared.log.Slot.{Slot}
 use Rattle.tlwords.specs.declared.mode.Mode.{Mode}
 use Rattle.tlwords.specs.declared.mode.Mode.TheVariants.{Reading, Writing}
+use Rattle.tlwords.specs.declared.words.Words.{Words}
 use Rattle.ranges.specs.Ranges.{Range, Has, AreOfOneStore}
 use Rattle.tlwords.specs.Terms.{Terms}
 use Rattle.tlwords.specs.Views.{View, fresh}
@@ -81,6 +82,12 @@ module _ {S N : Type 0} where
   -- the opening's passes
   abbrev pub IsNew : S → List ℕ → ℕ → List Range → View S N → Type 0
   IsNew setting base room ranges v = v ≡ fresh (Some setting) base room ranges v.name 1
+
+-- the seat is one of the words' table, of their opening
+pub record IsSeated {L S N : Type 0} (words : Words L S N) (seat : TableSeat (Unit {0}) (View S N)) : Type 0 where
+  pub table : seat.table_id ≡ words.table.shared.table_id
+  pub setting : (x : S) × (seat.me.0.setting ≡ Some x)
+  pub cells : words.cells ≡ length seat.me.0.base
 
 -- what holds of a pass with this seat: what it keeps of the cells, how many numbers it drew, and whether a staging of it was refused
 pub record Rests {S N : Type 0} (seat : TableSeat (Unit {0}) (View S N)) (slots : List Slot) (count : ℕ) (full : Bool) : Type 0 where

@@ -6,7 +6,7 @@ ghost use Rattle.tlwords.specs.Walks.{IsPlan};
 ghost use Rattle.tlcore.specs.Seats.{is_next, all_settled};
 ghost use Rattle.tlcore.specs.declared.seats.Place.TheVariants.{Reading as AtReading, Taking, Checking};
 ghost use Rattle.tlwords.specs.Plays.{IsSameSeat};
-ghost use Rattle.tlwords.specs.Runs.{IsKeptOf, noted, IsRunOf};
+ghost use Rattle.tlwords.specs.Runs.{IsKeptOf, noted, IsRunOf, IsSeated};
 ghost use Rattle.tlwords.specs.declared.mode.Mode.TheVariants.{Reading, Writing};
 ghost use Rattle.tlwords.specs.declared.outcome.Outcome.TheVariants.{Read as EndsRead};
 ghost use Rattle.tlwords.specs.Commits.{writes_kept, work_kept};
@@ -25,9 +25,8 @@ use std::marker::Brand;
 
 // Locks the cells to be written, in ascending order. An error is the try that failed; the smaller cells are locked still.
 fn take_all<L: Law>(words: &Words<L>, seat: &mut Place<L>, log: &Log) -> Result<(), Conflict>
-    requires table { seat.old.table_id ≡ words.now.table.shared.table_id }
-    requires setting { (y : L.Setting) × (seat.old.me.0.setting ≡ Some y) }
-    requires cells { (length log.now.slots ≡ words.now.cells) × (length log.now.slots ≡ length seat.old.me.0.base) }
+    requires seated { IsSeated words.now seat.old }
+    requires cells { length log.now.slots ≡ words.now.cells }
     requires run { (seat.old.me.0.seat.place ≡ AtReading) × (seat.old.me.0.seat.held ≡ []) × (1 ≤ seat.old.me.0.rights) }
     requires kept { IsKeptOf seat.old.me.0.seat log.now.slots }
     requires plan { IsPlan log.now.slots true log.now.writes.items }
@@ -58,9 +57,8 @@ fn check_all<L: Law>(
     place: u64,
     index: u64,
 ) -> Result<(), Conflict>
-    requires table { seat.old.table_id ≡ words.now.table.shared.table_id }
-    requires setting { (y : L.Setting) × (seat.old.me.0.setting ≡ Some y) }
-    requires cells { (length log.old.slots ≡ words.now.cells) × (length log.old.slots ≡ length seat.old.me.0.base) }
+    requires seated { IsSeated words.now seat.old }
+    requires cells { length log.old.slots ≡ words.now.cells }
     requires run { (seat.old.me.0.seat.place ≡ Checking index 0) × (seat.old.me.0.seat.rv ≡ place) × (seat.old.me.0.seat.held ≡ held_in log.old.slots 0 0 (length log.old.slots)) }
     requires kept { IsKeptOf seat.old.me.0.seat log.old.slots }
     ensures log { (log.new.slots ≡ log.old.slots) × (log.new.writes ≡ log.old.writes) }
@@ -88,9 +86,8 @@ fn check_all<L: Law>(
 
 // Stores the values, in ascending order of their cells.
 fn store_all<L: Law>(words: &Words<L>, seat: &mut Place<L>, log: &Log, index: u64, note: &L::Note)
-    requires table { seat.old.table_id ≡ words.now.table.shared.table_id }
-    requires setting { (y : L.Setting) × (seat.old.me.0.setting ≡ Some y) }
-    requires cells { (length log.now.slots ≡ words.now.cells) × (length log.now.slots ≡ length seat.old.me.0.base) }
+    requires seated { IsSeated words.now seat.old }
+    requires cells { length log.now.slots ≡ words.now.cells }
     requires run { (upto : ℕ) × (seat.old.me.0.seat.place ≡ Checking index upto) × ((is_next seat.old.me.0.seat index || all_settled seat.old.me.0.seat.held upto seat.old.me.0.seat.reads) ≡ true) }
     requires held { (seat.old.me.0.seat.held ≡ held_in log.now.slots 0 0 (length log.now.slots)) × (seat.old.me.0.note ≡ Some note.now) }
     requires kept { IsKeptOf seat.old.me.0.seat log.now.slots }
@@ -113,9 +110,8 @@ fn release_all<L: Law>(
     high: usize,
     new: Option<u64>,
 )
-    requires table { seat.old.table_id ≡ words.now.table.shared.table_id }
-    requires setting { (y : L.Setting) × (seat.old.me.0.setting ≡ Some y) }
-    requires cells { (length log.now.slots ≡ words.now.cells) × (length log.now.slots ≡ length seat.old.me.0.base) × (high ≤ length log.now.slots) }
+    requires seated { IsSeated words.now seat.old }
+    requires cells { (length log.now.slots ≡ words.now.cells) × (high ≤ length log.now.slots) }
     requires run { Releasing L.terms log.now.slots high new 0 seat.old.me seat.old.me }
     requires kept { IsKeptOf seat.old.me.0.seat log.now.slots }
     requires plan { IsPlan log.now.slots true log.now.writes.items }
@@ -143,8 +139,8 @@ fn settle<L: Law>(
     place: u64,
     note: &L::Note,
 ) -> Outcome
-    requires table { seat.old.table_id ≡ words.now.table.shared.table_id }
-    requires cells { (length log.old.slots ≡ words.now.cells) × (length log.old.slots ≡ length seat.old.me.0.base) }
+    requires seated { IsSeated words.now seat.old }
+    requires cells { length log.old.slots ≡ words.now.cells }
     requires run { IsRunOf seat.old.me count.old place false }
     requires kept { IsKeptOf seat.old.me.0.seat log.old.slots }
     requires lawful { IsLawful L.terms (going_of seat.old.table_id seat.old.me.0 place Writing None log.old.slots) note.now }
@@ -185,8 +181,8 @@ fn finish<L: Law>(
     place: u64,
     note: &L::Note,
 ) -> Outcome
-    requires table { seat.old.table_id ≡ words.now.table.shared.table_id }
-    requires cells { (length log.old.slots ≡ words.now.cells) × (length log.old.slots ≡ length seat.old.me.0.base) }
+    requires seated { IsSeated words.now seat.old }
+    requires cells { length log.old.slots ≡ words.now.cells }
     requires run { IsRunOf seat.old.me count.old place false }
     requires kept { IsKeptOf seat.old.me.0.seat log.old.slots }
     requires lawful { IsLawful L.terms (going_of seat.old.table_id seat.old.me.0 place Writing None log.old.slots) note.now }
@@ -214,8 +210,8 @@ pub(crate) fn conclude<L: Law>(
     mode: Mode,
     note: &L::Note,
 ) -> Outcome
-    requires table { seat.old.table_id ≡ words.now.table.shared.table_id }
-    requires cells { (length log.old.slots ≡ words.now.cells) × (length log.old.slots ≡ length seat.old.me.0.base) }
+    requires seated { IsSeated words.now seat.old }
+    requires cells { length log.old.slots ≡ words.now.cells }
     requires run { IsRunOf seat.old.me count.old place false }
     requires kept { IsKeptOf (noted mode seat.old.me.0.seat) log.old.slots }
     requires lawful { IsLawful L.terms (going_of seat.old.table_id seat.old.me.0 place mode None log.old.slots) note.now }

@@ -5,7 +5,7 @@ ghost use Rattle.std.specs.Prelude.{◌≡◌, ◌≢◌, ℕ, ◌+◌, ◌<◌,
 ghost use Rattle.ranges.specs.Ranges.{Has};
 ghost use Rattle.tlwords.specs.Plays.{IsSameSeat};
 ghost use Rattle.tlwords.specs.Views.{Staging};
-ghost use Rattle.tlwords.specs.Runs.{Finishes};
+ghost use Rattle.tlwords.specs.Runs.{Finishes, IsSeated};
 ghost use Rattle.tlwords.specs.Calls.{HasLoaded, HasStaged, IsRefused};
 
 use crate::law::Law;
@@ -97,9 +97,8 @@ impl<'w, L: Law> Run<'w, L> {
 
 // Stores the words of the range that the seat has taken, from the first to the last.
 fn fill_all<L: Law>(words: &Words<L>, seat: &mut Place<L>, start: usize, range: &[u64])
-    requires table { seat.old.table_id ≡ words.now.table.shared.table_id }
-    requires setting { (y : L.Setting) × (seat.old.me.0.setting ≡ Some y) }
-    requires sizes { (words.now.cells ≡ length seat.old.me.0.base) × (words.now.room ≡ seat.old.me.0.room) × (start + length range.now ≤ words.now.room) }
+    requires seated { IsSeated words.now seat.old }
+    requires sizes { (words.now.room ≡ seat.old.me.0.room) × (start + length range.now ≤ words.now.room) }
     requires some_words { range.now ≢ [] }
     requires staging { seat.old.me.0.staging ≡ Some (record { start = start; words = range.now; done = 0 }) }
     ensures seat { IsSameSeat seat.old seat.new }

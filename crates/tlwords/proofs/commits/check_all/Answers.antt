@@ -5,7 +5,7 @@ use Rattle.tlwords.specs.Runs.{HasCause}
 use Rattle.tlwords.specs.Walks.{low_of, IsPlan}
 use Rattle.tlwords.specs.Committing.{Goes}
 use Rattle.tlwords.proofs.Plans.{plan_at, plan_next, plan_end}
-use Rattle.tlwords.proofs.Turns.{read_found, goes_setting, goes_base, goes_read, seat_trans}
+use Rattle.tlwords.proofs.Turns.{read_found, goes_seated, goes_read, seat_trans}
 use Rattle.tlwords.proofs.Checks.{check_starts, check_skips, check_place, check_goes, check_fails, check_ends}
 use Rattle.tlwords.proofs.commits.check_all.Goals as goal
 
@@ -18,12 +18,9 @@ pub loop-i-init : goal.loop-i-init
 loop-i-init g c =
     ((refl, refl, refl), check_starts g.L.Law.terms c.args.log.now.slots c.args.index c.args.seat.now.me c.requires.kept c.requires.run.0)
 
-pub check-word-requires-clause-table : goal.check-word-requires-clause-table
-check-word-requires-clause-table g c = c.loop-i.invariant.0.0 ∙ c.requires.table
-
-pub check-word-requires-clause-setting : goal.check-word-requires-clause-setting
-check-word-requires-clause-setting g c =
-    (c.requires.setting.0, goes_setting g.L.Law.terms _ _ _ _ c.loop-i.invariant.1 c.requires.setting.1)
+pub check-word-requires-clause-seated : goal.check-word-requires-clause-seated
+check-word-requires-clause-seated g c =
+    goes_seated g.L.Law.terms _ _ _ _ c.requires.seated c.loop-i.invariant.0 c.loop-i.invariant.1
 
 pub check-word-requires-clause-cell : goal.check-word-requires-clause-cell
 check-word-requires-clause-cell g c =
@@ -34,10 +31,8 @@ check-word-requires-clause-cell g c =
     let p : IsPlan c.args.log.now.slots false ws = subst (λ x. IsPlan x false ws) c.plan_checks.ensures.same.0 c.plan_checks.ensures.plan in
     let s = plan_at c.args.log.now.slots false ws p c.loop-i.i t n c.index-read.ensures in
     let l = s.0.1 in
-    let a = goes_base g.L.Law.terms _ _ _ c.loop-i.invariant.1 in
-    let p = c.requires.cells.0 in
-    let q = c.requires.cells.1 in
-    (omega arith, omega arith)
+    let p = c.requires.cells in
+    omega arith
 
 pub check-word-requires-clause-place : goal.check-word-requires-clause-place
 check-word-requires-clause-place g c =

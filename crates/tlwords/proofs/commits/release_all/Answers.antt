@@ -1,8 +1,8 @@
-use Rattle.std.proofs.Common.{arith, refl, sym, subst, ◌∙◌, ◌<◌, ◌≤◌, ◌+◌, length, true}
+use Rattle.std.proofs.Common.{arith, refl, sym, subst, ◌<◌, ◌≤◌, ◌+◌, length, true}
 use Rattle.tlwords.specs.Walks.{low_of}
 use Rattle.tlwords.specs.Committing.{Releasing}
 use Rattle.tlwords.proofs.Plans.{plan_at, plan_next, plan_end}
-use Rattle.tlwords.proofs.Turns.{unkept_of, goes_setting, goes_base, seat_trans}
+use Rattle.tlwords.proofs.Turns.{unkept_of, goes_seated, seat_trans}
 use Rattle.tlwords.proofs.Releases.{release_held, release_goes, release_end}
 use Rattle.tlwords.proofs.commits.release_all.Goals as goal
 
@@ -24,12 +24,9 @@ returns-then-kept-high-clause-releases g c =
     release_end g.L.Law.terms c.args.log.now.slots c.args.high c.args.new (low_of ws c.loop-i.i) _ _ c.loop-i.invariant.1
     (λ x a b. u x a (omega arith))
 
-pub release-requires-clause-table : goal.release-requires-clause-table
-release-requires-clause-table g c = c.loop-i.invariant.0.0 ∙ c.requires.table
-
-pub release-requires-clause-setting : goal.release-requires-clause-setting
-release-requires-clause-setting g c =
-    (c.requires.setting.0, goes_setting g.L.Law.terms _ _ _ _ c.loop-i.invariant.1.goes c.requires.setting.1)
+pub release-requires-clause-seated : goal.release-requires-clause-seated
+release-requires-clause-seated g c =
+    goes_seated g.L.Law.terms _ _ _ _ c.requires.seated c.loop-i.invariant.0 c.loop-i.invariant.1.goes
 
 pub release-requires-clause-cell : goal.release-requires-clause-cell
 release-requires-clause-cell g c =
@@ -39,10 +36,8 @@ release-requires-clause-cell g c =
     omega arith in
     let s = plan_at c.args.log.now.slots true ws c.requires.plan c.loop-i.i t n c.index-kept.ensures in
     let l = s.0.1 in
-    let a = goes_base g.L.Law.terms _ _ _ c.loop-i.invariant.1.goes in
     let p = c.requires.cells.0 in
-    let q = c.requires.cells.1 in
-    (omega arith, omega arith)
+    omega arith
 
 pub release-requires-clause-held : goal.release-requires-clause-held
 release-requires-clause-held g c =
@@ -83,7 +78,7 @@ returns-clause-releases g c =
     let past : length ws ≤ c.loop-i.i = let a = c.loop-i-test.false in omega arith in
     let all : c.loop-i.i ≤ length ws = let a = c.loop-i.auto.i-end in omega arith in
     let none = plan_end c.args.log.now.slots true ws c.requires.plan c.loop-i.i past all in
-    let h = c.requires.cells.2 in
+    let h = c.requires.cells.1 in
     let u = unkept_of c.args.seat.now.me.0.seat c.args.log.now.slots c.requires.kept _ _ none in
     release_end g.L.Law.terms c.args.log.now.slots c.args.high c.args.new (low_of ws c.loop-i.i) _ _ c.loop-i.invariant.1
     (λ x a b. u x a (omega arith))

@@ -1,4 +1,4 @@
-use Rattle.std.proofs.Common.{arith, refl, sym, subst, ◌∙◌, ◌<◌, ◌≤◌, ◌+◌, length, List, [], true}
+use Rattle.std.proofs.Common.{arith, refl, sym, subst, ◌<◌, ◌≤◌, ◌+◌, length, List, [], true}
 use Rattle.tlcore.specs.Seats.{Seat}
 use Rattle.tlcore.specs.declared.seats.Held.{Held}
 use Rattle.tlcore.specs.declared.seats.Place.TheVariants.{Reading, Taking}
@@ -6,7 +6,7 @@ use Rattle.tlwords.specs.Walks.{low_of}
 use Rattle.tlwords.specs.Committing.{held_in, locking, Goes}
 use Rattle.tlwords.proofs.Held.{held_on}
 use Rattle.tlwords.proofs.Plans.{plan_at, plan_next, plan_low, plan_end}
-use Rattle.tlwords.proofs.Turns.{unkept_of, read_found, goes_start, goes_setting, goes_base, goes_rights, goes_read, seat_trans, take_place}
+use Rattle.tlwords.proofs.Turns.{unkept_of, read_found, goes_start, goes_seated, goes_rights, goes_read, seat_trans, take_place}
 use Rattle.tlwords.proofs.Turns.{take_goes, take_fails}
 use Rattle.tlwords.proofs.commits.take_all.Goals as goal
 
@@ -17,12 +17,9 @@ loop-i-init g c = (
       (λ j. let t : Seat = record c.args.seat.now.me.0.seat { place = sym c.requires.run.0 j; held = sym c.requires.run.1 j } in t),
 )
 
-pub take-found-requires-clause-table : goal.take-found-requires-clause-table
-take-found-requires-clause-table g c = c.loop-i.invariant.0.0 ∙ c.requires.table
-
-pub take-found-requires-clause-setting : goal.take-found-requires-clause-setting
-take-found-requires-clause-setting g c =
-    (c.requires.setting.0, goes_setting g.L.Law.terms _ _ _ _ c.loop-i.invariant.1 c.requires.setting.1)
+pub take-found-requires-clause-seated : goal.take-found-requires-clause-seated
+take-found-requires-clause-seated g c =
+    goes_seated g.L.Law.terms _ _ _ _ c.requires.seated c.loop-i.invariant.0 c.loop-i.invariant.1
 
 pub take-found-requires-clause-cell : goal.take-found-requires-clause-cell
 take-found-requires-clause-cell g c =
@@ -32,10 +29,8 @@ take-found-requires-clause-cell g c =
     omega arith in
     let s = plan_at c.args.log.now.slots true ws c.requires.plan c.loop-i.i t n c.index.ensures in
     let l = s.0.1 in
-    let a = goes_base g.L.Law.terms _ _ _ c.loop-i.invariant.1 in
-    let p = c.requires.cells.0 in
-    let q = c.requires.cells.1 in
-    (omega arith, omega arith)
+    let p = c.requires.cells in
+    omega arith
 
 pub take-found-requires-clause-place : goal.take-found-requires-clause-place
 take-found-requires-clause-place g c =

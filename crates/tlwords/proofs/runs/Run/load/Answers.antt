@@ -26,7 +26,7 @@ fetch_word-requires-clause-sizes g c =
     let has : Has range s.seat.me.0.seen.ranges = subst (λ k. Has range k.known.seen.ranges) (sym c.self.view_is) q.1 in
     let l : c.args.range.start + c.args.index < s.seat.me.0.room = i.knows.ranges.0 range has c.args.index (let e = q.2 in let f = q.3 in omega arith) in
     let r = i.room_is in
-    (i.table_is.1, r, omega arith)
+    (r, omega arith)
 
 pub invariant_of-self : goal.invariant_of-self
 invariant_of-self g c =
