@@ -37,13 +37,8 @@ use Rattle.tlwords.proofs.Lifts.{lifted}
 use Rattle.tlwords.proofs.Keeps.{Rule, gone_grows, now, seat_at, moved, sound_of, goes, told_grows}
 use Rattle.tlwords.proofs.Fronts.{named_after, named_locked, held_named}
 use Rattle.tlwords.proofs.ReadSteps.{if_known, lock_back, value_back, no_number, cell_in, half_written, quiet}
-use Rattle.tlwords.proofs.Once.{number_drawn, drawn_below}
-
-if_true : {A : Type 0} (b : Bool) (x y : A) → b ≡ true → (if b then x else y) ≡ x
-if_true b x y e = ap (λ (b : Bool). if b then x else y) e
-
-if_false : {A : Type 0} (b : Bool) (x y : A) → b ≡ false → (if b then x else y) ≡ y
-if_false b x y e = ap (λ (b : Bool). if b then x else y) e
+use Rattle.tlwords.proofs.Once.{number_drawn, drawn_below, has_snoc}
+use Rattle.tlwords.proofs.RunSteps.{if_true, if_false}
 
 place_known : (P : Place → Type 0) (b : Bool) (x y : Place) → (b ≡ true → P x) → (b ≡ false → P y) → P (if b then x else y)
 place_known P true x y f g = f refl
@@ -120,12 +115,6 @@ module _ {S N : Type 0} (terms : Terms S N) (setting : S) (base : List ℕ) (roo
       )
 
 -- ---- Draw
-
-has_snoc : (k x : ℕ) (xs : List ℕ) → Has k (xs ++ x ∷ []) → Has k xs ⊎ (k ≡ x)
-has_snoc k x [] (inl e) = inr e
-has_snoc k x [] (inr h) = absurd h
-has_snoc k x (y ∷ xs) (inl e) = inl (inl e)
-has_snoc k x (y ∷ xs) (inr more) = ⊎_elim (λ (h : Has k xs). inl (inr h)) (λ (e : k ≡ x). inr e) (has_snoc k x xs more)
 
 checking_same : (n i : ℕ) → number_at (Checking n 0) ≡ Some i → n ≡ i
 checking_same n i e = cc
@@ -233,7 +222,7 @@ module _ {S N : Type 0} (terms : Terms S N) (setting : S) (base : List ℕ) (roo
           grows = seen_refl h;
           owned = λ i has. ⊎_elim (λ (a : Has i v.drawn). own.owned i a)
               (λ (a : i ≡ suc n). (omega (arith, a, len, is, clock), ap (λ (b : Bool). std.cond b v.name (r.owner i)) (eq-eqb i (suc n) a)))
-              (has_snoc i (suc n) v.drawn has);
+              (has_snoc i v.drawn (suc n) has);
           once = number_drawn (0 ∷ v.drawn) (suc n) (drawn_below n v.drawn (λ i a. let b = (f.own.owned i a).0 in omega (arith, b, is, clock))) f.own.once;
         };
         room_is = f.room_is;
@@ -242,7 +231,7 @@ module _ {S N : Type 0} (terms : Terms S N) (setting : S) (base : List ℕ) (roo
         settled = λ i has. ⊎_elim
             (λ (a : Has (suc i) v.drawn). ⊎_elim (λ (b : number_at t.place ≡ Some i). absurd (no_number t.place Taking i p refl b)) (λ (b : IsSettled w.history i). inr (settled_grows w.history world.history i lead.keeps.grows b)) (f.settled i a))
             (λ (a : suc i ≡ suc n). let b : n ≡ i = omega (arith, a) in inl (ap (λ (k : ℕ). Some k) b))
-            (has_snoc (suc i) (suc n) v.drawn has);
+            (has_snoc (suc i) v.drawn (suc n) has);
         noted = λ i a. (note, refl, subst (λ (k : ℕ). slice_get notes k ≡ Some note) (checking_same n i a) there);
         look = λ d o a b. absurd (not_looking (Checking n 0) refl d o a b);
         few = omega (arith, more, left);

@@ -1,8 +1,8 @@
 -- What the closed words show.
-use Rattle.std.proofs.Common.{◌≡◌, ◌≢◌, ◌⊎◌, inl, inr, ⊎_elim, Bool, true, false, ◌/◌, ◌%◌, ◌^◌, map, ℕ, zero, suc, ◌+◌, ◌*◌, ◌<◌, ◌≤◌, Some, List, [], ◌∷◌, ◌++◌, length, slice_get, slice_index, min, sym, refl, ap, ◌∙◌, subst, arith}
+use Rattle.std.proofs.Common.{◌≡◌, ◌≢◌, ⊎_elim, Bool, true, false, ◌/◌, ◌%◌, ◌^◌, map, ℕ, zero, suc, ◌+◌, ◌*◌, ◌<◌, ◌≤◌, Some, List, [], ◌∷◌, ◌++◌, length, slice_get, slice_index, min, sym, refl, ap, ◌∙◌, subst, arith}
 use mathlib.Core.Option.{some, some-injective, some-ne-none}
 use lib.ListN.{get_elem?}
-use Rattle.std.proofs.lemmas.List.{length-append, length-map}
+use Rattle.std.proofs.lemmas.List.{length-append, length-map, nil_from_length}
 use Rattle.atomic_table.specs.Table.{State}
 use Rattle.tlcore.specs.History.{Will, version, value, deed}
 use Rattle.std.specs.Prelude.{if◌then◌else◌}
@@ -29,7 +29,7 @@ use Rattle.tlwords.proofs.Gathers.{nothing_held, rests_unheld}
 use Rattle.tlwords.proofs.ReadSteps.{half_of, half_written}
 use Rattle.tlwords.proofs.Shelves.{tail_least, total_snoc}
 use Rattle.ranges.proofs.Members.{has_mapped}
-use Rattle.tlwords.proofs.Once.{OwnsWhatItDrew, none_left_out}
+use Rattle.tlwords.proofs.Once.{OwnsWhatItDrew, has_snoc, none_left_out}
 use Rattle.tlwords.proofs.Paired.{word_count, clock_word, lock_word, lock_within, value_word, value_within}
 
 pub index_same : (xs : List ℕ) (i x : ℕ) → get_elem? xs i ≡ some x → slice_index xs i ≡ x
@@ -119,10 +119,6 @@ total_leaves f g (x ∷ xs) (suc id) v k at leaves each =
     let b : total_of f xs + k ≤ total_of g xs = total_leaves f g xs id v k at leaves (λ j u there. each (suc j) u there) in
     omega (arith, a, b)
 
-no_length : {A : Type 0} (xs : List A) → length xs ≡ 0 → xs ≡ []
-no_length [] e = refl
-no_length (x ∷ xs) e = absurd (omega (arith, e))
-
 -- the view of a seat
 seat_view : {V X : Type 0} (f : V → X) (vs : List V) (i : ℕ) (x : X) → slice_get (map f vs) i ≡ Some x
     → (v : V) × (get_elem? vs i ≡ some v) × (f v ≡ x)
@@ -145,12 +141,6 @@ holds_few : (ks : List Held) (n : ℕ) → (n ≡ 0 → ks ≡ []) → (if is_ni
 holds_few [] n unheld = omega arith
 holds_few (x ∷ ks) zero unheld = let e : x ∷ ks ≡ [] = unheld refl in absurd (cc)
 holds_few (x ∷ ks) (suc n) unheld = omega arith
-
-has_split : {U : Type 0} (u : U) (us : List U) (v : U) → Has u (us ++ v ∷ []) → Has u us ⊎ (u ≡ v)
-has_split u [] v (inl e) = inr e
-has_split u [] v (inr has) = absurd has
-has_split u (x ∷ us) v (inl e) = inl (inl e)
-has_split u (x ∷ us) v (inr has) = ⊎_elim (λ (p : Has u us). inl (inr p)) (λ (p : u ≡ v). inr p) (has_split u us v has)
 
 -- a pass has moved the tail with those that were given up to it
 given_moved : {S N : Type 0} (table : TableId) (v : View S N) (gs : List (Gone S N)) (us : List (Known S N)) → gs ≡ map gone_known us
@@ -376,7 +366,7 @@ module _ {S N : Type 0} (terms : Terms S N) (setting : S) (base : List ℕ) (roo
     poor : (j : ℕ) (u : View S N) → j ≢ id → get_elem? s.views j ≡ some u → (u.rights ≡ 0) × (u.gone ≡ [])
     poor j u other at =
         let a : rights_of u ≡ 0 = others_none rights_of s.views id v there all_rights j u other at in
-        (omega (arith, a), no_length u.gone (let b : length u.gone ≡ 0 = omega (arith, a) in b))
+        (omega (arith, a), nil_from_length u.gone (let b : length u.gone ≡ 0 = omega (arith, a) in b))
 
     all_unheld : (j : ℕ) (u : View S N) → get_elem? s.views j ≡ some u → u.seat.held ≡ []
     all_unheld j u at = ⊎_elim
@@ -408,7 +398,7 @@ module _ {S N : Type 0} (terms : Terms S N) (setting : S) (base : List ℕ) (roo
         let told = (f.gone (gone_known u) (subst (λ (gs : List (Gone S N)). Has (gone_known u) gs) (sym gone) (has_mapped gone_known us u p))).told in
         (told.owned, told.once))
         (λ (p : u ≡ known_of table last_pass). subst Owns (sym p) (f.own.owned, f.own.once))
-        (has_split u us (known_of table last_pass) has)
+        (has_snoc u us (known_of table last_pass) has)
 
     drawn_all : total_of (λ (x : Known S N). length x.drawn) given ≡ length w.history
     drawn_all =
@@ -486,7 +476,7 @@ module _ {S N : Type 0} (terms : Terms S N) (setting : S) (base : List ℕ) (roo
         each = λ u has. ⊎_elim
             (λ (p : Has u us). gone_ends id v u there (subst (λ (gs : List (Gone S N)). Has (gone_known u) gs) (sym gone) (has_mapped gone_known us u p)))
             (λ (p : u ≡ known_of table x). subst (λ (z : Known S N). EndsIn terms setting base opened.store closed closes z) (sym p) mine)
-            (has_split u us (known_of table x) has);
+            (has_snoc u us (known_of table x) has);
         moved =
             let t : closed.tail ≡ r.tail = tail_same in
             let a : r.tail ≡ length opened.store + total_of moved_of s.views = (r.shelf).tail_is.is in

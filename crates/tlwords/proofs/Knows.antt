@@ -3,6 +3,7 @@ use Rattle.std.proofs.Common.{◌≡◌, ℕ, ◌≤◌, ◌^◌, Bool, true, fa
 use Rattle.std.proofs.Common.{sym, refl, ap, ◌∙◌, subst, arith}
 use Rattle.std.proofs.lemmas.Bool.{cases_Bool}
 use Rattle.std.proofs.lemmas.Bool.Decides.{Decides-eqb}
+use Rattle.std.proofs.lemmas.Option.{none-some}
 use Rattle.std.specs.Option.{option_map}
 use Rattle.atomic_table.specs.Seated.{TableId}
 use Rattle.atomic_table.specs.declared.shared.Seat.{Seat as TableSeat}
@@ -36,14 +37,11 @@ known_setting (Some x) e = (x, refl)
 abbrev pub rest_of : {S N : Type 0} → View S N → Option Staging × List (Gone S N)
 rest_of v = (v.staging, v.gone)
 
-none_some : {A : Type 0} (i : ℕ) → None ≡ Some i → A
-none_some i e = absurd (cc)
-
 -- a seat that rests has drawn no number for a run
 not_drawing : {A : Type 0} (p : Place) (i : ℕ) → is_resting p ≡ true → (number_at p ≡ Some i) ⊎ A → A
 not_drawing p i e (inr a) = a
 not_drawing p i e (inl q) =
-    none_some i (sym (⊎_elim (λ r. ap number_at r) (λ r. ap number_at r) (resting_at p e)) ∙ q)
+    absurd (none-some i (sym (⊎_elim (λ r. ap number_at r) (λ r. ap number_at r) (resting_at p e)) ∙ q))
 
 -- the word that the slots have of a cell is the one that its newest read found
 pub newest : (c : ℕ) (rs : List Read) → option_map (λ (r : Read). r.word) (find_read c rs) ≡ written c (found_of rs)
@@ -62,7 +60,7 @@ told_of Writing t slots c k = k.0 c ∙ newest c t.reads
 
 -- a cell whose read has ended has a value among the reads
 ended_reads : (rs : List Read) (c w : ℕ) → written c (found_of rs) ≡ Some w → (v : ℕ) × Has (c, v) (reads_of rs)
-ended_reads [] c w is = none_some w is
+ended_reads [] c w is = absurd (none-some w is)
 ended_reads (r ∷ rs) c w is =
     elim (cases_Bool (r.cell == c)) [
       | inl same ↦ (r.value, inl (λ i. (sym ((Decides-eqb r.cell c).0 same) i, r.value)))

@@ -1,5 +1,5 @@
 -- The numbers of passes: each is drawn once, and where they are as many as the clock counts, none up to it is left out.
-use Rattle.std.proofs.Common.{◌≡◌, inl, inr, ⊎_elim, ℕ, zero, suc, ◌+◌, ◌-◌, ◌<◌, ◌≤◌, true, false, eqb, eq-eqb, ne_eqb, List, [], ◌∷◌, ◌++◌, length, map, flat_map, sym, refl, ap, ◌∙◌, subst, arith}
+use Rattle.std.proofs.Common.{◌≡◌, inl, inr, ⊎_elim, ℕ, zero, suc, ◌+◌, ◌-◌, ◌<◌, ◌≤◌, true, false, eqb, eq-eqb, ne_eqb, List, [], ◌∷◌, ◌++◌, length, map, flat_map, sym, refl, ap, ◌∙◌, subst, arith, ◌⊎◌}
 use Rattle.std.specs.List.{IsDistinct, AllByRecursion, list_any}
 use Rattle.std.proofs.lemmas.Cmp.{nat_eq_equiv}
 use Rattle.std.proofs.lemmas.List.{length-append}
@@ -9,6 +9,11 @@ use Rattle.ranges.specs.Ranges.{Has}
 use Rattle.ranges.proofs.Members.{none_absent, has_append_cases, has_mapped, cases_has, flat_has}
 use Rattle.tlwords.specs.Rule.{total_of}
 use Rattle.tlwords.specs.Runs.{down}
+
+-- what stands in a list with one more stands in the list, or is it
+pub has_snoc : {U : Type 0} (x : U) (xs : List U) (y : U) → Has x (xs ++ y ∷ []) → Has x xs ⊎ (x ≡ y)
+has_snoc x xs y has =
+    ⊎_elim (λ (p : Has x xs). inl p) (λ (p : Has x (y ∷ [])). ⊎_elim (λ (e : x ≡ y). inr e) (λ (n : ⊥). absurd n) p) (has_append_cases xs (y ∷ []) x has)
 
 -- ---- numbers that differ
 

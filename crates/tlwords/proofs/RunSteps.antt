@@ -3,7 +3,6 @@ use Rattle.std.proofs.Common.{◌≡◌, ◌≢◌, ℕ, ◌/◌, ◌%◌, ◌<�
 use Rattle.std.proofs.Common.{◌==◌, ◌&&◌, is_some, Option, Some, None, List, ◌∷◌, length, sym, refl, ap, ◌∙◌, subst, arith}
 use mathlib.Core.Logic.{dite}
 use native.Mathlib.Decide.{ℕ_discrete}
-use Rattle.std.proofs.lemmas.Bool.Decides.{nat_tests}
 use Rattle.atomic_table.specs.Seated.{TableId}
 use Rattle.atomic_table.specs.declared.shared.Seat.{Seat as TableSeat}
 use Rattle.tlcore.specs.History.{WasWritten}
@@ -22,6 +21,7 @@ use Rattle.tlwords.specs.Known.{known_of, going_of, found_of, word_told}
 use Rattle.tlwords.specs.Plays.{Mine, Sees, IsSameSeat, Sampled, Refreshes, began, told_by, witness, Looks, Loads, Relooks, after_relook}
 use Rattle.tlwords.specs.Runs.{HasCause, IsBlank, IsPassOf, IsRunOf, KnowsStore, Runs, word_seen}
 use Rattle.tlwords.specs.Calls.{Begins, HasRead, HasStopped, Learns, Notes}
+use Rattle.tlwords.proofs.Held.{le_no, le_yes}
 use Rattle.tlwords.proofs.Knows.{known_setting, rest_of, left_fits, knows_of, stands_of, knows_on, runs_on, told_of}
 use Rattle.tlwords.proofs.Modes.{read_kept, read_room, still_kept}
 use Rattle.tlwords.proofs.Seens.{seen_trans, agree_grows}
@@ -32,14 +32,8 @@ if_true b x y e = ap (λ (b : Bool). if b then x else y) e
 pub if_false : {A : Type 0} (b : Bool) (x y : A) → b ≡ false → (if b then x else y) ≡ y
 if_false b x y e = ap (λ (b : Bool). if b then x else y) e
 
-le_true : (a b : ℕ) → a ≤ b → nat_le a b ≡ true
-le_true a b l = grind (arith, nat_tests)
-
-le_false : (a b : ℕ) → b < a → nat_le a b ≡ false
-le_false a b l = grind (arith, nat_tests)
-
 pub passes_true : (word rv : ℕ) → word % 2 ≡ 0 → word / 2 ≤ rv → passes word rv ≡ true
-passes_true word rv e l = λ j. eq-eqb (word % 2) 0 e j && le_true (word / 2) rv l j
+passes_true word rv e l = λ j. eq-eqb (word % 2) 0 e j && le_yes (word / 2) rv l j
 
 second_false : (a b : Bool) → b ≡ false → (a && b) ≡ false
 second_false true b e = e
@@ -47,7 +41,7 @@ second_false false b e = refl
 
 pub passes_false : (word rv : ℕ) → HasCause rv word → passes word rv ≡ false
 passes_false word rv (inl e) = ap (λ (b : Bool). b && nat_le (word / 2) rv) (ne_eqb (word % 2) 0 (λ a. omega (arith, a, e)))
-passes_false word rv (inr l) = second_false (word % 2 == 0) (nat_le (word / 2) rv) (le_false (word / 2) rv l)
+passes_false word rv (inr l) = second_false (word % 2 == 0) (nat_le (word / 2) rv) (le_no (word / 2) rv l)
 
 -- ---- the three steps of a read
 
