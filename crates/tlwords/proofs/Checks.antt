@@ -149,7 +149,8 @@ module _ {S N : Type 0} (terms : Terms S N) (slots : List Slot) (i : ℕ) (m : M
                   (conflict (saw m.0.seat c n) (Voiding i)) (passes_false n m.0.seat.rv cause));
               meets = record {
                 looked = ap (λ (v : View S N). v.seat.looked) looks
-                    ∙ if_known (λ (z : Seat). z.looked ≡ Some (c, n)) (passes n r.0.seat.rv) (placed (saw r.0.seat c n) (Checking i (suc c)))
+                    ∙ if_known (λ (z : Seat). z.looked ≡ Some (c, n)) (passes n r.0.seat.rv)
+                    (placed (saw r.0.seat c n) (Checking i (suc c)))
                     (conflict (saw r.0.seat c n) (Voiding i)) (λ _. refl) (λ _. refl);
                 written = t.written;
                 before = f ∙ sym is;

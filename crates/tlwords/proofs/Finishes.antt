@@ -40,5 +40,6 @@ module _ {S N : Type 0} (terms : Terms S N) (x : N) where
         mine = v.mine ++ Answered (fits.5 j) (record { reads = reads_of v.seat.reads; writes = sym e j; note = x }) ∷ [];
       } in w) in
       concludes terms mode slots x p q same count place count fits t.sees v.seat v.note v.drawn
-      (v.mine ++ Answered place (work_kept v.seat slots x) ∷ []) is (left_fits terms p.me count place false fits).1 fits.3 fits.4 (EndsRead place)
+      (v.mine ++ Answered place (work_kept v.seat slots x) ∷ []) is (left_fits terms p.me count place false fits).1 fits.3 fits.4
+      (EndsRead place)
       (λ knows. (e, refl, record { grows = t.sees.own; knows = knows; is = λ j. known_of (same.0 j) (is j) }))

@@ -24,7 +24,8 @@ use Rattle.tlwords.specs.Plays.{Mine, Sees, IsSameSeat, Draws}
 use Rattle.tlwords.specs.Runs.{value_kept, IsKeptOf, IsRunOf, HasCause}
 use Rattle.tlwords.specs.Commits.{writes_kept, writes_below, cells_of, cells_locked, work_kept}
 use Rattle.tlwords.specs.Calls.{Ends, HasNoEntry, IsLawful}
-use Rattle.tlwords.specs.Committing.{held_in, holding, locking, Goes, Meets, FailsToTake, FailsTheCheck, Passes, StoresTo, Releasing, ReleasesAll, Concludes}
+use Rattle.tlwords.specs.Committing.{held_in, holding, locking, Goes, Meets, FailsToTake, FailsTheCheck, Passes, StoresTo, Releasing}
+use Rattle.tlwords.specs.Committing.{ReleasesAll, Concludes}
 use Rattle.tlwords.proofs.Seens.{done_grows, permits_grow}
 use Rattle.tlwords.proofs.Held.{held_cell, held_find, held_writes}
 use Rattle.tlwords.proofs.Knows.{concludes, told_of}
@@ -124,9 +125,12 @@ module _ {S N : Type 0} (terms : Terms S N) (slots : List Slot) (x : N) (p : Tab
         back.goes.is ∙ (ap (λ (v : View S N). let w : View S N =
         record v { seen = q.me.0.seen; seat = record v.seat { place = Idle; held = []; looked = q.me.0.seat.looked } } in w) f.goes.is
         ∙ ap (λ (ps : Pairs). let w : View S N =
-        record m.0 { seen = q.me.0.seen; seat = over_seat m.0.seat true (cells_of ps) q.me.0.seat.looked } in w) (held_writes slots 0 k.cell)) in
-        concludes terms Writing slots x p q same count place count fits s t m.0.note m.0.drawn m.0.mine is refl fits.3 fits.4 (EndsConflict k None)
-        (rejected q s k None (meets_on k r q.me back f.meets) (ap (λ (v : View S N). v.seat.reads) is) (ap is_some f.differs.1) (inr f.differs)
+        record m.0 { seen = q.me.0.seen; seat = over_seat m.0.seat true (cells_of ps) q.me.0.seat.looked } in w)
+        (held_writes slots 0 k.cell)) in
+        concludes terms Writing slots x p q same count place count fits s t m.0.note m.0.drawn m.0.mine is refl fits.3 fits.4
+        (EndsConflict k None)
+        (rejected q s k None (meets_on k r q.me back f.meets) (ap (λ (v : View S N). v.seat.reads) is) (ap is_some f.differs.1)
+        (inr f.differs)
         (λ j. known_of (same.0 j) (is j)))
 
   -- ---- all locks were taken
@@ -183,7 +187,8 @@ module _ {S N : Type 0} (terms : Terms S N) (slots : List Slot) (x : N) (p : Tab
 
         pub void_releases : (high : ℕ) → high ≡ length slots → Releasing terms slots high None 0 s s
         void_releases high same =
-            let full : is_nil (held_in slots 0 0 high) ≡ false = ap (λ (h : ℕ). is_nil (held_in slots 0 0 h)) same ∙ some_held slots 0 some in
+            let full : is_nil (held_in slots 0 0 high) ≡ false = ap (λ (h : ℕ). is_nil (held_in slots 0 0 h)) same ∙ some_held slots 0
+            some in
             let h : s.0.seat.held ≡ held_in slots 0 0 high =
             ap (λ (t : Seat). t.held) failed_seat ∙ (ap (λ (t : Seat). t.held) drawn_seat ∙ sym (ap (held_in slots 0 0) same)) in
             let start : s.0.seat ≡ holding s.0.seat (Voiding n) Idle (held_in slots 0 0 high) =
@@ -215,7 +220,8 @@ module _ {S N : Type 0} (terms : Terms S N) (slots : List Slot) (x : N) (p : Tab
               note = Some x;
               drawn = m.0.drawn ++ sym number_is j ∷ [];
             } in w))) in
-            concludes terms Writing slots x p q same count place (count + 1) fits z t (Some x) ds m.0.mine is refl (many number) (omega (arith, more))
+            concludes terms Writing slots x p q same count place (count + 1) fits z t (Some x) ds m.0.mine is refl (many number)
+            (omega (arith, more))
             (EndsConflict k (Some number))
             (rejected q z k (Some number) (meets_on k s q.me back f.meets) (ap (λ (v : View S N). v.seat.reads) is) f.read
             (inl (subst (λ (t : Seat). HasCause t.rv k.word) drawn_seat f.cause)) (
@@ -284,7 +290,8 @@ module _ {S N : Type 0} (terms : Terms S N) (slots : List Slot) (x : N) (p : Tab
                 mine = m.0.mine ++ Committed (sym number_is j) (same_work j) ∷ [];
               } in w)))) in
               concludes terms Writing slots x p q same count place (count + 1) fits y t (Some x) ds
-              (m.0.mine ++ Committed number (work_kept m.0.seat slots x) ∷ []) is refl (many number) (omega (arith, more)) (EndsDone number) (λ knows. (
+              (m.0.mine ++ Committed number (work_kept m.0.seat slots x) ∷ []) is refl (many number) (omega (arith, more))
+              (EndsDone number) (λ knows. (
                 some,
                 record {
                   grows = y.own;

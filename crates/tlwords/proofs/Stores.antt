@@ -84,7 +84,8 @@ module _ {S N : Type 0} (terms : Terms S N) (slots : List Slot) (i : ℕ) (x : N
                   seat = record m.0.seat {
                     place = Storing i;
                     held =
-                        (ap (stored c) held ∙ held_stored slots 0 0 (length slots) c (omega arith) (unkept_both slots 0 low c before unkept))
+                        (ap (stored c) held ∙ held_stored slots 0 0 (length slots) c (omega arith)
+                        (unkept_both slots 0 low c before unkept))
                         j;
                     looked = sym (ap (λ (v : View S N). v.seat.looked) f.1) j;
                   };

@@ -102,7 +102,8 @@ module _ {S N : Type 0} (terms : Terms S N) where
   pub goes_seat : (m r : Mine S N) (t : Seat) → Goes terms m t r → r.0.seat ≡ record t { looked = r.0.seat.looked }
   goes_seat m r t g = ap (λ (v : View S N). v.seat) g.is
 
-  pub goes_seated : {L : Type 0} (words : Words L S N) (p q : TableSeat (Unit {0}) (View S N)) (t : Seat) → IsSeated words p → IsSameSeat p q
+  pub goes_seated : {L : Type 0} (words : Words L S N) (p q : TableSeat (Unit {0}) (View S N)) (t : Seat) → IsSeated words p
+      → IsSameSeat p q
       → Goes terms p.me t q.me → IsSeated words q
   goes_seated words p q t seated same g =
       seated_on words p q seated same (ap (λ (v : View S N). v.setting) g.is) (ap (λ (v : View S N). length v.base) g.is)
@@ -164,7 +165,8 @@ module _ {S N : Type 0} (terms : Terms S N) where
                 (locking m.0.seat Taking Reading (held_in slots 0 0 low))
                 (locking (conflict m.0.seat Idle) Failing Idle (held_in slots 0 0 c)) g t.sees t.is
                 (λ o. if_false (n == w) hit miss (ne_eqb n w ne)
-                ∙ ap (λ (ks : List Held). let z : Seat = record (locking (conflict m.0.seat Idle) Failing Idle ks) { looked = Some (c, n) } in z)
+                ∙ ap (λ (ks : List Held). let z : Seat = record (locking (conflict m.0.seat Idle) Failing Idle ks)
+                { looked = Some (c, n) } in z)
                 (sym (held_on slots 0 0 low c l unkept)));
             meets = record {
               looked = ap (λ (v : View S N). v.seat.looked) t.is ∙ if_known (λ (z : Seat). z.looked ≡ Some (c, n)) (n == w)

@@ -98,7 +98,8 @@ pub record Rests {S N : Type 0} (seat : TableSeat (Unit {0}) (View S N)) (slots 
   pub room : length slots ≡ length seat.me.0.base
 
 -- what holds of a run with this seat, over words at this table with so many cells and so much room
-pub record Runs {S N : Type 0} (table : TableId) (cells words : ℕ) (seat : TableSeat (Unit {0}) (View S N)) (slots : List Slot) (mode : Mode)
+pub record Runs {S N : Type 0} (table : TableId) (cells words : ℕ) (seat : TableSeat (Unit {0}) (View S N)) (slots : List Slot)
+    (mode : Mode)
     (count place : ℕ) (over full : Bool) : Type 0 where
   pub table_is : (seat.table_id ≡ table) × (cells ≡ length seat.me.0.base)
   pub room_is : words ≡ seat.me.0.room

@@ -12,7 +12,8 @@ ghost use Rattle.tlwords.specs.declared.outcome.Outcome.TheVariants.{Read as End
 ghost use Rattle.tlwords.specs.Commits.{writes_kept, work_kept};
 ghost use Rattle.tlwords.specs.Known.{going_of};
 ghost use Rattle.tlwords.specs.Calls.{IsLawful};
-ghost use Rattle.tlwords.specs.Committing.{held_in, locking, Goes, FailsToTake, FailsTheCheck, Passes, StoresTo, Releasing, ReleasesAll, Concludes};
+ghost use Rattle.tlwords.specs.Committing.{held_in, locking, Goes, FailsToTake, FailsTheCheck, Passes, StoresTo, Releasing, ReleasesAll};
+ghost use Rattle.tlwords.specs.Committing.{Concludes};
 
 use crate::law::Law;
 use crate::log::{Log, Touched};
@@ -31,7 +32,8 @@ fn take_all<L: Law>(words: &Words<L>, seat: &mut Place<L>, log: &Log) -> Result<
     requires kept { IsKeptOf seat.old.me.0.seat log.now.slots }
     requires plan { IsPlan log.now.slots true log.now.writes.items }
     ensures seat { IsSameSeat seat.old seat.new }
-    ensures ok { IfOk result (λ _. Goes L.terms seat.old.me (locking seat.old.me.0.seat Taking AtReading (held_in log.now.slots 0 0 (length log.now.slots))) seat.new.me) }
+    ensures ok { IfOk result (λ _. Goes L.terms seat.old.me (locking seat.old.me.0.seat Taking AtReading
+        (held_in log.now.slots 0 0 (length log.now.slots))) seat.new.me) }
     ensures err { IfErr result (λ k. FailsToTake L.terms log.now.slots k seat.old.me seat.new.me) }
 {
     for i in 0..log.writes.len() {
@@ -59,7 +61,8 @@ fn check_all<L: Law>(
 ) -> Result<(), Conflict>
     requires seated { IsSeated words.now seat.old }
     requires cells { length log.old.slots ≡ words.now.cells }
-    requires run { (seat.old.me.0.seat.place ≡ Checking index 0) × (seat.old.me.0.seat.rv ≡ place) × (seat.old.me.0.seat.held ≡ held_in log.old.slots 0 0 (length log.old.slots)) }
+    requires run { (seat.old.me.0.seat.place ≡ Checking index 0) × (seat.old.me.0.seat.rv ≡ place)
+        × (seat.old.me.0.seat.held ≡ held_in log.old.slots 0 0 (length log.old.slots)) }
     requires kept { IsKeptOf seat.old.me.0.seat log.old.slots }
     ensures log { (log.new.slots ≡ log.old.slots) × (log.new.writes ≡ log.old.writes) }
     ensures seat { IsSameSeat seat.old seat.new }
@@ -88,13 +91,15 @@ fn check_all<L: Law>(
 fn store_all<L: Law>(words: &Words<L>, seat: &mut Place<L>, log: &Log, index: u64, note: &L::Note)
     requires seated { IsSeated words.now seat.old }
     requires cells { length log.now.slots ≡ words.now.cells }
-    requires run { (upto : ℕ) × (seat.old.me.0.seat.place ≡ Checking index upto) × ((is_next seat.old.me.0.seat index || all_settled seat.old.me.0.seat.held upto seat.old.me.0.seat.reads) ≡ true) }
+    requires run { (upto : ℕ) × (seat.old.me.0.seat.place ≡ Checking index upto)
+        × ((is_next seat.old.me.0.seat index || all_settled seat.old.me.0.seat.held upto seat.old.me.0.seat.reads) ≡ true) }
     requires held { (seat.old.me.0.seat.held ≡ held_in log.now.slots 0 0 (length log.now.slots)) × (seat.old.me.0.note ≡ Some note.now) }
     requires kept { IsKeptOf seat.old.me.0.seat log.now.slots }
     requires writes { writes_kept log.now.slots ≢ [] }
     requires plan { IsPlan log.now.slots true log.now.writes.items }
     ensures seat { IsSameSeat seat.old seat.new }
-    ensures stores { StoresTo L.terms log.now.slots index (work_kept seat.old.me.0.seat log.now.slots note.now) (length log.now.slots) seat.old.me seat.new.me }
+    ensures stores { StoresTo L.terms log.now.slots index (work_kept seat.old.me.0.seat log.now.slots note.now) (length log.now.slots)
+        seat.old.me seat.new.me }
 {
     for i in 0..log.writes.len() {
         let kept = log.writes[i];

@@ -10,7 +10,8 @@ ghost use Rattle.tlcore.specs.declared.seats.Read.{Read};
 ghost use Rattle.tlcore.specs.declared.seats.Held.{Held};
 ghost use Rattle.tlcore.specs.declared.seats.Place.TheVariants.{Idle, Reading, Looked, Loaded, Taking, Checking, Storing, Failing, Voiding};
 ghost use Rattle.tlwords.specs.Runs.{HasCause, IsSeated};
-ghost use Rattle.tlwords.specs.Plays.{IsSameSeat, GivesBack, MayStore, Sampled, Looks, Loads, Relooks, Takes, Draws, Checks, Stores, Releases, Recalls, Refreshes, told_by, witness};
+ghost use Rattle.tlwords.specs.Plays.{IsSameSeat, GivesBack, MayStore, Sampled, Looks, Loads, Relooks, Takes, Draws, Checks, Stores};
+ghost use Rattle.tlwords.specs.Plays.{Releases, Recalls, Refreshes, told_by, witness};
 
 use crate::law::Law;
 use crate::layout::{CLOCK, FIRST_LOCK, FIRST_VALUE, SPARE};
@@ -97,7 +98,8 @@ pub(crate) fn take<L: Law, G: Said<L::Note>>(
     requires seated { IsSeated words.now seat.old }
     requires cell { cell < words.now.cells }
     requires said { G.value ≡ value }
-    requires place { (seat.old.me.0.seat.place ≡ Reading) ⊎ ((seat.old.me.0.seat.place ≡ Taking) × (all_below cell seat.old.me.0.seat.held ≡ true)) }
+    requires place { (seat.old.me.0.seat.place ≡ Reading) ⊎ ((seat.old.me.0.seat.place ≡ Taking)
+        × (all_below cell seat.old.me.0.seat.held ≡ true)) }
     requires read { (d : Read) × (find_read cell seat.old.me.0.seat.reads ≡ Some d) × (d.word ≡ word) }
     requires room { (word + 1 < 2 ^ 64) × (1 ≤ seat.old.me.0.rights) }
     ensures seat { IsSameSeat seat.old seat.new }
@@ -132,7 +134,8 @@ pub(crate) fn draw<L: Law, G: Said<L::Note>>(
 pub(crate) fn check<L: Law>(words: &Words<L>, seat: &mut Place<L>, cell: usize) -> u64
     requires seated { IsSeated words.now seat.old }
     requires cell { cell < words.now.cells }
-    requires place { (i : ℕ) × (upto : ℕ) × (seat.old.me.0.seat.place ≡ Checking i upto) × (is_next seat.old.me.0.seat i ≡ false) × (is_due seat.old.me.0.seat upto cell ≡ true) }
+    requires place { (i : ℕ) × (upto : ℕ) × (seat.old.me.0.seat.place ≡ Checking i upto) × (is_next seat.old.me.0.seat i ≡ false)
+        × (is_due seat.old.me.0.seat upto cell ≡ true) }
     requires read { (d : Read) × (find_read cell seat.old.me.0.seat.reads ≡ Some d) }
     ensures seat { IsSameSeat seat.old seat.new }
     ensures told { Checks L.terms cell seat.old.me result seat.new.me }

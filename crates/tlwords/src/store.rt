@@ -59,8 +59,10 @@ impl Error for StoreFull {}
 impl<'w, L: Law> Run<'w, L> {
     /// The word `index`, from 0, of a finished range that this session has seen. It is one load.
     pub fn load(&mut self, range: Range, index: usize) -> u64
-        requires { (words : List ℕ) × Has (record { start = range.start; words = words }) self.old.known.seen.ranges × (length words ≡ range.len) × (index < range.len) }
-        ensures value { (words : List ℕ) → Has (record { start = range.start; words = words }) self.old.known.seen.ranges → length words ≡ range.len → slice_get words index ≡ Some result }
+        requires { (words : List ℕ) × Has (record { start = range.start; words = words }) self.old.known.seen.ranges
+            × (length words ≡ range.len) × (index < range.len) }
+        ensures value { (words : List ℕ) → Has (record { start = range.start; words = words }) self.old.known.seen.ranges
+            → length words ≡ range.len → slice_get words index ≡ Some result }
         ensures loaded { HasLoaded L.terms self.old self.new }
     {
         fetch_word(self.words, &mut self.seat, range.start + index)

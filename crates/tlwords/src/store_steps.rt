@@ -38,7 +38,8 @@ pub(crate) fn advance<L: Law, G: Said<L::Note>>(
 pub(crate) fn fill<L: Law>(words: &Words<L>, seat: &mut Place<L>, offset: usize, word: u64)
     requires seated { IsSeated words.now seat.old }
     requires sizes { (words.now.room ≡ seat.old.me.0.room) × (offset < words.now.room) }
-    requires staging { (s : Staging) × (seat.old.me.0.staging ≡ Some s) × (offset ≡ s.start + s.done) × (slice_get s.words s.done ≡ Some word) }
+    requires staging { (s : Staging) × (seat.old.me.0.staging ≡ Some s) × (offset ≡ s.start + s.done)
+        × (slice_get s.words s.done ≡ Some word) }
     ensures seat { IsSameSeat seat.old seat.new }
     ensures told { Fills L.terms seat.old.me seat.new.me }
 {

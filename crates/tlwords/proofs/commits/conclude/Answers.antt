@@ -16,7 +16,8 @@ recall-requires-clause-lawful g c =
 
 pub returns-in-Reading-clause-ended : goal.returns-in-Reading-clause-ended
 returns-in-Reading-clause-ended g c =
-    answered g.L.Law.terms c.args.note.now c.args.mode c.args.log.now.slots c.args.seat.now c.recall.new.seat _ c.args.place c.recall.ensures.seat
+    answered g.L.Law.terms c.args.note.now c.args.mode c.args.log.now.slots c.args.seat.now c.recall.new.seat _ c.args.place
+    c.recall.ensures.seat
     c.requires.run c.recall.ensures.told
     (nothing_written c.args.mode c.in-Reading.is c.args.seat.now.me.0.seat c.args.log.now.slots c.requires.kept)
 

@@ -11,7 +11,8 @@ loop-i-init g c = ((refl, refl, refl), inl (refl, λ x a b. absurd (omega arith)
 pub store-requires-clause-seated : goal.store-requires-clause-seated
 store-requires-clause-seated g c =
     let ws = c.args.log.now.writes.items in
-    let same = store_same g.L.Law.terms c.args.log.now.slots c.args.index c.args.note.now c.args.seat.now.me _ c.requires.run.1 c.requires.held.0
+    let same = store_same g.L.Law.terms c.args.log.now.slots c.args.index c.args.note.now c.args.seat.now.me _ c.requires.run.1
+    c.requires.held.0
     (low_of ws c.loop-i.i) _ c.loop-i.invariant.1 in
     seated_on c.args.words.now c.args.seat.now c.loop-i.seat c.requires.seated c.loop-i.invariant.0 same.0 same.1
 

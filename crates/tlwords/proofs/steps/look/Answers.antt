@@ -6,5 +6,6 @@ pub load-requires : goal.load-requires
 load-requires g c = (
   search rules,
   let s = c.args.words.now.sized in let i = c.requires.cell in omega arith,
-  looks g.L.Law.terms _ _ _ _ _ _ _ _ c.requires.seated.setting.0 c.requires.seated.setting.1 (let a = c.requires.cell in let b = c.requires.seated.cells in omega arith) c.requires.place,
+  looks g.L.Law.terms _ _ _ _ _ _ _ _ c.requires.seated.setting.0 c.requires.seated.setting.1 (let a = c.requires.cell in
+      let b = c.requires.seated.cells in omega arith) c.requires.place,
 )
