@@ -26,10 +26,9 @@ pub check-word-requires-clause-cell : goal.check-word-requires-clause-cell
 check-word-requires-clause-cell g c =
     let ws = c.plan_checks.new.self.checks.items in
     let t = c.index-read.result.now in
-    let n : c.loop-i.i < length ws = let a = c.loop-i-test.true in let b = c.len-i-end.ensures in let d =
-    c.plan_checks.new.self.checks.ok.0 in omega arith in
     let p : IsPlan c.args.log.now.slots false ws = subst (λ x. IsPlan x false ws) c.plan_checks.ensures.same.0 c.plan_checks.ensures.plan in
-    let s = plan_at c.args.log.now.slots false ws p c.loop-i.i t n c.index-read.ensures in
+    let s = plan_at c.args.log.now.slots false ws p c.loop-i.i _ _ t c.loop-i-test.true c.len-i-end.ensures c.plan_checks.new.self.checks.ok.0
+    c.index-read.ensures in
     let l = s.0.1 in
     let p = c.requires.cells in
     omega arith
@@ -38,10 +37,9 @@ pub check-word-requires-clause-place : goal.check-word-requires-clause-place
 check-word-requires-clause-place g c =
     let ws = c.plan_checks.new.self.checks.items in
     let t = c.index-read.result.now in
-    let n : c.loop-i.i < length ws = let a = c.loop-i-test.true in let b = c.len-i-end.ensures in let d =
-    c.plan_checks.new.self.checks.ok.0 in omega arith in
     let p : IsPlan c.args.log.now.slots false ws = subst (λ x. IsPlan x false ws) c.plan_checks.ensures.same.0 c.plan_checks.ensures.plan in
-    let s = plan_at c.args.log.now.slots false ws p c.loop-i.i t n c.index-read.ensures in
+    let s = plan_at c.args.log.now.slots false ws p c.loop-i.i _ _ t c.loop-i-test.true c.len-i-end.ensures c.plan_checks.new.self.checks.ok.0
+    c.index-read.ensures in
     check_place g.L.Law.terms c.args.log.now.slots c.args.index c.args.seat.now.me c.requires.kept c.requires.run.2
     (low_of ws c.loop-i.i) _ c.loop-i.invariant.1
     t.cell s.0.0 s.0.2 s.0.3 (λ e. c.if-index-place.false (e ∙ c.requires.run.1))
@@ -50,10 +48,9 @@ pub check-word-requires-clause-read : goal.check-word-requires-clause-read
 check-word-requires-clause-read g c =
     let ws = c.plan_checks.new.self.checks.items in
     let t = c.index-read.result.now in
-    let n : c.loop-i.i < length ws = let a = c.loop-i-test.true in let b = c.len-i-end.ensures in let d =
-    c.plan_checks.new.self.checks.ok.0 in omega arith in
     let p : IsPlan c.args.log.now.slots false ws = subst (λ x. IsPlan x false ws) c.plan_checks.ensures.same.0 c.plan_checks.ensures.plan in
-    let s = plan_at c.args.log.now.slots false ws p c.loop-i.i t n c.index-read.ensures in
+    let s = plan_at c.args.log.now.slots false ws p c.loop-i.i _ _ t c.loop-i-test.true c.len-i-end.ensures c.plan_checks.new.self.checks.ok.0
+    c.index-read.ensures in
     let d = read_found c.args.seat.now.me.0.seat c.args.log.now.slots c.requires.kept t.cell t.word s.1 in
     (d.0, goes_read g.L.Law.terms _ _ _ c.loop-i.invariant.1 refl t.cell d.0 d.1)
 
@@ -65,10 +62,9 @@ pub returns-then-not-passes-clause-err : goal.returns-then-not-passes-clause-err
 returns-then-not-passes-clause-err g c =
     let ws = c.plan_checks.new.self.checks.items in
     let t = c.index-read.result.now in
-    let n : c.loop-i.i < length ws = let a = c.loop-i-test.true in let b = c.len-i-end.ensures in let d =
-    c.plan_checks.new.self.checks.ok.0 in omega arith in
     let p : IsPlan c.args.log.now.slots false ws = subst (λ x. IsPlan x false ws) c.plan_checks.ensures.same.0 c.plan_checks.ensures.plan in
-    let s = plan_at c.args.log.now.slots false ws p c.loop-i.i t n c.index-read.ensures in
+    let s = plan_at c.args.log.now.slots false ws p c.loop-i.i _ _ t c.loop-i-test.true c.len-i-end.ensures c.plan_checks.new.self.checks.ok.0
+    c.index-read.ensures in
     check_fails g.L.Law.terms c.args.log.now.slots c.args.index c.args.seat.now.me c.requires.kept c.requires.run.2
     (low_of ws c.loop-i.i) _ c.loop-i.invariant.1
     t.cell c.check-word.result _ c.check-word.ensures.told t.word _ refl s.1
@@ -78,15 +74,15 @@ pub loop-i-preserved : goal.loop-i-preserved
 loop-i-preserved g c =
     let ws = c.plan_checks.new.self.checks.items in
     let t = c.index-read.result.now in
-    let n : c.loop-i.i < length ws = let a = c.loop-i-test.true in let b = c.len-i-end.ensures in let d =
-    c.plan_checks.new.self.checks.ok.0 in omega arith in
     let p : IsPlan c.args.log.now.slots false ws = subst (λ x. IsPlan x false ws) c.plan_checks.ensures.same.0 c.plan_checks.ensures.plan in
-    let s = plan_at c.args.log.now.slots false ws p c.loop-i.i t n c.index-read.ensures in
+    let s = plan_at c.args.log.now.slots false ws p c.loop-i.i _ _ t c.loop-i-test.true c.len-i-end.ensures c.plan_checks.new.self.checks.ok.0
+    c.index-read.ensures in
     let m = c.args.seat.now.me in (
       seat_trans c.args.seat.now c.loop-i.seat c.check-word.new.seat c.loop-i.invariant.0 c.check-word.ensures.seat,
       subst (λ k. Goes g.L.Law.terms m (placed m.0.seat (Checking c.args.index k)) c.check-word.new.seat.me)
           {x = t.cell + 1} {y = low_of ws (c.loop-i.i + 1)}
-          (sym (plan_next c.args.log.now.slots false ws p c.loop-i.i t n c.index-read.ensures))
+          (sym (plan_next c.args.log.now.slots false ws p c.loop-i.i _ _ t c.loop-i-test.true c.len-i-end.ensures c.plan_checks.new.self.checks.ok.0
+    c.index-read.ensures))
           (check_goes g.L.Law.terms c.args.log.now.slots c.args.index c.args.seat.now.me c.requires.kept c.requires.run.2
           (low_of ws c.loop-i.i) _ c.loop-i.invariant.1
           t.cell c.check-word.result _ c.check-word.ensures.told (c.passes.ensures.yes c.if-not-passes.false).0
