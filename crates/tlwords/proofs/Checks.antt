@@ -3,6 +3,7 @@ use Rattle.std.proofs.Common.{◌≡◌, ◌≢◌, ℕ, suc, ◌+◌, ◌/◌, 
 use Rattle.std.proofs.Common.{nat_lt, nat_le, ◌==◌, ◌&&◌, ◌||◌, is_some, if◌then◌else◌, Option, Some, None, List, [], ◌∷◌, length}
 use Rattle.std.proofs.Common.{slice_get, sym, refl, ap, ◌∙◌, arith}
 use Rattle.std.specs.List.{list_all}
+use Rattle.std.proofs.lemmas.Bool.{or_left, or_right}
 use Rattle.std.specs.Option.{option_map}
 use Rattle.tlcore.specs.Seats.{Seat, find_read, is_held, is_settled, settled_below, all_settled, is_due, is_next, passes}
 use Rattle.tlcore.specs.Machine.{placed, conflict, saw}
@@ -20,13 +21,6 @@ use Rattle.tlwords.proofs.ReadSteps.{if_known}
 use Rattle.tlwords.proofs.RunSteps.{if_true, if_false, passes_true, passes_false}
 use Rattle.tlwords.proofs.Held.{held_yes, held_no, lt_yes, lt_no, le_yes, le_cases}
 use Rattle.tlwords.proofs.Turns.{goes_start, goes_seat, goes_by}
-
-or_left : (a b : Bool) → a ≡ true → (a || b) ≡ true
-or_left a b e = ap (λ (x : Bool). x || b) e
-
-or_right : (a b : Bool) → b ≡ true → (a || b) ≡ true
-or_right true b e = refl
-or_right false b e = e
 
 -- what holds of each cell that was read holds of each read
 reads_all : (p : ℕ → Bool) (rs : List Read) → ((c : ℕ) → is_some (find_read c rs) ≡ true → p c ≡ true) → list_all (λ r. p r.cell) rs ≡ true
@@ -155,7 +149,8 @@ module _ {S N : Type 0} (terms : Terms S N) (slots : List Slot) (i : ℕ) (m : M
                   (conflict (saw m.0.seat c n) (Voiding i)) (passes_false n m.0.seat.rv cause));
               meets = record {
                 looked = ap (λ (v : View S N). v.seat.looked) looks
-                    ∙ if_known (λ (z : Seat). z.looked ≡ Some (c, n)) (passes n r.0.seat.rv) (placed (saw r.0.seat c n) (Checking i (suc c)))
+                    ∙ if_known (λ (z : Seat). z.looked ≡ Some (c, n)) (passes n r.0.seat.rv)
+                    (placed (saw r.0.seat c n) (Checking i (suc c)))
                     (conflict (saw r.0.seat c n) (Voiding i)) (λ _. refl) (λ _. refl);
                 written = t.written;
                 before = f ∙ sym is;

@@ -1,5 +1,7 @@
 -- Take, Draw, Check, Store and Release keep the rule: each is one event of the machine.
-use Rattle.std.proofs.Common.{◌≡◌, ◌≢◌, ℕ, suc, ◌+◌, ◌*◌, ◌%◌, ◌^◌, ◌<◌, ◌≤◌, ◌⊎◌, inl, inr, ⊎_elim, eqb, eq-eqb, ne_eqb, Bool, true, false, if◌then◌else◌, ◌==◌, ◌||◌, Some, List, [], ◌∷◌, ◌++◌, length, slice_get, slice_set, slice_index, sym, refl, ap, ◌∙◌, subst, arith}
+use Rattle.std.proofs.Common.{◌≡◌, ◌≢◌, ℕ, suc, ◌+◌, ◌*◌, ◌%◌, ◌^◌, ◌<◌, ◌≤◌, ◌⊎◌, inl, inr, ⊎_elim, eqb, eq-eqb, ne_eqb, Bool, true, false}
+use Rattle.std.proofs.Common.{if◌then◌else◌, ◌==◌, ◌||◌, Some, List, [], ◌∷◌, ◌++◌, length, slice_get, slice_set, slice_index, sym, refl}
+use Rattle.std.proofs.Common.{ap, ◌∙◌, subst, arith}
 use Rattle.std.specs.Prelude as std
 use mathlib.Core.Option.{none, some}
 use lib.ListN.{get_elem?}
@@ -8,13 +10,15 @@ use Rattle.std.proofs.lemmas.List.{length-append}
 use Rattle.atomic_table.specs.Table.{step, Allows}
 use Rattle.atomic_table.proofs.Lists.{exchanged}
 use Rattle.tlcore.specs.History.{Entry, wv, settle}
-use Rattle.tlcore.specs.Seats.{Seat, number_at, passes, reads_of, writes_of, find_read, find_held, all_below, all_settled, is_due, is_next, is_nil, without, stored as stored_in}
+use Rattle.tlcore.specs.Seats.{Seat, number_at, passes, reads_of, writes_of, find_read, find_held, all_below, all_settled, is_due, is_next}
+use Rattle.tlcore.specs.Seats.{is_nil, without, stored as stored_in}
 use Rattle.tlcore.specs.Machine.{World, with_seat, placed, conflict, saw, taken, take_cell, drawn, check, store, release}
 use Rattle.tlcore.specs.Invariant.{PlaceOk, CheckingOk}
 use Rattle.tlcore.specs.declared.actions.Action.TheVariants.{Take, Draw, Check, Store, Release}
 use Rattle.tlcore.specs.Laws.{Leads}
 use Rattle.tlcore.proofs.Laws.{take_leads, draw_leads, check_leads, store_leads, release_leads, release_failed_leads, release_void_leads}
-use Rattle.tlcore.proofs.Lists.{get-append_cases, get-append_seam, get-append_left, get-set_same, get_within, length-append_one, length-slice_set}
+use Rattle.tlcore.proofs.Lists.{get-append_cases, get-append_seam, get-append_left, get-set_same, get_within, length-append_one}
+use Rattle.tlcore.proofs.Lists.{length-slice_set}
 use Rattle.tlcore.proofs.Settling.{length-settle, get-settle_same}
 use Rattle.tlcore.specs.declared.entries.Status.TheVariants.{Open, Done, Void}
 use Rattle.tlcore.specs.declared.cells.Cell.{Cell}
@@ -29,7 +33,8 @@ use Rattle.tlwords.specs.Seen.{Call, Committed, Seen, SeenGrows, IsSettled, IsDo
 use Rattle.tlwords.specs.Views.{Gone, View, tells, Sound}
 use Rattle.tlwords.specs.Layout.{clock_at, lock_at, value_at, paired, front_of, words_of}
 use Rattle.tlwords.specs.Rule.{Start, rights_of, numbers_of, total_of, LookIsFresh, EntriesAre, IsTold, Suits, Ruled}
-use Rattle.tlwords.specs.Plays.{Mine, GivesBack, Sees, Takes, Checks, Stores, Releases, work_of, after_take, after_check, after_store, after_release, took, drew, checked, stored, released, bare}
+use Rattle.tlwords.specs.Plays.{Mine, GivesBack, Sees, Takes, Checks, Stores, Releases, work_of, after_take, after_check, after_store}
+use Rattle.tlwords.specs.Plays.{after_release, took, drew, checked, stored, released, bare}
 use Rattle.tlwords.proofs.Reaching.{Follows, by_event}
 use Rattle.tlwords.proofs.Paired.{clock_word, lock_word, lock_is_set, value_is_set, word_count, lock_within, value_within}
 use Rattle.tlwords.proofs.Seens.{settled_grows, seen_refl, seen_trans, permits_grow, agree_grows, agree_snoc}
@@ -37,13 +42,8 @@ use Rattle.tlwords.proofs.Lifts.{lifted}
 use Rattle.tlwords.proofs.Keeps.{Rule, gone_grows, now, seat_at, moved, sound_of, goes, told_grows}
 use Rattle.tlwords.proofs.Fronts.{named_after, named_locked, held_named}
 use Rattle.tlwords.proofs.ReadSteps.{if_known, lock_back, value_back, no_number, cell_in, half_written, quiet}
-use Rattle.tlwords.proofs.Once.{number_drawn, drawn_below}
-
-if_true : {A : Type 0} (b : Bool) (x y : A) → b ≡ true → (if b then x else y) ≡ x
-if_true b x y e = ap (λ (b : Bool). if b then x else y) e
-
-if_false : {A : Type 0} (b : Bool) (x y : A) → b ≡ false → (if b then x else y) ≡ y
-if_false b x y e = ap (λ (b : Bool). if b then x else y) e
+use Rattle.tlwords.proofs.Once.{number_drawn, drawn_below, has_snoc}
+use Rattle.tlwords.proofs.RunSteps.{if_true, if_false}
 
 place_known : (P : Place → Type 0) (b : Bool) (x y : Place) → (b ≡ true → P x) → (b ≡ false → P y) → P (if b then x else y)
 place_known P true x y f g = f refl
@@ -67,14 +67,21 @@ module _ {S N : Type 0} (terms : Terms S N) (setting : S) (base : List ℕ) (roo
       let x : (x : Cell) × (slice_get w.cells c ≡ Some x) = cell_in terms setting base room ranges ws vs r id v at y set c l in
       let is : n ≡ (x.0).lock = lock_word ws w r.words_are c x.0 x.1 in
       let e : slice_get w.seats id ≡ Some t = seat_at terms setting base room ranges ws vs r id v at in
-      let lead : Leads base w id (Take c value) (take_cell w id t c value d.word x.0) = take_leads base w id t c value d x.0 r.invariant e p read x.1 in
-      let keep : Follows base w (take_cell w id t c value old x.0) = subst (λ (k : ℕ). Follows base w (take_cell w id t c value k x.0)) word (by_event lead) in
+      let lead : Leads base w id (Take c value) (take_cell w id t c value d.word x.0) = take_leads base w id t c value d x.0 r.invariant
+      e p read x.1 in
+      let keep : Follows base w (take_cell w id t c value old x.0) = subst (λ (k : ℕ). Follows base w (take_cell w id t c value k x.0))
+      word (by_event lead) in
       let h : Seen N = record { history = w.history; notes = r.notes; ranges = ranges } in
       let z : Seat = after_take t c value old n in
       let u : View S N = record v { seen = h; seat = z } in
       let f : Suits terms setting base room h r.owner v = r.suits id v at in
       let held : ℕ → Seat = λ k.
-      record (saw t c k) { place = Taking; held = record { cell = c; word = old; value = value; stored = false } ∷ t.held; locked = c ∷ t.locked } in
+      record (saw t c k) {
+        place = Taking;
+        held = record { cell = c; word = old; value = value; stored = false } ∷ t.held;
+        locked = c ∷
+            t.locked;
+      } in
       let lost : ℕ → Seat = λ k. conflict (saw t c k) (if is_nil t.held then Idle else Failing) in
       let none_now : (k : ℕ) → number_at t.place ≡ Some k → ⊥ = λ k a.
       ⊎_elim (λ (b : t.place ≡ Reading). no_number t.place Reading k b refl a)
@@ -89,7 +96,8 @@ module _ {S N : Type 0} (terms : Terms S N) (setting : S) (base : List ℕ) (roo
       let keep' : Follows base w world =
       subst (λ (v : World). Follows base w v) (if_true ((x.0).lock == old) world (with_seat w id (lost (x.0).lock)) b) keep in
       let words : slice_set ws (lock_at c) new ≡ words_of world =
-      ap (λ (k : ℕ). slice_set ws (lock_at c) k) (let g : new ≡ suc old = omega (arith, up) in g) ∙ lock_is_set ws w r.words_are c (suc old) x.0 x.1 in
+      ap (λ (k : ℕ). slice_set ws (lock_at c) k) (let g : new ≡ suc old = omega (arith, up) in g) ∙ lock_is_set ws w r.words_are c
+      (suc old) x.0 x.1 in
       subst (λ (z : Seat). P new z) (sym (if_true (n == old) (held n) (lost n) (eq-eqb n old hit)))
       (goes terms setting base room ranges ws vs r id v at (slice_set ws (lock_at c) new) world (held n) v.mine v.told
       (named_locked terms setting base room ranges ws vs r c (suc old) x.0 x.1) keep'
@@ -121,12 +129,6 @@ module _ {S N : Type 0} (terms : Terms S N) (setting : S) (base : List ℕ) (roo
 
 -- ---- Draw
 
-has_snoc : (k x : ℕ) (xs : List ℕ) → Has k (xs ++ x ∷ []) → Has k xs ⊎ (k ≡ x)
-has_snoc k x [] (inl e) = inr e
-has_snoc k x [] (inr h) = absurd h
-has_snoc k x (y ∷ xs) (inl e) = inl (inl e)
-has_snoc k x (y ∷ xs) (inr more) = ⊎_elim (λ (h : Has k xs). inl (inr h)) (λ (e : k ≡ x). inr e) (has_snoc k x xs more)
-
 checking_same : (n i : ℕ) → number_at (Checking n 0) ≡ Some i → n ≡ i
 checking_same n i e = cc
 
@@ -148,13 +150,16 @@ module _ {S N : Type 0} (terms : Terms S N) (setting : S) (base : List ℕ) (roo
       let b : total_of numbers_of vs ≤ 2 ^ 40 * total_of rights_of vs = total_few vs (λ j u at. each (suc j) u at) in
       omega (arith, a, b)
 
-  pub numbers_few : (g : Seen N) (owner : ℕ → ℕ) (v : View S N) → Suits terms setting base room g owner v → numbers_of v ≤ 2 ^ 40 * rights_of v
+  pub numbers_few : (g : Seen N) (owner : ℕ → ℕ) (v : View S N) → Suits terms setting base room g owner v → numbers_of v ≤ 2 ^ 40 *
+      rights_of v
   numbers_few g owner v f =
       let a : length v.drawn ≤ 2 ^ 40 * v.rights = f.few in
-      let b : total_of (λ (g : Gone S N). length g.told.drawn) v.gone ≤ 2 ^ 40 * length v.gone = gone_few v.gone (λ x has. (f.gone x has).few) in
+      let b : total_of (λ (g : Gone S N). length g.told.drawn) v.gone ≤ 2 ^ 40 * length v.gone = gone_few v.gone
+      (λ x has. (f.gone x has).few) in
       omega (arith, a, b)
 
-  few_now : (ranges : List Range) (ws : List ℕ) (vs : List (View S N)) (r : Rule terms setting base room ranges ws vs) → length (r.world).history ≤ 2 ^ 46
+  few_now : (ranges : List Range) (ws : List ℕ) (vs : List (View S N)) (r : Rule terms setting base room ranges ws vs)
+      → length (r.world).history ≤ 2 ^ 46
   few_now ranges ws vs r =
       let a : total_of numbers_of vs ≤ 2 ^ 40 * total_of rights_of vs =
       total_few vs (λ j v at. numbers_few (now terms setting base room ranges ws vs r) r.owner v (r.suits j v at)) in
@@ -164,7 +169,8 @@ module _ {S N : Type 0} (terms : Terms S N) (setting : S) (base : List ℕ) (roo
 
   -- one entry more, with its note
   more_entries : (ranges : List Range) (h : List Entry) (ns : List N) (e : Entry) (n : N) → length ns ≡ length h
-      → EntriesAre terms setting (record { history = h; notes = ns; ranges = ranges }) → Permits terms setting ranges e.reads e.writes n → e.writes ≢ []
+      → EntriesAre terms setting (record { history = h; notes = ns; ranges = ranges }) → Permits terms setting ranges e.reads e.writes n
+      → e.writes ≢ []
       → EntriesAre terms setting (record { history = h ++ e ∷ []; notes = ns ++ n ∷ []; ranges = ranges })
   more_entries ranges h ns e n len all law wrote i f m a b = go (get-append_cases h e i) (get-append_cases ns n i)
     where
@@ -174,8 +180,11 @@ module _ {S N : Type 0} (terms : Terms S N) (setting : S) (base : List ℕ) (roo
           let s : Some e ≡ Some f = sym p.1 ∙ a in
           let t : e ≡ f = cc in
           let u : Some n ≡ Some m = sym q.1 ∙ b in
-          let k : n ≡ m = cc in
-          (subst (λ (z : Entry × N). Permits terms setting ranges (z.0).reads (z.0).writes z.1) (λ j. (t j, k j)) law, subst (λ (z : Entry). z.writes ≢ []) t wrote)
+          let k : n ≡ m = cc in (
+            subst (λ (z : Entry × N). Permits terms setting ranges (z.0).reads (z.0).writes z.1) (λ j. (t j, k j)) law,
+            subst
+                (λ (z : Entry). z.writes ≢ []) t wrote,
+          )
 
       go : (slice_get (h ++ e ∷ []) i ≡ slice_get h i) ⊎ ((i ≡ length h) × (slice_get (h ++ e ∷ []) i ≡ Some e))
           → (slice_get (ns ++ n ∷ []) i ≡ slice_get ns i) ⊎ ((i ≡ length ns) × (slice_get (ns ++ n ∷ []) i ≡ Some n))
@@ -213,10 +222,16 @@ module _ {S N : Type 0} (terms : Terms S N) (setting : S) (base : List ℕ) (roo
       let g : Seen N = record { history = w.history; notes = r.notes; ranges = ranges } in
       let notes : List N = r.notes ++ note ∷ [] in
       let h : Seen N = record { history = world.history; notes = notes; ranges = ranges } in
-      let len : length world.history ≡ suc (length w.history) = length-append_one w.history (record { status = Open; reads = reads_of t.reads; writes = writes_of t.held }) in
+      let len : length world.history ≡ suc (length w.history) = length-append_one w.history
+      (record { status = Open; reads = reads_of t.reads; writes = writes_of t.held }) in
       let count : length notes ≡ suc (length r.notes) = length-append_one r.notes note in
       let same : length r.notes ≡ length w.history = r.notes_are in
-      let grow : SeenGrows g h = (lead.keeps.grows, λ i m a. get-append_left r.notes (note ∷ []) i (get_within r.notes i m a) ∙ a, λ x has. has) in
+      let grow : SeenGrows g h = (
+        lead.keeps.grows,
+        λ i m a. get-append_left r.notes (note ∷ []) i (get_within r.notes i m a)
+            ∙ a,
+        λ x has. has,
+      ) in
       let z : Seat = placed t (Checking n 0) in
       let zz : z ≡ placed t (Checking w.clock 0) = ap (λ (k : ℕ). placed t (Checking k 0)) is in
       let u : View S N = record v { seen = h; seat = z; note = Some note; drawn = v.drawn ++ suc n ∷ [] } in
@@ -226,23 +241,26 @@ module _ {S N : Type 0} (terms : Terms S N) (setting : S) (base : List ℕ) (roo
       let own : IsTold setting base h owner (tells v) = told_grows setting base g h r.owner owner (tells v) grow old f.own in
       let more : length (v.drawn ++ suc n ∷ []) ≡ length v.drawn + 1 = length-append v.drawn (suc n ∷ []) in
       let there : slice_get notes n ≡ Some note =
-      subst (λ (k : ℕ). slice_get notes k ≡ Some note) (let k : length r.notes ≡ n = omega (arith, same, is, clock) in k) (get-append_seam r.notes note) in
+      subst (λ (k : ℕ). slice_get notes k ≡ Some note) (let k : length r.notes ≡ n = omega (arith, same, is, clock) in k)
+      (get-append_seam r.notes note) in
       let suit : Suits terms setting base room h owner u = record {
         own = record {
           setting_is = own.setting_is;
           grows = seen_refl h;
           owned = λ i has. ⊎_elim (λ (a : Has i v.drawn). own.owned i a)
               (λ (a : i ≡ suc n). (omega (arith, a, len, is, clock), ap (λ (b : Bool). std.cond b v.name (r.owner i)) (eq-eqb i (suc n) a)))
-              (has_snoc i (suc n) v.drawn has);
-          once = number_drawn (0 ∷ v.drawn) (suc n) (drawn_below n v.drawn (λ i a. let b = (f.own.owned i a).0 in omega (arith, b, is, clock))) f.own.once;
+              (has_snoc i v.drawn (suc n) has);
+          once = number_drawn (0 ∷ v.drawn) (suc n) (drawn_below n v.drawn (λ i a. let b = (f.own.owned i a).0 in omega
+              (arith, b, is, clock))) f.own.once;
         };
         room_is = f.room_is;
         told = told_grows setting base g h r.owner owner v.told grow old f.told;
         mine = agree_grows terms setting base g h v.mine grow f.mine;
         settled = λ i has. ⊎_elim
-            (λ (a : Has (suc i) v.drawn). ⊎_elim (λ (b : number_at t.place ≡ Some i). absurd (no_number t.place Taking i p refl b)) (λ (b : IsSettled w.history i). inr (settled_grows w.history world.history i lead.keeps.grows b)) (f.settled i a))
+            (λ (a : Has (suc i) v.drawn). ⊎_elim (λ (b : number_at t.place ≡ Some i). absurd (no_number t.place Taking i p refl b))
+            (λ (b : IsSettled w.history i). inr (settled_grows w.history world.history i lead.keeps.grows b)) (f.settled i a))
             (λ (a : suc i ≡ suc n). let b : n ≡ i = omega (arith, a) in inl (ap (λ (k : ℕ). Some k) b))
-            (has_snoc (suc i) (suc n) v.drawn has);
+            (has_snoc (suc i) v.drawn (suc n) has);
         noted = λ i a. (note, refl, subst (λ (k : ℕ). slice_get notes k ≡ Some note) (checking_same n i a) there);
         look = λ d o a b. absurd (not_looking (Checking n 0) refl d o a b);
         few = omega (arith, more, left);
@@ -250,19 +268,22 @@ module _ {S N : Type 0} (terms : Terms S N) (setting : S) (base : List ℕ) (roo
         gone = gone_grows terms setting base room g h r.owner owner v.gone grow old f.gone;
       } in
       let entries : EntriesAre terms setting h =
-      more_entries ranges w.history r.notes (record { status = Open; reads = reads_of t.reads; writes = writes_of t.held }) note same r.entries
+      more_entries ranges w.history r.notes (record { status = Open; reads = reads_of t.reads; writes = writes_of t.held }) note same
+      r.entries
       (subst (λ (x : S). Permits terms x ranges (reads_of t.reads) (writes_of t.held) note) (f.own.setting_is y set).0
       (permits_grow terms y v.seen.ranges ranges f.own.grows.2 law)) some_writes in
       let wrap : (n + 1) % 2 ^ 64 ≡ suc w.clock = omega (arith, is, clock, few) in
       let words : slice_set ws clock_at ((n + 1) % 2 ^ 64) ≡ words_of world =
       ap (λ (l : List ℕ). slice_set l clock_at ((n + 1) % 2 ^ 64)) r.words_are ∙ ap (λ (k : ℕ). front_of k (paired w.cells)) wrap in
       let rule : Rule terms setting base room ranges (slice_set ws clock_at ((n + 1) % 2 ^ 64)) (slice_set vs id u) =
-      moved terms setting base room ranges ws vs r id v u at ranges (slice_set ws clock_at ((n + 1) % 2 ^ 64)) world notes owner (λ x has. has) r.lie
+      moved terms setting base room ranges ws vs r id v u at ranges (slice_set ws clock_at ((n + 1) % 2 ^ 64)) world notes owner
+      (λ x has. has) r.lie
       r.named (by_event lead)
       (ap (λ (k : Seat). slice_set w.seats id k) (sym zz)) words refl grow.1 (omega (arith, count, same, len)) entries old suit refl
       (omega (arith, more, len)) in
       let sound : Sound terms u =
-      sound_of terms setting base room ranges world notes owner id u lead.keeps.invariant (omega (arith, count, same, len)) entries r.opening r.lie suit
+      sound_of terms setting base room ranges world notes owner id u lead.keeps.invariant (omega (arith, count, same, len)) entries
+      r.opening r.lie suit
       (get-set_same w.seats id (placed t (Checking w.clock 0)) t e ∙ ap (λ (k : Seat). Some k) (sym zz)) refl in
       let before : length v.seen.history ≤ length w.history = f.own.grows.0.0 in (
         (let l = word_count ws w r.words_are in omega (arith, l)),
@@ -270,7 +291,12 @@ module _ {S N : Type 0} (terms : Terms S N) (setting : S) (base : List ℕ) (roo
         (refl, refl, refl),
         rule,
         record {
-          sees = record { own = seen_trans v.seen g h f.own.grows grow; told = seen_trans v.told.seen g h f.told.grows grow; sound = sound };
+          sees = record {
+            own = seen_trans v.seen g h f.own.grows grow;
+            told = seen_trans v.told.seen g h f.told.grows grow;
+            sound =
+                sound;
+          };
           clock = omega (arith, len, is, clock);
           later = omega (arith, before, is, clock);
           few = omega (arith, few, is, clock);
@@ -289,7 +315,8 @@ module _ {S N : Type 0} (terms : Terms S N) (setting : S) (base : List ℕ) (roo
   pub checks : (opened : Start) (slots id c i upto : ℕ) (me : Mine S N) (y : S) → me.0.setting ≡ Some y → c < length me.0.base
       → me.0.seat.place ≡ Checking i upto → is_next me.0.seat i ≡ false → is_due me.0.seat upto c ≡ true
       → (d : Read) → find_read c me.0.seat.reads ≡ Some d
-      → Allows (Ruled terms setting base room opened) slots id me (lock_at c) (λ n. n) (bare (checked terms) (step slots (lock_at c) 0 0 none) me)
+      → Allows (Ruled terms setting base room opened) slots id me (lock_at c) (λ n. n)
+      (bare (checked terms) (step slots (lock_at c) 0 0 none) me)
   checks opened slots id c i upto me y set l p further due d read =
       lifted terms setting base room opened slots id (lock_at c) me (λ n. n)
       (checked terms (step slots (lock_at c) 0 0 none) me) λ ranges ws vs r at.
@@ -300,21 +327,25 @@ module _ {S N : Type 0} (terms : Terms S N) (setting : S) (base : List ℕ) (roo
       let x : (x : Cell) × (slice_get w.cells c ≡ Some x) = cell_in terms setting base room ranges ws vs r id v at y set c l in
       let is : n ≡ (x.0).lock = lock_word ws w r.words_are c x.0 x.1 in
       let e : slice_get w.seats id ≡ Some t = seat_at terms setting base room ranges ws vs r id v at in
-      let lead : Leads base w id (Check c) (check w id t i c x.0) = check_leads base w id t i upto c d x.0 r.invariant e p further due read x.1 in
+      let lead : Leads base w id (Check c) (check w id t i c x.0) = check_leads base w id t i upto c d x.0 r.invariant e p further due
+      read x.1 in
       let keep : Follows base w (with_seat w id (after_check t i c n)) =
       subst (λ (k : ℕ). Follows base w (with_seat w id (after_check t i c k))) (sym is) (by_event lead) in
       let h : Seen N = record { history = w.history; notes = r.notes; ranges = ranges } in
       let z : Seat = after_check t i c n in
       let u : View S N = record v { seen = h; seat = z } in
       let f : Suits terms setting base room h r.owner v = r.suits id v at in
-      let number : number_at z.place ≡ Some i = if_known (λ (z : Seat). number_at z.place ≡ Some i) (passes n t.rv) (placed (saw t c n) (Checking i (suc c))) (conflict (saw t c n) (Voiding i)) (λ _. refl) (λ _. refl) in
+      let number : number_at z.place ≡ Some i = if_known (λ (z : Seat). number_at z.place ≡ Some i) (passes n t.rv)
+      (placed (saw t c n) (Checking i (suc c))) (conflict (saw t c n) (Voiding i)) (λ _. refl) (λ _. refl) in
       let was : number_at t.place ≡ Some i = ap number_at p in
       let q : Rule terms setting base room ranges (slice_set ws (lock_at c) n) (slice_set vs id u) × Sees terms v u =
       quiet terms setting base room ranges ws vs r id v at (lock_at c) z v.told keep f.told
       (λ k a. number ∙ (sym was ∙ a)) (λ k a. was ∙ (sym number ∙ a))
-      (if_known (λ (z : Seat). LookIsFresh w.history z) (passes n t.rv) (placed (saw t c n) (Checking i (suc c))) (conflict (saw t c n) (Voiding i))
+      (if_known (λ (z : Seat). LookIsFresh w.history z) (passes n t.rv) (placed (saw t c n) (Checking i (suc c)))
+      (conflict (saw t c n) (Voiding i))
       (λ _ d o a b. absurd (not_looking (Checking i (suc c)) refl d o a b)) (λ _ d o a b. absurd (not_looking (Voiding i) refl d o a b)))
-      (λ _ b. if_known (λ (z : Seat). z.held ≡ []) (passes n t.rv) (placed (saw t c n) (Checking i (suc c))) (conflict (saw t c n) (Voiding i)) (λ _. b) (λ _. b)) u refl in (
+      (λ _ b. if_known (λ (z : Seat). z.held ≡ []) (passes n t.rv) (placed (saw t c n) (Checking i (suc c)))
+      (conflict (saw t c n) (Voiding i)) (λ _. b) (λ _. b)) u refl in (
         lock_within ws w r.words_are c x.0 x.1,
         u,
         (refl, refl, refl),
@@ -338,14 +369,20 @@ storing_not_checking i j upto e = cc
 
 module _ {S N : Type 0} (terms : Terms S N) (setting : S) (base : List ℕ) (room : ℕ) where
   -- the rule after a store, which adds to the pass's calls what agrees
-  stores_go : (ranges : List Range) (ws : List ℕ) (vs : List (View S N)) (r : Rule terms setting base room ranges ws vs) (id : ℕ) (v : View S N) → get_elem? vs id ≡ some v
+  stores_go : (ranges : List Range) (ws : List ℕ) (vs : List (View S N)) (r : Rule terms setting base room ranges ws vs) (id : ℕ)
+      (v : View S N) → get_elem? vs id ≡ some v
       → (c i : ℕ) (k : Held) (x : Cell) (mine : List (Call N)) → slice_get (r.world).cells c ≡ Some x
       → Follows base r.world (store r.world id v.seat i c k x) → number_at v.seat.place ≡ Some i
       → (terms.ranged setting c ≡ true → Names ranges k.value)
       → (Agree terms setting base (record { history = settle (r.world).history i Done; notes = r.notes; ranges = ranges }) v.mine
       → Agree terms setting base (record { history = settle (r.world).history i Done; notes = r.notes; ranges = ranges }) mine)
       → (u : View S N)
-      → u ≡ record v { seen = record { history = settle (r.world).history i Done; notes = r.notes; ranges = ranges }; seat = after_store v.seat i c; mine = mine }
+      → u ≡ record v {
+        seen = record { history = settle (r.world).history i Done; notes = r.notes; ranges = ranges };
+        seat = after_store
+            v.seat i c;
+        mine = mine;
+      }
       → Rule terms setting base room ranges (slice_set ws (value_at c) k.value) (slice_set vs id u) × Sees terms v u
   stores_go ranges ws vs r id v at c i k x mine f stays number names calls u is =
       let w : World = r.world in
@@ -354,17 +391,22 @@ module _ {S N : Type 0} (terms : Terms S N) (setting : S) (base : List ℕ) (roo
       let suit : Suits terms setting base room (now terms setting base room ranges ws vs r) r.owner v = r.suits id v at in
       let len : length world.history ≡ length w.history = length-settle w.history i Done in
       let told : IsTold setting base h r.owner v.told =
-      told_grows setting base (now terms setting base room ranges ws vs r) h r.owner r.owner v.told (stays.grows, λ i m a. a, λ y has. has) (λ n l. refl) suit.told in
-      subst (λ (u : View S N). Rule terms setting base room ranges (slice_set ws (value_at c) k.value) (slice_set vs id u) × Sees terms v u) (sym is)
+      told_grows setting base (now terms setting base room ranges ws vs r) h r.owner r.owner v.told
+      (stays.grows, λ i m a. a, λ y has. has) (λ n l. refl) suit.told in
+      subst (λ (u : View S N). Rule terms setting base room ranges (slice_set ws (value_at c) k.value) (slice_set vs id u)
+      × Sees terms v u) (sym is)
       (goes terms setting base room ranges ws vs r id v at (slice_set ws (value_at c) k.value) world (after_store v.seat i c) mine v.told
       (named_after terms setting base room ranges ws vs r c (record x { value = k.value }) names) stays refl
       (value_is_set ws w r.words_are c k.value x f) (length-slice_set w.cells c (record x { value = k.value })) len calls told
-      (λ j a. inl (sym number ∙ a)) (λ j a. number ∙ a) (λ d o a b. absurd (not_looking (Storing i) refl d o a b)) (λ _ b. ap (stored_in c) b))
+      (λ j a. inl (sym number ∙ a)) (λ j a. number ∙ a) (λ d o a b. absurd (not_looking (Storing i) refl d o a b))
+      (λ _ b. ap (stored_in c) b))
 
   pub stores : (opened : Start) (slots id c i value : ℕ) (k : Held) (me : Mine S N) (y : S) → me.0.setting ≡ Some y → c < length me.0.base
-      → ((upto : ℕ) × (me.0.seat.place ≡ Checking i upto) × ((is_next me.0.seat i || all_settled me.0.seat.held upto me.0.seat.reads) ≡ true)) ⊎ (me.0.seat.place ≡ Storing i)
+      → ((upto : ℕ) × (me.0.seat.place ≡ Checking i upto) × ((is_next me.0.seat i || all_settled me.0.seat.held upto
+      me.0.seat.reads) ≡ true)) ⊎ (me.0.seat.place ≡ Storing i)
       → find_held c me.0.seat.held ≡ Some k → k.value ≡ value
-      → Allows (Ruled terms setting base room opened) slots id me (value_at c) (λ _. value) (λ _. bare (stored terms) (step slots (value_at c) value 0 none) me value)
+      → Allows (Ruled terms setting base room opened) slots id me (value_at c) (λ _. value)
+      (λ _. bare (stored terms) (step slots (value_at c) value 0 none) me value)
   stores opened slots id c i value k me y set l (inl p) holds is_value =
       lifted terms setting base room opened slots id (value_at c) me (λ _. value)
       (λ _. stored terms (step slots (value_at c) value 0 none) me value) λ ranges ws vs r at.
@@ -378,7 +420,8 @@ module _ {S N : Type 0} (terms : Terms S N) (setting : S) (base : List ℕ) (roo
       let f : Suits terms setting base room (now terms setting base room ranges ws vs r) r.owner v = r.suits id v at in
       let number : number_at t.place ≡ Some i = ap number_at p.1 in
       let noted : (n : N) × (v.note ≡ Some n) × (slice_get r.notes i ≡ Some n) = f.noted i number in
-      let ok : CheckingOk base w.history t i p.0 = subst (λ (z : Place). PlaceOk base w.cells w.history t z) p.1 ((r.invariant).consistent.seats id t e).place in
+      let ok : CheckingOk base w.history t i p.0 = subst (λ (z : Place). PlaceOk base w.cells w.history t z) p.1
+      ((r.invariant).consistent.seats id t e).place in
       let done : IsDone h i (work_of t noted.0) = record {
         entry = record ok.entry { status = Done };
         here = get-settle_same w.history i Done ok.entry ok.here;
@@ -404,7 +447,12 @@ module _ {S N : Type 0} (terms : Terms S N) (setting : S) (base : List ℕ) (roo
               let o : Some noted.0 ≡ Some n = sym noted.1 ∙ b in
               let m : noted.0 ≡ n = cc in (
                 subst (λ (z : ℕ × N). IsDone h z.0 (work_of t z.1)) (λ q. (g q, m q)) done,
-                ap (λ (z : ℕ × N). let u : View S N = record v { seen = h; seat = after_store t z.0 c; mine = v.mine ++ Committed (suc z.0) (work_of t z.1) ∷ [] } in u) (λ q. (g q, m q)),
+                ap (λ (z : ℕ × N). let u : View S N = record v {
+                  seen = h;
+                  seat = after_store t z.0 c;
+                  mine = v.mine ++ Committed
+                      (suc z.0) (work_of t z.1) ∷ [];
+                } in u) (λ q. (g q, m q)),
               );
           next = λ j a. absurd (storing_not_checking j i p.0 (sym a ∙ p.1));
         }),
@@ -453,12 +501,14 @@ voiding_is i j e = cc
 
 module _ {S N : Type 0} (terms : Terms S N) (setting : S) (base : List ℕ) (room : ℕ) where
   -- the rule after a release with this word, where the history becomes h; the entry of a run that has drawn is settled
-  releases_go : (ranges : List Range) (ws : List ℕ) (vs : List (View S N)) (r : Rule terms setting base room ranges ws vs) (id : ℕ) (v : View S N) → get_elem? vs id ≡ some v
+  releases_go : (ranges : List Range) (ws : List ℕ) (vs : List (View S N)) (r : Rule terms setting base room ranges ws vs) (id : ℕ)
+      (v : View S N) → get_elem? vs id ≡ some v
       → (c word : ℕ) (x : Cell) (h : List Entry) → slice_get (r.world).cells c ≡ Some x
       → Follows base r.world (release r.world id v.seat c word x h) → length h ≡ length (r.world).history
       → ((i : ℕ) → number_at v.seat.place ≡ Some i → IsSettled h i)
       → ((d word value : ℕ) → is_looking v.seat.place ≡ false)
-      → Rule terms setting base room ranges (slice_set ws (lock_at c) word) (slice_set vs id (record v { seen = record { history = h; notes = r.notes; ranges = ranges }; seat = after_release v.seat c }))
+      → Rule terms setting base room ranges (slice_set ws (lock_at c) word)
+      (slice_set vs id (record v { seen = record { history = h; notes = r.notes; ranges = ranges }; seat = after_release v.seat c }))
       × Sees terms v (record v { seen = record { history = h; notes = r.notes; ranges = ranges }; seat = after_release v.seat c })
   releases_go ranges ws vs r id v at c word x h f stays len ends free =
       let w : World = r.world in
@@ -467,7 +517,8 @@ module _ {S N : Type 0} (terms : Terms S N) (setting : S) (base : List ℕ) (roo
       let later : Seen N = record { history = h; notes = r.notes; ranges = ranges } in
       let suit : Suits terms setting base room (now terms setting base room ranges ws vs r) r.owner v = r.suits id v at in
       let told : IsTold setting base later r.owner v.told =
-      told_grows setting base (now terms setting base room ranges ws vs r) later r.owner r.owner v.told (stays.grows, λ i m a. a, λ y has. has) (λ n l. refl) suit.told in
+      told_grows setting base (now terms setting base room ranges ws vs r) later r.owner r.owner v.told
+      (stays.grows, λ i m a. a, λ y has. has) (λ n l. refl) suit.told in
       goes terms setting base room ranges ws vs r id v at (slice_set ws (lock_at c) word) world (after_release t c) v.mine v.told
       (named_locked terms setting base room ranges ws vs r c word x f) stays refl
       (lock_is_set ws w r.words_are c word x f) (length-slice_set w.cells c (record x { lock = word })) len (λ a. a) told
@@ -480,7 +531,8 @@ module _ {S N : Type 0} (terms : Terms S N) (setting : S) (base : List ℕ) (roo
 
   pub releases : (opened : Start) (slots id c new : ℕ) (k : Held) (me : Mine S N) (y : S) → me.0.setting ≡ Some y → c < length me.0.base
       → find_held c me.0.seat.held ≡ Some k → GivesBack me.0.seat k new
-      → Allows (Ruled terms setting base room opened) slots id me (lock_at c) (λ _. new) (λ _. bare (released terms) (step slots (lock_at c) new 0 none) me new)
+      → Allows (Ruled terms setting base room opened) slots id me (lock_at c) (λ _. new)
+      (λ _. bare (released terms) (step slots (lock_at c) new 0 none) me new)
   releases opened slots id c new k me y set l holds (inl p) =
       lifted terms setting base room opened slots id (lock_at c) me (λ _. new)
       (λ _. released terms (step slots (lock_at c) new 0 none) me new) λ ranges ws vs r at.
@@ -489,13 +541,15 @@ module _ {S N : Type 0} (terms : Terms S N) (setting : S) (base : List ℕ) (roo
       let w : World = r.world in
       let x : (x : Cell) × (slice_get w.cells c ≡ Some x) = cell_in terms setting base room ranges ws vs r id v at y set c l in
       let e : slice_get w.seats id ≡ Some t = seat_at terms setting base room ranges ws vs r id v at in
-      let lead : Leads base w id (Release c) (release w id t c (2 * wv p.0) x.0 w.history) = release_leads base w id t p.0 c k x.0 r.invariant e p.1 holds p.2 x.1 in
+      let lead : Leads base w id (Release c) (release w id t c (2 * wv p.0) x.0 w.history) = release_leads base w id t p.0 c k x.0
+      r.invariant e p.1 holds p.2 x.1 in
       let ok : (e : Entry) × (slice_get w.history p.0 ≡ Some e) × (e.status ≡ Done) =
       subst (λ (z : Place). PlaceOk base w.cells w.history t z) p.1 ((r.invariant).consistent.seats id t e).place in
       let u : View S N = record v { seen = record { history = w.history; notes = r.notes; ranges = ranges }; seat = after_release t c } in
       let q : Rule terms setting base room ranges (slice_set ws (lock_at c) (2 * wv p.0)) (slice_set vs id u) × Sees terms v u =
       releases_go ranges ws vs r id v at c (2 * wv p.0) x.0 w.history x.1 (by_event lead) refl
-      (λ j a. subst (λ (z : ℕ). IsSettled w.history z) (some_same p.0 j (sym (ap number_at p.1) ∙ a)) (ok.0, ok.1, λ b. landed_not_open (sym ok.2 ∙ b)))
+      (λ j a. subst (λ (z : ℕ). IsSettled w.history z) (some_same p.0 j (sym (ap number_at p.1) ∙ a))
+      (ok.0, ok.1, λ b. landed_not_open (sym ok.2 ∙ b)))
       (λ d o a. ap is_looking p.1) in (
         lock_within ws w r.words_are c x.0 x.1,
         u,
@@ -512,7 +566,8 @@ module _ {S N : Type 0} (terms : Terms S N) (setting : S) (base : List ℕ) (roo
       let w : World = r.world in
       let x : (x : Cell) × (slice_get w.cells c ≡ Some x) = cell_in terms setting base room ranges ws vs r id v at y set c l in
       let e : slice_get w.seats id ≡ Some t = seat_at terms setting base room ranges ws vs r id v at in
-      let lead : Leads base w id (Release c) (release w id t c k.word x.0 w.history) = release_failed_leads base w id t c k x.0 r.invariant e p.0 holds x.1 in
+      let lead : Leads base w id (Release c) (release w id t c k.word x.0 w.history) = release_failed_leads base w id t c k x.0
+      r.invariant e p.0 holds x.1 in
       let u : View S N = record v { seen = record { history = w.history; notes = r.notes; ranges = ranges }; seat = after_release t c } in
       let q : Rule terms setting base room ranges (slice_set ws (lock_at c) k.word) (slice_set vs id u) × Sees terms v u =
       releases_go ranges ws vs r id v at c k.word x.0 w.history x.1 (by_event lead) refl
@@ -533,14 +588,16 @@ module _ {S N : Type 0} (terms : Terms S N) (setting : S) (base : List ℕ) (roo
       let x : (x : Cell) × (slice_get w.cells c ≡ Some x) = cell_in terms setting base room ranges ws vs r id v at y set c l in
       let e : slice_get w.seats id ≡ Some t = seat_at terms setting base room ranges ws vs r id v at in
       let h : List Entry = settle w.history p.0 Void in
-      let lead : Leads base w id (Release c) (release w id t c k.word x.0 h) = release_void_leads base w id t p.0 c k x.0 r.invariant e p.1 holds x.1 in
+      let lead : Leads base w id (Release c) (release w id t c k.word x.0 h) = release_void_leads base w id t p.0 c k x.0 r.invariant e
+      p.1 holds x.1 in
       let ok : (e : Entry) × (slice_get w.history p.0 ≡ Some e) × (e.status ≢ Done) =
       subst (λ (z : Place). PlaceOk base w.cells w.history t z) p.1 ((r.invariant).consistent.seats id t e).place in
       let there : slice_get h p.0 ≡ Some (record ok.0 { status = Void }) = get-settle_same w.history p.0 Void ok.0 ok.1 in
       let u : View S N = record v { seen = record { history = h; notes = r.notes; ranges = ranges }; seat = after_release t c } in
       let q : Rule terms setting base room ranges (slice_set ws (lock_at c) k.word) (slice_set vs id u) × Sees terms v u =
       releases_go ranges ws vs r id v at c k.word x.0 h x.1 (by_event lead) (length-settle w.history p.0 Void)
-      (λ j a. subst (λ (z : ℕ). IsSettled h z) (some_same p.0 j (sym (ap number_at p.1) ∙ a)) (record ok.0 { status = Void }, there, void_not_open))
+      (λ j a. subst (λ (z : ℕ). IsSettled h z) (some_same p.0 j (sym (ap number_at p.1) ∙ a))
+      (record ok.0 { status = Void }, there, void_not_open))
       (λ d o a. ap is_looking p.1) in (
         lock_within ws w r.words_are c x.0 x.1,
         u,
@@ -548,7 +605,8 @@ module _ {S N : Type 0} (terms : Terms S N) (setting : S) (base : List ℕ) (roo
         subst (λ (z : ℕ). Rule terms setting base room ranges (slice_set ws (lock_at c) z) (slice_set vs id u)) (sym p.2) q.0,
         subst (λ (z : ℕ). Releases terms z me (u, me.1)) (sym (lock_back c)) (record {
           sees = q.1;
-          void = λ j a. subst (λ (z : ℕ). (e : Entry) × (slice_get h z ≡ Some e) × (e.status ≡ Void)) (voiding_is p.0 j (sym p.1 ∙ a)) (record ok.0 { status = Void }, there, refl);
+          void = λ j a. subst (λ (z : ℕ). (e : Entry) × (slice_get h z ≡ Some e) × (e.status ≡ Void)) (voiding_is p.0 j (sym p.1 ∙ a))
+              (record ok.0 { status = Void }, there, refl);
           is = refl;
         }),
       )

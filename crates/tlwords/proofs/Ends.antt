@@ -1,8 +1,9 @@
 -- What the closed words show.
-use Rattle.std.proofs.Common.{◌≡◌, ◌≢◌, ◌⊎◌, inl, inr, ⊎_elim, Bool, true, false, ◌/◌, ◌%◌, ◌^◌, map, ℕ, zero, suc, ◌+◌, ◌*◌, ◌<◌, ◌≤◌, Some, List, [], ◌∷◌, ◌++◌, length, slice_get, slice_index, min, sym, refl, ap, ◌∙◌, subst, arith}
+use Rattle.std.proofs.Common.{◌≡◌, ◌≢◌, ⊎_elim, Bool, true, false, ◌/◌, ◌%◌, ◌^◌, map, ℕ, zero, suc, ◌+◌, ◌*◌, ◌<◌, ◌≤◌, Some, List, []}
+use Rattle.std.proofs.Common.{◌∷◌, ◌++◌, length, slice_get, slice_index, min, sym, refl, ap, ◌∙◌, subst, arith}
 use mathlib.Core.Option.{some, some-injective, some-ne-none}
 use lib.ListN.{get_elem?}
-use Rattle.std.proofs.lemmas.List.{length-append, length-map}
+use Rattle.std.proofs.lemmas.List.{length-append, length-map, nil_from_length}
 use Rattle.atomic_table.specs.Table.{State}
 use Rattle.tlcore.specs.History.{Will, version, value, deed}
 use Rattle.std.specs.Prelude.{if◌then◌else◌}
@@ -29,7 +30,7 @@ use Rattle.tlwords.proofs.Gathers.{nothing_held, rests_unheld}
 use Rattle.tlwords.proofs.ReadSteps.{half_of, half_written}
 use Rattle.tlwords.proofs.Shelves.{tail_least, total_snoc}
 use Rattle.ranges.proofs.Members.{has_mapped}
-use Rattle.tlwords.proofs.Once.{OwnsWhatItDrew, none_left_out}
+use Rattle.tlwords.proofs.Once.{OwnsWhatItDrew, has_snoc, none_left_out}
 use Rattle.tlwords.proofs.Paired.{word_count, clock_word, lock_word, lock_within, value_word, value_within}
 
 pub index_same : (xs : List ℕ) (i x : ℕ) → get_elem? xs i ≡ some x → slice_index xs i ≡ x
@@ -100,7 +101,8 @@ only_one f (x ∷ xs) (suc id) v at each =
     omega (arith, a, b)
 
 -- where each is at most another, so are all together; and where one leaves so many, all do
-total_most : {V : Type 0} (f g : V → ℕ) (vs : List V) → ((j : ℕ) (u : V) → get_elem? vs j ≡ some u → f u ≤ g u) → total_of f vs ≤ total_of g vs
+total_most : {V : Type 0} (f g : V → ℕ) (vs : List V) → ((j : ℕ) (u : V) → get_elem? vs j ≡ some u → f u ≤ g u) → total_of f vs ≤
+    total_of g vs
 total_most f g [] each = omega arith
 total_most f g (x ∷ xs) each =
     let a : f x ≤ g x = each 0 x refl in
@@ -118,10 +120,6 @@ total_leaves f g (x ∷ xs) (suc id) v k at leaves each =
     let a : f x ≤ g x = each 0 x refl in
     let b : total_of f xs + k ≤ total_of g xs = total_leaves f g xs id v k at leaves (λ j u there. each (suc j) u there) in
     omega (arith, a, b)
-
-no_length : {A : Type 0} (xs : List A) → length xs ≡ 0 → xs ≡ []
-no_length [] e = refl
-no_length (x ∷ xs) e = absurd (omega (arith, e))
 
 -- the view of a seat
 seat_view : {V X : Type 0} (f : V → X) (vs : List V) (i : ℕ) (x : X) → slice_get (map f vs) i ≡ Some x
@@ -146,19 +144,14 @@ holds_few [] n unheld = omega arith
 holds_few (x ∷ ks) zero unheld = let e : x ∷ ks ≡ [] = unheld refl in absurd (cc)
 holds_few (x ∷ ks) (suc n) unheld = omega arith
 
-has_split : {U : Type 0} (u : U) (us : List U) (v : U) → Has u (us ++ v ∷ []) → Has u us ⊎ (u ≡ v)
-has_split u [] v (inl e) = inr e
-has_split u [] v (inr has) = absurd has
-has_split u (x ∷ us) v (inl e) = inl (inl e)
-has_split u (x ∷ us) v (inr has) = ⊎_elim (λ (p : Has u us). inl (inr p)) (λ (p : u ≡ v). inr p) (has_split u us v has)
-
 -- a pass has moved the tail with those that were given up to it
 given_moved : {S N : Type 0} (table : TableId) (v : View S N) (gs : List (Gone S N)) (us : List (Known S N)) → gs ≡ map gone_known us
     → moved_of (record v { gone = gs }) ≡ total_of (λ (x : Known S N). x.taken + x.added) (us ++ known_of table v ∷ [])
 given_moved {S} {N} table v gs us gone =
     let a : total_of (λ (g : Gone S N). g.taken + g.added) gs ≡ total_of (λ (x : Known S N). x.taken + x.added) us =
     ap (total_of (λ (g : Gone S N). g.taken + g.added)) gone ∙ total_map (λ (g : Gone S N). g.taken + g.added) gone_known us in
-    let b : total_of (λ (x : Known S N). x.taken + x.added) (us ++ known_of table v ∷ []) ≡ total_of (λ (x : Known S N). x.taken + x.added) us + (v.taken + v.added) =
+    let b : total_of (λ (x : Known S N). x.taken + x.added) (us ++ known_of table v ∷ []) ≡ total_of
+    (λ (x : Known S N). x.taken + x.added) us + (v.taken + v.added) =
     total_snoc (λ (x : Known S N). x.taken + x.added) us (known_of table v) in
     omega (arith, a, b)
 
@@ -183,7 +176,8 @@ module _ {S N : Type 0} (terms : Terms S N) (setting : S) (base : List ℕ) (roo
   many : n ≡ length w.cells
   many =
       let a : length s.words ≡ length (r.front ++ shelf_of r.tail r.store) = ap length r.words_are in
-      let b : length (r.front ++ shelf_of r.tail r.store) ≡ length r.front + length (shelf_of r.tail r.store) = length-append r.front (shelf_of r.tail r.store) in
+      let b : length (r.front ++ shelf_of r.tail r.store) ≡ length r.front + length (shelf_of r.tail r.store) = length-append r.front
+      (shelf_of r.tail r.store) in
       let c : length r.store ≡ room = (r.shelf).long in
       let d : length r.front ≡ front_size (length w.cells) = front_count in
       omega (arith, a, b, c, d, long)
@@ -195,17 +189,20 @@ module _ {S N : Type 0} (terms : Terms S N) (setting : S) (base : List ℕ) (roo
 
   tail_same : closed.tail ≡ r.tail
   tail_same =
-      let at : tail_at n ≡ length r.front + 7 = let a : n ≡ length w.cells = many in let b : length r.front ≡ front_size (length w.cells) = front_count in omega (arith, a, b) in
+      let at : tail_at n ≡ length r.front + 7 = let a : n ≡ length w.cells = many in let b : length r.front ≡ front_size
+      (length w.cells) = front_count in omega (arith, a, b) in
       some-injective closed.tail r.tail
       (sym tail_is ∙ (ap (λ (l : List ℕ). get_elem? l (tail_at n)) r.words_are
       ∙ (ap (λ (i : ℕ). get_elem? (r.front ++ shelf_of r.tail r.store) i) at ∙ elem_right r.front (shelf_of r.tail r.store) 7)))
 
   store_word : (o x y : ℕ) → slice_get closed.store.items o ≡ Some x → slice_get r.store o ≡ Some y → x ≡ y
   store_word o x y e f =
-      let at : store_at n o ≡ length r.front + (15 + o) = let a : n ≡ length w.cells = many in let b : length r.front ≡ front_size (length w.cells) = front_count in omega (arith, a, b) in
+      let at : store_at n o ≡ length r.front + (15 + o) = let a : n ≡ length w.cells = many in let b : length r.front ≡ front_size
+      (length w.cells) = front_count in omega (arith, a, b) in
       some-injective x y
       (sym (store_is o x e) ∙ (ap (λ (l : List ℕ). get_elem? l (store_at n o)) r.words_are
-      ∙ (ap (λ (i : ℕ). get_elem? (r.front ++ shelf_of r.tail r.store) i) at ∙ (elem_right r.front (shelf_of r.tail r.store) (15 + o) ∙ (elem_right (shelf_of r.tail []) r.store o ∙ elem_of r.store o y f)))))
+      ∙ (ap (λ (i : ℕ). get_elem? (r.front ++ shelf_of r.tail r.store) i) at ∙ (elem_right r.front (shelf_of r.tail r.store) (15 + o)
+      ∙ (elem_right (shelf_of r.tail []) r.store o ∙ elem_of r.store o y f)))))
 
   store_same : (o y : ℕ) → slice_get r.store o ≡ Some y → slice_get closed.store.items o ≡ Some y
   store_same o y f =
@@ -276,7 +273,8 @@ module _ {S N : Type 0} (terms : Terms S N) (setting : S) (base : List ℕ) (roo
       let b = (k.invariant).locked_are_held c (x.lock / 2) y.0 y.1 (y.2 ∙ lock) in
       record { index = b.0; seat = b.1; here = b.2; holds = b.3; busy = busy b.0 b.1 b.2 b.3 (is_resting b.1.place) refl }
     where
-      busy : (id : ℕ) (t : Seat) → slice_get w.seats id ≡ Some t → Holds t c → (v : Bool) → is_resting t.place ≡ v → is_resting t.place ≡ false
+      busy : (id : ℕ) (t : Seat) → slice_get w.seats id ≡ Some t → Holds t c → (v : Bool) → is_resting t.place ≡ v
+          → is_resting t.place ≡ false
       busy id t at holds true rest = absurd (nothing_held t c (rests_unheld base w id t k.invariant at rest) holds)
       busy id t at holds false rest = rest
 
@@ -357,10 +355,17 @@ module _ {S N : Type 0} (terms : Terms S N) (setting : S) (base : List ℕ) (roo
   gone_ends id v u there has =
       let f = (k.suits id v there).gone (gone_known u) has in
       let a : Adds room r.tail v = (r.shelf).tail_is.each id v there in
-      record { same = f.told.setting_is; grows = f.told.grows; mine = f.mine; found = λ m count e. found_of m count ((a.gone (gone_known u) has).1 m count e) }
+      record {
+        same = f.told.setting_is;
+        grows = f.told.grows;
+        mine = f.mine;
+        found = λ m count e. found_of m count
+            ((a.gone (gone_known u) has).1 m count e);
+      }
 
   -- no other seat can have anything: it has no part of the right to draw
-  module _ (table : TableId) (id : ℕ) (last_pass : View S N) (gs : List (Gone S N)) (there : get_elem? s.views id ≡ some (record last_pass { gone = gs }))
+  module _ (table : TableId) (id : ℕ) (last_pass : View S N) (gs : List (Gone S N))
+      (there : get_elem? s.views id ≡ some (record last_pass { gone = gs }))
       (unheld : last_pass.seat.held ≡ []) (us : List (Known S N)) (one : last_pass.rights ≡ 1) (gone : gs ≡ map gone_known us)
       (every : length (us ++ known_of table last_pass ∷ []) ≡ opened.sessions) where
     abbrev v : View S N
@@ -376,11 +381,12 @@ module _ {S N : Type 0} (terms : Terms S N) (setting : S) (base : List ℕ) (roo
     poor : (j : ℕ) (u : View S N) → j ≢ id → get_elem? s.views j ≡ some u → (u.rights ≡ 0) × (u.gone ≡ [])
     poor j u other at =
         let a : rights_of u ≡ 0 = others_none rights_of s.views id v there all_rights j u other at in
-        (omega (arith, a), no_length u.gone (let b : length u.gone ≡ 0 = omega (arith, a) in b))
+        (omega (arith, a), nil_from_length u.gone (let b : length u.gone ≡ 0 = omega (arith, a) in b))
 
     all_unheld : (j : ℕ) (u : View S N) → get_elem? s.views j ≡ some u → u.seat.held ≡ []
     all_unheld j u at = ⊎_elim
-        (λ (p : j ≡ id). ap (λ (x : View S N). x.seat.held) (some-injective u v (sym at ∙ (ap (λ (i : ℕ). get_elem? s.views i) p ∙ there))) ∙ unheld)
+        (λ (p : j ≡ id). ap (λ (x : View S N). x.seat.held) (some-injective u v
+        (sym at ∙ (ap (λ (i : ℕ). get_elem? s.views i) p ∙ there))) ∙ unheld)
         (λ (p : j ≢ id). (k.suits j u at).unheld (poor j u p at).0)
         (same_or_not id j)
 
@@ -405,10 +411,11 @@ module _ {S N : Type 0} (terms : Terms S N) (setting : S) (base : List ℕ) (roo
         let f = k.suits id v there in
         ⊎_elim
         (λ (p : Has u us).
-        let told = (f.gone (gone_known u) (subst (λ (gs : List (Gone S N)). Has (gone_known u) gs) (sym gone) (has_mapped gone_known us u p))).told in
+        let told = (f.gone (gone_known u) (subst (λ (gs : List (Gone S N)). Has (gone_known u) gs) (sym gone)
+        (has_mapped gone_known us u p))).told in
         (told.owned, told.once))
         (λ (p : u ≡ known_of table last_pass). subst Owns (sym p) (f.own.owned, f.own.once))
-        (has_split u us (known_of table last_pass) has)
+        (has_snoc u us (known_of table last_pass) has)
 
     drawn_all : total_of (λ (x : Known S N). length x.drawn) given ≡ length w.history
     drawn_all =
@@ -419,7 +426,8 @@ module _ {S N : Type 0} (terms : Terms S N) (setting : S) (base : List ℕ) (roo
         let z : total_of (λ (g : Gone S N). length g.told.drawn) u.gone ≡ 0 = ap (total_of (λ (g : Gone S N). length g.told.drawn)) p.1 in
         let q : u.rights ≡ 0 = p.0 in
         omega (arith, c, z, q)) in
-        let c : total_of (λ (x : Known S N). length x.drawn) given ≡ total_of (λ (x : Known S N). length x.drawn) us + length last_pass.drawn =
+        let c : total_of (λ (x : Known S N). length x.drawn) given ≡ total_of (λ (x : Known S N). length x.drawn) us + length
+        last_pass.drawn =
         total_snoc (λ (x : Known S N). length x.drawn) us (known_of table last_pass) in
         let d : total_of (λ (g : Gone S N). length g.told.drawn) gs ≡ total_of (λ (x : Known S N). length x.drawn) us =
         ap (total_of (λ (g : Gone S N). length g.told.drawn)) gone ∙ total_map (λ (g : Gone S N). length g.told.drawn) gone_known us in
@@ -445,7 +453,8 @@ module _ {S N : Type 0} (terms : Terms S N) (setting : S) (base : List ℕ) (roo
           let d : u.added ≤ (room + 1) * 0 = subst (λ (n : ℕ). u.added ≤ (room + 1) * n) p.0 h.once in
           let z : total_of (λ (g : Gone S N). g.taken + g.added) u.gone ≡ 0 = ap (total_of (λ (g : Gone S N). g.taken + g.added)) p.1 in
           omega (arith, c, d, z)) in
-          let c : moved_of v ≡ total_of (λ (x : Known S N). x.taken + x.added) (us ++ known_of table last_pass ∷ []) = given_moved table last_pass gs us gone in
+          let c : moved_of v ≡ total_of (λ (x : Known S N). x.taken + x.added) (us ++ known_of table last_pass ∷ []) = given_moved table
+          last_pass gs us gone in
           let t : closed.tail ≡ r.tail = tail_same in
           omega (arith, a, b, c, t);
     }
@@ -457,7 +466,8 @@ module _ {S N : Type 0} (terms : Terms S N) (setting : S) (base : List ℕ) (roo
   others id x gs there unheld one count is =
       let none : holder_of x.seat ≡ 0 = holds_none x.seat unheld in
       let l : total_of (λ (u : View S N). holder_of u.seat) s.views + count ≤ total_of rights_of s.views =
-      total_leaves (λ (u : View S N). holder_of u.seat) rights_of s.views id (record x { gone = gs }) count there (omega (arith, none, one, is)) few_held in
+      total_leaves (λ (u : View S N). holder_of u.seat) rights_of s.views id (record x { gone = gs }) count there
+      (omega (arith, none, one, is)) few_held in
       let a : total_of rights_of s.views ≡ opened.sessions = r.dealt in
       let b : holders_in w ≡ total_of (λ (u : View S N). holder_of u.seat) s.views = holders in
       omega (arith, l, a, b)
@@ -471,9 +481,11 @@ module _ {S N : Type 0} (terms : Terms S N) (setting : S) (base : List ℕ) (roo
       let b : holders_in w ≡ total_of (λ (u : View S N). holder_of u.seat) s.views = holders in
       omega (arith, l, a, b)
 
-  pub closes_all : (table : TableId) (id : ℕ) (x : View S N) (gs : List (Gone S N)) → get_elem? s.views id ≡ some (record x { gone = gs }) → is_resting x.seat.place ≡ true
+  pub closes_all : (table : TableId) (id : ℕ) (x : View S N) (gs : List (Gone S N)) → get_elem? s.views id ≡ some
+      (record x { gone = gs }) → is_resting x.seat.place ≡ true
       → x.rights ≡ 1
-      → (us : List (Known S N)) → gs ≡ map gone_known us → ClosesAll terms setting base opened.store opened.sessions (us ++ known_of table x ∷ []) closed
+      → (us : List (Known S N)) → gs ≡ map gone_known us → ClosesAll terms setting base opened.store opened.sessions
+      (us ++ known_of table x ∷ []) closed
   closes_all table id x gs there rest one us gone =
       let v : View S N = record x { gone = gs } in
       let unheld : x.seat.held ≡ [] =
@@ -484,14 +496,16 @@ module _ {S N : Type 0} (terms : Terms S N) (setting : S) (base : List ℕ) (roo
       record {
         closes = closes;
         each = λ u has. ⊎_elim
-            (λ (p : Has u us). gone_ends id v u there (subst (λ (gs : List (Gone S N)). Has (gone_known u) gs) (sym gone) (has_mapped gone_known us u p)))
+            (λ (p : Has u us). gone_ends id v u there (subst (λ (gs : List (Gone S N)). Has (gone_known u) gs) (sym gone)
+            (has_mapped gone_known us u p)))
             (λ (p : u ≡ known_of table x). subst (λ (z : Known S N). EndsIn terms setting base opened.store closed closes z) (sym p) mine)
-            (has_split u us (known_of table x) has);
+            (has_snoc u us (known_of table x) has);
         moved =
             let t : closed.tail ≡ r.tail = tail_same in
             let a : r.tail ≡ length opened.store + total_of moved_of s.views = (r.shelf).tail_is.is in
             let b : moved_of v ≤ total_of moved_of s.views = total_has moved_of s.views id v there in
-            let c : moved_of v ≡ total_of (λ (x : Known S N). x.taken + x.added) (us ++ known_of table x ∷ []) = given_moved table x gs us gone in
+            let c : moved_of v ≡ total_of (λ (x : Known S N). x.taken + x.added) (us ++ known_of table x ∷ []) = given_moved table x gs
+            us gone in
             omega (arith, t, a, b, c);
         others = others id x gs there unheld one (length (us ++ known_of table x ∷ []))
             (let b : length (us ++ known_of table x ∷ []) ≡ length us + 1 = length-append us (known_of table x ∷ []) in

@@ -59,7 +59,8 @@ module _ {S N : Type 0} (terms : Terms S N) where
   no_refusal (Some x) b e f = absurd (cc)
 
   -- the words were taken at n and filled
-  module _ (words : List ℕ) (n : ℕ) (m r q : Mine S N) (rest : m.0.staging ≡ None) (l : n + length words ≤ m.0.room) (a : Advances terms words m n r)
+  module _ (words : List ℕ) (n : ℕ) (m r q : Mine S N) (rest : m.0.staging ≡ None) (l : n + length words ≤ m.0.room)
+      (a : Advances terms words m n r)
       (f : Finishes terms words n r q) where
     pub staged_sees : Sees terms m.0 q.0
     staged_sees = moves_then terms m r q (inr a.sees) f.sees
@@ -74,13 +75,21 @@ module _ {S N : Type 0} (terms : Terms S N) where
 past_room : (room tail count : ℕ) → room < tail + count → room < tail + min count (room + 1)
 past_room room tail count above = grind arith
 
-module _ {S N : Type 0} (terms : Terms S N) (table : TableId) (cells words count place : ℕ) (mode : Mode) (over : Option Conflict) (full : Bool)
+module _ {S N : Type 0} (terms : Terms S N) (table : TableId) (cells words count place : ℕ) (mode : Mode) (over : Option Conflict)
+    (full : Bool)
     (slots : List Slot) (p q : TableSeat (Unit {0}) (View S N)) (i : Runs table cells words p slots mode count place (is_some over) full)
     (same : IsSameSeat p q) (s : Sees terms p.me.0 q.me.0) where
-  module _ (o : Option (ℕ × ℕ)) (taken added : ℕ) (is : q.me.0 ≡ record p.me.0 { seen = q.me.0.seen; full = o; taken = taken; added = added }) where
+  module _ (o : Option (ℕ × ℕ)) (taken added : ℕ) (is : q.me.0 ≡ record p.me.0 {
+    seen = q.me.0.seen;
+    full = o;
+    taken = taken;
+    added =
+        added;
+  }) where
     pub store_runs : (refused : Bool) → is_some o ≡ refused → Runs table cells words q slots mode count place (is_some over) refused
     store_runs refused e =
-        runs_on terms table cells words count place mode (is_some over) full slots p q i same p.me.0.seat o taken added is s.sound slots (is_some over)
+        runs_on terms table cells words count place mode (is_some over) full slots p q i same p.me.0.seat o taken added is s.sound slots
+        (is_some over)
         refused i.fits.1 refl refl i.kept refl e
 
     stands : Stands terms (going_of q.table_id q.me.0 place mode over slots)

@@ -1,5 +1,5 @@
 -- The end of a commit that wrote nothing.
-use Rattle.std.proofs.Common.{◌≡◌, ℕ, true, false, is_some, Some, List, [], ◌∷◌, ◌++◌, length, refl, sym, ◌∙◌, subst}
+use Rattle.std.proofs.Common.{◌≡◌, ℕ, true, false, Some, List, [], ◌∷◌, ◌++◌, length, refl, sym, ◌∙◌, subst}
 use Rattle.atomic_table.specs.declared.shared.Seat.{Seat as TableSeat}
 use Rattle.tlcore.specs.Seats.{Seat, reads_of}
 use Rattle.ranges.specs.Pairs.{Pairs}
@@ -16,7 +16,7 @@ use Rattle.tlwords.specs.Commits.{writes_kept, work_kept}
 use Rattle.tlwords.specs.Calls.{IsLawful}
 use Rattle.tlwords.specs.Committing.{Concludes}
 use Rattle.tlwords.specs.Walks.{NoneWanted}
-use Rattle.tlwords.proofs.Knows.{known_setting, left_fits, concludes}
+use Rattle.tlwords.proofs.Knows.{left_fits, concludes}
 use Rattle.tlwords.proofs.Held.{no_writes}
 use Rattle.tlwords.proofs.Turns.{unkept_of}
 
@@ -25,11 +25,9 @@ nothing_kept t slots k front = no_writes slots (length slots) (unkept_of t slots
 
 module _ {S N : Type 0} (terms : Terms S N) (x : N) where
   -- a run that is to write nothing is lawful so
-  pub unwritten_lawful : (g : Going S N) → IsLawful terms g x → is_some g.known.home.setting ≡ true → writes_kept g.slots ≡ []
-      → (y : S) × (g.known.home.setting ≡ Some y) × Permits terms y g.known.seen.ranges g.reads [] x
-  unwritten_lawful g f set e =
-      let y = known_setting g.known.home.setting set in
-      (y.0, y.1, subst (λ (ws : Pairs). Permits terms y.0 g.known.seen.ranges g.reads ws x) e (f y.0 y.1))
+  pub unwritten_lawful : (g : Going S N) → IsLawful terms g x → writes_kept g.slots ≡ [] → (y : S) → g.known.home.setting ≡ Some y
+      → Permits terms y g.known.seen.ranges g.reads [] x
+  unwritten_lawful g f e y set = subst (λ (ws : Pairs). Permits terms y g.known.seen.ranges g.reads ws x) e (f y set)
 
   pub answered : (mode : Mode) (slots : List Slot) (p q : TableSeat (Unit {0}) (View S N)) (count place : ℕ) → IsSameSeat p q
       → IsRunOf p.me count place false → Recalls terms (Some x) p.me q.me → writes_kept slots ≡ []
@@ -42,5 +40,6 @@ module _ {S N : Type 0} (terms : Terms S N) (x : N) where
         mine = v.mine ++ Answered (fits.5 j) (record { reads = reads_of v.seat.reads; writes = sym e j; note = x }) ∷ [];
       } in w) in
       concludes terms mode slots x p q same count place count fits t.sees v.seat v.note v.drawn
-      (v.mine ++ Answered place (work_kept v.seat slots x) ∷ []) is (left_fits terms p.me count place false fits).1 fits.3 fits.4 (EndsRead place)
+      (v.mine ++ Answered place (work_kept v.seat slots x) ∷ []) is (left_fits terms p.me count place false fits).1 fits.3 fits.4
+      (EndsRead place)
       (λ knows. (e, refl, record { grows = t.sees.own; knows = knows; is = λ j. known_of (same.0 j) (is j) }))

@@ -16,7 +16,7 @@ use Rattle.tlwords.specs.Committing.{word_or_zero, with_held, held_in}
 pub le_yes : (a b : ℕ) → a ≤ b → nat_le a b ≡ true
 le_yes a b l = grind (arith, nat_tests)
 
-le_no : (a b : ℕ) → b < a → nat_le a b ≡ false
+pub le_no : (a b : ℕ) → b < a → nat_le a b ≡ false
 le_no a b l = grind (arith, nat_tests)
 
 pub lt_yes : (a b : ℕ) → a < b → nat_lt a b ≡ true
@@ -28,7 +28,7 @@ lt_no a b l = grind (arith, nat_tests)
 pub le_cases : (a b : ℕ) → (a ≤ b) ⊎ (b < a)
 le_cases a b = grind arith
 
-up_to : (k n : ℕ) → k ≤ suc n → (k ≡ suc n) ⊎ (k ≤ n)
+pub up_to : (k n : ℕ) → k ≤ suc n → (k ≡ suc n) ⊎ (k ≤ n)
 up_to k n l = grind arith
 
 module _ (slots : List Slot) where

@@ -1,8 +1,10 @@
 -- What a pass and a run know, as their calls go.
-use Rattle.std.proofs.Common.{◌≡◌, ℕ, ◌≤◌, ◌^◌, Bool, true, false, if◌then◌else◌, ◌==◌, is_some, Option, Some, None, List, [], ◌∷◌, length, ◌⊎◌, inl, inr, ⊎_elim}
+use Rattle.std.proofs.Common.{◌≡◌, ℕ, ◌≤◌, ◌^◌, Bool, true, false, if◌then◌else◌, ◌==◌, is_some, Option, Some, None, List, [], ◌∷◌, length}
+use Rattle.std.proofs.Common.{◌⊎◌, inl, inr, ⊎_elim}
 use Rattle.std.proofs.Common.{sym, refl, ap, ◌∙◌, subst, arith}
 use Rattle.std.proofs.lemmas.Bool.{cases_Bool}
 use Rattle.std.proofs.lemmas.Bool.Decides.{Decides-eqb}
+use Rattle.std.proofs.lemmas.Option.{none-some}
 use Rattle.std.specs.Option.{option_map}
 use Rattle.atomic_table.specs.Seated.{TableId}
 use Rattle.atomic_table.specs.declared.shared.Seat.{Seat as TableSeat}
@@ -18,7 +20,8 @@ use Rattle.tlwords.specs.declared.mode.Mode.{Mode}
 use Rattle.tlwords.specs.declared.mode.Mode.TheVariants.{Reading, Writing}
 use Rattle.tlwords.specs.declared.outcome.Conflict.{Conflict}
 use Rattle.tlwords.specs.declared.outcome.Outcome.{Outcome}
-use Rattle.tlwords.specs.declared.outcome.Outcome.TheVariants.{Committed as EndsDone, Read as EndsRead, Conflict as EndsConflict, NumbersUsed}
+use Rattle.tlwords.specs.declared.outcome.Outcome.TheVariants.{Committed as EndsDone, Read as EndsRead, Conflict as EndsConflict}
+use Rattle.tlwords.specs.declared.outcome.Outcome.TheVariants.{NumbersUsed}
 use Rattle.tlwords.specs.Terms.{Terms}
 use Rattle.tlwords.specs.Views.{Staging, Gone, View, Sound}
 use Rattle.tlwords.specs.Seen.{Call}
@@ -36,14 +39,11 @@ known_setting (Some x) e = (x, refl)
 abbrev pub rest_of : {S N : Type 0} → View S N → Option Staging × List (Gone S N)
 rest_of v = (v.staging, v.gone)
 
-none_some : {A : Type 0} (i : ℕ) → None ≡ Some i → A
-none_some i e = absurd (cc)
-
 -- a seat that rests has drawn no number for a run
 not_drawing : {A : Type 0} (p : Place) (i : ℕ) → is_resting p ≡ true → (number_at p ≡ Some i) ⊎ A → A
 not_drawing p i e (inr a) = a
 not_drawing p i e (inl q) =
-    none_some i (sym (⊎_elim (λ r. ap number_at r) (λ r. ap number_at r) (resting_at p e)) ∙ q)
+    absurd (none-some i (sym (⊎_elim (λ r. ap number_at r) (λ r. ap number_at r) (resting_at p e)) ∙ q))
 
 -- the word that the slots have of a cell is the one that its newest read found
 pub newest : (c : ℕ) (rs : List Read) → option_map (λ (r : Read). r.word) (find_read c rs) ≡ written c (found_of rs)
@@ -62,7 +62,7 @@ told_of Writing t slots c k = k.0 c ∙ newest c t.reads
 
 -- a cell whose read has ended has a value among the reads
 ended_reads : (rs : List Read) (c w : ℕ) → written c (found_of rs) ≡ Some w → (v : ℕ) × Has (c, v) (reads_of rs)
-ended_reads [] c w is = none_some w is
+ended_reads [] c w is = absurd (none-some w is)
 ended_reads (r ∷ rs) c w is =
     elim (cases_Bool (r.cell == c)) [
       | inl same ↦ (r.value, inl (λ i. (sym ((Decides-eqb r.cell c).0 same) i, r.value)))
@@ -94,7 +94,8 @@ module _ {S N : Type 0} (terms : Terms S N) where
         settled = λ i has. not_drawing r.0.seat.place i f.1 (s.settled i has);
       }
 
-  pub stands_of : (table : TableId) (r : Mine S N) (mode : Mode) (count place : ℕ) (over : Option Conflict) (slots : List Slot) → Sound terms r.0
+  pub stands_of : (table : TableId) (r : Mine S N) (mode : Mode) (count place : ℕ) (over : Option Conflict) (slots : List Slot)
+      → Sound terms r.0
       → IsRunOf r count place (is_some over) → Stands terms (going_of table r.0 place mode over slots)
   stands_of table r mode count place over slots s f =
       record {
@@ -145,7 +146,8 @@ module _ {S N : Type 0} (terms : Terms S N) where
       (is : q.me.0 ≡ record p.me.0 { seen = q.me.0.seen; seat = t; note = note; drawn = ds; mine = cs })
       (rests : is_resting t.place ≡ true) (many : length ds ≡ now) (few : now ≤ 2 ^ 40) where
     pub concludes : (o : Outcome) → (Knows terms (known_of q.table_id q.me.0)
-        → Ends terms x (going_of p.table_id p.me.0 place mode None slots) (known_of q.table_id q.me.0) o) → Concludes terms x mode place slots now p q o
+        → Ends terms x (going_of p.table_id p.me.0 place mode None slots) (known_of q.table_id q.me.0) o) → Concludes terms x mode place
+        slots now p q o
     concludes o ends =
         let pass : IsPassOf q.me now =
         subst (λ (v : View S N). IsPassOf {S = S} {N = N} (v, q.me.1) now) (sym is) (fits.0, rests, fits.2, many, few) in
@@ -168,7 +170,8 @@ module _ {S N : Type 0} (terms : Terms S N) where
   ends_home n g r NumbersUsed h = ap (λ (k : Known S N). k.home) h.2
 
   -- a commit leaves the pass at its opening
-  pub concluded_home : (n : N) (mode : Mode) (place : ℕ) (slots : List Slot) (count : ℕ) (p q : TableSeat (Unit {0}) (View S N)) (o : Outcome)
+  pub concluded_home : (n : N) (mode : Mode) (place : ℕ) (slots : List Slot) (count : ℕ) (p q : TableSeat (Unit {0}) (View S N))
+      (o : Outcome)
       → Concludes terms n mode place slots count p q o → (known_of q.table_id q.me.0).home ≡ (known_of p.table_id p.me.0).home
   concluded_home n mode place slots count p q o c =
       ends_home n (going_of p.table_id p.me.0 place mode None slots) (known_of q.table_id q.me.0) o c.ends

@@ -1,5 +1,6 @@
 -- The rule at the opening, and the passes of an opening.
-use Rattle.std.proofs.Common.{◌≡◌, ℕ, zero, suc, ◌+◌, ◌-◌, ◌*◌, ◌^◌, ◌<◌, ◌≤◌, false, Some, None, List, [], ◌∷◌, ◌++◌, length, map, slice_get, sym, refl, ap, ◌∙◌, subst, arith, All, take, replicate}
+use Rattle.std.proofs.Common.{◌≡◌, ℕ, zero, suc, ◌+◌, ◌-◌, ◌*◌, ◌^◌, ◌<◌, ◌≤◌, false, Some, None, List, [], ◌∷◌, ◌++◌, length, map}
+use Rattle.std.proofs.Common.{slice_get, sym, refl, ap, ◌∙◌, subst, arith, All, take, replicate}
 use mathlib.Core.Option.{some, some-injective, some-ne-none}
 use lib.ListN.{get_elem?}
 use Rattle.std.specs.Prelude.{slice_index_or}
@@ -62,11 +63,14 @@ zeros_behind (x ∷ xs) n zero l m = absurd (omega (arith, l))
 zeros_behind (x ∷ xs) n (suc o) l m = zeros_behind xs n o (omega (arith, l)) (omega (arith, m))
 
 module _ {S N : Type 0} (terms : Terms S N) (setting : S) (values store : List ℕ) (room sessions : ℕ) (fits : length store ≤ room) where
-  shelf_so : room ≤ 2 ^ 24 → (ranges : List Range) → ((r : Range) → Has r ranges → IsStored (length store) (store ++ replicate (room - length store) 0) r)
-      → (base : List ℕ) → Shelf room store ranges (length store) (store ++ replicate (room - length store) 0) (first_view {N = N} setting base room ranges sessions ∷ [])
+  shelf_so : room ≤ 2 ^ 24 → (ranges : List Range) → ((r : Range) → Has r ranges → IsStored (length store)
+      (store ++ replicate (room - length store) 0) r)
+      → (base : List ℕ) → Shelf room store ranges (length store) (store ++ replicate (room - length store) 0)
+      (first_view {N = N} setting base room ranges sessions ∷ [])
   shelf_so small ranges stored base =
       let first : View S N = first_view setting base room ranges sessions in
-      let unstaged : (j : ℕ) (v : View S N) → get_elem? (first ∷ []) j ≡ some v → v.staging ≡ None = only_one first (λ v. v.staging ≡ None) refl in
+      let unstaged : (j : ℕ) (v : View S N) → get_elem? (first ∷ []) j ≡ some v → v.staging ≡ None = only_one first
+      (λ v. v.staging ≡ None) refl in
       record {
         long =
             let zeros : List ℕ = replicate (room - length store) 0 in
@@ -98,8 +102,10 @@ module _ {S N : Type 0} (terms : Terms S N) (setting : S) (values store : List �
       blank : (o : ℕ) → length store ≤ o → o < room → slice_get (store ++ replicate (room - length store) 0) o ≡ Some 0
       blank o l m = zeros_behind store (room - length store) o l (omega (arith, l, m, fits))
 
-  kept_so : sessions ≤ 64 → terms.opens setting (ranges_named (terms.ranged setting) store values) values → AreNamed terms setting (ranges_named (terms.ranged setting) store values) values
-      → Kept terms setting values room (ranges_named (terms.ranged setting) store values) (front_of 0 (opening_words values)) (first_view setting values room (ranges_named (terms.ranged setting) store values) sessions ∷ [])
+  kept_so : sessions ≤ 64 → terms.opens setting (ranges_named (terms.ranged setting) store values) values → AreNamed terms setting
+      (ranges_named (terms.ranged setting) store values) values
+      → Kept terms setting values room (ranges_named (terms.ranged setting) store values) (front_of 0 (opening_words values))
+      (first_view setting values room (ranges_named (terms.ranged setting) store values) sessions ∷ [])
   kept_so few fact named =
       let ranges : List Range = ranges_named (terms.ranged setting) store values in
       let first : View S N = first_view setting values room ranges sessions in
@@ -107,7 +113,13 @@ module _ {S N : Type 0} (terms : Terms S N) (setting : S) (values store : List �
       let plain : IsTold {S = S} setting values g (λ _. 0) untold = untold_is setting values g (λ _. 0) in
       let suit : Suits terms setting values room g (λ _. 0) first =
       blank_suits terms setting values room g (λ _. 0) first refl refl refl refl (λ x e. refl)
-      (record { setting_is = λ x e. (some_one setting x e, refl); grows = seen_refl g; owned = λ n has. absurd has; once = nothing_drawn }) plain in
+      (record {
+        setting_is = λ x e. (some_one setting x e, refl);
+        grows = seen_refl g;
+        owned = λ n has. absurd has;
+        once =
+            nothing_drawn;
+      }) plain in
       record {
         world = start values 1;
         notes = [];
@@ -127,9 +139,11 @@ module _ {S N : Type 0} (terms : Terms S N) (setting : S) (values store : List �
         numbers = refl;
       }
 
-pub opens_so : {S N : Type 0} (terms : Terms S N) (setting : S) (values store words : List ℕ) (room sessions : ℕ) → length store ≤ room → room ≤ 2 ^ 24 → sessions ≤ 64
+pub opens_so : {S N : Type 0} (terms : Terms S N) (setting : S) (values store words : List ℕ) (room sessions : ℕ) → length store ≤ room
+    → room ≤ 2 ^ 24 → sessions ≤ 64
     → words ≡ front_of 0 (opening_words values) ++ shelf_of (length store) (store ++ replicate (room - length store) 0)
-    → terms.opens setting (ranges_named (terms.ranged setting) store values) values → AreNamed terms setting (ranges_named (terms.ranged setting) store values) values
+    → terms.opens setting (ranges_named (terms.ranged setting) store values) values → AreNamed terms setting
+    (ranges_named (terms.ranged setting) store values) values
     → Ruled terms setting values room (record { store = store; sessions = sessions })
     (opening words [] (first_view setting values room (ranges_named (terms.ranged setting) store values) sessions))
 opens_so terms setting values store words room sessions fits small few is fact named =
@@ -151,7 +165,8 @@ pub opening_snoc : (xs : List ℕ) (v : ℕ) → opening_words (xs ++ v ∷ []) 
 opening_snoc [] v = refl
 opening_snoc (x ∷ xs) v = ap (λ (l : List ℕ). 0 ∷ x ∷ l) (opening_snoc xs v)
 
-pub opening_more : (vs : List ℕ) (i v : ℕ) (xs ys zs : List ℕ) → i < length vs → xs ≡ front_of 0 (opening_words (take i vs)) → ys ≡ xs ++ 0 ∷ []
+pub opening_more : (vs : List ℕ) (i v : ℕ) (xs ys zs : List ℕ) → i < length vs → xs ≡ front_of 0 (opening_words (take i vs))
+    → ys ≡ xs ++ 0 ∷ []
     → zs ≡ ys ++ slice_index_or vs i v ∷ [] → zs ≡ front_of 0 (opening_words (take (i + 1) vs))
 opening_more vs i v xs ys zs l a b c =
     c ∙ (ap (λ (l : List ℕ). l ++ slice_index_or vs i v ∷ []) (b ∙ ap (λ (l : List ℕ). l ++ 0 ∷ []) a)
@@ -167,10 +182,12 @@ opening_length [] = refl
 opening_length (x ∷ xs) = let r : length (opening_words xs) ≡ 2 * length xs = opening_length xs in omega (arith, r)
 
 pub words_length : (values store : List ℕ) (room : ℕ) → length store ≤ room
-    → length (front_of 0 (opening_words values) ++ shelf_of (length store) (store ++ replicate (room - length store) 0)) ≡ store_at (length values) room
+    → length (front_of 0 (opening_words values) ++ shelf_of (length store) (store ++ replicate (room - length store) 0)) ≡ store_at
+    (length values) room
 words_length values store room l =
     let zeros : List ℕ = replicate (room - length store) 0 in
-    let a : length (front_of 0 (opening_words values) ++ shelf_of (length store) (store ++ zeros)) ≡ length (front_of 0 (opening_words values)) + length (shelf_of (length store) (store ++ zeros)) =
+    let a : length (front_of 0 (opening_words values) ++ shelf_of (length store) (store ++ zeros)) ≡ length
+    (front_of 0 (opening_words values)) + length (shelf_of (length store) (store ++ zeros)) =
     length-append (front_of 0 (opening_words values)) (shelf_of (length store) (store ++ zeros)) in
     let b : length (store ++ zeros) ≡ length store + length zeros = length-append store zeros in
     let c : length zeros ≡ room - length store = length-replicate (room - length store) 0 in
@@ -178,14 +195,16 @@ words_length values store room l =
     omega (arith, a, b, c, d, l)
 
 -- the table's words, as they are put one behind the other
-pub all_words : (front store zeros a b c d e : List ℕ) (tail : ℕ) → a ≡ front ++ unused → b ≡ a ++ tail ∷ [] → c ≡ b ++ unused → d ≡ c ++ store
+pub all_words : (front store zeros a b c d e : List ℕ) (tail : ℕ) → a ≡ front ++ unused → b ≡ a ++ tail ∷ [] → c ≡ b ++ unused
+    → d ≡ c ++ store
     → e ≡ d ++ zeros → e ≡ front ++ shelf_of tail (store ++ zeros)
 all_words front store zeros a b c d e tail p q r s t =
     t ∙ (ap (λ (l : List ℕ). l ++ zeros) (s ∙ ap (λ (l : List ℕ). l ++ store) (r ∙ ap (λ (l : List ℕ). l ++ unused) (q
     ∙ ap (λ (l : List ℕ). l ++ tail ∷ []) p))) ∙ simp append_assoc)
 
 -- what stands behind a list that is made longer
-pub longer : (xs ys : List ℕ) (n k m len : ℕ) → len ≡ length xs → n ≡ len + k → m ≡ length xs → ys ≡ take n xs ++ replicate (n - m) 0 → ys ≡ xs ++ replicate k 0
+pub longer : (xs ys : List ℕ) (n k m len : ℕ) → len ≡ length xs → n ≡ len + k → m ≡ length xs → ys ≡ take n xs ++ replicate (n - m) 0
+    → ys ≡ xs ++ replicate k 0
 longer xs ys n k m len a b d e =
     let all : length xs ≤ n = omega arith in
     let rest : n - m ≡ k = omega arith in
@@ -201,7 +220,8 @@ all_one : {X : Type 0} (P : X → Type 0) (y : X) → P y → All P (y ∷ [])
 all_one P y p zero d l = p
 all_one P y p (suc k) d l = absurd (omega arith)
 
-dealt_more : {X : Type 0} (P : X → Type 0) (f : X → ℕ) (sessions : ℕ) (xs : List X) (y : X) (n : ℕ) → length xs ≡ n → All P xs → map f xs ≡ down sessions n → P y → f y ≡ sessions - n
+dealt_more : {X : Type 0} (P : X → Type 0) (f : X → ℕ) (sessions : ℕ) (xs : List X) (y : X) (n : ℕ) → length xs ≡ n → All P xs
+    → map f xs ≡ down sessions n → P y → f y ≡ sessions - n
     → (length (xs ++ y ∷ []) ≡ n + 1) × All P (xs ++ y ∷ []) × (map f (xs ++ y ∷ []) ≡ down sessions (n + 1))
 dealt_more P f sessions xs y n len all names p name =
     let e : suc n ≡ n + 1 = omega arith in
@@ -211,7 +231,8 @@ dealt_more P f sessions xs y n len all names p name =
       map-append f xs (y ∷ []) ∙ ((λ i. names i ++ name i ∷ []) ∙ (sym (down_snoc sessions n) ∙ ap (down sessions) e)),
     )
 
-pub dealt_all : {X : Type 0} (P : X → Type 0) (f : X → ℕ) (sessions : ℕ) (xs ys zs : List X) (y : X) (n : ℕ) → ys ≡ xs → zs ≡ ys ++ y ∷ [] → length xs ≡ n → All P xs
+pub dealt_all : {X : Type 0} (P : X → Type 0) (f : X → ℕ) (sessions : ℕ) (xs ys zs : List X) (y : X) (n : ℕ) → ys ≡ xs → zs ≡ ys ++ y ∷
+    [] → length xs ≡ n → All P xs
     → map f xs ≡ down sessions n → P y → f y ≡ sessions - n → (length zs ≡ n + 1) × All P zs × (map f zs ≡ down sessions (n + 1))
 dealt_all {X} P f sessions xs ys zs y n same is len all names p name =
     let Q : List X → Type 0 = λ l. (length l ≡ n + 1) × All P l × (map f l ≡ down sessions (n + 1)) in
@@ -225,7 +246,8 @@ module _ {S N : Type 0} (setting : S) (base : List ℕ) (room : ℕ) (ranges : L
       let name : r.0.name ≡ sessions - k = ap (λ (v : View S N). v.name) f in
       (f ∙ ap (λ (n : ℕ). fresh (Some setting) base room ranges n 1) (sym name), name)
 
-  pub dealer_more : (m r : Mine S N) (k : ℕ) → m.0 ≡ dealer setting base room ranges sessions k → r ≡ (record m.0 { rights = m.0.rights - 1 }, m.1)
+  pub dealer_more : (m r : Mine S N) (k : ℕ) → m.0 ≡ dealer setting base room ranges sessions k
+      → r ≡ (record m.0 { rights = m.0.rights - 1 }, m.1)
       → r.0 ≡ dealer setting base room ranges sessions (k + 1)
   dealer_more m r k e is =
       let a : r.0 ≡ record m.0 { rights = m.0.rights - 1 } = ap (λ m. m.0) is in
@@ -234,7 +256,8 @@ module _ {S N : Type 0} (setting : S) (base : List ℕ) (room : ℕ) (ranges : L
       a ∙ (ap g e ∙ ap (λ (n : ℕ). fresh (Some setting) base room ranges 0 n) b)
 
   pub new_knows : (r : Mine S N) → IsNew setting base room ranges r.0 → AreOfOneStore room ranges → KnowsStore r.0 false
-  new_knows r is lie = subst (λ (v : View S N). KnowsStore v false) (sym is) (record { at_rest = refl; alone = refl; full = refl; ranges = lie })
+  new_knows r is lie = subst (λ (v : View S N). KnowsStore v false) (sym is)
+      (record { at_rest = refl; alone = refl; full = refl; ranges = lie })
 
   -- a pass of a lawful opening
   pub new_pass_knows : (terms : Terms S N) (table : TableId) (name : ℕ) → terms.opens setting ranges base → AreOfOneStore room ranges

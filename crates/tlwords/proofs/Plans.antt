@@ -28,17 +28,20 @@ use Rattle.tlwords.proofs.Settles.{some_writes}
 -- ---- a step of a plan, as the loops ask for it
 
 module _ (slots : List Slot) (kept : Bool) (ts : List Touched) (p : IsPlan slots kept ts) where
-  pub plan_at : (n : ℕ) (t : Touched) → n < length ts → t ≡ slice_index_or ts n t → IsNext slots kept (low_of ts n) t
-  plan_at n t l e =
-      let x = get_exists ts n l in
-      p.0 n t (x.1 ∙ ap (λ (y : Touched). Some y) (sym (get_or_from_slice_get ts n x.0 t x.1) ∙ sym e))
+  -- the cell at the place n of a plan, along which a loop goes up to its length
+  module _ (n last count : ℕ) (t : Touched) (l : n < last) (is : last ≡ count) (own : count ≡ length ts) (e : t ≡ slice_index_or ts n t) where
+    here : slice_get ts n ≡ Some t
+    here =
+        let x = get_exists ts n (omega (arith, l, is, own)) in
+        x.1 ∙ ap (λ (y : Touched). Some y) (sym (get_or_from_slice_get ts n x.0 t x.1) ∙ sym e)
 
-  pub plan_next : (n : ℕ) (t : Touched) → n < length ts → t ≡ slice_index_or ts n t → low_of ts (n + 1) ≡ t.cell + 1
-  plan_next n t l e =
-      let x = get_exists ts n l in
-      let same : x.0 ≡ t = sym (get_or_from_slice_get ts n x.0 t x.1) ∙ sym e in
-      ap (low_of ts) (let a : n + 1 ≡ suc n = omega arith in a) ∙
-      (ap behind x.1 ∙ (ap (λ (y : Touched). suc y.cell) same ∙ (let a : suc t.cell ≡ t.cell + 1 = omega arith in a)))
+    pub plan_at : IsNext slots kept (low_of ts n) t
+    plan_at = p.0 n t here
+
+    pub plan_next : low_of ts (n + 1) ≡ t.cell + 1
+    plan_next =
+        ap (low_of ts) (let a : n + 1 ≡ suc n = omega arith in a)
+        ∙ (ap behind here ∙ (let a : suc t.cell ≡ t.cell + 1 = omega arith in a))
 
   pub plan_low : (n : ℕ) → n ≤ length ts → low_of ts n ≤ length slots
   plan_low zero l = omega arith

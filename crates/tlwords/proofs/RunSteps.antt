@@ -3,7 +3,6 @@ use Rattle.std.proofs.Common.{◌≡◌, ◌≢◌, ℕ, ◌/◌, ◌%◌, ◌<�
 use Rattle.std.proofs.Common.{◌==◌, ◌&&◌, is_some, Option, Some, None, List, ◌∷◌, length, sym, refl, ap, ◌∙◌, subst, arith}
 use mathlib.Core.Logic.{dite}
 use native.Mathlib.Decide.{ℕ_discrete}
-use Rattle.std.proofs.lemmas.Bool.Decides.{nat_tests}
 use Rattle.atomic_table.specs.Seated.{TableId}
 use Rattle.atomic_table.specs.declared.shared.Seat.{Seat as TableSeat}
 use Rattle.tlcore.specs.History.{WasWritten}
@@ -22,6 +21,7 @@ use Rattle.tlwords.specs.Known.{known_of, going_of, found_of, word_told}
 use Rattle.tlwords.specs.Plays.{Mine, Sees, IsSameSeat, Sampled, Refreshes, began, told_by, witness, Looks, Loads, Relooks, after_relook}
 use Rattle.tlwords.specs.Runs.{HasCause, IsBlank, IsPassOf, IsRunOf, KnowsStore, Runs, word_seen}
 use Rattle.tlwords.specs.Calls.{Begins, HasRead, HasStopped, Learns, Notes}
+use Rattle.tlwords.proofs.Held.{le_no, le_yes}
 use Rattle.tlwords.proofs.Knows.{known_setting, rest_of, left_fits, knows_of, stands_of, knows_on, runs_on, told_of}
 use Rattle.tlwords.proofs.Modes.{read_kept, read_room, still_kept}
 use Rattle.tlwords.proofs.Seens.{seen_trans, agree_grows}
@@ -32,14 +32,8 @@ if_true b x y e = ap (λ (b : Bool). if b then x else y) e
 pub if_false : {A : Type 0} (b : Bool) (x y : A) → b ≡ false → (if b then x else y) ≡ y
 if_false b x y e = ap (λ (b : Bool). if b then x else y) e
 
-le_true : (a b : ℕ) → a ≤ b → nat_le a b ≡ true
-le_true a b l = grind (arith, nat_tests)
-
-le_false : (a b : ℕ) → b < a → nat_le a b ≡ false
-le_false a b l = grind (arith, nat_tests)
-
 pub passes_true : (word rv : ℕ) → word % 2 ≡ 0 → word / 2 ≤ rv → passes word rv ≡ true
-passes_true word rv e l = λ j. eq-eqb (word % 2) 0 e j && le_true (word / 2) rv l j
+passes_true word rv e l = λ j. eq-eqb (word % 2) 0 e j && le_yes (word / 2) rv l j
 
 second_false : (a b : Bool) → b ≡ false → (a && b) ≡ false
 second_false true b e = e
@@ -47,11 +41,12 @@ second_false false b e = refl
 
 pub passes_false : (word rv : ℕ) → HasCause rv word → passes word rv ≡ false
 passes_false word rv (inl e) = ap (λ (b : Bool). b && nat_le (word / 2) rv) (ne_eqb (word % 2) 0 (λ a. omega (arith, a, e)))
-passes_false word rv (inr l) = second_false (word % 2 == 0) (nat_le (word / 2) rv) (le_false (word / 2) rv l)
+passes_false word rv (inr l) = second_false (word % 2 == 0) (nat_le (word / 2) rv) (le_no (word / 2) rv l)
 
 -- ---- the three steps of a read
 
-module _ {S N : Type 0} (terms : Terms S N) (c place : ℕ) (m0 m1 : Mine S N) (rv : m0.0.seat.rv ≡ place) (a : ℕ) (p : Looks terms c m0 a m1) where
+module _ {S N : Type 0} (terms : Terms S N) (c place : ℕ) (m0 m1 : Mine S N) (rv : m0.0.seat.rv ≡ place) (a : ℕ)
+    (p : Looks terms c m0 a m1) where
   -- a look found this word and ended the run
   abbrev Stops : ℕ → Mine S N → Type 0
   Stops k r = Sees terms m0.0 r.0 × WasWritten r.0.seen.history c (k / 2) × HasCause place k
@@ -139,7 +134,8 @@ reading_fits : (o : Bool) → (if o then is_resting Reading else is_reading Read
 reading_fits true = refl
 reading_fits false = refl
 
-module _ {S N : Type 0} (terms : Terms S N) (table : TableId) (cells words count place : ℕ) (mode : Mode) (over : Option Conflict) (full : Bool)
+module _ {S N : Type 0} (terms : Terms S N) (table : TableId) (cells words count place : ℕ) (mode : Mode) (over : Option Conflict)
+    (full : Bool)
     (slots : List Slot) (p q : TableSeat (Unit {0}) (View S N)) (i : Runs table cells words p slots mode count place (is_some over) full)
     (same : IsSameSeat p q) (c word : ℕ) (s : Sees terms p.me.0 q.me.0) where
   -- the read ended under this word
@@ -147,7 +143,11 @@ module _ {S N : Type 0} (terms : Terms S N) (table : TableId) (cells words count
       (is : q.me.0 ≡ record p.me.0 {
         seen = q.me.0.seen;
         seat =
-            record (saw p.me.0.seat c word) { place = Reading; reads = record { cell = c; word = word; value = value } ∷ p.me.0.seat.reads };
+            record (saw p.me.0.seat c word) {
+              place = Reading;
+              reads = record { cell = c; word = word; value = value } ∷
+                  p.me.0.seat.reads;
+            };
       })
       (after : List Slot) (n : Notes mode slots after c word) where
     abbrev t : Seat
@@ -155,7 +155,8 @@ module _ {S N : Type 0} (terms : Terms S N) (table : TableId) (cells words count
 
     pub read_runs : Runs table cells words q after mode count place (is_some over) full
     read_runs =
-        runs_on terms table cells words count place mode (is_some over) full slots p q i same t p.me.0.full p.me.0.taken p.me.0.added is s.sound after
+        runs_on terms table cells words count place mode (is_some over) full slots p q i same t p.me.0.full p.me.0.taken p.me.0.added is
+        s.sound after
         (is_some over) full (reading_fits (is_some over)) refl refl
         (read_kept mode p.me.0.seat t slots after (record { cell = c; word = word; value = value }) n refl i.kept)
         (read_room mode slots after c word n) i.knows.full
@@ -179,7 +180,8 @@ module _ {S N : Type 0} (terms : Terms S N) (table : TableId) (cells words count
   module _ (is : q.me.0 ≡ record p.me.0 { seen = q.me.0.seen; seat = conflict (saw p.me.0.seat c word) Idle }) where
     pub stop_runs : Runs table cells words q slots mode count place true full
     stop_runs =
-        runs_on terms table cells words count place mode (is_some over) full slots p q i same (conflict (saw p.me.0.seat c word) Idle) p.me.0.full
+        runs_on terms table cells words count place mode (is_some over) full slots p q i same (conflict (saw p.me.0.seat c word) Idle)
+        p.me.0.full
         p.me.0.taken p.me.0.added is s.sound slots true full refl refl refl
         (still_kept mode p.me.0.seat (conflict (saw p.me.0.seat c word) Idle) slots refl i.kept) refl i.knows.full
 
@@ -267,7 +269,8 @@ module _ {S N : Type 0} (terms : Terms S N) where
       let s : Sampled terms (told_by m0.0 (witness u1.0), m0.1) i m2 = subst (λ (m : Mine S N). Sampled terms m i m2) a p in
       let y : (y : S) × (u0.0.setting ≡ Some y) = known_setting u0.0.setting rests.0 in
       let there : u1.0.setting ≡ Some y.0 = ap (λ (v : View S N). v.setting) q.is ∙ y.1 in
-      subst (λ (z : Mine S N). Learns terms (known_of t m0.0) (known_of u u0.0) (known_of later_t m2.0) (known_of later_u z.0)) (sym b) (record {
+      subst (λ (z : Mine S N). Learns terms (known_of t m0.0) (known_of u u0.0) (known_of later_t m2.0) (known_of later_u z.0)) (sym b)
+      (record {
         own = s.sees.own;
         told = seen_trans u0.0.seen u1.0.seen m2.0.seen q.sees.own s.sees.told;
         other = q.sees.own;
@@ -279,7 +282,8 @@ module _ {S N : Type 0} (terms : Terms S N) where
         knows = knows_of terms later_t m2 n s.sees.sound (learned_fits m0 m1 m2 (witness u1.0) i n a p fits);
         other_knows = knows_of terms later_u u1 k q.sees.sound (refreshed_fits u0 u1 u1 k q refl rests);
         apart = subst (λ (v : View S N). m0.0.name ≢ v.name → (k : ℕ) → Has k m0.0.drawn → Has k v.drawn → ⊥) q.is s.apart;
-        same = subst (λ (v : View S N). (x y : S) → m0.0.setting ≡ Some x → v.setting ≡ Some y → (x ≡ y) × (m0.0.base ≡ v.base)) q.is s.same;
+        same = subst (λ (v : View S N). (x y : S) → m0.0.setting ≡ Some x → v.setting ≡ Some y → (x ≡ y) × (m0.0.base ≡ v.base)) q.is
+            s.same;
         is = λ j. known_of (e j) ((s.is ∙ ap (λ (k : ℕ). let w : View S N = record m0.0 {
           seen = m2.0.seen;
           seat = began m0.0.seat k;

@@ -13,14 +13,12 @@ use Rattle.ranges.specs.Pairs.{Pairs}
 use Rattle.tlwords.specs.Terms.{Terms, Permits}
 use Rattle.tlwords.specs.Seen.{Work, Call, Committed, Answered, Seen, IsSettled, SeenGrows, IsDone, CallAgrees, Agree}
 use Rattle.tlwords.specs.Rule.{IsFresh, LookIsFresh, EntriesAre}
+use Rattle.tlwords.proofs.Held.{up_to}
 
 pub settled_grows : (g h : List Entry) (i : ℕ) → Grows g h → IsSettled g i → IsSettled h i
 settled_grows g h i r s =
     let b : (f : Entry) × (slice_get h i ≡ Some f) × EntryGrows s.0 f = r.1 i s.0 s.1 in
     (b.0, b.1, λ e. s.2 (sym (b.2.2 s.2) ∙ e))
-
-up_to : (k n : ℕ) → k ≤ suc n → (k ≡ suc n) ⊎ (k ≤ n)
-up_to k n l = grind arith
 
 over_same : (x : Deed) (n v k : ℕ) → version_over x (suc n) v ≤ k → k ≤ n → version_over x (suc n) v ≡ v
 over_same Nothing n v k l m = refl

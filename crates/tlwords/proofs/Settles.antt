@@ -24,11 +24,12 @@ use Rattle.tlwords.specs.Plays.{Mine, Sees, IsSameSeat, Draws}
 use Rattle.tlwords.specs.Runs.{value_kept, IsKeptOf, IsRunOf, HasCause}
 use Rattle.tlwords.specs.Commits.{writes_kept, writes_below, cells_of, cells_locked, work_kept}
 use Rattle.tlwords.specs.Calls.{Ends, HasNoEntry, IsLawful}
-use Rattle.tlwords.specs.Committing.{held_in, holding, locking, Goes, Meets, FailsToTake, FailsTheCheck, Passes, StoresTo, Releasing, ReleasesAll, Concludes}
+use Rattle.tlwords.specs.Committing.{held_in, holding, locking, Goes, Meets, FailsToTake, FailsTheCheck, Passes, StoresTo, Releasing}
+use Rattle.tlwords.specs.Committing.{ReleasesAll, Concludes}
 use Rattle.tlwords.proofs.Seens.{done_grows, permits_grow}
 use Rattle.tlwords.proofs.Held.{held_cell, held_find, held_writes}
 use Rattle.tlwords.proofs.Knows.{concludes, told_of}
-use Rattle.tlwords.proofs.Turns.{moves_then, moves_grow, sees_on, goes_start, goes_seat, goes_setting}
+use Rattle.tlwords.proofs.Turns.{moves_then, moves_grow, sees_on, goes_start, goes_seat}
 use Rattle.tlwords.proofs.Releases.{nil_not}
 
 module _ (slots : List Slot) where
@@ -124,9 +125,12 @@ module _ {S N : Type 0} (terms : Terms S N) (slots : List Slot) (x : N) (p : Tab
         back.goes.is ∙ (ap (λ (v : View S N). let w : View S N =
         record v { seen = q.me.0.seen; seat = record v.seat { place = Idle; held = []; looked = q.me.0.seat.looked } } in w) f.goes.is
         ∙ ap (λ (ps : Pairs). let w : View S N =
-        record m.0 { seen = q.me.0.seen; seat = over_seat m.0.seat true (cells_of ps) q.me.0.seat.looked } in w) (held_writes slots 0 k.cell)) in
-        concludes terms Writing slots x p q same count place count fits s t m.0.note m.0.drawn m.0.mine is refl fits.3 fits.4 (EndsConflict k None)
-        (rejected q s k None (meets_on k r q.me back f.meets) (ap (λ (v : View S N). v.seat.reads) is) (ap is_some f.differs.1) (inr f.differs)
+        record m.0 { seen = q.me.0.seen; seat = over_seat m.0.seat true (cells_of ps) q.me.0.seat.looked } in w)
+        (held_writes slots 0 k.cell)) in
+        concludes terms Writing slots x p q same count place count fits s t m.0.note m.0.drawn m.0.mine is refl fits.3 fits.4
+        (EndsConflict k None)
+        (rejected q s k None (meets_on k r q.me back f.meets) (ap (λ (v : View S N). v.seat.reads) is) (ap is_some f.differs.1)
+        (inr f.differs)
         (λ j. known_of (same.0 j) (is j)))
 
   -- ---- all locks were taken
@@ -141,15 +145,13 @@ module _ {S N : Type 0} (terms : Terms S N) (slots : List Slot) (x : N) (p : Tab
     pub taken_writes : writes_of l.0.seat.held ≡ writes_kept slots
     taken_writes = ap (λ (t : Seat). writes_of t.held) taken_seat ∙ held_writes slots 0 (length slots)
 
-    pub taken_lawful : (y : S) → m.0.setting ≡ Some y → IsLawful terms g x
-        → (z : S) × (l.0.setting ≡ Some z) × Permits terms z l.0.seen.ranges (reads_of l.0.seat.reads) (writes_of l.0.seat.held) x
-    taken_lawful y e law = (
-      y,
-      goes_setting terms m l (locking m.0.seat Taking Reading all) y a e,
-      subst (λ (ws : Pairs). Permits terms y l.0.seen.ranges (reads_of l.0.seat.reads) ws x) (sym taken_writes)
-          (subst (λ (t : Seat). Permits terms y l.0.seen.ranges (reads_of t.reads) (writes_kept slots) x) (sym taken_seat)
-          (permits_grow terms y m.0.seen.ranges l.0.seen.ranges (moves_grow terms m l a.moves).2 (law y e))),
-    )
+    pub taken_lawful : IsLawful terms g x → (y : S) → l.0.setting ≡ Some y
+        → Permits terms y l.0.seen.ranges (reads_of l.0.seat.reads) (writes_of l.0.seat.held) x
+    taken_lawful law y e =
+        subst (λ (ws : Pairs). Permits terms y l.0.seen.ranges (reads_of l.0.seat.reads) ws x) (sym taken_writes)
+        (subst (λ (t : Seat). Permits terms y l.0.seen.ranges (reads_of t.reads) (writes_kept slots) x) (sym taken_seat)
+        (permits_grow terms y m.0.seen.ranges l.0.seen.ranges (moves_grow terms m l a.moves).2
+        (law y (ap (λ (v : View S N). v.setting) (sym a.is) ∙ e))))
 
     -- ---- a number was drawn
 
@@ -165,9 +167,6 @@ module _ {S N : Type 0} (terms : Terms S N) (slots : List Slot) (x : N) (p : Tab
 
       drawn_seat : r.0.seat ≡ record (locking m.0.seat Taking Reading all) { place = Checking n 0; looked = l.0.seat.looked }
       drawn_seat = ap (λ (v : View S N). v.seat) drawn_is
-
-      pub drawn_setting : (y : S) → m.0.setting ≡ Some y → r.0.setting ≡ Some y
-      drawn_setting y e = ap (λ (v : View S N). v.setting) drawn_is ∙ e
 
       sees_drawn : Sees terms m.0 r.0
       sees_drawn = moves_then terms m l r a.moves d.sees
@@ -188,7 +187,8 @@ module _ {S N : Type 0} (terms : Terms S N) (slots : List Slot) (x : N) (p : Tab
 
         pub void_releases : (high : ℕ) → high ≡ length slots → Releasing terms slots high None 0 s s
         void_releases high same =
-            let full : is_nil (held_in slots 0 0 high) ≡ false = ap (λ (h : ℕ). is_nil (held_in slots 0 0 h)) same ∙ some_held slots 0 some in
+            let full : is_nil (held_in slots 0 0 high) ≡ false = ap (λ (h : ℕ). is_nil (held_in slots 0 0 h)) same ∙ some_held slots 0
+            some in
             let h : s.0.seat.held ≡ held_in slots 0 0 high =
             ap (λ (t : Seat). t.held) failed_seat ∙ (ap (λ (t : Seat). t.held) drawn_seat ∙ sym (ap (held_in slots 0 0) same)) in
             let start : s.0.seat ≡ holding s.0.seat (Voiding n) Idle (held_in slots 0 0 high) =
@@ -220,7 +220,8 @@ module _ {S N : Type 0} (terms : Terms S N) (slots : List Slot) (x : N) (p : Tab
               note = Some x;
               drawn = m.0.drawn ++ sym number_is j ∷ [];
             } in w))) in
-            concludes terms Writing slots x p q same count place (count + 1) fits z t (Some x) ds m.0.mine is refl (many number) (omega (arith, more))
+            concludes terms Writing slots x p q same count place (count + 1) fits z t (Some x) ds m.0.mine is refl (many number)
+            (omega (arith, more))
             (EndsConflict k (Some number))
             (rejected q z k (Some number) (meets_on k s q.me back f.meets) (ap (λ (v : View S N). v.seat.reads) is) f.read
             (inl (subst (λ (t : Seat). HasCause t.rv k.word) drawn_seat f.cause)) (
@@ -239,8 +240,11 @@ module _ {S N : Type 0} (terms : Terms S N) (slots : List Slot) (x : N) (p : Tab
         passed_reads : s.0.seat.reads ≡ m.0.seat.reads
         passed_reads = ap (λ (t : Seat). t.reads) passed_seat ∙ ap (λ (t : Seat). t.reads) drawn_seat
 
-        pub passed_setting : (y : S) → m.0.setting ≡ Some y → s.0.setting ≡ Some y
-        passed_setting y e = ap (λ (v : View S N). v.setting) b.goes.is ∙ drawn_setting y e
+        pub passed_same : (s.0.setting ≡ m.0.setting) × (length s.0.base ≡ length m.0.base)
+        passed_same = (
+          ap (λ (v : View S N). v.setting) b.goes.is ∙ ap (λ (v : View S N). v.setting) drawn_is,
+          ap (λ (v : View S N). length v.base) b.goes.is ∙ ap (λ (v : View S N). length v.base) drawn_is,
+        )
 
         module _ (z : Mine S N) (c : StoresTo terms slots n (work_kept s.0.seat slots x) (length slots) s z) where
           pub done_releases : (high w : ℕ) → high ≡ length slots → w ≡ 2 * suc n → Releasing terms slots high (Some w) 0 z z
@@ -286,7 +290,8 @@ module _ {S N : Type 0} (terms : Terms S N) (slots : List Slot) (x : N) (p : Tab
                 mine = m.0.mine ++ Committed (sym number_is j) (same_work j) ∷ [];
               } in w)))) in
               concludes terms Writing slots x p q same count place (count + 1) fits y t (Some x) ds
-              (m.0.mine ++ Committed number (work_kept m.0.seat slots x) ∷ []) is refl (many number) (omega (arith, more)) (EndsDone number) (λ knows. (
+              (m.0.mine ++ Committed number (work_kept m.0.seat slots x) ∷ []) is refl (many number) (omega (arith, more))
+              (EndsDone number) (λ knows. (
                 some,
                 record {
                   grows = y.own;

@@ -30,13 +30,10 @@ module _ {S N : Type 0} (terms : Terms S N) (slots : List Slot) (i : ℕ) (x : N
   module _ (upto : ℕ) (at : m.0.seat.place ≡ Checking i upto) (held : m.0.seat.held ≡ held_in slots 0 0 (length slots)) (low : ℕ)
       (r : Mine S N)
       (so : StoresSoFar low r) where
-    pub store_setting : (y : S) → m.0.setting ≡ Some y → r.0.setting ≡ Some y
-    store_setting y e = ⊎_elim (λ (p : (r ≡ m) × NoneKept slots 0 low). ap (λ (z : Mine S N). z.0.setting) p.0 ∙ e)
-        (λ (p : StoresTo terms slots i work low m r). ap (λ (v : View S N). v.setting) p.is ∙ e) so
-
-    pub store_base : length r.0.base ≡ length m.0.base
-    store_base = ⊎_elim (λ (p : (r ≡ m) × NoneKept slots 0 low). ap (λ (z : Mine S N). length z.0.base) p.0)
-        (λ (p : StoresTo terms slots i work low m r). ap (λ (v : View S N). length v.base) p.is) so
+    pub store_same : (r.0.setting ≡ m.0.setting) × (length r.0.base ≡ length m.0.base)
+    store_same = ⊎_elim
+        (λ (p : (r ≡ m) × NoneKept slots 0 low). (ap (λ (z : Mine S N). z.0.setting) p.0, ap (λ (z : Mine S N). length z.0.base) p.0))
+        (λ (p : StoresTo terms slots i work low m r). (ap (λ (v : View S N). v.setting) p.is, ap (λ (v : View S N). length v.base) p.is)) so
 
     pub store_place : (is_next m.0.seat i || all_settled m.0.seat.held upto m.0.seat.reads) ≡ true → (j : ℕ) × MayStore r.0.seat j
     store_place may = ⊎_elim
@@ -87,7 +84,8 @@ module _ {S N : Type 0} (terms : Terms S N) (slots : List Slot) (i : ℕ) (x : N
                   seat = record m.0.seat {
                     place = Storing i;
                     held =
-                        (ap (stored c) held ∙ held_stored slots 0 0 (length slots) c (omega arith) (unkept_both slots 0 low c before unkept))
+                        (ap (stored c) held ∙ held_stored slots 0 0 (length slots) c (omega arith)
+                        (unkept_both slots 0 low c before unkept))
                         j;
                     looked = sym (ap (λ (v : View S N). v.seat.looked) f.1) j;
                   };

@@ -10,11 +10,12 @@ use Rattle.tlcore.specs.declared.seats.Read.{Read}
 use Rattle.tlcore.specs.declared.seats.Held.{Held}
 use Rattle.tlcore.specs.declared.seats.Place.TheVariants.{Idle, Reading, Taking, Failing}
 use Rattle.tlwords.specs.declared.log.Slot.{Slot}
+use Rattle.tlwords.specs.declared.words.Words.{Words}
 use Rattle.tlwords.specs.Terms.{Terms}
 use Rattle.tlwords.specs.Seen.{SeenGrows}
 use Rattle.tlwords.specs.Views.{View}
 use Rattle.tlwords.specs.Plays.{Mine, Sees, Takes, after_take, IsSameSeat}
-use Rattle.tlwords.specs.Runs.{word_seen, value_kept, was_read, IsKeptOf}
+use Rattle.tlwords.specs.Runs.{word_seen, value_kept, was_read, IsKeptOf, IsSeated}
 use Rattle.tlwords.specs.Commits.{cells_of}
 use Rattle.tlwords.specs.Committing.{held_in, locking, Goes, FailsToTake}
 use Rattle.tlwords.specs.Walks.{NoneWanted}
@@ -43,6 +44,15 @@ module _ (t : Seat) (slots : List Slot) (k : IsKeptOf t slots) where
 
 pub seat_trans : {S N : Type 0} (p q r : TableSeat (Unit {0}) (View S N)) → IsSameSeat p q → IsSameSeat q r → IsSameSeat p r
 seat_trans p q r a b = (b.0 ∙ a.0, b.1 ∙ a.1, b.2 ∙ a.2)
+
+pub seated_on : {L S N : Type 0} (words : Words L S N) (p q : TableSeat (Unit {0}) (View S N)) → IsSeated words p → IsSameSeat p q
+    → q.me.0.setting ≡ p.me.0.setting → length q.me.0.base ≡ length p.me.0.base → IsSeated words q
+seated_on words p q seated same set size =
+    record {
+      table = same.0 ∙ seated.table;
+      setting = (seated.setting.0, set ∙ seated.setting.1);
+      cells = seated.cells ∙ sym size;
+    }
 
 module _ {S N : Type 0} (terms : Terms S N) where
   -- ---- steps, one after another
@@ -92,11 +102,11 @@ module _ {S N : Type 0} (terms : Terms S N) where
   pub goes_seat : (m r : Mine S N) (t : Seat) → Goes terms m t r → r.0.seat ≡ record t { looked = r.0.seat.looked }
   goes_seat m r t g = ap (λ (v : View S N). v.seat) g.is
 
-  pub goes_setting : (m r : Mine S N) (t : Seat) (y : S) → Goes terms m t r → m.0.setting ≡ Some y → r.0.setting ≡ Some y
-  goes_setting m r t y g e = ap (λ (v : View S N). v.setting) g.is ∙ e
-
-  pub goes_base : (m r : Mine S N) (t : Seat) → Goes terms m t r → length r.0.base ≡ length m.0.base
-  goes_base m r t g = ap (λ (v : View S N). length v.base) g.is
+  pub goes_seated : {L : Type 0} (words : Words L S N) (p q : TableSeat (Unit {0}) (View S N)) (t : Seat) → IsSeated words p
+      → IsSameSeat p q
+      → Goes terms p.me t q.me → IsSeated words q
+  goes_seated words p q t seated same g =
+      seated_on words p q seated same (ap (λ (v : View S N). v.setting) g.is) (ap (λ (v : View S N). length v.base) g.is)
 
   pub goes_rights : (m r : Mine S N) (t : Seat) → Goes terms m t r → r.0.rights ≡ m.0.rights
   goes_rights m r t g = ap (λ (v : View S N). v.rights) g.is
@@ -155,7 +165,8 @@ module _ {S N : Type 0} (terms : Terms S N) where
                 (locking m.0.seat Taking Reading (held_in slots 0 0 low))
                 (locking (conflict m.0.seat Idle) Failing Idle (held_in slots 0 0 c)) g t.sees t.is
                 (λ o. if_false (n == w) hit miss (ne_eqb n w ne)
-                ∙ ap (λ (ks : List Held). let z : Seat = record (locking (conflict m.0.seat Idle) Failing Idle ks) { looked = Some (c, n) } in z)
+                ∙ ap (λ (ks : List Held). let z : Seat = record (locking (conflict m.0.seat Idle) Failing Idle ks)
+                { looked = Some (c, n) } in z)
                 (sym (held_on slots 0 0 low c l unkept)));
             meets = record {
               looked = ap (λ (v : View S N). v.seat.looked) t.is ∙ if_known (λ (z : Seat). z.looked ≡ Some (c, n)) (n == w)

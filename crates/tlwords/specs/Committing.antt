@@ -1,5 +1,6 @@
 -- Of the code's inside, apart from the rules: what the steps inside a commit tell, and the cells that it holds on the way.
-use Rattle.std.specs.Prelude.{◌≡◌, ◌≢◌, ℕ, zero, suc, ◌*◌, ◌/◌, ◌<◌, Bool, nat_lt, nat_le, ◌||◌, true, is_some, if◌then◌else◌, Option, Some, None, List, []}
+use Rattle.std.specs.Prelude.{◌≡◌, ◌≢◌, ℕ, zero, suc, ◌*◌, ◌/◌, ◌<◌, Bool, nat_lt, nat_le, ◌||◌, true, is_some, if◌then◌else◌, Option, Some}
+use Rattle.std.specs.Prelude.{None, List, []}
 use Rattle.std.specs.Prelude.{◌∷◌, ◌++◌, length, ◌⊎◌}
 use Rattle.atomic_table.specs.declared.shared.Seat.{Seat as TableSeat}
 use Rattle.tlcore.specs.History.{WasWritten, wv}
@@ -106,7 +107,8 @@ module _ {S N : Type 0} (terms : Terms S N) where
     pub void : (i : ℕ) → m.0.seat.place ≡ Voiding i → IsVoid r.0.seen i
 
   -- a commit with this note has ended so, of a run in this mode at this place that kept this; its pass has drawn so many numbers
-  pub record Concludes (n : N) (mode : Mode) (place : ℕ) (slots : List Slot) (count : ℕ) (p q : TableSeat (Unit {0}) (View S N)) (o : Outcome) :
+  pub record Concludes (n : N) (mode : Mode) (place : ℕ) (slots : List Slot) (count : ℕ) (p q : TableSeat (Unit {0}) (View S N))
+      (o : Outcome) :
       Type 0 where
     pub seat : IsSameSeat p q
     pub pass : IsPassOf q.me count

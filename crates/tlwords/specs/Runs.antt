@@ -9,6 +9,7 @@ use Rattle.atomic_table.specs.declared.shared.Seat.{Seat as TableSeat}
 use Rattle.tlwords.specs.declared.log.Slot.{Slot}
 use Rattle.tlwords.specs.declared.mode.Mode.{Mode}
 use Rattle.tlwords.specs.declared.mode.Mode.TheVariants.{Reading, Writing}
+use Rattle.tlwords.specs.declared.words.Words.{Words}
 use Rattle.ranges.specs.Ranges.{Range, Has, AreOfOneStore}
 use Rattle.tlwords.specs.Terms.{Terms}
 use Rattle.tlwords.specs.Views.{View, fresh}
@@ -82,6 +83,12 @@ module _ {S N : Type 0} where
   abbrev pub IsNew : S → List ℕ → ℕ → List Range → View S N → Type 0
   IsNew setting base room ranges v = v ≡ fresh (Some setting) base room ranges v.name 1
 
+-- the seat is one of the words' table, of their opening
+pub record IsSeated {L S N : Type 0} (words : Words L S N) (seat : TableSeat (Unit {0}) (View S N)) : Type 0 where
+  pub table : seat.table_id ≡ words.table.shared.table_id
+  pub setting : (x : S) × (seat.me.0.setting ≡ Some x)
+  pub cells : words.cells ≡ length seat.me.0.base
+
 -- what holds of a pass with this seat: what it keeps of the cells, how many numbers it drew, and whether a staging of it was refused
 pub record Rests {S N : Type 0} (seat : TableSeat (Unit {0}) (View S N)) (slots : List Slot) (count : ℕ) (full : Bool) : Type 0 where
   pub fits : IsPassOf seat.me count
@@ -91,7 +98,8 @@ pub record Rests {S N : Type 0} (seat : TableSeat (Unit {0}) (View S N)) (slots 
   pub room : length slots ≡ length seat.me.0.base
 
 -- what holds of a run with this seat, over words at this table with so many cells and so much room
-pub record Runs {S N : Type 0} (table : TableId) (cells words : ℕ) (seat : TableSeat (Unit {0}) (View S N)) (slots : List Slot) (mode : Mode)
+pub record Runs {S N : Type 0} (table : TableId) (cells words : ℕ) (seat : TableSeat (Unit {0}) (View S N)) (slots : List Slot)
+    (mode : Mode)
     (count place : ℕ) (over full : Bool) : Type 0 where
   pub table_is : (seat.table_id ≡ table) × (cells ≡ length seat.me.0.base)
   pub room_is : words ≡ seat.me.0.room

@@ -6,13 +6,14 @@ ghost use Rattle.tlwords.specs.Walks.{IsPlan};
 ghost use Rattle.tlcore.specs.Seats.{is_next, all_settled};
 ghost use Rattle.tlcore.specs.declared.seats.Place.TheVariants.{Reading as AtReading, Taking, Checking};
 ghost use Rattle.tlwords.specs.Plays.{IsSameSeat};
-ghost use Rattle.tlwords.specs.Runs.{IsKeptOf, noted, IsRunOf};
+ghost use Rattle.tlwords.specs.Runs.{IsKeptOf, noted, IsRunOf, IsSeated};
 ghost use Rattle.tlwords.specs.declared.mode.Mode.TheVariants.{Reading, Writing};
 ghost use Rattle.tlwords.specs.declared.outcome.Outcome.TheVariants.{Read as EndsRead};
 ghost use Rattle.tlwords.specs.Commits.{writes_kept, work_kept};
 ghost use Rattle.tlwords.specs.Known.{going_of};
 ghost use Rattle.tlwords.specs.Calls.{IsLawful};
-ghost use Rattle.tlwords.specs.Committing.{held_in, locking, Goes, FailsToTake, FailsTheCheck, Passes, StoresTo, Releasing, ReleasesAll, Concludes};
+ghost use Rattle.tlwords.specs.Committing.{held_in, locking, Goes, FailsToTake, FailsTheCheck, Passes, StoresTo, Releasing, ReleasesAll};
+ghost use Rattle.tlwords.specs.Committing.{Concludes};
 
 use crate::law::Law;
 use crate::log::{Log, Touched};
@@ -25,14 +26,14 @@ use std::marker::Brand;
 
 // Locks the cells to be written, in ascending order. An error is the try that failed; the smaller cells are locked still.
 fn take_all<L: Law>(words: &Words<L>, seat: &mut Place<L>, log: &Log) -> Result<(), Conflict>
-    requires table { seat.old.table_id ≡ words.now.table.shared.table_id }
-    requires setting { (y : L.Setting) × (seat.old.me.0.setting ≡ Some y) }
-    requires cells { (length log.now.slots ≡ words.now.cells) × (length log.now.slots ≡ length seat.old.me.0.base) }
+    requires seated { IsSeated words.now seat.old }
+    requires cells { length log.now.slots ≡ words.now.cells }
     requires run { (seat.old.me.0.seat.place ≡ AtReading) × (seat.old.me.0.seat.held ≡ []) × (1 ≤ seat.old.me.0.rights) }
     requires kept { IsKeptOf seat.old.me.0.seat log.now.slots }
     requires plan { IsPlan log.now.slots true log.now.writes.items }
     ensures seat { IsSameSeat seat.old seat.new }
-    ensures ok { IfOk result (λ _. Goes L.terms seat.old.me (locking seat.old.me.0.seat Taking AtReading (held_in log.now.slots 0 0 (length log.now.slots))) seat.new.me) }
+    ensures ok { IfOk result (λ _. Goes L.terms seat.old.me (locking seat.old.me.0.seat Taking AtReading
+        (held_in log.now.slots 0 0 (length log.now.slots))) seat.new.me) }
     ensures err { IfErr result (λ k. FailsToTake L.terms log.now.slots k seat.old.me seat.new.me) }
 {
     for i in 0..log.writes.len() {
@@ -58,10 +59,10 @@ fn check_all<L: Law>(
     place: u64,
     index: u64,
 ) -> Result<(), Conflict>
-    requires table { seat.old.table_id ≡ words.now.table.shared.table_id }
-    requires setting { (y : L.Setting) × (seat.old.me.0.setting ≡ Some y) }
-    requires cells { (length log.old.slots ≡ words.now.cells) × (length log.old.slots ≡ length seat.old.me.0.base) }
-    requires run { (seat.old.me.0.seat.place ≡ Checking index 0) × (seat.old.me.0.seat.rv ≡ place) × (seat.old.me.0.seat.held ≡ held_in log.old.slots 0 0 (length log.old.slots)) }
+    requires seated { IsSeated words.now seat.old }
+    requires cells { length log.old.slots ≡ words.now.cells }
+    requires run { (seat.old.me.0.seat.place ≡ Checking index 0) × (seat.old.me.0.seat.rv ≡ place)
+        × (seat.old.me.0.seat.held ≡ held_in log.old.slots 0 0 (length log.old.slots)) }
     requires kept { IsKeptOf seat.old.me.0.seat log.old.slots }
     ensures log { (log.new.slots ≡ log.old.slots) × (log.new.writes ≡ log.old.writes) }
     ensures seat { IsSameSeat seat.old seat.new }
@@ -88,16 +89,17 @@ fn check_all<L: Law>(
 
 // Stores the values, in ascending order of their cells.
 fn store_all<L: Law>(words: &Words<L>, seat: &mut Place<L>, log: &Log, index: u64, note: &L::Note)
-    requires table { seat.old.table_id ≡ words.now.table.shared.table_id }
-    requires setting { (y : L.Setting) × (seat.old.me.0.setting ≡ Some y) }
-    requires cells { (length log.now.slots ≡ words.now.cells) × (length log.now.slots ≡ length seat.old.me.0.base) }
-    requires run { (upto : ℕ) × (seat.old.me.0.seat.place ≡ Checking index upto) × ((is_next seat.old.me.0.seat index || all_settled seat.old.me.0.seat.held upto seat.old.me.0.seat.reads) ≡ true) }
+    requires seated { IsSeated words.now seat.old }
+    requires cells { length log.now.slots ≡ words.now.cells }
+    requires run { (upto : ℕ) × (seat.old.me.0.seat.place ≡ Checking index upto)
+        × ((is_next seat.old.me.0.seat index || all_settled seat.old.me.0.seat.held upto seat.old.me.0.seat.reads) ≡ true) }
     requires held { (seat.old.me.0.seat.held ≡ held_in log.now.slots 0 0 (length log.now.slots)) × (seat.old.me.0.note ≡ Some note.now) }
     requires kept { IsKeptOf seat.old.me.0.seat log.now.slots }
     requires writes { writes_kept log.now.slots ≢ [] }
     requires plan { IsPlan log.now.slots true log.now.writes.items }
     ensures seat { IsSameSeat seat.old seat.new }
-    ensures stores { StoresTo L.terms log.now.slots index (work_kept seat.old.me.0.seat log.now.slots note.now) (length log.now.slots) seat.old.me seat.new.me }
+    ensures stores { StoresTo L.terms log.now.slots index (work_kept seat.old.me.0.seat log.now.slots note.now) (length log.now.slots)
+        seat.old.me seat.new.me }
 {
     for i in 0..log.writes.len() {
         let kept = log.writes[i];
@@ -113,9 +115,8 @@ fn release_all<L: Law>(
     high: usize,
     new: Option<u64>,
 )
-    requires table { seat.old.table_id ≡ words.now.table.shared.table_id }
-    requires setting { (y : L.Setting) × (seat.old.me.0.setting ≡ Some y) }
-    requires cells { (length log.now.slots ≡ words.now.cells) × (length log.now.slots ≡ length seat.old.me.0.base) × (high ≤ length log.now.slots) }
+    requires seated { IsSeated words.now seat.old }
+    requires cells { (length log.now.slots ≡ words.now.cells) × (high ≤ length log.now.slots) }
     requires run { Releasing L.terms log.now.slots high new 0 seat.old.me seat.old.me }
     requires kept { IsKeptOf seat.old.me.0.seat log.now.slots }
     requires plan { IsPlan log.now.slots true log.now.writes.items }
@@ -143,8 +144,8 @@ fn settle<L: Law>(
     place: u64,
     note: &L::Note,
 ) -> Outcome
-    requires table { seat.old.table_id ≡ words.now.table.shared.table_id }
-    requires cells { (length log.old.slots ≡ words.now.cells) × (length log.old.slots ≡ length seat.old.me.0.base) }
+    requires seated { IsSeated words.now seat.old }
+    requires cells { length log.old.slots ≡ words.now.cells }
     requires run { IsRunOf seat.old.me count.old place false }
     requires kept { IsKeptOf seat.old.me.0.seat log.old.slots }
     requires lawful { IsLawful L.terms (going_of seat.old.table_id seat.old.me.0 place Writing None log.old.slots) note.now }
@@ -185,8 +186,8 @@ fn finish<L: Law>(
     place: u64,
     note: &L::Note,
 ) -> Outcome
-    requires table { seat.old.table_id ≡ words.now.table.shared.table_id }
-    requires cells { (length log.old.slots ≡ words.now.cells) × (length log.old.slots ≡ length seat.old.me.0.base) }
+    requires seated { IsSeated words.now seat.old }
+    requires cells { length log.old.slots ≡ words.now.cells }
     requires run { IsRunOf seat.old.me count.old place false }
     requires kept { IsKeptOf seat.old.me.0.seat log.old.slots }
     requires lawful { IsLawful L.terms (going_of seat.old.table_id seat.old.me.0 place Writing None log.old.slots) note.now }
@@ -214,8 +215,8 @@ pub(crate) fn conclude<L: Law>(
     mode: Mode,
     note: &L::Note,
 ) -> Outcome
-    requires table { seat.old.table_id ≡ words.now.table.shared.table_id }
-    requires cells { (length log.old.slots ≡ words.now.cells) × (length log.old.slots ≡ length seat.old.me.0.base) }
+    requires seated { IsSeated words.now seat.old }
+    requires cells { length log.old.slots ≡ words.now.cells }
     requires run { IsRunOf seat.old.me count.old place false }
     requires kept { IsKeptOf (noted mode seat.old.me.0.seat) log.old.slots }
     requires lawful { IsLawful L.terms (going_of seat.old.table_id seat.old.me.0 place mode None log.old.slots) note.now }

@@ -96,7 +96,8 @@ impl<'w, L: Law> Run<'w, L> {
         ensures same { (self.new.known.home ≡ self.old.known.home) × (self.new.place ≡ self.old.place) × (self.new.mode ≡ self.old.mode) }
         ensures over { (k : ConflictValue) → self.old.over ≡ Some k → (result ≡ Err k) × (self.new ≡ self.old) }
         ensures kept { (v : ℕ) → self.old.over ≡ None → value_kept self.old.slots cell ≡ Some v → (result ≡ Ok v) × (self.new ≡ self.old) }
-        ensures ok { self.old.over ≡ None → value_kept self.old.slots cell ≡ None → IfOk result (λ v. HasRead L.terms cell v self.old self.new) }
+        ensures ok { self.old.over ≡ None → value_kept self.old.slots cell ≡ None
+            → IfOk result (λ v. HasRead L.terms cell v self.old self.new) }
         ensures err { self.old.over ≡ None → IfErr result (λ k. HasStopped L.terms cell k self.old self.new) }
         ensures noted { self.old.mode ≡ Writing → IfOk result (λ _. was_read self.new.slots cell ≡ true) }
     {

@@ -9,8 +9,9 @@ ghost use Rattle.tlwords.specs.Terms.{Permits};
 ghost use Rattle.tlcore.specs.declared.seats.Read.{Read};
 ghost use Rattle.tlcore.specs.declared.seats.Held.{Held};
 ghost use Rattle.tlcore.specs.declared.seats.Place.TheVariants.{Idle, Reading, Looked, Loaded, Taking, Checking, Storing, Failing, Voiding};
-ghost use Rattle.tlwords.specs.Runs.{HasCause};
-ghost use Rattle.tlwords.specs.Plays.{IsSameSeat, GivesBack, MayStore, Sampled, Looks, Loads, Relooks, Takes, Draws, Checks, Stores, Releases, Recalls, Refreshes, told_by, witness};
+ghost use Rattle.tlwords.specs.Runs.{HasCause, IsSeated};
+ghost use Rattle.tlwords.specs.Plays.{IsSameSeat, GivesBack, MayStore, Sampled, Looks, Loads, Relooks, Takes, Draws, Checks, Stores};
+ghost use Rattle.tlwords.specs.Plays.{Releases, Recalls, Refreshes, told_by, witness};
 
 use crate::law::Law;
 use crate::layout::{CLOCK, FIRST_LOCK, FIRST_VALUE, SPARE};
@@ -40,9 +41,8 @@ pub(crate) fn begin<L: Law>(words: &Words<L>, seat: &mut Place<L>) -> u64
 
 /// First look at the cell's lock word.
 pub(crate) fn look<L: Law>(words: &Words<L>, seat: &mut Place<L>, cell: usize) -> u64
-    requires table { seat.old.table_id ≡ words.now.table.shared.table_id }
-    requires setting { (y : L.Setting) × (seat.old.me.0.setting ≡ Some y) }
-    requires cell { (cell < words.now.cells) × (cell < length seat.old.me.0.base) }
+    requires seated { IsSeated words.now seat.old }
+    requires cell { cell < words.now.cells }
     requires place { seat.old.me.0.seat.place ≡ Reading }
     ensures seat { IsSameSeat seat.old seat.new }
     ensures told { Looks L.terms cell seat.old.me result seat.new.me }
@@ -55,9 +55,8 @@ pub(crate) fn look<L: Law>(words: &Words<L>, seat: &mut Place<L>, cell: usize) -
 
 /// Load of the cell's value word, after a look that found this lock word.
 pub(crate) fn load<L: Law>(words: &Words<L>, seat: &mut Place<L>, cell: usize, word: u64) -> u64
-    requires table { seat.old.table_id ≡ words.now.table.shared.table_id }
-    requires setting { (y : L.Setting) × (seat.old.me.0.setting ≡ Some y) }
-    requires cell { (cell < words.now.cells) × (cell < length seat.old.me.0.base) }
+    requires seated { IsSeated words.now seat.old }
+    requires cell { cell < words.now.cells }
     requires place { seat.old.me.0.seat.place ≡ Looked cell word }
     ensures seat { IsSameSeat seat.old seat.new }
     ensures told { Loads L.terms seat.old.me result seat.new.me }
@@ -76,9 +75,8 @@ pub(crate) fn relook<L: Law>(
     word: u64,
     value: u64,
 ) -> u64
-    requires table { seat.old.table_id ≡ words.now.table.shared.table_id }
-    requires setting { (y : L.Setting) × (seat.old.me.0.setting ≡ Some y) }
-    requires cell { (cell < words.now.cells) × (cell < length seat.old.me.0.base) }
+    requires seated { IsSeated words.now seat.old }
+    requires cell { cell < words.now.cells }
     requires place { seat.old.me.0.seat.place ≡ Loaded cell word value }
     ensures seat { IsSameSeat seat.old seat.new }
     ensures told { Relooks L.terms seat.old.me result seat.new.me }
@@ -97,11 +95,11 @@ pub(crate) fn take<L: Law, G: Said<L::Note>>(
     word: u64,
     value: u64,
 ) -> u64
-    requires table { seat.old.table_id ≡ words.now.table.shared.table_id }
-    requires setting { (y : L.Setting) × (seat.old.me.0.setting ≡ Some y) }
-    requires cell { (cell < words.now.cells) × (cell < length seat.old.me.0.base) }
+    requires seated { IsSeated words.now seat.old }
+    requires cell { cell < words.now.cells }
     requires said { G.value ≡ value }
-    requires place { (seat.old.me.0.seat.place ≡ Reading) ⊎ ((seat.old.me.0.seat.place ≡ Taking) × (all_below cell seat.old.me.0.seat.held ≡ true)) }
+    requires place { (seat.old.me.0.seat.place ≡ Reading) ⊎ ((seat.old.me.0.seat.place ≡ Taking)
+        × (all_below cell seat.old.me.0.seat.held ≡ true)) }
     requires read { (d : Read) × (find_read cell seat.old.me.0.seat.reads ≡ Some d) × (d.word ≡ word) }
     requires room { (word + 1 < 2 ^ 64) × (1 ≤ seat.old.me.0.rights) }
     ensures seat { IsSameSeat seat.old seat.new }
@@ -119,8 +117,9 @@ pub(crate) fn draw<L: Law, G: Said<L::Note>>(
     seat: &mut Place<L>,
     note: &L::Note,
 ) -> u64
-    requires table { seat.old.table_id ≡ words.now.table.shared.table_id }
-    requires setting { (y : L.Setting) × (seat.old.me.0.setting ≡ Some y) × Permits L.terms y seat.old.me.0.seen.ranges (reads_of seat.old.me.0.seat.reads) (writes_of seat.old.me.0.seat.held) note.now }
+    requires seated { IsSeated words.now seat.old }
+    requires lawful { (y : L.Setting) → seat.old.me.0.setting ≡ Some y
+        → Permits L.terms y seat.old.me.0.seen.ranges (reads_of seat.old.me.0.seat.reads) (writes_of seat.old.me.0.seat.held) note.now }
     requires said { G.note ≡ Some note.now }
     requires place { seat.old.me.0.seat.place ≡ Taking }
     requires writes { writes_of seat.old.me.0.seat.held ≢ [] }
@@ -133,10 +132,10 @@ pub(crate) fn draw<L: Law, G: Said<L::Note>>(
 
 /// Look at the lock word of a cell that was read and isn't held, after the draw.
 pub(crate) fn check<L: Law>(words: &Words<L>, seat: &mut Place<L>, cell: usize) -> u64
-    requires table { seat.old.table_id ≡ words.now.table.shared.table_id }
-    requires setting { (y : L.Setting) × (seat.old.me.0.setting ≡ Some y) }
-    requires cell { (cell < words.now.cells) × (cell < length seat.old.me.0.base) }
-    requires place { (i : ℕ) × (upto : ℕ) × (seat.old.me.0.seat.place ≡ Checking i upto) × (is_next seat.old.me.0.seat i ≡ false) × (is_due seat.old.me.0.seat upto cell ≡ true) }
+    requires seated { IsSeated words.now seat.old }
+    requires cell { cell < words.now.cells }
+    requires place { (i : ℕ) × (upto : ℕ) × (seat.old.me.0.seat.place ≡ Checking i upto) × (is_next seat.old.me.0.seat i ≡ false)
+        × (is_due seat.old.me.0.seat upto cell ≡ true) }
     requires read { (d : Read) × (find_read cell seat.old.me.0.seat.reads ≡ Some d) }
     ensures seat { IsSameSeat seat.old seat.new }
     ensures told { Checks L.terms cell seat.old.me result seat.new.me }
@@ -149,9 +148,8 @@ pub(crate) fn check<L: Law>(words: &Words<L>, seat: &mut Place<L>, cell: usize) 
 
 /// Store of the value of a cell that the run holds.
 pub(crate) fn store<L: Law>(words: &Words<L>, seat: &mut Place<L>, cell: usize, value: u64)
-    requires table { seat.old.table_id ≡ words.now.table.shared.table_id }
-    requires setting { (y : L.Setting) × (seat.old.me.0.setting ≡ Some y) }
-    requires cell { (cell < words.now.cells) × (cell < length seat.old.me.0.base) }
+    requires seated { IsSeated words.now seat.old }
+    requires cell { cell < words.now.cells }
     requires place { (i : ℕ) × MayStore seat.old.me.0.seat i }
     requires held { (k : Held) × (find_held cell seat.old.me.0.seat.held ≡ Some k) × (k.value ≡ value) }
     ensures seat { IsSameSeat seat.old seat.new }
@@ -165,9 +163,8 @@ pub(crate) fn store<L: Law>(words: &Words<L>, seat: &mut Place<L>, cell: usize, 
 
 /// Store of the lock word of a cell that the run holds.
 pub(crate) fn release<L: Law>(words: &Words<L>, seat: &mut Place<L>, cell: usize, word: u64)
-    requires table { seat.old.table_id ≡ words.now.table.shared.table_id }
-    requires setting { (y : L.Setting) × (seat.old.me.0.setting ≡ Some y) }
-    requires cell { (cell < words.now.cells) × (cell < length seat.old.me.0.base) }
+    requires seated { IsSeated words.now seat.old }
+    requires cell { cell < words.now.cells }
     requires held { (k : Held) × (find_held cell seat.old.me.0.seat.held ≡ Some k) × GivesBack seat.old.me.0.seat k word }
     ensures seat { IsSameSeat seat.old seat.new }
     ensures told { Releases L.terms cell seat.old.me seat.new.me }
@@ -184,8 +181,9 @@ pub(crate) fn recall<L: Law, G: Said<L::Note>>(
     seat: &mut Place<L>,
     note: &L::Note,
 )
-    requires table { seat.old.table_id ≡ words.now.table.shared.table_id }
-    requires setting { (y : L.Setting) × (seat.old.me.0.setting ≡ Some y) × Permits L.terms y seat.old.me.0.seen.ranges (reads_of seat.old.me.0.seat.reads) [] note.now }
+    requires seated { IsSeated words.now seat.old }
+    requires lawful { (y : L.Setting) → seat.old.me.0.setting ≡ Some y
+        → Permits L.terms y seat.old.me.0.seen.ranges (reads_of seat.old.me.0.seat.reads) [] note.now }
     requires said { G.note ≡ Some note.now }
     ensures seat { IsSameSeat seat.old seat.new }
     ensures told { Recalls L.terms (Some note.now) seat.old.me seat.new.me }

@@ -5,7 +5,7 @@ ghost use Rattle.std.specs.Prelude.{◌≡◌, ◌≢◌, ℕ, ◌+◌, ◌<◌,
 ghost use Rattle.ranges.specs.Ranges.{Has};
 ghost use Rattle.tlwords.specs.Plays.{IsSameSeat};
 ghost use Rattle.tlwords.specs.Views.{Staging};
-ghost use Rattle.tlwords.specs.Runs.{Finishes};
+ghost use Rattle.tlwords.specs.Runs.{Finishes, IsSeated};
 ghost use Rattle.tlwords.specs.Calls.{HasLoaded, HasStaged, IsRefused};
 
 use crate::law::Law;
@@ -59,8 +59,10 @@ impl Error for StoreFull {}
 impl<'w, L: Law> Run<'w, L> {
     /// The word `index`, from 0, of a finished range that this session has seen. It is one load.
     pub fn load(&mut self, range: Range, index: usize) -> u64
-        requires { (words : List ℕ) × Has (record { start = range.start; words = words }) self.old.known.seen.ranges × (length words ≡ range.len) × (index < range.len) }
-        ensures value { (words : List ℕ) → Has (record { start = range.start; words = words }) self.old.known.seen.ranges → length words ≡ range.len → slice_get words index ≡ Some result }
+        requires { (words : List ℕ) × Has (record { start = range.start; words = words }) self.old.known.seen.ranges
+            × (length words ≡ range.len) × (index < range.len) }
+        ensures value { (words : List ℕ) → Has (record { start = range.start; words = words }) self.old.known.seen.ranges
+            → length words ≡ range.len → slice_get words index ≡ Some result }
         ensures loaded { HasLoaded L.terms self.old self.new }
     {
         fetch_word(self.words, &mut self.seat, range.start + index)
@@ -97,9 +99,8 @@ impl<'w, L: Law> Run<'w, L> {
 
 // Stores the words of the range that the seat has taken, from the first to the last.
 fn fill_all<L: Law>(words: &Words<L>, seat: &mut Place<L>, start: usize, range: &[u64])
-    requires table { seat.old.table_id ≡ words.now.table.shared.table_id }
-    requires setting { (y : L.Setting) × (seat.old.me.0.setting ≡ Some y) }
-    requires sizes { (words.now.cells ≡ length seat.old.me.0.base) × (words.now.room ≡ seat.old.me.0.room) × (start + length range.now ≤ words.now.room) }
+    requires seated { IsSeated words.now seat.old }
+    requires sizes { (words.now.room ≡ seat.old.me.0.room) × (start + length range.now ≤ words.now.room) }
     requires some_words { range.now ≢ [] }
     requires staging { seat.old.me.0.staging ≡ Some (record { start = start; words = range.now; done = 0 }) }
     ensures seat { IsSameSeat seat.old seat.new }

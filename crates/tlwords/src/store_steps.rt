@@ -4,6 +4,7 @@
 ghost use Rattle.std.specs.Prelude.{◌≡◌, ◌≢◌, ℕ, ◌+◌, ◌<◌, ◌≤◌, Some, None, [], length, min, slice_get};
 ghost use Rattle.tlwords.specs.Plays.{IsSameSeat, Advances, Fills, Fetches};
 ghost use Rattle.tlwords.specs.Views.{Staging};
+ghost use Rattle.tlwords.specs.Runs.{IsSeated};
 
 use crate::law::Law;
 use crate::layout::{STORE, TAIL};
@@ -18,9 +19,8 @@ pub(crate) fn advance<L: Law, G: Said<L::Note>>(
     seat: &mut Place<L>,
     range: &[u64],
 ) -> u64
-    requires table { seat.old.table_id ≡ words.now.table.shared.table_id }
-    requires setting { (y : L.Setting) × (seat.old.me.0.setting ≡ Some y) }
-    requires sizes { (words.now.cells ≡ length seat.old.me.0.base) × (words.now.room ≡ seat.old.me.0.room) }
+    requires seated { IsSeated words.now seat.old }
+    requires room { words.now.room ≡ seat.old.me.0.room }
     requires said { G.words ≡ range.now }
     requires some_words { range.now ≢ [] }
     requires open { (seat.old.me.0.staging ≡ None) × (seat.old.me.0.full ≡ None) × (1 ≤ seat.old.me.0.rights) }
@@ -36,10 +36,10 @@ pub(crate) fn advance<L: Law, G: Said<L::Note>>(
 
 /// Stores the next word of the range that the seat has taken, at this index of the store.
 pub(crate) fn fill<L: Law>(words: &Words<L>, seat: &mut Place<L>, offset: usize, word: u64)
-    requires table { seat.old.table_id ≡ words.now.table.shared.table_id }
-    requires setting { (y : L.Setting) × (seat.old.me.0.setting ≡ Some y) }
-    requires sizes { (words.now.cells ≡ length seat.old.me.0.base) × (words.now.room ≡ seat.old.me.0.room) × (offset < words.now.room) }
-    requires staging { (s : Staging) × (seat.old.me.0.staging ≡ Some s) × (offset ≡ s.start + s.done) × (slice_get s.words s.done ≡ Some word) }
+    requires seated { IsSeated words.now seat.old }
+    requires sizes { (words.now.room ≡ seat.old.me.0.room) × (offset < words.now.room) }
+    requires staging { (s : Staging) × (seat.old.me.0.staging ≡ Some s) × (offset ≡ s.start + s.done)
+        × (slice_get s.words s.done ≡ Some word) }
     ensures seat { IsSameSeat seat.old seat.new }
     ensures told { Fills L.terms seat.old.me seat.new.me }
 {
@@ -51,9 +51,8 @@ pub(crate) fn fill<L: Law>(words: &Words<L>, seat: &mut Place<L>, offset: usize,
 
 /// Loads the word of the store at this index.
 pub(crate) fn fetch_word<L: Law>(words: &Words<L>, seat: &mut Place<L>, offset: usize) -> u64
-    requires table { seat.old.table_id ≡ words.now.table.shared.table_id }
-    requires setting { (y : L.Setting) × (seat.old.me.0.setting ≡ Some y) }
-    requires sizes { (words.now.cells ≡ length seat.old.me.0.base) × (words.now.room ≡ seat.old.me.0.room) × (offset < words.now.room) }
+    requires seated { IsSeated words.now seat.old }
+    requires sizes { (words.now.room ≡ seat.old.me.0.room) × (offset < words.now.room) }
     ensures seat { IsSameSeat seat.old seat.new }
     ensures told { Fetches L.terms offset seat.old.me result seat.new.me }
 {

@@ -5,7 +5,7 @@ use Rattle.tlwords.specs.Runs.{HasCause}
 use Rattle.tlwords.specs.Walks.{low_of, IsPlan}
 use Rattle.tlwords.specs.Committing.{Goes}
 use Rattle.tlwords.proofs.Plans.{plan_at, plan_next, plan_end}
-use Rattle.tlwords.proofs.Turns.{read_found, goes_setting, goes_base, goes_read, seat_trans}
+use Rattle.tlwords.proofs.Turns.{read_found, goes_seated, goes_read, seat_trans}
 use Rattle.tlwords.proofs.Checks.{check_starts, check_skips, check_place, check_goes, check_fails, check_ends}
 use Rattle.tlwords.proofs.commits.check_all.Goals as goal
 
@@ -18,35 +18,28 @@ pub loop-i-init : goal.loop-i-init
 loop-i-init g c =
     ((refl, refl, refl), check_starts g.L.Law.terms c.args.log.now.slots c.args.index c.args.seat.now.me c.requires.kept c.requires.run.0)
 
-pub check-word-requires-clause-table : goal.check-word-requires-clause-table
-check-word-requires-clause-table g c = c.loop-i.invariant.0.0 ∙ c.requires.table
-
-pub check-word-requires-clause-setting : goal.check-word-requires-clause-setting
-check-word-requires-clause-setting g c =
-    (c.requires.setting.0, goes_setting g.L.Law.terms _ _ _ _ c.loop-i.invariant.1 c.requires.setting.1)
+pub check-word-requires-clause-seated : goal.check-word-requires-clause-seated
+check-word-requires-clause-seated g c =
+    goes_seated g.L.Law.terms _ _ _ _ c.requires.seated c.loop-i.invariant.0 c.loop-i.invariant.1
 
 pub check-word-requires-clause-cell : goal.check-word-requires-clause-cell
 check-word-requires-clause-cell g c =
     let ws = c.plan_checks.new.self.checks.items in
     let t = c.index-read.result.now in
-    let n : c.loop-i.i < length ws = let a = c.loop-i-test.true in let b = c.len-i-end.ensures in let d =
-    c.plan_checks.new.self.checks.ok.0 in omega arith in
     let p : IsPlan c.args.log.now.slots false ws = subst (λ x. IsPlan x false ws) c.plan_checks.ensures.same.0 c.plan_checks.ensures.plan in
-    let s = plan_at c.args.log.now.slots false ws p c.loop-i.i t n c.index-read.ensures in
+    let s = plan_at c.args.log.now.slots false ws p c.loop-i.i _ _ t c.loop-i-test.true c.len-i-end.ensures c.plan_checks.new.self.checks.ok.0
+    c.index-read.ensures in
     let l = s.0.1 in
-    let a = goes_base g.L.Law.terms _ _ _ c.loop-i.invariant.1 in
-    let p = c.requires.cells.0 in
-    let q = c.requires.cells.1 in
-    (omega arith, omega arith)
+    let p = c.requires.cells in
+    omega arith
 
 pub check-word-requires-clause-place : goal.check-word-requires-clause-place
 check-word-requires-clause-place g c =
     let ws = c.plan_checks.new.self.checks.items in
     let t = c.index-read.result.now in
-    let n : c.loop-i.i < length ws = let a = c.loop-i-test.true in let b = c.len-i-end.ensures in let d =
-    c.plan_checks.new.self.checks.ok.0 in omega arith in
     let p : IsPlan c.args.log.now.slots false ws = subst (λ x. IsPlan x false ws) c.plan_checks.ensures.same.0 c.plan_checks.ensures.plan in
-    let s = plan_at c.args.log.now.slots false ws p c.loop-i.i t n c.index-read.ensures in
+    let s = plan_at c.args.log.now.slots false ws p c.loop-i.i _ _ t c.loop-i-test.true c.len-i-end.ensures c.plan_checks.new.self.checks.ok.0
+    c.index-read.ensures in
     check_place g.L.Law.terms c.args.log.now.slots c.args.index c.args.seat.now.me c.requires.kept c.requires.run.2
     (low_of ws c.loop-i.i) _ c.loop-i.invariant.1
     t.cell s.0.0 s.0.2 s.0.3 (λ e. c.if-index-place.false (e ∙ c.requires.run.1))
@@ -55,10 +48,9 @@ pub check-word-requires-clause-read : goal.check-word-requires-clause-read
 check-word-requires-clause-read g c =
     let ws = c.plan_checks.new.self.checks.items in
     let t = c.index-read.result.now in
-    let n : c.loop-i.i < length ws = let a = c.loop-i-test.true in let b = c.len-i-end.ensures in let d =
-    c.plan_checks.new.self.checks.ok.0 in omega arith in
     let p : IsPlan c.args.log.now.slots false ws = subst (λ x. IsPlan x false ws) c.plan_checks.ensures.same.0 c.plan_checks.ensures.plan in
-    let s = plan_at c.args.log.now.slots false ws p c.loop-i.i t n c.index-read.ensures in
+    let s = plan_at c.args.log.now.slots false ws p c.loop-i.i _ _ t c.loop-i-test.true c.len-i-end.ensures c.plan_checks.new.self.checks.ok.0
+    c.index-read.ensures in
     let d = read_found c.args.seat.now.me.0.seat c.args.log.now.slots c.requires.kept t.cell t.word s.1 in
     (d.0, goes_read g.L.Law.terms _ _ _ c.loop-i.invariant.1 refl t.cell d.0 d.1)
 
@@ -70,10 +62,9 @@ pub returns-then-not-passes-clause-err : goal.returns-then-not-passes-clause-err
 returns-then-not-passes-clause-err g c =
     let ws = c.plan_checks.new.self.checks.items in
     let t = c.index-read.result.now in
-    let n : c.loop-i.i < length ws = let a = c.loop-i-test.true in let b = c.len-i-end.ensures in let d =
-    c.plan_checks.new.self.checks.ok.0 in omega arith in
     let p : IsPlan c.args.log.now.slots false ws = subst (λ x. IsPlan x false ws) c.plan_checks.ensures.same.0 c.plan_checks.ensures.plan in
-    let s = plan_at c.args.log.now.slots false ws p c.loop-i.i t n c.index-read.ensures in
+    let s = plan_at c.args.log.now.slots false ws p c.loop-i.i _ _ t c.loop-i-test.true c.len-i-end.ensures c.plan_checks.new.self.checks.ok.0
+    c.index-read.ensures in
     check_fails g.L.Law.terms c.args.log.now.slots c.args.index c.args.seat.now.me c.requires.kept c.requires.run.2
     (low_of ws c.loop-i.i) _ c.loop-i.invariant.1
     t.cell c.check-word.result _ c.check-word.ensures.told t.word _ refl s.1
@@ -83,15 +74,15 @@ pub loop-i-preserved : goal.loop-i-preserved
 loop-i-preserved g c =
     let ws = c.plan_checks.new.self.checks.items in
     let t = c.index-read.result.now in
-    let n : c.loop-i.i < length ws = let a = c.loop-i-test.true in let b = c.len-i-end.ensures in let d =
-    c.plan_checks.new.self.checks.ok.0 in omega arith in
     let p : IsPlan c.args.log.now.slots false ws = subst (λ x. IsPlan x false ws) c.plan_checks.ensures.same.0 c.plan_checks.ensures.plan in
-    let s = plan_at c.args.log.now.slots false ws p c.loop-i.i t n c.index-read.ensures in
+    let s = plan_at c.args.log.now.slots false ws p c.loop-i.i _ _ t c.loop-i-test.true c.len-i-end.ensures c.plan_checks.new.self.checks.ok.0
+    c.index-read.ensures in
     let m = c.args.seat.now.me in (
       seat_trans c.args.seat.now c.loop-i.seat c.check-word.new.seat c.loop-i.invariant.0 c.check-word.ensures.seat,
       subst (λ k. Goes g.L.Law.terms m (placed m.0.seat (Checking c.args.index k)) c.check-word.new.seat.me)
           {x = t.cell + 1} {y = low_of ws (c.loop-i.i + 1)}
-          (sym (plan_next c.args.log.now.slots false ws p c.loop-i.i t n c.index-read.ensures))
+          (sym (plan_next c.args.log.now.slots false ws p c.loop-i.i _ _ t c.loop-i-test.true c.len-i-end.ensures c.plan_checks.new.self.checks.ok.0
+    c.index-read.ensures))
           (check_goes g.L.Law.terms c.args.log.now.slots c.args.index c.args.seat.now.me c.requires.kept c.requires.run.2
           (low_of ws c.loop-i.i) _ c.loop-i.invariant.1
           t.cell c.check-word.result _ c.check-word.ensures.told (c.passes.ensures.yes c.if-not-passes.false).0

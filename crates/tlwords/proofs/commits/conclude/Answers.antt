@@ -7,16 +7,17 @@ use Rattle.tlwords.proofs.Modes.{nothing_written, writing_noted}
 use Rattle.tlwords.proofs.Finishes.{answered, unwritten_lawful}
 use Rattle.tlwords.proofs.commits.conclude.Goals as goal
 
-pub recall-requires-clause-setting : goal.recall-requires-clause-setting
-recall-requires-clause-setting g c =
+pub recall-requires-clause-lawful : goal.recall-requires-clause-lawful
+recall-requires-clause-lawful g c =
     let t = c.args.seat.now in
     let slots = c.args.log.now.slots in
-    unwritten_lawful g.L.Law.terms c.args.note.now (going_of t.table_id t.me.0 c.args.place c.args.mode None slots) c.requires.lawful c.requires.run.0
+    unwritten_lawful g.L.Law.terms c.args.note.now (going_of t.table_id t.me.0 c.args.place c.args.mode None slots) c.requires.lawful
     (nothing_written c.args.mode c.in-Reading.is t.me.0.seat slots c.requires.kept)
 
 pub returns-in-Reading-clause-ended : goal.returns-in-Reading-clause-ended
 returns-in-Reading-clause-ended g c =
-    answered g.L.Law.terms c.args.note.now c.args.mode c.args.log.now.slots c.args.seat.now c.recall.new.seat _ c.args.place c.recall.ensures.seat
+    answered g.L.Law.terms c.args.note.now c.args.mode c.args.log.now.slots c.args.seat.now c.recall.new.seat _ c.args.place
+    c.recall.ensures.seat
     c.requires.run c.recall.ensures.told
     (nothing_written c.args.mode c.in-Reading.is c.args.seat.now.me.0.seat c.args.log.now.slots c.requires.kept)
 

@@ -11,8 +11,8 @@ use Rattle.tlwords.proofs.Plans.{plan_none, plan_some}
 use Rattle.tlwords.proofs.Finishes.{answered, nothing_kept, unwritten_lawful}
 use Rattle.tlwords.proofs.commits.finish.Goals as goal
 
-pub recall-requires-clause-setting : goal.recall-requires-clause-setting
-recall-requires-clause-setting g c =
+pub recall-requires-clause-lawful : goal.recall-requires-clause-lawful
+recall-requires-clause-lawful g c =
     let e = c.plan_writes.ensures.same in
     let log = c.plan_writes.new.self in
     let t = c.args.seat.now in
@@ -21,8 +21,9 @@ recall-requires-clause-setting g c =
     let nothing : writes_kept c.args.log.now.slots ≡ [] =
     subst (λ x. writes_kept x ≡ []) e (nothing_kept t.me.0.seat log.slots (subst (λ x. IsKeptOf t.me.0.seat x) (sym e) c.requires.kept)
     (plan_none log.slots log.writes.items c.plan_writes.ensures.plan none)) in
-    unwritten_lawful g.L.Law.terms c.args.note.now (going_of t.table_id t.me.0 c.args.place Writing None c.args.log.now.slots) c.requires.lawful
-    c.requires.run.0 nothing
+    unwritten_lawful g.L.Law.terms c.args.note.now (going_of t.table_id t.me.0 c.args.place Writing None c.args.log.now.slots)
+    c.requires.lawful
+    nothing
 
 pub returns-then-is_empty-clause-ended : goal.returns-then-is_empty-clause-ended
 returns-then-is_empty-clause-ended g c =
@@ -34,7 +35,8 @@ returns-then-is_empty-clause-ended g c =
     let nothing : writes_kept c.args.log.now.slots ≡ [] =
     subst (λ x. writes_kept x ≡ []) e (nothing_kept t.me.0.seat log.slots (subst (λ x. IsKeptOf t.me.0.seat x) (sym e) c.requires.kept)
     (plan_none log.slots log.writes.items c.plan_writes.ensures.plan none)) in
-    answered g.L.Law.terms c.args.note.now Writing c.args.log.now.slots t c.recall.new.seat _ c.args.place c.recall.ensures.seat c.requires.run
+    answered g.L.Law.terms c.args.note.now Writing c.args.log.now.slots t c.recall.new.seat _ c.args.place c.recall.ensures.seat
+    c.requires.run
     c.recall.ensures.told nothing
 
 pub returns-then-count-ge-MOST_NUMBERS-clause-ended : goal.returns-then-count-ge-MOST_NUMBERS-clause-ended
@@ -58,7 +60,8 @@ returns-then-count-ge-MOST_NUMBERS-clause-ended g c =
 pub settle-requires-clause-lawful : goal.settle-requires-clause-lawful
 settle-requires-clause-lawful g c =
     let t = c.args.seat.now in
-    subst (λ x. IsLawful g.L.Law.terms (going_of t.table_id t.me.0 c.args.place Writing None x) c.args.note.now) (sym c.plan_writes.ensures.same)
+    subst (λ x. IsLawful g.L.Law.terms (going_of t.table_id t.me.0 c.args.place Writing None x) c.args.note.now)
+    (sym c.plan_writes.ensures.same)
     c.requires.lawful
 
 pub settle-requires-clause-writes : goal.settle-requires-clause-writes

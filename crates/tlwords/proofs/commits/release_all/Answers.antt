@@ -1,8 +1,8 @@
-use Rattle.std.proofs.Common.{arith, refl, sym, subst, ◌∙◌, ◌<◌, ◌≤◌, ◌+◌, length, true}
+use Rattle.std.proofs.Common.{arith, refl, sym, subst, ◌<◌, ◌≤◌, ◌+◌, length, true}
 use Rattle.tlwords.specs.Walks.{low_of}
 use Rattle.tlwords.specs.Committing.{Releasing}
 use Rattle.tlwords.proofs.Plans.{plan_at, plan_next, plan_end}
-use Rattle.tlwords.proofs.Turns.{unkept_of, goes_setting, goes_base, seat_trans}
+use Rattle.tlwords.proofs.Turns.{unkept_of, goes_seated, seat_trans}
 use Rattle.tlwords.proofs.Releases.{release_held, release_goes, release_end}
 use Rattle.tlwords.proofs.commits.release_all.Goals as goal
 
@@ -16,41 +16,33 @@ pub returns-then-kept-high-clause-releases : goal.returns-then-kept-high-clause-
 returns-then-kept-high-clause-releases g c =
     let ws = c.args.log.now.writes.items in
     let t = c.index-kept.result.now in
-    let n : c.loop-i.i < length ws = let a = c.loop-i-test.true in let b = c.len-i-end.ensures in let d = c.args.log.now.writes.ok.0 in
-    omega arith in
-    let s = plan_at c.args.log.now.slots true ws c.requires.plan c.loop-i.i t n c.index-kept.ensures in
+    let s = plan_at c.args.log.now.slots true ws c.requires.plan c.loop-i.i _ _ t c.loop-i-test.true c.len-i-end.ensures c.args.log.now.writes.ok.0
+    c.index-kept.ensures in
     let past = c.if-kept-high.true in
     let u = unkept_of c.args.seat.now.me.0.seat c.args.log.now.slots c.requires.kept _ _ s.0.3 in
     release_end g.L.Law.terms c.args.log.now.slots c.args.high c.args.new (low_of ws c.loop-i.i) _ _ c.loop-i.invariant.1
     (λ x a b. u x a (omega arith))
 
-pub release-requires-clause-table : goal.release-requires-clause-table
-release-requires-clause-table g c = c.loop-i.invariant.0.0 ∙ c.requires.table
-
-pub release-requires-clause-setting : goal.release-requires-clause-setting
-release-requires-clause-setting g c =
-    (c.requires.setting.0, goes_setting g.L.Law.terms _ _ _ _ c.loop-i.invariant.1.goes c.requires.setting.1)
+pub release-requires-clause-seated : goal.release-requires-clause-seated
+release-requires-clause-seated g c =
+    goes_seated g.L.Law.terms _ _ _ _ c.requires.seated c.loop-i.invariant.0 c.loop-i.invariant.1.goes
 
 pub release-requires-clause-cell : goal.release-requires-clause-cell
 release-requires-clause-cell g c =
     let ws = c.args.log.now.writes.items in
     let t = c.index-kept.result.now in
-    let n : c.loop-i.i < length ws = let a = c.loop-i-test.true in let b = c.len-i-end.ensures in let d = c.args.log.now.writes.ok.0 in
-    omega arith in
-    let s = plan_at c.args.log.now.slots true ws c.requires.plan c.loop-i.i t n c.index-kept.ensures in
+    let s = plan_at c.args.log.now.slots true ws c.requires.plan c.loop-i.i _ _ t c.loop-i-test.true c.len-i-end.ensures c.args.log.now.writes.ok.0
+    c.index-kept.ensures in
     let l = s.0.1 in
-    let a = goes_base g.L.Law.terms _ _ _ c.loop-i.invariant.1.goes in
     let p = c.requires.cells.0 in
-    let q = c.requires.cells.1 in
-    (omega arith, omega arith)
+    omega arith
 
 pub release-requires-clause-held : goal.release-requires-clause-held
 release-requires-clause-held g c =
     let ws = c.args.log.now.writes.items in
     let t = c.index-kept.result.now in
-    let n : c.loop-i.i < length ws = let a = c.loop-i-test.true in let b = c.len-i-end.ensures in let d = c.args.log.now.writes.ok.0 in
-    omega arith in
-    let s = plan_at c.args.log.now.slots true ws c.requires.plan c.loop-i.i t n c.index-kept.ensures in
+    let s = plan_at c.args.log.now.slots true ws c.requires.plan c.loop-i.i _ _ t c.loop-i-test.true c.len-i-end.ensures c.args.log.now.writes.ok.0
+    c.index-kept.ensures in
     release_held g.L.Law.terms c.args.log.now.slots c.args.high c.args.new (low_of ws c.loop-i.i) _ _ c.loop-i.invariant.1 t.cell t.value
     s.0.0
     c.if-kept-high.false (s.2 refl) t.word c.unwrap_or.result s.1 c.unwrap_or.ensures
@@ -59,14 +51,14 @@ pub loop-i-preserved : goal.loop-i-preserved
 loop-i-preserved g c =
     let ws = c.args.log.now.writes.items in
     let t = c.index-kept.result.now in
-    let n : c.loop-i.i < length ws = let a = c.loop-i-test.true in let b = c.len-i-end.ensures in let d = c.args.log.now.writes.ok.0 in
-    omega arith in
-    let s = plan_at c.args.log.now.slots true ws c.requires.plan c.loop-i.i t n c.index-kept.ensures in
+    let s = plan_at c.args.log.now.slots true ws c.requires.plan c.loop-i.i _ _ t c.loop-i-test.true c.len-i-end.ensures c.args.log.now.writes.ok.0
+    c.index-kept.ensures in
     let m = c.args.seat.now.me in (
       seat_trans c.args.seat.now c.loop-i.seat c.release.new.seat c.loop-i.invariant.0 c.release.ensures.seat,
       subst (λ k. Releasing g.L.Law.terms c.args.log.now.slots c.args.high c.args.new k m c.release.new.seat.me)
           {x = t.cell + 1} {y = low_of ws (c.loop-i.i + 1)}
-          (sym (plan_next c.args.log.now.slots true ws c.requires.plan c.loop-i.i t n c.index-kept.ensures))
+          (sym (plan_next c.args.log.now.slots true ws c.requires.plan c.loop-i.i _ _ t c.loop-i-test.true c.len-i-end.ensures c.args.log.now.writes.ok.0
+    c.index-kept.ensures))
           (release_goes g.L.Law.terms c.args.log.now.slots c.args.high c.args.new (low_of ws c.loop-i.i) _ _ c.loop-i.invariant.1 t.cell
           t.value s.0.0
           c.if-kept-high.false (s.2 refl) _ (unkept_of m.0.seat c.args.log.now.slots c.requires.kept _ _ s.0.3) c.release.ensures.told),
@@ -83,7 +75,7 @@ returns-clause-releases g c =
     let past : length ws ≤ c.loop-i.i = let a = c.loop-i-test.false in omega arith in
     let all : c.loop-i.i ≤ length ws = let a = c.loop-i.auto.i-end in omega arith in
     let none = plan_end c.args.log.now.slots true ws c.requires.plan c.loop-i.i past all in
-    let h = c.requires.cells.2 in
+    let h = c.requires.cells.1 in
     let u = unkept_of c.args.seat.now.me.0.seat c.args.log.now.slots c.requires.kept _ _ none in
     release_end g.L.Law.terms c.args.log.now.slots c.args.high c.args.new (low_of ws c.loop-i.i) _ _ c.loop-i.invariant.1
     (λ x a b. u x a (omega arith))

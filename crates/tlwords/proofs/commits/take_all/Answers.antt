@@ -1,4 +1,4 @@
-use Rattle.std.proofs.Common.{arith, refl, sym, subst, ◌∙◌, ◌<◌, ◌≤◌, ◌+◌, length, List, [], true}
+use Rattle.std.proofs.Common.{arith, refl, sym, subst, ◌<◌, ◌≤◌, ◌+◌, length, List, [], true}
 use Rattle.tlcore.specs.Seats.{Seat}
 use Rattle.tlcore.specs.declared.seats.Held.{Held}
 use Rattle.tlcore.specs.declared.seats.Place.TheVariants.{Reading, Taking}
@@ -6,7 +6,7 @@ use Rattle.tlwords.specs.Walks.{low_of}
 use Rattle.tlwords.specs.Committing.{held_in, locking, Goes}
 use Rattle.tlwords.proofs.Held.{held_on}
 use Rattle.tlwords.proofs.Plans.{plan_at, plan_next, plan_low, plan_end}
-use Rattle.tlwords.proofs.Turns.{unkept_of, read_found, goes_start, goes_setting, goes_base, goes_rights, goes_read, seat_trans, take_place}
+use Rattle.tlwords.proofs.Turns.{unkept_of, read_found, goes_start, goes_seated, goes_rights, goes_read, seat_trans, take_place}
 use Rattle.tlwords.proofs.Turns.{take_goes, take_fails}
 use Rattle.tlwords.proofs.commits.take_all.Goals as goal
 
@@ -17,42 +17,34 @@ loop-i-init g c = (
       (λ j. let t : Seat = record c.args.seat.now.me.0.seat { place = sym c.requires.run.0 j; held = sym c.requires.run.1 j } in t),
 )
 
-pub take-found-requires-clause-table : goal.take-found-requires-clause-table
-take-found-requires-clause-table g c = c.loop-i.invariant.0.0 ∙ c.requires.table
-
-pub take-found-requires-clause-setting : goal.take-found-requires-clause-setting
-take-found-requires-clause-setting g c =
-    (c.requires.setting.0, goes_setting g.L.Law.terms _ _ _ _ c.loop-i.invariant.1 c.requires.setting.1)
+pub take-found-requires-clause-seated : goal.take-found-requires-clause-seated
+take-found-requires-clause-seated g c =
+    goes_seated g.L.Law.terms _ _ _ _ c.requires.seated c.loop-i.invariant.0 c.loop-i.invariant.1
 
 pub take-found-requires-clause-cell : goal.take-found-requires-clause-cell
 take-found-requires-clause-cell g c =
     let ws = c.args.log.now.writes.items in
     let t = c.index.result.now in
-    let n : c.loop-i.i < length ws = let a = c.loop-i-test.true in let b = c.len-i-end.ensures in let d = c.args.log.now.writes.ok.0 in
-    omega arith in
-    let s = plan_at c.args.log.now.slots true ws c.requires.plan c.loop-i.i t n c.index.ensures in
+    let s = plan_at c.args.log.now.slots true ws c.requires.plan c.loop-i.i _ _ t c.loop-i-test.true c.len-i-end.ensures c.args.log.now.writes.ok.0
+    c.index.ensures in
     let l = s.0.1 in
-    let a = goes_base g.L.Law.terms _ _ _ c.loop-i.invariant.1 in
-    let p = c.requires.cells.0 in
-    let q = c.requires.cells.1 in
-    (omega arith, omega arith)
+    let p = c.requires.cells in
+    omega arith
 
 pub take-found-requires-clause-place : goal.take-found-requires-clause-place
 take-found-requires-clause-place g c =
     let ws = c.args.log.now.writes.items in
     let t = c.index.result.now in
-    let n : c.loop-i.i < length ws = let a = c.loop-i-test.true in let b = c.len-i-end.ensures in let d = c.args.log.now.writes.ok.0 in
-    omega arith in
-    let s = plan_at c.args.log.now.slots true ws c.requires.plan c.loop-i.i t n c.index.ensures in
+    let s = plan_at c.args.log.now.slots true ws c.requires.plan c.loop-i.i _ _ t c.loop-i-test.true c.len-i-end.ensures c.args.log.now.writes.ok.0
+    c.index.ensures in
     take_place g.L.Law.terms c.args.log.now.slots _ _ (low_of ws c.loop-i.i) c.loop-i.invariant.1 t.cell s.0.0
 
 pub take-found-requires-clause-read : goal.take-found-requires-clause-read
 take-found-requires-clause-read g c =
     let ws = c.args.log.now.writes.items in
     let t = c.index.result.now in
-    let n : c.loop-i.i < length ws = let a = c.loop-i-test.true in let b = c.len-i-end.ensures in let d = c.args.log.now.writes.ok.0 in
-    omega arith in
-    let s = plan_at c.args.log.now.slots true ws c.requires.plan c.loop-i.i t n c.index.ensures in
+    let s = plan_at c.args.log.now.slots true ws c.requires.plan c.loop-i.i _ _ t c.loop-i-test.true c.len-i-end.ensures c.args.log.now.writes.ok.0
+    c.index.ensures in
     let d = read_found c.args.seat.now.me.0.seat c.args.log.now.slots c.requires.kept t.cell t.word s.1 in
     (d.0, goes_read g.L.Law.terms _ _ _ c.loop-i.invariant.1 refl t.cell d.0 d.1, d.2)
 
@@ -60,9 +52,8 @@ pub take-found-requires-clause-room : goal.take-found-requires-clause-room
 take-found-requires-clause-room g c =
     let ws = c.args.log.now.writes.items in
     let t = c.index.result.now in
-    let n : c.loop-i.i < length ws = let a = c.loop-i-test.true in let b = c.len-i-end.ensures in let d = c.args.log.now.writes.ok.0 in
-    omega arith in
-    let s = plan_at c.args.log.now.slots true ws c.requires.plan c.loop-i.i t n c.index.ensures in
+    let s = plan_at c.args.log.now.slots true ws c.requires.plan c.loop-i.i _ _ t c.loop-i-test.true c.len-i-end.ensures c.args.log.now.writes.ok.0
+    c.index.ensures in
     let even = c.requires.kept.2 t.cell t.word s.1 in
     let same = goes_rights g.L.Law.terms _ _ _ c.loop-i.invariant.1 in
     let enough = c.requires.run.2 in
@@ -76,9 +67,8 @@ pub returns-then-found-word-clause-err : goal.returns-then-found-word-clause-err
 returns-then-found-word-clause-err g c =
     let ws = c.args.log.now.writes.items in
     let t = c.index.result.now in
-    let n : c.loop-i.i < length ws = let a = c.loop-i-test.true in let b = c.len-i-end.ensures in let d = c.args.log.now.writes.ok.0 in
-    omega arith in
-    let s = plan_at c.args.log.now.slots true ws c.requires.plan c.loop-i.i t n c.index.ensures in
+    let s = plan_at c.args.log.now.slots true ws c.requires.plan c.loop-i.i _ _ t c.loop-i-test.true c.len-i-end.ensures c.args.log.now.writes.ok.0
+    c.index.ensures in
     take_fails g.L.Law.terms c.args.log.now.slots _ _ (low_of ws c.loop-i.i) c.loop-i.invariant.1 t.cell t.value t.word
     c.take-found.result _ s.0.0 (unkept_of c.args.seat.now.me.0.seat c.args.log.now.slots c.requires.kept _ _ s.0.3)
     c.take-found.ensures.told _ refl s.0.1 s.1 c.if-found-word.true
@@ -87,15 +77,15 @@ pub loop-i-preserved : goal.loop-i-preserved
 loop-i-preserved g c =
     let ws = c.args.log.now.writes.items in
     let t = c.index.result.now in
-    let n : c.loop-i.i < length ws = let a = c.loop-i-test.true in let b = c.len-i-end.ensures in let d = c.args.log.now.writes.ok.0 in
-    omega arith in
-    let s = plan_at c.args.log.now.slots true ws c.requires.plan c.loop-i.i t n c.index.ensures in
+    let s = plan_at c.args.log.now.slots true ws c.requires.plan c.loop-i.i _ _ t c.loop-i-test.true c.len-i-end.ensures c.args.log.now.writes.ok.0
+    c.index.ensures in
     let m = c.args.seat.now.me in (
       seat_trans c.args.seat.now c.loop-i.seat c.take-found.new.seat c.loop-i.invariant.0 c.take-found.ensures.seat,
       subst (λ k. Goes g.L.Law.terms m (locking m.0.seat Taking Reading (held_in c.args.log.now.slots 0 0 k))
           c.take-found.new.seat.me)
           {x = t.cell + 1} {y = low_of ws (c.loop-i.i + 1)}
-          (sym (plan_next c.args.log.now.slots true ws c.requires.plan c.loop-i.i t n c.index.ensures))
+          (sym (plan_next c.args.log.now.slots true ws c.requires.plan c.loop-i.i _ _ t c.loop-i-test.true c.len-i-end.ensures c.args.log.now.writes.ok.0
+    c.index.ensures))
           (take_goes g.L.Law.terms c.args.log.now.slots _ _ (low_of ws c.loop-i.i) c.loop-i.invariant.1 t.cell t.value t.word
           c.take-found.result _ s.0.0 (unkept_of m.0.seat c.args.log.now.slots c.requires.kept _ _ s.0.3) c.take-found.ensures.told
           (s.2 refl) s.1 c.if-found-word.false),

@@ -39,8 +39,10 @@ returns-clause-begins g c =
     let p = c.into_parts-seat in
     let b = c.begin-place in
     let f = p.ensures.rests in
-    subst (λ k. Begins g.L.Law.terms c.args.mode k (going_of b.new.seat.table_id b.new.seat.me.0 b.result c.args.mode None p.result.1.slots)) p.ensures.known
-    (begin_tells g.L.Law.terms p.result.0.table_id b.new.seat.table_id p.result.0.me b.new.seat.me c.args.mode p.result.2 b.result p.result.1.slots
+    subst (λ k. Begins g.L.Law.terms c.args.mode k (going_of b.new.seat.table_id b.new.seat.me.0 b.result c.args.mode None
+    p.result.1.slots)) p.ensures.known
+    (begin_tells g.L.Law.terms p.result.0.table_id b.new.seat.table_id p.result.0.me b.new.seat.me c.args.mode p.result.2 b.result
+    p.result.1.slots
     b.ensures.seat.0 b.ensures.told (begun_fits g.L.Law.terms _ _ _ _ b.ensures.told f.fits) f.blank f.room)
 
 pub returns-clause-place : goal.returns-clause-place

@@ -44,5 +44,6 @@ returns g c =
     subst (λ x. Learns g.L.Law.terms x c.args.other.now k j) c.pass.view_is
     (subst (λ y. Learns g.L.Law.terms (known_of p.table_id p.me.0) y k j) c.other.view_is
     (learn_tells g.L.Law.terms p.table_id o.table_id c.begin.new.seat.table_id c.tell.new.other.table_id p.me o.me c.refresh.new.seat.me
-    c.tell.new.seat.me c.tell.new.other.me c.begin.new.seat.me _ _ _ (c.begin.ensures.seat.0 ∙ a.seat.0.0) (a.other.0.0 ∙ c.refresh.ensures.seat.0)
+    c.tell.new.seat.me c.tell.new.other.me c.begin.new.seat.me _ _ _ (c.begin.ensures.seat.0 ∙ a.seat.0.0)
+    (a.other.0.0 ∙ c.refresh.ensures.seat.0)
     c.pass.invariant.fits c.other.invariant.fits c.refresh.ensures.told a.seat.1 a.other.1 c.begin.ensures.told))

@@ -6,6 +6,7 @@ pub fetch_add-requires : goal.fetch_add-requires
 fetch_add-requires g c = (
   search rules,
   let s = c.args.words.now.sized in omega arith,
-  rw c.requires.said (draws g.L.Law.terms _ _ _ _ _ _ _ _ _ c.requires.setting.1 c.requires.place c.requires.setting.2 c.requires.writes
+  rw c.requires.said (draws g.L.Law.terms _ _ _ _ _ _ _ _ _ c.requires.seated.setting.1 c.requires.place
+      (c.requires.lawful _ c.requires.seated.setting.1) c.requires.writes
       c.requires.room),
 )

@@ -5,6 +5,7 @@ use Rattle.tlwords.proofs.steps.load.Goals as goal
 pub load-requires : goal.load-requires
 load-requires g c = (
   search rules,
-  let s = c.args.words.now.sized in let i = c.requires.cell.0 in omega arith,
-  loads g.L.Law.terms _ _ _ _ _ _ _ _ _ c.requires.setting.0 c.requires.setting.1 c.requires.cell.1 c.requires.place,
+  let s = c.args.words.now.sized in let i = c.requires.cell in omega arith,
+  loads g.L.Law.terms _ _ _ _ _ _ _ _ _ c.requires.seated.setting.0 c.requires.seated.setting.1 (let a = c.requires.cell in
+      let b = c.requires.seated.cells in omega arith) c.requires.place,
 )

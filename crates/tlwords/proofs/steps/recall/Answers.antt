@@ -6,5 +6,6 @@ pub load-requires : goal.load-requires
 load-requires g c = (
   search rules,
   let s = c.args.words.now.sized in omega arith,
-  rw c.requires.said (recalls g.L.Law.terms _ _ _ _ _ _ _ _ _ c.requires.setting.1 c.requires.setting.2),
+  rw c.requires.said (recalls g.L.Law.terms _ _ _ _ _ _ _ _ _ c.requires.seated.setting.1
+      (c.requires.lawful _ c.requires.seated.setting.1)),
 )

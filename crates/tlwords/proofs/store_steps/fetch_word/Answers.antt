@@ -5,6 +5,6 @@ use Rattle.tlwords.proofs.store_steps.fetch_word.Goals as goal
 pub load-requires : goal.load-requires
 load-requires g c = (
   search rules,
-  let s = c.args.words.now.sized in let i = c.requires.sizes.2 in omega arith,
-  fetches g.L.Law.terms _ _ _ _ _ _ _ _ _ _ c.requires.setting.1 c.requires.sizes.0,
+  let s = c.args.words.now.sized in let i = c.requires.sizes.1 in let e = c.requires.seated.cells in omega arith,
+  fetches g.L.Law.terms _ _ _ _ _ _ _ _ _ _ c.requires.seated.setting.1 c.requires.seated.cells,
 )

@@ -22,7 +22,8 @@ invariant_of-pass g c =
       | in-None w ↦
           let e = w.conclude-outcome in
           let d = e.ensures.ended in
-          rests_as g.L.Law.terms e.new.seat c.match-over.seat c.clear.new.self.slots e.new.count c.match-over.count s.full w.seat-is w.count-is d.pass
+          rests_as g.L.Law.terms e.new.seat c.match-over.seat c.clear.new.self.slots e.new.count c.match-over.count s.full w.seat-is
+          w.count-is d.pass
           (d.store s.full i.knows) (d.seat.2 ∙ i.bare) c.clear.ensures.blank
           (size ∙ (ap (λ l. length l.slots) w.log-is ∙ (ap length e.ensures.log
           ∙ (i.room ∙ sym (ap (λ h. length h.base) (concluded_home g.L.Law.terms _ _ _ _ _ _ _ _ d))))))

@@ -12,7 +12,8 @@ overflow_add-range g c =
     let q = c.requires in
     let range : Range = record { start = c.args.range.start; words = q.0 } in
     let has : Has range s.seat.me.0.seen.ranges = subst (λ k. Has range k.known.seen.ranges) (sym c.self.view_is) q.1 in
-    let l : c.args.range.start + c.args.index < s.seat.me.0.room = i.knows.ranges.0 range has c.args.index (let e = q.2 in let f = q.3 in omega arith) in
+    let l : c.args.range.start + c.args.index < s.seat.me.0.room = i.knows.ranges.0 range has c.args.index
+    (let e = q.2 in let f = q.3 in omega arith) in
     let r = i.room_is in
     let m = s.words.now.small.1 in
     omega arith
@@ -24,9 +25,10 @@ fetch_word-requires-clause-sizes g c =
     let q = c.requires in
     let range : Range = record { start = c.args.range.start; words = q.0 } in
     let has : Has range s.seat.me.0.seen.ranges = subst (λ k. Has range k.known.seen.ranges) (sym c.self.view_is) q.1 in
-    let l : c.args.range.start + c.args.index < s.seat.me.0.room = i.knows.ranges.0 range has c.args.index (let e = q.2 in let f = q.3 in omega arith) in
+    let l : c.args.range.start + c.args.index < s.seat.me.0.room = i.knows.ranges.0 range has c.args.index
+    (let e = q.2 in let f = q.3 in omega arith) in
     let r = i.room_is in
-    (i.table_is.1, r, omega arith)
+    (r, omega arith)
 
 pub invariant_of-self : goal.invariant_of-self
 invariant_of-self g c =

@@ -38,7 +38,8 @@ returns-then-words-room-clause-err g c =
       | then-words-room-via-then-words-room w ↦ let a = w.if-words-room.true in omega arith
       | then-words-room-via-else-words-room+then-start-room w ↦ let a = w.if-start-room.true in let b = w.if-words-room.false in omega arith
     ] in
-    subst (λ x. IsRefused g.L.Law.terms (length c.args.words.now) x (going_of r.table_id r.me.0 s.place s.mode s.over s.log.slots)) c.self.view_is
+    subst (λ x. IsRefused g.L.Law.terms (length c.args.words.now) x (going_of r.table_id r.me.0 s.place s.mode s.over s.log.slots))
+    c.self.view_is
     (inr (
       c.advance-start.result,
       refuse_tells g.L.Law.terms _ _ _ _ _ s.mode s.over s.full s.log.slots s.seat r i e.seat e.told.sees (length c.args.words.now)
@@ -55,10 +56,13 @@ invariant_of-self-2 g c =
     let ws = c.args.words.now in
     let l : c.advance-start.result + length c.args.words.now ≤ s.seat.me.0.room =
     let a = c.if-words-room.false in let b = c.if-start-room.false in omega arith in
-    store_runs g.L.Law.terms _ _ _ _ _ s.mode s.over s.full s.log.slots s.seat r i (seat_trans s.seat a.new.seat r a.ensures.seat c.fill_all.ensures.seat)
-    (staged_sees g.L.Law.terms ws a.result s.seat.me a.new.seat.me r.me i.knows.at_rest l a.ensures.told c.fill_all.ensures.finished) s.seat.me.0.full
+    store_runs g.L.Law.terms _ _ _ _ _ s.mode s.over s.full s.log.slots s.seat r i (seat_trans s.seat a.new.seat r a.ensures.seat
+    c.fill_all.ensures.seat)
+    (staged_sees g.L.Law.terms ws a.result s.seat.me a.new.seat.me r.me i.knows.at_rest l a.ensures.told c.fill_all.ensures.finished)
+    s.seat.me.0.full
     (s.seat.me.0.taken + length ws) s.seat.me.0.added
-    (staged_is g.L.Law.terms ws a.result s.seat.me a.new.seat.me r.me i.knows.at_rest l a.ensures.told c.fill_all.ensures.finished) s.full i.knows.full
+    (staged_is g.L.Law.terms ws a.result s.seat.me a.new.seat.me r.me i.knows.at_rest l a.ensures.told c.fill_all.ensures.finished)
+    s.full i.knows.full
 
 pub returns-clause-ok : goal.returns-clause-ok
 returns-clause-ok g c =
@@ -74,7 +78,8 @@ returns-clause-ok g c =
       subst (λ x. HasStaged g.L.Law.terms ws a.result x (going_of r.table_id r.me.0 s.place s.mode s.over s.log.slots)) c.self.view_is
           (stage_tells g.L.Law.terms _ _ _ _ _ s.mode s.over s.full s.log.slots s.seat r i
           (seat_trans s.seat a.new.seat r a.ensures.seat c.fill_all.ensures.seat)
-          (staged_sees g.L.Law.terms ws a.result s.seat.me a.new.seat.me r.me i.knows.at_rest l a.ensures.told c.fill_all.ensures.finished) ws a.result
+          (staged_sees g.L.Law.terms ws a.result s.seat.me a.new.seat.me r.me i.knows.at_rest l a.ensures.told
+          c.fill_all.ensures.finished) ws a.result
           (staged_is g.L.Law.terms ws a.result s.seat.me a.new.seat.me r.me i.knows.at_rest l a.ensures.told c.fill_all.ensures.finished)
           (no_refusal g.L.Law.terms _ _ i.knows.full c.if-self.false) l c.fill_all.ensures.finished.finished),
     )
@@ -91,7 +96,8 @@ returns-then-words-room-clause-same g c =
     let is = e.told.refused more in
     let r = c.advance-start.new.seat in
     let k = known_of r.table_id r.me.0 in
-    subst (λ x. (k.home ≡ x.known.home) × (going_of r.table_id r.me.0 s.place s.mode s.over s.log.slots ≡ record x { known = k })) c.self.view_is (
+    subst (λ x. (k.home ≡ x.known.home) × (going_of r.table_id r.me.0 s.place s.mode s.over s.log.slots ≡ record x { known = k }))
+    c.self.view_is (
       (λ j. (known_of (e.seat.0 j) (is j)).home),
       (λ j. record { known = k; place = s.place; mode = s.mode; over = s.over; reads = reads_of (is j).seat.reads; slots = s.log.slots }),
     )
@@ -106,9 +112,11 @@ returns-clause-same g c =
     let ws = c.args.words.now in
     let l : c.advance-start.result + length c.args.words.now ≤ s.seat.me.0.room =
     let a = c.if-words-room.false in let b = c.if-start-room.false in omega arith in
-    let is = staged_is g.L.Law.terms ws a.result s.seat.me a.new.seat.me r.me i.knows.at_rest l a.ensures.told c.fill_all.ensures.finished in
+    let is = staged_is g.L.Law.terms ws a.result s.seat.me a.new.seat.me r.me i.knows.at_rest l a.ensures.told
+    c.fill_all.ensures.finished in
     let k = known_of r.table_id r.me.0 in
-    subst (λ x. (k.home ≡ x.known.home) × (going_of r.table_id r.me.0 s.place s.mode s.over s.log.slots ≡ record x { known = k })) c.self.view_is (
+    subst (λ x. (k.home ≡ x.known.home) × (going_of r.table_id r.me.0 s.place s.mode s.over s.log.slots ≡ record x { known = k }))
+    c.self.view_is (
       (λ j. (known_of ((c.fill_all.ensures.seat.0 ∙ a.ensures.seat.0) j) (is j)).home),
       (λ j. record { known = k; place = s.place; mode = s.mode; over = s.over; reads = reads_of (is j).seat.reads; slots = s.log.slots }),
     )
