@@ -25,10 +25,6 @@ use Rattle.taking.proofs.Values.{mapped}
 
 -- ---- the first item that passes
 
-behind : (o : Option ℕ) (i : ℕ) → option_map (λ n. suc n) o ≡ Some i → (j : ℕ) × (o ≡ Some j) × (i ≡ suc j)
-behind None i e = absurd cc
-behind (Some j) i e = (j, refl, cc)
-
 behind_none : (o : Option ℕ) → option_map (λ n. suc n) o ≡ None → o ≡ None
 behind_none None e = refl
 behind_none (Some j) e = absurd cc
@@ -45,9 +41,10 @@ module _ {A : Type 0} (test : A → Bool) where
             let zero-is : i ≡ 0 = same_Some i 0 (sym e ∙ cond-true (test x) (Some 0) _ passes) in
             (x, ap (slice_get (x ∷ xs)) zero-is, passes, or_left (test x) _ passes)
         | inr fails ↦
-            let p = behind (place_of test xs) i (sym (cond-false (test x) (Some 0) _ fails) ∙ e) in
-            let rest = first_passes xs p.0 n p.1 (let s = p.2 in omega arith) in
-            (rest.0, ap (slice_get (x ∷ xs)) p.2 ∙ rest.1, rest.2, or_right (test x) _ rest.3)
+            let p = mapped (λ (n : ℕ). suc n) (place_of test xs) i (sym (cond-false (test x) (Some 0) _ fails) ∙ e) in
+            let s : suc p.0 ≡ i = p.2 in
+            let rest = first_passes xs p.0 n p.1 (omega arith) in
+            (rest.0, ap (slice_get (x ∷ xs)) (sym s) ∙ rest.1, rest.2, or_right (test x) _ rest.3)
       ]
 
   -- none before it does
@@ -61,8 +58,9 @@ module _ {A : Type 0} (test : A → Bool) where
             let zero-is : i ≡ 0 = same_Some i 0 (sym e ∙ cond-true (test x) (Some 0) _ passes) in
             absurd (omega arith)
         | inr fails ↦
-            let p = behind (place_of test xs) i (sym (cond-false (test x) (Some 0) _ fails) ∙ e) in
-            or_from (test x) _ fails (none_before xs p.0 n p.1 (let s = p.2 in omega arith))
+            let p = mapped (λ (n : ℕ). suc n) (place_of test xs) i (sym (cond-false (test x) (Some 0) _ fails) ∙ e) in
+            let s : suc p.0 ≡ i = p.2 in
+            or_from (test x) _ fails (none_before xs p.0 n p.1 (omega arith))
       ]
 
   -- where there is none, none does

@@ -24,12 +24,6 @@ use Rattle.taking.specs.Reasons.{Choice, is_left_out, labels_of, labels_of_each}
 use Rattle.taking.proofs.Values.{mapped}
 use Rattle.gathering.specs.Outcomes.{HasStepsFor}
 
--- ---- options
-
-there : {A : Type 0} (o : Option A) → is_some o ≡ true → (x : A) × (o ≡ Some x)
-there None h = absurd cc
-there (Some x) h = (x, refl)
-
 -- ---- steps
 
 by_premise : (place j : Option ℕ) (label : Option Word) → is_some place ≡ true → is_some (own_step place j label) ≡ true
@@ -96,11 +90,11 @@ of_assertion m chosen w (suc n) (x ∷ xs) a h c =
 -- ---- trees
 
 joined_there : (o : Option (List Hypothesis)) (ps : Option (List (List Step))) (own : Option Step) (hs : List Hypothesis)
-    (parts : List (List Step)) → o ≡ Some hs → ps ≡ Some parts → is_some own ≡ true → is_some (joined o ps own) ≡ true
-joined_there None ps own hs parts e f g = absurd cc
-joined_there (Some hs') None own hs parts e f g = absurd cc
-joined_there (Some hs') (Some parts') None hs parts e f g = absurd cc
-joined_there (Some hs') (Some parts') (Some step) hs parts e f g = refl
+    → o ≡ Some hs → is_some ps ≡ true → is_some own ≡ true → is_some (joined o ps own) ≡ true
+joined_there None ps own hs e f g = absurd cc
+joined_there (Some hs') None own hs e f g = absurd cc
+joined_there (Some hs') (Some parts) None hs e f g = absurd cc
+joined_there (Some hs') (Some parts) (Some step) hs e f g = refl
 
 both_there : (o : Option (List Step)) (ps : Option (List (List Step))) → is_some o ≡ true → is_some ps ≡ true → is_some (both o ps) ≡ true
 both_there None ps e f = absurd cc
@@ -138,9 +132,8 @@ module _ (m : Map) (choice : Choice) (s : Scope) (x : Assertion) (n : ℕ) (know
     listing_there (node w trees) enough cites =
         let parts = or_parts (is_left_out (take n s.assertions) choice.chosen w) _ cites in
         let takes = mapped length (taken_by (take n s.assertions) x.active w) (how_many trees) enough.0 in
-        let rest = there (listings m (take n s.assertions) x.active trees) (listings_there trees enough.1 parts.1) in
         joined_there (taken_by (take n s.assertions) x.active w) (listings m (take n s.assertions) x.active trees)
-        (step_in m x.active w) takes.0 rest.0 takes.1 rest.1 (has_step w takes.0 takes.1 parts.0)
+        (step_in m x.active w) takes.0 takes.1 (listings_there trees enough.1 parts.1) (has_step w takes.0 takes.1 parts.0)
 
     listings_there : (ts : Trees) → TakeEnough (take n s.assertions) x.active ts
         → list_any (is_left_out (take n s.assertions) choice.chosen) (labels_of_each ts) ≡ false

@@ -1,5 +1,5 @@
 -- Each chosen assertion of a source has all its places, and the steps of what is chosen are known.
-use Rattle.std.proofs.Common.{◌≡◌, ◌∙◌, ◌<◌, ℕ, zero, suc, ◌++◌, take, append_assoc, append-nil, Bool, true, false, List, [], ◌∷◌, length, map, get_or, refl, sym, ap, subst, arith}
+use Rattle.std.proofs.Common.{◌≡◌, ◌∙◌, ℕ, Bool, true, false, List, [], ◌∷◌, length, map, get_or, refl, sym, ap, subst}
 use Rattle.std.specs.Prelude.{Option, Some, None, IfSome, slice_get, is_some, ◌||◌, All, IsTrue}
 use Rattle.std.specs.List.{list_any, AllByRecursion}
 use Rattle.std.specs.Str.{bytes_eq}
@@ -9,32 +9,18 @@ use Rattle.std.proofs.lemmas.Option.{get_or_from_slice_get, slice_get-get_or, sl
 use Rattle.mmtext.specs.Words.{Word}
 use Rattle.mmsyntax.proofs.Names.{bytes_eq-same}
 use Rattle.source.specs.Scopes.{Assertion, Scope, is_in, label_of}
-use Rattle.source.specs.Whole.{IsWhole, IsAssertionWhole, AreAssertionsWhole}
+use Rattle.source.specs.Whole.{IsWhole}
 use Rattle.taking.specs.Names.{label_in, float_in, is_symbol_of}
 use Rattle.taking.specs.Settings.{is_float}
 use Rattle.taking.specs.Says.{IsFloatTaken}
 use Rattle.taking.specs.Reasons.{Choice, AreFlags, kept}
+use Rattle.prooftrees.proofs.Whole.{whole_at}
 use Rattle.sites.specs.Sites.{Sited, IsFloatSited, AreSites}
 use Rattle.naming.specs.declared.names.LibraryNames.{LibraryNames}
 use Rattle.gathering.specs.Assembled.{HasAllPlaces}
 use Rattle.gathering.specs.Outcomes.{HasStepsFor}
 use Rattle.gathering.specs.Placed.{map_of, tables_of}
 use Rattle.gathering.proofs.Known.{all_kept, any_kept, is_in_filter, zip_there, floats_taken, floats_known, statement_there, premises_there}
-
-whole_behind : (s : Scope) (earlier xs : List Assertion) (k : ℕ) (x : Assertion) → AreAssertionsWhole s earlier xs
-    → slice_get xs k ≡ Some x → IsAssertionWhole s (earlier ++ take k xs) x
-whole_behind s earlier [] k x a at = absurd cc
-whole_behind s earlier (y ∷ ys) zero x a at =
-    let e : y ≡ x = cc in
-    subst (λ (es : List Assertion). IsAssertionWhole s es x) (sym (append-nil earlier))
-    (subst (λ (z : Assertion). IsAssertionWhole s earlier z) e a.0)
-whole_behind s earlier (y ∷ ys) (suc k) x a at =
-    subst (λ (es : List Assertion). IsAssertionWhole s es x) (append_assoc earlier (y ∷ []) (take k ys))
-    (whole_behind s (earlier ++ y ∷ []) ys k x a.1 at)
-
-whole_at : (s : Scope) (place : ℕ) (x : Assertion) → IsWhole s → slice_get s.assertions place ≡ Some x
-    → IsAssertionWhole s (take place s.assertions) x
-whole_at s place x w at = whole_behind s [] s.assertions place x w.assertions at
 
 any_label : (w : Word) (xs : List Assertion) → list_any (λ x. bytes_eq w x.label) xs ≡ is_in (map (λ x. x.label) xs) w
 any_label w [] = refl
@@ -100,12 +86,6 @@ flag_at s choice chosen front flags k x at b e =
     ∙ sym (get_or-map (λ (y : Assertion). is_in choice.chosen y.label) s.assertions k x false (slice_get_within s.assertions k x at))
     ∙ ap (λ (fs : List Bool). get_or fs k false) flags.chosen_are
     ∙ e
-
--- at each place within is an assertion
-pub assertion_at : (xs : List Assertion) (k : ℕ) → k < length xs → (x : Assertion) × (slice_get xs k ≡ Some x)
-assertion_at [] k h = absurd (omega arith)
-assertion_at (x ∷ xs) zero h = (x, refl)
-assertion_at (x ∷ xs) (suc k) h = assertion_at xs k (omega arith)
 
 -- what is so of what is there
 pub is_so : {A : Type 0} (o : Option A) (P : A → Type 0) (x : A) → o ≡ Some x → IfSome o P → P x

@@ -1,56 +1,31 @@
 -- Why the theorem of a tree is taken as an axiom, by the size of its root, by flags and by what its nodes name.
-use Rattle.std.proofs.Common.{◌≡◌, ◌<◌, ◌≤◌, ◌+◌, ℕ, suc, Bool, true, false, List, [], ◌∷◌, map, take, get_or, cond}
+use Rattle.std.proofs.Common.{◌≡◌, ◌<◌, ◌≤◌, ◌+◌, ℕ, Bool, true, false, List, [], take, get_or, cond}
 use Rattle.std.proofs.Common.{refl, sym, ap, subst, ◌∙◌, arith}
 use Rattle.std.specs.Prelude.{Option, Some, None, slice_get, slice_index_or, min, nat_lt, is_some}
 use Rattle.std.specs.Option.{option_map}
-use Rattle.std.specs.List.{list_any, AllByRecursion}
+use Rattle.std.specs.List.{list_any}
 use Rattle.std.proofs.lemmas.Bool.{cond-true, cond-false, lt-ltb, le-ltb}
-use Rattle.std.proofs.lemmas.Option.{same_Some, slice_get-map, get_or_from_slice_get}
-use Rattle.mmtext.specs.Words.{Word}
+use Rattle.std.proofs.lemmas.Option.{get_or_from_slice_get}
 use Rattle.mmsyntax.specs.declared.statement.Step.{Step}
 use Rattle.source.specs.Scopes.{Assertion, Scope, is_in}
-use Rattle.source.specs.Proofs.{Tree, node, over, size, total, is_unfinished}
+use Rattle.source.specs.Proofs.{Tree, size, is_unfinished}
 use Rattle.source.specs.Proofs as tree
 use Rattle.source.specs.Views.{seen_words}
 use Rattle.taking.specs.declared.reason.Reason.TheVariants.{Unfinished, TooLong, InFront, CitesUnchosen}
 use Rattle.taking.specs.Names.{Map}
-use Rattle.taking.specs.Nodes.{Shared, trees, sizes, counted}
+use Rattle.taking.specs.Nodes.{Shared, sizes, counted}
 use Rattle.taking.specs.Reasons.{Choice, is_left_out, cites_left_out, reason_of_tree, reason_of_finished, reason_of, reason}
 use Rattle.taking.specs.Walks.{IsListing}
-use Rattle.taking.proofs.Values.{natural, mapped}
+use Rattle.taking.proofs.Values.{mapped}
 use Rattle.taking.proofs.LongListings.{denoted_enough}
 use Rattle.prooftrees.specs.declared.form.ProofTree.{ProofTree}
 use Rattle.prooftrees.specs.declared.form.ProofForm.TheVariants as form
 use Rattle.prooftrees.specs.Forms.{IsForm}
+use Rattle.prooftrees.proofs.Trees.{counted_is}
 use Rattle.gathering.specs.Outcomes.{HasStepsFor, AreSteps}
 use Rattle.gathering.proofs.Listable.{listing_there}
 
 -- ---- sizes
-
-each_size : (ts : List Tree) → tree.sizes (over ts) ≡ total (map size ts)
-each_size [] = refl
-each_size (t ∷ ts) = ap (λ n. size t + n) (each_size ts)
-
--- the sizes of nodes are those of their trees
-sizes_of_trees : (labels : List Word) (ns : List Shared) → map size (trees labels ns) ≡ sizes ns
-sizes_of_trees labels ns =
-    natural size (λ n ts. node (slice_index_or labels n []) (over ts)) (λ n ks. suc (total ks)) ns (each ns)
-  where
-    each : (ms : List Shared) → AllByRecursion (λ n. (xs : List Tree) → suc (tree.sizes (over xs)) ≡ suc (total (map size xs))) ms
-    each [] = tt
-    each (m ∷ ms) = (λ xs. ap (λ k. suc k) (each_size xs), each ms)
-
-size_at : (labels : List Word) (ns : List Shared) (root : ℕ) (t : Tree) → slice_get (trees labels ns) root ≡ Some t
-    → slice_get (sizes ns) root ≡ Some (size t)
-size_at labels ns root t e =
-    ap (λ ks. slice_get ks root) (sym (sizes_of_trees labels ns))
-    ∙ slice_get-map size (trees labels ns) root
-    ∙ ap (option_map size) e
-
-counted_at : (labels : List Word) (ns : List Shared) (root : ℕ) (t : Tree) (n : ℕ) → slice_get (trees labels ns) root ≡ Some t
-    → option_map counted (slice_get (sizes ns) root) ≡ Some n → n ≡ min 16385 (size t)
-counted_at labels ns root t n is e =
-    sym (same_Some (counted (size t)) n (ap (option_map counted) (sym (size_at labels ns root t is)) ∙ e))
 
 few : (o : Option ℕ) (n : ℕ) → option_map counted o ≡ Some n → n ≤ 16384 → (k : ℕ) × (o ≡ Some k) × (k ≤ 16384)
 few o n e h =
@@ -92,7 +67,7 @@ module _ (m : Map) (choice : Choice) (s : Scope) (place : ℕ) (x : Assertion) (
   module _ (n : ℕ) (counts : option_map counted (slice_get (sizes t.proof.nodes) t.proof.root) ≡ Some n) where
     root_is : n ≡ min 16385 (size denoted)
     unfolding denoted
-    root_is = counted_at (seen_words t.labels.items) t.proof.nodes t.proof.root f.3.tree n f.3.stands counts
+    root_is = sym (counted_is (seen_words t.labels.items) t.proof.nodes t.proof.root n f.3.tree f.3.stands counts)
 
     pub reason_of_long : 16384 < n → reason choice (take place s.assertions) x ≡ Some TooLong
     unfolding earlier

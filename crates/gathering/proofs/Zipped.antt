@@ -3,9 +3,6 @@ use Rattle.std.proofs.Common.{◌≡◌, ℕ, suc, List, [], ◌∷◌, length, 
 use Rattle.std.specs.Prelude.{Bool, true, false, Option, Some, None, slice_get, find, if◌then◌else◌}
 use Rattle.std.specs.Option.{option_map, option_and_then}
 use Rattle.std.specs.List.{zip}
-use Rattle.std.specs.Slice.{IsItemAt}
-use Rattle.std.specs.Borrow.{Bor}
-use Rattle.std.proofs.lemmas.Option.{slice_get_past, slice_get-get_or}
 use Rattle.mmsyntax.specs.Tables.{place_of}
 
 got_later : {B : Type 0} (b : B) (bs : List B) (o : Option ℕ)
@@ -33,8 +30,3 @@ module _ {A B : Type 0} where
   found_in_zip test (x ∷ xs) [] = sym (got_none [] (place_of test (x ∷ xs)) refl)
   found_in_zip test (x ∷ xs) (y ∷ ys) =
       found_at (test x) x y ys (find (λ p. test p.0) (zip xs ys)) (place_of test xs) (found_in_zip test xs ys)
-
--- what `get` lends
-pub got_lent : {A : Type 0} (xs : List A) (i : ℕ) (r : Option (Bor A)) → IsItemAt xs i r → option_map (λ x. x.now) r ≡ slice_get xs i
-got_lent xs i None h = sym (slice_get_past xs i h.3)
-got_lent xs i (Some x) h = sym (slice_get-get_or xs i x.now h.3.0 ∙ ap (λ y. Some y) (sym h.1))

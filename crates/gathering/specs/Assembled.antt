@@ -1,5 +1,5 @@
 -- Of the code's inside, apart from the rules: what is known of an assertion that is to be taken, and what is made of it.
-use Rattle.std.specs.Prelude.{◌≡◌, List, [], ◌∷◌, Option, Some, None, All, IsTrue, is_some, filter_map}
+use Rattle.std.specs.Prelude.{◌≡◌, List, [], ◌∷◌, Option, Some, None, IsTrue, is_some, filter_map}
 use Rattle.mmtext.specs.Words.{Word}
 use Rattle.taking.specs.declared.reason.Reason.{Reason}
 use Rattle.mmsyntax.specs.declared.statement.Kind.TheVariants.{Axiom, Theorem}
@@ -7,7 +7,7 @@ use Rattle.mmsyntax.specs.declared.statement.Assertion.{Assertion as Unit'}
 use Rattle.mmsyntax.specs.Tables.{Tables}
 use Rattle.source.specs.Scopes.{Assertion, Hypothesis, Pair}
 use Rattle.taking.specs.Names.{Map, label_in}
-use Rattle.taking.specs.Says.{each, premises, expression_in, pair_at, ascending, IsFloatTaken, SaysSame}
+use Rattle.taking.specs.Says.{each, premises, expression_in, pair_at, ascending, AreFloatsTaken, SaysSame}
 use Rattle.taking.specs.Reasons.{Choice, reason}
 use Rattle.taking.specs.Taken.{IsTaken}
 use Rattle.sites.specs.Actives.{Placed, float_at}
@@ -19,7 +19,7 @@ use Rattle.gathering.specs.declared.proving.Outcome.TheVariants as outcome
 -- all that it names has a place
 pub record HasAllPlaces (m : Map) (t : Tables) (x : Assertion) : Type 0 where
   pub label : IsTrue (is_some (label_in m x.label))
-  pub floats : All (IsFloatTaken m t) x.active
+  pub floats : AreFloatsTaken m t x
   pub hyps : IsTrue (is_some (each (expression_in m x.active) (premises x.active)))
   pub statement : IsTrue (is_some (expression_in m x.active x.statement))
 

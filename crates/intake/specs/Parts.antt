@@ -1,6 +1,5 @@
 -- Of the code's inside, apart from the rules: what is known of a source between the steps of the call.
-use Rattle.std.specs.Prelude.{◌≡◌, ◌≤◌, Bool, List, [], map, length, None, IsTrue}
-use Rattle.std.specs.List.{list_all}
+use Rattle.std.specs.Prelude.{◌≡◌, ◌≤◌, Bool, List, [], map, length, None}
 use Rattle.mmtext.specs.Words.{Word}
 use Rattle.mmsyntax.specs.declared.statement.Assertion.{Assertion as Unit'}
 use Rattle.mmsyntax.specs.Tables.{Contents}
@@ -9,11 +8,11 @@ use Rattle.taking.specs.declared.reason.Reason.{Reason}
 use Rattle.taking.specs.Names.{Naming, renamed}
 use Rattle.taking.specs.Reasons.{Choice}
 use Rattle.taking.specs.Taken.{AreTaken, told, chosen_of}
-use Rattle.choosing.specs.Choices.{IsChoice, labels_of, first_unknown, StandsBehind}
+use Rattle.choosing.specs.Choices.{IsChoice, AreThere, first_unknown, StandsBehind}
 use Rattle.choosing.specs.declared.wish.Wish.{Wish}
 use Rattle.naming.specs.declared.names.LibraryNames.{LibraryNames}
 use Rattle.naming.specs.Namings.{AreNamedWell}
-use Rattle.sites.specs.Sites.{Sited, AreSites}
+use Rattle.sites.specs.Sites.{Sited, AreTyped, AreSites}
 use Rattle.gathering.specs.declared.assembling.Gathered.{Gathered}
 use Rattle.gathering.specs.Placed.{map_of, tables_of}
 use Rattle.gathering.specs.Gatherings.{told_in}
@@ -34,7 +33,7 @@ pub record IsGathered (s : Scope) (w : Wish) (t : Sited) (names : LibraryNames) 
   pub is_choice : IsChoice s w choice
   pub known : first_unknown s w ≡ None
   pub in_order : StandsBehind s w → ⊥
-  pub there : IsTrue (list_all (is_in (labels_of s.assertions)) choice.chosen)
+  pub there : AreThere s choice.chosen
   pub sites : AreSites s (chosen_of choice s) t
   pub names_are : AreNamedWell s t.constants t.variables t.floats t.labels names
   pub taken : AreTaken (map_of t names) (tables_of t names) choice [] s.assertions g.assertions.items
@@ -57,5 +56,5 @@ pub record AreAsMany (t : Sited) (names : LibraryNames) : Type 0 where
   pub variables : length names.variables ≡ length t.variables
   pub floats : length names.floats ≡ length t.floats
   pub labels : length names.labels ≡ length t.labels
-  pub types : length t.types ≡ length t.floats
+  pub types : AreTyped t
   pub few : length t.floats ≤ 65535

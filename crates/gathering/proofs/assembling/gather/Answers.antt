@@ -1,7 +1,8 @@
 -- What is left to show of `gather`.
-use Rattle.std.proofs.Common.{rules, ◌≡◌, ◌∙◌, ◌<◌, ◌≤◌, ◌++◌, ℕ, List, length, take, true, false, get_or, Bor, refl, ap}
+use Rattle.std.proofs.Common.{rules, arith, inl, inr, ◌≡◌, ◌∙◌, ◌<◌, ◌≤◌, ◌++◌, ℕ, List, length, take, true, false, get_or, Bor, refl, ap}
 use Rattle.std.specs.Prelude.{Option, Some, IfSome, slice_get}
 use Rattle.std.specs.Option.{option_map}
+use Rattle.std.proofs.lemmas.Option.{slice_get_cases}
 use Rattle.mmtext.specs.Words.{Word}
 use Rattle.source.specs.Scopes.{Assertion}
 use Rattle.taking.specs.Reasons.{Choice, AreFlags}
@@ -10,7 +11,7 @@ use Rattle.gathering.specs.Gatherings.{told_in}
 use Rattle.gathering.specs.Outcomes.{HasStepsFor}
 use Rattle.gathering.specs.Placed.{map_of, tables_of}
 use Rattle.gathering.proofs.Forms.{if_there}
-use Rattle.gathering.proofs.Placing.{all_placed, all_known, flag_at, assertion_at, is_so}
+use Rattle.gathering.proofs.Placing.{all_placed, all_known, flag_at, is_so}
 use Rattle.gathering.proofs.Going.{taken_more, taken_passed, told_more, told_passed, taken_all}
 use Rattle.gathering.proofs.assembling.gather.Goals as goal
 use Rattle.gathering.proofs.assembling.gather.Goals.{then-chosen-place+in_ok-one+in_ok-put, else-chosen-place}
@@ -40,7 +41,8 @@ loop-place-preserved g c =
     let fs = c.args.chosen.now in
     let k = c.loop-place.place in
     let within : k < length xs = search rules in
-    let there = assertion_at xs k within in
+    let there : (x : Assertion) × (slice_get xs k ≡ Some x) =
+    elim (slice_get_cases xs k).1 [ | inl y ↦ (y.0, y.2) | inr past ↦ absurd (omega arith) ] in
     let x = there.0 in
     let before = c.loop-place.gathered in
     elim c.if-chosen-place.branch [

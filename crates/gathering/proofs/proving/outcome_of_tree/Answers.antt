@@ -2,7 +2,8 @@
 use Rattle.std.proofs.Common.{rules, ◌∙◌, refl, sym}
 use Rattle.std.specs.Prelude.{slice_get, Some, None}
 use Rattle.taking.specs.Walks.{IsListing}
-use Rattle.gathering.proofs.Forms.{if_there, nodes_are_labelled}
+use Rattle.prooftrees.proofs.Trees.{nodes_are_labelled}
+use Rattle.gathering.proofs.Forms.{if_there}
 use Rattle.gathering.proofs.LeftOut.{flag_is}
 use Rattle.gathering.proofs.Reasons.{few_at, reason_of_long, reason_in_front, reason_of_citing, listed_steps, unlisted}
 use Rattle.gathering.proofs.proving.outcome_of_tree.Goals as goal
