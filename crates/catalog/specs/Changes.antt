@@ -8,8 +8,7 @@ use Rattle.mmsyntax.specs.Tables.{Tables}
 use Rattle.mmframes.specs.Frames.{frame}
 use Rattle.library.specs.declared.library.Ranked.{Ranked}
 use Rattle.library.specs.Library.{label_of}
-use Rattle.derivation.specs.Laws.{replacing, step_relabelled}
-use Rattle.library.specs.Edits.{with_proof}
+use Rattle.library.specs.Edits.{with_proof, recited}
 use Rattle.catalog.specs.declared.notes.Note.{Note}
 use Rattle.catalog.specs.Entries.{Entries, StandsIn}
 use Rattle.catalog.specs.Places.{Places, place_in, StandsSomewhere}
@@ -21,8 +20,8 @@ abbrev pub with_label : List ℕ → Ranked → Ranked
 with_label w e = record e { assertion = record e.assertion { label = w } }
 
 -- an assertion with a label replaced in its proof
-abbrev pub citing : List ℕ → List ℕ → Ranked → Ranked
-citing old new e = with_proof (map (step_relabelled (replacing old new)) e.assertion.proof) e
+abbrev pub citing : (old new : List ℕ) → Ranked → Ranked
+citing old new e = with_proof (recited old new e.assertion.proof) e
 
 -- the assertion at a place changed, if there is one
 abbrev pub changed_at : ℕ → (Ranked → Ranked) → Entries → Entries

@@ -1,17 +1,11 @@
--- Of the code's inside, apart from the rules: the order of listed lines, and how often each assertion is cited, counted by places.
+-- Of the code's inside, apart from the rules: how often each assertion is cited, counted by places.
 use Rattle.std.specs.Prelude.{◌≡◌, ◌<◌, ◌+◌, ℕ, Bool, true, false, cond, List, length, slice_index}
 use Rattle.std.specs.List.{list_any}
-use Rattle.std.specs.declared.cmp.Ordering.{Ordering}
 use Rattle.mmsyntax.specs.declared.statement.Step.{Step}
-use Rattle.library.specs.declared.command.Line.{Line}
 use Rattle.library.specs.declared.library.Ranked.{Ranked}
-use Rattle.library.specs.Library.{label_of, by_rank_then_label}
+use Rattle.library.specs.Library.{label_of}
 use Rattle.library.specs.Edits.{is_citation, citers}
 use Rattle.catalog.specs.Entries.{Entries, living, StandsIn}
-
--- the order of lines: by rank, then by the label
-abbrev pub line_cmp : Line → Line → Ordering
-line_cmp a b = by_rank_then_label (λ l. l.rank) (λ l. l.label) a b
 
 -- whether some step cites the label
 abbrev pub some_cites : List Step → List ℕ → Bool

@@ -5,10 +5,10 @@ ghost use Rattle.mmsyntax.specs.declared.statement.Step.{Step};
 ghost use Rattle.mmsyntax.specs.ProofWords.{seen_step};
 ghost use Rattle.library.specs.declared.library.Ranked.{Ranked};
 ghost use Rattle.library.specs.Library.{label_of, in_export_order};
-ghost use Rattle.library.specs.Edits.{line};
+ghost use Rattle.library.specs.Edits.{line, line_cmp};
 ghost use Rattle.catalog.specs.Entries.{living, StandsIn};
 ghost use Rattle.catalog.specs.Places.{IsIndex};
-ghost use Rattle.catalog.specs.Listing.{line_cmp, AreNoted, AreCounted};
+ghost use Rattle.catalog.specs.Listing.{AreNoted, AreCounted};
 
 use crate::places::{Places, find_label};
 use library::{Line, Ranked};

@@ -15,3 +15,7 @@ pub record Accepts (bytes : List ℕ) : Type 0 where
   pub database : Contents
   pub spells : Spells bytes database
   pub checks : AllCheck database
+
+-- so is the text of a library
+abbrev pub IsAccepted : Listed → Type 0
+IsAccepted library = Accepts (exported_text library)

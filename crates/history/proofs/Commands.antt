@@ -14,14 +14,14 @@ use Rattle.library.specs.declared.reason.Reason.TheVariants as reason
 use Rattle.library.specs.Library.{Setting, label_of}
 use Rattle.library.specs.Edits.{Edited, Tests, tested, of_found, where_so, has, found, changed, without}
 use Rattle.library.specs.Edits.{is_axiom, bad_rank, bad_label, label_taken, label_clashes, clashes, cites_unknown, is_of_unknown, added, rename, add_tests}
-use Rattle.library.specs.Edits.{unknown_label, is_alike, are_alike, is_not_below, replace_tests, rename_tests}
+use Rattle.library.specs.Edits.{unknown_label, is_alike, are_alike, is_not_below, proof_tests, label_tests, replace_tests, rename_tests}
 use Rattle.library.proofs.Clashing.{without-absent}
 use Rattle.librarylaws.proofs.Editing.{where_none}
 use Rattle.library.proofs.Places.{find_nowhere, is_labelled-own}
 use Rattle.catalog.specs.Entries.{Entries, living, StandsIn}
 use Rattle.catalog.specs.Places.{Places, IsIndex, FoundAt}
 use Rattle.catalog.specs.Changes.{IsAlone, with_label, citing, changed_all}
-use Rattle.history.specs.Refusals.{first_reason, proof_tests, label_tests}
+use Rattle.history.specs.Refusals.{first_reason}
 use Rattle.catalog.proofs.Living.{found-at, stands-has, some-known}
 use Rattle.catalog.proofs.Changing.{living-changed, living-removed, living-pushed, set-last}
 use Rattle.catalog.proofs.Indexes.{stands-alone}

@@ -4,13 +4,13 @@ use Rattle.mmsyntax.specs.Tables.{Contents}
 use Rattle.library.specs.declared.library.Ranked.{Ranked}
 use Rattle.library.specs.declared.command.Command.{Command}
 use Rattle.library.specs.declared.command.Reply.{Reply}
-use Rattle.library.specs.Library.{Setting, setting_over, Listed, opening, ShowsInOrder}
+use Rattle.library.specs.Library.{Setting, setting_over, Listed, opening}
 use Rattle.library.specs.Transactions.{apply}
 use Rattle.history.specs.declared.editor.OpenError.{OpenError}
 use Rattle.history.specs.declared.editor.OpenError.TheVariants as opening_error
 use Rattle.history.specs.declared.replaying.ReplayError.{ReplayError}
 use Rattle.history.specs.declared.replaying.ReplayError.TheVariants.{Differs, TooMany, NoMemory}
-use Rattle.library.specs.Histories.{Entry, done_entry, after, after_all, IsLegal}
+use Rattle.library.specs.Histories.{Entry, done_entry, after, IsLegal, IsAfterHistory}
 
 -- the first entry whose replies aren't the editor's: those before it are legal, and its transaction is refused, or has other replies
 pub record IsFirstDiffering (s : Setting) (lib0 : List Ranked) (h : List Entry) (n : ℕ) : Type 0 where
@@ -29,10 +29,7 @@ unopened opening_error.NoMemory = NoMemory
 
 -- a history that is legal from the opening of the database, with the library after it in export order; or the first entry that differs
 abbrev pub Replays : Contents → ℕ → List Entry → Result Listed ReplayError → Type 0
-Replays db slots h (Ok library) = (length db.assertions ≤ slots)
-    × IsLegal (setting_over db slots) (opening db) h
-    × (library.setting ≡ setting_over db slots)
-    × ShowsInOrder (after_all (setting_over db slots) (opening db) h) library.entries
+Replays db slots h (Ok library) = (length db.assertions ≤ slots) × IsAfterHistory (setting_over db slots) (opening db) h library
 Replays db slots h (Err (Differs n)) = IsFirstDiffering (setting_over db slots) (opening db) h n
 Replays db slots h (Err TooMany) = slots < length db.assertions
 Replays db slots h (Err NoMemory) = Unit {0}

@@ -263,20 +263,20 @@ module _ (t : Tables) (final : Progress) (ends : final.place ≡ at_entry 0) whe
         (moved (place rs (in_shown a.number b.number (unit_start t))) b.leads.0 b.rest b.leads.1 b.leads.2) in
         record {
           reply = Shown b.number (record { rank = a.number; assertion = c.assertion });
-          words = codes "shown" ∷ a.token.text ∷ b.token.text ∷ spelling c.statement;
+          words = codes "shown" ∷ a.token.text ∷ b.token.text ∷ spelling c.said.0;
           rest = c.rest;
           parts =
               ap (λ w. w ∷ words_of ts) e
               ∙ ap (λ ws. codes "shown" ∷ ws)
               (ap words_of a.whole
-              ∙ ap (λ ws. a.token.text ∷ ws) (ap words_of b.whole ∙ ap (λ ws. b.token.text ∷ ws) c.parts));
+              ∙ ap (λ ws. a.token.text ∷ ws) (ap words_of b.whole ∙ ap (λ ws. b.token.text ∷ ws) c.said.2));
           spells = (
             a.token.text,
             b.token.text,
-            c.statement,
+            c.said.0,
             number_rank a.token.text a.number a.is,
             number_count b.token.text b.number b.is,
-            c.declares,
+            c.said.1,
             refl,
           );
           walks = c.walks;

@@ -51,28 +51,24 @@ told_space bytes ws h = record {
 
 -- ---- the words of bytes are the same at each place
 
--- a printable byte before words: it begins the first, or is one by itself
-before_words : ℕ → Bool → List Word → List Word
-before_words b true ws = (b ∷ []) ∷ ws
-before_words b false [] = (b ∷ []) ∷ []
-before_words b false (w ∷ ws) = (b ∷ w) ∷ ws
-
-with_byte_words : (p b : ℕ) (ends : Bool) (ts : List Token) → words_of (with_byte p b ends ts) ≡ before_words b ends (words_of ts)
-unfolding before_words
-with_byte_words p b true ts = refl
-with_byte_words p b false [] = refl
-with_byte_words p b false (t ∷ ts) = refl
+-- the words behind one byte more are the same where those behind it are
+with_byte_words : (p q b : ℕ) (ends : Bool) (ts us : List Token) → words_of ts ≡ words_of us
+    → words_of (with_byte p b ends ts) ≡ words_of (with_byte q b ends us)
+with_byte_words p q b true ts us same = ap (λ ws. (b ∷ []) ∷ ws) same
+with_byte_words p q b false [] [] same = refl
+with_byte_words p q b false [] (u ∷ us) same = cc
+with_byte_words p q b false (t ∷ ts) [] same = cc
+with_byte_words p q b false (t ∷ ts) (u ∷ us) same = cc
 
 white_words : (p b : ℕ) (bs : List ℕ) → is_white b ≡ true → words_of (tokens_from p (b ∷ bs)) ≡ words_of (tokens_from (suc p) bs)
 white_words p b bs white = ap words_of (white_first p b bs white)
 
 printable_words : (p b : ℕ) (bs : List ℕ) → is_white b ≡ false
-    → words_of (tokens_from p (b ∷ bs)) ≡ before_words b (ends_token bs) (words_of (tokens_from (suc p) bs))
+    → words_of (tokens_from p (b ∷ bs)) ≡ words_of (with_byte p b (ends_token bs) (tokens_from (suc p) bs))
 unfolding tokens_from
 printable_words p b bs printable =
     let more = tokens_from (suc p) bs in
     ap words_of (cond-false (is_white b) more (with_byte p b (ends_token bs) more) printable)
-    ∙ with_byte_words p b (ends_token bs) more
 
 -- the same byte before the same words, where a word ends or where none does
 same_byte : (p q b : ℕ) (bs cs : List ℕ) → (is_white b ≡ false → ends_token bs ≡ ends_token cs)
@@ -82,8 +78,8 @@ same_byte p q b bs cs ends same = elim (cases_Bool (is_white b)) [
   | inl y ↦ white_words p b bs y ∙ same ∙ sym (white_words q b cs y)
   | inr n ↦
       printable_words p b bs n
-      ∙ ap (λ e. before_words b e (words_of (tokens_from (suc p) bs))) (ends n)
-      ∙ ap (before_words b (ends_token cs)) same
+      ∙ ap (λ e. words_of (with_byte p b e (tokens_from (suc p) bs))) (ends n)
+      ∙ with_byte_words p q b (ends_token cs) (tokens_from (suc p) bs) (tokens_from (suc q) cs) same
       ∙ sym (printable_words q b cs n)
 ]
 

@@ -214,5 +214,5 @@ history_language t = record {
 }
 
 -- the fault of a history
-abbrev pub FaultyHistory : Tables → List ℕ → TextFault → Type 0
+abbrev pub FaultyHistory : (prelude : Tables) (text : List ℕ) (fault : TextFault) → Type 0
 FaultyHistory t bytes f = Faulty (history_language t) bytes f

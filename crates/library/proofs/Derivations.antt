@@ -42,7 +42,7 @@ checks_within lib lib' p a within h theorem =
 -- ---- steps
 
 -- a step names a $f of the prelude, a hypothesis, or a label with a frame
-abbrev pub NamesOne : Citable → Tables → Assertion → Step → Type 0
+abbrev pub NamesOne : (lib : Citable) (p : Tables) (a : Assertion) → Step → Type 0
 NamesOne lib p a (Float i) = i < length p.floats
 NamesOne lib p a (Hyp k) = k < length a.hyps
 NamesOne lib p a (Cite label) = (f : Frame) × (lib label ≡ Some f)

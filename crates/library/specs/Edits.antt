@@ -6,6 +6,7 @@ use mathlib.Core.Bool.{not}
 use Rattle.std.specs.List.{list_any, list_all}
 use Rattle.std.specs.Cmp.Lexicographic.{pointwise}
 use Rattle.std.specs.Str.{bytes_eq}
+use Rattle.std.specs.declared.cmp.Ordering.{Ordering}
 use Rattle.mmsyntax.specs.declared.statement.Assertion.{Assertion}
 use Rattle.mmsyntax.specs.declared.statement.Frame.{Frame}
 use Rattle.mmsyntax.specs.declared.statement.Kind.{Kind}
@@ -28,7 +29,7 @@ use Rattle.library.specs.declared.command.Reply.{Reply}
 use Rattle.library.specs.declared.command.Reply.TheVariants.{Done, Shown, Listed}
 use Rattle.library.specs.declared.reason.Reason.{Reason}
 use Rattle.library.specs.declared.reason.Reason.TheVariants as reason
-use Rattle.library.specs.Library.{Setting, label_of, citable, in_export_order}
+use Rattle.library.specs.Library.{Setting, label_of, citable, by_rank_then_label, in_export_order}
 
 -- ---- labels in a library
 
@@ -193,27 +194,27 @@ proof_fails s lib rank a = fault_of (outcome (citable s lib rank) s.prelude a)
 
 -- ---- the tests of each command, in order
 
-abbrev pub add_tests : Setting → List Ranked → ℕ → Assertion → Tests
+-- of the proof of a theorem of a rank
+abbrev pub proof_tests : (s : Setting) (lib : List Ranked) (rank : ℕ) (theorem : Assertion) → Tests
+proof_tests s lib rank a = cites_unknown lib a.proof ∷ cited_not_lower lib rank a.proof ∷ proof_fails s lib rank a ∷ []
+
+-- of a label that an assertion is to have in the place of its own, with which it may clash
+abbrev pub label_tests : Setting → List Ranked → List ℕ → List ℕ → Tests
+label_tests s lib own label = bad_label s label ∷ label_taken lib label ∷ label_clashes (without own lib) label ∷ []
+
+abbrev pub add_tests : (s : Setting) (lib : List Ranked) (rank : ℕ) (new : Assertion) → Tests
 add_tests s lib rank a =
     bad_rank rank
     ∷ bad_label s a.label
     ∷ label_taken lib a.label
     ∷ label_clashes lib a.label
     ∷ where_so (is_axiom a.kind) reason.AxiomNotAllowed
-    ∷ cites_unknown lib a.proof
-    ∷ cited_not_lower lib rank a.proof
-    ∷ proof_fails s lib rank a
-    ∷ where_so (nat_le s.slots (length lib)) reason.LibraryFull
-    ∷ []
+    ∷ proof_tests s lib rank a ++ where_so (nat_le s.slots (length lib)) reason.LibraryFull ∷ []
 
 -- of the assertion that is found
 abbrev pub reprove_tests : Setting → List Ranked → List Step → Ranked → Tests
 reprove_tests s lib steps e =
-    where_so (is_axiom e.assertion.kind) reason.NotATheorem
-    ∷ cites_unknown lib steps
-    ∷ cited_not_lower lib e.rank steps
-    ∷ proof_fails s lib e.rank (with_proof steps e).assertion
-    ∷ []
+    where_so (is_axiom e.assertion.kind) reason.NotATheorem ∷ proof_tests s lib e.rank (with_proof steps e).assertion
 
 -- of the assertion that is found: in its proof the one label is to become the other
 abbrev pub replace_tests : Setting → List Ranked → List ℕ → List ℕ → Ranked → Tests
@@ -225,10 +226,8 @@ replace_tests s lib old new e =
     ∷ cited_not_lower lib e.rank (Cite new ∷ [])
     ∷ []
 
--- the label that is replaced may clash with the new one
 abbrev pub rename_tests : Setting → List Ranked → List ℕ → List ℕ → Tests
-rename_tests s lib old new =
-    unknown_label lib old ∷ bad_label s new ∷ label_taken lib new ∷ label_clashes (without old lib) new ∷ []
+rename_tests s lib old new = unknown_label lib old ∷ label_tests s lib old new
 
 -- of the assertion that is found
 abbrev pub move_tests : List Ranked → ℕ → Ranked → Tests
@@ -263,6 +262,10 @@ shown lib e = record { library = lib; reply = Shown (citers lib (label_of e)) e 
 -- what is listed of an assertion
 abbrev pub line : List Ranked → Ranked → Line
 line lib e = record { rank = e.rank; label = label_of e; kind = e.assertion.kind; citers = citers lib (label_of e) }
+
+-- the order of lines: by rank, then by the label
+abbrev pub line_cmp : Line → Line → Ordering
+line_cmp a b = by_rank_then_label (λ l. l.rank) (λ l. l.label) a b
 
 -- all assertions in export order
 abbrev pub listed : List Ranked → Edited

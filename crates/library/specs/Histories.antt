@@ -4,7 +4,7 @@ use Rattle.library.specs.declared.library.Ranked.{Ranked}
 use Rattle.library.specs.declared.command.Command.{Command}
 use Rattle.library.specs.declared.command.Reply.{Reply}
 use Rattle.mmsyntax.specs.Tables.{Tables}
-use Rattle.library.specs.Library.{Setting}
+use Rattle.library.specs.Library.{Setting, Listed, ShowsInOrder}
 use Rattle.library.specs.Fitting.{CommandFits}
 use Rattle.library.specs.Transactions.{apply, HasReplies, library_of}
 use Rattle.library.specs.declared.history.Entry.{Entry as CodeEntry}
@@ -60,6 +60,12 @@ abbrev pub IsLegal : Setting → List Ranked → List Entry → Type 0
 IsLegal s lib0 h =
     (i : ℕ) (cs : List Command) (replies : List Reply) → slice_get h i ≡ Some (done_entry cs replies)
     → HasReplies s (after s lib0 h i) cs replies
+
+-- the library, in export order, after all of a history that is legal from an opening library
+pub record IsAfterHistory (s : Setting) (lib0 : List Ranked) (h : List Entry) (library : Listed) : Type 0 where
+  pub setting : library.setting ≡ s
+  pub legal : IsLegal s lib0 h
+  pub shows : ShowsInOrder (after_all s lib0 h) library.entries
 
 -- ---- the entries that the program keeps, none of which is open
 

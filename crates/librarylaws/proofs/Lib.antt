@@ -6,6 +6,7 @@ pub mod Replacing
 pub mod Deleting
 pub mod Editing
 pub mod Listing
+pub mod Lines
 pub mod Fronts
 pub mod Legal
 pub mod Leaving

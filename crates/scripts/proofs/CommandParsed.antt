@@ -246,10 +246,10 @@ module _ {P A : Type 0} (l : Language P A) (t : Tables) (places : Asking P) (ask
       (moved (places.inner cs (in_unit a.rank (unit_start t))) a.leads.0 a.rest a.leads.1 a.leads.2) in
       record {
         command = command.Add a.rank b.assertion;
-        words = codes "add" ∷ a.token.text ∷ spelling b.statement;
+        words = codes "add" ∷ a.token.text ∷ spelling b.said.0;
         rest = b.rest;
-        parts = first_word u ts (codes "add") _ e (a.parts ∙ ap (λ ws. a.token.text ∷ ws) b.parts);
-        spells = (a.token.text, b.statement, a.is_rank, b.declares, refl);
+        parts = first_word u ts (codes "add") _ e (a.parts ∙ ap (λ ws. a.token.text ∷ ws) b.said.2);
+        spells = (a.token.text, b.said.0, a.is_rank, b.said.1, refl);
         walks = b.walks;
         shorter =
             let x : length a.rest < length ts = a.shorter in let y : length b.rest < length a.rest = b.shorter in omega arith;

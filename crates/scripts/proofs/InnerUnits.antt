@@ -71,13 +71,11 @@ record ReadsRest {P A : Type 0} (l : Language P A) (t : Tables) (behind : Assert
   walks : walk l (behind assertion) rest ≡ Ok final
   shorter : length rest < length ts
 
--- an assertion, its words, and a walk on from behind it
+-- an assertion, the statement that declares it, with its words at the front, and a walk on from behind it
 pub record ReadsUnit {P A : Type 0} (l : Language P A) (t : Tables) (behind : Assertion → P) (ts : List Token) (final : P) : Type 0 where
   pub assertion : Assertion
-  pub statement : Statement
-  pub declares : DeclaresAlone t statement assertion
   pub rest : List Token
-  pub parts : words_of ts ≡ spelling statement ++ words_of rest
+  pub said : (statement : Statement) × DeclaresAlone t statement assertion × (words_of ts ≡ spelling statement ++ words_of rest)
   pub walks : walk l (behind assertion) rest ≡ Ok final
   pub shorter : length rest < length ts
 
@@ -177,10 +175,12 @@ module _ {P A : Type 0} (l : Language P A) (t : Tables) (inner : Position → P)
         let unit = unit_parsed t b.assertion b.kept b.last b.said b.leads in
         record {
           assertion = b.assertion;
-          statement = unit.statement;
-          declares = (unit.known, unit.declared, unit.single);
           rest = b.rest;
-          parts = ap words_of b.whole ∙ map-append (λ (v : Token). v.text) b.kept b.rest ∙ ap (λ ws. ws ++ words_of b.rest) unit.parts;
+          said = (
+            unit.statement,
+            (unit.known, unit.declared, unit.single),
+            ap words_of b.whole ∙ map-append (λ (v : Token). v.text) b.kept b.rest ∙ ap (λ ws. ws ++ words_of b.rest) unit.parts,
+          );
           walks = b.walks;
           shorter = b.shorter;
         }

@@ -4,7 +4,7 @@ ghost use Rattle.std.specs.Prelude.{◌≡◌, ℕ, All, Contains, None, Some, E
 ghost use Rattle.std.specs.List.Sorted.{IsStrictlyIncreasing};
 ghost use Rattle.mmsyntax.specs.declared.statement.Kind.TheVariants.{Theorem};
 ghost use Rattle.library.specs.declared.command.Command.TheVariants as command;
-ghost use Rattle.library.specs.Edits.{add_tests, replace_tests, citers, with_proof, with_rank};
+ghost use Rattle.library.specs.Edits.{proof_tests, label_tests, add_tests, replace_tests, citers, with_proof, with_rank};
 ghost use Rattle.library.specs.Fitting.{CommandFits};
 ghost use Rattle.library.specs.Library.{Verifies, label_of};
 ghost use Rattle.library.specs.declared.library.Ranked.{Ranked};
@@ -13,7 +13,7 @@ ghost use Rattle.catalog.specs.Citers.{Covers, HasAllCiters, IsCiter};
 ghost use Rattle.catalog.specs.Places.{StandsAt};
 ghost use Rattle.catalog.specs.Changes.{citing, changed_at, changed_all};
 ghost use Rattle.history.specs.Drafts.{now_in, KeepsStart, Takes, TakesAll};
-ghost use Rattle.history.specs.Refusals.{first_reason, proof_tests, label_tests};
+ghost use Rattle.history.specs.Refusals.{first_reason};
 ghost use Rattle.history.specs.OneChanged.{ChangesOne};
 ghost use Rattle.history.specs.declared.editor.ApplyError.TheVariants as error;
 

@@ -53,8 +53,10 @@ returns c =
     let lib = opening c.args.db.now in
     let all : take c.loop-i.i h ≡ h = take_all c.loop-i.i h (rw length-map c.loop-i-test.false) in (
       c.loop-i.invariant.0,
-      subst (λ g. IsLegal s lib g) all c.loop-i.invariant.3,
-      c.into_library.ensures.setting ∙ c.loop-i.invariant.1,
-      subst (λ l. ShowsInOrder l c.into_library.result.entries) (c.loop-i.invariant.2 ∙ ap (after_all s lib) all)
-          c.into_library.ensures.shown,
+      record {
+        setting = c.into_library.ensures.setting ∙ c.loop-i.invariant.1;
+        legal = subst (λ g. IsLegal s lib g) all c.loop-i.invariant.3;
+        shows = subst (λ l. ShowsInOrder l c.into_library.result.entries) (c.loop-i.invariant.2 ∙ ap (after_all s lib) all)
+            c.into_library.ensures.shown;
+      },
     )

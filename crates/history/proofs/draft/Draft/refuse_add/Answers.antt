@@ -6,9 +6,9 @@ use Rattle.mmsyntax.specs.declared.statement.Kind.TheVariants.{Axiom, Theorem}
 use Rattle.library.specs.declared.library.Ranked.{Ranked}
 use Rattle.library.specs.declared.reason.Reason.TheVariants as reason
 use Rattle.library.specs.Library.{Setting}
-use Rattle.library.specs.Edits.{is_axiom, where_so}
+use Rattle.library.specs.Edits.{is_axiom, where_so, label_tests, proof_tests}
 use Rattle.history.specs.Drafts.{now_in}
-use Rattle.history.specs.Refusals.{first_reason, label_tests, proof_tests}
+use Rattle.history.specs.Refusals.{first_reason}
 use Rattle.history.proofs.Commands.{so, not_so, first-some, first-none, first-some_more, first-none_more, add_labelled, add_front}
 use Rattle.history.proofs.draft.Draft.refuse_add.Goals as goal
 

@@ -6,10 +6,10 @@ use Rattle.derivation.specs.declared.fault.ProofFault.{ProofFault}
 use Rattle.library.specs.declared.reason.Reason.{Reason}
 use Rattle.library.specs.declared.reason.Reason.TheVariants as reason
 use Rattle.library.specs.Library.{Setting}
-use Rattle.library.specs.Edits.{is_of_unknown, cites_not_below, proof_fails, cites_unknown, cited_not_lower}
+use Rattle.library.specs.Edits.{is_of_unknown, cites_not_below, proof_fails, cites_unknown, cited_not_lower, proof_tests}
 use Rattle.catalog.specs.Entries.{Entries, living}
 use Rattle.history.specs.Drafts.{Drafted}
-use Rattle.history.specs.Refusals.{first_reason, proof_tests}
+use Rattle.history.specs.Refusals.{first_reason}
 use Rattle.history.proofs.Commands.{not_so, first-none}
 use Rattle.history.proofs.draft.Draft.refuse_proof.Goals as goal
 

@@ -3,11 +3,11 @@ use Rattle.std.specs.List.{slice_get, Contains}
 use Rattle.std.proofs.lemmas.Option.{slice_get_within}
 use Rattle.mmframes.specs.Frames.{frame}
 use Rattle.library.specs.declared.library.Ranked.{Ranked}
-use Rattle.library.specs.Edits.{has, done, rename_tests}
+use Rattle.library.specs.Edits.{has, done, label_tests, rename_tests}
 use Rattle.catalog.specs.Entries.{living, StandsIn}
 use Rattle.catalog.specs.Citers.{Covers, HasAllCiters, IsCiter}
 use Rattle.library.specs.Library.{Setting}
-use Rattle.history.specs.Refusals.{first_reason, label_tests}
+use Rattle.history.specs.Refusals.{first_reason}
 use Rattle.catalog.specs.Changes.{with_label, citing, changed_all}
 use Rattle.history.specs.Drafts.{Drafted, now_in}
 use Rattle.catalog.proofs.Covering.{covers-fresh, all-relabelled}

@@ -1,10 +1,10 @@
 use Rattle.std.proofs.Common.{◌≡◌, Some, Ok, set, refl, sym, ap, ◌∙◌}
 use Rattle.library.specs.declared.library.Ranked.{Ranked}
 use Rattle.library.specs.declared.reason.Reason.TheVariants as reason
-use Rattle.library.specs.Edits.{is_axiom, where_so, done, with_proof, reprove_tests}
+use Rattle.library.specs.Edits.{is_axiom, where_so, done, with_proof, proof_tests, reprove_tests}
 use Rattle.catalog.specs.Entries.{living}
 use Rattle.history.specs.Drafts.{Drafted, now_in}
-use Rattle.history.specs.Refusals.{first_reason, proof_tests}
+use Rattle.history.specs.Refusals.{first_reason}
 use Rattle.history.proofs.Commands.{tested_some, tested_none, so, not_so, first-some, first-none, found_nowhere, known_label, HasLabel}
 use Rattle.history.proofs.Commands.{has_label, free_in}
 use Rattle.history.proofs.Commands.{library-changed}
