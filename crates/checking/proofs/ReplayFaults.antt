@@ -77,12 +77,14 @@ replay_refused_by_database db text answer (Proof label g) database only h = data
 replay_refused_by_database db text answer (Differs n) database only h = inr (only h.0 h.2)
 replay_refused_by_database db text answer _ database only h = absurd h
 
+-- the one prelude over which scripts and histories stand, where the text has one content
+pub same_prelude : (text : Bytes) (db : Contents) (p : Tables) → p ≡ db.prelude
+    → ((contents : Contents) → IsChecked text contents → db ≡ contents)
+    → (contents : Contents) → IsChecked text contents → p ≡ contents.prelude
+same_prelude text db p over same contents checked = over ∙ ap (λ (c : Contents). c.prelude) (same contents checked)
+
 module _ (text : Bytes) (bytes : Bytes) (db : Contents) (p : Tables) (over : p ≡ db.prelude)
     (none : (g : Fault) → IsDatabaseFault text g → ⊥) (same : (contents : Contents) → IsChecked text contents → db ≡ contents) where
-  -- the one prelude over which the history stands
-  same_prelude : (contents : Contents) → IsChecked text contents → p ≡ contents.prelude
-  same_prelude contents checked = over ∙ ap (λ (c : Contents). c.prelude) (same contents checked)
-
   refused_by_text : (g : TextFault) (answer : Fault) → IsRefusedBy 1 g answer → IsOrLacksMemory (Text 1 g) answer
   refused_by_text g NoMemory h = inr refl
   refused_by_text g (Text n q) h = inl (ap (λ (m : ℕ). Text m q) h.0 ∙ ap (λ (x : TextFault). Text 1 x) h.1)
@@ -94,10 +96,10 @@ module _ (text : Bytes) (bytes : Bytes) (db : Contents) (p : Tables) (over : p �
   replay_refused_by_text answer (Text zero g) refuses only h = absurd (none (Text zero g) h)
   replay_refused_by_text answer (Text (suc zero) g) refuses only h =
       refused_by_text g answer
-      (refuses g (subst (λ t. FaultyHistory t bytes g) (sym (same_prelude h.0.0 h.0.1)) h.0.2))
+      (refuses g (subst (λ t. FaultyHistory t bytes g) (sym (same_prelude text db p over same h.0.0 h.0.1)) h.0.2))
   replay_refused_by_text answer (Proof label g) refuses only h = absurd (none (Proof label g) h)
   replay_refused_by_text answer (Differs n) refuses only h =
-      inr (only h.1 (subst (λ t. IsHistory t bytes h.1) (sym (same_prelude h.0 h.2)) h.3))
+      inr (only h.1 (subst (λ t. IsHistory t bytes h.1) (sym (same_prelude text db p over same h.0 h.2)) h.3))
   replay_refused_by_text answer _ refuses only h = absurd h
 
   -- ---- a history that is read
@@ -107,7 +109,7 @@ module _ (text : Bytes) (bytes : Bytes) (db : Contents) (p : Tables) (over : p �
     -- the first entry that differs, of the one history over the one database
     difference_of : (n : ℕ) (h : IsReplayFault text bytes (Differs n)) → IsDifference db entries (Differs n)
     difference_of n h =
-        let history = one h.1 (subst (λ t. IsHistory t bytes h.1) (sym (same_prelude h.0 h.2)) h.3) in
+        let history = one h.1 (subst (λ t. IsHistory t bytes h.1) (sym (same_prelude text db p over same h.0 h.2)) h.3) in
         subst (λ es. IsDifference db es (Differs n)) (sym history)
         (subst (λ c. IsDifference c h.1 (Differs n)) (sym (same h.0 h.2)) h.4)
 
@@ -116,7 +118,7 @@ module _ (text : Bytes) (bytes : Bytes) (db : Contents) (p : Tables) (over : p �
         → IsReplayFault text bytes f → Answers f
     replay_refused_by_entry Answers (Text zero g) differs h = absurd (none (Text zero g) h)
     replay_refused_by_entry Answers (Text (suc zero) g) differs h =
-        absurd (faultless g (subst (λ t. FaultyHistory t bytes g) (sym (same_prelude h.0.0 h.0.1)) h.0.2))
+        absurd (faultless g (subst (λ t. FaultyHistory t bytes g) (sym (same_prelude text db p over same h.0.0 h.0.1)) h.0.2))
     replay_refused_by_entry Answers (Proof label g) differs h = absurd (none (Proof label g) h)
     replay_refused_by_entry Answers (Differs n) differs h = differs (Differs n) (difference_of n h)
     replay_refused_by_entry Answers _ differs h = absurd h

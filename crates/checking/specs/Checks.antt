@@ -11,15 +11,15 @@ use Rattle.mmsyntax.specs.Faults.{FaultyDatabase}
 use Rattle.derivation.specs.declared.fault.ProofFaultKind.TheVariants.{NoMemory as NoMemoryOfProof}
 use Rattle.derivation.specs.Databases.{AllCheck, IsFirstFault as IsFirstFaultOfProofs}
 use Rattle.library.specs.declared.command.Command.{Command}
-use Rattle.library.specs.Library.{Listed, ShowsInOrder, opening}
+use Rattle.library.specs.Library.{Listed, opening}
 use Rattle.scripts.specs.Scripts.{SpellsScript}
 use Rattle.scripts.specs.ScriptFaults.{FaultyScript}
 use Rattle.library.specs.declared.history.Entry.{Entry}
-use Rattle.library.specs.Histories.{told, after_all, IsLegal}
+use Rattle.library.specs.Histories.{told, IsAfterHistory}
 use Rattle.history.specs.Replays.{IsFirstDiffering}
 use Rattle.historytext.specs.Grammar.{SpellsHistory}
 use Rattle.historytext.specs.Places.{FaultyHistory}
-use Rattle.export.specs.Exported.{Accepts, exported_text}
+use Rattle.export.specs.Exported.{IsAccepted, exported_text}
 use Rattle.checking.specs.declared.fault.Fault.{Fault}
 use Rattle.checking.specs.declared.fault.Fault.TheVariants.{Text, Proof, Differs, NoMemory}
 use Rattle.checking.specs.Outcomes.{setting_of}
@@ -39,20 +39,16 @@ library_lines library = codes "library" ++ 10 ∷ exported_text library
 abbrev pub replayed_lines : ℕ → Listed → Bytes
 replayed_lines count library = codes "replayed " ++ (decimal count ++ 10 ∷ library_lines library)
 
+-- the library after a history, in export order: the history is legal over the library of the database
+abbrev pub IsAfter : Contents → List Entry → Listed → Type 0
+IsAfter contents history library = IsAfterHistory (setting_of contents) (opening contents) (map told history) library
+
 -- `replayed`, the number of entries, and the library after them, whose text is accepted: the history is legal
 pub record PrintsReplay (contents : Contents) (history : List Entry) (out : Bytes) : Type 0 where
   pub library : Listed
-  pub setting : library.setting ≡ setting_of contents
-  pub legal : IsLegal (setting_of contents) (opening contents) (map told history)
-  pub shows : ShowsInOrder (after_all (setting_of contents) (opening contents) (map told history)) library.entries
+  pub after : IsAfter contents history library
   pub prints : out ≡ replayed_lines (length history) library
-  pub accepted : Accepts (exported_text library)
-
--- the library after a history, in export order: the history is legal over the library of the database
-pub record IsAfter (contents : Contents) (history : List Entry) (library : Listed) : Type 0 where
-  pub setting : library.setting ≡ setting_of contents
-  pub legal : IsLegal (setting_of contents) (opening contents) (map told history)
-  pub shows : ShowsInOrder (after_all (setting_of contents) (opening contents) (map told history)) library.entries
+  pub accepted : IsAccepted library
 
 -- the text of a database: it spells these contents, and has no fault
 pub record IsDatabase (text : Bytes) (contents : Contents) : Type 0 where

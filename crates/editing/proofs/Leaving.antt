@@ -19,13 +19,14 @@ use Rattle.ranges.proofs.Members.{mapped_has}
 use Rattle.workers.specs.declared.error.WorkError.{WorkError}
 use Rattle.workers.specs.declared.error.WorkError.TheVariants as work
 use Rattle.workers.specs.Works.{Works, HasOutcomes, IsHandedBack, IsLack as IsWorkLack}
+use Rattle.workers.proofs.Whole.{still_of}
 use Rattle.finishing.specs.declared.error.FinishError.{FinishError}
 use Rattle.finishing.specs.declared.error.FinishError.TheVariants.{Missing, Held, NoMemory}
 use Rattle.finishing.specs.Finishes.{IsFinished, Finishes}
 use Rattle.editing.specs.Edits.{IsEdited, IsLack, ToldIn, from_work, from_finish}
 use Rattle.editing.proofs.DoneNumbers.{done_are, few_drawn}
 use Rattle.editing.proofs.Shares.{of_each}
-use Rattle.editing.proofs.Told.{as_many_shares, shares_told, share_told, shares_end, still_of}
+use Rattle.editing.proofs.Told.{as_many_shares, shares_told, share_told, shares_end}
 
 -- sessions that are handed back have the names that they had
 names_kept : (before after : List Member) → AllZip IsHandedBack before after
@@ -80,9 +81,7 @@ module _ (home : Home) (before : List Member) (new : All (IsNew home) before) wh
         told = all_told history library finished;
         numbers = done_are home before after history library finished many none_drawn works.back _ works.numbers;
       };
-      legal = finished.legal;
       fit = finished.fit;
-      setting = finished.setting;
       after = finished.after;
       ended = record {
         sessions = after;

@@ -13,8 +13,8 @@ use Rattle.lawful.specs.Lawful.{setting_of, first_library}
 use Rattle.lawful.specs.History.{AllAgree}
 use Rattle.transaction.specs.declared.outcome.Outcome.{Outcome}
 use Rattle.transaction.specs.declared.outcome.Outcome.TheVariants as outcome
-use Rattle.transaction.specs.Members.{Home, Member, IsOf}
-use Rattle.workers.specs.Works.{ScriptAgrees, AreSharesOf, IsHandedBack, ToldBy, all_of}
+use Rattle.transaction.specs.Members.{Member}
+use Rattle.workers.specs.Works.{ScriptAgrees, AreSharesOf, ToldBy, all_of}
 use Rattle.editing.specs.Edits.{IsShareIn, ToldIn, TellsOf}
 
 -- as many sessions as shares
@@ -74,12 +74,3 @@ shares_end g scripts rows (m ∷ ms) (n ∷ ns) (x ∷ xs) none run =
     } in
     (own, shares_end g scripts rows ms ns xs (All-tail uncalled m ms none) run.1)
 shares_end g scripts rows _ _ _ none run = absurd run
-
--- the sessions that are handed back are of the library
-pub still_of : (home : Home) (before after : List Member) → All (IsOf home) before → AllZip IsHandedBack before after → All (IsOf home) after
-still_of home [] [] own back = own
-still_of home [] (n ∷ ns) own back = absurd back
-still_of home (m ∷ ms) [] own back = absurd back
-still_of home (m ∷ ms) (n ∷ ns) own back =
-    All-cons (IsOf home) n ns (back.0.0.home ∙ All-head (IsOf home) m ms own)
-    (still_of home ms ns (All-tail (IsOf home) m ms own) back.1)

@@ -5,8 +5,8 @@ use Rattle.std.specs.List.Sorted.{IsStrictlyIncreasing}
 use Rattle.library.specs.declared.command.Command.{Command}
 use Rattle.library.specs.declared.history.Entry.{Entry as CodeEntry}
 use Rattle.library.specs.declared.library.Ranked.{Ranked}
-use Rattle.library.specs.Library.{Setting, Listed, ShowsInOrder}
-use Rattle.library.specs.Histories.{Entry, EntriesFit, IsLegal, after_all, told}
+use Rattle.library.specs.Library.{Setting, Listed}
+use Rattle.library.specs.Histories.{Entry, EntriesFit, told, IsAfterHistory}
 use Rattle.lawful.specs.Lawful.{setting_of, first_library}
 use Rattle.claims.specs.Claims.{up_to}
 use Rattle.transaction.specs.declared.outcome.Outcome.{Outcome}
@@ -14,7 +14,7 @@ use Rattle.transaction.specs.declared.outcome.Outcome.TheVariants as outcome
 use Rattle.transaction.specs.Members.{Home, Member}
 use Rattle.workers.specs.declared.error.WorkError.{WorkError}
 use Rattle.workers.specs.declared.error.WorkError.TheVariants as work
-use Rattle.workers.specs.Works.{ScriptAgrees, HasOutcomes, ToldBy, all_of, is_answer, is_done, is_of_run, numbers_of}
+use Rattle.workers.specs.Works.{ScriptAgrees, AreSharedOut, HasOutcomes, ToldBy, all_of, is_answer, is_done, is_of_run, numbers_of}
 use Rattle.tlwords.specs.declared.closing.ClosedWords.{ClosedWords}
 use Rattle.finishing.specs.Finishes.{AreItsWords}
 use Rattle.finishing.specs.declared.error.FinishError.{FinishError}
@@ -46,7 +46,7 @@ pub record AreToldBy (s : Setting) (lib0 : List Ranked) (h : List Entry) (worker
   pub each : AllZip HasOutcomes scripts rows
   pub shares : List (List ℕ)
   pub many : length shares ≡ workers
-  pub parts : IsPermutation (up_to (length scripts)) (flat_map (λ share. share) shares)
+  pub parts : AreSharedOut scripts shares
   pub run : All (IsShareIn s lib0 h scripts rows) shares
   pub told : All (All (ToldIn h)) rows
   pub numbers : IsPermutation (flat_map numbers_of rows) (done_numbers h)
@@ -66,16 +66,18 @@ pub record AreEnded (home : Home) (rows : List (List Outcome)) (shares : List (L
   pub words : ClosedWords
   pub its : AreItsWords home sessions words
 
--- the scripts were run: the history tells of these outcomes, and is legal from the library at the opening, with commands within the limits;
--- the library is the one after all of it; and the sessions that ran them tell why they gave up what they gave up
-pub record IsEdited (home : Home) (scripts : List (List (List Command))) (rows : List (List Outcome)) (history : List CodeEntry) (library : Listed) :
-    Type 0 where
-  pub told_by : AreToldBy (setting_of home.given) (first_library home.given) (map told history) home.sessions scripts rows
-  pub legal : IsLegal (setting_of home.given) (first_library home.given) (map told history)
-  pub fit : EntriesFit (setting_of home.given).prelude (map told history)
-  pub setting : library.setting ≡ setting_of home.given
-  pub after : ShowsInOrder (after_all (setting_of home.given) (first_library home.given) (map told history)) library.entries
+-- the scripts were run: the history tells of these outcomes, and is legal from an opening library, with commands within the limits; the
+-- library is the one after all of it; and the sessions that ran them tell why they gave up what they gave up
+pub record IsEditedFrom (s : Setting) (lib0 : List Ranked) (home : Home) (scripts : List (List (List Command))) (rows : List (List Outcome))
+    (history : List CodeEntry) (library : Listed) : Type 0 where
+  pub told_by : AreToldBy s lib0 (map told history) home.sessions scripts rows
+  pub fit : EntriesFit s.prelude (map told history)
+  pub after : IsAfterHistory s lib0 (map told history) library
   pub ended : AreEnded home rows told_by.shares
+
+-- from the library at the opening
+abbrev pub IsEdited : Home → List (List (List Command)) → List (List Outcome) → List CodeEntry → Listed → Type 0
+IsEdited home = IsEditedFrom (setting_of home.given) (first_library home.given) home
 
 -- why there is no history. A thread is asked for only where there are two sessions or more; no number is missing where each session has a name of
 -- its own, and no lock is held where all workers have ended

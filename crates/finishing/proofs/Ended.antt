@@ -1,14 +1,12 @@
 -- What a library leaves at its end: the records of its sessions are its history, and its cells show the library after it.
-use Rattle.std.proofs.Common.{◌≡◌, ◌≢◌, ◌∙◌, ap, sym, subst, refl, ℕ, zero, suc, ◌+◌, ◌*◌, ◌%◌, ◌<◌, ◌≤◌, ◌⊎◌, inl, inr, List, [], ◌∷◌, length, map, Option, Some, None, arith}
+use Rattle.std.proofs.Common.{◌≡◌, ◌∙◌, ap, sym, subst, refl, ℕ, zero, suc, ◌+◌, ◌*◌, ◌%◌, ◌<◌, ◌≤◌, ◌⊎◌, inl, inr, List, [], ◌∷◌, length, map, Option, Some, None, arith}
 use Rattle.std.specs.Prelude.{slice_get, option_map, All, Err}
 use Rattle.std.proofs.lemmas.Bool.{cases_lt}
 use Rattle.std.proofs.lemmas.List.{length-map, take_all}
 use Rattle.std.proofs.lemmas.Option.{slice_get-map, slice_get_within}
-use Rattle.library.specs.declared.command.Command.{Command}
-use Rattle.library.specs.declared.command.Reply.{Reply}
 use Rattle.library.specs.declared.history.Entry.{Entry as CodeEntry}
 use Rattle.library.specs.declared.library.Ranked.{Ranked}
-use Rattle.library.specs.Histories.{Entry, open_entry, EntriesFit, Grows, IsLegal, after_all, told}
+use Rattle.library.specs.Histories.{Entry, EntriesFit, Grows, IsLegal, after_all, told}
 use Rattle.library.specs.Library.{Verifies, Listed, Setting}
 use Rattle.ranges.specs.Ranges.{Has}
 use Rattle.tlwords.specs.declared.closing.ClosedCell.{ClosedCell}
@@ -29,6 +27,7 @@ use Rattle.transaction.specs.declared.closing.ClosedLibrary.{ClosedLibrary}
 use Rattle.transaction.specs.declared.outcome.Record.{Record}
 use Rattle.transaction.specs.Members.{Home, Member, IsMember, IsRecordIn, entry_recorded}
 use Rattle.transaction.specs.Closings.{IsClosed, lists_of, passes_of}
+use Rattle.transaction.proofs.Recorded.{recorded_settled}
 use Rattle.finishing.specs.declared.error.FinishError.TheVariants.{Missing, Held}
 use Rattle.finishing.specs.Finishes.{IsDrawn, IsMissing, AreRecordedBy, IsFinished, Finishes}
 use Rattle.finishing.specs.Ordering.{IsToldIn, AreOrdered, IsFirstMissing, IsFirstHeld}
@@ -49,11 +48,6 @@ same_told (e ∷ entries) (h ∷ history) long at =
 
 mapped_at : {A : Type 0} (xs : List A) (i : ℕ) (x : A) → slice_get xs i ≡ Some x → slice_get (map Some xs) i ≡ Some (Some x)
 mapped_at xs i x at = slice_get-map (λ (y : _). Some y) xs i ∙ ap (option_map (λ (y : _). Some y)) at
-
--- what a record says isn't open
-pub settled : (done : Option (List Command × List Reply)) → entry_recorded done ≢ open_entry
-settled None e = cc
-settled (Some done) e = cc
 
 module _ (home : Home) (members : List Member) (closed : ClosedLibrary) (is : IsClosed home members closed) where
   abbrev words : ClosedWords
@@ -172,7 +166,8 @@ module _ (home : Home) (members : List Member) (closed : ClosedLibrary) (is : Is
           let number = noted.1 in
           let own = t.4 in
           let place : i ≡ noted.0 = omega (arith, number, own) in
-          (grown t.0 t.2).kept i (entry_recorded t.1.done) (ap (slice_get (history_of t.0.known.seen)) place ∙ noted.2) (settled t.1.done)
+          (grown t.0 t.2).kept i (entry_recorded t.1.done) (ap (slice_get (history_of t.0.known.seen)) place ∙ noted.2)
+          (recorded_settled t.1.done)
           ∙ ap (λ (x : Entry). Some x) t.5
 
       is_history : history_of seen ≡ map told history
@@ -251,9 +246,11 @@ module _ (home : Home) (members : List Member) (closed : ClosedLibrary) (is : Is
               grow = grows;
               agree = agree;
               recorded = recorded_by;
-              legal = subst (λ h. IsLegal (setting_of home.given) (first_library home.given) h) is_history stands.legal;
               fit = subst (λ h. EntriesFit (setting_of home.given).prelude h) is_history stands.fit;
-              setting = by.setting_is ∙ setting_is;
-              after = (subst (λ (s : Setting). IsShownBy s words library) setting_is by).shown last_library shows_named verifies;
+              after = record {
+                setting = by.setting_is ∙ setting_is;
+                legal = subst (λ h. IsLegal (setting_of home.given) (first_library home.given) h) is_history stands.legal;
+                shows = (subst (λ (s : Setting). IsShownBy s words library) setting_is by).shown last_library shows_named verifies;
+              };
               shows = shows;
             }

@@ -1,7 +1,7 @@
 -- What finishing a library in running words gives, and when it is refused.
 use Rattle.std.specs.Prelude.{◌≡◌, ◌<◌, ◌≤◌, ℕ, suc, ◌%◌, Some, List, length, map, slice_get, All, Result, Ok, Err}
-use Rattle.library.specs.Library.{Listed, ShowsInOrder}
-use Rattle.library.specs.Histories.{Grows, IsLegal, EntriesFit, after_all, told}
+use Rattle.library.specs.Library.{Listed}
+use Rattle.library.specs.Histories.{Grows, EntriesFit, after_all, told, IsAfterHistory}
 use Rattle.library.specs.declared.history.Entry.{Entry as CodeEntry}
 use Rattle.ranges.specs.Ranges.{Has}
 use Rattle.tlwords.specs.declared.closing.ClosedCell.{ClosedCell}
@@ -59,10 +59,8 @@ pub record IsFinished (home : Home) (members : List Member) (history : List Code
   pub grow : All (λ m. Grows (history_of m.known.seen) (map told history)) members
   pub agree : All (λ m. AllAgree home.given (map told history) m.known.mine) members
   pub recorded : AreRecordedBy members history
-  pub legal : IsLegal (setting_of home.given) (first_library home.given) (map told history)
   pub fit : EntriesFit (setting_of home.given).prelude (map told history)
-  pub setting : library.setting ≡ setting_of home.given
-  pub after : ShowsInOrder (after_all (setting_of home.given) (first_library home.given) (map told history)) library.entries
+  pub after : IsAfterHistory (setting_of home.given) (first_library home.given) (map told history) library
   pub shows : Shows home.given.slots (state_of (map (λ x. x.value) words.cells.items) its.closes.seen.ranges)
       (after_all (setting_of home.given) (first_library home.given) (map told history))
 

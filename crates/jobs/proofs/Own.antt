@@ -63,7 +63,7 @@ module _ (db text out : Bytes) (texts : List Bytes) (workers room : ℕ) (run : 
       text_faultless short g (subst (λ (d : Contents). FaultyHistory d.prelude text g) (one_content h.0.0 h.0.1) h.0.2)
   replay_faultless short (Proof label fault) h = checked_faultless db run.contents run.checked (Proof label fault) h
   replay_faultless short (Differs n) h =
-      no_difference run.contents kept (Differs n) run.printed.worked.legal
+      no_difference run.contents kept (Differs n) run.printed.worked.edited.after.legal
       (subst (λ es. IsDifference run.contents es (Differs n)) (one_history h.0 h.1 h.2 h.3)
       (subst (λ (d : Contents). IsDifference d h.1 (Differs n)) (one_content h.0 h.2) h.4))
   replay_faultless short _ h = h
@@ -80,10 +80,10 @@ module _ (db text out : Bytes) (texts : List Bytes) (workers room : ℕ) (run : 
       let verifies : Verifies s (after_all s first entries) =
       subst (λ es. Verifies s (after_all s first es)) whole (run.printed.fronts (length entries)) in
       let same =
-      one_export_order (after_all s first entries) p.library.entries run.printed.library.entries verifies.library.distinct p.shows
-      run.printed.worked.follows in
+      one_export_order (after_all s first entries) p.library.entries run.printed.library.entries verifies.library.distinct p.after.shows
+      run.printed.worked.edited.after.shows in
       let library : p.library ≡ run.printed.library =
-      ap (λ x. record { setting = x; entries = p.library.entries }) (p.setting ∙ sym run.printed.worked.setting)
+      ap (λ x. record { setting = x; entries = p.library.entries }) (p.after.setting ∙ sym run.printed.worked.edited.after.setting)
       ∙ ap (λ es. record { setting = run.printed.library.setting; entries = es }) same in
       p.prints ∙ ap (replayed_lines (length kept)) library
 

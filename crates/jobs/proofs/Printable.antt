@@ -60,4 +60,5 @@ pub printable : (db : Contents) (workers room : ℕ) (scripts : List (List (List
     (library : Listed) → HasSpelling db → AllCheck db → All (All (All (CommandFits db.prelude))) scripts
     → IsWorked db workers room scripts rows history library → OutcomesFit db.prelude rows
 printable db workers room scripts rows history library spelled checks fit w =
-    rows_fit (setting_of db) (opening db) (map told history) (opening_stands db spelled checks) w.within w.legal workers scripts rows fit w.told_by
+    rows_fit (setting_of db) (opening db) (map told history) (opening_stands db spelled checks) w.edited.fit w.edited.after.legal
+    w.home.sessions scripts rows fit w.edited.told_by

@@ -13,6 +13,7 @@ use Rattle.jobs.specs.Jobs.{PrintsRun, IsRun}
 use Rattle.jobs.specs.Jobs.{IsRunFault, IsRunLack, IsFaultOf, IsLackOf}
 use Rattle.checking.specs.Parts.{IsScriptFault, IsRefusedBy}
 use Rattle.jobs.specs.Parts.{IsWorkFault}
+use Rattle.checking.proofs.ReplayFaults.{same_prelude}
 use Rattle.checking.proofs.ScriptFaults.{no_first}
 
 -- ---- what is answered
@@ -65,14 +66,10 @@ run_refused_by_database text texts room answer _ database only h = absurd h
 module _ (text : Bytes) (texts : List Bytes) (room : ℕ) (db : Contents) (p : Tables) (over : p ≡ db.prelude)
     (none : (g : Fault) → IsDatabaseFault text g → ⊥)
     (same : (contents : Contents) → IsChecked text contents → db ≡ contents) where
-  -- the one prelude over which the scripts stand
-  same_prelude : (contents : Contents) → IsChecked text contents → p ≡ contents.prelude
-  same_prelude contents checked = over ∙ ap (λ (c : Contents). c.prelude) (same contents checked)
-
   -- the first fault of the scripts over the one database that is read
   over_it : (k : ℕ) (g : TextFault) (contents : Contents) → IsChecked text contents → IsFirstFault contents.prelude texts k g
       → IsFirstFault p texts k g
-  over_it k g contents checked = subst (λ (t : Tables). IsFirstFault t texts k g) (sym (same_prelude contents checked))
+  over_it k g contents checked = subst (λ (t : Tables). IsFirstFault t texts k g) (sym (same_prelude text db p over same contents checked))
 
   refused_by_text : (k : ℕ) (g : TextFault) (answer : Fault) → IsRefusedBy (k + 1) g answer → IsOrLacksMemory (Text (suc k) g) answer
   refused_by_text k g NoMemory h = inr refl
@@ -94,7 +91,7 @@ module _ (text : Bytes) (texts : List Bytes) (room : ℕ) (db : Contents) (p : T
   run_refused_by_script answer (Text (suc k) g) refuses is h = refused_by_text k g answer (refuses k g (over_it k g h.0.0 h.0.1 h.0.2))
   run_refused_by_script answer (Proof label g) refuses is h = absurd (none (Proof label g) h)
   run_refused_by_script answer StoreFull refuses is h =
-      inr (memory_alone h.1 answer (subst (λ (t : Tables). AreScripts t texts h.1) (sym (same_prelude h.0 h.2)) h.3) is)
+      inr (memory_alone h.1 answer (subst (λ (t : Tables). AreScripts t texts h.1) (sym (same_prelude text db p over same h.0 h.2)) h.3) is)
   run_refused_by_script answer _ refuses is h = absurd h
 
   -- one of scripts without a fault with too small a room

@@ -1,21 +1,19 @@
 -- Sessions that an opened library deals, and what is left of scripts that were run to their end on them.
-use Rattle.std.proofs.Common.{◌≡◌, ◌≢◌, ◌∙◌, ◌≤◌, ◌-◌, ℕ, zero, suc, eqb, List, [], ◌∷◌, length, map, refl, sym, ap, subst, arith}
-use Rattle.std.specs.Prelude.{All}
+use Rattle.std.proofs.Common.{◌≡◌, ◌≢◌, ◌∙◌, ◌≤◌, ◌-◌, ℕ, zero, suc, eqb, List, [], ◌∷◌, length, refl, sym, ap, subst, arith}
 use Rattle.std.specs.List.{IsDistinct}
 use Rattle.std.proofs.lemmas.List.{length-map}
 use Rattle.mmsyntax.specs.Tables.{Contents}
 use Rattle.library.specs.declared.command.Command.{Command}
 use Rattle.library.specs.declared.history.Entry.{Entry}
 use Rattle.library.specs.declared.library.Ranked.{Ranked}
-use Rattle.library.specs.Library.{Setting, Listed, ShowsInOrder, opening, setting_over}
-use Rattle.library.specs.Histories.{told, EntriesFit, IsLegal, after_all}
+use Rattle.library.specs.Library.{Setting, Listed, opening, setting_over}
 use Rattle.tlwords.specs.Runs.{down}
 use Rattle.tlwords.proofs.Once.{down_distinct}
 use Rattle.lawful.specs.Lawful.{first_library, setting_of as setting_given}
 use Rattle.transaction.specs.declared.outcome.Outcome.{Outcome}
 use Rattle.transaction.specs.Members.{Home, Member}
 use Rattle.transaction.specs.Openings.{IsOpened}
-use Rattle.editing.specs.Edits.{IsShareIn, IsEdited, IsLack}
+use Rattle.editing.specs.Edits.{IsEdited, IsEditedFrom, IsLack}
 use Rattle.editing.specs.declared.error.EditError.{EditError}
 use Rattle.editing.specs.declared.error.EditError.TheVariants as edit
 use Rattle.checking.specs.Outcomes.{setting_of}
@@ -74,22 +72,9 @@ module _ (db : Contents) (workers room : ℕ) (home : Home) (members : List Memb
       → IsEdited home scripts rows history library → IsWorked db workers room scripts rows history library
   worked scripts rows history library e = record {
     fits = o.fit;
-    told_by = record {
-      each = e.told_by.each;
-      shares = e.told_by.shares;
-      many = e.told_by.many ∙ o.sessions;
-      parts = e.told_by.parts;
-      run = over (λ s lib. All (IsShareIn s lib (map told history) scripts rows) e.told_by.shares) e.told_by.run;
-      told = e.told_by.told;
-      numbers = e.told_by.numbers;
-    };
-    legal = over (λ s lib. IsLegal s lib (map told history)) e.legal;
-    within = over (λ s lib. EntriesFit s.prelude (map told history)) e.fit;
-    setting = e.setting ∙ same_setting;
-    follows = over (λ s lib. ShowsInOrder (after_all s lib (map told history)) library.entries) e.after;
     home = home;
     of_database = o.database;
     of_room = o.room;
     of_workers = o.sessions;
-    ended = e.ended;
+    edited = over (λ s lib. IsEditedFrom s lib home scripts rows history library) e;
   }

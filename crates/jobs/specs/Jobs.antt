@@ -4,16 +4,16 @@ use Rattle.std.specs.Prelude.{Bool, true, IsTrue, if◌then◌else◌}
 use Rattle.std.specs.Prelude.{Result, Ok, Err}
 use Rattle.mmtext.specs.declared.fault.FaultKind.TheVariants.{NoMemory as OutOfMemory}
 use Rattle.mmsyntax.specs.Tables.{Contents}
-use Rattle.library.specs.Library.{Listed, ShowsInOrder, Verifies, opening}
+use Rattle.library.specs.Library.{Listed, Verifies, opening}
 use Rattle.library.specs.declared.history.Entry.{Entry}
-use Rattle.library.specs.Histories.{told, after, after_all, EntriesFit, IsLegal}
+use Rattle.library.specs.Histories.{told, after}
 use Rattle.plaincells.specs.Measures.{bodies_length}
 use Rattle.transaction.specs.declared.outcome.Outcome.{Outcome}
 use Rattle.transaction.specs.Members.{Home}
-use Rattle.editing.specs.Edits.{AreToldBy, AreEnded}
+use Rattle.editing.specs.Edits.{IsEditedFrom}
 use Rattle.historytext.specs.Grammar.{SpellsHistory}
 use Rattle.historytext.specs.Layout.{history_text}
-use Rattle.export.specs.Exported.{Accepts, exported_text}
+use Rattle.export.specs.Exported.{Accepts, IsAccepted}
 use Rattle.jobs.specs.declared.job.Job.{Job}
 use Rattle.jobs.specs.declared.job.Job.TheVariants.{Check, Run, Replay}
 use Rattle.jobs.specs.declared.job.Printed.{Printed}
@@ -34,16 +34,11 @@ use Rattle.reports.specs.Reports.{report_text}
 pub record IsWorked (contents : Contents) (workers room : ℕ) (scripts : List Orders) (rows : List (List Outcome)) (history : List Entry)
     (library : Listed) : Type 0 where
   pub fits : bodies_length contents.assertions ≤ room
-  pub told_by : AreToldBy (setting_of contents) (opening contents) (map told history) workers scripts rows
-  pub legal : IsLegal (setting_of contents) (opening contents) (map told history)
-  pub within : EntriesFit contents.prelude (map told history)
-  pub setting : library.setting ≡ setting_of contents
-  pub follows : ShowsInOrder (after_all (setting_of contents) (opening contents) (map told history)) library.entries
   pub home : Home
   pub of_database : home.given.database.value ≡ contents
   pub of_room : home.words.room ≡ room
   pub of_workers : home.sessions ≡ workers
-  pub ended : AreEnded home rows told_by.shares
+  pub edited : IsEditedFrom (setting_of contents) (opening contents) home scripts rows history library
 
 -- the report of what became of all transactions, and the library after them, whose text is accepted; and, where it is asked for, the text of the
 -- history, which spells it. After each front of it, too, the library verifies
@@ -54,7 +49,7 @@ pub record PrintsRun (contents : Contents) (workers room : ℕ) (asked : Bool) (
   pub worked : IsWorked contents workers room scripts rows entries library
   pub fronts : (k : ℕ) → Verifies (setting_of contents) (after (setting_of contents) (opening contents) (map told entries) k)
   pub prints : out ≡ report_text contents.prelude rows ++ library_lines library
-  pub accepted : Accepts (exported_text library)
+  pub accepted : IsAccepted library
   pub kept : history ≡ (if asked then history_text contents.prelude entries else [])
   pub spelled : IsTrue asked → SpellsHistory contents.prelude history entries
 

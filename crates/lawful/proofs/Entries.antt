@@ -1,11 +1,12 @@
 -- The entries of the history of commands and replies, and how it grows with what was seen.
-use Rattle.std.proofs.Common.{◌≡◌, ◌≢◌, ℕ, zero, suc, ◌<◌, List, [], ◌∷◌, length, get_or, Option, Some, None, refl, sym, ap, ◌∙◌, arith}
+use Rattle.std.proofs.Common.{◌≡◌, ◌≢◌, ℕ, zero, suc, List, [], ◌∷◌, length, Option, Some, None, refl, sym, ap, ◌∙◌, arith}
 use Rattle.std.specs.Prelude.{slice_get}
-use Rattle.std.proofs.lemmas.Option.{slice_get-get_or, slice_get_within}
+use Rattle.std.proofs.lemmas.Option.{slice_get_within}
 use Rattle.library.specs.declared.command.Command.{Command}
 use Rattle.library.specs.declared.command.Reply.{Reply}
 use Rattle.library.specs.Histories.{open_entry, done_entry}
 use Rattle.tlcore.specs.History.{Entry as WordsEntry}
+pub use Rattle.tlcore.proofs.Growth.{get_exists as at_index}
 use Rattle.tlcore.specs.declared.entries.Status.{Status}
 use Rattle.tlcore.specs.declared.entries.Status.TheVariants as status
 use Rattle.tlwords.specs.Seen.{Seen, Work, IsDone}
@@ -13,11 +14,6 @@ use Rattle.lawful.specs.declared.notes.Note.{Note}
 use Rattle.lawful.specs.declared.notes.Note.TheVariants.{Done, Refused, Looked}
 use Rattle.lawful.specs.History.{entry_of, entries_of, history_of}
 use Rattle.lawful.specs.Laws.{HistoriesGrow}
-
--- an element below the length
-pub at_index : {A : Type 0} (xs : List A) (i : ℕ) → i < length xs → (x : A) × (slice_get xs i ≡ Some x)
-at_index [] i lt = absurd (omega arith)
-at_index (x ∷ xs) i lt = (get_or (x ∷ xs) i x, slice_get-get_or (x ∷ xs) i x lt)
 
 -- ---- the entries
 

@@ -40,7 +40,7 @@ pub record OpensWell (g : Given) (ranges : List Range) (values : List ℕ) : Typ
 -- ---- transactions
 
 -- what is so of every state that may be the one under a run, and of every library that verifies and that it shows
-abbrev pub ForEachUnder : {O : Type 0} → Sight O → (State → List Ranked → Type 0) → Type 0
+abbrev pub ForEachUnder : {O : Type 0} → (s : Sight O) (told : State → List Ranked → Type 0) → Type 0
 ForEachUnder s told = (st : State) (lib : List Ranked) → Suits s st lib → told st lib
 
 -- the commands give these replies, and with what the run keeps aside the state shows the library after them

@@ -1,5 +1,5 @@
 -- What adding a theorem answers: why it is refused, or the library that is shown with it.
-use Rattle.std.proofs.Common.{◌≡◌, ℕ, ◌<◌, true, false, List, [], ◌∷◌, None, Err, length, sym, ap, subst, ◌∙◌, inl, inr, arith, eqb, nat_eq}
+use Rattle.std.proofs.Common.{◌≡◌, ℕ, ◌<◌, true, false, List, [], ◌∷◌, ◌++◌, None, Err, length, sym, ap, subst, ◌∙◌, inl, inr, arith, eqb, nat_eq}
 use Rattle.std.specs.Prelude.{◌==◌, nat_le}
 use Rattle.std.specs.List.{list_any, IsDistinct, AllByRecursion}
 use Rattle.std.proofs.lemmas.Bool.{both_ways, le-leb, lt-leb}
@@ -15,7 +15,7 @@ use Rattle.library.specs.declared.command.Reply.TheVariants.{Done}
 use Rattle.library.specs.declared.reason.Reason.TheVariants as reason
 use Rattle.library.specs.Library.{Setting}
 use Rattle.library.specs.Edits.{Tests, added, done, where_so, is_axiom, bad_label, label_taken, label_clashes}
-use Rattle.library.specs.Edits.{cites_unknown, cited_not_lower, proof_fails, tested, edit}
+use Rattle.library.specs.Edits.{proof_tests, tested, edit}
 use Rattle.ranges.specs.Ranges.{Has, AreOfOneStore}
 use Rattle.bodystore.specs.declared.stored.StoredStep.{StoredStep}
 use Rattle.cells.specs.State.{State, most_words}
@@ -81,7 +81,7 @@ of_room s lib = where_so (nat_le s.slots (length lib)) reason.LibraryFull ∷ []
 
 -- those from that of the proof on
 abbrev pub of_proof : Setting → List Ranked → ℕ → Assertion → Tests
-of_proof s lib rank a = cites_unknown lib a.proof ∷ cited_not_lower lib rank a.proof ∷ proof_fails s lib rank a ∷ of_room s lib
+of_proof s lib rank a = proof_tests s lib rank a ++ of_room s lib
 
 -- those from that of the kind on
 abbrev pub of_kind : Setting → List Ranked → ℕ → Assertion → Tests

@@ -1,9 +1,9 @@
 -- Of the code's inside, apart from the rules: what the tests of a new label tell, for every state that may be under the run.
-use Rattle.std.specs.Prelude.{◌≡◌, ◌≢◌, ℕ, List, [], ◌∷◌, Err, false}
+use Rattle.std.specs.Prelude.{◌≡◌, ◌≢◌, ℕ, List, [], ◌++◌, Err, false}
 use Rattle.library.specs.declared.library.Ranked.{Ranked}
 use Rattle.library.specs.declared.reason.Reason.{Reason}
 use Rattle.library.specs.Library.{Setting}
-use Rattle.library.specs.Edits.{Tests, Edited, tested, has, without, bad_label, label_taken, label_clashes}
+use Rattle.library.specs.Edits.{Tests, Edited, tested, has, label_tests as all_label_tests}
 use Rattle.cells.specs.Sight.{Sight}
 use Rattle.cells.specs.Lookups.{ForEach}
 use Rattle.cells.specs.declared.ending.CommandError.{CommandError}
@@ -11,7 +11,7 @@ use Rattle.cells.specs.declared.ending.CommandError.TheVariants.{Refused}
 
 -- the tests of a new label, with more behind them; it may clash with the label `own`
 abbrev pub label_tests : Setting → List Ranked → List ℕ → List ℕ → Tests → Tests
-label_tests s lib own label more = bad_label s label ∷ label_taken lib label ∷ label_clashes (without own lib) label ∷ more
+label_tests s lib own label more = all_label_tests s lib own label ++ more
 
 -- a label, which has a byte, passes its tests
 pub record PassesAsNew {O : Type 0} (s : Sight O) (own label : List ℕ) : Type 0 where

@@ -44,7 +44,7 @@ place_of store [] x h = absurd h
 place_of store (r ∷ places) x (inl e) = (zero, r, refl, e)
 place_of store (r ∷ places) x (inr h) = let f = place_of store places x h in (suc f.0, f.1, f.2, f.3)
 
-stored_in : (store : List ℕ) (places : List Place) (x : Range) → Has x (ranges_in store places) → IsStored (length store) store x
+pub stored_in : (store : List ℕ) (places : List Place) (x : Range) → Has x (ranges_in store places) → IsStored (length store) store x
 stored_in store places x h i w at =
     let f = place_of store places x h in
     let there : slice_get (range_in store f.1).words i ≡ Some w = subst (λ (y : Range). slice_get y.words i ≡ Some w) f.3 at in

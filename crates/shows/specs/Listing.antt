@@ -1,15 +1,9 @@
 -- Of the code's inside, apart from the rules: the lines of a list, for every state that may be under the run.
 use Rattle.std.specs.Prelude.{◌≡◌, ℕ, List, map, IsPermutation}
-use Rattle.std.specs.declared.cmp.Ordering.{Ordering}
 use Rattle.library.specs.declared.command.Line.{Line}
-use Rattle.library.specs.Library.{by_rank_then_label}
 use Rattle.library.specs.Edits.{line}
 use Rattle.cells.specs.Sight.{Sight}
 use Rattle.cells.specs.Lookups.{ForEach, ForEachHeld}
-
--- the order of lines: by rank, then by the label
-abbrev pub line_cmp : Line → Line → Ordering
-line_cmp a b = by_rank_then_label (λ l. l.rank) (λ l. l.label) a b
 
 -- what is listed of the assertion in the slot
 abbrev pub TellsLine : {O : Type 0} → Sight O → ℕ → Line → Type 0

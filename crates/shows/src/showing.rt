@@ -2,11 +2,12 @@
 
 ghost use Rattle.std.specs.Prelude.{◌≡◌, ◌<◌, IfOk};
 ghost use Rattle.library.specs.Library.{label_of};
+ghost use Rattle.library.specs.Edits.{line_cmp};
 ghost use Rattle.cells.specs.Lookups.{ForEachHeld};
 ghost use Rattle.library.specs.declared.command.Command.TheVariants as command;
 ghost use Rattle.cells.specs.Sight.{Onward, Looks, ReadsWithin};
 ghost use Rattle.cells.specs.Answers.{CommandAnswers};
-ghost use Rattle.shows.specs.Listing.{line_cmp, TellsLine, AreAllLines};
+ghost use Rattle.shows.specs.Listing.{TellsLine, AreAllLines};
 ghost use Rattle.groundwork.specs.Takes.{TakesBodies};
 ghost use Rattle.groundwork.specs.Footprints.{IsOfLine, ReadsFor};
 

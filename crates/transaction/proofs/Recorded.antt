@@ -17,7 +17,8 @@ use Rattle.transaction.specs.Members.{Member, AreRecorded, entry_recorded, IsRec
 use Rattle.transaction.specs.Attempts.{IsVoidNumber}
 use Rattle.transaction.specs.Tries.{IsRecorded}
 
-recorded_settled : (done : Option (List Command × List Reply)) → entry_recorded done ≢ open_entry
+-- what a record says isn't open
+pub recorded_settled : (done : Option (List Command × List Reply)) → entry_recorded done ≢ open_entry
 recorded_settled None is = cc
 recorded_settled (Some done) is = cc
 

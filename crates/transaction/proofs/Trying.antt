@@ -24,7 +24,7 @@ use Rattle.transaction.specs.declared.outcome.Conflict.{Conflict as Met}
 use Rattle.transaction.specs.declared.outcome.Outcome.{Outcome}
 use Rattle.transaction.specs.declared.outcome.Outcome.TheVariants as outcome
 use Rattle.transaction.specs.declared.outcome.Record.{Record}
-use Rattle.transaction.specs.Members.{Member, IsLater, IsMember}
+use Rattle.transaction.specs.Members.{Member, IsLater, IsMember, Stands}
 use Rattle.transaction.specs.Locks.{LocksWithin}
 use Rattle.transaction.specs.Attempts.{Gains, LeavesStaged, Attempts, Submits, IsVoidNumber, DrawsVoid, AddsNothing, GainsCall, SaysDone, SaysRefused}
 use Rattle.transaction.specs.Attempts.{tried, IsOneRun, LoadsOnce, MetNone, WasMet}
@@ -79,16 +79,17 @@ locks_then g cs a b c home grows p q =
 abbrev pub after_run : Member → Carried → Option Record → Member
 after_run m k r = record m { known = k.pass; records = with_record m.records r; staged = k.staged }
 
-module _ (m : Member) (is : IsMember m) where
-  same_later : IsLater m m
-  same_later =
-      record { given = refl; home = refl; name = refl; grows = seen_refl m.known.seen; full = λ p e. e; stands = stands m is }
+-- a session is no earlier than itself
+pub later_refl : (m : Member) → Stands m → IsLater m m
+later_refl m stands =
+    record { given = refl; home = refl; name = refl; grows = seen_refl m.known.seen; full = λ p e. e; stands = stands }
 
+module _ (m : Member) (is : IsMember m) where
   -- nothing was done
   pub attempts_none : (cs : List Command) → has_too_many cs ≡ true → Attempts cs m m outcome.TooManyCommands
   attempts_none cs many =
       record {
-        later = same_later;
+        later = later_refl m (stands m is);
         gains = (refl, many);
         run = tt;
         unrefused = λ e. absurd cc;
@@ -157,7 +158,7 @@ no_record (Some x) none = absurd (none x refl)
 
 -- ---- tries until there is no conflict
 
-later_trans : (a b c : Member) → IsLater a b → IsLater b c → IsLater a c
+pub later_trans : (a b c : Member) → IsLater a b → IsLater b c → IsLater a c
 later_trans a b c p q =
     record {
       given = q.given ∙ p.given;

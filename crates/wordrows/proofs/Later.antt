@@ -124,22 +124,23 @@ module _ {L : Type 0} (words : Words L Bool ℕ) where
 
 -- ---- reads
 
-notes_read : (m : Mode) (slots after : List Slot) (cell word : ℕ) → Notes m slots after cell word → (c : ℕ) → was_read slots c ≡ true
-    → was_read after c ≡ true
-notes_read Reading slots after cell word same c is = ap (λ (s : List Slot). was_read s c) same ∙ is
-notes_read Writing slots after cell word noted c is = noted.3 c is
-
-notes_kept : (m : Mode) (slots after : List Slot) (cell word : ℕ) → Notes m slots after cell word → (c v : ℕ) → value_kept after c ≡ Some v
-    → value_kept slots c ≡ Some v
-notes_kept Reading slots after cell word same c v is = sym (ap (λ (s : List Slot). value_kept s c) same) ∙ is
-notes_kept Writing slots after cell word noted c v is = sym (noted.1 c) ∙ is
+-- what a read notes forgets no read, and keeps no value
+notes_later : (m : Mode) (slots after : List Slot) (cell word : ℕ) → Notes m slots after cell word
+    → ((c : ℕ) → was_read slots c ≡ true → was_read after c ≡ true)
+    × ((c v : ℕ) → value_kept after c ≡ Some v → value_kept slots c ≡ Some v)
+notes_later Reading slots after cell word same = (
+  λ c is. ap (λ (s : List Slot). was_read s c) same ∙ is,
+  λ c v is. sym (ap (λ (s : List Slot). value_kept s c) same) ∙ is,
+)
+notes_later Writing slots after cell word noted = (noted.3, λ c v is. sym (noted.1 c) ∙ is)
 
 later_read : (cell v : ℕ) (g r : Going Bool ℕ) → HasRead law cell v g r → Later g r
 later_read cell v g r has =
+    let notes = notes_later g.mode g.slots r.slots cell has.word has.notes in
     record {
       within = has.grows.2;
-      read = notes_read g.mode g.slots r.slots cell has.word has.notes;
-      kept = notes_kept g.mode g.slots r.slots cell has.word has.notes;
+      read = notes.0;
+      kept = notes.1;
       store = λ x set _. has.stands.knows.ranges x set;
     }
 

@@ -105,7 +105,7 @@ module _ (last : Member) where
       → Draws last old new (numbers_of (o ∷ []))
   submitted_draws cs old new o submits goes stands =
       let own = outcome_filtered last last.given cs o (submitted_agrees cs old new o submits last goes last.given (history_of last.known.seen) stands.agree) in
-      let none = void_filtered last submits.numbers (voids_grow new.known last.known submits.numbers goes.grows submits.void) in
+      let none = void_filtered last submits.numbers (voids_grow new.known last.known submits.numbers goes.later.grows submits.void) in
       record {
         numbers = submits.numbers ++ numbers_of (o ∷ []);
         drawn = submitted_drawn cs old new o submits;

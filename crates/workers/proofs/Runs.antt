@@ -21,13 +21,6 @@ use Rattle.workers.proofs.Numbers.{Draws, drawn_newly, draws_none, draws_more, s
 
 -- ---- one script
 
-script_goes : (script : List (List Command)) (old new : Member) (os : List Outcome) → SubmitsAll script old new os → Goes old new
-script_goes [] old new [] same = subst (Goes old) (sym same) (goes_nowhere old)
-script_goes [] old new (o ∷ os) none = absurd none
-script_goes (cs ∷ rest) old new [] none = absurd none
-script_goes (cs ∷ rest) old new (o ∷ os) (mid, first, others) =
-    goes_on old mid new (submitted_goes cs old mid o first) (script_goes rest mid new os others)
-
 -- it has its outcomes
 has_outcomes : (script : List (List Command)) (old new : Member) (os : List Outcome) → SubmitsAll script old new os → HasOutcomes script os
 has_outcomes [] old new [] same = refl
@@ -35,44 +28,47 @@ has_outcomes [] old new (o ∷ os) none = absurd none
 has_outcomes (cs ∷ rest) old new [] none = absurd none
 has_outcomes (cs ∷ rest) old new (o ∷ os) (mid, first, others) = let h = has_outcomes rest mid new os others in omega arith
 
-module _ (last : Member) where
+module _ (new : Member) (stands : Stands new) where
+  script_goes : (script : List (List Command)) (old : Member) (os : List Outcome) → SubmitsAll script old new os → Goes old new
+  script_goes [] old [] same = subst (λ (m : Member). Goes m new) same (goes_nowhere new stands)
+  script_goes [] old (o ∷ os) none = absurd none
+  script_goes (cs ∷ rest) old [] none = absurd none
+  script_goes (cs ∷ rest) old (o ∷ os) (mid, first, others) =
+      goes_on old mid new (submitted_goes cs old mid o first) (script_goes rest mid os others)
+
   -- as each history has it with which the calls agree
-  script_agrees : (g : Given) (h : List Entry) → AllAgree g h last.known.mine → (place : ℕ) (script : List (List Command)) (old new : Member)
-      (os : List Outcome) → SubmitsAll script old new os → Goes new last → place ≤ length old.known.seen.history
+  script_agrees : (g : Given) (h : List Entry) → AllAgree g h new.known.mine → (place : ℕ) (script : List (List Command)) (old : Member)
+      (os : List Outcome) → SubmitsAll script old new os → place ≤ length old.known.seen.history
       → ScriptAgrees (setting_of g) (first_library g) h place script os
-  script_agrees g h agree place [] old new [] same goes seen = tt
-  script_agrees g h agree place [] old new (o ∷ os) none goes seen = absurd none
-  script_agrees g h agree place (cs ∷ rest) old new [] none goes seen = absurd none
-  script_agrees g h agree place (cs ∷ rest) old new (o ∷ os) (mid, first, others) goes seen = (
-    submitted_agrees cs old mid o first last (goes_on mid new last (script_goes rest mid new os others) goes) g h agree,
+  script_agrees g h agree place [] old [] same seen = tt
+  script_agrees g h agree place [] old (o ∷ os) none seen = absurd none
+  script_agrees g h agree place (cs ∷ rest) old [] none seen = absurd none
+  script_agrees g h agree place (cs ∷ rest) old (o ∷ os) (mid, first, others) seen = (
+    submitted_agrees cs old mid o first new (script_goes rest mid os others) g h agree,
     submitted_fits cs old mid o first,
     first.counted,
     submitted_stands cs old mid o first place seen,
-    script_agrees g h agree (place_behind place o) rest mid new os others goes (submitted_within cs old mid o first place seen),
+    script_agrees g h agree (place_behind place o) rest mid os others (submitted_within cs old mid o first place seen),
   )
 
   -- what was given up stays told
-  script_told : (script : List (List Command)) (old new : Member) (os : List Outcome) → SubmitsAll script old new os → Goes new last
-      → All (ToldBy last) os
-  script_told [] old new [] same goes = All-nil (ToldBy last)
-  script_told [] old new (o ∷ os) none goes = absurd none
-  script_told (cs ∷ rest) old new [] none goes = absurd none
-  script_told (cs ∷ rest) old new (o ∷ os) (mid, first, others) goes =
-      All-cons (ToldBy last) o os
-      (submitted_told cs old mid o first last (goes_on mid new last (script_goes rest mid new os others) goes))
-      (script_told rest mid new os others goes)
+  script_told : (script : List (List Command)) (old : Member) (os : List Outcome) → SubmitsAll script old new os → All (ToldBy new) os
+  script_told [] old [] same = All-nil (ToldBy new)
+  script_told [] old (o ∷ os) none = absurd none
+  script_told (cs ∷ rest) old [] none = absurd none
+  script_told (cs ∷ rest) old (o ∷ os) (mid, first, others) =
+      All-cons (ToldBy new) o os (submitted_told cs old mid o first new (script_goes rest mid os others)) (script_told rest mid os others)
 
   -- its numbers
-  script_draws : Stands last → (script : List (List Command)) (old new : Member) (os : List Outcome) → SubmitsAll script old new os
-      → Goes new last → Draws last old new (numbers_of os)
-  script_draws stands [] old new [] same goes = draws_none last old new same
-  script_draws stands [] old new (o ∷ os) none goes = absurd none
-  script_draws stands (cs ∷ rest) old new [] none goes = absurd none
-  script_draws stands (cs ∷ rest) old new (o ∷ os) (mid, first, others) goes =
-      let later = goes_on mid new last (script_goes rest mid new os others) goes in
-      subst (Draws last old new) (sym (numbers_first o os))
-      (draws_more last old mid new (numbers_of (o ∷ [])) (numbers_of os)
-      (submitted_draws last cs old mid o first later stands) (script_draws stands rest mid new os others goes))
+  script_draws : (script : List (List Command)) (old : Member) (os : List Outcome) → SubmitsAll script old new os
+      → Draws new old new (numbers_of os)
+  script_draws [] old [] same = draws_none new old new same
+  script_draws [] old (o ∷ os) none = absurd none
+  script_draws (cs ∷ rest) old [] none = absurd none
+  script_draws (cs ∷ rest) old (o ∷ os) (mid, first, others) =
+      subst (Draws new old new) (sym (numbers_first o os))
+      (draws_more new old mid new (numbers_of (o ∷ [])) (numbers_of os)
+      (submitted_draws new cs old mid o first (script_goes rest mid os others) stands) (script_draws rest mid os others))
 
 -- it made its runs
 script_runs : (script : List (List Command)) (old new : Member) (os : List Outcome) → SubmitsAll script old new os
@@ -125,21 +121,17 @@ module _ (scripts : List (List (List Command))) (old new : Member) (rows : List 
 
   pub runs_later : Stands new → IsHandedBack old new
   runs_later stands =
-      let goes = script_goes _ old new (told_in rows) all_submitted in (
-        record { given = goes.given; home = goes.home; name = goes.name; grows = goes.grows; full = goes.full; stands = stands },
-        goes.numbers,
-        goes.drawn,
-      )
+      let goes = script_goes new stands _ old (told_in rows) all_submitted in (goes.later, goes.numbers, goes.drawn)
 
-  pub runs_share : (g : Given) → new.given ≡ g → IsRunBy g old new (all_of scripts (map (λ row. row.script) rows)) (told_in rows)
-  runs_share g same = record {
+  pub runs_share : Stands new → (g : Given) → new.given ≡ g
+      → IsRunBy g old new (all_of scripts (map (λ row. row.script) rows)) (told_in rows)
+  runs_share stands g same = record {
     given = same;
-    agrees = λ h agree. script_agrees new g h agree (length old.known.seen.history) _ old new (told_in rows) all_submitted (goes_nowhere new)
-        (omega arith);
-    told = script_told new _ old new (told_in rows) all_submitted (goes_nowhere new);
+    agrees = λ h agree.
+        script_agrees new stands g h agree (length old.known.seen.history) _ old (told_in rows) all_submitted (omega arith);
+    told = script_told new stands _ old (told_in rows) all_submitted;
     ran = script_runs _ old new (told_in rows) all_submitted;
   }
 
   pub runs_numbers : Stands new → newly_done old new ≡ numbers_of (told_in rows)
-  runs_numbers stands =
-      drawn_newly old new (numbers_of (told_in rows)) (script_draws new stands _ old new (told_in rows) all_submitted (goes_nowhere new))
+  runs_numbers stands = drawn_newly old new (numbers_of (told_in rows)) (script_draws new stands _ old (told_in rows) all_submitted)

@@ -12,8 +12,7 @@ use Rattle.library.specs.declared.command.Reply.{Reply}
 use Rattle.library.specs.declared.reason.Refused.{Refused as Refusal}
 use Rattle.library.specs.Agrees.{Agrees, committed, read, refused}
 use Rattle.library.specs.Histories.{Entry, done_entry}
-use Rattle.tlwords.specs.Seen.{Work, Call, Committed, Answered, SeenGrows}
-use Rattle.tlwords.proofs.Seens.{seen_refl, seen_trans}
+use Rattle.tlwords.specs.Seen.{Work, Call, Committed, Answered}
 use Rattle.lawful.specs.declared.notes.Given.{Given}
 use Rattle.lawful.specs.declared.notes.Note.{Note}
 use Rattle.lawful.specs.declared.notes.Note.TheVariants as note
@@ -24,31 +23,24 @@ use Rattle.lending.specs.Lent.{Pass, FullStays}
 use Rattle.transaction.specs.declared.outcome.Conflict.{Conflict as Met}
 use Rattle.transaction.specs.declared.outcome.Outcome.{Outcome}
 use Rattle.transaction.specs.declared.outcome.Outcome.TheVariants as outcome
-use Rattle.transaction.specs.Members.{Member}
+use Rattle.transaction.specs.Members.{Member, IsLater, Stands}
 use Rattle.transaction.specs.Attempts.{Gains, GainsCall, IsOneRun, Submits, SaysDone, SaysRefused, tried}
+use Rattle.transaction.proofs.Trying.{later_refl, later_trans}
 use Rattle.workers.specs.Works.{OutcomeAgrees, OutcomeFits, ToldBy, MakesRuns, StandsFrom, is_answer, is_of_run, place_behind, numbers_of}
 
 -- ---- a session later
 
--- of the same library, with the same name, having seen more, and with further calls and numbers
+-- with further calls and numbers
 pub record Goes (old new : Member) : Type 0 where
-  pub given : new.given ≡ old.given
-  pub home : new.known.home ≡ old.known.home
-  pub name : new.known.name ≡ old.known.name
-  pub grows : SeenGrows old.known.seen new.known.seen
-  pub full : FullStays old.known new.known
+  pub later : IsLater old new
   pub calls : List (Call Note)
   pub mine : new.known.mine ≡ old.known.mine ++ calls
   pub numbers : List ℕ
   pub drawn : new.known.drawn ≡ old.known.drawn ++ numbers
 
-pub goes_nowhere : (m : Member) → Goes m m
-goes_nowhere m = record {
-  given = refl;
-  home = refl;
-  name = refl;
-  grows = seen_refl m.known.seen;
-  full = λ p e. e;
+pub goes_nowhere : (m : Member) → Stands m → Goes m m
+goes_nowhere m stands = record {
+  later = later_refl m stands;
   calls = [];
   mine = sym (append-nil m.known.mine);
   numbers = [];
@@ -60,11 +52,7 @@ appended a b c p q e f = f ∙ (ap (λ z. z ++ q) e ∙ append_assoc a p q)
 
 pub goes_on : (a b c : Member) → Goes a b → Goes b c → Goes a c
 goes_on a b c p q = record {
-  given = q.given ∙ p.given;
-  home = q.home ∙ p.home;
-  name = q.name ∙ p.name;
-  grows = seen_trans a.known.seen b.known.seen c.known.seen p.grows q.grows;
-  full = λ found e. q.full found (p.full found e);
+  later = later_trans a b c p.later q.later;
   calls = p.calls ++ q.calls;
   mine = appended a.known.mine b.known.mine c.known.mine p.calls q.calls p.mine q.mine;
   numbers = p.numbers ++ q.numbers;
@@ -269,11 +257,7 @@ module _ (cs : List Command) (old new : Member) (o : Outcome) (submits : Submits
   submitted_goes =
       let calls = gained_calls cs before new.known o submits.gains in
       record {
-        given = submits.later.given;
-        home = submits.later.home;
-        name = submits.later.name;
-        grows = submits.later.grows;
-        full = submits.later.full;
+        later = submits.later;
         calls = calls.0;
         mine = calls.1;
         numbers = submits.numbers ++ numbers_of (o ∷ []);
@@ -289,7 +273,7 @@ module _ (cs : List Command) (old new : Member) (o : Outcome) (submits : Submits
   submitted_fits = gained_fits cs before new.known o submits.gains
 
   pub submitted_told : (last : Member) → Goes new last → ToldBy last o
-  submitted_told last goes = gained_told cs before new.known o submits.gains last goes.numbers goes.drawn goes.full
+  submitted_told last goes = gained_told cs before new.known o submits.gains last goes.numbers goes.drawn goes.later.full
 
   pub submitted_runs : MakesRuns old new (o ∷ [])
   submitted_runs =
@@ -316,5 +300,6 @@ module _ (cs : List Command) (old new : Member) (o : Outcome) (submits : Submits
       let longer = submits.later.grows.0.0 in
       let within : place_behind place o ≤ length (history_of new.known.seen) =
       behind_within new.given (history_of new.known.seen) cs o place
-      (submitted_agrees new (goes_nowhere new) new.given (history_of new.known.seen) submits.later.stands.agree) (omega arith) in
+      (submitted_agrees new (goes_nowhere new submits.later.stands) new.given (history_of new.known.seen) submits.later.stands.agree)
+      (omega arith) in
       omega arith

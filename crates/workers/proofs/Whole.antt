@@ -5,7 +5,7 @@ use Rattle.std.specs.Prelude.{slice_get, slice_index_or}
 use Rattle.std.specs.List.{AllZip, sum_by}
 use Rattle.std.proofs.lemmas.Grind.{flat_map-append}
 use Rattle.std.proofs.lemmas.List.{length-map, map-append, get_or-map, nil_from_length}
-use Rattle.std.proofs.lemmas.List.Elements.{All-nil, All-cons, All-head, All-tail, All-append}
+use Rattle.std.proofs.lemmas.List.Elements.{All-nil, All-cons, All-head, All-tail, All-append, AllZip-get_or, length_all_zip}
 use Rattle.std.proofs.lemmas.List.Folds.{flat_map-map}
 use Rattle.std.proofs.lemmas.List.Sorted.{IsPermutation-sym, IsPermutation-map, All-permutation, sum_by-IsPermutation}
 use Rattle.std.proofs.lemmas.List.Sums.{sum_by-append, sum_by-cons}
@@ -166,7 +166,7 @@ module _ (home : Home) (opened : home.words.setting ≡ Some home.given) (script
       let later = (runs_later scripts m s.session s.rows.items shift.runs shift.stands).0 in
       let same = given_is m s.session (All-head (IsOf home) m ms own) later in
       let told = share_told outcomes s.rows.items (λ row has. each row (has_append_left s.rows.items (rows_of ss) row has)) in
-      let run = runs_share scripts m s.session s.rows.items shift.runs home.given same in
+      let run = runs_share scripts m s.session s.rows.items shift.runs shift.stands home.given same in
       let share : IsShareOf home.given scripts outcomes m s.session (share_of s) = record {
         rising = shift.rises;
         run = subst (IsRunBy home.given m s.session (all_of scripts (share_of s))) (sym told) run;
@@ -207,6 +207,14 @@ module _ (home : Home) (opened : home.words.setting ≡ Some home.given) (script
       } in
       subst (λ (os : List (List Outcome)). Works home.given before scripts os after) (sym made.outcomes_are)
       (subst (λ (ms : List Member). Works home.given before scripts all ms) (sym made.sessions_are) whole)
+
+-- the sessions that are handed back are of the library
+pub still_of : (home : Home) (before after : List Member) → All (IsOf home) before → AllZip IsHandedBack before after
+    → All (IsOf home) after
+still_of home before after own back i d within =
+    let same = length_all_zip IsHandedBack before after back in
+    let here : i < length before = omega (arith, same, within) in
+    (AllZip-get_or IsHandedBack before after i d d back here).0.home ∙ own i d here
 
 -- ---- the claimants
 

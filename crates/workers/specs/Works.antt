@@ -1,7 +1,7 @@
 -- What becomes of scripts that workers run on the sessions of one library.
 use Rattle.std.specs.Prelude.{◌≡◌, ◌<◌, ◌≤◌, ◌^◌, ℕ, zero, suc, List, [], ◌∷◌, ◌++◌, Bool, true, false, is_some, All, IsPermutation}
 use Rattle.std.specs.Prelude.{count_by, length}
-use Rattle.std.specs.Prelude.{drop, filter, flat_map, map, slice_index_or}
+use Rattle.std.specs.Prelude.{drop, filter, flat_map, slice_index_or}
 use Rattle.std.specs.List.{AllZip}
 use Rattle.std.specs.List.Sorted.{IsStrictlyIncreasing}
 use Rattle.library.specs.declared.command.Command.{Command}
@@ -35,7 +35,7 @@ OutcomeAgrees s lib0 h cs (outcome.Conflict met) = ⊥
 OutcomeAgrees s lib0 h cs _ = Unit {0}
 
 -- it is one that the commands may have
-abbrev pub OutcomeFits : List Command → Outcome → Type 0
+abbrev pub OutcomeFits : (transaction : List Command) → Outcome → Type 0
 OutcomeFits cs (outcome.Committed number replies) = has_edit cs ≡ true
 OutcomeFits cs (outcome.Read place replies) = has_edit cs ≡ false
 OutcomeFits cs outcome.StoreFull = has_staging cs ≡ true
@@ -155,6 +155,10 @@ all_newly_done (old ∷ before) (new ∷ after) = newly_done old new ++ all_newl
 
 -- ---- all scripts
 
+-- each script, by its index, is in the share of one
+abbrev pub AreSharedOut : {A : Type 0} → List A → List (List ℕ) → Type 0
+AreSharedOut scripts shares = IsPermutation (up_to (length scripts)) (flat_map (λ share. share) shares)
+
 -- the session is handed back: later, and with the numbers that it had drawn and new ones behind them
 abbrev pub IsHandedBack : Member → Member → Type 0
 IsHandedBack old new = IsLater old new × (numbers : List ℕ) × (new.known.drawn ≡ old.known.drawn ++ numbers)
@@ -170,7 +174,7 @@ pub record Works (g : Given) (before : List Member) (scripts : List (List (List 
   pub each : AllZip HasOutcomes scripts outcomes
   pub back : AllZip IsHandedBack before after
   pub shares : List (List ℕ)
-  pub parts : IsPermutation (up_to (length scripts)) (flat_map (λ share. share) shares)
+  pub parts : AreSharedOut scripts shares
   pub run : AreSharesOf g scripts outcomes before after shares
   pub numbers : IsPermutation (flat_map numbers_of outcomes) (all_newly_done before after)
 

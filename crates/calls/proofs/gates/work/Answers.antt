@@ -1,4 +1,4 @@
-use Rattle.calls.proofs.Handed.{still_of}
+use Rattle.workers.proofs.Whole.{still_of}
 use Rattle.calls.proofs.gates.work.Goals as goal
 
 pub returns : goal.returns

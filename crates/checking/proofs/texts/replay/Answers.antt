@@ -13,9 +13,7 @@ returns-clause-done g c =
       read = led.read;
       printed = record {
         library = library;
-        setting = led.after.setting;
-        legal = led.after.legal;
-        shows = led.after.shows;
+        after = led.after;
         prints = text;
         accepted = exported_accepted library c.entries-entries.ensures.verifies c.entries-entries.ensures.ordered;
       };

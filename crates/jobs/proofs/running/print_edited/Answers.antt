@@ -27,9 +27,9 @@ report_run-requires c =
 pub history_where-requires : goal.history_where-requires
 history_where-requires c =
     let db = c.args.db.now in
-    let w = c.requires.worked.2 in
+    let w = c.requires.worked.2.edited in
     let stands = opening_stands db c.assertions-assertions.ensures.sound c.requires.checks in
-    let fit = legal_histories_fit (setting_of db) (opening db) c.args.edited.now.history stands w.within w.legal in
+    let fit = legal_histories_fit (setting_of db) (opening db) c.args.edited.now.history stands w.fit w.after.legal in
     subst (λ p. All (EntryFits p) c.as_slice-2.result.now) (sym c.prelude-2.ensures)
     (subst (All (EntryFits db.prelude)) (sym c.as_slice-2.ensures) fit)
 
@@ -46,13 +46,14 @@ returns c = λ workers room w.
     let counted = c.count_of-count.ensures in
     let few : length e.history ≤ highest_count = omega (arith, counted.value, counted.small, ap length c.as_slice.ensures) in
     let spelled =
-    legal_histories_are_spelled (setting_of db) (opening db) e.history (opening_stands db sound c.requires.checks) w.within w.legal few in
+    legal_histories_are_spelled (setting_of db) (opening db) e.history (opening_stands db sound c.requires.checks) w.edited.fit
+    w.edited.after.legal few in
     record {
       rows = rows;
       entries = e.history;
       library = e.library;
       worked = w;
-      fronts = fronts_of db e.history sound c.requires.checks w.within;
+      fronts = fronts_of db e.history sound c.requires.checks w.edited.fit;
       prints = c.in_ok-report_run.ensures ∙ ap (λ p. report_text p rows ++ library_lines e.library) c.prelude.ensures;
       accepted = exported_accepted e.library c.entries-entries.ensures.verifies c.entries-entries.ensures.ordered;
       kept = kept;

@@ -5,10 +5,9 @@ use Rattle.std.proofs.lemmas.List.Sorted.{IsPermutation-trans}
 use Rattle.library.specs.declared.command.Command.TheVariants.{List as ListAll}
 use Rattle.library.specs.declared.command.Line.{Line}
 use Rattle.library.specs.declared.command.Reply.TheVariants.{Listed}
-use Rattle.library.specs.Edits.{line}
+use Rattle.library.specs.Edits.{line, line_cmp}
 use Rattle.library.proofs.Orders.{sorted_by}
-use Rattle.shows.specs.Listing.{line_cmp}
-use Rattle.shows.proofs.Lines.{line_cmp_total, lines_in_order}
+use Rattle.librarylaws.proofs.Lines.{line_cmp_total, lines_in_order}
 use Rattle.groundwork.proofs.OnlyLooks.{does_reading}
 use Rattle.shows.proofs.showing.list.Goals as goal
 
