@@ -16,6 +16,7 @@ use Rattle.mmsyntax.specs.Assertions.{IsUnit, is_lawful_label}
 use Rattle.mmsyntax.proofs.Lines.{clean_words, statements_words, clean_statements, statement_words, clean_statement}
 use Rattle.mmsyntax.proofs.Sound.{bare, IsFloatSound, AreSound, IsSound, nothing_sound, alone_sound}
 use Rattle.mmsyntax.proofs.Units.{statement_sound, all_sound, closed_tables}
+use Rattle.mmsyntax.specs.Preludes.{IsWord}
 use Rattle.mmsyntax.proofs.Preludes.{declare_append, prelude_declares}
 use Rattle.mmsyntax.proofs.Blocks.{unit_declares, units_declare}
 use Rattle.mmsyntax.proofs.Written.{canonical, canonical_written, unit_written}
@@ -86,18 +87,22 @@ unit_spells t a sound u lawful =
     let one = unit_declares t s true [] [] a u lawful refl refl (omega arith) tt in
     record {
       clean = clean_statement (unit_statement t a) words;
-      statement = unit_statement t a;
+      words = spelling (unit_statement t a);
       words_are = statement_words (unit_statement t a) words;
-      known = record { tables = t; units = record { assertions = a ∷ []; hypothesis_labels = one.behind; prelude_closed = true } };
-      declared = one.declares;
-      single = refl;
+      unit = record {
+        statement = unit_statement t a;
+        parts = refl;
+        known = record { tables = t; units = record { assertions = a ∷ []; hypothesis_labels = one.behind; prelude_closed = true } };
+        declared = one.declares;
+        single = refl;
+      };
     }
 
 pub spelled_unit : (t : Tables) (a : Assertion) → IsSoundPrelude t → HasUnitSpelling t a → IsUnit t a × IsTrue (is_lawful_label t a.label)
 spelled_unit t a sound h =
-    let u = h.spells in
+    let u = h.spells.unit in
     let before = alone_sound t true (sound_tables t sound) in
-    let words = clean_words h.text (spelling u.statement) u.clean u.words_are in
+    let words = subst (AllByRecursion IsWord) u.parts (clean_words h.text h.spells.words h.spells.clean h.spells.words_are) in
     let s = statement_sound (prelude_alone t) u.statement u.known before words u.declared in
     let same : t ≡ u.known.tables = closed_tables (prelude_alone t) u.statement u.known refl before u.declared in
     let units = subst (AllByRecursion (IsUnit u.known.tables)) u.single s.units in

@@ -15,15 +15,9 @@ use Rattle.mmsyntax.specs.Rows.{Known, is_used, is_assertion_label}
 use Rattle.mmtext.specs.Words.{Word}
 use Rattle.mmsyntax.specs.Assertions.{Distinct}
 pub use Rattle.mmsyntax.specs.Preludes.{float_labels, prelude_names}
-use Rattle.mmsyntax.proofs.Names.{bytes_eq-same, bytes_eq-sym}
+use Rattle.mmsyntax.proofs.Names.{bytes_eq-same, bytes_eq-sym, swap_or}
 
 -- ---- in general
-
-swap_or : (a b c : Bool) → (a || (b || c)) ≡ (b || (a || c))
-swap_or true true c = refl
-swap_or true false c = refl
-swap_or false true c = refl
-swap_or false false c = refl
 
 pub any_insert : {A : Type 0} (p : A → Bool) (a b : List A) (x : A) → list_any p (a ++ x ∷ b) ≡ (p x || list_any p (a ++ b))
 any_insert p [] b x = refl

@@ -17,7 +17,7 @@ use Rattle.mmsyntax.specs.Grammar.{Statement, constants, variables, float, alone
 use Rattle.mmsyntax.specs.Layout.{spaced, line, indented, statement_text}
 pub use Rattle.mmsyntax.specs.Preludes.{IsPrintable, IsWord}
 use Rattle.mmtext.proofs.Tokens.{word_at}
-use Rattle.mmsyntax.proofs.Distinct.{all_left, all_right, all_append}
+use Rattle.mmsyntax.proofs.Distinct.{all_left, all_right, all_append, all_weaker}
 
 -- ---- printable bytes
 
@@ -102,13 +102,8 @@ pub written_words : (bytes : List ℕ) (vs : List Word) → IsClean bytes
     → without_comments false (words_of (tokens bytes)) ≡ Some vs → AllByRecursion IsWritten vs
 written_words bytes vs clean h = outside_words false (words_of (tokens bytes)) vs h (words_are bytes clean)
 
--- facts of each item
-each : {A : Type 0} (P Q : A → Type 0) (xs : List A) → ((x : A) → P x → Q x) → AllByRecursion P xs → AllByRecursion Q xs
-each P Q [] f h = tt
-each P Q (x ∷ xs) f h = (f x h.0, each P Q xs f h.1)
-
 pub plain : (ws : List Word) → AllByRecursion IsWritten ws → AllByRecursion IsWord ws
-plain ws h = each IsWritten IsWord ws (λ w x. x.0) h
+plain ws h = all_weaker IsWritten IsWord ws (λ w x. x.0) h
 
 pub clean_words : (bytes : List ℕ) (vs : List Word) → IsClean bytes
     → without_comments false (words_of (tokens bytes)) ≡ Some vs → AllByRecursion IsWord vs
@@ -221,7 +216,7 @@ statement_says (block pieces claim) h =
     let parts = flat_map piece_spelling pieces in
     let inner = all_left IsWord parts (claim_spelling claim ++ codes "$}" ∷ []) h.1 in
     let end = all_right IsWord parts (claim_spelling claim ++ codes "$}" ∷ []) h.1 in
-    let pieces_say = each (λ p. AllByRecursion IsWord (piece_spelling p))
+    let pieces_say = all_weaker (λ p. AllByRecursion IsWord (piece_spelling p))
     (λ p. Says (indented (piece_spelling p)) (piece_spelling p)) pieces (λ p g. says_indented (piece_spelling p) g)
     (all_parts IsWord piece_spelling pieces inner) in
     says_append (line (codes "${" ∷ [])) _ (codes "${" ∷ []) (parts ++ (claim_spelling claim ++ codes "$}" ∷ []))
@@ -247,7 +242,7 @@ pub statements_words : (ss : List Statement) → AllByRecursion IsWritten (flat_
 statements_words ss h =
     let all = all_parts IsWord spelling ss (plain (flat_map spelling ss) h) in
     ap (without_comments false) (said (flat_map statement_text ss) (flat_map spelling ss)
-    (says_flat statement_text spelling ss (each (λ s. AllByRecursion IsWord (spelling s))
+    (says_flat statement_text spelling ss (all_weaker (λ s. AllByRecursion IsWord (spelling s))
     (λ s. Says (statement_text s) (spelling s)) ss statement_says all)))
     ∙ no_comment (flat_map spelling ss) h
 
@@ -275,7 +270,7 @@ lawful_flat f (x ∷ xs) h = subst AreLawful (sym (flat_map-cons f x xs)) (lawfu
 pub lawful_line : (ws : List Word) → AllByRecursion IsWord ws → AreLawful (line ws)
 lawful_line [] h = (refl, tt)
 lawful_line (w ∷ ws) h =
-    let later = each IsWord (λ v. AreLawful (32 ∷ v)) ws (λ v g. (refl, lawful_word v g.1)) h.1 in
+    let later = all_weaker IsWord (λ v. AreLawful (32 ∷ v)) ws (λ v g. (refl, lawful_word v g.1)) h.1 in
     lawful_append w (spaced ws ++ 10 ∷ []) (lawful_word w h.0.1)
     (lawful_append (spaced ws) (10 ∷ []) (lawful_flat (λ v. 32 ∷ v) ws later) (refl, tt))
 
@@ -294,7 +289,7 @@ lawful_statement (block pieces claim) h =
     lawful_append (line (codes "${" ∷ [])) _ (lawful_line (codes "${" ∷ []) (h.0, tt))
     (lawful_append (flat_map (λ p. indented (piece_spelling p)) pieces) _
     (lawful_flat (λ p. indented (piece_spelling p)) pieces
-    (each (λ p. AllByRecursion IsWord (piece_spelling p)) (λ p. AreLawful (indented (piece_spelling p))) pieces
+    (all_weaker (λ p. AllByRecursion IsWord (piece_spelling p)) (λ p. AreLawful (indented (piece_spelling p))) pieces
     (λ p g. lawful_indented (piece_spelling p) g) inner))
     (lawful_append (indented (claim_spelling claim)) (line (codes "$}" ∷ []))
     (lawful_indented (claim_spelling claim) (all_left IsWord (claim_spelling claim) (codes "$}" ∷ []) end))
@@ -307,7 +302,7 @@ pub clean_statements : (ss : List Statement) → AllByRecursion IsWritten (flat_
 clean_statements ss h =
     let all = all_parts IsWord spelling ss (plain (flat_map spelling ss) h) in
     clean_lawful (flat_map statement_text ss)
-    (lawful_flat statement_text ss (each (λ s. AllByRecursion IsWord (spelling s))
+    (lawful_flat statement_text ss (all_weaker (λ s. AllByRecursion IsWord (spelling s))
     (λ s. AreLawful (statement_text s)) ss lawful_statement all))
 
 pub clean_statement : (s : Statement) → AllByRecursion IsWritten (spelling s) → IsClean (statement_text s)

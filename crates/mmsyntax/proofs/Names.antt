@@ -6,7 +6,7 @@ use Rattle.std.specs.Prelude.{◌||◌}
 use Rattle.std.specs.Str.{bytes_eq}
 use Rattle.std.specs.HashMap as hash
 use Rattle.std.specs.HashMap.{HashMap}
-use Rattle.std.specs.Map.{lookup, IsKeyTest, AreApart, KeepsOthers}
+use Rattle.std.specs.Map.{KeepsOthers}
 use Rattle.std.specs.declared.alloc.Global.{Global}
 use Rattle.std.specs.declared.random_state.RandomState.{RandomState}
 use Rattle.std.proofs.lemmas.Bool.{cases_Bool, cond-true, cond-false}
@@ -31,21 +31,16 @@ bytes_eq-sym a b = nat_list_eq_equiv.symm a b
 apart : (bs cs ks : List ℕ) → bytes_eq bs cs ≡ false → bytes_eq bs ks ≡ true → bytes_eq cs ks ≡ false
 apart bs cs ks n y = nat_list_eq_equiv.symm cs ks ∙ sym (nat_list_eq_equiv.congr bs ks cs y) ∙ n
 
-module _ {K : Type 0} (eq : K → K → Bool) (test : K → Bool) where
-  other_entries : {X : Type 0} (old new : List (K × X)) → KeepsOthers eq test old new → (other : K → Bool) → IsKeyTest eq other
-      → AreApart test other → lookup other new ≡ lookup other old
-  unfolding KeepsOthers
-  other_entries old new h = h
-
 -- what is found at any bytes after a change at the bytes bs
 pub after_update : {X S : Type 0} (bs : List ℕ) (m n : HashMap (Vec ℕ Global) X S) (w : Option X)
     → hash.UpdatesBy (λ x y. bytes_eq x.items y.items) (λ x. bytes_eq bs x.items) m n w
     → (cs : List ℕ) → hash.get_by (λ q. bytes_eq cs q.items) n ≡ cond (bytes_eq bs cs) w (hash.get_by (λ q. bytes_eq cs q.items) m)
+unfolding KeepsOthers
 after_update bs m n w h cs =
     elim (cases_Bool (bytes_eq bs cs)) [
       | inl y ↦ subst (λ l. hash.get_by (λ q. bytes_eq l q.items) n ≡ w) (same_bytes bs cs y) h.1
           ∙ sym (cond-true (bytes_eq bs cs) w (hash.get_by (λ q. bytes_eq cs q.items) m) y)
-      | inr e ↦ other_entries _ _ _ _ h.3 _ (λ x y. nat_list_eq_equiv.congr cs x.items y.items) (λ q. apart bs cs q.items e)
+      | inr e ↦ h.3 (λ q. bytes_eq cs q.items) (λ x y. nat_list_eq_equiv.congr cs x.items y.items) (λ q. apart bs cs q.items e)
           ∙ sym (cond-false (bytes_eq bs cs) w (hash.get_by (λ q. bytes_eq cs q.items) m) e)
     ]
 

@@ -7,7 +7,8 @@ use Rattle.std.specs.Fmt.{decimal}
 use Rattle.std.specs.Int.{IsInRange}
 use Rattle.std.specs.Str.Parse.{AllDigits, digits_value}
 use Rattle.std.specs.Char.{digit_value}
-use Rattle.std.proofs.lemmas.Bool.{cond-true, cond-false, and_parts}
+use Rattle.std.proofs.lemmas.Bool.{cond-true, cond-false, and_parts, lt-ltb, le-ltb}
+pub use Rattle.std.proofs.lemmas.Bool.{le-ltb as not_above}
 use Rattle.std.proofs.lemmas.Bool.Decides.{nat_tests}
 use Rattle.std.proofs.lemmas.Fmt.{decimal_is_IsNumeral, decimal-digits_value}
 use Rattle.std.proofs.lemmas.Int.Digits.{digits_value_more}
@@ -82,24 +83,19 @@ one_more_digit ds i all lt =
 pub digit_here : (ds : List ℕ) (i : ℕ) → AllDigits 10 ds → i < length ds → 48 ≤ get_or ds i 0
 digit_here ds i all lt = (digit_at ds i all lt).0
 
-above : (high n : ℕ) → high < n → ltb high n ≡ true
-above high n h = grind (arith, nat_tests)
-
-pub not_above : (high n : ℕ) → n ≤ high → ltb high n ≡ false
-not_above high n h = grind (arith, nat_tests)
-
 pub too_high : (highest : ℕ) (ds : List ℕ) (i : ℕ) → highest < digits_value 10 (take i ds) → None ≡ written_within highest ds
 too_high highest ds i h =
     let le = digits_value-take-le 10 ds i (omega arith) in
     let lt : highest < digits_value 10 ds = omega arith in
-    sym (cond-true (ltb highest (digits_value 10 ds)) None (Some (digits_value 10 ds)) (above highest (digits_value 10 ds) lt))
+    sym (cond-true (ltb highest (digits_value 10 ds)) None (Some (digits_value 10 ds)) (lt-ltb highest (digits_value 10 ds) lt))
 
 pub written : (highest : ℕ) (ds : List ℕ) (i n : ℕ) → length ds ≤ i → n ≡ digits_value 10 (take i ds) → n ≤ highest
     → Some n ≡ written_within highest ds
 written highest ds i n all is low =
     let e : n ≡ digits_value 10 ds = is ∙ ap (digits_value 10) (take_all i ds all) in
     ap (λ x. Some x) e
-    ∙ sym (cond-false (ltb highest (digits_value 10 ds)) None (Some (digits_value 10 ds)) (not_above highest (digits_value 10 ds) (omega arith)))
+    ∙ sym (cond-false (ltb highest (digits_value 10 ds)) None (Some (digits_value 10 ds))
+    (le-ltb highest (digits_value 10 ds) (omega arith)))
 
 -- ---- a number up to a highest
 

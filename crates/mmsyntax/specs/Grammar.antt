@@ -132,12 +132,17 @@ pub record Spells (bytes : List ℕ) (db : Contents) : Type 0 where
   pub declared : DeclareAll nothing statements known
   pub whole : database_of known ≡ db
 
--- the text has lawful bytes, and its words outside of comments are those of one statement that declares, over a whole prelude, the
--- assertion alone
-pub record SpellsUnit (t : Tables) (bytes : List ℕ) (a : Assertion) : Type 0 where
-  pub clean : IsClean bytes
+-- words are those of one statement that declares, over a whole prelude, the assertion alone
+pub record DeclareUnit (t : Tables) (ws : List Word) (a : Assertion) : Type 0 where
   pub statement : Statement
-  pub words_are : without_comments false (words_of (tokens bytes)) ≡ Some (spelling statement)
+  pub parts : ws ≡ spelling statement
   pub known : Known
   pub declared : Declares (prelude_alone t) statement known
   pub single : known.units.assertions ≡ a ∷ []
+
+-- the text has lawful bytes, and its words outside of comments declare the assertion alone
+pub record SpellsUnit (t : Tables) (bytes : List ℕ) (a : Assertion) : Type 0 where
+  pub clean : IsClean bytes
+  pub words : List Word
+  pub words_are : without_comments false (words_of (tokens bytes)) ≡ Some words
+  pub unit : DeclareUnit t words a

@@ -7,7 +7,7 @@ use Rattle.std.proofs.lemmas.Bool.{and_parts, and_from}
 use Rattle.mmtext.specs.Words.{Word}
 use Rattle.mmtext.specs.Text.{Token}
 use Rattle.mmtext.specs.Comments.{words_of}
-use Rattle.walks.proofs.Walks.{walk, walk_none, walk_cons}
+use Rattle.walks.proofs.Walks.{walk, walk_none, walk_cons, ReadsOn}
 use Rattle.mmsyntax.specs.Rows.{Tests}
 use Rattle.source.specs.Statements.{Proof, normal, compressed, float, proved, proof_spelling}
 use Rattle.source.specs.Scopes.{Scope, behind}
@@ -40,12 +40,9 @@ onward p q final ts e h = ap (λ x. walk source_language x ts) e ∙ h
 pub record ReadsWords (tests : List Word → Word → Tests) (stop : Word) (enough : List Word → Bool) (after : List Word → Position)
     (front : List Word) (ts : List Token) (final : Position) : Type 0 where
   pub words : List Word
-  pub rest : List Token
-  pub parts : words_of ts ≡ words ++ stop ∷ words_of rest
   pub pass : all_pass tests front words ≡ true
   pub enough_stand : enough (front ++ words) ≡ true
-  pub walks : walk source_language (after (front ++ words)) rest ≡ Ok final
-  pub shorter : length rest < length ts
+  pub on : ReadsOn source_language (λ more. words ++ stop ∷ more) (after (front ++ words)) ts final
 
 pub reads_words : (at : List Word → Position) (tests : List Word → Word → Tests) (stop : Word) (enough : List Word → Bool)
     (after : List Word → Position) → Goes at tests stop enough after → ((front : List Word) → IsInner (at front).place) → (final : Position)
@@ -57,12 +54,14 @@ reads_words at tests stop enough after goes inner final e front (t ∷ ts) h =
     elim (goes front t r.0 r.1) [
       | inl y ↦ record {
         words = [];
-        rest = ts;
-        parts = ap (λ w. w ∷ words_of ts) y.0;
         pass = refl;
         enough_stand = ap enough (append-nil front) ∙ y.1;
-        walks = onward (after (front ++ [])) r.0 final ts (ap after (append-nil front) ∙ y.2) r.2;
-        shorter = omega arith;
+        on = record {
+          rest = ts;
+          parts = ap (λ w. w ∷ words_of ts) y.0;
+          walks = onward (after (front ++ [])) r.0 final ts (ap after (append-nil front) ∙ y.2) r.2;
+          shorter = omega arith;
+        };
       }
       | inr n ↦
           let o = reads_words at tests stop enough after goes inner final e (front ++ t.text ∷ []) ts
@@ -70,14 +69,16 @@ reads_words at tests stop enough after goes inner final e front (t ∷ ts) h =
           let same = append_assoc front (t.text ∷ []) o.words in
           record {
             words = t.text ∷ o.words;
-            rest = o.rest;
-            parts = ap (λ ws. t.text ∷ ws) o.parts;
             pass = and_from (passes (tests front t.text)) (all_pass tests (front ++ t.text ∷ []) o.words) n.0 o.pass;
             enough_stand = ap enough (sym same) ∙ o.enough_stand;
-            walks =
-                onward (after (front ++ t.text ∷ o.words)) (after ((front ++ t.text ∷ []) ++ o.words)) final o.rest
-                (ap after (sym same)) o.walks;
-            shorter = let lt : length o.rest < length ts = o.shorter in omega arith;
+            on = record {
+              rest = o.on.rest;
+              parts = ap (λ ws. t.text ∷ ws) o.on.parts;
+              walks =
+                  onward (after (front ++ t.text ∷ o.words)) (after ((front ++ t.text ∷ []) ++ o.words)) final o.on.rest
+                  (ap after (sym same)) o.on.walks;
+              shorter = let lt : length o.on.rest < length ts = o.on.shorter in omega arith;
+            };
           }
     ]
 
@@ -86,22 +87,17 @@ reads_words at tests stop enough after goes inner final e front (t ∷ ts) h =
 pub record ReadsFloat (s : Scope) (around : List Scope) (label : Word) (ts : List Token) (final : Position) : Type 0 where
   pub c : Word
   pub v : Word
-  pub rest : List Token
-  pub parts : words_of ts ≡ c ∷ v ∷ codes "$." ∷ words_of rest
   pub type_passes : passes (type_tests s c) ≡ true
   pub variable_passes : passes (float_tests s v) ≡ true
-  pub walks : walk source_language (home (behind s (float label c v)) around) rest ≡ Ok final
-  pub shorter : length rest < length ts
+  pub on : ReadsOn source_language (λ more. c ∷ v ∷ codes "$." ∷ more) (home (behind s (float label c v)) around) ts final
 
 -- ---- a proof and its end
 
 pub record ReadsProof (s : Scope) (around : List Scope) (label : Word) (e : List Word) (ts : List Token) (final : Position) : Type 0 where
   pub proof : Proof
-  pub rest : List Token
-  pub parts : words_of ts ≡ proof_spelling proof ++ codes "$." ∷ words_of rest
   pub lawful : is_lawful_proof s e proof ≡ true
-  pub walks : walk source_language (home (behind s (proved label e proof)) around) rest ≡ Ok final
-  pub shorter : length rest < length ts
+  pub on : ReadsOn source_language (λ more. proof_spelling proof ++ codes "$." ∷ more)
+      (home (behind s (proved label e proof)) around) ts final
 
 -- the words of a compressed proof, part by part
 compressed_words : (w : Word) (all others labels letters more : List Word) → w ≡ codes "(" → all ≡ labels ++ codes ")" ∷ others
@@ -121,12 +117,14 @@ module _ (final : Position) (e : final.place ≡ at_start) where
       record {
         c = tc.text;
         v = tv.text;
-        rest = ts;
-        parts = ap (λ w. tc.text ∷ tv.text ∷ w ∷ words_of ts) y.0;
         type_passes = c;
         variable_passes = v;
-        walks = onward (home (behind s (float label tc.text tv.text)) around) r.0 final ts y.1 r.2;
-        shorter = omega arith;
+        on = record {
+          rest = ts;
+          parts = ap (λ w. tc.text ∷ tv.text ∷ w ∷ words_of ts) y.0;
+          walks = onward (home (behind s (float label tc.text tv.text)) around) r.0 final ts y.1 r.2;
+          shorter = omega arith;
+        };
       }
 
   float_has_variable : (s : Scope) (around : List Scope) (label : Word) (tc : Token) (ts : List Token)
@@ -160,14 +158,16 @@ module _ (final : Position) (e : final.place ≡ at_start) where
       (sym (behind_first (step_tests s) w [] o.words) ∙ o.pass) in
       record {
         proof = proof;
-        rest = o.rest;
-        parts = ap (λ ws. w ∷ ws) o.parts;
         lawful =
             and_from (has_lawful_words s x proof) (is_whole s x proof)
             (and_from (one_or_more (w ∷ o.words)) (all_pass (step_tests s) [] (w ∷ o.words)) (one_at_least (length o.words)) all)
             o.enough_stand;
-        walks = o.walks;
-        shorter = let lt : length o.rest < length ts = o.shorter in omega arith;
+        on = record {
+          rest = o.on.rest;
+          parts = ap (λ ws. w ∷ ws) o.on.parts;
+          walks = o.on.walks;
+          shorter = let lt : length o.on.rest < length ts = o.on.shorter in omega arith;
+        };
       }
 
   -- behind (
@@ -180,21 +180,26 @@ module _ (final : Position) (e : final.place ≡ at_start) where
       let l = reads_words (λ ls. there s around (in_letters label x o.words ls)) (letter_tests s x o.words) (codes "$.")
       (letters_enough s x o.words) (λ ls. home (behind s (proved label x (compressed o.words ls))) around)
       (letters_go s around label x o.words)
-      (λ ls. tt) final e [] o.rest o.walks in
+      (λ ls. tt) final e [] o.on.rest o.on.walks in
       let proof = compressed o.words l.words in
       let both = and_parts (one_or_more l.words) (is_whole s x proof) l.enough_stand in
       record {
         proof = proof;
-        rest = l.rest;
-        parts = compressed_words t.text (words_of ts) (words_of o.rest) o.words l.words (words_of l.rest) is o.parts l.parts;
         lawful =
             and_from (has_lawful_words s x proof) (is_whole s x proof)
             (three_from (list_all (λ w. passes (cited_tests s x w)) o.words) (one_or_more l.words)
             (all_pass (letter_tests s x o.words) [] l.words)
             (each_alone (cited_tests s x) [] o.words ∙ o.pass) both.0 l.pass)
             both.1;
-        walks = l.walks;
-        shorter = let lt : length o.rest < length ts = o.shorter in let less : length l.rest < length o.rest = l.shorter in omega arith;
+        on = record {
+          rest = l.on.rest;
+          parts = compressed_words t.text (words_of ts) (words_of o.on.rest) o.words l.words (words_of l.on.rest) is o.on.parts l.on.parts;
+          walks = l.on.walks;
+          shorter =
+              let lt : length o.on.rest < length ts = o.on.shorter in
+              let less : length l.on.rest < length o.on.rest = l.on.shorter in
+              omega arith;
+        };
       }
 
   pub reads_proof : (s : Scope) (around : List Scope) (label : Word) (x : List Word) (ts : List Token)

@@ -6,7 +6,7 @@ use Rattle.std.proofs.lemmas.Bool.{and_from}
 use Rattle.mmtext.specs.Words.{Word, is_label}
 use Rattle.mmtext.specs.Text.{Token}
 use Rattle.mmtext.specs.Comments.{words_of}
-use Rattle.walks.proofs.Walks.{walk, walk_none, walk_cons}
+use Rattle.walks.proofs.Walks.{walk, walk_none, walk_cons, ReadsOn}
 use Rattle.source.specs.Statements.{Statement, constants, variables, float, hypothesis, distinct, asserted, proved, block, Statements, none}
 use Rattle.source.specs.Statements.{some, proof_spelling, spelling, spellings}
 use Rattle.source.specs.Scopes.{Scope, enter, leave, behind, behind_all}
@@ -31,11 +31,8 @@ use Rattle.source.proofs.Parsed.{no_end, onward, reads_words, reads_float, reads
 -- a lawful statement, and a walk from behind it
 pub record ReadsStatement (s : Scope) (around : List Scope) (ts : List Token) (final : Position) : Type 0 where
   pub statement : Statement
-  pub rest : List Token
-  pub parts : words_of ts ≡ spelling statement ++ words_of rest
   pub lawful : is_lawful s statement ≡ true
-  pub walks : walk source_language (home (behind s statement) around) rest ≡ Ok final
-  pub shorter : length rest < length ts
+  pub on : ReadsOn source_language (λ more. spelling statement ++ more) (home (behind s statement) around) ts final
 
 -- the words of a list between a first word and its end, before others
 listed : (first w stop : Word) (all ws more : List Word) → w ≡ first → all ≡ ws ++ stop ∷ more
@@ -63,13 +60,15 @@ module _ (final : Position) (e : final.place ≡ at_start) where
       (onward p (there s around (in_constants false)) final ts (ap (λ x. there x around (in_constants false)) (no_constants s)) h) in
       record {
         statement = constants o.words;
-        rest = o.rest;
-        parts = listed (codes "$c") t.text (codes "$.") (words_of ts) o.words (words_of o.rest) is o.parts;
         lawful =
             three_from s.outermost (one_or_more o.words) (each_declared a_constant constant_tests s o.words) outer o.enough_stand
             (constants_pass s o.words ∙ o.pass);
-        walks = o.walks;
-        shorter = let lt : length o.rest < length ts = o.shorter in omega arith;
+        on = record {
+          rest = o.on.rest;
+          parts = listed (codes "$c") t.text (codes "$.") (words_of ts) o.words (words_of o.on.rest) is o.on.parts;
+          walks = o.on.walks;
+          shorter = let lt : length o.on.rest < length ts = o.on.shorter in omega arith;
+        };
       }
 
   reads_variables : (s : Scope) (around : List Scope) (t : Token) (ts : List Token) → t.text ≡ codes "$v"
@@ -81,13 +80,15 @@ module _ (final : Position) (e : final.place ≡ at_start) where
       (onward p (there s around (in_variables false)) final ts (ap (λ x. there x around (in_variables false)) (no_variables s)) h) in
       record {
         statement = variables o.words;
-        rest = o.rest;
-        parts = listed (codes "$v") t.text (codes "$.") (words_of ts) o.words (words_of o.rest) is o.parts;
         lawful =
             and_from (one_or_more o.words) (each_declared a_variable variable_tests s o.words) o.enough_stand
             (variables_pass s o.words ∙ o.pass);
-        walks = o.walks;
-        shorter = let lt : length o.rest < length ts = o.shorter in omega arith;
+        on = record {
+          rest = o.on.rest;
+          parts = listed (codes "$v") t.text (codes "$.") (words_of ts) o.words (words_of o.on.rest) is o.on.parts;
+          walks = o.on.walks;
+          shorter = let lt : length o.on.rest < length ts = o.on.shorter in omega arith;
+        };
       }
 
   reads_distinct : (s : Scope) (around : List Scope) (t : Token) (ts : List Token) → t.text ≡ codes "$d"
@@ -97,11 +98,13 @@ module _ (final : Position) (e : final.place ≡ at_start) where
       (λ vs. home (behind s (distinct vs)) around) (distinct_go s around) (λ vs. tt) final e [] ts h in
       record {
         statement = distinct o.words;
-        rest = o.rest;
-        parts = listed (codes "$d") t.text (codes "$.") (words_of ts) o.words (words_of o.rest) is o.parts;
         lawful = and_from (two_or_more o.words) (all_pass (distinct_tests s) [] o.words) o.enough_stand o.pass;
-        walks = o.walks;
-        shorter = let lt : length o.rest < length ts = o.shorter in omega arith;
+        on = record {
+          rest = o.on.rest;
+          parts = listed (codes "$d") t.text (codes "$.") (words_of ts) o.words (words_of o.on.rest) is o.on.parts;
+          walks = o.on.walks;
+          shorter = let lt : length o.on.rest < length ts = o.on.shorter in omega arith;
+        };
       }
 
   -- behind a new label and its keyword
@@ -112,13 +115,15 @@ module _ (final : Position) (e : final.place ≡ at_start) where
       let o = reads_float final e s around label.text ts h in
       record {
         statement = float label.text o.c o.v;
-        rest = o.rest;
-        parts = ap (λ x. label.text ∷ x ∷ words_of ts) is ∙ ap (λ x. label.text ∷ codes "$f" ∷ x) o.parts;
         lawful =
             three_from (is_new_label s label.text) (passes (type_tests s o.c)) (passes (float_tests s o.v)) new o.type_passes
             o.variable_passes;
-        walks = o.walks;
-        shorter = let lt : length o.rest < length ts = o.shorter in omega arith;
+        on = record {
+          rest = o.on.rest;
+          parts = ap (λ x. label.text ∷ x ∷ words_of ts) is ∙ ap (λ x. label.text ∷ codes "$f" ∷ x) o.on.parts;
+          walks = o.on.walks;
+          shorter = let lt : length o.on.rest < length ts = o.on.shorter in omega arith;
+        };
       }
 
   hypothesis_read : (s : Scope) (around : List Scope) (label u : Token) (ts : List Token) → is_new_label s label.text ≡ true
@@ -130,13 +135,15 @@ module _ (final : Position) (e : final.place ≡ at_start) where
       (λ x. home (behind s (hypothesis w x)) around) (hypothesis_go s around w) (λ x. tt) final e [] ts h in
       record {
         statement = hypothesis w o.words;
-        rest = o.rest;
-        parts = ap (λ x. w ∷ x) (listed (codes "$e") u.text (codes "$.") (words_of ts) o.words (words_of o.rest) is o.parts);
         lawful =
             and_from (is_new_label s w) (is_expression s o.words) new
             (and_from (one_or_more o.words) (all_pass (symbol_tests s) [] o.words) o.enough_stand o.pass);
-        walks = o.walks;
-        shorter = let lt : length o.rest < length ts = o.shorter in omega arith;
+        on = record {
+          rest = o.on.rest;
+          parts = ap (λ x. w ∷ x) (listed (codes "$e") u.text (codes "$.") (words_of ts) o.words (words_of o.on.rest) is o.on.parts);
+          walks = o.on.walks;
+          shorter = let lt : length o.on.rest < length ts = o.on.shorter in omega arith;
+        };
       }
 
   axiom_read : (s : Scope) (around : List Scope) (label u : Token) (ts : List Token) → is_new_label s label.text ≡ true
@@ -148,13 +155,15 @@ module _ (final : Position) (e : final.place ≡ at_start) where
       (λ x. home (behind s (asserted w x)) around) (axiom_go s around w) (λ x. tt) final e [] ts h in
       record {
         statement = asserted w o.words;
-        rest = o.rest;
-        parts = ap (λ x. w ∷ x) (listed (codes "$a") u.text (codes "$.") (words_of ts) o.words (words_of o.rest) is o.parts);
         lawful =
             and_from (is_new_label s w) (is_expression s o.words) new
             (and_from (one_or_more o.words) (all_pass (symbol_tests s) [] o.words) o.enough_stand o.pass);
-        walks = o.walks;
-        shorter = let lt : length o.rest < length ts = o.shorter in omega arith;
+        on = record {
+          rest = o.on.rest;
+          parts = ap (λ x. w ∷ x) (listed (codes "$a") u.text (codes "$.") (words_of ts) o.words (words_of o.on.rest) is o.on.parts);
+          walks = o.on.walks;
+          shorter = let lt : length o.on.rest < length ts = o.on.shorter in omega arith;
+        };
       }
 
   theorem_read : (s : Scope) (around : List Scope) (label u : Token) (ts : List Token) → is_new_label s label.text ≡ true
@@ -164,18 +173,24 @@ module _ (final : Position) (e : final.place ≡ at_start) where
       let w = label.text in
       let o = reads_words (λ x. there s around (in_theorem w x)) (symbol_tests s) (codes "$=") one_or_more
       (λ x. there s around (in_steps w x [])) (theorem_go s around w) (λ x. tt) final e [] ts h in
-      let p = reads_proof final e s around w o.words o.rest o.walks in
+      let p = reads_proof final e s around w o.words o.on.rest o.on.walks in
       record {
         statement = proved w o.words p.proof;
-        rest = p.rest;
-        parts =
-            proved_words w u.text (words_of ts) o.words (words_of o.rest) (proof_spelling p.proof) (words_of p.rest) is o.parts p.parts;
         lawful =
             three_from (is_new_label s w) (is_expression s o.words) (is_lawful_proof s o.words p.proof) new
             (and_from (one_or_more o.words) (all_pass (symbol_tests s) [] o.words) o.enough_stand o.pass)
             p.lawful;
-        walks = p.walks;
-        shorter = let lt : length o.rest < length ts = o.shorter in let less : length p.rest < length o.rest = p.shorter in omega arith;
+        on = record {
+          rest = p.on.rest;
+          parts =
+              proved_words w u.text (words_of ts) o.words (words_of o.on.rest) (proof_spelling p.proof) (words_of p.on.rest) is
+              o.on.parts p.on.parts;
+          walks = p.on.walks;
+          shorter =
+              let lt : length o.on.rest < length ts = o.on.shorter in
+              let less : length p.on.rest < length o.on.rest = p.on.shorter in
+              omega arith;
+        };
       }
 
   keyword_read : (s : Scope) (around : List Scope) (label u : Token) (q : Position) (ts : List Token) → is_label label.text ≡ true
@@ -247,9 +262,9 @@ module _ (final : Position) (e : final.place ≡ at_start) (f : final.stand.arou
       → ReadsAll s around (t ∷ ts) final
   unfolding Later
   then_all s around t ts later o =
-      let lt : length o.rest < length (t ∷ ts) = o.shorter in
-      one_more s around (t ∷ ts) o.rest final o.statement o.parts o.lawful lt
-      (later (behind s o.statement) around o.rest (omega arith) o.walks)
+      let lt : length o.on.rest < length (t ∷ ts) = o.on.shorter in
+      one_more s around (t ∷ ts) o.on.rest final o.statement o.on.parts o.lawful lt
+      (later (behind s o.statement) around o.on.rest (omega arith) o.on.walks)
 
   -- a block, of which the statements are read, and what follows it
   then_block : (s : Scope) (around : List Scope) (t : Token) (ts : List Token) → Later ts → t.text ≡ codes "${"

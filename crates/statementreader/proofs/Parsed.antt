@@ -13,7 +13,7 @@ use Rattle.mmsyntax.specs.Blocks.{Block, with_distinct}
 use Rattle.mmsyntax.specs.Faults.{Scope, outside, inside, block_of, Place, at_start, in_constants, in_variables}
 use Rattle.mmsyntax.specs.Faults.{float_type, float_variable, float_end, in_distinct, in_proof, Position, row}
 use Rattle.mmsyntax.specs.Grammar.{DeclaresConstants, DeclaresVariables, ReadsAfter, Restricts, StepsAfter}
-use Rattle.walks.proofs.Walks.{walk, walk_none, walk_cons}
+use Rattle.walks.proofs.Walks.{walk, walk_none, walk_cons, ReadsOn}
 use Rattle.statementreader.proofs.Leading.{there, home, IsInner}
 use Rattle.statementreader.proofs.ParsedRows.{constant_leads, variable_leads, type_leads, float_variable_leads, float_end_leads}
 use Rattle.statementreader.proofs.ParsedRows.{distinct_leads}
@@ -33,62 +33,47 @@ no_end l k p final inner e h = subst IsInner (ap (λ (x : Position). x.place) (w
 pub record ReadsConstants {A : Type 0} (l : Language Position A) (k : Known) (some : Bool) (ts : List Token)
     (final : Position) : Type 0 where
   pub words : List Word
-  pub rest : List Token
   pub after : Known
-  pub parts : words_of ts ≡ words ++ codes "$." ∷ words_of rest
   pub any : (some ≡ true) ⊎ (words ≢ [])
   pub declared : DeclaresConstants k words after
-  pub walks : walk l (home after) rest ≡ Ok final
-  pub shorter : length rest < length ts
+  pub on : ReadsOn l (λ more. words ++ codes "$." ∷ more) (home after) ts final
 
 pub record ReadsVariables {A : Type 0} (l : Language Position A) (k : Known) (some : Bool) (ts : List Token)
     (final : Position) : Type 0 where
   pub words : List Word
-  pub rest : List Token
   pub after : Known
-  pub parts : words_of ts ≡ words ++ codes "$." ∷ words_of rest
   pub any : (some ≡ true) ⊎ (words ≢ [])
   pub declared : DeclaresVariables k words after
-  pub walks : walk l (home after) rest ≡ Ok final
-  pub shorter : length rest < length ts
+  pub on : ReadsOn l (λ more. words ++ codes "$." ∷ more) (home after) ts final
 
 -- ---- the symbols of an expression behind others, the word that ends them, and a walk from behind it
 
 pub record ReadsSymbols {A : Type 0} (l : Language Position A) (k : Known) (stop : Word) (ended : List Symbol → Position)
     (front : List Symbol) (ts : List Token) (final : Position) : Type 0 where
   pub words : List Word
-  pub rest : List Token
   pub whole : List Symbol
-  pub parts : words_of ts ≡ words ++ stop ∷ words_of rest
   pub any : (front ≢ []) ⊎ (words ≢ [])
   pub read : ReadsAfter k.tables front words whole
-  pub walks : walk l (ended whole) rest ≡ Ok final
-  pub shorter : length rest < length ts
+  pub on : ReadsOn l (λ more. words ++ stop ∷ more) (ended whole) ts final
 
 -- ---- the steps of a proof behind others
 
 pub record ReadsSteps {A : Type 0} (l : Language Position A) (k : Known) (s : Scope) (label : Word) (e : List Symbol)
     (front : List Step) (ts : List Token) (final : Position) : Type 0 where
   pub words : List Word
-  pub rest : List Token
   pub whole : List Step
-  pub parts : words_of ts ≡ words ++ codes "$." ∷ words_of rest
   pub any : (front ≢ []) ⊎ (words ≢ [])
   pub read : StepsAfter k.tables label (block_of s).hyps front words whole
-  pub walks : walk l (theorem_end k s label e whole) rest ≡ Ok final
-  pub shorter : length rest < length ts
+  pub on : ReadsOn l (λ more. words ++ codes "$." ∷ more) (theorem_end k s label e whole) ts final
 
 -- ---- the variables of a $d behind others
 
 pub record ReadsDistinct {A : Type 0} (l : Language Position A) (k : Known) (b : Block) (vs : List ℕ) (ts : List Token)
     (final : Position) : Type 0 where
   pub words : List Word
-  pub rest : List Token
   pub held : Block
-  pub parts : words_of ts ≡ words ++ codes "$." ∷ words_of rest
   pub restricts : Restricts k.tables b vs words held
-  pub walks : walk l (there k (at_start (inside held))) rest ≡ Ok final
-  pub shorter : length rest < length ts
+  pub on : ReadsOn l (λ more. words ++ codes "$." ∷ more) (there k (at_start (inside held))) ts final
 
 -- ---- the type and the variable of a $f, and its end
 
@@ -97,12 +82,9 @@ pub record ReadsFloat {A : Type 0} (l : Language Position A) (k : Known) (label 
   pub v : Word
   pub i : ℕ
   pub j : ℕ
-  pub rest : List Token
-  pub parts : words_of ts ≡ c ∷ v ∷ codes "$." ∷ words_of rest
   pub type_is : type_of k.tables c ≡ Ok i
   pub variable_is : variable_of k.tables v ≡ Ok j
-  pub walks : walk l (home (with_float k label i j)) rest ≡ Ok final
-  pub shorter : length rest < length ts
+  pub on : ReadsOn l (λ more. c ∷ v ∷ codes "$." ∷ more) (home (with_float k label i j)) ts final
 
 -- ---- walks
 
@@ -115,25 +97,29 @@ module _ {A : Type 0} (l : Language Position A) (within : StaysWithin l) (final 
       elim (constant_leads k some t r.0 (within (there k (in_constants some)) r.0 t r.1)) [
         | inl y ↦ record {
           words = [];
-          rest = ts;
           after = k;
-          parts = ap (λ w. w ∷ words_of ts) y.1;
           any = inl y.0;
           declared = refl;
-          walks = subst (λ q. walk l q ts ≡ Ok final) (sym y.2) r.2;
-          shorter = omega arith;
+          on = record {
+            rest = ts;
+            parts = ap (λ w. w ∷ words_of ts) y.1;
+            walks = subst (λ q. walk l q ts ≡ Ok final) (sym y.2) r.2;
+            shorter = omega arith;
+          };
         }
         | inr n ↦
             let o = reads_constants (with_constant k t.text) true ts (subst (λ q. walk l q ts ≡ Ok final) (sym n.1) r.2) in
             record {
               words = t.text ∷ o.words;
-              rest = o.rest;
               after = o.after;
-              parts = ap (λ ws. t.text ∷ ws) o.parts;
               any = inr (λ x. absurd cc);
               declared = (n.0, o.declared);
-              walks = o.walks;
-              shorter = let lt : length o.rest < length ts = o.shorter in omega arith;
+              on = record {
+                rest = o.on.rest;
+                parts = ap (λ ws. t.text ∷ ws) o.on.parts;
+                walks = o.on.walks;
+                shorter = let lt : length o.on.rest < length ts = o.on.shorter in omega arith;
+              };
             }
       ]
 
@@ -145,25 +131,29 @@ module _ {A : Type 0} (l : Language Position A) (within : StaysWithin l) (final 
       elim (variable_leads k some t r.0 (within (there k (in_variables some)) r.0 t r.1)) [
         | inl y ↦ record {
           words = [];
-          rest = ts;
           after = k;
-          parts = ap (λ w. w ∷ words_of ts) y.1;
           any = inl y.0;
           declared = refl;
-          walks = subst (λ q. walk l q ts ≡ Ok final) (sym y.2) r.2;
-          shorter = omega arith;
+          on = record {
+            rest = ts;
+            parts = ap (λ w. w ∷ words_of ts) y.1;
+            walks = subst (λ q. walk l q ts ≡ Ok final) (sym y.2) r.2;
+            shorter = omega arith;
+          };
         }
         | inr n ↦
             let o = reads_variables (with_variable k t.text) true ts (subst (λ q. walk l q ts ≡ Ok final) (sym n.1) r.2) in
             record {
               words = t.text ∷ o.words;
-              rest = o.rest;
               after = o.after;
-              parts = ap (λ ws. t.text ∷ ws) o.parts;
               any = inr (λ x. absurd cc);
               declared = (n.0, o.declared);
-              walks = o.walks;
-              shorter = let lt : length o.rest < length ts = o.shorter in omega arith;
+              on = record {
+                rest = o.on.rest;
+                parts = ap (λ ws. t.text ∷ ws) o.on.parts;
+                walks = o.on.walks;
+                shorter = let lt : length o.on.rest < length ts = o.on.shorter in omega arith;
+              };
             }
       ]
 
@@ -177,26 +167,30 @@ module _ {A : Type 0} (l : Language Position A) (within : StaysWithin l) (final 
       elim (leads front t r.0 (within (there k (place front)) r.0 t r.1)) [
         | inl y ↦ record {
           words = [];
-          rest = ts;
           whole = front;
-          parts = ap (λ w. w ∷ words_of ts) y.1;
           any = inl y.0;
           read = refl;
-          walks = subst (λ q. walk l q ts ≡ Ok final) (sym y.2) r.2;
-          shorter = omega arith;
+          on = record {
+            rest = ts;
+            parts = ap (λ w. w ∷ words_of ts) y.1;
+            walks = subst (λ q. walk l q ts ≡ Ok final) (sym y.2) r.2;
+            shorter = omega arith;
+          };
         }
         | inr n ↦
             let onward = subst (λ q. walk l q ts ≡ Ok final) (sym n.2) r.2 in
             let o = reads_symbols k place inner stop ended leads (front ++ n.0 ∷ []) ts onward in
             record {
               words = t.text ∷ o.words;
-              rest = o.rest;
               whole = o.whole;
-              parts = ap (λ ws. t.text ∷ ws) o.parts;
               any = inr (λ x. absurd cc);
               read = (n.0, n.1, o.read);
-              walks = o.walks;
-              shorter = let lt : length o.rest < length ts = o.shorter in omega arith;
+              on = record {
+                rest = o.on.rest;
+                parts = ap (λ ws. t.text ∷ ws) o.on.parts;
+                walks = o.on.walks;
+                shorter = let lt : length o.on.rest < length ts = o.on.shorter in omega arith;
+              };
             }
       ]
 
@@ -208,25 +202,29 @@ module _ {A : Type 0} (l : Language Position A) (within : StaysWithin l) (final 
       elim (proof_leads k s label x front t r.0 (within (there k (in_proof s label x front)) r.0 t r.1)) [
         | inl y ↦ record {
           words = [];
-          rest = ts;
           whole = front;
-          parts = ap (λ w. w ∷ words_of ts) y.1;
           any = inl y.0;
           read = refl;
-          walks = subst (λ q. walk l q ts ≡ Ok final) (sym y.2) r.2;
-          shorter = omega arith;
+          on = record {
+            rest = ts;
+            parts = ap (λ w. w ∷ words_of ts) y.1;
+            walks = subst (λ q. walk l q ts ≡ Ok final) (sym y.2) r.2;
+            shorter = omega arith;
+          };
         }
         | inr n ↦
             let o = reads_steps k s label x (front ++ n.0 ∷ []) ts (subst (λ q. walk l q ts ≡ Ok final) (sym n.2) r.2) in
             record {
               words = t.text ∷ o.words;
-              rest = o.rest;
               whole = o.whole;
-              parts = ap (λ ws. t.text ∷ ws) o.parts;
               any = inr (λ z. absurd cc);
               read = (n.0, n.1, o.read);
-              walks = o.walks;
-              shorter = let lt : length o.rest < length ts = o.shorter in omega arith;
+              on = record {
+                rest = o.on.rest;
+                parts = ap (λ ws. t.text ∷ ws) o.on.parts;
+                walks = o.on.walks;
+                shorter = let lt : length o.on.rest < length ts = o.on.shorter in omega arith;
+              };
             }
       ]
 
@@ -238,23 +236,27 @@ module _ {A : Type 0} (l : Language Position A) (within : StaysWithin l) (final 
       elim (distinct_leads k b vs t r.0 (within (there k (in_distinct b vs)) r.0 t r.1)) [
         | inl y ↦ record {
           words = [];
-          rest = ts;
           held = b;
-          parts = ap (λ w. w ∷ words_of ts) y.1;
           restricts = (y.0, refl);
-          walks = subst (λ q. walk l q ts ≡ Ok final) (sym y.2) r.2;
-          shorter = omega arith;
+          on = record {
+            rest = ts;
+            parts = ap (λ w. w ∷ words_of ts) y.1;
+            walks = subst (λ q. walk l q ts ≡ Ok final) (sym y.2) r.2;
+            shorter = omega arith;
+          };
         }
         | inr n ↦
             let o = reads_distinct k (with_distinct b vs n.0) (vs ++ n.0 ∷ []) ts (subst (λ q. walk l q ts ≡ Ok final) (sym n.2) r.2) in
             record {
               words = t.text ∷ o.words;
-              rest = o.rest;
               held = o.held;
-              parts = ap (λ ws. t.text ∷ ws) o.parts;
               restricts = (n.0, n.1, o.restricts);
-              walks = o.walks;
-              shorter = let lt : length o.rest < length ts = o.shorter in omega arith;
+              on = record {
+                rest = o.on.rest;
+                parts = ap (λ ws. t.text ∷ ws) o.on.parts;
+                walks = o.on.walks;
+                shorter = let lt : length o.on.rest < length ts = o.on.shorter in omega arith;
+              };
             }
       ]
 
@@ -272,12 +274,14 @@ module _ {A : Type 0} (l : Language Position A) (within : StaysWithin l) (final 
         v = tv.text;
         i = i;
         j = j;
-        rest = ts;
-        parts = ap (λ w. tc.text ∷ tv.text ∷ w ∷ words_of ts) y.0;
         type_is = ti;
         variable_is = vj;
-        walks = subst (λ q. walk l q ts ≡ Ok final) (sym y.1) r.2;
-        shorter = omega arith;
+        on = record {
+          rest = ts;
+          parts = ap (λ w. tc.text ∷ tv.text ∷ w ∷ words_of ts) y.0;
+          walks = subst (λ q. walk l q ts ≡ Ok final) (sym y.1) r.2;
+          shorter = omega arith;
+        };
       }
 
   float_has_variable : (k : Known) (label : Word) (i : ℕ) (tc : Token) (ts : List Token) → type_of k.tables tc.text ≡ Ok i

@@ -18,7 +18,7 @@ use Rattle.mmsyntax.specs.Faults.{in_hypothesis, in_axiom, in_theorem, in_proof,
 use Rattle.mmsyntax.specs.Grammar.{Claim, asserted, proved, Piece, distinct, hypothesis, Statement, constants, variables, float}
 use Rattle.mmsyntax.specs.Grammar.{alone, block}
 use Rattle.mmsyntax.specs.Grammar.{claim_spelling, piece_spelling, spelling, Claims, Holds, HoldAll, Declares, DeclareAll}
-use Rattle.walks.proofs.Walks.{walk, walk_none, walk_cons}
+use Rattle.walks.proofs.Walks.{walk, walk_none, walk_cons, ReadsOn}
 use Rattle.statementreader.proofs.Leading.{there, home}
 use Rattle.statementreader.proofs.LeadingStatements.{regroup, regroup_theorem, regroup_block}
 use Rattle.statementreader.proofs.ParsedRows.{hypothesis_leads, hypothesis_end, axiom_leads, axiom_end, theorem_leads, Asserts}
@@ -32,11 +32,8 @@ use Rattle.statementreader.proofs.Parsed.{reads_distinct, reads_float}
 pub record ReadsClaim {A : Type 0} (l : Language Position A) (k : Known) (s : Scope) (ts : List Token) (final : Position) : Type 0 where
   pub claim : Claim
   pub assertion : Assertion
-  pub rest : List Token
-  pub parts : words_of ts ≡ claim_spelling claim ++ words_of rest
   pub claims : Claims k (block_of s) claim assertion
-  pub walks : walk l (there (with_assertion k assertion) (behind s)) rest ≡ Ok final
-  pub shorter : length rest < length ts
+  pub on : ReadsOn l (λ more. claim_spelling claim ++ more) (there (with_assertion k assertion) (behind s)) ts final
 
 -- what stands in a block behind what it holds, up to $}
 pub record ReadsBlock {A : Type 0} (l : Language Position A) (k : Known) (b : Block) (ts : List Token) (final : Position) : Type 0 where
@@ -45,22 +42,17 @@ pub record ReadsBlock {A : Type 0} (l : Language Position A) (k : Known) (b : Bl
   pub held : Block
   pub claim : Claim
   pub assertion : Assertion
-  pub rest : List Token
-  pub parts : words_of ts ≡ flat_map piece_spelling pieces ++ (claim_spelling claim ++ words_of rest)
   pub holds : HoldAll k b pieces next held
   pub claims : Claims next held claim assertion
-  pub walks : walk l (there (with_assertion next assertion) at_close) rest ≡ Ok final
-  pub shorter : length rest < length ts
+  pub on : ReadsOn l (λ more. flat_map piece_spelling pieces ++ (claim_spelling claim ++ more))
+      (there (with_assertion next assertion) at_close) ts final
 
 -- a statement at the front, and a walk from behind it
 pub record ReadsStatement {A : Type 0} (l : Language Position A) (k : Known) (ts : List Token) (final : Position) : Type 0 where
   pub statement : Statement
-  pub rest : List Token
   pub after : Known
-  pub parts : words_of ts ≡ spelling statement ++ words_of rest
   pub declared : Declares k statement after
-  pub walks : walk l (home after) rest ≡ Ok final
-  pub shorter : length rest < length ts
+  pub on : ReadsOn l (λ more. spelling statement ++ more) (home after) ts final
 
 -- statements of which these are the words
 pub record ReadsAll (k : Known) (ts : List Token) (final : Position) : Type 0 where
@@ -102,13 +94,15 @@ module _ {A : Type 0} (l : Language Position A) (within : StaysWithin l) (final 
       record {
         claim = asserted w o.words;
         assertion = axiom_of (block_of s) w o.whole;
-        rest = o.rest;
-        parts =
-            ap (λ x. w ∷ x ∷ words_of ts) is ∙ ap (λ ws. w ∷ codes "$a" ∷ ws) o.parts
-            ∙ sym (ap (λ x. w ∷ x) (regroup (codes "$a") o.words (codes "$.") (words_of o.rest)));
         claims = (is_l, pass, some_symbols o.any, (o.whole, o.read, refl));
-        walks = o.walks;
-        shorter = let lt : length o.rest < length ts = o.shorter in omega arith;
+        on = record {
+          rest = o.on.rest;
+          parts =
+              ap (λ x. w ∷ x ∷ words_of ts) is ∙ ap (λ ws. w ∷ codes "$a" ∷ ws) o.on.parts
+              ∙ sym (ap (λ x. w ∷ x) (regroup (codes "$a") o.words (codes "$.") (words_of o.on.rest)));
+          walks = o.on.walks;
+          shorter = let lt : length o.on.rest < length ts = o.on.shorter in omega arith;
+        };
       }
 
   -- behind label and $p
@@ -119,19 +113,23 @@ module _ {A : Type 0} (l : Language Position A) (within : StaysWithin l) (final 
       let w = label.text in
       let o = reads_symbols l within final e k (λ x. in_theorem s w x) (λ x. tt) (codes "$=") (λ x. there k (in_proof s w x []))
       (theorem_leads k s w) [] ts h in
-      let p = reads_steps l within final e k s w o.whole [] o.rest o.walks in
+      let p = reads_steps l within final e k s w o.whole [] o.on.rest o.on.walks in
       record {
         claim = proved w o.words p.words;
         assertion = theorem_of (block_of s) w o.whole p.whole;
-        rest = p.rest;
-        parts =
-            ap (λ x. w ∷ x ∷ words_of ts) is ∙ ap (λ ws. w ∷ codes "$p" ∷ ws) o.parts
-            ∙ ap (λ ws. w ∷ codes "$p" ∷ (o.words ++ codes "$=" ∷ ws)) p.parts
-            ∙ sym (regroup_theorem w o.words p.words (words_of p.rest));
         claims = (is_l, pass, some_symbols o.any, some_steps p.any, (o.whole, p.whole, o.read, p.read, refl));
-        walks = p.walks;
-        shorter =
-            let lt : length o.rest < length ts = o.shorter in let less : length p.rest < length o.rest = p.shorter in omega arith;
+        on = record {
+          rest = p.on.rest;
+          parts =
+              ap (λ x. w ∷ x ∷ words_of ts) is ∙ ap (λ ws. w ∷ codes "$p" ∷ ws) o.on.parts
+              ∙ ap (λ ws. w ∷ codes "$p" ∷ (o.words ++ codes "$=" ∷ ws)) p.on.parts
+              ∙ sym (regroup_theorem w o.words p.words (words_of p.on.rest));
+          walks = p.on.walks;
+          shorter =
+              let lt : length o.on.rest < length ts = o.on.shorter in
+              let less : length p.on.rest < length o.on.rest = p.on.shorter in
+              omega arith;
+        };
       }
 
   -- behind a label and the keyword of an assertion
@@ -148,21 +146,23 @@ module _ {A : Type 0} (l : Language Position A) (within : StaysWithin l) (final 
       → ReadsBlock l k b ts final
   one_more k b p next held ts rest holds is lt o =
       let f = flat_map piece_spelling o.pieces in
-      let behind_piece = claim_spelling o.claim ++ words_of o.rest in
+      let behind_piece = claim_spelling o.claim ++ words_of o.on.rest in
       record {
         pieces = p ∷ o.pieces;
         next = o.next;
         held = o.held;
         claim = o.claim;
         assertion = o.assertion;
-        rest = o.rest;
-        parts =
-            is ∙ ap (λ ws. piece_spelling p ++ ws) o.parts ∙ sym (append_assoc (piece_spelling p) f behind_piece)
-            ∙ sym (ap (λ ws. ws ++ behind_piece) (flat_map-cons piece_spelling p o.pieces));
         holds = (next, held, holds, o.holds);
         claims = o.claims;
-        walks = o.walks;
-        shorter = let less : length o.rest < length rest = o.shorter in omega arith;
+        on = record {
+          rest = o.on.rest;
+          parts =
+              is ∙ ap (λ ws. piece_spelling p ++ ws) o.on.parts ∙ sym (append_assoc (piece_spelling p) f behind_piece)
+              ∙ sym (ap (λ ws. ws ++ behind_piece) (flat_map-cons piece_spelling p o.pieces));
+          walks = o.on.walks;
+          shorter = let less : length o.on.rest < length rest = o.on.shorter in omega arith;
+        };
       }
 
   -- in a block, behind a label and $e
@@ -177,12 +177,12 @@ module _ {A : Type 0} (l : Language Position A) (within : StaysWithin l) (final 
       (hypothesis_leads k b w) [] ts h in
       let next = with_hypothesis_label k w in
       let held = with_hypothesis b w o.whole in
-      let lt : length o.rest < length ts = o.shorter in
-      one_more k b (hypothesis w o.words) next held (label ∷ u ∷ ts) o.rest
+      let lt : length o.on.rest < length ts = o.on.shorter in
+      one_more k b (hypothesis w o.words) next held (label ∷ u ∷ ts) o.on.rest
       (is_l, pass, some_symbols o.any, (o.whole, o.read, refl, refl))
-      (ap (λ x. w ∷ x ∷ words_of ts) is ∙ ap (λ ws. w ∷ codes "$e" ∷ ws) o.parts
-      ∙ sym (ap (λ x. w ∷ x) (regroup (codes "$e") o.words (codes "$.") (words_of o.rest))))
-      (omega arith) (later next held o.rest lt o.walks)
+      (ap (λ x. w ∷ x ∷ words_of ts) is ∙ ap (λ ws. w ∷ codes "$e" ∷ ws) o.on.parts
+      ∙ sym (ap (λ x. w ∷ x) (regroup (codes "$e") o.words (codes "$.") (words_of o.on.rest))))
+      (omega arith) (later next held o.on.rest lt o.on.walks)
 
   -- in a block, behind a label
   reads_labelled : (k : Known) (b : Block) (label : Token) (ts : List Token) → IsTrue (is_label label.text)
@@ -206,12 +206,9 @@ module _ {A : Type 0} (l : Language Position A) (within : StaysWithin l) (final 
               held = b;
               claim = c.claim;
               assertion = c.assertion;
-              rest = c.rest;
-              parts = c.parts;
               holds = (refl, refl);
               claims = c.claims;
-              walks = c.walks;
-              shorter = c.shorter;
+              on = c.on;
             }
       ]
 
@@ -226,42 +223,44 @@ module _ {A : Type 0} (l : Language Position A) (within : StaysWithin l) (final 
       elim (block_leads k b t r.0 (within p r.0 t r.1)) [
         | inl y ↦
             let o = reads_distinct l within final e k b [] ts (subst (λ x. walk l x ts ≡ Ok final) (sym y.1) r.2) in
-            let less : length o.rest < length ts = o.shorter in
-            one_more k b (distinct o.words) k o.held (t ∷ ts) o.rest (refl, o.restricts)
-            (ap (λ w. w ∷ words_of ts) y.0 ∙ ap (λ ws. codes "$d" ∷ ws) o.parts
-            ∙ sym (regroup (codes "$d") o.words (codes "$.") (words_of o.rest)))
-            (omega arith) (reads_block fuel k o.held o.rest (omega arith) o.walks)
+            let less : length o.on.rest < length ts = o.on.shorter in
+            one_more k b (distinct o.words) k o.held (t ∷ ts) o.on.rest (refl, o.restricts)
+            (ap (λ w. w ∷ words_of ts) y.0 ∙ ap (λ ws. codes "$d" ∷ ws) o.on.parts
+            ∙ sym (regroup (codes "$d") o.words (codes "$.") (words_of o.on.rest)))
+            (omega arith) (reads_block fuel k o.held o.on.rest (omega arith) o.on.walks)
         | inr y ↦
             reads_labelled k b t ts y.0 (subst (λ x. walk l x ts ≡ Ok final) (sym y.1) r.2)
             (λ next held rest less g. reads_block fuel next held rest (omega arith) g)
       ]
 
   -- behind ${ and what a block has, its $}
-  reads_close : (k : Known) (t : Token) (ts us : List Token) (o : ReadsBlock l k no_block ts final) → t.text ≡ codes "${" → o.rest ≡ us
+  reads_close : (k : Known) (t : Token) (ts us : List Token) (o : ReadsBlock l k no_block ts final) → t.text ≡ codes "${" → o.on.rest ≡ us
       → ReadsStatement l k (t ∷ ts) final
   reads_close k t ts [] o is same =
       let known = with_assertion o.next o.assertion in
-      absurd (no_end l known at_close final tt e (subst (λ x. walk l (there known at_close) x ≡ Ok final) same o.walks))
+      absurd (no_end l known at_close final tt e (subst (λ x. walk l (there known at_close) x ≡ Ok final) same o.on.walks))
   reads_close k t ts (u ∷ us) o is same =
       let known = with_assertion o.next o.assertion in
-      let r = walk_cons l (there known at_close) final u us (subst (λ x. walk l (there known at_close) x ≡ Ok final) same o.walks) in
+      let r = walk_cons l (there known at_close) final u us (subst (λ x. walk l (there known at_close) x ≡ Ok final) same o.on.walks) in
       let c = close_leads known u r.0 (within (there known at_close) r.0 u r.1) in
       let f = flat_map piece_spelling o.pieces in
       let words = claim_spelling o.claim in
       record {
         statement = block o.pieces o.claim;
-        rest = us;
         after = known;
-        parts =
-            ap (λ w. w ∷ words_of ts) is ∙ ap (λ ws. codes "${" ∷ ws) o.parts
-            ∙ ap (λ x. codes "${" ∷ (f ++ (words ++ words_of x))) same ∙ ap (λ w. codes "${" ∷ (f ++ (words ++ w ∷ words_of us))) c.0
-            ∙ sym (regroup_block f words (words_of us));
         declared = (o.next, o.held, o.assertion, o.holds, o.claims, refl);
-        walks = subst (λ x. walk l x us ≡ Ok final) (sym c.1) r.2;
-        shorter =
-            let less : length o.rest < length ts = o.shorter in
-            let eq : length o.rest ≡ suc (length us) = ap (λ (x : List Token). length x) same in
-            omega arith;
+        on = record {
+          rest = us;
+          parts =
+              ap (λ w. w ∷ words_of ts) is ∙ ap (λ ws. codes "${" ∷ ws) o.on.parts
+              ∙ ap (λ x. codes "${" ∷ (f ++ (words ++ words_of x))) same ∙ ap (λ w. codes "${" ∷ (f ++ (words ++ w ∷ words_of us))) c.0
+              ∙ sym (regroup_block f words (words_of us));
+          walks = subst (λ x. walk l x us ≡ Ok final) (sym c.1) r.2;
+          shorter =
+              let less : length o.on.rest < length ts = o.on.shorter in
+              let eq : length o.on.rest ≡ suc (length us) = ap (λ (x : List Token). length x) same in
+              omega arith;
+        };
       }
 
   -- outermost, behind a label
@@ -277,23 +276,22 @@ module _ {A : Type 0} (l : Language Position A) (within : StaysWithin l) (final 
             let o = reads_float l within final e k w ts (subst (λ x. walk l x ts ≡ Ok final) (sym y.3) r.2) in
             record {
               statement = float w o.c o.v;
-              rest = o.rest;
               after = with_float k w o.i o.j;
-              parts = ap (λ x. w ∷ x ∷ words_of ts) y.0 ∙ ap (λ ws. w ∷ codes "$f" ∷ ws) o.parts;
               declared = (y.1, is_l, y.2, (o.i, o.j, o.type_is, o.variable_is, refl));
-              walks = o.walks;
-              shorter = let lt : length o.rest < length ts = o.shorter in omega arith;
+              on = record {
+                rest = o.on.rest;
+                parts = ap (λ x. w ∷ x ∷ words_of ts) y.0 ∙ ap (λ ws. w ∷ codes "$f" ∷ ws) o.on.parts;
+                walks = o.on.walks;
+                shorter = let lt : length o.on.rest < length ts = o.on.shorter in omega arith;
+              };
             }
         | inr a ↦
             let c = reads_claim k outside label u r.0 ts is_l a r.2 in
             record {
               statement = alone c.claim;
-              rest = c.rest;
               after = with_assertion k c.assertion;
-              parts = c.parts;
               declared = (c.assertion, c.claims, refl);
-              walks = c.walks;
-              shorter = c.shorter;
+              on = c.on;
             }
       ]
 
@@ -305,33 +303,37 @@ module _ {A : Type 0} (l : Language Position A) (within : StaysWithin l) (final 
             let o = reads_constants l within final e k false ts (subst (λ x. walk l x ts ≡ Ok final) (sym c.2) r.2) in
             record {
               statement = constants o.words;
-              rest = o.rest;
               after = o.after;
-              parts =
-                  ap (λ w. w ∷ words_of ts) c.0 ∙ ap (λ ws. codes "$c" ∷ ws) o.parts
-                  ∙ sym (regroup (codes "$c") o.words (codes "$.") (words_of o.rest));
               declared = (c.1, some_names o.any, o.declared);
-              walks = o.walks;
-              shorter = let lt : length o.rest < length ts = o.shorter in omega arith;
+              on = record {
+                rest = o.on.rest;
+                parts =
+                    ap (λ w. w ∷ words_of ts) c.0 ∙ ap (λ ws. codes "$c" ∷ ws) o.on.parts
+                    ∙ sym (regroup (codes "$c") o.words (codes "$.") (words_of o.on.rest));
+                walks = o.on.walks;
+                shorter = let lt : length o.on.rest < length ts = o.on.shorter in omega arith;
+              };
             }
         | inr x ↦ elim x [
           | inl v ↦
               let o = reads_variables l within final e k false ts (subst (λ x. walk l x ts ≡ Ok final) (sym v.2) r.2) in
               record {
                 statement = variables o.words;
-                rest = o.rest;
                 after = o.after;
-                parts =
-                    ap (λ w. w ∷ words_of ts) v.0 ∙ ap (λ ws. codes "$v" ∷ ws) o.parts
-                    ∙ sym (regroup (codes "$v") o.words (codes "$.") (words_of o.rest));
                 declared = (v.1, some_names o.any, o.declared);
-                walks = o.walks;
-                shorter = let lt : length o.rest < length ts = o.shorter in omega arith;
+                on = record {
+                  rest = o.on.rest;
+                  parts =
+                      ap (λ w. w ∷ words_of ts) v.0 ∙ ap (λ ws. codes "$v" ∷ ws) o.on.parts
+                      ∙ sym (regroup (codes "$v") o.words (codes "$.") (words_of o.on.rest));
+                  walks = o.on.walks;
+                  shorter = let lt : length o.on.rest < length ts = o.on.shorter in omega arith;
+                };
               }
           | inr y ↦ elim y [
             | inl b ↦
                 let o = reads_block (suc (length ts)) k no_block ts (omega arith) (subst (λ x. walk l x ts ≡ Ok final) (sym b.1) r.2) in
-                reads_close k t ts o.rest o b.0 refl
+                reads_close k t ts o.on.rest o b.0 refl
             | inr n ↦ reads_outer k t ts n.0 (subst (λ x. walk l x ts ≡ Ok final) (sym n.1) r.2)
           ]
         ]
@@ -343,10 +345,12 @@ module _ {A : Type 0} (l : Language Position A) (within : StaysWithin l) (final 
       record { statements = []; parts = refl; declared = ap (λ (x : Position). x.known) (walk_none l (home k) final h) }
   reads_all (suc fuel) k (t ∷ ts) lt h =
       let o = reads_statement k t ts h in
-      let less : length o.rest < suc (length ts) = o.shorter in
-      let others = reads_all fuel o.after o.rest (omega arith) o.walks in
+      let less : length o.on.rest < suc (length ts) = o.on.shorter in
+      let others = reads_all fuel o.after o.on.rest (omega arith) o.on.walks in
       record {
         statements = o.statement ∷ others.statements;
-        parts = o.parts ∙ ap (λ ws. spelling o.statement ++ ws) others.parts ∙ sym (flat_map-cons spelling o.statement others.statements);
+        parts =
+            o.on.parts ∙ ap (λ ws. spelling o.statement ++ ws) others.parts
+            ∙ sym (flat_map-cons spelling o.statement others.statements);
         declared = (o.after, o.declared, others.declared);
       }

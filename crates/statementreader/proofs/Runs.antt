@@ -75,10 +75,6 @@ pub variable_here : (t : Tables) (w : Word) (v : ℕ) → variable_of t w ≡ Ok
 unfolding variable_of
 variable_here t w v h = if_ok (has_dollar w) UnknownSymbol (variable_named (meaning t w)) v h
 
-pub type_here : (t : Tables) (w : Word) (i : ℕ) → type_of t w ≡ Ok i → has_dollar w ≡ false
-unfolding type_of
-type_here t w i h = (if_ok (has_dollar w) UnknownSymbol _ i h).0
-
 -- ---- what stands
 
 abbrev pub StandsAt : Position → Type 0

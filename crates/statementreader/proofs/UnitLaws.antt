@@ -16,7 +16,7 @@ use Rattle.mmsyntax.specs.Rows.{Known, prelude_alone, in_prelude}
 use Rattle.mmsyntax.specs.Faults.{outside, inside, Place, at_start, Position, row}
 use Rattle.mmsyntax.specs.Faults.{first_of, unit_at, unit_language}
 use Rattle.mmsyntax.specs.Grammar.{Piece, distinct, hypothesis, Statement, constants, variables, float, alone, block, spelling}
-use Rattle.mmsyntax.specs.Grammar.{HoldAll, Declares, SpellsUnit}
+use Rattle.mmsyntax.specs.Grammar.{HoldAll, Declares, DeclareUnit, SpellsUnit}
 use Rattle.walks.proofs.Walks.{here, walk, walk_ends, walk_none, walk_cons, walks_outside, runs_all}
 use Rattle.statementreader.proofs.Ordinary.{statement_ordinary}
 use Rattle.statementreader.proofs.Leading.{there, home, IsInner, GoesOnInside}
@@ -52,9 +52,11 @@ unfolding token_reading
 unit_token_spelled t bytes a s =
     let l = unit_language t in
     let k = prelude_alone t in
-    let r = runs_all l false (tokens bytes) (spelling s.statement) (statement_ordinary k s.statement s.known s.declared) s.words_are in
-    let w = unit_leads t s.statement s.known r.kept s.declared r.words_are in
-    ap (ended l (length bytes)) (r.runs (home k) (home s.known) w) ∙ ap (λ xs. finished (length bytes) (first_of xs)) s.single
+    let u = s.unit in
+    let r = runs_all l false (tokens bytes) (spelling u.statement) (statement_ordinary k u.statement u.known u.declared)
+    (s.words_are ∙ ap (λ ws. Some ws) u.parts) in
+    let w = unit_leads t u.statement u.known r.kept u.declared r.words_are in
+    ap (ended l (length bytes)) (r.runs (home k) (home u.known) w) ∙ ap (λ xs. finished (length bytes) (first_of xs)) u.single
 
 -- ---- what is read is spelled
 
@@ -122,17 +124,9 @@ unit_ends t q final b (u ∷ us) some h =
     let none = (cond_fault (is_some (unit_at q.known q.place)) u (row q u) r.0 r.1).0 in
     absurd (let e : is_some (Some b) ≡ false = ap is_some (sym some) ∙ none in cc)
 
--- tokens that are the words of a statement, which declares the assertion alone
-pub record ParsedUnit (t : Tables) (ts : List Token) (a : Assertion) : Type 0 where
-  pub statement : Statement
-  pub parts : words_of ts ≡ spelling statement
-  pub known : Known
-  pub declared : Declares (prelude_alone t) statement known
-  pub single : known.units.assertions ≡ a ∷ []
-
 -- tokens that lead from the start of a unit behind it
 pub unit_parsed : (t : Tables) (a : Assertion) (ts : List Token) (final : Position) → unit_at final.known final.place ≡ Some a
-    → walk (unit_language t) (home (prelude_alone t)) ts ≡ Ok final → ParsedUnit t ts a
+    → walk (unit_language t) (home (prelude_alone t)) ts ≡ Ok final → DeclareUnit t (words_of ts) a
 unit_parsed t a [] final said h =
     absurd
     (let same = walk_none (unit_language t) (home (prelude_alone t)) final h in
@@ -142,13 +136,13 @@ unit_parsed t a (u ∷ us) final said h =
     let at_end = unit_ok final.known final.place a said in
     let r = reads_statement (unit_language t) (unit_stays t) final at_end.0 (prelude_alone t) u us h in
     let one = declares_one (prelude_alone t) r.after r.statement refl refl r.declared in
-    let ends = unit_ends t (home r.after) final one.0 r.rest (ap first_of one.1) r.walks in
+    let ends = unit_ends t (home r.after) final one.0 r.on.rest (ap first_of one.1) r.on.walks in
     let last : first_of r.after.units.assertions ≡ Some a = ap (λ (p : Position). first_of p.known.units.assertions) ends.1 ∙ at_end.1 in
     let some_is : Some one.0 ≡ Some a = ap first_of (sym one.1) ∙ last in
     let same : one.0 ≡ a = cc in
     record {
       statement = r.statement;
-      parts = r.parts ∙ ap (λ x. spelling r.statement ++ words_of x) ends.0 ∙ append-nil (spelling r.statement);
+      parts = r.on.parts ∙ ap (λ x. spelling r.statement ++ words_of x) ends.0 ∙ append-nil (spelling r.statement);
       known = r.after;
       declared = r.declared;
       single = one.1 ∙ ap (λ x. x ∷ []) same;
@@ -158,15 +152,7 @@ unit_walk_found : (t : Tables) (bytes : List ℕ) (a : Assertion) (kept : List T
     → without_comments false (words_of (tokens bytes)) ≡ Some (words_of kept) → unit_at final.known final.place ≡ Some a
     → walk (unit_language t) (home (prelude_alone t)) kept ≡ Ok final → SpellsUnit t bytes a
 unit_walk_found t bytes a kept final clean words_are said h =
-    let u = unit_parsed t a kept final said h in
-    record {
-      clean = clean;
-      statement = u.statement;
-      words_are = words_are ∙ ap (λ ws. Some ws) u.parts;
-      known = u.known;
-      declared = u.declared;
-      single = u.single;
-    }
+    record { clean = clean; words = words_of kept; words_are = words_are; unit = unit_parsed t a kept final said h }
 
 unit_token_found : (t : Tables) (bytes : List ℕ) (a : Assertion) → IsClean bytes → token_reading (unit_language t) bytes ≡ Ok a
     → SpellsUnit t bytes a

@@ -1,7 +1,7 @@
 -- A run over a text with comments is the walk over the tokens outside of them.
 use Rattle.std.proofs.Common.{◌≡◌, Bool, true, false, cond, List, [], ◌∷◌, Option, Some, None, Result, Ok, Err, refl, sym, ap, subst, ◌∙◌}
 use Rattle.std.proofs.Common.{inl, inr}
-use Rattle.std.specs.Prelude.{codes, All}
+use Rattle.std.specs.Prelude.{codes, All, ◌<◌, length}
 use Rattle.std.specs.Option.{option_map}
 use Rattle.std.specs.Str.{bytes_eq}
 use Rattle.std.proofs.lemmas.Bool.{cases_Bool, cond-true, cond-false}
@@ -49,6 +49,14 @@ walk_cons {P} l p final t ts h = go (l.row p t) refl h
         → (q : P) × (l.row p t ≡ Ok q) × (walk l q ts ≡ Ok final)
     go (Ok q) e g = (q, e, g)
     go (Err f) e g = absurd cc
+
+-- words at the front of tokens, before the words of the rest, and a walk from behind them
+pub record ReadsOn {P A : Type 0} (l : Language P A) (before : List Word → List Word) (behind : P) (ts : List Token) (final : P)
+    : Type 0 where
+  pub rest : List Token
+  pub parts : words_of ts ≡ before (words_of rest)
+  pub walks : walk l behind rest ≡ Ok final
+  pub shorter : length rest < length ts
 
 -- ---- the marks of comments
 
