@@ -53,7 +53,8 @@ none_stored s label step is finds = λ st lib v.
 
 -- ---- the slots that were found before
 
-finds_after : {O : Type 0} → (r s : Sight O) (label : List ℕ) (i : ℕ) → Looks r s → Finds r label (Some i) → Finds s label (Some i)
+-- a label that was found is found there while nothing is written
+pub finds_after : {O : Type 0} → (r s : Sight O) (label : List ℕ) (i : ℕ) → Looks r s → Finds r label (Some i) → Finds s label (Some i)
 finds_after r s label i looks finds = (
   subst (λ (k : ℕ). i < k) (sym (same_slots r s looks)) finds.0,
   for_each_later r s (λ st lib. IsFoundAt s.setting.slots st lib label i) looks

@@ -79,9 +79,12 @@ none_noted s t steps kept frames empty = λ st lib v xs stored is.
       all = λ label h. absurd h;
     }
 
-cases_option : {A : Type 0} (o : Option A) → ((x : A) × (o ≡ Some x)) ⊎ (o ≡ None)
-cases_option None = inr refl
-cases_option (Some x) = inl (x, refl)
+frame_or_none : (frames : Citable) (label : List ℕ) → HasFrame frames label ⊎ (frames label ≡ None)
+frame_or_none frames label = go (frames label) refl
+  where
+    go : (o : Option Frame) → frames label ≡ o → HasFrame frames label ⊎ (frames label ≡ None)
+    go None e = inr e
+    go (Some f) e = inl (f, e)
 
 cases_label : (a b : List ℕ) → (a ≡ b) ⊎ (a ≢ b)
 cases_label a b = elim (cases_Bool (bytes_eq a b)) [
@@ -108,13 +111,13 @@ noted_more s s' t steps kept i label slot old new d e looks each lt cite slot_is
     let here = found_at slots now lib v.shows v.matches.store slot label v.verifies.library.distinct name in
     let listed = (found_in lib label here.entry here.found).0 in
     let own : HasFrame new label =
-    elim (cases_option (old label)) [
+    elim (frame_or_none old label) [
       | inl o ↦ (o.0, notes.kept o.0 o.1)
       | inr n ↦ ((notes.noted n).0, (notes.noted n).1)
     ] in
     let own_right : (f : Frame) → new label ≡ Some f → (x : Ranked) × (found lib label ≡ Some x) × (f ≡ frame t x.assertion) =
     λ f is_f.
-    elim (cases_option (old label)) [
+    elim (frame_or_none old label) [
       | inl o ↦ let same : o.0 ≡ f = let z = notes.kept o.0 o.1 in cc in before.right label f (o.1 ∙ ap (λ (g : Frame). Some g) same)
       | inr n ↦
           let made = notes.noted n in

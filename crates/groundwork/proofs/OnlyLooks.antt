@@ -1,28 +1,17 @@
 -- What only looks: reads and look-ups, and commands whose reply leaves the library as it is.
-use Rattle.std.proofs.Common.{◌≡◌, ◌<◌, ℕ, false, List, Some, Result, Ok, Err, sym, subst}
+use Rattle.std.proofs.Common.{◌≡◌, ℕ, false, List, Result, Ok, Err, sym, subst}
 use Rattle.std.specs.Prelude.{IfOk, IfErr}
 use Rattle.library.specs.declared.command.Command.{Command}
 use Rattle.library.specs.declared.command.Reply.{Reply}
 use Rattle.library.specs.Edits.{edit, is_edit}
 use Rattle.bodystore.specs.declared.stored.StoredStep.{StoredStep}
 use Rattle.cells.specs.Sight.{Sight, Looks, Reads, after}
-use Rattle.cells.specs.Lookups.{ForEach, IsFoundAt, Finds, ForEachHeld}
+use Rattle.cells.specs.Lookups.{ForEach, ForEachHeld}
 use Rattle.cells.specs.Answers.{WritesIfEdit, Does}
 use Rattle.cells.specs.Shows.{AreStoredAs}
 use Rattle.cells.proofs.Settings.{same_slots}
-use Rattle.cells.proofs.Sights.{for_each_later}
 use Rattle.cells.proofs.ReadBack.{held_later}
 use Rattle.groundwork.proofs.Seeing.{views_later}
-
--- a label that was found is found there while nothing is written
-pub finds_later : {O : Type 0} → (s t : Sight O) (label : List ℕ) (i : ℕ) → Looks s t → Finds s label (Some i) → Finds t label (Some i)
-finds_later s t label i f finds =
-    let same = sym (same_slots s t f) in (
-      subst (λ n. i < n) same finds.0,
-      λ st lib v.
-          subst (λ n. IsFoundAt n (after t st) lib label i) same
-          (for_each_later s t (λ x l. IsFoundAt s.setting.slots x l label i) f finds.1 st lib v),
-    )
 
 -- a slot's proof is stored as it was, while nothing is written
 pub stored_since : {O : Type 0} → (s t : Sight O) (i : ℕ) (kept : List StoredStep) → Looks s t

@@ -15,7 +15,7 @@ use Rattle.cells.specs.Answers.{ForEachBefore}
 use Rattle.cells.proofs.Asking.{asks_trans, asks_wider}
 use Rattle.cells.proofs.Sights.{matches_back, looks_refl, looks_trans, after_looks}
 use Rattle.groundwork.specs.Footprints.{IsReadBy, ReadsFor, ReadsForFound}
-use Rattle.groundwork.proofs.OnlyLooks.{finds_later}
+use Rattle.cells.proofs.Resolving.{finds_after}
 use Rattle.groundwork.proofs.Seeing.{views_later}
 
 -- calls read no others than these, in each state that may be under the run then, and for each library that it showed before the command
@@ -70,7 +70,7 @@ module _ {O : Type 0} (such : State → List Ranked → ℕ → Type 0) (old s t
     since_held some wider later reads st lib m v =
         let all = looks_trans old s t looks later in
         let now = views_later old t st lib all m v in
-        let there = (finds_later s t label i later finds).1 st lib now in
+        let there = (finds_after s t label i later finds).1 st lib now in
         let e = there.entry in
         let at : IsFoundAt old.setting.slots (after old st) lib label i =
         record {

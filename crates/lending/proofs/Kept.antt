@@ -12,6 +12,7 @@ use Rattle.tlwords.specs.declared.log.Slot.{Slot}
 use Rattle.tlwords.specs.Runs.{value_kept, IsBlank}
 use Rattle.tlwords.specs.Commits.{with_write, writes_below, writes_kept, cells_of}
 use Rattle.tlwords.proofs.Held.{no_writes}
+use Rattle.tlwords.proofs.Fronts.{written_has}
 
 -- ---- one cell more
 
@@ -76,13 +77,6 @@ has_cell c (p ∷ ps) (inr h) = let more = has_cell c ps h in (more.0, inr more.
 pub cell_written : (slots : List Slot) (n c : ℕ) → Has c (cells_of (writes_below slots n)) → (v : ℕ) × (written c (writes_kept slots) ≡ Some v)
 cell_written slots n c h =
     let pair = has_cell c (writes_below slots n) h in (pair.0, written_kept slots c ∙ has_below slots n c pair.0 pair.1)
-
--- the value that is written to a cell is one of the writes
-pub written_has : (c v : ℕ) (ps : Pairs) → written c ps ≡ Some v → Has (c, v) ps
-written_has c v [] e = cc
-written_has c v (p ∷ ps) e = dite (ℕ_discrete p.0 c)
-    (λ t. let q : Some p.1 ≡ Some v = rw (eq-eqb p.0 c t) at e in let same : p.1 ≡ v = cc in inl (λ j. (sym t j, sym same j)))
-    (λ n. inr (written_has c v ps (rw (ne_eqb p.0 c n) at e)))
 
 -- the value that is kept of a cell is one of the writes
 pub kept_has : (slots : List Slot) (c v : ℕ) → value_kept slots c ≡ Some v → Has (c, v) (writes_kept slots)

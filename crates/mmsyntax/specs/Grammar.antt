@@ -123,11 +123,15 @@ DeclareAll k (s ∷ ss) after = (next : Known) × Declares k s next × DeclareAl
 
 -- ---- texts
 
+-- the words of a text outside of comments
+abbrev pub HasWords : List ℕ → List Word → Type 0
+HasWords bytes words = without_comments false (words_of (tokens bytes)) ≡ Some words
+
 -- the text has lawful bytes, and its words outside of comments are those of statements that declare the database
 pub record Spells (bytes : List ℕ) (db : Contents) : Type 0 where
   pub clean : IsClean bytes
   pub statements : List Statement
-  pub words_are : without_comments false (words_of (tokens bytes)) ≡ Some (flat_map spelling statements)
+  pub words_are : HasWords bytes (flat_map spelling statements)
   pub known : Known
   pub declared : DeclareAll nothing statements known
   pub whole : database_of known ≡ db
@@ -144,5 +148,5 @@ pub record DeclareUnit (t : Tables) (ws : List Word) (a : Assertion) : Type 0 wh
 pub record SpellsUnit (t : Tables) (bytes : List ℕ) (a : Assertion) : Type 0 where
   pub clean : IsClean bytes
   pub words : List Word
-  pub words_are : without_comments false (words_of (tokens bytes)) ≡ Some words
+  pub words_are : HasWords bytes words
   pub unit : DeclareUnit t words a

@@ -20,7 +20,7 @@ use Rattle.cells.proofs.ReadBack.{held_later}
 use Rattle.cells.proofs.Sights.{matches_back, after_looks, for_each_later}
 use Rattle.groundwork.specs.Footprints.{IsOfRanks, IsOfRise, IsOfMoving, IsReadByMove, IsRankOfCited, IsRankOfSteps, ReadsFor}
 use Rattle.groundwork.specs.Touches.{KeepsTo}
-use Rattle.groundwork.proofs.OnlyLooks.{finds_later}
+use Rattle.cells.proofs.Resolving.{finds_after}
 use Rattle.groundwork.proofs.Seeing.{views_later}
 
 -- ---- whether a citer stands in the way
@@ -76,7 +76,7 @@ module _ {O : Type 0} (old : Sight O) (label : List ℕ) (rank : ℕ) where
       → ((st : State) (lib : List Ranked) (e : Ranked) (c : ℕ) → such st lib e c → IsOfMoving old.setting.slots st lib i e rank c)
       → MovesSo label rank old t
   move_more s t i such first looks finds before reads wider st lib v =
-      let here = (finds_later s t label i looks finds).1 st lib v in
+      let here = (finds_after s t label i looks finds).1 st lib v in
       let same = looks.onward.setting ∙ first.onward.setting in
       let at : IsFoundAt old.setting.slots (after t st) lib label i =
       subst (λ (x : Setting). IsFoundAt x.slots (after t st) lib label i) same here in

@@ -3,16 +3,15 @@ use Rattle.std.specs.Prelude.{◌≡◌, ◌≢◌, ◌≤◌, ℕ, zero, suc, f
 use Rattle.std.specs.Prelude.{codes}
 use Rattle.std.specs.Fmt.{decimal}
 use Rattle.mmtext.specs.declared.fault.FaultKind.{FaultKind}
-use Rattle.mmtext.specs.Text.{tokens, IsClean}
+use Rattle.mmtext.specs.Text.{IsClean}
 use Rattle.mmtext.specs.Words.{Word, has_dollar}
-use Rattle.mmtext.specs.Comments.{words_of, without_comments}
 use Rattle.mmsyntax.specs.declared.statement.Step.{Step}
 use Rattle.mmsyntax.specs.declared.statement.Assertion.{Assertion}
 use Rattle.mmsyntax.specs.Dotted.{hypothesis_numbered}
 use Rattle.mmsyntax.specs.Tables.{Tables, meaning}
 use Rattle.mmsyntax.specs.Rows.{Known, prelude_alone, first_fault}
 use Rattle.mmsyntax.specs.Steps.{step_tests, float_named, step_named, unless_faulty}
-use Rattle.mmsyntax.specs.Grammar.{Statement, spelling, Declares}
+use Rattle.mmsyntax.specs.Grammar.{Statement, spelling, Declares, HasWords}
 use Rattle.library.specs.declared.command.Command.{Command}
 use Rattle.library.specs.declared.command.Command.TheVariants as command
 use Rattle.library.specs.Fitting.{highest_rank}
@@ -87,5 +86,5 @@ SpellsTransaction t commands ws =
 pub record SpellsScript (t : Tables) (bytes : List ℕ) (script : List (List Command)) : Type 0 where
   pub clean : IsClean bytes
   pub words : List Word
-  pub words_are : without_comments false (words_of (tokens bytes)) ≡ Some words
+  pub words_are : HasWords bytes words
   pub transactions : SpellsEach (SpellsTransaction t) script words

@@ -58,7 +58,7 @@ below_now Nothing k v o h = (refl, refl)
 below_now (Will a) k v o h = (refl, refl)
 below_now (Did a) k v o h = absurd (omega arith)
 
-up_to : (k n : ℕ) → k ≤ suc n → (k ≡ suc n) ⊎ (k ≤ n)
+pub up_to : (k n : ℕ) → k ≤ suc n → (k ≡ suc n) ⊎ (k ≤ n)
 up_to k n l = grind arith
 
 settled_step : (d : ℕ → Deed) (o n k : ℕ) → (version_after d n ≤ k → k ≤ n → value_after d o k ≡ value_after d o n)

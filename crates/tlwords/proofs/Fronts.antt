@@ -25,7 +25,7 @@ use Rattle.tlwords.proofs.Keeps.{Rule, now, seat_at}
 -- ---- what was written to a cell
 
 -- the value that is written to a cell is one of the writes
-written_has : (c v : ℕ) (ps : Pairs) → written c ps ≡ Some v → Has (c, v) ps
+pub written_has : (c v : ℕ) (ps : Pairs) → written c ps ≡ Some v → Has (c, v) ps
 written_has c v [] e = cc
 written_has c v (p ∷ ps) e = go (known (p.0 == c)) (written_has c v ps)
   where

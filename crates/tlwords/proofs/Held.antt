@@ -6,6 +6,7 @@ use mathlib.Core.Logic.{dite}
 use native.Mathlib.Decide.{ℕ_discrete}
 use Rattle.tlcore.specs.Seats.{find_held, is_held, all_below, without, stored, writes_of, marked}
 use Rattle.tlcore.proofs.Lists.{option_known}
+use Rattle.tlcore.proofs.Deeds.{up_to}
 use Rattle.tlcore.specs.declared.seats.Held.{Held}
 use Rattle.tlwords.specs.declared.log.Slot.{Slot}
 use Rattle.ranges.specs.Pairs.{Pairs}
@@ -27,9 +28,6 @@ lt_no a b l = grind (arith, nat_tests)
 
 pub le_cases : (a b : ℕ) → (a ≤ b) ⊎ (b < a)
 le_cases a b = grind arith
-
-pub up_to : (k n : ℕ) → k ≤ suc n → (k ≡ suc n) ⊎ (k ≤ n)
-up_to k n l = grind arith
 
 module _ (slots : List Slot) where
   -- no value is kept for the cells from a to before b

@@ -3,7 +3,7 @@ use Rattle.std.proofs.Common.{◌≡◌, ◌≢◌, ℕ, zero, suc, ◌*◌, ◌
 use Rattle.std.proofs.Common.{ap, ◌∙◌, subst, arith}
 use Rattle.tlcore.specs.History.{Entry, Deed, Nothing, Will, Did, EntryGrows, Grows, version_over, version_after, deed}
 use Rattle.tlcore.specs.Seats.{Seat}
-use Rattle.tlcore.proofs.Deeds.{did, version-same}
+use Rattle.tlcore.proofs.Deeds.{did, version-same, up_to}
 use Rattle.tlcore.proofs.Growth.{deed-kept, get_exists, Grows-refl, Grows-trans, One-kept}
 use Rattle.tlcore.proofs.Lists.{get_within}
 use Rattle.tlcore.proofs.Words.{landed_not_open}
@@ -13,7 +13,6 @@ use Rattle.ranges.specs.Pairs.{Pairs}
 use Rattle.tlwords.specs.Terms.{Terms, Permits}
 use Rattle.tlwords.specs.Seen.{Work, Call, Committed, Answered, Seen, IsSettled, SeenGrows, IsDone, CallAgrees, Agree}
 use Rattle.tlwords.specs.Rule.{IsFresh, LookIsFresh, EntriesAre}
-use Rattle.tlwords.proofs.Held.{up_to}
 
 pub settled_grows : (g h : List Entry) (i : ℕ) → Grows g h → IsSettled g i → IsSettled h i
 settled_grows g h i r s =
