@@ -176,7 +176,7 @@ pub turned_left : (xs : List Assertion) (asked : List Word) (all place left room
     → Stands xs asked all place room wanted chosen → Stands xs asked all left after wanted chosen
 turned_left xs asked all place left room after wanted chosen marks a w b v d within place-is are a-is w-is h after-is s =
     let x : (x : Assertion) × (slice_get xs left ≡ Some x) =
-    elim (slice_get_cases xs left).1 [ | inl y ↦ (y.0, y.2) | inr past ↦ absurd (omega arith) ] in
+    elim (slice_get_cases xs left).1 [ inl y ↦ (y.0, y.2) | inr past ↦ absurd (omega arith) ] in
     let long : length marks ≡ length xs = ap length (sym are) ∙ length-map xs (λ (y : Assertion). is_in asked y.label) in
     let same : length wanted ≡ length xs = ap length (sym s.wanted_are) ∙ length-map xs (λ (y : Assertion). is_in s.needs y.label) in
     let at : slice_get marks left ≡ Some a = slice_get-get_or marks left b (omega arith) ∙ ap (λ z. Some z) (sym a-is) in
@@ -193,7 +193,7 @@ pub turned_taken : (xs : List Assertion) (asked : List Word) (all place left roo
     → Stands xs asked all left after more (set chosen left true)
 turned_taken xs asked all place left room after wanted chosen marks a w b v d within place-is are a-is w-is h after-is s more too =
     let x : (x : Assertion) × (slice_get xs left ≡ Some x) =
-    elim (slice_get_cases xs left).1 [ | inl y ↦ (y.0, y.2) | inr past ↦ absurd (omega arith) ] in
+    elim (slice_get_cases xs left).1 [ inl y ↦ (y.0, y.2) | inr past ↦ absurd (omega arith) ] in
     let long : length marks ≡ length xs = ap length (sym are) ∙ length-map xs (λ (y : Assertion). is_in asked y.label) in
     let same : length wanted ≡ length xs = ap length (sym s.wanted_are) ∙ length-map xs (λ (y : Assertion). is_in s.needs y.label) in
     let at : slice_get marks left ≡ Some a = slice_get-get_or marks left b (omega arith) ∙ ap (λ z. Some z) (sym a-is) in

@@ -97,7 +97,7 @@ form_of m earlier f o x is h = subst (λ (p : Option Assertion). IfSome p (λ x.
 module _ (m : Map) (xs : List Assertion) (place : ℕ) (f : ProofForm) (within : place < length xs)
     (is : IfSome (slice_get xs place) (λ x. IsForm m (take place xs) x f)) where
   here : (x : Assertion) × (slice_get xs place ≡ Some x)
-  here = elim (slice_get_cases xs place).1 [ | inl y ↦ (y.0, y.2) | inr past ↦ absurd (omega arith) ]
+  here = elim (slice_get_cases xs place).1 [ inl y ↦ (y.0, y.2) | inr past ↦ absurd (omega arith) ]
 
   read : IsForm m (take place xs) here.0 f
   read = form_of m (take place xs) f (slice_get xs place) here.0 here.1 is

@@ -40,7 +40,7 @@ pub wanted_more : (xs : List Assertion) (i k : ℕ) (marks after : List Bool) �
     → AreMarked xs (is_in (needed_by_all (take i xs) (from_to i (k + 1) xs))) after
 wanted_more xs i k marks after order within are too =
     let x : (x : Assertion) × (slice_get xs k ≡ Some x) =
-    elim (slice_get_cases xs k).1 [ | inl y ↦ (y.0, y.2) | inr past ↦ absurd (omega arith) ] in
+    elim (slice_get_cases xs k).1 [ inl y ↦ (y.0, y.2) | inr past ↦ absurd (omega arith) ] in
     let old = needed_by_all (take i xs) (from_to i k xs) in
     let long : i ≤ length (take k xs) = let e = length-take-le k xs (omega arith) in omega arith in
     let grown : from_to i (k + 1) xs ≡ from_to i k xs ++ x.0 ∷ [] =

@@ -93,9 +93,10 @@ trunk_of_any w (l ∷ ls) h =
 pub dotted_among : (w : Word) (ls : List Word) → (is_dotted (trunk w) w && is_in ls (trunk w)) ≡ list_any (λ l. is_dotted l w) ls
 dotted_among w ls =
     same_from_decides {P = list_any (λ l. is_dotted l w) ls ≡ true} (is_dotted (trunk w) w && is_in ls (trunk w))
-    (list_any (λ l. is_dotted l w) ls)
-    (λ h. let b = and_parts (is_dotted (trunk w) w) (is_in ls (trunk w)) h in any_of (λ l. is_dotted l w) (trunk w) b.0 ls b.1,
-    trunk_of_any w ls)
+    (list_any (λ l. is_dotted l w) ls) (
+      λ h. let b = and_parts (is_dotted (trunk w) w) (is_in ls (trunk w)) h in any_of (λ l. is_dotted l w) (trunk w) b.0 ls b.1,
+      trunk_of_any w ls,
+    )
     (λ h. h, λ h. h)
 
 -- ---- names that were given

@@ -68,7 +68,7 @@ tree_is m earlier x codes t within steps named whole decoded cites =
     let ws = seen_words t.labels.items in
     let many = as_many (λ n ts. node (slice_index_or ws n []) (over ts)) t.proof.nodes in
     let there : (u : Tree) × (slice_get (trees ws t.proof.nodes) t.proof.root ≡ Some u) =
-    elim (slice_get_cases (trees ws t.proof.nodes) t.proof.root).1 [ | inl y ↦ (y.0, y.2) | inr past ↦ absurd (omega arith) ] in
+    elim (slice_get_cases (trees ws t.proof.nodes) t.proof.root).1 [ inl y ↦ (y.0, y.2) | inr past ↦ absurd (omega arith) ] in
     record {
       tree = there.0;
       denotes = sym steps

@@ -59,11 +59,7 @@ fn look(alloc: Global, library: &Library, kit: Kit) -> (Kit, Look)
 }
 
 /// The library as the run reads it.
-fn read_all(
-    alloc: Global,
-    library: &Library,
-    live: &mut Live<'_>,
-) -> Result<PlainLibrary, Halt>
+fn read_all(alloc: Global, library: &Library, live: &mut Live<'_>) -> Result<PlainLibrary, Halt>
     requires given { live.old.run.given ≡ library.now.given }
     requires blank { writes_kept live.old.run.going.slots ≡ [] }
     ensures looks { LooksOn (sight_of live.old.run) (sight_of live.new.run) }

@@ -42,7 +42,7 @@ loop-place-preserved g c =
     let k = c.loop-place.place in
     let within : k < length xs = search rules in
     let there : (x : Assertion) × (slice_get xs k ≡ Some x) =
-    elim (slice_get_cases xs k).1 [ | inl y ↦ (y.0, y.2) | inr past ↦ absurd (omega arith) ] in
+    elim (slice_get_cases xs k).1 [ inl y ↦ (y.0, y.2) | inr past ↦ absurd (omega arith) ] in
     let x = there.0 in
     let before = c.loop-place.gathered in
     elim c.if-chosen-place.branch [

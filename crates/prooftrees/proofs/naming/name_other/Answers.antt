@@ -15,7 +15,7 @@ name_assertion-requires g c =
     let w = c.args.label.now in
     let within = c.requires.within in
     let there : (x : Assertion) × (slice_get s.assertions c.args.place ≡ Some x) =
-    elim (slice_get_cases s.assertions c.args.place).1 [ | inl y ↦ (y.0, y.2) | inr past ↦ absurd (omega arith) ] in
+    elim (slice_get_cases s.assertions c.args.place).1 [ inl y ↦ (y.0, y.2) | inr past ↦ absurd (omega arith) ] in
     let x = there.0 in
     let none =
     role_of_assertion s c.args.place x w c.requires.whole there.1 c.in-Some.field-0 (c.requires.other x there.1)

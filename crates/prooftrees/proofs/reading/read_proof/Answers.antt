@@ -61,7 +61,7 @@ unreachable-requires g c =
     let own = seen_proof c.in-Some.proof.now in
     let within = c.requires.within in
     let there : (x : Assertion) × (slice_get s.assertions c.args.place ≡ Some x) =
-    elim (slice_get_cases s.assertions c.args.place).1 [ | inl y ↦ (y.0, y.2) | inr past ↦ absurd (omega arith) ] in
+    elim (slice_get_cases s.assertions c.args.place).1 [ inl y ↦ (y.0, y.2) | inr past ↦ absurd (omega arith) ] in
     let x = there.0 in
     let is = proof_is s.assertions c.args.place x there.1 (Some own)
     (sym (ap (option_map (λ p. seen_proof p.now)) c.in-Some.is) ∙ c.proof.ensures) in

@@ -30,7 +30,7 @@ loop-place-preserved g c =
     let below : i < length fs = c.loop-place-test.true in
     let within : i < length xs = omega (arith, c.requires) in
     let x : (x : Assertion) × (slice_get xs i ≡ Some x) =
-    elim (slice_get_cases xs i).1 [ | inl y ↦ (y.0, y.2) | inr past ↦ absurd (omega arith) ] in
+    elim (slice_get_cases xs i).1 [ inl y ↦ (y.0, y.2) | inr past ↦ absurd (omega arith) ] in
     elim c.if-is_chosen.branch [
       | then-is_chosen+in-Some+in_ok-push w ↦
           let yes : get_or fs i false ≡ true = search rules in

@@ -82,7 +82,7 @@ loop-i-preserved g c =
       subst (λ k. Goes g.L.Law.terms m (placed m.0.seat (Checking c.args.index k)) c.check-word.new.seat.me)
           {x = t.cell + 1} {y = low_of ws (c.loop-i.i + 1)}
           (sym (plan_next c.args.log.now.slots false ws p c.loop-i.i _ _ t c.loop-i-test.true c.len-i-end.ensures c.plan_checks.new.self.checks.ok.0
-    c.index-read.ensures))
+          c.index-read.ensures))
           (check_goes g.L.Law.terms c.args.log.now.slots c.args.index c.args.seat.now.me c.requires.kept c.requires.run.2
           (low_of ws c.loop-i.i) _ c.loop-i.invariant.1
           t.cell c.check-word.result _ c.check-word.ensures.told (c.passes.ensures.yes c.if-not-passes.false).0

@@ -58,7 +58,7 @@ loop-i-preserved g c =
       subst (λ k. Releasing g.L.Law.terms c.args.log.now.slots c.args.high c.args.new k m c.release.new.seat.me)
           {x = t.cell + 1} {y = low_of ws (c.loop-i.i + 1)}
           (sym (plan_next c.args.log.now.slots true ws c.requires.plan c.loop-i.i _ _ t c.loop-i-test.true c.len-i-end.ensures c.args.log.now.writes.ok.0
-    c.index-kept.ensures))
+          c.index-kept.ensures))
           (release_goes g.L.Law.terms c.args.log.now.slots c.args.high c.args.new (low_of ws c.loop-i.i) _ _ c.loop-i.invariant.1 t.cell
           t.value s.0.0
           c.if-kept-high.false (s.2 refl) _ (unkept_of m.0.seat c.args.log.now.slots c.requires.kept _ _ s.0.3) c.release.ensures.told),

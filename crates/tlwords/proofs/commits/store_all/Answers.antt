@@ -54,7 +54,7 @@ loop-i-preserved g c =
       subst (λ k. StoresSoFar g.L.Law.terms c.args.log.now.slots c.args.index c.args.note.now m k c.store.new.seat.me)
           {x = t.cell + 1} {y = low_of ws (c.loop-i.i + 1)}
           (sym (plan_next c.args.log.now.slots true ws c.requires.plan c.loop-i.i _ _ t c.loop-i-test.true c.len-i-end.ensures c.args.log.now.writes.ok.0
-    c.index-kept.ensures))
+          c.index-kept.ensures))
           (store_goes g.L.Law.terms c.args.log.now.slots c.args.index c.args.note.now c.args.seat.now.me _ c.requires.run.1
           c.requires.held.0 (low_of ws c.loop-i.i) _
           c.loop-i.invariant.1 t.cell t.value s.0.1 (s.2 refl) _ c.requires.held.1 s.0.0

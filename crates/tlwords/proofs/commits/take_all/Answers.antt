@@ -85,7 +85,7 @@ loop-i-preserved g c =
           c.take-found.new.seat.me)
           {x = t.cell + 1} {y = low_of ws (c.loop-i.i + 1)}
           (sym (plan_next c.args.log.now.slots true ws c.requires.plan c.loop-i.i _ _ t c.loop-i-test.true c.len-i-end.ensures c.args.log.now.writes.ok.0
-    c.index.ensures))
+          c.index.ensures))
           (take_goes g.L.Law.terms c.args.log.now.slots _ _ (low_of ws c.loop-i.i) c.loop-i.invariant.1 t.cell t.value t.word
           c.take-found.result _ s.0.0 (unkept_of m.0.seat c.args.log.now.slots c.requires.kept _ _ s.0.3) c.take-found.ensures.told
           (s.2 refl) s.1 c.if-found-word.false),
