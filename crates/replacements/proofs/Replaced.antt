@@ -36,7 +36,8 @@ use Rattle.cells.proofs.Asking.{asks_wider}
 use Rattle.groundwork.specs.Changes.{ReprovesAt}
 use Rattle.groundwork.specs.Touches.{ReprovesWithin, KeepsTo, Touches}
 use Rattle.groundwork.specs.Footprints.{ReprovesReading}
-use Rattle.groundwork.proofs.OnlyLooks.{finds_later, stored_since}
+use Rattle.groundwork.proofs.OnlyLooks.{stored_since}
+use Rattle.cells.proofs.Resolving.{finds_after}
 use Rattle.groundwork.proofs.Refusing.{of_some, first_refuses, first_passes, refused_later}
 use Rattle.groundwork.proofs.Seeing.{has_found, views_later}
 use Rattle.replacements.specs.Replacing.{TellsAlike, TellsNotLower, recited_step}
@@ -164,9 +165,9 @@ module _ {O : Type 0} (i j k : ℕ) (label old new : List ℕ) (kept : List Stor
       let since1 = looks_trans s1 s2 s4 looks2 since2 in
       record {
         looks = looks_trans s0 s1 s4 looks1 since1;
-        finds = finds_later s1 s4 label i since1 finds;
-        finds_old = finds_later s2 s4 old j since2 finds_old;
-        finds_new = finds_later s3 s4 new k looks4 finds_new;
+        finds = finds_after s1 s4 label i since1 finds;
+        finds_old = finds_after s2 s4 old j since2 finds_old;
+        finds_new = finds_after s3 s4 new k looks4 finds_new;
         stored = stored;
       }
 
@@ -174,9 +175,9 @@ module _ {O : Type 0} (i j k : ℕ) (label old new : List ℕ) (kept : List Stor
   sought_later first s t looks known =
       record {
         looks = looks_trans first s t known.looks looks;
-        finds = finds_later s t label i looks known.finds;
-        finds_old = finds_later s t old j looks known.finds_old;
-        finds_new = finds_later s t new k looks known.finds_new;
+        finds = finds_after s t label i looks known.finds;
+        finds_old = finds_after s t old j looks known.finds_old;
+        finds_new = finds_after s t new k looks known.finds_new;
         stored = stored_since s t i kept looks known.stored;
       }
 

@@ -17,7 +17,7 @@ use Rattle.moves.proofs.MoveReads.{MovesSo, move_looks, move_more, move_now, mov
 use Rattle.groundwork.proofs.Touching.{keeps_to_since}
 use Rattle.moves.proofs.MoveReads.{move_keeps}
 use Rattle.groundwork.proofs.CitedRanks.{stored_later}
-use Rattle.groundwork.proofs.OnlyLooks.{finds_later}
+use Rattle.cells.proofs.Resolving.{finds_after}
 use Rattle.groundwork.proofs.OnlyLooks.{stored_since}
 use Rattle.moves.proofs.Ranking.{refused_unranked, refused_not_above, refused_not_below, does_move}
 use Rattle.groundwork.proofs.Refusing.{of_none, refused, answers_refused, answers_unknown}
@@ -71,7 +71,7 @@ returns-then-branch-clause-answers g c =
     let since = looks_trans _ _ _ c.stored_proof.ensures.looks on in
     answers_refused old third (Move label c.args.rank) CitedNotLower c.into-then-branch.result c.into-then-branch.ensures
     (refused_not_above old third (looks_trans _ _ _ c.known_slot.ensures.looks since) i label c.args.rank
-    (finds_later first third label i since some)
+    (finds_after first third label i since some)
     c.if-rank-eq0.false kept (stored_since second third i kept on c.in_ok-kept.ensures.ok)
     (subst (TellsNotBelow third c.args.rank kept) c.if-branch.true told))
 
@@ -108,7 +108,7 @@ returns-then-branch-2-clause-answers g c =
     let low : TellsCitedUpTo t i c.args.rank true =
     subst (TellsCitedUpTo t i c.args.rank) c.if-branch-2.true c.in_ok-is_cited_up_to.ensures.ok in
     answers_refused old t (Move label c.args.rank) CiterNotHigher c.into-then-branch-2.result c.into-then-branch-2.ensures
-    (refused_not_below old t (looks_trans _ _ _ c.known_slot.ensures.looks since) i label c.args.rank (finds_later first t label i since some)
+    (refused_not_below old t (looks_trans _ _ _ c.known_slot.ensures.looks since) i label c.args.rank (finds_after first t label i since some)
     c.if-rank-eq0.false kept (stored_since second t i kept on c.in_ok-kept.ensures.ok) high low)
 
 pub returns-in_err-put-clause-onward : goal.returns-in_err-put-clause-onward
@@ -148,7 +148,7 @@ returns-clause-answers g c =
     subst (TellsCitedUpTo t i c.args.rank) c.if-branch-2.false c.in_ok-is_cited_up_to.ensures.ok in
     let put : (st : State) → after u st ≡ with_value c.rank_cell.result c.args.rank (after t st) = c.in_ok-put.ensures.ok in
     let written : WasWritten u c.rank_cell.result = c.in_ok-put.ensures.written in
-    does_move old t (looks_trans _ _ _ c.known_slot.ensures.looks since) i label c.args.rank (finds_later first t label i since some)
+    does_move old t (looks_trans _ _ _ c.known_slot.ensures.looks since) i label c.args.rank (finds_after first t label i since some)
     c.if-rank-eq0.false kept (stored_since second t i kept on c.in_ok-kept.ensures.ok) high u c.put.ensures.onward low
     (λ st. put st ∙ ap (λ (n : ℕ). with_value n c.args.rank (after t st)) c.rank_cell.ensures)
     (subst (WasWritten u) c.rank_cell.ensures written)
@@ -165,7 +165,7 @@ returns-clause-keeps g c =
     let since = looks_trans _ _ _ c.stored_proof.ensures.looks
     (looks_trans _ _ _ c.cites_not_below.ensures.looks c.is_cited_up_to.ensures.looks) in
     keeps_to_since old t u (Move c.args.label.now c.args.rank) (looks_trans _ _ _ c.known_slot.ensures.looks since) c.put.ensures.onward
-    (move_keeps t u i label c.args.rank (finds_later first t label i since some).1
+    (move_keeps t u i label c.args.rank (finds_after first t label i since some).1
     (subst (λ (n : ℕ). KeepsAside (λ k. k ≡ n) t u) c.rank_cell.ensures
     c.in_ok-put.ensures.keeps))
 
@@ -232,7 +232,7 @@ returns-in_err-cites_not_below-clause-reads g c =
     subst (λ ks. ReadsWithin (IsRankOfSteps ks) s2 s3) c.as_slice.ensures.value c.cites_not_below.ensures.reads in
     let m3 : MovesSo c.args.label.now c.args.rank old s3 =
     move_more old label rank s2 s3 i (λ st lib e. IsRankOfCited old.setting.slots st lib e.assertion.proof) l2 c.cites_not_below.ensures.looks
-    (finds_later s1 s2 label i c.stored_proof.ensures.looks some) m2
+    (finds_after s1 s2 label i c.stored_proof.ensures.looks some) m2
     (ranks_within old label rank s2 s3 i kept (stored_since s2 s3 i kept c.cites_not_below.ensures.looks c.in_ok-kept.ensures.ok) l3.onward.setting ranks)
     (λ st lib e k is. inr (inl is)) in
     move_now old label rank s3 l3 m3
@@ -260,7 +260,7 @@ returns-then-branch-clause-reads g c =
     subst (λ ks. ReadsWithin (IsRankOfSteps ks) s2 s3) c.as_slice.ensures.value c.cites_not_below.ensures.reads in
     let m3 : MovesSo c.args.label.now c.args.rank old s3 =
     move_more old label rank s2 s3 i (λ st lib e. IsRankOfCited old.setting.slots st lib e.assertion.proof) l2 c.cites_not_below.ensures.looks
-    (finds_later s1 s2 label i c.stored_proof.ensures.looks some) m2
+    (finds_after s1 s2 label i c.stored_proof.ensures.looks some) m2
     (ranks_within old label rank s2 s3 i kept (stored_since s2 s3 i kept c.cites_not_below.ensures.looks c.in_ok-kept.ensures.ok) l3.onward.setting ranks)
     (λ st lib e k is. inr (inl is)) in
     move_now old label rank s3 l3 m3
@@ -288,7 +288,7 @@ returns-in_err-is_cited_up_to-clause-reads g c =
     subst (λ ks. ReadsWithin (IsRankOfSteps ks) s2 s3) c.as_slice.ensures.value c.cites_not_below.ensures.reads in
     let m3 : MovesSo c.args.label.now c.args.rank old s3 =
     move_more old label rank s2 s3 i (λ st lib e. IsRankOfCited old.setting.slots st lib e.assertion.proof) l2 c.cites_not_below.ensures.looks
-    (finds_later s1 s2 label i c.stored_proof.ensures.looks some) m2
+    (finds_after s1 s2 label i c.stored_proof.ensures.looks some) m2
     (ranks_within old label rank s2 s3 i kept (stored_since s2 s3 i kept c.cites_not_below.ensures.looks c.in_ok-kept.ensures.ok) l3.onward.setting ranks)
     (λ st lib e k is. inr (inl is)) in
     let t = g.C.Cells.sight c.is_cited_up_to.new.cells in
@@ -296,7 +296,7 @@ returns-in_err-is_cited_up_to-clause-reads g c =
     let since = looks_trans _ _ _ c.stored_proof.ensures.looks c.cites_not_below.ensures.looks in
     let m4 : MovesSo c.args.label.now c.args.rank old t =
     move_more old label rank s3 t i (λ st lib e. IsOfRise old.setting.slots st lib c.in_ok-slot.slot e c.args.rank) l3 c.is_cited_up_to.ensures.looks
-    (finds_later s1 s3 label i since some) m3
+    (finds_after s1 s3 label i since some) m3
     (subst (λ (x : Setting). ForEachHeld t c.in_ok-slot.slot (λ st lib e. ReadsWithin (IsOfRise x.slots st lib c.in_ok-slot.slot e c.args.rank) s3 t))
     l3.onward.setting c.is_cited_up_to.ensures.reads)
     (λ st lib e k is. inr (inr is)) in
@@ -325,7 +325,7 @@ returns-then-branch-2-clause-reads g c =
     subst (λ ks. ReadsWithin (IsRankOfSteps ks) s2 s3) c.as_slice.ensures.value c.cites_not_below.ensures.reads in
     let m3 : MovesSo c.args.label.now c.args.rank old s3 =
     move_more old label rank s2 s3 i (λ st lib e. IsRankOfCited old.setting.slots st lib e.assertion.proof) l2 c.cites_not_below.ensures.looks
-    (finds_later s1 s2 label i c.stored_proof.ensures.looks some) m2
+    (finds_after s1 s2 label i c.stored_proof.ensures.looks some) m2
     (ranks_within old label rank s2 s3 i kept (stored_since s2 s3 i kept c.cites_not_below.ensures.looks c.in_ok-kept.ensures.ok) l3.onward.setting ranks)
     (λ st lib e k is. inr (inl is)) in
     let t = g.C.Cells.sight c.is_cited_up_to.new.cells in
@@ -333,7 +333,7 @@ returns-then-branch-2-clause-reads g c =
     let since = looks_trans _ _ _ c.stored_proof.ensures.looks c.cites_not_below.ensures.looks in
     let m4 : MovesSo c.args.label.now c.args.rank old t =
     move_more old label rank s3 t i (λ st lib e. IsOfRise old.setting.slots st lib c.in_ok-slot.slot e c.args.rank) l3 c.is_cited_up_to.ensures.looks
-    (finds_later s1 s3 label i since some) m3
+    (finds_after s1 s3 label i since some) m3
     (subst (λ (x : Setting). ForEachHeld t c.in_ok-slot.slot (λ st lib e. ReadsWithin (IsOfRise x.slots st lib c.in_ok-slot.slot e c.args.rank) s3 t))
     l3.onward.setting c.is_cited_up_to.ensures.reads)
     (λ st lib e k is. inr (inr is)) in
@@ -362,7 +362,7 @@ returns-in_err-put-clause-reads g c =
     subst (λ ks. ReadsWithin (IsRankOfSteps ks) s2 s3) c.as_slice.ensures.value c.cites_not_below.ensures.reads in
     let m3 : MovesSo c.args.label.now c.args.rank old s3 =
     move_more old label rank s2 s3 i (λ st lib e. IsRankOfCited old.setting.slots st lib e.assertion.proof) l2 c.cites_not_below.ensures.looks
-    (finds_later s1 s2 label i c.stored_proof.ensures.looks some) m2
+    (finds_after s1 s2 label i c.stored_proof.ensures.looks some) m2
     (ranks_within old label rank s2 s3 i kept (stored_since s2 s3 i kept c.cites_not_below.ensures.looks c.in_ok-kept.ensures.ok) l3.onward.setting ranks)
     (λ st lib e k is. inr (inl is)) in
     let t = g.C.Cells.sight c.is_cited_up_to.new.cells in
@@ -370,12 +370,12 @@ returns-in_err-put-clause-reads g c =
     let since = looks_trans _ _ _ c.stored_proof.ensures.looks c.cites_not_below.ensures.looks in
     let m4 : MovesSo c.args.label.now c.args.rank old t =
     move_more old label rank s3 t i (λ st lib e. IsOfRise old.setting.slots st lib c.in_ok-slot.slot e c.args.rank) l3 c.is_cited_up_to.ensures.looks
-    (finds_later s1 s3 label i since some) m3
+    (finds_after s1 s3 label i since some) m3
     (subst (λ (x : Setting). ForEachHeld t c.in_ok-slot.slot (λ st lib e. ReadsWithin (IsOfRise x.slots st lib c.in_ok-slot.slot e c.args.rank) s3 t))
     l3.onward.setting c.is_cited_up_to.ensures.reads)
     (λ st lib e k is. inr (inr is)) in
     move_put old label rank t (g.C.Cells.sight c.put.new.cells) i l4 c.put.ensures.onward
-    (finds_later s1 t label i (looks_trans _ _ _ since c.is_cited_up_to.ensures.looks) some) m4
+    (finds_after s1 t label i (looks_trans _ _ _ since c.is_cited_up_to.ensures.looks) some) m4
     (subst (λ (n : ℕ). ReadsWithin (λ k. k ≡ n) t (g.C.Cells.sight c.put.new.cells)) c.rank_cell.ensures c.put.ensures.reads)
 
 pub returns-clause-reads : goal.returns-clause-reads
@@ -401,7 +401,7 @@ returns-clause-reads g c =
     subst (λ ks. ReadsWithin (IsRankOfSteps ks) s2 s3) c.as_slice.ensures.value c.cites_not_below.ensures.reads in
     let m3 : MovesSo c.args.label.now c.args.rank old s3 =
     move_more old label rank s2 s3 i (λ st lib e. IsRankOfCited old.setting.slots st lib e.assertion.proof) l2 c.cites_not_below.ensures.looks
-    (finds_later s1 s2 label i c.stored_proof.ensures.looks some) m2
+    (finds_after s1 s2 label i c.stored_proof.ensures.looks some) m2
     (ranks_within old label rank s2 s3 i kept (stored_since s2 s3 i kept c.cites_not_below.ensures.looks c.in_ok-kept.ensures.ok) l3.onward.setting ranks)
     (λ st lib e k is. inr (inl is)) in
     let t = g.C.Cells.sight c.is_cited_up_to.new.cells in
@@ -409,10 +409,10 @@ returns-clause-reads g c =
     let since = looks_trans _ _ _ c.stored_proof.ensures.looks c.cites_not_below.ensures.looks in
     let m4 : MovesSo c.args.label.now c.args.rank old t =
     move_more old label rank s3 t i (λ st lib e. IsOfRise old.setting.slots st lib c.in_ok-slot.slot e c.args.rank) l3 c.is_cited_up_to.ensures.looks
-    (finds_later s1 s3 label i since some) m3
+    (finds_after s1 s3 label i since some) m3
     (subst (λ (x : Setting). ForEachHeld t c.in_ok-slot.slot (λ st lib e. ReadsWithin (IsOfRise x.slots st lib c.in_ok-slot.slot e c.args.rank) s3 t))
     l3.onward.setting c.is_cited_up_to.ensures.reads)
     (λ st lib e k is. inr (inr is)) in
     move_put old label rank t (g.C.Cells.sight c.put.new.cells) i l4 c.put.ensures.onward
-    (finds_later s1 t label i (looks_trans _ _ _ since c.is_cited_up_to.ensures.looks) some) m4
+    (finds_after s1 t label i (looks_trans _ _ _ since c.is_cited_up_to.ensures.looks) some) m4
     (subst (λ (n : ℕ). ReadsWithin (λ k. k ≡ n) t (g.C.Cells.sight c.put.new.cells)) c.rank_cell.ensures c.put.ensures.reads)

@@ -3,7 +3,7 @@ use Rattle.library.specs.declared.command.Command.TheVariants as command
 use Rattle.library.specs.declared.reason.Reason.TheVariants as reason
 use Rattle.cells.specs.Sight.{Sight}
 use Rattle.cells.proofs.Sights.{onward_trans, looks_trans}
-use Rattle.groundwork.proofs.OnlyLooks.{finds_later}
+use Rattle.cells.proofs.Resolving.{finds_after}
 use Rattle.groundwork.proofs.Touching.{keeps_to_since}
 use Rattle.newlabels.proofs.Touching.{rename_keeps}
 use Rattle.newlabels.specs.Naming.{PassesAsNew, TellsNotNew}
@@ -85,7 +85,7 @@ returns-clause-keeps g c =
     let finds = c.in_ok-slot.ensures.ok in
     keeps_to_since s0 s2 s3 (command.Rename from to) (looks_trans _ _ _ c.known_slot.ensures.looks c.test_new_label.ensures.looks)
     c.relabel.ensures.onward
-    (rename_keeps s2 s3 i from to (finds_later s1 s2 from i c.test_new_label.ensures.looks finds).1
+    (rename_keeps s2 s3 i from to (finds_after s1 s2 from i c.test_new_label.ensures.looks finds).1
     c.in_ok-relabel.ensures.keeps)
 
 pub returns-in_err-slot-clause-reads : goal.returns-in_err-slot-clause-reads
@@ -157,7 +157,7 @@ returns-in_err-relabel-clause-reads g c =
     let i = c.in_ok-slot.slot in
     let finds = c.in_ok-slot.ensures.ok in
     then_found s0 s2 s3 (command.Rename from to) from i (looks_trans _ _ _ c.known_slot.ensures.looks c.test_new_label.ensures.looks)
-    (finds_later s1 s2 from i c.test_new_label.ensures.looks finds) r2 c.relabel.ensures.onward c.relabel.ensures.reads
+    (finds_after s1 s2 from i c.test_new_label.ensures.looks finds) r2 c.relabel.ensures.onward c.relabel.ensures.reads
 
 pub returns-clause-reads : goal.returns-clause-reads
 returns-clause-reads g c =
@@ -180,4 +180,4 @@ returns-clause-reads g c =
     let i = c.in_ok-slot.slot in
     let finds = c.in_ok-slot.ensures.ok in
     then_found s0 s2 s3 (command.Rename from to) from i (looks_trans _ _ _ c.known_slot.ensures.looks c.test_new_label.ensures.looks)
-    (finds_later s1 s2 from i c.test_new_label.ensures.looks finds) r2 c.relabel.ensures.onward c.relabel.ensures.reads
+    (finds_after s1 s2 from i c.test_new_label.ensures.looks finds) r2 c.relabel.ensures.onward c.relabel.ensures.reads

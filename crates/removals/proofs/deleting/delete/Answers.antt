@@ -2,7 +2,7 @@ use Rattle.std.proofs.Common.{◌≡◌, sym, ◌∙◌, inl, inr, arith}
 use Rattle.library.specs.declared.command.Command.TheVariants as command
 use Rattle.library.specs.declared.reason.Reason.TheVariants as reason
 use Rattle.cells.proofs.Sights.{onward_trans, looks_trans}
-use Rattle.groundwork.proofs.OnlyLooks.{finds_later}
+use Rattle.cells.proofs.Resolving.{finds_after}
 use Rattle.groundwork.proofs.Touching.{keeps_to_since}
 use Rattle.removals.proofs.Touching.{delete_keeps}
 use Rattle.groundwork.proofs.Refusing.{of_none, refused, answers_refused, answers_unknown}
@@ -72,7 +72,7 @@ returns-clause-keeps g c =
     let label = c.args.label.now in
     let finds = c.in_ok-slot.ensures.ok in
     keeps_to_since s0 s2 s3 (command.Delete label) (looks_trans _ _ _ c.known_slot.ensures.looks c.citers.ensures.looks) c.remove.ensures.onward
-    (delete_keeps s2 s3 c.in_ok-slot.slot label (finds_later s1 s2 label c.in_ok-slot.slot c.citers.ensures.looks finds).1
+    (delete_keeps s2 s3 c.in_ok-slot.slot label (finds_after s1 s2 label c.in_ok-slot.slot c.citers.ensures.looks finds).1
     c.in_ok-remove.ensures.keeps)
 
 pub returns-in_err-slot-clause-reads : goal.returns-in_err-slot-clause-reads
@@ -129,7 +129,7 @@ returns-in_err-remove-clause-reads g c =
     (λ st lib at k is. inr (i, at, inr (inl (of_slot i 4 k (omega arith) is)))) c.citers.ensures.reads in
     let s3 = g.C.Cells.sight c.remove.new.cells in
     then_found s0 s2 s3 (command.Delete label) label i (looks_trans _ _ _ c.known_slot.ensures.looks c.citers.ensures.looks)
-    (finds_later s1 s2 label i c.citers.ensures.looks finds) r2 c.remove.ensures.onward c.remove.ensures.reads
+    (finds_after s1 s2 label i c.citers.ensures.looks finds) r2 c.remove.ensures.onward c.remove.ensures.reads
 
 pub returns-clause-reads : goal.returns-clause-reads
 returns-clause-reads g c =
@@ -146,4 +146,4 @@ returns-clause-reads g c =
     (λ st lib at k is. inr (i, at, inr (inl (of_slot i 4 k (omega arith) is)))) c.citers.ensures.reads in
     let s3 = g.C.Cells.sight c.remove.new.cells in
     then_found s0 s2 s3 (command.Delete label) label i (looks_trans _ _ _ c.known_slot.ensures.looks c.citers.ensures.looks)
-    (finds_later s1 s2 label i c.citers.ensures.looks finds) r2 c.remove.ensures.onward c.remove.ensures.reads
+    (finds_after s1 s2 label i c.citers.ensures.looks finds) r2 c.remove.ensures.onward c.remove.ensures.reads

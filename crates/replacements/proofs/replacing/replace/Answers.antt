@@ -12,7 +12,7 @@ use Rattle.groundwork.specs.Changes.{ReprovesAt}
 use Rattle.groundwork.specs.Touches.{ReprovesWithin}
 use Rattle.groundwork.proofs.Touching.{keeps_to_since}
 use Rattle.replacements.specs.Replacing.{TellsAlike, TellsNotLower, recited_step}
-use Rattle.groundwork.proofs.OnlyLooks.{finds_later}
+use Rattle.cells.proofs.Resolving.{finds_after}
 use Rattle.replacements.proofs.Recited.{recited_within}
 use Rattle.groundwork.proofs.Refusing.{of_none, refused_later, answers_refused, answers_unknown}
 use Rattle.replacements.proofs.Replaced.{refuses_old, refuses_new, sought, sought_later, alike_later}
@@ -47,7 +47,7 @@ returns-in_err-former-clause-answers g c =
     let old = c.args.old.now in
     let new = c.args.new.now in
     let command = Replace c.args.label.now c.args.old.now c.args.new.now in
-    let finds = finds_later s1 s2 label c.in_ok-slot.slot c.known_slot-2.ensures.looks c.in_ok-slot.ensures.ok in
+    let finds = finds_after s1 s2 label c.in_ok-slot.slot c.known_slot-2.ensures.looks c.in_ok-slot.ensures.ok in
     answers_unknown s0 s2 command old c.from_residual-in_err-former.result c.in_err-former.field-0.0 c.from_residual-in_err-former.ensures.1
     c.in_err-former.ensures.err (λ none.
     refused_later s0 s2 command UnknownLabel (looks_trans s0 s1 s2 c.known_slot.ensures.looks c.known_slot-2.ensures.looks)
@@ -68,8 +68,8 @@ returns-in_err-next-clause-answers g c =
     let new = c.args.new.now in
     let command = Replace c.args.label.now c.args.old.now c.args.new.now in
     let since = looks_trans s1 s2 s3 c.known_slot-2.ensures.looks c.known_slot-3.ensures.looks in
-    let finds = finds_later s1 s3 label c.in_ok-slot.slot since c.in_ok-slot.ensures.ok in
-    let finds_old = finds_later s2 s3 old c.in_ok-former.former c.known_slot-3.ensures.looks c.in_ok-former.ensures.ok in
+    let finds = finds_after s1 s3 label c.in_ok-slot.slot since c.in_ok-slot.ensures.ok in
+    let finds_old = finds_after s2 s3 old c.in_ok-former.former c.known_slot-3.ensures.looks c.in_ok-former.ensures.ok in
     answers_unknown s0 s3 command new c.from_residual-in_err-next.result c.in_err-next.field-0.0 c.from_residual-in_err-next.ensures.1
     c.in_err-next.ensures.err (λ none.
     refused_later s0 s3 command UnknownLabel (looks_trans s0 s1 s3 c.known_slot.ensures.looks since)
@@ -200,7 +200,7 @@ put_steps-requires-clause-within g c =
     ∙ ap (λ n. map (recited_step n j k) c.in_ok-kept.kept.items) c.slot_count.ensures.value in
     let since = looks_trans s3 s4 s6 c.stored_proof.ensures.looks
     (looks_trans s4 s5 s6 c.are_alike.ensures.looks c.is_not_lower.ensures.looks) in
-    let finds = finds_later s3 s6 c.args.new.now k since c.in_ok-next.ensures.ok in
+    let finds = finds_after s3 s6 c.args.new.now k since c.in_ok-next.ensures.ok in
     subst (AreWithin s6.setting.slots) (sym is) (recited_within slots j k kept finds.0)
 
 pub returns-in_err-put_steps-clause-onward : goal.returns-in_err-put_steps-clause-onward
@@ -261,7 +261,7 @@ returns-in_err-put_steps-clause-taken g c st lib m v =
     let looks = looks_trans _ _ _ c.known_slot.ensures.looks since in
     let later = looks_trans _ _ _ c.are_alike.ensures.looks c.is_not_lower.ensures.looks in
     let on = onward_trans _ _ _ later.onward c.put_steps.ensures.onward in
-    let finds = finds_later s1 s4 c.args.label.now c.in_ok-slot.slot since c.in_ok-slot.ensures.ok in
+    let finds = finds_after s1 s4 c.args.label.now c.in_ok-slot.slot since c.in_ok-slot.ensures.ok in
     let long = found_taken (g.C.Cells.sight c.args.cells.now) s4 (g.C.Cells.sight c.put_steps.new.cells) c.args.label.now c.in_ok-slot.slot
     kept looks on finds c.in_ok-kept.ensures.ok st lib m v in
     let written = c.as_slice.ensures.value
@@ -282,7 +282,7 @@ returns-clause-taken g c st lib m v =
     let looks = looks_trans _ _ _ c.known_slot.ensures.looks since in
     let later = looks_trans _ _ _ c.are_alike.ensures.looks c.is_not_lower.ensures.looks in
     let on = onward_trans _ _ _ later.onward c.put_steps.ensures.onward in
-    let finds = finds_later s1 s4 c.args.label.now c.in_ok-slot.slot since c.in_ok-slot.ensures.ok in
+    let finds = finds_after s1 s4 c.args.label.now c.in_ok-slot.slot since c.in_ok-slot.ensures.ok in
     let long = found_taken (g.C.Cells.sight c.args.cells.now) s4 (g.C.Cells.sight c.put_steps.new.cells) c.args.label.now c.in_ok-slot.slot
     kept looks on finds c.in_ok-kept.ensures.ok st lib m v in
     let written = c.as_slice.ensures.value
@@ -394,7 +394,7 @@ returns-in_err-kept-clause-reads g c =
     let n = c.in_ok-next.next in
     let since = looks_trans _ _ _ c.known_slot-2.ensures.looks c.known_slot-3.ensures.looks in
     let r4 : ReadsFor s0 s4 (Replace c.args.label.now c.args.old.now c.args.new.now) =
-    then_cells s0 s3 s4 x label i (looks_trans _ _ _ l2 c.known_slot-3.ensures.looks) (finds_later s1 s3 label i since c.in_ok-slot.ensures.ok)
+    then_cells s0 s3 s4 x label i (looks_trans _ _ _ l2 c.known_slot-3.ensures.looks) (finds_after s1 s3 label i since c.in_ok-slot.ensures.ok)
     r3 c.stored_proof.ensures.looks.onward (λ m. m ≡ proof_cell i) (λ st lib at c is. inr (inr (inr (inr (i, at, inl is)))))
     c.stored_proof.ensures.reads in
     r4
@@ -424,7 +424,7 @@ returns-then-is_empty-clause-reads g c =
     let n = c.in_ok-next.next in
     let since = looks_trans _ _ _ c.known_slot-2.ensures.looks c.known_slot-3.ensures.looks in
     let r4 : ReadsFor s0 s4 (Replace c.args.label.now c.args.old.now c.args.new.now) =
-    then_cells s0 s3 s4 x label i (looks_trans _ _ _ l2 c.known_slot-3.ensures.looks) (finds_later s1 s3 label i since c.in_ok-slot.ensures.ok)
+    then_cells s0 s3 s4 x label i (looks_trans _ _ _ l2 c.known_slot-3.ensures.looks) (finds_after s1 s3 label i since c.in_ok-slot.ensures.ok)
     r3 c.stored_proof.ensures.looks.onward (λ m. m ≡ proof_cell i) (λ st lib at c is. inr (inr (inr (inr (i, at, inl is)))))
     c.stored_proof.ensures.reads in
     r4
@@ -454,7 +454,7 @@ returns-in_err-are_alike-clause-reads g c =
     let n = c.in_ok-next.next in
     let since = looks_trans _ _ _ c.known_slot-2.ensures.looks c.known_slot-3.ensures.looks in
     let r4 : ReadsFor s0 s4 (Replace c.args.label.now c.args.old.now c.args.new.now) =
-    then_cells s0 s3 s4 x label i (looks_trans _ _ _ l2 c.known_slot-3.ensures.looks) (finds_later s1 s3 label i since c.in_ok-slot.ensures.ok)
+    then_cells s0 s3 s4 x label i (looks_trans _ _ _ l2 c.known_slot-3.ensures.looks) (finds_after s1 s3 label i since c.in_ok-slot.ensures.ok)
     r3 c.stored_proof.ensures.looks.onward (λ m. m ≡ proof_cell i) (λ st lib at c is. inr (inr (inr (inr (i, at, inl is)))))
     c.stored_proof.ensures.reads in
     let known = sought i j n label old new c.in_ok-kept.kept.items s0 s1 s2 s3 s4 c.known_slot.ensures.looks c.known_slot-2.ensures.looks
@@ -490,7 +490,7 @@ returns-then-not-branch-clause-reads g c =
     let n = c.in_ok-next.next in
     let since = looks_trans _ _ _ c.known_slot-2.ensures.looks c.known_slot-3.ensures.looks in
     let r4 : ReadsFor s0 s4 (Replace c.args.label.now c.args.old.now c.args.new.now) =
-    then_cells s0 s3 s4 x label i (looks_trans _ _ _ l2 c.known_slot-3.ensures.looks) (finds_later s1 s3 label i since c.in_ok-slot.ensures.ok)
+    then_cells s0 s3 s4 x label i (looks_trans _ _ _ l2 c.known_slot-3.ensures.looks) (finds_after s1 s3 label i since c.in_ok-slot.ensures.ok)
     r3 c.stored_proof.ensures.looks.onward (λ m. m ≡ proof_cell i) (λ st lib at c is. inr (inr (inr (inr (i, at, inl is)))))
     c.stored_proof.ensures.reads in
     let known = sought i j n label old new c.in_ok-kept.kept.items s0 s1 s2 s3 s4 c.known_slot.ensures.looks c.known_slot-2.ensures.looks
@@ -526,7 +526,7 @@ returns-in_err-is_not_lower-clause-reads g c =
     let n = c.in_ok-next.next in
     let since = looks_trans _ _ _ c.known_slot-2.ensures.looks c.known_slot-3.ensures.looks in
     let r4 : ReadsFor s0 s4 (Replace c.args.label.now c.args.old.now c.args.new.now) =
-    then_cells s0 s3 s4 x label i (looks_trans _ _ _ l2 c.known_slot-3.ensures.looks) (finds_later s1 s3 label i since c.in_ok-slot.ensures.ok)
+    then_cells s0 s3 s4 x label i (looks_trans _ _ _ l2 c.known_slot-3.ensures.looks) (finds_after s1 s3 label i since c.in_ok-slot.ensures.ok)
     r3 c.stored_proof.ensures.looks.onward (λ m. m ≡ proof_cell i) (λ st lib at c is. inr (inr (inr (inr (i, at, inl is)))))
     c.stored_proof.ensures.reads in
     let known = sought i j n label old new c.in_ok-kept.kept.items s0 s1 s2 s3 s4 c.known_slot.ensures.looks c.known_slot-2.ensures.looks
@@ -567,7 +567,7 @@ returns-then-branch-clause-reads g c =
     let n = c.in_ok-next.next in
     let since = looks_trans _ _ _ c.known_slot-2.ensures.looks c.known_slot-3.ensures.looks in
     let r4 : ReadsFor s0 s4 (Replace c.args.label.now c.args.old.now c.args.new.now) =
-    then_cells s0 s3 s4 x label i (looks_trans _ _ _ l2 c.known_slot-3.ensures.looks) (finds_later s1 s3 label i since c.in_ok-slot.ensures.ok)
+    then_cells s0 s3 s4 x label i (looks_trans _ _ _ l2 c.known_slot-3.ensures.looks) (finds_after s1 s3 label i since c.in_ok-slot.ensures.ok)
     r3 c.stored_proof.ensures.looks.onward (λ m. m ≡ proof_cell i) (λ st lib at c is. inr (inr (inr (inr (i, at, inl is)))))
     c.stored_proof.ensures.reads in
     let known = sought i j n label old new c.in_ok-kept.kept.items s0 s1 s2 s3 s4 c.known_slot.ensures.looks c.known_slot-2.ensures.looks
@@ -608,7 +608,7 @@ returns-in_err-put_steps-clause-reads g c =
     let n = c.in_ok-next.next in
     let since = looks_trans _ _ _ c.known_slot-2.ensures.looks c.known_slot-3.ensures.looks in
     let r4 : ReadsFor s0 s4 (Replace c.args.label.now c.args.old.now c.args.new.now) =
-    then_cells s0 s3 s4 x label i (looks_trans _ _ _ l2 c.known_slot-3.ensures.looks) (finds_later s1 s3 label i since c.in_ok-slot.ensures.ok)
+    then_cells s0 s3 s4 x label i (looks_trans _ _ _ l2 c.known_slot-3.ensures.looks) (finds_after s1 s3 label i since c.in_ok-slot.ensures.ok)
     r3 c.stored_proof.ensures.looks.onward (λ m. m ≡ proof_cell i) (λ st lib at c is. inr (inr (inr (inr (i, at, inl is)))))
     c.stored_proof.ensures.reads in
     let known = sought i j n label old new c.in_ok-kept.kept.items s0 s1 s2 s3 s4 c.known_slot.ensures.looks c.known_slot-2.ensures.looks
@@ -659,7 +659,7 @@ returns-clause-reads g c =
     let n = c.in_ok-next.next in
     let since = looks_trans _ _ _ c.known_slot-2.ensures.looks c.known_slot-3.ensures.looks in
     let r4 : ReadsFor s0 s4 (Replace c.args.label.now c.args.old.now c.args.new.now) =
-    then_cells s0 s3 s4 x label i (looks_trans _ _ _ l2 c.known_slot-3.ensures.looks) (finds_later s1 s3 label i since c.in_ok-slot.ensures.ok)
+    then_cells s0 s3 s4 x label i (looks_trans _ _ _ l2 c.known_slot-3.ensures.looks) (finds_after s1 s3 label i since c.in_ok-slot.ensures.ok)
     r3 c.stored_proof.ensures.looks.onward (λ m. m ≡ proof_cell i) (λ st lib at c is. inr (inr (inr (inr (i, at, inl is)))))
     c.stored_proof.ensures.reads in
     let known = sought i j n label old new c.in_ok-kept.kept.items s0 s1 s2 s3 s4 c.known_slot.ensures.looks c.known_slot-2.ensures.looks

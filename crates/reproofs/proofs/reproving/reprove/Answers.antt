@@ -14,7 +14,7 @@ use Rattle.groundwork.specs.Changes.{ReprovesAt}
 use Rattle.groundwork.specs.Touches.{ReprovesWithin}
 use Rattle.groundwork.proofs.Touching.{keeps_to_since}
 use Rattle.reproofs.proofs.ReproveReads.{reprove_keeps}
-use Rattle.groundwork.proofs.OnlyLooks.{finds_later}
+use Rattle.cells.proofs.Resolving.{finds_after}
 use Rattle.groundwork.proofs.Refusing.{of_none, refused, refused_later, answers_refused, answers_tested, answers_unknown}
 use Rattle.reproofs.proofs.Reproved.{retitled, axiom_refused, reprove_refused, reproved}
 use Rattle.groundwork.proofs.Taking.{stored_taken}
@@ -51,7 +51,7 @@ returns-in-Axiom-clause-answers g c =
     answers_refused s0 s2 (command.Reprove label steps) reason.NotATheorem c.into.result c.into.ensures
     (refused_later s0 s2 (command.Reprove label steps) reason.NotATheorem (looks_trans _ _ _ c.known_slot.ensures.looks c.statement.ensures.looks)
     (axiom_refused s2 c.in_ok-slot.slot label c.in_ok-statement.statement c.in_ok-statement.ensures.ok
-    (finds_later s1 s2 label c.in_ok-slot.slot c.statement.ensures.looks finds).1 steps c.in-Axiom.is))
+    (finds_after s1 s2 label c.in_ok-slot.slot c.statement.ensures.looks finds).1 steps c.in-Axiom.is))
 
 pub returns-in_err-rank-clause-onward : goal.returns-in_err-rank-clause-onward
 returns-in_err-rank-clause-onward g c =
@@ -86,7 +86,7 @@ returns-in_err-kept-clause-answers g c =
     let later = looks_trans _ _ _ c.rank.ensures.looks c.test_proof.ensures.looks in
     let looks = looks_trans _ _ _ c.known_slot.ensures.looks (looks_trans _ _ _ c.statement.ensures.looks later) in
     let finds = c.in_ok-slot.ensures.ok in
-    let here = (finds_later s1 s4 label i (looks_trans _ _ _ c.statement.ensures.looks later) finds).1 in
+    let here = (finds_after s1 s4 label i (looks_trans _ _ _ c.statement.ensures.looks later) finds).1 in
     let stated = held_later s2 s4 i (λ st lib e. made ≡ statement_of e.assertion) later c.in_ok-statement.ensures.ok in
     let ranked = held_later s3 s4 i (λ st lib e. rank ≡ e.rank) c.test_proof.ensures.looks c.in_ok-rank.ensures.ok in
     let theorem = c.in_default.is in
@@ -128,7 +128,7 @@ returns-clause-answers g c =
     let later = looks_trans _ _ _ c.rank.ensures.looks c.test_proof.ensures.looks in
     let looks = looks_trans _ _ _ c.known_slot.ensures.looks (looks_trans _ _ _ c.statement.ensures.looks later) in
     let finds = c.in_ok-slot.ensures.ok in
-    let here = (finds_later s1 s4 label i (looks_trans _ _ _ c.statement.ensures.looks later) finds).1 in
+    let here = (finds_after s1 s4 label i (looks_trans _ _ _ c.statement.ensures.looks later) finds).1 in
     let stated = held_later s2 s4 i (λ st lib e. made ≡ statement_of e.assertion) later c.in_ok-statement.ensures.ok in
     let ranked = held_later s3 s4 i (λ st lib e. rank ≡ e.rank) c.test_proof.ensures.looks c.in_ok-rank.ensures.ok in
     let theorem = c.in_default.is in
@@ -187,7 +187,7 @@ returns-clause-keeps g c =
     let stored = subst (λ (xs : List Step). ForEach s4 (λ st lib. AreStoredAs s4.setting.slots st xs kept))
     (ap (λ (a : Assertion). a.proof) is) c.in_ok-kept.ensures.ok.stored in
     keeps_to_since s0 s4 s5 (command.Reprove label steps) (looks_trans _ _ _ c.known_slot.ensures.looks since) c.put_steps.ensures.onward
-    (reprove_keeps s4 s5 i label steps kept (finds_later s1 s4 label i since finds).1 stored
+    (reprove_keeps s4 s5 i label steps kept (finds_after s1 s4 label i since finds).1 stored
     (subst (ReprovesWithin s4 s5 i label) c.as_slice.ensures.value (c.in_ok-put_steps.ensures.keeps label)))
 
 pub returns-in_err-slot-clause-reads : goal.returns-in_err-slot-clause-reads
@@ -253,7 +253,7 @@ returns-in_err-rank-clause-reads g c =
     let s3 = g.C.Cells.sight c.rank.new.cells in
     let l2 = looks_trans _ _ _ c.known_slot.ensures.looks c.statement.ensures.looks in
     let r3 : ReadsFor s0 s3 (command.Reprove c.args.label.now c.args.steps.now) =
-    then_cells s0 s2 s3 x label i l2 (finds_later s1 s2 label i c.statement.ensures.looks finds) r2 c.rank.ensures.looks.onward
+    then_cells s0 s2 s3 x label i l2 (finds_after s1 s2 label i c.statement.ensures.looks finds) r2 c.rank.ensures.looks.onward
     (λ k. k ≡ rank_cell i) (λ st lib at k is. inr (inl (i, at, inr is))) c.rank.ensures.reads in
     r3
 
@@ -275,7 +275,7 @@ returns-in_err-proof-clause-reads g c =
     let s3 = g.C.Cells.sight c.rank.new.cells in
     let l2 = looks_trans _ _ _ c.known_slot.ensures.looks c.statement.ensures.looks in
     let r3 : ReadsFor s0 s3 (command.Reprove c.args.label.now c.args.steps.now) =
-    then_cells s0 s2 s3 x label i l2 (finds_later s1 s2 label i c.statement.ensures.looks finds) r2 c.rank.ensures.looks.onward
+    then_cells s0 s2 s3 x label i l2 (finds_after s1 s2 label i c.statement.ensures.looks finds) r2 c.rank.ensures.looks.onward
     (λ k. k ≡ rank_cell i) (λ st lib at k is. inr (inl (i, at, inr is))) c.rank.ensures.reads in
     r3
 
@@ -297,7 +297,7 @@ returns-in_err-copy-clause-reads g c =
     let s3 = g.C.Cells.sight c.rank.new.cells in
     let l2 = looks_trans _ _ _ c.known_slot.ensures.looks c.statement.ensures.looks in
     let r3 : ReadsFor s0 s3 (command.Reprove c.args.label.now c.args.steps.now) =
-    then_cells s0 s2 s3 x label i l2 (finds_later s1 s2 label i c.statement.ensures.looks finds) r2 c.rank.ensures.looks.onward
+    then_cells s0 s2 s3 x label i l2 (finds_after s1 s2 label i c.statement.ensures.looks finds) r2 c.rank.ensures.looks.onward
     (λ k. k ≡ rank_cell i) (λ st lib at k is. inr (inl (i, at, inr is))) c.rank.ensures.reads in
     r3
 
@@ -319,7 +319,7 @@ returns-in_err-kept-clause-reads g c =
     let s3 = g.C.Cells.sight c.rank.new.cells in
     let l2 = looks_trans _ _ _ c.known_slot.ensures.looks c.statement.ensures.looks in
     let r3 : ReadsFor s0 s3 (command.Reprove c.args.label.now c.args.steps.now) =
-    then_cells s0 s2 s3 x label i l2 (finds_later s1 s2 label i c.statement.ensures.looks finds) r2 c.rank.ensures.looks.onward
+    then_cells s0 s2 s3 x label i l2 (finds_after s1 s2 label i c.statement.ensures.looks finds) r2 c.rank.ensures.looks.onward
     (λ k. k ≡ rank_cell i) (λ st lib at k is. inr (inl (i, at, inr is))) c.rank.ensures.reads in
     let s4 = g.C.Cells.sight c.test_proof.new.cells in
     let l3 = looks_trans _ _ _ l2 c.rank.ensures.looks in
@@ -352,7 +352,7 @@ returns-in_err-put_steps-clause-reads g c =
     let s3 = g.C.Cells.sight c.rank.new.cells in
     let l2 = looks_trans _ _ _ c.known_slot.ensures.looks c.statement.ensures.looks in
     let r3 : ReadsFor s0 s3 (command.Reprove c.args.label.now c.args.steps.now) =
-    then_cells s0 s2 s3 x label i l2 (finds_later s1 s2 label i c.statement.ensures.looks finds) r2 c.rank.ensures.looks.onward
+    then_cells s0 s2 s3 x label i l2 (finds_after s1 s2 label i c.statement.ensures.looks finds) r2 c.rank.ensures.looks.onward
     (λ k. k ≡ rank_cell i) (λ st lib at k is. inr (inl (i, at, inr is))) c.rank.ensures.reads in
     let s4 = g.C.Cells.sight c.test_proof.new.cells in
     let l3 = looks_trans _ _ _ l2 c.rank.ensures.looks in
@@ -370,7 +370,7 @@ returns-in_err-put_steps-clause-reads g c =
     let since = looks_trans _ _ _ c.statement.ensures.looks (looks_trans _ _ _ c.rank.ensures.looks c.test_proof.ensures.looks) in
     let stored = subst (λ (xs : List Step). ForEach s4 (λ st lib. AreStoredAs s4.setting.slots st xs kept))
     (ap (λ (a : Assertion). a.proof) is) c.in_ok-kept.ensures.ok.stored in
-    let reads = reprove_reads s4 s5 i label steps kept (finds_later s1 s4 label i since finds).1 stored
+    let reads = reprove_reads s4 s5 i label steps kept (finds_after s1 s4 label i since finds).1 stored
     (subst (ReprovesReading s4 s5 i label) c.as_slice.ensures.value (c.put_steps.ensures.reads label)) in
     since_then (OfCommand s0 x) r4 c.put_steps.ensures.onward
     (since_before (OfCommand s0 x) s0 s4 s5 (looks_trans _ _ _ l3 c.test_proof.ensures.looks) (λ n st lib k. Touches n st lib (command.Reprove c.args.label.now c.args.steps.now) k)
@@ -394,7 +394,7 @@ returns-clause-reads g c =
     let s3 = g.C.Cells.sight c.rank.new.cells in
     let l2 = looks_trans _ _ _ c.known_slot.ensures.looks c.statement.ensures.looks in
     let r3 : ReadsFor s0 s3 (command.Reprove c.args.label.now c.args.steps.now) =
-    then_cells s0 s2 s3 x label i l2 (finds_later s1 s2 label i c.statement.ensures.looks finds) r2 c.rank.ensures.looks.onward
+    then_cells s0 s2 s3 x label i l2 (finds_after s1 s2 label i c.statement.ensures.looks finds) r2 c.rank.ensures.looks.onward
     (λ k. k ≡ rank_cell i) (λ st lib at k is. inr (inl (i, at, inr is))) c.rank.ensures.reads in
     let s4 = g.C.Cells.sight c.test_proof.new.cells in
     let l3 = looks_trans _ _ _ l2 c.rank.ensures.looks in
@@ -412,7 +412,7 @@ returns-clause-reads g c =
     let since = looks_trans _ _ _ c.statement.ensures.looks (looks_trans _ _ _ c.rank.ensures.looks c.test_proof.ensures.looks) in
     let stored = subst (λ (xs : List Step). ForEach s4 (λ st lib. AreStoredAs s4.setting.slots st xs kept))
     (ap (λ (a : Assertion). a.proof) is) c.in_ok-kept.ensures.ok.stored in
-    let reads = reprove_reads s4 s5 i label steps kept (finds_later s1 s4 label i since finds).1 stored
+    let reads = reprove_reads s4 s5 i label steps kept (finds_after s1 s4 label i since finds).1 stored
     (subst (ReprovesReading s4 s5 i label) c.as_slice.ensures.value (c.put_steps.ensures.reads label)) in
     since_then (OfCommand s0 x) r4 c.put_steps.ensures.onward
     (since_before (OfCommand s0 x) s0 s4 s5 (looks_trans _ _ _ l3 c.test_proof.ensures.looks) (λ n st lib k. Touches n st lib (command.Reprove c.args.label.now c.args.steps.now) k)

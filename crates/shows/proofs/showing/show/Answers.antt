@@ -8,7 +8,8 @@ use Rattle.library.proofs.Places.{found_in}
 use Rattle.cells.specs.Lookups.{ForEachHeld}
 use Rattle.cells.proofs.ReadBack.{held_later}
 use Rattle.cells.proofs.Sights.{looks_trans}
-use Rattle.groundwork.proofs.OnlyLooks.{finds_later, does_reading}
+use Rattle.groundwork.proofs.OnlyLooks.{does_reading}
+use Rattle.cells.proofs.Resolving.{finds_after}
 use Rattle.groundwork.proofs.Seeing.{found_held}
 use Rattle.groundwork.proofs.Refusing.{of_none, of_some, refused, answers_unknown}
 use Rattle.groundwork.specs.Footprints.{ReadsFor}
@@ -51,7 +52,7 @@ returns-clause-answers g c =
     let i = c.in_ok-slot.slot in
     let on = looks_trans _ _ _ c.entry.ensures.looks c.citers.ensures.looks in
     let some = c.in_ok-slot.ensures.ok in
-    let later = finds_later s1 s3 label i on some in
+    let later = finds_after s1 s3 label i on some in
     let counted : ForEachHeld s3 i (λ x l e. c.in_ok-citers.citers ≡ citers l (label_of e)) = c.in_ok-citers.ensures.ok in
     let looks = looks_trans _ _ _ c.known_slot.ensures.looks on in
     does_reading _ s3 (Show label) (Shown c.in_ok-citers.citers c.in_ok-shown.shown) looks refl (λ st lib v.
@@ -108,7 +109,7 @@ returns-in_err-citers-clause-reads g c =
     show_entry old s1 s2 label i c.known_slot.ensures.looks some r1 c.entry.ensures.looks c.entry.ensures.reads in
     let s3 = g.C.Cells.sight c.citers.new.cells in
     show_citers old s2 s3 label i (looks_trans _ _ _ c.known_slot.ensures.looks c.entry.ensures.looks)
-    (finds_later s1 s2 label i c.entry.ensures.looks some) r2 c.citers.ensures.looks c.citers.ensures.reads
+    (finds_after s1 s2 label i c.entry.ensures.looks some) r2 c.citers.ensures.looks c.citers.ensures.reads
 
 pub returns-clause-reads : goal.returns-clause-reads
 returns-clause-reads g c =
@@ -124,4 +125,4 @@ returns-clause-reads g c =
     show_entry old s1 s2 label i c.known_slot.ensures.looks some r1 c.entry.ensures.looks c.entry.ensures.reads in
     let s3 = g.C.Cells.sight c.citers.new.cells in
     show_citers old s2 s3 label i (looks_trans _ _ _ c.known_slot.ensures.looks c.entry.ensures.looks)
-    (finds_later s1 s2 label i c.entry.ensures.looks some) r2 c.citers.ensures.looks c.citers.ensures.reads
+    (finds_after s1 s2 label i c.entry.ensures.looks some) r2 c.citers.ensures.looks c.citers.ensures.reads
