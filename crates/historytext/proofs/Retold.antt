@@ -79,11 +79,9 @@ unit_retold t unit a sound h d =
       text = statement_text unit;
       spells = record {
         clean = clean_statement unit h;
-        statement = unit;
+        words = spelling unit;
         words_are = statement_words unit h;
-        known = d.0;
-        declared = d.1;
-        single = d.2;
+        unit = record { statement = unit; parts = refl; known = d.0; declared = d.1; single = d.2 };
       };
     } in
     let is_unit = spelled_unit t a sound has in
