@@ -22,7 +22,7 @@ use Rattle.transaction.specs.Members.{Home, Member, AreRecorded, IsRecordIn, ent
 use Rattle.workers.specs.Works.{IsHandedBack, is_done, newly_done, all_newly_done}
 use Rattle.workers.proofs.Numbers.{done_at}
 use Rattle.finishing.specs.Finishes.{IsFinished}
-use Rattle.finishing.proofs.Ended.{settled}
+use Rattle.transaction.proofs.Recorded.{recorded_settled}
 use Rattle.editing.specs.Edits.{done_numbers}
 use Rattle.editing.proofs.Covers.{covers}
 
@@ -65,7 +65,7 @@ same_done m h recorded grows n has =
     let noted = all_has (IsRecordIn own) m.records r.0 recorded.entries r.1 in
     let e = entry_recorded r.0.done in
     let number : n ≡ suc noted.0 = r.2 ∙ noted.1 in
-    let later = grows.kept noted.0 e noted.2 (settled r.0.done) in
+    let later = grows.kept noted.0 e noted.2 (recorded_settled r.0.done) in
     ap (is_done own) number ∙ done_at own noted.0 e noted.2 ∙ sym (ap (is_done h) number ∙ done_at h noted.0 e later)
 
 -- ---- all of them

@@ -17,7 +17,7 @@ use Rattle.taking.specs.Names.{Naming}
 use Rattle.choosing.specs.declared.wish.Wish.{Wish}
 use Rattle.choosing.specs.declared.wish.Wish.TheVariants as wish
 use Rattle.choosing.specs.Choices.{labels_wished}
-use Rattle.choosing.proofs.Apart.{front_of_all}
+use Rattle.mmsyntax.proofs.Distinct.{all_left}
 use Rattle.intake.specs.declared.taken.Taken.{Taken}
 use Rattle.intake.specs.Intakes.{axioms_of, names_of}
 use Rattle.taketext.specs.Comments.{shown_path, digits, chosen_line, name_line, reason_line, axiom_line, names_lines}
@@ -63,7 +63,7 @@ quiet_wish (wish.Between from to) h =
     (refl, (h.0, (refl, (h.1.0, (refl, tt)))))
 quiet_wish (wish.These labels axioms) h =
     let words = seen_words labels.now in
-    let all = front_of_all AreQuiet words (seen_words axioms.now) h in
+    let all = all_left AreQuiet words (seen_words axioms.now) h in
     quiet_joined (codes "   Chosen: just" ∷ spaced words ∷ (10 ∷ []) ∷ []) (refl, (quiet_spaced words all, (refl, tt)))
 
 quiet_name : (p : Naming) → IsQuietNaming p → AreQuiet (name_line p)

@@ -1,14 +1,15 @@
 -- What is left to show of `own_of`.
-use Rattle.std.proofs.Common.{◌≡◌, ◌∙◌, ◌+◌, ◌<◌, List, ℕ, Bool, false, map, take, get_or, length, sym, subst, ap, arith}
-use Rattle.std.specs.Prelude.{◌&&◌}
+use Rattle.std.proofs.Common.{◌≡◌, ◌∙◌, ◌+◌, ◌<◌, ◌≤◌, List, ℕ, Bool, false, Some, map, take, get_or, length, sym, subst, ap, arith, inl, inr}
+use Rattle.std.specs.Prelude.{◌&&◌, slice_get}
 use mathlib.Core.Bool.{not}
 use Rattle.std.proofs.lemmas.List.{take_all, get_or_read, length_push}
+use Rattle.std.proofs.lemmas.Option.{slice_get_cases}
 use Rattle.source.specs.Scopes.{Assertion, is_in}
 use Rattle.taking.specs.Reasons.{Choice}
 use Rattle.intake.specs.Intakes.{axioms_of}
 use Rattle.sourceediting.specs.Following.{is_own}
 use Rattle.sourceediting.proofs.Marks.{told_found}
-use Rattle.sourceediting.proofs.Origins.{there_is, label_is}
+use Rattle.sourceediting.proofs.Origins.{label_is}
 use Rattle.sourceediting.proofs.Others.{own_more}
 use Rattle.secondlook.proofs.own.own_of.Given.{Over}
 use Rattle.secondlook.proofs.own.own_of.Goals as goal
@@ -23,7 +24,10 @@ flags_more g c choice are =
     let flags = c.args.taken.now.chosen.items in
     let i = c.loop-place.place in
     let within : i < length xs = omega arith in
-    let x = there_is xs i within in
+    let x : (a : Assertion) × (slice_get xs i ≡ Some a) = elim (slice_get_cases xs i).1 [
+      | inl y ↦ (y.0, y.2)
+      | inr n ↦ absurd (let past : length xs ≤ i = n.0 in omega arith)
+    ] in
     let l = c.in-Some.label in
     let axioms = axioms_of c.args.taken.now in
     let same : l.now ≡ x.0.label = label_is l c.label.result x.0 _ c.in-Some.is c.label.ensures x.1 in
