@@ -14,6 +14,7 @@ use Rattle.choosing.specs.declared.wish.Wish.TheVariants as wish
 use Rattle.choosing.specs.declared.wish.Selection.{Selection}
 use Rattle.choosing.specs.declared.wish.Unchosen.{Unchosen}
 use Rattle.choosing.specs.declared.wish.Unchosen.TheVariants as unchosen
+use Rattle.mmsyntax.specs.declared.limits.TheConstants.{MOST_ASSERTIONS}
 
 -- labels of assertions
 abbrev pub labels_of : List Assertion → List Word
@@ -43,7 +44,7 @@ abbrev pub asked_of : List Word → Scope → List Assertion
 asked_of asked s = filter (λ x. is_in asked x.label) s.assertions
 
 abbrev pub chosen_for : List Word → Scope → Choice
-chosen_for asked s = record { chosen = nearest asked (4096 - length (asked_of asked s)) [] (reverse s.assertions); front = [] }
+chosen_for asked s = record { chosen = nearest asked (MOST_ASSERTIONS - length (asked_of asked s)) [] (reverse s.assertions); front = [] }
 
 -- ---- those between two, and in front of them what their proofs cite
 
@@ -101,7 +102,7 @@ pub record IsChosen (s : Scope) (w : Wish) (sel : Selection) : Type 0 where
   pub is_choice : IsChoice s w choice
   pub flags : AreFlags s choice sel.chosen.items sel.front.items
   pub there : AreThere s choice.chosen
-  pub few : length choice.chosen ≤ 4096
+  pub few : length choice.chosen ≤ MOST_ASSERTIONS
   pub known : first_unknown s w ≡ None
   pub in_order : StandsBehind s w → ⊥
 
@@ -110,10 +111,10 @@ pub record IsChosen (s : Scope) (w : Wish) (sel : Selection) : Type 0 where
 -- a wish for so many, whose labels are known and stand the right way round: more than 4,096
 abbrev pub IsWishForMany : Scope → Wish → ℕ → Type 0
 IsWishForMany s (wish.For asked) n =
-    (length (asked_of (seen_words asked.now) s) ≡ n) × (4096 < n) × (first_unknown s (wish.For asked) ≡ None)
+    (length (asked_of (seen_words asked.now) s) ≡ n) × (MOST_ASSERTIONS < n) × (first_unknown s (wish.For asked) ≡ None)
 IsWishForMany s (wish.These labels axioms) n =
-    (length (seen_words labels.now) ≡ n) × (4096 < n) × (first_unknown s (wish.These labels axioms) ≡ None)
-IsWishForMany s w n = (choice : Choice) × IsChoice s w choice × (length choice.chosen ≡ n) × (4096 < n) × (StandsBehind s w → ⊥)
+    (length (seen_words labels.now) ≡ n) × (MOST_ASSERTIONS < n) × (first_unknown s (wish.These labels axioms) ≡ None)
+IsWishForMany s w n = (choice : Choice) × IsChoice s w choice × (length choice.chosen ≡ n) × (MOST_ASSERTIONS < n) × (StandsBehind s w → ⊥)
 
 -- why a wish is refused
 abbrev pub IsUnchosen : Scope → Wish → Unchosen → Type 0

@@ -11,13 +11,11 @@ use crate::between::{needed_between, selected};
 use crate::marks::marks_of;
 use crate::nearest::choose_nearest;
 use crate::wish::{Selection, Unchosen, Wish};
+use mmsyntax::MOST_ASSERTIONS;
 use prooftrees::Frames;
 use source::Declared;
 use std::alloc::Global;
 use std::hash::RandomState;
-
-/// So many assertions are taken at most.
-const MOST: usize = 4096;
 
 /// How many are marked.
 fn count_marked(marks: &[bool]) -> usize
@@ -36,7 +34,7 @@ fn choose_all<'a, 'w, D: Declared<'a>>(
     ensures refused { IfErr result (λ why. why ≢ NoMemory → IsUnchosen (D.scope declared.now) All why) }
 {
     let count = declared.assertions();
-    if count > MOST {
+    if count > MOST_ASSERTIONS {
         return Err(Unchosen::TooMany(count));
     }
     Ok(Selection {
@@ -61,10 +59,17 @@ fn choose_for<'a, 'w, D: Declared<'a>>(
 {
     let asked = marks_of(alloc, declared, labels)?;
     let count = count_marked(&asked);
-    if count > MOST {
+    if count > MOST_ASSERTIONS {
         return Err(Unchosen::TooMany(count));
     }
-    let chosen = choose_nearest(alloc, keys, declared, frames, &asked, MOST - count)?;
+    let chosen = choose_nearest(
+        alloc,
+        keys,
+        declared,
+        frames,
+        &asked,
+        MOST_ASSERTIONS - count,
+    )?;
     let front = vec![in alloc; false; asked.len()]?;
     Ok(Selection { chosen, front })
 }
@@ -103,7 +108,7 @@ fn choose_between<'a, 'w, D: Declared<'a>>(
     let wanted = needed_between(alloc, keys, declared, frames, begin, last)?;
     let selection = selected(wanted, begin, last)?;
     let count = count_marked(&selection.chosen);
-    if count > MOST {
+    if count > MOST_ASSERTIONS {
         return Err(Unchosen::TooMany(count));
     }
     Ok(selection)
@@ -123,7 +128,7 @@ fn choose_these<'a, 'w, D: Declared<'a>>(
     let chosen = marks_of(alloc, declared, labels)?;
     let front = marks_of(alloc, declared, axioms)?;
     let count = labels.len();
-    if count > MOST {
+    if count > MOST_ASSERTIONS {
         return Err(Unchosen::TooMany(count));
     }
     Ok(Selection { chosen, front })

@@ -14,14 +14,12 @@ ghost use Rattle.choosing.specs.declared.wish.Unchosen.TheVariants.{NoMemory};
 
 use crate::places::NoPlaces;
 use crate::wish::Unchosen;
+use mmsyntax::MOST_STEPS;
 use prooftrees::{Frames, ProofForm, read_proof};
 use source::Declared;
 use std::alloc::{AllocError, Global};
 use std::hash::RandomState;
 use taking::Nodes;
-
-/// A listing has so many steps at most.
-const MOST_STEPS: usize = 16_384;
 
 /// The assertion with a label is marked, if there is one, and this says whether there is.
 fn mark<'a, D: Declared<'a>>(declared: &D, label: &[u8], marks: &mut [bool]) -> bool

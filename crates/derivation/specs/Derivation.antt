@@ -12,6 +12,7 @@ use Rattle.mmsyntax.specs.declared.statement.Step.TheVariants.{Float, Hyp, Cite}
 use Rattle.mmsyntax.specs.Tables.{Tables}
 use Rattle.mmsyntax.specs.Blocks.{in_order}
 use Rattle.mmframes.specs.Substitution.{subst, replacement}
+use Rattle.mmsyntax.specs.declared.limits.TheConstants.{MOST_SYMBOLS}
 
 -- an expression
 abbrev pub Expression : Type 0
@@ -91,7 +92,7 @@ pub record Gives (p : Tables) (a : Assertion) (f : Frame) (es : List Expression)
   pub hypotheses : HypothesesFit f es
   pub pairs : PairsFit a f es
   pub is_conclusion : e ≡ conclusion f es
-  pub short : length e ≤ 65535
+  pub short : length e ≤ MOST_SYMBOLS
 
 -- ---- trees
 

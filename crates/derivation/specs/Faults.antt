@@ -12,6 +12,7 @@ use Rattle.derivation.specs.declared.fault.ProofFaultKind.{ProofFaultKind}
 use Rattle.derivation.specs.declared.fault.ProofFaultKind.TheVariants.{UnknownStep, StackShort, WrongType, HypothesisDiffers}
 use Rattle.derivation.specs.declared.fault.ProofFaultKind.TheVariants.{NotDisjoint, NotOneLeft, StatementDiffers, TooLong}
 use Rattle.derivation.specs.Derivation.{Expression, Citable, ListForest, arity, TypesFit, HypothesesFit, PairsFit, conclusion}
+use Rattle.mmsyntax.specs.declared.limits.TheConstants.{MOST_SYMBOLS}
 
 -- n is the number of steps in the longest front that lists a forest, and es is what its trees derive
 pub record IsLongestFront (lib : Citable) (p : Tables) (a : Assertion) (n : ℕ) (es : List Expression) : Type 0 where
@@ -41,7 +42,7 @@ FailsTest p a f args WrongType = ¬ TypesFit p f args
 FailsTest p a f args HypothesisDiffers = TypesFit p f args × ¬ HypothesesFit f args
 FailsTest p a f args NotDisjoint = TypesFit p f args × HypothesesFit f args × ¬ PairsFit a f args
 FailsTest p a f args TooLong =
-    TypesFit p f args × HypothesesFit f args × PairsFit a f args × (65535 < length (conclusion f args))
+    TypesFit p f args × HypothesesFit f args × PairsFit a f args × (MOST_SYMBOLS < length (conclusion f args))
 FailsTest p a f args _ = ⊥
 
 -- the first test that a step fails over the last of these expressions

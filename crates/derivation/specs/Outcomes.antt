@@ -22,6 +22,7 @@ use Rattle.derivation.specs.declared.fault.ProofFaultKind.TheVariants.{NotDisjoi
 use Rattle.derivation.specs.Derivation.{Expression, Citable, Tree, Trees, float, hyp, node, none, some, Derives, listing, arity}
 use Rattle.derivation.specs.Derivation.{substitution, conclusion}
 use Rattle.derivation.specs.Faults.{HasFault, last}
+use Rattle.mmsyntax.specs.declared.limits.TheConstants.{MOST_SYMBOLS}
 
 -- ---- the relation
 
@@ -76,7 +77,7 @@ cited p a f es =
     if not (types_fit p f.floats es) then Err WrongType else (
     if not (hypotheses_fit f es) then Err HypothesisDiffers else (
     if not (pairs_fit a f es) then Err NotDisjoint else (
-    if nat_lt 65535 (length (conclusion f es)) then Err TooLong else Ok (conclusion f es))))
+    if nat_lt MOST_SYMBOLS (length (conclusion f es)) then Err TooLong else Ok (conclusion f es))))
 
 -- ---- one step
 

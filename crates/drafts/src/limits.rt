@@ -4,19 +4,13 @@ ghost use Rattle.std.specs.Prelude.{◌≡◌, ◌≤◌, IsTrue, IfSome, IfNone
 ghost use Rattle.std.specs.List.{list_any};
 ghost use Rattle.drafts.specs.Drafts.{contents_of};
 ghost use Rattle.drafts.specs.Limits.{IsPassed, PassesNone, expressions, is_long};
+ghost use Rattle.mmsyntax.specs.declared.limits.TheConstants.{MOST_ASSERTIONS, MOST_DECLARED, MOST_HYPOTHESES, MOST_NAME_BYTES, MOST_PAIRS, MOST_STEPS};
 
 use crate::draft::Draft;
-use crate::words::MOST_NAME_BYTES;
-use mmsyntax::{Assertion, Expr, Float, Label};
-
-/// The most constants, and variables, and `$f`, and symbols of an expression, and pairs of an assertion.
-const MOST_SYMBOLS: usize = 65_535;
-/// The most assertions of a database.
-const MOST_ASSERTIONS: usize = 4_096;
-/// The most hypotheses of an assertion.
-const MOST_HYPOTHESES: usize = 1_000;
-/// The most steps of a proof.
-const MOST_STEPS: usize = 16_384;
+use mmsyntax::{
+    Assertion, Expr, Float, Label, MOST_ASSERTIONS, MOST_DECLARED, MOST_HYPOTHESES,
+    MOST_NAME_BYTES, MOST_PAIRS, MOST_STEPS, MOST_SYMBOLS,
+};
 
 /// A limit that a draft passes. Places count from 0.
 #[derive(Clone, Copy, Debug, PartialEq, Eq)]
@@ -51,10 +45,10 @@ pub enum Limit {
 pub(crate) fn passed_limit(draft: &Draft) -> Option<Limit>
     ensures passed { IfSome result (IsPassed (contents_of draft.now)) }
     ensures none { IfNone result (PassesNone (contents_of draft.now)) }
-    ensures constants { IfNone result (length draft.now.constants ≤ 65535) }
-    ensures variables { IfNone result (length draft.now.variables ≤ 65535) }
-    ensures floats { IfNone result (length draft.now.floats ≤ 65535) }
-    ensures assertions { IfNone result (length draft.now.assertions ≤ 4096) }
+    ensures constants { IfNone result (length draft.now.constants ≤ MOST_DECLARED) }
+    ensures variables { IfNone result (length draft.now.variables ≤ MOST_DECLARED) }
+    ensures floats { IfNone result (length draft.now.floats ≤ MOST_DECLARED) }
+    ensures assertions { IfNone result (length draft.now.assertions ≤ MOST_ASSERTIONS) }
 {
     if let Some(limit) = passed_number(draft) {
         return Some(limit);
@@ -68,21 +62,21 @@ pub(crate) fn passed_limit(draft: &Draft) -> Option<Limit>
 /// The first list that is too long.
 fn passed_number(draft: &Draft) -> Option<Limit>
     ensures passed { IfSome result (IsPassed (contents_of draft.now)) }
-    ensures constants { IfNone result (length draft.now.constants ≤ 65535) }
-    ensures variables { IfNone result (length draft.now.variables ≤ 65535) }
-    ensures floats { IfNone result (length draft.now.floats ≤ 65535) }
-    ensures assertions { IfNone result (length draft.now.assertions ≤ 4096) }
+    ensures constants { IfNone result (length draft.now.constants ≤ MOST_DECLARED) }
+    ensures variables { IfNone result (length draft.now.variables ≤ MOST_DECLARED) }
+    ensures floats { IfNone result (length draft.now.floats ≤ MOST_DECLARED) }
+    ensures assertions { IfNone result (length draft.now.assertions ≤ MOST_ASSERTIONS) }
 {
     let constants = draft.constants.as_slice().len();
-    if constants > MOST_SYMBOLS {
+    if constants > MOST_DECLARED {
         return Some(Limit::ManyConstants(constants));
     }
     let variables = draft.variables.as_slice().len();
-    if variables > MOST_SYMBOLS {
+    if variables > MOST_DECLARED {
         return Some(Limit::ManyVariables(variables));
     }
     let floats = draft.floats.as_slice().len();
-    if floats > MOST_SYMBOLS {
+    if floats > MOST_DECLARED {
         return Some(Limit::ManyFloats(floats));
     }
     let assertions = draft.assertions.as_slice().len();
@@ -95,10 +89,10 @@ fn passed_number(draft: &Draft) -> Option<Limit>
 /// The first name that is too long.
 fn passed_length(draft: &Draft) -> Option<Limit>
     ensures passed { IfSome result (IsPassed (contents_of draft.now)) }
-    ensures constants { IfNone result (position (λ name. nat_lt 255 (length name)) draft.now.constants ≡ None) }
-    ensures variables { IfNone result (position (λ name. nat_lt 255 (length name)) draft.now.variables ≡ None) }
-    ensures floats { IfNone result (position (λ float. nat_lt 255 (length float.label)) draft.now.floats ≡ None) }
-    ensures labels { IfNone result (position (λ a. nat_lt 255 (length a.label)) draft.now.assertions ≡ None) }
+    ensures constants { IfNone result (position (λ name. nat_lt MOST_NAME_BYTES (length name)) draft.now.constants ≡ None) }
+    ensures variables { IfNone result (position (λ name. nat_lt MOST_NAME_BYTES (length name)) draft.now.variables ≡ None) }
+    ensures floats { IfNone result (position (λ float. nat_lt MOST_NAME_BYTES (length float.label)) draft.now.floats ≡ None) }
+    ensures labels { IfNone result (position (λ a. nat_lt MOST_NAME_BYTES (length a.label)) draft.now.assertions ≡ None) }
 {
     if let Some(place) = long_name(draft.constants.as_slice()) {
         return Some(Limit::LongConstant(place));
@@ -118,10 +112,10 @@ fn passed_length(draft: &Draft) -> Option<Limit>
 /// The first assertion that has too much of something.
 fn passed_by_assertion(draft: &Draft) -> Option<Limit>
     ensures passed { IfSome result (IsPassed (contents_of draft.now)) }
-    ensures hyps { IfNone result (position (λ a. nat_lt 1000 (length a.hyps)) draft.now.assertions ≡ None) }
+    ensures hyps { IfNone result (position (λ a. nat_lt MOST_HYPOTHESES (length a.hyps)) draft.now.assertions ≡ None) }
     ensures symbols { IfNone result (position (λ a. list_any is_long (expressions a)) draft.now.assertions ≡ None) }
-    ensures pairs { IfNone result (position (λ a. nat_lt 65535 (length a.pairs)) draft.now.assertions ≡ None) }
-    ensures steps { IfNone result (position (λ a. nat_lt 16384 (length a.proof)) draft.now.assertions ≡ None) }
+    ensures pairs { IfNone result (position (λ a. nat_lt MOST_PAIRS (length a.pairs)) draft.now.assertions ≡ None) }
+    ensures steps { IfNone result (position (λ a. nat_lt MOST_STEPS (length a.proof)) draft.now.assertions ≡ None) }
 {
     let assertions = draft.assertions.as_slice();
     if let Some(place) = many_hypotheses(assertions) {
@@ -141,7 +135,7 @@ fn passed_by_assertion(draft: &Draft) -> Option<Limit>
 
 /// The place of the first name of over 255 bytes.
 fn long_name(names: &[Label]) -> Option<usize>
-    ensures { result ≡ position (λ name. nat_lt 255 (length name)) names.now }
+    ensures { result ≡ position (λ name. nat_lt MOST_NAME_BYTES (length name)) names.now }
 {
     names
         .iter()
@@ -150,7 +144,7 @@ fn long_name(names: &[Label]) -> Option<usize>
 
 /// The place of the first `$f` whose label has over 255 bytes.
 fn long_float(floats: &[Float]) -> Option<usize>
-    ensures { result ≡ position (λ float. nat_lt 255 (length float.label)) floats.now }
+    ensures { result ≡ position (λ float. nat_lt MOST_NAME_BYTES (length float.label)) floats.now }
 {
     floats
         .iter()
@@ -159,7 +153,7 @@ fn long_float(floats: &[Float]) -> Option<usize>
 
 /// The place of the first assertion whose label has over 255 bytes.
 fn long_label(assertions: &[Assertion]) -> Option<usize>
-    ensures { result ≡ position (λ a. nat_lt 255 (length a.label)) assertions.now }
+    ensures { result ≡ position (λ a. nat_lt MOST_NAME_BYTES (length a.label)) assertions.now }
 {
     assertions
         .iter()
@@ -168,7 +162,7 @@ fn long_label(assertions: &[Assertion]) -> Option<usize>
 
 /// The place of the first assertion that has over 1,000 `$e`.
 fn many_hypotheses(assertions: &[Assertion]) -> Option<usize>
-    ensures { result ≡ position (λ a. nat_lt 1000 (length a.hyps)) assertions.now }
+    ensures { result ≡ position (λ a. nat_lt MOST_HYPOTHESES (length a.hyps)) assertions.now }
 {
     assertions
         .iter()
@@ -205,16 +199,16 @@ fn many_symbols(assertions: &[Assertion]) -> Option<usize>
 
 /// The place of the first assertion that has over 65,535 pairs.
 fn many_pairs(assertions: &[Assertion]) -> Option<usize>
-    ensures { result ≡ position (λ a. nat_lt 65535 (length a.pairs)) assertions.now }
+    ensures { result ≡ position (λ a. nat_lt MOST_PAIRS (length a.pairs)) assertions.now }
 {
     assertions
         .iter()
-        .position(|a| a.pairs.as_slice().len() > MOST_SYMBOLS)
+        .position(|a| a.pairs.as_slice().len() > MOST_PAIRS)
 }
 
 /// The place of the first assertion whose proof has over 16,384 steps.
 fn many_steps(assertions: &[Assertion]) -> Option<usize>
-    ensures { result ≡ position (λ a. nat_lt 16384 (length a.proof)) assertions.now }
+    ensures { result ≡ position (λ a. nat_lt MOST_STEPS (length a.proof)) assertions.now }
 {
     assertions.iter().position(|a| a.proof.len() > MOST_STEPS)
 }

@@ -6,6 +6,7 @@ ghost use Rattle.mmsyntax.specs.Preludes.{AreSound};
 ghost use Rattle.drafts.specs.Drafts.{tables_of};
 ghost use Rattle.drafts.specs.News.{IsNewSymbol, IsFreeVariable, IsNewFloat};
 ghost use Rattle.drafts.specs.declared.refusal.Refusal.TheVariants.{NoMemory};
+ghost use Rattle.mmsyntax.specs.declared.limits.TheConstants.{MOST_DECLARED};
 
 use crate::draft::Draft;
 use crate::refusal::Refusal;
@@ -20,9 +21,9 @@ pub(crate) fn declare_prelude(
     keys: RandomState,
     draft: &Draft,
 ) -> Result<Prelude, Refusal>
-    requires constants { length draft.now.constants ≤ 65535 }
-    requires variables { length draft.now.variables ≤ 65535 }
-    requires floats { length draft.now.floats ≤ 65535 }
+    requires constants { length draft.now.constants ≤ MOST_DECLARED }
+    requires variables { length draft.now.variables ≤ MOST_DECLARED }
+    requires floats { length draft.now.floats ≤ MOST_DECLARED }
     ensures made { IfOk result (λ prelude. prelude ≡ tables_of draft.now) }
     ensures sound { IfOk result (λ prelude. IsSoundPrelude prelude) }
     ensures refused { IfErr result (λ why. why ≢ NoMemory → IsSoundPrelude (tables_of draft.now) → ⊥) }
@@ -36,7 +37,7 @@ pub(crate) fn declare_prelude(
 
 /// Puts the constants of a draft into an empty table.
 fn declare_constants(alloc: Global, symbols: &mut SymbolTable, draft: &Draft) -> Result<(), Refusal>
-    requires few { length draft.now.constants ≤ 65535 }
+    requires few { length draft.now.constants ≤ MOST_DECLARED }
     requires empty { symbols.old ≡ record { constants = []; variables = []; floats = [] } }
     ensures made { OnOk result (symbols.new ≡ record { constants = draft.now.constants; variables = []; floats = [] }) }
     ensures sound { OnOk result (AreSound symbols.new) }
@@ -50,7 +51,7 @@ fn declare_constants(alloc: Global, symbols: &mut SymbolTable, draft: &Draft) ->
 
 /// Puts the variables of a draft behind its constants.
 fn declare_variables(alloc: Global, symbols: &mut SymbolTable, draft: &Draft) -> Result<(), Refusal>
-    requires few { length draft.now.variables ≤ 65535 }
+    requires few { length draft.now.variables ≤ MOST_DECLARED }
     requires constants { symbols.old ≡ record { constants = draft.now.constants; variables = []; floats = [] } }
     requires sound { AreSound symbols.old }
     ensures made { OnOk result
@@ -66,7 +67,7 @@ fn declare_variables(alloc: Global, symbols: &mut SymbolTable, draft: &Draft) ->
 
 /// Puts the `$f` of a draft behind its constants and its variables.
 fn declare_floats(alloc: Global, symbols: &mut SymbolTable, draft: &Draft) -> Result<(), Refusal>
-    requires few { length draft.now.floats ≤ 65535 }
+    requires few { length draft.now.floats ≤ MOST_DECLARED }
     requires symbols { symbols.old ≡ record { constants = draft.now.constants; variables = draft.now.variables; floats = [] } }
     requires sound { AreSound symbols.old }
     ensures made { OnOk result (symbols.new ≡ tables_of draft.now) }
@@ -82,7 +83,7 @@ fn declare_floats(alloc: Global, symbols: &mut SymbolTable, draft: &Draft) -> Re
 
 /// One more constant, if it is new.
 fn declare_constant(alloc: Global, symbols: &mut SymbolTable, name: &[u8]) -> Result<(), Refusal>
-    requires room { length symbols.old.constants < 65535 }
+    requires room { length symbols.old.constants < MOST_DECLARED }
     ensures made { OnOk result (symbols.new ≡ record symbols.old { constants = symbols.old.constants ++ name.now ∷ [] }) }
     ensures lawful { OnOk result (IsNewSymbol symbols.old name.now) }
     ensures refused { IfErr result (λ why. why ≢ NoMemory → IsNewSymbol symbols.old name.now → ⊥) }
@@ -96,7 +97,7 @@ fn declare_constant(alloc: Global, symbols: &mut SymbolTable, name: &[u8]) -> Re
 
 /// One more variable, if it is new.
 fn declare_variable(alloc: Global, symbols: &mut SymbolTable, name: &[u8]) -> Result<(), Refusal>
-    requires room { length symbols.old.variables < 65535 }
+    requires room { length symbols.old.variables < MOST_DECLARED }
     ensures made { OnOk result (symbols.new ≡ record symbols.old { variables = symbols.old.variables ++ name.now ∷ [] }) }
     ensures lawful { OnOk result (IsNewSymbol symbols.old name.now) }
     ensures refused { IfErr result (λ why. why ≢ NoMemory → IsNewSymbol symbols.old name.now → ⊥) }
@@ -115,7 +116,7 @@ fn declare_float(
     variables: &[Label],
     float: &Float,
 ) -> Result<(), Refusal>
-    requires room { length symbols.old.floats < 65535 }
+    requires room { length symbols.old.floats < MOST_DECLARED }
     requires variables { variables.now ≡ symbols.old.variables }
     ensures made { OnOk result (symbols.new ≡ record symbols.old { floats = symbols.old.floats ++ float.now ∷ [] }) }
     ensures lawful { OnOk result (IsNewFloat symbols.old float.now) }

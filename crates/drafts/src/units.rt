@@ -6,6 +6,7 @@ ghost use Rattle.mmsyntax.specs.Assertions.{IsNameable, IsUnit, is_citable_label
 ghost use Rattle.mmsyntax.specs.ProofWords.{seen_step};
 ghost use Rattle.drafts.specs.News.{IsAdmissible};
 ghost use Rattle.drafts.specs.declared.refusal.Refusal.TheVariants.{NoMemory};
+ghost use Rattle.mmsyntax.specs.declared.limits.TheConstants.{MOST_ASSERTIONS};
 
 use crate::refusal::Refusal;
 use crate::words::is_plain_label;
@@ -20,7 +21,7 @@ pub(crate) fn admit_all(
     assertions: Sequence<Assertion>,
 ) -> Result<Sequence<Assertion>, Refusal>
     requires sound { IsSoundPrelude prelude.now }
-    requires few { length assertions ≤ 4096 }
+    requires few { length assertions ≤ MOST_ASSERTIONS }
     ensures made { IfOk result (λ made. made ≡ assertions) }
     ensures spelled { IfOk result (λ made. HasSpelling (record { prelude = prelude.now; assertions = made })) }
     ensures refused { IfErr result (λ why. why ≢ NoMemory

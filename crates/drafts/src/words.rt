@@ -5,10 +5,8 @@ ghost use Rattle.mmtext.specs.Text.{is_printable};
 ghost use Rattle.mmsyntax.specs.Assertions.{is_plain_label};
 ghost use Rattle.mmsyntax.specs.Preludes.{IsWord, IsSymbolWord, IsLabelWord};
 
+use mmsyntax::MOST_NAME_BYTES;
 use mmtext::{contains_dollar, contains_dot, is_label_token, names_hypothesis};
-
-/// The most bytes of a name or a label.
-pub(crate) const MOST_NAME_BYTES: usize = 255;
 
 fn is_printable_byte(b: u8) -> bool
     ensures { result ≡ is_printable b }

@@ -34,7 +34,8 @@ module _ (m : Map) (t : Tables) (choice : Choice) (xs : List Assertion) (place :
       sym (take_more xs place x (slice_get_within xs place x at)
       ∙ ap (λ (y : Assertion). take place xs ++ y ∷ []) (get_or_from_slice_get xs place x x at))
 
-  from_here : (as' : List Unit') → AreTaken m t choice (take place xs) (x ∷ drop (place + 1) xs) as' → AreTaken m t choice (take place xs) (drop place xs) as'
+  from_here : (as' : List Unit') → AreTaken m t choice (take place xs) (x ∷ drop (place + 1) xs) as'
+      → AreTaken m t choice (take place xs) (drop place xs) as'
   from_here as' = subst (λ (ys : List Assertion). AreTaken m t choice (take place xs) ys as') (sym behind)
 
   module _ (later : List Unit') (rest : AreTaken m t choice (take (place + 1) xs) (drop (place + 1) xs) later) where
@@ -53,7 +54,8 @@ module _ (m : Map) (t : Tables) (choice : Choice) (xs : List Assertion) (place :
         xs ++ x ∷ []) (drop (place + 1) xs)) later) (sym left) rest_here)
 
   pub one_told : told choice (take place xs) (drop place xs)
-      ≡ told_of x.label (is_in choice.chosen x.label) (reason choice (take place xs) x) ++ told choice (take (place + 1) xs) (drop (place + 1) xs)
+      ≡ told_of x.label (is_in choice.chosen x.label) (reason choice (take place xs) x)
+      ++ told choice (take (place + 1) xs) (drop (place + 1) xs)
   one_told =
       ap (told choice (take place xs)) behind
       ∙ ap (λ (es : List Assertion). told_of x.label (is_in choice.chosen x.label) (reason choice (take place xs) x)
@@ -61,7 +63,8 @@ module _ (m : Map) (t : Tables) (choice : Choice) (xs : List Assertion) (place :
 
   -- all is taken of which this much was, with what is taken next, or passed
   module _ (old now : List Unit')
-      (all : (later : List Unit') → AreTaken m t choice (take place xs) (drop place xs) later → AreTaken m t choice [] xs (old ++ later)) where
+      (all : (later : List Unit') → AreTaken m t choice (take place xs) (drop place xs) later
+      → AreTaken m t choice [] xs (old ++ later)) where
     pub taken_more : (a : Unit') → now ≡ old ++ a ∷ [] → is_in choice.chosen x.label ≡ true → IsTaken m t choice (take place xs) x a
         → (later : List Unit') → AreTaken m t choice (take (place + 1) xs) (drop (place + 1) xs) later
         → AreTaken m t choice [] xs (now ++ later)
@@ -87,7 +90,8 @@ module _ (m : Map) (t : Tables) (choice : Choice) (xs : List Assertion) (place :
         ∙ ap (λ (ps : List (Word × Reason)). old ++ ps) one_told
         ∙ ap (λ (b : Bool). old ++ (told_of x.label b (reason choice (take place xs) x) ++ rest_told)) chosen
         ∙ ap (λ (q : Option Reason). old ++ (told_of x.label true q ++ rest_told)) is
-        ∙ sym (ap (λ (ps : List (Word × Reason)). ps ++ rest_told) (grown ∙ ap (λ (ps : List (Word × Reason)). old ++ ps) (told_same x.label r))
+        ∙ sym (ap (λ (ps : List (Word × Reason)). ps ++ rest_told) (grown
+        ∙ ap (λ (ps : List (Word × Reason)). old ++ ps) (told_same x.label r))
         ∙ append_assoc old (told_of x.label true r) rest_told)
 
     pub told_passed : now ≡ old → is_in choice.chosen x.label ≡ false → told choice [] xs ≡ now ++ rest_told

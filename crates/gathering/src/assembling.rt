@@ -46,7 +46,8 @@ fn stated_by(
 ) -> Result<Assertion, AllocError>
     requires hyps { each (each (symbols_by places.now)) (premises (given_hypotheses hypotheses.now)) ≢ None }
     requires statement { each (symbols_by places.now) (seen_words words.now) ≢ None }
-    ensures { IfOk result (IsStatedBy places.now label.now (seen_pairs pairs.now) (given_hypotheses hypotheses.now) (seen_words words.now)) }
+    ensures { IfOk result (IsStatedBy places.now label.now (seen_pairs pairs.now) (given_hypotheses hypotheses.now)
+        (seen_words words.now)) }
 {
     let pairs = restrictions(alloc, keys, places, pairs)?;
     let hyps = placed_premises(alloc, places, hypotheses)?;
@@ -143,7 +144,8 @@ fn taken_at<'a, D: Declared<'a>>(
     ensures made { (choice : Choice) → AreFlags (D.scope declared.now) choice chosen.now front.now
         → IfSome (slice_get (D.scope declared.now).assertions place) (λ x.
         HasStepsFor (map_of placed.now.sites.now placed.now.names.now) choice (D.scope declared.now) x
-        → IfOk result (IsMade (map_of placed.now.sites.now placed.now.names.now) (tables_of placed.now.sites.now placed.now.names.now) choice
+        → IfOk result (IsMade (map_of placed.now.sites.now placed.now.names.now)
+        (tables_of placed.now.sites.now placed.now.names.now) choice
         (take place (D.scope declared.now).assertions) x)) }
 {
     let assertion = stated(alloc, keys, declared, placed, place)?;

@@ -13,15 +13,12 @@ ghost use Rattle.prooftrees.specs.Forms.{IsForm};
 ghost use Rattle.prooftrees.specs.declared.form.ProofForm.TheVariants.{Tree};
 ghost use Rattle.gathering.specs.Outcomes.{IsOutcome, HasStepsFor};
 
-use mmsyntax::Proof;
+use mmsyntax::{MOST_STEPS, Proof};
 use prooftrees::{Frames, ProofForm, ProofTree, read_proof};
 use source::Declared;
 use std::alloc::{AllocError, Global};
 use std::hash::RandomState;
 use taking::{Reason, StepPlaces, list};
-
-/// The most steps of a proof (a rule of the profile).
-const MOST_STEPS: usize = 16_384;
 
 /// What becomes of the proof of an assertion.
 #[derive(Drop)]

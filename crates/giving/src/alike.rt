@@ -69,7 +69,8 @@ pub(crate) fn has_proof(
     old: Option<&ProofWords<'_>>,
     new: Option<&ProofWords<'_>>,
 ) -> bool
-    ensures { IsTrue result ↔ (option_map (λ p. proof_changed changes.now (seen_proof p.now)) old.entry ≡ option_map (λ p. seen_proof p.now) new.entry) }
+    ensures { IsTrue result ↔ (option_map (λ p. proof_changed changes.now (seen_proof p.now)) old.entry
+        ≡ option_map (λ p. seen_proof p.now) new.entry) }
 {
     match (old, new) {
         (None, None) => true,

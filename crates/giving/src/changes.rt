@@ -12,8 +12,8 @@ use std::collections::HashMap;
 use std::hash::RandomState;
 use std::marker::Model;
 
-/// Labels of assertions, each with what is to stand in its place: its new label, or the text of another proof. A clause sees these pairs: the map
-/// is for look-ups alone.
+/// Labels of assertions, each with what is to stand in its place: its new label, or the text of another proof. A clause sees these pairs:
+/// the map is for look-ups alone.
 pub struct Changes<'a> {
     pairs: Vec<(&'a [u8], &'a [u8])>,
     labels: HashMap<&'a [u8], &'a [u8], RandomState>,

@@ -74,11 +74,11 @@ fn places_of_others(alloc: Global, chosen: &[bool]) -> Result<Vec<usize>, AllocE
     Ok(places)
 }
 
-/// The first of the assertions of a source that doesn't stay as it was, counted from 0 among those that flags don't choose, in their order; `None`
-/// where each stays: it says the same as the one of the new source at its number, and its proof is the same but for changed labels.
+/// The first of the assertions of a source that doesn't stay as it was, counted from 0 among those that flags don't choose, in their order;
+/// `None` where each stays: it says the same as the one of the new source at its number, and its proof is the same but for changed labels.
 ///
-/// Flags say of each assertion of either source whether it is chosen. It costs about as much as both sources have symbols, active hypotheses and
-/// words of proofs.
+/// Flags say of each assertion of either source whether it is chosen. It costs about as much as both sources have symbols, active
+/// hypotheses and words of proofs.
 ///
 /// # Errors
 ///

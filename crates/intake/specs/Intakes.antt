@@ -21,6 +21,7 @@ use Rattle.drafts.specs.Limits.{IsPassed}
 use Rattle.intake.specs.declared.taken.Taken.{Taken}
 use Rattle.intake.specs.declared.refusal.Refusal.{Refusal}
 use Rattle.intake.specs.declared.refusal.Refusal.TheVariants as refusal
+use Rattle.mmsyntax.specs.declared.limits.TheConstants.{MOST_DECLARED}
 
 -- ---- what is taken
 
@@ -76,8 +77,8 @@ pub record IsDraft (text : List ℕ) (w : Wish) (db : Contents) : Type 0 where
 -- what is chosen has more constants or $f than a library
 abbrev pub IsWide : Scope → List Assertion → Type 0
 IsWide s taken =
-    (65535 < length (filter (λ w. list_any (is_symbol_of w) taken) s.constants))
-    ⊎ (65535 < length (filter (λ w. list_any (has_float_labelled w) taken) s.labels))
+    (MOST_DECLARED < length (filter (λ w. list_any (is_symbol_of w) taken) s.constants))
+    ⊎ (MOST_DECLARED < length (filter (λ w. list_any (has_float_labelled w) taken) s.labels))
 
 abbrev pub OfSource : List ℕ → (Scope → Type 0) → Type 0
 OfSource text says = (s : Scope) × DeclaresText text s × says s

@@ -17,6 +17,7 @@ use Rattle.gathering.specs.declared.assembling.Gathered.{Gathered}
 use Rattle.gathering.specs.Placed.{map_of, tables_of}
 use Rattle.gathering.specs.Gatherings.{told_in}
 use Rattle.intake.specs.Intakes.{IsTakenOf}
+use Rattle.mmsyntax.specs.declared.limits.TheConstants.{MOST_DECLARED}
 
 -- lists that are taken of a source, with what is told of them, and flags that say of each assertion whether it was taken
 pub record AreTakenBy (s : Scope) (w : Wish) (db : Contents) (axioms : List (Word × Reason)) (names : List Naming) (flags : List Bool)
@@ -57,4 +58,4 @@ pub record AreAsMany (t : Sited) (names : LibraryNames) : Type 0 where
   pub floats : length names.floats ≡ length t.floats
   pub labels : length names.labels ≡ length t.labels
   pub types : AreTyped t
-  pub few : length t.floats ≤ 65535
+  pub few : length t.floats ≤ MOST_DECLARED

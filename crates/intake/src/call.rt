@@ -11,6 +11,7 @@ ghost use Rattle.choosing.specs.declared.wish.Wish.{Wish as WishOf};
 ghost use Rattle.intake.specs.Intakes.{IsTaken, IsLibraryOf, IsRefused, IsRefusedOf};
 ghost use Rattle.intake.specs.Parts.{IsChoiceByFlags};
 ghost use Rattle.intake.specs.declared.refusal.Refusal.TheVariants.{NoMemory};
+ghost use Rattle.mmsyntax.specs.declared.limits.TheConstants.{MOST_DECLARED};
 
 use crate::declaring::library_of;
 use crate::refusal::Refusal;
@@ -79,7 +80,7 @@ fn names_for<'a, 'w, D: Declared<'a>>(
 ) -> Result<LibraryNames, Refusal<'a, 'w>>
     ensures names { IfOk result (AreNamedWell (D.scope declared.now) sites.now.constants sites.now.variables sites.now.floats
         sites.now.labels) }
-    ensures few { IfOk result (λ _. length sites.now.floats ≤ 65535) }
+    ensures few { IfOk result (λ _. length sites.now.floats ≤ MOST_DECLARED) }
     ensures refused { (w : WishOf) → IfErr result (IsRefusedOf (D.scope declared.now) w) }
 {
     match name_all(
@@ -168,9 +169,10 @@ fn take_text<'a, 'w>(
 
 /// Takes a library of the profile from a source in the whole language.
 ///
-/// The library says what the chosen assertions of the source say, by a map of names that keeps each name that the profile allows; a theorem's
-/// proof is the listing of its tree, or the theorem is taken as an axiom and told with the reason; and its proofs check. It costs about as
-/// much as the source has bytes and as what is taken has symbols and steps. Who follows is told how far it is, on the thread of the caller.
+/// The library says what the chosen assertions of the source say, by a map of names that keeps each name that the profile allows; a
+/// theorem's proof is the listing of its tree, or the theorem is taken as an axiom and told with the reason; and its proofs check. It costs
+/// about as much as the source has bytes and as what is taken has symbols and steps. Who follows is told how far it is, on the thread of
+/// the caller.
 ///
 /// # Errors
 ///

@@ -6,6 +6,7 @@ ghost use Rattle.std.specs.Str.{bytes_eq};
 ghost use mathlib.Core.Bool.{not};
 ghost use Rattle.source.specs.Views.{seen_words};
 ghost use Rattle.gathering.specs.Placed.{floats_from};
+ghost use Rattle.mmsyntax.specs.declared.limits.TheConstants.{MOST_DECLARED};
 
 use mmsyntax::{Float, Label, Sequence};
 use std::alloc::{AllocError, Global};
@@ -17,7 +18,7 @@ pub(crate) fn floats(
     types: &[u32],
 ) -> Result<Sequence<Float>, AllocError>
     requires many { length types.now ≡ length labels.now }
-    requires few { length labels.now ≤ 65535 }
+    requires few { length labels.now ≤ MOST_DECLARED }
     ensures { IfOk result (λ made. made ≡ floats_from 0 labels.now types.now) }
 {
     let mut made = Vec::new(alloc);

@@ -7,14 +7,13 @@ ghost use Rattle.std.specs.Ordering.{nat_cmp};
 ghost use Rattle.std.specs.BTreeMap.{get};
 ghost use Rattle.mmframes.specs.Places.{IsFirstPlace};
 ghost use Rattle.mmframes.specs.Substitution.{replacement, subst};
+ghost use Rattle.mmsyntax.specs.declared.limits.TheConstants.{MOST_SYMBOLS};
 
-use mmsyntax::{Expr, Sequence, Symbol, SymbolWord};
+use mmsyntax::{Expr, MOST_SYMBOLS, Sequence, Symbol, SymbolWord};
 use std::alloc::{AllocError, Global};
 use std::collections::BTreeMap;
 use std::error::Error;
 use std::{fmt, slice};
-
-const MOST_SYMBOLS: usize = 65535;
 
 /// Why an expression isn't made, in the order of their numbers from 1.
 #[derive(Clone, Copy, Debug, PartialEq, Eq)]
@@ -149,8 +148,8 @@ pub fn substitute(
     symbols: &[SymbolWord],
 ) -> Result<Expr, SubstituteError>
     ensures value { IfOk result (λ made. made ≡ subst pairs.now symbols.now) }
-    ensures short { IfOk result (λ made. length made ≤ 65535) }
-    ensures too_long { IfErr result (λ error. error ≡ SubstituteError.TooLong → 65535 < length (subst pairs.now symbols.now)) }
+    ensures short { IfOk result (λ made. length made ≤ MOST_SYMBOLS) }
+    ensures too_long { IfErr result (λ error. error ≡ SubstituteError.TooLong → MOST_SYMBOLS < length (subst pairs.now symbols.now)) }
 {
     let places = places_of(alloc, pairs)?;
     let mut made = Vec::new(alloc);

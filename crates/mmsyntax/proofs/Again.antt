@@ -65,7 +65,8 @@ float_of-item (f ∷ fs) zero d lt = cond-true (eqb f.variable f.variable) (Some
 float_of-item (f ∷ fs) (suc j) d lt =
     let v = (float_at fs j).variable in
     let other = sym (any-map (eqb f.variable) (λ g. g.variable) fs) ∙ d.0 in
-    cond-false (eqb f.variable v) (Some 0) (option_map (λ n. suc n) (float_of fs v)) (any_at (λ g. eqb f.variable g.variable) fs j no_float other (omega arith))
+    cond-false (eqb f.variable v) (Some 0) (option_map (λ n. suc n) (float_of fs v))
+    (any_at (λ g. eqb f.variable g.variable) fs j no_float other (omega arith))
     ∙ ap (λ o. option_map (λ n. suc n) o) (float_of-item fs j d.1 (omega arith))
 
 -- what four tests of a label say
@@ -108,7 +109,8 @@ Finds (Cite w) hyp = hyp ≡ None
 
 module _ (t : Tables) (s : AreSound t) where
   symbols_distinct : Distinct bytes_eq (t.constants ++ t.variables)
-  symbols_distinct = distinct_left bytes_eq (t.constants ++ t.variables) (float_labels t.floats) (subst (Distinct bytes_eq) (sym (append_assoc t.constants t.variables (float_labels t.floats))) s.distinct)
+  symbols_distinct = distinct_left bytes_eq (t.constants ++ t.variables) (float_labels t.floats)
+      (subst (Distinct bytes_eq) (sym (append_assoc t.constants t.variables (float_labels t.floats))) s.distinct)
 
   pub float_sound : (j : ℕ) → j < length t.floats → IsFloatSound t (float_at t.floats j)
   float_sound j lt = All-from_recursion (IsFloatSound t) t.floats s.floats_sound j no_float lt
@@ -121,17 +123,21 @@ module _ (t : Tables) (s : AreSound t) where
   unfolding meaning
   constant_meaning i lt =
       let w = word_at t.constants i in
-      ap (λ c. named t.floats c (place_of (bytes_eq w) t.variables) (place_of (λ f. bytes_eq w f.label) t.floats)) (place_of-item t.constants i (distinct_left bytes_eq t.constants t.variables symbols_distinct) lt)
+      ap (λ c. named t.floats c (place_of (bytes_eq w) t.variables) (place_of (λ f. bytes_eq w f.label) t.floats))
+      (place_of-item t.constants i (distinct_left bytes_eq t.constants t.variables symbols_distinct) lt)
 
-  variable_meaning : (j : ℕ) → j < length t.floats → meaning t (symbol_word t (Var j)) ≡ Some (Variable (float_at t.floats j).variable (Some j))
+  variable_meaning : (j : ℕ) → j < length t.floats
+      → meaning t (symbol_word t (Var j)) ≡ Some (Variable (float_at t.floats j).variable (Some j))
   unfolding meaning
   variable_meaning j lt =
       let i = (float_at t.floats j).variable in
       let w = word_at t.variables i in
       let f = float_sound j lt in
       let l = place_of (λ f. bytes_eq w f.label) t.floats in
-      ap (λ c. named t.floats c (place_of (bytes_eq w) t.variables) l) (place_of-absent (bytes_eq w) t.constants (cross t.constants t.variables i symbols_distinct f.variable_within))
-      ∙ ap (λ p. named t.floats None p l) (place_of-item t.variables i (distinct_right bytes_eq t.constants t.variables symbols_distinct) f.variable_within)
+      ap (λ c. named t.floats c (place_of (bytes_eq w) t.variables) l)
+      (place_of-absent (bytes_eq w) t.constants (cross t.constants t.variables i symbols_distinct f.variable_within))
+      ∙ ap (λ p. named t.floats None p l) (place_of-item t.variables i
+      (distinct_right bytes_eq t.constants t.variables symbols_distinct) f.variable_within)
       ∙ ap (λ o. Some (Variable i o)) (float_of-item t.floats j s.apart lt)
 
   label_meaning : (j : ℕ) → j < length t.floats → meaning t (float_at t.floats j).label ≡ Some (Label j)
@@ -144,20 +150,24 @@ module _ (t : Tables) (s : AreSound t) where
       let it : get_or ls j [] ≡ w = get_or-map (λ f. f.label) t.floats j no_float [] lt in
       let d : Distinct bytes_eq (symbols ++ ls) = subst (Distinct bytes_eq) (sym (append_assoc t.constants t.variables ls)) s.distinct in
       let absent = subst (λ (x : Word). list_any (bytes_eq x) symbols ≡ false) it (cross symbols ls j d within) in
-      let both = or_parts (list_any (bytes_eq w) t.constants) (list_any (bytes_eq w) t.variables) (sym (list_any-append (bytes_eq w) t.constants t.variables) ∙ absent) in
-      let found = subst (λ (x : Word). place_of (bytes_eq x) ls ≡ Some j) it (place_of-item ls j (distinct_right bytes_eq symbols ls d) within) in
+      let both = or_parts (list_any (bytes_eq w) t.constants) (list_any (bytes_eq w) t.variables)
+      (sym (list_any-append (bytes_eq w) t.constants t.variables) ∙ absent) in
+      let found = subst (λ (x : Word). place_of (bytes_eq x) ls ≡ Some j) it
+      (place_of-item ls j (distinct_right bytes_eq symbols ls d) within) in
       let l = place_of (λ f. bytes_eq w f.label) t.floats in
       ap (λ c. named t.floats c (place_of (bytes_eq w) t.variables) l) (place_of-absent (bytes_eq w) t.constants both.0)
       ∙ ap (λ v. named t.floats None v l) (place_of-absent (bytes_eq w) t.variables both.1)
       ∙ ap (λ o. option_map (λ k. Label k) o) (sym (place_of-map (bytes_eq w) (λ f. f.label) t.floats) ∙ found)
 
   -- the label of a hypothesis names nothing of the prelude
-  pub number_not_named : (label : Word) (n : ℕ) → label ≢ [] → is_label label ≡ true → n < 2 ^ 64 → 0 < n → is_some (meaning t (hypothesis_label label n)) ≡ false
+  pub number_not_named : (label : Word) (n : ℕ) → label ≢ [] → is_label label ≡ true → n < 2 ^ 64 → 0 < n
+      → is_some (meaning t (hypothesis_label label n)) ≡ false
   number_not_named label n some is_l small pos =
       let w = hypothesis_label label n in
       let has_form = number_form label n some is_l small pos in
       let symbol : (v : Word) → IsSymbolWord v → bytes_eq w v ≡ false = λ v h. differ has_hypothesis_form w v has_form h.form in
-      let labels = all_map (IsFloatSound t) (λ v. has_dot v ≡ false) (λ f. f.label) t.floats (λ f h. (or_parts (has_dot f.label) (ltb 255 (length f.label)) h.label.plain).0) s.floats_sound in
+      let labels = all_map (IsFloatSound t) (λ v. has_dot v ≡ false) (λ f. f.label) t.floats
+      (λ f h. (or_parts (has_dot f.label) (ltb 255 (length f.label)) h.label.plain).0) s.floats_sound in
       is_some-meaning t w
       ∙ list_any-append (bytes_eq w) t.constants _
       ∙ or_from (list_any (bytes_eq w) t.constants) _ (none_of IsSymbolWord w t.constants symbol s.constants_sound)
@@ -187,23 +197,27 @@ module _ (t : Tables) (s : AreSound t) where
       ∙ ap (λ b. unless_full n (symbol_named b (Some (Variable (float_at t.floats j).variable (Some j))))) later
       ∙ cond-false (leb 65535 n) (Err TooLong) (Ok (Var j)) (lt-leb 65535 n room)
 
-  symbol_again : (n : ℕ) (x : Symbol) → IsSymbolOf t x → n < 65535 → (eqb n 0 ≡ true → BeginsWithConstant (x ∷ [])) → symbol_of t n (symbol_word t x) ≡ Ok x
+  symbol_again : (n : ℕ) (x : Symbol) → IsSymbolOf t x → n < 65535 → (eqb n 0 ≡ true → BeginsWithConstant (x ∷ []))
+      → symbol_of t n (symbol_word t x) ≡ Ok x
   symbol_again n (Const i) lt room h = constant_again n i lt room
   symbol_again n (Var j) lt room h = variable_again n j lt room (elim (cases_Bool (eqb n 0)) [ inl y ↦ absurd (h y) | inr f ↦ f ])
 
-  begins_here : (front : List Symbol) (x : Symbol) (e : List Symbol) → BeginsWithConstant (front ++ x ∷ e) → eqb (length front) 0 ≡ true → BeginsWithConstant (x ∷ [])
+  begins_here : (front : List Symbol) (x : Symbol) (e : List Symbol) → BeginsWithConstant (front ++ x ∷ e) → eqb (length front) 0 ≡ true
+      → BeginsWithConstant (x ∷ [])
   begins_here [] (Const i) e h none = tt
   begins_here [] (Var j) e h none = h
   begins_here (y ∷ front) x e h none = absurd (let z : length (y ∷ front) ≡ 0 = eqb-true _ _ none in omega arith)
 
-  reads_from : (front e : List Symbol) → AllByRecursion (IsSymbolOf t) e → length (front ++ e) ≤ 65535 → BeginsWithConstant (front ++ e) → ReadsAfter t front (map (symbol_word t) e) (front ++ e)
+  reads_from : (front e : List Symbol) → AllByRecursion (IsSymbolOf t) e → length (front ++ e) ≤ 65535 → BeginsWithConstant (front ++ e)
+      → ReadsAfter t front (map (symbol_word t) e) (front ++ e)
   reads_from front [] h short begins = sym (append-nil front)
   reads_from front (x ∷ e) h short begins =
       let more : (front ++ x ∷ []) ++ e ≡ front ++ x ∷ e = append_assoc front (x ∷ []) e in (
         x,
         symbol_again (length front) x h.0 (omega (arith, length-append front (x ∷ e))) (begins_here front x e begins),
         subst (ReadsAfter t (front ++ x ∷ []) (map (symbol_word t) e)) more
-            (reads_from (front ++ x ∷ []) e h.1 (subst (λ (y : List Symbol). length y ≤ 65535) (sym more) short) (subst BeginsWithConstant (sym more) begins)),
+            (reads_from (front ++ x ∷ []) e h.1 (subst (λ (y : List Symbol). length y ≤ 65535) (sym more) short)
+            (subst BeginsWithConstant (sym more) begins)),
       )
 
   pub reads_again : (e : List Symbol) → IsExpression t e → ReadsAfter t [] (map (symbol_word t) e) e
@@ -215,7 +229,8 @@ module _ (t : Tables) (s : AreSound t) where
 
   -- ---- pairs
 
-  distinct_again : (vs : List ℕ) (ps : List (ℕ × ℕ)) (j : ℕ) → j < length t.floats → unless_repeated vs ps (Ok j) ≡ Ok j → distinct_of t vs ps (symbol_word t (Var j)) ≡ Ok j
+  distinct_again : (vs : List ℕ) (ps : List (ℕ × ℕ)) (j : ℕ) → j < length t.floats → unless_repeated vs ps (Ok j) ≡ Ok j
+      → distinct_of t vs ps (symbol_word t (Var j)) ≡ Ok j
   unfolding distinct_of
   distinct_again vs ps j lt h =
       cond-false (has_dollar (symbol_word t (Var j))) (Err BadToken) _ (symbol_is_word (Var j) lt).no_dollar
@@ -230,8 +245,13 @@ module _ (t : Tables) (s : AreSound t) where
       other : (a b : ℕ) → a < b → eqb a b ≡ false
       other a b h = grind arith
 
-  pub restricts_again : (front : List (ℕ × ℕ)) (p : ℕ × ℕ) (rest : List (ℕ × ℕ)) (hyps : List Hypothesis) → IsPairOf (length t.floats) p → AreAscending (front ++ p ∷ rest) → length (front ++ p ∷ rest) ≤ 65535
-      → Restricts t (record { pairs = front; hyps = hyps }) [] (symbol_word t (Var p.0) ∷ symbol_word t (Var p.1) ∷ []) (record { pairs = front ++ p ∷ []; hyps = hyps })
+  pub restricts_again : (front : List (ℕ × ℕ)) (p : ℕ × ℕ) (rest : List (ℕ × ℕ)) (hyps : List Hypothesis) → IsPairOf (length t.floats) p
+      → AreAscending (front ++ p ∷ rest) → length (front ++ p ∷ rest) ≤ 65535
+      → Restricts t (record { pairs = front; hyps = hyps }) [] (symbol_word t (Var p.0) ∷ symbol_word t (Var p.1) ∷ []) (record {
+        pairs =
+            front ++ p ∷ [];
+        hyps = hyps;
+      })
   restricts_again front p rest hyps is_pair a fit =
       let i = p.0 in
       let j = p.1 in
@@ -239,11 +259,17 @@ module _ (t : Tables) (s : AreSound t) where
       let within : j < length t.floats = is_pair.1 in
       let placed : with_pair (in_order i j) front ≡ front ++ p ∷ [] = next_pair front i j rest lt a in
       let short : length (front ++ p ∷ []) ≤ 65535 = omega (arith, length-append front (p ∷ rest), length-append front (p ∷ [])) in
-      let first : unless_repeated [] front (Ok i) ≡ Ok i = cond-false (ltb 65535 (length front)) (Err TooLong) (Ok i) (not_full (length front) (omega (arith, length-append front (p ∷ rest)))) in
+      let first : unless_repeated [] front (Ok i) ≡ Ok i =
+      cond-false (ltb 65535 (length front)) (Err TooLong) (Ok i)
+      (not_full (length front) (omega (arith, length-append front (p ∷ rest)))) in
       let second : unless_repeated (i ∷ []) front (Ok j) ≡ Ok j =
       cond-false (eqb i j || false) (Err BadToken) _ (apart_of i j lt)
-      ∙ cond-false (ltb 65535 (length (with_pair (in_order i j) front))) (Err TooLong) (Ok j) (ap (λ (x : List (ℕ × ℕ)). ltb 65535 (length x)) placed ∙ not_full (length (front ++ p ∷ [])) short) in
-      (i, distinct_again [] front i (omega arith) first, (j, distinct_again (i ∷ []) front j within second, (omega arith, ap (λ x. record { pairs = x; hyps = hyps }) placed)))
+      ∙ cond-false (ltb 65535 (length (with_pair (in_order i j) front))) (Err TooLong) (Ok j)
+      (ap (λ (x : List (ℕ × ℕ)). ltb 65535 (length x)) placed ∙ not_full (length (front ++ p ∷ [])) short) in (
+        i,
+        distinct_again [] front i (omega arith) first,
+        (j, distinct_again (i ∷ []) front j within second, (omega arith, ap (λ x. record { pairs = x; hyps = hyps }) placed)),
+      )
 
   -- ---- steps
 
@@ -251,7 +277,9 @@ module _ (t : Tables) (s : AreSound t) where
       → named ≡ Ok x → unless_faulty (first_fault (step_tests count w)) named ≡ Ok x
   step_ok named count w x plain label room h =
       let tests = step_tests count w in
-      let odd : (bytes_eq w (codes "?") || bytes_eq w (codes "(")) ≡ false = or_from (bytes_eq w (codes "?")) (bytes_eq w (codes "(")) (differ is_label w (codes "?") label refl) (differ is_label w (codes "(") label refl) in
+      let odd : (bytes_eq w (codes "?") || bytes_eq w (codes "(")) ≡ false =
+      or_from (bytes_eq w (codes "?")) (bytes_eq w (codes "(")) (differ is_label w (codes "?") label refl)
+      (differ is_label w (codes "(") label refl) in
       let pass : first_fault tests ≡ None =
       none_cond (bytes_eq w (codes "?") || bytes_eq w (codes "(")) OutOfProfile (first_fault (drop 1 tests)) odd
       (none_cond (has_dollar w) BadToken (first_fault (drop 2 tests)) plain

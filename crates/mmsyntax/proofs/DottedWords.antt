@@ -136,7 +136,8 @@ no_dot label w rest dot is h n =
 
 -- the word with its label, its dot and what is behind them
 pub split_both : (label w rest dot numeral : Word) → dot ≡ codes "." → bytes_eq (take (length label) w) label ≡ true
-    → rest ≡ drop (length label) w → bytes_eq (take (length dot) rest) dot ≡ true → numeral ≡ drop (length dot) rest → w ≡ label ++ 46 ∷ numeral
+    → rest ≡ drop (length label) w → bytes_eq (take (length dot) rest) dot ≡ true → numeral ≡ drop (length dot) rest
+    → w ≡ label ++ 46 ∷ numeral
 split_both label w rest dot numeral is a b d e =
     split_at w label rest a b ∙ ap (λ x. label ++ x) (split_at rest dot numeral d e ∙ ap (λ x. x ++ numeral) is)
 
@@ -234,7 +235,8 @@ not_dotted_itself w = elim (cases_Bool (is_dotted w w)) [
 -- ---- the last dot
 
 decimal_plain : (k : ℕ) → 1 ≤ k → k ≤ 1000 → has_dot (decimal k) ≡ false
-decimal_plain k low high = digits_lack 46 (decimal k) (omega arith) (counts (decimal k) (decimal_count k (omega arith) (omega arith))).digits
+decimal_plain k low high = digits_lack 46 (decimal k) (omega arith)
+    (counts (decimal k) (decimal_count k (omega arith) (omega arith))).digits
 
 last_dot : (a b ds es : Word) → has_dot ds ≡ false → has_dot es ≡ false → a ++ 46 ∷ ds ≡ b ++ 46 ∷ es → a ≡ b
 last_dot [] [] ds es h g e = refl
@@ -268,14 +270,16 @@ trunk_from : (w : Word) (o : Option ℕ) → find (λ n. is_dotted (take n w) w)
     → trunk w ≡ or_whole w (option_map (λ n. take n w) o)
 unfolding trunk
 trunk_from w o e =
-    ap (or_whole w) (find_mapped (λ front. is_dotted front w) (λ n. take n w) (range_with_len 0 (length w)) ∙ ap (option_map (λ n. take n w)) e)
+    ap (or_whole w) (find_mapped (λ front. is_dotted front w) (λ n. take n w) (range_with_len 0 (length w))
+    ∙ ap (option_map (λ n. take n w)) e)
 
 pub dotted_trunk : (l w : Word) → is_dotted l w ≡ true → trunk w ≡ l
 dotted_trunk l w h =
     let p = dotted_parts l w h in
     let longer = dotted_longer l w h in
     let front : take (length l) w ≡ l = ap (take (length l)) p.is ∙ take_at l (46 ∷ decimal p.k) (length l) refl in
-    let first = find_first (λ n. is_dotted (take n w) w) 0 (length w) (length l) (omega arith) (omega arith) (ap (λ x. is_dotted x w) front ∙ h)
+    let first = find_first (λ n. is_dotted (take n w) w) 0 (length w) (length l) (omega arith) (omega arith) (ap (λ x. is_dotted x w) front
+    ∙ h)
     (λ j lt y.
     let same = dotted_same (take j w) l w y h in
     let size : length (take j w) ≡ length l = ap length same in
@@ -310,7 +314,8 @@ unfolding is_dotted
 told_of_none l w empty is y =
     ap not y ∙ ap (λ b. not b && is_some (hypothesis_numbered l w)) (sym y ∙ is ∙ of_length l)
 
-pub told_of_some : (l w : Word) (empty : Bool) → empty ≡ eqb (length l) 0 → empty ≡ false → is_some (hypothesis_numbered l w) ≡ is_dotted l w
+pub told_of_some : (l w : Word) (empty : Bool) → empty ≡ eqb (length l) 0 → empty ≡ false
+    → is_some (hypothesis_numbered l w) ≡ is_dotted l w
 unfolding is_dotted
 told_of_some l w empty is n =
     ap (λ b. not b && is_some (hypothesis_numbered l w)) (sym n ∙ is ∙ of_length l)
@@ -336,6 +341,7 @@ pub at_last_dot : (w : Word) (i : ℕ) → i < length w → get_or w i 0 ≡ 46 
 at_last_dot w i inside here after n = elim (trunk_whole_or_dotted w) [
   | inl e ↦ e
   | inr y ↦
-      let front = before_last_dot (trunk w) w (take i w) (drop (i + 1) w) y (lacks (drop (i + 1) w) (all_behind w (i + 1) after)) (around w i inside here) in
+      let front = before_last_dot (trunk w) w (take i w) (drop (i + 1) w) y (lacks (drop (i + 1) w) (all_behind w (i + 1) after))
+      (around w i inside here) in
       absurd (let z : true ≡ false = sym y ∙ ap (λ x. is_dotted x w) (sym front) ∙ n in cc)
 ]

@@ -130,7 +130,8 @@ meaning-constant t w q new =
 
 pub indexed-constant : (m n : HashMap (Vec ℕ Global) Name RandomState) (k : Vec ℕ Global) (t : Tables) (w : List ℕ) (place : ℕ)
     (after : List (List ℕ))
-    → IsSymbolTable m t → length t.constants < 65535 → meaning t w ≡ None → k.items ≡ w → place ≡ length t.constants → after ≡ t.constants ++ w ∷ []
+    → IsSymbolTable m t → length t.constants < 65535 → meaning t w ≡ None → k.items ≡ w → place ≡ length t.constants
+    → after ≡ t.constants ++ w ∷ []
     → hash.Updates (λ x y. bytes_eq x.items y.items) m n k (Some (Constant place)) → IsSymbolTable n (record t { constants = after })
 indexed-constant m n k t w place after at_m room new key at_end pushed h = record {
   indexed = λ q.

@@ -35,7 +35,8 @@ digit : (n : ℕ) → n < 10 → is_digit (48 + n) ≡ true
 digit n h = grind (arith, nat_tests)
 
 decimal_digits : (n : ℕ) → n < 2 ^ 64 → all_digits (decimal n) ≡ true
-decimal_digits n small = decimal_by_steps (λ m ds. all_digits ds ≡ true) (λ m l. digits_push [] (48 + m) refl (digit m l)) (λ m ds l h. digits_push ds (48 + m % 10) h (digit (m % 10) (omega arith))) n small
+decimal_digits n small = decimal_by_steps (λ m ds. all_digits ds ≡ true) (λ m l. digits_push [] (48 + m) refl (digit m l))
+    (λ m ds l h. digits_push ds (48 + m % 10) h (digit (m % 10) (omega arith))) n small
 
 last_of_three : (a b c d : Bool) → (a && b && c) ≡ true → (c ≡ true → d ≡ true) → (a && b && d) ≡ true
 last_of_three true true c d h f = f h
@@ -44,13 +45,16 @@ last_of_three false b c d h f = absurd cc
 
 count_push : (ds : List ℕ) (d : ℕ) → is_count ds ≡ true → is_digit d ≡ true → is_count (ds ++ d ∷ []) ≡ true
 count_push [] d h g = absurd cc
-count_push (x ∷ ds) d h g = last_of_three (leb 49 x) (leb x 57) (all_digits ds) (all_digits (ds ++ d ∷ [])) h (λ all. digits_push ds d all g)
+count_push (x ∷ ds) d h g = last_of_three (leb 49 x) (leb x 57) (all_digits ds) (all_digits (ds ++ d ∷ [])) h
+    (λ all. digits_push ds d all g)
 
 one_digit : (n : ℕ) → 0 < n → n < 10 → is_count ((48 + n) ∷ []) ≡ true
 one_digit n some h = grind (arith, nat_tests)
 
 pub decimal_count : (n : ℕ) → n < 2 ^ 64 → 0 < n → is_count (decimal n) ≡ true
-decimal_count n small some = decimal_by_steps (λ m ds. 0 < m → is_count ds ≡ true) (λ m l a. one_digit m a l) (λ m ds l h a. count_push ds (48 + m % 10) (h (omega arith)) (digit (m % 10) (omega arith))) n small some
+decimal_count n small some = decimal_by_steps (λ m ds. 0 < m
+    → is_count ds ≡ true) (λ m l a. one_digit m a l)
+    (λ m ds l h a. count_push ds (48 + m % 10) (h (omega arith)) (digit (m % 10) (omega arith))) n small some
 
 -- ---- the form of the labels
 
@@ -83,19 +87,26 @@ has_number_behind : (label : Word) (ds : List ℕ) → is_label label ≡ true �
 has_number_behind [] ds h g = or_left (is_count ds) (is_label_byte 46 && has_number true ds) g
 has_number_behind (b ∷ label) ds h g =
     let both = and_parts (is_label_byte b) (is_label label) h in
-    or_right _ (is_label_byte b && has_number true (label ++ 46 ∷ ds)) (and_from (is_label_byte b) (has_number true (label ++ 46 ∷ ds)) both.0 (has_number_behind label ds both.1 g))
+    or_right _ (is_label_byte b && has_number true (label ++ 46 ∷ ds))
+    (and_from (is_label_byte b) (has_number true (label ++ 46 ∷ ds)) both.0 (has_number_behind label ds both.1 g))
 
-form : (label : Word) (ds : List ℕ) → label ≢ [] → is_label label ≡ true → is_count ds ≡ true → has_hypothesis_form (label ++ 46 ∷ ds) ≡ true
+form : (label : Word) (ds : List ℕ) → label ≢ [] → is_label label ≡ true → is_count ds ≡ true
+    → has_hypothesis_form (label ++ 46 ∷ ds) ≡ true
 form [] ds some h g = absurd (some refl)
 form (b ∷ label) ds some h g =
     let both = and_parts (is_label_byte b) (is_label label) h in
     and_from (is_label_byte b) (has_number true (label ++ 46 ∷ ds)) both.0 (has_number_behind label ds both.1 g)
 
-pub number_form : (label : Word) (n : ℕ) → label ≢ [] → is_label label ≡ true → n < 2 ^ 64 → 0 < n → has_hypothesis_form (hypothesis_label label n) ≡ true
+pub number_form : (label : Word) (n : ℕ) → label ≢ [] → is_label label ≡ true → n < 2 ^ 64 → 0 < n
+    → has_hypothesis_form (hypothesis_label label n) ≡ true
 number_form label n some h small pos = form label (decimal n) some h (decimal_count n small pos)
 
 pub number_short : (label : Word) (n : ℕ) → length label ≤ 255 → n ≤ 1000 → length (hypothesis_label label n) ≤ 260
-number_short label n short few = omega (arith, length-append label (46 ∷ decimal n), length-decimal-le 4 n (omega arith) (omega arith) (omega arith))
+number_short label n short few = omega (
+  arith,
+  length-append label (46 ∷ decimal n),
+  length-decimal-le 4 n (omega arith) (omega arith) (omega arith),
+)
 
 -- ---- labels as words
 

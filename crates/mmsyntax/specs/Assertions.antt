@@ -16,6 +16,7 @@ use Rattle.mmtext.specs.Words.{Word, is_label}
 use Rattle.mmsyntax.specs.Dotted.{is_dotted, AreApart}
 use Rattle.mmsyntax.specs.Steps.{float_named}
 use Rattle.mmsyntax.specs.Layout.{HasSpelling, IsSoundPrelude, HasUnitSpelling}
+use Rattle.mmsyntax.specs.declared.limits.TheConstants.{MOST_ASSERTIONS, MOST_HYPOTHESES, MOST_NAME_BYTES, MOST_PAIRS, MOST_STEPS, MOST_SYMBOLS}
 
 -- ---- expressions
 
@@ -34,7 +35,7 @@ BeginsWithConstant (Var j ∷ e) = ⊥
 pub record IsExpression (t : Tables) (e : List Symbol) : Type 0 where
   pub begins : BeginsWithConstant e
   pub symbols : All (IsSymbolOf t) e
-  pub short : length e ≤ 65535
+  pub short : length e ≤ MOST_SYMBOLS
 
 -- ---- assertions
 
@@ -63,17 +64,17 @@ CitesApart label (Cite w) = is_dotted label w ≡ false
 pub record Fits (t : Tables) (a : Assertion) : Type 0 where
   pub statement : IsExpression t a.statement
   pub hyps : All (IsExpression t) a.hyps
-  pub few_hyps : length a.hyps ≤ 1000
+  pub few_hyps : length a.hyps ≤ MOST_HYPOTHESES
   pub pairs_within : All (IsPairOf (length t.floats)) a.pairs
   pub pairs_ascend : AreAscending a.pairs
-  pub few_pairs : length a.pairs ≤ 65535
+  pub few_pairs : length a.pairs ≤ MOST_PAIRS
   pub no_axiom_proof : a.kind ≡ Axiom → a.proof ≡ []
-  pub few_steps : length a.proof ≤ 16384
+  pub few_steps : length a.proof ≤ MOST_STEPS
   pub cites_apart : All (CitesApart a.label) a.proof
 
 -- 1 to 255 bytes of a label token (section 4.1.1; the number is the profile's)
 abbrev pub is_plain_label : List ℕ → Bool
-is_plain_label w = nat_le 1 (length w) && nat_le (length w) 255 && is_label w
+is_plain_label w = nat_le 1 (length w) && nat_le (length w) MOST_NAME_BYTES && is_label w
 
 -- the label of an assertion: a plain label that names nothing of the prelude (section 4.1.3)
 abbrev pub is_lawful_label : Tables → List ℕ → Bool
@@ -115,7 +116,7 @@ pub record IsDeclarable (t : Tables) (xs : List Assertion) : Type 0 where
   pub lawful : All (λ a. IsTrue (is_lawful_label t a.label)) xs
   pub distinct : Distinct bytes_eq (map (λ a. a.label) xs)
   pub apart : AreApart (map (λ a. a.label) xs)
-  pub few : length xs ≤ 4096
+  pub few : length xs ≤ MOST_ASSERTIONS
 
 -- a database has a spelling just where its assertions are declarable over its prelude
 abbrev pub SpelledWhereDeclarable : Type 0

@@ -15,6 +15,7 @@ use Rattle.mmtext.specs.declared.fault.FaultKind.TheVariants.{BadToken, UnknownS
 use Rattle.mmtext.specs.Words.{Word, has_dollar}
 use Rattle.mmsyntax.specs.Tables.{Tables, meaning}
 use Rattle.mmsyntax.specs.Rows.{Known, Tests, is_used}
+use Rattle.mmsyntax.specs.declared.limits.TheConstants.{MOST_HYPOTHESES, MOST_PAIRS}
 
 -- ---- blocks
 
@@ -65,7 +66,7 @@ typed_named _ = Err UnknownSymbol
 -- the variables of one $d differ (section 4.1.3), and an assertion has at most 65,535 pairs
 abbrev pub unless_repeated : List ℕ → List (ℕ × ℕ) → Result ℕ FaultKind → Result ℕ FaultKind
 unless_repeated vs ps (Ok j) =
-    if list_any (λ i. i == j) vs then Err BadToken else (if nat_lt 65535 (length (with_pairs j vs ps)) then Err TooLong else Ok j)
+    if list_any (λ i. i == j) vs then Err BadToken else (if nat_lt MOST_PAIRS (length (with_pairs j vs ps)) then Err TooLong else Ok j)
 unless_repeated vs ps (Err kind) = Err kind
 
 -- a word in a $d behind the $f of the variables vs, where the block has the pairs ps
@@ -83,7 +84,7 @@ abbrev pub hypothesis_label_tests : Known → Block → Word → Tests
 hypothesis_label_tests k b w =
     (nat_lt 260 (length w), BadLabel)
     ∷ (is_used k w, RepeatedLabel)
-    ∷ (nat_le 1000 (length b.hyps), TooLong)
+    ∷ (nat_le MOST_HYPOTHESES (length b.hyps), TooLong)
     ∷ []
 
 -- one more hypothesis

@@ -6,6 +6,7 @@ use Rattle.std.specs.Fmt.{decimal}
 use Rattle.std.specs.List.{range_with_len}
 use Rattle.std.specs.Str.{bytes_eq}
 use Rattle.mmtext.specs.Words.{Word}
+use Rattle.mmsyntax.specs.declared.limits.TheConstants.{MOST_HYPOTHESES}
 
 -- the label of the n-th hypothesis of an assertion, from 1: L.1, L.2, ..
 abbrev pub hypothesis_label : Word → ℕ → Word
@@ -13,7 +14,7 @@ hypothesis_label label n = label ++ 46 ∷ decimal n
 
 -- the number k from 1 to 1,000 for which a word is the label L.k of the k-th hypothesis of L
 unfoldable pub hypothesis_numbered : Word → Word → Option ℕ
-hypothesis_numbered label w = find (λ k. bytes_eq w (hypothesis_label label k)) (range_with_len 1 1000)
+hypothesis_numbered label w = find (λ k. bytes_eq w (hypothesis_label label k)) (range_with_len 1 MOST_HYPOTHESES)
 
 abbrev pub is_empty : Word → Bool
 is_empty w = bytes_eq w []

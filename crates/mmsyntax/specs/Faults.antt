@@ -19,6 +19,7 @@ use Rattle.mmsyntax.specs.Rows.{with_hypothesis_label, with_assertion}
 use Rattle.mmsyntax.specs.Blocks.{Block, no_block, distinct_of, with_distinct, hypothesis_label_tests, with_hypothesis, axiom_of}
 use Rattle.mmsyntax.specs.Blocks.{theorem_of}
 use Rattle.mmsyntax.specs.Steps.{step_of}
+use Rattle.mmsyntax.specs.declared.limits.TheConstants.{MOST_BYTES}
 
 -- ---- places
 
@@ -241,7 +242,7 @@ whole k _ = None
 -- the language of databases: nothing is known at the start
 abbrev pub database_language : Language Position Contents
 database_language = record {
-  most_bytes = 16777216;
+  most_bytes = MOST_BYTES;
   start = record { known = nothing; place = at_start outside };
   row = row;
   said = λ p. whole p.known p.place;
@@ -270,7 +271,7 @@ unit_row p t = if is_some (unit_at p.known p.place) then fault t BadToken else r
 -- the language of one unit, over a prelude that is closed
 abbrev pub unit_language : Tables → Language Position Assertion
 unit_language t = record {
-  most_bytes = 16777216;
+  most_bytes = MOST_BYTES;
   start = record { known = prelude_alone t; place = at_start outside };
   row = unit_row;
   said = λ p. unit_at p.known p.place;

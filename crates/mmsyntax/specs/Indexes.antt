@@ -8,6 +8,7 @@ use Rattle.std.specs.declared.random_state.RandomState.{RandomState}
 use Rattle.mmsyntax.specs.declared.statement.Float.{Float}
 use Rattle.mmsyntax.specs.declared.symbols.Name.{Name}
 use Rattle.mmsyntax.specs.Tables.{Tables, meaning}
+use Rattle.mmsyntax.specs.declared.limits.TheConstants.{MOST_DECLARED}
 
 -- each $f is of a variable
 abbrev pub AreTyped : List Float → ℕ → Type 0
@@ -21,5 +22,5 @@ IsIndexed m t = (w : List ℕ) → get_by (λ k. bytes_eq w k.items) m ≡ meani
 pub record IsSymbolTable (m : HashMap (Vec ℕ Global) Name RandomState) (t : Tables) : Type 0 where
   pub indexed : IsIndexed m t
   pub typed : AreTyped t.floats (length t.variables)
-  pub few : length t.floats ≤ 65535
-  pub few_constants : length t.constants ≤ 65535
+  pub few : length t.floats ≤ MOST_DECLARED
+  pub few_constants : length t.constants ≤ MOST_DECLARED

@@ -8,6 +8,7 @@ use Rattle.mmtext.specs.Text.{is_printable}
 use Rattle.mmsyntax.specs.declared.statement.Float.{Float}
 use Rattle.mmsyntax.specs.Tables.{Tables}
 use Rattle.mmsyntax.specs.Assertions.{Distinct}
+use Rattle.mmsyntax.specs.declared.limits.TheConstants.{MOST_DECLARED, MOST_NAME_BYTES}
 
 -- ---- words
 
@@ -22,14 +23,14 @@ IsWord w = (w ≢ []) × AllByRecursion IsPrintable w
 -- a math symbol: a word without $, of at most 255 bytes, that no hypothesis may have as label (section 4.1.1)
 pub record IsSymbolWord (w : Word) : Type 0 where
   pub no_dollar : has_dollar w ≡ false
-  pub short : nat_lt 255 (length w) ≡ false
+  pub short : nat_lt MOST_NAME_BYTES (length w) ≡ false
   pub form : has_hypothesis_form w ≡ false
   pub word : IsWord w
 
 -- the label of a $f: a label token without a dot, of at most 255 bytes (section 4.1.1)
 pub record IsLabelWord (w : Word) : Type 0 where
   pub label : IsTrue (is_label w)
-  pub plain : (has_dot w || nat_lt 255 (length w)) ≡ false
+  pub plain : (has_dot w || nat_lt MOST_NAME_BYTES (length w)) ≡ false
   pub word : IsWord w
 
 -- ---- names
@@ -61,6 +62,6 @@ pub record AreSound (t : Tables) : Type 0 where
   pub variables_sound : AllByRecursion IsSymbolWord t.variables
   pub floats_sound : AllByRecursion (IsFloatSound t) t.floats
   pub apart : Distinct (λ u v. u == v) (variables_used t.floats)
-  pub constants_fit : length t.constants ≤ 65535
-  pub variables_fit : length t.variables ≤ 65535
-  pub floats_fit : length t.floats ≤ 65535
+  pub constants_fit : length t.constants ≤ MOST_DECLARED
+  pub variables_fit : length t.variables ≤ MOST_DECLARED
+  pub floats_fit : length t.floats ≤ MOST_DECLARED

@@ -15,6 +15,7 @@ use Rattle.mmtext.specs.declared.fault.FaultKind.TheVariants.{NoTypeFor, TooLong
 use Rattle.mmtext.specs.Words.{Word, has_dollar, has_dot, has_hypothesis_form}
 use Rattle.mmsyntax.specs.Tables.{Tables, meaning}
 use Rattle.mmsyntax.specs.Dotted.{clash}
+use Rattle.mmsyntax.specs.declared.limits.TheConstants.{MOST_ASSERTIONS, MOST_DECLARED, MOST_NAME_BYTES, MOST_SYMBOLS}
 
 -- ---- what is known
 
@@ -80,28 +81,28 @@ Pass ts = first_fault ts ≡ None
 abbrev pub symbol_tests : Known → ℕ → Word → Tests
 symbol_tests k count w =
     (has_dollar w, BadToken)
-    ∷ (nat_lt 255 (length w), TooLong)
+    ∷ (nat_lt MOST_NAME_BYTES (length w), TooLong)
     ∷ (has_hypothesis_form w, OutOfProfile)
     ∷ (is_used k w, RepeatedLabel)
-    ∷ (nat_le 65535 count, TooLong)
+    ∷ (nat_le MOST_DECLARED count, TooLong)
     ∷ []
 
 -- the label of a $f, once its keyword has passed: without a dot (a rule of the profile), and new (section 4.1.3); at most 65,535 stand
 abbrev pub float_label_tests : Known → Word → Tests
 float_label_tests k w =
-    (has_dot w || nat_lt 255 (length w), BadLabel)
+    (has_dot w || nat_lt MOST_NAME_BYTES (length w), BadLabel)
     ∷ (is_used k w, RepeatedLabel)
-    ∷ (nat_le 65535 (length k.tables.floats), TooLong)
+    ∷ (nat_le MOST_DECLARED (length k.tables.floats), TooLong)
     ∷ []
 
 -- the label of a $a or $p, once its keyword has passed: new (section 4.1.3), and apart from those of the earlier assertions, of which at
 -- most 4,096 stand
 abbrev pub assertion_label_tests : Known → Word → Tests
 assertion_label_tests k w =
-    (nat_lt 255 (length w), BadLabel)
+    (nat_lt MOST_NAME_BYTES (length w), BadLabel)
     ∷ (is_used k w, RepeatedLabel)
     ∷ (clashes k.units.assertions w, LabelClashes)
-    ∷ (nat_le 4096 (length k.units.assertions), TooLong)
+    ∷ (nat_le MOST_ASSERTIONS (length k.units.assertions), TooLong)
     ∷ []
 
 -- ---- symbols
@@ -116,7 +117,7 @@ symbol_named first _ = Err UnknownSymbol
 
 -- at most 65,535 symbols
 abbrev pub unless_full : ℕ → Result Symbol FaultKind → Result Symbol FaultKind
-unless_full count (Ok s) = if nat_le 65535 count then Err TooLong else Ok s
+unless_full count (Ok s) = if nat_le MOST_SYMBOLS count then Err TooLong else Ok s
 unless_full count (Err kind) = Err kind
 
 -- a word behind `count` symbols of an expression

@@ -13,6 +13,7 @@ use Rattle.mmsyntax.specs.Tables.{Tables, meaning, place_of}
 use Rattle.mmsyntax.specs.Dotted.{is_dotted}
 use Rattle.mmsyntax.specs.Rows.{Tests, first_fault}
 use Rattle.mmsyntax.specs.Blocks.{Hypothesis}
+use Rattle.mmsyntax.specs.declared.limits.TheConstants.{MOST_NAME_BYTES, MOST_STEPS}
 
 -- an unknown step ? and a compressed proof are out of the profile; a step is a label, and a proof has at most 16,384
 abbrev pub step_tests : ℕ → Word → Tests
@@ -20,7 +21,7 @@ step_tests count w =
     (bytes_eq w (codes "?") || bytes_eq w (codes "("), OutOfProfile)
     ∷ (has_dollar w, BadToken)
     ∷ (not (is_label w), BadToken)
-    ∷ (nat_le 16384 count, TooLong)
+    ∷ (nat_le MOST_STEPS count, TooLong)
     ∷ []
 
 -- the $f of which a word is the label
@@ -38,7 +39,7 @@ abbrev pub step_named : Word → Word → Option ℕ → Option ℕ → Result S
 step_named label w (Some j) h = Ok (Float j)
 step_named label w None (Some n) = Ok (Hyp n)
 step_named label w None None =
-    if nat_lt 255 (length w) then Err BadLabel else (if is_dotted label w then Err LabelClashes else Ok (Cite w))
+    if nat_lt MOST_NAME_BYTES (length w) then Err BadLabel else (if is_dotted label w then Err LabelClashes else Ok (Cite w))
 
 -- the fault of a test, and else what the word names
 abbrev pub unless_faulty : Option FaultKind → Result Step FaultKind → Result Step FaultKind

@@ -7,6 +7,7 @@ use Rattle.mmsyntax.specs.declared.statement.Symbol.{Symbol}
 use Rattle.mmsyntax.specs.declared.statement.Symbol.TheVariants.{Const, Var}
 use Rattle.mmsyntax.specs.declared.symbols.Name.{Name}
 use Rattle.mmsyntax.specs.declared.symbols.Name.TheVariants.{Constant, Variable, Label}
+use Rattle.mmsyntax.specs.declared.limits.TheConstants.{MOST_DECLARED}
 
 -- the symbol of a word: 2 i is the constant at the place i, 2 j + 1 the variable of the $f at the place j
 unfoldable pub symbol_of_word : ℕ → Symbol
@@ -30,7 +31,7 @@ IsSmallPlace (Var j) = j < 2 ^ 31
 -- what a word names, if that is a symbol, is one of 65,535 constants or of as many $f
 abbrev pub NamesFew : Option Name → Type 0
 NamesFew None = Unit {0}
-NamesFew (Some (Constant i)) = i < 65535
+NamesFew (Some (Constant i)) = i < MOST_DECLARED
 NamesFew (Some (Variable v None)) = Unit {0}
-NamesFew (Some (Variable v (Some j))) = j < 65535
+NamesFew (Some (Variable v (Some j))) = j < MOST_DECLARED
 NamesFew (Some (Label j)) = Unit {0}

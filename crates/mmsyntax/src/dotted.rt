@@ -3,11 +3,12 @@
 ghost use Rattle.std.specs.Prelude.{◌≡◌};
 ghost use Rattle.mmsyntax.specs.Dotted.{hypothesis_numbered, is_dotted, trunk};
 
+use crate::limits::MOST_HYPOTHESES;
 use crate::numeral::number;
 use mmtext::is_number_from_one;
 
-/// The most hypotheses of an assertion.
-const MOST_HYPOTHESES: u32 = 1000;
+/// The highest number of a hypothesis.
+const HIGHEST_NUMBER: u32 = MOST_HYPOTHESES as u32;
 
 /// The number k from 1 to 1,000 of a word `L.k`, where L is the label.
 pub fn hypothesis_number(label: &[u8], word: &[u8]) -> Option<u32>
@@ -19,7 +20,7 @@ pub fn hypothesis_number(label: &[u8], word: &[u8]) -> Option<u32>
         return None;
     }
     let k = number(numeral)?;
-    if k > MOST_HYPOTHESES {
+    if k > HIGHEST_NUMBER {
         return None;
     }
     Some(k)

@@ -6,8 +6,10 @@ ghost use Rattle.mmsyntax.specs.Assertions.{IsPairOf, ComesBefore, AreAscending,
 ghost use Rattle.mmsyntax.specs.ProofWords.{seen_step};
 ghost use Rattle.mmsyntax.specs.Assertions.{is_lawful_label};
 ghost use Rattle.mmsyntax.specs.declared.statement.Kind.TheVariants.{Axiom};
+ghost use Rattle.mmsyntax.specs.declared.limits.TheConstants.{MOST_HYPOTHESES, MOST_PAIRS, MOST_STEPS};
 
 use crate::dotted::is_dotted;
+use crate::limits::{MOST_HYPOTHESES, MOST_NAME_BYTES, MOST_PAIRS, MOST_STEPS, MOST_SYMBOLS};
 use crate::prelude::Prelude;
 use crate::proof::Proof;
 use crate::statement::{Assertion, Expr, Kind, Symbol};
@@ -44,7 +46,9 @@ fn are_symbols_of(prelude: &Prelude, symbols: &[SymbolWord]) -> bool
 fn is_expression(prelude: &Prelude, symbols: &[SymbolWord]) -> bool
     ensures { IsTrue result ↔ IsExpression prelude.now symbols.now }
 {
-    begins_with_constant(symbols) && symbols.len() <= 65535 && are_symbols_of(prelude, symbols)
+    begins_with_constant(symbols)
+        && symbols.len() <= MOST_SYMBOLS
+        && are_symbols_of(prelude, symbols)
 }
 
 /// Whether pairs are of two different `$f` of `count`, the earlier first.
@@ -80,23 +84,23 @@ fn are_ascending(pairs: &[(u32, u32)]) -> bool
 
 /// Whether hypotheses may stand before a statement.
 fn are_hypotheses(prelude: &Prelude, hyps: &[Expr]) -> bool
-    ensures { IsTrue result ↔ (All (IsExpression prelude.now) hyps.now × (length hyps.now ≤ 1000)) }
+    ensures { IsTrue result ↔ (All (IsExpression prelude.now) hyps.now × (length hyps.now ≤ MOST_HYPOTHESES)) }
 {
-    hyps.len() <= 1000 && hyps.iter().all(|e| is_expression(prelude, e.as_slice()))
+    hyps.len() <= MOST_HYPOTHESES && hyps.iter().all(|e| is_expression(prelude, e.as_slice()))
 }
 
 /// Whether pairs may be the restrictions of an assertion over `count` `$f`.
 fn are_restrictions(count: usize, pairs: &[(u32, u32)]) -> bool
-    ensures { IsTrue result ↔ (All (IsPairOf count) pairs.now × AreAscending pairs.now × (length pairs.now ≤ 65535)) }
+    ensures { IsTrue result ↔ (All (IsPairOf count) pairs.now × AreAscending pairs.now × (length pairs.now ≤ MOST_PAIRS)) }
 {
-    pairs.len() <= 65535 && are_pairs_of(count, pairs) && are_ascending(pairs)
+    pairs.len() <= MOST_PAIRS && are_pairs_of(count, pairs) && are_ascending(pairs)
 }
 
 /// Whether steps may prove an assertion of a kind. An axiom has none.
 fn is_proof_of(kind: Kind, steps: &Proof) -> bool
-    ensures { IsTrue result ↔ ((kind ≡ Axiom → steps.now ≡ []) × (length steps.now ≤ 16384)) }
+    ensures { IsTrue result ↔ ((kind ≡ Axiom → steps.now ≡ []) × (length steps.now ≤ MOST_STEPS)) }
 {
-    (kind == Kind::Theorem || steps.is_empty()) && steps.len() <= 16384
+    (kind == Kind::Theorem || steps.is_empty()) && steps.len() <= MOST_STEPS
 }
 
 /// Whether a step, in the proof of the assertion with a label, cites no `L.k` where that is L.
@@ -143,7 +147,7 @@ pub fn is_lawful_label(prelude: &Prelude, label: &[u8]) -> bool
     ensures { result ≡ is_lawful_label prelude.now label.now }
 {
     label.len() >= 1
-        && label.len() <= 255
+        && label.len() <= MOST_NAME_BYTES
         && is_label_token(label)
         && !prelude.look_up(label).is_some()
 }

@@ -22,7 +22,10 @@ pub use database::Database;
 pub use dotted::{hypothesis_number, is_dotted, trunk};
 pub use fitting::{are_citing_apart, fits, is_lawful_label};
 pub use label::Label;
-pub use limits::MOST_BYTES;
+pub use limits::{
+    MOST_ASSERTIONS, MOST_BYTES, MOST_DECLARED, MOST_HYPOTHESES, MOST_NAME_BYTES, MOST_PAIRS,
+    MOST_STEPS, MOST_SYMBOLS,
+};
 pub use prelude::Prelude;
 pub use proof::{PLACES, Proof};
 pub use sequence::Sequence;

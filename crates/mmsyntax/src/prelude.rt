@@ -4,6 +4,7 @@ ghost use Rattle.std.specs.Prelude.{◌≡◌, ◌<◌, ℕ, [], Some, IfOk};
 ghost use Rattle.mmsyntax.specs.Tables.{meaning};
 ghost use Rattle.mmsyntax.specs.Layout.{IsSoundPrelude};
 ghost use Rattle.mmsyntax.specs.SymbolWords.{NamesFew};
+ghost use Rattle.mmsyntax.specs.declared.limits.TheConstants.{MOST_DECLARED};
 
 use crate::label::Label;
 use crate::statement::Float;
@@ -60,7 +61,7 @@ impl Prelude {
     /// What a word names in the prelude: one look-up in a map. There are at most 65,535 constants, and as many `$f`.
     pub fn look_up(&self, word: &[u8]) -> Option<Name>
         ensures value { result ≡ meaning self.now word.now }
-        ensures few { (j : ℕ) → result ≡ Some (Name.Label j) → j < 65535 }
+        ensures few { (j : ℕ) → result ≡ Some (Name.Label j) → j < MOST_DECLARED }
         ensures symbol { NamesFew result }
     {
         self.symbols.look_up(word)

@@ -115,8 +115,8 @@ impl Proof {
         Ok(place as usize)
     }
 
-    /// One more step. A label is looked for at a guessed place of those that are cited already, counted from 0, and else is put behind them.
-    /// The place at which it stands, which is a good guess for it from now on; the guess, of a step that cites none.
+    /// One more step. A label is looked for at a guessed place of those that are cited already, counted from 0, and else is put behind
+    /// them. The place at which it stands, which is a good guess for it from now on; the guess, of a step that cites none.
     ///
     /// # Errors
     ///

@@ -8,6 +8,7 @@ ghost use Rattle.mmsyntax.specs.Tables.{meaning};
 ghost use Rattle.mmsyntax.specs.Layout.{IsSoundPrelude};
 ghost use Rattle.mmsyntax.specs.SymbolWords.{NamesFew};
 ghost use Rattle.mmsyntax.specs.declared.symbols.Name.TheVariants.{Variable};
+ghost use Rattle.mmsyntax.specs.declared.limits.TheConstants.{MOST_DECLARED};
 
 use crate::label::Label;
 use crate::statement::Float;
@@ -79,7 +80,7 @@ impl SymbolTable {
     /// What a word names: one look-up in a map. There are at most 65,535 constants, and as many `$f`.
     pub fn look_up(&self, word: &[u8]) -> Option<Name>
         ensures value { result ≡ meaning self.now word.now }
-        ensures few { (j : ℕ) → result ≡ Some (Name.Label j) → j < 65535 }
+        ensures few { (j : ℕ) → result ≡ Some (Name.Label j) → j < MOST_DECLARED }
         ensures symbol { NamesFew result }
     {
         self.names.get(word).copied()
@@ -106,7 +107,7 @@ impl SymbolTable {
     /// One more constant. After an error only what is always true of a prelude holds.
     pub fn add_constant(&mut self, alloc: Global, word: &[u8]) -> Result<(), AllocError>
         requires new { meaning self.old word.now ≡ None }
-        requires room { length self.old.constants < 65535 }
+        requires room { length self.old.constants < MOST_DECLARED }
         ensures { OnOk result (self.new ≡ record self.old { constants = self.old.constants ++ word.now ∷ [] }) }
     {
         let key = Vec::from_slice(alloc, word)?;
@@ -125,7 +126,7 @@ impl SymbolTable {
     /// One more variable.
     pub fn add_variable(&mut self, alloc: Global, word: &[u8]) -> Result<(), AllocError>
         requires new { meaning self.old word.now ≡ None }
-        requires room { length self.old.variables < 65535 }
+        requires room { length self.old.variables < MOST_DECLARED }
         ensures { OnOk result (self.new ≡ record self.old { variables = self.old.variables ++ word.now ∷ [] }) }
     {
         let key = Vec::from_slice(alloc, word)?;
@@ -152,7 +153,7 @@ impl SymbolTable {
     ) -> Result<(), AllocError>
         requires new { meaning self.old label.now ≡ None }
         requires variable { meaning self.old word.now ≡ Some (Variable variable None) }
-        requires room { length self.old.floats < 65535 }
+        requires room { length self.old.floats < MOST_DECLARED }
         ensures { OnOk result
             (self.new ≡ record self.old {
               floats = self.old.floats ++ record { label = label.now; type_code = type_code; variable = variable } ∷ [];

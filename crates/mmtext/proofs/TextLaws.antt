@@ -35,11 +35,13 @@ module _ {P A : Type 0} (l : Language P A) (spells : List ℕ → A → Type 0) 
   read_spelled bytes a h = (of bytes a).1 (reading_ok l bytes a h)
 
   -- what is read of a spelled text is what it spells
-  pub spelled_answered : (bytes : List ℕ) (a found : A) → length bytes ≤ l.most_bytes → spells bytes a → reading l bytes ≡ Ok found → found ≡ a
+  pub spelled_answered : (bytes : List ℕ) (a found : A) → length bytes ≤ l.most_bytes → spells bytes a → reading l bytes ≡ Ok found
+      → found ≡ a
   spelled_answered bytes a found short s h = let e : Ok found ≡ Ok a = sym h ∙ spelled_read bytes a short s in cc
 
   -- a spelled text isn't refused
-  pub spelled_faultless : (bytes : List ℕ) (a : A) (f : TextFault) → length bytes ≤ l.most_bytes → spells bytes a → reading l bytes ≡ Err f → ⊥
+  pub spelled_faultless : (bytes : List ℕ) (a : A) (f : TextFault) → length bytes ≤ l.most_bytes → spells bytes a → reading l bytes ≡ Err f
+      → ⊥
   spelled_faultless bytes a f short s h = let e : Err f ≡ Ok a = sym h ∙ spelled_read bytes a short s in absurd cc
 
   pub spells_without_fault : SpellsWithoutFault l spells

@@ -138,18 +138,22 @@ pub faulty_bytes : {P A : Type 0} (l : Language P A) (bytes : List ℕ) (f : Tex
     → reading l bytes ≡ Err f
 unfolding reading
 faulty_bytes l bytes f h =
-    cond_fault (ltb l.most_bytes (length bytes)) (record { place = l.most_bytes; kind = TooLong }) f (bad_byte bytes) (token_reading l bytes) h
+    cond_fault (ltb l.most_bytes (length bytes)) (record { place = l.most_bytes; kind = TooLong }) f (bad_byte bytes)
+    (token_reading l bytes) h
 
 -- where there is none the tokens decide
-pub clean_bytes : {P A : Type 0} (l : Language P A) (bytes : List ℕ) → fault_of_bytes l.most_bytes bytes ≡ None → token_reading l bytes ≡ reading l bytes
+pub clean_bytes : {P A : Type 0} (l : Language P A) (bytes : List ℕ) → fault_of_bytes l.most_bytes bytes ≡ None
+    → token_reading l bytes ≡ reading l bytes
 unfolding reading
 clean_bytes l bytes h =
     sym
-    (cond_clean (ltb l.most_bytes (length bytes)) (record { place = l.most_bytes; kind = TooLong }) (bad_byte bytes) (token_reading l bytes) h)
+    (cond_clean (ltb l.most_bytes (length bytes)) (record { place = l.most_bytes; kind = TooLong }) (bad_byte bytes)
+    (token_reading l bytes) h)
 
 -- ---- words
 
-word_steps : {P A : Type 0} (l : Language P A) (p : P) (t : Token) → has_dollar t.text ≡ false → step l (state_at p false) t ≡ led (l.row p t)
+word_steps : {P A : Type 0} (l : Language P A) (p : P) (t : Token) → has_dollar t.text ≡ false
+    → step l (state_at p false) t ≡ led (l.row p t)
 unfolding step
 word_steps l p t h = ap (marked l (state_at p false) t) (mark_plain t.text h)
 

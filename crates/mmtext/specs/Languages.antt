@@ -30,8 +30,8 @@ use Rattle.mmtext.specs.declared.mark.Mark.{Mark}
 use Rattle.mmtext.specs.declared.mark.Mark.TheVariants as mark
 use Rattle.mmtext.specs.Text.{Token, tokens, is_lawful, IsCleanBefore, IsClean, bad_byte, mark_of, has_comment_mark}
 
--- a language whose places are P and whose texts say an A: the most bytes that a text may have; the place where it starts; the place to which
--- a token outside of comments leads, or the fault of that token; and what a text says that ends at a place, if it may end there
+-- a language whose places are P and whose texts say an A: the most bytes that a text may have; the place where it starts; the place to
+-- which a token outside of comments leads, or the fault of that token; and what a text says that ends at a place, if it may end there
 pub record Language (P A : Type 0) : Type 0 where
   pub most_bytes : ℕ
   pub start : P

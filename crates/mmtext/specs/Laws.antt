@@ -37,7 +37,8 @@ abbrev pub SpellsOrFails : {P A : Type 0} → Language P A → (List ℕ → A �
 SpellsOrFails {P} {A} l spells = (bytes : List ℕ) → ((a : A) × spells bytes a) ⊎ ((f : TextFault) × Faulty l bytes f)
 
 -- what is answered to a text of a language, by a grammar that says what texts spell
-pub record IsRead {P A : Type 0} (l : Language P A) (spells : List ℕ → A → Type 0) (bytes : List ℕ) (result : Result A TextFault) : Type 0 where
+pub record IsRead {P A : Type 0} (l : Language P A) (spells : List ℕ → A
+    → Type 0) (bytes : List ℕ) (result : Result A TextFault) : Type 0 where
   -- what is read is spelled so
   pub found : IfOk result (spells bytes)
   -- what is spelled so is read, if the text isn't too long, unless memory runs out

@@ -148,8 +148,8 @@ fn read_text<'a, R: Reader<'a>>(alloc: Global, reader: R, text: &'a [u8]) -> Res
 ///
 /// # Errors
 ///
-/// The first fault of the text in the language: in its length, else in its bytes, else at a token, else at its end. `NoMemory`, with place 0,
-/// if memory ran out.
+/// The first fault of the text in the language: in its length, else in its bytes, else at a token, else at its end. `NoMemory`, with place
+/// 0, if memory ran out.
 pub fn read<'a, R: Reader<'a>>(
     alloc: Global,
     reader: R,

@@ -3,6 +3,7 @@
 ghost use Rattle.std.specs.Prelude.{◌≡◌, ◌<◌, ℕ, Some, length, map, IfOk, OnOk};
 ghost use Rattle.mmsyntax.specs.Blocks.{no_block, with_pairs, with_hypothesis};
 ghost use Rattle.mmsyntax.specs.Steps.{hypothesis_named};
+ghost use Rattle.mmsyntax.specs.declared.limits.TheConstants.{MOST_HYPOTHESES};
 
 use crate::pair_set::PairSet;
 use crate::word_map::put_if_none;
@@ -74,7 +75,7 @@ impl<'a> Content<'a> {
 
     fn hypothesis_place(&self, word: &[u8]) -> Option<u32>
         ensures value { result ≡ hypothesis_named self.now.hyps word.now }
-        ensures few { (n : ℕ) → result ≡ Some n → n < 1000 }
+        ensures few { (n : ℕ) → result ≡ Some n → n < MOST_HYPOTHESES }
     {
         if self.hyps.len() <= FEW {
             return first_labelled(&self.hyps, word);
@@ -94,7 +95,7 @@ impl<'a> Content<'a> {
         label: &'a [u8],
         expression: Expr,
     ) -> Result<(), AllocError>
-        requires { length self.old.hyps < 1000 }
+        requires { length self.old.hyps < MOST_HYPOTHESES }
         ensures { OnOk result (self.new ≡ with_hypothesis self.old label.now expression) }
     {
         let place = self.hyps.len() as u32;
@@ -164,7 +165,7 @@ impl<'a> Block<'a> {
     /// The place of the hypothesis with a label, counted from 0: a few comparisons, or one look-up in a map. There are at most 1,000.
     pub fn hypothesis_place(&self, word: &[u8]) -> Option<u32>
         ensures value { result ≡ hypothesis_named self.now.hyps word.now }
-        ensures few { (n : ℕ) → result ≡ Some n → n < 1000 }
+        ensures few { (n : ℕ) → result ≡ Some n → n < MOST_HYPOTHESES }
     {
         self.content.hypothesis_place(word)
     }
@@ -183,7 +184,7 @@ impl<'a> Block<'a> {
         label: &'a [u8],
         expression: Expr,
     ) -> Result<(), AllocError>
-        requires { length self.old.hyps < 1000 }
+        requires { length self.old.hyps < MOST_HYPOTHESES }
         ensures { OnOk result (self.new ≡ with_hypothesis self.old label.now expression) }
     {
         self.content.add_hypothesis(alloc, label, expression)

@@ -44,7 +44,8 @@ variable_more front [] w =
     ap (λ us. (has_hypothesis_form w || is_in us w) ∷ []) (sym (append-nil front))
 variable_more front (v ∷ ws) w =
     ap (λ bs. (has_hypothesis_form v || is_in front v) ∷ bs) (variable_more (front ++ v ∷ []) ws w)
-    ∙ ap (λ us. (has_hypothesis_form v || is_in front v) ∷ (variables_changing (front ++ v ∷ []) ws ++ (has_hypothesis_form w || is_in us w) ∷ []))
+    ∙ ap (λ us. (has_hypothesis_form v || is_in front v)
+    ∷ (variables_changing (front ++ v ∷ []) ws ++ (has_hypothesis_form w || is_in us w) ∷ []))
     (append_assoc front (v ∷ []) ws)
 
 -- ---- sets of words
@@ -175,7 +176,8 @@ trunks_more s n ws x t is h all l w in' dotted =
       | inl y ↦ one ∙ or_left (has s l) (bytes_eq l t) (all l w y dotted)
       | inr none ↦
           let last : bytes_eq w x ≡ true =
-          sym (ap (λ b. b || bytes_eq w x) none) ∙ sym (or_last (is_in ws w) (bytes_eq w x)) ∙ sym (list_any-append (bytes_eq w) ws (x ∷ [])) ∙ in' in
+          sym (ap (λ b. b || bytes_eq w x) none) ∙ sym (or_last (is_in ws w) (bytes_eq w x))
+          ∙ sym (list_any-append (bytes_eq w) ws (x ∷ [])) ∙ in' in
           let same : t ≡ l = is ∙ ap trunk (sym (same_bytes w x last)) ∙ dotted_trunk l w dotted in
           one ∙ or_right (has s l) (bytes_eq l t) (ap (bytes_eq l) same ∙ bytes_eq-same l)
     ]

@@ -41,7 +41,8 @@ label_kept : (p : Hypothesis → Bool) (hs : List Hypothesis) (w : Word) → is_
 label_kept p [] w = λ e. e
 label_kept p (h ∷ hs) w =
     let rest = label_kept p hs w in
-    elim (p h) as (λ b. is_label_of (cond b (h ∷ filter p hs) (filter p hs)) w ≡ true → (bytes_eq w (label_of h) || is_label_of hs w) ≡ true) [
+    elim (p h) as (λ b. is_label_of (cond b (h ∷ filter p hs) (filter p hs)) w ≡ true
+    → (bytes_eq w (label_of h) || is_label_of hs w) ≡ true) [
       | true ↦ λ e. or_both (bytes_eq w (label_of h)) (is_label_of (filter p hs) w) (is_label_of hs w) rest e
       | false ↦ λ e. or_right (bytes_eq w (label_of h)) (is_label_of hs w) (rest e)
     ]

@@ -64,8 +64,8 @@ fn name_assertion<'a, D: Declared<'a>, P: StepPlaces>(
     Ok(Named { floats, step })
 }
 
-/// A label of the proof of the assertion at a place that isn't one of a mandatory hypothesis is named: that of an assertion, or else of a `$f`
-/// of another variable.
+/// A label of the proof of the assertion at a place that isn't one of a mandatory hypothesis is named: that of an assertion, or else of a
+/// `$f` of another variable.
 fn name_other<'a, D: Declared<'a>, P: StepPlaces>(
     alloc: Global,
     declared: &D,

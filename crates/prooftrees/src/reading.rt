@@ -94,13 +94,13 @@ fn read_finished<'a, D: Declared<'a>, P: StepPlaces>(
 
 /// The proof of the assertion at a place: the tree that it denotes, its nodes named by the steps that they have in a library.
 ///
-/// It costs as much as the proof has words and letters, and as the mandatory hypotheses cost; of each assertion that it names the frame is made
-/// once. After an error nothing is said of the frames.
+/// It costs as much as the proof has words and letters, and as the mandatory hypotheses cost; of each assertion that it names the frame is
+/// made once. After an error nothing is said of the frames.
 ///
 /// # Errors
 ///
-/// Want of memory. A proof of more than 4,294,967,295 words, or so many active `$e`, would be refused as if memory were wanting: no source, of
-/// at most 268,435,456 bytes, has so many.
+/// Want of memory. A proof of more than 4,294,967,295 words, or so many active `$e`, would be refused as if memory were wanting: no source,
+/// of at most 268,435,456 bytes, has so many.
 pub fn read_proof<'a, D: Declared<'a>, P: StepPlaces>(
     alloc: Global,
     keys: RandomState,

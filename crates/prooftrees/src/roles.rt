@@ -27,8 +27,8 @@ pub(crate) struct Roles<'a> {
     pub(crate) roles: HashMap<&'a [u8], Role, RandomState>,
 }
 
-/// The number that follows. A source, of at most 268,435,456 bytes, has too few words for a number over `u32`; were there more, they would be
-/// refused as want of memory is.
+/// The number that follows. A source, of at most 268,435,456 bytes, has too few words for a number over `u32`; were there more, they would
+/// be refused as want of memory is.
 pub(crate) fn next_number(number: u32) -> Result<u32, AllocError>
     ensures { IfOk result (λ next. next ≡ number + 1) }
 {

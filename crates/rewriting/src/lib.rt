@@ -1,5 +1,5 @@
-//! The text of a source with changed labels and other proofs, without stretches of it, and with others in it: every other byte stays; and the
-//! letters of a compressed proof.
+//! The text of a source with changed labels and other proofs, without stretches of it, and with others in it: every other byte stays; and
+//! the letters of a compressed proof.
 #![tactic(auto)]
 
 mod call;

@@ -145,13 +145,15 @@ listed_front look k m s n =
           subst (λ (xs : List Active). path k.links (last_link xs) ≡ active_of k.links xs) (sym (take_less m n k.active le)) (s.listed n)
       | inr gt ↦
           let short : length (take m k.active) ≤ n = let l = length-take m k.active in omega arith in
-          subst (λ (xs : List Active). path k.links (last_link xs) ≡ active_of k.links xs) (sym (take_past n (take m k.active) short)) (s.listed m)
+          subst (λ (xs : List Active). path k.links (last_link xs) ≡ active_of k.links xs) (sym (take_past n (take m k.active) short))
+          (s.listed m)
     ]
 
 pub sound_closed : (look : Word → Option Name) (k : Kept) (front : List Block) (b : Block) → IsSound look k → k.blocks ≡ front ++ b ∷ []
     → IsSound look (without_block k front b)
 sound_closed look k front b s split =
-    let nested : NestedIn k (b ∷ reverse front) = subst (λ (bs : List Block). NestedIn k bs) (ap reverse split ∙ reverse-push front b) s.nested in
+    let nested : NestedIn k (b ∷ reverse front) =
+    subst (λ (bs : List Block). NestedIn k bs) (ap reverse split ∙ reverse-push front b) s.nested in
     let below = nested.0 in
     let vs : length (take b.variables k.variables) ≡ b.variables = length-take-le b.variables k.variables below.variables in
     let hs : length (take b.active k.active) ≡ b.active = length-take-le b.active k.active below.active in

@@ -88,7 +88,8 @@ sound_premise look k label ws s lawful =
     let new = lawful_hypothesis (scope_of k) label ws lawful in
     let len : length (scope_of k).hypotheses ≡ length k.active = length-map k.active _ in
     sound_link look (λ w. cond (bytes_eq label w) (Some (name.Hypothesis (length k.active))) (look w)) k (premise label ws) s
-    (λ w. subst (λ (n : ℕ). Knows (with_hypothesis (scope_of k) (premise label ws)) w (cond (bytes_eq label w) (Some (name.Hypothesis n)) (look w)))
+    (λ w. subst (λ (n : ℕ). Knows (with_hypothesis (scope_of k) (premise label ws)) w
+    (cond (bytes_eq label w) (Some (name.Hypothesis n)) (look w)))
     len (knows_premise (scope_of k) label ws look s.named new.0 new.1 w))
 
 -- the name of a variable
@@ -153,11 +154,13 @@ sound_apart look k vs s =
       es = omega arith;
     } in
     record {
-      named = λ w. subst (λ (t : Scope). Knows t w (look w)) (sym (scope_apart look k vs s)) (knows_apart (scope_of k) vs w (look w) (s.named w));
+      named = λ w. subst (λ (t : Scope). Knows t w (look w)) (sym (scope_apart look k vs s))
+          (knows_apart (scope_of k) vs w (look w) (s.named w));
       within = s.within;
       listed = s.listed;
       apart = omega arith;
-      counted = counted_stay k.links k.links (length k.aparts) (length j.aparts) k.entries (omega arith) (omega arith) s.counted (λ o w. refl);
+      counted = counted_stay k.links k.links (length k.aparts) (length j.aparts) k.entries (omega arith) (omega arith) s.counted
+          (λ o w. refl);
       nested = nested_more (reverse k.blocks) (length k.aparts) (length j.aparts) (sizes_of k) (sizes_of j) (omega arith) more s.nested;
     }
   where
@@ -249,7 +252,8 @@ sound_entry look k label ws proof arity s lawful counts =
     record {
       named = λ w. subst (λ (t : Scope). Knows t w (cond (bytes_eq label w) (Some (name.Assertion (length k.entries))) (look w)))
           (sym (scope_entry look k label ws proof arity s))
-          (subst (λ (n : ℕ). Knows (with_assertion (scope_of k) label ws proof) w (cond (bytes_eq label w) (Some (name.Assertion n)) (look w))) len
+          (subst (λ (n : ℕ). Knows (with_assertion (scope_of k) label ws proof) w
+          (cond (bytes_eq label w) (Some (name.Assertion n)) (look w))) len
           (knows_assertion (scope_of k) a look s.named new.0 new.1 w));
       within = s.within;
       listed = s.listed;
@@ -264,7 +268,10 @@ sound_entry look k label ws proof arity s lawful counts =
 
 pub stand_entry : (look : Word → Option Name) (k : Kept) (label : Word) (ws : List Word) (proof : Option Proof) (arity : ℕ)
     → IsSound look k
-    → stand_of (with_entry k (entry_here k label ws proof arity)) ≡ record (stand_of k) { scope = with_assertion (scope_of k) label ws proof }
+    → stand_of (with_entry k (entry_here k label ws proof arity)) ≡ record (stand_of k) {
+      scope =
+          with_assertion (scope_of k) label ws proof;
+    }
 unfolding stand_of
 stand_entry look k label ws proof arity s =
     let e = entry_here k label ws proof arity in

@@ -87,7 +87,8 @@ found_any test xs o h =
     ]
 
 -- the noted place where an item passes there
-pub some_there : {A : Type 0} (test : A → Bool) (xs : List A) (o : Option ℕ) → is_some (cond (passes_at test xs o) o None) ≡ passes_at test xs o
+pub some_there : {A : Type 0} (test : A → Bool) (xs : List A) (o : Option ℕ)
+    → is_some (cond (passes_at test xs o) o None) ≡ passes_at test xs o
 some_there test xs None = refl
 some_there test xs (Some i) =
     elim (passes_at test xs (Some i)) as (λ b. is_some (cond b (Some i) None) ≡ b) [

@@ -74,7 +74,8 @@ pub record Agree (k j : Kept) (aparts : ℕ) (z : Sizes) : Type 0 where
   pub pairs : (o : Option ℕ) → IsWithin o aparts → pairs_at j.aparts o ≡ pairs_at k.aparts o
   pub symbols : (n : ℕ) → n ≤ z.ss → take n j.symbols ≡ take n k.symbols
   pub labels : (n : ℕ) → n ≤ z.ls → take n j.labels ≡ take n k.labels
-  pub assertions : (n : ℕ) → n ≤ z.es → take n (assertions_of j.links j.aparts j.entries) ≡ take n (assertions_of k.links k.aparts k.entries)
+  pub assertions : (n : ℕ) → n ≤ z.es → take n (assertions_of j.links j.aparts j.entries)
+      ≡ take n (assertions_of k.links k.aparts k.entries)
 
 le_trans : (a b c : ℕ) → a ≤ b → b ≤ c → a ≤ c
 le_trans a b c p q = omega arith

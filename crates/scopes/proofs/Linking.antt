@@ -119,7 +119,8 @@ links_stay k h o within = path_stays k.links (last_link k.active, h) o within
 
 -- the paths of the active hypotheses in front
 pub listed_more : (look : _) (k : Kept) (h : Hypothesis) → IsSound look k
-    → (n : ℕ) → path (with_link k h).links (last_link (take n (with_link k h).active)) ≡ active_of (with_link k h).links (take n (with_link k h).active)
+    → (n : ℕ) → path (with_link k h).links (last_link (take n (with_link k h).active))
+    ≡ active_of (with_link k h).links (take n (with_link k h).active)
 listed_more look k h s n =
     let j = with_link k h in
     let l : Linked = (last_link k.active, h) in

@@ -115,7 +115,8 @@ any_more test [] zero = refl
 any_more test [] (suc i) = refl
 any_more test (x ∷ xs) zero = or-false (test x)
 any_more test (x ∷ xs) (suc i) =
-    ap (λ b. test x || b) (any_more test xs i) ∙ sym (or_assoc (test x) (list_any test (take i xs)) (option_map_or test (slice_get xs i) false))
+    ap (λ b. test x || b) (any_more test xs i)
+    ∙ sym (or_assoc (test x) (list_any test (take i xs)) (option_map_or test (slice_get xs i) false))
 
 stands_there : (v : Word) (h : Hypothesis) → stands_in v h ≡ is_in (symbols_of h) v
 stands_there v (typing label c u) = refl

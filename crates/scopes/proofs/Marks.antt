@@ -97,7 +97,8 @@ set_numbers [] i a b at e = absurd cc
 set_numbers (x ∷ xs) zero a b at e = let same : x ≡ a = cc in ap (λ n. n ∷ numbers xs) (e ∙ ap (λ a. a.link) (sym same))
 set_numbers (x ∷ xs) (suc i) a b at e = ap (λ rest. x.link ∷ rest) (set_numbers xs i a b at e)
 
-pub set_marks : (xs : List Active) (i : ℕ) (b : Active) → map (λ a. a.is_mandatory) (set xs i b) ≡ set (map (λ a. a.is_mandatory) xs) i b.is_mandatory
+pub set_marks : (xs : List Active) (i : ℕ) (b : Active)
+    → map (λ a. a.is_mandatory) (set xs i b) ≡ set (map (λ a. a.is_mandatory) xs) i b.is_mandatory
 set_marks [] i b = refl
 set_marks (x ∷ xs) zero b = refl
 set_marks (x ∷ xs) (suc i) b = ap (λ rest. x.is_mandatory ∷ rest) (set_marks xs i b)
@@ -152,6 +153,7 @@ mark_step q (x ∷ xs) (m ∷ ms) zero lt inside h = refl
 mark_step q (x ∷ xs) (m ∷ ms) (suc i) lt inside h =
     let here : m ≡ q x = cc in
     let later : take i ms ≡ take i (map q xs) = cc in
-    let rest = mark_step q xs ms i (let l : suc i < suc (length ms) = lt in omega arith) (let l : suc i < suc (length xs) = inside in omega arith)
+    let rest = mark_step q xs ms i (let l : suc i < suc (length ms) = lt in omega arith) (let l : suc i < suc (length xs) =
+    inside in omega arith)
     later in
     cc

@@ -33,7 +33,8 @@ module _ (P : Word → Option Name → Type 0) (c : Word) (new : Name) (look : W
       → P w (cond (bytes_eq c w) (Some new) (look w))
   with_name here other w =
       elim (cases_Bool (bytes_eq c w)) [
-        | inl y ↦ subst (λ o. P w o) (sym (cond-true (bytes_eq c w) (Some new) (look w) y)) (subst (λ x. P x (Some new)) (same_bytes c w y) here)
+        | inl y ↦ subst (λ o. P w o) (sym (cond-true (bytes_eq c w) (Some new) (look w) y))
+            (subst (λ x. P x (Some new)) (same_bytes c w y) here)
         | inr n ↦ subst (λ o. P w o) (sym (cond-false (bytes_eq c w) (Some new) (look w) n)) (other w (bytes_eq-sym w c ∙ n))
       ]
 
@@ -173,7 +174,8 @@ knows_float s label c v i f look known l m at free =
     differs : (s : Scope) (v label : Word) → is_in s.symbols v ≡ true → is_in s.symbols label ≡ false → bytes_eq v label ≡ false
     differs s v label y n =
         elim (cases_Bool (bytes_eq v label)) [
-          | inl e ↦ let same : v ≡ label = same_bytes v label e in absurd (let z : true ≡ false = sym y ∙ ap (is_in s.symbols) same ∙ n in cc)
+          | inl e ↦ let same : v ≡ label = same_bytes v label e in absurd (let z : true ≡ false =
+              sym y ∙ ap (is_in s.symbols) same ∙ n in cc)
           | inr e ↦ e
         ]
 

@@ -5,11 +5,13 @@ use Rattle.std.proofs.lemmas.List.{get_or_append_left}
 use Rattle.std.proofs.Math.Seq.{get_or-append_seam}
 use Rattle.scopes.specs.Paths.{list_at, lists_of, path, IsWithin}
 
-lists_of-append : {A : Type 0} (lists : List (List A)) (ps qs : List (Option ℕ × A)) → lists_of lists (ps ++ qs) ≡ lists_of (lists_of lists ps) qs
+lists_of-append : {A : Type 0} (lists : List (List A)) (ps qs : List (Option ℕ × A))
+    → lists_of lists (ps ++ qs) ≡ lists_of (lists_of lists ps) qs
 lists_of-append lists [] qs = refl
 lists_of-append lists (p ∷ ps) qs = lists_of-append (lists ++ (list_at lists p.0 ++ p.1 ∷ []) ∷ []) ps qs
 
-pub length-lists_of : {A : Type 0} (lists : List (List A)) (ps : List (Option ℕ × A)) → length (lists_of lists ps) ≡ length lists + length ps
+pub length-lists_of : {A : Type 0} (lists : List (List A)) (ps : List (Option ℕ × A))
+    → length (lists_of lists ps) ≡ length lists + length ps
 length-lists_of lists [] = omega arith
 length-lists_of lists (p ∷ ps) =
     let more = lists ++ (list_at lists p.0 ++ p.1 ∷ []) ∷ [] in

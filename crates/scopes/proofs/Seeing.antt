@@ -30,7 +30,8 @@ not_outermost (x ∷ xs) b = refl
 
 pub empty_outermost : (bs : List Block) → nat_eq (length bs) 0 ≡ is_outermost (reverse bs)
 empty_outermost [] = refl
-empty_outermost (b ∷ bs) = ne_eqb (suc (length bs)) 0 (omega arith) ∙ sym (ap is_outermost (reverse-append (b ∷ []) bs) ∙ not_outermost (reverse bs) b)
+empty_outermost (b ∷ bs) = ne_eqb (suc (length bs)) 0 (omega arith)
+    ∙ sym (ap is_outermost (reverse-append (b ∷ []) bs) ∙ not_outermost (reverse bs) b)
 
 pub same_scope : (k j : Kept) → stand_of k ≡ stand_of j → scope_of k ≡ scope_of j
 unfolding stand_of
@@ -38,7 +39,10 @@ same_scope k j e = ap (λ s. s.scope) e
 
 -- one more assertion where the tables stand
 pub asserted_there : (k : Kept) (s : Stand) (label : Word) (ws : List Word) (proof : Option Proof) → stand_of k ≡ s
-    → record (stand_of k) { scope = with_assertion (scope_of k) label ws proof } ≡ record s { scope = with_assertion s.scope label ws proof }
+    → record (stand_of k) { scope = with_assertion (scope_of k) label ws proof } ≡ record s {
+      scope =
+          with_assertion s.scope label ws proof;
+    }
 unfolding stand_of
 asserted_there k s label ws proof e =
     let f : Stand → Stand = λ s. record s { scope = with_assertion s.scope label ws proof } in

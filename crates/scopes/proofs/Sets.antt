@@ -17,6 +17,7 @@ word_more w k old ws =
 
 -- what is chosen by the words of a statement and of the $e is mandatory
 pub chosen_mandatory : (test : Word → Bool) (active : List Hypothesis) (statement : List Word)
-    → ((w : Word) → test w ≡ is_mandatory_variable active statement w) → (h : Hypothesis) → is_chosen test h ≡ is_mandatory active statement h
+    → ((w : Word) → test w ≡ is_mandatory_variable active statement w) → (h : Hypothesis)
+    → is_chosen test h ≡ is_mandatory active statement h
 chosen_mandatory test active statement same (typing label c v) = same v
 chosen_mandatory test active statement same (premise label ws) = refl

@@ -46,7 +46,8 @@ sound_constant look k c s lawful =
       listed = s.listed;
       apart = s.apart;
       counted = s.counted;
-      nested = nested_more (reverse k.blocks) (length k.aparts) (length k.aparts) (sizes_of k) (sizes_of (with_constant k c)) (omega arith) more
+      nested = nested_more (reverse k.blocks) (length k.aparts) (length k.aparts) (sizes_of k) (sizes_of (with_constant k c))
+          (omega arith) more
           s.nested;
     }
 
@@ -89,7 +90,8 @@ sound_variable look k v s lawful =
       listed = s.listed;
       apart = s.apart;
       counted = s.counted;
-      nested = nested_more (reverse k.blocks) (length k.aparts) (length k.aparts) (sizes_of k) (sizes_of (with_variable k v)) (omega arith) more
+      nested = nested_more (reverse k.blocks) (length k.aparts) (length k.aparts) (sizes_of k) (sizes_of (with_variable k v))
+          (omega arith) more
           s.nested;
     }
 

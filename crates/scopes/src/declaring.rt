@@ -168,7 +168,8 @@ pub(crate) fn add_asserted<'a>(
     ensures sound { OnOk result (IsSoundTables tables.new) }
     ensures stand { OnOk result (stand_of (kept_of tables.new) ≡ record (stand_of (kept_of tables.old)) {
       scope =
-          with_assertion (scope_of (kept_of tables.old)) label.entry.now (seen_words statement.entry.items) (option_map seen_proof proof.entry);
+          with_assertion (scope_of (kept_of tables.old)) label.entry.now (seen_words statement.entry.items)
+          (option_map seen_proof proof.entry);
     }) }
 {
     let hypotheses = last_active(tables.active.as_slice());

@@ -40,7 +40,8 @@ pub floats_premise : (m : HashMap (Bor (List ℕ)) (Option ℕ) RandomState) (fl
     (ws : List Word) → FindsFloats m floats hs → FindsFloats m floats (hs ++ premise label ws ∷ [])
 floats_premise m floats hs label ws found w =
     found w
-    ∙ ap (option_map (place_in floats)) (sym (find-append (is_float_of w) hs (premise label ws ∷ []) ∙ option_or-none (find (is_float_of w) hs)))
+    ∙ ap (option_map (place_in floats)) (sym (find-append (is_float_of w) hs (premise label ws ∷ [])
+    ∙ option_or-none (find (is_float_of w) hs)))
 
 pub floats_again : (m : HashMap (Bor (List ℕ)) (Option ℕ) RandomState) (floats : List Word) (hs : List Hypothesis) (label c v : Word)
     → FindsFloats m floats hs → is_some (looks_up m v) ≡ true → FindsFloats m floats (hs ++ typing label c v ∷ [])

@@ -329,7 +329,8 @@ module _ (s : Scope) (whole : IsWhole s) (fs : List Bool) (look : Word → Optio
     sited = λ k d lt. λ j e among.
         sited_by t (get_or (get_or (kept fs s.assertions) k d).active j e) (λ label c v is.
         sited_float label c v
-        (active_float s whole fs k (get_or (kept fs s.assertions) k d) lt (get_or_default (kept fs s.assertions) k (get_or (kept fs s.assertions) k d) d lt) j
+        (active_float s whole fs k (get_or (kept fs s.assertions) k d) lt
+        (get_or_default (kept fs s.assertions) k (get_or (kept fs s.assertions) k d) d lt) j
         (get_or (get_or (kept fs s.assertions) k d).active j e) among (get_or_default (get_or (kept fs s.assertions) k d).active j
         (get_or (get_or (kept fs s.assertions) k d).active j e) e among)
         label c v is));

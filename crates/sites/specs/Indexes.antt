@@ -6,6 +6,7 @@ use Rattle.std.specs.HashMap.{HashMap, get_by}
 use Rattle.std.specs.declared.random_state.RandomState.{RandomState}
 use Rattle.mmtext.specs.Words.{Word}
 use Rattle.mmsyntax.specs.Tables.{place_of}
+use Rattle.mmsyntax.specs.declared.limits.TheConstants.{MOST_DECLARED}
 
 -- what a map has at a word
 abbrev pub looks_up : {X : Type 0} → HashMap (Bor (List ℕ)) X RandomState → Word → Option X
@@ -17,5 +18,5 @@ FindsPlaces m ws = (w : Word) → looks_up m w ≡ place_of (bytes_eq w) ws
 
 -- the profile has room for these constants and $f
 pub record HasRoom (constants floats : List Word) : Type 0 where
-  pub few_constants : length constants ≤ 65535
-  pub few_floats : length floats ≤ 65535
+  pub few_constants : length constants ≤ MOST_DECLARED
+  pub few_floats : length floats ≤ MOST_DECLARED

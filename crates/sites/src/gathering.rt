@@ -10,16 +10,15 @@ ghost use Rattle.taking.specs.Reasons.{kept};
 ghost use Rattle.sites.specs.Indexes.{HasRoom};
 ghost use Rattle.sites.specs.Sites.{AreSites};
 ghost use Rattle.sites.specs.Used.{Uses, is_noted, noted, type_at, variable_at};
+ghost use Rattle.mmsyntax.specs.declared.limits.TheConstants.{MOST_DECLARED};
 
 use crate::indexed::Indexed;
 use crate::sites::Sites;
 use crate::used::{Used, used_by};
+use mmsyntax::MOST_DECLARED;
 use source::Declared;
 use std::alloc::{AllocError, Global};
 use std::hash::RandomState;
-
-/// The most constants, and the most `$f`, that have places: the profile has room for no more.
-const MOST: usize = 65535;
 
 /// Those of some words that are used symbols.
 fn used_symbols<'a>(
@@ -57,7 +56,7 @@ fn used_floats<'a>(
 
 /// The place of the type of the `$f` with a label.
 fn type_place(used: &Used<'_>, constants: &Indexed<'_>, label: &[u8]) -> Option<u32>
-    requires { length constants.now ≤ 65535 }
+    requires { length constants.now ≤ MOST_DECLARED }
     ensures { result ≡ type_at (noted used.now) constants.now label.now }
 {
     let (kind, _) = used.floats.get(&label)?;
@@ -72,7 +71,7 @@ fn type_places(
     constants: &Indexed<'_>,
     labels: &[&[u8]],
 ) -> Result<Vec<u32>, AllocError>
-    requires { length constants.now ≤ 65535 }
+    requires { length constants.now ≤ MOST_DECLARED }
     ensures { IfOk result (λ made. made.items ≡ filter_map (type_at (noted used.now) constants.now) (seen_words labels.now)) }
 {
     let mut types = Vec::new(alloc);
@@ -132,9 +131,9 @@ fn chosen_labels<'a, D: Declared<'a>>(
 /// Whether the profile has room for constants and `$f`.
 fn have_room(constants: &Indexed<'_>, floats: &Indexed<'_>) -> bool
     ensures room { result ≡ true → HasRoom constants.now floats.now }
-    ensures full { result ≡ false → (65535 < length constants.now) ⊎ (65535 < length floats.now) }
+    ensures full { result ≡ false → (MOST_DECLARED < length constants.now) ⊎ (MOST_DECLARED < length floats.now) }
 {
-    constants.len() <= MOST && floats.len() <= MOST
+    constants.len() <= MOST_DECLARED && floats.len() <= MOST_DECLARED
 }
 
 /// The sites of the constants and the `$f` that have places, and of the assertions that flags choose.
@@ -176,8 +175,8 @@ fn sites_from<'a, D: Declared<'a>>(
     requires used { Uses used.now (kept chosen.now (D.scope declared.now).assertions) }
     ensures { let s = D.scope declared.now in let taken = kept chosen.now s.assertions in
         IfOk result (λ made. MatchOption made
-        ((65535 < length (filter (λ w. list_any (is_symbol_of w) taken) s.constants))
-        ⊎ (65535 < length (filter (λ w. list_any (has_float_labelled w) taken) s.labels)))
+        ((MOST_DECLARED < length (filter (λ w. list_any (is_symbol_of w) taken) s.constants))
+        ⊎ (MOST_DECLARED < length (filter (λ w. list_any (has_float_labelled w) taken) s.labels)))
         (AreSites s taken)) }
 {
     let symbols = used_symbols(alloc, used, declared.constants())?;
@@ -202,8 +201,8 @@ pub fn sites_of<'a, D: Declared<'a>>(
     requires flags { length chosen.now ≡ length (D.scope declared.now).assertions }
     ensures { let s = D.scope declared.now in let taken = kept chosen.now s.assertions in
         IfOk result (λ made. MatchOption made
-        ((65535 < length (filter (λ w. list_any (is_symbol_of w) taken) s.constants))
-        ⊎ (65535 < length (filter (λ w. list_any (has_float_labelled w) taken) s.labels)))
+        ((MOST_DECLARED < length (filter (λ w. list_any (is_symbol_of w) taken) s.constants))
+        ⊎ (MOST_DECLARED < length (filter (λ w. list_any (has_float_labelled w) taken) s.labels)))
         (AreSites s taken)) }
 {
     let used = used_by(alloc, keys, declared, chosen)?;

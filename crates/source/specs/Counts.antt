@@ -1,5 +1,5 @@
--- While the words of an assertion are read: which hypotheses are mandatory so far; that the steps of its proof so far are there, and how many
--- entries they left on the stack.
+-- While the words of an assertion are read: which hypotheses are mandatory so far; that the steps of its proof so far are there, and how
+-- many entries they left on the stack.
 use Rattle.std.specs.Prelude.{◌≡◌, ℕ, Bool, ◌==◌, List, ◌++◌, map, length, replicate, Option, Some, None, if◌then◌else◌, ◌⊎◌, ◌-◌, ◌^◌}
 use Rattle.std.specs.Option.{option_map}
 use Rattle.std.specs.List.{list_any, flat_map}

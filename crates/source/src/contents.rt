@@ -77,5 +77,6 @@ pub trait Declared<'a> {
     /// The pairs that are active at the assertion at a place, in order of appearance.
     fn pairs(&self, alloc: Global, place: usize) -> Result<Vec<(&'a [u8], &'a [u8])>, AllocError>
         requires { place < length (scope self.now).assertions }
-        ensures { IfOk result (λ ps. option_map (λ a. a.pairs) (slice_get (scope self.now).assertions place) ≡ Some (seen_pairs ps.items)) };
+        ensures { IfOk result (λ ps. option_map (λ a. a.pairs) (slice_get (scope self.now).assertions place)
+            ≡ Some (seen_pairs ps.items)) };
 }

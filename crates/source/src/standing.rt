@@ -26,8 +26,8 @@ pub enum ProofWords<'a> {
 
 /// What stands at a place of a source: what is active there, and what was declared before. Its words are slices of the text.
 ///
-/// Whoever declares something has asked for the faults of its words before: the statement is lawful there. The words of an assertion are told
-/// one by one, so that none of them has to be looked up again once it ends. After an error nothing is said of what stands.
+/// Whoever declares something has asked for the faults of its words before: the statement is lawful there. The words of an assertion are
+/// told one by one, so that none of them has to be looked up again once it ends. After an error nothing is said of what stands.
 pub trait Standing<'a>: Drop {
     // what stands, with what stood before each open block
     ghost stand: { Self → Stand };
@@ -131,7 +131,8 @@ pub trait Standing<'a>: Drop {
         expression: Vec<&'a [u8]>,
     ) -> Result<(), AllocError>
         requires { is_lawful (stand self.old).scope (hypothesis label.now (seen_words expression.items)) ≡ true }
-        ensures { IfOk result (λ _. stand self.new ≡ declared (stand self.old) (hypothesis label.entry.now (seen_words expression.entry.items))) };
+        ensures { IfOk result (λ _. stand self.new
+            ≡ declared (stand self.old) (hypothesis label.entry.now (seen_words expression.entry.items))) };
 
     /// One more `$d`.
     fn declare_distinct(
@@ -151,7 +152,8 @@ pub trait Standing<'a>: Drop {
     ) -> Result<(), AllocError>
         requires lawful { is_lawful (stand self.old).scope (asserted label.now (seen_words expression.items)) ≡ true }
         requires marks { marks self.old ≡ mandatory_marks (stand self.old).scope (seen_words expression.items) }
-        ensures { IfOk result (λ _. stand self.new ≡ declared (stand self.old) (asserted label.entry.now (seen_words expression.entry.items))) };
+        ensures { IfOk result (λ _. stand self.new
+            ≡ declared (stand self.old) (asserted label.entry.now (seen_words expression.entry.items))) };
 
     /// One more `$p`, for whose symbols the mandatory hypotheses are marked.
     fn declare_theorem(

@@ -76,7 +76,8 @@ proof_grows p label e (w ∷ ws) t m some h = refl
 pub labels_grow : (p : Position) (label : Word) (e ws : List Word) (t : Token) → bytes_eq t.text (codes ")") ≡ false
     → labels_row p label e ws t ≡ tested t (cited_tests p.stand.scope e t.text) (to p (in_labels label e (ws ++ t.text ∷ [])))
 labels_grow p label e ws t h =
-    ap (λ b. cond b (to p (in_letters label e ws [])) (tested t (cited_tests p.stand.scope e t.text) (to p (in_labels label e (ws ++ t.text ∷ []))))) h
+    ap (λ b. cond b (to p (in_letters label e ws []))
+    (tested t (cited_tests p.stand.scope e t.text) (to p (in_labels label e (ws ++ t.text ∷ []))))) h
 
 pub letters_grow : (p : Position) (label : Word) (e ws ls : List Word) (t : Token) (m : Mark) → (m ≡ mark.End → ls ≡ [])
     → letters_row p label e ws ls t m

@@ -2,11 +2,9 @@
 
 use crate::layout::Layout;
 use crate::shared::Shared;
+use mmsyntax::MOST_STEPS;
 use rewriting::put_number;
 use std::alloc::{AllocError, Global};
-
-/// A proof has so many steps at most.
-const MOST_STEPS: usize = 16_384;
 
 /// A walk through the tree of so many steps takes a turn at each of them, and one more at each that is an argument.
 const MOST_TURNS: usize = 2 * MOST_STEPS - 1;

@@ -9,13 +9,14 @@ use Rattle.statementreader.specs.declared.recent.Recalled.{Recalled}
 use Rattle.statementreader.specs.declared.recent.Recent.{Recent}
 use Rattle.statementreader.specs.declared.place.Place.{Place}
 use Rattle.statementreader.specs.declared.place.Place.TheVariants as place
+use Rattle.mmsyntax.specs.declared.limits.TheConstants.{MOST_DECLARED}
 
 -- what is kept of a word is so, and a $f and a constant are one of 65,535
 pub record IsTrueOf (t : Tables) (r : Recalled) : Type 0 where
   pub names : r.name ≡ meaning t r.word.now
   pub dollar : r.with_dollar ≡ has_dollar r.word.now
   pub label : r.is_label ≡ is_label r.word.now
-  pub few : (j : ℕ) → r.name ≡ Some (name.Label j) → j < 65535
+  pub few : (j : ℕ) → r.name ≡ Some (name.Label j) → j < MOST_DECLARED
   pub symbol : NamesFew r.name
 
 -- all that is kept is so

@@ -14,6 +14,7 @@ use Rattle.mmsyntax.specs.Rows.{Known}
 use Rattle.mmsyntax.specs.Faults.{Place, in_place}
 use Rattle.statementreader.specs.declared.steps.Named.{Named}
 use Rattle.statementreader.specs.declared.steps.Named.TheVariants as named
+use Rattle.mmsyntax.specs.declared.limits.TheConstants.{MOST_DECLARED, MOST_HYPOTHESES}
 
 -- what a word gives put behind others, or its fault
 abbrev pub pushed : {A : Type 0} → Token → List A → Result A FaultKind → Result (List A) TextFault
@@ -42,8 +43,8 @@ step_as w named.Assertion = Cite w
 
 -- one of 65,535 $f, or of 1,000 hypotheses
 abbrev pub IsSmallNamed : Named → Type 0
-IsSmallNamed (named.Float j) = j < 65535
-IsSmallNamed (named.Hyp n) = n < 1000
+IsSmallNamed (named.Float j) = j < MOST_DECLARED
+IsSmallNamed (named.Hyp n) = n < MOST_HYPOTHESES
 IsSmallNamed named.Assertion = Unit {0}
 
 -- that step, or the fault

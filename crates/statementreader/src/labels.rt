@@ -7,20 +7,15 @@ ghost use Rattle.mmsyntax.specs.SymbolWords.{NamesFew};
 ghost use Rattle.mmsyntax.specs.Blocks.{hypothesis_label_tests};
 ghost use Rattle.mmunits.specs.Views.{known_of};
 
-use mmsyntax::{Name, Symbol, SymbolTable, SymbolWord};
+use mmsyntax::{
+    MOST_ASSERTIONS, MOST_DECLARED, MOST_HYPOTHESES, MOST_NAME_BYTES, MOST_SYMBOLS, Name, Symbol,
+    SymbolTable, SymbolWord,
+};
 use mmtext::{FaultKind, contains_dollar, contains_dot, names_hypothesis};
 use mmunits::{Block, Units, has_name};
 
-/// The most bytes of a symbol, and of a label that isn't one of a `$e`.
-pub(crate) const MOST_LABEL_BYTES: usize = 255;
 /// The most bytes of the label of a `$e`: in canonical layout it has a dot and a number behind that of its assertion.
 const MOST_HYPOTHESIS_LABEL_BYTES: usize = 260;
-/// The most assertions of a database.
-const MOST_ASSERTIONS: usize = 4096;
-/// The most hypotheses of a block.
-const MOST_HYPOTHESES: usize = 1000;
-/// The most constants, and variables, and `$f`, and symbols of an expression, and pairs of a block.
-pub(crate) const MOST_SYMBOLS: usize = 65535;
 
 /// The fault of a symbol in `$c` or `$v`, where `count` are declared.
 pub(crate) fn symbol_fault(
@@ -34,7 +29,7 @@ pub(crate) fn symbol_fault(
     if contains_dollar(word) {
         return Some(FaultKind::BadToken);
     }
-    if word.len() > MOST_LABEL_BYTES {
+    if word.len() > MOST_NAME_BYTES {
         return Some(FaultKind::TooLong);
     }
     if names_hypothesis(word) {
@@ -43,7 +38,7 @@ pub(crate) fn symbol_fault(
     if has_name(symbols, units, word) {
         return Some(FaultKind::RepeatedLabel);
     }
-    if count >= MOST_SYMBOLS {
+    if count >= MOST_DECLARED {
         return Some(FaultKind::TooLong);
     }
     None
@@ -57,13 +52,13 @@ pub(crate) fn float_label_fault(
 ) -> Option<FaultKind>
     ensures { result ≡ first_fault (float_label_tests (known_of symbols.now units.now) word.now) }
 {
-    if contains_dot(word) || word.len() > MOST_LABEL_BYTES {
+    if contains_dot(word) || word.len() > MOST_NAME_BYTES {
         return Some(FaultKind::BadLabel);
     }
     if has_name(symbols, units, word) {
         return Some(FaultKind::RepeatedLabel);
     }
-    if symbols.floats().len() >= MOST_SYMBOLS {
+    if symbols.floats().len() >= MOST_DECLARED {
         return Some(FaultKind::TooLong);
     }
     None
@@ -77,7 +72,7 @@ pub(crate) fn assertion_label_fault(
 ) -> Option<FaultKind>
     ensures { result ≡ first_fault (assertion_label_tests (known_of symbols.now units.now) word.now) }
 {
-    if word.len() > MOST_LABEL_BYTES {
+    if word.len() > MOST_NAME_BYTES {
         return Some(FaultKind::BadLabel);
     }
     if has_name(symbols, units, word) {

@@ -144,8 +144,8 @@ impl<'a> Recent<'a> {
         self.entries[place].cited_at = cited_at;
     }
 
-    /// Puts the step that a word is, by what it names, behind others. Its label is looked for where it stood last among those that are cited,
-    /// and else put behind them.
+    /// Puts the step that a word is, by what it names, behind others. Its label is looked for where it stood last among those that are
+    /// cited, and else put behind them.
     ///
     /// # Errors
     ///

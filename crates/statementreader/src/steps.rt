@@ -11,17 +11,16 @@ ghost use Rattle.mmsyntax.specs.Faults.{block_of};
 ghost use Rattle.statementreader.specs.Recalls.{IsTrueOf, Knows};
 ghost use Rattle.statementreader.specs.Takings.{IsSmallNamed, step_as, step_or_fault};
 ghost use Rattle.statementreader.specs.Views.{seen_scope};
+ghost use Rattle.mmsyntax.specs.declared.limits.TheConstants.{MOST_DECLARED, MOST_HYPOTHESES};
 
-use crate::labels::{MOST_LABEL_BYTES, MOST_SYMBOLS};
 use crate::place::Scope;
 use crate::recent::{Recalled, Recent};
-use mmsyntax::{Name, Proof, StepRef, SymbolTable, is_dotted};
+use mmsyntax::{
+    MOST_NAME_BYTES, MOST_PAIRS, MOST_STEPS, Name, Proof, StepRef, SymbolTable, is_dotted,
+};
 use mmtext::{FaultKind, contains_dollar, is_label_token};
 use mmunits::Block;
 use std::alloc::{AllocError, Global};
-
-/// The most steps of a proof.
-pub(crate) const MOST_STEPS: usize = 16384;
 
 /// The variable that a word of a `$d` names, by its `$f`.
 fn restricted(symbols: &SymbolTable, word: &[u8]) -> Result<u32, FaultKind>
@@ -61,7 +60,7 @@ pub(crate) fn restrict(
                 return Ok(Err(FaultKind::BadToken));
             }
             block.add_pairs(j, earlier)?;
-            if block.pairs() > MOST_SYMBOLS {
+            if block.pairs() > MOST_PAIRS {
                 return Ok(Err(FaultKind::TooLong));
             }
             Ok(Ok(j))
@@ -91,7 +90,7 @@ fn step_fault(count: usize, word: &[u8]) -> Option<FaultKind>
 /// The place of a hypothesis of a scope.
 fn hypothesis_in(scope: &Scope<'_>, word: &[u8]) -> Option<u32>
     ensures value { result ≡ hypothesis_named (block_of (seen_scope scope.now)).hyps word.now }
-    ensures few { (n : ℕ) → result ≡ Some n → n < 1000 }
+    ensures few { (n : ℕ) → result ≡ Some n → n < MOST_HYPOTHESES }
 {
     match scope {
         Scope::Outside => None,
@@ -124,14 +123,14 @@ pub enum Named {
 /// What a word names in the proof of the assertion with a label, where it is the label of no `$f` and names, if any, the hypothesis at a
 /// place; or why it names nothing.
 fn label_named(label: &[u8], hypothesis: Option<u32>, word: &[u8]) -> Result<Named, FaultKind>
-    requires { (n : ℕ) → hypothesis ≡ Some n → n < 1000 }
+    requires { (n : ℕ) → hypothesis ≡ Some n → n < MOST_HYPOTHESES }
     ensures named { step_or_fault word.now result ≡ step_named label.now word.now None hypothesis }
     ensures small { IfOk result IsSmallNamed }
 {
     if let Some(n) = hypothesis {
         return Ok(Named::Hyp(n));
     }
-    if word.len() > MOST_LABEL_BYTES {
+    if word.len() > MOST_NAME_BYTES {
         return Err(FaultKind::BadLabel);
     }
     if is_dotted(label, word) {
@@ -149,7 +148,7 @@ pub fn named_step(
     count: usize,
     word: &[u8],
 ) -> Result<Named, FaultKind>
-    requires { (n : ℕ) → hypothesis ≡ Some n → n < 1000 }
+    requires { (n : ℕ) → hypothesis ≡ Some n → n < MOST_HYPOTHESES }
     ensures named { step_or_fault word.now result ≡ unless_faulty (first_fault (step_tests count word.now))
         (step_named label.now word.now (float_named (meaning symbols.now word.now)) hypothesis) }
     ensures small { IfOk result IsSmallNamed }
@@ -176,8 +175,8 @@ fn step_ref_of(named: Named, word: &[u8]) -> StepRef<'_>
     }
 }
 
-/// Puts the step that a word is, by what it names, behind others. Its label is looked for at a hint among those that are cited, and else put
-/// behind them: any number will do. The hint for this word from now on.
+/// Puts the step that a word is, by what it names, behind others. Its label is looked for at a hint among those that are cited, and else
+/// put behind them: any number will do. The hint for this word from now on.
 ///
 /// # Errors
 ///
@@ -238,7 +237,7 @@ fn name_by_recall(
     known: &Recalled<'_>,
 ) -> Result<Named, FaultKind>
     requires known { IsTrueOf symbols.now known.now }
-    requires few { (n : ℕ) → hypothesis ≡ Some n → n < 1000 }
+    requires few { (n : ℕ) → hypothesis ≡ Some n → n < MOST_HYPOTHESES }
     ensures named { step_or_fault known.now.word.now result ≡ unless_faulty (first_fault (step_tests count known.now.word.now))
         (step_named label.now known.now.word.now (float_named (meaning symbols.now known.now.word.now)) hypothesis) }
     ensures small { IfOk result IsSmallNamed }
@@ -263,7 +262,7 @@ pub fn recalled_named_step<'a>(
     word: &'a [u8],
 ) -> Result<Result<Named, FaultKind>, AllocError>
     requires knows { Knows symbols.now recent.old }
-    requires few { (n : ℕ) → hypothesis ≡ Some n → n < 1000 }
+    requires few { (n : ℕ) → hypothesis ≡ Some n → n < MOST_HYPOTHESES }
     ensures knows { Knows symbols.now recent.new }
     ensures named { IfOk result (λ r. step_or_fault word.now r ≡ unless_faulty (first_fault (step_tests count word.now))
         (step_named label.now word.now (float_named (meaning symbols.now word.now)) hypothesis)) }
@@ -279,7 +278,7 @@ pub(crate) fn recalled_step(
     scope: &Scope<'_>,
     known: &Recalled<'_>,
 ) -> Result<Named, FaultKind>
-    requires { (j : ℕ) → known.now.name ≡ Some (Name.Label j) → j < 65535 }
+    requires { (j : ℕ) → known.now.name ≡ Some (Name.Label j) → j < MOST_DECLARED }
     ensures named { step_or_fault known.now.word.now result ≡ step_named label.now known.now.word.now (float_named known.now.name)
         (hypothesis_named (block_of (seen_scope scope.now)).hyps known.now.word.now) }
     ensures small { IfOk result IsSmallNamed }

@@ -12,6 +12,7 @@ ghost use Rattle.statementreader.specs.Standing.{Stands};
 ghost use Rattle.statementreader.specs.Takings.{pushed};
 ghost use Rattle.mmunits.specs.Views.{known_of};
 ghost use Rattle.statementreader.specs.Views.{seen_scope, seen_behind, seen_unit_place, Leads};
+ghost use Rattle.mmsyntax.specs.declared.limits.TheConstants.{MOST_HYPOTHESES};
 
 use crate::labels::{assertion_label_fault, float_label_fault, hypothesis_label_fault, symbol_at};
 use crate::place::{Behind, Place, PreludePlace, Scope, Theorem, UnitPlace};
@@ -248,7 +249,7 @@ fn end_hypothesis<'a>(
     label: &'a [u8],
     expression: Vec<SymbolWord>,
 ) -> Result<Place<'a>, Stop>
-    requires { length block.hyps < 1000 }
+    requires { length block.hyps < MOST_HYPOTHESES }
     ensures { Leads symbols.now units.new result
         (at (with_hypothesis_label (known_of symbols.now units.old) label.entry.now)
         (at_start (inside (with_hypothesis block.entry label.entry.now expression.items)))) }
@@ -269,7 +270,7 @@ fn hypothesis<'a>(
     token: Token<'a>,
     mark: Mark,
 ) -> Result<Place<'a>, Stop>
-    requires { length block.hyps < 1000 }
+    requires { length block.hyps < MOST_HYPOTHESES }
     ensures { Leads symbols.now units.new result
         (hypothesis_row (known_of symbols.now units.old) block.entry label.entry.now expression.items (seen token.entry) mark) }
 {

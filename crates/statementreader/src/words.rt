@@ -14,8 +14,8 @@ ghost use Rattle.statementreader.specs.Views.{seen_scope, seen_unit_place, seen_
 use crate::labels::symbol_named;
 use crate::place::{Place, Scope, Theorem, UnitPlace};
 use crate::recent::{Recalled, Recent};
-use crate::steps::{MOST_STEPS, Named, push_named_near, recalled_step, step_at};
-use mmsyntax::{SymbolTable, SymbolWord};
+use crate::steps::{Named, push_named_near, recalled_step, step_at};
+use mmsyntax::{MOST_STEPS, SymbolTable, SymbolWord};
 use mmtext::{FaultKind, Stop, Token, fault_at};
 use std::alloc::Global;
 

@@ -13,7 +13,8 @@ pub places_are_small : (t : Tables) (fs : List Float) (i : ℕ) (f : Bor Float) 
 places_are_small t fs i f sound is at =
     let within : i < length t.floats = subst (λ (xs : List Float). i < length xs) is (ltb-true i (length fs) (sym at.0)) in
     let same : f.now ≡ get_or t.floats i f.now = subst (λ (xs : List Float). f.now ≡ get_or xs i f.now) is at.1 in
-    let type_within = subst (λ (g : Float). g.type_code < length t.constants) (sym same) (floats_sound t sound i f.now within).type_within in
+    let type_within = subst (λ (g : Float). g.type_code < length t.constants) (sym same)
+    (floats_sound t sound i f.now within).type_within in
     let s = sound_tables t sound in
     let constants = s.constants_fit in
     let floats = s.floats_fit in

@@ -94,10 +94,12 @@ spans-more n m ps le h =
     }
 
 -- one more behind all of them
-pub spans-push : (n m : ℕ) (ps : List Entry) (p : Entry) → AreSpans n ps → n ≤ start p → start p ≤ end p → end p ≤ m → AreSpans m (ps ++ p ∷ [])
+pub spans-push : (n m : ℕ) (ps : List Entry) (p : Entry) → AreSpans n ps → n ≤ start p → start p ≤ end p → end p ≤ m
+    → AreSpans m (ps ++ p ∷ [])
 spans-push n m ps p h behind some within =
     record {
-      within = All-push (λ e. (start e ≤ end e) × (end e ≤ m)) ps p (spans-more n m ps (omega (arith, behind, some, within)) h).within (some, within);
+      within = All-push (λ e. (start e ≤ end e)
+          × (end e ≤ m)) ps p (spans-more n m ps (omega (arith, behind, some, within)) h).within (some, within);
       apart = λ j k d less below.
           let size = length-append ps (p ∷ []) in
           let first = get_or_append_left ps (p ∷ []) d j (omega (arith, size, less, below)) in

@@ -6,15 +6,14 @@ ghost use Rattle.mmframes.specs.Substitution.{subst};
 ghost use Rattle.mmframes.specs.Places.{IsFirstPlace};
 ghost use Rattle.derivation.specs.Moves.{IsTooLongOrNoMemory};
 ghost use Rattle.stepcheck.specs.Conclusions.{concluded};
+ghost use Rattle.mmsyntax.specs.declared.limits.TheConstants.{MOST_SYMBOLS};
 
 use crate::stack::Args;
 use derivation::ProofFaultKind;
-use mmsyntax::{Expr, Symbol, SymbolWord};
+use mmsyntax::{Expr, MOST_SYMBOLS, Symbol, SymbolWord};
 use std::alloc::AllocError;
 use std::marker::Model;
 use std::slice;
-
-const MOST_SYMBOLS: usize = 65535;
 
 /// How many numbers are gone through rather than halved.
 const FEW: usize = 8;
@@ -171,9 +170,9 @@ pub(crate) fn are_substituted(substitution: &Substitution, hyps: &[Expr], target
 
 /// Adds a symbol, if the expression keeps to 65,535 symbols.
 fn add_one(made: &mut Vec<SymbolWord>, symbol: SymbolWord) -> Result<(), ProofFaultKind>
-    requires { length made.old.items ≤ 65535 }
-    ensures value { OnOk result ((made.new.items ≡ made.old.items ++ symbol ∷ []) × (length made.new.items ≤ 65535)) }
-    ensures kinds { IfErr result (λ kind. IsTooLongOrNoMemory kind (65535 < length made.old.items + 1)) }
+    requires { length made.old.items ≤ MOST_SYMBOLS }
+    ensures value { OnOk result ((made.new.items ≡ made.old.items ++ symbol ∷ []) × (length made.new.items ≤ MOST_SYMBOLS)) }
+    ensures kinds { IfErr result (λ kind. IsTooLongOrNoMemory kind (MOST_SYMBOLS < length made.old.items + 1)) }
 {
     if made.len() == MOST_SYMBOLS {
         return Err(ProofFaultKind::TooLong);
@@ -184,9 +183,9 @@ fn add_one(made: &mut Vec<SymbolWord>, symbol: SymbolWord) -> Result<(), ProofFa
 
 /// Adds symbols, if the expression keeps to 65,535 symbols.
 fn add_all(made: &mut Vec<SymbolWord>, symbols: &[SymbolWord]) -> Result<(), ProofFaultKind>
-    requires { length made.old.items ≤ 65535 }
-    ensures value { OnOk result ((made.new.items ≡ made.old.items ++ symbols.now) × (length made.new.items ≤ 65535)) }
-    ensures kinds { IfErr result (λ kind. IsTooLongOrNoMemory kind (65535 < length made.old.items + length symbols.now)) }
+    requires { length made.old.items ≤ MOST_SYMBOLS }
+    ensures value { OnOk result ((made.new.items ≡ made.old.items ++ symbols.now) × (length made.new.items ≤ MOST_SYMBOLS)) }
+    ensures kinds { IfErr result (λ kind. IsTooLongOrNoMemory kind (MOST_SYMBOLS < length made.old.items + length symbols.now)) }
 {
     if symbols.len() > MOST_SYMBOLS - made.len() {
         return Err(ProofFaultKind::TooLong);
@@ -201,11 +200,11 @@ fn add_piece(
     symbol: &SymbolWord,
     made: &mut Vec<SymbolWord>,
 ) -> Result<(), ProofFaultKind>
-    requires { length made.old.items ≤ 65535 }
+    requires { length made.old.items ≤ MOST_SYMBOLS }
     ensures value { OnOk result ((made.new.items ≡ made.old.items ++ subst substitution.now (symbol.now ∷ []))
-        × (length made.new.items ≤ 65535)) }
+        × (length made.new.items ≤ MOST_SYMBOLS)) }
     ensures kinds { IfErr result (λ kind. IsTooLongOrNoMemory kind
-        (65535 < length made.old.items + length (subst substitution.now (symbol.now ∷ [])))) }
+        (MOST_SYMBOLS < length made.old.items + length (subst substitution.now (symbol.now ∷ [])))) }
 {
     match symbol.symbol() {
         Symbol::Const(_) => add_one(made, *symbol),
@@ -219,8 +218,8 @@ fn make(
     symbols: &[SymbolWord],
     made: &mut Vec<SymbolWord>,
 ) -> Result<(), ProofFaultKind>
-    ensures value { OnOk result ((made.new.items ≡ subst substitution.now symbols.now) × (length made.new.items ≤ 65535)) }
-    ensures kinds { IfErr result (λ kind. IsTooLongOrNoMemory kind (65535 < length (subst substitution.now symbols.now))) }
+    ensures value { OnOk result ((made.new.items ≡ subst substitution.now symbols.now) × (length made.new.items ≤ MOST_SYMBOLS)) }
+    ensures kinds { IfErr result (λ kind. IsTooLongOrNoMemory kind (MOST_SYMBOLS < length (subst substitution.now symbols.now))) }
 {
     made.clear();
     for symbol in symbols {
@@ -236,8 +235,8 @@ pub(crate) fn conclude<'a>(
     made: &mut Vec<SymbolWord>,
 ) -> Result<Conclusion<'a>, ProofFaultKind>
     ensures value { IfOk result (λ e. (concluded e made.new.items ≡ subst substitution.now symbols.now)
-        × (length (concluded e made.new.items) ≤ 65535)) }
-    ensures kinds { IfErr result (λ kind. IsTooLongOrNoMemory kind (65535 < length (subst substitution.now symbols.now))) }
+        × (length (concluded e made.new.items) ≤ MOST_SYMBOLS)) }
+    ensures kinds { IfErr result (λ kind. IsTooLongOrNoMemory kind (MOST_SYMBOLS < length (subst substitution.now symbols.now))) }
 {
     if substitution.len() > 0 {
         make(substitution, symbols, made)?;

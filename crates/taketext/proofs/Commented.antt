@@ -123,7 +123,8 @@ lines_end (p ∷ ps) =
 axioms_end : (ps : List (Word × Reason)) → EndsLine (axioms_lines ps)
 axioms_end ps =
     let lines = 10 ∷ flat_map axiom_line ps in
-    line_behind (codes "   Theorems taken as axioms: ") (decimal (length ps) ++ lines) (line_behind (decimal (length ps)) lines (lines_end ps))
+    line_behind (codes "   Theorems taken as axioms: ") (decimal (length ps) ++ lines)
+    (line_behind (decimal (length ps)) lines (lines_end ps))
 
 -- ---- the comment
 

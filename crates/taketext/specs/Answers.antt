@@ -11,6 +11,7 @@ use Rattle.taketext.specs.Comments.{comment_of}
 use Rattle.taketext.specs.Refusals.{refusal_line, long_line}
 use Rattle.taketext.specs.declared.answering.Told.{Told}
 use Rattle.taketext.specs.declared.answering.Told.TheVariants.{Printed, Refused}
+use Rattle.mmsyntax.specs.declared.limits.TheConstants.{MOST_BYTES}
 
 -- the text of a library behind its comment
 abbrev pub taken_text : List ℕ → List ℕ → Wish → Taken → List ℕ
@@ -22,14 +23,14 @@ pub record IsPrinted (path source : List ℕ) (w : Wish) (out : List ℕ) : Type
   pub taken : IsTaken source w library
   pub text : out ≡ taken_text path source w library
   pub spelled : Spells out library.database
-  pub short : length out ≤ 16777216
+  pub short : length out ≤ MOST_BYTES
 
 -- why nothing is printed: a refusal, or a text that is too long
 abbrev pub IsRefusedBy : List ℕ → List ℕ → Wish → List ℕ → Type 0
 IsRefusedBy path source w line =
     ((why : Refusal) × (why ≢ NoMemory → IsRefused source w why) × (line ≡ refusal_line path why))
     ⊎ ((t : Taken) × IsTaken source w t × (line ≡ long_line path (length (taken_text path source w t)))
-    × (16777216 < length (taken_text path source w t)))
+    × (MOST_BYTES < length (taken_text path source w t)))
 
 abbrev pub IsTakeAnswer : List ℕ → List ℕ → Wish → Told → Type 0
 IsTakeAnswer path source w (Printed out) = IsPrinted path source w out.items

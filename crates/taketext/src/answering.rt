@@ -8,13 +8,11 @@ use crate::comment::put_comment;
 use crate::refusing::{long_line, refusal_line};
 use choosing::Wish;
 use intake::{Follow, Taken, take};
+use mmsyntax::MOST_BYTES;
 use mmwriter::write_database;
 use std::alloc::{AllocError, Global};
 use std::hash::RandomState;
 use std::thread::Threads;
-
-/// The most bytes of a text of the profile.
-const MOST_BYTES: usize = 16_777_216;
 
 /// What the program answers where a library is to be taken.
 #[derive(Debug, Drop)]

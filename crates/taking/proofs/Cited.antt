@@ -80,5 +80,6 @@ module _ (named : List Named) (ns : List Shared) (es ms : List ℕ) (n place : �
   covered_stand a = λ labels test.
       over_entries labels test ns (take n es) (drop n es) place front
       (subst
-      (λ (fs : List ℕ). list_any test (flat_map labels_of (trees_at labels ns fs)) ≡ list_any (λ m. test (slice_index_or labels m.named [])) ns)
+      (λ (fs : List ℕ). list_any test (flat_map labels_of (trees_at labels ns fs))
+      ≡ list_any (λ m. test (slice_index_or labels m.named [])) ns)
       (sym (take-append-drop n es)) (a labels test))

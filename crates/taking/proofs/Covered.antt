@@ -126,7 +126,8 @@ module _ (labels : List Word) (test : Word → Bool) where
   -- a node over entries
   pub over_entries : (ns : List Shared) (front args : List ℕ) (place : ℕ) → AllByRecursion (λ k. k < length ns) front
       → list_any test (flat_map labels_of (trees_at labels ns (front ++ args))) ≡ list_any (λ n. test (slice_index_or labels n.named [])) ns
-      → list_any test (flat_map labels_of (trees_at labels (ns ++ record { named = place; arguments = args } ∷ []) (front ++ length ns ∷ [])))
+      → list_any test (flat_map labels_of (trees_at labels (ns ++ record { named = place; arguments = args } ∷ []) (front ++ length ns
+      ∷ [])))
       ≡ list_any (λ n. test (slice_index_or labels n.named [])) (ns ++ record { named = place; arguments = args } ∷ [])
   unfolding labelled names
   over_entries ns front args place below h =

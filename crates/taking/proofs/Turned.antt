@@ -65,4 +65,5 @@ if_ok (Err e) f h = tt
 pub turned_map : {A B : Type 0} (f : A → B) (xs : List A) → map f (reverse xs) ≡ reverse (map f xs)
 turned_map f [] = refl
 turned_map f (x ∷ xs) =
-    ap (map f) (turned_cons x xs) ∙ map_push f (reverse xs) x ∙ ap (λ l. l ++ f x ∷ []) (turned_map f xs) ∙ sym (turned_cons (f x) (map f xs))
+    ap (map f) (turned_cons x xs) ∙ map_push f (reverse xs) x ∙ ap (λ l. l ++ f x ∷ []) (turned_map f xs)
+    ∙ sym (turned_cons (f x) (map f xs))

@@ -25,4 +25,5 @@ AreDecoded named codes made =
 
 -- the nodes name just the labels of a tree: a test passes for one of these just where it passes for what one of the nodes names
 abbrev pub AreLabelsOf : List Word → List Shared → Tree → Type 0
-AreLabelsOf labels nodes t = (test : Word → Bool) → list_any test (labels_of t) ≡ list_any (λ n. test (slice_index_or labels n.named [])) nodes
+AreLabelsOf labels nodes t = (test : Word → Bool)
+    → list_any test (labels_of t) ≡ list_any (λ n. test (slice_index_or labels n.named [])) nodes

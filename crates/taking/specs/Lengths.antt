@@ -10,6 +10,7 @@ use Rattle.taking.specs.Names.{Map}
 use Rattle.taking.specs.Listings.{listing, IsListed}
 use Rattle.taking.specs.Reasons.{Choice}
 use Rattle.taking.specs.Taken.{IsTaken}
+use Rattle.mmsyntax.specs.declared.limits.TheConstants.{MOST_STEPS}
 
 abbrev pub how_many : Trees → ℕ
 how_many none = 0
@@ -40,4 +41,4 @@ ProofsAreAsLong =
 abbrev pub TakenAreShort : Type 0
 TakenAreShort =
     (m : Map) (t : Tables) (choice : Choice) (earlier : List Assertion) (x : Assertion) (a : Unit') → IsTaken m t choice earlier x a
-    → length a.proof ≤ 16384
+    → length a.proof ≤ MOST_STEPS

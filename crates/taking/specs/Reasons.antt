@@ -9,6 +9,7 @@ use Rattle.source.specs.Scopes.{Assertion, Scope, is_in}
 use Rattle.source.specs.Proofs.{Tree, Trees, node, none, some, denoted, size, is_unfinished}
 use Rattle.taking.specs.declared.reason.Reason.{Reason}
 use Rattle.taking.specs.declared.reason.Reason.TheVariants.{Unfinished, TooLong, InFront, CitesUnchosen}
+use Rattle.mmsyntax.specs.declared.limits.TheConstants.{MOST_STEPS}
 
 -- what is taken of a source: the labels of its assertions, and those of them that stand in front of the choice
 pub record Choice : Type 0 where
@@ -38,7 +39,7 @@ cites_left_out earlier chosen tree = list_any (is_left_out earlier chosen) (labe
 -- a listing has 16,384 steps at most (a rule of the profile)
 abbrev pub reason_of_tree : Choice → List Assertion → Word → Tree → Option Reason
 reason_of_tree choice earlier label tree =
-    if nat_lt 16384 (size tree) then Some TooLong else (
+    if nat_lt MOST_STEPS (size tree) then Some TooLong else (
     if is_in choice.front label then Some InFront else (
     if cites_left_out earlier choice.chosen tree then Some CitesUnchosen else None))
 
@@ -59,7 +60,7 @@ reason choice earlier x = reason_of choice earlier x x.proof
 -- ---- what a proof needs: the labels of its tree, unless its theorem is taken as an axiom for what it is
 abbrev pub needed_by_tree : Option Tree → List Word
 needed_by_tree None = []
-needed_by_tree (Some tree) = if nat_lt 16384 (size tree) then [] else labels_of tree
+needed_by_tree (Some tree) = if nat_lt MOST_STEPS (size tree) then [] else labels_of tree
 
 abbrev pub needed_by : List Assertion → Assertion → Option Proof → List Word
 needed_by earlier x None = []

@@ -4,6 +4,7 @@ ghost use Rattle.std.specs.Prelude.{◌≡◌, ◌≤◌, ◌<◌, ◌++◌, len
 ghost use Rattle.mmsyntax.specs.ProofWords.{seen_step};
 ghost use Rattle.taking.specs.Nodes.{sizes};
 ghost use Rattle.taking.specs.Walks.{TakesAll, picked, arranged, IsListing};
+ghost use Rattle.mmsyntax.specs.declared.limits.TheConstants.{MOST_STEPS};
 
 use crate::named::Named;
 use crate::nodes::Nodes;
@@ -78,8 +79,8 @@ fn proof_of(alloc: Global, count: usize, steps: &[(usize, &Step)]) -> Result<Pro
 ///
 /// # Errors
 ///
-/// Want of memory. A `$f` or a `$e` at a place over 1,073,741,823 would be refused as if memory were wanting: no source, of at most 268,435,456
-/// bytes, has so many.
+/// Want of memory. A `$f` or a `$e` at a place over 1,073,741,823 would be refused as if memory were wanting: no source, of at most
+/// 268,435,456 bytes, has so many.
 pub fn list(
     alloc: Global,
     named: &[Named],
@@ -88,7 +89,7 @@ pub fn list(
 ) -> Result<Option<Proof>, AllocError>
     requires within { root < length nodes.now }
     requires whole { All (TakesAll named.now) nodes.now }
-    requires few { slice_index (sizes nodes.now) root ≤ 16384 }
+    requires few { slice_index (sizes nodes.now) root ≤ MOST_STEPS }
     ensures { IfOk result (λ steps. IsListing named.now nodes.now root steps) }
 {
     let mut steps = Vec::with_capacity(alloc, nodes.size(root))?;

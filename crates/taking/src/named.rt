@@ -23,5 +23,6 @@ pub trait StepPlaces {
 
     /// The step of a label that is not that of a `$e`: of a `$f` by its place, or of an assertion by its label in the library.
     fn step(&self, alloc: Global, label: &[u8]) -> Result<Option<Step>, AllocError>
-        ensures { IfOk result (λ step. step ≡ own_step None (float_in (places self.now) label.now) (label_in (places self.now) label.now)) };
+        ensures { IfOk result (λ step. step ≡ own_step None (float_in (places self.now) label.now)
+            (label_in (places self.now) label.now)) };
 }

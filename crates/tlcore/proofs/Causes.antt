@@ -55,7 +55,8 @@ due_free c u ks b k d e = go (is_held c ks) (nat_lt c u) (both_left (not (is_set
     go true y p q = cc
     go false y p q = cc
 
-module _ (o : List ℕ) (w : World) (s : ℕ) (t : Seat) (I : Consistent o w) (e : slice_get w.seats s ≡ Some t) (calm : t.conflicted ≡ false) where
+module _ (o : List ℕ) (w : World) (s : ℕ) (t : Seat) (I : Consistent o w) (e : slice_get w.seats s ≡ Some t) (calm : t.conflicted
+    ≡ false) where
   abbrev Cause : Action → Type 0
   Cause a = (c : ℕ) × (cell_of a ≡ Some c) × ((L : ℕ) → Active L w.cells t c t.place → ⊥)
 
@@ -93,7 +94,12 @@ module _ (o : List ℕ) (w : World) (s : ℕ) (t : Seat) (I : Consistent o w) (e
           other_numbers x.lock word m
           (st.0.lock x h (λ k i. none_held o w s t I e (Loaded c word y) p (λ q. q.0) c (k, i)) ∙ sym (st.1 refl))
   row_cause a v u (takes {c} {v = y} {r} {x} p i h m) f g =
-      no_conflict (record (saw t c x.lock) { place = Taking; held = record { cell = c; word = r.word; value = y; stored = false } ∷ t.held; locked = c ∷ t.locked }) u a calm f g
+      no_conflict (record (saw t c x.lock) {
+        place = Taking;
+        held =
+            record { cell = c; word = r.word; value = y; stored = false } ∷ t.held;
+        locked = c ∷ t.locked;
+      }) u a calm f g
   row_cause a v u (take_conflicts {c} {r = r} {x} p i h m) f g = (c, refl, λ L b. go L b p)
     where
       at_last : (L : ℕ) → Steady L w.cells t.rv t.held t.reads c → ((k : Held) → find_held c t.held ≡ Some k → ⊥) → ⊥
@@ -104,8 +110,12 @@ module _ (o : List ℕ) (w : World) (s : ℕ) (t : Seat) (I : Consistent o w) (e
       go L b (inr q) = at_last L (active_at L c Taking q.0 b) (λ k j. below_free c t.held k q.1 j)
   row_cause a v u (draws p) f g = no_conflict (placed t (Checking w.clock 0)) u a calm f g
   row_cause a v u (checks {i} {u = n} {c} {x} p d h m) f g = no_conflict (placed (saw t c x.lock) (Checking i (suc c))) u a calm f g
-  row_cause a v u (check_conflicts {i} {u = n} {c} {x} p d h m) f g =
-      (c, refl, λ L b. stale L c x (active_at L c (Checking i n) p b) h (λ k j. due_free c n t.held (settled_below c t.held n t.reads) k d j) m)
+  row_cause a v u (check_conflicts {i} {u = n} {c} {x} p d h m) f g = (
+    c,
+    refl,
+    λ L b. stale L c x (active_at L c (Checking i n) p b) h
+        (λ k j. due_free c n t.held (settled_below c t.held n t.reads) k d j) m,
+  )
   row_cause a v u (stores {i} {c} p h j) f g = no_conflict (record t { place = Storing i; held = stored c t.held }) u a calm f g
   row_cause a v u (releases_done {i} {c} p h st j) f g =
       no_conflict (record t { place = (if is_nil (without c t.held) then Idle else t.place); held = without c t.held }) u a calm f g
@@ -163,7 +173,12 @@ since_run o L s c (e ∷ es) w v I nb r b =
             elim (other_step L w m.0 s e.0 c b.0 row.0 q row.1 mv b.1 b.2) [
               | inl y ↦ inl (at_once w (e ∷ es) s c y)
               | inr (inl y) ↦ inl (sooner w m.0 e es s c m.1 (at_once m.0 es s c y))
-              | inr (inr y) ↦ on (b.0, ap (λ (l : List Seat). slice_get l s) mv.1 ∙ (get-set_other w.seats e.0 s mv.0 (λ i. q (sym i)) ∙ b.1), y)
+              | inr (inr y) ↦ on (
+                b.0,
+                ap (λ (l : List Seat). slice_get l s) mv.1
+                    ∙ (get-set_other w.seats e.0 s mv.0 (λ i. q (sym i)) ∙ b.1),
+                y,
+              )
             ]
 
 -- ---- from the Begin of the run

@@ -79,12 +79,18 @@ module _ (w : World) (s : ℕ) (t : Seat) where
   row_locks a v (relooks {c} {word} {v = u} {x} p f m) = (
     record (saw t c x.lock) { place = Reading; reads = record { cell = c; word = word; value = u } ∷ t.reads },
     refl,
-    locks_none t (record (saw t c x.lock) { place = Reading; reads = record { cell = c; word = word; value = u } ∷ t.reads }) refl (λ d h. h),
+    locks_none t (record (saw t c x.lock) { place = Reading; reads = record { cell = c; word = word; value = u } ∷ t.reads }) refl
+        (λ d h. h),
   )
   row_locks a v (relook_conflicts {c} {x = x} p f m) =
       (conflict (saw t c x.lock) Idle, refl, locks_none t (conflict (saw t c x.lock) Idle) refl (λ d h. h))
   row_locks a v (takes {c} {v = u} {r} {x} p g f m) = (
-    record (saw t c x.lock) { place = Taking; held = record { cell = c; word = r.word; value = u; stored = false } ∷ t.held; locked = c ∷ t.locked },
+    record (saw t c x.lock) {
+      place = Taking;
+      held = record { cell = c; word = r.word; value = u; stored = false } ∷ t.held;
+      locked =
+          c ∷ t.locked;
+    },
     refl,
     record { cells = c ∷ []; locked = refl; held = λ d h. own d h.0 h.1 (known (c == d)) },
   )

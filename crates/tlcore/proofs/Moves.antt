@@ -83,29 +83,55 @@ module _ (o : List ℕ) (w : World) (s : ℕ) (t : Seat) (I : Consistent o w) (e
       seat_moves (record (saw t c x.lock) { place = Reading; reads = record { cell = c; word = word; value = u } ∷ t.reads }) (λ d h. h)
   row_moves a v (relook_conflicts {c} {x = x} p f m) = seat_moves (conflict (saw t c x.lock) Idle) (λ d h. h)
   row_moves a v (takes {c} {v = u} {r} {x} p g f m) = (
-    record (saw t c x.lock) { place = Taking; held = record { cell = c; word = r.word; value = u; stored = false } ∷ t.held; locked = c ∷ t.locked },
+    record (saw t c x.lock) {
+      place = Taking;
+      held = record { cell = c; word = r.word; value = u; stored = false } ∷ t.held;
+      locked =
+          c ∷ t.locked;
+    },
     refl,
     λ d y h. go d y (get-set_cases w.cells c d (record x { lock = suc r.word }) y h),
   )
     where
       z : Seat
-      z = record (saw t c x.lock) { place = Taking; held = record { cell = c; word = r.word; value = u; stored = false } ∷ t.held; locked = c ∷ t.locked }
+      z = record (saw t c x.lock) {
+        place = Taking;
+        held = record { cell = c; word = r.word; value = u; stored = false } ∷ t.held;
+        locked =
+            c ∷ t.locked;
+      }
 
       more : (d : ℕ) → Holds t d → ((c == d) ≡ true) ⊎ ((c == d) ≡ false)
-          → Holds (record (saw t c x.lock) { place = Taking; held = record { cell = c; word = r.word; value = u; stored = false } ∷ t.held; locked = c ∷ t.locked }) d
+          → Holds (record (saw t c x.lock) {
+            place = Taking;
+            held =
+                record { cell = c; word = r.word; value = u; stored = false } ∷ t.held;
+            locked = c ∷ t.locked;
+          }) d
       more d h (inl b) = (record { cell = c; word = r.word; value = u; stored = false }, rw b refl)
       more d h (inr b) = (h.0, rw b h.1)
 
       here : (d : ℕ) → d ≡ c → ((c == d) ≡ true) ⊎ ((c == d) ≡ false)
-          → Holds (record (saw t c x.lock) { place = Taking; held = record { cell = c; word = r.word; value = u; stored = false } ∷ t.held; locked = c ∷ t.locked }) d
+          → Holds (record (saw t c x.lock) {
+            place = Taking;
+            held =
+                record { cell = c; word = r.word; value = u; stored = false } ∷ t.held;
+            locked = c ∷ t.locked;
+          }) d
       here d n (inl b) = (record { cell = c; word = r.word; value = u; stored = false }, rw b refl)
       here d n (inr b) = absurd (other_numbers c d b (sym n))
 
       go : (d : ℕ) (y : Cell) → ((d ≡ c) × (y ≡ record x { lock = suc r.word })) ⊎ ((d ≢ c) × (slice_get w.cells d ≡ Some y))
-          → CellMoves w t (record (saw t c x.lock) { place = Taking; held = record { cell = c; word = r.word; value = u; stored = false } ∷ t.held; locked = c ∷ t.locked }) d y
+          → CellMoves w t (record (saw t c x.lock) {
+            place = Taking;
+            held =
+                record { cell = c; word = r.word; value = u; stored = false } ∷ t.held;
+            locked = c ∷ t.locked;
+          }) d y
       go d y (inl q) = inr (inl (here d q.0 (known (c == d))))
       go d y (inr q) = inl (y, q.1, refl, λ h. more d h (known (c == d)))
-  row_moves a v (take_conflicts {c} {x = x} p g f m) = seat_moves (conflict (saw t c x.lock) (if is_nil t.held then Idle else Failing)) (λ d h. h)
+  row_moves a v (take_conflicts {c} {x = x} p g f m) =
+      seat_moves (conflict (saw t c x.lock) (if is_nil t.held then Idle else Failing)) (λ d h. h)
   row_moves a v (draws p) = (placed t (Checking w.clock 0), refl, λ c y g. inl (y, g, refl, λ h. h))
   row_moves a v (checks {i} {u} {c} {x} p d f m) = seat_moves (placed (saw t c x.lock) (Checking i (suc c))) (λ d h. h)
   row_moves a v (check_conflicts {i} {c = c} {x} p d f m) = seat_moves (conflict (saw t c x.lock) (Voiding i)) (λ d h. h)

@@ -73,7 +73,11 @@ load_keeps o w s t c word x I e p f =
 -- a second look that finds the same word
 pub relooked_keeps : (o : List ℕ) (w : World) (s : ℕ) (t : Seat) (c word v : ℕ) (x : Cell) → Consistent o w → slice_get w.seats s ≡ Some t
     → t.place ≡ Loaded c word v → slice_get w.cells c ≡ Some x → (x.lock == word) ≡ true
-    → Consistent o (with_seat w s (record (saw t c x.lock) { place = Reading; reads = record { cell = c; word = word; value = v } ∷ t.reads }))
+    → Consistent o (with_seat w s (record (saw t c x.lock) {
+      place = Reading;
+      reads =
+          record { cell = c; word = word; value = v } ∷ t.reads;
+    }))
 relooked_keeps o w s t c word v x I e p f m =
     let q : SeatOk o w.cells w.history t = I.seats s t e in
     let r : PlaceOk o w.cells w.history t (Loaded c word v) = rw p at q.place in
@@ -84,8 +88,16 @@ relooked_keeps o w s t c word v x I e p f m =
     let d : v ≡ value o w.history c = r.3 (omega (arith, b.0, old.1, a)) in
     let one : IsOne o w.history t.rv c v =
     subst (λ (y : ℕ). IsOne o w.history t.rv c y) (sym d) (free_is_one o w.cells w.history c t.rv x I.cells f old q.rv) in
-    Consistent-empty o w s t (record (saw t c x.lock) { place = Reading; reads = record { cell = c; word = word; value = v } ∷ t.reads }) I e
-    (seat_empty o w.cells w.history (record (saw t c x.lock) { place = Reading; reads = record { cell = c; word = word; value = v } ∷ t.reads }) r.0 q.rv
+    Consistent-empty o w s t (record (saw t c x.lock) {
+      place = Reading;
+      reads =
+          record { cell = c; word = word; value = v } ∷ t.reads;
+    }) I e
+    (seat_empty o w.cells w.history (record (saw t c x.lock) {
+      place = Reading;
+      reads =
+          record { cell = c; word = word; value = v } ∷ t.reads;
+    }) r.0 q.rv
     ((r.1, one), q.reads) r.0)
     r.0 refl
 

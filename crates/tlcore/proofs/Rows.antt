@@ -32,7 +32,11 @@ pub data Row (w : World) (s : ℕ) (t : Seat) : Action → World → Type 0 wher
       → Row w s t (Look c) (with_seat w s (conflict (saw t c x.lock) Idle))
   loads : {c word : ℕ} {x : Cell} → t.place ≡ Looked c word → slice_get w.cells c ≡ Some x → Row w s t (Load c) (load w s t c word x)
   relooks : {c word v : ℕ} {x : Cell} → t.place ≡ Loaded c word v → slice_get w.cells c ≡ Some x → (x.lock == word) ≡ true
-      → Row w s t (Relook c) (with_seat w s (record (saw t c x.lock) { place = Reading; reads = record { cell = c; word = word; value = v } ∷ t.reads }))
+      → Row w s t (Relook c) (with_seat w s (record (saw t c x.lock) {
+        place = Reading;
+        reads =
+            record { cell = c; word = word; value = v } ∷ t.reads;
+      }))
   relook_conflicts : {c word v : ℕ} {x : Cell} → t.place ≡ Loaded c word v → slice_get w.cells c ≡ Some x → (x.lock == word) ≡ false
       → Row w s t (Relook c) (with_seat w s (conflict (saw t c x.lock) Idle))
   takes : {c v : ℕ} {r : Read} {x : Cell} → (t.place ≡ Reading) ⊎ ((t.place ≡ Taking) × (all_below c t.held ≡ true))
@@ -71,10 +75,12 @@ module _ (w : World) (s : ℕ) (t : Seat) where
   check_row : (i u c : ℕ) (x : Cell) → t.place ≡ Checking i u → is_due t u c ≡ true → slice_get w.cells c ≡ Some x
       → (passes x.lock t.rv ≡ true) ⊎ (passes x.lock t.rv ≡ false) → Row w s t (Check c) (check w s t i c x)
   check_row i u c x p d f (inl m) =
-      subst (λ (y : Bool). Row w s t (Check c) (with_seat w s (if y then placed (saw t c x.lock) (Checking i (suc c)) else conflict (saw t c x.lock) (Voiding i))))
+      subst (λ (y : Bool). Row w s t (Check c)
+      (with_seat w s (if y then placed (saw t c x.lock) (Checking i (suc c)) else conflict (saw t c x.lock) (Voiding i))))
       (sym m) (checks p d f m)
   check_row i u c x p d f (inr m) =
-      subst (λ (y : Bool). Row w s t (Check c) (with_seat w s (if y then placed (saw t c x.lock) (Checking i (suc c)) else conflict (saw t c x.lock) (Voiding i))))
+      subst (λ (y : Bool). Row w s t (Check c)
+      (with_seat w s (if y then placed (saw t c x.lock) (Checking i (suc c)) else conflict (saw t c x.lock) (Voiding i))))
       (sym m) (check_conflicts p d f m)
 
   take_row : (c v : ℕ) (r : Read) (x : Cell) → (t.place ≡ Reading) ⊎ ((t.place ≡ Taking) × (all_below c t.held ≡ true))

@@ -125,10 +125,21 @@ module _ (o : List ℕ) (L : ℕ) (w : World) (s c : ℕ) (t : Seat) (I : Consis
           let i : record { cell = d; word = word; value = u } ≡ r = cc in
           ap (λ (y : Read). y.word) (sym i) ∙ st.1 (equal_numbers d c q)
       go r g (inr q) = st.0.words r (rw q at g)
-  own_step b v n (relook_conflicts {c = d} {x = x} p f m) = (conflict (saw t d x.lock) Idle, after_seat (conflict (saw t d x.lock) Idle), tt)
+  own_step b v n (relook_conflicts {c = d} {x = x} p f m) =
+      (conflict (saw t d x.lock) Idle, after_seat (conflict (saw t d x.lock) Idle), tt)
   own_step b v n (takes {c = d} {v = u} {r} {x} p g f m) = (
-    record (saw t d x.lock) { place = Taking; held = record { cell = d; word = r.word; value = u; stored = false } ∷ t.held; locked = d ∷ t.locked },
-    after_seat (record (saw t d x.lock) { place = Taking; held = record { cell = d; word = r.word; value = u; stored = false } ∷ t.held; locked = d ∷ t.locked }),
+    record (saw t d x.lock) {
+      place = Taking;
+      held = record { cell = d; word = r.word; value = u; stored = false } ∷ t.held;
+      locked =
+          d ∷ t.locked;
+    },
+    after_seat (record (saw t d x.lock) {
+      place = Taking;
+      held =
+          record { cell = d; word = r.word; value = u; stored = false } ∷ t.held;
+      locked = d ∷ t.locked;
+    }),
     record { old = st.old; lock = λ y h k. go y k (get-set_cases w.cells d c (record x { lock = suc r.word }) y h); words = st.words },
   )
     where

@@ -17,8 +17,10 @@ use Rattle.tlcore.proofs.Settling.{deed_elsewhere, deed_now, deed_there, get-set
 pub all_one : (o : List ℕ) (h : List Entry) (i u : ℕ) (ks : List Held) (rs : List Read) → SettledOk o h i ks u rs
     → all_settled ks u rs ≡ true → One o h i (reads_of rs)
 all_one o h i u ks [] a b = tt
-all_one o h i u ks (r ∷ rs) a b =
-    (a.0 (both_left (is_settled ks u r.cell) (all_settled ks u rs) b), all_one o h i u ks rs a.1 (both_right (is_settled ks u r.cell) (all_settled ks u rs) b))
+all_one o h i u ks (r ∷ rs) a b = (
+  a.0 (both_left (is_settled ks u r.cell) (all_settled ks u rs) b),
+  all_one o h i u ks rs a.1 (both_right (is_settled ks u r.cell) (all_settled ks u rs) b),
+)
 
 module _ (o : List ℕ) (w : World) (s : ℕ) (t : Seat) (i u c : ℕ) (k : Held) (x : Cell)
     (I : Consistent o w) (e : slice_get w.seats s ≡ Some t) (p : t.place ≡ Checking i u) (alls : One o w.history i (reads_of t.reads))
@@ -74,8 +76,10 @@ module _ (o : List ℕ) (w : World) (s : ℕ) (t : Seat) (i u c : ℕ) (k : Held
       let old : version w.history d ≤ i = omega (arith, b.2.shows.0, b.2.old.1, b.2.old.2, r.after) in
       let did_it : deed later d i ≡ Did l.value =
       deed_there w.history i Done d r.entry r.here ∙ ap (deed_of Done) (ap (written d) r.writes ∙ written-held d t.held l a) in
-      let n : (version_after (deed later d) (length w.history) ≡ suc i) × (value_after (deed later d) (slice_index o d) (length w.history) ≡ l.value) =
-      value-newest (deed w.history d) (deed later d) (slice_index o d) i l.value (length w.history) (λ j m. deed_elsewhere w.history i Done d j m) did_it old within in
+      let n : (version_after (deed later d) (length w.history) ≡ suc i)
+      × (value_after (deed later d) (slice_index o d) (length w.history) ≡ l.value) =
+      value-newest (deed w.history d) (deed later d) (slice_index o d) i l.value (length w.history)
+      (λ j m. deed_elsewhere w.history i Done d j m) did_it old within in
       (ap (version_after (deed later d)) len ∙ n.0, ap (value_after (deed later d) (slice_index o d)) len ∙ n.1)
 
   untouched : (d : ℕ) → ((l : Held) → find_held d t.held ≡ Some l → ⊥) → Untouched o w.cells xs w.history later d
@@ -83,9 +87,11 @@ module _ (o : List ℕ) (w : World) (s : ℕ) (t : Seat) (i u c : ℕ) (k : Held
       record {
         cell = get-set_other w.cells c d (record x { value = k.value }) (λ b. a k (ap (λ (y : ℕ). find_held y t.held) b ∙ f));
         same_version =
-            ap (version_after (deed later d)) len ∙ version-same (deed w.history d) (deed later d) (length w.history) (λ j m. ap did (deed_free d j a));
+            ap (version_after (deed later d)) len ∙ version-same (deed w.history d) (deed later d) (length w.history)
+            (λ j m. ap did (deed_free d j a));
         same_value =
-            ap (value_after (deed later d) (slice_index o d)) len ∙ value-same (deed w.history d) (deed later d) (slice_index o d) (length w.history) (λ j m. ap did (deed_free d j a));
+            ap (value_after (deed later d) (slice_index o d)) len
+            ∙ value-same (deed w.history d) (deed later d) (slice_index o d) (length w.history) (λ j m. ap did (deed_free d j a));
         will = λ j v b. sym (deed_free d j a) ∙ b;
       }
 
@@ -139,7 +145,8 @@ module _ (o : List ℕ) (w : World) (s : ℕ) (t : Seat) (i u c : ℕ) (k : Held
   store_history j d a st = go (get-settle_cases w.history i j Done d a)
     where
       go :
-          ((j ≡ i) × ((m : Entry) × (slice_get w.history i ≡ Some m) × (d ≡ record m { status = Done }))) ⊎ ((j ≢ i) × (slice_get w.history j ≡ Some d))
+          ((j ≡ i) × ((m : Entry) × (slice_get w.history i ≡ Some m) × (d ≡ record m { status = Done })))
+          ⊎ ((j ≢ i) × (slice_get w.history j ≡ Some d))
           → One o later j d.reads
       go (inl b) =
           let m : Some b.1.0 ≡ Some r.entry = sym b.1.1 ∙ r.here in
@@ -212,7 +219,8 @@ module _ (o : List ℕ) (w : World) (s : ℕ) (t : Seat) (i u c : ℕ) (k : Held
   first_store_keeps =
       Consistent-step o w s t (record t { place = Storing i; held = stored c t.held }) xs later w.clock t.held (Some i) I e
       store_frame (others o w s t I e (Some i) (ap number_at p)) (I.clock ∙ sym len) store_cells store_history store_seat
-      (λ d l a. let b : (m : Held) × (find_held d t.held ≡ Some m) × (l.word ≡ m.word) × (l.value ≡ m.value) × (d ≢ c → l ≡ m) = stored-find c d t.held l a in (b.0, b.1))
+      (λ d l a. let b : (m : Held) × (find_held d t.held ≡ Some m) × (l.word ≡ m.word) × (l.value ≡ m.value) × (d ≢ c → l ≡ m) =
+      stored-find c d t.held l a in (b.0, b.1))
       (λ j a. a)
     where
       others : (o : List ℕ) (w : World) (s : ℕ) (t : Seat) → Consistent o w → slice_get w.seats s ≡ Some t → (n : Option ℕ)

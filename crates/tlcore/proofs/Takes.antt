@@ -71,7 +71,12 @@ module _ (o : List ℕ) (w : World) (s : ℕ) (t : Seat) (c v word : ℕ) (x : C
           absurd (odd_even old.0 u (omega (arith, z, j, old.1)))
       go (inr p) = I.cells d u y p.1 j
 
-  take_seat : SeatOk o (slice_set w.cells c (record x { lock = suc word })) w.history (record (saw t c x.lock) { place = Taking; held = record { cell = c; word = word; value = v; stored = false } ∷ t.held; locked = c ∷ t.locked })
+  take_seat : SeatOk o (slice_set w.cells c (record x { lock = suc word })) w.history (record (saw t c x.lock) {
+    place = Taking;
+    held =
+        record { cell = c; word = word; value = v; stored = false } ∷ t.held;
+    locked = c ∷ t.locked;
+  })
   take_seat =
       record {
         place = tt;
@@ -97,20 +102,37 @@ module _ (o : List ℕ) (w : World) (s : ℕ) (t : Seat) (c v word : ℕ) (x : C
             })),
       )
       go d k (inr p) =
-          let r : (y : Cell) × (slice_get w.cells d ≡ Some y) × HeldOk o w.history t.rv t.place d k y = (I.seats s t e).held d k p.1 in
-          (r.0, get-set_other w.cells c d (record x { lock = suc word }) p.0 ∙ r.1, held_place o w.history t.rv t.place Taking d k r.0 (sym nd) (sym nn) r.2)
+          let r : (y : Cell) × (slice_get w.cells d ≡ Some y) × HeldOk o w.history t.rv t.place d k y = (I.seats s t e).held d k p.1 in (
+            r.0,
+            get-set_other w.cells c d (record x { lock = suc word }) p.0 ∙ r.1,
+            held_place o w.history t.rv t.place Taking d k r.0 (sym nd) (sym nn) r.2,
+          )
 
   pub taken_keeps : Consistent o (taken w s t c v word x)
   taken_keeps =
-      Consistent-step o w s t (record (saw t c x.lock) { place = Taking; held = record { cell = c; word = word; value = v; stored = false } ∷ t.held; locked = c ∷ t.locked })
-      (slice_set w.cells c (record x { lock = suc word })) w.history w.clock (record { cell = c; word = word; value = v; stored = false } ∷ t.held) None I e
-      (set_frame o w.cells w.history w.history (record { cell = c; word = word; value = v; stored = false } ∷ t.held) None c (record x { lock = suc word })
-      (Grows-refl w.history) (Stays-refl o w.history) (λ d i u a. a) (λ i a b p. p) (record { cell = c; word = word; value = v; stored = false })
+      Consistent-step o w s t (record (saw t c x.lock) {
+        place = Taking;
+        held =
+            record { cell = c; word = word; value = v; stored = false } ∷ t.held;
+        locked = c ∷ t.locked;
+      })
+      (slice_set w.cells c (record x { lock = suc word })) w.history w.clock (record { cell = c; word = word; value = v; stored = false }
+      ∷ t.held) None I e
+      (set_frame o w.cells w.history w.history (record { cell = c; word = word; value = v; stored = false } ∷ t.held) None c
+      (record x { lock = suc word })
+      (Grows-refl w.history) (Stays-refl o w.history) (λ d i u a. a) (λ i a b p. p) (record {
+        cell = c;
+        word = word;
+        value = v;
+        stored =
+            false;
+      })
       (found (known (c == c))) (λ a. free_cell.1))
       take_others I.clock take_cells I.history take_seat (λ d k g. (k, g)) (λ i g. absurd (none-some i g))
     where
       found : ((c == c) ≡ true) ⊎ ((c == c) ≡ false)
-          → find_held c (record { cell = c; word = word; value = v; stored = false } ∷ t.held) ≡ Some (record { cell = c; word = word; value = v; stored = false })
+          → find_held c (record { cell = c; word = word; value = v; stored = false } ∷ t.held)
+          ≡ Some (record { cell = c; word = word; value = v; stored = false })
       found (inl a) = rw a refl
       found (inr a) = absurd (other_numbers c c a refl)
 
@@ -123,7 +145,8 @@ lost_keeps o w s t c word I e nd nn = go (known (is_nil t.held))
     go : (is_nil t.held ≡ true) ⊎ (is_nil t.held ≡ false)
         → Consistent o (with_seat w s (conflict (saw t c word) (if is_nil t.held then Idle else Failing)))
     go (inl m) =
-        let r : Consistent o (with_seat w s (conflict (saw t c word) Idle)) = conflict_keeps o w s t c word I e (is_nil-nil t.held m) in rw m r
+        let r : Consistent o (with_seat w s (conflict (saw t c word) Idle)) =
+        conflict_keeps o w s t c word I e (is_nil-nil t.held m) in rw m r
     go (inr m) =
         let r : Consistent o (with_seat w s (conflict (saw t c word) Failing)) =
         Consistent-place o w s t Failing true (Some (c, word)) I e (sym nd) (sym nn) tt in rw m r

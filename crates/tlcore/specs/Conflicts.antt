@@ -46,7 +46,8 @@ ConflictsHaveCause =
     → NoBegin seat meanwhile → run meanwhile begun ≡ Some last → next last seat action ≡ Some after
     → ConflictHasCause begun meanwhile last seat action after
 
--- from the seat t on until it was u it has locked these cells, the newest first; and each that it holds then it held before, or is one of them
+-- from the seat t on until it was u it has locked these cells, the newest first; and each that it holds then it held before, or is one of
+-- them
 pub record HasLocked (t u : Seat) : Type 0 where
   pub cells : List ℕ
   pub locked : u.locked ≡ cells ++ t.locked

@@ -11,9 +11,9 @@ pub use Rattle.tlcore.specs.declared.seats.Held.{Held}
 pub use Rattle.tlcore.specs.declared.seats.Place.{Place}
 pub use Rattle.tlcore.specs.declared.seats.Place.TheVariants.{Idle, Reading, Looked, Loaded, Taking, Checking, Storing, Failing, Voiding}
 
--- conflicted: the seat's last run met a conflict, and no Begin of the seat came since. clocks: what its loads of the clock found, the newest
--- first. locked: the cells that it has locked, in all its runs, the newest first. looked: the cell and the lock word that its last look, check or
--- take since the last load of the clock found
+-- conflicted: the seat's last run met a conflict, and no Begin of the seat came since. clocks: what its loads of the clock found, the
+-- newest first. locked: the cells that it has locked, in all its runs, the newest first. looked: the cell and the lock word that its last
+-- look, check or take since the last load of the clock found
 pub record Seat : Type 0 where
   pub place : Place
   pub rv : ℕ

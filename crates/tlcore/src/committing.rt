@@ -168,7 +168,8 @@ fn give_back(
     word: u64,
 ) -> Result<(), AllocError>
     requires { cell < length cells.old }
-    ensures { IfOk result (λ _. (h g : List EntryValue) → length g ≡ length h → Releases cells.old seat.old h cell word cells.new seat.new g) }
+    ensures { IfOk result (λ _. (h g : List EntryValue) → length g ≡ length h
+        → Releases cells.old seat.old h cell word cells.new seat.new g) }
 {
     cells[cell].lock = word;
     seat.held = without(alloc, cell, &seat.held)?;

@@ -243,7 +243,8 @@ fn advance(
     action: Action,
 ) -> Result<bool, AllocError>
     requires { MeetsInvariant (world_of cells.old.items seats.old.items history.old.items) }
-    ensures { let now = world_of cells.old.items seats.old.items history.old.items in let later = world_of cells.new.items seats.new.items history.new.items in IfOk result (λ b. IsNext now seat action b later) }
+    ensures { let now = world_of cells.old.items seats.old.items history.old.items in let later =
+        world_of cells.new.items seats.new.items history.new.items in IfOk result (λ b. IsNext now seat action b later) }
 {
     // For the proof: the next number is none too high.
     let _short = is_short(history);

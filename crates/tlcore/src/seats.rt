@@ -79,7 +79,17 @@ impl Model for Seat {
 
     ghost Value = { SeatValue };
 
-    ghost view = { λ a. record { place = a.place; rv = a.rv; reads = a.reads.items; held = a.held.items; conflicted = a.conflicted; clocks = a.clocks.items; locked = a.locked.items; looked = a.looked } };
+    ghost view = { λ a. record {
+      place = a.place;
+      rv = a.rv;
+      reads = a.reads.items;
+      held = a.held.items;
+      conflicted = a.conflicted;
+      clocks =
+          a.clocks.items;
+      locked = a.locked.items;
+      looked = a.looked;
+    } };
 }
 
 impl Seat {

@@ -3,8 +3,8 @@ use Rattle.std.proofs.Common.{arith}
 use Rattle.choosing.proofs.Chosen.{all_is_chosen, all_too_many}
 use Rattle.choosing.proofs.choice.choose_all.Goals as goal
 
-pub returns-then-count-gt-MOST-clause-refused : goal.returns-then-count-gt-MOST-clause-refused
-returns-then-count-gt-MOST-clause-refused g c =
+pub returns-then-count-gt-MOST_ASSERTIONS-clause-refused : goal.returns-then-count-gt-MOST_ASSERTIONS-clause-refused
+returns-then-count-gt-MOST_ASSERTIONS-clause-refused g c =
     λ other. all_too_many (g.D.Declared.scope c.args.declared.now) c.assertions-count.result c.assertions-count.ensures (omega arith)
 
 pub returns-clause-chosen : goal.returns-clause-chosen

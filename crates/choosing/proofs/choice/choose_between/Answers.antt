@@ -17,14 +17,14 @@ selected-requires-clause-within g c =
     wanted_within (g.D.Declared.scope c.args.declared.now) c.args.to.now c.in_ok-last.last _ c.in_ok-wanted.wanted.items
     c.in_ok-last.ensures.found c.in_ok-wanted.ensures.wanted
 
-pub returns-then-count-gt-MOST-clause-refused : goal.returns-then-count-gt-MOST-clause-refused
-returns-then-count-gt-MOST-clause-refused g c =
+pub returns-then-count-gt-MOST_ASSERTIONS-clause-refused : goal.returns-then-count-gt-MOST_ASSERTIONS-clause-refused
+returns-then-count-gt-MOST_ASSERTIONS-clause-refused g c =
     let s = g.D.Declared.scope c.args.declared.now in
     let at = found_at s.assertions c.args.to.now c.in_ok-last.last c.in_ok-last.ensures.found in
     λ other. between_too_many s c.args.from c.args.to c.in_ok-begin.begin c.in_ok-last.last c.in_ok-begin.ensures.found
     c.in_ok-last.ensures.found c.if-last-begin.false at.3 c.in_ok-wanted.wanted.items c.in_ok-wanted.ensures.wanted
     c.deref.result.now c.count_marked-count.result (c.deref.ensures.value ∙ c.in_ok-selection.ensures.chosen)
-    c.count_marked-count.ensures c.if-count-gt-MOST.true
+    c.count_marked-count.ensures c.if-count-gt-MOST_ASSERTIONS.true
 
 pub returns-clause-chosen : goal.returns-clause-chosen
 returns-clause-chosen g c =
@@ -36,7 +36,7 @@ returns-clause-chosen g c =
     c.in_ok-selection.ensures.chosen
     (subst (λ (fs : List Bool). c.count_marked-count.result ≡ length (filter (λ b. b) fs)) c.deref.ensures.value
     c.count_marked-count.ensures)
-    c.if-count-gt-MOST.false
+    c.if-count-gt-MOST_ASSERTIONS.false
 
 pub returns-in_err-begin-clause-refused : goal.returns-in_err-begin-clause-refused
 returns-in_err-begin-clause-refused g c =

@@ -17,12 +17,12 @@ returns-in_err-front-clause-refused g c =
     rw (p.1, p.2) (λ other. these_unknown_second s c.args.labels c.args.axioms _ c.in_ok-chosen.ensures.known
     (c.in_err-front.ensures.refused other))
 
-pub returns-then-count-gt-MOST-clause-refused : goal.returns-then-count-gt-MOST-clause-refused
-returns-then-count-gt-MOST-clause-refused g c =
+pub returns-then-count-gt-MOST_ASSERTIONS-clause-refused : goal.returns-then-count-gt-MOST_ASSERTIONS-clause-refused
+returns-then-count-gt-MOST_ASSERTIONS-clause-refused g c =
     λ other. these_too_many (g.D.Declared.scope c.args.declared.now) c.args.labels c.args.axioms _ c.in_ok-chosen.ensures.known
-    c.in_ok-front.ensures.known refl c.if-count-gt-MOST.true
+    c.in_ok-front.ensures.known refl c.if-count-gt-MOST_ASSERTIONS.true
 
 pub returns-clause-chosen : goal.returns-clause-chosen
 returns-clause-chosen g c =
     these_are_chosen (g.D.Declared.scope c.args.declared.now) c.args.labels c.args.axioms _ _ c.in_ok-chosen.ensures.marked
-    c.in_ok-front.ensures.marked c.in_ok-chosen.ensures.known c.in_ok-front.ensures.known refl c.if-count-gt-MOST.false
+    c.in_ok-front.ensures.marked c.in_ok-chosen.ensures.known c.in_ok-front.ensures.known refl c.if-count-gt-MOST_ASSERTIONS.false

@@ -14,7 +14,8 @@ returns-in_default-2 g c =
     let none : each f (seen_words words) ≡ None =
     ap (λ ws. each f (seen_words ws)) (sym c.as_slice.ensures.value) ∙ sym c.in_ok-symbols.ensures ∙ c.in_default-2.is in
     let is = ap seen_hypothesis (sym c.hypothesis-item.is ∙ c.in-Premise.is) in
-    sym (l.invariant ∙ no_premise f c.args.hypotheses.now l.made.items l.hypothesis-index _ c.loop-hypothesis-test.true _ (seen_words words) is none)
+    sym (l.invariant ∙ no_premise f c.args.hypotheses.now l.made.items l.hypothesis-index _ c.loop-hypothesis-test.true _
+    (seen_words words) is none)
 
 pub returns : goal.returns
 returns g c =

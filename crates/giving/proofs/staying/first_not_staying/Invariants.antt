@@ -6,4 +6,5 @@ use Rattle.giving.proofs.staying.first_not_staying.Given as goal
 -- those so far stay
 abbrev pub invariant-loop-number : goal.invariant-loop-number
 invariant-loop-number g l =
-    StayAll l.changes (take l.number (others l.chosen (g.D.Declared.scope l.old).assertions)) (take l.number (others l.taken (g.E.Declared.scope l.new).assertions))
+    StayAll l.changes (take l.number (others l.chosen (g.D.Declared.scope l.old).assertions))
+    (take l.number (others l.taken (g.E.Declared.scope l.new).assertions))

@@ -11,7 +11,8 @@ loop-place-preserved c =
     elim c.if-not-is_chosen.branch [
       | then-not-is_chosen+in_ok-push w ↦
           let flag : get_or flags i false ≡ false = search rules in
-          rw (w.places-is, w.in_ok-push.ensures.items) (other_more flags i c.loop-place.places.items c.loop-place-test.true flag c.loop-place.invariant)
+          rw (w.places-is, w.in_ok-push.ensures.items)
+          (other_more flags i c.loop-place.places.items c.loop-place-test.true flag c.loop-place.invariant)
       | else-not-is_chosen w ↦
           let flag : get_or flags i false ≡ true = search rules in
           rw w.places-is (chosen_more flags i c.loop-place.places.items c.loop-place-test.true flag c.loop-place.invariant)

@@ -41,15 +41,15 @@ returns-in_err-k c =
     let many = written_none 4294967295 numeral (sym c.in_err-k.ensures) in
     c.from_residual-in_err-k.ensures ∙ too_many c.args.label.now c.args.word.now numeral is (omega arith)
 
-pub returns-then-k-gt-MOST_HYPOTHESES : goal.returns-then-k-gt-MOST_HYPOTHESES
-returns-then-k-gt-MOST_HYPOTHESES c =
+pub returns-then-k-gt-HIGHEST_NUMBER : goal.returns-then-k-gt-HIGHEST_NUMBER
+returns-then-k-gt-HIGHEST_NUMBER c =
     let front = c.in_ok-behind_label.ensures.cases in
     let back = c.in_ok-numeral.ensures.cases in
     let numeral = c.in_ok-numeral.numeral.now in
     let is = split_both c.args.label.now c.args.word.now c.in_ok-behind_label.behind_label.now c.as_slice.result.now numeral
     c.as_slice.ensures front.0 front.1 back.0 back.1 in
     let value = written_some 4294967295 numeral c.in_ok-k.k (sym c.in_ok-k.ensures) in
-    let high : 1000 < digits_value 10 numeral = let many = c.if-k-gt-MOST_HYPOTHESES.true in omega arith in
+    let high : 1000 < digits_value 10 numeral = let many = c.if-k-gt-HIGHEST_NUMBER.true in omega arith in
     too_many c.args.label.now c.args.word.now numeral is high
 
 pub returns : goal.returns
@@ -60,4 +60,4 @@ returns c =
     let is = split_both c.args.label.now c.args.word.now c.in_ok-behind_label.behind_label.now c.as_slice.result.now numeral
     c.as_slice.ensures front.0 front.1 back.0 back.1 in
     numbered c.args.label.now c.args.word.now numeral c.in_ok-k.k is (sym c.is_number_from_one.ensures ∙ c.if-not-is_number_from_one.false)
-    (written_some 4294967295 numeral c.in_ok-k.k (sym c.in_ok-k.ensures)) c.if-k-gt-MOST_HYPOTHESES.false
+    (written_some 4294967295 numeral c.in_ok-k.k (sym c.in_ok-k.ensures)) c.if-k-gt-HIGHEST_NUMBER.false

@@ -39,5 +39,6 @@ loop-digit-preserved c =
 
 pub returns : goal.returns
 returns c =
-    written 18446744073709551615 c.args.digits.now c.loop-digit.digit-index c.loop-digit.number c.loop-digit-test.false c.loop-digit.invariant.value
+    written 18446744073709551615 c.args.digits.now c.loop-digit.digit-index c.loop-digit.number c.loop-digit-test.false
+    c.loop-digit.invariant.value
     (omega (arith, c.loop-digit.invariant.small))

@@ -22,5 +22,6 @@ returns-in_err-take_word-clause-leads g c =
     let why = c.in_err-take_word.field-0.0 in
     let p = err_from_is_err_and c.from_residual.result c.from_residual.ensures.1 in
     rw (p.1, p.2) (
-    word_stops l (r.place c.args.reader.now) (r.place c.args.reader.now) c.args.in_comment.now (seen c.args.token) why c.if-not-in_comment.true
+    word_stops l (r.place c.args.reader.now) (r.place c.args.reader.now) c.args.in_comment.now
+    (seen c.args.token) why c.if-not-in_comment.true
     c.in_err-take_word.ensures.taken)

@@ -88,7 +88,8 @@ pub returns-in_err-variables-clause-refused : goal.returns-in_err-variables-clau
 returns-in_err-variables-clause-refused g c =
     let p = err_from_is_err_and c.from_residual-in_err-variables.result c.from_residual-in_err-variables.ensures.1 in
     let is =
-    subst (λ (flags : List Bool). IsUnnamedBy flags (seen_words c.args.variables.now) c.in_err-variables.field-0.0) c.in_ok-changes-2.ensures
+    subst (λ (flags : List Bool). IsUnnamedBy flags
+    (seen_words c.args.variables.now) c.in_err-variables.field-0.0) c.in_ok-changes-2.ensures
     c.in_err-variables.ensures.refused in
     rw (p.1, p.2) (inr (inl is))
 

@@ -21,7 +21,8 @@ name_assertion-requires g c =
     role_of_assertion s c.args.place x w c.requires.whole there.1 c.in-Some.field-0 (c.requires.other x there.1)
     (sym c.in-Some.is ∙ c.place_of.ensures) in
     let known =
-    known_assertion (g.P.StepPlaces.places c.args.places.now) (take c.args.place s.assertions) x.active w none (c.requires.known x there.1) in
+    known_assertion (g.P.StepPlaces.places c.args.places.now) (take c.args.place s.assertions) x.active w none
+    (c.requires.known x there.1) in
     λ _. ((refl, tt), (c.requires.holds, known))
 
 pub returns-in-Some-clause-named : goal.returns-in-Some-clause-named

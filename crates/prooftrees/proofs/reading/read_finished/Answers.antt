@@ -39,7 +39,8 @@ tree_of-requires g c =
                   (sym (mandatory_is xs c.args.place x at hs c.in_ok-mandatory.ensures)) counted),
               λ x at.
                   subst (λ (ws : List Word). All (IsKnown (take c.args.place xs) x.active) ws)
-                  (ap (λ ks. counted_labels ks own) (mandatory_is xs c.args.place x at hs c.in_ok-mandatory.ensures) ∙ sym counted.labels_are)
+                  (ap (λ ks. counted_labels ks own) (mandatory_is xs c.args.place x at hs c.in_ok-mandatory.ensures)
+                  ∙ sym counted.labels_are)
                   (c.requires.known x at),
             ),
           ),

@@ -83,7 +83,8 @@ returns-clause-tree g c = λ x at. λ proof is.
     c.in_ok-proof.ensures.whole) in
     let cites =
     subst
-    (λ (o : Option DecodedProof). IfSome o (λ d. (labels : List Word) (t : Tree) → tree_of labels d ≡ Some t → AreLabelsOf labels d.nodes t))
+    (λ (o : Option DecodedProof). IfSome o (λ d. (labels : List Word) (t : Tree) → tree_of labels d ≡ Some t
+    → AreLabelsOf labels d.nodes t))
     c.in-Some.is c.in_ok-proof.ensures.cites in
     tree_is m (take c.args.place xs) x codes (record { labels = c.args.counted.labels; named = c.in_ok-named.named; proof = made })
     made.within

@@ -19,7 +19,8 @@ returns-clause-sound c =
     let ws = seen_words c.args.statement.items in
     let proof = option_map seen_proof c.args.proof in
     let pushed : c.push-2.new.self.items ≡ t.labels.items ++ c.args.label ∷ [] = search rules in
-    let labels : seen_words c.push-2.new.self.items ≡ seen_words t.labels.items ++ label ∷ [] = ap seen_words pushed ∙ map-append _ t.labels.items (c.args.label ∷ []) in
+    let labels : seen_words c.push-2.new.self.items ≡ seen_words t.labels.items ++ label ∷ [] =
+    ap seen_words pushed ∙ map-append _ t.labels.items (c.args.label ∷ []) in
     let also : c.push.new.self.items ≡ t.assertions.items ++ record {
       label = c.args.label;
       statement = c.args.statement;
@@ -30,8 +31,17 @@ returns-clause-sound c =
     } ∷ [] = search rules in
     let seen : c.as_slice.result.now ≡ t.active.items = search rules in
     let last : c.last_active-hypotheses.result ≡ last_link t.active.items = c.last_active-hypotheses.ensures ∙ ap last_link seen in
-    let put : Option ℕ → Entry = λ o. record { label = label; statement = ws; proof = proof; hypotheses = o; apart = t.last_apart; arity = c.args.arity } in
-    let entries : map entry_of c.push.new.self.items ≡ map entry_of t.assertions.items ++ entry_here (kept_of t) label ws proof c.args.arity ∷ [] =
+    let put : Option ℕ → Entry = λ o. record {
+      label = label;
+      statement = ws;
+      proof = proof;
+      hypotheses = o;
+      apart = t.last_apart;
+      arity =
+          c.args.arity;
+    } in
+    let entries : map entry_of c.push.new.self.items ≡ map entry_of t.assertions.items ++ entry_here (kept_of t) label ws proof c.args.arity
+    ∷ [] =
     ap (map entry_of) also ∙ map-append entry_of t.assertions.items _ ∙ ap (λ o. map entry_of t.assertions.items ++ put o ∷ []) last in
     let count : c.len-place.result ≡ length t.assertions.items = search rules in
     let place : c.len-place.result ≡ length (kept_of t).entries = count ∙ sym (length-map t.assertions.items entry_of) in
@@ -47,7 +57,8 @@ returns-clause-stand c =
     let ws = seen_words c.args.statement.items in
     let proof = option_map seen_proof c.args.proof in
     let pushed : c.push-2.new.self.items ≡ t.labels.items ++ c.args.label ∷ [] = search rules in
-    let labels : seen_words c.push-2.new.self.items ≡ seen_words t.labels.items ++ label ∷ [] = ap seen_words pushed ∙ map-append _ t.labels.items (c.args.label ∷ []) in
+    let labels : seen_words c.push-2.new.self.items ≡ seen_words t.labels.items ++ label ∷ [] =
+    ap seen_words pushed ∙ map-append _ t.labels.items (c.args.label ∷ []) in
     let also : c.push.new.self.items ≡ t.assertions.items ++ record {
       label = c.args.label;
       statement = c.args.statement;
@@ -58,7 +69,16 @@ returns-clause-stand c =
     } ∷ [] = search rules in
     let seen : c.as_slice.result.now ≡ t.active.items = search rules in
     let last : c.last_active-hypotheses.result ≡ last_link t.active.items = c.last_active-hypotheses.ensures ∙ ap last_link seen in
-    let put : Option ℕ → Entry = λ o. record { label = label; statement = ws; proof = proof; hypotheses = o; apart = t.last_apart; arity = c.args.arity } in
-    let entries : map entry_of c.push.new.self.items ≡ map entry_of t.assertions.items ++ entry_here (kept_of t) label ws proof c.args.arity ∷ [] =
+    let put : Option ℕ → Entry = λ o. record {
+      label = label;
+      statement = ws;
+      proof = proof;
+      hypotheses = o;
+      apart = t.last_apart;
+      arity =
+          c.args.arity;
+    } in
+    let entries : map entry_of c.push.new.self.items ≡ map entry_of t.assertions.items ++ entry_here (kept_of t) label ws proof c.args.arity
+    ∷ [] =
     ap (map entry_of) also ∙ map-append entry_of t.assertions.items _ ∙ ap (λ o. map entry_of t.assertions.items ++ put o ∷ []) last in
     rw (labels, entries) (stand_entry (looks_up t.names) (kept_of t) label ws proof c.args.arity c.requires.sound)

@@ -15,8 +15,10 @@ returns-clause-sound c =
     let w = c.args.word.now in
     let pushed : c.push.new.self.items ≡ t.constants.items ++ c.args.word ∷ [] = search rules in
     let also : c.push-2.new.self.items ≡ t.symbols.items ++ c.args.word ∷ [] = search rules in
-    let cs : seen_words c.push.new.self.items ≡ seen_words t.constants.items ++ w ∷ [] = ap seen_words pushed ∙ map-append _ t.constants.items (c.args.word ∷ []) in
-    let ss : seen_words c.push-2.new.self.items ≡ seen_words t.symbols.items ++ w ∷ [] = ap seen_words also ∙ map-append _ t.symbols.items (c.args.word ∷ []) in
+    let cs : seen_words c.push.new.self.items ≡ seen_words t.constants.items ++ w ∷ [] =
+    ap seen_words pushed ∙ map-append _ t.constants.items (c.args.word ∷ []) in
+    let ss : seen_words c.push-2.new.self.items ≡ seen_words t.symbols.items ++ w ∷ [] =
+    ap seen_words also ∙ map-append _ t.symbols.items (c.args.word ∷ []) in
     rw (cs, ss) (sound_looks _ _ _ (sound_constant (looks_up t.names) (kept_of t) w c.requires.sound c.requires.lawful)
     (hash_map_updates_str w t.names c.insert.new.self (Some name.Constant) c.in_ok-insert.ensures.updates))
 
@@ -26,6 +28,8 @@ returns-clause-stand c =
     let w = c.args.word.now in
     let pushed : c.push.new.self.items ≡ t.constants.items ++ c.args.word ∷ [] = search rules in
     let also : c.push-2.new.self.items ≡ t.symbols.items ++ c.args.word ∷ [] = search rules in
-    let cs : seen_words c.push.new.self.items ≡ seen_words t.constants.items ++ w ∷ [] = ap seen_words pushed ∙ map-append _ t.constants.items (c.args.word ∷ []) in
-    let ss : seen_words c.push-2.new.self.items ≡ seen_words t.symbols.items ++ w ∷ [] = ap seen_words also ∙ map-append _ t.symbols.items (c.args.word ∷ []) in
+    let cs : seen_words c.push.new.self.items ≡ seen_words t.constants.items ++ w ∷ [] =
+    ap seen_words pushed ∙ map-append _ t.constants.items (c.args.word ∷ []) in
+    let ss : seen_words c.push-2.new.self.items ≡ seen_words t.symbols.items ++ w ∷ [] =
+    ap seen_words also ∙ map-append _ t.symbols.items (c.args.word ∷ []) in
     rw (cs, ss) (stand_constant (looks_up t.names) (kept_of t) w c.requires.sound)

@@ -10,7 +10,8 @@ use Rattle.scopes.proofs.declaring.add_distinct.Goals as goal
 pub returns-clause-sound : goal.returns-clause-sound
 returns-clause-sound c =
     let t = c.args.tables.now in
-    let pushed : c.push.new.self.items ≡ t.aparts.items ++ record { before = t.last_apart; variables = c.args.variables } ∷ [] = search rules in
+    let pushed : c.push.new.self.items ≡ t.aparts.items ++ record { before = t.last_apart; variables = c.args.variables } ∷ [] =
+    search rules in
     let aparts = ap (map set_apart) pushed ∙ map-append set_apart t.aparts.items _ in
     let count : c.len-last.result ≡ length t.aparts.items = search rules in
     let len : c.len-last.result ≡ length (kept_of t).aparts = count ∙ sym (length-map t.aparts.items set_apart) in
@@ -19,7 +20,8 @@ returns-clause-sound c =
 pub returns-clause-stand : goal.returns-clause-stand
 returns-clause-stand c =
     let t = c.args.tables.now in
-    let pushed : c.push.new.self.items ≡ t.aparts.items ++ record { before = t.last_apart; variables = c.args.variables } ∷ [] = search rules in
+    let pushed : c.push.new.self.items ≡ t.aparts.items ++ record { before = t.last_apart; variables = c.args.variables } ∷ [] =
+    search rules in
     let aparts = ap (map set_apart) pushed ∙ map-append set_apart t.aparts.items _ in
     let count : c.len-last.result ≡ length t.aparts.items = search rules in
     let len : c.len-last.result ≡ length (kept_of t).aparts = count ∙ sym (length-map t.aparts.items set_apart) in

@@ -28,7 +28,8 @@ returns-clause-sound c =
     c.in_ok-insert.ensures.updates q
     ∙ ap (λ n. cond (bytes_eq v q) (Some (name.Variable n (Some c.len-place.result))) (looks_up made.names q)) noted
     ∙ ap (λ n. cond (bytes_eq v q) (Some (name.Variable named.0 (Some n))) (looks_up made.names q)) place
-    ∙ ap (λ o. cond (bytes_eq v q) (Some (name.Variable named.0 (Some (length t.active.items)))) o) (c.in_ok-add_hypothesis.ensures.names q)))
+    ∙ ap (λ o. cond (bytes_eq v q) (Some (name.Variable named.0 (Some (length t.active.items)))) o)
+    (c.in_ok-add_hypothesis.ensures.names q)))
 
 pub returns-clause-stand : goal.returns-clause-stand
 returns-clause-stand c =

@@ -16,7 +16,8 @@ returns-clause-kept c =
     let h = c.args.hypothesis in
     let ls : c.push-2.new.self.items ≡ t.labels.items ++ c.args.label ∷ [] = search rules in
     let ks : c.push.new.self.items ≡ t.links.items ++ record { before = c.last_active-before.result; hypothesis = h } ∷ [] = search rules in
-    let actives : c.push-3.new.self.items ≡ t.active.items ++ record { link = c.len-link.result; is_mandatory = false } ∷ [] = search rules in
+    let actives : c.push-3.new.self.items ≡ t.active.items ++ record { link = c.len-link.result; is_mandatory = false } ∷ [] =
+    search rules in
     let seen : c.as_slice.result.now ≡ t.active.items = search rules in
     let last : c.last_active-before.result ≡ last_link t.active.items = c.last_active-before.ensures ∙ ap last_link seen in
     let count : c.len-link.result ≡ length t.links.items = search rules in
@@ -35,5 +36,6 @@ pub returns-clause-names : goal.returns-clause-names
 returns-clause-names c = λ q.
     let t = c.args.tables.now in
     let place : c.len-place.result ≡ length t.active.items = search rules in
-    hash_map_updates_str c.args.label.now t.names c.insert.new.self (Some (name.Hypothesis c.len-place.result)) c.in_ok-insert.ensures.updates q
+    hash_map_updates_str c.args.label.now t.names c.insert.new.self
+    (Some (name.Hypothesis c.len-place.result)) c.in_ok-insert.ensures.updates q
     ∙ ap (λ n. cond (bytes_eq c.args.label.now q) (Some (name.Hypothesis n)) (looks_up t.names q)) place

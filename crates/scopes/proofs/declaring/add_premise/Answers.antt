@@ -22,5 +22,6 @@ pub returns-clause-stand : goal.returns-clause-stand
 returns-clause-stand c =
     let t = c.args.tables.now in
     let ws = seen_words c.args.expression.items in
-    subst (λ (k : Kept). stand_of k ≡ declared (stand_of (kept_of t)) (hypothesis c.args.label.now ws)) (sym c.in_ok-add_hypothesis.ensures.kept)
+    subst (λ (k : Kept). stand_of k ≡ declared (stand_of (kept_of t)) (hypothesis c.args.label.now ws))
+    (sym c.in_ok-add_hypothesis.ensures.kept)
     (stand_link (looks_up t.names) (kept_of t) (premise c.args.label.now ws) (hypothesis c.args.label.now ws) c.requires.sound refl)

@@ -32,7 +32,8 @@ returns-clause-marks c =
     let hs = (scope_of j).hypotheses in
     let i = c.loop-place.place in
     let same : (scope_of k).hypotheses ≡ hs = ap (λ s. s.hypotheses) (same_scope k j c.mark_premises.ensures.stand) in
-    let size : length hs ≡ length c.mark_premises.new.tables.active.items = ap length (sym same) ∙ length-map c.mark_premises.new.tables.active.items _ in
+    let size : length hs ≡ length c.mark_premises.new.tables.active.items =
+    ap length (sym same) ∙ length-map c.mark_premises.new.tables.active.items _ in
     let count : c.len-place-end.result ≡ length c.mark_premises.new.tables.active.items = search rules in
     let all : length hs ≤ i = omega arith in
     c.loop-place.invariant.marks ∙ ap (λ (xs : List Hypothesis). map (is_mandatory xs []) hs) (take_all i hs all)

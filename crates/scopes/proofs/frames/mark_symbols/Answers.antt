@@ -21,7 +21,8 @@ loop-index-preserved c =
       marks = λ premises front marks.
           subst (λ (hs : List Hypothesis).
           marks_of k ≡ map (is_mandatory premises (front ++ take i (symbols_at hs c.args.place))) hs
-          → marks_of (kept_of c.mark_symbol.new.tables) ≡ map (is_mandatory premises (front ++ take (i + 1) (symbols_at hs c.args.place))) hs)
+          → marks_of (kept_of c.mark_symbol.new.tables)
+          ≡ map (is_mandatory premises (front ++ take (i + 1) (symbols_at hs c.args.place))) hs)
           same (c.mark_symbol.ensures.marks premises front) (c.loop-index.invariant.marks premises front marks);
     }
 

@@ -34,6 +34,7 @@ returns-in_ok-assertion-in-Assertion c =
     let w = c.args._word.now in
     let k = subst (λ (o : Sort). IsSortOf s w o) c.in-Assertion.is c.requires.sort in
     let none : List Hypothesis = [] in
-    sym (ap (λ b. option_map length (cond b (Some none) (option_map (λ a. a.hypotheses) (find (λ a. bytes_eq w a.label) s.assertions)))) k.hypothesis
+    sym (ap (λ b. option_map length (cond b (Some none) (option_map (λ a. a.hypotheses) (find (λ a. bytes_eq w a.label) s.assertions))))
+    k.hypothesis
     ∙ ap (λ o. option_map length (option_map (λ a. a.hypotheses) o)) (k.first ∙ seen)
     ∙ ap (λ n. Some n) (sym counted.arity))

@@ -7,7 +7,8 @@ use Rattle.scopes.proofs.labels.named_by.Goals as goal
 pub unreachable-requires : goal.unreachable-requires
 unreachable-requires c =
     let s = scope_of (kept_of c.args.tables.now) in
-    takes_some s c.args.word.now (sym (c.fault_of_named.ensures s c.requires.sort) ∙ c.in_default.is) (sym c.arity_of.ensures ∙ c.in-None.is)
+    takes_some s c.args.word.now (sym (c.fault_of_named.ensures s c.requires.sort) ∙ c.in_default.is) (sym c.arity_of.ensures
+    ∙ c.in-None.is)
 
 pub returns-in-Some-clause-fault : goal.returns-in-Some-clause-fault
 returns-in-Some-clause-fault c =

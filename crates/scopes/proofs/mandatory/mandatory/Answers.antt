@@ -22,14 +22,16 @@ returns c =
     let test = has c.in_ok-set.set in
     let links : path (map linked c.as_slice-links.result.now) a.hypotheses ≡ active =
     ap (λ ls. path (map linked ls) a.hypotheses) c.as_slice-links.ensures.value in
-    let words : seen_words c.as_slice-statement.result.now ≡ seen_words a.statement.items = ap seen_words c.as_slice-statement.ensures.value in
+    let words : seen_words c.as_slice-statement.result.now ≡ seen_words a.statement.items =
+    ap seen_words c.as_slice-statement.ensures.value in
     let same : (w : Word) → test w ≡ is_mandatory_variable active (seen_words a.statement.items) w = λ w.
     c.in_ok-set.ensures w
     ∙ ap (λ (hs : List Hypothesis). is_mandatory_variable hs (seen_words c.as_slice-statement.result.now) w) links
     ∙ ap (λ (ws : List Word). is_mandatory_variable active ws w) words in
     let agree = filter_agree (is_chosen test) (is_mandatory active (seen_words a.statement.items))
     (chosen_mandatory test active (seen_words a.statement.items) same) active in
-    let given : List (Bor HypothesisWords) → Type 0 = λ xs. seen_hypotheses xs ≡ filter (is_chosen test) (path (map linked c.as_slice-links.result.now) a.hypotheses) in
+    let given : List (Bor HypothesisWords) → Type 0 =
+    λ xs. seen_hypotheses xs ≡ filter (is_chosen test) (path (map linked c.as_slice-links.result.now) a.hypotheses) in
     let there = ap (option_map (λ a. a.hypotheses)) c.asserted_there-asserted.ensures in
     IfOk-weaker c.chosen.result (λ hs. given hs.items) _
     (λ hs e. there ∙ ap (λ xs. Some xs) (sym (e ∙ ap (filter (is_chosen test)) links ∙ agree))) c.chosen.ensures

@@ -36,4 +36,5 @@ pub returns : goal.returns
 returns c =
     let l = c.loop-label in
     l.invariant
-    ∙ ap (λ (ws : List (Bor (List ℕ))). filter (is_noted c.args.used.now) (seen_words ws)) (take_all l.label-index c.args.labels.now c.loop-label-test.false)
+    ∙ ap (λ (ws : List (Bor (List ℕ))). filter (is_noted c.args.used.now) (seen_words ws))
+    (take_all l.label-index c.args.labels.now c.loop-label-test.false)

@@ -35,4 +35,5 @@ pub returns : goal.returns
 returns c =
     let l = c.loop-word in
     l.invariant
-    ∙ ap (λ (ws : List (Bor (List ℕ))). filter (has c.args.used.now.symbols) (seen_words ws)) (take_all l.word-index c.args.words.now c.loop-word-test.false)
+    ∙ ap (λ (ws : List (Bor (List ℕ))). filter (has c.args.used.now.symbols) (seen_words ws))
+    (take_all l.word-index c.args.words.now c.loop-word-test.false)

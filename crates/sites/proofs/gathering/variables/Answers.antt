@@ -20,7 +20,8 @@ loop-label-preserved c =
     elim c.match-variable.branch [
       | in-Some+in_ok-push w ↦
           let v = w.in-Some.variable in
-          let is : f (get_or ws i d).now ≡ Some v.now = sym c.variable.ensures ∙ ap (option_map (λ (x : Bor (List ℕ)). x.now)) w.in-Some.is in
+          let is : f (get_or ws i d).now ≡ Some v.now =
+          sym c.variable.ensures ∙ ap (option_map (λ (x : Bor (List ℕ)). x.now)) w.in-Some.is in
           rw w.made-is
           (ap seen_words w.in_ok-push.ensures.items
           ∙ map-append (λ (x : Bor (List ℕ)). x.now) c.loop-label.made.items (v ∷ [])

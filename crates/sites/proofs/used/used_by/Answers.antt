@@ -29,7 +29,8 @@ loop-place-preserved g c =
           let so : Uses w.note_assertion.new.used (front ++ x.0 ∷ []) =
           uses_more c.loop-place.used w.note_assertion.new.used front x.0 c.loop-place.invariant
           (λ v. w.in_ok-note_assertion.ensures.symbols x.0 v x.1) (λ v. w.in_ok-note_assertion.ensures.floats x.0 v x.1) in
-          rw w.used-is (subst (λ (ks : List Assertion). Uses w.note_assertion.new.used ks) (sym (kept_one fs xs i x.0 true below x.1 yes)) so)
+          rw w.used-is (subst (λ (ks : List Assertion). Uses w.note_assertion.new.used ks)
+          (sym (kept_one fs xs i x.0 true below x.1 yes)) so)
       | else-is_chosen w ↦
           let no : get_or fs i false ≡ false = search rules in
           rw w.used-is (subst (λ (ks : List Assertion). Uses c.loop-place.used ks)

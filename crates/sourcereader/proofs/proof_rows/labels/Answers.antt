@@ -27,7 +27,8 @@ returns-in-Err-clause-leads g c =
     let w = c.args.token.text.now in
     let other = ap (bytes_eq w) (sym c.as_slice.ensures) ∙ sym c.eq.ensures ∙ c.if-eq.false in
     let told : result_err c.cited.result ≡ first_fault (cited_tests stand.scope e w) =
-    subst (λ xs. result_err c.cited.result ≡ first_fault (cited_tests stand.scope (seen_words xs) w)) c.deref.ensures.value c.cited.ensures.fault in
+    subst (λ xs. result_err c.cited.result ≡ first_fault
+    (cited_tests stand.scope (seen_words xs) w)) c.deref.ensures.value c.cited.ensures.fault in
     rw c.fault_at.ensures
     (labels_grow (standing_at stand (in_labels label e ws)) label e ws (seen c.args.token) other
     ∙ tested_fails (seen c.args.token) (cited_tests stand.scope e w) _ c.in-Err.kind (sym told ∙ ap result_err c.in-Err.is))
@@ -41,7 +42,8 @@ returns-clause-leads g c =
     let w = c.args.token.text in
     let other = ap (bytes_eq w.now) (sym c.as_slice.ensures) ∙ sym c.eq.ensures ∙ c.if-eq.false in
     let told : result_err c.cited.result ≡ first_fault (cited_tests stand.scope e w.now) =
-    subst (λ xs. result_err c.cited.result ≡ first_fault (cited_tests stand.scope (seen_words xs) w.now)) c.deref.ensures.value c.cited.ensures.fault in
+    subst (λ xs. result_err c.cited.result ≡ first_fault
+    (cited_tests stand.scope (seen_words xs) w.now)) c.deref.ensures.value c.cited.ensures.fault in
     let next = standing_at stand (in_labels label e (ws ++ w.now ∷ [])) in
     labels_grow (standing_at stand (in_labels label e ws)) label e ws (seen c.args.token) other
     ∙ tested_passes (seen c.args.token) (cited_tests stand.scope e w.now) (Ok next) (sym told ∙ ap result_err c.in-Ok.is)

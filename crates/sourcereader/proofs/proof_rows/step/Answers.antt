@@ -14,7 +14,8 @@ returns-in-Some-clause-leads g c =
     let s = (g.S.Standing.stand c.args.standing.now).scope in
     let ws = seen_words c.args.steps.items in
     let told = c.in_ok-kind.ensures ws c.requires.1 in
-    rw c.fault_at.ensures (tested_fails (seen c.args.token) (step_tests s ws c.args.token.text.now) _ c.in-Some.kind (sym told.0 ∙ c.in-Some.is))
+    rw c.fault_at.ensures (tested_fails (seen c.args.token) (step_tests s ws c.args.token.text.now) _ c.in-Some.kind (sym told.0
+    ∙ c.in-Some.is))
 
 pub returns-clause-leads : goal.returns-clause-leads
 returns-clause-leads g c =

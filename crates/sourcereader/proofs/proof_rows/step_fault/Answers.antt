@@ -21,7 +21,8 @@ returns-then-branch g c ws counts =
     let s = (g.S.Standing.stand c.args.standing.now).scope in
     let w = c.args.word.now in
     let known : is_unknown w ≡ false = ap (bytes_eq w) (sym c.as_slice.ensures) ∙ sym c.eq.ensures ∙ c.if-eq.false in
-    let takes = subst (λ r. IfOk r (λ n. option_map length (taken_by s.assertions s.hypotheses w) ≡ Some n)) c.in-Ok.is c.named.ensures.takes in
+    let takes = subst (λ r. IfOk r (λ n. option_map length (taken_by s.assertions s.hypotheses w)
+    ≡ Some n)) c.in-Ok.is c.named.ensures.takes in
     let took = c.in_ok-take.ensures s ws w counts known takes in (
       sym (known_step s ws w known (sym c.named.ensures.fault ∙ ap result_err c.in-Ok.is) (sym took.0 ∙ c.if-branch.true)),
       λ same. took.1 c.if-branch.true,

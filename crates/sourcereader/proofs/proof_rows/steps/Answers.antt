@@ -25,7 +25,8 @@ returns-then-is_empty-clause-leads g c =
     let none = none_seen c.args.steps.items (omega (arith, eqb-true _ _ (sym c.is_empty.ensures ∙ c.if-is_empty.true))) in
     let other = ap (bytes_eq c.args.token.text.now) (sym c.as_slice.ensures) ∙ sym c.eq.ensures ∙ c.if-eq.false in
     subst (Leads s c.step.result)
-    (sym (proof_begins (standing_at s (in_steps c.args.theorem.label.now e ws)) c.args.theorem.label.now e ws (seen c.args.token) c.args.mark none other))
+    (sym (proof_begins (standing_at s (in_steps c.args.theorem.label.now e ws)) c.args.theorem.label.now e ws
+    (seen c.args.token) c.args.mark none other))
     c.step.ensures.leads
 
 pub returns-clause-leads : goal.returns-clause-leads
@@ -36,5 +37,6 @@ returns-clause-leads g c =
     let goes_on : c.args.mark ≡ mark.End → ⊥ = λ is. not_both c.eq-2.result (rw (c.eq-2.ensures, is) refl) c.if-eq-2.false in
     let some = some_seen c.args.steps.items (λ zero. eqb-false _ _ (sym c.is_empty.ensures ∙ c.if-is_empty.false) (omega (arith, zero))) in
     subst (Leads s c.step-2.result)
-    (sym (proof_grows (standing_at s (in_steps c.args.theorem.label.now e ws)) c.args.theorem.label.now e ws (seen c.args.token) c.args.mark some goes_on))
+    (sym (proof_grows (standing_at s (in_steps c.args.theorem.label.now e ws)) c.args.theorem.label.now e ws
+    (seen c.args.token) c.args.mark some goes_on))
     c.step-2.ensures.leads

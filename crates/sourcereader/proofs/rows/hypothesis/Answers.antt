@@ -23,7 +23,8 @@ returns-in_err-expression-clause-leads g c =
     let why = c.in_err-expression.field-0.0 in
     let open_yet : c.args.mark ≡ mark.End → e ≡ [] =
     elim c.else-eq.branch [
-      | else-eq-via-then-eq+else-not-is_empty w ↦ λ _. none_seen c.args.expression.items (omega (arith, eqb-true _ _ (sym w.is_empty.ensures ∙ w.if-not-is_empty.false)))
+      | else-eq-via-then-eq+else-not-is_empty w ↦
+          λ _. none_seen c.args.expression.items (omega (arith, eqb-true _ _ (sym w.is_empty.ensures ∙ w.if-not-is_empty.false)))
       | else-eq-via-else-eq w ↦ λ is. absurd (not_both c.eq.result (rw (c.eq.ensures, is) refl) w.if-eq.false)
     ] in
     rw (p.1, p.2)
@@ -38,7 +39,8 @@ returns-clause-leads g c =
     let here = in_hypothesis c.args.label.now e in
     let open_yet : c.args.mark ≡ mark.End → e ≡ [] =
     elim c.else-eq.branch [
-      | else-eq-via-then-eq+else-not-is_empty w ↦ λ _. none_seen c.args.expression.items (omega (arith, eqb-true _ _ (sym w.is_empty.ensures ∙ w.if-not-is_empty.false)))
+      | else-eq-via-then-eq+else-not-is_empty w ↦
+          λ _. none_seen c.args.expression.items (omega (arith, eqb-true _ _ (sym w.is_empty.ensures ∙ w.if-not-is_empty.false)))
       | else-eq-via-else-eq w ↦ λ is. absurd (not_both c.eq.result (rw (c.eq.ensures, is) refl) w.if-eq.false)
     ] in
     hypothesis_grows (standing_at s here) c.args.label.now e u c.args.mark open_yet

@@ -6,11 +6,13 @@ use Rattle.stepcheck.proofs.checking.take_step.Goals as goal
 
 pub new-requires : goal.new-requires
 new-requires c =
-    (places_are_small c.args.prelude.now _ c.in-Float.i c.in-Some.float c.floats.ensures.sound c.floats.ensures.value c.in-Some.ensures.lookup).0
+    (places_are_small c.args.prelude.now _ c.in-Float.i c.in-Some.float c.floats.ensures.sound c.floats.ensures.value
+    c.in-Some.ensures.lookup).0
 
 pub new-requires-in-Some : goal.new-requires-in-Some
 new-requires-in-Some c =
-    (places_are_small c.args.prelude.now _ c.in-Float.i c.in-Some.float c.floats.ensures.sound c.floats.ensures.value c.in-Some.ensures.lookup).1
+    (places_are_small c.args.prelude.now _ c.in-Float.i c.in-Some.float c.floats.ensures.sound c.floats.ensures.value
+    c.in-Some.ensures.lookup).1
 
 pub returns-in-None-frames-clause-err : goal.returns-in-None-frames-clause-err
 returns-in-None-frames-clause-err c = λ _ lib labels same.

@@ -46,5 +46,10 @@ returns-then-not-have_types-clause-err c = λ _ h.
 pub returns-then-not-are_substituted-clause-err : goal.returns-then-not-are_substituted-clause-err
 returns-then-not-are_substituted-clause-err c = λ _.
     let types = rw c.as_slice-floats.ensures at (c.have_types.ensures.0 c.if-not-have_types.false) in
-    let hyps = rw (c.new-substitution.ensures, c.as_slice.ensures, c.behind-logical.ensures, c.as_slice-floats.ensures) at c.are_substituted.ensures in
+    let hyps = rw (
+      c.new-substitution.ensures,
+      c.as_slice.ensures,
+      c.behind-logical.ensures,
+      c.as_slice-floats.ensures,
+    ) at c.are_substituted.ensures in
     (types, λ h. let both = sym c.if-not-are_substituted.true ∙ hyps.1 h in cc)

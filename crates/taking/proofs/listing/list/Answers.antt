@@ -41,7 +41,8 @@ loop-place-smaller c =
     let pushed = c.in_ok-push_arguments.ensures
     ∙ ap (λ fs. c.pop.new.self.items ++ arranged fs c.arguments-arguments.result.now) c.as_slice.ensures in
     subst (λ (ps : List ℕ). weight c.args.nodes.now ps < weight c.args.nodes.now l.pending.items) (sym pushed)
-    (lighter_on c.args.named.now c.args.nodes.now c.args.root l.pending.items c.pop.new.self.items c.in-Some.place (seen_steps l.steps.items)
+    (lighter_on c.args.named.now c.args.nodes.now c.args.root l.pending.items c.pop.new.self.items c.in-Some.place
+    (seen_steps l.steps.items)
     c.named-number.result
     c.arguments-arguments.result.now c.index-named-number.result c.requires.whole l.invariant c.in-Some.ensures.items c.named-number.ensures
     c.arguments-arguments.ensures.value c.arguments-arguments.ensures.below c.index-named-number.is)
@@ -77,6 +78,7 @@ returns c =
 pub returns-in_default-step : goal.returns-in_default-step
 returns-in_default-step c =
     let l = c.loop-place in
-    stop_on c.args.named.now c.args.nodes.now c.args.root l.pending.items c.pop.new.self.items c.in-Some.place (seen_steps l.steps.items) c.named-number.result
+    stop_on c.args.named.now c.args.nodes.now c.args.root l.pending.items c.pop.new.self.items c.in-Some.place
+    (seen_steps l.steps.items) c.named-number.result
     c.arguments-arguments.result.now c.index-named-number.result c.requires.whole l.invariant c.in-Some.ensures.items c.named-number.ensures
     c.arguments-arguments.ensures.value c.arguments-arguments.ensures.below c.index-named-number.is c.in_default-step.is

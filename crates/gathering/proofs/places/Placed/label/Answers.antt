@@ -24,5 +24,6 @@ returns c =
     let place = c.in_ok-place.place in
     let some : c.label.result ≡ Some place = search rules in
     let got : option_map (λ (l : Bor Word). l.now) c.get.result ≡ slice_get names place =
-    got_lent c.as_slice.result.now place c.get.result c.get.ensures.lookup ∙ ap (λ (ns : List Word). slice_get ns place) c.as_slice.ensures in
+    got_lent c.as_slice.result.now place c.get.result c.get.ensures.lookup
+    ∙ ap (λ (ns : List Word). slice_get ns place) c.as_slice.ensures in
     got ∙ sym (found_in_zip (bytes_eq c.args.label.now) labels names ∙ ap (option_and_then (slice_get names)) (sym c.label.ensures ∙ some))

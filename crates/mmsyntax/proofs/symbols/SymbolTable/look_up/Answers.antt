@@ -17,7 +17,8 @@ returns-clause-few c = λ j e.
     omega (arith, within, c.self.invariant.few)
 
 -- a symbol that a word means is one of few, where there are few
-names_few : (t : Tables) (w : Word) (name : Option Name) → meaning t w ≡ name → length t.constants ≤ 65535 → length t.floats ≤ 65535 → NamesFew name
+names_few : (t : Tables) (w : Word) (name : Option Name) → meaning t w ≡ name → length t.constants ≤ 65535 → length t.floats ≤ 65535
+    → NamesFew name
 names_few t w None e constants floats = tt
 names_few t w (Some (Constant i)) e constants floats = let within = constant_within t w i e in omega (arith, within, constants)
 names_few t w (Some (Variable v None)) e constants floats = tt

@@ -11,9 +11,11 @@ use Rattle.scopes.proofs.scopes.ScopesDeclared.mandatory.Goals as goal
 
 pub mandatory-requires : goal.mandatory-requires
 mandatory-requires c =
-    subst (λ (s : Scope). c.args.place < length s.assertions) (sym (seen_scope (kept_of c.self.inside.tables) c.args.self.now c.self.view_is)) c.requires
+    subst (λ (s : Scope). c.args.place < length s.assertions)
+    (sym (seen_scope (kept_of c.self.inside.tables) c.args.self.now c.self.view_is)) c.requires
 
 pub returns : goal.returns
 returns c =
-    subst (λ (s : Scope). IfOk c.mandatory.result (λ xs. option_map (λ a. a.hypotheses) (slice_get s.assertions c.args.place) ≡ Some (seen_hypotheses xs.items)))
+    subst (λ (s : Scope). IfOk c.mandatory.result (λ xs. option_map (λ a. a.hypotheses) (slice_get s.assertions c.args.place)
+    ≡ Some (seen_hypotheses xs.items)))
     (seen_scope (kept_of c.self.inside.tables) c.args.self.now c.self.view_is) c.mandatory.ensures

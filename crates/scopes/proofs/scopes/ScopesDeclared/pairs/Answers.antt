@@ -11,9 +11,11 @@ use Rattle.scopes.proofs.scopes.ScopesDeclared.pairs.Goals as goal
 
 pub pairs-requires : goal.pairs-requires
 pairs-requires c =
-    subst (λ (s : Scope). c.args.place < length s.assertions) (sym (seen_scope (kept_of c.self.inside.tables) c.args.self.now c.self.view_is)) c.requires
+    subst (λ (s : Scope). c.args.place < length s.assertions)
+    (sym (seen_scope (kept_of c.self.inside.tables) c.args.self.now c.self.view_is)) c.requires
 
 pub returns : goal.returns
 returns c =
-    subst (λ (s : Scope). IfOk c.pairs.result (λ xs. option_map (λ a. a.pairs) (slice_get s.assertions c.args.place) ≡ Some (seen_pairs xs.items)))
+    subst (λ (s : Scope). IfOk c.pairs.result (λ xs. option_map (λ a. a.pairs) (slice_get s.assertions c.args.place)
+    ≡ Some (seen_pairs xs.items)))
     (seen_scope (kept_of c.self.inside.tables) c.args.self.now c.self.view_is) c.pairs.ensures

@@ -10,5 +10,6 @@ use Rattle.scopes.proofs.scopes.ScopesDeclared.proof.Goals as goal
 
 pub returns : goal.returns
 returns c =
-    subst (λ (s : Scope). option_map (λ p. seen_proof p.now) c.proof.result ≡ option_and_then (λ a. a.proof) (slice_get s.assertions c.args.place))
+    subst (λ (s : Scope). option_map (λ p. seen_proof p.now) c.proof.result
+    ≡ option_and_then (λ a. a.proof) (slice_get s.assertions c.args.place))
     (seen_scope (kept_of c.self.inside.tables) c.args.self.now c.self.view_is) c.proof.ensures

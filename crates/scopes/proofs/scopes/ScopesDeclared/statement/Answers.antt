@@ -10,5 +10,6 @@ use Rattle.scopes.proofs.scopes.ScopesDeclared.statement.Goals as goal
 
 pub returns : goal.returns
 returns c =
-    subst (λ (s : Scope). option_map (λ ws. seen_words ws.now) c.statement.result ≡ option_map (λ a. a.statement) (slice_get s.assertions c.args.place))
+    subst (λ (s : Scope). option_map (λ ws. seen_words ws.now) c.statement.result
+    ≡ option_map (λ a. a.statement) (slice_get s.assertions c.args.place))
     (seen_scope (kept_of c.self.inside.tables) c.args.self.now c.self.view_is) c.statement.ensures

@@ -12,7 +12,8 @@ pub add_asserted-requires-clause-lawful : goal.add_asserted-requires-clause-lawf
 add_asserted-requires-clause-lawful c =
     let stands : stand_of (kept_of c.take-tables.result) ≡ c.args.self.now.stand =
     c.take-tables.ensures.stand in
-    lawful_there (kept_of c.take-tables.result) c.args.self.now.stand (asserted c.args.label.now (seen_words c.args.expression.items)) stands
+    lawful_there (kept_of c.take-tables.result) c.args.self.now.stand
+    (asserted c.args.label.now (seen_words c.args.expression.items)) stands
     c.requires.lawful
 
 pub add_asserted-requires-clause-counted : goal.add_asserted-requires-clause-counted
@@ -32,4 +33,5 @@ returns c =
     let stands : stand_of (kept_of c.take-tables.result) ≡ c.args.self.now.stand =
     c.take-tables.ensures.stand in
     c.in_ok-add_asserted.ensures.stand
-    ∙ asserted_there (kept_of c.take-tables.result) c.args.self.now.stand c.args.label.now (seen_words c.args.expression.items) (None) stands
+    ∙ asserted_there (kept_of c.take-tables.result) c.args.self.now.stand c.args.label.now (seen_words c.args.expression.items)
+    (None) stands

@@ -11,5 +11,6 @@ use Rattle.scopes.proofs.scopes.ScopesStanding.distinct_fault.Goals as goal
 pub returns : goal.returns
 returns c =
     let w = c.args.word.now in
-    subst (λ (s : Scope). c.distinct_fault.result ≡ first_fault (distinct_tests s (seen_words c.args.others.now) w)) (seen_scope (kept_of c.self.inside.tables) c.args.self.now c.self.view_is)
+    subst (λ (s : Scope). c.distinct_fault.result ≡ first_fault (distinct_tests s (seen_words c.args.others.now) w))
+    (seen_scope (kept_of c.self.inside.tables) c.args.self.now c.self.view_is)
     c.distinct_fault.ensures

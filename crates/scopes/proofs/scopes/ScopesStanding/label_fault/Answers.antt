@@ -10,5 +10,6 @@ use Rattle.scopes.proofs.scopes.ScopesStanding.label_fault.Goals as goal
 pub returns : goal.returns
 returns c =
     let w = c.args.word.now in
-    subst (λ (s : Scope). c.label_fault.result ≡ first_fault (label_tests s w)) (seen_scope (kept_of c.self.inside.tables) c.args.self.now c.self.view_is)
+    subst (λ (s : Scope). c.label_fault.result ≡ first_fault (label_tests s w))
+    (seen_scope (kept_of c.self.inside.tables) c.args.self.now c.self.view_is)
     c.label_fault.ensures

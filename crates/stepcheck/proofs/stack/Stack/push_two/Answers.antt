@@ -14,7 +14,15 @@ returns c =
     let pushed = cut-push s (one ++ two) ps c.self.invariant.within in
     let start : c.len-start.result ≡ length s = omega arith in
     let end : c.len-end.result ≡ length s + 2 = omega (arith, c.in_ok-push.ensures.len, c.in_ok-push-2.ensures.len) in
-    rw (c.in_ok-push-3.ensures.items, c.in_ok-push-2.ensures.items, c.in_ok-push.ensures.items, append_assoc s one two, start, end, ← c.self.view_is)
+    rw (
+      c.in_ok-push-3.ensures.items,
+      c.in_ok-push-2.ensures.items,
+      c.in_ok-push.ensures.items,
+      append_assoc s one two,
+      start,
+      end,
+      ← c.self.view_is,
+    )
     pushed
 
 pub invariant_of-self : goal.invariant_of-self
