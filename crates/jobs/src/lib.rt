@@ -1,4 +1,20 @@
 //! What the program does, on texts instead of files: a job from bytes to bytes.
+//!
+//! The proofs of a text are checked; what is printed is `ok` and the number of its assertions:
+//!
+//! ```
+//! fn checked_text<R: AllocGlobal + Threads + Wait + Sync>(
+//!     rt: &R,
+//!     keys: RandomState,
+//!     db: Vec<u8>,
+//! ) -> Option<Vec<u8>> {
+//!     let job = Job::Check { db };
+//!     match perform(rt, rt.alloc(), keys, &job, &Open) {
+//!         Ok(printed) => Some(printed.out),
+//!         Err(_fault) => None,
+//!     }
+//! }
+//! ```
 #![tactic(auto)]
 
 mod answering;

@@ -1,4 +1,16 @@
 //! A library of assertions with ranks: the commands on it and their replies, what each does, as a definition; and histories of transactions.
+//!
+//! A transaction of one command:
+//!
+//! ```
+//! fn renaming(alloc: Global) -> Result<Transaction, AllocError> {
+//!     let old = Label::from_slice(alloc, b"th1")?;
+//!     let new = Label::from_slice(alloc, b"refl")?;
+//!     let mut commands = Vec::new(alloc);
+//!     commands.push(Command::Rename { old, new })?;
+//!     Ok(Sequence::from_vec(commands))
+//! }
+//! ```
 #![tactic(auto)]
 
 mod alike;

@@ -1,4 +1,13 @@
 //! Texts of the Metamath profile, read exactly and written back; frames and substitution: the front of the crates that have them.
+//!
+//! A text is read and written back in canonical layout:
+//!
+//! ```
+//! fn canonical(alloc: Global, keys: RandomState, text: &[u8]) -> anyhow::Result<Vec<u8>> {
+//!     let database = read_database(alloc, keys, text)?;
+//!     Ok(write_database(alloc, &database)?)
+//! }
+//! ```
 #![tactic(auto)]
 
 pub use mmframes::{SubstituteError, frame_of, substitute};

@@ -1,4 +1,14 @@
 //! Scripts of commands on a library, read exactly.
+//!
+//! A script of two transactions:
+//!
+//! ```
+//! fn count_transactions(alloc: Global, prelude: &Prelude) -> anyhow::Result<usize> {
+//!     let text = b"begin rename th1 refl show refl commit begin list commit";
+//!     let script = read_script(alloc, prelude, text)?;
+//!     Ok(script.as_slice().len())
+//! }
+//! ```
 #![tactic(auto)]
 
 mod laws;
