@@ -89,7 +89,7 @@ pub asks : (t : Tables) (entries : List Entry) (left : ℕ) → Asks (history_la
 asks t entries left = record {
   words = λ cs u.
       let commit = bytes_eq u.text (codes "commit") in
-      let next = command_word u.text in
+      let next = command_word t u.text in
       ap (λ x. cond commit x (asked entries left cs u next)) (behind_is entries left cs [])
       ∙ ap (λ x. cond commit (Ok (behind entries left cs [])) x) (asked_is entries left cs u next);
   commands = λ cs p u. asked_is entries left cs u (in_command t p u);

@@ -2,9 +2,9 @@
 -- limits.
 use Rattle.std.proofs.Common.{◌≡◌, ◌≢◌, ◌≤◌, ℕ, ◌+◌, true, false, List, [], ◌∷◌, Option, Some, None, Result, Ok, Err, length, get_or, map}
 use Rattle.std.proofs.Common.{refl, sym, subst, arith}
-use Rattle.std.specs.Prelude.{IsTrue, slice_get, if◌then◌else◌}
+use Rattle.std.specs.Prelude.{IsTrue, is_some, slice_get, if◌then◌else◌}
 use mathlib.Core.Bool.{not}
-use Rattle.std.specs.List.{All, AllZip, Contains}
+use Rattle.std.specs.List.{All, AllByRecursion, AllZip, Contains}
 use Rattle.std.proofs.lemmas.Bool.{cond-true, not-false}
 use Rattle.std.proofs.lemmas.List.Elements.{All-contains, All-head, All-map, All-tail, All-weaker, Contains-append_right, Contains-get_or}
 use Rattle.std.proofs.lemmas.List.Sorted.{All-permutation, length_permutation}
@@ -16,8 +16,10 @@ use Rattle.mmsyntax.specs.declared.statement.Kind.{Kind}
 use Rattle.mmsyntax.specs.declared.statement.Kind.TheVariants.{Axiom, Theorem}
 use Rattle.mmsyntax.specs.declared.statement.Step.{Step}
 use Rattle.mmsyntax.specs.declared.statement.Step.TheVariants.{Float, Hyp, Cite}
-use Rattle.mmsyntax.specs.Tables.{Tables}
+use Rattle.mmtext.specs.Words.{is_label}
+use Rattle.mmsyntax.specs.Tables.{Tables, meaning}
 use Rattle.mmsyntax.specs.Assertions.{is_lawful_label, CitesApart, IsNameable, IsUnit}
+use Rattle.mmsyntax.proofs.Again.{plain_label}
 use Rattle.library.specs.declared.library.Ranked.{Ranked}
 use Rattle.library.specs.declared.command.Command.{Command}
 use Rattle.library.specs.declared.command.Command.TheVariants as command
@@ -39,6 +41,7 @@ use Rattle.librarylaws.proofs.Fronts.{fronts_verify}
 use Rattle.librarylaws.proofs.Listing.{library_shown}
 use Rattle.library.proofs.Places.{is_labelled-own, has_somewhere, found_in}
 use Rattle.library.proofs.Showing.{InRange, units_of}
+use Rattle.scripts.specs.Scripts.{Part, a_word, a_rank, a_unit, a_proof, parts}
 
 -- ---- what can stand in a text
 
@@ -51,17 +54,20 @@ pub record IsSound (t : Tables) (e : Ranked) : Type 0 where
   pub unit : IsUnit t e.assertion
   pub lawful : IsLawful t (label_of e)
 
--- another proof of L names at most 1,000 hypotheses, and no L.k beside them
-abbrev pub IsSoundCommand : Tables → Command → Type 0
-IsSoundCommand t (command.Add rank a) = IsSound t (record { rank = rank; assertion = a })
-IsSoundCommand t (command.Reprove label steps) =
+-- a part of a command: a word of letters, digits and the like; a rank; a unit; another proof of L names at most 1,000 hypotheses, and no L.k
+-- beside them
+abbrev pub IsSoundPart : Tables → Part → Type 0
+IsSoundPart t (a_word w) = (w ≢ []) × (is_label w ≡ true)
+IsSoundPart t (a_rank rank) = rank ≤ highest_rank
+IsSoundPart t (a_unit a) = IsUnit t a × IsLawful t a.label
+IsSoundPart t (a_proof label steps) =
     IsLawful t label × (steps ≢ []) × (length steps ≤ 16384) × All (IsNameable t 1000) steps × All (CitesApart label) steps
-IsSoundCommand t (command.Replace label old new) = IsLawful t label × IsLawful t old × IsLawful t new
-IsSoundCommand t (command.Rename old new) = IsLawful t old × IsLawful t new
-IsSoundCommand t (command.Move label rank) = IsLawful t label × (rank ≤ highest_rank)
-IsSoundCommand t (command.Delete label) = IsLawful t label
-IsSoundCommand t (command.Show label) = IsLawful t label
-IsSoundCommand t command.List = Unit {0}
+
+abbrev pub IsSoundCommand : Tables → Command → Type 0
+IsSoundCommand t c = AllByRecursion (IsSoundPart t) (parts c)
+
+named : (t : Tables) (label : List ℕ) → IsLawful t label → IsSoundPart t (a_word label)
+named t label h = let p = plain_label label (is_some (meaning t label)) h in (p.some, p.label)
 
 abbrev pub IsSoundLine : Tables → Line → Type 0
 IsSoundLine t l = (l.rank ≤ highest_rank) × IsLawful t l.label × (l.citers ≤ 4096)
@@ -140,9 +146,10 @@ module _ (s : Setting) (lib : List Ranked) (v : Verifies s lib) (e : Edited) whe
       let new : Ranked = record { rank = rank; assertion = a } in
       let ts = add_tests s lib rank a in
       let same = (tests_passed ts (done (added lib rank a)) e h).1 in
-      let there : Contains (added lib rank a) new = Contains-append_right lib (new ∷ []) new (0, omega arith, refl) in (
-        sound_in s e.library (edit_verifies s lib (command.Add rank a) e v fits h) new
-            (subst (λ (x : Edited). Contains x.library new) same there),
+      let there : Contains (added lib rank a) new = Contains-append_right lib (new ∷ []) new (0, omega arith, refl) in
+      let sound = sound_in s e.library (edit_verifies s lib (command.Add rank a) e v fits h) new
+      (subst (λ (x : Edited). Contains x.library new) same there) in (
+        (((λ i. absurd cc), refl), (sound.small, ((sound.unit, sound.lawful), tt))),
         done_reply ts (added lib rank a) h,
       )
 
@@ -161,15 +168,17 @@ module _ (s : Setting) (lib : List Ranked) (v : Verifies s lib) (e : Edited) whe
       let there : Contains next new = subst (λ g. Contains next g) is_new (contains_mapped at lib f own.0) in
       let sound = sound_in s e.library (edit_verifies s lib (command.Reprove label steps) e v fits h) new
       (subst (λ (x : Edited). Contains x.library new) passed.1 there) in
-      let theorem = theorem_where f.assertion.kind (where_none (is_axiom f.assertion.kind) NotATheorem passed.0.0) in (
-        (
-          found_lawful s lib v label f here.1,
-          sound.unit.some_steps theorem,
-          fits.0,
-          All-weaker (IsNameable s.prelude (length f.assertion.hyps)) (IsNameable s.prelude 1000)
-              (nameable_more s.prelude (length f.assertion.hyps) 1000 sound.unit.fits.few_hyps) steps sound.unit.steps,
-          fits.1,
-        ),
+      let theorem = theorem_where f.assertion.kind (where_none (is_axiom f.assertion.kind) NotATheorem passed.0.0) in
+      let lawful = found_lawful s lib v label f here.1 in
+      let proof : IsSoundPart s.prelude (a_proof label steps) = (
+        lawful,
+        sound.unit.some_steps theorem,
+        fits.0,
+        All-weaker (IsNameable s.prelude (length f.assertion.hyps)) (IsNameable s.prelude 1000)
+            (nameable_more s.prelude (length f.assertion.hyps) 1000 sound.unit.fits.few_hyps) steps sound.unit.steps,
+        fits.1,
+      ) in (
+        (((λ i. absurd cc), refl), (named s.prelude label lawful, (proof, tt))),
         done_reply (reprove_tests s lib steps f) next here.2,
       )
 
@@ -180,30 +189,37 @@ module _ (s : Setting) (lib : List Ranked) (v : Verifies s lib) (e : Edited) whe
       let here = found_then (found lib label) (λ f. tested (replace_tests s lib old new f) (done (next f))) e h in
       let ts = replace_tests s lib old new here.0 in
       let passed = (tests_passed ts (done (next here.0)) e here.2).0 in
-      let known : (l : List ℕ) → where_so (not (has lib l)) UnknownLabel ≡ None → IsLawful s.prelude l =
-      λ l none. labelled_lawful s lib v l (not-false (has lib l) (where_none (not (has lib l)) UnknownLabel none)) in
-      ((found_lawful s lib v label here.0 here.1, known old passed.0, known new passed.1.0), done_reply ts (next here.0) here.2)
+      let known : (l : List ℕ) → where_so (not (has lib l)) UnknownLabel ≡ None → IsSoundPart s.prelude (a_word l) =
+      λ l none. named s.prelude l (labelled_lawful s lib v l (not-false (has lib l) (where_none (not (has lib l)) UnknownLabel none))) in
+      let citer = named s.prelude label (found_lawful s lib v label here.0 here.1) in (
+        (((λ i. absurd cc), refl), (citer, (known old passed.0, (known new passed.1.0, tt)))),
+        done_reply ts (next here.0) here.2,
+      )
 
   rename_sound : (old new : List ℕ) → edit s lib (command.Rename old new) ≡ Ok e → IsSoundTurn s.prelude (command.Rename old new) e.reply
   rename_sound old new h =
       let ts = rename_tests s lib old new in
       let passed = (tests_passed ts (done (rename old new lib)) e h).0 in
       let known = not-false (has lib old) (where_none (not (has lib old)) UnknownLabel passed.0) in
-      ((labelled_lawful s lib v old known, lawful_where s new passed.1.0), done_reply ts (rename old new lib) h)
+      let before = named s.prelude old (labelled_lawful s lib v old known) in
+      let after = named s.prelude new (lawful_where s new passed.1.0) in
+      ((((λ i. absurd cc), refl), (before, (after, tt))), done_reply ts (rename old new lib) h)
 
   move_sound : (label : List ℕ) (rank : ℕ) → rank ≤ highest_rank → edit s lib (command.Move label rank) ≡ Ok e
       → IsSoundTurn s.prelude (command.Move label rank) e.reply
   move_sound label rank fits h =
       let next = changed label (with_rank rank) lib in
       let here = found_then (found lib label) (λ f. tested (move_tests lib rank f) (done next)) e h in
-      ((found_lawful s lib v label here.0 here.1, fits), done_reply (move_tests lib rank here.0) next here.2)
+      let moved = named s.prelude label (found_lawful s lib v label here.0 here.1) in
+      ((((λ i. absurd cc), refl), (moved, (fits, tt))), done_reply (move_tests lib rank here.0) next here.2)
 
   delete_sound : (label : List ℕ) → edit s lib (command.Delete label) ≡ Ok e → IsSoundTurn s.prelude (command.Delete label) e.reply
   delete_sound label h =
       let ts : Tests = still_cited lib label ∷ [] in
       let next = without label lib in
       let here = found_then (found lib label) (λ f. tested ts (done next)) e h in
-      (found_lawful s lib v label here.0 here.1, done_reply ts next here.2)
+      let gone = named s.prelude label (found_lawful s lib v label here.0 here.1) in
+      ((((λ i. absurd cc), refl), (gone, tt)), done_reply ts next here.2)
 
   show_sound : (label : List ℕ) → edit s lib (command.Show label) ≡ Ok e → IsSoundTurn s.prelude (command.Show label) e.reply
   show_sound label h =
@@ -211,7 +227,7 @@ module _ (s : Setting) (lib : List Ranked) (v : Verifies s lib) (e : Edited) whe
       let f = here.0 in
       let own = found_in lib label f here.1 in
       let same : shown lib f ≡ e = (let ok : Ok (shown lib f) ≡ Ok e = here.2 in cc) in (
-        found_lawful s lib v label f here.1,
+        (((λ i. absurd cc), refl), (named s.prelude label (found_lawful s lib v label f here.1), tt)),
         subst (λ (x : Edited). IsSoundReply s.prelude x.reply) same (few_citers s lib v (label_of f), sound_in s lib v f own.0),
       )
 
@@ -226,7 +242,7 @@ module _ (s : Setting) (lib : List Ranked) (v : Verifies s lib) (e : Edited) whe
   edit_sound command.List fits h =
       let all : Edited = record { library = lib; reply = Listed (map (line lib) (in_export_order lib)) } in
       let same : all ≡ e = (let ok : Ok all ≡ Ok e = h in cc) in
-      (tt, subst (λ (x : Edited). IsSoundReply s.prelude x.reply) same (lines_sound s lib v))
+      ((((λ i. absurd cc), refl), tt), subst (λ (x : Edited). IsSoundReply s.prelude x.reply) same (lines_sound s lib v))
 
 -- ---- transactions
 

@@ -1,5 +1,5 @@
 -- What words of a text spell is spelled by the words of its canonical lines: commands, replies, entries, histories.
-use Rattle.std.proofs.Common.{◌≡◌, ◌≢◌, ℕ, false, true, List, [], ◌∷◌, ◌++◌, length, map, refl, sym, ap, subst, ◌∙◌, arith}
+use Rattle.std.proofs.Common.{◌≡◌, ◌≢◌, ℕ, false, true, List, [], ◌∷◌, ◌++◌, length, map, refl, sym, ap, subst, ◌∙◌, arith, append-nil}
 use Rattle.std.specs.Prelude.{codes, IsTrue}
 use Rattle.std.specs.Fmt.{decimal}
 use Rattle.std.specs.List.{flat_map, AllByRecursion}
@@ -11,7 +11,7 @@ use Rattle.mmsyntax.specs.Tables.{Tables}
 use Rattle.mmsyntax.specs.Grammar.{Statement, spelling}
 use Rattle.mmsyntax.specs.Layout.{line, step_word, unit_statement, statement_text, assertion_text, IsSoundPrelude, HasUnitSpelling}
 use Rattle.mmsyntax.specs.Assertions.{IsUnit, is_lawful_label}
-use Rattle.mmsyntax.proofs.Distinct.{all_left, all_right}
+use Rattle.mmsyntax.proofs.Distinct.{all_append, all_left, all_right}
 use Rattle.mmsyntax.proofs.Lines.{IsWritten, written_words, statement_words, clean_statement, clean_lawful, said, no_comment}
 use Rattle.mmsyntax.proofs.Canonical.{sound_tables, spelled_unit}
 use Rattle.mmsyntax.proofs.Blocks.{unit_declares}
@@ -21,11 +21,12 @@ use Rattle.library.specs.declared.command.Command.TheVariants as command
 use Rattle.library.specs.declared.command.Line.{Line}
 use Rattle.library.specs.declared.command.Reply.{Reply}
 use Rattle.library.specs.declared.command.Reply.TheVariants as reply
-use Rattle.scripts.specs.Scripts.{DeclaresAlone, OtherSteps, SpellsCommand, SpellsEach, SpellsTransaction}
+use Rattle.scripts.specs.Scripts.{DeclaresAlone, OtherSteps, Part, a_word, a_rank, a_unit, a_proof, parts, SpellsPart}
+use Rattle.scripts.specs.Scripts.{SpellsCommand, SpellsEach, SpellsTransaction}
 use Rattle.library.specs.declared.history.Entry.{Entry}
 use Rattle.library.specs.declared.history.Entry.TheVariants as entry
 use Rattle.historytext.specs.Grammar.{kind_word, SpellsLine, SpellsReply, SpellsEntry, SpellsHistory}
-use Rattle.historytext.specs.Layout.{command_text, transaction_text, set_in, line_text, reply_text, entry_text, history_text}
+use Rattle.historytext.specs.Layout.{part_words, command_words, command_text, transaction_text, set_in, line_text, reply_text, entry_text, history_text}
 use Rattle.historytext.proofs.Told.{Told, told_nothing, told_append, told_line, told_statement, told_space, told_set_in}
 use Rattle.historytext.proofs.OtherSteps.{other_words}
 
@@ -115,52 +116,54 @@ line_retold l ws h s =
 -- ---- transactions
 
 module _ (t : Tables) (sound : IsSoundPrelude t) where
+  -- the canonical words of a part
+  part_again : (p : Part) (ws : List Word) → AllByRecursion IsWritten ws → SpellsPart t p ws
+      → SpellsPart t p (part_words t p) × AllByRecursion IsWritten (part_words t p)
+  part_again (a_word w) ws h s = ((s.0, refl), subst (AllByRecursion IsWritten) s.1 h)
+  part_again (a_rank rank) ws h s =
+      let number = subst IsWritten s.1.digits (subst (AllByRecursion IsWritten) s.2 h).0 in
+      ((decimal rank, record { digits = refl; small = s.1.small }, refl), (number, tt))
+  part_again (a_unit a) ws h s =
+      let unit = unit_retold t s.0 a sound (subst (AllByRecursion IsWritten) s.2 h) s.1 in
+      ((unit_statement t a, unit.declares, refl), unit.told.written)
+  part_again (a_proof label steps) ws h s =
+      let same : s.0 ≡ map (step_word t label) steps = other_words t label s.0 steps s.2 in
+      let e : ws ≡ part_words t (a_proof label steps) = s.3 ∙ ap (λ vs. codes "$=" ∷ (vs ++ codes "$." ∷ [])) same in (
+        (
+          map (step_word t label) steps,
+          subst (λ (vs : List Word). vs ≢ []) same s.1,
+          subst (λ vs. OtherSteps t label [] vs steps) same s.2,
+          refl,
+        ),
+        subst (AllByRecursion IsWritten) e h,
+      )
+
+  parts_again : (ps : List Part) (ws : List Word) → AllByRecursion IsWritten ws → SpellsEach (SpellsPart t) ps ws
+      → SpellsEach (SpellsPart t) ps (flat_map (part_words t) ps) × AllByRecursion IsWritten (flat_map (part_words t) ps)
+  parts_again [] ws h s = (refl, tt)
+  parts_again (p ∷ ps) ws h s =
+      let all = subst (AllByRecursion IsWritten) s.2 h in
+      let one = part_again p s.0 (all_left IsWritten s.0 s.1 all) s.3 in
+      let more = parts_again ps s.1 (all_right IsWritten s.0 s.1 all) s.4 in
+      let first = part_words t p in
+      let rest = flat_map (part_words t) ps in
+      ((first, rest, refl, one.0, more.0), all_append IsWritten first rest one.1 more.1)
+
+  -- the lines of a command: an assertion that is added stands in those of its own
+  command_told : (c : Command) → AllByRecursion IsWritten (command_words t c) → Told (command_text t c) (command_words t c)
+  command_told (command.Add rank a) all =
+      let first = codes "add" ∷ decimal rank ∷ [] in
+      let unit = unit_statement t a in
+      let words = spelling unit in
+      told_append (line first) (assertion_text t a) first (words ++ []) (told_line first (all.0, (all.1.0, tt)))
+      (subst (Told (assertion_text t a)) (sym (append-nil words)) (told_statement unit (all_left IsWritten words [] all.1.1)))
+  command_told c all = told_line (command_words t c) all
+
   command_retold : (c : Command) (ws : List Word) → AllByRecursion IsWritten ws → SpellsCommand t c ws
       → Retold (SpellsCommand t) c (command_text t c)
-  command_retold (command.Add rank a) ws h s =
-      let all = subst (AllByRecursion IsWritten) s.4 h in
-      let number = subst IsWritten s.2.digits all.1.0 in
-      let unit = unit_retold t s.1 a sound all.1.1 s.3 in
-      let first = codes "add" ∷ decimal rank ∷ [] in
-      record {
-        words = first ++ spelling (unit_statement t a);
-        spelled = (decimal rank, unit_statement t a, record { digits = refl; small = s.2.small }, unit.declares, refl);
-        told = told_append (line first) (assertion_text t a) first (spelling (unit_statement t a))
-            (told_line first (all.0, (number, tt))) unit.told;
-      }
-  command_retold (command.Reprove label steps) ws h s =
-      let named = map (step_word t label) steps in
-      let same : s.0 ≡ named = other_words t label s.0 steps s.3 in
-      let words = codes "reprove" ∷ label ∷ codes "$=" ∷ (named ++ codes "$." ∷ []) in
-      let e : ws ≡ words = s.4 ∙ ap (λ vs. codes "reprove" ∷ label ∷ codes "$=" ∷ (vs ++ codes "$." ∷ [])) same in
-      record {
-        words = words;
-        spelled = (named, s.1, subst (λ (vs : List Word). vs ≢ []) same s.2, subst (λ vs. OtherSteps t label [] vs steps) same s.3, refl);
-        told = told_line words (subst (AllByRecursion IsWritten) e h);
-      }
-  command_retold (command.Replace label old new) ws h s =
-      let words = codes "replace" ∷ label ∷ old ∷ new ∷ [] in
-      record { words = words; spelled = (s.0, s.1, s.2, refl); told = told_line words (subst (AllByRecursion IsWritten) s.3 h) }
-  command_retold (command.Rename old new) ws h s =
-      let words = codes "rename" ∷ old ∷ new ∷ [] in
-      record { words = words; spelled = (s.0, s.1, refl); told = told_line words (subst (AllByRecursion IsWritten) s.2 h) }
-  command_retold (command.Move label rank) ws h s =
-      let words = codes "move" ∷ label ∷ decimal rank ∷ [] in
-      let e : ws ≡ words = s.3 ∙ ap (λ w. codes "move" ∷ label ∷ w ∷ []) s.2.digits in
-      record {
-        words = words;
-        spelled = (decimal rank, s.1, record { digits = refl; small = s.2.small }, refl);
-        told = told_line words (subst (AllByRecursion IsWritten) e h);
-      }
-  command_retold (command.Delete label) ws h s =
-      let words = codes "delete" ∷ label ∷ [] in
-      record { words = words; spelled = (s.0, refl); told = told_line words (subst (AllByRecursion IsWritten) s.1 h) }
-  command_retold (command.Show label) ws h s =
-      let words = codes "show" ∷ label ∷ [] in
-      record { words = words; spelled = (s.0, refl); told = told_line words (subst (AllByRecursion IsWritten) s.1 h) }
-  command_retold command.List ws h s =
-      let words = codes "list" ∷ [] in
-      record { words = words; spelled = refl; told = told_line words (subst (AllByRecursion IsWritten) s h) }
+  command_retold c ws h s =
+      let again = parts_again (parts c) ws h s in
+      record { words = command_words t c; spelled = again.0; told = command_told c again.1 }
 
   transaction_retold : (commands : List Command) (ws : List Word) → AllByRecursion IsWritten ws → SpellsTransaction t commands ws
       → Retold (SpellsTransaction t) commands (transaction_text t commands)

@@ -23,7 +23,6 @@ use Rattle.mmsyntax.proofs.Lines.{IsWritten, clean_lawful, said, no_comment}
 use Rattle.mmsyntax.proofs.Numbered.{label_bytes, decimal_label}
 use Rattle.mmsyntax.proofs.Written.{keyword, label_written, step_written}
 use Rattle.library.specs.declared.command.Command.{Command}
-use Rattle.library.specs.declared.command.Command.TheVariants as command
 use Rattle.library.specs.declared.command.Line.{Line}
 use Rattle.library.specs.declared.command.Reply.{Reply}
 use Rattle.library.specs.declared.command.Reply.TheVariants as reply
@@ -32,8 +31,9 @@ use Rattle.library.specs.declared.history.Entry.TheVariants as entry
 use Rattle.library.specs.declared.library.Ranked.{Ranked}
 use Rattle.library.specs.Histories.{told, EntriesFit, IsLegal}
 use Rattle.library.specs.Library.{highest_rank, Setting, Verifies}
-use Rattle.historytext.proofs.Naming.{IsLawful, IsSoundCommand, IsSoundLine, IsSoundReply, IsSoundTurn, legal_sound}
-use Rattle.scripts.specs.Scripts.{IsPlain, IsRank, SpellsCommand, SpellsEach, SpellsTransaction}
+use Rattle.historytext.proofs.Naming.{IsLawful, IsSoundPart, IsSoundCommand, IsSoundLine, IsSoundReply, IsSoundTurn, legal_sound}
+use Rattle.scripts.specs.Scripts.{IsPlain, IsRank, Part, a_word, a_rank, a_unit, a_proof, parts, SpellsPart}
+use Rattle.scripts.specs.Scripts.{SpellsCommand, SpellsEach, SpellsTransaction}
 use Rattle.historytext.specs.Grammar.{highest_count, IsCount, kind_word, SpellsLine, SpellsReply, SpellsEntry, SpellsHistory}
 use Rattle.historytext.specs.Layout.{history_text}
 use Rattle.historytext.specs.Laws.{LegalHistoriesAreSpelled}
@@ -105,87 +105,48 @@ module _ (t : Tables) (sound : IsSoundPrelude t) where
 
   -- ---- commands
 
-  -- the name of a command and the label that it asks for
-  labelled_written : (name label : Word) → IsWritten name → IsLawful t label → AllByRecursion IsWritten (name ∷ label ∷ [])
-  labelled_written name label h lawful = (h, (lawful_written label lawful, tt))
-
   some_words : (label : Word) (steps : List Step) → steps ≢ [] → map (step_word t label) steps ≢ []
   some_words label [] some = absurd (some refl)
   some_words label (x ∷ steps) some = λ e. absurd cc
 
-  reprove_spelled : (label : Word) (steps : List Step) → IsSoundCommand t (command.Reprove label steps)
-      → IsSpelled (SpellsCommand t) (command.Reprove label steps)
-  reprove_spelled label steps h =
+  proof_spelled : (label : Word) (steps : List Step) → IsSoundPart t (a_proof label steps) → IsSpelled (SpellsPart t) (a_proof label steps)
+  proof_spelled label steps h =
       let p = plain_of label h.0 in
       let s = sound_tables t sound in
       let nameable = recursion_from_All (IsNameable t 1000) steps h.3 in
       let apart = recursion_from_All (CitesApart label) steps h.4 in
       let named = map (step_word t label) steps in
       record {
-        words = codes "reprove" ∷ label ∷ codes "$=" ∷ (named ++ codes "$." ∷ []);
-        spelled = (
-          named,
-          is_plain label h.0,
-          some_words label steps h.1,
-          others_again t s label p.some p.label [] steps nameable apart h.2,
-          refl,
-        );
+        words = codes "$=" ∷ (named ++ codes "$." ∷ []);
+        spelled = (named, some_words label steps h.1, others_again t s label p.some p.label [] steps nameable apart h.2, refl);
         written = (
-          name_written (codes "reprove") (λ e. absurd cc) refl,
-          (
-            lawful_written label h.0,
-            (
-              keyword 61 refl refl,
-              all_append IsWritten named (codes "$." ∷ [])
-                  (all_map (IsNameable t 1000) IsWritten (step_word t label) steps (step_written t s label p.label 1000 (omega arith)) nameable)
-                  (keyword 46 refl refl, tt),
-            ),
-          ),
+          keyword 61 refl refl,
+          all_append IsWritten named (codes "$." ∷ [])
+              (all_map (IsNameable t 1000) IsWritten (step_word t label) steps (step_written t s label p.label 1000 (omega arith)) nameable)
+              (keyword 46 refl refl, tt),
         );
       }
 
-  command_spelled : (c : Command) → IsSoundCommand t c → IsSpelled (SpellsCommand t) c
-  command_spelled (command.Add rank a) h =
-      let unit = unit_alone t a sound h.unit h.lawful in
+  part_spelled : (p : Part) → IsSoundPart t p → IsSpelled (SpellsPart t) p
+  part_spelled (a_word w) h = record { words = w ∷ []; spelled = (label_plain w h.1, refl); written = (name_written w h.0 h.1, tt) }
+  part_spelled (a_rank rank) h = record {
+    words = decimal rank ∷ [];
+    spelled = (decimal rank, rank_is rank h, refl);
+    written = (rank_written rank h, tt);
+  }
+  part_spelled (a_unit a) h =
+      let unit = unit_alone t a sound h.0 h.1 in
       record {
-        words = codes "add" ∷ decimal rank ∷ spelling (unit_statement t a);
-        spelled = (decimal rank, unit_statement t a, rank_is rank h.small, unit.declares, refl);
-        written = (name_written (codes "add") (λ e. absurd cc) refl, (rank_written rank h.small, unit.told.written));
+        words = spelling (unit_statement t a);
+        spelled = (unit_statement t a, unit.declares, refl);
+        written = unit.told.written;
       }
-  command_spelled (command.Reprove label steps) h = reprove_spelled label steps h
-  command_spelled (command.Replace label old new) h = record {
-    words = codes "replace" ∷ label ∷ old ∷ new ∷ [];
-    spelled = (is_plain label h.0, is_plain old h.1, is_plain new h.2, refl);
-    written = (
-      name_written (codes "replace") (λ e. absurd cc) refl,
-      (lawful_written label h.0, (lawful_written old h.1, (lawful_written new h.2, tt))),
-    );
-  }
-  command_spelled (command.Rename old new) h = record {
-    words = codes "rename" ∷ old ∷ new ∷ [];
-    spelled = (is_plain old h.0, is_plain new h.1, refl);
-    written = (name_written (codes "rename") (λ e. absurd cc) refl, (lawful_written old h.0, (lawful_written new h.1, tt)));
-  }
-  command_spelled (command.Move label rank) h = record {
-    words = codes "move" ∷ label ∷ decimal rank ∷ [];
-    spelled = (decimal rank, is_plain label h.0, rank_is rank h.1, refl);
-    written = (name_written (codes "move") (λ e. absurd cc) refl, (lawful_written label h.0, (rank_written rank h.1, tt)));
-  }
-  command_spelled (command.Delete label) h = record {
-    words = codes "delete" ∷ label ∷ [];
-    spelled = (is_plain label h, refl);
-    written = labelled_written (codes "delete") label (name_written (codes "delete") (λ e. absurd cc) refl) h;
-  }
-  command_spelled (command.Show label) h = record {
-    words = codes "show" ∷ label ∷ [];
-    spelled = (is_plain label h, refl);
-    written = labelled_written (codes "show") label (name_written (codes "show") (λ e. absurd cc) refl) h;
-  }
-  command_spelled command.List h = record {
-    words = codes "list" ∷ [];
-    spelled = refl;
-    written = (name_written (codes "list") (λ e. absurd cc) refl, tt);
-  }
+  part_spelled (a_proof label steps) h = proof_spelled label steps h
+
+  command_spelled : (c : Command) → IsSoundCommand t c → IsSpelled (SpellsCommand t) c
+  command_spelled c h =
+      let each = each_spelled (SpellsPart t) (IsSoundPart t) part_spelled (parts c) h in
+      record { words = each.words; spelled = each.spelled; written = each.written }
 
   transaction_spelled : (commands : List Command) → AllByRecursion (IsSoundCommand t) commands → IsSpelled (SpellsTransaction t) commands
   transaction_spelled commands h =

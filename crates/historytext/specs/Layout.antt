@@ -3,7 +3,9 @@ use Rattle.std.specs.Prelude.{ℕ, Bool, true, false, ◌==◌, List, [], ◌∷
 use Rattle.std.specs.List.{flat_map}
 use Rattle.std.specs.Fmt.{decimal}
 use Rattle.mmsyntax.specs.Tables.{Tables}
-use Rattle.mmsyntax.specs.Layout.{line, step_word, assertion_text}
+use Rattle.mmtext.specs.Words.{Word}
+use Rattle.mmsyntax.specs.Grammar.{spelling}
+use Rattle.mmsyntax.specs.Layout.{line, step_word, unit_statement, assertion_text}
 use Rattle.library.specs.declared.command.Command.{Command}
 use Rattle.library.specs.declared.command.Command.TheVariants as command
 use Rattle.library.specs.declared.command.Line.{Line}
@@ -12,21 +14,25 @@ use Rattle.library.specs.declared.command.Reply.TheVariants.{Done, Shown, Listed
 use Rattle.library.specs.declared.history.Entry.{Entry}
 use Rattle.library.specs.declared.history.Entry.TheVariants as entry
 use Rattle.library.specs.Fitting.{CommandFits, ReplyFits}
+use Rattle.scripts.specs.Scripts.{Part, a_word, a_rank, a_unit, a_proof, parts}
 use Rattle.historytext.specs.Grammar.{kind_word}
 
 -- ---- transactions: a line for begin, each command and commit
 
--- the lines of a command: an assertion that is added stands in lines of its own
+-- the words of a part of a command, and of all its parts
+abbrev pub part_words : Tables → Part → List Word
+part_words t (a_word w) = w ∷ []
+part_words t (a_rank rank) = decimal rank ∷ []
+part_words t (a_unit a) = spelling (unit_statement t a)
+part_words t (a_proof label steps) = codes "$=" ∷ (map (step_word t label) steps ++ codes "$." ∷ [])
+
+abbrev pub command_words : Tables → Command → List Word
+command_words t c = flat_map (part_words t) (parts c)
+
+-- a command is one line of its words, but an assertion that it adds stands in lines of its own
 abbrev pub command_text : Tables → Command → List ℕ
 command_text t (command.Add rank a) = line (codes "add" ∷ decimal rank ∷ []) ++ assertion_text t a
-command_text t (command.Reprove label steps) =
-    line (codes "reprove" ∷ label ∷ codes "$=" ∷ (map (step_word t label) steps ++ codes "$." ∷ []))
-command_text t (command.Replace label old new) = line (codes "replace" ∷ label ∷ old ∷ new ∷ [])
-command_text t (command.Rename old new) = line (codes "rename" ∷ old ∷ new ∷ [])
-command_text t (command.Move label rank) = line (codes "move" ∷ label ∷ decimal rank ∷ [])
-command_text t (command.Delete label) = line (codes "delete" ∷ label ∷ [])
-command_text t (command.Show label) = line (codes "show" ∷ label ∷ [])
-command_text t command.List = line (codes "list" ∷ [])
+command_text t c = line (command_words t c)
 
 abbrev pub transaction_text : Tables → List Command → List ℕ
 transaction_text t commands = line (codes "begin" ∷ []) ++ (flat_map (command_text t) commands ++ line (codes "commit" ∷ []))

@@ -158,15 +158,15 @@ begin_row entries left t =
     if bytes_eq t.text (codes "begin") then at entries (in_entry left (at_command [])) else fault t BadToken
 
 -- commit, or the word of a command
-abbrev pub command_row : List Entry → ℕ → List Command → Token → Result Progress TextFault
-command_row entries left commands t =
-    if bytes_eq t.text (codes "commit") then replies_left entries left commands []
-    else asked entries left commands t (command_word t.text)
+abbrev pub command_row : Tables → List Entry → ℕ → List Command → Token → Result Progress TextFault
+command_row t entries left commands token =
+    if bytes_eq token.text (codes "commit") then replies_left entries left commands []
+    else asked entries left commands token (command_word t token.text)
 
 -- the row of each place in an entry
 abbrev pub in_entry_row : Tables → List Entry → ℕ → EntryPlace → Token → Result Progress TextFault
 in_entry_row t entries left at_begin token = begin_row entries left token
-in_entry_row t entries left (at_command commands) token = command_row entries left commands token
+in_entry_row t entries left (at_command commands) token = command_row t entries left commands token
 in_entry_row t entries left (within commands place) token = asked entries left commands token (in_command t place token)
 in_entry_row t entries left (at_reply commands replies) token = answered entries left commands replies token (reply_word token.text)
 in_entry_row t entries left (answering commands replies place) token =

@@ -131,7 +131,7 @@ fn read_at_command<'a>(
     token: Token<'a>,
 ) -> Result<Place<'a>, Stop>
     ensures { (t : Tables) → Gives (seen_at t entries.new.items) result
-        (command_row entries.old.items left commands.items (seen token.entry)) }
+        (command_row t entries.old.items left commands.items (seen token.entry)) }
 {
     if token.text == b"commit".as_slice() {
         return go_on_replying(entries, left, commands, Vec::new(alloc));

@@ -9,6 +9,7 @@ ghost use Rattle.library.specs.Fitting.{CommandFits};
 ghost use Rattle.historytext.specs.Layout.{command_text, transaction_text};
 
 use crate::numbers::put_number;
+use itoa::Buffer;
 use library::Command;
 use mmsyntax::{Assertion, Label, Prelude, Proof};
 use mmwriter::{put_assertion, put_steps, put_word};
@@ -45,41 +46,34 @@ fn put_reprove(
     out.extend_from_slice(b" $.\n")
 }
 
-/// A line with the name of a command and the label that it asks for.
-fn put_labelled(out: &mut Vec<u8>, name: &[u8], label: &Label) -> Result<(), AllocError>
-    ensures { OnOk result (out.new.items ≡ out.old.items ++ line (name.now ∷ label.now ∷ [])) }
+/// Words, each with a space before it.
+fn put_words(out: &mut Vec<u8>, words: &[&[u8]]) -> Result<(), AllocError>
+    ensures { OnOk result (out.new.items ≡ out.old.items ++ flat_map (λ w. 32 ∷ w.now) words.now) }
+{
+    for word in words {
+        put_word(out, word)?;
+    }
+    Ok(())
+}
+
+/// A line of the word of a command and of those behind it.
+fn put_line(out: &mut Vec<u8>, name: &[u8], words: &[&[u8]]) -> Result<(), AllocError>
+    ensures { OnOk result (out.new.items ≡ out.old.items ++ (name.now ++ (flat_map (λ w. 32 ∷ w.now) words.now ++ 10 ∷ []))) }
 {
     out.extend_from_slice(name)?;
-    put_word(out, label.as_slice())?;
-    out.extend_from_slice(b"\n")
-}
-
-fn put_replace(out: &mut Vec<u8>, label: &Label, old: &Label, new: &Label) -> Result<(), AllocError>
-    ensures { OnOk result (out.new.items ≡ out.old.items ++ line (codes "replace" ∷ label.now ∷ old.now ∷ new.now ∷ [])) }
-{
-    out.extend_from_slice(b"replace")?;
-    put_word(out, label.as_slice())?;
-    put_word(out, old.as_slice())?;
-    put_word(out, new.as_slice())?;
-    out.extend_from_slice(b"\n")
-}
-
-fn put_rename(out: &mut Vec<u8>, old: &Label, new: &Label) -> Result<(), AllocError>
-    ensures { OnOk result (out.new.items ≡ out.old.items ++ line (codes "rename" ∷ old.now ∷ new.now ∷ [])) }
-{
-    out.extend_from_slice(b"rename")?;
-    put_word(out, old.as_slice())?;
-    put_word(out, new.as_slice())?;
+    put_words(out, words)?;
     out.extend_from_slice(b"\n")
 }
 
 fn put_move(out: &mut Vec<u8>, label: &Label, rank: u32) -> Result<(), AllocError>
     ensures { OnOk result (out.new.items ≡ out.old.items ++ line (codes "move" ∷ label.now ∷ decimal rank ∷ [])) }
 {
-    out.extend_from_slice(b"move")?;
-    put_word(out, label.as_slice())?;
-    put_number(out, rank as u64)?;
-    out.extend_from_slice(b"\n")
+    let mut digits = Buffer::new();
+    put_line(
+        out,
+        b"move",
+        &[label.as_slice(), digits.format(rank as u64).as_bytes()],
+    )
 }
 
 /// The lines of a command. A hypothesis that a step names is counted from 1, as in a text.
@@ -90,12 +84,18 @@ fn put_command(out: &mut Vec<u8>, prelude: &Prelude, command: &Command) -> Resul
     match command {
         Command::Add { rank, assertion } => put_add(out, prelude, *rank, assertion),
         Command::Reprove { label, steps } => put_reprove(out, prelude, label, steps),
-        Command::Replace { label, old, new } => put_replace(out, label, old, new),
-        Command::Rename { old, new } => put_rename(out, old, new),
+        Command::Replace { label, old, new } => {
+            put_line(
+                out,
+                b"replace",
+                &[label.as_slice(), old.as_slice(), new.as_slice()],
+            )
+        }
+        Command::Rename { old, new } => put_line(out, b"rename", &[old.as_slice(), new.as_slice()]),
         Command::Move { label, rank } => put_move(out, label, *rank),
-        Command::Delete { label } => put_labelled(out, b"delete", label),
-        Command::Show { label } => put_labelled(out, b"show", label),
-        Command::List => out.extend_from_slice(b"list\n"),
+        Command::Delete { label } => put_line(out, b"delete", &[label.as_slice()]),
+        Command::Show { label } => put_line(out, b"show", &[label.as_slice()]),
+        Command::List => put_line(out, b"list", &[]),
     }
 }
 

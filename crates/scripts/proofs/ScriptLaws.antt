@@ -98,15 +98,17 @@ steps_apart t label front (w ∷ ws) steps h d =
 command_fits : (t : Tables) → IsSoundPrelude t → (c : Command) (ws : List Word) → AllByRecursion IsWord ws → SpellsCommand t c ws
     → CommandFits t c
 command_fits t sound (command.Add rank a) ws words d =
-    let all = subst (AllByRecursion IsWord) d.4 words in (d.2.small, unit_fits t d.1 a sound all.1.1 d.3)
+    let number = d.4 in
+    let unit = number.4 in
+    let all = all_right IsWord d.0 d.1 (subst (AllByRecursion IsWord) d.2 words) in
+    let last = all_right IsWord number.0 number.1 (subst (AllByRecursion IsWord) number.2 all) in
+    let said = subst (AllByRecursion IsWord) unit.3.2 (all_left IsWord unit.0 unit.1 (subst (AllByRecursion IsWord) unit.2 last)) in
+    (number.3.1.small, unit_fits t unit.3.0 a sound said unit.3.1)
 command_fits t sound (command.Reprove label steps) ws words d =
-    (few_steps t label [] d.0 steps (omega arith) d.3, steps_apart t label [] d.0 steps (All-nil (CitesApart label)) d.3)
-command_fits t sound (command.Replace label old new) ws words d = tt
-command_fits t sound (command.Rename old new) ws words d = tt
-command_fits t sound (command.Move label rank) ws words d = d.2.small
-command_fits t sound (command.Delete label) ws words d = tt
-command_fits t sound (command.Show label) ws words d = tt
-command_fits t sound command.List ws words d = tt
+    let s = d.4.4.3 in
+    (few_steps t label [] s.0 steps (omega arith) s.2, steps_apart t label [] s.0 steps (All-nil (CitesApart label)) s.2)
+command_fits t sound (command.Move label rank) ws words d = d.4.4.3.1.small
+command_fits t sound c ws words d = tt
 
 -- what holds of each item that words spell, holds of all
 pub each_fits : {A : Type 0} (spells : A → List Word → Type 0) (P : A → Type 0)

@@ -38,7 +38,7 @@ led_is s cs u (bad_text f) = refl
 pub asks : (t : Tables) (s : Script) → Asks (script_language t) t (asking s)
 asks t s = record {
   words = λ cs u.
-      ap (λ x. cond (bytes_eq u.text (codes "commit")) (at (s ++ cs ∷ []) outermost) x) (led_is s cs u (command_word u.text));
+      ap (λ x. cond (bytes_eq u.text (codes "commit")) (at (s ++ cs ∷ []) outermost) x) (led_is s cs u (command_word t u.text));
   commands = λ cs p u. led_is s cs u (in_command t p u);
 }
 

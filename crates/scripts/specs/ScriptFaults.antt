@@ -19,32 +19,24 @@ use Rattle.mmsyntax.specs.Faults.{Position, at_start, outside, row, unit_at}
 use Rattle.library.specs.declared.command.Command.{Command}
 use Rattle.library.specs.declared.command.Command.TheVariants as command
 use Rattle.library.specs.Fitting.{highest_rank}
+use Rattle.scripts.specs.declared.script.place.Verb.{Verb}
+use Rattle.scripts.specs.declared.script.place.Verb.TheVariants as verb
 use Rattle.scripts.specs.Scripts.{other_step_of}
 
 -- ---- places
 
--- a place in a command
+-- a place in a command or behind it: what is wanted there, and where that leads
 pub data CommandPlace : Type 0 where
-  -- behind add; behind its rank, in the assertion
-  at_rank : CommandPlace
-  in_unit : ℕ → Position → CommandPlace
-  -- behind reprove, its label, and $= with steps
-  at_reproved : CommandPlace
-  at_proof : Word → CommandPlace
-  in_proof : Word → List Step → CommandPlace
-  -- behind replace, its label, and the label whose citations it is to replace
-  at_recited : CommandPlace
-  at_old_citation : Word → CommandPlace
-  at_new_citation : Word → Word → CommandPlace
-  -- behind rename, and the old label
-  at_old_label : CommandPlace
-  at_new_label : Word → CommandPlace
-  -- behind move, and its label
-  at_moved : CommandPlace
-  at_new_rank : Word → CommandPlace
-  -- behind delete; behind show
-  at_deleted : CommandPlace
-  at_shown : CommandPlace
+  -- behind the whole command: nothing
+  at_end : Command → CommandPlace
+  -- a label; a rank
+  at_label : (Word → CommandPlace) → CommandPlace
+  at_rank : (ℕ → CommandPlace) → CommandPlace
+  -- the assertion with which the command is whole, or the rest of it
+  in_unit : (Assertion → Command) → Position → CommandPlace
+  -- another proof of an assertion with a label: $=, and behind it and steps one more, or $.
+  at_proof : Word → (List Step → Command) → CommandPlace
+  in_proof : Word → (List Step → Command) → List Step → CommandPlace
 
 -- a place in a script: between transactions; behind begin and whole commands; and in a command behind those
 pub data Place : Type 0 where
@@ -66,77 +58,93 @@ pub data Led : Type 0 where
   bad : FaultKind → Led
   bad_text : TextFault → Led
 
+-- a token leads to a place in the command or behind it
+abbrev pub to : CommandPlace → Led
+to (at_end c) = whole_command c
+to place = inside place
+
 -- where a label is wanted: any token without $
-abbrev pub label_row : Token → (Word → Led) → Led
-label_row t behind = if has_dollar t.text then bad BadToken else behind t.text
+abbrev pub label_row : Token → (Word → CommandPlace) → Led
+label_row t behind = if has_dollar t.text then bad BadToken else to (behind t.text)
 
 -- decimal digits without leading zero, or 0
 abbrev pub is_numeral : Word → Bool
 is_numeral w = bytes_eq w (codes "0") || is_count w
 
 -- where a rank is wanted: a numeral, up to the highest
-abbrev pub rank_row : Token → (ℕ → Led) → Led
+abbrev pub rank_row : Token → (ℕ → CommandPlace) → Led
 rank_row t behind =
-    if is_numeral t.text then (if nat_lt highest_rank (digits_value 10 t.text) then bad TooLong else behind (digits_value 10 t.text))
+    if is_numeral t.text then (if nat_lt highest_rank (digits_value 10 t.text) then bad TooLong else to (behind (digits_value 10 t.text)))
     else bad BadToken
 
--- behind add and its rank: the assertion, over the prelude alone
+-- the assertion stands over the prelude alone
 abbrev pub unit_start : Tables → Position
 unit_start t = record { known = prelude_alone t; place = at_start outside }
 
 -- the assertion is whole, or not yet
-abbrev pub unit_led : ℕ → Position → Option Assertion → Led
-unit_led rank p None = inside (in_unit rank p)
-unit_led rank p (Some a) = whole_command (command.Add rank a)
+abbrev pub unit_led : (Assertion → Command) → Position → Option Assertion → Led
+unit_led made p None = inside (in_unit made p)
+unit_led made p (Some a) = whole_command (made a)
 
 -- a token of the assertion
-abbrev pub unit_row : ℕ → Result Position TextFault → Led
-unit_row rank (Ok p) = unit_led rank p (unit_at p.known p.place)
-unit_row rank (Err f) = bad_text f
+abbrev pub unit_row : (Assertion → Command) → Result Position TextFault → Led
+unit_row made (Ok p) = unit_led made p (unit_at p.known p.place)
+unit_row made (Err f) = bad_text f
 
--- behind the label of reprove: $=
-abbrev pub proof_start : Word → Mark → Led
-proof_start label mark.Proof = inside (in_proof label [])
-proof_start label _ = bad BadToken
+-- where a proof is wanted: $=
+abbrev pub proof_start : Word → (List Step → Command) → Mark → Led
+proof_start label made mark.Proof = inside (in_proof label made [])
+proof_start label made _ = bad BadToken
 
 -- one more step
-abbrev pub step_led : Word → List Step → Result Step FaultKind → Led
-step_led label steps (Ok s) = inside (in_proof label (steps ++ s ∷ []))
-step_led label steps (Err kind) = bad kind
+abbrev pub step_led : Word → (List Step → Command) → List Step → Result Step FaultKind → Led
+step_led label made steps (Ok s) = inside (in_proof label made (steps ++ s ∷ []))
+step_led label made steps (Err kind) = bad kind
 
 -- a step, or the $. behind one
-abbrev pub step_row : Tables → Word → List Step → Token → Mark → Led
-step_row t label (s ∷ steps) token mark.End = whole_command (command.Reprove label (s ∷ steps))
-step_row t label steps token m = step_led label steps (other_step_of t label (length steps) token.text)
+abbrev pub step_row : Tables → Word → (List Step → Command) → List Step → Token → Mark → Led
+step_row t label made (s ∷ steps) token mark.End = whole_command (made (s ∷ steps))
+step_row t label made steps token m = step_led label made steps (other_step_of t label (length steps) token.text)
 
 -- the row of each place in a command
 abbrev pub in_command : Tables → CommandPlace → Token → Led
-in_command t at_rank token = rank_row token (λ rank. inside (in_unit rank (unit_start t)))
-in_command t (in_unit rank p) token = unit_row rank (row p token)
-in_command t at_reproved token = label_row token (λ label. inside (at_proof label))
-in_command t (at_proof label) token = proof_start label (mark_of token.text)
-in_command t (in_proof label steps) token = step_row t label steps token (mark_of token.text)
-in_command t at_recited token = label_row token (λ label. inside (at_old_citation label))
-in_command t (at_old_citation label) token = label_row token (λ old. inside (at_new_citation label old))
-in_command t (at_new_citation label old) token = label_row token (λ new. whole_command (command.Replace label old new))
-in_command t at_old_label token = label_row token (λ old. inside (at_new_label old))
-in_command t (at_new_label old) token = label_row token (λ new. whole_command (command.Rename old new))
-in_command t at_moved token = label_row token (λ label. inside (at_new_rank label))
-in_command t (at_new_rank label) token = rank_row token (λ rank. whole_command (command.Move label rank))
-in_command t at_deleted token = label_row token (λ label. whole_command (command.Delete label))
-in_command t at_shown token = label_row token (λ label. whole_command (command.Show label))
+in_command t (at_end c) token = bad BadToken
+in_command t (at_label behind) token = label_row token behind
+in_command t (at_rank behind) token = rank_row token behind
+in_command t (in_unit made p) token = unit_row made (row p token)
+in_command t (at_proof label made) token = proof_start label made (mark_of token.text)
+in_command t (in_proof label made steps) token = step_row t label made steps token (mark_of token.text)
+
+-- which command a word begins
+abbrev pub verb_of : Word → Option Verb
+verb_of w =
+    if bytes_eq w (codes "add") then Some verb.Add else (
+    if bytes_eq w (codes "reprove") then Some verb.Reprove else (
+    if bytes_eq w (codes "replace") then Some verb.Replace else (
+    if bytes_eq w (codes "rename") then Some verb.Rename else (
+    if bytes_eq w (codes "move") then Some verb.Move else (
+    if bytes_eq w (codes "delete") then Some verb.Delete else (
+    if bytes_eq w (codes "show") then Some verb.Show else (
+    if bytes_eq w (codes "list") then Some verb.List else None)))))))
+
+-- what each command wants behind its word, in order, and which it is with that
+abbrev pub behind_verb : Tables → Verb → CommandPlace
+behind_verb t verb.Add = at_rank (λ rank. in_unit (λ a. command.Add rank a) (unit_start t))
+behind_verb t verb.Reprove = at_label (λ label. at_proof label (λ steps. command.Reprove label steps))
+behind_verb t verb.Replace = at_label (λ label. at_label (λ old. at_label (λ new. at_end (command.Replace label old new))))
+behind_verb t verb.Rename = at_label (λ old. at_label (λ new. at_end (command.Rename old new)))
+behind_verb t verb.Move = at_label (λ label. at_rank (λ rank. at_end (command.Move label rank)))
+behind_verb t verb.Delete = at_label (λ label. at_end (command.Delete label))
+behind_verb t verb.Show = at_label (λ label. at_end (command.Show label))
+behind_verb t verb.List = at_end command.List
 
 -- the word of a command
-abbrev pub command_word : Word → Led
-command_word w =
-    if bytes_eq w (codes "add") then inside at_rank else (
-    if bytes_eq w (codes "reprove") then inside at_reproved else (
-    if bytes_eq w (codes "replace") then inside at_recited else (
-    if bytes_eq w (codes "rename") then inside at_old_label else (
-    if bytes_eq w (codes "move") then inside at_moved else (
-    if bytes_eq w (codes "delete") then inside at_deleted else (
-    if bytes_eq w (codes "show") then inside at_shown else (
-    if bytes_eq w (codes "list") then whole_command command.List else bad BadToken)))))))
+abbrev pub verb_row : Tables → Option Verb → Led
+verb_row t None = bad BadToken
+verb_row t (Some v) = to (behind_verb t v)
+
+abbrev pub command_word : Tables → Word → Led
+command_word t w = verb_row t (verb_of w)
 
 -- ---- in a script
 
@@ -156,15 +164,15 @@ abbrev pub begin_row : List (List Command) → Token → Result Progress TextFau
 begin_row script t = if bytes_eq t.text (codes "begin") then at script (at_command []) else fault t BadToken
 
 -- behind begin and whole commands: commit, or the word of a command
-abbrev pub command_row : List (List Command) → List Command → Token → Result Progress TextFault
-command_row script commands t =
-    if bytes_eq t.text (codes "commit") then at (script ++ commands ∷ []) outermost
-    else led script commands t (command_word t.text)
+abbrev pub command_row : Tables → List (List Command) → List Command → Token → Result Progress TextFault
+command_row t script commands token =
+    if bytes_eq token.text (codes "commit") then at (script ++ commands ∷ []) outermost
+    else led script commands token (command_word t token.text)
 
 -- the row of each place
 abbrev pub in_place : Tables → List (List Command) → Place → Token → Result Progress TextFault
 in_place t script outermost token = begin_row script token
-in_place t script (at_command commands) token = command_row script commands token
+in_place t script (at_command commands) token = command_row t script commands token
 in_place t script (within commands place) token = led script commands token (in_command t place token)
 
 -- a script may end between transactions

@@ -1,5 +1,5 @@
 -- Of the code's inside, apart from the rules: how the values of the reader of scripts are seen.
-use Rattle.std.specs.Prelude.{◌≡◌, ℕ, nat_lt, Bool, true, false, List, Option, Result, Ok, Err, if◌then◌else◌}
+use Rattle.std.specs.Prelude.{◌≡◌, ℕ, nat_lt, Bool, true, false, List, [], ◌∷◌, Option, Result, Ok, Err, if◌then◌else◌}
 use Rattle.std.specs.Str.Parse.{digits_value}
 use Rattle.mmtext.specs.declared.fault.FaultKind.TheVariants.{BadToken, TooLong}
 use Rattle.mmtext.specs.declared.fault.Stop.{Stop}
@@ -13,18 +13,21 @@ use Rattle.mmsyntax.specs.Tables.{Tables}
 use Rattle.statementreader.specs.UnitReadings.{position_of}
 use Rattle.scripts.specs.declared.script.place.CommandPlace.{CommandPlace as CodeCommandPlace}
 use Rattle.scripts.specs.declared.script.place.CommandPlace.TheVariants as code
+use Rattle.scripts.specs.declared.script.place.Verb.{Verb}
+use Rattle.scripts.specs.declared.script.place.Verb.TheVariants as verb
+use Rattle.scripts.specs.declared.script.place.Labels.{Labels}
+use Rattle.scripts.specs.declared.script.place.Labels.TheVariants as labels
 use Rattle.scripts.specs.declared.script.place.Place.{Place as CodePlace}
 use Rattle.scripts.specs.declared.script.place.Place.TheVariants as outer
 use Rattle.scripts.specs.declared.script.place.Led.{Led as CodeLed}
 use Rattle.scripts.specs.declared.script.place.Led.TheVariants as led
 use Rattle.scripts.specs.declared.script.place.ScriptReader.{ScriptReader}
 use Rattle.library.specs.declared.command.Command.{Command}
+use Rattle.library.specs.declared.command.Command.TheVariants as command
 use Rattle.library.specs.Fitting.{highest_rank}
 use Rattle.scripts.specs.Scripts.{counted_from_0}
-use Rattle.scripts.specs.ScriptFaults.{CommandPlace, at_rank, in_unit, at_reproved, at_proof, in_proof, at_old_label, at_new_label}
-use Rattle.scripts.specs.ScriptFaults.{at_recited, at_old_citation, at_new_citation}
-use Rattle.scripts.specs.ScriptFaults.{at_moved, at_new_rank, at_deleted, at_shown, Place, outermost, at_command, within, Progress}
-use Rattle.scripts.specs.ScriptFaults.{Led, inside, whole_command, bad, bad_text, is_numeral, in_command}
+use Rattle.scripts.specs.ScriptFaults.{CommandPlace, at_end, at_label, in_unit, in_proof, Place, outermost, at_command, within, Progress}
+use Rattle.scripts.specs.ScriptFaults.{Led, inside, whole_command, bad, bad_text, is_numeral, behind_verb, in_command}
 
 -- ---- words
 
@@ -48,31 +51,30 @@ rank_at t = number_at highest_rank t
 
 -- ---- places
 
+-- labels of the code
+abbrev pub seen_labels : Labels → List Word
+seen_labels labels.NoLabel = []
+seen_labels (labels.One label) = label ∷ []
+seen_labels (labels.Two label second) = label ∷ second ∷ []
+
+-- where labels lead: nowhere on, if there are more than are wanted, which is at no place of a text
+abbrev pub behind_labels : CommandPlace → List Word → CommandPlace
+behind_labels p [] = p
+behind_labels (at_label behind) (label ∷ more) = behind_labels (behind label) more
+behind_labels p (label ∷ more) = at_end command.List
+
 -- a place of the code in a command
 abbrev pub seen_command_place : Tables → CodeCommandPlace → CommandPlace
-seen_command_place t code.AtRank = at_rank
-seen_command_place t (code.InUnit rank r) = in_unit rank (position_of t r)
-seen_command_place t code.AtReproved = at_reproved
-seen_command_place t (code.AtProof label) = at_proof label
-seen_command_place t (code.InProof label steps) = in_proof label steps
-seen_command_place t code.AtRecited = at_recited
-seen_command_place t (code.AtOldCitation label) = at_old_citation label
-seen_command_place t (code.AtNewCitation label old) = at_new_citation label old
-seen_command_place t code.AtOldLabel = at_old_label
-seen_command_place t (code.AtNewLabel old) = at_new_label old
-seen_command_place t code.AtMoved = at_moved
-seen_command_place t (code.AtNewRank label) = at_new_rank label
-seen_command_place t code.AtDeleted = at_deleted
-seen_command_place t code.AtShown = at_shown
+seen_command_place t (code.Behind v given) = behind_labels (behind_verb t v) (seen_labels given)
+seen_command_place t (code.InUnit rank r) = in_unit (λ a. command.Add rank a) (position_of t r)
+seen_command_place t (code.InProof label steps) = in_proof label (λ given. command.Reprove label given) steps
 
--- a label is wanted at a place of the code in a command
-abbrev pub AsksLabel : CodeCommandPlace → Type 0
-AsksLabel code.AtRank = ⊥
-AsksLabel (code.InUnit rank r) = ⊥
-AsksLabel (code.AtProof label) = ⊥
-AsksLabel (code.InProof label steps) = ⊥
-AsksLabel (code.AtNewRank label) = ⊥
-AsksLabel _ = Unit {0}
+-- behind labels of a command no rank and no proof is wanted
+abbrev pub AsksLabel : Verb → Labels → Type 0
+AsksLabel verb.Add labels.NoLabel = ⊥
+AsksLabel verb.Reprove (labels.One label) = ⊥
+AsksLabel verb.Move (labels.One label) = ⊥
+AsksLabel _ _ = Unit {0}
 
 -- a place of the code
 abbrev pub seen_place : Tables → CodePlace → Place

@@ -53,29 +53,44 @@ OtherSteps t label front (w ∷ ws) steps =
 abbrev pub DeclaresAlone : Tables → Statement → Assertion → Type 0
 DeclaresAlone t statement a = (known : Known) × Declares (prelude_alone t) statement known × (known.units.assertions ≡ a ∷ [])
 
--- command = add RANK unit | reprove LABEL $= step+ $. | replace LABEL LABEL LABEL | rename LABEL LABEL | move LABEL RANK | delete LABEL
---     | show LABEL | list
-abbrev pub SpellsCommand : Tables → Command → List Word → Type 0
-SpellsCommand t (command.Add rank a) ws =
-    (number : Word) × (unit : Statement) × IsRank number rank × DeclaresAlone t unit a × (ws ≡ codes "add" ∷ number ∷ spelling unit)
-SpellsCommand t (command.Reprove label steps) ws =
-    (words : List Word) × IsPlain label × (words ≢ []) × OtherSteps t label [] words steps
-    × (ws ≡ codes "reprove" ∷ label ∷ codes "$=" ∷ (words ++ codes "$." ∷ []))
-SpellsCommand t (command.Replace label old new) ws =
-    IsPlain label × IsPlain old × IsPlain new × (ws ≡ codes "replace" ∷ label ∷ old ∷ new ∷ [])
-SpellsCommand t (command.Rename old new) ws = IsPlain old × IsPlain new × (ws ≡ codes "rename" ∷ old ∷ new ∷ [])
-SpellsCommand t (command.Move label rank) ws =
-    (number : Word) × IsPlain label × IsRank number rank × (ws ≡ codes "move" ∷ label ∷ number ∷ [])
-SpellsCommand t (command.Delete label) ws = IsPlain label × (ws ≡ codes "delete" ∷ label ∷ [])
-SpellsCommand t (command.Show label) ws = IsPlain label × (ws ≡ codes "show" ∷ label ∷ [])
-SpellsCommand t command.List ws = ws ≡ codes "list" ∷ []
+-- what a command consists of: words that stand for themselves, which are its own word and its labels; a rank; the assertion that it adds;
+-- another proof of an assertion with a label
+pub data Part : Type 0 where
+  a_word : Word → Part
+  a_rank : ℕ → Part
+  a_unit : Assertion → Part
+  a_proof : Word → List Step → Part
 
--- ---- scripts
+-- the parts of each command, in order
+abbrev pub parts : Command → List Part
+parts (command.Add rank a) = a_word (codes "add") ∷ a_rank rank ∷ a_unit a ∷ []
+parts (command.Reprove label steps) = a_word (codes "reprove") ∷ a_word label ∷ a_proof label steps ∷ []
+parts (command.Replace label old new) = a_word (codes "replace") ∷ a_word label ∷ a_word old ∷ a_word new ∷ []
+parts (command.Rename old new) = a_word (codes "rename") ∷ a_word old ∷ a_word new ∷ []
+parts (command.Move label rank) = a_word (codes "move") ∷ a_word label ∷ a_rank rank ∷ []
+parts (command.Delete label) = a_word (codes "delete") ∷ a_word label ∷ []
+parts (command.Show label) = a_word (codes "show") ∷ a_word label ∷ []
+parts command.List = a_word (codes "list") ∷ []
+
+-- LABEL | RANK | unit | $= step+ $.
+abbrev pub SpellsPart : Tables → Part → List Word → Type 0
+SpellsPart t (a_word w) ws = IsPlain w × (ws ≡ w ∷ [])
+SpellsPart t (a_rank rank) ws = (number : Word) × IsRank number rank × (ws ≡ number ∷ [])
+SpellsPart t (a_unit a) ws = (unit : Statement) × DeclaresAlone t unit a × (ws ≡ spelling unit)
+SpellsPart t (a_proof label steps) ws =
+    (words : List Word) × (words ≢ []) × OtherSteps t label [] words steps × (ws ≡ codes "$=" ∷ (words ++ codes "$." ∷ []))
 
 -- words spell items one after the other
 abbrev pub SpellsEach : {A : Type 0} → (A → List Word → Type 0) → List A → List Word → Type 0
 SpellsEach spells [] ws = ws ≡ []
 SpellsEach spells (x ∷ xs) ws = (first rest : List Word) × (ws ≡ first ++ rest) × spells x first × SpellsEach spells xs rest
+
+-- command = add RANK unit | reprove LABEL $= step+ $. | replace LABEL LABEL LABEL | rename LABEL LABEL | move LABEL RANK | delete LABEL
+--     | show LABEL | list
+abbrev pub SpellsCommand : Tables → Command → List Word → Type 0
+SpellsCommand t c ws = SpellsEach (SpellsPart t) (parts c) ws
+
+-- ---- scripts
 
 -- transaction = begin command* commit
 abbrev pub SpellsTransaction : Tables → List Command → List Word → Type 0

@@ -20,6 +20,6 @@ pub use library::{
 };
 pub use mmsyntax::numeral::{count, number};
 pub use script::{
-    CommandPlace, Led, is_numeral, read_command_word, read_in_command, read_label, read_rank,
-    read_script, take_in_command,
+    CommandPlace, Labels, Led, Verb, is_numeral, read_command_word, read_in_command, read_label,
+    read_rank, read_script, take_in_command,
 };

@@ -24,7 +24,7 @@ use mmsyntax::{MOST_BYTES, Prelude, Sequence};
 use mmtext::{FaultKind, Mark, Reader, Stop, TextFault, Token, fault_at, read};
 pub use numerals::is_numeral;
 use place::{Place, ScriptReader};
-pub use place::{CommandPlace, Led};
+pub use place::{CommandPlace, Labels, Led, Verb};
 use statementreader::Recent;
 use std::alloc::Global;
 use std::mem;
@@ -52,7 +52,7 @@ fn read_at_command<'a>(
     token: Token<'a>,
 ) -> Result<Place<'a>, Stop>
     ensures { (t : Tables) → Gives (seen_at t script.new.items) result
-        (command_row script.old.items commands.items (seen token.entry)) }
+        (command_row t script.old.items commands.items (seen token.entry)) }
 {
     if is_word(token, b"commit") {
         script.push(Sequence::from_vec(commands))?;

@@ -1,6 +1,6 @@
 //! Reading a command: one function for each kind of word in it.
 
-ghost use Rattle.std.specs.Prelude.{◌≡◌, Ok, length, IfOk};
+ghost use Rattle.std.specs.Prelude.{◌≡◌, ◌∷◌, [], Ok, length, IfOk};
 ghost use Rattle.std.specs.Str.{bytes_eq};
 ghost use Rattle.mmtext.specs.Text.{mark_of, Token as SeenToken};
 ghost use Rattle.mmtext.specs.Views.{seen, Gives};
@@ -10,12 +10,12 @@ ghost use Rattle.statementreader.specs.UnitReadings.{position_of};
 ghost use Rattle.statementreader.specs.Takings.{IsSmallNamed, TakesItem, step_or_fault};
 ghost use Rattle.statementreader.specs.Recalls.{Knows};
 ghost use Rattle.scripts.specs.Scripts.{other_step_of};
-ghost use Rattle.scripts.specs.ScriptFaults.{command_word, in_command, proof_start, step_row, unit_row};
-ghost use Rattle.scripts.specs.ScriptFaults.{at_rank, at_new_rank};
-ghost use Rattle.scripts.specs.ScriptViews.{label_at, rank_at, decided, seen_command_place, seen_led, AsksLabel, TakesInCommand};
+ghost use Rattle.scripts.specs.ScriptFaults.{behind_verb, command_word, in_command, proof_start, step_row, unit_row, verb_of};
+ghost use Rattle.scripts.specs.ScriptViews.{label_at, rank_at, behind_labels, seen_labels, AsksLabel};
+ghost use Rattle.scripts.specs.ScriptViews.{decided, seen_command_place, seen_led, TakesInCommand};
 
 use super::numerals::{hypothesis_place, is_numeral};
-use super::place::{CommandPlace, Led};
+use super::place::{CommandPlace, Labels, Led, Verb};
 use library::Command;
 use mmsyntax::numeral::number;
 use mmsyntax::{Label, Prelude, Proof};
@@ -65,7 +65,7 @@ fn read_in_unit<'a>(
     token: Token<'a>,
 ) -> Result<Led<'a>, Stop>
     ensures { Gives (seen_led prelude.now) result
-        (decided (seen token.entry) (unit_row rank (row (position_of prelude.now reader.entry) (seen token.entry)))) }
+        (decided (seen token.entry) (unit_row (λ a. Command.Add rank a) (row (position_of prelude.now reader.entry) (seen token.entry)))) }
 {
     match reader.read(alloc, prelude, token)? {
         UnitProgress::Within(reader) => Ok(Led::Inside(CommandPlace::InUnit(rank, reader))),
@@ -76,7 +76,7 @@ fn read_in_unit<'a>(
 /// Behind `reprove` and a label: `$=`.
 fn read_proof_start<'a>(alloc: Global, label: Label, token: Token<'a>) -> Result<Led<'a>, Stop>
     ensures { (t : Tables) → Gives (seen_led t) result
-        (decided (seen token.entry) (proof_start label (mark_of token.entry.text.now))) }
+        (decided (seen token.entry) (proof_start label (λ steps. Command.Reprove label steps) (mark_of token.entry.text.now))) }
 {
     if mark_word(token.text) != Mark::Proof {
         return Err(fault_at(token, FaultKind::BadToken));
@@ -125,8 +125,8 @@ fn read_step<'a>(
     mut steps: Proof,
     token: Token<'a>,
 ) -> Result<Led<'a>, Stop>
-    ensures { Gives (seen_led prelude.now) result
-        (decided (seen token.entry) (step_row prelude.now label steps (seen token.entry) (mark_of token.entry.text.now))) }
+    ensures { Gives (seen_led prelude.now) result (decided (seen token.entry)
+        (step_row prelude.now label (λ given. Command.Reprove label given) steps (seen token.entry) (mark_of token.entry.text.now))) }
 {
     if mark_word(token.text) == Mark::End && !steps.is_empty() {
         return Ok(Led::Whole(Command::Reprove { label, steps }));
@@ -201,101 +201,135 @@ pub(super) fn is_word(token: Token<'_>, word: &[u8]) -> bool
     token.text == word
 }
 
+/// The command that a word begins.
+fn verb_of(token: Token<'_>) -> Option<Verb>
+    ensures { result ≡ verb_of token.entry.text.now }
+{
+    if is_word(token, b"add") {
+        Some(Verb::Add)
+    } else if is_word(token, b"reprove") {
+        Some(Verb::Reprove)
+    } else if is_word(token, b"replace") {
+        Some(Verb::Replace)
+    } else if is_word(token, b"rename") {
+        Some(Verb::Rename)
+    } else if is_word(token, b"move") {
+        Some(Verb::Move)
+    } else if is_word(token, b"delete") {
+        Some(Verb::Delete)
+    } else if is_word(token, b"show") {
+        Some(Verb::Show)
+    } else if is_word(token, b"list") {
+        Some(Verb::List)
+    } else {
+        None
+    }
+}
+
 /// Where the word of a command leads.
 ///
 /// # Errors
 ///
 /// `BadToken` at any other token.
 pub fn read_command_word<'a>(token: Token<'a>) -> Result<Led<'a>, Stop>
-    ensures { (t : Tables) → Gives (seen_led t) result (decided (seen token.entry) (command_word token.entry.text.now)) }
+    ensures { (t : Tables) → Gives (seen_led t) result (decided (seen token.entry) (command_word t token.entry.text.now)) }
 {
-    let place = if is_word(token, b"add") {
-        CommandPlace::AtRank
-    } else if is_word(token, b"reprove") {
-        CommandPlace::AtReproved
-    } else if is_word(token, b"replace") {
-        CommandPlace::AtRecited
-    } else if is_word(token, b"rename") {
-        CommandPlace::AtOldLabel
-    } else if is_word(token, b"move") {
-        CommandPlace::AtMoved
-    } else if is_word(token, b"delete") {
-        CommandPlace::AtDeleted
-    } else if is_word(token, b"show") {
-        CommandPlace::AtShown
-    } else if is_word(token, b"list") {
-        return Ok(Led::Whole(Command::List));
-    } else {
-        return Err(fault_at(token, FaultKind::BadToken));
-    };
-    Ok(Led::Inside(place))
+    match verb_of(token) {
+        Some(Verb::List) => Ok(Led::Whole(Command::List)),
+        Some(verb) => Ok(Led::Inside(CommandPlace::Behind(verb, Labels::NoLabel))),
+        None => Err(fault_at(token, FaultKind::BadToken)),
+    }
 }
 
 /// Behind `add`: its rank.
 fn read_added_rank<'a>(alloc: Global, prelude: &Prelude, token: Token<'a>) -> Result<Led<'a>, Stop>
     ensures { Gives (seen_led prelude.now) result
-        (decided (seen token.entry) (in_command prelude.now at_rank (seen token.entry))) }
+        (decided (seen token.entry) (in_command prelude.now (behind_verb prelude.now Verb.Add) (seen token.entry))) }
 {
     let rank = read_rank(token)?;
     let reader = UnitReader::new(alloc, prelude.keys());
     Ok(Led::Inside(CommandPlace::InUnit(rank, reader)))
 }
 
-/// Where a label leads at a place that asks for one.
-fn behind_label<'a>(place: CommandPlace<'a>, label: Label) -> Led<'a>
-    requires { AsksLabel place }
-    ensures { (t : Tables) (behind : SeenToken) → label_at behind ≡ Ok label
-        → seen_led t result ≡ in_command t (seen_command_place t place.entry) behind }
+/// Behind `move` and a label: the new rank.
+fn read_new_rank<'a>(label: Label, token: Token<'a>) -> Result<Led<'a>, Stop>
+    ensures { (t : Tables) → Gives (seen_led t) result (decided (seen token.entry)
+        (in_command t (behind_labels (behind_verb t Verb.Move) (label ∷ [])) (seen token.entry))) }
 {
-    match place {
-        CommandPlace::AtReproved => Led::Inside(CommandPlace::AtProof(label)),
-        CommandPlace::AtRecited => Led::Inside(CommandPlace::AtOldCitation(label)),
-        CommandPlace::AtOldCitation(citer) => {
-            Led::Inside(CommandPlace::AtNewCitation {
-                label: citer,
-                old: label,
-            })
-        }
-        CommandPlace::AtNewCitation { label: citer, old } => Led::Whole(Command::Replace {
-            label: citer,
-            old,
-            new: label,
-        }),
-        CommandPlace::AtOldLabel => Led::Inside(CommandPlace::AtNewLabel(label)),
-        CommandPlace::AtNewLabel(old) => Led::Whole(Command::Rename { old, new: label }),
-        CommandPlace::AtMoved => Led::Inside(CommandPlace::AtNewRank(label)),
-        CommandPlace::AtDeleted => Led::Whole(Command::Delete { label }),
-        CommandPlace::AtShown => Led::Whole(Command::Show { label }),
-        _ => unreachable!(),
-    }
+    let rank = read_rank(token)?;
+    Ok(Led::Whole(Command::Move { label, rank }))
 }
 
-/// At a place that asks for a label.
-fn read_at_label<'a>(
-    alloc: Global,
-    place: CommandPlace<'a>,
+/// Where one more label leads: in the command, or behind it. Behind all its labels none may stand.
+fn behind_label<'a>(
+    verb: Verb,
+    labels: Labels,
+    label: Label,
     token: Token<'a>,
 ) -> Result<Led<'a>, Stop>
-    requires { AsksLabel place }
-    ensures { (t : Tables) → Gives (seen_led t) result
-        (decided (seen token.entry) (in_command t (seen_command_place t place.entry) (seen token.entry))) }
+    requires { AsksLabel verb labels }
+    ensures { (t : Tables) → label_at (seen token.entry) ≡ Ok label → Gives (seen_led t) result (decided (seen token.entry)
+        (in_command t (behind_labels (behind_verb t verb) (seen_labels labels)) (seen token.entry))) }
+{
+    let given = match (verb, labels) {
+        (Verb::Delete, Labels::NoLabel) => return Ok(Led::Whole(Command::Delete { label })),
+        (Verb::Show, Labels::NoLabel) => return Ok(Led::Whole(Command::Show { label })),
+        (Verb::Rename, Labels::One(old)) => {
+            return Ok(Led::Whole(Command::Rename { old, new: label }));
+        }
+        (Verb::Replace, Labels::Two(citer, old)) => {
+            return Ok(Led::Whole(Command::Replace {
+                label: citer,
+                old,
+                new: label,
+            }));
+        }
+        (Verb::Replace, Labels::One(citer)) => Labels::Two(citer, label),
+        (Verb::Reprove | Verb::Replace | Verb::Rename | Verb::Move, Labels::NoLabel) => {
+            Labels::One(label)
+        }
+        _ => return Err(fault_at(token, FaultKind::BadToken)),
+    };
+    Ok(Led::Inside(CommandPlace::Behind(verb, given)))
+}
+
+/// Where a label is wanted, or nothing.
+fn read_at_label<'a>(
+    alloc: Global,
+    verb: Verb,
+    labels: Labels,
+    token: Token<'a>,
+) -> Result<Led<'a>, Stop>
+    requires { AsksLabel verb labels }
+    ensures { (t : Tables) → Gives (seen_led t) result (decided (seen token.entry)
+        (in_command t (behind_labels (behind_verb t verb) (seen_labels labels)) (seen token.entry))) }
 {
     match read_label(alloc, token) {
-        Ok(label) => Ok(behind_label(place, label)),
+        Ok(label) => behind_label(verb, labels, label, token),
         Err(stop) => {
-            drop(place);
+            drop(labels);
             Err(stop)
         }
     }
 }
 
-/// Behind `move` and a label: the new rank.
-fn read_new_rank<'a>(label: Label, token: Token<'a>) -> Result<Led<'a>, Stop>
-    ensures { (t : Tables) → Gives (seen_led t) result
-        (decided (seen token.entry) (in_command t (at_new_rank label) (seen token.entry))) }
+/// Behind the word of a command and labels.
+fn read_behind<'a>(
+    alloc: Global,
+    prelude: &Prelude,
+    verb: Verb,
+    labels: Labels,
+    token: Token<'a>,
+) -> Result<Led<'a>, Stop>
+    ensures { Gives (seen_led prelude.now) result (decided (seen token.entry)
+        (in_command prelude.now (behind_labels (behind_verb prelude.now verb) (seen_labels labels)) (seen token.entry))) }
 {
-    let rank = read_rank(token)?;
-    Ok(Led::Whole(Command::Move { label, rank }))
+    match (verb, labels) {
+        (Verb::Add, Labels::NoLabel) => read_added_rank(alloc, prelude, token),
+        (Verb::Reprove, Labels::One(label)) => read_proof_start(alloc, label, token),
+        (Verb::Move, Labels::One(label)) => read_new_rank(label, token),
+        (verb, labels) => read_at_label(alloc, verb, labels, token),
+    }
 }
 
 /// Where a token leads that stands in a command, outside of comments. All tokens of a command are read over one prelude.
@@ -313,11 +347,8 @@ pub fn read_in_command<'a>(
         (decided (seen token.entry) (in_command prelude.now (seen_command_place prelude.now place.entry) (seen token.entry))) }
 {
     match place {
-        CommandPlace::AtRank => read_added_rank(alloc, prelude, token),
+        CommandPlace::Behind(verb, labels) => read_behind(alloc, prelude, verb, labels, token),
         CommandPlace::InUnit(rank, reader) => read_in_unit(alloc, prelude, rank, reader, token),
-        CommandPlace::AtProof(label) => read_proof_start(alloc, label, token),
         CommandPlace::InProof(label, steps) => read_step(alloc, prelude, label, steps, token),
-        CommandPlace::AtNewRank(label) => read_new_rank(label, token),
-        _ => read_at_label(alloc, place, token),
     }
 }

@@ -4,37 +4,47 @@ use library::{Command, Transaction};
 use mmsyntax::{Label, Prelude, Proof};
 use statementreader::{Recent, UnitReader};
 
+/// Which command it is, as its word says.
+#[derive(Clone, Copy)]
+pub enum Verb {
+    /// `add`: a rank and an assertion.
+    Add,
+    /// `reprove`: a label, and another proof of it.
+    Reprove,
+    /// `replace`: a label, the old label that is cited there, and the new one.
+    Replace,
+    /// `rename`: the old label and the new one.
+    Rename,
+    /// `move`: a label and the new rank.
+    Move,
+    /// `delete`: a label.
+    Delete,
+    /// `show`: a label.
+    Show,
+    /// `list`: nothing.
+    List,
+}
+
+/// The labels that were read of a command, in order. With a third one each command is whole.
+#[derive(Drop)]
+pub enum Labels {
+    /// None yet.
+    NoLabel,
+    /// The first.
+    One(Label),
+    /// The first two.
+    Two(Label, Label),
+}
+
 /// What was read of the command in which a token stands.
 #[derive(Drop)]
 pub enum CommandPlace<'a> {
-    /// Behind `add`.
-    AtRank,
-    /// Behind `add` and a rank, in the assertion.
+    /// Its word, and labels.
+    Behind(Verb, Labels),
+    /// `add`, a rank, and the front of the assertion.
     InUnit(u32, UnitReader<'a>),
-    /// Behind `reprove`.
-    AtReproved,
-    /// Behind `reprove` and a label.
-    AtProof(Label),
-    /// Behind `$=` and steps.
+    /// `reprove`, a label, `$=` and steps.
     InProof(Label, Proof),
-    /// Behind `replace`.
-    AtRecited,
-    /// Behind `replace` and a label.
-    AtOldCitation(Label),
-    /// Behind `replace`, a label and the old label.
-    AtNewCitation { label: Label, old: Label },
-    /// Behind `rename`.
-    AtOldLabel,
-    /// Behind `rename` and the old label.
-    AtNewLabel(Label),
-    /// Behind `move`.
-    AtMoved,
-    /// Behind `move` and a label.
-    AtNewRank(Label),
-    /// Behind `delete`.
-    AtDeleted,
-    /// Behind `show`.
-    AtShown,
 }
 
 /// What was read of the transaction in which a token stands.

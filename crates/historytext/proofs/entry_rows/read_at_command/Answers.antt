@@ -15,6 +15,7 @@ returns c = λ t.
     let es = c.args.entries.now.items in
     let cs = c.args.commands.items in
     let not : bytes_eq u.text (codes "commit") ≡ false = ap (bytes_eq u.text) (sym c.as_slice.ensures) ∙ sym c.eq.ensures ∙ c.if-eq.false in
-    let is = cond-false (bytes_eq u.text (codes "commit")) (replies_left es c.args.left cs []) (asked es c.args.left cs u (command_word u.text)) not in
+    let is = cond-false (bytes_eq u.text (codes "commit")) (replies_left es c.args.left cs [])
+    (asked es c.args.left cs u (command_word t u.text)) not in
     subst (Gives (seen_at t es) c.go_on_asking.result) (sym is)
-    (c.go_on_asking.ensures t es u (command_word u.text) (c.read_command_word.ensures t))
+    (c.go_on_asking.ensures t es u (command_word t u.text) (c.read_command_word.ensures t))

@@ -12,5 +12,5 @@ returns c = λ t.
     let s = c.args.script.now.items in
     let cs = c.args.commands.items in
     let u = seen c.args.token in
-    let row = word_row s cs u (codes "commit") c.is_word.result refl c.is_word.ensures c.if-is_word.false in
-    subst (Gives (seen_at t s) c.go_on.result) (sym row) (c.go_on.ensures t s u (command_word u.text) (c.read_command_word.ensures t))
+    let row = word_row t s cs u (codes "commit") c.is_word.result refl c.is_word.ensures c.if-is_word.false in
+    subst (Gives (seen_at t s) c.go_on.result) (sym row) (c.go_on.ensures t s u (command_word t u.text) (c.read_command_word.ensures t))

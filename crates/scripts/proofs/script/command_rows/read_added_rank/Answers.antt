@@ -2,7 +2,8 @@
 use Rattle.std.proofs.Common.{ℕ}
 use Rattle.std.proofs.lemmas.Result.{err_from_is_err_and}
 use Rattle.mmtext.specs.Views.{seen}
-use Rattle.scripts.specs.ScriptFaults.{in_unit, inside, unit_start}
+use Rattle.library.specs.declared.command.Command.TheVariants as command
+use Rattle.scripts.specs.ScriptFaults.{in_unit, unit_start}
 use Rattle.scripts.proofs.ScriptRows.{rank_fails}
 use Rattle.scripts.proofs.script.command_rows.read_added_rank.Goals as goal
 
@@ -12,4 +13,4 @@ returns-in_err-rank c =
     let u = seen c.args.token in
     let p = err_from_is_err_and c.from_residual.result c.from_residual.ensures.1 in
     let why = c.in_err-rank.field-0.0 in
-    rw (p.1, p.2) (rank_fails u (λ (n : ℕ). inside (in_unit n (unit_start t))) why c.in_err-rank.ensures)
+    rw (p.1, p.2) (rank_fails u (λ (n : ℕ). in_unit (λ a. command.Add n a) (unit_start t)) why c.in_err-rank.ensures)

@@ -1,6 +1,9 @@
 -- What is left to show of `take_in_command`.
-use Rattle.std.proofs.Common.{sym, subst}
+use Rattle.std.proofs.Common.{List, sym, subst}
 use Rattle.mmtext.specs.Views.{seen}
+use Rattle.mmsyntax.specs.declared.statement.Step.{Step}
+use Rattle.mmsyntax.specs.declared.statement.Assertion.{Assertion}
+use Rattle.library.specs.declared.command.Command.TheVariants as command
 use Rattle.statementreader.specs.UnitReadings.{position_of}
 use Rattle.scripts.specs.declared.script.place.CommandPlace.{CommandPlace}
 use Rattle.scripts.specs.ScriptFaults.{in_proof, in_unit}
@@ -15,8 +18,9 @@ returns-in-InProof-clause-taken c =
     let label = c.in-InProof.label in
     let old = c.in-InProof.steps in
     let new = c.take_step.new.steps in
-    subst (λ (x : CommandPlace). TakesInCommand t (seen_command_place t x) u (in_proof label new) c.take_step.result) (sym c.in-InProof.is)
-    (step_taken t label c.as_slice.result.now old new u c.take_step.result c.as_slice.ensures c.take_step.ensures.taken)
+    let made = λ (steps : List Step). command.Reprove label steps in
+    subst (λ (x : CommandPlace). TakesInCommand t (seen_command_place t x) u (in_proof label made new) c.take_step.result)
+    (sym c.in-InProof.is) (step_taken t label c.as_slice.result.now made old new u c.take_step.result c.as_slice.ensures c.take_step.ensures.taken)
 
 pub returns-in-InUnit-clause-taken : goal.returns-in-InUnit-clause-taken
 returns-in-InUnit-clause-taken c =
@@ -24,6 +28,6 @@ returns-in-InUnit-clause-taken c =
     let u = seen c.args.token in
     let old = c.in-InUnit.reader in
     let new = c.take_word.new.self in
-    let rank = c.in-InUnit.field-0 in
-    subst (λ (x : CommandPlace). TakesInCommand t (seen_command_place t x) u (in_unit rank (position_of t new)) c.take_word.result)
-    (sym c.in-InUnit.is) (unit_taken t rank old new u c.take_word.result c.take_word.ensures.taken)
+    let made = λ (a : Assertion). command.Add c.in-InUnit.field-0 a in
+    subst (λ (x : CommandPlace). TakesInCommand t (seen_command_place t x) u (in_unit made (position_of t new)) c.take_word.result)
+    (sym c.in-InUnit.is) (unit_taken t made old new u c.take_word.result c.take_word.ensures.taken)
