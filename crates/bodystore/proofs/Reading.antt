@@ -3,6 +3,7 @@ use Rattle.std.proofs.Common.{◌≡◌, ℕ, ◌+◌, ◌^◌, ◌<◌, ◌≤�
 use Rattle.std.specs.Prelude.{All, bit_and}
 use Rattle.std.specs.List.{flat_map}
 use Rattle.std.proofs.Math.Nat.{mod-eq_of_lt}
+use Rattle.std.proofs.Math.Seq.{take-append_seam, drop-append_seam}
 use Rattle.std.proofs.lemmas.List.{take_more, drop_more, get_or-map, append_assoc, length-append, length-map}
 use Rattle.std.proofs.lemmas.List.Elements.{All-get_or, All-head, All-tail}
 use Rattle.std.proofs.lemmas.Nat.{and_mask}
@@ -24,11 +25,6 @@ pub next_words : {X : Type 0} (f : X → List ℕ) (xs : List X) (i : ℕ) (d : 
 next_words f xs i d more lt =
     ap (λ ys. flat_map f ys ++ more) (drop_more xs i d lt) ∙ append_assoc (f (get_or xs i d)) (flat_map f (drop (i + 1) xs)) more
 
--- so do those of items of one word each
-pub next_word : {X : Type 0} (f : X → ℕ) (xs : List X) (i : ℕ) (d : X) (more : List ℕ) → i < length xs
-    → map f (drop i xs) ++ more ≡ f (get_or xs i d) ∷ (map f (drop (i + 1) xs) ++ more)
-next_word f xs i d more lt = ap (λ ys. map f ys ++ more) (drop_more xs i d lt)
-
 -- a list has at most as many items as its words, where each item has some
 pub few_items : {X : Type 0} (f : X → List ℕ) → ((x : X) → 1 ≤ length (f x)) → (xs : List X) → length xs ≤ length (flat_map f xs)
 few_items f some [] = omega arith
@@ -39,6 +35,13 @@ pub one_more : {X : Type 0} (xs items after : List X) (i : ℕ) (x : X) → i < 
     → x ≡ get_or xs i x → after ≡ take (i + 1) xs
 one_more xs items after i x lt before push is =
     push ∙ ap (λ ys. ys ++ x ∷ []) before ∙ ap (λ y. take i xs ++ y ∷ []) is ∙ sym (take_more xs i x lt)
+
+-- the first so many of two lists, one behind the other, are those of the first, and the others those of the second
+pub front_back : {X : Type 0} (xs ys zs : List X) (n : ℕ) → zs ≡ xs ++ ys → n ≡ length xs → (take n zs ≡ xs) × (drop n zs ≡ ys)
+front_back xs ys zs n is here = (
+  ap (λ k. take k zs) here ∙ ap (take (length xs)) is ∙ take-append_seam xs ys,
+  ap (λ k. drop k zs) here ∙ ap (drop (length xs)) is ∙ drop-append_seam xs ys,
+)
 
 -- the low byte of a byte is the byte
 pub low_bytes : (bytes : List ℕ) → All (λ byte. byte < 2 ^ 8) bytes → map (λ w. bit_and w 255) bytes ≡ bytes

@@ -1,5 +1,5 @@
 -- Bodies: what stands in the store for a label, a statement and a proof, as lists of words. The layout is this project's own.
-use Rattle.std.specs.Prelude.{ℕ, ◌+◌, ◌*◌, ◌^◌, ◌<◌, List, ◌∷◌, ◌++◌, length, map, All}
+use Rattle.std.specs.Prelude.{ℕ, ◌+◌, ◌*◌, ◌/◌, ◌%◌, ◌^◌, ◌<◌, ◌==◌, if◌then◌else◌, List, ◌∷◌, ◌++◌, length, map, All}
 use Rattle.std.specs.List.{flat_map}
 use Rattle.mmsyntax.specs.declared.statement.Symbol.{Symbol}
 use Rattle.mmsyntax.specs.declared.statement.Symbol.TheVariants.{Const, Var}
@@ -56,6 +56,11 @@ abbrev pub step_word : StoredStep → ℕ
 step_word (Float i) = 3 * i
 step_word (Hyp k) = 3 * k + 1
 step_word (Slot s) = 3 * s + 2
+
+-- the step of a word; some step, where no step has the word
+abbrev pub stored_step : ℕ → StoredStep
+stored_step w =
+    let place = w / 3 % 2 ^ 32 in if w % 3 == 0 then Float place else (if w % 3 == 1 then Hyp place else Slot place)
 
 -- a proof is one word for each step
 abbrev pub proof_body : List StoredStep → List ℕ

@@ -1,3 +1,5 @@
 pub mod Bodies
 pub mod Stages
 pub mod Laws
+pub mod Citing
+pub mod Listing

@@ -1,6 +1,6 @@
 //! Words that are read from the front.
 
-ghost use Rattle.std.specs.Prelude.{◌≡◌, ◌≤◌, ℕ, List, ◌∷◌, [], length};
+ghost use Rattle.std.specs.Prelude.{◌≡◌, ◌≤◌, ℕ, List, ◌∷◌, [], length, take, drop};
 
 use std::marker::Model;
 
@@ -50,5 +50,15 @@ impl<'a> Cursor<'a> {
         } else {
             self.rest.len()
         }
+    }
+
+    /// The next words, so many, or all where there are fewer; they are read then.
+    pub(crate) fn take(&mut self, count: usize) -> &'a [u64]
+        ensures words { result.now ≡ take count self.old }
+        ensures rest { self.new ≡ drop count self.old }
+    {
+        let (words, rest) = self.rest.split_at(count.min(self.rest.len()));
+        self.rest = rest;
+        words
     }
 }

@@ -2,9 +2,9 @@
 //!
 //! Words of a body give what it is of. Other words give some value, in memory in proportion to their number.
 
-ghost use Rattle.std.specs.Prelude.{◌≡◌, ℕ, ◌^◌, ◌<◌, List, ◌++◌, All, IfOk};
-ghost use Rattle.bodystore.specs.Bodies.{label_body, expression_words, statement_body, proof_body};
-ghost use Rattle.bodystore.specs.Bodies.{IsSmallSymbol, IsSmallStatement, IsSmallStep};
+ghost use Rattle.std.specs.Prelude.{◌≡◌, ℕ, ◌^◌, ◌<◌, List, ◌++◌, map, All, IfOk};
+ghost use Rattle.bodystore.specs.Bodies.{label_body, pair_word, expression_words, statement_body, proof_body};
+ghost use Rattle.bodystore.specs.Bodies.{IsSmallPair, IsSmallSymbol, IsSmallStatement, IsSmallStep};
 
 use crate::cursor::Cursor;
 use crate::statement::Statement;
@@ -40,13 +40,10 @@ pub fn decode_statement(alloc: Global, words: &[u64]) -> Result<Statement, Alloc
     let kind = kind_of(cursor.next());
     let pair_count = cursor.count();
     let hyp_count = cursor.count();
-    let mut pairs = Vec::new(alloc);
-    'pairs: for _ in 0..pair_count {
-        pairs.push(pair_of(cursor.next()))?;
-    }
-    let mut hyps = Vec::new(alloc);
-    'hyps: for _ in 0..hyp_count {
-        hyps.push(read_expression(alloc, &mut cursor)?)?;
+    let pairs = pairs_of(alloc, cursor.take(pair_count))?;
+    let mut hyps = Vec::with_capacity(alloc, hyp_count)?;
+    for _ in 0..hyp_count {
+        hyps.push_reserved(read_expression(alloc, &mut cursor)?);
     }
     let statement = read_expression(alloc, &mut cursor)?;
     Ok(Statement {
@@ -67,9 +64,20 @@ pub fn decode_proof(alloc: Global, words: &[u64]) -> Result<Vec<StoredStep>, All
 {
     let mut steps = Vec::with_capacity(alloc, words.len())?;
     for word in words {
-        steps.push(StoredStep::of_word(*word))?;
+        steps.push_reserved(StoredStep::of_word(*word));
     }
     Ok(steps)
+}
+
+/// The pairs of words, one of each.
+fn pairs_of(alloc: Global, words: &[u64]) -> Result<Vec<(u32, u32)>, AllocError>
+    ensures { (pairs : List _) → All IsSmallPair pairs → map pair_word pairs ≡ words.now → IfOk result (λ made. made.items ≡ pairs) }
+{
+    let mut pairs = Vec::with_capacity(alloc, words.len())?;
+    for word in words {
+        pairs.push_reserved(pair_of(*word));
+    }
+    Ok(pairs)
 }
 
 /// The next expression: its length, and as many symbols.
@@ -78,9 +86,10 @@ fn read_expression(alloc: Global, cursor: &mut Cursor<'_>) -> Result<Expr, Alloc
         → IfOk result (λ made. (made ≡ e) × (cursor.new ≡ more)) }
 {
     let count = cursor.count();
-    let mut symbols = Vec::new(alloc);
-    for _ in 0..count {
-        symbols.push(symbol_of(cursor.next()))?;
+    let words = cursor.take(count);
+    let mut symbols = Vec::with_capacity(alloc, words.len())?;
+    for word in words {
+        symbols.push_reserved(symbol_of(*word));
     }
     Ok(Sequence::from_vec(symbols))
 }

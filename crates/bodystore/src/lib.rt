@@ -1,6 +1,7 @@
 //! Bodies: labels, statements and proofs as lists of words, both ways; and the ranges that a session has staged.
 #![tactic(auto)]
 
+mod citing;
 mod cursor;
 mod decode;
 mod encode;
@@ -10,6 +11,7 @@ mod statement;
 mod stored;
 mod words;
 
+pub use citing::cited_slots;
 pub use decode::{decode_label, decode_proof, decode_statement};
 pub use encode::{encode_label, encode_proof, encode_statement};
 pub use laws::{

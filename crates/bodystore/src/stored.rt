@@ -1,7 +1,9 @@
 //! A step of a proof as the store keeps it: a cited assertion by its slot.
 
 ghost use Rattle.std.specs.Prelude.{◌≡◌};
-ghost use Rattle.bodystore.specs.Bodies.{step_word, IsSmallStep};
+ghost use Rattle.bodystore.specs.Bodies.{step_word, stored_step, IsSmallStep};
+
+use crate::words::PLACES;
 
 /// A step of a proof in the store.
 #[derive(Clone, Copy, Debug, PartialEq, Eq)]
@@ -28,9 +30,10 @@ impl StoredStep {
 
     /// The step of a word. A word that no step has gives some step.
     pub fn of_word(word: u64) -> StoredStep
-        ensures { (x : _) → IsSmallStep x → step_word x ≡ word → result ≡ x }
+        ensures step { result ≡ stored_step word }
+        ensures own { (x : _) → IsSmallStep x → step_word x ≡ word → result ≡ x }
     {
-        let place = (word / 3 & 0xffff_ffff) as u32;
+        let place = (word / 3 % PLACES) as u32;
         match word % 3 {
             0 => StoredStep::Float(place),
             1 => StoredStep::Hyp(place),

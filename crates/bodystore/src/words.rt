@@ -6,7 +6,7 @@ ghost use Rattle.bodystore.specs.Bodies.{kind_word, pair_word, symbol_word, IsSm
 use mmsyntax::{Kind, Symbol, SymbolWord};
 
 /// How many values a place has: 2^32.
-const PLACES: u64 = 4_294_967_296;
+pub(crate) const PLACES: u64 = 4_294_967_296;
 
 pub(crate) fn kind_word(kind: Kind) -> u64
     ensures { result ≡ kind_word kind }

@@ -9,7 +9,7 @@ use Rattle.bodystore.specs.declared.stored.StoredStep.TheVariants as stored
 use Rattle.ranges.specs.Ranges.{Has}
 use Rattle.cells.specs.State.{State}
 use Rattle.cells.specs.Slots.{name_cell, proof_cell, bucket_cell, next_cell}
-use Rattle.cells.specs.Shows.{IsNamed, IsStoredAs, AreStoredAs, IsChain, Shows, slots_of, of_bucket}
+use Rattle.cells.specs.Shows.{IsNamed, IsStoredAs, AreStoredAs, IsChain}
 use Rattle.cells.specs.Sight.{Sight, Looks, ReadsWithin, after}
 use Rattle.cells.specs.Lookups.{ForEachHeld, AreStepsAt}
 use Rattle.cells.specs.Footprints.{StandsBehind, IsMember, IsOnChain, IsOfProof, IsNameCited}

@@ -1,5 +1,5 @@
 -- What is read back from the bodies of a slot is what it holds.
-use Rattle.std.proofs.Common.{◌≡◌, ℕ, zero, suc, ◌+◌, ◌<◌, List, [], ◌∷◌, ◌++◌, ◌≤◌, length, get_or, take, sym, ap, subst, ◌∙◌, inl, inr, arith}
+use Rattle.std.proofs.Common.{◌≡◌, ℕ, zero, suc, ◌+◌, ◌<◌, List, [], ◌∷◌, ◌++◌, ◌≤◌, length, map, get_or, take, sym, ap, subst, ◌∙◌, inl, inr, arith}
 use Rattle.std.specs.List.{All, AllZip}
 use Rattle.std.proofs.Math.Nat.{eq-or-lt_of_le}
 use Rattle.std.proofs.Math.ListN.{get_or-append}
@@ -19,15 +19,16 @@ use Rattle.library.specs.Library.{label_of}
 use Rattle.bodystore.specs.declared.statement.Statement.{Statement}
 use Rattle.bodystore.specs.declared.stored.StoredStep.{StoredStep}
 use Rattle.bodystore.specs.declared.stored.StoredStep.TheVariants as stored
-use Rattle.bodystore.specs.Bodies.{statement_of, proof_body}
+use Rattle.bodystore.specs.Bodies.{statement_of, proof_body, stored_step}
+use Rattle.bodystore.proofs.Steps.{steps_back}
 use Rattle.cells.specs.State.{State}
 use Rattle.cells.specs.Slots.{proof_cell}
 use Rattle.cells.specs.Shows.{IsNamed, IsStoredAs, AreStoredAs, HoldsProof, Holds}
-use Rattle.cells.specs.Sight.{Sight, Matches, Looks, after}
-use Rattle.cells.specs.Lookups.{ForEachHeld, AreWordsOf, IsNameAt, IsShortLabelled, IsStepOf, AreStepsOf}
+use Rattle.cells.specs.Sight.{Sight, Matches, Looks, ForEachState, after}
+use Rattle.cells.specs.Lookups.{ForEachHeld, AreWordsOf, IsNameAt, IsShortLabelled, AreStepsAt, IsStepOf, AreStepsOf}
 use Rattle.cells.proofs.Sights.{matches_back, views_back, after_looks}
 use Rattle.cells.proofs.Settings.{same_slots}
-use Rattle.cells.proofs.Small.{label_small}
+use Rattle.cells.proofs.Small.{label_small, steps_small}
 
 -- ---- one call after another
 
@@ -51,6 +52,16 @@ stored_words slots i st Axiom steps words h of =
     let none : [] ≡ words = sym (nil_from_length words (of.none h.0)) in
     ([], none, subst (λ (xs : List Step). AreStoredAs slots st xs []) (sym h.1) tt)
 stored_words slots i st Theorem steps words h of = (h.0, sym (of.body (proof_body h.0) h.1), h.2)
+
+-- the steps of the words of a slot's proof body, wherever they were read
+pub steps_at : {O : Type 0} → (s : Sight O) (i cell : ℕ) (words body : List ℕ) → cell ≡ proof_cell i → words ≡ body
+    → ForEachState s (λ st. AreWordsOf st cell body) → AreStepsAt s i (map stored_step words)
+steps_at s i cell words body at same each st lib v e there h =
+    let are : AreWordsOf (after s st) (proof_cell i) body = subst (λ (n : ℕ). AreWordsOf (after s st) n body) at (each st v.matches) in
+    let kept = stored_words s.setting.slots i (after s st) e.assertion.kind e.assertion.proof body h.proof are in
+    let made = ap (map stored_step) (same ∙ sym kept.1)
+    ∙ steps_back kept.0 (steps_small s.setting lib v.verifies e there (after s st) kept.0 kept.2) in
+    subst (AreStoredAs s.setting.slots (after s st) e.assertion.proof) (sym made) kept.2
 
 -- the citation that is stored as a slot, where the slot's name is known
 pub cite_stored : (named : ℕ → List ℕ → Type 0) (x : Step) (j : ℕ) (made : List ℕ) → IsShortLabelled x → IsStoredAs named x (stored.Slot j)

@@ -1,5 +1,5 @@
 -- What is so of a run's setting, since what it has read agrees with some state that shows a library that verifies.
-use Rattle.std.proofs.Common.{◌≡◌, ◌≤◌, List, ap}
+use Rattle.std.proofs.Common.{◌≡◌, ℕ, ◌<◌, ◌≤◌, List, ap, arith}
 use Rattle.std.proofs.Math.Bridge.{le_prop}
 use Rattle.std.proofs.Math.Logic.{∥∥₁_elim}
 use Rattle.library.specs.Library.{Setting}
@@ -14,6 +14,9 @@ module _ {O : Type 0} (s : Sight O) (grounded : ∥ ((st : State) × (lib : List
 
   pub few_slots : s.setting.slots ≤ 4096
   few_slots = ∥∥₁_elim grounded le_prop (λ x. x.2.verifies.setting.few)
+
+  pub small_slot : (i : ℕ) → i < s.setting.slots → i < 4096
+  small_slot i lt = let few = few_slots in omega arith
 
 pub same_slots : {O : Type 0} → (s t : Sight O) → Looks s t → t.setting.slots ≡ s.setting.slots
 same_slots s t looks = ap (λ (x : Setting). x.slots) looks.onward.setting

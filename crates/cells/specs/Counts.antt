@@ -1,20 +1,11 @@
--- Which slots the steps of a proof cite, and what becomes of a state where their citers are counted.
+-- What becomes of a state where the citers of the slots that steps cite are counted.
+pub use Rattle.bodystore.specs.Citing.{AreCitedSlots}
 use Rattle.std.specs.Prelude.{◌≡◌, ◌≢◌, ◌<◌, ℕ, ◌+◌, ◌-◌, ◌^◌, List, All, nat_eq}
-use Rattle.std.specs.List.Sorted.{IsStrictlyIncreasing}
 use Rattle.mmsyntax.specs.Assertions.{Distinct}
 use Rattle.ranges.specs.Ranges.{Has}
-use Rattle.bodystore.specs.declared.stored.StoredStep.{StoredStep}
-use Rattle.bodystore.specs.declared.stored.StoredStep.TheVariants.{Slot}
 use Rattle.cells.specs.State.{State}
 use Rattle.cells.specs.Slots.{citers_cell}
 use Rattle.cells.specs.Sight.{Sight, Turns}
-
--- the slots that the steps cite, each once, ascending
-pub record AreCitedSlots (steps : List StoredStep) (slots : List ℕ) : Type 0 where
-  pub apart : Distinct nat_eq slots
-  pub cited : (i : ℕ) → Has i slots → Has (Slot i) steps
-  pub all : (i : ℕ) → Has (Slot i) steps → Has i slots
-  pub ascending : IsStrictlyIncreasing slots
 
 -- those of the listed slots that the others haven't, each once
 pub record AreOnlyIn (listed others only : List ℕ) : Type 0 where

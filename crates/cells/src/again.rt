@@ -1,35 +1,33 @@
 //! Slots that the steps of a proof cite again: hints where they were cited before.
 
-use crate::counts::cited_slots;
 use bodystore::StoredStep;
 use std::alloc::{AllocError, Global};
 use std::mem;
 
-/// Of each slot that the steps of a proof cite the place of the last step that cited it, once there was one. Whoever takes a hint compares
-/// what stands there.
+/// The place that is noted for a slot that no step has cited: behind the steps of each proof.
+const NOWHERE: u32 = u32::MAX;
+
+/// Of each slot the place of the last step that cited it, once there was one. Whoever takes a hint compares what stands there.
 #[derive(Drop)]
 pub(crate) struct Hints {
-    /// Ascending.
-    slots: Vec<usize>,
-    places: Vec<usize>,
+    /// By the slot.
+    places: Vec<u32>,
 }
 
 impl Hints {
-    /// No place yet: behind all steps.
-    pub(crate) fn new(alloc: Global, steps: &[StoredStep]) -> Result<Hints, AllocError> {
-        let slots = cited_slots(alloc, steps)?;
-        let mut places = Vec::new(alloc);
-        places.resize(slots.len(), steps.len())?;
-        Ok(Hints { slots, places })
+    /// No place yet, for so many slots.
+    pub(crate) fn new(alloc: Global, slots: usize) -> Result<Hints, AllocError> {
+        Ok(Hints {
+            places: vec![in alloc; NOWHERE; slots]?,
+        })
     }
 
     /// The place that was noted for the slot that a step cites, in whose stead the step's own is; its own, where it cites none.
-    pub(crate) fn exchange(&mut self, step: StoredStep, place: usize) -> usize {
-        let StoredStep::Slot(slot) = step else {
-            return place;
-        };
-        match self.slots.binary_search(&(slot as usize)) {
-            Ok(n) if n < self.places.len() => mem::replace(&mut self.places[n], place),
+    pub(crate) fn exchange(&mut self, step: StoredStep, place: u32) -> u32 {
+        match step {
+            StoredStep::Slot(slot) if (slot as usize) < self.places.len() => {
+                mem::replace(&mut self.places[slot as usize], place)
+            }
             _ => place,
         }
     }

@@ -1,6 +1,6 @@
 //! What a run sees of a library's cells.
 
-ghost use Rattle.std.specs.Prelude.{◌≡◌, ◌≢◌, ◌<◌, ℕ, List, [], Some, true, IfOk, IfErr, slice_get};
+ghost use Rattle.std.specs.Prelude.{◌≡◌, ◌≢◌, ◌<◌, ◌++◌, ℕ, List, [], Some, true, IfOk, IfErr, OnOk, slice_get};
 ghost use Rattle.library.specs.declared.library.Ranked.{Ranked};
 ghost use Rattle.ranges.specs.Ranges.{Names};
 ghost use Rattle.cells.specs.State.{State};
@@ -9,6 +9,7 @@ ghost use Rattle.cells.specs.Sight.{Sight, WasRead, Suits, Looks, Reads, Writes,
 
 use crate::halt::Halt;
 use ranges::Range;
+use std::alloc::AllocError;
 
 /// The cells of a library and the store of its bodies, as one run sees them. What it writes is kept aside: it reads it back, and nobody
 /// else sees it yet.
@@ -51,6 +52,17 @@ pub trait Cells {
         requires { (words : List ℕ) × Knows (sight self.old) range words × (index < range.len) }
         ensures looks { Looks (sight self.old) (sight self.new) }
         ensures word { (words : List ℕ) → Knows (sight self.old) range words → slice_get words index ≡ Some result }
+        ensures reads { ReadsNothing (sight self.old) (sight self.new) };
+
+    /// Puts the words of a finished range that the run knows behind others, in order.
+    ///
+    /// # Errors
+    ///
+    /// Want of memory. What was kept aside stays.
+    fn load_all(&mut self, range: Range, words: &mut Vec<u64>) -> Result<(), AllocError>
+        requires { (found : List ℕ) × Knows (sight self.old) range found }
+        ensures looks { Looks (sight self.old) (sight self.new) }
+        ensures ok { OnOk result ((found : List ℕ) → Knows (sight self.old) range found → words.new.items ≡ words.old.items ++ found) }
         ensures reads { ReadsNothing (sight self.old) (sight self.new) };
 
     /// A finished range with these words, of which there is at least one, in a run that may stage.

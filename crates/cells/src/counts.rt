@@ -2,34 +2,14 @@
 
 ghost use Rattle.std.specs.Prelude.{◌≡◌, ◌<◌, true, All, IfOk};
 ghost use Rattle.cells.specs.Sight.{Sight, Onward, TakesAtMost, ReadsWithin};
-ghost use Rattle.cells.specs.Counts.{AreCitedSlots, CountsAnyIn, CountsAnyOut, AreOnlyIn};
+ghost use Rattle.cells.specs.Counts.{CountsAnyIn, CountsAnyOut, AreOnlyIn};
 ghost use Rattle.std.specs.List.Sorted.{IsStrictlyIncreasing};
 ghost use Rattle.cells.specs.Aside.{KeepsAside, IsCitersOf};
 
 use crate::cells::Cells;
 use crate::halt::Halt;
 use crate::places::{citers_cell, slot_count};
-use bodystore::StoredStep;
 use std::alloc::{AllocError, Global};
-
-/// The slots that the steps of a proof cite, each once, ascending.
-///
-/// # Errors
-///
-/// Want of memory.
-pub fn cited_slots(alloc: Global, steps: &[StoredStep]) -> Result<Vec<usize>, AllocError>
-    ensures { IfOk result (λ made. AreCitedSlots steps.now made.items) }
-{
-    let mut slots = Vec::new(alloc);
-    for step in steps {
-        if let StoredStep::Slot(slot) = step {
-            slots.push(*slot as usize)?;
-        }
-    }
-    slots.sort_unstable();
-    slots.dedup();
-    Ok(slots)
-}
 
 /// Those of these slots that aren't among the others, in their order. Both are listed ascending.
 ///
@@ -64,7 +44,6 @@ pub fn count_in<C: Cells>(cells: &mut C, cited: &[usize]) -> Result<(), Halt>
     ensures keeps { IfOk result (λ _. KeepsAside (IsCitersOf cited.now) (C.sight cells.old) (C.sight cells.new)) }
     ensures reads { ReadsWithin (IsCitersOf cited.now) (C.sight cells.old) (C.sight cells.new) }
 {
-    let _slots = slot_count(cells);
     for slot in cited {
         let count = cells.read(citers_cell(*slot))?;
         cells.write(citers_cell(*slot), count.saturating_add(1));

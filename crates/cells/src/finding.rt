@@ -18,7 +18,6 @@ pub(crate) fn has_label<C: Cells>(cells: &mut C, slot: usize, label: &[u8]) -> R
     ensures ok { IfOk result (λ b. TellsLabel (C.sight cells.new) slot label.now b) }
     ensures reads { ReadsWithin (λ c. c ≡ name_cell slot) (C.sight cells.old) (C.sight cells.new) }
 {
-    let _slots = slot_count(cells);
     let word = cells.read(name_cell(slot))?;
     if word == 0 || label.is_empty() {
         return Ok(false);

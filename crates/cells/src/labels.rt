@@ -101,7 +101,6 @@ fn standing_at<C: Cells>(
     ensures ok { IfOk result (λ standing. TellsStandingAt (C.sight cells.new) slot own.now label.now standing) }
     ensures reads { ReadsWithin (λ c. c ≡ name_cell slot) (C.sight cells.old) (C.sight cells.new) }
 {
-    let _slots = slot_count(cells);
     let word = cells.read(name_cell(slot))?;
     if word == 0 || label.is_empty() {
         return Ok(Standing::Free);

@@ -13,8 +13,9 @@ mod reading;
 mod words;
 mod writing;
 
+pub use bodystore::cited_slots;
 pub use cells::Cells;
-pub use counts::{cited_slots, count_in, count_out, only_in};
+pub use counts::{count_in, count_out, only_in};
 pub use ending::{CommandError, RunError};
 pub use finding::{find, free_slot};
 pub use halt::Halt;

@@ -11,7 +11,7 @@ use crate::cells::Cells;
 use crate::halt::Halt;
 use mmsyntax::hypothesis_number;
 use ranges::Range;
-use std::alloc::{AllocError, Global};
+use std::alloc::Global;
 
 /// The fewest bytes of `.k`, for a k from 1 to 1,000.
 const SHORTEST_TAIL: usize = 2;
@@ -95,24 +95,6 @@ fn is_numbered<C: Cells>(cells: &mut C, range: Range, front: usize) -> bool
     hypothesis_number(&[], &tail[..count]).is_some()
 }
 
-/// The words of a range.
-///
-/// # Errors
-///
-/// Want of memory.
-fn range_words<C: Cells>(alloc: Global, cells: &mut C, range: Range) -> Result<Vec<u64>, AllocError>
-    requires { (words : List ℕ) × Knows (C.sight cells.old) range words }
-    ensures looks { Looks (C.sight cells.old) (C.sight cells.new) }
-    ensures ok { IfOk result (λ made. (words : List ℕ) → Knows (C.sight cells.old) range words → made.items ≡ words) }
-    ensures reads { ReadsNothing (C.sight cells.old) (C.sight cells.new) }
-{
-    let mut words = Vec::with_capacity(alloc, range.len)?;
-    for index in 0..range.len {
-        words.push(cells.load(range, index))?;
-    }
-    Ok(words)
-}
-
 /// The words of the body that a range cell names; none where it holds 0.
 pub(crate) fn words_of<C: Cells>(
     alloc: Global,
@@ -130,7 +112,9 @@ pub(crate) fn words_of<C: Cells>(
         return Ok(Vec::new(alloc));
     }
     let range = range_of(cells, word);
-    Ok(range_words(alloc, cells, range)?)
+    let mut words = Vec::new(alloc);
+    cells.load_all(range, &mut words)?;
+    Ok(words)
 }
 
 /// The first word of the body that a range cell names; 0 where it holds 0.

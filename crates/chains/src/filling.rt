@@ -13,7 +13,7 @@ use crate::chains::put_in;
 use bodystore::{StoredStep, encode_label, encode_proof, encode_statement};
 use cells::{
     Cells, Halt, cited_slots, citers_cell, count_in, name_cell, proof_cell, put, put_body,
-    rank_cell, slot_count, statement_cell,
+    rank_cell, statement_cell,
 };
 use mmsyntax::{Assertion, Kind};
 use std::alloc::Global;
@@ -70,7 +70,6 @@ fn lay_down<C: Cells>(
     ensures keeps { IfOk result (λ _. KeepsAside (IsOfSlot slot) (C.sight cells.old) (C.sight cells.new)) }
     ensures reads { ReadsWithin (IsOfSlot slot) (C.sight cells.old) (C.sight cells.new) }
 {
-    let _slots = slot_count(cells);
     put_label(alloc, cells, slot, assertion.label.as_slice())?;
     put_statement(alloc, cells, slot, assertion)?;
     put_proof(alloc, cells, slot, assertion.kind, steps)?;
@@ -91,7 +90,6 @@ fn put_label<C: Cells>(alloc: Global, cells: &mut C, slot: usize, label: &[u8]) 
     ensures keeps { IfOk result (λ _. KeepsAside (λ c. c ≡ name_cell slot) (C.sight cells.old) (C.sight cells.new)) }
     ensures reads { ReadsWithin (λ c. c ≡ name_cell slot) (C.sight cells.old) (C.sight cells.new) }
 {
-    let _slots = slot_count(cells);
     let words = encode_label(alloc, label)?;
     put_body(cells, name_cell(slot), words.as_slice())
 }
@@ -112,7 +110,6 @@ fn put_statement<C: Cells>(
     ensures keeps { IfOk result (λ _. KeepsAside (λ c. c ≡ statement_cell slot) (C.sight cells.old) (C.sight cells.new)) }
     ensures reads { ReadsWithin (λ c. c ≡ statement_cell slot) (C.sight cells.old) (C.sight cells.new) }
 {
-    let _slots = slot_count(cells);
     let words = encode_statement(alloc, assertion)?;
     put_body(cells, statement_cell(slot), words.as_slice())
 }
@@ -135,7 +132,6 @@ fn put_proof<C: Cells>(
     ensures keeps { IfOk result (λ _. KeepsAside (λ c. c ≡ proof_cell slot) (C.sight cells.old) (C.sight cells.new)) }
     ensures reads { ReadsWithin (λ c. c ≡ proof_cell slot) (C.sight cells.old) (C.sight cells.new) }
 {
-    let _slots = slot_count(cells);
     match kind {
         Kind::Axiom => Ok(()),
         Kind::Theorem => {
@@ -160,7 +156,6 @@ pub fn vacate<C: Cells>(cells: &mut C, slot: usize) -> Result<(), Halt>
     ensures keeps { IfOk result (λ _. KeepsAside (IsOfSlot slot) (C.sight cells.old) (C.sight cells.new)) }
     ensures reads { ReadsWithin (IsOfSlot slot) (C.sight cells.old) (C.sight cells.new) }
 {
-    let _slots = slot_count(cells);
     for part in 0..5 {
         let cell = name_cell(slot) + part;
         cells.read(cell)?;

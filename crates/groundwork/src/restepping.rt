@@ -11,8 +11,7 @@ ghost use Rattle.groundwork.specs.Footprints.{ReprovesReading};
 
 use bodystore::{StoredStep, encode_proof};
 use cells::{
-    Cells, Halt, cited_slots, count_in, count_out, only_in, proof_cell, put_body, slot_count,
-    stored_proof,
+    Cells, Halt, cited_slots, count_in, count_out, only_in, proof_cell, put_body, stored_proof,
 };
 use std::alloc::Global;
 
@@ -39,7 +38,6 @@ pub fn put_steps<C: Cells>(
     ensures keeps { IfOk result (λ _. (label : List _) → ReprovesWithin (C.sight cells.old) (C.sight cells.new) slot label kept.now) }
     ensures reads { (label : List _) → ReprovesReading (C.sight cells.old) (C.sight cells.new) slot label kept.now }
 {
-    let _slots = slot_count(cells);
     let former = stored_proof(alloc, cells, slot)?;
     let before = cited_slots(alloc, former.as_slice())?;
     let now = cited_slots(alloc, kept)?;

@@ -1,6 +1,6 @@
 -- A run of a session goes on: what is so of it at all times stays so, and it agrees with some state of its library.
 use Rattle.std.proofs.Common.{◌≡◌, ℕ, ◌+◌, ◌/◌, ◌%◌, ◌≤◌, arith, inl, inr, Bool, true, false, is_some, Option, Some, None, List, ◌∷◌, length}
-use Rattle.std.proofs.Common.{refl, sym, ap, ◌∙◌, subst, min, eq-eqb}
+use Rattle.std.proofs.Common.{refl, sym, ap, ◌∙◌, ⊎_elim, subst, min, eq-eqb}
 use Rattle.std.specs.Prelude.{Result, Ok, Err, OnOk, OnErr}
 use Rattle.std.specs.FinMap.{insert}
 use mathlib.Core.Logic.{dite}
@@ -17,7 +17,7 @@ use Rattle.tlwords.specs.Seen.{Seen, SeenGrows}
 use Rattle.tlwords.specs.Known.{Home, Going, Stands, word_told}
 use Rattle.tlwords.specs.Runs.{word_seen, value_kept, was_read, HasKept, HasCause}
 use Rattle.tlwords.specs.Commits.{writes_kept, HasForgotten}
-use Rattle.tlwords.specs.Calls.{Begins, HasRead, HasStopped, HasLoaded, HasStaged, IsRefused, Notes}
+use Rattle.tlwords.specs.Calls.{Begins, HasRead, HasStopped, HasLoaded, HasLoadedSome, HasStaged, IsRefused, Notes}
 use Rattle.tlwords.proofs.Modes.{read_room}
 use Rattle.tlwords.proofs.Seens.{seen_trans}
 use Rattle.bodystore.specs.Stages.{Staged, AreStaged}
@@ -261,6 +261,11 @@ module _ (l : Lending) (stage : Staged) (over : Option Conflict) (i : IsLent l s
       subst (λ (x : Going Given Note). IsLent (record l { going = x }) stage over) (sym h.is)
       (later_lent seen k.looked k.full k.taken k.added l.going.over l.full stage over h.grows (subst (Stands library_terms) h.is h.stands)
       (staged_on seen h.grows) i.over_is (met_on seen k.full k.taken k.added l.full h.grows) i.clear i.full i.unrefused (λ p e. e))
+
+  -- words were loaded, or none
+  pub loads_some_lent : (r : Going Given Note) → HasLoadedSome library_terms l.going r → IsLent (record l { going = r }) stage over
+  loads_some_lent r h =
+      ⊎_elim (λ same. subst (λ (x : Going Given Note). IsLent (record l { going = x }) stage over) (sym same) i) (loads_lent r) h
 
   -- words were staged
   stages_lent : (words : List ℕ) (start : ℕ) (r : Going Given Note) (next : Staged) → HasStaged library_terms words start l.going r

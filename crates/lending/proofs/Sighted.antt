@@ -1,6 +1,6 @@
 -- What the steps of a run of a session do to what commands see of it.
 use Rattle.std.proofs.Common.{◌≡◌, ℕ, ◌+◌, ◌≤◌, ◌⊎◌, ◌==◌, if◌then◌else◌, inl, inr, Bool, true, is_some, Option, Some, None, List, length}
-use Rattle.std.proofs.Common.{eq-eqb, ne_eqb, refl, sym, ap, ◌∙◌, subst, min, arith}
+use Rattle.std.proofs.Common.{eq-eqb, ne_eqb, refl, sym, ap, ◌∙◌, ⊎_elim, subst, min, arith}
 use Rattle.std.specs.Prelude.{Result, Ok, Err, OnOk, OnErr}
 use Rattle.std.specs.Cmp.Lexicographic.{slice_cmp, nat_list_cmp_total, bytes_decides}
 use Rattle.std.specs.FinMap.{get, insert, get-insert}
@@ -18,11 +18,12 @@ use Rattle.tlwords.specs.Seen.{Seen, SeenGrows}
 use Rattle.tlwords.specs.Known.{Going}
 use Rattle.tlwords.specs.Runs.{value_kept, HasKept}
 use Rattle.tlwords.specs.Commits.{writes_kept}
-use Rattle.tlwords.specs.Calls.{HasRead, HasStopped, HasLoaded, HasStaged, IsRefused}
+use Rattle.tlwords.specs.Calls.{HasRead, HasStopped, HasLoaded, HasLoadedSome, HasStaged, IsRefused}
 use Rattle.bodystore.specs.Stages.{Staged, range_at}
 use Rattle.bodystore.proofs.Staging.{found_is_staged}
 use Rattle.cells.specs.State.{value_or}
 use Rattle.cells.specs.Sight.{StaysStaged, Onward, Looks, Reads, Writes, Stages, WasAsked, ReadsWithin, ReadsNothing}
+use Rattle.cells.proofs.Asking.{nothing_same}
 use Rattle.cells.proofs.Sights.{onward_refl, looks_refl}
 use Rattle.lawful.specs.declared.notes.Given.{Given}
 use Rattle.lawful.specs.declared.notes.Note.{Note}
@@ -75,6 +76,15 @@ pub loads_nothing : (l : Lending) (r : Going Given Note) → HasLoaded library_t
     → ReadsNothing (sight_of l) (sight_of (record l { going = r }))
 loads_nothing l r h =
     subst (λ (x : Going Given Note). ReadsNothing (sight_of l) (sight_of (record l { going = x }))) (sym h.is) (record { asked = λ c was. was })
+
+-- words were loaded, or none
+pub loads_some : (l : Lending) (r : Going Given Note) → HasLoadedSome library_terms l.going r
+    → Looks (sight_of l) (sight_of (record l { going = r })) × ReadsNothing (sight_of l) (sight_of (record l { going = r }))
+loads_some l r h =
+    let told : Going Given Note → Type 0 =
+    λ x. Looks (sight_of l) (sight_of (record l { going = x })) × ReadsNothing (sight_of l) (sight_of (record l { going = x })) in
+    ⊎_elim (λ same. subst told (sym same) (looks_refl (sight_of l), nothing_same (sight_of l)))
+    (λ some. (loads_look l r some, loads_nothing l r some)) h
 
 -- a read met a conflict
 pub stops_look : (l : Lending) (cell : ℕ) (met : Conflict) (r : Going Given Note) → HasStopped library_terms cell met l.going r

@@ -8,7 +8,7 @@ use bodystore::Stage;
 use cells::{Cells, Halt};
 use lawful::{Given, LibraryLaw, Note};
 use ranges::Range;
-use std::alloc::Global;
+use std::alloc::{AllocError, Global};
 use std::marker::Model;
 use std::snapshot::Snapshot;
 use tlwords::{Conflict, Mode, Outcome, Pass, Run, Words, begin};
@@ -193,6 +193,10 @@ impl<'w> Cells for Live<'w> {
 
     fn load(&mut self, range: Range, index: usize) -> u64 {
         self.run.load(range, index)
+    }
+
+    fn load_all(&mut self, range: Range, words: &mut Vec<u64>) -> Result<(), AllocError> {
+        self.run.load_all(range, words)
     }
 
     fn stage(&mut self, words: &[u64]) -> Result<Range, Halt> {

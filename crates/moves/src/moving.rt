@@ -47,7 +47,6 @@ pub fn move_to<C: Cells>(
     if is_cited_up_to(alloc, cells, slot, rank)? {
         return Err(Reason::CiterNotHigher.into());
     }
-    let _slots = slot_count(cells);
     put(cells, rank_cell(slot), rank as u64)?;
     Ok(Reply::Done)
 }

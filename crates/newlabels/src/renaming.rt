@@ -13,7 +13,7 @@ ghost use Rattle.groundwork.specs.Footprints.{ReadsFor, ReadsForFound};
 
 use crate::naming::test_new_label;
 use bodystore::encode_label;
-use cells::{Cells, CommandError, Halt, name_cell, put_body, slot_count};
+use cells::{Cells, CommandError, Halt, name_cell, put_body};
 use chains::{put_in, take_out};
 use groundwork::known_slot;
 use library::Reply;
@@ -67,7 +67,6 @@ fn relabel<C: Cells>(
     ensures keeps { IfOk result (λ _. RenamesWithin (C.sight cells.old) (C.sight cells.new) slot new.now) }
     ensures reads { ReadsForFound (C.sight cells.old) (C.sight cells.new) slot old.now (command.Rename old.now new.now) }
 {
-    let _slots = slot_count(cells);
     put_body(cells, name_cell(slot), body)?;
     take_out(cells, slot, old.as_slice())?;
     put_in(cells, slot, new.as_slice())

@@ -128,6 +128,7 @@ lie_staged store words places some lie =
 pub known_words : (store : List ℕ) (places : List Place) (start len : ℕ) (words : List ℕ) → LieInStore store places
     → Has (record { start = start; words = words }) (ranges_in store places) → len ≡ length words
     → (start + len ≤ length store) × ((i : ℕ) → i < len → slice_get words i ≡ Some (get_or store (start + i) 0))
+    × (words ≡ take len (drop start store))
 known_words store places start len words lie h long =
     let f = place_of store places (record { start = start; words = words }) h in
     let l = lie f.0 f.1 f.2 in
@@ -139,6 +140,7 @@ known_words store places start len words lie h long =
           let there : slice_get words i ≡ Some (get_or words i 0) = slice_get-get_or words i 0 (omega (arith, long)) in
           let in_store = stored_in store places (record { start = start; words = words }) h i (get_or words i 0) there in
           there ∙ sym in_store.0 ∙ slice_get-get_or store (start + i) 0 in_store.1,
+      made ∙ ap (λ (k : ℕ). take k (drop f.1.start store)) (sym (long ∙ n)) ∙ ap (λ (k : ℕ). take len (drop k store)) (sym at),
     )
 
 -- ---- words that name ranges

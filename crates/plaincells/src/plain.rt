@@ -263,6 +263,11 @@ impl Cells for PlainCells {
         self.store[range.start + index]
     }
 
+    fn load_all(&mut self, range: Range, words: &mut Vec<u64>) -> Result<(), AllocError> {
+        words.extend_from_slice(&self.store[range.start..range.start + range.len])?;
+        Ok(())
+    }
+
     // the trait's clauses, and when the store is full
     fn stage(&mut self, words: &[u64]) -> Result<Range, Halt>
         requires may { (sight_of self.old).may_stage ≡ true }

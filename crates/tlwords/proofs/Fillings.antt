@@ -1,20 +1,23 @@
 -- How far a range of the store is filled, and what a run tells of steps on the store.
-use Rattle.std.proofs.Common.{◌≡◌, ℕ, ◌+◌, ◌<◌, ◌≤◌, inr, Bool, false, is_some, Option, Some, None, List}
-use Rattle.std.proofs.Common.{length, min, slice_get, sym, refl, ap, ◌∙◌, arith}
+use Rattle.std.proofs.Common.{◌≡◌, ℕ, ◌+◌, ◌<◌, ◌≤◌, inl, inr, ⊎_elim, Bool, false, is_some, Option, Some, None, List, [], ◌∷◌, ◌++◌}
+use Rattle.std.proofs.Common.{length, min, take, get_or, slice_get, sym, refl, ap, subst, ◌∙◌, arith}
+use Rattle.std.proofs.lemmas.List.{take_more, append_assoc}
+use Rattle.std.proofs.lemmas.Option.{get_or_from_slice_get}
 use Rattle.atomic_table.specs.Seated.{TableId}
 use Rattle.atomic_table.specs.declared.shared.Seat.{Seat as TableSeat}
 use Rattle.tlcore.proofs.Growth.{get_exists}
 use Rattle.ranges.specs.Ranges.{Has}
+use Rattle.ranges.specs.declared.range.Range.{Range as Place}
 use Rattle.tlwords.specs.declared.log.Slot.{Slot}
 use Rattle.tlwords.specs.declared.mode.Mode.{Mode}
 use Rattle.tlwords.specs.declared.outcome.Conflict.{Conflict}
 use Rattle.tlwords.specs.Terms.{Terms}
 use Rattle.tlwords.specs.Views.{Staging, View}
 use Rattle.tlwords.specs.Known.{Stands, going_of}
-use Rattle.tlwords.specs.Plays.{Mine, Sees, IsSameSeat, Advances, Fills}
-use Rattle.tlwords.specs.Runs.{Finishes, Runs}
-use Rattle.tlwords.specs.Calls.{HasLoaded, HasStaged, FindsFull}
-use Rattle.tlwords.proofs.Turns.{Moves, moves_then}
+use Rattle.tlwords.specs.Plays.{Mine, Sees, IsSameSeat, Advances, Fills, Fetches}
+use Rattle.tlwords.specs.Runs.{Finishes, Fetched, Runs, IsKeptOf, IsRunOf, KnowsStore, noted}
+use Rattle.tlwords.specs.Calls.{HasLoaded, HasLoadedSome, HasStaged, FindsFull}
+use Rattle.tlwords.proofs.Turns.{Moves, moves_then, moves_grow}
 use Rattle.tlwords.proofs.Knows.{stands_of, runs_on}
 
 -- a number that is each word at this index is the word at this index
@@ -53,6 +56,23 @@ module _ {S N : Type 0} (terms : Terms S N) where
                     (λ (v : View S N). let w : View S N = record v { seen = q.0.seen; staging = None } in w) is;
               };
         }
+
+  -- one word more of a range was fetched
+  pub fetched_more : (range : Place) (k word : ℕ) (m r q : Mine S N) (before now after : List ℕ) → k < range.len
+      → Fetched terms range k m r before now → Fetches terms (range.start + k) r word q → after ≡ now ++ word ∷ []
+      → Fetched terms range (k + 1) m q before after
+  fetched_more range k word m r q before now after l f s push =
+      record {
+        moves = inr (moves_then terms m r q f.moves s.sees);
+        is = s.is ∙ ap (λ (v : View S N). let w : View S N = record v { seen = q.0.seen } in w) f.is;
+        words = λ words has len.
+            let lt : k < length words = omega (arith, len, l) in
+            let at = get_exists words k lt in
+            let grown = (moves_grow terms m r f.moves).2 (record { start = range.start; words = words }) has in
+            let here : word ≡ get_or words k 0 = s.found _ k at.0 grown at.1 refl ∙ sym (get_or_from_slice_get words k at.0 0 at.1) in
+            push ∙ ap (λ (ws : List ℕ). ws ++ word ∷ []) (f.words words has len) ∙ append_assoc before (take k words) (word ∷ [])
+            ∙ ap (λ (ws : List ℕ). before ++ ws) (ap (λ (w : ℕ). take k words ++ w ∷ []) here ∙ sym (take_more words k 0 lt));
+      }
 
   pub no_refusal : {A : Type 0} (o : Option A) (b : Bool) → is_some o ≡ b → b ≡ false → o ≡ None
   no_refusal None b e f = refl
@@ -129,3 +149,32 @@ module _ {S N : Type 0} (terms : Terms S N) (table : TableId) (cells words count
         past = past_room p.me.0.room tail number above;
         is = λ j. going_of (same.0 j) (is j) place mode over slots;
       }
+
+-- ---- a run after words of a range were fetched
+
+module _ {S N : Type 0} (terms : Terms S N) (table : TableId) (cells words count place : ℕ) (mode : Mode) (over : Option Conflict)
+    (full : Bool)
+    (slots : List Slot) (p q : TableSeat (Unit {0}) (View S N)) (i : Runs table cells words p slots mode count place (is_some over) full)
+    (same : IsSameSeat p q) (range : Place) (before after : List ℕ) (f : Fetched terms range range.len p.me q.me before after) where
+  runs_same : q.me ≡ p.me → Runs table cells words q slots mode count place (is_some over) full
+  runs_same e =
+      record {
+        table_is = (same.0 ∙ i.table_is.0, subst (λ (m : Mine S N). cells ≡ length m.0.base) (sym e) i.table_is.1);
+        room_is = subst (λ (m : Mine S N). words ≡ m.0.room) (sym e) i.room_is;
+        fits = subst (λ (m : Mine S N). IsRunOf m count place (is_some over)) (sym e) i.fits;
+        kept = subst (λ (m : Mine S N). IsKeptOf (noted mode m.0.seat) slots) (sym e) i.kept;
+        room = subst (λ (m : Mine S N). length slots ≡ length m.0.base) (sym e) i.room;
+        knows = subst (λ (m : Mine S N). KnowsStore m.0 full) (sym e) i.knows;
+        bare = same.2 ∙ i.bare;
+      }
+
+  pub fetched_runs : Runs table cells words q slots mode count place (is_some over) full
+  fetched_runs = ⊎_elim runs_same
+      (λ s. store_runs terms table cells words count place mode over full slots p q i same s p.me.0.full p.me.0.taken
+      p.me.0.added f.is full i.knows.full)
+      f.moves
+
+  pub fetch_tells : HasLoadedSome terms (going_of p.table_id p.me.0 place mode over slots)
+      (going_of q.table_id q.me.0 place mode over slots)
+  fetch_tells = ⊎_elim (λ e. inl (λ j. going_of (same.0 j) (e j).0 place mode over slots))
+      (λ s. inr (load_tells terms table cells words count place mode over full slots p q i same s f.is)) f.moves

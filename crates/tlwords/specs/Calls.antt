@@ -107,6 +107,10 @@ module _ {S N : Type 0} (terms : Terms S N) where
     pub stands : Stands terms r
     pub is : r ≡ record g { known = record g.known { seen = r.known.seen } }
 
+  -- words of the store were loaded, or none
+  abbrev pub HasLoadedSome : Going S N → Going S N → Type 0
+  HasLoadedSome g r = (r ≡ g) ⊎ HasLoaded g r
+
   -- the words are a finished range of the store now, from this start on, and the pass has taken as many words more
   pub record HasStaged (words : List ℕ) (start : ℕ) (g r : Going S N) : Type 0 where
     pub grows : SeenGrows g.known.seen r.known.seen

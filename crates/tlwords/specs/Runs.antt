@@ -1,6 +1,6 @@
 -- What a pass and a run keep, and what their calls tell.
 use Rattle.std.specs.Prelude.{◌≡◌, ◌≢◌, ℕ, zero, suc, ◌-◌, ◌/◌, ◌%◌, ◌^◌, ◌<◌, ◌≤◌, Bool, true, is_some, if◌then◌else◌, Option}
-use Rattle.std.specs.Prelude.{Some, None, List, [], ◌∷◌, length, slice_get, ◌⊎◌, option_and_then}
+use Rattle.std.specs.Prelude.{Some, None, List, [], ◌∷◌, ◌++◌, length, take, slice_get, ◌⊎◌, option_and_then}
 use Rattle.std.specs.Option.{option_map}
 use Rattle.tlcore.specs.Seats.{Seat, find_read, is_nil, is_resting, is_reading}
 use Rattle.tlcore.specs.declared.seats.Read.{Read}
@@ -10,6 +10,7 @@ use Rattle.tlwords.specs.declared.log.Slot.{Slot}
 use Rattle.tlwords.specs.declared.mode.Mode.{Mode}
 use Rattle.tlwords.specs.declared.mode.Mode.TheVariants.{Reading, Writing}
 use Rattle.tlwords.specs.declared.words.Words.{Words}
+use Rattle.ranges.specs.declared.range.Range.{Range as Place}
 use Rattle.ranges.specs.Ranges.{Range, Has, AreOfOneStore}
 use Rattle.tlwords.specs.Terms.{Terms}
 use Rattle.tlwords.specs.Views.{View, fresh}
@@ -134,3 +135,10 @@ module _ {S N : Type 0} (terms : Terms S N) where
     pub sees : Sees terms m.0 r.0
     pub finished : Has (record { start = start; words = words }) r.0.seen.ranges
     pub is : r.0 ≡ record m.0 { seen = r.0.seen; staging = None }
+
+  -- the first so many words of a range were fetched, one after another, and stand behind others
+  pub record Fetched (range : Place) (count : ℕ) (m r : Mine S N) (before after : List ℕ) : Type 0 where
+    pub moves : (r ≡ m) ⊎ Sees terms m.0 r.0
+    pub is : r.0 ≡ record m.0 { seen = r.0.seen }
+    pub words : (words : List ℕ) → Has (record { start = range.start; words = words }) m.0.seen.ranges → length words ≡ range.len
+        → after ≡ before ++ take count words

@@ -1,12 +1,13 @@
 //! The store of a run: ranges of words that are written once and never change.
 #![tactic(auto)]
 
-ghost use Rattle.std.specs.Prelude.{◌≡◌, ◌≢◌, ℕ, ◌+◌, ◌<◌, ◌≤◌, List, Some, [], length, slice_get, IfOk, IfErr};
+ghost use Rattle.std.specs.Prelude.{◌≡◌, ◌≢◌, ℕ, ◌+◌, ◌<◌, ◌≤◌, ◌++◌, List, Some, [], length, slice_get, vec_len, vec_capacity};
+ghost use Rattle.std.specs.Prelude.{IfOk, IfErr, OnOk};
 ghost use Rattle.ranges.specs.Ranges.{Has};
 ghost use Rattle.tlwords.specs.Plays.{IsSameSeat};
 ghost use Rattle.tlwords.specs.Views.{Staging};
-ghost use Rattle.tlwords.specs.Runs.{Finishes, IsSeated};
-ghost use Rattle.tlwords.specs.Calls.{HasLoaded, HasStaged, IsRefused};
+ghost use Rattle.tlwords.specs.Runs.{Finishes, Fetched, IsSeated};
+ghost use Rattle.tlwords.specs.Calls.{HasLoaded, HasLoadedSome, HasStaged, IsRefused};
 
 use crate::law::Law;
 use crate::rule::Place;
@@ -14,6 +15,7 @@ use crate::runs::Run;
 use crate::store_steps::{advance, fetch_word, fill};
 use crate::words::Words;
 use ranges::Range;
+use std::alloc::AllocError;
 use std::error::Error;
 use std::fmt;
 use std::marker::Brand;
@@ -68,6 +70,23 @@ impl<'w, L: Law> Run<'w, L> {
         fetch_word(self.words, &mut self.seat, range.start + index)
     }
 
+    /// Puts the words of a finished range that this session has seen behind others, in order. It is one load for each.
+    ///
+    /// # Errors
+    ///
+    /// Want of memory: no word was loaded.
+    pub fn load_all(&mut self, range: Range, words: &mut Vec<u64>) -> Result<(), AllocError>
+        requires { (found : List ℕ) × Has (record { start = range.start; words = found }) self.old.known.seen.ranges
+            × (length found ≡ range.len) }
+        ensures words { OnOk result ((found : List ℕ) → Has (record { start = range.start; words = found }) self.old.known.seen.ranges
+            → length found ≡ range.len → words.new.items ≡ words.old.items ++ found) }
+        ensures loaded { HasLoadedSome L.terms self.old self.new }
+    {
+        words.reserve(range.len)?;
+        fetch_all(self.words, &mut self.seat, range, words);
+        Ok(())
+    }
+
     /// Writes these words into the store, as a range that is finished and never changes. It takes no memory, and the cells stay.
     ///
     /// # Errors
@@ -94,6 +113,21 @@ impl<'w, L: Law> Run<'w, L> {
             start,
             len: words.len(),
         })
+    }
+}
+
+// Puts the words of a range of the store behind others, for which there is room.
+fn fetch_all<L: Law>(words: &Words<L>, seat: &mut Place<L>, range: Range, fetched: &mut Vec<u64>)
+    requires seated { IsSeated words.now seat.old }
+    requires room { words.now.room ≡ seat.old.me.0.room }
+    requires within { (i : ℕ) → i < range.len → range.start + i < words.now.room }
+    requires reserved { vec_len fetched.old + range.len ≤ vec_capacity fetched.old }
+    ensures seat { IsSameSeat seat.old seat.new }
+    ensures told { Fetched L.terms range range.len seat.old.me seat.new.me fetched.old.items fetched.new.items }
+{
+    for index in 0..range.len {
+        let word = fetch_word(words, seat, range.start + index);
+        fetched.push_reserved(word);
     }
 }
 

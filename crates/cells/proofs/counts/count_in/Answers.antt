@@ -6,7 +6,16 @@ use Rattle.cells.specs.Aside.{IsCitersOf}
 use Rattle.cells.proofs.Keeping.{keeps_trans}
 use Rattle.cells.proofs.Asking.{nothing_same, nothing_written, asks_trans}
 use Rattle.cells.proofs.Counting.{Changes, one_more, changes_more, count_made, counts_in, keeps_counted, asks_counted}
+use Rattle.cells.proofs.Settings.{small_slot}
 use Rattle.cells.proofs.counts.count_in.Goals as goal
+
+pub citers_cell-requires : goal.citers_cell-requires
+citers_cell-requires g c =
+    small_slot _ (g.met.C.Cells.grounded c.args.cells.now) _ (c.requires.slots c.loop-slot.slot-index 0 c.loop-slot-test.true)
+
+pub citers_cell-requires-in-loop-slot : goal.citers_cell-requires-in-loop-slot
+citers_cell-requires-in-loop-slot g c =
+    small_slot _ (g.met.C.Cells.grounded c.args.cells.now) _ (c.requires.slots c.loop-slot.slot-index 0 c.loop-slot-test.true)
 
 pub returns-in_err-count-clause-onward : goal.returns-in_err-count-clause-onward
 returns-in_err-count-clause-onward g c = onward_trans _ _ _ c.loop-slot.invariant.onward c.in_err-count.ensures.err.onward

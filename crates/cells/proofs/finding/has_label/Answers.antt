@@ -3,9 +3,12 @@ use Rattle.cells.specs.Slots.{name_cell}
 use Rattle.cells.specs.Sight.{Reads}
 use Rattle.cells.proofs.Sights.{looks_trans}
 use Rattle.cells.proofs.Asking.{asks_cell, asks_still}
-use Rattle.cells.proofs.Settings.{same_slots}
+use Rattle.cells.proofs.Settings.{same_slots, small_slot}
 use Rattle.cells.proofs.Bodies.{value_later, knows_later, same_words}
 use Rattle.cells.proofs.finding.has_label.Goals as goal
+
+pub name_cell-requires : goal.name_cell-requires
+name_cell-requires g c = small_slot _ (g.met.C.Cells.grounded c.args.cells.now) c.args.slot c.requires
 
 pub returns-clause-looks : goal.returns-clause-looks
 returns-clause-looks g c = looks_trans _ _ _ c.in_ok-word.ensures.ok.looks c.has_words.ensures.looks

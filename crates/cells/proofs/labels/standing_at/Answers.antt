@@ -5,11 +5,14 @@ use Rattle.std.proofs.lemmas.Bool.{eqb-true}
 use Rattle.std.proofs.lemmas.List.{nil_from_length}
 use Rattle.cells.proofs.Sights.{looks_trans}
 use Rattle.cells.proofs.Asking.{asks_cell, asks_still}
-use Rattle.cells.proofs.Settings.{same_slots}
+use Rattle.cells.proofs.Settings.{same_slots, small_slot}
 use Rattle.cells.proofs.Bodies.{value_later, knows_later}
 use Rattle.cells.proofs.Clashing.{empty_free, unnamed_free, words_taken, words_clashing, words_free}
 use Rattle.cells.proofs.labels.standing_at.Goals.{then-word-eq0-via-then-word-eq0, then-word-eq0-via-else-word-eq0+then-is_empty}
 use Rattle.cells.proofs.labels.standing_at.Goals as goal
+
+pub name_cell-requires : goal.name_cell-requires
+name_cell-requires g c = small_slot _ (g.met.C.Cells.grounded c.args.cells.now) c.args.slot c.requires
 
 pub returns-in_err-word-clause-reads : goal.returns-in_err-word-clause-reads
 returns-in_err-word-clause-reads g c = asks_cell c.name_cell.ensures c.read.ensures.reads

@@ -11,7 +11,14 @@ use Rattle.chains.specs.Filling.{LaysDown}
 use Rattle.cells.proofs.Sights.{onward_trans, matches_back}
 use Rattle.std.proofs.lemmas.Result.{MatchResult-weaker}
 use Rattle.chains.proofs.Laying.{laid_down}
+use Rattle.cells.proofs.Settings.{small_slot}
 use Rattle.chains.proofs.filling.lay_down.Goals as goal
+
+pub rank_cell-requires : goal.rank_cell-requires
+rank_cell-requires g c = small_slot _ (g.met.C.Cells.grounded c.args.cells.now) c.args.slot c.requires.slot
+
+pub citers_cell-requires : goal.citers_cell-requires
+citers_cell-requires g c = small_slot _ (g.met.C.Cells.grounded c.args.cells.now) c.args.slot c.requires.slot
 
 pub returns-in_err-put_statement-clause-onward : goal.returns-in_err-put_statement-clause-onward
 returns-in_err-put_statement-clause-onward g c = onward_trans _ _ _ c.put_label.ensures.onward c.put_statement.ensures.onward

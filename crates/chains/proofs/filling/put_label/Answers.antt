@@ -4,7 +4,11 @@ use Rattle.std.specs.Prelude.{IfOk}
 use Rattle.cells.specs.Slots.{name_cell}
 use Rattle.cells.specs.Sight.{WasWritten, ReadsWithin}
 use Rattle.cells.specs.Aside.{KeepsAside}
+use Rattle.cells.proofs.Settings.{small_slot}
 use Rattle.chains.proofs.filling.put_label.Goals as goal
+
+pub name_cell-requires : goal.name_cell-requires
+name_cell-requires g c = small_slot _ (g.met.C.Cells.grounded c.args.cells.now) c.args.slot c.requires.slot
 
 pub returns-clause-written : goal.returns-clause-written
 returns-clause-written g c =

@@ -3,7 +3,11 @@ use Rattle.std.specs.Prelude.{IfOk}
 use Rattle.cells.specs.Slots.{proof_cell}
 use Rattle.cells.specs.Sight.{ReadsWithin}
 use Rattle.cells.specs.Aside.{KeepsAside}
+use Rattle.cells.proofs.Settings.{small_slot}
 use Rattle.chains.proofs.filling.put_proof.Goals as goal
+
+pub proof_cell-requires : goal.proof_cell-requires
+proof_cell-requires g c = small_slot _ (g.met.C.Cells.grounded c.args.cells.now) c.args.slot c.requires.slot
 
 pub returns-in_ok-proof-in-Theorem-clause-keeps : goal.returns-in_ok-proof-in-Theorem-clause-keeps
 returns-in_ok-proof-in-Theorem-clause-keeps g c =

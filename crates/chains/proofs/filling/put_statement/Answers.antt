@@ -4,7 +4,11 @@ use Rattle.std.specs.Prelude.{IfOk}
 use Rattle.cells.specs.Slots.{statement_cell}
 use Rattle.cells.specs.Sight.{ReadsWithin}
 use Rattle.cells.specs.Aside.{KeepsAside}
+use Rattle.cells.proofs.Settings.{small_slot}
 use Rattle.chains.proofs.filling.put_statement.Goals as goal
+
+pub statement_cell-requires : goal.statement_cell-requires
+statement_cell-requires g c = small_slot _ (g.met.C.Cells.grounded c.args.cells.now) c.args.slot c.requires.slot
 
 pub returns-clause-keeps : goal.returns-clause-keeps
 returns-clause-keeps g c =

@@ -9,7 +9,11 @@ use Rattle.cells.specs.Aside.{IsOfSlot}
 use Rattle.cells.proofs.Keeping.{keeps_same, keeps_trans, keeps_wider, keeps_put}
 use Rattle.cells.proofs.Asking.{nothing_same, nothing_written, asks_nothing, asks_cell, asks_trans, asks_still}
 use Rattle.cells.proofs.Values.{value_there, value_elsewhere}
+use Rattle.cells.proofs.Settings.{small_slot}
 use Rattle.chains.proofs.filling.vacate.Goals as goal
+
+pub name_cell-requires : goal.name_cell-requires
+name_cell-requires g c = small_slot _ (g.met.C.Cells.grounded c.args.cells.now) c.args.slot c.requires.slot
 
 pub loop-part-init : goal.loop-part-init
 loop-part-init g c =
@@ -107,3 +111,8 @@ returns-clause-ok g c st =
 
 pub returns-clause-written : goal.returns-clause-written
 returns-clause-written g c = c.loop-part.invariant.written (omega (arith, c.loop-part-test.false))
+
+pub overflow_add-cell : goal.overflow_add-cell
+overflow_add-cell g c =
+    let small = small_slot _ (g.met.C.Cells.grounded c.args.cells.now) c.args.slot c.requires.slot in
+    omega (arith, small, c.name_cell.ensures, c.loop-part-test.true)

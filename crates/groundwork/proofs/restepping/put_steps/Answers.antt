@@ -18,7 +18,11 @@ use Rattle.groundwork.proofs.Restepped.{CountsOutOf, CountsInOf, restepped}
 use Rattle.cells.specs.Sight.{ReadsWithin}
 use Rattle.groundwork.proofs.Since.{ReadsSince, since_then}
 use Rattle.groundwork.proofs.RestepReads.{OfResteps, resteps_end, resteps_proof, resteps_out, resteps_in}
+use Rattle.cells.proofs.Settings.{small_slot}
 use Rattle.groundwork.proofs.restepping.put_steps.Goals as goal
+
+pub proof_cell-requires : goal.proof_cell-requires
+proof_cell-requires g c = small_slot _ (g.met.C.Cells.grounded c.args.cells.now) c.args.slot c.requires.slot
 
 pub returns-in_err-put_body-clause-onward : goal.returns-in_err-put_body-clause-onward
 returns-in_err-put_body-clause-onward g c = onward_trans _ _ _ c.stored_proof.ensures.looks.onward c.put_body.ensures.onward

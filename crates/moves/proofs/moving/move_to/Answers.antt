@@ -21,7 +21,11 @@ use Rattle.cells.proofs.Resolving.{finds_after}
 use Rattle.groundwork.proofs.OnlyLooks.{stored_since}
 use Rattle.moves.proofs.Ranking.{refused_unranked, refused_not_above, refused_not_below, does_move}
 use Rattle.groundwork.proofs.Refusing.{of_none, refused, answers_refused, answers_unknown}
+use Rattle.cells.proofs.Settings.{small_slot}
 use Rattle.moves.proofs.moving.move_to.Goals as goal
+
+pub rank_cell-requires : goal.rank_cell-requires
+rank_cell-requires g c = small_slot _ (g.met.C.Cells.grounded c.known_slot.new.cells) c.in_ok-slot.slot c.in_ok-slot.ensures.ok.0
 
 pub returns-in_err-slot-clause-answers : goal.returns-in_err-slot-clause-answers
 returns-in_err-slot-clause-answers g c =

@@ -17,7 +17,11 @@ use Rattle.cells.specs.Sight.{ReadsWithin}
 use Rattle.cells.specs.Footprints.{ReadsWhere, IsOfTakingOut}
 use Rattle.groundwork.proofs.Since.{ReadsSince, OfCommandFound, found_end}
 use Rattle.newlabels.proofs.RenameReads.{relabel_name, relabel_out, relabel_in}
+use Rattle.cells.proofs.Settings.{small_slot}
 use Rattle.newlabels.proofs.renaming.relabel.Goals as goal
+
+pub name_cell-requires : goal.name_cell-requires
+name_cell-requires g c = small_slot _ (g.met.C.Cells.grounded c.args.cells.now) c.args.slot c.requires.slot
 
 pub returns-in_err-take_out-clause-onward : goal.returns-in_err-take_out-clause-onward
 returns-in_err-take_out-clause-onward g c = onward_trans _ _ _ c.put_body.ensures.onward c.take_out.ensures.onward
