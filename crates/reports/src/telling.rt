@@ -11,7 +11,7 @@ ghost use Rattle.reports.specs.Reports.{OutcomeFits, OutcomesFit, outcome_text, 
 
 use historytext::put_reply;
 use library::{Refused, Reply};
-use mmsyntax::{Prelude, Sequence};
+use mmsyntax::Prelude;
 use std::alloc::{AllocError, Global};
 use transaction::Outcome;
 
@@ -53,7 +53,7 @@ fn put_answered(
     prelude: &Prelude,
     word: &str,
     number: u64,
-    replies: &Sequence<Reply>,
+    replies: &[Reply],
 ) -> Result<(), AllocError>
     requires { All (ReplyFits prelude.now) replies.now }
     ensures { OnOk result (out.new.items ≡ out.old.items
@@ -61,7 +61,7 @@ fn put_answered(
 {
     let line = format!(in alloc; "{word} {number}\n")?;
     out.extend_from_slice(line.as_bytes())?;
-    put_replies(alloc, out, prelude, replies.as_slice())
+    put_replies(alloc, out, prelude, replies)
 }
 
 /// The lines of one transaction behind `S.T `. Its outcome is no conflict.
@@ -76,10 +76,17 @@ fn put_outcome(
 {
     match outcome {
         Outcome::Committed { number, replies } => {
-            put_answered(alloc, out, prelude, "committed", *number, replies)
+            put_answered(
+                alloc,
+                out,
+                prelude,
+                "committed",
+                *number,
+                replies.as_slice(),
+            )
         }
         Outcome::Read { place, replies } => {
-            put_answered(alloc, out, prelude, "read", *place, replies)
+            put_answered(alloc, out, prelude, "read", *place, replies.as_slice())
         }
         Outcome::Refused { place, refused } => put_refusal(alloc, out, prelude, *place, *refused),
         Outcome::Conflict(_) => unreachable!(),
