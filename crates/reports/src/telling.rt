@@ -118,7 +118,8 @@ fn put_script(
 }
 
 /// The report of a run: for each transaction of each script a line with both numbers, which count from 1, and its outcome, and then the lines of
-/// its replies. The outcomes are no conflicts, and their replies within the limits of the prelude.
+/// its replies. The outcomes are no conflicts, and their replies within the limits of the prelude. Those of each script are let go once
+/// they are told.
 ///
 /// # Errors
 ///
@@ -126,14 +127,16 @@ fn put_script(
 pub fn report(
     alloc: Global,
     prelude: &Prelude,
-    rows: &[Vec<Outcome>],
+    rows: Vec<Vec<Outcome>>,
 ) -> Result<Vec<u8>, AllocError>
-    requires { OutcomesFit prelude.now (map (λ row. row.items) rows.now) }
-    ensures { IfOk result (λ out. out.items ≡ report_text prelude.now (map (λ row. row.items) rows.now)) }
+    requires { OutcomesFit prelude.now (map (λ row. row.items) rows.items) }
+    ensures { IfOk result (λ out. out.items ≡ report_text prelude.now (map (λ row. row.items) rows.items)) }
 {
     let mut out = Vec::new(alloc);
-    for (i, row) in rows.iter().enumerate() {
-        put_script(alloc, &mut out, prelude, i as u64 + 1, row.as_slice())?;
+    let mut script = 0;
+    for row in rows {
+        script += 1;
+        put_script(alloc, &mut out, prelude, script, row.as_slice())?;
     }
     Ok(out)
 }
