@@ -13,8 +13,8 @@ ghost use Rattle.historytext.specs.Views.{answer, seen_answered, seen_entry_plac
 
 use crate::place::{Answered, EntryPlace, Place};
 use crate::reply_rows::{read_in_reply, read_reply_word};
-use library::{Command, Entry, Reply};
-use mmsyntax::{Prelude, Sequence};
+use library::{Command, Entry, Reply, SharedList};
+use mmsyntax::Prelude;
 use mmtext::{FaultKind, Stop, Token, fault_at};
 use scripts::{Led, read_command_word, read_in_command};
 use std::alloc::{AllocError, Global};
@@ -42,6 +42,7 @@ fn go_on_asking<'a>(
 
 /// Puts an entry behind the others.
 fn add_done(
+    alloc: Global,
     entries: &mut Vec<Entry>,
     commands: Vec<Command>,
     replies: Vec<Reply>,
@@ -49,14 +50,15 @@ fn add_done(
     ensures { OnOk result (entries.new.items ≡ entries.old.items ++ entry.Done commands.items replies.items ∷ []) }
 {
     entries.push(Entry::Done {
-        commands: Sequence::from_vec(commands),
-        replies: Sequence::from_vec(replies),
+        commands: SharedList::from_vec(alloc, commands)?,
+        replies: SharedList::from_vec(alloc, replies)?,
     })?;
     Ok(())
 }
 
 /// Behind whole replies: the entry is whole when each command has one.
 fn go_on_replying<'a>(
+    alloc: Global,
     entries: &mut Vec<Entry>,
     left: u64,
     commands: Vec<Command>,
@@ -69,7 +71,7 @@ fn go_on_replying<'a>(
         let place = EntryPlace::AtReply(commands, replies);
         return Ok(Place::InEntry(left, place));
     }
-    match add_done(entries, commands, replies) {
+    match add_done(alloc, entries, commands, replies) {
         Ok(()) => Ok(Place::AtEntry(left)),
         Err(_) => Err(Stop::Memory),
     }
@@ -77,6 +79,7 @@ fn go_on_replying<'a>(
 
 /// One more reply behind the others.
 fn take_reply<'a>(
+    alloc: Global,
     entries: &mut Vec<Entry>,
     left: u64,
     commands: Vec<Command>,
@@ -87,11 +90,12 @@ fn take_reply<'a>(
         (replies_left entries.old.items left commands.items (replies.items ++ reply ∷ [])) }
 {
     replies.push(reply)?;
-    go_on_replying(entries, left, commands, replies)
+    go_on_replying(alloc, entries, left, commands, replies)
 }
 
 /// A place in a reply, or one more reply behind the others, unless the token that was read there has a fault.
 fn go_on_answering<'a>(
+    alloc: Global,
     entries: &mut Vec<Entry>,
     left: u64,
     commands: Vec<Command>,
@@ -106,7 +110,7 @@ fn go_on_answering<'a>(
             let place = EntryPlace::Answering(commands, replies, place);
             Ok(Place::InEntry(left, place))
         }
-        Ok(Answered::Whole(reply)) => take_reply(entries, left, commands, replies, reply),
+        Ok(Answered::Whole(reply)) => take_reply(alloc, entries, left, commands, replies, reply),
         Err(stop) => Err(stop),
     }
 }
@@ -134,7 +138,7 @@ fn read_at_command<'a>(
         (command_row t entries.old.items left commands.items (seen token.entry)) }
 {
     if token.text == b"commit".as_slice() {
-        return go_on_replying(entries, left, commands, Vec::new(alloc));
+        return go_on_replying(alloc, entries, left, commands, Vec::new(alloc));
     }
     go_on_asking(left, commands, read_command_word(token))
 }
@@ -164,11 +168,18 @@ pub(crate) fn read_in_entry<'a>(
             )
         }
         EntryPlace::AtReply(commands, replies) => {
-            go_on_answering(entries, left, commands, replies, read_reply_word(token))
+            go_on_answering(
+                alloc,
+                entries,
+                left,
+                commands,
+                replies,
+                read_reply_word(token),
+            )
         }
         EntryPlace::Answering(commands, replies, place) => {
             let next = read_in_reply(alloc, prelude, place, token);
-            go_on_answering(entries, left, commands, replies, next)
+            go_on_answering(alloc, entries, left, commands, replies, next)
         }
     }
 }

@@ -20,14 +20,14 @@ use checking::{Fault, SLOTS};
 use editing::{EditError, Edited, edit_all};
 use export::put_library;
 use historytext::write_history;
-use library::{Entry, Script};
+use library::{Entry, PlainLibrary, Script};
 use mmstatement::{Database, Prelude};
 use reports::report;
 use std::alloc::{AllocError, Global};
 use std::hash::RandomState;
 use std::sync::Wait;
 use std::thread::Threads;
-use transaction::{Library, OpenError, Session, Shape};
+use transaction::{Library, OpenError, Outcome, Session, Shape};
 
 /// How a run is to be done.
 #[derive(Clone, Copy)]
@@ -123,14 +123,19 @@ fn edit(
     }
 }
 
-/// The report of a run, and its library's text.
-fn report_run(alloc: Global, prelude: &Prelude, edited: &Edited) -> Result<Vec<u8>, AllocError>
-    requires { OutcomesFit prelude.now (lists_of edited.now.outcomes.items) }
-    ensures { IfOk result (λ v. v.items ≡ report_text prelude.now (lists_of edited.now.outcomes.items) ++ library_lines edited.now.library) }
+/// The report of a run, whose outcomes are let go as they are told, and its library's text.
+fn report_run(
+    alloc: Global,
+    prelude: &Prelude,
+    outcomes: Vec<Vec<Outcome>>,
+    library: &PlainLibrary,
+) -> Result<Vec<u8>, AllocError>
+    requires { OutcomesFit prelude.now (lists_of outcomes.items) }
+    ensures { IfOk result (λ v. v.items ≡ report_text prelude.now (lists_of outcomes.items) ++ library_lines library.now) }
 {
-    let mut out = report(alloc, prelude, edited.outcomes.as_slice())?;
+    let mut out = report(alloc, prelude, outcomes)?;
     out.extend_from_slice(b"library\n")?;
-    put_library(&mut out, &edited.library)?;
+    put_library(&mut out, library)?;
     Ok(out)
 }
 
@@ -159,20 +164,21 @@ fn history_where(
     }
 }
 
-/// What is printed of scripts that were run over a database, and its history's text where it is asked for.
+/// What is printed of scripts that were run over a database, and its history's text where it is asked for. The history is let go before
+/// the outcomes are told, so that theirs are the last replies.
 fn print_edited(
     alloc: Global,
     db: &Database,
     scripts: &[Script],
-    edited: &Edited,
+    edited: Edited,
     asked: bool,
 ) -> Result<Printed, AllocError>
     requires checks { AllCheck db.now }
     requires fit { All (All (All (CommandFits db.now.prelude))) scripts.now }
     requires worked { (workers : ℕ) × (room : ℕ)
-        × IsWorked db.now workers room scripts.now (lists_of edited.now.outcomes.items) edited.now.history edited.now.library }
+        × IsWorked db.now workers room scripts.now (lists_of edited.outcomes.items) edited.history edited.library }
     ensures { (workers room : ℕ) →
-        IsWorked db.now workers room scripts.now (lists_of edited.now.outcomes.items) edited.now.history edited.now.library →
+        IsWorked db.now workers room scripts.now (lists_of edited.outcomes.items) edited.history edited.library →
         IfOk result (λ p. PrintsRun db.now workers room asked scripts.now p.out.items p.history.items) }
 {
     // For the proof: some text declares the database; the library verifies, and is in export order; and there are no more entries than a text
@@ -180,9 +186,16 @@ fn print_edited(
     let _assertions = db.assertions();
     let _entries = edited.library.entries();
     let _count = count_of(edited.history.as_slice());
+    let Edited {
+        outcomes,
+        history,
+        library,
+    } = edited;
+    let text = history_where(alloc, asked, db.prelude(), history.as_slice())?;
+    drop(history);
     Ok(Printed {
-        out: report_run(alloc, db.prelude(), edited)?,
-        history: history_where(alloc, asked, db.prelude(), edited.history.as_slice())?,
+        out: report_run(alloc, db.prelude(), outcomes, &library)?,
+        history: text,
     })
 }
 
@@ -204,5 +217,5 @@ pub(crate) fn print_run(
     ensures full { plan.room < bodies_length db.now.assertions → RefusesWith StoreFull result }
 {
     let edited = edit(rt, alloc, keys, db, scripts, plan, watch)?;
-    Ok(print_edited(alloc, db, scripts, &edited, plan.history)?)
+    Ok(print_edited(alloc, db, scripts, edited, plan.history)?)
 }

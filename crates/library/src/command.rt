@@ -1,13 +1,13 @@
 //! Commands and their replies.
 
-ghost use Rattle.std.specs.Prelude.{◌≡◌, ◌↔◌, IfOk, IsTrue};
+ghost use Rattle.std.specs.Prelude.{◌≡◌, ◌↔◌, IsTrue};
 ghost use Rattle.library.specs.Edits.{is_edit};
 ghost use Rattle.library.specs.Fitting.{CommandFits};
 ghost use Rattle.library.specs.Transactions.{has_edit, has_too_many};
 
 use crate::library::Ranked;
+use crate::shared::SharedList;
 use mmsyntax::{Assertion, Kind, Label, Prelude, Proof, Sequence, are_citing_apart, fits};
-use std::alloc::{AllocError, Global};
 
 /// The highest rank.
 const HIGHEST_RANK: u32 = 4_294_967_295;
@@ -90,80 +90,6 @@ impl Command {
             Command::Show { .. } | Command::List => false,
         }
     }
-
-    /// An equal command.
-    pub fn copy(&self, alloc: Global) -> Result<Command, AllocError>
-        ensures { IfOk result (λ made. made ≡ self.now) }
-    {
-        match self {
-            Command::Add { rank, assertion } => copy_add(alloc, *rank, assertion),
-            Command::Reprove { label, steps } => copy_reprove(alloc, label, steps),
-            Command::Replace { label, old, new } => copy_replace(alloc, label, old, new),
-            Command::Rename { old, new } => copy_rename(alloc, old, new),
-            Command::Move { label, rank } => copy_move(alloc, label, *rank),
-            Command::Delete { label } => copy_delete(alloc, label),
-            Command::Show { label } => copy_show(alloc, label),
-            Command::List => Ok(Command::List),
-        }
-    }
-}
-
-fn copy_add(alloc: Global, rank: u32, assertion: &Assertion) -> Result<Command, AllocError>
-    ensures { IfOk result (λ made. made ≡ Command.Add rank assertion.now) }
-{
-    let assertion = assertion.copy(alloc)?;
-    Ok(Command::Add { rank, assertion })
-}
-
-fn copy_reprove(alloc: Global, label: &Label, steps: &Proof) -> Result<Command, AllocError>
-    ensures { IfOk result (λ made. made ≡ Command.Reprove label.now steps.now) }
-{
-    let label = label.copy(alloc)?;
-    let steps = steps.copy(alloc)?;
-    Ok(Command::Reprove { label, steps })
-}
-
-fn copy_replace(
-    alloc: Global,
-    label: &Label,
-    old: &Label,
-    new: &Label,
-) -> Result<Command, AllocError>
-    ensures { IfOk result (λ made. made ≡ Command.Replace label.now old.now new.now) }
-{
-    let label = label.copy(alloc)?;
-    let old = old.copy(alloc)?;
-    let new = new.copy(alloc)?;
-    Ok(Command::Replace { label, old, new })
-}
-
-fn copy_rename(alloc: Global, old: &Label, new: &Label) -> Result<Command, AllocError>
-    ensures { IfOk result (λ made. made ≡ Command.Rename old.now new.now) }
-{
-    let old = old.copy(alloc)?;
-    let new = new.copy(alloc)?;
-    Ok(Command::Rename { old, new })
-}
-
-fn copy_move(alloc: Global, label: &Label, rank: u32) -> Result<Command, AllocError>
-    ensures { IfOk result (λ made. made ≡ Command.Move label.now rank) }
-{
-    let label = label.copy(alloc)?;
-    Ok(Command::Move { label, rank })
-}
-
-fn copy_delete(alloc: Global, label: &Label) -> Result<Command, AllocError>
-    ensures { IfOk result (λ made. made ≡ Command.Delete label.now) }
-{
-    let label = label.copy(alloc)?;
-    Ok(Command::Delete { label })
-}
-
-fn copy_show(alloc: Global, label: &Label) -> Result<Command, AllocError>
-    ensures { IfOk result (λ made. made ≡ Command.Show label.now) }
-{
-    let label = label.copy(alloc)?;
-    Ok(Command::Show { label })
 }
 
 /// What `Command::List` tells of an assertion.
@@ -174,20 +100,6 @@ pub struct Line {
     pub kind: Kind,
     /// The number of assertions whose proof cites it.
     pub citers: u64,
-}
-
-impl Line {
-    /// An equal line.
-    pub fn copy(&self, alloc: Global) -> Result<Line, AllocError>
-        ensures { IfOk result (λ made. made ≡ self.now) }
-    {
-        Ok(Line {
-            rank: self.rank,
-            label: self.label.copy(alloc)?,
-            kind: self.kind,
-            citers: self.citers,
-        })
-    }
 }
 
 /// The reply to a command that was not refused.
@@ -201,47 +113,12 @@ pub enum Reply {
     Listed { lines: Sequence<Line> },
 }
 
-impl Reply {
-    /// An equal reply.
-    pub fn copy(&self, alloc: Global) -> Result<Reply, AllocError>
-        ensures { IfOk result (λ made. made ≡ self.now) }
-    {
-        Ok(match self {
-            Reply::Done => Reply::Done,
-            Reply::Shown { citers, shown } => Reply::Shown {
-                citers: *citers,
-                shown: shown.copy(alloc)?,
-            },
-            Reply::Listed { lines } => Reply::Listed {
-                lines: copy_lines(alloc, lines.as_slice())?,
-            },
-        })
-    }
-}
+/// The replies to the commands of a transaction, one each, in their order. What became of a transaction, its session's record and its entry in
+/// the history share them.
+pub type Replies = SharedList<Reply>;
 
-fn copy_lines(alloc: Global, lines: &[Line]) -> Result<Sequence<Line>, AllocError>
-    ensures { IfOk result (λ made. made ≡ lines.now) }
-{
-    let mut made = Vec::new(alloc);
-    for line in lines {
-        made.push(line.copy(alloc)?)?;
-    }
-    Ok(Sequence::from_vec(made))
-}
-
-/// The replies, in memory of their own.
-pub fn copy_replies(alloc: Global, replies: &[Reply]) -> Result<Sequence<Reply>, AllocError>
-    ensures { IfOk result (λ made. made ≡ replies.now) }
-{
-    let mut made = Vec::new(alloc);
-    for reply in replies {
-        made.push(reply.copy(alloc)?)?;
-    }
-    Ok(Sequence::from_vec(made))
-}
-
-/// The commands of a transaction: all are done, or none.
-pub type Transaction = Sequence<Command>;
+/// The commands of a transaction: all are done, or none. A script, a session's record and an entry of the history share them.
+pub type Transaction = SharedList<Command>;
 
 /// The most commands of a transaction.
 pub const MOST_COMMANDS: usize = 16;
@@ -258,17 +135,6 @@ pub fn has_too_many(commands: &[Command]) -> bool
     ensures { result ≡ has_too_many commands.now }
 {
     commands.len() > MOST_COMMANDS
-}
-
-/// The commands of a transaction, in memory of their own.
-pub fn copy_commands(alloc: Global, commands: &[Command]) -> Result<Transaction, AllocError>
-    ensures { IfOk result (λ made. made ≡ commands.now) }
-{
-    let mut made = Vec::new(alloc);
-    for command in commands {
-        made.push(command.copy(alloc)?)?;
-    }
-    Ok(Sequence::from_vec(made))
 }
 
 /// The transactions of a script, in order.

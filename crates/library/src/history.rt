@@ -1,6 +1,6 @@
 //! Histories: what became of each number that was drawn.
 
-use crate::command::{Reply, Transaction};
+use crate::command::{Replies, Transaction};
 use mmsyntax::Sequence;
 
 /// An entry of a history.
@@ -11,7 +11,7 @@ pub enum Entry {
     /// The transaction that committed with this number, with the reply to each command.
     Done {
         commands: Transaction,
-        replies: Sequence<Reply>,
+        replies: Replies,
     },
 }
 

@@ -18,12 +18,13 @@ mod command;
 mod history;
 mod library;
 mod reason;
+mod shared;
 
 pub use alike::is_alike;
 pub use command::{
-    Command, Line, MOST_COMMANDS, Reply, Script, Transaction, copy_commands, copy_replies,
-    has_edit, has_too_many,
+    Command, Line, MOST_COMMANDS, Replies, Reply, Script, Transaction, has_edit, has_too_many,
 };
 pub use history::{Entry, History};
 pub use library::{PlainLibrary, Ranked};
 pub use reason::{Reason, Refused};
+pub use shared::SharedList;

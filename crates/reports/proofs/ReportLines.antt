@@ -1,14 +1,14 @@
 -- The lines of a report, one transaction after another, and one script after another.
-use Rattle.std.proofs.Common.{◌≡◌, ℕ, suc, ◌+◌, ◌<◌, ◌≤◌, List, Vec, [], ◌∷◌, ◌++◌, length, map, get_or, drop, sym, ap, subst, ◌∙◌, append_assoc, append-nil, add-one, arith}
+use Rattle.std.proofs.Common.{◌≡◌, ℕ, suc, ◌+◌, ◌<◌, List, Vec, [], ◌∷◌, ◌++◌, length, get_or, drop, sym, ap, subst, ◌∙◌, append_assoc, add-one, arith}
 use Rattle.std.specs.Prelude.{All}
 use Rattle.std.specs.declared.alloc.Global.{Global}
-use Rattle.std.proofs.lemmas.List.{drop_all, length-map, get_or-map}
+use Rattle.std.proofs.lemmas.List.Elements.{All-head, All-tail}
 use Rattle.std.proofs.Math.Seq.{drop-cons}
 use Rattle.std.specs.Fmt.{decimal}
 use Rattle.mmsyntax.specs.Tables.{Tables}
 use Rattle.transaction.specs.declared.outcome.Outcome.{Outcome}
 use Rattle.transaction.specs.Closings.{lists_of}
-use Rattle.reports.specs.Reports.{OutcomeFits, OutcomesFit, outcome_text, numbered_text, script_text_from, scripts_text_from}
+use Rattle.reports.specs.Reports.{OutcomeFits, OutcomesFit, outcome_text, numbered_text, script_text_from, scripts_text_from, report_text}
 
 -- from the place of an item on, a list has the item and then what stands behind it
 pub here : {A : Type 0} (xs : List A) (i : ℕ) (x : A) → i < length xs → x ≡ get_or xs i x → drop i xs ≡ x ∷ drop (i + 1) xs
@@ -28,30 +28,38 @@ told_on t s i out number mid end all os o within is numbered is_mid is_end befor
     simp append_assoc in
     ap (λ e. e ++ rest) ends ∙ joined ∙ ap (λ xs. out ++ script_text_from t s (i + 1) xs) (sym (here os i o within is)) ∙ before
 
+-- so many rows are told: the text, with the lines of those that are left behind it, is the report, and those can be printed
+pub record AreLeft (t : Tables) (rows : List (Vec Outcome Global)) (out : List ℕ) (told : ℕ) (left : List (Vec Outcome Global)) (count : ℕ)
+    : Type 0 where
+  pub text : out ++ scripts_text_from t (told + 1) (lists_of left) ≡ report_text t (lists_of rows)
+  pub fit : OutcomesFit t (lists_of left)
+  pub counted : told + length left ≡ length rows
+  pub count_is : count ≡ length left
+
 -- one more script
-pub row_on : (t : Tables) (i : ℕ) (out end all : List ℕ) (os : List Outcome) (rows : List (Vec Outcome Global)) (row : Vec Outcome Global)
-    → i < length rows → row ≡ get_or rows i row → os ≡ row.items → end ≡ out ++ script_text_from t (i + 1) 1 os
-    → out ++ scripts_text_from t (i + 1) (lists_of (drop i rows)) ≡ all
-    → end ++ scripts_text_from t (i + 1 + 1) (lists_of (drop (i + 1) rows)) ≡ all
-row_on t i out end all os rows row within is same is_end before =
-    let rest = scripts_text_from t (i + 1 + 1) (lists_of (drop (i + 1) rows)) in
-    let ends : end ≡ out ++ script_text_from t (i + 1) 1 row.items =
-    is_end ∙ ap (λ (xs : List Outcome). out ++ script_text_from t (i + 1) 1 xs) same in
-    ap (λ (e : List ℕ). e ++ rest) ends ∙ append_assoc out (script_text_from t (i + 1) 1 row.items) rest
-    ∙ ap (λ (xs : List (Vec Outcome Global)). out ++ scripts_text_from t (i + 1) (lists_of xs)) (sym (here rows i row within is)) ∙ before
+pub row_on : (t : Tables) (rows left rest : List (Vec Outcome Global)) (out end : List ℕ) (told count less : ℕ) (row : Vec Outcome Global)
+    (os : List Outcome) → AreLeft t rows out told left count → left ≡ row ∷ rest → less + 1 ≡ count → os ≡ row.items
+    → end ≡ out ++ script_text_from t (told + 1) 1 os → AreLeft t rows end (told + 1) rest less
+row_on t rows left rest out end told count less row os a next one same is_end =
+    let size = ap length next in
+    let counted = a.counted in
+    let count_is = a.count_is in
+    let behind = scripts_text_from t (told + 1 + 1) (lists_of rest) in
+    record {
+      text =
+          ap (λ e. e ++ behind) (is_end ∙ ap (λ (xs : List Outcome). out ++ script_text_from t (told + 1) 1 xs) same)
+          ∙ append_assoc out (script_text_from t (told + 1) 1 row.items) behind
+          ∙ ap (λ (xs : List (Vec Outcome Global)). out ++ scripts_text_from t (told + 1) (lists_of xs)) (sym next) ∙ a.text;
+      fit =
+          All-tail (All (OutcomeFits t)) row.items (lists_of rest)
+          (subst (λ (xs : List (Vec Outcome Global)). OutcomesFit t (lists_of xs)) next a.fit);
+      counted = omega (arith, size, counted);
+      count_is = omega (arith, one, count_is, size);
+    }
 
--- none is left
-pub rows_told : (t : Tables) (i : ℕ) (out all : List ℕ) (rows : List (Vec Outcome Global)) → length rows ≤ i
-    → out ++ scripts_text_from t (i + 1) (lists_of (drop i rows)) ≡ all → out ≡ all
-rows_told t i out all rows done before =
-    sym (append-nil out)
-    ∙ ap (λ (xs : List (Vec Outcome Global)). out ++ scripts_text_from t (i + 1) (lists_of xs)) (sym (drop_all i rows done)) ∙ before
-
--- the outcomes of a script can be printed where those of all can
-pub row_fits : (t : Tables) (rows : List (Vec Outcome Global)) (i : ℕ) (row : Vec Outcome Global) → i < length rows → row ≡ get_or rows i row
-    → OutcomesFit t (lists_of rows) → All (OutcomeFits t) row.items
-row_fits t rows i row within is fit =
-    let items : Vec Outcome Global → List Outcome = λ own. own.items in
-    let same : get_or (lists_of rows) i row.items ≡ row.items =
-    get_or-map items rows i row row.items within ∙ ap items (sym is) in
-    subst (All (OutcomeFits t)) same (fit i row.items (omega (arith, length-map rows items)))
+-- the outcomes of the next script can be printed
+pub next_fits : (t : Tables) (rows left rest : List (Vec Outcome Global)) (out : List ℕ) (told count : ℕ) (row : Vec Outcome Global)
+    (os : List Outcome) → AreLeft t rows out told left count → left ≡ row ∷ rest → os ≡ row.items → All (OutcomeFits t) os
+next_fits t rows left rest out told count row os a next same =
+    let fit = subst (λ (xs : List (Vec Outcome Global)). OutcomesFit t (lists_of xs)) next a.fit in
+    subst (All (OutcomeFits t)) (sym same) (All-head (All (OutcomeFits t)) row.items (lists_of rest) fit)

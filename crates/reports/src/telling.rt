@@ -11,7 +11,7 @@ ghost use Rattle.reports.specs.Reports.{OutcomeFits, OutcomesFit, outcome_text, 
 
 use historytext::put_reply;
 use library::{Refused, Reply};
-use mmsyntax::{Prelude, Sequence};
+use mmsyntax::Prelude;
 use std::alloc::{AllocError, Global};
 use transaction::Outcome;
 
@@ -53,7 +53,7 @@ fn put_answered(
     prelude: &Prelude,
     word: &str,
     number: u64,
-    replies: &Sequence<Reply>,
+    replies: &[Reply],
 ) -> Result<(), AllocError>
     requires { All (ReplyFits prelude.now) replies.now }
     ensures { OnOk result (out.new.items ≡ out.old.items
@@ -61,7 +61,7 @@ fn put_answered(
 {
     let line = format!(in alloc; "{word} {number}\n")?;
     out.extend_from_slice(line.as_bytes())?;
-    put_replies(alloc, out, prelude, replies.as_slice())
+    put_replies(alloc, out, prelude, replies)
 }
 
 /// The lines of one transaction behind `S.T `. Its outcome is no conflict.
@@ -76,10 +76,17 @@ fn put_outcome(
 {
     match outcome {
         Outcome::Committed { number, replies } => {
-            put_answered(alloc, out, prelude, "committed", *number, replies)
+            put_answered(
+                alloc,
+                out,
+                prelude,
+                "committed",
+                *number,
+                replies.as_slice(),
+            )
         }
         Outcome::Read { place, replies } => {
-            put_answered(alloc, out, prelude, "read", *place, replies)
+            put_answered(alloc, out, prelude, "read", *place, replies.as_slice())
         }
         Outcome::Refused { place, refused } => put_refusal(alloc, out, prelude, *place, *refused),
         Outcome::Conflict(_) => unreachable!(),
@@ -111,7 +118,8 @@ fn put_script(
 }
 
 /// The report of a run: for each transaction of each script a line with both numbers, which count from 1, and its outcome, and then the lines of
-/// its replies. The outcomes are no conflicts, and their replies within the limits of the prelude.
+/// its replies. The outcomes are no conflicts, and their replies within the limits of the prelude. Those of each script are let go once
+/// they are told.
 ///
 /// # Errors
 ///
@@ -119,14 +127,16 @@ fn put_script(
 pub fn report(
     alloc: Global,
     prelude: &Prelude,
-    rows: &[Vec<Outcome>],
+    rows: Vec<Vec<Outcome>>,
 ) -> Result<Vec<u8>, AllocError>
-    requires { OutcomesFit prelude.now (map (λ row. row.items) rows.now) }
-    ensures { IfOk result (λ out. out.items ≡ report_text prelude.now (map (λ row. row.items) rows.now)) }
+    requires { OutcomesFit prelude.now (map (λ row. row.items) rows.items) }
+    ensures { IfOk result (λ out. out.items ≡ report_text prelude.now (map (λ row. row.items) rows.items)) }
 {
     let mut out = Vec::new(alloc);
-    for (i, row) in rows.iter().enumerate() {
-        put_script(alloc, &mut out, prelude, i as u64 + 1, row.as_slice())?;
+    let mut script = 0;
+    for row in rows {
+        script += 1;
+        put_script(alloc, &mut out, prelude, script, row.as_slice())?;
     }
     Ok(out)
 }

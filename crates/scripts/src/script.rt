@@ -19,7 +19,7 @@ use command_rows::is_word;
 pub use command_rows::{
     read_command_word, read_in_command, read_label, read_rank, take_in_command,
 };
-use library::{Command, Script, Transaction};
+use library::{Command, Script, SharedList, Transaction};
 use mmsyntax::{MOST_BYTES, Prelude, Sequence};
 use mmtext::{FaultKind, Mark, Reader, Stop, TextFault, Token, fault_at, read};
 pub use numerals::is_numeral;
@@ -47,6 +47,7 @@ fn go_on<'a>(mut commands: Vec<Command>, next: Result<Led<'a>, Stop>) -> Result<
 
 /// Behind `begin` and whole commands: `commit`, or the word of a command.
 fn read_at_command<'a>(
+    alloc: Global,
     script: &mut Vec<Transaction>,
     commands: Vec<Command>,
     token: Token<'a>,
@@ -55,7 +56,7 @@ fn read_at_command<'a>(
         (command_row t script.old.items commands.items (seen token.entry)) }
 {
     if is_word(token, b"commit") {
-        script.push(Sequence::from_vec(commands))?;
+        script.push(SharedList::from_vec(alloc, commands)?)?;
         return Ok(Place::Outermost);
     }
     go_on(commands, read_command_word(token))
@@ -75,7 +76,7 @@ fn next_place<'a>(
     match place {
         Place::Outermost if is_word(token, b"begin") => { Ok(Place::AtCommand(Vec::new(alloc))) }
         Place::Outermost => Err(fault_at(token, FaultKind::BadToken)),
-        Place::AtCommand(commands) => read_at_command(script, commands, token),
+        Place::AtCommand(commands) => read_at_command(alloc, script, commands, token),
         Place::Within(commands, place) => {
             go_on(commands, read_in_command(alloc, prelude, place, token))
         }

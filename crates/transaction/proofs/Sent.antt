@@ -21,14 +21,32 @@ label_send = search (crosses, sendable) depth 60 fits 100000
 assertion_send : IsSend Assertion.the_field.row
 assertion_send = let label = label_send in search (crosses, sendable) depth 60 fits 100000
 
-command_send : IsSend Command.the_field.row
+pub command_send : IsSend Command.the_field.row
 command_send = let label = label_send in let assertion = assertion_send in search (crosses, sendable) depth 60 fits 100000
 
 reply_send : IsSend Reply.the_field.row
 reply_send = let label = label_send in let assertion = assertion_send in search (crosses, sendable) depth 60 fits 100000
 
+label_sync : IsSync Label.the_field.row
+label_sync = search (crosses, sendable) depth 60 fits 100000
+
+assertion_sync : IsSync Assertion.the_field.row
+assertion_sync = let label = label_sync in search (crosses, sendable) depth 60 fits 100000
+
+pub command_sync : IsSync Command.the_field.row
+command_sync = let label = label_sync in let assertion = assertion_sync in search (crosses, sendable) depth 60 fits 100000
+
+reply_sync : IsSync Reply.the_field.row
+reply_sync = let label = label_sync in let assertion = assertion_sync in search (crosses, sendable) depth 60 fits 100000
+
+-- commands and replies are shared with other records and outcomes, and so with their threads
 pub record_send : IsSend Record.the_field.row
-record_send = let command = command_send in let reply = reply_send in search (crosses, sendable) depth 60 fits 100000
+record_send =
+    let command = command_send in
+    let commands = command_sync in
+    let reply = reply_send in
+    let replies = reply_sync in
+    search (crosses, sendable) depth 60 fits 100000
 
 pub outcome_send : IsSend Outcome.the_field.row
 outcome_send = search (crosses, sendable) depth 60 fits 100000
@@ -45,14 +63,5 @@ given_sync = search (crosses, sendable) depth 60 fits 100000
 pub library_sync : IsSync Library.the_field.row
 library_sync = let prelude = prelude_sync in let given = given_sync in search (words_sync, crosses, sendable) depth 60 fits 100000
 
-label_sync : IsSync Label.the_field.row
-label_sync = search (crosses, sendable) depth 60 fits 100000
-
-assertion_sync : IsSync Assertion.the_field.row
-assertion_sync = let label = label_sync in search (crosses, sendable) depth 60 fits 100000
-
-pub command_sync : IsSync Command.the_field.row
-command_sync = let label = label_sync in let assertion = assertion_sync in search (crosses, sendable) depth 60 fits 100000
-
 -- for a `search` that asks for these
-pub ruleset crosses_transaction = (record_send, outcome_send, session_send, library_sync, command_sync)
+pub ruleset crosses_transaction = (record_send, outcome_send, session_send, library_sync, command_send, command_sync)

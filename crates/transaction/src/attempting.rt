@@ -19,7 +19,7 @@ use crate::session::Session;
 use commands::{RunError, has_staging, run};
 use lawful::Note;
 use lending::{GivenUp, Kit, Live};
-use library::{Refused, Reply, Transaction, copy_commands, copy_replies, has_edit, has_too_many};
+use library::{Refused, Replies, Reply, SharedList, Transaction, has_edit, has_too_many};
 use mmsyntax::Sequence;
 use std::alloc::{AllocError, Global};
 use std::snapshot::Snapshot;
@@ -112,17 +112,17 @@ fn transact(
     }
 }
 
-/// Copies of the commands and replies of a transaction, for its record.
-fn copy_done(
+/// The replies of a transaction for its outcome, and the commands with the same replies for its record.
+fn share_done(
     alloc: Global,
     commands: &Transaction,
-    replies: &Sequence<Reply>,
-) -> Result<(Transaction, Sequence<Reply>), AllocError>
-    ensures { IfOk result (λ made. made ≡ (commands.now, replies.now)) }
+    replies: Sequence<Reply>,
+) -> Result<(Replies, (Transaction, Replies)), AllocError>
+    ensures { IfOk result (λ made. made ≡ (replies, (commands.now, replies))) }
 {
-    let commands = copy_commands(alloc, commands.as_slice())?;
-    let replies = copy_replies(alloc, replies.as_slice())?;
-    Ok((commands, replies))
+    let replies = SharedList::from_vec(alloc, replies.into_vec())?;
+    let done = (commands.share()?, replies.share()?);
+    Ok((replies, done))
 }
 
 /// The record of a number that a conflict left void, if one was drawn.
@@ -148,14 +148,14 @@ fn commit(alloc: Global, live: Live<'_>, commands: &Transaction, replies: Sequen
     ensures stored { EndsStored (carried_by live.entry.run) result.kit result.outcome }
     ensures within { EndsWithin live.entry.run.began commands.now result.kit.pass result.outcome }
 {
-    let Ok(done) = copy_done(alloc, commands, &replies) else {
-        return stop(live, commands);
-    };
-    let place = live.place();
     let note = Note::Done {
         commands: Snapshot::of(commands),
         replies: Snapshot::of(&replies),
     };
+    let Ok((replies, done)) = share_done(alloc, commands, replies) else {
+        return stop(live, commands);
+    };
+    let place = live.place();
     let (kit, ended) = live.end(&note);
     drop(note);
     let (outcome, drawn) = match ended {

@@ -2,7 +2,7 @@
 
 ghost use Rattle.std.specs.Prelude.{◌≡◌};
 
-use library::{PlainLibrary, Refused, Reply, Transaction};
+use library::{PlainLibrary, Refused, Replies, Reply, Transaction};
 use mmsyntax::Sequence;
 
 /// Where a try met another session.
@@ -24,12 +24,13 @@ pub struct Conflict {
 /// What becomes of a transaction.
 #[derive(Debug, Drop)]
 pub enum Outcome {
-    /// It is the entry of the history with this number, from 1; a command of it is an edit.
+    /// It is the entry of the history with this number, from 1; a command of it is an edit. The session's record of the number shares the
+    /// replies.
     Committed {
         number: u64,
-        replies: Sequence<Reply>,
+        replies: Replies,
     },
-    /// It only read: the library after the first `place` entries.
+    /// It only read: the library after the first `place` entries. Nobody else has the replies.
     Read {
         place: u64,
         replies: Sequence<Reply>,
@@ -67,8 +68,9 @@ pub enum Look {
 pub struct Record {
     /// From 1.
     pub number: u64,
-    /// The transaction that committed with the number, with its replies; none where it met a conflict then.
-    pub done: Option<(Transaction, Sequence<Reply>)>,
+    /// The transaction that committed with the number, with its replies; none where it met a conflict then. Its script shares the commands,
+    /// and its outcome the replies.
+    pub done: Option<(Transaction, Replies)>,
 }
 
 /// The conflict of a run at a place.

@@ -18,9 +18,9 @@ use Rattle.jobs.proofs.running.print_edited.Goals as goal
 
 pub report_run-requires : goal.report_run-requires
 report_run-requires c =
-    let e = c.args.edited.now in
+    let e = c.args.edited in
     let rows = lists_of e.outcomes.items in
-    subst (λ p. OutcomesFit p rows) (sym c.prelude.ensures)
+    subst (λ p. OutcomesFit p rows) (sym c.prelude-2.ensures)
     (printable c.args.db.now c.requires.worked.0 c.requires.worked.1 c.args.scripts.now rows e.history e.library
     c.assertions-assertions.ensures.sound c.requires.checks c.requires.fit c.requires.worked.2)
 
@@ -29,19 +29,19 @@ history_where-requires c =
     let db = c.args.db.now in
     let w = c.requires.worked.2.edited in
     let stands = opening_stands db c.assertions-assertions.ensures.sound c.requires.checks in
-    let fit = legal_histories_fit (setting_of db) (opening db) c.args.edited.now.history stands w.fit w.after.legal in
-    subst (λ p. All (EntryFits p) c.as_slice-2.result.now) (sym c.prelude-2.ensures)
+    let fit = legal_histories_fit (setting_of db) (opening db) c.args.edited.history stands w.fit w.after.legal in
+    subst (λ p. All (EntryFits p) c.as_slice-2.result.now) (sym c.prelude.ensures)
     (subst (All (EntryFits db.prelude)) (sym c.as_slice-2.ensures) fit)
 
 pub returns : goal.returns
 returns c = λ workers room w.
     let db = c.args.db.now in
-    let e = c.args.edited.now in
+    let e = c.args.edited in
     let sound = c.assertions-assertions.ensures.sound in
     let rows = lists_of e.outcomes.items in
     let text : Tables → List Entry → List ℕ = λ p es. if c.args.asked then history_text p es else [] in
-    let kept : c.in_ok-history_where.field-0.items ≡ text db.prelude e.history =
-    c.in_ok-history_where.ensures ∙ ap (λ p. text p c.as_slice-2.result.now) c.prelude-2.ensures
+    let kept : c.in_ok-text.text.items ≡ text db.prelude e.history =
+    c.in_ok-text.ensures ∙ ap (λ p. text p c.as_slice-2.result.now) c.prelude.ensures
     ∙ ap (text db.prelude) c.as_slice-2.ensures in
     let counted = c.count_of-count.ensures in
     let few : length e.history ≤ highest_count = omega (arith, counted.value, counted.small, ap length c.as_slice.ensures) in
@@ -54,7 +54,7 @@ returns c = λ workers room w.
       library = e.library;
       worked = w;
       fronts = fronts_of db e.history sound c.requires.checks w.edited.fit;
-      prints = c.in_ok-report_run.ensures ∙ ap (λ p. report_text p rows ++ library_lines e.library) c.prelude.ensures;
+      prints = c.in_ok-report_run.ensures ∙ ap (λ p. report_text p rows ++ library_lines e.library) c.prelude-2.ensures;
       accepted = exported_accepted e.library c.entries-entries.ensures.verifies c.entries-entries.ensures.ordered;
       kept = kept;
       spelled = λ yes.

@@ -1,16 +1,13 @@
-use Rattle.std.proofs.Common.{arith}
-use Rattle.reports.proofs.ReportLines.{row_on, rows_told, row_fits}
+use Rattle.reports.proofs.ReportLines.{row_on, next_fits}
 use Rattle.reports.proofs.telling.report.Goals as goal
 
 pub put_script-requires : goal.put_script-requires
 put_script-requires c =
-    let row = row_fits c.args.prelude.now c.args.rows.now c.loop-i.i c.index-rows-i.result c.loop-i-test.true c.index-rows-i.is c.requires in
-    rw c.as_slice.ensures.value row
+    next_fits c.args.prelude.now c.args.rows.items _ _ c.loop-row.out.items c.loop-row.script _ c.in-Some.row _ c.loop-row.invariant
+    c.in-Some.ensures.steps.0 c.as_slice.ensures.value
 
-pub loop-i-preserved : goal.loop-i-preserved
-loop-i-preserved c =
-    row_on c.args.prelude.now c.loop-i.i c.loop-i.out.items c.put_script.new.out.items _ c.as_slice.result.now c.args.rows.now
-    c.index-rows-i.result c.loop-i-test.true c.index-rows-i.is c.as_slice.ensures.value c.in_ok-put_script.ensures c.loop-i.invariant
-
-pub returns : goal.returns
-returns c = rows_told c.args.prelude.now c.loop-i.i c.loop-i.out.items _ c.args.rows.now (omega arith) c.loop-i.invariant
+pub loop-row-preserved : goal.loop-row-preserved
+loop-row-preserved c =
+    let steps = c.in-Some.ensures.steps in
+    row_on c.args.prelude.now c.args.rows.items _ _ c.loop-row.out.items _ c.loop-row.script _ _ c.in-Some.row _ c.loop-row.invariant
+    steps.0 steps.1 c.as_slice.ensures.value c.in_ok-put_script.ensures

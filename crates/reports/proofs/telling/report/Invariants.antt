@@ -1,8 +1,8 @@
 -- What the loop of `report` keeps.
-use Rattle.std.proofs.Common.{◌≡◌, ◌+◌, ◌++◌, drop}
-use Rattle.transaction.specs.Closings.{lists_of}
-use Rattle.reports.specs.Reports.{scripts_text_from, report_text}
+use Rattle.std.specs.Vec.Iter.{into_iter_items, into_iter_len}
+use Rattle.reports.proofs.ReportLines.{AreLeft}
 use Rattle.reports.proofs.telling.report.Given as goal
 
-abbrev pub invariant-loop-i : goal.invariant-loop-i
-invariant-loop-i l = l.out.items ++ scripts_text_from l.prelude (l.i + 1) (lists_of (drop l.i l.rows)) ≡ report_text l.prelude (lists_of l.rows)
+abbrev pub invariant-loop-row : goal.invariant-loop-row
+invariant-loop-row l =
+    AreLeft l.prelude l.fn.rows.items l.out.items l.script (into_iter_items l.row-iterator) (into_iter_len l.row-iterator)

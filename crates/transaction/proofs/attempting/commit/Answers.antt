@@ -29,7 +29,8 @@ returns-clause-tries c =
     let o = c.end-kit.result.1 in
     let ends = c.end-kit.ensures in
     let outcomes = λ (x : Outcome × Option Record). Tries cs l.began k x.0 x.1 in
-    let done = λ (number : ℕ) (is : o ≡ EndsDone number). subst (λ (d : List Command × List Reply). Tries cs l.began k (outcome.Committed number c.args.replies) (Some (record { number = number; done = Some d })))
+    let done = λ (number : ℕ) (is : o ≡ EndsDone number). subst (λ (d : List Reply × (List Command × List Reply)).
+    Tries cs l.began k (outcome.Committed number d.0) (Some (record { number = number; done = Some d.1 })))
     (sym c.in-Ok.ensures)
     (commits l stage over lent cs c.of.result c.of-2.result c.args.replies c.of.ensures c.of-2.ensures number k c.requires.edit
     (committed l stage over lent cs _ k o ends.over ends.ended number is)) in
@@ -70,7 +71,7 @@ returns-clause-within c =
     let ends = c.end-kit.ensures in
     let outcomes = λ (x : Outcome). EndsWithin l.began cs k x in
     let done = λ (number : ℕ) (is : o ≡ EndsDone number).
-    committed_within l stage over lent cs c.requires.keeps number c.args.replies _ k
+    committed_within l stage over lent cs c.requires.keeps number c.in-Ok.replies _ k
     (committed l stage over lent cs _ k o ends.over ends.ended number is) in
     let told = λ (x : Outcome × Option Record). x.0 in
     elim c.match-ended.branch [
