@@ -167,6 +167,9 @@ impl<'w> Live<'w> {
 }
 
 impl<'w> Cells for Live<'w> {
+    ghost use Rattle.std.specs.Prelude.{IsOkUnless};
+    ghost use Rattle.cells.specs.Sight.{Looks, Reads, Stages, ReadsWithin, ReadsNothing};
+    ghost use Rattle.cells.specs.Slots.{cell_count};
     ghost use Rattle.lending.specs.Lent.{sight_of};
 
     type Origin = Pass<LibraryLaw>;
@@ -177,7 +180,14 @@ impl<'w> Cells for Live<'w> {
         self.slots
     }
 
-    fn read(&mut self, cell: usize) -> Result<u64, Halt> {
+    // the trait's clauses, and why it halts
+    fn read(&mut self, cell: usize) -> Result<u64, Halt>
+        requires { cell < cell_count (sight_of self.old.run).setting.slots }
+        ensures ok { IfOk result (λ v. Reads cell v (sight_of self.old.run) (sight_of self.new.run)) }
+        ensures err { IfErr result (λ _. Looks (sight_of self.old.run) (sight_of self.new.run)) }
+        ensures reads { ReadsWithin (λ c. c ≡ cell) (sight_of self.old.run) (sight_of self.new.run) }
+        ensures conflict { IsOkUnless result Halt.Conflict }
+    {
         match self.run.read(cell) {
             Ok(value) => Ok(value),
             Err(conflict) => {
@@ -199,7 +209,15 @@ impl<'w> Cells for Live<'w> {
         self.run.load_all(range, words)
     }
 
-    fn stage(&mut self, words: &[u64]) -> Result<Range, Halt> {
+    // the trait's clauses, and why it halts
+    fn stage(&mut self, words: &[u64]) -> Result<Range, Halt>
+        requires may { (sight_of self.old.run).may_stage ≡ true }
+        requires some { words.now ≢ [] }
+        ensures ok { IfOk result (λ range. Stages words.now range (sight_of self.old.run) (sight_of self.new.run)) }
+        ensures err { IfErr result (λ _. Looks (sight_of self.old.run) (sight_of self.new.run)) }
+        ensures reads { ReadsNothing (sight_of self.old.run) (sight_of self.new.run) }
+        ensures full { IsOkUnless result Halt.StoreFull }
+    {
         if let Some(range) = self.stage.find(words) {
             return Ok(range);
         }

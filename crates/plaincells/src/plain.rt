@@ -135,6 +135,22 @@ impl PlainCells {
         prelude
     }
 
+    /// The values of all cells as they stand now, whoever wrote them, and the words of the store that are taken. The cells are gone then.
+    pub fn into_words(self) -> (Vec<u64>, Vec<u64>)
+        ensures { (result.0 ≡ self.values) × (result.1 ≡ self.store) }
+    {
+        let PlainCells {
+            prelude: _,
+            slots: _,
+            room: _,
+            values,
+            log: _,
+            store,
+            ranges: _,
+        } = self;
+        (values, store)
+    }
+
     /// How many words of the store are taken.
     pub fn taken(&self) -> usize
         ensures { result ≡ length self.now.store.items }
@@ -155,13 +171,6 @@ impl PlainCells {
         ensures { result.now ≡ self.now.values.items }
     {
         self.values.as_slice()
-    }
-
-    /// The words of the store that are taken.
-    pub fn store(&self) -> &[u64]
-        ensures { result.now ≡ self.now.store.items }
-    {
-        self.store.as_slice()
     }
 
     /// Keeps what this run wrote, and begins another.

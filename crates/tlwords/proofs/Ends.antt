@@ -23,8 +23,8 @@ use Rattle.tlwords.specs.Views.{Gone, View}
 use Rattle.tlwords.specs.Layout.{clock_at, lock_at, value_at, front_size, tail_at, store_at, shelf_of}
 use Rattle.tlwords.specs.Known.{Known, known_of, gone_known}
 use Rattle.atomic_table.specs.Seated.{TableId}
-use Rattle.tlwords.specs.Rule.{total_of, Start, IsLeft, rights_of, numbers_of, moved_of, Adds, Kept, Ruled}
-use Rattle.tlwords.specs.Closing.{AreCellsOf, IsStoreOf, Shows, IsWorldOf, Closes, EndsIn, IsStill, ClosesAll, IsHeldIn, holders_in}
+use Rattle.tlwords.specs.Rule.{total_of, Start, rights_of, numbers_of, moved_of, Adds, Kept, Ruled}
+use Rattle.tlwords.specs.Closing.{AreGathered, Shows, IsWorldOf, Closes, EndsIn, IsStill, ClosesAll, IsHeldIn, holders_in}
 use Rattle.tlwords.proofs.Keeps.{now, seat_at, legal_of}
 use Rattle.tlwords.proofs.Gathers.{nothing_held, rests_unheld}
 use Rattle.tlwords.proofs.ReadSteps.{half_of, half_written}
@@ -157,10 +157,7 @@ given_moved {S} {N} table v gs us gone =
 
 module _ {S N : Type 0} (terms : Terms S N) (setting : S) (base : List ℕ) (room : ℕ) (opened : Start) (s : State (Unit {0}) (View S N))
     (r : Ruled terms setting base room opened s)
-    (n : ℕ) (closed : ClosedWords) (long : length s.words ≡ store_at n room)
-    (clock_is : get_elem? s.words clock_at ≡ some closed.clock) (tail_is : get_elem? s.words (tail_at n) ≡ some closed.tail)
-    (cells_are : AreCellsOf s.words closed.cells.items) (cells_count : length closed.cells.items ≡ n)
-    (store_is : IsStoreOf s.words n closed.store.items) (store_count : length closed.store.items ≡ room) where
+    (n : ℕ) (closed : ClosedWords) (long : length s.words ≡ store_at n room) (gathered : AreGathered s.words n room closed) where
   abbrev k : Kept terms setting base room r.ranges r.front s.views
   k = r.kept
 
@@ -192,7 +189,7 @@ module _ {S N : Type 0} (terms : Terms S N) (setting : S) (base : List ℕ) (roo
       let at : tail_at n ≡ length r.front + 7 = let a : n ≡ length w.cells = many in let b : length r.front ≡ front_size
       (length w.cells) = front_count in omega (arith, a, b) in
       some-injective closed.tail r.tail
-      (sym tail_is ∙ (ap (λ (l : List ℕ). get_elem? l (tail_at n)) r.words_are
+      (sym gathered.tail_is ∙ (ap (λ (l : List ℕ). get_elem? l (tail_at n)) r.words_are
       ∙ (ap (λ (i : ℕ). get_elem? (r.front ++ shelf_of r.tail r.store) i) at ∙ elem_right r.front (shelf_of r.tail r.store) 7)))
 
   store_word : (o x y : ℕ) → slice_get closed.store.items o ≡ Some x → slice_get r.store o ≡ Some y → x ≡ y
@@ -200,33 +197,39 @@ module _ {S N : Type 0} (terms : Terms S N) (setting : S) (base : List ℕ) (roo
       let at : store_at n o ≡ length r.front + (15 + o) = let a : n ≡ length w.cells = many in let b : length r.front ≡ front_size
       (length w.cells) = front_count in omega (arith, a, b) in
       some-injective x y
-      (sym (store_is o x e) ∙ (ap (λ (l : List ℕ). get_elem? l (store_at n o)) r.words_are
+      (sym (gathered.store_is o x e) ∙ (ap (λ (l : List ℕ). get_elem? l (store_at n o)) r.words_are
       ∙ (ap (λ (i : ℕ). get_elem? (r.front ++ shelf_of r.tail r.store) i) at ∙ (elem_right r.front (shelf_of r.tail r.store) (15 + o)
       ∙ (elem_right (shelf_of r.tail []) r.store o ∙ elem_of r.store o y f)))))
 
-  store_same : (o y : ℕ) → slice_get r.store o ≡ Some y → slice_get closed.store.items o ≡ Some y
-  store_same o y f =
+  store_same : (o y : ℕ) → o < closed.tail → slice_get r.store o ≡ Some y → slice_get closed.store.items o ≡ Some y
+  store_same o y below f =
       let l : o < length r.store = get_within r.store o y f in
       let c : length r.store ≡ room = (r.shelf).long in
-      let x : (x : ℕ) × (slice_get closed.store.items o ≡ Some x) = get_exists closed.store.items o (omega (arith, l, c, store_count)) in
+      let d : length closed.store.items ≡ min closed.tail room = gathered.store_count in
+      let x : (x : ℕ) × (slice_get closed.store.items o ≡ Some x) = get_exists closed.store.items o (omega (arith, l, c, d, below)) in
       x.1 ∙ ap (λ (v : ℕ). Some v) (store_word o x.0 y x.1 f)
 
   stored : (range : Range) → Has range r.ranges → IsStored closed.tail closed.store.items range
   stored range has i x e =
       let b : (slice_get r.store (range.start + i) ≡ Some x) × (range.start + i < r.tail) = (r.shelf).finished range has i x e in
-      let l : range.start + i < r.tail = b.1 in
-      let t : closed.tail ≡ r.tail = tail_same in
-      (store_same (range.start + i) x b.0, omega (arith, l, t))
+      let l : range.start + i < closed.tail = subst (λ (t : ℕ). range.start + i < t) (sym tail_same) b.1 in
+      (store_same (range.start + i) x l b.0, l)
 
+  -- each word of a finished range is one of those up to the tail
   one_store : AreOfOneStore (length closed.store.items) r.ranges
-  one_store = subst (λ (m : ℕ). AreOfOneStore m r.ranges) (sym store_count) k.lie
+  one_store = (
+    λ range has i lt.
+        let w : (w : ℕ) × (slice_get range.words i ≡ Some w) = get_exists range.words i lt in
+        get_within closed.store.items (range.start + i) w.0 (stored range has i w.0 w.1).0,
+    (k.lie).1,
+  )
 
-  refused : closed.tail ≤ length closed.store.items + (length closed.store.items + 1) * 64
+  refused : closed.tail ≤ closed.room + (closed.room + 1) * 64
   refused =
       let same : closed.tail ≡ r.tail = tail_same in
       let l : r.tail ≤ room + (room + 1) * 64 = tail_least (length opened.store) room r.tail s.views (r.shelf).tail_is k.rights in
       let least : closed.tail ≤ room + (room + 1) * 64 = omega (arith, l, same) in
-      subst (λ (m : ℕ). closed.tail ≤ m + (m + 1) * 64) (sym store_count) least
+      subst (λ (m : ℕ). closed.tail ≤ m + (m + 1) * 64) (sym gathered.room_is) least
 
   -- the cell as the machine has it
   cell_same : (c : ℕ) (x : ClosedCell) → slice_get closed.cells.items c ≡ Some x
@@ -234,13 +237,13 @@ module _ {S N : Type 0} (terms : Terms S N) (setting : S) (base : List ℕ) (roo
   cell_same c x f =
       let l : c < length closed.cells.items = get_within closed.cells.items c x f in
       let m : n ≡ length w.cells = many in
-      let y : (y : Cell) × (slice_get w.cells c ≡ Some y) = get_exists w.cells c (omega (arith, l, m, cells_count)) in
+      let y : (y : Cell) × (slice_get w.cells c ≡ Some y) = get_exists w.cells c (omega (arith, l, m, gathered.cells_count)) in
       let lock : (y.0).lock ≡ x.lock =
       sym (lock_word r.front w k.words_are c y.0 y.1)
-      ∙ front_word (lock_at c) x.lock (lock_within r.front w k.words_are c y.0 y.1) (cells_are c x f).0 in
+      ∙ front_word (lock_at c) x.lock (lock_within r.front w k.words_are c y.0 y.1) (gathered.cells_are c x f).0 in
       let shows : (y.0).value ≡ x.value =
       sym (value_word r.front w k.words_are c y.0 y.1)
-      ∙ front_word (value_at c) x.value (value_within r.front w k.words_are c y.0 y.1) (cells_are c x f).1 in
+      ∙ front_word (value_at c) x.value (value_within r.front w k.words_are c y.0 y.1) (gathered.cells_are c x f).1 in
       (y.0, y.1, lock, shows)
 
   shown : Shows base w.history closed.clock closed.cells.items
@@ -248,8 +251,8 @@ module _ {S N : Type 0} (terms : Terms S N) (setting : S) (base : List ℕ) (roo
       record {
         clock_is =
             let l : clock_at < length r.front = let b : length r.front ≡ front_size (length w.cells) = front_count in omega (arith, b) in
-            sym ((k.invariant).consistent.clock) ∙ (sym (clock_word r.front w k.words_are) ∙ front_word clock_at closed.clock l clock_is);
-        count = cells_count ∙ (many ∙ k.cells_are);
+            sym ((k.invariant).consistent.clock) ∙ (sym (clock_word r.front w k.words_are) ∙ front_word clock_at closed.clock l gathered.clock_is);
+        count = gathered.cells_count ∙ (many ∙ k.cells_are);
         free = λ c v x f e.
             let y : (y : Cell) × (slice_get w.cells c ≡ Some y) × (y.lock ≡ x.lock) × (y.value ≡ x.value) = cell_same c x f in
             let ok : (v ≡ version w.history c) × ((y.0).value ≡ value base w.history c) × ((i u : ℕ) → deed w.history c i ≡ Will u → ⊥) =
@@ -296,18 +299,10 @@ module _ {S N : Type 0} (terms : Terms S N) (setting : S) (base : List ℕ) (roo
     reached = k.reached;
     history_is = refl;
     clock_is = (k.invariant).consistent.clock ∙ shown.clock_is;
-    count = let m : n ≡ length w.cells = many in omega (arith, m, cells_count);
+    count = let m : n ≡ length w.cells = many in omega (arith, m, gathered.cells_count);
     cells_are = λ c x f.
         let y : (y : Cell) × (slice_get w.cells c ≡ Some y) × (y.lock ≡ x.lock) × (y.value ≡ x.value) = cell_same c x f in
         y.1 ∙ (λ i. Some (record { lock = y.2 i; value = y.3 i }));
-  }
-
-  left : IsLeft opened.store (length closed.store.items) closed.tail closed.store.items
-  left = record {
-    opening = λ o x e. store_same o x ((r.shelf).left.opening o x e);
-    blank = λ o l m.
-        let t : closed.tail ≡ r.tail = tail_same in
-        store_same o 0 ((r.shelf).left.blank o (omega (arith, l, t)) (omega (arith, m, store_count)));
   }
 
   behind : length opened.store ≤ closed.tail
@@ -315,6 +310,11 @@ module _ {S N : Type 0} (terms : Terms S N) (setting : S) (base : List ℕ) (roo
       let t : closed.tail ≡ r.tail = tail_same in
       let a : r.tail ≡ length opened.store + total_of moved_of s.views = (r.shelf).tail_is.is in
       omega (arith, t, a)
+
+  left : (o x : ℕ) → slice_get opened.store o ≡ Some x → slice_get closed.store.items o ≡ Some x
+  left o x e =
+      let l : o < length opened.store = get_within opened.store o x e in
+      store_same o x (omega (arith, l, behind)) ((r.shelf).left.opening o x e)
 
   pub closes : Closes terms setting base opened.store closed
   closes = record {
@@ -326,6 +326,7 @@ module _ {S N : Type 0} (terms : Terms S N) (setting : S) (base : List ℕ) (roo
     shows = shown;
     stored = stored;
     ranges = one_store;
+    taken = gathered.store_count ∙ ap (min closed.tail) (sym gathered.room_is);
     left = left;
     behind = behind;
     refused = refused;
@@ -334,10 +335,10 @@ module _ {S N : Type 0} (terms : Terms S N) (setting : S) (base : List ℕ) (roo
     held = held;
   }
 
-  found_of : (m count : ℕ) → m + min count (room + 1) ≤ r.tail → m + min count (length closed.store.items + 1) ≤ closed.tail
+  found_of : (m count : ℕ) → m + min count (room + 1) ≤ r.tail → m + min count (closed.room + 1) ≤ closed.tail
   found_of m count b =
       let t : closed.tail ≡ r.tail = tail_same in
-      subst (λ (z : ℕ × ℕ). m + min count (z.0 + 1) ≤ z.1) (λ i. (sym store_count i, sym t i)) b
+      subst (λ (z : ℕ × ℕ). m + min count (z.0 + 1) ≤ z.1) (λ i. (sym gathered.room_is i, sym t i)) b
 
   -- a view's own pass
   own_ends : (table : TableId) (id : ℕ) (v : View S N) → get_elem? s.views id ≡ some v

@@ -1,5 +1,5 @@
 -- What the words show at the end.
-use Rattle.std.specs.Prelude.{◌%◌, ◌≡◌, ℕ, ◌+◌, ◌*◌, ◌/◌, ◌≤◌, Some, List, [], eqb, length, map, slice_get, vec_capacity, min, true, false}
+use Rattle.std.specs.Prelude.{◌%◌, ◌≡◌, ℕ, ◌+◌, ◌*◌, ◌/◌, ◌≤◌, Some, List, eqb, length, map, slice_get, min, true, false}
 use Rattle.std.specs.Prelude.{if◌then◌else◌}
 use Rattle.std.specs.List.{IsDistinct}
 use mathlib.Core.Option.{some}
@@ -11,8 +11,8 @@ use Rattle.ranges.specs.Ranges.{Range, Has, Names, IsStored, AreOfOneStore}
 use Rattle.tlwords.specs.Terms.{Terms, Opened}
 use Rattle.tlwords.specs.Seen.{Seen, SeenGrows, Legal, Agree}
 use Rattle.tlwords.specs.Known.{Known}
-use Rattle.tlwords.specs.Layout.{lock_at, value_at, store_at}
-use Rattle.tlwords.specs.Rule.{total_of, IsLeft, Reached}
+use Rattle.tlwords.specs.Layout.{clock_at, lock_at, value_at, tail_at, store_at}
+use Rattle.tlwords.specs.Rule.{total_of, Reached}
 use Rattle.tlcore.specs.Machine.{World}
 use Rattle.tlcore.specs.Seats.{Seat, is_nil, is_resting}
 use Rattle.tlcore.specs.Invariant.{Invariant, Holds}
@@ -27,10 +27,15 @@ AreCellsOf words cells =
 abbrev pub IsStoreOf : List ℕ → ℕ → List ℕ → Type 0
 IsStoreOf words cells store = (o w : ℕ) → slice_get store o ≡ Some w → get_elem? words (store_at cells o) ≡ some w
 
--- nothing is gathered yet, and there is memory for so many cells and words of the store
-abbrev pub IsBlankFor : ℕ → ℕ → ClosedWords → Type 0
-IsBlankFor cells room closed =
-    ((closed.cells.items ≡ []) × (cells ≤ vec_capacity closed.cells)) × ((closed.store.items ≡ []) × (room ≤ vec_capacity closed.store))
+-- these are the words of a closed table with so many cells and such a room: of its store, those up to the tail
+pub record AreGathered (words : List ℕ) (cells room : ℕ) (closed : ClosedWords) : Type 0 where
+  pub clock_is : get_elem? words clock_at ≡ some closed.clock
+  pub tail_is : get_elem? words (tail_at cells) ≡ some closed.tail
+  pub cells_are : AreCellsOf words closed.cells.items
+  pub cells_count : length closed.cells.items ≡ cells
+  pub store_is : IsStoreOf words cells closed.store.items
+  pub room_is : closed.room ≡ room
+  pub store_count : length closed.store.items ≡ min closed.tail room
 
 -- the words after the history h, over the opening values: a free cell shows its last Done writer, and no Open entry writes it
 pub record Shows (base : List ℕ) (h : List Entry) (clock : ℕ) (cells : List ClosedCell) : Type 0 where
@@ -63,8 +68,8 @@ pub record IsHeldIn (w : World) (c : ℕ) : Type 0 where
 abbrev pub holders_in : World → ℕ
 holders_in w = total_of (λ (t : Seat). if is_nil t.held then 0 else 1) w.seats
 
--- there is one lawful history, of a lawful opening, which the words show; the store has the finished ranges, the opening's words and, from
--- the tail on, zeros; what a range cell holds at the end, locked or free, is 0 or names one of these ranges; and a lock that is held is a seat's
+-- there is one lawful history, of a lawful opening, which the words show; the store's words up to the tail have the finished ranges and begin
+-- with the opening's words; what a range cell holds at the end, locked or free, is 0 or names one of these ranges; and a lock that is held is a seat's
 pub record Closes {S N : Type 0} (terms : Terms S N) (setting : S) (base opened : List ℕ) (words : ClosedWords) : Type 0 where
   pub seen : Seen N
   pub world : World
@@ -74,12 +79,13 @@ pub record Closes {S N : Type 0} (terms : Terms S N) (setting : S) (base opened 
   pub legal : Legal terms setting base seen
   pub shows : Shows base seen.history words.clock words.cells.items
   pub stored : (r : Range) → Has r seen.ranges → IsStored words.tail words.store.items r
-  -- so they are of this one store
+  -- so they are of one store, of these words alone
   pub ranges : AreOfOneStore (length words.store.items) seen.ranges
-  pub left : IsLeft opened (length words.store.items) words.tail words.store.items
+  pub taken : length words.store.items ≡ min words.tail words.room
+  pub left : (o w : ℕ) → slice_get opened o ≡ Some w → slice_get words.store.items o ≡ Some w
   pub behind : length opened ≤ words.tail
   -- each of 64 sessions was refused at most once by a step, which adds the room and one at most
-  pub refused : words.tail ≤ length words.store.items + (length words.store.items + 1) * 64
+  pub refused : words.tail ≤ words.room + (words.room + 1) * 64
   pub opening : Opened terms setting seen.ranges base
   pub named : (c : ℕ) (x : ClosedCell) → slice_get words.cells.items c ≡ Some x → terms.ranged setting c ≡ true → Names seen.ranges x.value
   pub held : (c : ℕ) (x : ClosedCell) → slice_get words.cells.items c ≡ Some x → x.lock % 2 ≡ 1 → IsHeldIn world c
@@ -90,7 +96,7 @@ pub record EndsIn {S N : Type 0} (terms : Terms S N) (setting : S) (base opened 
   pub same : (y : S) → v.home.setting ≡ Some y → (y ≡ setting) × (v.home.base ≡ base)
   pub grows : SeenGrows v.seen c.seen
   pub mine : Agree terms setting base c.seen v.mine
-  pub found : (n count : ℕ) → v.full ≡ Some (n, count) → n + min count (length words.store.items + 1) ≤ words.tail
+  pub found : (n count : ℕ) → v.full ≡ Some (n, count) → n + min count (words.room + 1) ≤ words.tail
 
 -- no lock is held, the clock is how many numbers these passes drew, of which, where each has a name of its own, none is left out; and the tail is
 -- where the opening and they moved it

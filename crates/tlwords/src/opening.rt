@@ -13,7 +13,7 @@ ghost use Rattle.ranges.specs.Ranges.{AreOfOneStore};
 ghost use Rattle.tlwords.specs.Runs.{IsBadShape, down, dealer};
 
 use crate::law::Law;
-use crate::layout::{HEAD, UNUSED};
+use crate::layout::{HEAD, STORE, UNUSED};
 use crate::log::Log;
 use crate::passes::Pass;
 use crate::plays::Deal;
@@ -94,7 +94,8 @@ pub const MOST_CELLS: usize = (1 << 32) - 1;
 /// The most words that a store has.
 pub const MOST_ROOM: usize = 1 << 24;
 
-/// Opens a memory whose cells have these values, with a pass for each session, and a store of `room` words that begins with `store`.
+/// Opens a memory whose cells have these values, with a pass for each session, and a store of `room` words that begins with `store`. Each
+/// word of the room is written.
 ///
 /// The ranges of the store that the values of range cells name are finished, but empty ones, and each pass has seen them.
 ///
@@ -105,21 +106,21 @@ pub const MOST_ROOM: usize = 1 << 24;
 pub fn open<L: Law>(
     alloc: Global,
     setting: &L::Setting,
-    values: &[u64],
-    store: &[u64],
+    values: Vec<u64>,
+    store: Vec<u64>,
     room: usize,
     sessions: usize,
 ) -> Result<(Words<L>, Vec<Pass<L>>), OpenFault>
-    requires opens { L.terms.opens setting.now (ranges_named (L.terms.ranged setting.now) store.now values.now) values.now }
-    requires named { AreNamed L.terms setting.now (ranges_named (L.terms.ranged setting.now) store.now values.now) values.now }
-    ensures sizes { IfOk result (λ r. (r.0.cells ≡ length values.now) × (r.0.room ≡ room)) }
-    ensures key { IfOk result (λ r. (r.0.table.shared.key.setting.value ≡ setting.now) × (r.0.table.shared.key.values.value.items ≡ values.now) × (r.0.table.shared.key.store.value.items ≡ store.now) × (r.0.table.shared.key.sessions ≡ sessions)) }
-    ensures passes { IfOk result (λ r. All (λ p. p ≡ new_pass (home_of r.0) (ranges_named (L.terms.ranged setting.now) store.now values.now) p.name) r.1.items) }
+    requires opens { L.terms.opens setting.now (ranges_named (L.terms.ranged setting.now) store.items values.items) values.items }
+    requires named { AreNamed L.terms setting.now (ranges_named (L.terms.ranged setting.now) store.items values.items) values.items }
+    ensures sizes { IfOk result (λ r. (r.0.cells ≡ length values.items) × (r.0.room ≡ room)) }
+    ensures key { IfOk result (λ r. (r.0.table.shared.key.setting.value ≡ setting.now) × (r.0.table.shared.key.values.value.items ≡ values.items) × (r.0.table.shared.key.store.value.items ≡ store.items) × (r.0.table.shared.key.sessions ≡ sessions)) }
+    ensures passes { IfOk result (λ r. All (λ p. p ≡ new_pass (home_of r.0) (ranges_named (L.terms.ranged setting.now) store.items values.items) p.name) r.1.items) }
     ensures opening { IfOk result (λ r. All (λ p. AreOfOneOpening r.0 p) r.1.items) }
     ensures sound { IfOk result (λ r. All (λ p. Knows L.terms p) r.1.items) }
     ensures names { IfOk result (λ r. map (λ p. p.name) r.1.items ≡ down sessions sessions) }
-    ensures shape { (IsBadShape (length values.now) sessions room → result ≡ Err BadShape) × (result ≡ Err BadShape → IsBadShape (length values.now) sessions room) }
-    ensures full { ((IsBadShape (length values.now) sessions room → ⊥) → room < length store.now → result ≡ Err StoreFull) × (result ≡ Err StoreFull → room < length store.now) }
+    ensures shape { (IsBadShape (length values.items) sessions room → result ≡ Err BadShape) × (result ≡ Err BadShape → IsBadShape (length values.items) sessions room) }
+    ensures full { ((IsBadShape (length values.items) sessions room → ⊥) → room < length store.items → result ≡ Err StoreFull) × (result ≡ Err StoreFull → room < length store.items) }
 {
     if values.len() > MOST_CELLS || sessions == 0 || sessions > 64 || room > MOST_ROOM {
         return Err(OpenFault::BadShape);
@@ -127,13 +128,11 @@ pub fn open<L: Law>(
     if store.len() > room {
         return Err(OpenFault::StoreFull);
     }
-    let words = first_words(alloc, values, store, room)?;
-    let copied = copy_values(alloc, values)?;
-    let stored = copy_values(alloc, store)?;
+    let words = first_words(alloc, values.as_slice(), store.as_slice(), room)?;
     let about = Opening {
         setting: Snapshot::of(setting),
-        values: Snapshot::of(&copied),
-        store: Snapshot::of(&stored),
+        values: Snapshot::of(&values),
+        store: Snapshot::of(&store),
         room,
         sessions,
     };
@@ -146,29 +145,30 @@ pub fn open<L: Law>(
         cells: values.len(),
         room,
     };
-    let passes = deal_all(alloc, &words, &mut seat, setting, values, store, sessions)?;
+    let passes = deal_all(
+        alloc,
+        &words,
+        &mut seat,
+        setting,
+        values.as_slice(),
+        store.as_slice(),
+        sessions,
+    )?;
     Ok((words, passes))
 }
 
-fn copy_values(alloc: Global, values: &[u64]) -> Result<Vec<u64>, AllocError>
-    ensures { IfOk result (λ v. v.items ≡ values.now) }
-{
-    let mut copied = Vec::new(alloc);
-    copied.extend_from_slice(values)?;
-    Ok(copied)
-}
-
-// All words of the table: those of the clock and the cells, and behind them the tail of the store and the store's words.
+// All words of the table: those of the clock and the cells, and behind them the tail of the store and the store's words. Memory for them
+// is reserved once.
 fn first_words(
     alloc: Global,
     values: &[u64],
     store: &[u64],
     room: usize,
 ) -> Result<Vec<u64>, AllocError>
-    requires { (length store.now ≤ room) × (room ≤ 2 ^ 24) }
+    requires { (length values.now < 2 ^ 32) × (length store.now ≤ room) × (room ≤ 2 ^ 24) }
     ensures { IfOk result (λ v. v.items ≡ front_of 0 (opening_words values.now) ++ shelf_of (length store.now) (store.now ++ replicate (room - length store.now) 0)) }
 {
-    let mut words = cell_words(alloc, values)?;
+    let mut words = cell_words(alloc, values, 2 * values.len() + STORE + room)?;
     words.extend_from_slice(&UNUSED)?;
     words.push(store.len() as u64)?;
     words.extend_from_slice(&UNUSED)?;
@@ -178,11 +178,11 @@ fn first_words(
     Ok(words)
 }
 
-// The words of the clock and the cells.
-fn cell_words(alloc: Global, values: &[u64]) -> Result<Vec<u64>, AllocError>
+// The words of the clock and the cells, with memory for so many words.
+fn cell_words(alloc: Global, values: &[u64], capacity: usize) -> Result<Vec<u64>, AllocError>
     ensures { IfOk result (λ v. v.items ≡ front_of 0 (opening_words values.now)) }
 {
-    let mut words = Vec::new(alloc);
+    let mut words = Vec::with_capacity(alloc, capacity)?;
     words.extend_from_slice(&HEAD)?;
     for i in 0..values.len() {
         words.push(0)?;

@@ -1,5 +1,5 @@
 -- What a library in running words leaves at its end.
-use Rattle.std.specs.Prelude.{◌≡◌, ◌≤◌, ◌^◌, List, length, map, All, Vec}
+use Rattle.std.specs.Prelude.{◌≡◌, ◌≤◌, ◌^◌, List, map, All, Vec}
 use Rattle.std.specs.declared.alloc.Global.{Global}
 use Rattle.tlwords.specs.Closing.{ClosesAll}
 use Rattle.lawful.specs.Lawful.{setting_of, library_terms}
@@ -21,7 +21,7 @@ pub record IsClosed (home : Home) (members : List Member) (closed : ClosedLibrar
   pub given : closed.given ≡ home.given
   pub prelude : closed.prelude ≡ (setting_of home.given).prelude
   pub words : ClosesAll library_terms home.given home.words.base home.store home.sessions (passes_of members) closed.words
-  pub room : length closed.words.store.items ≡ home.words.room
+  pub room : closed.words.room ≡ home.words.room
   pub small : home.words.room ≤ 2 ^ 24
   -- what is so of each session: each number that it drew has its record
   pub members_are : All IsMember members

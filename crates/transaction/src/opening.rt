@@ -80,15 +80,8 @@ impl Library {
             database: Snapshot::of(database),
             slots: shape.slots,
         };
-        let opened = open::<LibraryLaw>(
-            alloc,
-            &given,
-            cells.values(),
-            cells.store(),
-            shape.room,
-            shape.sessions,
-        );
-        drop(cells);
+        let (values, store) = cells.into_words();
+        let opened = open::<LibraryLaw>(alloc, &given, values, store, shape.room, shape.sessions);
         // The shape and the room were tested, so it is memory that ran out.
         let Ok((words, passes)) = opened else {
             return Err(OpenError::NoMemory);

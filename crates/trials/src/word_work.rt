@@ -174,11 +174,12 @@ fn sum_of(cells: &[ClosedCell]) -> u64 {
 /// memory, or more cells or threads than there may be.
 fn run_over(
     rt: &(impl AllocGlobal + Threads + Sync),
-    values: &[u64],
+    values: Vec<u64>,
     threads: usize,
     job: Job,
 ) -> Option<(u64, u64)> {
-    let (words, passes) = open::<Anything>(rt.alloc(), &(), values, &[], 0, threads).ok()?;
+    let store = Vec::new(rt.alloc());
+    let (words, passes) = open::<Anything>(rt.alloc(), &(), values, store, 0, threads).ok()?;
     let committed = work_all(rt, &words, passes, job)?;
     let closed = close(rt.alloc(), words, Vec::new(rt.alloc())).ok()?;
     Some((committed, sum_of(closed.cells.as_slice())))
@@ -193,7 +194,7 @@ fn run_all(
 ) -> Option<Ending> {
     let mut values = Vec::new(rt.alloc());
     values.resize(cells, 0).ok()?;
-    let (committed, sum) = run_over(rt, values.as_slice(), threads, job)?;
+    let (committed, sum) = run_over(rt, values, threads, job)?;
     finish(rt, format_args!("committed {committed} sum {sum}"))
 }
 

@@ -213,11 +213,11 @@ fn open_words(
     out: &mut Written,
     line: &str,
     named: bool,
-    values: &[u64],
-    store: &[u64],
+    values: Vec<u64>,
+    store: Vec<u64>,
     lines: &[Vec<u8>],
 )
-    requires { named ≡ true → All (IsNameIn (length store.now)) values.now }
+    requires { named ≡ true → All (IsNameIn (length store.items)) values.items }
 {
     let (room, passes) = (count_at(line, 2), count_at(line, 4));
     match open::<Anything>(alloc, &named, values, store, room, passes) {
@@ -234,25 +234,17 @@ fn open_words(
     }
 }
 
-/// Does what a line asks for that opens words, with these numbers to read into, and answers the lines behind it; false where it can't.
-fn answer_block(
-    alloc: Global,
-    out: &mut Written,
-    values: &mut Vec<u64>,
-    store: &mut Vec<u64>,
-    line: &str,
-    lines: &[Vec<u8>],
-) -> bool {
-    values.clear();
-    store.clear();
+/// Does what a line asks for that opens words, and answers the lines behind it; false where it can't.
+fn answer_block(alloc: Global, out: &mut Written, line: &str, lines: &[Vec<u8>]) -> bool {
+    let mut values = Vec::new(alloc);
+    let mut store = Vec::new(alloc);
     let (front, lists) = line.split_once(" values").unwrap_or((line, ""));
     let (listed, stored) = lists.split_once(" store").unwrap_or(("no list", ""));
-    if !read_numbers(out, values, listed) || !read_numbers(out, store, stored) {
+    if !read_numbers(out, &mut values, listed) || !read_numbers(out, &mut store, stored) {
         return false;
     }
-    let (values, store) = (values.as_slice(), store.as_slice());
     let named = front.ends_with(" named");
-    if !fits(named, values, store) || !named && !front.ends_with(" plain") {
+    if !fits(named, values.as_slice(), store.as_slice()) || !named && !front.ends_with(" plain") {
         return false;
     }
     open_words(alloc, out, front, named, values, store, lines);
@@ -269,14 +261,8 @@ fn block_length(lines: &[Vec<u8>]) -> usize
         .unwrap_or(lines.len())
 }
 
-/// Answers the lines of a table, with these numbers to read into.
-fn answer_all(
-    alloc: Global,
-    out: &mut Written,
-    values: &mut Vec<u64>,
-    store: &mut Vec<u64>,
-    lines: &[Vec<u8>],
-) {
+/// Answers the lines of a table.
+fn answer_all(alloc: Global, out: &mut Written, lines: &[Vec<u8>]) {
     let (head, mut rest) = lines.split_at(block_length(lines));
     refuse_lines(out, head);
     // Each opening is a line at least.
@@ -287,7 +273,7 @@ fn answer_all(
         let (block, next) = behind.split_at(block_length(behind));
         out.put(line.as_slice());
         out.put(b": ");
-        if !answer_block(alloc, out, values, store, text_of(line.as_slice()), block) {
+        if !answer_block(alloc, out, text_of(line.as_slice()), block) {
             out.put(CANNOT);
             out.put(b"\n");
             refuse_lines(out, block);
@@ -303,9 +289,7 @@ fn answer_all(
 /// Want of memory.
 pub fn answer_table(alloc: Global, lines: &[Vec<u8>]) -> Result<Vec<u8>, AllocError> {
     let mut out = Written::new(alloc);
-    let mut values = Vec::new(alloc);
-    let mut store = Vec::new(alloc);
-    answer_all(alloc, &mut out, &mut values, &mut store, lines);
+    answer_all(alloc, &mut out, lines);
     if out.is_short {
         return Err(AllocError);
     }

@@ -5,4 +5,4 @@ use Rattle.tlwords.proofs.closing.gather_store.Given as goal
 
 abbrev pub invariant-loop-offset : goal.invariant-loop-offset
 invariant-loop-offset l = IsStoreOf (slots_items l.table.words) l.cells l.closed.items × (length l.closed.items ≡ l.offset)
-    × (l.room ≤ vec_capacity l.closed)
+    × (l.taken ≤ vec_capacity l.closed)

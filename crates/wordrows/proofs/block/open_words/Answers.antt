@@ -3,4 +3,4 @@ use Rattle.wordrows.proofs.block.open_words.Goals as goal
 
 pub open-requires-clause-named : goal.open-requires-clause-named
 open-requires-clause-named c =
-    values_named c.args.named c.args.store.now c.args.values.now c.requires
+    values_named c.args.named c.args.store.items c.args.values.items c.requires

@@ -7,38 +7,42 @@ use Rattle.transaction.proofs.running.Library.open_checked.Goals as goal
 
 pub open-opened-requires-clause-opens : goal.open-opened-requires-clause-opens
 open-opened-requires-clause-opens c =
+    let words = c.into_words-values.result in
     let given : Given = record { database = c.of.result; slots = c.args.shape.slots } in
     let shape : IsShape c.args.shape = c.in_ok-fits.ensures.yes.0 in
-    (words_open c.args.database.now given c.args.shape.room c.in_ok-cells.cells c.values.result.now c.store.result.now c.of.ensures
+    (words_open c.args.database.now given c.args.shape.room c.in_ok-cells.cells words.0.items words.1.items c.of.ensures
     c.assertions-assertions.ensures.sound c.requires.checks shape.some_slots shape.few_slots c.in_ok-cells.ensures.within.0
-    c.in_ok-cells.ensures.ok c.values.ensures c.store.ensures).0
+    c.in_ok-cells.ensures.ok (ap (λ v. v.items) c.into_words-values.ensures.0) (ap (λ v. v.items) c.into_words-values.ensures.1)).0
 
 pub open-opened-requires-clause-named : goal.open-opened-requires-clause-named
 open-opened-requires-clause-named c =
+    let words = c.into_words-values.result in
     let given : Given = record { database = c.of.result; slots = c.args.shape.slots } in
     let shape : IsShape c.args.shape = c.in_ok-fits.ensures.yes.0 in
-    (words_open c.args.database.now given c.args.shape.room c.in_ok-cells.cells c.values.result.now c.store.result.now c.of.ensures
+    (words_open c.args.database.now given c.args.shape.room c.in_ok-cells.cells words.0.items words.1.items c.of.ensures
     c.assertions-assertions.ensures.sound c.requires.checks shape.some_slots shape.few_slots c.in_ok-cells.ensures.within.0
-    c.in_ok-cells.ensures.ok c.values.ensures c.store.ensures).1
+    c.in_ok-cells.ensures.ok (ap (λ v. v.items) c.into_words-values.ensures.0) (ap (λ v. v.items) c.into_words-values.ensures.1)).1
 
 pub seat_all-requires-clause-on : goal.seat_all-requires-clause-on
 seat_all-requires-clause-on c =
+    let words = c.into_words-values.result in
     let given : Given = record { database = c.of.result; slots = c.args.shape.slots } in
     let home : Home = home_at given c.in-Ok.words in
     let key = c.in-Ok.ensures.key in
     let passes : ArePasses home c.args.shape.sessions c.in-Ok.passes.items =
-    passes_of home c.args.shape.sessions c.in-Ok.passes.items c.values.result.now c.store.result.now key.1 key.2 c.in-Ok.ensures.passes
+    passes_of home c.args.shape.sessions c.in-Ok.passes.items words.0.items words.1.items key.1 key.2 c.in-Ok.ensures.passes
     c.in-Ok.ensures.sound c.in-Ok.ensures.names in
     on_words home c.args.shape.sessions c.in-Ok.passes.items (ap Some key.0) c.in-Ok.words.small.1 passes
 
 pub returns : goal.returns
 returns c =
+    let words = c.into_words-values.result in
     let given : Given = record { database = c.of.result; slots = c.args.shape.slots } in
     let home : Home = home_at given c.in-Ok.words in
     let key = c.in-Ok.ensures.key in
     let sessions = c.args.shape.sessions in
     let passes : ArePasses home sessions c.in-Ok.passes.items =
-    passes_of home sessions c.in-Ok.passes.items c.values.result.now c.store.result.now key.1 key.2 c.in-Ok.ensures.passes
+    passes_of home sessions c.in-Ok.passes.items words.0.items words.1.items key.1 key.2 c.in-Ok.ensures.passes
     c.in-Ok.ensures.sound c.in-Ok.ensures.names in
     let shape : IsShape c.args.shape = c.in_ok-fits.ensures.yes.0 in
     let within = c.in_ok-cells.ensures.within in
@@ -55,7 +59,7 @@ returns c =
       sessions = key.3;
       opens = (words_open c.args.database.now given c.args.shape.room c.in_ok-cells.cells home.words.base home.store c.of.ensures
           c.assertions-assertions.ensures.sound c.requires.checks shape.some_slots shape.few_slots within.0 c.in_ok-cells.ensures.ok
-          (key.1 ∙ c.values.ensures) (key.2 ∙ c.store.ensures)).0;
+          (key.1 ∙ ap (λ v. v.items) c.into_words-values.ensures.0) (key.2 ∙ ap (λ v. v.items) c.into_words-values.ensures.1)).0;
       new = new_sessions home sessions c.in-Ok.passes.items (ap Some key.0) c.in-Ok.words.small.1 passes members seats;
       names = named_sessions home sessions c.in-Ok.passes.items (ap Some key.0) c.in-Ok.words.small.1 passes members seats;
     }
