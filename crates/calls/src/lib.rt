@@ -1,10 +1,10 @@
 //! Calls that no row makes: the crate has nothing else.
 //!
-//! What a contract says holds of every call, so few calls are left: bodies in words and libraries in cells, by their layout; an export to a writer
-//! that fails; workers on threads, and gates that wait; and each call on a session whose only error is want of memory, once with ample memory, since
-//! no clause says that memory is there. Texts, runs of scripts and replays are command lines of `workbench`, runs that meet on one thread rows of
-//! `wordrows`, and what sessions do on one thread is in rows of `trials`, all of which cost no proof. What calls answer where memory is refused is in
-//! `memory`, for `tools/refuse-memory`.
+//! What a contract says holds of every call, so few calls are left: bodies in words and libraries in cells, by their layout; an export to a
+//! writer that fails; workers on threads, and gates that wait; and each call on a session whose only error is want of memory, once with
+//! ample memory, since no clause says that memory is there. Texts, runs of scripts and replays are command lines of `workbench`, runs that
+//! meet on one thread rows of `wordrows`, and what sessions do on one thread is in rows of `trials`, all of which cost no proof. What calls
+//! answer where memory is refused is in `memory`, for `tools/refuse-memory`.
 #![tactic(auto)]
 
 // for all

@@ -68,7 +68,8 @@ leads_next {slots = slots} {b = b} {r = r} {s = s} {t = t} slot leads looks read
     }
 
 -- the name of the slot is read
-pub along_name : {O : Type 0} → {slots b word : ℕ} → {r s t : Sight O} → (slot : ℕ) → ReadsWhere (IsAlong slots b) r s → Looks r s → LeadsOn slots b word s
+pub along_name : {O : Type 0} → {slots b word : ℕ} → {r s t : Sight O} → (slot : ℕ) → ReadsWhere (IsAlong slots b) r s → Looks r s
+    → LeadsOn slots b word s
     → (slot < slots) × (word ≡ slot + 1) → Onward s t → ReadsWithin (λ c. c ≡ name_cell slot) s t → ReadsWhere (IsAlong slots b) r t
 along_name slot first looks leads link on read =
     where_more first on read (λ st m c is. inr (slot, member_at slot looks leads link st m, inl is))
@@ -86,7 +87,8 @@ along_next {s = s} {t = t} slot first looks leads link between on at read =
 pub record HoldNames {O : Type 0} (slots from steps : ℕ) (s : Sight O) : Type 0 where
   pub each : (st : State) → Matches s st → (j : ℕ) → j < steps → (after s st).value (name_cell ((from + j) % slots)) ≢ 0
 
-pub names_on : {O : Type 0} → {slots from steps v : ℕ} → {s t : Sight O} → (i : ℕ) → HoldNames slots from steps s → Reads (name_cell i) v s t → v ≢ 0
+pub names_on : {O : Type 0} → {slots from steps v : ℕ} → {s t : Sight O} → (i : ℕ) → HoldNames slots from steps s
+    → Reads (name_cell i) v s t → v ≢ 0
     → i ≡ (from + steps) % slots → HoldNames slots from (steps + 1) t
 names_on {slots = slots} {from = from} {steps = steps} {s = s} {t = t} i names read ne at =
     record {
@@ -102,5 +104,9 @@ pub round_name : {O : Type 0} → {slots from steps cell : ℕ} → {r s t : Sig
     → HoldNames slots from steps s → cell ≡ name_cell ((from + steps) % slots) → Onward s t → ReadsWithin (λ c. c ≡ cell) s t
     → ReadsWhere (IsOfRound slots from) r t
 round_name {slots = slots} {from = from} {steps = steps} {r = r} {s = s} first looks names at on read =
-    where_more first on read (λ st m c is.
-    (steps, is ∙ at, λ j lt. subst (λ (x : State). x.value (name_cell ((from + j) % slots)) ≢ 0) (after_looks r s st looks) (names.each st m j lt)))
+    where_more first on read (λ st m c is. (
+      steps,
+      is ∙ at,
+      λ j lt. subst (λ (x : State). x.value (name_cell ((from + j) % slots)) ≢ 0) (after_looks r s st looks)
+          (names.each st m j lt),
+    ))

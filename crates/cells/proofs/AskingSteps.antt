@@ -23,7 +23,8 @@ abbrev pub IsNameOfSteps : List StoredStep → ℕ → Type 0
 IsNameOfSteps kept c = (j : ℕ) × Has (stored.Slot j) kept × (c ≡ name_cell j)
 
 -- a slot that is cited has the label that is cited
-cited_named : (named : ℕ → List ℕ → Type 0) (x : Step) (j : ℕ) → IsStoredAs named x (stored.Slot j) → (label : List ℕ) × (x ≡ Cite label) × named j label
+cited_named : (named : ℕ → List ℕ → Type 0) (x : Step) (j : ℕ) → IsStoredAs named x (stored.Slot j) → (label : List ℕ) × (x ≡ Cite label)
+    × named j label
 cited_named named (Float i) j h = absurd h
 cited_named named (Hyp k) j h = absurd h
 cited_named named (Cite label) j h = (label, refl, h)
@@ -43,7 +44,8 @@ cited_slot slots steps kept st j are at =
     let n = cited_named (IsNamed slots st) z.0 j z.2 in
     (n.0, subst (λ (x : Step). Has x steps) n.1 z.1, n.2)
 
-of_proof : (slots i : ℕ) (steps : List Step) (kept : List StoredStep) (st : State) → AreStoredAs slots st steps kept → (c : ℕ) → IsNameOfSteps kept c
+of_proof : (slots i : ℕ) (steps : List Step) (kept : List StoredStep) (st : State) → AreStoredAs slots st steps kept → (c : ℕ)
+    → IsNameOfSteps kept c
     → IsOfProof slots i steps st c
 of_proof slots i steps kept st are c at =
     let n = cited_slot slots steps kept st at.0 are at.1 in inr (n.0, at.0, n.1, n.2, at.2)
@@ -76,7 +78,8 @@ member_of slots b cell i st (inr (j, member, at)) lt is =
 
 module _ (slots : ℕ) (st : State) where
   -- what stands behind slots of a chain is one of its slots
-  chain_has : (b : ℕ) (chain before : List ℕ) (i : ℕ) → IsChain slots st chain (st.value (bucket_cell slots b)) → StandsBehind slots st b before i
+  chain_has : (b : ℕ) (chain before : List ℕ) (i : ℕ) → IsChain slots st chain (st.value (bucket_cell slots b))
+      → StandsBehind slots st b before i
       → Has i chain
   chain_has b chain [] i starts at = first chain (st.value (bucket_cell slots b)) starts at
     where

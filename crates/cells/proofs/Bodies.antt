@@ -96,12 +96,14 @@ module _ {O : Type 0} (s : Sight O) (grounded : ∥ ((st : State) × (lib : List
 -- ---- what was read
 
 -- a value that was read is that of its cell later, too
-pub value_later : {O : Type 0} → (r s t : Sight O) (cell v : ℕ) (st : State) → Reads cell v r s → Looks s t → Matches t st → v ≡ (after t st).value cell
+pub value_later : {O : Type 0} → (r s t : Sight O) (cell v : ℕ) (st : State) → Reads cell v r s → Looks s t → Matches t st
+    → v ≡ (after t st).value cell
 value_later r s t cell v st reads looks m =
     reads.value st (matches_back s t st looks.onward m) ∙ ap (λ (x : State). x.value cell) (sym (after_looks s t st looks))
 
 -- the words of the range that a cell names
-pub are_words : {O : Type 0} → (s : Sight O) (st : State) (range : Place) (cell word : ℕ) (words : List ℕ) → Matches s st → Knows s range words
+pub are_words : {O : Type 0} → (s : Sight O) (st : State) (range : Place) (cell word : ℕ) (words : List ℕ) → Matches s st
+    → Knows s range words
     → word ≡ (after s st).value cell → word ≢ 0 → word ≡ range.start * 2 ^ 25 + range.len → AreWordsOf (after s st) cell words
 are_words s st range cell word words m k read some is = record {
   body = λ body b. words_known s st m range cell words body k (sym read ∙ is) b;
@@ -113,7 +115,8 @@ pub no_words : (st : State) (cell : ℕ) → st.value cell ≡ 0 → AreWordsOf 
 no_words st cell e = record { body = λ words b. absurd (no_body st cell words b e); none = λ h. refl }
 
 -- a cell that names a known range has a body just where that has its words
-pub same_words : {O : Type 0} → (s : Sight O) (st : State) (range : Place) (cell word : ℕ) (words body : List ℕ) → Matches s st → Knows s range words
+pub same_words : {O : Type 0} → (s : Sight O) (st : State) (range : Place) (cell word : ℕ) (words body : List ℕ) → Matches s st
+    → Knows s range words
     → word ≡ (after s st).value cell → word ≡ range.start * 2 ^ 25 + range.len → body ≢ [] → (words ≡ body) ↔ HasBody (after s st) cell body
 same_words s st range cell word words body m k read is some = (
   λ e. subst (HasBody (after s st) cell) e (body_known s st m range cell words k (sym read ∙ is) (λ none. some (sym e ∙ none))),
@@ -123,7 +126,8 @@ same_words s st range cell word words body m k read is some = (
 -- ---- the first word
 
 -- a cell that holds 0 has no body, and a range without words is none
-pub no_first : {O : Type 0} → (s : Sight O) (st : State) (range : Place) (cell word w : ℕ) (words more : List ℕ) → Matches s st → Knows s range words
+pub no_first : {O : Type 0} → (s : Sight O) (st : State) (range : Place) (cell word w : ℕ) (words more : List ℕ) → Matches s st
+    → Knows s range words
     → word ≡ (after s st).value cell → word ≡ range.start * 2 ^ 25 + range.len → HasBody (after s st) cell (w ∷ more) → range.len ≡ 0 → ⊥
 no_first s st range cell word w words more m k read is b none =
     let same : words ≡ w ∷ more = words_known s st m range cell words (w ∷ more) k (sym read ∙ is) b in
@@ -132,7 +136,8 @@ no_first s st range cell word w words more m k read is b none =
     omega (arith, few, long)
 
 -- the first word of a known range is that of the body
-pub first_known : {O : Type 0} → (s : Sight O) (st : State) (range : Place) (cell word w first : ℕ) (words more : List ℕ) → Matches s st → Knows s range words
+pub first_known : {O : Type 0} → (s : Sight O) (st : State) (range : Place) (cell word w first : ℕ) (words more : List ℕ) → Matches s st
+    → Knows s range words
     → word ≡ (after s st).value cell → word ≡ range.start * 2 ^ 25 + range.len → HasBody (after s st) cell (w ∷ more)
     → slice_get words 0 ≡ Some first → first ≡ w
 first_known s st range cell word w first words more m k read is b at =

@@ -121,14 +121,16 @@ abbrev pub IsInTheWayIn : ℕ → List ℕ → List ℕ → ℕ → State → �
 IsInTheWayIn b own label slots st i = (name : List ℕ) × IsNamed slots st i name × (bucket slots name ≡ b) × IsInTheWay own label name
 
 -- a label that clashes with that of an assertion is no other's
-free_apart : (lib : List Ranked) (label : List ℕ) (e : Ranked) → AreApart (map label_of lib) → Contains lib e → clash (label_of e) label ≡ true
+free_apart : (lib : List Ranked) (label : List ℕ) (e : Ranked) → AreApart (map label_of lib) → Contains lib e
+    → clash (label_of e) label ≡ true
     → has lib label ≡ false
 free_apart lib label e apart at y = false_from_ne_true (has lib label) (λ z.
     let h = has_somewhere lib label z in
     let here = subst (λ (l : List ℕ). Contains (map label_of lib) l) h.4 (contains_mapped label_of lib h.1 (h.0, h.2, h.3)) in
     let there = contains_mapped label_of lib e at in
     both_ways (clash (label_of e) label)
-    (or_from (is_dotted (label_of e) label) (is_dotted label (label_of e)) (apart (label_of e) label there here) (apart label (label_of e) here there))
+    (or_from (is_dotted (label_of e) label) (is_dotted label (label_of e)) (apart (label_of e) label there here)
+    (apart label (label_of e) here there))
     y)
 
 module _ {O : Type 0} (s : Sight O) (own label : List ℕ) where
@@ -230,7 +232,8 @@ module _ {O : Type 0} (old : Sight O) (own label : List ℕ) where
   ReadsForStanding s =
       ReadsWhere (λ st c. IsOfLook old.setting.slots label st c ⊎ IsOfClash old.setting.slots own label st c) old s
 
-  pub first_walked : (s : Sight O) (b : ℕ) → Looks old s → b ≡ bucket old.setting.slots label → ReadsWhere (IsAlong old.setting.slots b) old s
+  pub first_walked : (s : Sight O) (b : ℕ) → Looks old s → b ≡ bucket old.setting.slots label
+      → ReadsWhere (IsAlong old.setting.slots b) old s
       → ReadsForStanding s
   first_walked s b looks is reads =
       where_trans (where_same old) (looks_refl old) looks.onward reads
@@ -239,7 +242,8 @@ module _ {O : Type 0} (old : Sight O) (own label : List ℕ) where
   -- and then more
   module _ (r s : Sight O) (b : ℕ) (first : Looks old r) (looks : Looks r s) (before : ReadsForStanding r)
       (reads : ReadsWhere (IsAlong r.setting.slots b) r s) where
-    more_walked : ((st : State) (c : ℕ) → IsAlong old.setting.slots b st c → IsOfClash old.setting.slots own label st c) → ReadsForStanding s
+    more_walked : ((st : State) (c : ℕ) → IsAlong old.setting.slots b st c → IsOfClash old.setting.slots own label st c)
+        → ReadsForStanding s
     more_walked wider =
         where_trans before first looks.onward
         (subst (λ (n : ℕ). ReadsWhere (IsAlong n b) r s) (same_slots old r first) reads) (λ st c at. inr (wider st c at))

@@ -23,7 +23,8 @@ abbrev pub one : Bool → ℕ
 one b = cond b 1 0
 
 module _ (slots : ℕ) (st : State) (lib : List Ranked) (shows : Shows slots st lib) (store : AreOfOneStore most_words st.ranges)
-    (steps : List Step) (kept : List StoredStep) (listed : List ℕ) (stored : AreStoredAs slots st steps kept) (cited : AreCitedSlots kept listed) where
+    (steps : List Step) (kept : List StoredStep) (listed : List ℕ) (stored : AreStoredAs slots st steps kept)
+    (cited : AreCitedSlots kept listed) where
   -- a slot that is cited has a name, so it is not empty
   pub listed_within : (i : ℕ) → Has i listed → i < slots
   listed_within i h = let n = stored_named slots st lib shows store steps kept i stored (cited.cited i h) in n.1.within
@@ -53,7 +54,8 @@ module _ (slots : ℕ) (st : State) (lib : List Ranked) (shows : Shows slots st 
         → b.value (citers_cell p.slot) ≡ a.value (citers_cell p.slot) - one (list_any (is_citation (label_of p.entry)) steps)
     counted_out a b counts =
         elim listed_or_not [
-          | inl so ↦ let left = counts.counted p.slot so.0 in let step : one (list_any (is_citation (label_of p.entry)) steps) ≡ 1 = ap one so.1 in
+          | inl so ↦ let left = counts.counted p.slot so.0 in let step : one (list_any (is_citation (label_of p.entry)) steps) ≡ 1 =
+              ap one so.1 in
               omega (arith, left, step)
           | inr other ↦
               let left = counts.others (citers_cell p.slot) (λ j h z. other.0 (subst (λ n. Has n listed) (omega (arith, z)) h)) in
@@ -65,7 +67,8 @@ module _ (slots : ℕ) (st : State) (lib : List Ranked) (shows : Shows slots st 
         → b.value (citers_cell p.slot) ≡ a.value (citers_cell p.slot) + one (list_any (is_citation (label_of p.entry)) steps)
     counted_in a b counts =
         elim listed_or_not [
-          | inl so ↦ let more = counts.counted p.slot so.0 in let step : one (list_any (is_citation (label_of p.entry)) steps) ≡ 1 = ap one so.1 in
+          | inl so ↦ let more = counts.counted p.slot so.0 in let step : one (list_any (is_citation (label_of p.entry)) steps) ≡ 1 =
+              ap one so.1 in
               omega (arith, more, step)
           | inr other ↦
               let more = counts.others (citers_cell p.slot) (λ j h z. other.0 (subst (λ n. Has n listed) (omega (arith, z)) h)) in

@@ -97,7 +97,8 @@ pub asks_counted : {O : Type 0} → (xs : List ℕ) (i cell : ℕ) (r s t : Sigh
 asks_counted xs i cell r s t lt is read none = asks_still (asks_cell (get_or xs i 0, index_has xs i lt, is) read) none
 
 -- what is written where a count was read
-pub count_made : {O : Type 0} → (f : ℕ → ℕ) (r s t : Sight O) (st : State) (cell there v w x : ℕ) → Looks r s → Writes there w s t → there ≡ citers_cell x
+pub count_made : {O : Type 0} → (f : ℕ → ℕ) (r s t : Sight O) (st : State) (cell there v w x : ℕ) → Looks r s → Writes there w s t
+    → there ≡ citers_cell x
     → w ≡ f v
     → v ≡ (after s st).value cell → cell ≡ citers_cell x
     → after t st ≡ with_value (citers_cell x) (f ((after r st).value (citers_cell x))) (after r st)

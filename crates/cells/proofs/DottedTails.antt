@@ -85,7 +85,8 @@ none_shorter label w short = not_dotted label w (λ y.
 
 -- nor one that has another tail
 pub none_of_tail : (label w : List ℕ) → is_some (hypothesis_numbered [] (drop (length label) w)) ≡ false → false ≡ is_dotted label w
-none_of_tail label w other = not_dotted label w (λ y. let told = tail_told (drop (length label) w) (dotted_tail label w y) in absurd (let z : true ≡ false = sym told ∙ other in cc))
+none_of_tail label w other = not_dotted label w (λ y. let told =
+    tail_told (drop (length label) w) (dotted_tail label w y) in absurd (let z : true ≡ false = sym told ∙ other in cc))
 
 -- with such a tail, a word is one just where it begins with the label
 pub told_by_front : (label w : List ℕ) (b : Bool) → label ≢ [] → is_some (hypothesis_numbered [] (drop (length label) w)) ≡ true

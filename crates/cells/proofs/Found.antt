@@ -74,7 +74,8 @@ module _ (slots : ℕ) (st : State) (lib : List Ranked) (shows : Shows slots st 
 
     -- no other slot holds it
     pub found_here : (p : Held) → Has p shows.held → p.slot ≡ i → p.entry ≡ at.entry
-    found_here p h is = ap (λ (q : Held). q.entry) (one_held shows.held p (record { slot = i; entry = at.entry }) shows.apart h found_held is)
+    found_here p h is = ap (λ (q : Held). q.entry)
+        (one_held shows.held p (record { slot = i; entry = at.entry }) shows.apart h found_held is)
 
     pub found_only : (p : Held) → Has p shows.held → label_of p.entry ≡ label → p.slot ≡ i
     found_only p h is =

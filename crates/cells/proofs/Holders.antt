@@ -43,7 +43,8 @@ module _ (slots : ℕ) (st : State) (lib : List Ranked) (shows : Shows slots st 
 
   -- an empty slot has name 0; a full one has not
   pub full_named : (p : Held) (i : ℕ) → IsHeldAt i p → st.value (name_cell i) ≢ 0
-  full_named p i at = subst (λ (k : ℕ). st.value (name_cell k) ≢ 0) at.1 (λ e. no_body st (name_cell p.slot) _ (holds_it p at.0).name.body e)
+  full_named p i at = subst (λ (k : ℕ). st.value (name_cell k) ≢ 0) at.1
+      (λ e. no_body st (name_cell p.slot) _ (holds_it p at.0).name.body e)
 
   -- a slot that is named 0 is empty
   pub empty_unnamed : (i : ℕ) → i < slots → st.value (name_cell i) ≡ 0 → IsEmpty slots st i
@@ -55,7 +56,8 @@ module _ (slots : ℕ) (st : State) (lib : List Ranked) (shows : Shows slots st 
 
   module _ (store : AreOfOneStore most_words st.ranges) where
     -- a slot with a label holds the assertion that has it
-    pub holder : (i : ℕ) (label : List ℕ) → IsNamed slots st i label → (p : Held) × Contains shows.held p × (p.slot ≡ i) × (label_of p.entry ≡ label)
+    pub holder : (i : ℕ) (label : List ℕ) → IsNamed slots st i label → (p : Held) × Contains shows.held p × (p.slot ≡ i)
+        × (label_of p.entry ≡ label)
     holder i label named =
         let h = full_slot i named.within (no_body st (name_cell i) label named.body) in
         let p = h.0 in
@@ -64,7 +66,8 @@ module _ (slots : ℕ) (st : State) (lib : List Ranked) (shows : Shows slots st 
         (p, h.1.0, h.1.1, one_body st (name_cell i) _ _ store name named.body)
 
     -- it is found there
-    pub found_at : (i : ℕ) (label : List ℕ) → Distinct bytes_eq (map label_of lib) → IsNamed slots st i label → IsFoundAt slots st lib label i
+    pub found_at : (i : ℕ) (label : List ℕ) → Distinct bytes_eq (map label_of lib) → IsNamed slots st i label
+        → IsFoundAt slots st lib label i
     found_at i label apart named =
         let h = holder i label named in
         let e = h.0.entry in
@@ -84,12 +87,14 @@ module _ (slots : ℕ) (st : State) (lib : List Ranked) (shows : Shows slots st 
         find_nowhere lib label (has_nowhere lib label (subst (All Other) shows.library others))
 
     -- the slot with a label is one of the chain of the label's bucket
-    pub in_chain : (i b : ℕ) (label : List ℕ) (lt : b < slots) → bucket slots label ≡ b → IsNamed slots st i label → Has i (shows.chained b lt).chain
+    pub in_chain : (i b : ℕ) (label : List ℕ) (lt : b < slots) → bucket slots label ≡ b → IsNamed slots st i label
+        → Has i (shows.chained b lt).chain
     in_chain i b label lt is named =
         let h = holder i label named in
         let of = λ (q : Held). bucket slots (label_of q.entry) == b in
         let passes = eq-eqb (bucket slots (label_of h.0.entry)) b (ap (bucket slots) h.3 ∙ is) in
-        let at = contains_mapped (λ (q : Held). q.slot) (of_bucket slots b shows.held) h.0 (contains_filtered of shows.held h.0 h.1 passes) in
+        let at = contains_mapped (λ (q : Held). q.slot) (of_bucket slots b shows.held) h.0
+        (contains_filtered of shows.held h.0 h.1 passes) in
         let c = shows.chained b lt in
         has_from_contains c.chain i (subst (Contains c.chain) h.2 (Contains-permutation _ c.chain h.0.slot c.has at))
 

@@ -65,5 +65,7 @@ pub slot_word_of : {O : Type 0} → (s : Sight O) (slots : ℕ) (cited more : Li
 slot_word_of s slots cited more label n i step at push here is =
     let word : step_of more (3 * n + 2) ≡ Cite label =
     cite_word more n ∙ ap (λ (l : List ℕ). Cite l)
-    (ap (λ (ls : List (List ℕ)). get_or ls n []) push ∙ ap (λ (j : ℕ). get_or (cited ++ label ∷ []) j []) here ∙ get_or-append_seam cited label [] []) in
-    subst (λ (y : StoredStep). IsStepOf slots s y (step_of more (3 * n + 2))) (sym at) (subst (IsStepOf slots s (stored.Slot i)) (sym word) is)
+    (ap (λ (ls : List (List ℕ)). get_or ls n []) push ∙ ap (λ (j : ℕ). get_or (cited ++ label ∷ []) j []) here
+    ∙ get_or-append_seam cited label [] []) in
+    subst (λ (y : StoredStep). IsStepOf slots s y (step_of more (3 * n + 2))) (sym at)
+    (subst (IsStepOf slots s (stored.Slot i)) (sym word) is)

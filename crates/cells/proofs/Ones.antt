@@ -29,7 +29,8 @@ map_same f xs same = map_agree f (λ x. x) xs same ∙ map-id xs
 
 pub filter_none : {A : Type 0} (p : A → Bool) (xs : List A) → ((x : A) → Has x xs → p x ≡ false) → filter p xs ≡ []
 filter_none p [] none = refl
-filter_none p (x ∷ xs) none = cond-false (p x) (x ∷ filter p xs) (filter p xs) (none x (inl refl)) ∙ filter_none p xs (λ y h. none y (inr h))
+filter_none p (x ∷ xs) none = cond-false (p x) (x ∷ filter p xs) (filter p xs) (none x (inl refl))
+    ∙ filter_none p xs (λ y h. none y (inr h))
 
 -- the images of those that pass are the images that pass
 pub filter_mapped : {A B : Type 0} (f : A → B) (p : A → Bool) (q : B → Bool) (xs : List A) → ((x : A) → Has x xs → p x ≡ q (f x))
@@ -71,7 +72,8 @@ module _ {A K : Type 0} (eq : K → K → Bool) (key : A → K) (test : A → Bo
       (IsPermutation-filter_both test (λ y. not (test y)) (λ y. refl) xs)
 
 -- of assertions with labels
-pub label_and_others : (lib : List Ranked) (label : List ℕ) (e : Ranked) → Distinct bytes_eq (map label_of lib) → Has e lib → label_of e ≡ label
+pub label_and_others : (lib : List Ranked) (label : List ℕ) (e : Ranked) → Distinct bytes_eq (map label_of lib) → Has e lib
+    → label_of e ≡ label
     → IsPermutation lib (e ∷ without label lib)
 label_and_others lib label e d h is =
     one_and_others bytes_eq label_of (is_labelled label) label (λ a b z. subst (λ l. bytes_eq a l ≡ true) z (bytes_eq-same a))

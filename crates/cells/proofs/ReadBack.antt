@@ -33,10 +33,12 @@ use Rattle.cells.proofs.Small.{label_small, steps_small}
 -- ---- one call after another
 
 -- what was so of each assertion that the slot holds stays so while nothing is written
-pub held_later : {O : Type 0} → (s t : Sight O) (i : ℕ) (told : State → List Ranked → Ranked → Type 0) → Looks s t → ForEachHeld s i told → ForEachHeld t i told
+pub held_later : {O : Type 0} → (s t : Sight O) (i : ℕ) (told : State → List Ranked → Ranked → Type 0) → Looks s t → ForEachHeld s i told
+    → ForEachHeld t i told
 held_later s t i told looks each = λ st lib v e at h.
     let same = after_looks s t st looks in
-    let before = subst (λ (x : State). Holds s.setting.slots x lib i e) same (subst (λ (n : ℕ). Holds n (after t st) lib i e) (same_slots s t looks) h) in
+    let before = subst (λ (x : State). Holds s.setting.slots x lib i e) same
+    (subst (λ (n : ℕ). Holds n (after t st) lib i e) (same_slots s t looks) h) in
     subst (λ (x : State). told x lib e) (sym same) (each st lib (views_back s t st lib looks v) e at before)
 
 -- a name is the label of what the slot holds
@@ -83,9 +85,11 @@ zip_at R (x ∷ xs) (y ∷ ys) (suc i) d e z lt = let rest = zip_at R xs ys i d 
 -- the first steps are those that are stored as the first of the kept ones
 abbrev pub AreReadBack : {O : Type 0} → Sight O → ℕ → List StoredStep → ℕ → List Step → Type 0
 AreReadBack s slots kept i steps =
-    (st : State) (xs : List Step) → Matches s st → All IsShortLabelled xs → AllZip (IsStoredAs (IsNamed slots (after s st))) xs kept → steps ≡ take i xs
+    (st : State) (xs : List Step) → Matches s st → All IsShortLabelled xs → AllZip (IsStoredAs (IsNamed slots (after s st))) xs kept
+    → steps ≡ take i xs
 
-pub read_back_on : {O : Type 0} → (s t : Sight O) (slots i : ℕ) (kept : List StoredStep) (steps more : List Step) (made : Step) (d : StoredStep) → Looks s t
+pub read_back_on : {O : Type 0} → (s t : Sight O) (slots i : ℕ) (kept : List StoredStep) (steps more : List Step) (made : Step)
+    (d : StoredStep) → Looks s t
     → AreReadBack s slots kept i steps → i < length kept → more ≡ steps ++ made ∷ []
     → ((st : State) (x : Step) → Matches t st → IsShortLabelled x → IsStoredAs (IsNamed slots (after t st)) x (get_or kept i d) → made ≡ x)
     → AreReadBack t slots kept (i + 1) more
@@ -95,9 +99,11 @@ read_back_on s t slots i kept steps more made d looks each lt push is = λ st xs
     (subst (λ (y : State). AllZip (IsStoredAs (IsNamed slots y)) xs kept) (after_looks s t st looks) z) in
     let at = zip_at (IsStoredAs (IsNamed slots (after t st))) xs kept i (Float 0) d z lt in
     let same : made ≡ get_or xs i (Float 0) = is st (get_or xs i (Float 0)) m (All-get_or IsShortLabelled xs i (Float 0) at.1 short) at.0 in
-    push ∙ (ap (λ (ys : List Step). ys ++ made ∷ []) before ∙ (ap (λ (y : Step). take i xs ++ y ∷ []) same ∙ sym (take_more xs i (Float 0) at.1)))
+    push ∙ (ap (λ (ys : List Step). ys ++ made ∷ []) before
+    ∙ (ap (λ (y : Step). take i xs ++ y ∷ []) same ∙ sym (take_more xs i (Float 0) at.1)))
 
-pub read_back_all : {O : Type 0} → (s : Sight O) (slots i : ℕ) (kept : List StoredStep) (steps xs : List Step) (st : State) → AreReadBack s slots kept i steps
+pub read_back_all : {O : Type 0} → (s : Sight O) (slots i : ℕ) (kept : List StoredStep) (steps xs : List Step) (st : State)
+    → AreReadBack s slots kept i steps
     → length kept ≡ i → Matches s st → All IsShortLabelled xs → AllZip (IsStoredAs (IsNamed slots (after s st))) xs kept → steps ≡ xs
 read_back_all s slots i kept steps xs st each n m short z =
     let long = AllZip-long (IsStoredAs (IsNamed slots (after s st))) xs kept z in
@@ -111,7 +117,8 @@ step_of_later s t slots kept made looks is = λ st x m short stored.
     (subst (λ (y : State). IsStoredAs (IsNamed slots y) x kept) (after_looks s t st looks) stored)
 
 -- and so do the first steps, with one more
-pub steps_of_on : {O : Type 0} → (s t : Sight O) (slots i : ℕ) (kept : List StoredStep) (steps more : List Step) (made : Step) (d : StoredStep)
+pub steps_of_on : {O : Type 0} → (s t : Sight O) (slots i : ℕ) (kept : List StoredStep) (steps more : List Step) (made : Step)
+    (d : StoredStep)
     → Looks s t → AreStepsOf slots s kept steps → length steps ≡ i → i < length kept → more ≡ steps ++ made ∷ []
     → IsStepOf slots t (get_or kept i d) made → AreStepsOf slots t kept more
 steps_of_on s t slots i kept steps more made d looks each n within push is k d' e lt =
@@ -119,18 +126,22 @@ steps_of_on s t slots i kept steps more made d looks each n within push is k d' 
     elim (eq-or-lt_of_le (let le : k ≤ length steps = omega (arith, long, lt) in le)) [
       | inl here ↦
           let same : get_or more k e ≡ made =
-          ap (λ (ys : List Step). get_or ys k e) push ∙ ap (λ (j : ℕ). get_or (steps ++ made ∷ []) j e) here ∙ get_or-append_seam steps made [] e in
-          let place : get_or kept i d ≡ get_or kept k d' = get_or_default kept i d d' within ∙ ap (λ (j : ℕ). get_or kept j d') (sym n ∙ sym here) in
+          ap (λ (ys : List Step). get_or ys k e) push ∙ ap (λ (j : ℕ). get_or (steps ++ made ∷ []) j e) here
+          ∙ get_or-append_seam steps made [] e in
+          let place : get_or kept i d ≡ get_or kept k d' =
+          get_or_default kept i d d' within ∙ ap (λ (j : ℕ). get_or kept j d') (sym n ∙ sym here) in
           subst (IsStepOf slots t (get_or kept k d')) (sym same) (subst (λ (x : StoredStep). IsStepOf slots t x made) place is)
       | inr before ↦
-          let same : get_or more k e ≡ get_or steps k e = ap (λ (ys : List Step). get_or ys k e) push ∙ get_or-append steps (made ∷ []) e k before in
+          let same : get_or more k e ≡ get_or steps k e =
+          ap (λ (ys : List Step). get_or ys k e) push ∙ get_or-append steps (made ∷ []) e k before in
           subst (IsStepOf slots t (get_or kept k d')) (sym same)
           (step_of_later s t slots (get_or kept k d') (get_or steps k e) looks (each k d' e before))
     ]
 
 -- ---- assertions
 
-pub assembled : (a : Assertion) (label : List ℕ) (s : Statement) (proof : List Step) → label ≡ a.label → s ≡ statement_of a → proof ≡ a.proof
+pub assembled : (a : Assertion) (label : List ℕ) (s : Statement) (proof : List Step) → label ≡ a.label → s ≡ statement_of a
+    → proof ≡ a.proof
     → record { label = label; kind = s.kind; pairs = s.pairs; hyps = s.hyps; statement = s.statement; proof = proof } ≡ a
 assembled a label s proof l is p = λ i. record {
   label = l i;
@@ -145,4 +156,12 @@ assembled a label s proof l is p = λ i. record {
 pub framed : (t : Tables) (a : Assertion) (label : List ℕ) (s : Statement) (proof : List Step) → s ≡ statement_of a
     → frame t (record { label = label; kind = s.kind; pairs = s.pairs; hyps = s.hyps; statement = s.statement; proof = proof }) ≡ frame t a
 framed t a label s proof is =
-    ap (λ (x : Statement). frame t (record { label = label; kind = x.kind; pairs = x.pairs; hyps = x.hyps; statement = x.statement; proof = proof })) is
+    ap (λ (x : Statement). frame t (record {
+      label = label;
+      kind = x.kind;
+      pairs = x.pairs;
+      hyps = x.hyps;
+      statement = x.statement;
+      proof =
+          proof;
+    })) is

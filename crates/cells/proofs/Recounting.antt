@@ -69,7 +69,8 @@ replaced_same : (old new k l : List ℕ) → bytes_eq new k ≡ false → bytes_
 replaced_same old new k l p q =
     elim (cases_Bool (bytes_eq k l)) [
       | inl same ↦
-          subst (λ x. bytes_eq (replacing old new k) (replacing old new x) ≡ true) (same_bytes k l same) (bytes_eq-same (replacing old new k)) ∙ sym same
+          subst (λ x. bytes_eq (replacing old new k) (replacing old new x) ≡ true) (same_bytes k l same)
+          (bytes_eq-same (replacing old new k)) ∙ sym same
       | inr other ↦
           let d = distinct_replaced old new (k ∷ l ∷ []) (or_from (bytes_eq k l) false other refl, (refl, tt))
           (or_from (bytes_eq new k) (list_any (bytes_eq new) (l ∷ [])) p (or_from (bytes_eq new l) false q refl)) in
@@ -86,7 +87,8 @@ module _ (old new l : List ℕ) (free : bytes_eq new l ≡ false) where
       let rest = cites_replaced steps both.1 in
       rw (first, rest) refl
     where
-      one : (x : Step) → is_citation new x ≡ false → is_citation (replacing old new l) (step_relabelled (replacing old new) x) ≡ is_citation l x
+      one : (x : Step) → is_citation new x ≡ false
+          → is_citation (replacing old new l) (step_relabelled (replacing old new) x) ≡ is_citation l x
       one (Float i) h = refl
       one (Hyp k) h = refl
       one (Cite c) h = replaced_same old new l c free h

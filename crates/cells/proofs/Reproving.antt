@@ -1,4 +1,5 @@
--- A state that shows a library, with other steps in the proof body of one slot and their citers counted, shows the library with the theorem reproved.
+-- A state that shows a library, with other steps in the proof body of one slot and their citers counted, shows the library with the theorem
+-- reproved.
 use Rattle.std.proofs.Common.{◌≡◌, ◌≢◌, ℕ, ◌+◌, ◌-◌, ◌*◌, ◌<◌, ◌≤◌, List, length, map, true, false, refl, sym, ap, subst, ◌∙◌, ◌⊎◌, inl, inr, arith}
 use Rattle.std.specs.List.{list_any}
 use Rattle.std.specs.Str.{bytes_eq}
@@ -24,9 +25,10 @@ use Rattle.cells.proofs.Found.{held_holds, few_citers, found_held, found_label, 
 use Rattle.cells.proofs.Recounting.{citers-changed}
 use Rattle.cells.proofs.Showing.{chains_stay, shows_changed}
 
--- the proof cell of the slot names the body of other steps, in the state laid; then what was cited before alone is counted out, and what is cited
--- now alone is counted in
-module _ (slots : ℕ) (st laid less next : State) (lib : List Ranked) (shows : Shows slots st lib) (store : AreOfOneStore most_words st.ranges)
+-- the proof cell of the slot names the body of other steps, in the state laid; then what was cited before alone is counted out, and what is
+-- cited now alone is counted in
+module _ (slots : ℕ) (st laid less next : State) (lib : List Ranked) (shows : Shows slots st lib)
+    (store : AreOfOneStore most_words st.ranges)
     (apart : Distinct bytes_eq (map label_of lib)) (label : List ℕ) (i : ℕ) (at : IsFoundAt slots st lib label i)
     (theorem : at.entry.assertion.kind ≡ Theorem) (steps : List Step) (former kept : List StoredStep) (before now : List ℕ)
     (stored_before : AreStoredAs slots st at.entry.assertion.proof former) (stored_now : AreStoredAs slots st steps kept)
@@ -75,7 +77,8 @@ module _ (slots : ℕ) (st laid less next : State) (lib : List Ranked) (shows : 
     names j l named =
         record {
           within = named.within;
-          body = body_same st next (name_cell j) l ranges (unproven (name_cell j) j 0 (omega arith) (omega arith) (λ z. omega (arith, z))) named.body;
+          body = body_same st next (name_cell j) l ranges
+              (unproven (name_cell j) j 0 (omega arith) (omega arith) (λ z. omega (arith, z))) named.body;
         }
 
     recounted : (p : Held) → Has p shows.held
@@ -125,7 +128,8 @@ module _ (slots : ℕ) (st laid less next : State) (lib : List Ranked) (shows : 
         shows_changed slots st next lib shows store apart label i at (with_proof steps) (λ e. refl)
         (record {
           name = names i (label_of at.entry) at.holds.name;
-          statement = body_same st next (statement_cell i) _ ranges (unproven (statement_cell i) i 1 refl (omega arith) (λ z. omega (arith, z))) at.holds.statement;
+          statement = body_same st next (statement_cell i) _ ranges
+              (unproven (statement_cell i) i 1 refl (omega arith) (λ z. omega (arith, z))) at.holds.statement;
           proof = subst (λ (kind : Kind). HoldsProof slots next i kind steps) (sym theorem) (
             kept,
             body_same laid next (proof_cell i) (proof_body kept) (ranges ∙ sym laid_ranges)

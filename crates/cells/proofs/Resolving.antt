@@ -33,7 +33,8 @@ none_known (e ∷ lib) label h = elim (cases_Bool (is_labelled label e)) [
   | inr n ↦ rw n (none_known lib label (sym (cond-false (is_labelled label e) (Some e) (found lib label) n) ∙ h))
 ]
 
-pub found_stored : {O : Type 0} → (s : Sight O) (label : List ℕ) (i : ℕ) (step : Step) → step ≡ Cite label → Finds s label (Some i) → StoresStep s step (Some (Slot i))
+pub found_stored : {O : Type 0} → (s : Sight O) (label : List ℕ) (i : ℕ) (step : Step) → step ≡ Cite label → Finds s label (Some i)
+    → StoresStep s step (Some (Slot i))
 found_stored s label i step is finds = (within_one, told)
   where
     within_one : (j : ℕ) → Has (Slot j) (Slot i ∷ []) → j < s.setting.slots
@@ -47,7 +48,8 @@ found_stored s label i step is finds = (within_one, told)
         let named : IsNamed s.setting.slots (after s st) i label = subst (IsNamed s.setting.slots (after s st) i) (sym at.1) f.holds.name in
         subst (λ (x : Step). IsStoredAs (IsNamed s.setting.slots (after s st)) x (Slot i)) (sym is) named
 
-pub none_stored : {O : Type 0} → (s : Sight O) (label : List ℕ) (step : Step) → step ≡ Cite label → Finds s label None → StoresStep s step None
+pub none_stored : {O : Type 0} → (s : Sight O) (label : List ℕ) (step : Step) → step ≡ Cite label → Finds s label None
+    → StoresStep s step None
 none_stored s label step is finds = λ st lib v.
     subst (λ (x : Step). is_of_unknown lib x ≡ true) (sym is) (ap not (none_known lib label (finds st lib v)))
 
@@ -76,14 +78,16 @@ found_more r s labels found n i looks lt are one = (
         let at : Some i ≡ Some j = sym (get_or-set_same found n (Some i) None (let long = are.0 in omega (arith, long, lt)))
         ∙ ap (λ (m : ℕ). get_or (slice_set found n (Some i)) m None) (sym here) ∙ some in
         let same : i ≡ j = cc in
-        subst (λ (m : ℕ). Finds s (get_or labels m []) (Some j)) (sym here) (subst (λ (m : ℕ). Finds s (get_or labels n []) (Some m)) same one)
+        subst (λ (m : ℕ). Finds s (get_or labels m []) (Some j)) (sym here)
+        (subst (λ (m : ℕ). Finds s (get_or labels n []) (Some m)) same one)
     | inr other ↦
         finds_after r s (get_or labels k []) j looks (are.1 k j below (sym (get_or-set_other found n k (Some i) None other) ∙ some))
   ],
 )
 
 -- a list that is lent and given back with as many items
-pub written_back : {A : Type 0} → (items new : List A) (n : ℕ) → n ≡ length items → length new ≡ length items → take n (new ++ drop (length new) items) ≡ new
+pub written_back : {A : Type 0} → (items new : List A) (n : ℕ) → n ≡ length items → length new ≡ length items
+    → take n (new ++ drop (length new) items) ≡ new
 written_back items new n is same =
     ap (λ rest. take n (new ++ rest)) (drop_all (length new) items (omega (arith, same))) ∙ ap (take n) (append-nil new)
     ∙ take_all n new (omega (arith, is, same))
@@ -97,7 +101,8 @@ zip_push R [] (b ∷ bs) x y z h = absurd z
 zip_push R (a ∷ more) [] x y z h = absurd z
 zip_push R (a ∷ more) (b ∷ bs) x y z h = (z.0, zip_push R more bs x y z.1 h)
 
-within_push : (slots : ℕ) (kept : List StoredStep) (y : StoredStep) → AreWithin slots kept → AreWithin slots (y ∷ []) → AreWithin slots (kept ++ y ∷ [])
+within_push : (slots : ℕ) (kept : List StoredStep) (y : StoredStep) → AreWithin slots kept → AreWithin slots (y ∷ [])
+    → AreWithin slots (kept ++ y ∷ [])
 within_push slots kept y a b i h = elim (has_append_cases kept (y ∷ []) (Slot i) h) [ inl l ↦ a i l | inr r ↦ b i r ]
 
 -- the first steps are stored as these
@@ -105,7 +110,8 @@ abbrev pub AreResolved : {O : Type 0} → Sight O → ℕ → List Step → List
 AreResolved s slots steps kept =
     (length kept ≡ length steps) × AreWithin slots kept × ForEach s (λ st lib. AreStoredAs slots st steps kept)
 
-pub resolve_on : {O : Type 0} → (r s : Sight O) (slots i : ℕ) (steps : List Step) (kept more : List StoredStep) (x : Step) (y : StoredStep) → slots ≡ s.setting.slots
+pub resolve_on : {O : Type 0} → (r s : Sight O) (slots i : ℕ) (steps : List Step) (kept more : List StoredStep) (x : Step) (y : StoredStep)
+    → slots ≡ s.setting.slots
     → Looks r s → AreResolved r slots (take i steps) kept → StoresStep s x (Some y) → x ≡ get_or steps i x → i < length steps
     → more ≡ kept ++ y ∷ [] → AreResolved s slots (take (i + 1) steps) more
 resolve_on r s slots i steps kept more x y is looks each stores here lt push = (counted, within, told)
@@ -119,24 +125,29 @@ resolve_on r s slots i steps kept more x y is looks each stores here lt push = (
         omega (arith, f)
 
     within : AreWithin slots more
-    within = subst (AreWithin slots) (sym push) (within_push slots kept y each.1 (subst (λ (n : ℕ). AreWithin n (y ∷ [])) (sym is) stores.0))
+    within = subst (AreWithin slots) (sym push)
+        (within_push slots kept y each.1 (subst (λ (n : ℕ). AreWithin n (y ∷ [])) (sym is) stores.0))
 
     told : ForEach s (λ st lib. AreStoredAs slots st (take (i + 1) steps) more)
     told st lib v =
         let R = IsStoredAs (IsNamed slots (after s st)) in
         let before = for_each_later r s (λ z l. AreStoredAs slots z (take i steps) kept) looks each.2 st lib v in
         let new : R x y = subst (λ (n : ℕ). IsStoredAs (IsNamed n (after s st)) x y) (sym is) (stores.1 st lib v) in
-        let first : take i steps ++ x ∷ [] ≡ take (i + 1) steps = ap (λ (z : Step). take i steps ++ z ∷ []) here ∙ sym (take_more steps i x lt) in
+        let first : take i steps ++ x ∷ [] ≡ take (i + 1) steps =
+        ap (λ (z : Step). take i steps ++ z ∷ []) here ∙ sym (take_more steps i x lt) in
         subst (λ (zs : List Step). AllZip R zs more) first
         (subst (AllZip R (take i steps ++ x ∷ [])) (sym push) (zip_push R (take i steps) kept x y before new))
 
-pub resolve_fails : {O : Type 0} → (s : Sight O) (i : ℕ) (steps : List Step) (x : Step) → StoresStep s x None → x ≡ get_or steps i x → i < length steps → Resolves s steps None
+pub resolve_fails : {O : Type 0} → (s : Sight O) (i : ℕ) (steps : List Step) (x : Step) → StoresStep s x None → x ≡ get_or steps i x
+    → i < length steps → Resolves s steps None
 resolve_fails s i steps x stores here lt = λ st lib v.
     list_any_at (is_of_unknown lib) steps i x lt (subst (λ (z : Step). is_of_unknown lib z ≡ true) here (stores st lib v))
 
-pub resolve_all : {O : Type 0} → (s : Sight O) (slots i : ℕ) (steps : List Step) (kept : List StoredStep) → slots ≡ s.setting.slots → length steps ≡ i
+pub resolve_all : {O : Type 0} → (s : Sight O) (slots i : ℕ) (steps : List Step) (kept : List StoredStep) → slots ≡ s.setting.slots
+    → length steps ≡ i
     → AreResolved s slots (take i steps) kept → Resolves s steps (Some kept)
-resolve_all s slots i steps kept is n each = (each.0 ∙ ap (λ (zs : List Step). length zs) all, subst (λ (k : ℕ). AreWithin k kept) is each.1, told)
+resolve_all s slots i steps kept is n each =
+    (each.0 ∙ ap (λ (zs : List Step). length zs) all, subst (λ (k : ℕ). AreWithin k kept) is each.1, told)
   where
     all : take i steps ≡ steps
     all = take_all i steps (omega (arith, n))

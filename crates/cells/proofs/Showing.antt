@@ -23,7 +23,8 @@ use Rattle.cells.proofs.Found.{found_label, found_here, other_label}
 pub chains_stay : (slots : ℕ) (st next : State) (held : List Held) → ((c : ℕ) → 5 * slots ≤ c → next.value c ≡ st.value c)
     → AreChained slots st held → AreChained slots next held
 chains_stay slots st next held same chained =
-    chains_kept slots st next held (λ b lt. same (bucket_cell slots b) (omega arith)) (λ i h. same (next_cell slots i) (omega arith)) chained
+    chains_kept slots st next held (λ b lt. same (bucket_cell slots b) (omega arith))
+    (λ i h. same (next_cell slots i) (omega arith)) chained
 
 -- the assertion in a slot, changed
 abbrev pub with_entry : (Ranked → Ranked) → Held → Held
@@ -51,7 +52,8 @@ module _ (slots : ℕ) (st next : State) (lib : List Ranked) (shows : Shows slot
               let m = mapped_has (with_entry g) shows.held q h in
               subst (λ (r : Held). Holds slots next (map g lib) r.slot r.entry) (sym m.2) (each m.0 m.1));
           apart = subst (Distinct nat_eq) (sym (slots_mapped shows.held)) shows.apart;
-          others = λ i lt. ⊎_elim (λ h. inl (subst (Has i) (sym (slots_mapped shows.held)) h)) (λ e. inr (empties i lt e)) (shows.others i lt);
+          others = λ i lt. ⊎_elim (λ h. inl (subst (Has i) (sym (slots_mapped shows.held)) h)) (λ e. inr (empties i lt e))
+              (shows.others i lt);
           chained = chained;
         }
 
@@ -60,7 +62,8 @@ module _ (slots : ℕ) (st next : State) (lib : List Ranked) (shows : Shows slot
         → AreChained slots next (map (with_entry g) shows.held)
     chains_mapped keeps chained =
         chains_alike slots next shows.held (map (with_entry g) shows.held)
-        (subst (IsPermutation (map (seat slots) shows.held)) (sym (seats shows.held)) (IsPermutation-refl (map (seat slots) shows.held))) chained
+        (subst (IsPermutation (map (seat slots) shows.held)) (sym (seats shows.held))
+        (IsPermutation-refl (map (seat slots) shows.held))) chained
       where
         seats : (held : List Held) → map (seat slots) (map (with_entry g) held) ≡ map (seat slots) held
         seats [] = refl
@@ -70,7 +73,8 @@ module _ (slots : ℕ) (st next : State) (lib : List Ranked) (shows : Shows slot
             λ k. (p.slot, same k) ∷ rest k
 
   -- the assertion with a label is changed, but for its label, and is held as it is then
-  pub shows_changed : (store : AreOfOneStore most_words st.ranges) → (apart : Distinct bytes_eq (map label_of lib)) → (label : List ℕ) (i : ℕ)
+  pub shows_changed : (store : AreOfOneStore most_words st.ranges) → (apart : Distinct bytes_eq (map label_of lib))
+      → (label : List ℕ) (i : ℕ)
       → (at : IsFoundAt slots st lib label i) → (change : Ranked → Ranked) → ((e : Ranked) → label_of (change e) ≡ label_of e)
       → Holds slots next (changed label change lib) i (change at.entry)
       → ((p : Held) → Has p shows.held → p.slot ≢ i → Holds slots next (changed label change lib) p.slot p.entry)
@@ -86,10 +90,15 @@ module _ (slots : ℕ) (st next : State) (lib : List Ranked) (shows : Shows slot
             let now : change at.entry ≡ change_at label change p.entry =
             ap change (sym same) ∙ sym (cond-true (is_labelled label p.entry) (change p.entry) p.entry own) in
             let slot = sym is in
-            subst (λ (q : Held). Holds slots next (changed label change lib) q.slot q.entry) (λ k. record { slot = slot k; entry = now k }) here
+            subst (λ (q : Held). Holds slots next (changed label change lib) q.slot q.entry) (λ k. record {
+              slot = slot k;
+              entry =
+                  now k;
+            }) here
         | inr ne ↦
             subst (Holds slots next (changed label change lib) p.slot)
-            (sym (cond-false (is_labelled label p.entry) (change p.entry) p.entry (other_label slots st lib shows store apart label i at p h ne)))
+            (sym (cond-false (is_labelled label p.entry) (change p.entry) p.entry
+            (other_label slots st lib shows store apart label i at p h ne)))
             (others p h ne)
       ])
       empties

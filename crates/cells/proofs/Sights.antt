@@ -87,7 +87,8 @@ writes_onward cell v s t w =
 -- the cell is written then
 pub writes_cell : {O : Type 0} → (cell v : ℕ) (s t : Sight O) → Writes cell v s t → WasWritten t cell
 writes_cell cell v s t w =
-    elim (cell == cell) as (λ b. (cell == cell) ≡ b → written cell t.writes ≡ (if b then Some v else written cell s.writes) → WasWritten t cell) [
+    elim (cell == cell) as (λ b. (cell == cell) ≡ b → written cell t.writes ≡ (if b then Some v else written cell s.writes)
+    → WasWritten t cell) [
       | true ↦ λ k e. (v, e)
       | false ↦ λ k e. absurd (let one = same_is_same cell in cc)
     ] refl (w.writes cell)
@@ -127,14 +128,18 @@ views_back s t st lib f v =
 
 -- what was so of each state stays so while nothing is written
 pub for_each_later : {O : Type 0} → (s t : Sight O) (told : State → List Ranked → Type 0) → Looks s t → ForEach s told → ForEach t told
-for_each_later s t told f each st lib v = subst (λ (x : State). told x lib) (sym (after_looks s t st f)) (each st lib (views_back s t st lib f v))
+for_each_later s t told f each st lib v =
+    subst (λ (x : State). told x lib) (sym (after_looks s t st f)) (each st lib (views_back s t st lib f v))
 
 -- a value that is kept aside is that of its cell
-pub after_writes : {O : Type 0} → (cell v : ℕ) (s t : Sight O) (st : State) → Writes cell v s t → after t st ≡ with_value cell v (after s st)
+pub after_writes : {O : Type 0} → (cell v : ℕ) (s t : Sight O) (st : State) → Writes cell v s t
+    → after t st ≡ with_value cell v (after s st)
 after_writes cell v s t st w = λ i. record { value = λ c. value_at c i; ranges = st.ranges }
   where
-    over : (c : ℕ) → value_or (if c == cell then Some v else written c s.writes) (st.value c) ≡ (if c == cell then v else value_or (written c s.writes) (st.value c))
-    over c = elim (c == cell) as (λ b. value_or (if b then Some v else written c s.writes) (st.value c) ≡ (if b then v else value_or (written c s.writes) (st.value c))) [ true ↦ refl | false ↦ refl ]
+    over : (c : ℕ) → value_or (if c == cell then Some v else written c s.writes) (st.value c)
+        ≡ (if c == cell then v else value_or (written c s.writes) (st.value c))
+    over c = elim (c == cell) as (λ b. value_or (if b then Some v else written c s.writes) (st.value c)
+        ≡ (if b then v else value_or (written c s.writes) (st.value c))) [ true ↦ refl | false ↦ refl ]
 
     value_at : (c : ℕ) → value_or (written c t.writes) (st.value c) ≡ (if c == cell then v else value_or (written c s.writes) (st.value c))
     value_at c = ap (λ (o : Option ℕ). value_or o (st.value c)) (w.writes c) ∙ over c

@@ -80,7 +80,8 @@ module _ (t : Tables) (sound : AreSound t) where
   small_step slots hyps st (Cite w) (stored.Slot j) few short h is = let lt = is.within in omega (arith, lt, few)
 
   -- words can stand for it
-  small_place : (slots hyps : ℕ) (st : State) (x : Step) (y : StoredStep) → hyps ≤ 1000 → IsNameable t hyps x → IsStoredAs (IsNamed slots st) x y
+  small_place : (slots hyps : ℕ) (st : State) (x : Step) (y : StoredStep) → hyps ≤ 1000 → IsNameable t hyps x
+      → IsStoredAs (IsNamed slots st) x y
       → HasSmallPlace y
   small_place slots hyps st (Float i) (stored.Float j) short h is = let fit = sound.floats_fit in omega (arith, h, is, fit)
   small_place slots hyps st (Float i) (stored.Hyp j) short h is = absurd is
@@ -94,7 +95,8 @@ module _ (t : Tables) (sound : AreSound t) where
 
 -- what holds of a step that is stored, where a text can name it, holds of all
 each_stored : (Named : Step → Type 0) (R : Step → StoredStep → Type 0) (P : StoredStep → Type 0)
-    → ((x : Step) (y : StoredStep) → Named x → R x y → P y) → (xs : List Step) (ys : List StoredStep) → All Named xs → AllZip R xs ys → All P ys
+    → ((x : Step) (y : StoredStep) → Named x → R x y → P y) → (xs : List Step) (ys : List StoredStep) → All Named xs → AllZip R xs ys
+    → All P ys
 each_stored Named R P one [] [] h z = All-nil P
 each_stored Named R P one [] (y ∷ ys) h z = absurd z
 each_stored Named R P one (x ∷ xs) [] h z = absurd z
@@ -115,9 +117,11 @@ module _ (s : Setting) (lib : List Ranked) (v : Verifies s lib) (e : Ranked) (at
   statement_small = fitting_small s.prelude e.assertion v.setting.sound unit_of.fits
 
   pub steps_short : All IsShortLabelled e.assertion.proof
-  steps_short = All-weaker (IsNameable s.prelude (length e.assertion.hyps)) IsShortLabelled (short_labelled s.prelude _) e.assertion.proof unit_of.steps
+  steps_short = All-weaker (IsNameable s.prelude (length e.assertion.hyps)) IsShortLabelled
+      (short_labelled s.prelude _) e.assertion.proof unit_of.steps
 
-  pub steps_small : (st : State) (kept : List StoredStep) → AllZip (IsStoredAs (IsNamed s.slots st)) e.assertion.proof kept → All IsSmallStep kept
+  pub steps_small : (st : State) (kept : List StoredStep) → AllZip (IsStoredAs (IsNamed s.slots st)) e.assertion.proof kept
+      → All IsSmallStep kept
   steps_small st kept z =
       each_stored (IsNameable s.prelude (length e.assertion.hyps)) (IsStoredAs (IsNamed s.slots st)) IsSmallStep
       (λ x y named is. small_step s.prelude ((sound_where_apart s.prelude).0 v.setting.sound) s.slots (length e.assertion.hyps) st x y
@@ -130,7 +134,8 @@ module _ (s : Setting) (lib : List Ranked) (v : Verifies s lib) (e : Ranked) (at
       let few = unit_of.fits.few_steps in (
         omega (arith, long, few),
         each_stored (IsNameable s.prelude (length e.assertion.hyps)) (IsStoredAs (IsNamed s.slots st)) HasSmallPlace
-            (λ x y named is. small_place s.prelude ((sound_where_apart s.prelude).0 v.setting.sound) s.slots (length e.assertion.hyps) st x y
+            (λ x y named is. small_place s.prelude ((sound_where_apart s.prelude).0 v.setting.sound) s.slots
+            (length e.assertion.hyps) st x y
             unit_of.fits.few_hyps named is) e.assertion.proof kept unit_of.steps z,
       )
 

@@ -16,7 +16,8 @@ low ranges r store h some = at r.words some (store.0 r h)
     at [] some within = absurd (some refl)
     at (w ∷ ws) some within = let z = within 0 (omega arith) in omega (arith, z)
 
-module _ {O : Type 0} (r s : Sight O) (grounded : ∥ ((st : State) × (lib : List Ranked) × Suits s st lib) ∥₁) (words : List ℕ) (range : Place)
+module _ {O : Type 0} (r s : Sight O) (grounded : ∥ ((st : State) × (lib : List Ranked) × Suits s st lib) ∥₁) (words : List ℕ)
+    (range : Place)
     (staged : Stages words range r s) where
   pub staged_start : words ≢ [] → range.start < 2 ^ 25
   staged_start some =

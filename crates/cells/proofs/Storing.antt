@@ -25,7 +25,8 @@ stored_relabelled slots st next change (x ∷ steps) (k ∷ kept) named h = (
   stored_relabelled slots st next change steps kept (λ i label has. named i label (inr has)) h.1,
 )
   where
-    one : (x : Step) (k : StoredStep) → ((i : ℕ) (label : List ℕ) → Cite label ≡ x → IsNamed slots st i label → IsNamed slots next i (change label))
+    one : (x : Step) (k : StoredStep) → ((i : ℕ) (label : List ℕ) → Cite label ≡ x → IsNamed slots st i label
+        → IsNamed slots next i (change label))
         → IsStoredAs (IsNamed slots st) x k → IsStoredAs (IsNamed slots next) (step_relabelled change x) k
     one (Float i) (stored.Float j) to h = h
     one (Float i) (stored.Hyp j) to h = absurd h
@@ -38,7 +39,8 @@ stored_relabelled slots st next change (x ∷ steps) (k ∷ kept) named h = (
     one (Cite l) (stored.Slot j) to h = to j l refl h
 
 -- and so is the proof of an assertion held
-pub proof_relabelled : (slots : ℕ) (st next : State) (change : List ℕ → List ℕ) (i : ℕ) (kind : Kind) (steps : List Step) → next.ranges ≡ st.ranges
+pub proof_relabelled : (slots : ℕ) (st next : State) (change : List ℕ → List ℕ) (i : ℕ) (kind : Kind) (steps : List Step)
+    → next.ranges ≡ st.ranges
     → next.value (proof_cell i) ≡ st.value (proof_cell i)
     → ((j : ℕ) (label : List ℕ) → Has (Cite label) steps → IsNamed slots st j label → IsNamed slots next j (change label))
     → HoldsProof slots st i kind steps → HoldsProof slots next i kind (map (step_relabelled change) steps)

@@ -98,7 +98,8 @@ module _ {O : Type 0} (s : Sight O) (slots : ℕ) (is : slots ≡ s.setting.slot
   )
 
 -- from a slot that is not sought to its next cell
-pub walk_on : {O : Type 0} → (r s t : Sight O) (slots : ℕ) (sought : ℕ → State → ℕ → Type 0) (word turns slot next : ℕ) → slots ≡ s.setting.slots
+pub walk_on : {O : Type 0} → (r s t : Sight O) (slots : ℕ) (sought : ℕ → State → ℕ → Type 0) (word turns slot next : ℕ)
+    → slots ≡ s.setting.slots
     → Looks r s
     → Reads (next_cell slots slot) next s t → ForEach r (λ st lib. IsAhead slots sought word turns st) → word ≡ slot + 1
     → ((st : State) → Matches s st → sought s.setting.slots (after s st) slot → ⊥)
@@ -149,9 +150,11 @@ pub full_later : {O : Type 0} → (s t : Sight O) (slots from steps : ℕ) → L
 full_later s t slots from steps looks full = λ k l. for_each_later s t (IsFullAt slots from k) looks (full k l)
 
 -- one more
-pub full_on : {O : Type 0} → (s t : Sight O) (slots from steps i v : ℕ) → AreFull s slots from steps → Reads (name_cell i) v s t → v ≢ 0 → i ≡ (from + steps) % slots
+pub full_on : {O : Type 0} → (s t : Sight O) (slots from steps i v : ℕ) → AreFull s slots from steps → Reads (name_cell i) v s t → v ≢ 0
+    → i ≡ (from + steps) % slots
     → AreFull t slots from (steps + 1)
-full_on s t slots from steps i v full read ne at = below_more (λ (k : ℕ). ForEach t (IsFullAt slots from k)) _ (full_later s t slots from steps read.looks full)
+full_on s t slots from steps i v full read ne at =
+    below_more (λ (k : ℕ). ForEach t (IsFullAt slots from k)) _ (full_later s t slots from steps read.looks full)
     (λ st lib w e. ne (read.value st w.matches ∙ (ap (λ (n : ℕ). (after t st).value (name_cell n)) at ∙ e)))
 
 module _ {O : Type 0} (s : Sight O) (slots from : ℕ) (is : slots ≡ s.setting.slots) where
@@ -162,7 +165,8 @@ module _ {O : Type 0} (s : Sight O) (slots from : ℕ) (is : slots ≡ s.setting
     within = subst (λ (n : ℕ). i < n) is lt;
     steps = steps;
     at = subst (λ (n : ℕ). i ≡ (from + steps) % n) is at;
-    empty = λ st lib v. empty_unnamed s.setting.slots (after s st) lib v.shows i (subst (λ (n : ℕ). i < n) is lt) (sym (read.value st v.matches));
+    empty = λ st lib v. empty_unnamed s.setting.slots (after s st) lib v.shows i (subst (λ (n : ℕ). i < n) is lt)
+        (sym (read.value st v.matches));
     full = subst (λ (n : ℕ). AreFull s n from steps) is (full_later r s slots from steps looks full);
   }
 

@@ -57,8 +57,8 @@ module _ (slots : ℕ) where
   abbrev pub IsOfStep : Step → State → ℕ → Type 0
   IsOfStep step st c = (label : List ℕ) × (step ≡ Cite label) × IsOfLook label st c
 
-  -- where a slot goes out of the chain of a label's bucket: its own next cell, the cell of the bucket, and the next cells of the slots in the
-  -- chain
+  -- where a slot goes out of the chain of a label's bucket: its own next cell, the cell of the bucket, and the next cells of the slots in
+  -- the chain
   abbrev pub IsOnChain : ℕ → State → ℕ → Type 0
   IsOnChain b st c = (c ≡ bucket_cell slots b) ⊎ ((i : ℕ) × IsMember st b i × (c ≡ next_cell slots i))
 

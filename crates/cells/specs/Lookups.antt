@@ -117,4 +117,5 @@ IsStepOf slots s kept made =
 
 -- the first of the kept steps are these
 abbrev pub AreStepsOf : {O : Type 0} → ℕ → Sight O → List StoredStep → List Step → Type 0
-AreStepsOf slots s kept steps = (k : ℕ) (d : StoredStep) (e : Step) → k < length steps → IsStepOf slots s (get_or kept k d) (get_or steps k e)
+AreStepsOf slots s kept steps = (k : ℕ) (d : StoredStep) (e : Step) → k < length steps
+    → IsStepOf slots s (get_or kept k d) (get_or steps k e)

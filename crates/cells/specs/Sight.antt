@@ -12,8 +12,8 @@ use Rattle.cells.specs.Slots.{is_ranged}
 use Rattle.cells.specs.Shows.{Shows}
 
 -- what the run began with, which tells it from every other; the setting of the library; whether it may keep values aside, and whether it
--- may stage words; the finished ranges that it knows, what it has read from cells, what it keeps aside for cells, how many words of the store
--- were taken by it and by those before it, how many words the store has room for, which words have a range that was staged since the
+-- may stage words; the finished ranges that it knows, what it has read from cells, what it keeps aside for cells, how many words of the
+-- store were taken by it and by those before it, how many words the store has room for, which words have a range that was staged since the
 -- last Committed, with where it starts, and the cell whose read stopped the run, if one did
 pub record Sight (O : Type 0) : Type 0 where
   pub origin : O

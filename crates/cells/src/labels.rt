@@ -38,7 +38,8 @@ pub enum Standing {
 pub fn standing_of<C: Cells>(cells: &mut C, own: &[u8], label: &[u8]) -> Result<Standing, Halt>
     ensures looks { Looks (C.sight cells.old) (C.sight cells.new) }
     ensures ok { IfOk result (λ standing. TellsStanding (C.sight cells.new) own.now label.now standing) }
-    ensures reads { ReadsWhere (λ st c. IsOfLook (C.sight cells.old).setting.slots label.now st c ⊎ IsOfClash (C.sight cells.old).setting.slots own.now label.now st c) (C.sight cells.old) (C.sight cells.new) }
+    ensures reads { ReadsWhere (λ st c. IsOfLook (C.sight cells.old).setting.slots label.now st c
+        ⊎ IsOfClash (C.sight cells.old).setting.slots own.now label.now st c) (C.sight cells.old) (C.sight cells.new) }
 {
     let slots = slot_count(cells);
     let front = trunk(label);

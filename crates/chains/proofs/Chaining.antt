@@ -26,7 +26,8 @@ PutsIn s t i label =
     → Rechains s.setting.slots (after s st) (after t st) held (record { slot = i; entry = e } ∷ held)
 
 -- the slot of an assertion that was found is taken out, where the chains are still as they were seen
-pub taken_out : {O : Type 0} → (old s t : Sight O) (i : ℕ) (label : List ℕ) (st : State) (lib : List Ranked) → s.setting ≡ old.setting → TakesOut s t i label
+pub taken_out : {O : Type 0} → (old s t : Sight O) (i : ℕ) (label : List ℕ) (st : State) (lib : List Ranked) → s.setting ≡ old.setting
+    → TakesOut s t i label
     → Matches t st → (v : Views old st lib) → IsFoundAt old.setting.slots (after old st) lib label i
     → AreChained old.setting.slots (after s st) v.shows.held
     → Rechains old.setting.slots (after s st) (after t st) v.shows.held (without_slot i v.shows.held)
@@ -44,7 +45,8 @@ taken_out old s t i label st lib setting takes m v at chained =
     (omega (arith, as_many, room, slots_are)))
 
 -- a slot that is in no chain is put in
-pub put_in_chain : {O : Type 0} → (old s t : Sight O) (i : ℕ) (label : List ℕ) (st : State) (held : List Held) (e : Ranked) → s.setting ≡ old.setting
+pub put_in_chain : {O : Type 0} → (old s t : Sight O) (i : ℕ) (label : List ℕ) (st : State) (held : List Held) (e : Ranked)
+    → s.setting ≡ old.setting
     → PutsIn s t i label → Matches t st → label_of e ≡ label → (Has i (slots_of held) → ⊥) → AreChained old.setting.slots (after s st) held
     → Rechains old.setting.slots (after s st) (after t st) held (record { slot = i; entry = e } ∷ held)
 put_in_chain old s t i label st held e setting puts m own free chained =

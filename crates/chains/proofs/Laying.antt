@@ -30,7 +30,8 @@ pub laid_down : (s0 s1 s2 s3 s5 : State) (i rank : ℕ) (a : Assertion) (kept : 
     → ((c : ℕ) → c ≢ statement_cell i → s2.value c ≡ s1.value c)
     → LaysProof s2 s3 i a.kind kept → ((c : ℕ) → c ≢ proof_cell i → s3.value c ≡ s2.value c)
     → s5 ≡ with_value (citers_cell i) 0 (with_value (rank_cell i) rank s3) → LaysDown s0 s5 i rank a kept
-laid_down s0 s1 s2 s3 s5 i rank a kept label statement r1 r2 r3 label_is name name_others statement_is stated statement_others proof proof_others made =
+laid_down s0 s1 s2 s3 s5 i rank a kept label statement r1 r2 r3 label_is name name_others statement_is stated statement_others proof
+    proof_others made =
     subst (λ (x : State). LaysDown s0 x i rank a kept) (sym made) (record {
       name = body_same s1 s4 (name_cell i) (label_body a.label) (r3 ∙ sym r1)
           (after_proof (name_cell i) (λ z. omega (arith, z)) (λ z. omega (arith, z)) ∙ proof_others (name_cell i) (λ z. omega (arith, z))

@@ -1,5 +1,5 @@
--- A state that shows a library, with another label in the name cell of one slot and the slot in that label's chain, shows the library with the
--- assertion renamed.
+-- A state that shows a library, with another label in the name cell of one slot and the slot in that label's chain, shows the library with
+-- the assertion renamed.
 use Rattle.std.proofs.Common.{◌≡◌, ◌≢◌, ℕ, ◌*◌, ◌<◌, true, false, List, ◌∷◌, map, sym, subst, ◌∙◌, ⊎_elim, inl, inr, arith}
 use Rattle.std.specs.Prelude.{IsPermutation, ◌==◌}
 use mathlib.Core.Bool.{not}
@@ -48,7 +48,8 @@ module _ (slots : ℕ) (st named : State) (lib : List Ranked) (shows : Shows slo
   still_chained = chains_stay slots st named shows.held (λ c up. others c (λ z. omega (arith, up, in_slots, z))) shows.chained
 
   -- the slot is taken out of the one chain, and put into the other
-  module _ (out next : State) (f : Ranked) (is_new : label_of f ≡ new) (free : has lib new ≡ false) (named_ranges : named.ranges ≡ st.ranges)
+  module _ (out next : State) (f : Ranked) (is_new : label_of f ≡ new) (free : has lib new ≡ false) (named_ranges : named.ranges
+      ≡ st.ranges)
       (ranges : next.ranges ≡ st.ranges) (name : HasBody named (name_cell i) (label_body new))
       (leaves : Rechains slots named out shows.held (without_slot i shows.held))
       (enters : Rechains slots out next (without_slot i shows.held) (record { slot = i; entry = f } ∷ without_slot i shows.held)) where
@@ -74,8 +75,10 @@ module _ (slots : ℕ) (st named : State) (lib : List Ranked) (shows : Shows slo
             one_body st (name_cell i) (label_of at.entry) l store at.holds.name.body (subst (λ m. HasBody st (name_cell m) l) is n.body) in
             let now : replacing old new l ≡ new =
             replacing-old old new l
-            (subst (λ x. bytes_eq old x ≡ true) (sym (found_label slots st lib shows store apart old i at) ∙ own_label) (bytes_eq-same old)) in
-            let body = body_same named next (name_cell i) new (ranges ∙ sym named_ranges) (low (name_cell i) (omega (arith, in_slots))) name in
+            (subst (λ x. bytes_eq old x ≡ true) (sym (found_label slots st lib shows store apart old i at) ∙ own_label)
+            (bytes_eq-same old)) in
+            let body = body_same named next (name_cell i) new (ranges ∙ sym named_ranges)
+            (low (name_cell i) (omega (arith, in_slots))) name in
             subst (λ m. HasBody next (name_cell m) (replacing old new l)) (sym is) (subst (HasBody next (name_cell i)) (sym now) body)
 
         there : (j ≡ i → ⊥) → HasBody next (name_cell j) (replacing old new l)
@@ -91,7 +94,8 @@ module _ (slots : ℕ) (st named : State) (lib : List Ranked) (shows : Shows slo
     -- no proof cites the new label
     cites_none : (e : Ranked) → Has e lib → cites new e ≡ false
     cites_none e h =
-        none_contained (cites new) lib e (none_from_count (cites new) lib (no_citers slots st lib shows store new free)) (contains_from_has lib e h)
+        none_contained (cites new) lib e (none_from_count (cites new) lib (no_citers slots st lib shows store new free))
+        (contains_from_has lib e h)
 
     renamed_holds : (p : Held) → Has p shows.held → Holds slots next (rename old new lib) p.slot (renamed_entry old new p.entry)
     renamed_holds p h =
@@ -101,7 +105,8 @@ module _ (slots : ℕ) (st named : State) (lib : List Ranked) (shows : Shows slo
         none_contained (is_labelled new) lib p.entry free (contains_from_has lib p.entry (held_in slots st lib shows store p h)) in
         record {
           name = names p.slot (label_of p.entry) holds.name;
-          statement = body_same st next (statement_cell p.slot) _ ranges (same (statement_cell p.slot) (omega (arith, lt)) (λ z. omega (arith, z)))
+          statement = body_same st next (statement_cell p.slot) _ ranges
+              (same (statement_cell p.slot) (omega (arith, lt)) (λ z. omega (arith, z)))
               holds.statement;
           proof = proof_relabelled slots st next (replacing old new) p.slot p.entry.assertion.kind p.entry.assertion.proof ranges
               (same (proof_cell p.slot) (omega (arith, lt)) (λ z. omega (arith, z))) (λ j l cite n. names j l n) holds.proof;
@@ -153,5 +158,6 @@ module _ (slots : ℕ) (st named : State) (lib : List Ranked) (shows : Shows slo
     pub renamed_shows : Shows slots next (rename old new lib)
     renamed_shows =
         shows_mapped slots st next lib shows (renamed_entry old new) renamed_holds still_empty
-        (chains_alike slots next (record { slot = i; entry = f } ∷ without_slot i shows.held) (map (with_entry (renamed_entry old new)) shows.held)
+        (chains_alike slots next (record { slot = i; entry = f } ∷ without_slot i shows.held)
+        (map (with_entry (renamed_entry old new)) shows.held)
         seats enters.chained)

@@ -43,13 +43,15 @@ puts_front old mid new st front link first slot b s same links fronts front_is l
         ∙ ap (with_value front (slot + 1)) (after_writes link first s mid st links ∙ ap (with_value link first) same)
 
 -- so a slot that is in no chain comes into the one of its label
-pub in_front : {O : Type 0} → (old mid new : Sight O) (st : State) (front link first slot : ℕ) (label : List ℕ) (held : List Held) (e : Ranked) (s : Sight O)
+pub in_front : {O : Type 0} → (old mid new : Sight O) (st : State) (front link first slot : ℕ) (label : List ℕ) (held : List Held)
+    (e : Ranked) (s : Sight O)
     → after s st ≡ after old st → Writes link first s mid → Writes front (slot + 1) mid new
     → front ≡ bucket_cell old.setting.slots (bucket old.setting.slots label) → link ≡ next_cell old.setting.slots slot
     → first ≡ (after old st).value front → slot < old.setting.slots → bucket old.setting.slots label < old.setting.slots
     → AreChained old.setting.slots (after old st) held → label_of e ≡ label → (Has slot (slots_of held) → ⊥)
     → Rechains old.setting.slots (after old st) (after new st) held (record { slot = slot; entry = e } ∷ held)
-in_front old mid new st front link first slot label held e s same links fronts front_is link_is first_is in_slots in_buckets chained label_is free =
+in_front old mid new st front link first slot label held e s same links fronts front_is link_is first_is in_slots in_buckets chained
+    label_is free =
     put_front slots (after old st) (after new st) held slot e in_slots
     (subst (λ (l : List ℕ). bucket slots l < slots) (sym label_is) in_buckets) chained free
     (subst (λ (l : List ℕ). PutsFront slots (after old st) (after new st) slot (bucket slots l)) (sym label_is) puts)
@@ -58,7 +60,8 @@ in_front old mid new st front link first slot label held e s same links fronts f
     slots = old.setting.slots
 
     puts : PutsFront old.setting.slots (after old st) (after new st) slot (bucket old.setting.slots label)
-    puts = puts_front old mid new st front link first slot (bucket old.setting.slots label) s same links fronts front_is link_is first_is in_buckets
+    puts = puts_front old mid new st front link first slot
+        (bucket old.setting.slots label) s same links fronts front_is link_is first_is in_buckets
 
 -- ---- along a chain
 

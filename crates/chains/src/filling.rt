@@ -41,8 +41,10 @@ pub fn fill<C: Cells>(
     ensures ok { IfOk result (λ _. FillsAny slot rank assertion.now steps.now (C.sight cells.old) (C.sight cells.new)) }
     ensures written { IfOk result (λ _. WasWritten (C.sight cells.new) (name_cell slot)) }
     ensures taken { TakesAtMost (bodies_length assertion.now steps.now) (C.sight cells.old) (C.sight cells.new) }
-    ensures keeps { IfOk result (λ _. KeepsAside (IsOfFilling (C.sight cells.old).setting.slots slot assertion.now.label steps.now) (C.sight cells.old) (C.sight cells.new)) }
-    ensures reads { ReadsWithin (IsOfFilling (C.sight cells.old).setting.slots slot assertion.now.label steps.now) (C.sight cells.old) (C.sight cells.new) }
+    ensures keeps { IfOk result (λ _. KeepsAside (IsOfFilling (C.sight cells.old).setting.slots slot assertion.now.label steps.now)
+        (C.sight cells.old) (C.sight cells.new)) }
+    ensures reads { ReadsWithin (IsOfFilling (C.sight cells.old).setting.slots slot assertion.now.label steps.now) (C.sight cells.old)
+        (C.sight cells.new) }
 {
     lay_down(alloc, cells, slot, rank, assertion, steps)?;
     let cited = cited_slots(alloc, steps)?;
@@ -104,7 +106,8 @@ fn put_statement<C: Cells>(
     requires may { ((C.sight cells.old).may_write ≡ true) × ((C.sight cells.old).may_stage ≡ true) }
     requires slot { slot < (C.sight cells.old).setting.slots }
     ensures onward { Onward (C.sight cells.old) (C.sight cells.new) }
-    ensures ok { IfOk result (λ _. ForEachState (C.sight cells.new) (λ st. HasBody st (statement_cell slot) (statement_body (statement_of assertion.now)))) }
+    ensures ok { IfOk result (λ _. ForEachState (C.sight cells.new)
+        (λ st. HasBody st (statement_cell slot) (statement_body (statement_of assertion.now)))) }
     ensures others { IfOk result (λ _. KeepsOthers (statement_cell slot) (C.sight cells.old) (C.sight cells.new)) }
     ensures taken { TakesAtMost (length (statement_body (statement_of assertion.now))) (C.sight cells.old) (C.sight cells.new) }
     ensures keeps { IfOk result (λ _. KeepsAside (λ c. c ≡ statement_cell slot) (C.sight cells.old) (C.sight cells.new)) }

@@ -39,7 +39,8 @@ lawful_shown t w h =
     let ascii = All-weaker (λ x. is_label_byte x ≡ true) (λ x. x < 128) label_byte_ascii w (AllPass-from_list_all is_label_byte w b.1) in
     shown_text w (IsUtf8-from_ascii w (IsAscii-from_all w ascii))
 
-pub database_shown : (text : Bytes) (label : List ℕ) (fault : ProofFault) → IsDatabaseFault text (Proof label fault) → shown_label label ≡ label
+pub database_shown : (text : Bytes) (label : List ℕ) (fault : ProofFault) → IsDatabaseFault text (Proof label fault)
+    → shown_label label ≡ label
 database_shown text label fault h =
     let db = h.0 in
     let a = h.2.2.0 in

@@ -17,14 +17,16 @@ module _ (p : Tables) where
   -- ---- lists of texts
 
   -- one more text, with its script
-  spelled_more : (ts : List Bytes) (xs : List Orders) (t : Bytes) (x : Orders) → AreScripts p ts xs → IsScript p t x → AreScripts p (ts ++ t ∷ []) (xs ++ x ∷ [])
+  spelled_more : (ts : List Bytes) (xs : List Orders) (t : Bytes) (x : Orders) → AreScripts p ts xs → IsScript p t x
+      → AreScripts p (ts ++ t ∷ []) (xs ++ x ∷ [])
   spelled_more [] [] t x h spelled = (spelled, tt)
   spelled_more [] (y ∷ ys) t x h spelled = absurd h
   spelled_more (s ∷ ss) [] t x h spelled = absurd h
   spelled_more (s ∷ ss) (y ∷ ys) t x h spelled = (h.0, spelled_more ss ys t x h.1 spelled)
 
   -- behind texts that are spelled a fault is the first
-  first_behind : (ts : List Bytes) (xs : List Orders) (t : Bytes) (rest : List Bytes) (f : TextFault) → AreScripts p ts xs → FaultyScript p t f → IsFirstFault p (ts ++ t ∷ rest) (length ts) f
+  first_behind : (ts : List Bytes) (xs : List Orders) (t : Bytes) (rest : List Bytes) (f : TextFault) → AreScripts p ts xs
+      → FaultyScript p t f → IsFirstFault p (ts ++ t ∷ rest) (length ts) f
   first_behind [] xs t rest f h faulty = faulty
   first_behind (s ∷ ss) [] t rest f h faulty = absurd h
   first_behind (s ∷ ss) (y ∷ ys) t rest f h faulty = ((y, h.0), first_behind ss ys t rest f h.1 faulty)
@@ -40,12 +42,15 @@ module _ (p : Tables) where
   pub spelled_begins : (ts : Texts) (xs : List Orders) → xs ≡ [] → AreScripts p (bytes (take 0 ts)) xs
   spelled_begins ts xs e = subst (λ (ys : List Orders). AreScripts p [] ys) (sym e) tt
 
-  pub spelled_next : (ts : Texts) (xs : List Orders) (t : Vec ℕ Global) (x : Orders) (i : ℕ) → i < length ts → t ≡ get_or ts i t → AreScripts p (bytes (take i ts)) xs → IsScript p t.items x → AreScripts p (bytes (take (i + 1) ts)) (xs ++ x ∷ [])
+  pub spelled_next : (ts : Texts) (xs : List Orders) (t : Vec ℕ Global) (x : Orders) (i : ℕ) → i < length ts → t ≡ get_or ts i t
+      → AreScripts p (bytes (take i ts)) xs → IsScript p t.items x → AreScripts p (bytes (take (i + 1) ts)) (xs ++ x ∷ [])
   spelled_next ts xs t x i within is_t h spelled =
       let here : take (i + 1) ts ≡ take i ts ++ t ∷ [] = take_more ts i t within ∙ ap (λ u. take i ts ++ u ∷ []) (sym is_t) in
-      subst (λ (us : List Bytes). AreScripts p us (xs ++ x ∷ [])) (sym (ap bytes here ∙ map-append (λ u. u.items) (take i ts) (t ∷ []))) (spelled_more (bytes (take i ts)) xs t.items x h spelled)
+      subst (λ (us : List Bytes). AreScripts p us (xs ++ x ∷ [])) (sym (ap bytes here ∙ map-append (λ u. u.items) (take i ts) (t ∷ [])))
+      (spelled_more (bytes (take i ts)) xs t.items x h spelled)
 
-  pub spelled_all : (ts : Texts) (xs : List Orders) (i : ℕ) → length ts ≤ i → AreScripts p (bytes (take i ts)) xs → AreScripts p (bytes ts) xs
+  pub spelled_all : (ts : Texts) (xs : List Orders) (i : ℕ) → length ts ≤ i → AreScripts p (bytes (take i ts)) xs
+      → AreScripts p (bytes ts) xs
   spelled_all ts xs i all h = subst (λ (us : Texts). AreScripts p (bytes us) xs) (take_all i ts all) h
 
   length_bytes : (ts : Texts) → length (bytes ts) ≡ length ts
@@ -62,14 +67,18 @@ module _ (p : Tables) where
   length-front : (ts : Texts) (i : ℕ) → i < length ts → length (bytes (take i ts)) ≡ i
   length-front ts i within = length_bytes (take i ts) ∙ length-take-le i ts (omega arith)
 
-  first_at : (ts : Texts) (xs : List Orders) (t : Vec ℕ Global) (i : ℕ) (f : TextFault) → i < length ts → t ≡ get_or ts i t → AreScripts p (bytes (take i ts)) xs → FaultyScript p t.items f → IsFirstFault p (bytes ts) i f
+  first_at : (ts : Texts) (xs : List Orders) (t : Vec ℕ Global) (i : ℕ) (f : TextFault) → i < length ts → t ≡ get_or ts i t
+      → AreScripts p (bytes (take i ts)) xs → FaultyScript p t.items f → IsFirstFault p (bytes ts) i f
   first_at ts xs t i f within is_t h faulty =
       let front = bytes (take i ts) in
       let rest = bytes (drop (suc i) ts) in
-      subst (λ (us : List Bytes). IsFirstFault p us i f) (sym (cut_at ts t i within is_t)) (subst (λ (n : ℕ). IsFirstFault p (front ++ t.items ∷ rest) n f) (length-front ts i within) (first_behind front xs t.items rest f h faulty))
+      subst (λ (us : List Bytes). IsFirstFault p us i f) (sym (cut_at ts t i within is_t))
+      (subst (λ (n : ℕ). IsFirstFault p (front ++ t.items ∷ rest) n f) (length-front ts i within)
+      (first_behind front xs t.items rest f h faulty))
 
   -- the fault of the text at a place is the scripts' fault, at the place counted from 1
-  pub script_fault : (ts : Texts) (xs : List Orders) (t : Vec ℕ Global) (i : ℕ) (f : TextFault) (fault : Fault) → i < length ts → t ≡ get_or ts i t → AreScripts p (bytes (take i ts)) xs
+  pub script_fault : (ts : Texts) (xs : List Orders) (t : Vec ℕ Global) (i : ℕ) (f : TextFault) (fault : Fault) → i < length ts
+      → t ≡ get_or ts i t → AreScripts p (bytes (take i ts)) xs
       → (f.kind ≢ OutOfMemory → FaultyScript p t.items f) → IsTextFaultOf (i + 1) f fault → IsScriptFault p (bytes ts) fault
   script_fault ts xs t i f NoMemory within is_t h faulty is = tt
   script_fault ts xs t i f (Text zero g) within is_t h faulty is = absurd (let z : 0 ≡ i + 1 = is.0 in omega arith)
@@ -77,7 +86,10 @@ module _ (p : Tables) where
       let at : k ≡ i = (let e : suc k ≡ i + 1 = is.0 in omega arith) in
       let same : g ≡ f = is.1 in
       subst (λ (n : ℕ). IsScriptFault p (bytes ts) (Text (suc n) g)) (sym at)
-      (subst (λ (q : TextFault). IsScriptFault p (bytes ts) (Text (suc i) q)) (sym same) (first_at ts xs t i f within is_t h (faulty is.2), is.2))
+      (subst (λ (q : TextFault). IsScriptFault p (bytes ts) (Text (suc i) q)) (sym same) (
+        first_at ts xs t i f within is_t h (faulty is.2),
+        is.2,
+      ))
   script_fault ts xs t i f _ within is_t h faulty is = absurd is
 
   -- ---- refusals
@@ -86,7 +98,8 @@ module _ (p : Tables) where
   abbrev Answers : (TextFault → Type 0) → TextFault → Type 0
   Answers F g = (h : TextFault) → F h → (g ≡ h) ⊎ (g.kind ≡ OutOfMemory)
 
-  pub refused_with : (n : ℕ) (g f : TextFault) (fault : Fault) → IsTextFaultOf n g fault → (g ≡ f) ⊎ (g.kind ≡ OutOfMemory) → IsRefusedBy n f fault
+  pub refused_with : (n : ℕ) (g f : TextFault) (fault : Fault) → IsTextFaultOf n g fault → (g ≡ f) ⊎ (g.kind ≡ OutOfMemory)
+      → IsRefusedBy n f fault
   refused_with n g f NoMemory is h = tt
   refused_with n g f (Text m q) is (inl same) = (is.0, is.1 ∙ same)
   refused_with n g f (Text m q) is (inr out) = absurd (is.2 out)
@@ -119,7 +132,8 @@ module _ (p : Tables) where
   no_first (t ∷ ts) (x ∷ xs) (suc k) f h first = no_first ts xs k f h.1 first.1
 
   -- a text that the reader of scripts reads
-  pub read_as : (b text : Bytes) (x : Orders) → b ≡ text → SpellsScript p b x → ((f : TextFault) → FaultyScript p b f → ⊥) → IsScript p text x
+  pub read_as : (b text : Bytes) (x : Orders) → b ≡ text → SpellsScript p b x → ((f : TextFault) → FaultyScript p b f → ⊥)
+      → IsScript p text x
   read_as b text x same spelled none = record {
     spelled = subst (λ (w : Bytes). SpellsScript p w x) same spelled;
     faultless = λ f faulty. none f (subst (λ (w : Bytes). FaultyScript p w f) (sym same) faulty);

@@ -1,4 +1,5 @@
--- Of the code's inside, apart from the rules: what its single functions answer, as parts of what a check or a replay prints and of its faults.
+-- Of the code's inside, apart from the rules: what its single functions answer, as parts of what a check or a replay prints and of its
+-- faults.
 use Rattle.std.specs.Prelude.{◌≡◌, ◌≢◌, ◌+◌, ℕ, zero, suc, List, Result, Ok, Err}
 use Rattle.mmtext.specs.declared.fault.TextFault.{TextFault}
 use Rattle.mmtext.specs.declared.fault.FaultKind.TheVariants.{NoMemory as OutOfMemory}

@@ -21,7 +21,8 @@ pub fn read_scripts(
     ensures ok { IfOk result (λ v. AreScripts prelude.now (map (λ t. t.items) texts.now) v.items) }
     ensures fit { IfOk result (λ v. All (All (All (CommandFits prelude.now))) v.items) }
     ensures err { IfErr result (IsScriptFault prelude.now (map (λ t. t.items) texts.now)) }
-    ensures refused { (k : ℕ) (f : FaultOfText) → IsFirstFault prelude.now (map (λ t. t.items) texts.now) k f → IsRefusedWith (k + 1) f result }
+    ensures refused { (k : ℕ) (f : FaultOfText) → IsFirstFault prelude.now (map (λ t. t.items) texts.now) k f
+        → IsRefusedWith (k + 1) f result }
 {
     let mut scripts = Vec::new(alloc);
     for (i, text) in texts.iter().enumerate() {

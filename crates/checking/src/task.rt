@@ -5,7 +5,8 @@
 pub enum Task {
     /// Checks the proofs of a database.
     Check,
-    /// Runs scripts over a database, with so many workers, in a store with room for so many words. The text of the history may be asked for.
+    /// Runs scripts over a database, with so many workers, in a store with room for so many words. The text of the history may be asked
+    /// for.
     Run {
         workers: usize,
         room: usize,

@@ -46,7 +46,8 @@ impl fmt::Display for Fault {
 impl Error for Fault {}
 
 impl Fault {
-    /// Which text has the fault: the database is 0, then each script from 1 on, or the history, which is 1. None for what is no text's fault.
+    /// Which text has the fault: the database is 0, then each script from 1 on, or the history, which is 1. None for what is no text's
+    /// fault.
     pub fn file(&self) -> Option<usize>
         ensures { result ≡ file_of self.now }
     {

@@ -5,7 +5,8 @@ use Rattle.clap.specs.declared.builder.command.Command.{Command}
 use Rattle.clap.specs.Words.{App, Rule, AddsArg, AddsSubcommand, with_rule, with_subcommand}
 use Rattle.commandline.specs.CommandLine.{IsArgument, IsLine}
 
-pub adds_argument : (app : App) (rule : Rule) (old : Command) (a : Arg) (new : Command) → AddsArg old a new → IsLine app old → IsArgument rule a
+pub adds_argument : (app : App) (rule : Rule) (old : Command) (a : Arg) (new : Command) → AddsArg old a new → IsLine app old
+    → IsArgument rule a
     → IsLine (with_rule app rule) new
 adds_argument app rule old a new h line argument =
     let globals = h.globals in

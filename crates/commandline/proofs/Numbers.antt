@@ -9,7 +9,8 @@ abbrev Gives : Text → Result ℕ ParseIntError → Type 0
 Gives bs r = ParsesUnsigned 64 10 bs r × ExplainsUnsignedError 10 bs r × HasUnsignedDigitsIfOk bs r
 
 -- what was read is the number
-pub read_is_number : (o : Option Text) (r : Option ℕ) → (o ≡ None → r ≡ None) → ((t : Text) → o ≡ Some t → ReadsOne Gives t r) → IfSome r (IsNumber o)
+pub read_is_number : (o : Option Text) (r : Option ℕ) → (o ≡ None → r ≡ None) → ((t : Text) → o ≡ Some t → ReadsOne Gives t r)
+    → IfSome r (IsNumber o)
 read_is_number None r none some = subst (λ (x : Option ℕ). IfSome x (IsNumber None)) (sym (none refl)) tt
 read_is_number (Some t) None none some = tt
 read_is_number (Some t) (Some n) none some = let got = some t refl in (got.0.0.0, got.0.1)

@@ -74,7 +74,8 @@ check_app = with_rule (new_app (codes "check")) database_rule
 
 -- `run [--workers N] [--room W] [--history FILE] DB SCRIPT..`
 abbrev pub run_app : App
-run_app = with_rule (with_rule (with_rule (with_rule (with_rule (new_app (codes "run")) workers_rule) room_rule) history_rule) database_rule) scripts_rule
+run_app = with_rule (with_rule (with_rule
+    (with_rule (with_rule (new_app (codes "run")) workers_rule) room_rule) history_rule) database_rule) scripts_rule
 
 -- `replay DB HISTORY`
 abbrev pub replay_app : App

@@ -148,7 +148,8 @@ fn with_argument<'a>(
     line: Result<Command<'a>, AllocError>,
     argument: Arg<'a>,
 ) -> Result<Command<'a>, AllocError>
-    ensures { (app : App) (rule : Rule) → IfOk line.entry (IsLine app) → IsArgument rule argument.entry → IfOk result (IsLine (with_rule app rule)) }
+    ensures { (app : App) (rule : Rule) → IfOk line.entry (IsLine app) → IsArgument rule argument.entry
+        → IfOk result (IsLine (with_rule app rule)) }
 {
     match line {
         Ok(line) => line.arg(argument),
@@ -164,7 +165,8 @@ fn with_line<'a>(
     line: Result<Command<'a>, AllocError>,
     below: Result<Command<'a>, AllocError>,
 ) -> Result<Command<'a>, AllocError>
-    ensures { (app sub : App) → IfOk line.entry (IsLine app) → IfOk below.entry (IsLine sub) → IfOk result (IsLine (with_subcommand app sub.top)) }
+    ensures { (app sub : App) → IfOk line.entry (IsLine app) → IfOk below.entry (IsLine sub)
+        → IfOk result (IsLine (with_subcommand app sub.top)) }
 {
     match (line, below) {
         (Ok(line), Ok(below)) => line.subcommand(below),

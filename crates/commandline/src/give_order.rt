@@ -20,8 +20,10 @@ pub struct GiveOrder<'a> {
 
 /// The order to give back that a command line gives. None where it asks for another job, or for none.
 pub fn give_of<'a>(matches: &ArgMatches<'a>) -> Option<GiveOrder<'a>>
-    ensures some { IfSome result (λ order. AsksToGive (subcommand_rows_of matches.now) order.source.now order.library.now order.history.now) }
-    ensures none { IsNone result → (source library history : Text) → AsksToGive (subcommand_rows_of matches.now) source library history → ⊥ }
+    ensures some { IfSome result (λ order. AsksToGive
+        (subcommand_rows_of matches.now) order.source.now order.library.now order.history.now) }
+    ensures none { IsNone result → (source library history : Text) → AsksToGive (subcommand_rows_of matches.now) source library history
+        → ⊥ }
 {
     let (name, of) = subcommand_in(matches)?;
     if name != "give" {

@@ -95,7 +95,8 @@ fn task_in(name: &str, of: &ArgMatches<'_>) -> Option<Task>
 
 /// Puts a text behind others, if there is one.
 fn put_one<'a>(paths: &mut Vec<&'a str>, path: Option<&'a str>) -> Result<(), AllocError>
-    ensures { OnOk result (map (λ p. p.now) paths.new.items ≡ map (λ p. p.now) paths.old.items ++ listed (option_map (λ s. s.now) path.entry)) }
+    ensures { OnOk result (map (λ p. p.now) paths.new.items ≡ map (λ p. p.now) paths.old.items
+        ++ listed (option_map (λ s. s.now) path.entry)) }
 {
     if let Some(path) = path {
         paths.push(path)?;

@@ -22,7 +22,8 @@ has_pair c (r ∷ rs) =
       | inr other ↦
           elim (has_pair c rs) [
             | inl later ↦ inl (later.0, inr later.1)
-            | inr none ↦ inr (λ v h. ⊎_elim (λ first. let so = (Decides-eqb c r.0).1 (ap (λ (p : ℕ × ℕ). p.0) first) in absurd cc) (λ more. none v more) h)
+            | inr none ↦ inr (λ v h. ⊎_elim (λ first. let so =
+                (Decides-eqb c r.0).1 (ap (λ (p : ℕ × ℕ). p.0) first) in absurd cc) (λ more. none v more) h)
           ]
     ]
 

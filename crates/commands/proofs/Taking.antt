@@ -27,4 +27,5 @@ module _ (s : Setting) (lib : List Ranked) (v : Verifies s lib) where
 pub few_of_all : (cs : List Command) (k : ℕ) (c : Command) → take k cs ++ c ∷ [] ≡ take (k + 1) cs
     → most_words_of (take k cs ++ c ∷ []) ≤ most_words_of cs
 few_of_all cs k c front =
-    subst (λ (l : List Command). most_words_of l ≤ most_words_of cs) (sym front) (sum_by-take-le (command_words (λ label. 16384)) cs (k + 1))
+    subst (λ (l : List Command). most_words_of l ≤ most_words_of cs) (sym front)
+    (sum_by-take-le (command_words (λ label. 16384)) cs (k + 1))

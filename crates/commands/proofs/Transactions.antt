@@ -128,7 +128,8 @@ has_edit_more (d ∷ cs) c =
       | false ↦ has_edit_more cs c
     ]
 
-module _ {O : Type 0} (s t u : Sight O) (cs : List Command) (replies : List Reply) (does : DoesAll s t cs replies) (since : Onward s t) (on : Onward t u)
+module _ {O : Type 0} (s t u : Sight O) (cs : List Command) (replies : List Reply) (does : DoesAll s t cs replies) (since : Onward s t)
+    (on : Onward t u)
     (fit : All (CommandFits s.setting.prelude) cs) where
   -- the library that the commands so far made, and that the run views then
   record Made (st : State) (lib : List Ranked) : Type 0 where

@@ -22,13 +22,14 @@ use reproofs::reprove;
 use shows::{list, show};
 use std::alloc::Global;
 
-/// Does the commands of a transaction, one after another, each over what those before it kept aside, and answers the reply to each. Each command is
-/// within the limits of the prelude, which is the library's; and the run may keep values aside where it is an edit, and stage words where it stages.
+/// Does the commands of a transaction, one after another, each over what those before it kept aside, and answers the reply to each. Each
+/// command is within the limits of the prelude, which is the library's; and the run may keep values aside where it is an edit, and stage
+/// words where it stages.
 ///
 /// The replies are those of the transaction's definition over the library, and the cells then show the library as it is after it: for every
 /// state of the cells that agrees with what was read, shows a library that verifies, and has the ranges that were seen. So whatever else
-/// becomes of cells that were not read, nothing changes in the answer. No cells are read but those of what the commands look for and change,
-/// also where it ends early, and values are kept aside for no cells but those of what they change.
+/// becomes of cells that were not read, nothing changes in the answer. No cells are read but those of what the commands look for and
+/// change, also where it ends early, and values are kept aside for no cells but those of what they change.
 ///
 /// # Errors
 ///
@@ -45,7 +46,8 @@ pub fn run<C: Cells>(
     requires fits { All (CommandFits prelude.now) commands.now }
     ensures onward { Onward (C.sight cells.old) (C.sight cells.new) }
     ensures answers { RunAnswers (C.sight cells.old) (C.sight cells.new) commands.now result }
-    ensures taken { ForEachBefore (C.sight cells.old) (C.sight cells.new) (λ st lib. TakesAtMost (most_words_of commands.now) (C.sight cells.old) (C.sight cells.new)) }
+    ensures taken { ForEachBefore (C.sight cells.old) (C.sight cells.new)
+        (λ st lib. TakesAtMost (most_words_of commands.now) (C.sight cells.old) (C.sight cells.new)) }
     ensures keeps { IfOk result (λ _. KeepsToAll (C.sight cells.old) (C.sight cells.new) commands.now) }
     ensures reads { ReadsForAll (C.sight cells.old) (C.sight cells.new) commands.now }
 {

@@ -23,7 +23,8 @@ module _ (cs : List Command) (old new : Member) (o : Outcome) where
   locks (inl a) = a.locks
   locks (inr s) = s.locks
 
-module _ (ones others : List Command) (cells : List ℕ) (met : Met) (by : Member) (seen : Seen Note) (m : AreBeside ones others cells met by seen)
+module _ (ones others : List Command) (cells : List ℕ) (met : Met) (by : Member) (seen : Seen Note)
+    (m : AreBeside ones others cells met by seen)
   where
     given_is : m.one.given ≡ by.given
     given_is =

@@ -47,7 +47,8 @@ pub same_given : (one by : Member) → one.known.home.setting ≡ Some one.given
 same_given one by p q home =
     let e : Some one.given ≡ Some by.given = sym p ∙ (ap (λ h. h.setting) home ∙ q) in cc
 
-module _ (ones others : List Command) (number : ℕ) (met : Met) (by : Member) (seen : Seen Note) (m : AreMet ones others number met by seen) where
+module _ (ones others : List Command) (number : ℕ) (met : Met) (by : Member) (seen : Seen Note)
+    (m : AreMet ones others number met by seen) where
   given_is : m.one.given ≡ by.given
   given_is =
       same_given m.one by (opened ones m.one_before m.one number m.replies m.committed) (opened_by others m.before by met m.conflicted)

@@ -57,8 +57,8 @@ ApartIsNoCause =
 
 -- ---- locks
 
--- a session has run the one transaction, whatever came of it, and has locked these cells for it; another session of the library met this conflict
--- in the other; and this is a later history of it than what either had seen then
+-- a session has run the one transaction, whatever came of it, and has locked these cells for it; another session of the library met this
+-- conflict in the other; and this is a later history of it than what either had seen then
 pub record AreBeside (ones others : List Command) (cells : List ℕ) (met : Met) (by : Member) (seen : Seen Note) : Type 0 where
   pub one_before : Member
   pub one : Member
@@ -71,8 +71,8 @@ pub record AreBeside (ones others : List Command) (cells : List ℕ) (met : Met)
   pub one_later : IsLaterHistory by.given by.known.home.base one.known.seen seen
   pub later : IsLaterHistory by.given by.known.home.base by.known.seen seen
 
--- where the one has locked the cell of the conflict, both meet in it: the one may write it, over the library at the place of one of its runs, and
--- the other may read it, over the library at its place
+-- where the one has locked the cell of the conflict, both meet in it: the one may write it, over the library at the place of one of its
+-- runs, and the other may read it, over the library at its place
 abbrev pub LocksMeet : Type 0
 LocksMeet =
     (ones others : List Command) (cells : List ℕ) (met : Met) (by : Member) (seen : Seen Note) → AreBeside ones others cells met by seen

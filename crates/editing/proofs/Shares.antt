@@ -33,6 +33,7 @@ module _ {A : Type 0} (P : A → Type 0) where
       → IsPermutation (up_to count) (flat_map (λ share. share) shares) → ((share : List ℕ) → Has share shares → All P (all_of rows share))
       → All (All P) rows
   of_each rows count shares long parts each k d within =
-      let there = has_permutation (up_to count) (flat_map (λ share. share) shares) k parts (below_has count k (omega (arith, long, within))) in
+      let there = has_permutation (up_to count) (flat_map (λ share. share) shares) k parts
+      (below_has count k (omega (arith, long, within))) in
       let share = flat_has (λ (share : List ℕ). share) shares k there in
       subst (All P) (get_or_default rows k [] d within) (in_share rows share.0 k share.2 (each share.0 share.1))

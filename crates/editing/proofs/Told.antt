@@ -59,7 +59,8 @@ module _ (g : Given) (h : List Entry) (scripts : List (List (List Command))) (ro
 
 -- what each session that had no calls tells of its share at the end
 pub shares_end : (g : Given) (scripts : List (List (List Command))) (rows : List (List Outcome)) (before after : List Member)
-    (shares : List (List ℕ)) → All (λ (m : Member). m.known.mine ≡ []) before → AreSharesOf g scripts rows before after shares → AllZip (TellsOf rows) shares after
+    (shares : List (List ℕ)) → All (λ (m : Member). m.known.mine ≡ []) before → AreSharesOf g scripts rows before after shares
+    → AllZip (TellsOf rows) shares after
 shares_end g scripts rows [] [] [] none run = tt
 shares_end g scripts rows (m ∷ ms) (n ∷ ns) (x ∷ xs) none run =
     let uncalled = λ (m : Member). m.known.mine ≡ [] in

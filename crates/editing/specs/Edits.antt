@@ -31,16 +31,16 @@ abbrev pub ToldIn : List Entry → Outcome → Type 0
 ToldIn h outcome.NumbersUsed = 2 ^ 40 ≤ length h
 ToldIn h _ = Unit {0}
 
--- a worker ran the scripts with these indexes, from 0, in their order, one after another: as one script of all their transactions, each outcome
--- is so of the history, and stands no earlier than those before it
+-- a worker ran the scripts with these indexes, from 0, in their order, one after another: as one script of all their transactions, each
+-- outcome is so of the history, and stands no earlier than those before it
 pub record IsShareIn (s : Setting) (lib0 : List Ranked) (h : List Entry) (scripts : List (List (List Command))) (rows : List (List Outcome))
     (share : List ℕ) : Type 0 where
   pub rising : IsStrictlyIncreasing share
   pub agrees : ScriptAgrees s lib0 h 0 (all_of scripts share) (all_of rows share)
 
 -- these are the outcomes of scripts that so many workers ran, in a history from this opening library: each script has one for each of its
--- transactions, in order; each worker ran its share of the scripts, as the history has it, each script by one worker; that no number is left is
--- told only where the history shows it; and the numbers of those that committed are those of the done entries, each of one
+-- transactions, in order; each worker ran its share of the scripts, as the history has it, each script by one worker; that no number is
+-- left is told only where the history shows it; and the numbers of those that committed are those of the done entries, each of one
 pub record AreToldBy (s : Setting) (lib0 : List Ranked) (h : List Entry) (workers : ℕ) (scripts : List (List (List Command)))
     (rows : List (List Outcome)) : Type 0 where
   pub each : AllZip HasOutcomes scripts rows
@@ -51,8 +51,8 @@ pub record AreToldBy (s : Setting) (lib0 : List Ranked) (h : List Entry) (worker
   pub told : All (All (ToldIn h)) rows
   pub numbers : IsPermutation (flat_map numbers_of rows) (done_numbers h)
 
--- the session at its end tells why it gave up what it gave up of the scripts with these indexes; it made a run for each of their outcomes, but
--- where nothing was looked at; and each of its calls is told as an answer
+-- the session at its end tells why it gave up what it gave up of the scripts with these indexes; it made a run for each of their outcomes,
+-- but where nothing was looked at; and each of its calls is told as an answer
 pub record TellsOf (rows : List (List Outcome)) (share : List ℕ) (m : Member) : Type 0 where
   pub told : All (ToldBy m) (all_of rows share)
   pub ran : count_by is_of_run (all_of rows share) ≤ length m.known.clocks
@@ -79,8 +79,8 @@ pub record IsEditedFrom (s : Setting) (lib0 : List Ranked) (home : Home) (script
 abbrev pub IsEdited : Home → List (List (List Command)) → List (List Outcome) → List CodeEntry → Listed → Type 0
 IsEdited home = IsEditedFrom (setting_of home.given) (first_library home.given) home
 
--- why there is no history. A thread is asked for only where there are two sessions or more; no number is missing where each session has a name of
--- its own, and no lock is held where all workers have ended
+-- why there is no history. A thread is asked for only where there are two sessions or more; no number is missing where each session has a
+-- name of its own, and no lock is held where all workers have ended
 abbrev pub IsLack : List Member → EditError → Type 0
 IsLack sessions NoThread = 2 ≤ length sessions
 IsLack sessions (Missing n) = (1 ≤ n) × (IsDistinct eqb (map (λ (m : Member). m.known.name) sessions) → ⊥)

@@ -27,16 +27,16 @@ pub struct Edited {
     pub library: PlainLibrary,
 }
 
-/// Runs scripts on a library that was just opened, with a worker for each of its sessions, which are all handed in, and ends it. The commands
-/// of the scripts are within the limits of its prelude.
+/// Runs scripts on a library that was just opened, with a worker for each of its sessions, which are all handed in, and ends it. The
+/// commands of the scripts are within the limits of its prelude.
 ///
-/// The workers claim the scripts one after another, and each submits the transactions of what it claimed in order, whatever becomes of them.
-/// The gate is told of each script before and after. It may wait.
+/// The workers claim the scripts one after another, and each submits the transactions of what it claimed in order, whatever becomes of
+/// them. The gate is told of each script before and after. It may wait.
 ///
 /// # Errors
 ///
-/// `NoThread` where there are two sessions or more and a thread can't be had, and want of memory. The library is gone then. `Missing` is never told of sessions that each have a
-/// name of their own, as `Library::open` gives them, and `Held` of none.
+/// `NoThread` where there are two sessions or more and a thread can't be had, and want of memory. The library is gone then. `Missing` is
+/// never told of sessions that each have a name of their own, as `Library::open` gives them, and `Held` of none.
 pub fn edit_all<R: Threads + Wait + Sync, G: Gate + Sync>(
     rt: &R,
     alloc: Global,

@@ -53,11 +53,16 @@ module _ (setting : Setting) (values store : List ℕ) (old new : PlainCells)
       over_all new.values.items (undone new.values.items new.log.items) (ranges_in new.store.items new.ranges.items)
       (length-undone new.values.items new.log.items)
 
-  module _ (lib : List Ranked) (shown : Shows setting.slots (named_state setting.slots values store) lib) (verifies : Verifies setting lib) where
+  module _ (lib : List Ranked) (shown : Shows setting.slots (named_state setting.slots values store) lib)
+      (verifies : Verifies setting lib) where
     now_shows : Shows setting.slots (now_state new) lib
     now_shows =
-        subst (λ vs. Shows setting.slots (record { value = slice_index vs; ranges = ranges_in new.store.items new.ranges.items }) lib) (sym values_are)
-        (shows_widened setting.slots (slice_index values) named (ranges_in new.store.items new.ranges.items) known lib shown.held (shown, refl)).0
+        subst (λ vs. Shows setting.slots (record { value = slice_index vs; ranges = ranges_in new.store.items new.ranges.items }) lib)
+        (sym values_are)
+        (shows_widened setting.slots (slice_index values) named (ranges_in new.store.items new.ranges.items) known lib shown.held (
+          shown,
+          refl,
+        )).0
 
     views : Views (sight_of new) (first_state new) lib
     views =
@@ -77,6 +82,7 @@ module _ (setting : Setting) (values store : List ℕ) (old new : PlainCells)
     pub looked_verifies : (found : List Ranked) → AreEntries (sight_of new) found → Verifies setting found
     looked_verifies found entries = verifies_permutation setting lib found verifies (looked_same found entries)
 
-    pub looked_in_order : (found sorted : List Ranked) → AreEntries (sight_of new) found → ShowsInOrder found sorted → ShowsInOrder lib sorted
+    pub looked_in_order : (found sorted : List Ranked) → AreEntries (sight_of new) found → ShowsInOrder found sorted
+        → ShowsInOrder lib sorted
     looked_in_order found sorted entries by =
         record { same = IsPermutation-trans lib found sorted (looked_same found entries) by.same; ordered = by.ordered }

@@ -16,9 +16,9 @@ use Rattle.transaction.specs.declared.outcome.Record.{Record}
 use Rattle.finishing.specs.declared.error.FinishError.{FinishError}
 use Rattle.finishing.specs.declared.error.FinishError.TheVariants.{Missing, Held, NoMemory}
 
--- the words are those of the library at its end: into the one history that they show grows what each of these sessions had seen; a lock that is
--- held is that of a seat in the middle of a run, of which there are no more than sessions that aren't handed in; and where all are handed in, no
--- lock is held, and the clock is how many numbers they drew
+-- the words are those of the library at its end: into the one history that they show grows what each of these sessions had seen; a lock
+-- that is held is that of a seat in the middle of a run, of which there are no more than sessions that aren't handed in; and where all are
+-- handed in, no lock is held, and the clock is how many numbers they drew
 abbrev pub AreItsWords : Home → List Member → ClosedWords → Type 0
 AreItsWords home members words =
     ClosesAll library_terms home.given home.words.base home.store home.sessions (passes_of members) words
@@ -37,8 +37,8 @@ pub record IsMissing (members : List Member) (words : ClosedWords) (n : ℕ) : T
 abbrev pub IsHeld : ClosedWords → ℕ → Type 0
 IsHeld words c = (x : ClosedCell) × (slice_get words.cells.items c ≡ Some x) × (x.lock % 2 ≡ 1)
 
--- a seat of the library holds the cell, in the middle of a run. It is that of a session that isn't among these, each of which is at rest and holds
--- nothing: so not all sessions are here
+-- a seat of the library holds the cell, in the middle of a run. It is that of a session that isn't among these, each of which is at rest
+-- and holds nothing: so not all sessions are here
 abbrev pub IsHeldByAnother : (home : Home) (members : List Member) (words : ClosedWords) → AreItsWords home members words → ℕ → Type 0
 IsHeldByAnother home members words its c = IsHeldIn its.closes.world c × (length members < home.sessions)
 
@@ -48,9 +48,9 @@ AreRecordedBy members history =
     (i : ℕ) (e : CodeEntry) → slice_get history i ≡ Some e
     → (m : Member) × (r : Record) × Has m members × Has r m.records × (r.number ≡ suc i) × (entry_recorded r.done ≡ told e)
 
--- the history has one entry for each number up to the clock, and is the one that the words show; what each session had seen grows into it, and
--- its calls agree with it; each entry is the record of a session; it is legal from the library at the opening, with commands within the limits;
--- and the library is the one after all of it, and the one that the closed words show
+-- the history has one entry for each number up to the clock, and is the one that the words show; what each session had seen grows into it,
+-- and its calls agree with it; each entry is the record of a session; it is legal from the library at the opening, with commands within the
+-- limits; and the library is the one after all of it, and the one that the closed words show
 pub record IsFinished (home : Home) (members : List Member) (history : List CodeEntry) (library : Listed) : Type 0 where
   pub words : ClosedWords
   pub its : AreItsWords home members words

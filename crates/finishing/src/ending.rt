@@ -25,9 +25,9 @@ use transaction::{ClosedLibrary, Library, Session};
 /// and the lock of a cell is held; it is the least. It is held by a session that was not handed in, and that was lost in the middle of a
 /// run: one at rest holds nothing, and each call on a session leaves it at rest, so no call of this workspace can lose one so. The contract
 /// says this of closed words that there are, into whose history grows what each of these sessions had seen. So where a session is left out,
-/// it doesn't say that these are the words that the library had at its end. Where all the library's sessions are handed in, no lock is held,
-/// and the clock is how many numbers they drew; where each of them has the name that it got at the opening, too, no number is missing. The
-/// library and the sessions are gone then.
+/// it doesn't say that these are the words that the library had at its end. Where all the library's sessions are handed in, no lock is
+/// held, and the clock is how many numbers they drew; where each of them has the name that it got at the opening, too, no number is
+/// missing. The library and the sessions are gone then.
 pub fn finish(
     alloc: Global,
     library: Library,

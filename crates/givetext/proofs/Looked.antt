@@ -19,11 +19,13 @@ use Rattle.secondlook.specs.Looked.{IsLookedAt}
 use Rattle.givetext.specs.Parts.{IsEdited}
 use Rattle.givetext.specs.Given.{IsTakenText, IsGiven}
 
-module _ (source out : List ℕ) (old : Scope) (choice : Choice) (taken : Taken) (entries : List Entry) (edited : Listed) (followed : Following)
+module _ (source out : List ℕ) (old : Scope) (choice : Choice) (taken : Taken) (entries : List Entry) (edited : Listed)
+    (followed : Following)
     (changes : List Change) (own : List Bool) (follows : followed ≡ behind_all (all_commands entries) (opening old choice taken.database))
     (changed : changes ≡ changes_of followed) (flags : own ≡ own_flags choice (axioms_of taken) old) where
   pub edited_by : (then : List Word) → then ≡ map label_then followed.living
-      → All (λ x. IsTrue (names_none followed.gone x.proof)) (others own old.assertions) → IsWrittenAnew (all_commands entries) changes source out
+      → All (λ x. IsTrue (names_none followed.gone x.proof)) (others own old.assertions)
+      → IsWrittenAnew (all_commands entries) changes source out
       → AreKept changes followed.gone source out → IsLookedAt old out changes own then edited
       → IsEdited source old choice taken entries edited out
   edited_by then labels uncited written kept looked =

@@ -14,7 +14,8 @@ use Rattle.secondlook.specs.Looked.{IsLookedAt}
 use Rattle.sourceediting.specs.Written.{IsWrittenAnew}
 
 -- it is the source with the edits of a history over a library that was taken of it by a choice, and was looked at
-pub record IsEdited (source : List ℕ) (old : Scope) (choice : Choice) (taken : Taken) (entries : List Entry) (edited : Listed) (out : List ℕ)
+pub record IsEdited (source : List ℕ) (old : Scope) (choice : Choice) (taken : Taken) (entries : List Entry) (edited : Listed)
+    (out : List ℕ)
     : Type 0 where
   pub followed : Following
   pub follows : followed ≡ behind_all (all_commands entries) (opening old choice taken.database)

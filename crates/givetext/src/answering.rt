@@ -41,8 +41,9 @@ fn path_of<'p>(paths: Paths<'p>, file: File) -> &'p str {
 
 /// Gives the edits of a history back into the source that its library was taken of, and gives what the program answers.
 ///
-/// What is printed is the source, in which labels are changed and proofs exchanged, and each other byte is as it was: from it the edited library is
-/// taken, and each other assertion is as it was. The line of a refusal says why nothing is printed. Who follows is told how far the reading is.
+/// What is printed is the source, in which labels are changed and proofs exchanged, and each other byte is as it was: from it the edited
+/// library is taken, and each other assertion is as it was. The line of a refusal says why nothing is printed. Who follows is told how far
+/// the reading is.
 ///
 /// # Errors
 ///

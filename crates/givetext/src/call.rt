@@ -1,5 +1,5 @@
-//! The call `give`: a library is taken of a source again, a history is done over it, and the source is written anew with its edits, and looked
-//! at again.
+//! The call `give`: a library is taken of a source again, a history is done over it, and the source is written anew with its edits, and
+//! looked at again.
 
 ghost use Rattle.std.specs.Prelude.{◌≡◌, IfOk, OnOk, length, map};
 ghost use Rattle.source.specs.Scopes.{Assertion, is_in};
@@ -180,8 +180,10 @@ fn follow_edits<'x, 'a: 'x, D: Declared<'a>>(
     entries: &'x [Entry],
 ) -> Result<Following<'x>, AllocError>
     requires { length taken.now.chosen.items ≡ length (D.scope declared.now).assertions }
-    ensures { (choice : Choice) → map (λ (x : Assertion). is_in choice.chosen x.label) (D.scope declared.now).assertions ≡ taken.now.chosen.items
-        → IfOk result (λ made. seen_following made ≡ behind_all (all_commands entries.now) (opening (D.scope declared.now) choice taken.now.database)) }
+    ensures { (choice : Choice) → map (λ (x : Assertion). is_in choice.chosen x.label) (D.scope declared.now).assertions
+        ≡ taken.now.chosen.items
+        → IfOk result (λ made. seen_following made
+        ≡ behind_all (all_commands entries.now) (opening (D.scope declared.now) choice taken.now.database)) }
 {
     let mut following = opening_of(alloc, declared, taken.chosen.as_slice(), &taken.database)?;
     following.follow(alloc, entries)?;
@@ -288,7 +290,8 @@ fn give_edits<'x, 'a: 'x>(
     replayed: &'x Replayed,
 ) -> Result<Vec<u8>, Refusal>
     requires { length taken.now.chosen.items ≡ length old.now.stand.scope.assertions }
-    ensures { (choice : Choice) → map (λ (x : Assertion). is_in choice.chosen x.label) old.now.stand.scope.assertions ≡ taken.now.chosen.items
+    ensures { (choice : Choice) → map (λ (x : Assertion). is_in choice.chosen x.label) old.now.stand.scope.assertions
+        ≡ taken.now.chosen.items
         → IfOk result (λ out. IsEdited source.now old.now.stand.scope choice taken.now replayed.now.entries replayed.now.edited out.items) }
 {
     let following = follow_edits(alloc, old, taken, replayed.entries.as_slice())?;

@@ -27,7 +27,8 @@ use Rattle.cells.proofs.ReadBack.{zip_at}
 use Rattle.groundwork.specs.Citing.{ForEachStored, TellsNotBelow}
 
 -- what was so of all steps that are stored as these stays so while nothing is written
-pub stored_later : {O : Type 0} → (s t : Sight O) (kept : List StoredStep) (told : List Ranked → List Step → Type 0) → Looks s t → ForEachStored s kept told
+pub stored_later : {O : Type 0} → (s t : Sight O) (kept : List StoredStep) (told : List Ranked → List Step → Type 0) → Looks s t
+    → ForEachStored s kept told
     → ForEachStored t kept told
 stored_later s t kept told looks each = λ st lib v steps stored.
     let same = subst (λ (x : State). AreStoredAs t.setting.slots x steps kept) (after_looks s t st looks) stored in
@@ -79,7 +80,8 @@ ranked_below s rank i n b ranked is_so = λ st lib v step is.
     by_step st lib (Cite label) told is = told label is
 
 -- and tells it still while nothing is written
-not_below_later : {O : Type 0} → (s t : Sight O) (rank : ℕ) (x : StoredStep) (b : Bool) → Looks s t → IsNotBelow s rank x b → IsNotBelow t rank x b
+not_below_later : {O : Type 0} → (s t : Sight O) (rank : ℕ) (x : StoredStep) (b : Bool) → Looks s t → IsNotBelow s rank x b
+    → IsNotBelow t rank x b
 not_below_later s t rank x b looks told = λ st lib v step is.
     told st lib (views_back s t st lib looks v) step
     (subst (λ (y : State). IsStoredAs (IsNamed s.setting.slots y) step x) (after_looks s t st looks)

@@ -45,7 +45,8 @@ notes_none s t i label frames there =
     }
 
 -- a label that has none gets one
-pub notes_one : {O : Type 0} → (s : Sight O) (t : Tables) (i : ℕ) (label : List ℕ) (old new : Citable) (f : Frame) → is_some (old label) ≡ false
+pub notes_one : {O : Type 0} → (s : Sight O) (t : Tables) (i : ℕ) (label : List ℕ) (old new : Citable) (f : Frame)
+    → is_some (old label) ≡ false
     → new label ≡ Some f → ((other : List ℕ) → other ≢ label → new other ≡ old other)
     → ForEachHeld s i (λ st lib e. f ≡ frame t e.assertion) → NotesFrame s t i label old new
 notes_one s t i label old new f free is others held =
@@ -93,7 +94,8 @@ cases_label a b = elim (cases_Bool (bytes_eq a b)) [
 ]
 
 -- a citation further, with the frame noted of the slot that it is stored as
-pub noted_more : {O : Type 0} → (s s' : Sight O) (t : Tables) (steps : List Step) (kept : List StoredStep) (i : ℕ) (label : List ℕ) (slot : ℕ)
+pub noted_more : {O : Type 0} → (s s' : Sight O) (t : Tables) (steps : List Step) (kept : List StoredStep) (i : ℕ) (label : List ℕ)
+    (slot : ℕ)
     (old new : Citable)
     (d : Step) (e : StoredStep) → Looks s s' → FirstAreNoted s t steps kept i old → i < length kept → get_or steps i d ≡ Cite label
     → get_or kept i e ≡ stored.Slot slot → NotesFrame s' t slot label old new → FirstAreNoted s' t steps kept (i + 1) new

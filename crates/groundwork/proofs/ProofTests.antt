@@ -112,7 +112,8 @@ fails_unknown s rank a unknown = λ st lib v more edited.
     (cited_not_lower lib rank a.proof ∷ proof_fails s.setting lib rank a ∷ more) edited (unknown st lib v)
 
 -- each cited label is an assertion's
-pub past_unknown : {O : Type 0} → (s : Sight O) (rank : ℕ) (a : Assertion) (kept : List StoredStep) (st : State) (lib : List Ranked) → Views s st lib
+pub past_unknown : {O : Type 0} → (s : Sight O) (rank : ℕ) (a : Assertion) (kept : List StoredStep) (st : State) (lib : List Ranked)
+    → Views s st lib
     → AreStoredAs s.setting.slots (after s st) a.proof kept → (more : Tests) (edited : Edited)
     → tested (proof_tests s lib rank a more) edited
     ≡ tested (cited_not_lower lib rank a.proof ∷ proof_fails s.setting lib rank a ∷ more) edited
@@ -129,7 +130,8 @@ stored_on s t steps kept looks each = λ st lib v.
     (for_each_later s t (λ x l. AreStoredAs s.setting.slots x steps kept) looks each st lib v)
 
 -- an assertion that isn't below is cited
-pub fails_below : {O : Type 0} → (r s : Sight O) (rank : ℕ) (a : Assertion) (kept : List StoredStep) → Looks r s → Resolves r a.proof (Some kept)
+pub fails_below : {O : Type 0} → (r s : Sight O) (rank : ℕ) (a : Assertion) (kept : List StoredStep) → Looks r s
+    → Resolves r a.proof (Some kept)
     → TellsNotBelow s rank kept true → Fails s rank a CitedNotLower
 fails_below r s rank a kept looks resolved told = λ st lib v more edited.
     let are = stored_on r s a.proof kept looks resolved.2 st lib v in
@@ -138,7 +140,8 @@ fails_below r s rank a kept looks resolved told = λ st lib v more edited.
     (sym (told st lib v a.proof are))
 
 -- what is known of a proof's steps behind the first two tests
-pub record IsSifted {O : Type 0} (s : Sight O) (t : Tables) (rank : ℕ) (a : Assertion) (kept : List StoredStep) (frames : Citable) : Type 0 where
+pub record IsSifted {O : Type 0} (s : Sight O) (t : Tables) (rank : ℕ) (a : Assertion) (kept : List StoredStep)
+    (frames : Citable) : Type 0 where
   pub same_prelude : t ≡ s.setting.prelude
   pub stored : ForEach s (λ st lib. AreStoredAs s.setting.slots st a.proof kept)
   pub below : TellsNotBelow s rank kept false
@@ -163,7 +166,8 @@ sifted_tests s t rank a kept frames fault sifted tells st lib v more edited =
     ∙ first_passes (list_any (cites_not_below lib rank) a.proof) CitedNotLower (proof_fails s.setting lib rank a ∷ more) edited below
     ∙ ap (λ (o : Option Reason). tested (o ∷ more) edited) fails
 
-pub fails_fault : {O : Type 0} → (s : Sight O) (t : Tables) (rank : ℕ) (a : Assertion) (kept : List StoredStep) (frames : Citable) (fault : ProofFault)
+pub fails_fault : {O : Type 0} → (s : Sight O) (t : Tables) (rank : ℕ) (a : Assertion) (kept : List StoredStep) (frames : Citable)
+    (fault : ProofFault)
     → IsSifted s t rank a kept frames → TellsFault frames t a (Some fault) → Fails s rank a (ProofFails fault)
 fails_fault s t rank a kept frames fault sifted tells = λ st lib v more edited.
     sifted_tests s t rank a kept frames (Some fault) sifted tells st lib v more edited
@@ -185,7 +189,8 @@ passes r s t rank a kept frames looks resolved sifted tells =
     }
 
 -- what one call after another tells of the steps
-pub sifted : {O : Type 0} → (s0 s1 s2 s3 : Sight O) (t : Tables) (rank : ℕ) (a : Assertion) (kept first second : List StoredStep) (frames : Citable)
+pub sifted : {O : Type 0} → (s0 s1 s2 s3 : Sight O) (t : Tables) (rank : ℕ) (a : Assertion) (kept first second : List StoredStep)
+    (frames : Citable)
     → t ≡ s0.setting.prelude → Looks s0 s1 → Looks s1 s2 → Looks s2 s3 → first ≡ kept → second ≡ kept
     → Resolves s1 a.proof (Some kept) → TellsNotBelow s2 rank first false
     → TellsFrames s3 t a.proof second frames → IsSifted s3 t rank a kept frames

@@ -43,11 +43,13 @@ of_some lib label act e h = ap (λ o. of_found o act) h
 -- ---- answers
 
 -- what is refused of every library that is seen in the end, while nothing was kept aside
-pub refused : {O : Type 0} → (s t : Sight O) (c : Command) (r : Reason) → Looks s t → ForEach t (λ st lib. edit s.setting lib c ≡ Err r) → IsRefused s t c r
+pub refused : {O : Type 0} → (s t : Sight O) (c : Command) (r : Reason) → Looks s t → ForEach t (λ st lib. edit s.setting lib c ≡ Err r)
+    → IsRefused s t c r
 refused s t c r looks each = record { refuses = λ st lib m v. each st lib (views_later s t st lib looks m v); looks = looks }
 
 -- what is refused of every library by the setting of the later sight
-pub refused_later : {O : Type 0} → (s t : Sight O) (c : Command) (r : Reason) → Looks s t → ForEach t (λ st lib. edit t.setting lib c ≡ Err r)
+pub refused_later : {O : Type 0} → (s t : Sight O) (c : Command) (r : Reason) → Looks s t
+    → ForEach t (λ st lib. edit t.setting lib c ≡ Err r)
     → IsRefused s t c r
 refused_later s t c r looks each =
     refused s t c r looks (λ st lib v. subst (λ (x : Setting). edit x lib c ≡ Err r) looks.onward.setting (each st lib v))

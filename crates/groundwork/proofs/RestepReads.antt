@@ -23,7 +23,8 @@ use Rattle.groundwork.proofs.Seeing.{views_later, found_later}
 
 -- the steps that were read are those of the assertion that was found
 pub stored_before : {O : Type 0} → (s t : Sight O) (i : ℕ) (label : List ℕ) (former : List StoredStep) → Looks s t
-    → ForEachHeld t i (λ st lib e. AreStoredAs t.setting.slots st e.assertion.proof former) → (st : State) (lib : List Ranked) → Matches t st
+    → ForEachHeld t i (λ st lib e. AreStoredAs t.setting.slots st e.assertion.proof former) → (st : State) (lib : List Ranked)
+    → Matches t st
     → Views s st lib → (at : IsFoundAt s.setting.slots (after s st) lib label i)
     → AreStoredAs s.setting.slots (after s st) at.entry.assertion.proof former
 stored_before s t i label former looks read st lib m v at =
@@ -52,7 +53,8 @@ module _ {O : Type 0} (s0 : Sight O) (i : ℕ) (label : List ℕ) (kept : List S
         → ReadsSince (OfResteps s0 i label kept) s0 s t
     resteps_out dropped drops reads st lib m v =
         asks_wider
-        (λ c is at steps stored. inr (dropped_cited s0.setting.slots (after s0 st) lib v.shows v.matches.store v.verifies.library.distinct at.entry
+        (λ c is at steps stored. inr (dropped_cited s0.setting.slots
+        (after s0 st) lib v.shows v.matches.store v.verifies.library.distinct at.entry
         steps former kept before now
         (stored_before s0 s1 i label former looks read st lib (matches_back s1 s st on1 (matches_back s t st on2 m)) v at) stored
         cited_before cited_now dropped drops c is))
@@ -62,7 +64,8 @@ module _ {O : Type 0} (s0 : Sight O) (i : ℕ) (label : List ℕ) (kept : List S
         → ReadsSince (OfResteps s0 i label kept) s0 s t
     resteps_in gained gains reads st lib m v =
         asks_wider
-        (λ c is at steps stored. inr (gained_cited s0.setting.slots (after s0 st) lib v.shows v.matches.store v.verifies.library.distinct at.entry
+        (λ c is at steps stored. inr (gained_cited s0.setting.slots
+        (after s0 st) lib v.shows v.matches.store v.verifies.library.distinct at.entry
         steps former kept before now
         (stored_before s0 s1 i label former looks read st lib (matches_back s1 s st on1 (matches_back s t st on2 m)) v at) stored
         cited_before cited_now gained gains c is))

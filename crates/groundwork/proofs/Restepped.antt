@@ -61,7 +61,8 @@ restepped s0 s1 s2 s3 s4 i label former kept before now dropped gained words loo
     (subst (λ (x : Setting). AreStoredAs x.slots (after s0 st) steps kept) (sym looks.onward.setting) stored_as) in
     let within = all_from_has (λ j. j < s2.setting.slots) dropped (λ j h.
     subst (λ (n : ℕ). j < n) (sym slots_are)
-    (listed_within slots (after s1 st) lib v.shows store at.entry.assertion.proof former before stored cited_before j (drops.from j h).0)) in
+    (listed_within slots (after s1 st) lib v.shows store at.entry.assertion.proof former before stored cited_before j
+    (drops.from j h).0)) in
     let body = subst (HasBody (after s2 st) (proof_cell i)) words_are (names st m2) in
     let out = counts st m3 within drops.apart in
     let small : (j : ℕ) → Has j gained → (after s3 st).value (citers_cell j) < 2 ^ 32 = λ j h.

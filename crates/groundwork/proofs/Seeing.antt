@@ -14,7 +14,8 @@ use Rattle.cells.proofs.Bodies.{one_body}
 use Rattle.cells.proofs.Sights.{after_looks}
 
 -- a library that was seen is seen still while nothing is written
-pub views_later : {O : Type 0} → (s t : Sight O) (st : State) (lib : List Ranked) → Looks s t → Matches t st → Views s st lib → Views t st lib
+pub views_later : {O : Type 0} → (s t : Sight O) (st : State) (lib : List Ranked) → Looks s t → Matches t st → Views s st lib
+    → Views t st lib
 views_later s t st lib looks m v =
     record {
       matches = m;
@@ -43,7 +44,8 @@ found_later s t st lib label i looks at =
     }
 
 -- a slot where a label was found holds no assertion with another
-pub found_held : {O : Type 0} → (s : Sight O) (label : List ℕ) (i : ℕ) → Finds s label (Some i) → ForEachHeld s i (λ st lib e. label ≡ label_of e)
+pub found_held : {O : Type 0} → (s : Sight O) (label : List ℕ) (i : ℕ) → Finds s label (Some i)
+    → ForEachHeld s i (λ st lib e. label ≡ label_of e)
 found_held s label i finds st lib v e at h =
     let there = finds.1 st lib v in
     let found = found_in lib label there.entry there.found in

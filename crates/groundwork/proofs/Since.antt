@@ -29,7 +29,8 @@ since_then such {s = s} {t = t} first on then st lib m v = asks_trans (first st 
 
 module _ {O : Type 0} (such : State → List Ranked → ℕ → Type 0) (old s t : Sight O) (looks : Looks old s) where
   -- a call that reads these cells in each state
-  pub since_where : (some : ℕ → State → ℕ → Type 0) → ((st : State) (lib : List Ranked) (c : ℕ) → some old.setting.slots st c → such st lib c)
+  pub since_where : (some : ℕ → State → ℕ → Type 0)
+      → ((st : State) (lib : List Ranked) (c : ℕ) → some old.setting.slots st c → such st lib c)
       → ReadsWhere (some s.setting.slots) s t → ReadsSince such old s t
   since_where some wider reads st lib m v =
       asks_wider
@@ -101,9 +102,11 @@ module _ {O : Type 0} (old s t : Sight O) (x : Command) (label : List ℕ) (i : 
     (before : ReadsFor old s x) (on : Onward s t) where
   -- and goes on with cells of what it found
   pub then_cells : (some : ℕ → Type 0)
-      → ((st : State) (lib : List Ranked) (at : IsFoundAt old.setting.slots st lib label i) (c : ℕ) → some c → IsReadBy old.setting.slots st lib x c)
+      → ((st : State) (lib : List Ranked) (at : IsFoundAt old.setting.slots st lib label i) (c : ℕ) → some c
+      → IsReadBy old.setting.slots st lib x c)
       → ReadsWithin some s t → ReadsFor old t x
-  then_cells some wider reads = since_then (OfCommand old x) before on (since_found (OfCommand old x) old s t looks label i finds some wider on reads)
+  then_cells some wider reads = since_then (OfCommand old x) before on
+      (since_found (OfCommand old x) old s t looks label i finds some wider on reads)
 
   -- or with what it may read where it found that
   pub then_found : ReadsForFound s t i label x → ReadsFor old t x
@@ -139,7 +142,12 @@ module _ (slots : ℕ) (st later : State) (same : (c : ℕ) → 5 * slots ≤ c 
   stands_before b i (j ∷ before) at = (sym (same (next_cell slots j) (omega arith)) ∙ at.0, stands_before b j before at.1)
 
   member_before : (b i : ℕ) → IsMember slots later b i → IsMember slots st b i
-  member_before b i member = record { within = member.within; before = member.before; behind = stands_before b i member.before member.behind }
+  member_before b i member = record {
+    within = member.within;
+    before = member.before;
+    behind =
+        stands_before b i member.before member.behind;
+  }
 
   pub look_before : (label : List ℕ) (c : ℕ) → IsOfLook slots label later c → IsOfLook slots label st c
   look_before label c (inl front) = inl front

@@ -20,6 +20,7 @@ stored_length slots st steps kept h = length-map kept step_word ∙ AllZip-long 
 
 -- the steps that were stored as the run has them are as many
 pub stored_taken : {O : Type 0} → (s t u : Sight O) → Looks s t → Onward t u → (steps : List Step) (kept : List StoredStep)
-    → ForEach t (λ st lib. AreStoredAs t.setting.slots st steps kept) → ForEachBefore s u (λ st lib. length (proof_body kept) ≡ length steps)
+    → ForEach t (λ st lib. AreStoredAs t.setting.slots st steps kept)
+    → ForEachBefore s u (λ st lib. length (proof_body kept) ≡ length steps)
 stored_taken s t u looks on steps kept stored st lib m v =
     stored_length t.setting.slots (after t st) steps kept (stored st lib (views_later s t st lib looks (matches_back t u st on m) v))

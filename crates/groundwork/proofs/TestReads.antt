@@ -25,7 +25,8 @@ abbrev pub OfTest : {O : Type 0} → Sight O → List Step → State → List Ra
 OfTest old steps st lib c = IsOfProofTest old.setting.slots st lib steps c
 
 -- a call that reads a cell of each slot that the stored steps cite
-pub since_cited : {O : Type 0} → (such : State → List Ranked → ℕ → Type 0) (s0 s1 s t : Sight O) (steps : List Step) (kept : List StoredStep)
+pub since_cited : {O : Type 0} → (such : State → List Ranked → ℕ
+    → Type 0) (s0 s1 s t : Sight O) (steps : List Step) (kept : List StoredStep)
     (cell : ℕ → ℕ) → Looks s0 s1 → Looks s1 s → Onward s t → ForEach s1 (λ st lib. AreStoredAs s1.setting.slots st steps kept)
     → ((st : State) (lib : List Ranked) (c : ℕ) → IsOfCited s0.setting.slots st lib cell steps c → such st lib c)
     → ReadsWithin (λ c. (j : ℕ) × Has (Slot j) kept × (c ≡ cell j)) s t → ReadsSince such s0 s t
@@ -36,9 +37,16 @@ since_cited such s0 s1 s t steps kept cell first later on stored wider reads st 
     (subst (λ (x : Setting). AreStoredAs x.slots (after s1 st) steps kept) first.onward.setting
     (stored st lib (views_later s0 s1 st lib first m1 v))) in
     asks_wider
-    (λ c k. let n = cited_slot s0.setting.slots steps kept (after s0 st) k.0 are k.1 in wider (after s0 st) lib c (n.0, k.0, n.1, n.2, k.2)) reads
+    (λ c k. let n = cited_slot s0.setting.slots steps kept (after s0 st) k.0 are k.1 in wider (after s0 st) lib c (
+      n.0,
+      k.0,
+      n.1,
+      n.2,
+      k.2,
+    )) reads
 
 -- the rank of a slot that is listed as cited
-pub rank_of_one : {O : Type 0} → {s t : Sight O} → (kept : List StoredStep) (cited : List ℕ) (i : ℕ) → AreCitedSlots kept cited → i < length cited
+pub rank_of_one : {O : Type 0} → {s t : Sight O} → (kept : List StoredStep) (cited : List ℕ) (i : ℕ) → AreCitedSlots kept cited
+    → i < length cited
     → ReadsWithin (λ c. c ≡ rank_cell (get_or cited i 0)) s t → ReadsWithin (IsRankOfSteps kept) s t
 rank_of_one kept cited i are lt asks = asks_cell (get_or cited i 0, is_cited kept cited i are lt, refl) asks

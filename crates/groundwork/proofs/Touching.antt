@@ -129,13 +129,15 @@ resteps_within s0 s1 s2 s3 s4 i label former kept before now dropped gained look
         (read st lib (views_later s0 s1 st lib looks m1 seen) at.entry (found_in lib label at.entry at.found).0 at.holds))
 
     was_cited : (c : ℕ) → IsCitersOf dropped c
-        → IsCitersCell s0.setting.slots (after s0 st) lib (λ f. cites (label_of f) here.entry ≢ cites (label_of f) (with_proof steps here.entry)) c
+        → IsCitersCell s0.setting.slots (after s0 st) lib
+        (λ f. cites (label_of f) here.entry ≢ cites (label_of f) (with_proof steps here.entry)) c
     was_cited =
         dropped_cited slots (after s0 st) lib seen.shows seen.matches.store seen.verifies.library.distinct e steps former kept before now
         stored_before stored_as cited_before cited_now dropped drops
 
     is_cited : (c : ℕ) → IsCitersOf gained c
-        → IsCitersCell s0.setting.slots (after s0 st) lib (λ f. cites (label_of f) here.entry ≢ cites (label_of f) (with_proof steps here.entry)) c
+        → IsCitersCell s0.setting.slots (after s0 st) lib
+        (λ f. cites (label_of f) here.entry ≢ cites (label_of f) (with_proof steps here.entry)) c
     is_cited =
         gained_cited slots (after s0 st) lib seen.shows seen.matches.store seen.verifies.library.distinct e steps former kept before now
         stored_before stored_as cited_before cited_now gained gains

@@ -60,7 +60,8 @@ module _ (slots : ℕ) (st : State) (lib : List Ranked) where
   abbrev pub IsReadByMove : List ℕ → ℕ → ℕ → Type 0
   IsReadByMove label rank c = IsOfLook slots label st c ⊎ OfFound slots st lib label (λ i e. IsOfMoving i e rank c)
 
-  -- the tests of a proof with these steps: a look for each label that they cite, and the statement and rank cells of the slots that have them
+  -- the tests of a proof with these steps: a look for each label that they cite, and the statement and rank cells of the slots that have
+  -- them
   abbrev pub IsOfProofTest : List Step → ℕ → Type 0
   IsOfProofTest steps c = IsOfResolving slots steps st c ⊎ (IsOfCited statement_cell steps c ⊎ IsOfCited rank_cell steps c)
 

@@ -62,10 +62,12 @@ token_spelled : (t : Tables) (bytes : List ℕ) (history : List Entry) → Spell
 unfolding token_reading
 token_spelled t bytes history s =
     let l = history_language t in
-    let r = runs_all l false (tokens bytes) (codes "history" ∷ s.count ∷ s.inner) (history_ordinary t history s.count s.inner s.counted s.entries)
+    let r = runs_all l false (tokens bytes) (codes "history" ∷ s.count ∷ s.inner)
+    (history_ordinary t history s.count s.inner s.counted s.entries)
     s.words_are in
     ap (ended l (length bytes))
-    (r.runs (progress [] at_history) (progress history (at_entry 0)) (history_leads t history s.count s.inner r.kept s.counted s.entries r.words_are))
+    (r.runs (progress [] at_history) (progress history (at_entry 0))
+    (history_leads t history s.count s.inner r.kept s.counted s.entries r.words_are))
 
 -- what is spelled is what the language says
 pub history_grammar : (t : Tables) → IsGrammarOf (history_language t) (SpellsHistory t)

@@ -197,7 +197,8 @@ module _ (t : Tables) (final : Progress) (ends : final.place ≡ at_entry 0) whe
         → ReadsLine rs n front ts
     reads_line rs n front ts h =
         let a = reads_rank rs (at_line n front) (λ m. going (at_label n front m)) ts (λ u. refl) h in
-        let b = reads_label rs n front a.number a.rest (moved (place rs (at_label n front a.number)) a.leads.0 a.rest a.leads.1 a.leads.2) in
+        let b = reads_label rs n front a.number a.rest
+        (moved (place rs (at_label n front a.number)) a.leads.0 a.rest a.leads.1 a.leads.2) in
         let o = reads_line_end rs n front a.number b.label b.rest b.walks in
         record {
           line = record { rank = a.number; label = b.label; kind = o.kind; citers = o.citers };
@@ -259,7 +260,8 @@ module _ (t : Tables) (final : Progress) (ends : final.place ≡ at_entry 0) whe
         (moved (place rs (at_shown_citers a.number)) a.leads.0 a.rest a.leads.1 a.leads.2) in
         let c = reads_unit (history_language t) t (λ p. place rs (in_shown a.number b.number p))
         (λ x. behind es left cs (rs ++ Shown b.number (record { rank = a.number; assertion = x }) ∷ []))
-        (has_shown t es left cs rs a.number b.number) final (λ p. not_inside es left (answering cs rs (in_shown a.number b.number p))) b.rest
+        (has_shown t es left cs rs a.number b.number) final
+        (λ p. not_inside es left (answering cs rs (in_shown a.number b.number p))) b.rest
         (moved (place rs (in_shown a.number b.number (unit_start t))) b.leads.0 b.rest b.leads.1 b.leads.2) in
         record {
           reply = Shown b.number (record { rank = a.number; assertion = c.assertion });
@@ -430,7 +432,8 @@ module _ (t : Tables) (final : Progress) (ends : final.place ≡ at_entry 0) whe
         walks = moved (progress (es ++ entry.Void ∷ []) (at_entry left)) l.0 ts l.1 l.2;
       })
       (λ _.
-      cond_case (λ x. To ts x → ReadsEntry es left (u ∷ ts)) (bytes_eq u.text (codes "done")) (at es (in_entry left at_begin)) (fault u BadToken)
+      cond_case (λ x. To ts x → ReadsEntry es left (u ∷ ts)) (bytes_eq u.text (codes "done")) (at es (in_entry left at_begin))
+      (fault u BadToken)
       (λ y l. reads_begin es left u ts (same_word u.text (codes "done") y) (moved (progress es (in_entry left at_begin)) l.0 ts l.1 l.2))
       (λ _ x. no_fault u ts BadToken x)) (r.0, r.1, r.2)
 
@@ -446,7 +449,8 @@ module _ (t : Tables) (final : Progress) (ends : final.place ≡ at_entry 0) whe
     entries = [];
     spells = refl;
     counted = refl;
-    whole = sym (ap (λ (p : Progress). p.entries) (walk_none (history_language t) (progress es (at_entry 0)) final h)) ∙ sym (append-nil es);
+    whole = sym (ap (λ (p : Progress). p.entries) (walk_none (history_language t) (progress es (at_entry 0)) final h))
+        ∙ sym (append-nil es);
   }
   reads_entries zero es (u ∷ ts) h =
       let r = walk_cons (history_language t) (progress es (at_entry 0)) final u ts h in
@@ -486,8 +490,13 @@ module _ (t : Tables) (final : Progress) (ends : final.place ≡ at_entry 0) whe
       (λ n. at [] (at_entry n)) (fault u TooLong) (fault u BadToken) count_low
       (λ n is l.
       let o = reads_entries n [] ts (moved (progress [] (at_entry n)) l.0 ts l.1 l.2) in
-      let many : n ≡ length final.entries = sym o.counted ∙ ap length (sym o.whole) in
-      (u, ts, refl, subst (IsCount u.text) many (number_count u.text n is), subst (λ x. SpellsEach (SpellsEntry t) x (words_of ts)) (sym o.whole) o.spells))
+      let many : n ≡ length final.entries = sym o.counted ∙ ap length (sym o.whole) in (
+        u,
+        ts,
+        refl,
+        subst (IsCount u.text) many (number_count u.text n is),
+        subst (λ x. SpellsEach (SpellsEntry t) x (words_of ts)) (sym o.whole) o.spells,
+      ))
       (λ x. no_fault u ts TooLong x) (λ x. no_fault u ts BadToken x) (r.0, r.1, r.2)
 
   pub reads_history : (ts : List Token) → Walks (progress [] at_history) ts → ReadsHistory ts

@@ -49,7 +49,8 @@ pub behind_is : (entries : List Entry) (left : ℕ) (commands : List Command) (r
     → replies_left entries left commands replies ≡ Ok (behind entries left commands replies)
 behind_is entries left commands replies = go (eqb (length replies) (length commands))
   where
-    go : (b : Bool) → cond b (at (entries ++ entry.Done commands replies ∷ []) (at_entry left)) (at entries (in_entry left (at_reply commands replies)))
+    go : (b : Bool) → cond b (at (entries ++ entry.Done commands replies ∷ []) (at_entry left))
+        (at entries (in_entry left (at_reply commands replies)))
         ≡ Ok (cond b (progress (entries ++ entry.Done commands replies ∷ []) (at_entry left))
         (progress entries (in_entry left (at_reply commands replies))))
     go true = refl

@@ -83,7 +83,8 @@ entry_ordinary t entry.Void ws d = subst (All IsOrdinary) (sym d) (plain_cons (c
 entry_ordinary t (entry.Done commands replies) ws d =
     subst (All IsOrdinary) (sym d.5)
     (plain_cons (codes "done") (d.0 ++ d.1) refl
-    (All-append IsOrdinary d.0 d.1 (transaction_ordinary t commands d.0 d.2) (each_ordinary (SpellsReply t) (reply_ordinary t) replies d.1 d.3)))
+    (All-append IsOrdinary d.0 d.1 (transaction_ordinary t commands d.0 d.2)
+    (each_ordinary (SpellsReply t) (reply_ordinary t) replies d.1 d.3)))
 
 pub history_ordinary : (t : Tables) (history : List Entry) (count : Word) (inner : List Word) → IsCount count (length history)
     → SpellsEach (SpellsEntry t) history inner → All IsOrdinary (codes "history" ∷ count ∷ inner)
@@ -112,7 +113,8 @@ module _ (t : Tables) (es : List Entry) (left : ℕ) (cs : List Command) where
 
   lines_lead : (rs : List Reply) (front todo : List Line) (inner ws : List Word) (ts : List Token) (final : Result Progress TextFault)
       → SpellsEach SpellsLine todo inner → words_of ts ≡ inner ++ ws
-      → ((rest : List Token) → words_of rest ≡ ws → walk (history_language t) (behind es left cs (rs ++ Listed (front ++ todo) ∷ [])) rest ≡ final)
+      → ((rest : List Token) → words_of rest ≡ ws
+      → walk (history_language t) (behind es left cs (rs ++ Listed (front ++ todo) ∷ [])) rest ≡ final)
       → walk (history_language t) (at_lines_left es left cs rs (length todo) front) ts ≡ final
   lines_lead rs front [] inner ws ts final d h next_is =
       ap (λ x. walk (history_language t) (behind es left cs (rs ++ Listed x ∷ [])) ts) (sym (append-nil front))
@@ -128,10 +130,12 @@ module _ (t : Tables) (es : List Entry) (left : ℕ) (cs : List Command) where
       takes l (place rs (at_line n front)) (place rs (at_label n front x.rank)) s.0 (x.label ∷ kind ∷ s.1 ∷ (d.1 ++ ws)) ts final parts
       (λ u e. row_of rs (at_line n front) (going (at_label n front x.rank)) u
       (number_led highest_rank u s.0 x.rank (λ m. going (at_label n front m)) rank_low (rank_number s.0 x.rank s.2) e)) (λ ts1 h1.
-      takes l (place rs (at_label n front x.rank)) (place rs (at_kind n front x.rank x.label)) x.label (kind ∷ s.1 ∷ (d.1 ++ ws)) ts1 final h1
+      takes l (place rs (at_label n front x.rank)) (place rs (at_kind n front x.rank x.label)) x.label (kind ∷ s.1
+      ∷ (d.1 ++ ws)) ts1 final h1
       (λ u e. row_of rs (at_label n front x.rank) (going (at_kind n front x.rank x.label)) u (label_led n front x.rank u x.label s.3 e))
       (λ ts2 h2.
-      takes l (place rs (at_kind n front x.rank x.label)) (place rs (at_citers n front x.rank x.label x.kind)) kind (s.1 ∷ (d.1 ++ ws)) ts2 final h2
+      takes l (place rs (at_kind n front x.rank x.label)) (place rs (at_citers n front x.rank x.label x.kind)) kind (s.1
+      ∷ (d.1 ++ ws)) ts2 final h2
       (λ u e. row_of rs (at_kind n front x.rank x.label) (going (at_citers n front x.rank x.label x.kind)) u
       (kind_led n front x.rank x.label x.kind u e)) (λ ts3 h3.
       takes l (place rs (at_citers n front x.rank x.label x.kind)) behind_line s.1 (d.1 ++ ws) ts3 final h3
@@ -147,11 +151,13 @@ module _ (t : Tables) (es : List Entry) (left : ℕ) (cs : List Command) where
       → ((rest : List Token) → words_of rest ≡ ws → walk (history_language t) (behind es left cs (rs ++ r ∷ [])) rest ≡ final)
       → walk (history_language t) (progress es (in_entry left (at_reply cs rs))) ts ≡ final
   reply_leads rs Done us ws ts final d h next_is =
-      takes (history_language t) (progress es (in_entry left (at_reply cs rs))) (behind es left cs (rs ++ Done ∷ [])) (codes "done") ws ts final
+      takes (history_language t) (progress es (in_entry left (at_reply cs rs))) (behind es left cs (rs ++ Done ∷ []))
+      (codes "done") ws ts final
       (h ∙ ap (λ x. x ++ ws) d) (λ u e. words rs (codes "done") _ u refl e) next_is
   reply_leads rs (Shown citers e) us ws ts final d h next_is =
       let l = history_language t in
-      takes l (progress es (in_entry left (at_reply cs rs))) (place rs at_shown_rank) (codes "shown") (d.0 ∷ d.1 ∷ (spelling d.2 ++ ws)) ts final
+      takes l (progress es (in_entry left (at_reply cs rs))) (place rs at_shown_rank) (codes "shown") (d.0 ∷ d.1
+      ∷ (spelling d.2 ++ ws)) ts final
       (h ∙ ap (λ x. x ++ ws) d.6) (λ u i. words rs (codes "shown") (going at_shown_rank) u refl i) (λ ts1 h1.
       takes l (place rs at_shown_rank) (place rs (at_shown_citers e.rank)) d.0 (d.1 ∷ (spelling d.2 ++ ws)) ts1 final h1
       (λ u i. row_of rs at_shown_rank (going (at_shown_citers e.rank)) u
@@ -235,4 +241,5 @@ module _ (t : Tables) where
       takes l (progress [] at_history) (progress [] at_count) (codes "history") (count ∷ inner) ts final h
       (λ u i. ap (history_at_word u) i) (λ ts1 h1.
       takes l (progress [] at_count) (progress [] (at_entry (length history))) count inner ts1 final h1
-      (λ u i. count_led u count (length history) (count_number count (length history) c) i) (λ ts2 h2. entries_lead [] history inner ts2 d h2))
+      (λ u i. count_led u count (length history) (count_number count (length history) c) i)
+      (λ ts2 h2. entries_lead [] history inner ts2 d h2))

@@ -40,4 +40,5 @@ module _ (s : Setting) (lib0 : List Ranked) (h : List CodeEntry) (v : Verifies s
 pub legal_histories_fit : LegalHistoriesFit
 legal_histories_fit s lib0 h v fit legal i d lt =
     let at = told_there h i d lt in
-    entry_fits s lib0 h v fit legal i (get_or h i d) at.1 (subst (CommandsFit s.prelude) at.0 (fit i (told d) (omega (arith, length-map h told))))
+    entry_fits s lib0 h v fit legal i (get_or h i d) at.1
+    (subst (CommandsFit s.prelude) at.0 (fit i (told d) (omega (arith, length-map h told))))

@@ -54,8 +54,8 @@ pub record IsSound (t : Tables) (e : Ranked) : Type 0 where
   pub unit : IsUnit t e.assertion
   pub lawful : IsLawful t (label_of e)
 
--- a part of a command: a word of letters, digits and the like; a rank; a unit; another proof of L names at most 1,000 hypotheses, and no L.k
--- beside them
+-- a part of a command: a word of letters, digits and the like; a rank; a unit; another proof of L names at most 1,000 hypotheses, and no
+-- L.k beside them
 abbrev pub IsSoundPart : Tables → Part → Type 0
 IsSoundPart t (a_word w) = (w ≢ []) × (is_label w ≡ true)
 IsSoundPart t (a_rank rank) = rank ≤ highest_rank
@@ -285,4 +285,5 @@ legal_sound s lib0 h i cs replies v fit legal at =
     let is = get_or_from_slice_get h i (done_entry cs replies) open_entry at in
     let commands : All (CommandFits s.prelude) cs = subst (EntryFits s.prelude) is (fit i open_entry within) in
     let answer = legal i cs replies at in
-    apply_sound s (after s lib0 h i) cs (record { library = answer.0; replies = replies }) (fronts_verify s lib0 h i v fit) commands answer.1
+    apply_sound s (after s lib0 h i) cs (record { library = answer.0; replies = replies })
+    (fronts_verify s lib0 h i v fit) commands answer.1

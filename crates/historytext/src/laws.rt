@@ -20,8 +20,8 @@ pub fn legal_histories_are_spelled()
     ensures { LegalHistoriesAreSpelled }
 {}
 
-/// Over a prelude a text spells at most one history, and has at most one fault. One of at most 16,777,216 bytes has either a history or a fault,
-/// and not both; a longer one may spell a history, and its one fault is its length.
+/// Over a prelude a text spells at most one history, and has at most one fault. One of at most 16,777,216 bytes has either a history or a
+/// fault, and not both; a longer one may spell a history, and its one fault is its length.
 pub fn one_history_or_fault()
     ensures history { HistoryIsOne }
     ensures fault { HistoryFaultIsOne }

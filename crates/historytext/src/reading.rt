@@ -154,10 +154,11 @@ impl<'a> Reader<'a> for HistoryReader<'a> {
 /// The history that a text spells over a prelude: `history`, the number of entries, and so many entries. Comments may stand between any two
 /// words.
 ///
-/// An entry is `void`, or `done` with a transaction as in a script and one reply for each of its commands. A reply is `done`; `shown` with a
-/// rank, the number of citers and one `$a` or `$p`, alone or in its block; or `listed` with the number of lines and so many lines. A line is
-/// a rank, a label, `a` or `p`, and the number of citers. Numbers of entries, lines and citers are up to 18,446,744,073,709,551,615, and
-/// ranks up to 4,294,967,295, in decimal digits without leading zero. Memory is taken for what was read, and not for what a number announces.
+/// An entry is `void`, or `done` with a transaction as in a script and one reply for each of its commands. A reply is `done`; `shown` with
+/// a rank, the number of citers and one `$a` or `$p`, alone or in its block; or `listed` with the number of lines and so many lines. A line
+/// is a rank, a label, `a` or `p`, and the number of citers. Numbers of entries, lines and citers are up to 18,446,744,073,709,551,615, and
+/// ranks up to 4,294,967,295, in decimal digits without leading zero. Memory is taken for what was read, and not for what a number
+/// announces.
 ///
 /// # Errors
 ///

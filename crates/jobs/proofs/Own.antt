@@ -88,7 +88,8 @@ module _ (db text out : Bytes) (texts : List Bytes) (workers room : ℕ) (run : 
       p.prints ∙ ap (replayed_lines (length kept)) library
 
 pub runs_faultless : RunsHaveNoFaultAgain
-runs_faultless db history texts workers room out f run short h = replay_faultless db.items history.items out texts workers room run short f h
+runs_faultless db history texts workers room out f run short h =
+    replay_faultless db.items history.items out texts workers room run short f h
 
 -- ---- what is answered, and told
 
@@ -103,11 +104,13 @@ answers_its_own (Run db texts workers room asked) answer done fault = tt
 answers_its_own (Replay db history) (Ok printed) done fault =
     λ texts workers room out run short. replay_printed db.items history.items out texts workers room run printed.out.items done.0
 answers_its_own (Replay db history) (Err f) done fault =
-    λ texts workers room out run short. memory_alone f (λ ne. replay_faultless db.items history.items out texts workers room run short f (fault ne))
+    λ texts workers room out run short. memory_alone f
+    (λ ne. replay_faultless db.items history.items out texts workers room run short f (fault ne))
 
 -- the line of a fault is that of want of memory
 pub tells_its_own : (j : Job) (f : Fault) (paths : List Bytes) (line : String Global) → string_bytes line ≡ line_of paths f
     → AnswersItsOwn j (IsPrintedBy (Err f)) → AnswersItsOwn j (IsToldBy (Refused line))
 tells_its_own (Check db) f paths line told own = λ a short. told ∙ ap (line_of paths) (own a short)
 tells_its_own (Run db texts workers room asked) f paths line told own = tt
-tells_its_own (Replay db history) f paths line told own = λ texts workers room out run short. told ∙ ap (line_of paths) (own texts workers room out run short)
+tells_its_own (Replay db history) f paths line told own =
+    λ texts workers room out run short. told ∙ ap (line_of paths) (own texts workers room out run short)

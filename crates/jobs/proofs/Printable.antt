@@ -28,7 +28,8 @@ use Rattle.editing.proofs.Shares.{of_share, of_each}
 
 -- ---- of a legal history from an opening library that verifies
 
-module _ (s : Setting) (lib0 : List Ranked) (h : List Entry) (v : Verifies s lib0) (within : EntriesFit s.prelude h) (legal : IsLegal s lib0 h) where
+module _ (s : Setting) (lib0 : List Ranked) (h : List Entry) (v : Verifies s lib0) (within : EntriesFit s.prelude h)
+    (legal : IsLegal s lib0 h) where
   outcome_fits : (cs : List Command) (o : Outcome) → All (CommandFits s.prelude) cs → OutcomeAgrees s lib0 h cs o → OutcomeFits s.prelude o
   outcome_fits cs (Committed n replies) fit a = legal_replies_fit s lib0 h a.0 cs replies v within legal a.2
   outcome_fits cs (Read k replies) fit a =
@@ -47,7 +48,8 @@ module _ (s : Setting) (lib0 : List Ranked) (h : List Entry) (v : Verifies s lib
       All-cons (OutcomeFits s.prelude) o os (outcome_fits cs o (All-head P cs rest fit) a.0)
       (script_fits (place_behind place o) rest os (All-tail P cs rest fit) a.4)
 
-  rows_fit : (workers : ℕ) (scripts : List (List (List Command))) (rows : List (List Outcome)) → All (All (All (CommandFits s.prelude))) scripts
+  rows_fit : (workers : ℕ) (scripts : List (List (List Command))) (rows : List (List Outcome))
+      → All (All (All (CommandFits s.prelude))) scripts
       → AreToldBy s lib0 h workers scripts rows → OutcomesFit s.prelude rows
   rows_fit workers scripts rows fit t =
       of_each (OutcomeFits s.prelude) rows (length scripts) t.shares (AllZip-long HasOutcomes scripts rows t.each) t.parts (λ share has.
@@ -56,7 +58,8 @@ module _ (s : Setting) (lib0 : List Ranked) (h : List Entry) (v : Verifies s lib
 
 -- ---- of a run
 
-pub printable : (db : Contents) (workers room : ℕ) (scripts : List (List (List Command))) (rows : List (List Outcome)) (history : List CodeEntry)
+pub printable : (db : Contents) (workers room : ℕ) (scripts : List (List (List Command))) (rows : List (List Outcome))
+    (history : List CodeEntry)
     (library : Listed) → HasSpelling db → AllCheck db → All (All (All (CommandFits db.prelude))) scripts
     → IsWorked db workers room scripts rows history library → OutcomesFit db.prelude rows
 printable db workers room scripts rows history library spelled checks fit w =

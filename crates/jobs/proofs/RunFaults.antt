@@ -32,7 +32,8 @@ script_of_run db texts room contents p (Text (suc k) g) over checked h ne =
     ((contents, checked, subst (λ t. IsFirstFault t texts k g) over h.0), h.1)
 script_of_run db texts room contents p _ over checked h ne = absurd h
 
-module _ (db : Bytes) (texts : List Bytes) (workers room : ℕ) (contents : Contents) (scripts : List Orders) (checked : IsChecked db contents)
+module _ (db : Bytes) (texts : List Bytes) (workers room : ℕ) (contents : Contents) (scripts : List Orders)
+    (checked : IsChecked db contents)
     (ordered : AreScripts contents.prelude texts scripts) where
   -- and too small a room, where all scripts are read. Else the run came to no end
   work_of_run : (f : Fault) → IsWorkFault contents workers room f → f ≢ NoMemory → IsRunFault db texts room f ⊎ IsRunLack workers f

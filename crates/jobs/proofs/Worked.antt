@@ -34,7 +34,8 @@ nothing_there (x ∷ xs) some = λ e. absurd cc
 
 -- ---- the sessions of an opened library
 
-module _ (db : Contents) (workers room : ℕ) (home : Home) (members : List Member) (o : IsOpened db (shape_with workers room) home members) where
+module _ (db : Contents) (workers room : ℕ) (home : Home) (members : List Member)
+    (o : IsOpened db (shape_with workers room) home members) where
   -- as many as workers
   many_sessions : length members ≡ workers
   many_sessions = sym (length-map members (λ m. m.known.name)) ∙ ap length o.names ∙ length-down workers workers

@@ -40,8 +40,8 @@ pub record IsWorked (contents : Contents) (workers room : ℕ) (scripts : List O
   pub of_workers : home.sessions ≡ workers
   pub edited : IsEditedFrom (setting_of contents) (opening contents) home scripts rows history library
 
--- the report of what became of all transactions, and the library after them, whose text is accepted; and, where it is asked for, the text of the
--- history, which spells it. After each front of it, too, the library verifies
+-- the report of what became of all transactions, and the library after them, whose text is accepted; and, where it is asked for, the text
+-- of the history, which spells it. After each front of it, too, the library verifies
 pub record PrintsRun (contents : Contents) (workers room : ℕ) (asked : Bool) (scripts : List Orders) (out history : Bytes) : Type 0 where
   pub rows : List (List Outcome)
   pub entries : List Entry
@@ -69,7 +69,8 @@ AreWithin _ = Unit {0}
 
 abbrev pub DoneAsAsked : Job → Printed → Type 0
 DoneAsAsked (Check db) p = IsCheck db.items p.out.items × (p.history.items ≡ [])
-DoneAsAsked (Run db texts workers room asked) p = IsRun db.items (map (λ t. t.items) texts.items) workers room asked p.out.items p.history.items
+DoneAsAsked (Run db texts workers room asked) p =
+    IsRun db.items (map (λ t. t.items) texts.items) workers room asked p.out.items p.history.items
 DoneAsAsked (Replay db history) p = IsReplay db.items history.items p.out.items × (p.history.items ≡ [])
 
 -- ---- what the program answers to its own texts
@@ -80,7 +81,8 @@ abbrev pub AnswersItsOwn : Job → (Bytes → Type 0) → Type 0
 AnswersItsOwn (Check db) is_answered = (a : Accepts db.items) → length db.items ≤ 16777216 → is_answered (ok_line a.database)
 AnswersItsOwn (Run db texts workers room asked) is_answered = Unit {0}
 AnswersItsOwn (Replay db history) is_answered =
-    (texts : List Bytes) (workers room : ℕ) (out : Bytes) (run : IsRun db.items texts workers room true out history.items) → length history.items ≤ 16777216
+    (texts : List Bytes) (workers room : ℕ) (out : Bytes) (run : IsRun db.items texts workers room true out history.items)
+    → length history.items ≤ 16777216
     → is_answered (replayed_lines (length run.printed.entries) run.printed.library)
 
 -- this is printed, unless memory ran out
@@ -90,8 +92,8 @@ IsPrintedBy (Err f) out = f ≡ NoMemory
 
 -- ---- faults
 
--- the fault of a run: that of its database, or the fault of the first script that has one, the k-th at the place k; or, where all are read, that
--- the bodies of the database's assertions have more words than the room
+-- the fault of a run: that of its database, or the fault of the first script that has one, the k-th at the place k; or, where all are read,
+-- that the bodies of the database's assertions have more words than the room
 abbrev pub IsRunFault : Bytes → List Bytes → ℕ → Fault → Type 0
 IsRunFault db texts room (Text (suc k) f) =
     ((contents : Contents) × IsChecked db contents × IsFirstFault contents.prelude texts k f) × (f.kind ≢ OutOfMemory)
@@ -100,8 +102,8 @@ IsRunFault db texts room StoreFull =
     × (room < bodies_length contents.assertions)
 IsRunFault db texts room f = IsDatabaseFault db f
 
--- why a run that has no fault may come to no end: a thread for one of two workers or more can't be had. No number is missing in its history, and
--- no lock is held at its end
+-- why a run that has no fault may come to no end: a thread for one of two workers or more can't be had. No number is missing in its
+-- history, and no lock is held at its end
 abbrev pub IsRunLack : ℕ → Fault → Type 0
 IsRunLack workers NoThread = 2 ≤ workers
 IsRunLack workers _ = ⊥

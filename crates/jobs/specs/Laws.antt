@@ -20,8 +20,10 @@ abbrev pub AcceptedTextsHaveNoFault : Type 0
 AcceptedTextsHaveNoFault =
     (text : Vec ℕ Global) (f : Fault) → Accepts text.items → length text.items ≤ 16777216 → IsFaultOf (Check text) f → ⊥
 
--- nor has a replay of the history that a run gave where it was asked for, over the same database, where its text has at most 16,777,216 bytes
+-- nor has a replay of the history that a run gave where it was asked for, over the same database, where its text has at most 16,777,216
+-- bytes
 abbrev pub RunsHaveNoFaultAgain : Type 0
 RunsHaveNoFaultAgain =
-    (db history : Vec ℕ Global) (texts : List Bytes) (workers room : ℕ) (out : Bytes) (f : Fault) → IsRun db.items texts workers room true out history.items
+    (db history : Vec ℕ Global) (texts : List Bytes) (workers room : ℕ) (out : Bytes) (f : Fault)
+    → IsRun db.items texts workers room true out history.items
     → length history.items ≤ 16777216 → IsFaultOf (Replay db history) f → ⊥

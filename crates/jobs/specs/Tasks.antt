@@ -32,7 +32,8 @@ pub record IsJobOf (asked : Task) (given : List Bytes) (j : Job) : Type 0 where
 
 -- ---- what is answered
 
--- what the job prints; or the line of its fault, behind the path of the text that has it; or why it came to no end; or that there is no memory
+-- what the job prints; or the line of its fault, behind the path of the text that has it; or why it came to no end; or that there is no
+-- memory
 abbrev pub Answers : List Bytes → Job → Answered → Type 0
 Answers paths j (Done printed) = DoneAsAsked j printed
 Answers paths j (Refused line) =

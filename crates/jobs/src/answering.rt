@@ -22,8 +22,8 @@ pub enum Answered {
     Refused(String),
 }
 
-/// Does a job on the texts of files, of which `paths` are the paths: the database's, then each script's, or the history's. The workers and the
-/// room of a run are within their limits. Who watches is told of a run while its scripts are run. It may wait.
+/// Does a job on the texts of files, of which `paths` are the paths: the database's, then each script's, or the history's. The workers and
+/// the room of a run are within their limits. Who watches is told of a run while its scripts are run. It may wait.
 ///
 /// # Errors
 ///

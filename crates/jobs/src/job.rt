@@ -7,8 +7,8 @@ pub enum Job {
     Check {
         db: Vec<u8>,
     },
-    /// Runs the scripts over the library of a database, with so many workers, 1 to 64, each of which claims the next script. The store of the
-    /// library has room for so many words, at most 16,777,216. The history's text is written where it is asked for.
+    /// Runs the scripts over the library of a database, with so many workers, 1 to 64, each of which claims the next script. The store of
+    /// the library has room for so many words, at most 16,777,216. The history's text is written where it is asked for.
     Run {
         db: Vec<u8>,
         scripts: Vec<Vec<u8>>,
@@ -28,7 +28,7 @@ pub enum Job {
 pub struct Printed {
     /// The text for the standard output.
     pub out: Vec<u8>,
-    /// The text of a run's history, where it is asked for: for each number, from 1, the transaction that was committed with it, with its replies,
-    /// or nothing. Else empty, as for other jobs.
+    /// The text of a run's history, where it is asked for: for each number, from 1, the transaction that was committed with it, with its
+    /// replies, or nothing. Else empty, as for other jobs.
     pub history: Vec<u8>,
 }

@@ -8,8 +8,8 @@ pub fn fault_labels_are_shown()
     ensures { FaultLabelsAreShown }
 {}
 
-/// An accepted text of at most 16,777,216 bytes, as each export of a run or a replay of that length is, is the text of a database: it has no
-/// fault, and each of its proofs checks. So a check of it has no fault.
+/// An accepted text of at most 16,777,216 bytes, as each export of a run or a replay of that length is, is the text of a database: it has
+/// no fault, and each of its proofs checks. So a check of it has no fault.
 pub fn accepted_texts_check()
     ensures checked { AcceptedTextsCheck }
     ensures faultless { AcceptedTextsHaveNoFault }

@@ -28,8 +28,10 @@ fn run(
     watch: &(impl Watch + Sync),
 ) -> Result<Printed, Fault>
     requires within { IsWithin plan.workers plan.room }
-    ensures done { IfOk result (λ p. IsRun db.now (map (λ t. t.items) scripts.now) plan.workers plan.room plan.history p.out.items p.history.items) }
-    ensures fault { IfErr result (λ f. f ≢ NoMemory → IsRunFault db.now (map (λ t. t.items) scripts.now) plan.room f ⊎ IsRunLack plan.workers f) }
+    ensures done { IfOk result (λ p. IsRun db.now
+        (map (λ t. t.items) scripts.now) plan.workers plan.room plan.history p.out.items p.history.items) }
+    ensures fault { IfErr result (λ f. f ≢ NoMemory → IsRunFault db.now (map (λ t. t.items) scripts.now) plan.room f
+        ⊎ IsRunLack plan.workers f) }
     ensures refused { (f : FaultOfJob) → IsRunFault db.now (map (λ t. t.items) scripts.now) plan.room f → RefusesWith f result }
 {
     let db = read_and_check(rt, alloc, keys, db)?;
@@ -51,7 +53,8 @@ pub fn perform(
 ) -> Result<Printed, Fault>
     requires { AreWithin job.now }
     // The texts are read as they are spelled. A run prints the report of what becomes of all its transactions, and then, as a replay does,
-    // the exported text of the library after its history. The history tells of these outcomes, and is legal; a replayed history is legal too.
+    // the exported text of the library after its history. The history tells of these outcomes, and is legal; a replayed history is legal
+    // too.
     ensures done { IfOk result (λ p. DoneAsAsked job.now p) }
     // The fault is the first that the job has; or a run came to no end; or memory ran out.
     ensures fault { IfErr result (λ f. f ≢ NoMemory → IsFaultOf job.now f ⊎ IsLackOf job.now f) }

@@ -181,8 +181,8 @@ fn print_edited(
         IsWorked db.now workers room scripts.now (lists_of edited.outcomes.items) edited.history edited.library →
         IfOk result (λ p. PrintsRun db.now workers room asked scripts.now p.out.items p.history.items) }
 {
-    // For the proof: some text declares the database; the library verifies, and is in export order; and there are no more entries than a text
-    // can count.
+    // For the proof: some text declares the database; the library verifies, and is in export order; and there are no more entries than a
+    // text can count.
     let _assertions = db.assertions();
     let _entries = edited.library.entries();
     let _count = count_of(edited.history.as_slice());

@@ -20,8 +20,8 @@ pub fn runs_are_lawful<Origin>()
     ensures { RunsAreLawful Origin }
 {}
 
-/// A run that keeps nothing aside and looked at the whole library, as its note has it in export order, is lawful: so a session may tell what
-/// it saw. `Origin` is what such runs begin with.
+/// A run that keeps nothing aside and looked at the whole library, as its note has it in export order, is lawful: so a session may tell
+/// what it saw. `Origin` is what such runs begin with.
 pub fn looks_are_lawful<Origin>()
     ensures { LooksAreLawful Origin }
 {}

@@ -74,7 +74,8 @@ has_cell c (p ∷ ps) (inl e) = (p.1, inl (λ j. (e j, p.1)))
 has_cell c (p ∷ ps) (inr h) = let more = has_cell c ps h in (more.0, inr more.1)
 
 -- each cell that is to be written below some cell has a value among all the writes
-pub cell_written : (slots : List Slot) (n c : ℕ) → Has c (cells_of (writes_below slots n)) → (v : ℕ) × (written c (writes_kept slots) ≡ Some v)
+pub cell_written : (slots : List Slot) (n c : ℕ) → Has c (cells_of (writes_below slots n)) → (v : ℕ)
+    × (written c (writes_kept slots) ≡ Some v)
 cell_written slots n c h =
     let pair = has_cell c (writes_below slots n) h in (pair.0, written_kept slots c ∙ has_below slots n c pair.0 pair.1)
 

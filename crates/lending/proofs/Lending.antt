@@ -66,7 +66,15 @@ base_count l stage over i =
 
 -- the run among the fields of the code
 abbrev pub lending_in : Inside → Lending
-lending_in s = record { given = s.given.value; began = s.began.value; going = s.run; may_stage = s.may_stage; full = s.full; staged = s.stage }
+lending_in s = record {
+  given = s.given.value;
+  began = s.began.value;
+  going = s.run;
+  may_stage = s.may_stage;
+  full = s.full;
+  staged =
+      s.stage;
+}
 
 -- ---- it begins
 
@@ -111,13 +119,16 @@ module _ (g : Given) (k : Pass) (stage : Staged) (mode : Mode) (may : Bool) (r :
       }
 
 -- where the pass and what was given are known by other names
-pub began_lent : (g : Given) (k : Pass) (stage : Staged) (mode : Mode) (may : Bool) (told : Given) (pass known : Pass) (r : Going Given Note)
+pub began_lent : (g : Given) (k : Pass) (stage : Staged) (mode : Mode) (may : Bool) (told : Given) (pass known : Pass)
+    (r : Going Given Note)
     → pass ≡ k → told ≡ g → known ≡ pass → Begins library_terms mode pass r → IsPassOn g k
     → length pass.seen.history ≤ r.place → AreStaged pass.seen.ranges stage
     → IsLent (record { given = told; began = known; going = r; may_stage = may; full = false; staged = stage }) stage None
 began_lent g k stage mode may told pass known r f m n b on placed staged =
-    subst (λ (x : Given). IsLent (record { given = x; began = known; going = r; may_stage = may; full = false; staged = stage }) stage None) (sym m)
-    (subst (λ (x : Pass). IsLent (record { given = g; began = x; going = r; may_stage = may; full = false; staged = stage }) stage None) (sym n)
+    subst (λ (x : Given). IsLent (record { given = x; began = known; going = r; may_stage = may; full = false; staged = stage }) stage None)
+    (sym m)
+    (subst (λ (x : Pass). IsLent (record { given = g; began = x; going = r; may_stage = may; full = false; staged = stage }) stage None)
+    (sym n)
     (begins_lent g pass stage mode may r b (subst (IsPassOn g) (sym f) on) placed staged))
 
 -- ---- a read is noted
@@ -213,7 +224,8 @@ module _ (l : Lending) (stage : Staged) (over : Option Conflict) (i : IsLent l s
       → SeenGrows l.going.known.seen seen → Stands library_terms (later l seen looked full taken added now no_room).going
       → AreStaged seen.ranges next → now ≡ ended
       → ((c : Conflict) → ended ≡ Some c → HasMet c (later l seen looked full taken added now no_room).going)
-      → (ended ≡ None → FindsNone l.going.place looked l.going.known.found) → (no_room ≡ true → (is_some full ≡ true) × (l.may_stage ≡ true))
+      → (ended ≡ None → FindsNone l.going.place looked l.going.known.found)
+      → (no_room ≡ true → (is_some full ≡ true) × (l.may_stage ≡ true))
       → (no_room ≡ false → full ≡ l.began.full) → ((found : ℕ × ℕ) → l.going.known.full ≡ Some found → full ≡ Some found)
       → IsLent (later l seen looked full taken added now no_room) next ended
   later_lent seen looked full taken added now no_room next ended grows stands staged over_is met clear full_is unrefused stays =
@@ -327,7 +339,8 @@ module _ (l : Lending) (stage : Staged) (over : Option Conflict) (i : IsLent l s
       subst (λ (x : Going Given Note). IsLent (record l { going = x; full = true }) stage over) (sym h.is)
       (later_lent seen k.looked (Some (tail, count)) k.taken added l.going.over true stage over h.grows
       (subst (Stands library_terms) h.is h.stands) (staged_on seen h.grows) i.over_is
-      (met_on seen (Some (tail, count)) k.taken added true h.grows) i.clear (λ t. (refl, may)) (λ t. absurd cc) (λ p e. let none = h.unrefused in absurd cc))
+      (met_on seen (Some (tail, count)) k.taken added true h.grows) i.clear (λ t. (refl, may)) (λ t. absurd cc) (λ p e. let none =
+      h.unrefused in absurd cc))
 
   -- a read met a conflict
   pub stops_lent : (cell : ℕ) (met : Conflict) (r : Going Given Note) → HasStopped library_terms cell met l.going r
@@ -363,7 +376,8 @@ module _ (l : Lending) (stage : Staged) (over : Option Conflict) (i : IsLent l s
     read_lent none noted =
         record {
           on = i.on;
-          since = ap (λ (k : Pass). let z : Pass = record k { seen = r.known.seen; looked = Some (cell, h.word); found = (cell, h.word) ∷ l.going.known.found } in z)
+          since = ap (λ (k : Pass). let z : Pass =
+              record k { seen = r.known.seen; looked = Some (cell, h.word); found = (cell, h.word) ∷ l.going.known.found } in z)
               i.since;
           grows = seen_trans l.began.seen l.going.known.seen r.known.seen i.grows h.grows;
           placed = i.placed;

@@ -42,8 +42,11 @@ module _ (l : Lending) (stage : Staged) (over : Option Conflict) (i : IsLent l s
       where
         go : (o : Option ℕ) → value_kept l.going.slots cell ≡ o → Ends r
         go None e =
-            let h = read going_on e in
-            (reads_lent l stage over i cell v r h going_on noted, reads_sight l stage over i cell v r h e, reads_within l stage over i cell v r h)
+            let h = read going_on e in (
+              reads_lent l stage over i cell v r h going_on noted,
+              reads_sight l stage over i cell v r h e,
+              reads_within l stage over i cell v r h,
+            )
         go (Some w) e =
             let k = kept w going_on e in
             let same : w ≡ v = (let a : ◌≡◌ {A = Answer} (Ok v) (Ok w) = k.0 in cc) in

@@ -75,7 +75,10 @@ loads_look l r h =
 pub loads_nothing : (l : Lending) (r : Going Given Note) → HasLoaded library_terms l.going r
     → ReadsNothing (sight_of l) (sight_of (record l { going = r }))
 loads_nothing l r h =
-    subst (λ (x : Going Given Note). ReadsNothing (sight_of l) (sight_of (record l { going = x }))) (sym h.is) (record { asked = λ c was. was })
+    subst (λ (x : Going Given Note). ReadsNothing (sight_of l) (sight_of (record l { going = x }))) (sym h.is) (record {
+      asked =
+          λ c was. was;
+    })
 
 -- words were loaded, or none
 pub loads_some : (l : Lending) (r : Going Given Note) → HasLoadedSome library_terms l.going r
@@ -112,7 +115,8 @@ stops_within l cell met r h =
 pub refused_look : (l : Lending) (count : ℕ) (r : Going Given Note) → IsRefused library_terms count l.going r
     → Looks (sight_of l) (sight_of (record l { going = r; full = true }))
 refused_look l count r (inl (p, e, same)) =
-    subst (λ (x : Going Given Note). Looks (sight_of l) (sight_of (record l { going = x; full = true }))) (sym same) (looks_refl (sight_of l))
+    subst (λ (x : Going Given Note). Looks (sight_of l) (sight_of (record l { going = x; full = true }))) (sym same)
+    (looks_refl (sight_of l))
 refused_look l count r (inr (tail, h)) =
     let k = l.going.known in
     subst (λ (x : Going Given Note). Looks (sight_of l) (sight_of (record l { going = x; full = true }))) (sym h.is)
@@ -189,7 +193,8 @@ stages_sight l words range r next made h none ok err len =
     })
 
 -- and no cell is read
-pub stages_nothing : (l : Lending) (words : List ℕ) (start : ℕ) (r : Going Given Note) (next : Staged) → HasStaged library_terms words start l.going r
+pub stages_nothing : (l : Lending) (words : List ℕ) (start : ℕ) (r : Going Given Note) (next : Staged)
+    → HasStaged library_terms words start l.going r
     → ReadsNothing (sight_of l) (sight_of (record l { going = r; staged = next }))
 stages_nothing l words start r next h =
     subst (λ (x : Going Given Note). ReadsNothing (sight_of l) (sight_of (record l { going = x; staged = next }))) (sym h.is)

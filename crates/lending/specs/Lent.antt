@@ -80,21 +80,22 @@ pub record Lent : Type 0 where
   pub run : Lending
   pub agrees : ∥ Agrees run ∥₁
 
--- the word that the last look found, if there was one, is no conflict of a run at the place: it shows the lock free, and a version up to there,
--- and it is the one under which the newest read of the cell ended
+-- the word that the last look found, if there was one, is no conflict of a run at the place: it shows the lock free, and a version up to
+-- there, and it is the one under which the newest read of the cell ended
 abbrev pub FindsNone : ℕ → Option (ℕ × ℕ) → Pairs → Type 0
 FindsNone place looked found =
     (c word : ℕ) → looked ≡ Some (c, word) → (HasCause place word → ⊥) × (written c found ≡ Some word)
 
--- the run has met this conflict by a read. The word before is the one that its newest read of the cell found; a run that only reads tells none
+-- the run has met this conflict by a read. The word before is the one that its newest read of the cell found; a run that only reads tells
+-- none
 pub record HasMet (met : Conflict) (g : Going Given Note) : Type 0 where
   pub looked : g.known.looked ≡ Some (met.cell, met.word)
   pub written : WasWritten g.known.seen.history met.cell (met.word / 2)
   pub cause : HasCause g.place met.word
   pub before : met.before ≡ word_told g.mode met.cell g.known.found
 
--- what is so of the run at all times: of its pass nothing is lost or added since it began but what it has seen, its load of the clock, which
--- found its place, its looks, its reads and its stagings
+-- what is so of the run at all times: of its pass nothing is lost or added since it began but what it has seen, its load of the clock,
+-- which found its place, its looks, its reads and its stagings
 pub record IsLent (l : Lending) (stage : Staged) (over : Option Conflict) : Type 0 where
   pub on : IsPassOn l.given l.began
   pub since : l.going.known ≡ record l.began {

@@ -37,7 +37,15 @@ pub struct Live<'w> {
     may_stage: bool,
     given: Snapshot<Given>,
     began: Snapshot<Pass<LibraryLaw>>,
-    ghost agrees: { ∥ Agrees (record { given = given.value; began = began.value; going = run; may_stage = may_stage; full = full; staged = stage }) ∥₁ },
+    ghost agrees: { ∥ Agrees (record {
+      given = given.value;
+      began = began.value;
+      going = run;
+      may_stage = may_stage;
+      full = full;
+      staged =
+          stage;
+    }) ∥₁ },
 }
 
 impl<'w> Model for Live<'w> {
@@ -49,9 +57,29 @@ impl<'w> Model for Live<'w> {
 
     ghost coded = { Prim.hlevel (codes, staged_code) };
 
-    ghost view = { λ l. record { run = record { given = l.given.value; began = l.began.value; going = l.run; may_stage = l.may_stage; full = l.full; staged = l.stage }; agrees = l.agrees } };
+    ghost view = { λ l. record {
+      run = record {
+        given = l.given.value;
+        began = l.began.value;
+        going = l.run;
+        may_stage = l.may_stage;
+        full =
+            l.full;
+        staged = l.stage;
+      };
+      agrees = l.agrees;
+    } };
 
-    ghost invariant = { λ l. (l.slots ≡ l.given.value.slots) × IsLent (record { given = l.given.value; began = l.began.value; going = l.run; may_stage = l.may_stage; full = l.full; staged = l.stage }) l.stage l.over };
+    ghost invariant = { λ l. (l.slots ≡ l.given.value.slots)
+        × IsLent (record {
+          given = l.given.value;
+          began = l.began.value;
+          going = l.run;
+          may_stage = l.may_stage;
+          full = l.full;
+          staged =
+              l.stage;
+        }) l.stage l.over };
 }
 
 impl<'w> Live<'w> {
@@ -115,8 +143,10 @@ impl<'w> Live<'w> {
     /// was staged is forgotten where it committed, and stays where it didn't.
     pub fn end(self, note: &Note) -> (Kit, Outcome)
         requires { self.run.going.over ≡ None → IsLawfulWith self.run (writes_kept self.run.going.slots) note.now }
-        ensures over { (k : ConflictValue) → self.entry.run.going.over ≡ Some k → (result.1 ≡ EndsConflict k None) × (result.0.pass ≡ self.entry.run.going.known) }
-        ensures reading { self.entry.run.going.over ≡ None → self.entry.run.going.mode ≡ Reading → result.1 ≡ EndsRead self.entry.run.going.place }
+        ensures over { (k : ConflictValue) → self.entry.run.going.over ≡ Some k → (result.1 ≡ EndsConflict k None)
+            × (result.0.pass ≡ self.entry.run.going.known) }
+        ensures reading { self.entry.run.going.over ≡ None → self.entry.run.going.mode ≡ Reading
+            → result.1 ≡ EndsRead self.entry.run.going.place }
         ensures ended { self.entry.run.going.over ≡ None → Ends library_terms note.now self.entry.run.going result.0.pass result.1 }
         ensures staged { result.0.staged ≡ staged_after result.1 self.entry.run.staged }
         ensures taken { result.0.pass.taken ≡ self.entry.run.going.known.taken }

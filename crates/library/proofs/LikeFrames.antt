@@ -31,7 +31,8 @@ alike-decides old new =
     let statement = same_expression new.statement old.statement in
     let pairs = list_all (λ q. list_any (λ r. is_same_pair r q) old.pairs) new.pairs in
     Decides-and (hyps && statement) pairs
-    (Decides-and hyps statement (slice_eq-Decides expressions-decide new.hyps old.hyps hyps refl) (expressions-decide new.statement old.statement))
+    (Decides-and hyps statement (slice_eq-Decides expressions-decide new.hyps old.hyps hyps refl)
+    (expressions-decide new.statement old.statement))
     (all-contained-decides old.pairs new.pairs)
 
 -- so the frame of the one stands for that of the other

@@ -36,7 +36,8 @@ no_proof_renamed : (old new : List ℕ) (a : Assertion) → (a.kind ≡ Axiom �
 no_proof_renamed old new a none is = ap (map (step_relabelled (replacing old new))) (none is)
 
 -- where the new proof cites apart from the new label
-fits_renamed : (t : Tables) (old new : List ℕ) (a : Assertion) → All (CitesApart (renamed old new a).label) (renamed old new a).proof → Fits t a
+fits_renamed : (t : Tables) (old new : List ℕ) (a : Assertion) → All (CitesApart (renamed old new a).label) (renamed old new a).proof
+    → Fits t a
     → Fits t (renamed old new a)
 fits_renamed t old new a apart f = record {
   statement = f.statement;

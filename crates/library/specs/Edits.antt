@@ -169,8 +169,8 @@ citer_not_higher lib rank label = where_so (list_any (λ e. cites label e && nat
 abbrev pub still_cited : List Ranked → List ℕ → Option Reason
 still_cited lib label = where_so (nat_le 1 (citers lib label)) (reason.StillCited (citers lib label))
 
--- what is seen of the assertion `new` may stand where `old` is cited: it says the same of the same hypotheses, and each pair that it restricts is one
--- that `old` restricts (Metamath book, section 4.2.7, on what a citation has to meet)
+-- what is seen of the assertion `new` may stand where `old` is cited: it says the same of the same hypotheses, and each pair that it
+-- restricts is one that `old` restricts (Metamath book, section 4.2.7, on what a citation has to meet)
 abbrev pub is_alike : Frame → Frame → Bool
 is_alike old new =
     pointwise same_expression new.hyps old.hyps && same_expression new.statement old.statement

@@ -36,8 +36,8 @@ highest_rank = 4294967295
 abbrev pub label_of : Ranked → List ℕ
 label_of e = e.assertion.label
 
--- a library is a list of assertions with ranks, in whatever order: each rank from 1 to 4,294,967,295, each label lawful, no other's, and not
--- L.k of another's L; at most as many as slots
+-- a library is a list of assertions with ranks, in whatever order: each rank from 1 to 4,294,967,295, each label lawful, no other's, and
+-- not L.k of another's L; at most as many as slots
 pub record IsLibrary (s : Setting) (lib : List Ranked) : Type 0 where
   pub ranks : All (λ e. (1 ≤ e.rank) × (e.rank ≤ highest_rank)) lib
   pub lawful : All (λ e. IsTrue (is_lawful_label s.prelude (label_of e))) lib

@@ -67,9 +67,9 @@ fn says_no_less(old: &Frame, new: &Frame) -> bool
     are_within(new.pairs.as_slice(), old.pairs.as_slice())
 }
 
-/// Whether the assertion `new` may stand where `old` is cited, by what a citing proof sees of them: it says the same of the same hypotheses, and
-/// restricts no pair that `old` doesn't. The pairs of `old` are gone through for each of `new` unless they ascend, as those of each frame of
-/// `frame_of` do.
+/// Whether the assertion `new` may stand where `old` is cited, by what a citing proof sees of them: it says the same of the same
+/// hypotheses, and restricts no pair that `old` doesn't. The pairs of `old` are gone through for each of `new` unless they ascend, as those
+/// of each frame of `frame_of` do.
 pub fn is_alike(old: &Frame, new: &Frame) -> bool
     ensures { result ≡ is_alike old.now new.now }
 {

@@ -57,8 +57,8 @@ pub enum Command {
 }
 
 impl Command {
-    /// Whether the command is within the limits of a prelude: an added assertion fits it, and another proof of L has at most 16,384 steps, of
-    /// which none cites `L.k`. Of a rank nothing is asked, as every `u32` is one.
+    /// Whether the command is within the limits of a prelude: an added assertion fits it, and another proof of L has at most 16,384 steps,
+    /// of which none cites `L.k`. Of a rank nothing is asked, as every `u32` is one.
     pub fn fits(&self, prelude: &Prelude) -> bool
         ensures { IsTrue result ↔ CommandFits prelude.now self.now }
     {
@@ -113,8 +113,8 @@ pub enum Reply {
     Listed { lines: Sequence<Line> },
 }
 
-/// The replies to the commands of a transaction, one each, in their order. What became of a transaction, its session's record and its entry in
-/// the history share them.
+/// The replies to the commands of a transaction, one each, in their order. What became of a transaction, its session's record and its entry
+/// in the history share them.
 pub type Replies = SharedList<Reply>;
 
 /// The commands of a transaction: all are done, or none. A script, a session's record and an entry of the history share them.

@@ -1,4 +1,5 @@
-//! A library of assertions with ranks: the commands on it and their replies, what each does, as a definition; and histories of transactions.
+//! A library of assertions with ranks: the commands on it and their replies, what each does, as a definition; and histories of
+//! transactions.
 //!
 //! A transaction of one command:
 //!
@@ -8,7 +9,7 @@
 //!     let new = Label::from_slice(alloc, b"refl")?;
 //!     let mut commands = Vec::new(alloc);
 //!     commands.push(Command::Rename { old, new })?;
-//!     Ok(Sequence::from_vec(commands))
+//!     SharedList::from_vec(alloc, commands)
 //! }
 //! ```
 #![tactic(auto)]

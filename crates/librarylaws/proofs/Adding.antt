@@ -15,7 +15,8 @@ use Rattle.library.proofs.Showing.{InRange, ChecksIn, verifies_permutation}
 
 -- one more in front
 front_verifies : (s : Setting) (lib : List Ranked) (e : Ranked) → Verifies s lib → InRange e
-    → IsTrue (is_lawful_label s.prelude (label_of e)) → has lib (label_of e) ≡ false → clashes lib (label_of e) ≡ false → length lib < s.slots
+    → IsTrue (is_lawful_label s.prelude (label_of e)) → has lib (label_of e) ≡ false → clashes lib (label_of e) ≡ false
+    → length lib < s.slots
     → Fits s.prelude e.assertion → ChecksIn s lib e → Verifies s (e ∷ lib)
 front_verifies s lib e v in_range lawful free clear room fits checks =
     let differ : Distinct bytes_eq (map label_of (e ∷ lib)) = (has-labels lib (label_of e) ∙ free, v.library.distinct) in
@@ -37,7 +38,8 @@ front_verifies s lib e v in_range lawful free clear room fits checks =
 
 -- an assertion that fits and checks may be added under a lawful label that none has and that clashes with none, where there is room
 pub add_verifies : (s : Setting) (lib : List Ranked) (e : Ranked) → Verifies s lib → InRange e
-    → IsTrue (is_lawful_label s.prelude (label_of e)) → has lib (label_of e) ≡ false → clashes lib (label_of e) ≡ false → length lib < s.slots
+    → IsTrue (is_lawful_label s.prelude (label_of e)) → has lib (label_of e) ≡ false → clashes lib (label_of e) ≡ false
+    → length lib < s.slots
     → Fits s.prelude e.assertion → ChecksIn s lib e → Verifies s (added lib e.rank e.assertion)
 add_verifies s lib e v in_range lawful free clear room fits checks =
     verifies_permutation s (e ∷ lib) (lib ++ e ∷ []) (front_verifies s lib e v in_range lawful free clear room fits checks)

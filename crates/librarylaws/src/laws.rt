@@ -56,8 +56,8 @@ pub fn reads_leave_the_library()
     ensures { ReadsLeave }
 {}
 
-/// The replies of a transaction on a library that verifies are within the limits of the prelude, where its commands are; so are those of each
-/// done entry of a history that is legal from such a library.
+/// The replies of a transaction on a library that verifies are within the limits of the prelude, where its commands are; so are those of
+/// each done entry of a history that is legal from such a library.
 pub fn replies_are_within_limits()
     ensures replies { RepliesFit }
     ensures histories { LegalRepliesFit }

@@ -27,10 +27,12 @@ module _ (slots : ℕ) (st next : State) (lib : List Ranked) (shows : Shows slot
   names j l named =
       record {
         within = named.within;
-        body = body_same st next (name_cell j) l ranges (unranked (name_cell j) j 0 (omega arith) (omega arith) (λ z. omega (arith, z))) named.body;
+        body = body_same st next (name_cell j) l ranges
+            (unranked (name_cell j) j 0 (omega arith) (omega arith) (λ z. omega (arith, z))) named.body;
       }
 
-  recounted : (j : ℕ) (l : List ℕ) → st.value (citers_cell j) ≡ citers lib l → next.value (citers_cell j) ≡ citers (changed label (with_rank rank) lib) l
+  recounted : (j : ℕ) (l : List ℕ) → st.value (citers_cell j) ≡ citers lib l
+      → next.value (citers_cell j) ≡ citers (changed label (with_rank rank) lib) l
   recounted j l was = unranked (citers_cell j) j 4 refl (omega arith) (λ z. omega (arith, z)) ∙ was ∙ sym (citers-moved lib label l rank)
 
   pub moved_shows : Shows slots next (changed label (with_rank rank) lib)
@@ -38,7 +40,8 @@ module _ (slots : ℕ) (st next : State) (lib : List Ranked) (shows : Shows slot
       shows_changed slots st next lib shows store apart label i at (with_rank rank) (λ e. refl)
       (record {
         name = names i (label_of at.entry) at.holds.name;
-        statement = body_same st next (statement_cell i) _ ranges (unranked (statement_cell i) i 1 refl (omega arith) (λ z. omega (arith, z))) at.holds.statement;
+        statement = body_same st next (statement_cell i) _ ranges
+            (unranked (statement_cell i) i 1 refl (omega arith) (λ z. omega (arith, z))) at.holds.statement;
         proof = proof_same slots st next names i at.entry.assertion.kind at.entry.assertion.proof ranges
             (unranked (proof_cell i) i 2 refl (omega arith) (λ z. omega (arith, z))) at.holds.proof;
         rank = ranked;

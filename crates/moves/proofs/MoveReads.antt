@@ -26,12 +26,14 @@ use Rattle.groundwork.proofs.Seeing.{views_later}
 -- ---- whether a citer stands in the way
 
 -- the rank of a slot is read
-pub rank_read : {O : Type 0} → {cell : ℕ} → (slots low high j : ℕ) (r s t : Sight O) → ReadsWhere (IsOfRanks slots low high) r s → Onward s t
+pub rank_read : {O : Type 0} → {cell : ℕ} → (slots low high j : ℕ) (r s t : Sight O) → ReadsWhere (IsOfRanks slots low high) r s
+    → Onward s t
     → j < slots → cell ≡ rank_cell j → ReadsWithin (λ c. c ≡ cell) s t → ReadsWhere (IsOfRanks slots low high) r t
 rank_read slots low high j r s t before on lt at read = where_more before on read (λ st m c is. (j, lt, inl (is ∙ at)))
 
 -- and its proof, where the rank is between
-pub proof_read : {O : Type 0} → (slots low high j rank : ℕ) (r s t : Sight O) → ReadsWhere (IsOfRanks slots low high) r s → Looks r s → Onward s t
+pub proof_read : {O : Type 0} → (slots low high j rank : ℕ) (r s t : Sight O) → ReadsWhere (IsOfRanks slots low high) r s → Looks r s
+    → Onward s t
     → j < slots → ((st : State) → Matches s st → rank ≡ (after s st).value (rank_cell j)) → low < rank → rank ≤ high
     → ReadsWithin (λ c. c ≡ proof_cell j) s t → ReadsWhere (IsOfRanks slots low high) r t
 proof_read slots low high j rank r s t before looks on lt value above below read =
@@ -71,7 +73,8 @@ module _ {O : Type 0} (old : Sight O) (label : List ℕ) (rank : ℕ) where
       (reads.each st v.matches)
 
   -- cells are read that are of the assertion in the slot
-  pub move_more : (s t : Sight O) (i : ℕ) (such : State → List Ranked → Ranked → ℕ → Type 0) → Looks old s → Looks s t → Finds s label (Some i)
+  pub move_more : (s t : Sight O) (i : ℕ) (such : State → List Ranked → Ranked → ℕ → Type 0) → Looks old s → Looks s t
+      → Finds s label (Some i)
       → MovesSo label rank old s → ForEachHeld t i (λ st lib e. ReadsWithin (such st lib e) s t)
       → ((st : State) (lib : List Ranked) (e : Ranked) (c : ℕ) → such st lib e c → IsOfMoving old.setting.slots st lib i e rank c)
       → MovesSo label rank old t
@@ -103,13 +106,20 @@ module _ {O : Type 0} (old : Sight O) (label : List ℕ) (rank : ℕ) where
       asks_more (move_now t looks before st lib back v) (λ c is. inr (i, at, inr (inr (inl is)))) put
 
   -- the ranks of what its proof cites are read
-  pub ranks_within : (s t : Sight O) (i : ℕ) (kept : List StoredStep) → ForEachHeld t i (λ st lib e. AreStoredAs t.setting.slots st e.assertion.proof kept)
+  pub ranks_within : (s t : Sight O) (i : ℕ) (kept : List StoredStep)
+      → ForEachHeld t i (λ st lib e. AreStoredAs t.setting.slots st e.assertion.proof kept)
       → t.setting ≡ old.setting → ReadsWithin (IsRankOfSteps kept) s t
       → ForEachHeld t i (λ st lib e. ReadsWithin (IsRankOfCited old.setting.slots st lib e.assertion.proof) s t)
   ranks_within s t i kept stored same reads st lib v e at h =
       let are : AreStoredAs old.setting.slots (after t st) e.assertion.proof kept =
       subst (λ (x : Setting). AreStoredAs x.slots (after t st) e.assertion.proof kept) same (stored st lib v e at h) in
-      asks_wider (λ c k. let n = cited_slot old.setting.slots e.assertion.proof kept (after t st) k.0 are k.1 in (n.0, k.0, n.1, n.2, k.2)) reads
+      asks_wider (λ c k. let n = cited_slot old.setting.slots e.assertion.proof kept (after t st) k.0 are k.1 in (
+        n.0,
+        k.0,
+        n.1,
+        n.2,
+        k.2,
+      )) reads
 
 -- ---- what is kept aside
 

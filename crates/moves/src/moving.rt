@@ -53,8 +53,8 @@ pub fn move_to<C: Cells>(
 
 /// Whether an assertion that cites the one in the slot isn't above a rank.
 ///
-/// Its citers are above its own rank. So nothing is looked at where the new rank isn't, or where there is no citer; else the ranks of all slots,
-/// and the proofs of those between the two ranks.
+/// Its citers are above its own rank. So nothing is looked at where the new rank isn't, or where there is no citer; else the ranks of all
+/// slots, and the proofs of those between the two ranks.
 fn is_cited_up_to<C: Cells>(
     alloc: Global,
     cells: &mut C,
@@ -64,7 +64,8 @@ fn is_cited_up_to<C: Cells>(
     requires { slot < (C.sight cells.old).setting.slots }
     ensures looks { Looks (C.sight cells.old) (C.sight cells.new) }
     ensures ok { IfOk result (λ b. TellsCitedUpTo (C.sight cells.new) slot limit b) }
-    ensures reads { ForEachHeld (C.sight cells.new) slot (λ st lib e. ReadsWithin (IsOfRise (C.sight cells.old).setting.slots st lib slot e limit) (C.sight cells.old) (C.sight cells.new)) }
+    ensures reads { ForEachHeld (C.sight cells.new) slot
+        (λ st lib e. ReadsWithin (IsOfRise (C.sight cells.old).setting.slots st lib slot e limit) (C.sight cells.old) (C.sight cells.new)) }
 {
     let current = rank(cells, slot)?;
     if limit <= current || citers(cells, slot)? == 0 {

@@ -24,7 +24,8 @@ module _ {O : Type 0} (s0 s1 : Sight O) (i : ℕ) (from to : List ℕ) where
       since_then (OfCommandFound s0 i from (Rename from to)) before on2 (λ st lib m v.
       asks_wider (λ c is at.
       ⊎_elim (λ own. inr (inr (i, at, inr own)))
-      (λ look. inl (look_before s0.setting.slots (after s0 st) (after s1 st) (λ k low. others st k (λ z. omega (arith, low, within, z))) from c look))
+      (λ look. inl (look_before s0.setting.slots (after s0 st) (after s1 st)
+      (λ k low. others st k (λ z. omega (arith, low, within, z))) from c look))
       (taking_out s0.setting.slots i from (after s1 st) c
       (subst (λ (x : Setting). IsOfTakingOut x.slots i from (after s1 st) c) on1.setting is)))
       (reads.each st m))

@@ -51,7 +51,8 @@ rename_keeps s new i from to here within st lib m v c was =
 -- ---- an assertion more
 
 -- what is filled is what the command touches
-pub add_touches : {O : Type 0} → (s : Sight O) (from i rank : ℕ) (a : Assertion) (kept : List StoredStep) → from ≡ bucket s.setting.slots a.label
+pub add_touches : {O : Type 0} → (s : Sight O) (from i rank : ℕ) (a : Assertion) (kept : List StoredStep)
+    → from ≡ bucket s.setting.slots a.label
     → IsFirstEmpty s from i → ForEach s (λ st lib. AreStoredAs s.setting.slots st a.proof kept) → (st : State) (lib : List Ranked)
     → Views s st lib → (c : ℕ) → IsOfFilling s.setting.slots i a.label kept c → Touches s.setting.slots (after s st) lib (Add rank a) c
 add_touches s from i rank a kept from_is first stored st lib v c is =
@@ -66,7 +67,8 @@ add_touches s from i rank a kept from_is first stored st lib v c is =
           (stored st lib v) counted))) more) is,
     )
 
-pub add_keeps : {O : Type 0} → (s new : Sight O) (from i rank : ℕ) (a : Assertion) (kept : List StoredStep) → from ≡ bucket s.setting.slots a.label
+pub add_keeps : {O : Type 0} → (s new : Sight O) (from i rank : ℕ) (a : Assertion) (kept : List StoredStep)
+    → from ≡ bucket s.setting.slots a.label
     → IsFirstEmpty s from i → ForEach s (λ st lib. AreStoredAs s.setting.slots st a.proof kept)
     → KeepsAside (IsOfFilling s.setting.slots i a.label kept) s new → KeepsTo s new (Add rank a)
 add_keeps s new from i rank a kept from_is first stored within st lib m v c was =

@@ -29,7 +29,15 @@ shows_none slots st zeros = (
     library = refl;
     holds = All-nil (λ (p : Held). Holds slots st [] p.slot p.entry);
     apart = tt;
-    others = λ i lt. inr (record { name = zeros _; statement = zeros _; proof = zeros _; rank = zeros _; citers = zeros _; next = zeros _ });
+    others = λ i lt. inr (record {
+      name = zeros _;
+      statement = zeros _;
+      proof = zeros _;
+      rank = zeros _;
+      citers = zeros _;
+      next =
+          zeros _;
+    });
     chained = λ b lt. record { chain = []; starts = zeros _; has = IsPermutation-refl [] };
   },
   refl,

@@ -79,7 +79,8 @@ pub front_verifies : (db : Contents) (k slots : ℕ) → HasSpelling db → AllC
 front_verifies db k slots h all some few room =
     opening_verifies (front k db) slots
     (spelled_where_declarable (front k db) (front_declarable db.prelude k db.assertions (declarable db h)))
-    (front_checks db k all) some few (let n : length (take k db.assertions) ≤ length db.assertions = grind (arith, common_steps) in omega (arith, n, room))
+    (front_checks db k all) some few (let n : length (take k db.assertions) ≤ length db.assertions =
+    grind (arith, common_steps) in omega (arith, n, room))
 
 -- ---- one more
 
@@ -91,7 +92,8 @@ ranked_from-push n (x ∷ xs) a =
     ∙ ap (λ m. record { rank = 100 * n; assertion = x } ∷ (ranked_from (n + 1) xs ++ record { rank = 100 * m; assertion = a } ∷ []))
     (let e : n + 1 + length xs ≡ n + suc (length xs) = omega arith in e)
 
-held_from-push : (i : ℕ) (es : List Ranked) (e : Ranked) → held_from i (es ++ e ∷ []) ≡ held_from i es ++ record { slot = i + length es; entry = e } ∷ []
+held_from-push : (i : ℕ) (es : List Ranked) (e : Ranked)
+    → held_from i (es ++ e ∷ []) ≡ held_from i es ++ record { slot = i + length es; entry = e } ∷ []
 held_from-push i [] e = ap (λ j. record { slot = j; entry = e } ∷ []) (let n : i ≡ i + 0 = omega arith in n)
 held_from-push i (x ∷ es) e =
     ap (λ ps. record { slot = i; entry = x } ∷ ps) (held_from-push (suc i) es e)
@@ -147,7 +149,8 @@ module _ (db : Contents) (k : ℕ) (a : Assertion) (lt : k < length db.assertion
       has-ranked_from 1 (take k db.assertions) a.label ∙ any_label (take k db.assertions) a.label
       ∙ distinct_front bytes_eq bytes_eq-sym (map (λ (x : Assertion). x.label) (take k db.assertions)) [] a.label
       (subst (λ ls. Distinct bytes_eq ls)
-      (ap (map (λ (x : Assertion). x.label)) (next_front db k a lt is) ∙ map-append (λ (x : Assertion). x.label) (take k db.assertions) (a ∷ []))
+      (ap (map (λ (x : Assertion). x.label)) (next_front db k a lt is)
+      ∙ map-append (λ (x : Assertion). x.label) (take k db.assertions) (a ∷ []))
       (front_declarable db.prelude (k + 1) db.assertions d).distinct)
 
   known_label : (label : List ℕ) → (x : Assertion) × Contains (take k db.assertions) x × (x.label ≡ label)
@@ -183,6 +186,7 @@ module _ (db : Contents) (k : ℕ) (a : Assertion) (lt : k < length db.assertion
 
   pub label_some : IsDeclarable db.prelude db.assertions → a.label ≢ []
   label_some d none =
-      let lawful : IsTrue (is_lawful_label db.prelude a.label) = subst (λ (x : Assertion). IsTrue (is_lawful_label db.prelude x.label)) (sym is) (d.lawful k a lt) in
+      let lawful : IsTrue (is_lawful_label db.prelude a.label) =
+      subst (λ (x : Assertion). IsTrue (is_lawful_label db.prelude x.label)) (sym is) (d.lawful k a lt) in
       let empty : IsTrue (is_lawful_label db.prelude []) = subst (λ l. IsTrue (is_lawful_label db.prelude l)) none lawful in
       absurd cc

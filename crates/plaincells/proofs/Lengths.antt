@@ -33,7 +33,12 @@ expressions_part [] (suc i) = omega arith
 expressions_part (e ∷ es) zero = omega arith
 expressions_part (e ∷ es) (suc i) =
     let rest = expressions_part es i in
-    omega (arith, rest, length-append (expression_words e) (expressions_words (take i es)), length-append (expression_words e) (expressions_words es))
+    omega (
+      arith,
+      rest,
+      length-append (expression_words e) (expressions_words (take i es)),
+      length-append (expression_words e) (expressions_words es),
+    )
 
 -- what is left of a room behind the first expressions is too little for the next
 pub too_little : (es : List (List Symbol)) (i left room : ℕ) (e : List Symbol) → i < length es → e ≡ get_or es i e

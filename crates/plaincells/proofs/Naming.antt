@@ -109,9 +109,11 @@ module _ (slots : ℕ) (st : State) where
       one_of c (c / 5) (c % 5) (omega arith) first (slot_named lib shown (c / 5) (shown.others (c / 5) within))
 
 -- what range cells of a shown library hold is 0 or names a range
-pub shown_names : (slots : ℕ) (values : List ℕ) (ranges : List Range) (lib : List Ranked) → Shows slots (record { value = slice_index values; ranges = ranges }) lib
+pub shown_names : (slots : ℕ) (values : List ℕ) (ranges : List Range) (lib : List Ranked)
+    → Shows slots (record { value = slice_index values; ranges = ranges }) lib
     → (c v : ℕ) → slice_get values c ≡ Some v → is_ranged slots c ≡ true → Names ranges v
-shown_names slots values ranges lib shown c v at ranged = go (cell_named slots (record { value = slice_index values; ranges = ranges }) lib shown c ranged)
+shown_names slots values ranges lib shown c v at ranged =
+    go (cell_named slots (record { value = slice_index values; ranges = ranges }) lib shown c ranged)
   where
     is : slice_index values c ≡ v
     is = get_or_from_slice_get values c v 0 at

@@ -14,12 +14,14 @@ written_from : (vs : List ℕ) (n j c : ℕ) → j ≡ n + c → written j (numb
 written_from [] n j c e = refl
 written_from (v ∷ vs) n j zero e = go (eqb_tells n j)
   where
-    go : ((nat_eq n j ≡ true) × (n ≡ j)) ⊎ ((nat_eq n j ≡ false) × (n ≢ j)) → (if n == j then Some v else written j (numbered_from (suc n) vs)) ≡ Some v
+    go : ((nat_eq n j ≡ true) × (n ≡ j)) ⊎ ((nat_eq n j ≡ false) × (n ≢ j))
+        → (if n == j then Some v else written j (numbered_from (suc n) vs)) ≡ Some v
     go (inl h) = ap (λ b. if b then Some v else written j (numbered_from (suc n) vs)) h.0
     go (inr h) = absurd (h.1 (omega arith))
 written_from (v ∷ vs) n j (suc c) e = go (written_from vs (suc n) j c (omega arith)) (eqb_tells n j)
   where
-    go : written j (numbered_from (suc n) vs) ≡ slice_get vs c → ((nat_eq n j ≡ true) × (n ≡ j)) ⊎ ((nat_eq n j ≡ false) × (n ≢ j)) → (if n == j then Some v else written j (numbered_from (suc n) vs)) ≡ slice_get vs c
+    go : written j (numbered_from (suc n) vs) ≡ slice_get vs c → ((nat_eq n j ≡ true) × (n ≡ j)) ⊎ ((nat_eq n j ≡ false) × (n ≢ j))
+        → (if n == j then Some v else written j (numbered_from (suc n) vs)) ≡ slice_get vs c
     go later (inl h) = let at : n ≡ j = h.1 in absurd (omega arith)
     go later (inr h) = ap (λ b. if b then Some v else written j (numbered_from (suc n) vs)) h.0 ∙ later
 
@@ -36,7 +38,11 @@ value_or-slice_get (v ∷ vs) (b ∷ base) (suc c) long = value_or-slice_get vs 
 
 -- with all values kept aside, a state of as many values is that of these
 pub over_all : (vs base : List ℕ) (ranges : List Range) → length base ≡ length vs
-    → with_writes (record { value = λ c. get_or base c 0; ranges = ranges }) (numbered_from 0 vs) ≡ record { value = λ c. get_or vs c 0; ranges = ranges }
+    → with_writes (record { value = λ c. get_or base c 0; ranges = ranges }) (numbered_from 0 vs) ≡ record {
+      value =
+          λ c. get_or vs c 0;
+      ranges = ranges;
+    }
 over_all vs base ranges long = λ i. record { value = λ c. value_at c i; ranges = ranges }
   where
     value_at : (c : ℕ) → value_or (written c (numbered_from 0 vs)) (get_or base c 0) ≡ get_or vs c 0
@@ -65,7 +71,8 @@ slice_get-set_other (u ∷ vs) (suc c) v (suc d) ne = slice_get-set_other vs c v
 slice_get-set : (vs : List ℕ) (c v d : ℕ) → c < length vs → slice_get (set vs c v) d ≡ (if d == c then Some v else slice_get vs d)
 slice_get-set vs c v d lt = go (eqb_tells d c)
   where
-    go : ((nat_eq d c ≡ true) × (d ≡ c)) ⊎ ((nat_eq d c ≡ false) × (d ≢ c)) → slice_get (set vs c v) d ≡ (if d == c then Some v else slice_get vs d)
+    go : ((nat_eq d c ≡ true) × (d ≡ c)) ⊎ ((nat_eq d c ≡ false) × (d ≢ c))
+        → slice_get (set vs c v) d ≡ (if d == c then Some v else slice_get vs d)
     go (inl h) =
         ap (slice_get (set vs c v)) h.1 ∙ slice_get-set_same vs c v lt ∙ sym (ap (λ b. if b then Some v else slice_get vs d) h.0)
     go (inr h) = slice_get-set_other vs c v d h.1 ∙ sym (ap (λ b. if b then Some v else slice_get vs d) h.0)

@@ -98,4 +98,7 @@ module _ (slots : ℕ) (values store : List ℕ) (short : length store ≤ most_
         (names_grow named (ranges_in store places) v known_of_words (shown_names slots values named lib shown c v at ranged))
 
     pub shows_of_words : Shows slots (plain_state values store places) lib
-    shows_of_words = (shows_widened slots (λ c. slice_index values c) named (ranges_in store places) known_of_words lib shown.held (shown, refl)).0
+    shows_of_words = (shows_widened slots (λ c. slice_index values c) named (ranges_in store places) known_of_words lib shown.held (
+      shown,
+      refl,
+    )).0

@@ -37,7 +37,8 @@ use Rattle.cells.proofs.Sights.{onward_refl, matches_back}
 -- ---- plain cells
 
 pub first_matches : (c : PlainCells) → Matches (sight_of c) (first_state c)
-first_matches c = plain_matches (setting_of c) c.room c.values.items c.log.items c.store.items c.ranges.items (omega (arith, c.stored, c.roomy))
+first_matches c = plain_matches (setting_of c) c.room c.values.items c.log.items c.store.items c.ranges.items
+    (omega (arith, c.stored, c.roomy))
 
 -- with what is kept aside, the state with which the run began is that of the values
 pub after_first : (c : PlainCells) → after (sight_of c) (first_state c) ≡ now_state c
@@ -61,14 +62,16 @@ pub later_views : (c d : PlainCells) (t : Sight (Unit {0})) (lib : List Ranked) 
     → (v : Views t (first_state d) lib) × (v.shows.held ≡ held)
 later_views c d t lib held slots setting writes within matches verifies h =
     let shown : ShowsHeld t.setting.slots (after t (first_state d)) lib held =
-    subst (λ (s : Setting). ShowsHeld s.slots (after t (first_state d)) lib held) (sym setting) (later_held c d t lib held slots writes within h) in (
+    subst (λ (s : Setting). ShowsHeld s.slots (after t (first_state d)) lib held) (sym setting)
+    (later_held c d t lib held slots writes within h) in (
       record { matches = matches; shows = shown.0; verifies = subst (λ (s : Setting). Verifies s lib) (sym setting) verifies },
       shown.1,
     )
 
 -- ---- openings
 
-pub opens_at : (db : Contents) (slots room n m : ℕ) (made : PlainCells) → slots ≡ n → room ≡ m → Opens db slots room made → Opens db n m made
+pub opens_at : (db : Contents) (slots room n m : ℕ) (made : PlainCells) → slots ≡ n → room ≡ m → Opens db slots room made
+    → Opens db n m made
 opens_at db slots room n m made e f o = subst (λ x. Opens db x m made) e (subst (λ x. Opens db slots x made) f o)
 
 -- empty cells open the front with no assertion
@@ -92,19 +95,22 @@ stored_within slots st steps [] h i has = absurd has
 stored_within slots st [] (y ∷ kept) h i has = absurd h
 stored_within slots st (x ∷ steps) (y ∷ kept) h i (inr has) = stored_within slots st steps kept h.1 i has
 stored_within slots st (Float j ∷ steps) (y ∷ kept) h i (inl e) =
-    let at : IsStoredAs (IsNamed slots st) (Float j) (stored.Slot i) = subst (IsStoredAs (IsNamed slots st) (Float j)) (sym e) h.0 in absurd at
+    let at : IsStoredAs (IsNamed slots st) (Float j) (stored.Slot i) =
+    subst (IsStoredAs (IsNamed slots st) (Float j)) (sym e) h.0 in absurd at
 stored_within slots st (Hyp j ∷ steps) (y ∷ kept) h i (inl e) =
     let at : IsStoredAs (IsNamed slots st) (Hyp j) (stored.Slot i) = subst (IsStoredAs (IsNamed slots st) (Hyp j)) (sym e) h.0 in absurd at
 stored_within slots st (Cite label ∷ steps) (y ∷ kept) h i (inl e) =
     let at : IsStoredAs (IsNamed slots st) (Cite label) (stored.Slot i) = subst (IsStoredAs (IsNamed slots st) (Cite label)) (sym e) h.0 in
     at.within
 
-stored_none : (slots : ℕ) (st : State) (steps : List Step) (kept : List StoredStep) → AreStoredAs slots st steps kept → steps ≡ [] → kept ≡ []
+stored_none : (slots : ℕ) (st : State) (steps : List Step) (kept : List StoredStep) → AreStoredAs slots st steps kept → steps ≡ []
+    → kept ≡ []
 stored_none slots st [] [] h e = refl
 stored_none slots st [] (y ∷ kept) h e = absurd h
 stored_none slots st (x ∷ steps) kept h e = absurd cc
 
-stored_some : (slots : ℕ) (st : State) (steps : List Step) (kept : List StoredStep) → AreStoredAs slots st steps kept → steps ≢ [] → kept ≢ []
+stored_some : (slots : ℕ) (st : State) (steps : List Step) (kept : List StoredStep) → AreStoredAs slots st steps kept → steps ≢ []
+    → kept ≢ []
 stored_some slots st [] kept h ne e = ne refl
 stored_some slots st (x ∷ steps) [] h ne e = absurd h
 stored_some slots st (x ∷ steps) (y ∷ kept) h ne e = cc
@@ -146,7 +152,8 @@ module _ (db : Contents) (k : ℕ) (a : Assertion) (lt : k < length db.assertion
   verifies : (n : ℕ) (c : PlainCells) → setting_of c ≡ setting_of p → Verifies (setting_of c) (opening (front n db))
   verifies n c same =
       subst (λ (s : Setting). Verifies s (opening (front n db)))
-      (sym (same ∙ (λ i. record { prelude = opened.prelude i; slots = p.slots }))) (front_verifies db n p.slots spelled all p.some p.few room)
+      (sym (same ∙ (λ i. record { prelude = opened.prelude i; slots = p.slots })))
+      (front_verifies db n p.slots spelled all p.some p.few room)
 
   -- over each state that a later run leaves possible it views the front, in its slots
   opened_views : (q : PlainCells) (t : Sight (Unit {0})) → Looks (sight_of p) t → Onward t (sight_of q)
@@ -182,7 +189,8 @@ module _ (db : Contents) (k : ℕ) (a : Assertion) (lt : k < length db.assertion
       let v = opened_views r (sight_of q) looks onward in
       let slots : q.slots ≡ p.slots = ap (λ (s : Setting). s.slots) looks.onward.setting in
       let st = first_state r in
-      let may = next_may_fill db k a lt is (declarable db spelled) q.slots (after (sight_of q) st) kept v.0.shows v.1 (omega (arith, slots, lt, room))
+      let may = next_may_fill db k a lt is (declarable db spelled) q.slots (after (sight_of q) st) kept v.0.shows v.1
+      (omega (arith, slots, lt, room))
       (resolved.2 st (opening (front k db)) v.0) in
       let made = fills st (opening (front k db)) (first_matches r) v.0 may in
       let entry : Held = record { slot = k; entry = record { rank = 100 * (k + 1); assertion = a } } in
@@ -190,7 +198,8 @@ module _ (db : Contents) (k : ℕ) (a : Assertion) (lt : k < length db.assertion
       (made.0, made.1 ∙ ap (λ (ps : List Held). ps ++ entry ∷ []) v.1) in
       let two : ShowsHeld p.slots (now_state r) (added (opening (front k db)) (100 * (k + 1)) a) (first_held ++ entry ∷ []) =
       subst (λ n. ShowsHeld n (now_state r) (added (opening (front k db)) (100 * (k + 1)) a) (first_held ++ entry ∷ [])) slots
-      (subst (λ (x : State). ShowsHeld q.slots x (added (opening (front k db)) (100 * (k + 1)) a) (first_held ++ entry ∷ [])) (after_first r) one) in
+      (subst (λ (x : State). ShowsHeld q.slots x (added (opening (front k db)) (100 * (k + 1)) a) (first_held ++ entry ∷ []))
+      (after_first r) one) in
       subst (λ (ps : List Held). ShowsHeld p.slots (now_state r) (opening (front (k + 1) db)) ps) (sym (held_next db k a lt is))
       (subst (λ (lib : List Ranked). ShowsHeld p.slots (now_state r) lib (first_held ++ entry ∷ [])) (sym (opening_next db k a lt is)) two)
 

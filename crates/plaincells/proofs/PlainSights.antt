@@ -24,7 +24,8 @@ use Rattle.plaincells.proofs.Stores.{of_one_store, within_staged, has_staged, ho
 use Rattle.plaincells.proofs.Widened.{shows_widened}
 
 -- a state of these values may be the one under the run, where the run began with them
-pub plain_matches : (s : Setting) (room : ℕ) (values : List ℕ) (log : Pairs) (store : List ℕ) (places : List Place) → length store ≤ most_words
+pub plain_matches : (s : Setting) (room : ℕ) (values : List ℕ) (log : Pairs) (store : List ℕ) (places : List Place)
+    → length store ≤ most_words
     → Matches (plain_sight s room values log store places) (plain_state (undone values log) store places)
 plain_matches s room values log store places short =
     record {
@@ -34,7 +35,8 @@ plain_matches s room values log store places short =
     }
 
 -- and it shows what they show
-pub plain_began : (s : Setting) (room : ℕ) (values : List ℕ) (log : Pairs) (store : List ℕ) (places : List Place) → length store ≤ most_words
+pub plain_began : (s : Setting) (room : ℕ) (values : List ℕ) (log : Pairs) (store : List ℕ) (places : List Place)
+    → length store ≤ most_words
     → ShowsSome s (undone values log) store places → BeganWithSome s room values log store places
 plain_began s room values log store places short b =
     (b.0, record { matches = plain_matches s room values log store places short; shows = b.1; verifies = b.2 })
@@ -51,7 +53,8 @@ pub began_same : (s : Setting) (room : ℕ) (values values' : List ℕ) (log log
     → length store ≤ most_words → undone values' log' ≡ undone values log
     → ∥ BeganWithSome s room values log store places ∥₁ → ∥ BeganWithSome s room values' log' store places ∥₁
 began_same s room values values' log log' store places short same began =
-    began_on s room values values' log log' store store places places short (λ b. subst (λ xs. ShowsSome s xs store places) (sym same) b) began
+    began_on s room values values' log log' store store places places short
+    (λ b. subst (λ xs. ShowsSome s xs store places) (sym same) b) began
 
 -- one of two, by a test
 pub either_way : {A : Type 0} (P : A → Type 0) (ok : Bool) (x y z : A) → z ≡ (if ok then x else y) → P x → P y → P z
@@ -107,20 +110,27 @@ plain_reads s room values log store places cell v lt e hold =
         staged = refl;
       };
       value = λ st m. e ∙ sym (value_kept values cell (st.value cell) lt);
-      read = (get_or base cell 0, subst (Has (cell, get_or base cell 0)) (sym more) (has_last (cell, get_or base cell 0) (read_at_first base log)));
-      named = λ ranged. names_true (ranges_in store places) v (hold cell v (slice_get-get_or values cell 0 lt ∙ ap (λ (x : ℕ). Some x) (sym e)) ranged);
+      read = (
+        get_or base cell 0,
+        subst (Has (cell, get_or base cell 0)) (sym more)
+            (has_last (cell, get_or base cell 0) (read_at_first base log)),
+      );
+      named = λ ranged. names_true (ranges_in store places) v
+          (hold cell v (slice_get-get_or values cell 0 lt ∙ ap (λ (x : ℕ). Some x) (sym e)) ranged);
     }
   where
     base : List ℕ
     base = undone values log
 
-    more : read_at_first (undone values (log ++ (cell, v) ∷ [])) (log ++ (cell, v) ∷ []) ≡ read_at_first base log ++ (cell, get_or base cell 0) ∷ []
+    more : read_at_first (undone values (log ++ (cell, v) ∷ [])) (log ++ (cell, v) ∷ []) ≡ read_at_first base log
+        ++ (cell, get_or base cell 0) ∷ []
     more = read_logged values log cell v e
 
 -- and no other
 pub plain_asks : (s : Setting) (room : ℕ) (values : List ℕ) (log : Pairs) (store : List ℕ) (places : List Place) (cell v : ℕ)
     → v ≡ get_or values cell 0
-    → ReadsWithin (λ c. c ≡ cell) (plain_sight s room values log store places) (plain_sight s room values (log ++ (cell, v) ∷ []) store places)
+    → ReadsWithin (λ c. c ≡ cell) (plain_sight s room values log store places)
+    (plain_sight s room values (log ++ (cell, v) ∷ []) store places)
 plain_asks s room values log store places cell v e = record { asked = either }
   where
     base : List ℕ
@@ -143,7 +153,8 @@ pub plain_undone : (s : Setting) (room : ℕ) (values : List ℕ) (log : Pairs) 
     → WasRead (plain_sight s room values log store places) cell → undone (set values cell v) log ≡ undone values log
 plain_undone s room values log store places cell v read = undone_write values (undone values log) log cell v read.0 read.1
 
-pub plain_writes : (s : Setting) (room : ℕ) (values : List ℕ) (log : Pairs) (store : List ℕ) (places : List Place) (cell v : ℕ) → cell < length values
+pub plain_writes : (s : Setting) (room : ℕ) (values : List ℕ) (log : Pairs) (store : List ℕ) (places : List Place) (cell v : ℕ)
+    → cell < length values
     → WasRead (plain_sight s room values log store places) cell
     → Writes cell v (plain_sight s room values log store places) (plain_sight s room (set values cell v) log store places)
 plain_writes s room values log store places cell v lt read =
@@ -175,7 +186,8 @@ hold_set slots values ranges cell v lt hold named c w at ranged = go (cases_eq c
 
 -- ---- words are staged
 
-pub plain_stages : (s : Setting) (room : ℕ) (values : List ℕ) (log : Pairs) (store words : List ℕ) (places : List Place) → LieInStore store places
+pub plain_stages : (s : Setting) (room : ℕ) (values : List ℕ) (log : Pairs) (store words : List ℕ) (places : List Place)
+    → LieInStore store places
     → Stages words (behind store words) (plain_sight s room values log store places)
     (plain_sight s room values log (store ++ words) (places ++ behind store words ∷ []))
 plain_stages s room values log store words places lie =
@@ -205,7 +217,10 @@ pub shows_staged : (s : Setting) (values store words : List ℕ) (places : List 
     → ShowsSome s values store places → ShowsSome s values (store ++ words) (places ++ behind store words ∷ [])
 shows_staged s values store words places lie h = (
   h.0,
-  (shows_widened s.slots (λ c. get_or values c 0) (ranges_in store places) _ (within_staged store words places lie) h.0 h.1.held (h.1, refl)).0,
+  (shows_widened s.slots (λ c. get_or values c 0) (ranges_in store places) _ (within_staged store words places lie) h.0 h.1.held (
+    h.1,
+    refl,
+  )).0,
   h.2,
 )
 
@@ -217,11 +232,13 @@ staged_or_not P true store words store' places places' e f p q = subst (λ x. P 
 staged_or_not P false store words store' places places' e f p q = subst (λ x. P x places') (sym e) (subst (P store) (sym f) q)
 
 pub hold_staged : (slots : ℕ) (values store words : List ℕ) (places : List Place) → LieInStore store places
-    → HoldNames slots values (ranges_in store places) → HoldNames slots values (ranges_in (store ++ words) (places ++ behind store words ∷ []))
+    → HoldNames slots values (ranges_in store places)
+    → HoldNames slots values (ranges_in (store ++ words) (places ++ behind store words ∷ []))
 hold_staged slots values store words places lie hold =
     hold_more slots values (ranges_in store places) _ (within_staged store words places lie) hold
 
-pub began_staged : (s : Setting) (room : ℕ) (values : List ℕ) (log : Pairs) (store words : List ℕ) (places : List Place) → LieInStore store places
+pub began_staged : (s : Setting) (room : ℕ) (values : List ℕ) (log : Pairs) (store words : List ℕ) (places : List Place)
+    → LieInStore store places
     → length (store ++ words) ≤ most_words → ∥ BeganWithSome s room values log store places ∥₁
     → ∥ BeganWithSome s room values log (store ++ words) (places ++ behind store words ∷ []) ∥₁
 began_staged s room values log store words places lie short began =

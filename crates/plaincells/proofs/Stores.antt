@@ -73,7 +73,8 @@ range_in-more store more r lt =
     λ i. record { start = r.start; words = words i }
 
 -- what lies in the store stays as it is
-pub ranges_in-more : (store more : List ℕ) (places : List Place) → LieInStore store places → ranges_in (store ++ more) places ≡ ranges_in store places
+pub ranges_in-more : (store more : List ℕ) (places : List Place) → LieInStore store places
+    → ranges_in (store ++ more) places ≡ ranges_in store places
 ranges_in-more store more [] lie = refl
 ranges_in-more store more (r ∷ places) lie =
     let one = range_in-more store more r (lie zero r refl).1 in

@@ -22,7 +22,13 @@ module _ (slots : ℕ) (value : ℕ → ℕ) (ranges more : List Range) (within 
   many = record { value = value; ranges = more }
 
   body_widened : (cell : ℕ) (words : List ℕ) → HasBody few cell words → HasBody many cell words
-  body_widened cell words h = record { start = h.start; finished = within (record { start = h.start; words = words }) h.finished; named = h.named; some = h.some }
+  body_widened cell words h = record {
+    start = h.start;
+    finished = within (record { start = h.start; words = words }) h.finished;
+    named =
+        h.named;
+    some = h.some;
+  }
 
   pub named_widened : (i : ℕ) (label : List ℕ) → IsNamed slots few i label → IsNamed slots many i label
   named_widened i label h = record { within = h.within; body = body_widened _ _ h.body }

@@ -42,8 +42,8 @@ behind store words = record { start = length store; len = length words }
 abbrev pub with_place : Bool → List Place → Place → List Place
 with_place put places place = if put then places ++ place ∷ [] else places
 
--- what the run has seen: it may do all; it knows all ranges; it has read the cells of its log; it keeps aside all values as they are now; and the words
--- that were taken are those of the store. It notes nothing of what is staged, and no
+-- what the run has seen: it may do all; it knows all ranges; it has read the cells of its log; it keeps aside all values as they are now;
+-- and the words that were taken are those of the store. It notes nothing of what is staged, and no
 -- read stops it but for want of memory, which it doesn't note
 abbrev pub plain_sight : Setting → ℕ → List ℕ → Pairs → List ℕ → List Place → Sight (Unit {0})
 plain_sight setting room values log store places =

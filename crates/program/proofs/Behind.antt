@@ -44,7 +44,8 @@ pub begins : (now : Option (List Event)) (paths texts : List Bytes) → texts �
 begins now paths texts none =
     subst (λ (ts : List Bytes). IsReading now now paths ts 0) (sym none) (record { many = refl; done = adds_nothing now })
 
-pub goes_on : {A : Type 0} {old mid new : Option (List Event)} (paths texts more : List Bytes) (k : ℕ) (path : Bytes) (es : List Event) (done : A)
+pub goes_on : {A : Type 0} {old mid new : Option (List Event)} (paths texts more : List Bytes) (k : ℕ) (path : Bytes) (es : List Event)
+    (done : A)
     → slice_get paths k ≡ Some path → IsReading old mid paths texts k → Adds mid new es → IsReadBehind path texts more es (Ok done)
     → IsReading old new paths more (k + 1)
 goes_on {A} {old} {mid} {new} paths texts more k path es done here before adds read =
@@ -55,7 +56,8 @@ goes_on {A} {old} {mid} {new} paths texts more k path es done here before adds r
     let here' : slice_get paths (length texts) ≡ Some path = ap (slice_get paths) many ∙ here in
     let all : Adds old new (reads_of paths texts ++ es) = adds_more before.done adds in
     let told : reads_of paths more ≡ reads_of paths texts ++ es =
-    ap (reads_of paths) read.1 ∙ (reads_of-behind paths texts path text here' ∙ ap (λ (rest : List Event). reads_of paths texts ++ rest) (sym read.2)) in
+    ap (reads_of paths) read.1 ∙ (reads_of-behind paths texts path text here'
+    ∙ ap (λ (rest : List Event). reads_of paths texts ++ rest) (sym read.2)) in
     record {
       many = omega arith;
       done = subst (λ (done : List Event). Adds old new done) (sym told) all;
@@ -64,8 +66,11 @@ goes_on {A} {old} {mid} {new} paths texts more k path es done here before adds r
 -- memory runs out for the next
 pub stops : {old mid new : Option (List Event)} (paths texts : List Bytes) (k : ℕ) (es : List Event) → IsReading old mid paths texts k
     → Adds mid new es → All IsQuiet es → (all : List Event) × Adds old new all × All IsQuiet all
-stops paths texts k es before adds quiet =
-    (reads_of paths texts ++ es, adds_more before.done adds, All-append IsQuiet (reads_of paths texts) es (reads_are_quiet paths texts) quiet)
+stops paths texts k es before adds quiet = (
+  reads_of paths texts ++ es,
+  adds_more before.done adds,
+  All-append IsQuiet (reads_of paths texts) es (reads_are_quiet paths texts) quiet,
+)
 
 -- the next can't be read
 pub cannot : {old mid new : Option (List Event)} (paths texts more : List Bytes) (k : ℕ) (path : Bytes) (es : List Event)
@@ -77,7 +82,8 @@ cannot paths texts more k path es here before adds same is = (
   adds_more before.done adds,
   (
     ap (slice_get paths) (ap length same ∙ before.many) ∙ here,
-    ap (λ (rest : List Event). reads_of paths texts ++ rest) is ∙ ap (λ (ts : List Bytes). reads_of paths ts ++ reads path None ∷ []) (sym same),
+    ap (λ (rest : List Event). reads_of paths texts ++ rest) is
+        ∙ ap (λ (ts : List Bytes). reads_of paths ts ++ reads path None ∷ []) (sym same),
   ),
 )
 
@@ -92,7 +98,8 @@ pub adds_unknown : (es : List Event) → Adds None None es
 adds_unknown es = record { behind = λ front is. cc }
 
 -- an ending that is another one too
-pub EndsBy-weaker : {E : Type 0} (P Q : List Event → ℕ → Type 0) (es : List Event) (r : Result ℕ E) → ((status : ℕ) → P es status → Q es status)
+pub EndsBy-weaker : {E : Type 0} (P Q : List Event → ℕ → Type 0) (es : List Event) (r : Result ℕ E)
+    → ((status : ℕ) → P es status → Q es status)
     → EndsBy P es r → EndsBy Q es r
 EndsBy-weaker P Q es (Ok status) weaker ends = weaker status ends
 EndsBy-weaker P Q es (Err e) weaker ends = ends

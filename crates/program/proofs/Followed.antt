@@ -17,24 +17,34 @@ use Rattle.commandline.specs.Orders.{IsOrder}
 use Rattle.program.specs.Conduct.{EndsBy, IsAnswer, IsAnswered, IsFollowed, IsJobAnswered, IsMatched, IsObeyed, IsShown, IsStopped, IsTold, IsUnread, IsUnreadTold, reads_of}
 use Rattle.program.proofs.Behind.{EndsBy-behind, EndsBy-weaker, are_quiet, quiet_nothing}
 
-pub job_answered : {E : Type 0} (paths shown : List Bytes) (history : Option Bytes) (job : Job) (told : Answered) (es : List Event) (r : Result ℕ E)
+pub job_answered : {E : Type 0} (paths shown : List Bytes) (history : Option Bytes) (job : Job) (told : Answered) (es : List Event)
+    (r : Result ℕ E)
     → shown ≡ paths → IsAnswer shown job told → EndsBy (IsTold history told) es r → EndsBy (IsJobAnswered paths history job) es r
 job_answered paths shown history job told es r same answer ends =
     EndsBy-weaker (IsTold history told) (IsJobAnswered paths history job) es r
     (λ status is. (told, subst (λ (ps : List Bytes). IsAnswer ps job told) same answer, is)) ends
 
-pub texts_answered : {E : Type 0} (keyed : Bool) (task : Task) (paths : List Bytes) (history : Option Bytes) (texts : List Bytes) (job : Job) (es : List Event)
-    (r : Result ℕ E) → IsJobOf task texts job → EndsBy (IsJobAnswered paths history job) es r → EndsBy (IsAnswered keyed task paths history texts) es r
+pub texts_answered : {E : Type 0} (keyed : Bool) (task : Task) (paths : List Bytes) (history : Option Bytes) (texts : List Bytes)
+    (job : Job) (es : List Event)
+    (r : Result ℕ E) → IsJobOf task texts job → EndsBy (IsJobAnswered paths history job) es r
+    → EndsBy (IsAnswered keyed task paths history texts) es r
 texts_answered keyed task paths history texts job es r of ends =
     EndsBy-weaker (IsJobAnswered paths history job) (IsAnswered keyed task paths history texts) es r (λ status is. inl (job, of, is)) ends
 
-pub followed : {E : Type 0} (keyed : Bool) (task : Task) (paths shown : List Bytes) (history : Option Bytes) (texts : List Bytes) (es rest : List Event)
+pub followed : {E : Type 0} (keyed : Bool) (task : Task) (paths shown : List Bytes) (history : Option Bytes) (texts : List Bytes)
+    (es rest : List Event)
     (r : Result ℕ E) → shown ≡ paths → length texts ≡ length shown → es ≡ reads_of shown texts
     → EndsBy (IsAnswered keyed task paths history texts) rest r → EndsBy (IsFollowed keyed task paths history) (es ++ rest) r
 followed keyed task paths shown history texts es rest r same many is ends =
     EndsBy-behind (IsAnswered keyed task paths history texts) (IsFollowed keyed task paths history) es rest r
     (are_quiet shown texts es is)
-    (λ status answered. inr (texts, rest, many ∙ ap length same, ap (λ (f : List Event). f ++ rest) (is ∙ ap (λ (ps : List Bytes). reads_of ps texts) same), answered))
+    (λ status answered. inr (
+      texts,
+      rest,
+      many ∙ ap length same,
+      ap (λ (f : List Event). f ++ rest) (is ∙ ap (λ (ps : List Bytes). reads_of ps texts) same),
+      answered,
+    ))
     ends
 
 -- the line that says which file can't be read
@@ -55,16 +65,21 @@ unread_told paths shown texts unread.NoMemory es fs (Ok status) same read told =
 unread_told paths shown texts unread.NoMemory es fs (Err e) same read told =
     All-append IsQuiet es fs read (subst (λ (f : List Event). All IsQuiet f) (sym told) quiet_nothing)
 
-pub untold : {E : Type 0} (keyed : Bool) (task : Task) (paths shown : List Bytes) (history : Option Bytes) (texts : List Bytes) (u : Unread) (es fs : List Event)
-    (r : Result ℕ E) → shown ≡ paths → IsStopped shown texts es u → IsUnreadTold u fs r → EndsBy (IsFollowed keyed task paths history) (es ++ fs) r
+pub untold : {E : Type 0} (keyed : Bool) (task : Task) (paths shown : List Bytes) (history : Option Bytes) (texts : List Bytes) (u : Unread)
+    (es fs : List Event)
+    (r : Result ℕ E) → shown ≡ paths → IsStopped shown texts es u → IsUnreadTold u fs r
+    → EndsBy (IsFollowed keyed task paths history) (es ++ fs) r
 untold keyed task paths shown history texts u es fs r same read told =
     EndsBy-weaker (IsUnread paths) (IsFollowed keyed task paths history) (es ++ fs) r (λ status is. inl is)
     (unread_told paths shown texts u es fs r same read told)
 
-pub ordered : {E : Type 0} (keyed : Bool) (found : Option (Text × List Row)) (task : Task) (paths : List Bytes) (history : Option Bytes) (es : List Event)
-    (r : Result ℕ E) → IsOrder found task paths history → EndsBy (IsFollowed keyed task paths history) es r → EndsBy (IsMatched keyed found) es r
+pub ordered : {E : Type 0} (keyed : Bool) (found : Option (Text × List Row)) (task : Task) (paths : List Bytes) (history : Option Bytes)
+    (es : List Event)
+    (r : Result ℕ E) → IsOrder found task paths history → EndsBy (IsFollowed keyed task paths history) es r
+    → EndsBy (IsMatched keyed found) es r
 ordered keyed found task paths history es r order ends =
-    EndsBy-weaker (IsFollowed keyed task paths history) (IsMatched keyed found) es r (λ status is. inl (task, paths, history, order, is)) ends
+    EndsBy-weaker (IsFollowed keyed task paths history) (IsMatched keyed found) es r
+    (λ status is. inl (task, paths, history, order, is)) ends
 
 pub matched : {E : Type 0} (keyed : Bool) (words : List Text) (found : Option (Text × List Row)) (es : List Event) (r : Result ℕ E)
     → found ≡ subcommand_of program_app words → EndsBy (IsMatched keyed found) es r → EndsBy (IsObeyed keyed words) es r
@@ -72,7 +87,8 @@ matched keyed words found es r same ends =
     EndsBy-weaker (IsMatched keyed found) (IsObeyed keyed words) es r
     (λ status is. inr (subst (λ (f : Option (Text × List Row)). IsMatched keyed f es status) same is)) ends
 
-pub usage : {E : Type 0} (keyed : Bool) (words : List Text) (e : Error) (es : List Event) (r : Result ℕ E) → HasKind (fault_of program_app words) e
+pub usage : {E : Type 0} (keyed : Bool) (words : List Text) (e : Error) (es : List Event) (r : Result ℕ E)
+    → HasKind (fault_of program_app words) e
     → EndsBy (λ done status. (kind_of e ≢ OutOfMemory) × IsShown e done status) es r → EndsBy (IsObeyed keyed words) es r
 usage keyed words e es r kind ends =
     EndsBy-weaker (λ done status. (kind_of e ≢ OutOfMemory) × IsShown e done status) (IsObeyed keyed words) es r

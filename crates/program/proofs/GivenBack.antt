@@ -25,8 +25,10 @@ pub given_told : (keyed : Bool) (texts : List Bytes) (source library history : B
 given_told keyed texts source library history told es status are answer is =
     subst (λ (ts : List Bytes). IsAnsweredGive keyed ts es status) (sym are) (inl (told, answer, is))
 
-pub unread_given : {E : Type 0} (keyed : Bool) (source library history : Bytes) (texts : List Bytes) (u : Unread) (es fs : List Event) (r : Result ℕ E)
-    → IsStopped (source ∷ library ∷ history ∷ []) texts es u → IsUnreadTold u fs r → EndsBy (IsGiveDone keyed source library history) (es ++ fs) r
+pub unread_given : {E : Type 0} (keyed : Bool) (source library history : Bytes) (texts : List Bytes) (u : Unread) (es fs : List Event)
+    (r : Result ℕ E)
+    → IsStopped (source ∷ library ∷ history ∷ []) texts es u → IsUnreadTold u fs r
+    → EndsBy (IsGiveDone keyed source library history) (es ++ fs) r
 unread_given keyed source library history texts u es fs r read told =
     let paths = source ∷ library ∷ history ∷ [] in
     EndsBy-weaker (IsUnread paths) (IsGiveDone keyed source library history) (es ++ fs) r (λ status is. inl is)
@@ -36,10 +38,12 @@ pub given_done : {E : Type 0} (keyed : Bool) (source library history : Bytes) (t
     → es ≡ reads_of (source ∷ library ∷ history ∷ []) texts → EndsBy (IsAnsweredGive keyed texts) rest r
     → EndsBy (IsGiveDone keyed source library history) (es ++ rest) r
 given_done keyed source library history texts es rest r is ends =
-    EndsBy-behind (IsAnsweredGive keyed texts) (IsGiveDone keyed source library history) es rest r (are_quiet (source ∷ library ∷ history ∷ []) texts es is)
+    EndsBy-behind (IsAnsweredGive keyed texts) (IsGiveDone keyed source library history) es rest r
+    (are_quiet (source ∷ library ∷ history ∷ []) texts es is)
     (λ status answered. inr (texts, rest, ap (λ (f : List Event). f ++ rest) is, answered)) ends
 
-pub give_ordered : {E : Type 0} (keyed : Bool) (found : Option (Text × List Row)) (source library history : Bytes) (es : List Event) (r : Result ℕ E)
+pub give_ordered : {E : Type 0} (keyed : Bool) (found : Option (Text × List Row)) (source library history : Bytes) (es : List Event)
+    (r : Result ℕ E)
     → AsksToGive found source library history → EndsBy (IsGiveDone keyed source library history) es r → EndsBy (IsMatched keyed found) es r
 give_ordered keyed found source library history es r asks ends =
     EndsBy-weaker (IsGiveDone keyed source library history) (IsMatched keyed found) es r

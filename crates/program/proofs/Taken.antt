@@ -12,20 +12,25 @@ use Rattle.program.proofs.Behind.{EndsBy-behind, EndsBy-weaker}
 pub one_read : (path : Bytes) (got : Option Bytes) → All IsQuiet (reads path got ∷ [])
 one_read path got = All-cons IsQuiet (reads path got) [] tt (All-nil IsQuiet)
 
-pub source_read : {E : Type 0} (keyed : Bool) (path source : Bytes) (w : Wish) (rest : List Event) (r : Result ℕ E) → EndsBy (IsAnsweredTake keyed path source w) rest r
+pub source_read : {E : Type 0} (keyed : Bool) (path source : Bytes) (w : Wish) (rest : List Event) (r : Result ℕ E)
+    → EndsBy (IsAnsweredTake keyed path source w) rest r
     → EndsBy (IsTakeFollowed keyed path w) (reads path (Some source) ∷ rest) r
 source_read keyed path source w rest r ends =
     EndsBy-behind (IsAnsweredTake keyed path source w) (IsTakeFollowed keyed path w) (reads path (Some source) ∷ []) rest r
     (one_read path (Some source)) (λ status is. inr (source, rest, refl, is)) ends
 
-pub wished : {E : Type 0} (keyed : Bool) (path : Bytes) (words labels : List Bytes) (from to : Option Bytes) (w : Wish) (es : List Event) (r : Result ℕ E)
-    → words ≡ labels → IsWishOf words from to w → EndsBy (IsTakeFollowed keyed path w) es r → EndsBy (IsTakeDone keyed path labels from to) es r
+pub wished : {E : Type 0} (keyed : Bool) (path : Bytes) (words labels : List Bytes) (from to : Option Bytes) (w : Wish) (es : List Event)
+    (r : Result ℕ E)
+    → words ≡ labels → IsWishOf words from to w → EndsBy (IsTakeFollowed keyed path w) es r
+    → EndsBy (IsTakeDone keyed path labels from to) es r
 wished keyed path words labels from to w es r same wish ends =
     EndsBy-weaker (IsTakeFollowed keyed path w) (IsTakeDone keyed path labels from to) es r
     (λ status is. inl (w, subst (λ (ls : List Bytes). IsWishOf ls from to w) same wish, is)) ends
 
-pub take_ordered : {E : Type 0} (keyed : Bool) (found : Option (Text × List Row)) (path : Bytes) (labels : List Bytes) (from to : Option Bytes) (es : List Event)
-    (r : Result ℕ E) → IsTakeOrder found path labels from to → EndsBy (IsTakeDone keyed path labels from to) es r → EndsBy (IsMatched keyed found) es r
+pub take_ordered : {E : Type 0} (keyed : Bool) (found : Option (Text × List Row)) (path : Bytes) (labels : List Bytes)
+    (from to : Option Bytes) (es : List Event)
+    (r : Result ℕ E) → IsTakeOrder found path labels from to → EndsBy (IsTakeDone keyed path labels from to) es r
+    → EndsBy (IsMatched keyed found) es r
 take_ordered keyed found path labels from to es r order ends =
     EndsBy-weaker (IsTakeDone keyed path labels from to) (IsMatched keyed found) es r
     (λ status is. inr (inl (path, labels, from, to, order, is))) ends

@@ -45,8 +45,8 @@ abbrev pub IsPrinted : Bytes → List Event → ℕ → Type 0
 IsPrinted out es status =
     ((es ≡ prints out true ∷ []) × (status ≡ 0)) ⊎ ((es ≡ prints out false ∷ says (codes "cannot write") ∷ []) × (status ≡ 1))
 
--- a history is written to its file, and then the text is printed; or that file can't be written, which is said, the status is 1, and nothing is
--- printed
+-- a history is written to its file, and then the text is printed; or that file can't be written, which is said, the status is 1, and
+-- nothing is printed
 abbrev pub IsWritten : Option Bytes → Bytes → Bytes → List Event → ℕ → Type 0
 IsWritten None history out es status = IsPrinted out es status
 IsWritten (Some path) history out es status =
@@ -93,7 +93,8 @@ pub record IsAnswer (paths : List Bytes) (job : Job) (told : Answered) : Type 0 
 abbrev pub IsJobAnswered : List Bytes → Option Bytes → Job → List Event → ℕ → Type 0
 IsJobAnswered paths history job es status = (told : Answered) × IsAnswer paths job told × IsTold history told es status
 
--- the texts are the job of a task, whose answer is told; or the system gives no random numbers, which is said; or so many texts aren't a job
+-- the texts are the job of a task, whose answer is told; or the system gives no random numbers, which is said; or so many texts aren't a
+-- job
 abbrev pub IsAnswered : Bool → Task → List Bytes → Option Bytes → List Bytes → List Event → ℕ → Type 0
 IsAnswered keyed task paths history texts es status =
     ((job : Job) × IsJobOf task texts job × IsJobAnswered paths history job es status)
@@ -185,7 +186,8 @@ IsShown e es status =
 -- a subcommand with an order, which is followed
 abbrev pub IsOrdered : Bool → Option (Text × List Row) → List Event → ℕ → Type 0
 IsOrdered keyed found es status =
-    (task : Task) × (paths : List Bytes) × (history : Option Bytes) × IsOrder found task paths history × IsFollowed keyed task paths history es status
+    (task : Task) × (paths : List Bytes) × (history : Option Bytes) × IsOrder found task paths history
+    × IsFollowed keyed task paths history es status
 
 -- a subcommand with an order to take, which is done
 abbrev pub IsTakeOrdered : Bool → Option (Text × List Row) → List Event → ℕ → Type 0
@@ -208,7 +210,8 @@ IsUnasked found es status =
 
 abbrev pub IsMatched : Bool → Option (Text × List Row) → List Event → ℕ → Type 0
 IsMatched keyed found es status =
-    IsOrdered keyed found es status ⊎ (IsTakeOrdered keyed found es status ⊎ (IsGiveOrdered keyed found es status ⊎ IsUnasked found es status))
+    IsOrdered keyed found es status ⊎ (IsTakeOrdered keyed found es status
+    ⊎ (IsGiveOrdered keyed found es status ⊎ IsUnasked found es status))
 
 -- the words are none of the program's command lines, or ask for help or the version, which the parser tells by its error
 abbrev pub IsUsage : List Text → List Event → ℕ → Type 0

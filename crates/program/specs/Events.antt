@@ -7,9 +7,9 @@ use Rattle.clap.specs.declared.error.Error.{Error}
 abbrev pub Bytes : Type 0
 Bytes = List ℕ
 
--- it reads the file at a path, and gets its bytes, or none where it can't be read; it writes a text to the file at a path, or can't; it prints
--- a text on the standard output, or can't; it says a line on the standard error; it shows what the parser of command lines says, on the stream
--- of that, or can't
+-- it reads the file at a path, and gets its bytes, or none where it can't be read; it writes a text to the file at a path, or can't; it
+-- prints a text on the standard output, or can't; it says a line on the standard error; it shows what the parser of command lines says, on
+-- the stream of that, or can't
 pub data Event : Type 0 where
   reads : Bytes → Option Bytes → Event
   writes : Bytes → Bytes → Bool → Event

@@ -214,7 +214,8 @@ fn show_usage<W: World>(world: &mut W, error: &clap::Error) -> u8
     refuse(world, "cannot write")
 }
 
-/// Gives edits back, or takes a library, where one of these is what was found in the words of a command line. Who follows is told how far that is.
+/// Gives edits back, or takes a library, where one of these is what was found in the words of a command line. Who follows is told how far
+/// that is.
 fn obey_other<R: Threads + Sync, W: World, F: Follow>(
     rt: &R,
     alloc: Global,
@@ -284,11 +285,12 @@ fn try_obey<'a, R: Threads + Wait + Sync, W: World, V: Watch + Follow + Sync>(
     }
 }
 
-/// Does what the words of a command line ask for, of which the first is the program's name, and answers the status that the program ends with.
-/// Who watches is told of a run, and how far a library is taken. It may wait.
+/// Does what the words of a command line ask for, of which the first is the program's name, and answers the status that the program ends
+/// with. Who watches is told of a run, and how far a library is taken. It may wait.
 ///
-/// All files are read, in their order, before anything else is done; a history is written before anything is printed; on the standard output
-/// stands nothing unless all is well, or just that can't be written; and where the status is 1, one line on the standard error says why.
+/// All files are read, in their order, before anything else is done; a history is written before anything is printed; on the standard
+/// output stands nothing unless all is well, or just that can't be written; and where the status is 1, one line on the standard error says
+/// why.
 pub fn obey<R: Threads + Wait + Sync, W: World, V: Watch + Follow + Sync>(
     rt: &R,
     alloc: Global,
@@ -297,7 +299,8 @@ pub fn obey<R: Threads + Wait + Sync, W: World, V: Watch + Follow + Sync>(
     words: &[String],
     watch: &V,
 ) -> u8
-    ensures { (es : List Event) × Adds (W.done world.old) (W.done world.new) es × Obeys (is_some keys) (map string_bytes words.now) es result }
+    ensures { (es : List Event) × Adds (W.done world.old) (W.done world.new) es
+        × Obeys (is_some keys) (map string_bytes words.now) es result }
 {
     match try_obey(rt, alloc, world, keys, words, watch) {
         Ok(status) => status,

@@ -76,8 +76,8 @@ fn words_of<R: Env + AllocGlobal>(rt: &R) -> Result<Vec<String>, Trouble> {
     }
 }
 
-/// Does what the command line asks for, on the files and streams of the system, and answers the status that the program ends with. Where the
-/// standard error is a terminal, a line there says how far a run is. It may wait.
+/// Does what the command line asks for, on the files and streams of the system, and answers the status that the program ends with. Where
+/// the standard error is a terminal, a line there says how far a run is. It may wait.
 pub fn run<R>(rt: &R, is_terminal: bool) -> u8
 where
     R: Files + AllocGlobal + Print + Eprint + RandomSource + Env + Clock + Threads + Wait + Sync,

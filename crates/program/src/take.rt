@@ -106,7 +106,8 @@ fn take_source<R: Threads + Sync, W: World, F: Follow>(
     wish: Wish<'_>,
     follow: &F,
 ) -> Result<u8, AllocError>
-    ensures { (es : List Event) × Adds (W.done world.old) (W.done world.new) es × EndsBy (IsTakeFollowed (is_some keys) path.now wish.entry) es result }
+    ensures { (es : List Event) × Adds (W.done world.old) (W.done world.new) es
+        × EndsBy (IsTakeFollowed (is_some keys) path.now wish.entry) es result }
 {
     match world.read(alloc, path) {
         Ok(source) => answer_source(

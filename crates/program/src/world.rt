@@ -47,8 +47,8 @@ pub trait World {
     fn say_of(&mut self, path: &str, line: &str)
         ensures { Adds (done self.old) (done self.new) (says (path.now ++ (codes ": " ++ line.now)) ∷ []) };
 
-    /// Shows what the parser of command lines says, help and the version on the standard output, all else on the standard error, and answers
-    /// whether it was shown whole.
+    /// Shows what the parser of command lines says, help and the version on the standard output, all else on the standard error, and
+    /// answers whether it was shown whole.
     fn show(&mut self, error: &clap::Error) -> bool
         ensures { Adds (done self.old) (done self.new) (shows error.now result ∷ []) };
 }

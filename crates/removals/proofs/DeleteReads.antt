@@ -37,7 +37,11 @@ module _ {O : Type 0} (s0 s1 : Sight O) (i : ℕ) (label : List ℕ) where
           i,
           at,
           inr (inr (cited_citers s0.setting.slots (after s0 st) lib v.shows v.matches.store at.entry former c
-              (stored_before s0 s1 i label former looks read st lib (matches_back s1 s2 st on2 m) v at) (is.0, cited.cited is.0 is.1, is.2))),
+              (stored_before s0 s1 i label former looks read st lib (matches_back s1 s2 st on2 m) v at) (
+                is.0,
+                cited.cited is.0 is.1,
+                is.2,
+              ))),
         )) reads)
 
     -- no cell of a chain was changed
@@ -51,7 +55,8 @@ module _ {O : Type 0} (s0 s1 : Sight O) (i : ℕ) (label : List ℕ) where
         let early : s1.setting.slots ≡ s0.setting.slots = ap (λ (x : Setting). x.slots) looks.onward.setting in
         let counted = counts st m (all_from_has (λ j. j < s1.setting.slots) listed (λ j h. let lt = within j h in omega (arith, lt, early)))
         cited.apart in
-        counted.others c (λ j h z. let lt = within j h in omega (arith, low, lt, z)) ∙ ap (λ (x : State). x.value c) (after_looks s0 s1 st looks)
+        counted.others c (λ j h z. let lt = within j h in omega (arith, low, lt, z))
+        ∙ ap (λ (x : State). x.value c) (after_looks s0 s1 st looks)
 
     pub removal_chain : (s3 : Sight O) → Onward s2 s3 → CountsOutOf s1 s2 listed → ReadsWhere (IsOfTakingOut s2.setting.slots i label) s2 s3
         → ReadsSince (OfCommandFound s0 i label (Delete label)) s0 s0 s2 → ReadsSince (OfCommandFound s0 i label (Delete label)) s0 s0 s3
@@ -65,6 +70,8 @@ module _ {O : Type 0} (s0 s1 : Sight O) (i : ℕ) (label : List ℕ) where
         (subst (λ (x : Setting). IsOfTakingOut x.slots i label (after s2 st) c) (on2.setting ∙ looks.onward.setting) is)))
         (reads.each st m))
 
-  pub removal_slot : (s2 : Sight O) → Onward s1 s2 → ReadsWithin (IsOfSlot i) s1 s2 → ReadsSince (OfCommandFound s0 i label (Delete label)) s0 s0 s1
+  pub removal_slot : (s2 : Sight O) → Onward s1 s2 → ReadsWithin (IsOfSlot i) s1 s2
+      → ReadsSince (OfCommandFound s0 i label (Delete label)) s0 s0 s1
       → ReadsSince (OfCommandFound s0 i label (Delete label)) s0 s0 s2
-  removal_slot s2 on reads before = since_then (OfCommandFound s0 i label (Delete label)) before on (λ st lib m v. asks_wider (λ c is at. inr (i, at, inr (inl is))) reads)
+  removal_slot s2 on reads before = since_then (OfCommandFound s0 i label (Delete label)) before on
+      (λ st lib m v. asks_wider (λ c is at. inr (i, at, inr (inl is))) reads)

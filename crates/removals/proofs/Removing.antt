@@ -28,7 +28,8 @@ use Rattle.groundwork.proofs.Restepped.{CountsOutOf}
 use Rattle.removals.specs.Changes.{DeletesAt}
 
 -- what a proof that was read cites is counted out, its slot is taken out of its chain, and its five cells are emptied
-pub removed : {O : Type 0} → (s0 s1 s2 s3 s4 : Sight O) (i : ℕ) (label : List ℕ) (former : List StoredStep) (listed : List ℕ) → Looks s0 s1 → Onward s1 s2
+pub removed : {O : Type 0} → (s0 s1 s2 s3 s4 : Sight O) (i : ℕ) (label : List ℕ) (former : List StoredStep) (listed : List ℕ) → Looks s0 s1
+    → Onward s1 s2
     → Onward s2 s3 → Onward s3 s4 → ForEachHeld s1 i (λ st lib e. AreStoredAs s1.setting.slots st e.assertion.proof former)
     → AreCitedSlots former listed → CountsOutOf s1 s2 listed → TakesOut s2 s3 i label
     → ((st : State) → Empties i (after s3 st) (after s4 st)) → DeletesAt s0 s4 i label
@@ -81,7 +82,8 @@ counted s t i label n looks finds read st lib v =
     (at.entry, at.found, read st lib v at.entry own.0 at.holds ∙ ap (citers lib) (sym own.1))
 
 -- what was found, and nothing cites, is removed
-pub deleted : {O : Type 0} → (s0 s1 s2 s3 : Sight O) (i : ℕ) (label : List ℕ) → Looks s0 s1 → Looks s1 s2 → Onward s2 s3 → Finds s1 label (Some i)
+pub deleted : {O : Type 0} → (s0 s1 s2 s3 : Sight O) (i : ℕ) (label : List ℕ) → Looks s0 s1 → Looks s1 s2 → Onward s2 s3
+    → Finds s1 label (Some i)
     → CountsCiters s2 label 0 → DeletesAt s2 s3 i label → WritesSome s3
     → Does s0 s3 (command.Delete label) Done
 deleted s0 s1 s2 s3 i label looks1 looks2 on3 finds counts deletes writes =

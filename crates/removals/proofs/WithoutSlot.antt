@@ -1,4 +1,5 @@
--- A state that shows a library, with one slot emptied, its citations counted out and the slot out of its chain, shows the library without the assertion.
+-- A state that shows a library, with one slot emptied, its citations counted out and the slot out of its chain, shows the library without
+-- the assertion.
 use Rattle.std.proofs.Common.{◌≡◌, ◌≢◌, ℕ, ◌+◌, ◌*◌, ◌<◌, ◌≤◌, true, false, List, map, refl, sym, ap, subst, ◌∙◌, ◌⊎◌, ⊎_elim, inl, inr, arith}
 use Rattle.std.specs.Prelude.{◌==◌}
 use mathlib.Core.Bool.{not}
@@ -37,7 +38,8 @@ use Rattle.chains.proofs.Unlinking.{slot_gone, slot_stays, slot_was}
 -- what the assertion in the slot cites is counted out
 module _ (slots : ℕ) (st less : State) (lib : List Ranked) (shows : Shows slots st lib) (store : AreOfOneStore most_words st.ranges)
     (apart : Distinct bytes_eq (map label_of lib)) (label : List ℕ) (i : ℕ) (at : IsFoundAt slots st lib label i)
-    (kept : List StoredStep) (listed : List ℕ) (stored : AreStoredAs slots st at.entry.assertion.proof kept) (cited : AreCitedSlots kept listed)
+    (kept : List StoredStep) (listed : List ℕ) (stored : AreStoredAs slots st at.entry.assertion.proof kept)
+    (cited : AreCitedSlots kept listed)
     (counts : CountsOut listed st less) where
   less_high : (c : ℕ) → 5 * slots ≤ c → less.value c ≡ st.value c
   less_high c up =
@@ -60,12 +62,14 @@ module _ (slots : ℕ) (st less : State) (lib : List Ranked) (shows : Shows slot
     next_less j c lt ne low high =
         elim (cases_order j i) [
           | inl e ↦ absurd (ne e)
-          | inr o ↦ ⊎_elim (λ before. others c (inl (omega (arith, before, high)))) (λ behind. others c (inr (omega (arith, behind, low)))) o
+          | inr o ↦ ⊎_elim (λ before. others c (inl (omega (arith, before, high))))
+              (λ behind. others c (inr (omega (arith, behind, low)))) o
         ]
         ∙ chains.cells c (omega (arith, lt, high))
 
     same : (c j k : ℕ) → j < slots → j ≢ i → c ≡ 5 * j + k → k < 4 → next.value c ≡ st.value c
-    same c j k lt ne is few = next_less j c lt ne (omega (arith, is)) (omega (arith, is, few)) ∙ uncounted_out listed st less c j k counts is few
+    same c j k lt ne is few = next_less j c lt ne (omega (arith, is)) (omega (arith, is, few))
+        ∙ uncounted_out listed st less c j k counts is few
 
     -- no proof cites the label
     cites_none : (p : Held) → Has p shows.held → list_any (is_citation label) p.entry.assertion.proof ≡ false
@@ -73,17 +77,24 @@ module _ (slots : ℕ) (st less : State) (lib : List Ranked) (shows : Shows slot
         none_contained (cites label) lib p.entry (none_from_count (cites label) lib uncited)
         (contains_from_has lib p.entry (held_in slots st lib shows store p h))
 
-    names : (p : Held) → Has p shows.held → (j : ℕ) (l : List ℕ) → Has (Cite l) p.entry.assertion.proof → IsNamed slots st j l → IsNamed slots next j l
+    names : (p : Held) → Has p shows.held → (j : ℕ) (l : List ℕ) → Has (Cite l) p.entry.assertion.proof → IsNamed slots st j l
+        → IsNamed slots next j l
     names p h j l cite named =
-        record { within = named.within; body = body_same st next (name_cell j) l ranges (same (name_cell j) j 0 named.within ne (omega arith) (omega arith)) named.body }
+        record {
+          within = named.within;
+          body = body_same st next (name_cell j) l ranges
+              (same (name_cell j) j 0 named.within ne (omega arith) (omega arith)) named.body;
+        }
       where
         ne : j ≢ i
         ne z =
             let own : label_of at.entry ≡ l =
-            one_body st (name_cell i) (label_of at.entry) l store at.holds.name.body (subst (λ n. HasBody st (name_cell n) l) z named.body) in
+            one_body st (name_cell i) (label_of at.entry) l store at.holds.name.body
+            (subst (λ n. HasBody st (name_cell n) l) z named.body) in
             let is : label ≡ l = sym (found_label slots st lib shows store apart label i at) ∙ own in
             both_ways (list_any (is_citation label) p.entry.assertion.proof) (cites_none p h)
-            (any_has (is_citation label) p.entry.assertion.proof (Cite l) cite (subst (λ x. bytes_eq label x ≡ true) is (bytes_eq-same label)))
+            (any_has (is_citation label) p.entry.assertion.proof (Cite l) cite
+            (subst (λ x. bytes_eq label x ≡ true) is (bytes_eq-same label)))
 
     stays : (p : Held) → Has p shows.held → p.slot ≢ i → Holds slots next (without label lib) p.slot p.entry
     stays p h ne =
@@ -97,9 +108,11 @@ module _ (slots : ℕ) (st less : State) (lib : List Ranked) (shows : Shows slot
         record {
           name = record {
             within = within;
-            body = body_same st next (name_cell p.slot) _ ranges (same (name_cell p.slot) p.slot 0 within ne (omega arith) (omega arith)) holds.name.body;
+            body = body_same st next (name_cell p.slot) _ ranges
+                (same (name_cell p.slot) p.slot 0 within ne (omega arith) (omega arith)) holds.name.body;
           };
-          statement = body_same st next (statement_cell p.slot) _ ranges (same (statement_cell p.slot) p.slot 1 within ne refl (omega arith)) holds.statement;
+          statement = body_same st next (statement_cell p.slot) _ ranges
+              (same (statement_cell p.slot) p.slot 1 within ne refl (omega arith)) holds.statement;
           proof = subst (λ (l : List Step). HoldsProof slots next p.slot p.entry.assertion.kind l) (relabelled_none steps)
               (proof_relabelled slots st next (λ l. l) p.slot p.entry.assertion.kind steps ranges
               (same (proof_cell p.slot) p.slot 2 within ne refl (omega arith)) (names p h) holds.proof);
@@ -148,5 +161,6 @@ module _ (slots : ℕ) (st less : State) (lib : List Ranked) (shows : Shows slot
             | inl is ↦ inr (subst (IsEmpty slots next) (sym is) gone)
             | inr ne ↦ ⊎_elim (λ h. inl (slot_stays shows.held i j h ne)) (λ empty. inr (still_empty j lt ne empty)) (shows.others j lt)
           ];
-          chained = chains_stay slots out next (without_slot i shows.held) (λ c up. others c (inr (omega (arith, in_slots, up)))) chains.chained;
+          chained = chains_stay slots out next (without_slot i shows.held)
+              (λ c up. others c (inr (omega (arith, in_slots, up)))) chains.chained;
         }

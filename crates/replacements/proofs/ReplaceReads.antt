@@ -17,7 +17,8 @@ module _ {O : Type 0} (s0 s t : Sight O) (i j k : ℕ) (label old new : List ℕ
       since_then (OfCommand s0 (Replace label old new)) before on (λ st lib m v.
       let at_old = found_before (OfCommand s0 (Replace label old new)) s0 s t known.looks old j known.finds_old on st lib m v in
       let at_new = found_before (OfCommand s0 (Replace label old new)) s0 s t known.looks new k known.finds_new on st lib m v in
-      asks_wider (λ c is. ⊎_elim (λ one. inr (inr (inl (j, at_old, one)))) (λ other. inr (inr (inr (inl (k, at_new, inl other))))) is) reads)
+      asks_wider (λ c is. ⊎_elim (λ one. inr (inr (inl (j, at_old, one))))
+      (λ other. inr (inr (inr (inl (k, at_new, inl other))))) is) reads)
 
   -- the ranks of the theorem and of the new one
   pub replace_ranks : ReadsWithin (λ c. (c ≡ rank_cell i) ⊎ (c ≡ rank_cell k)) s t → ReadsFor s0 t (Replace label old new)

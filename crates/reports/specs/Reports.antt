@@ -12,8 +12,8 @@ use Rattle.transaction.specs.declared.outcome.Outcome.TheVariants.{Committed, Re
 
 -- ---- outcomes
 
--- `committed N` or `read PLACE`, then the lines of the replies in order; `refused PLACE at INDEX: ` and the reason; `store full`, `numbers used`,
--- `too many commands`, `no memory`. No outcome of a run is a conflict
+-- `committed N` or `read PLACE`, then the lines of the replies in order; `refused PLACE at INDEX: ` and the reason; `store full`, `numbers
+-- used`, `too many commands`, `no memory`. No outcome of a run is a conflict
 abbrev pub outcome_text : Tables → Outcome → List ℕ
 outcome_text t (Committed number replies) = line (codes "committed" ∷ decimal number ∷ []) ++ flat_map (reply_text t) replies
 outcome_text t (Read place replies) = line (codes "read" ∷ decimal place ∷ []) ++ flat_map (reply_text t) replies

@@ -117,9 +117,9 @@ fn put_script(
     Ok(())
 }
 
-/// The report of a run: for each transaction of each script a line with both numbers, which count from 1, and its outcome, and then the lines of
-/// its replies. The outcomes are no conflicts, and their replies within the limits of the prelude. Those of each script are let go once
-/// they are told.
+/// The report of a run: for each transaction of each script a line with both numbers, which count from 1, and its outcome, and then the
+/// lines of its replies. The outcomes are no conflicts, and their replies within the limits of the prelude. Those of each script are let go
+/// once they are told.
 ///
 /// # Errors
 ///

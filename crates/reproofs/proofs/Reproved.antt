@@ -36,7 +36,8 @@ pub retitled : (made : Statement) (label own : List ℕ) (proof steps : List Ste
 retitled made label own proof steps is proves = ap (λ l. titled l made proof) is ∙ ap (titled own made) proves
 
 -- the statement of what was found in the slot was read
-module _ {O : Type 0} (s : Sight O) (i : ℕ) (label : List ℕ) (made : Statement) (stated : ForEachHeld s i (λ st lib e. made ≡ statement_of e.assertion))
+module _ {O : Type 0} (s : Sight O) (i : ℕ) (label : List ℕ) (made : Statement)
+    (stated : ForEachHeld s i (λ st lib e. made ≡ statement_of e.assertion))
     (here : ForEach s (λ st lib. IsFoundAt s.setting.slots st lib label i)) (steps : List Step) where
   same_kind : (st : State) (lib : List Ranked) → Views s st lib → (at : IsFoundAt s.setting.slots (after s st) lib label i)
       → made.kind ≡ at.entry.assertion.kind

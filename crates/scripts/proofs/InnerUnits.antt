@@ -79,7 +79,8 @@ pub record ReadsUnit {P A : Type 0} (l : Language P A) (t : Tables) (behind : As
   pub walks : walk l (behind assertion) rest ≡ Ok final
   pub shorter : length rest < length ts
 
-module _ {P A : Type 0} (l : Language P A) (t : Tables) (inner : Position → P) (behind : Assertion → P) (has : HasUnits l inner behind) where
+module _ {P A : Type 0} (l : Language P A) (t : Tables) (inner : Position → P) (behind : Assertion
+    → P) (has : HasUnits l inner behind) where
   -- the tokens of an assertion lead behind it
   tokens_lead : (a : Assertion) (p final : Position) (kept rest : List Token) → unit_at p.known p.place ≡ None
       → unit_at final.known final.place ≡ Some a → walk (unit_language t) p kept ≡ Ok final

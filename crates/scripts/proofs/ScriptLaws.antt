@@ -71,7 +71,8 @@ script_grammar t bytes script = (λ s. (s.clean, token_spelled t bytes script s)
 -- ---- what is spelled is within the limits
 
 -- an assertion that is declared alone fits
-pub unit_fits : (t : Tables) (st : Statement) (a : Assertion) → IsSoundPrelude t → AllByRecursion IsWord (spelling st) → DeclaresAlone t st a
+pub unit_fits : (t : Tables) (st : Statement) (a : Assertion) → IsSoundPrelude t → AllByRecursion IsWord (spelling st)
+    → DeclaresAlone t st a
     → Fits t a
 unit_fits t st a sound words d =
     let before = alone_sound t true (sound_tables t sound) in

@@ -39,7 +39,8 @@ counted_from_0 (Some (suc k)) = Some k
 -- never clashes
 unfoldable pub other_step_of : Tables → Word → ℕ → Word → Result Step FaultKind
 other_step_of t label count w =
-    unless_faulty (first_fault (step_tests count w)) (step_named label w (float_named (meaning t w)) (counted_from_0 (hypothesis_numbered label w)))
+    unless_faulty (first_fault (step_tests count w))
+    (step_named label w (float_named (meaning t w)) (counted_from_0 (hypothesis_numbered label w)))
 
 -- the words of another proof of L behind `front` steps, and all steps
 abbrev pub OtherSteps : Tables → Word → List Step → List Word → List Step → Type 0

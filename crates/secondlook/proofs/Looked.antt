@@ -18,7 +18,8 @@ use Rattle.secondlook.specs.Looked.{IsLookedAt}
 module _ (new : Scope) (then axioms : Bor (List (Bor (List ℕ)))) (t : Taken) (l : IsLibraryOf new (These then axioms) t) (flags : List Bool)
     (are : flags ≡ own_flags l.taken.choice (axioms_of t) new) where
   pub looked_at : (old : Scope) (out : List ℕ) (changes : List Change) (own : List Bool) (edited : Listed) → DeclaresText out new
-      → All (IsFloatOf t.database.prelude edited.setting.prelude) t.database.prelude.floats → database_lines t.database ≡ edited_lines edited
+      → All (IsFloatOf t.database.prelude edited.setting.prelude) t.database.prelude.floats
+      → database_lines t.database ≡ edited_lines edited
       → StayAll changes (others own old.assertions) (others flags new.assertions)
       → IsLookedAt old out changes own (seen_words then.now) edited
   looked_at old out changes own edited declares floats same stay = record {

@@ -35,9 +35,10 @@ database_lines db = flat_map (assertion_text db.prelude) db.assertions
 abbrev pub edited_lines : Listed → List ℕ
 edited_lines l = flat_map (λ r. assertion_text l.setting.prelude r.assertion) l.entries
 
--- the assertions of the library, taken again by the labels that they have then, are those to which the history leads, byte for byte, over $f of its
--- prelude
-pub record IsTakenAgain (now : Scope) (labels : List Word) (edited : Listed) (choice : Choice) (axioms : List (Word × Reason)) : Type 0 where
+-- the assertions of the library, taken again by the labels that they have then, are those to which the history leads, byte for byte, over
+-- $f of its prelude
+pub record IsTakenAgain (now : Scope) (labels : List Word) (edited : Listed) (choice : Choice) (axioms : List (Word
+    × Reason)) : Type 0 where
   pub chosen : choice.chosen ≡ labels
   pub db : Contents
   pub names : List Naming

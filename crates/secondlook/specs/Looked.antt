@@ -11,7 +11,8 @@ use Rattle.sourceediting.specs.Following.{own_flags}
 use Rattle.secondlook.specs.Again.{IsTakenAgain}
 
 -- the text declares a source, of which the edited library is taken by these labels, and what isn't its own stays
-pub record IsLookedAt (old : Scope) (out : List ℕ) (changes : List Change) (own : List Bool) (then : List Word) (edited : Listed) : Type 0 where
+pub record IsLookedAt (old : Scope) (out : List ℕ) (changes : List Change) (own : List Bool) (then : List Word)
+    (edited : Listed) : Type 0 where
   pub new : Scope
   pub declares : DeclaresText out new
   pub choice : Choice

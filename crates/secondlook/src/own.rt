@@ -46,7 +46,8 @@ pub fn own_of<'x, D: Declared<'x>>(
 ) -> Result<Vec<bool>, AllocError>
     requires { length taken.now.chosen.items ≡ length (D.scope declared.now).assertions }
     ensures many { IfOk result (λ own. length own.items ≡ length (D.scope declared.now).assertions) }
-    ensures flags { (choice : Choice) → map (λ (x : Assertion). is_in choice.chosen x.label) (D.scope declared.now).assertions ≡ taken.now.chosen.items
+    ensures flags { (choice : Choice) → map (λ (x : Assertion). is_in choice.chosen x.label) (D.scope declared.now).assertions
+        ≡ taken.now.chosen.items
         → IfOk result (λ own. own.items ≡ own_flags choice (axioms_of taken.now) (D.scope declared.now)) }
 {
     let told = told_of(alloc, keys, taken.axioms.as_slice())?;

@@ -17,7 +17,8 @@ use Rattle.groundwork.proofs.Since.{OfCommand, since_then, since_before, since_f
 
 -- ---- one assertion
 
-entry_shown : (slots i : ℕ) (st : State) (lib : List Ranked) (steps : List Step) (c : ℕ) → (c ≡ rank_cell i) ⊎ IsOfAssertion slots i steps st c
+entry_shown : (slots i : ℕ) (st : State) (lib : List Ranked) (steps : List Step) (c : ℕ) → (c ≡ rank_cell i)
+    ⊎ IsOfAssertion slots i steps st c
     → IsOfSlot i c ⊎ IsOfCited slots st lib name_cell steps c
 entry_shown slots i st lib steps c (inl rank) = inl (of_slot i 3 c (omega arith) rank)
 entry_shown slots i st lib steps c (inr (inl statement)) = inl (of_slot i 1 c (omega arith) statement)
@@ -26,7 +27,8 @@ entry_shown slots i st lib steps c (inr (inr (inr cited))) = inr cited
 
 module _ {O : Type 0} (old s t : Sight O) (label : List ℕ) (i : ℕ) (looks : Looks old s) (finds : Finds s label (Some i))
     (before : ReadsFor old s (Show label)) (later : Looks s t) where
-  pub show_entry : ForEachHeld t i (λ st lib e. ReadsWithin (λ c. (c ≡ rank_cell i) ⊎ IsOfAssertion s.setting.slots i e.assertion.proof st c) s t)
+  pub show_entry : ForEachHeld t i (λ st lib e. ReadsWithin (λ c. (c ≡ rank_cell i)
+      ⊎ IsOfAssertion s.setting.slots i e.assertion.proof st c) s t)
       → ReadsFor old t (Show label)
   show_entry reads =
       since_then (OfCommand old (Show label)) before later.onward
@@ -47,7 +49,8 @@ module _ {O : Type 0} (old s t : Sight O) (i : ℕ) (looks : Looks old s) (withi
   pub list_name : ReadsWithin (λ c. c ≡ name_cell i) s t → ReadsFor old t command.List
   list_name reads =
       since_then (OfCommand old command.List) before later.onward
-      (since_before (OfCommand old command.List) old s t looks (λ n st lib c. c ≡ name_cell i) (λ st lib c is. (i, within, inl is)) later.onward
+      (since_before (OfCommand old command.List) old s t looks (λ n st lib c. c ≡ name_cell i)
+      (λ st lib c is. (i, within, inl is)) later.onward
       (λ st lib m v. reads))
 
   -- of a slot that holds an assertion

@@ -117,5 +117,6 @@ module _ (xs : List Kept) (k : ℕ) (d : Kept) (within : k < length xs) where
         → gone_with gone (seen_followed (get_or xs k d)).source ≡ first ++ filter_map (source_of label) (seen_living (take (k + 1) xs))
     deleted_more h = gone_more _ (cond-true (bytes_eq (get_or xs k d).now.now label) _ _ h)
 
-    pub stays_more : bytes_eq (get_or xs k d).now.now label ≡ false → gone ≡ first ++ filter_map (source_of label) (seen_living (take (k + 1) xs))
+    pub stays_more : bytes_eq (get_or xs k d).now.now label ≡ false
+        → gone ≡ first ++ filter_map (source_of label) (seen_living (take (k + 1) xs))
     stays_more h = sym (append-nil gone) ∙ gone_more _ (cond-false (bytes_eq (get_or xs k d).now.now label) _ _ h)

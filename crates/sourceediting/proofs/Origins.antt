@@ -85,7 +85,8 @@ module _ (choice : Choice) (xs : List Assertion) (flags : List Bool) (i : ℕ) (
       let front = chosen_among choice (take i xs) in
       let labels = map (λ (a : Unit'). a.label) library in
       let at_label : slice_get labels (length front) ≡ Some a.label =
-      ap (slice_get labels) before.enough ∙ slice_get-map (λ (a : Unit'). a.label) library (length ps) ∙ ap (option_map (λ (a : Unit'). a.label)) at in
+      ap (slice_get labels) before.enough ∙ slice_get-map (λ (a : Unit'). a.label) library (length ps)
+      ∙ ap (option_map (λ (a : Unit'). a.label)) at in
       let more = next true flag in
       record {
         pairs =

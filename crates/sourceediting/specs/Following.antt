@@ -19,8 +19,8 @@ use Rattle.library.specs.declared.history.Entry.TheVariants.{Void, Done}
 
 -- ---- behind commands
 
--- an assertion of a library: its label in the source (none of one that was added), its label when it came in, and its label now; and whether it was
--- given another rank
+-- an assertion of a library: its label in the source (none of one that was added), its label when it came in, and its label now; and
+-- whether it was given another rank
 pub record Followed : Type 0 where
   pub source : Option Word
   pub first : Word

@@ -69,7 +69,8 @@ fn first_gone_at<'a, D: Declared<'a>>(
     gone: &Changes<'_>,
     place: usize,
 ) -> Option<&'a [u8]>
-    ensures { IfSome (slice_get (D.scope declared.now).assertions place) (λ x. is_some result ≡ not (names_none (map (λ c. c.0) gone.now) x.proof)) }
+    ensures { IfSome (slice_get (D.scope declared.now).assertions place) (λ x. is_some result
+        ≡ not (names_none (map (λ c. c.0) gone.now) x.proof)) }
 {
     match declared.proof(place) {
         Some(proof) => first_gone(gone, labels_of(proof)),
@@ -90,7 +91,8 @@ pub fn are_uncited<'a, D: Declared<'a>>(
     gone: &[&[u8]],
 ) -> Result<(), Refusal>
     requires { length own.now ≡ length (D.scope declared.now).assertions }
-    ensures { OnOk result (All (λ x. IsTrue (names_none (seen_words gone.now) x.proof)) (others own.now (D.scope declared.now).assertions)) }
+    ensures { OnOk result (All (λ x. IsTrue (names_none (seen_words gone.now) x.proof))
+        (others own.now (D.scope declared.now).assertions)) }
 {
     let gone = marked(alloc, keys, gone)?;
     for (place, is_own) in own.iter().enumerate() {

@@ -69,7 +69,8 @@ impl<'h> Followed<'h> {
 
     /// The label of the source that changes, with its new one.
     fn change(&self) -> Option<(&'h [u8], &'h [u8])>
-        ensures { option_map (λ p. (p.0.now, p.1.now)) result ≡ change_of (seen_followed self.entry.now) (seen_followed self.entry.now).source }
+        ensures { option_map (λ p. (p.0.now, p.1.now)) result
+            ≡ change_of (seen_followed self.entry.now) (seen_followed self.entry.now).source }
     {
         match self.source {
             Some(label) if self.is_renamed() => Some((label, self.now)),

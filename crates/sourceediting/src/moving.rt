@@ -381,8 +381,9 @@ fn cited_beside<'a, D: Declared<'a>>(
 
 /// The assertions of a source that are to stand elsewhere.
 ///
-/// Where something is put between members of a block, those in front of it leave the block, or those behind it: whichever are fewer and can.
-/// None that a proof in the block cites which isn't the library's can go behind it, and no theorem that was taken as an axiom can leave it.
+/// Where something is put between members of a block, those in front of it leave the block, or those behind it: whichever are fewer and
+/// can. None that a proof in the block cites which isn't the library's can go behind it, and no theorem that was taken as an axiom can
+/// leave it.
 pub(crate) fn moving_of<'x, 'a, D: Declared<'a>>(
     alloc: Global,
     keys: RandomState,

@@ -241,8 +241,8 @@ fn put_premises(
     Ok(())
 }
 
-/// Puts an assertion up to its proof behind an empty line: the beginning of its block, the pairs, the `$e`, of which these are the labels, and behind its comment the
-/// statement.
+/// Puts an assertion up to its proof behind an empty line: the beginning of its block, the pairs, the `$e`, of which these are the labels,
+/// and behind its comment the statement.
 fn put_front(
     alloc: Global,
     out: &mut Vec<u8>,

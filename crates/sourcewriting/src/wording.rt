@@ -143,8 +143,8 @@ fn number_of<'x>(
     Ok(number)
 }
 
-/// The numbers of labels: those of the mandatory hypotheses have the first numbers, in their order, and the others the next, in the order of
-/// their first use. The others are put behind those that there are.
+/// The numbers of labels: those of the mandatory hypotheses have the first numbers, in their order, and the others the next, in the order
+/// of their first use. The others are put behind those that there are.
 fn numbers_of<'x>(
     alloc: Global,
     words: &[&'x [u8]],

@@ -251,7 +251,8 @@ module _ {S N : Type 0} (terms : Terms S N) (setting : S) (base : List ℕ) (roo
       record {
         clock_is =
             let l : clock_at < length r.front = let b : length r.front ≡ front_size (length w.cells) = front_count in omega (arith, b) in
-            sym ((k.invariant).consistent.clock) ∙ (sym (clock_word r.front w k.words_are) ∙ front_word clock_at closed.clock l gathered.clock_is);
+            sym ((k.invariant).consistent.clock) ∙ (sym (clock_word r.front w k.words_are)
+            ∙ front_word clock_at closed.clock l gathered.clock_is);
         count = gathered.cells_count ∙ (many ∙ k.cells_are);
         free = λ c v x f e.
             let y : (y : Cell) × (slice_get w.cells c ≡ Some y) × (y.lock ≡ x.lock) × (y.value ≡ x.value) = cell_same c x f in

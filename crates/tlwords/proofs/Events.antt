@@ -110,7 +110,8 @@ module _ {S N : Type 0} (terms : Terms S N) (setting : S) (base : List ℕ) (roo
   loads_are m r at c word has place t =
       let w : World = at.rule.kept.world in
       let x = here_cell m r at c has in
-      quiet m r at (Load c) (value_at c) (placed m.0.seat (Loaded c word (x.0).value)) (value_within at.rule.front w at.rule.kept.words_are c x.0 x.1)
+      quiet m r at (Load c) (value_at c) (placed m.0.seat (Loaded c word (x.0).value))
+      (value_within at.rule.front w at.rule.kept.words_are c x.0 x.1)
       (load_leads base w at.seat m.0.seat c word x.0 at.rule.kept.invariant (here_seat m r at) place x.1)
       (ap (λ (v : View S N). v.seat) (t.is c word place) ∙ ap (λ (n : ℕ). placed m.0.seat (Loaded c word n)) (value_is m r at c x.0 x.1))
 
@@ -118,7 +119,8 @@ module _ {S N : Type 0} (terms : Terms S N) (setting : S) (base : List ℕ) (roo
   relooks_are m r at c word value has place t =
       let w : World = at.rule.kept.world in
       let x = here_cell m r at c has in
-      quiet m r at (Relook c) (lock_at c) (after_relook m.0.seat c word value (x.0).lock) (lock_within at.rule.front w at.rule.kept.words_are c x.0 x.1)
+      quiet m r at (Relook c) (lock_at c) (after_relook m.0.seat c word value (x.0).lock)
+      (lock_within at.rule.front w at.rule.kept.words_are c x.0 x.1)
       (relook_leads base w at.seat m.0.seat c word value x.0 at.rule.kept.invariant (here_seat m r at) place x.1)
       (ap (λ (v : View S N). v.seat) (t.is c word value place) ∙ ap (after_relook m.0.seat c word value) (lock_is m r at c x.0 x.1))
 
@@ -126,7 +128,8 @@ module _ {S N : Type 0} (terms : Terms S N) (setting : S) (base : List ℕ) (roo
   checks_are m r at i upto c d has place other due read t =
       let w : World = at.rule.kept.world in
       let x = here_cell m r at c has in
-      quiet m r at (Check c) (lock_at c) (after_check m.0.seat i c (x.0).lock) (lock_within at.rule.front w at.rule.kept.words_are c x.0 x.1)
+      quiet m r at (Check c) (lock_at c) (after_check m.0.seat i c (x.0).lock)
+      (lock_within at.rule.front w at.rule.kept.words_are c x.0 x.1)
       (check_leads base w at.seat m.0.seat i upto c d x.0 at.rule.kept.invariant (here_seat m r at) place other due read x.1)
       (ap (λ (v : View S N). v.seat) (t.is i upto place) ∙ ap (after_check m.0.seat i c) (lock_is m r at c x.0 x.1))
 
@@ -139,7 +142,12 @@ module _ {S N : Type 0} (terms : Terms S N) (setting : S) (base : List ℕ) (roo
       let is : n ≡ (x.0).lock = lock_is m r at c x.0 x.1 in
       let l = lock_within at.rule.front w at.rule.kept.words_are c x.0 x.1 in
       let lead = take_leads base w at.seat s c value d x.0 at.rule.kept.invariant (here_seat m r at) place read x.1 in
-      let held : ℕ → Seat = λ k. record (saw s c k) { place = Taking; held = record { cell = c; word = d.word; value = value; stored = false } ∷ s.held; locked = c ∷ s.locked } in
+      let held : ℕ → Seat = λ k. record (saw s c k) {
+        place = Taking;
+        held =
+            record { cell = c; word = d.word; value = value; stored = false } ∷ s.held;
+        locked = c ∷ s.locked;
+      } in
       let lost : ℕ → Seat = λ k. conflict (saw s c k) (if is_nil s.held then Idle else Failing) in
       let world : World = taken w at.seat s c value d.word x.0 in
       let seat : r.0.seat ≡ after_take s c value d.word n = ap (λ (v : View S N). v.seat) t.is in
@@ -150,15 +158,18 @@ module _ {S N : Type 0} (terms : Terms S N) (setting : S) (base : List ℕ) (roo
       subst (λ (left : ℕ). IsEvent terms setting base room opened m r at (Take c value) (lock_at c) left)
       (sym (if_true (n == d.word) (d.word + 1) n (eq-eqb n d.word hit)))
       (event m r at (Take c value) (lock_at c) (d.word + 1) world l
-      (subst (λ (v : World). Leads base w at.seat (Take c value) v) (if_true ((x.0).lock == d.word) world (with_seat w at.seat (lost (x.0).lock)) same) lead)
+      (subst (λ (v : World). Leads base w at.seat (Take c value) v)
+      (if_true ((x.0).lock == d.word) world (with_seat w at.seat (lost (x.0).lock)) same) lead)
       (ap (λ (k : ℕ). slice_set at.rule.front (lock_at c) k) up ∙ lock_is_set at.rule.front w at.rule.kept.words_are c (suc d.word) x.0 x.1)
-      (ap (λ (t : Seat). slice_set w.seats at.seat t) (seat ∙ (if_true (n == d.word) (held n) (lost n) (eq-eqb n d.word hit) ∙ ap held is)))))
+      (ap (λ (t : Seat). slice_set w.seats at.seat t) (seat
+      ∙ (if_true (n == d.word) (held n) (lost n) (eq-eqb n d.word hit) ∙ ap held is)))))
       (λ miss.
       let other : ((x.0).lock == d.word) ≡ false = ne_eqb (x.0).lock d.word (λ a. miss (is ∙ a)) in
       subst (λ (left : ℕ). IsEvent terms setting base room opened m r at (Take c value) (lock_at c) left)
       (sym (if_false (n == d.word) (d.word + 1) n (ne_eqb n d.word miss)))
       (quiet m r at (Take c value) (lock_at c) (lost (x.0).lock) l
-      (subst (λ (v : World). Leads base w at.seat (Take c value) v) (if_false ((x.0).lock == d.word) world (with_seat w at.seat (lost (x.0).lock)) other) lead)
+      (subst (λ (v : World). Leads base w at.seat (Take c value) v)
+      (if_false ((x.0).lock == d.word) world (with_seat w at.seat (lost (x.0).lock)) other) lead)
       (seat ∙ (if_false (n == d.word) (held n) (lost n) (ne_eqb n d.word miss) ∙ ap lost is))))
 
   pub draws_are : DrawIsEvent terms setting base room opened
@@ -170,7 +181,8 @@ module _ {S N : Type 0} (terms : Terms S N) (setting : S) (base : List ℕ) (roo
       let wrap : (n + 1) % 2 ^ 64 ≡ suc w.clock = omega (arith, is, few) in
       event m r at Draw clock_at ((n + 1) % 2 ^ 64) (drawn w at.seat m.0.seat) (clock_within m r at)
       (draw_leads base w at.seat m.0.seat at.rule.kept.invariant (here_seat m r at) place)
-      (ap (λ (l : List ℕ). slice_set l clock_at ((n + 1) % 2 ^ 64)) at.rule.kept.words_are ∙ ap (λ (k : ℕ). front_of k (paired w.cells)) wrap)
+      (ap (λ (l : List ℕ). slice_set l clock_at ((n + 1) % 2 ^ 64)) at.rule.kept.words_are
+      ∙ ap (λ (k : ℕ). front_of k (paired w.cells)) wrap)
       (ap (λ (t : Seat). slice_set w.seats at.seat t)
       (ap (λ (v : View S N). v.seat) (t.is note refl) ∙ ap (λ (k : ℕ). placed m.0.seat (Checking k 0)) is))
 
@@ -179,11 +191,13 @@ module _ {S N : Type 0} (terms : Terms S N) (setting : S) (base : List ℕ) (roo
       let w : World = at.rule.kept.world in
       let x = here_cell m r at c has in
       let seat : r.0.seat ≡ after_store m.0.seat i c = ⊎_elim
-      (λ (p : (upto : ℕ) × (m.0.seat.place ≡ Checking i upto) × ((is_next m.0.seat i || all_settled m.0.seat.held upto m.0.seat.reads) ≡ true)).
+      (λ (p : (upto : ℕ) × (m.0.seat.place ≡ Checking i upto)
+      × ((is_next m.0.seat i || all_settled m.0.seat.held upto m.0.seat.reads) ≡ true)).
       let noted = (at.rule.kept.suits at.seat m.0 at.here).noted i (ap number_at p.1) in
       ap (λ (v : View S N). v.seat) (t.first i p.0 noted.0 p.1 noted.1).1)
       (λ (p : m.0.seat.place ≡ Storing i). ap (λ (v : View S N). v.seat) (t.next i p)) may in
-      event m r at (Store c) (value_at c) k.value (store w at.seat m.0.seat i c k x.0) (value_within at.rule.front w at.rule.kept.words_are c x.0 x.1)
+      event m r at (Store c) (value_at c) k.value (store w at.seat m.0.seat i c k x.0)
+      (value_within at.rule.front w at.rule.kept.words_are c x.0 x.1)
       (store_leads base w at.seat m.0.seat i c k x.0 at.rule.kept.invariant (here_seat m r at) may holds x.1)
       (value_is_set at.rule.front w at.rule.kept.words_are c k.value x.0 x.1) (ap (λ (t : Seat). slice_set w.seats at.seat t) seat)
 

@@ -71,7 +71,8 @@ rested base w s t I at unheld = record {
     idle_ok : SeatOk base w.cells w.history idle
     idle_ok = record { place = refl; rv = omega arith; reads = tt; held = λ c k e. absurd (cc) }
 
-pub rests_unheld : (base : List ℕ) (w : World) (s : ℕ) (t : Seat) → Invariant base w → slice_get w.seats s ≡ Some t → is_resting t.place ≡ true → t.held ≡ []
+pub rests_unheld : (base : List ℕ) (w : World) (s : ℕ) (t : Seat) → Invariant base w → slice_get w.seats s ≡ Some t
+    → is_resting t.place ≡ true → t.held ≡ []
 rests_unheld base w s t I at rest =
     let place : PlaceOk base w.cells w.history t t.place = (I.consistent.seats s t at).place in
     ⊎_elim (λ (p : t.place ≡ Idle). subst (λ (z : Place). PlaceOk base w.cells w.history t z) p place)
@@ -84,7 +85,8 @@ module _ {V : Type 0} (f : V → ℕ) (vs : List V) (id other : ℕ) (v b w n : 
       → total_of f (slice_set (slice_set vs id b) other n) + (f v + f w) ≡ total_of f vs + (f b + f n)
   total_two at there =
       let p : total_of f (slice_set vs id b) + f v ≡ total_of f vs + f b = total_set f vs id v b at in
-      let q : total_of f (slice_set (slice_set vs id b) other n) + f w ≡ total_of f (slice_set vs id b) + f n = total_set f (slice_set vs id b) other w n there in
+      let q : total_of f (slice_set (slice_set vs id b) other n) + f w ≡ total_of f (slice_set vs id b) + f n =
+      total_set f (slice_set vs id b) other w n there in
       omega (arith, p, q)
 
   -- a view of the list is the last that was set, the first one, or one that was there
@@ -107,7 +109,8 @@ module _ {S N : Type 0} (terms : Terms S N) (setting : S) (base : List ℕ) (roo
     then vs = slice_set (slice_set vs id b) other nobody
 
     -- what stages is what was there
-    staged_before : (vs : List (View S N)) → get_elem? vs id ≡ some v → (j : ℕ) (u : View S N) (s : Staging) → get_elem? (then vs) j ≡ some u
+    staged_before : (vs : List (View S N)) → get_elem? vs id ≡ some v → (j : ℕ) (u : View S N) (s : Staging)
+        → get_elem? (then vs) j ≡ some u
         → u.staging ≡ Some s → (x : View S N) × (get_elem? vs j ≡ some x) × (x.staging ≡ Some s)
     staged_before vs at j u s e st = ⊎_elim
         (λ (p : (j ≡ other) × (nobody ≡ u)). absurd (no_staged (ap (λ (x : View S N). x.staging) p.1 ∙ st)))
@@ -129,13 +132,15 @@ module _ {S N : Type 0} (terms : Terms S N) (setting : S) (base : List ℕ) (roo
       tail_then low h = record {
         is =
             let a : tail ≡ low + total_of moved_of vs = h.is in
-            let p : total_of moved_of (then vs) + (moved_of v + moved_of w) ≡ total_of moved_of vs + (moved_of b + moved_of {S = S} {N = N} nobody) =
+            let p : total_of moved_of (then vs) + (moved_of v + moved_of w)
+            ≡ total_of moved_of vs + (moved_of b + moved_of {S = S} {N = N} nobody) =
             total_two moved_of vs id other v b w nobody at there in
             let z : total_of (λ (g : Gone S N). g.taken + g.added) w.gone ≡ 0 = w_alone (λ (g : Gone S N). g.taken + g.added) in
             omega (arith, a, p, z);
         most =
             let a : tail ≤ room + total_of added_of vs = h.most in
-            let p : total_of added_of (then vs) + (added_of v + added_of w) ≡ total_of added_of vs + (added_of b + added_of {S = S} {N = N} nobody) =
+            let p : total_of added_of (then vs) + (added_of v + added_of w)
+            ≡ total_of added_of vs + (added_of b + added_of {S = S} {N = N} nobody) =
             total_two added_of vs id other v b w nobody at there in
             let z : total_of (λ (g : Gone S N). g.added) w.gone ≡ 0 = w_alone (λ (g : Gone S N). g.added) in
             omega (arith, a, p, z);
@@ -173,7 +178,8 @@ module _ {S N : Type 0} (terms : Terms S N) (setting : S) (base : List ℕ) (roo
                     (λ (more : Has g v.gone). f.gone g more) has;
               }
 
-      shelf_then : (ranges : List Range) (store : List ℕ) → Shelf room opened.store ranges tail store vs → Shelf room opened.store ranges tail store (then vs)
+      shelf_then : (ranges : List Range) (store : List ℕ) → Shelf room opened.store ranges tail store vs
+          → Shelf room opened.store ranges tail store (then vs)
       shelf_then ranges store h = record {
         long = h.long;
         small = h.small;
@@ -189,7 +195,8 @@ module _ {S N : Type 0} (terms : Terms S N) (setting : S) (base : List ℕ) (roo
       }
 
     -- the pass w, which is at rest, is given up to v
-    pub gives_up : w.rights ≡ 1 → is_resting w.seat.place ≡ true → w.gone ≡ [] → Joins (Ruled terms setting base room opened) id v other w (given_up v w) nobody
+    pub gives_up : w.rights ≡ 1 → is_resting w.seat.place ≡ true → w.gone ≡ []
+        → Joins (Ruled terms setting base room opened) id v other w (given_up v w) nobody
     gives_up one rest alone s r at apart there =
         let ranges : List Range = r.ranges in
         let vs : List (View S N) = s.views in
@@ -249,18 +256,22 @@ module _ {S N : Type 0} (terms : Terms S N) (setting : S) (base : List ℕ) (roo
                 (λ (p : get_elem? vs j ≡ some u). k.suits j u p) p) (at_two rights_of vs id other v b w nobody j u e);
             rights =
                 let a : total_of rights_of vs ≤ 64 = k.rights in
-                let p : total_of rights_of (then vs) + (rights_of v + rights_of w) ≡ total_of rights_of vs + (rights_of b + rights_of {S = S} {N = N} nobody) =
+                let p : total_of rights_of (then vs) + (rights_of v + rights_of w)
+                ≡ total_of rights_of vs + (rights_of b + rights_of {S = S} {N = N} nobody) =
                 total_two rights_of vs id other v b w nobody at there in
                 omega (arith, a, p, one, all);
             numbers =
                 let a : total_of numbers_of vs ≡ length (k.world).history = k.numbers in
-                let p : total_of numbers_of (then vs) + (numbers_of v + numbers_of w) ≡ total_of numbers_of vs + (numbers_of b + numbers_of {S = S} {N = N} nobody) =
+                let p : total_of numbers_of (then vs) + (numbers_of v + numbers_of w)
+                ≡ total_of numbers_of vs + (numbers_of b + numbers_of {S = S} {N = N} nobody) =
                 total_two numbers_of vs id other v b w nobody at there in
-                let z : total_of (λ (g : Gone S N). length g.told.drawn) w.gone ≡ 0 = ap (total_of (λ (g : Gone S N). length g.told.drawn)) alone in
+                let z : total_of (λ (g : Gone S N). length g.told.drawn) w.gone ≡ 0 =
+                ap (total_of (λ (g : Gone S N). length g.told.drawn)) alone in
                 omega (arith, a, p, z);
           };
           dealt =
-              let p : total_of rights_of (then vs) + (rights_of v + rights_of w) ≡ total_of rights_of vs + (rights_of b + rights_of {S = S} {N = N} nobody) =
+              let p : total_of rights_of (then vs) + (rights_of v + rights_of w)
+              ≡ total_of rights_of vs + (rights_of b + rights_of {S = S} {N = N} nobody) =
               total_two rights_of vs id other v b w nobody at there in
               let same : total_of rights_of (then vs) ≡ total_of rights_of vs = omega (arith, p, one, all) in
               same ∙ r.dealt;

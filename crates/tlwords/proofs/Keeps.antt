@@ -52,7 +52,14 @@ module _ {S N : Type 0} (setting : S) (base : List ℕ) where
 
   pub untold_is : (g : Seen N) (owner : ℕ → ℕ) → IsTold {S = S} setting base g owner untold
   untold_is g owner =
-      record { setting_is = λ x e. absurd (cc); grows = ((omega arith, λ i e p. absurd (cc)), λ i n p. absurd (cc), λ r has. absurd has); owned = λ n has. absurd has; once = nothing_drawn }
+      record {
+        setting_is = λ x e. absurd (cc);
+        grows =
+            ((omega arith, λ i e p. absurd (cc)), λ i n p. absurd (cc), λ r has. absurd has);
+        owned = λ n has. absurd has;
+        once =
+            nothing_drawn;
+      }
 
 -- how far a pass has moved the tail, its refusal, and the passes that were given up to it
 abbrev pub moves_of : {S N : Type 0} → View S N → Option (ℕ × ℕ) × ℕ × ℕ × List (Gone S N)
@@ -66,8 +73,8 @@ module _ {S N : Type 0} (terms : Terms S N) (setting : S) (base : List ℕ) (roo
   abbrev pub IsSameShelf : View S N → View S N → Type 0
   IsSameShelf v w = (w.staging ≡ v.staging) × (moves_of w ≡ moves_of v) × (w.rights ≡ v.rights)
 
-  -- whatever the front is when its word i becomes f of what it was, the seat has a new view that keeps the front's rule and touches nothing of
-  -- the store, and `then` holds of the number found and of the seat after
+  -- whatever the front is when its word i becomes f of what it was, the seat has a new view that keeps the front's rule and touches nothing
+  -- of the store, and `then` holds of the number found and of the seat after
   abbrev pub AllowsFront : ℕ → Mine S N → ℕ → (ℕ → ℕ) → (ℕ → Mine S N → Type 0) → Type 0
   AllowsFront id me i f then =
       (ranges : List Range) (ws : List ℕ) (vs : List (View S N)) → Rule ranges ws vs → get_elem? vs id ≡ some me.0
@@ -101,10 +108,12 @@ module _ {S N : Type 0} (terms : Terms S N) (setting : S) (base : List ℕ) (roo
         gone = gone_grows g h owner later v.gone r same f.gone;
       }
 
-  pub legal_of : (ranges : List Range) (world : World) (notes : List N) → Invariant base world → EntriesAre terms setting (record { history = world.history; notes = notes; ranges = ranges })
+  pub legal_of : (ranges : List Range) (world : World) (notes : List N) → Invariant base world
+      → EntriesAre terms setting (record { history = world.history; notes = notes; ranges = ranges })
       → Legal terms setting base (record { history = world.history; notes = notes; ranges = ranges })
   legal_of ranges world notes I entries i w d =
-      let a : Permits terms setting ranges (d.entry).reads (d.entry).writes w.note × ((d.entry).writes ≢ []) = entries i d.entry w.note d.here d.note in
+      let a : Permits terms setting ranges (d.entry).reads (d.entry).writes w.note × ((d.entry).writes ≢ []) =
+      entries i d.entry w.note d.here d.note in
       let o : One base world.history i (d.entry).reads = I.consistent.history i d.entry d.here d.done in (
         subst (λ (z : List (ℕ × ℕ) × List (ℕ × ℕ)). Permits terms setting ranges z.0 z.1 w.note) (λ j. (d.reads j, d.writes j)) a.0,
         λ e. a.1 (d.writes ∙ e),
@@ -114,8 +123,10 @@ module _ {S N : Type 0} (terms : Terms S N) (setting : S) (base : List ℕ) (roo
   -- a view that has seen the whole history is sound
   pub sound_of : (ranges : List Range) (world : World) (notes : List N) (owner : ℕ → ℕ) (id : ℕ) (v : View S N) → Invariant base world
       → length notes ≡ length world.history
-      → EntriesAre terms setting (record { history = world.history; notes = notes; ranges = ranges }) → Opened terms setting ranges base → AreOfOneStore room ranges
-      → Suits terms setting base room (record { history = world.history; notes = notes; ranges = ranges }) owner v → slice_get world.seats id ≡ Some v.seat
+      → EntriesAre terms setting (record { history = world.history; notes = notes; ranges = ranges }) → Opened terms setting ranges base
+      → AreOfOneStore room ranges
+      → Suits terms setting base room (record { history = world.history; notes = notes; ranges = ranges }) owner v
+      → slice_get world.seats id ≡ Some v.seat
       → v.seen ≡ record { history = world.history; notes = notes; ranges = ranges } → Sound terms v
   sound_of ranges world notes owner id v I noted entries opening lie f at is =
       let g : Seen N = record { history = world.history; notes = notes; ranges = ranges } in
@@ -124,19 +135,25 @@ module _ {S N : Type 0} (terms : Terms S N) (setting : S) (base : List ℕ) (roo
         placed = subst (λ (g : Seen N). v.seat.rv ≤ length g.history) (sym is) ok.rv;
         one = λ x e.
             let b : (x ≡ setting) × (v.base ≡ base) = f.own.setting_is x e in
-            subst (λ (g : Seen N). One v.base g.history v.seat.rv (reads_of v.seat.reads)) (sym is) (subst (λ (o : List ℕ). One o world.history v.seat.rv (reads_of v.seat.reads)) (sym b.1) (ReadsOk-one base world.history v.seat.rv v.seat.reads ok.reads));
+            subst (λ (g : Seen N). One v.base g.history v.seat.rv (reads_of v.seat.reads)) (sym is)
+            (subst (λ (o : List ℕ). One o world.history v.seat.rv (reads_of v.seat.reads)) (sym b.1)
+            (ReadsOk-one base world.history v.seat.rv v.seat.reads ok.reads));
         legal = λ x e.
             let b : (x ≡ setting) × (v.base ≡ base) = f.own.setting_is x e in
-            subst (λ (g : Seen N). Legal terms x v.base g) (sym is) (subst (λ (z : S × List ℕ). Legal terms z.0 z.1 g) (λ j. (sym b.0 j, sym b.1 j)) (legal_of ranges world notes I entries));
+            subst (λ (g : Seen N). Legal terms x v.base g) (sym is)
+            (subst (λ (z : S × List ℕ). Legal terms z.0 z.1 g) (λ j. (sym b.0 j, sym b.1 j)) (legal_of ranges world notes I entries));
         noted = subst (λ (g : Seen N). length g.notes ≡ length g.history) (sym is) noted;
         mine = λ x e.
             let b : (x ≡ setting) × (v.base ≡ base) = f.own.setting_is x e in
-            subst (λ (g : Seen N). Agree terms x v.base g v.mine) (sym is) (subst (λ (z : S × List ℕ). Agree terms z.0 z.1 g v.mine) (λ j. (sym b.0 j, sym b.1 j)) f.mine);
+            subst (λ (g : Seen N). Agree terms x v.base g v.mine) (sym is)
+            (subst (λ (z : S × List ℕ). Agree terms z.0 z.1 g v.mine) (λ j. (sym b.0 j, sym b.1 j)) f.mine);
         opening = λ x e.
             let b : (x ≡ setting) × (v.base ≡ base) = f.own.setting_is x e in
-            subst (λ (g : Seen N). Opened terms x g.ranges v.base) (sym is) (subst (λ (z : S × List ℕ). Opened terms z.0 ranges z.1) (λ j. (sym b.0 j, sym b.1 j)) opening);
+            subst (λ (g : Seen N). Opened terms x g.ranges v.base) (sym is)
+            (subst (λ (z : S × List ℕ). Opened terms z.0 ranges z.1) (λ j. (sym b.0 j, sym b.1 j)) opening);
         ranges = λ x e.
-            subst (λ (g : Seen N). AreOfOneStore v.room g.ranges) (sym is) (subst (λ (k : ℕ). AreOfOneStore k ranges) (sym (f.room_is x e)) lie);
+            subst (λ (g : Seen N). AreOfOneStore v.room g.ranges) (sym is)
+            (subst (λ (k : ℕ). AreOfOneStore k ranges) (sym (f.room_is x e)) lie);
         settled = λ i has. subst (λ (g : Seen N). (number_at v.seat.place ≡ Some i) ⊎ IsSettled g.history i) (sym is) (f.settled i has);
       }
 
@@ -155,7 +172,8 @@ module _ {S N : Type 0} (terms : Terms S N) (setting : S) (base : List ℕ) (roo
     opened_wider rs qs wider o = record { some = o.some; among = λ x has. wider x (o.among x has); opens = o.opens }
 
     -- a step of the seat id, after which it has the view w
-    pub moved : (id : ℕ) (v w : View S N) → get_elem? vs id ≡ some v → (qs : List Range) (after : List ℕ) (world : World) (notes : List N) (owner : ℕ → ℕ)
+    pub moved : (id : ℕ) (v w : View S N) → get_elem? vs id ≡ some v
+        → (qs : List Range) (after : List ℕ) (world : World) (notes : List N) (owner : ℕ → ℕ)
         → Within ranges qs → AreOfOneStore room qs
         → ((c : ℕ) (x : Cell) → slice_get world.cells c ≡ Some x → terms.ranged setting c ≡ true → Names qs x.value)
         → Follows base r.world world → world.seats ≡ slice_set (r.world).seats id w.seat → after ≡ words_of world
@@ -186,14 +204,17 @@ module _ {S N : Type 0} (terms : Terms S N) (setting : S) (base : List ℕ) (roo
           lie = lie;
           suits = λ j u there. ⊎_elim
               (λ (t : (j ≡ id) × (w ≡ u)). subst (λ (x : View S N). Suits terms setting base room later owner x) t.1 suit)
-              (λ (t : (j ≢ id) × (get_elem? vs j ≡ some u)). suits_grow now later r.owner owner u (keeps.grows, more, wider) same (seat_ok j u t.1).rv (r.suits j u t.1))
+              (λ (t : (j ≢ id) × (get_elem? vs j ≡ some u)). suits_grow now later r.owner owner u (keeps.grows, more, wider) same
+              (seat_ok j u t.1).rv (r.suits j u t.1))
               (at_set vs id j w u there);
           rights =
-              let t : total_of rights_of (slice_set vs id w) + rights_of v ≡ total_of rights_of vs + rights_of w = total_set rights_of vs id v w at in
+              let t : total_of rights_of (slice_set vs id w) + rights_of v ≡ total_of rights_of vs + rights_of w =
+              total_set rights_of vs id v w at in
               let all : total_of rights_of vs ≤ 64 = r.rights in
               omega (arith, t, all, rights);
           numbers =
-              let t : total_of numbers_of (slice_set vs id w) + numbers_of v ≡ total_of numbers_of vs + numbers_of w = total_set numbers_of vs id v w at in
+              let t : total_of numbers_of (slice_set vs id w) + numbers_of v ≡ total_of numbers_of vs + numbers_of w =
+              total_set numbers_of vs id v w at in
               let all : total_of numbers_of vs ≡ length (r.world).history = r.numbers in
               omega (arith, t, all, numbers);
         }
@@ -221,7 +242,8 @@ module _ {S N : Type 0} (terms : Terms S N) (setting : S) (base : List ℕ) (roo
         let w : View S N = after_step v world z mine told in
         let f : Suits terms setting base room now r.owner v = r.suits id v at in
         let grow : SeenGrows now later = (keeps.grows, λ i n e. e, λ x has. has) in
-        let own : IsTold setting base later r.owner (tells v) = told_grows setting base now later r.owner r.owner (tells v) grow (λ n l. refl) f.own in
+        let own : IsTold setting base later r.owner (tells v) =
+        told_grows setting base now later r.owner r.owner (tells v) grow (λ n l. refl) f.own in
         let suit : Suits terms setting base room later r.owner w = record {
           own = record { setting_is = own.setting_is; grows = seen_refl later; owned = own.owned; once = own.once };
           room_is = f.room_is;
@@ -236,8 +258,11 @@ module _ {S N : Type 0} (terms : Terms S N) (setting : S) (base : List ℕ) (roo
           unheld = λ e. unheld e (f.unheld e);
           gone = gone_grows now later r.owner r.owner v.gone grow (λ n l. refl) f.gone;
         } in
-        let rule : Rule ranges after (slice_set vs id w) = moved id v w at ranges after world r.notes r.owner (λ x has. has) r.lie named keeps seats words cells grow.1 (r.notes_are ∙ sym len)
-        (entries_grow terms setting (r.world).history world.history r.notes ranges keeps.grows len r.entries) (λ n l. refl) suit refl (omega (arith, len)) in (
+        let rule : Rule ranges after (slice_set vs id w) =
+        moved id v w at ranges after world r.notes r.owner (λ x has. has) r.lie named keeps seats words cells grow.1 (r.notes_are
+        ∙ sym len)
+        (entries_grow terms setting (r.world).history world.history r.notes ranges keeps.grows len r.entries) (λ n l. refl) suit refl
+        (omega (arith, len)) in (
           rule,
           record {
             own = seen_trans v.seen now later f.own.grows grow;

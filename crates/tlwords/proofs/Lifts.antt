@@ -40,7 +40,8 @@ module _ (front : List ℕ) (tail : ℕ) (store : List ℕ) (n : ℕ) (long : le
       ∙ (get_or-append_right (shelf_of tail []) store 15 (store_at n o - front_size n) 0 refl (omega arith)
       ∙ ap (λ (i : ℕ). slice_index store i) (to_store o))
 
-  pub store_is_set : (o word : ℕ) → slice_set (front ++ shelf_of tail store) (store_at n o) word ≡ front ++ shelf_of tail (slice_set store o word)
+  pub store_is_set : (o word : ℕ) → slice_set (front ++ shelf_of tail store) (store_at n o) word ≡ front
+      ++ shelf_of tail (slice_set store o word)
   store_is_set o word =
       set-append_right front (shelf_of tail store) (front_size n) (store_at n o) word long (omega arith)
       ∙ ap (λ (l : List ℕ). front ++ l)
@@ -58,7 +59,8 @@ module _ {S N : Type 0} (terms : Terms S N) (setting : S) (base : List ℕ) (roo
       omega (arith, a, b, c)
 
   -- a step on the front is one of the table
-  pub lifted : (opened : Start) (slots id i : ℕ) (me : Mine S N) (f : ℕ → ℕ) (then : ℕ → Mine S N → Type 0) → AllowsFront terms setting base room id me i f then
+  pub lifted : (opened : Start) (slots id i : ℕ) (me : Mine S N) (f : ℕ → ℕ) (then : ℕ → Mine S N → Type 0)
+      → AllowsFront terms setting base room id me i f then
       → Allows (Ruled terms setting base room opened) slots id me i f (λ n r. then n r × (r.1 ≡ me.1))
   lifted opened slots id i me f then allows s r _ at _ =
       let q = allows r.ranges r.front s.views r.kept at in

@@ -44,7 +44,8 @@ module _ (slots : List Slot) (cell word : ℕ) (kept : Option ℕ) (l : cell < l
 
   noted_values : (c : ℕ) → value_kept after c ≡ value_kept slots c
   noted_values c = dite (ℕ_discrete c cell)
-      (λ e. ap (value_kept after) e ∙ (kept_here slots cell (record { word = Some word; kept = kept }) l ∙ (same ∙ ap (value_kept slots) (sym e))))
+      (λ e. ap (value_kept after) e ∙ (kept_here slots cell (record { word = Some word; kept = kept }) l
+      ∙ (same ∙ ap (value_kept slots) (sym e))))
       (λ n. kept_else slots cell (record { word = Some word; kept = kept }) c n)
 
   noted_here : was_read after cell ≡ true
@@ -58,11 +59,14 @@ module _ (slots : List Slot) (cell word : ℕ) (kept : Option ℕ) (l : cell < l
   noted_kept t r k a b = (
     λ c. dite (ℕ_discrete c cell)
         (λ e. ap (word_seen after) e ∙ (seen_here slots cell (record { word = Some word; kept = kept }) l ∙ (ap (λ (w : ℕ). Some w) (sym b)
-        ∙ sym (ap (λ (j : ℕ). option_map (λ (r : Read). r.word) (find_read j (r ∷ t.reads))) (e ∙ sym a) ∙ ap (option_map (λ (r : Read). r.word)) (find_here r t.reads)))))
-        (λ n. seen_else slots cell (record { word = Some word; kept = kept }) c n ∙ (k.0 c ∙ sym (ap (option_map (λ (r : Read). r.word)) (find_else c r t.reads (λ e. n (sym e ∙ a)))))),
+        ∙ sym (ap (λ (j : ℕ). option_map (λ (r : Read). r.word) (find_read j (r ∷ t.reads))) (e ∙ sym a)
+        ∙ ap (option_map (λ (r : Read). r.word)) (find_here r t.reads)))))
+        (λ n. seen_else slots cell (record { word = Some word; kept = kept }) c n
+        ∙ (k.0 c ∙ sym (ap (option_map (λ (r : Read). r.word)) (find_else c r t.reads (λ e. n (sym e ∙ a)))))),
     λ c is. noted_still c (k.1 c (ap is_some (sym (noted_values c)) ∙ is)),
     λ c w is. dite (ℕ_discrete c cell)
-        (λ e. let p : Some word ≡ Some w = sym (seen_here slots cell (record { word = Some word; kept = kept }) l) ∙ (ap (word_seen after) (sym e) ∙ is) in
+        (λ e. let p : Some word ≡ Some w = sym (seen_here slots cell (record { word = Some word; kept = kept }) l)
+        ∙ (ap (word_seen after) (sym e) ∙ is) in
         let q : word ≡ w = cc in ap (λ (z : ℕ). z % 2) (sym q) ∙ even)
         (λ n. k.2 c w (sym (seen_else slots cell (record { word = Some word; kept = kept }) c n) ∙ is)),
   )
@@ -78,7 +82,8 @@ module _ (slots : List Slot) (cell value : ℕ) (word : Option ℕ) (l : cell < 
 
   written_words : (c : ℕ) → word_seen written c ≡ word_seen slots c
   written_words c = dite (ℕ_discrete c cell)
-      (λ e. ap (word_seen written) e ∙ (seen_here slots cell (record { word = word; kept = Some value }) l ∙ (same ∙ ap (word_seen slots) (sym e))))
+      (λ e. ap (word_seen written) e ∙ (seen_here slots cell (record { word = word; kept = Some value }) l
+      ∙ (same ∙ ap (word_seen slots) (sym e))))
       (λ n. seen_else slots cell (record { word = word; kept = Some value }) c n)
 
   written_kept : was_read slots cell ≡ true → (t : Seat) → IsKeptOf t slots → IsKeptOf t written

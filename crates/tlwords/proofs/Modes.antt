@@ -21,7 +21,8 @@ reading_blank t slots k c =
     (k.0 c, none_known (value_kept slots c) (λ is. let a : true ≡ false = sym (k.1 c is) ∙ ap is_some (k.0 c) in cc))
 
 -- after a read by a run in this mode
-pub read_kept : (mode : Mode) (t u : Seat) (slots after : List Slot) (r : Read) → Notes mode slots after r.cell r.word → u.reads ≡ r ∷ t.reads
+pub read_kept : (mode : Mode) (t u : Seat) (slots after : List Slot) (r : Read) → Notes mode slots after r.cell r.word
+    → u.reads ≡ r ∷ t.reads
     → IsKeptOf (noted mode t) slots → IsKeptOf (noted mode u) after
 read_kept Reading t u slots after r n e h =
     subst (λ (z : List Slot). IsKeptOf (noted Reading u) z) (sym n) (kept_same (noted Reading t) (noted Reading u) slots refl h)

@@ -64,7 +64,8 @@ in_cells clock cells i k e =
     get_or-append_right (front_of clock []) cells 16 i 0 refl (omega arith)
     ∙ ap (λ (j : ℕ). slice_index cells j) (let f : i - 16 ≡ k = omega arith in f)
 
-set_cells : (clock : ℕ) (cells : List ℕ) (i k n : ℕ) → i ≡ k + 16 → slice_set (front_of clock cells) i n ≡ front_of clock (slice_set cells k n)
+set_cells : (clock : ℕ) (cells : List ℕ) (i k n : ℕ) → i ≡ k + 16
+    → slice_set (front_of clock cells) i n ≡ front_of clock (slice_set cells k n)
 set_cells clock cells i k n e =
     set-append_right (front_of clock []) cells 16 i n refl (omega arith)
     ∙ ap (λ (j : ℕ). front_of clock (slice_set cells j n)) (let f : i - 16 ≡ k = omega arith in f)

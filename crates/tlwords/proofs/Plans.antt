@@ -29,7 +29,8 @@ use Rattle.tlwords.proofs.Settles.{some_writes}
 
 module _ (slots : List Slot) (kept : Bool) (ts : List Touched) (p : IsPlan slots kept ts) where
   -- the cell at the place n of a plan, along which a loop goes up to its length
-  module _ (n last count : ℕ) (t : Touched) (l : n < last) (is : last ≡ count) (own : count ≡ length ts) (e : t ≡ slice_index_or ts n t) where
+  module _ (n last count : ℕ) (t : Touched) (l : n < last) (is : last ≡ count) (own : count ≡ length ts) (e : t
+      ≡ slice_index_or ts n t) where
     here : slice_get ts n ≡ Some t
     here =
         let x = get_exists ts n (omega (arith, l, is, own)) in

@@ -91,7 +91,8 @@ pass_fresh o w c n rv x I f is l p =
 
 module _ {S N : Type 0} (terms : Terms S N) (setting : S) (base : List ℕ) (room : ℕ) where
   -- the cell is one of the world's
-  pub cell_in : (ranges : List Range) (ws : List ℕ) (vs : List (View S N)) (r : Rule terms setting base room ranges ws vs) (id : ℕ) (v : View S N)
+  pub cell_in : (ranges : List Range) (ws : List ℕ) (vs : List (View S N)) (r : Rule terms setting base room ranges ws vs) (id : ℕ)
+      (v : View S N)
       → get_elem? vs id ≡ some v → (y : S) → v.setting ≡ Some y → (c : ℕ) → c < length v.base
       → (x : Cell) × (slice_get (r.world).cells c ≡ Some x)
   cell_in ranges ws vs r id v at y e c l =
@@ -102,14 +103,16 @@ module _ {S N : Type 0} (terms : Terms S N) (setting : S) (base : List ℕ) (roo
       get_exists (r.world).cells c (omega (arith, l, same, cells))
 
   -- the half of a lock word is 0 or the number of a Done entry that writes the cell
-  pub half_written : (ranges : List Range) (ws : List ℕ) (vs : List (View S N)) (r : Rule terms setting base room ranges ws vs) (c n : ℕ) (x : Cell)
+  pub half_written : (ranges : List Range) (ws : List ℕ) (vs : List (View S N)) (r : Rule terms setting base room ranges ws vs) (c n : ℕ)
+      (x : Cell)
       → slice_get (r.world).cells c ≡ Some x → n ≡ x.lock → WasWritten (r.world).history c (n / 2)
   half_written ranges ws vs r c n x f is =
       halves base r.world r.invariant c (n / 2) x f
       (⊎_elim (λ (e : n ≡ 2 * (n / 2)). inl (sym is ∙ e)) (λ (e : n ≡ suc (2 * (n / 2))). inr (sym is ∙ e)) (half_of n))
 
   -- a load, by an event that changes the seat alone
-  pub quiet : (ranges : List Range) (ws : List ℕ) (vs : List (View S N)) (r : Rule terms setting base room ranges ws vs) (id : ℕ) (v : View S N) → get_elem? vs id ≡ some v
+  pub quiet : (ranges : List Range) (ws : List ℕ) (vs : List (View S N)) (r : Rule terms setting base room ranges ws vs) (id : ℕ)
+      (v : View S N) → get_elem? vs id ≡ some v
       → (i : ℕ) (z : Seat) (told : Told S N)
       → Follows base r.world (with_seat r.world id z) → IsTold setting base (now terms setting base room ranges ws vs r) r.owner told
       → ((k : ℕ) → number_at v.seat.place ≡ Some k → number_at z.place ≡ Some k)
@@ -118,8 +121,10 @@ module _ {S N : Type 0} (terms : Terms S N) (setting : S) (base : List ℕ) (roo
       → (w : View S N) → w ≡ after_step terms setting base room ranges ws vs r v (r.world) z v.mine told
       → Rule terms setting base room ranges (slice_set ws i (slice_index ws i)) (slice_set vs id w) × Sees terms v w
   quiet ranges ws vs r id v at i z told stays is_told on back look unheld w is =
-      subst (λ (w : View S N). Rule terms setting base room ranges (slice_set ws i (slice_index ws i)) (slice_set vs id w) × Sees terms v w) (sym is)
-      (goes terms setting base room ranges ws vs r id v at (slice_set ws i (slice_index ws i)) (with_seat r.world id z) z v.mine told r.named stays refl
+      subst (λ (w : View S N). Rule terms setting base room ranges (slice_set ws i (slice_index ws i)) (slice_set vs id w)
+      × Sees terms v w) (sym is)
+      (goes terms setting base room ranges ws vs r id v at (slice_set ws i (slice_index ws i))
+      (with_seat r.world id z) z v.mine told r.named stays refl
       (set-get_or ws i 0 ∙ r.words_are) refl refl (λ a. a) is_told (λ k p. inl (on k p)) back look unheld)
 
   pub samples : (opened : Start) (slots id : ℕ) (me : Mine S N) → (me.0.seat.place ≡ Idle) ⊎ (me.0.seat.place ≡ Reading)
@@ -139,7 +144,8 @@ module _ {S N : Type 0} (terms : Terms S N) (setting : S) (base : List ℕ) (roo
       let u : View S N = record v { seen = h; seat = began v.seat n; told = untold } in
       let q : Rule terms setting base room ranges (slice_set ws clock_at n) (slice_set vs id u) × Sees terms v u =
       quiet ranges ws vs r id v at clock_at (began v.seat n) untold keep (untold_is setting base h r.owner)
-      (λ k a. absurd (⊎_elim (λ (b : v.seat.place ≡ Idle). no_number v.seat.place Idle k b refl a) (λ (b : v.seat.place ≡ Reading). no_number v.seat.place Reading k b refl a) p))
+      (λ k a. absurd (⊎_elim (λ (b : v.seat.place ≡ Idle). no_number v.seat.place Idle k b refl a)
+      (λ (b : v.seat.place ≡ Reading). no_number v.seat.place Reading k b refl a) p))
       (λ k a. absurd (no_number Reading Reading k refl refl a))
       (λ c word value a. absurd (not_looking Reading refl c word value a)) (λ _ _. refl) u refl in
       let f = r.suits id v at in (
@@ -159,8 +165,10 @@ module _ {S N : Type 0} (terms : Terms S N) (setting : S) (base : List ℕ) (roo
         },
       )
 
-  pub looks : (opened : Start) (slots id c : ℕ) (me : Mine S N) (y : S) → me.0.setting ≡ Some y → c < length me.0.base → me.0.seat.place ≡ Reading
-      → Allows (Ruled terms setting base room opened) slots id me (lock_at c) (λ n. n) (bare (looked terms) (step slots (lock_at c) 0 0 none) me)
+  pub looks : (opened : Start) (slots id c : ℕ) (me : Mine S N) (y : S) → me.0.setting ≡ Some y → c < length me.0.base
+      → me.0.seat.place ≡ Reading
+      → Allows (Ruled terms setting base room opened) slots id me (lock_at c) (λ n. n)
+      (bare (looked terms) (step slots (lock_at c) 0 0 none) me)
   looks opened slots id c me y set l p =
       lifted terms setting base room opened slots id (lock_at c) me (λ n. n)
       (looked terms (step slots (lock_at c) 0 0 none) me) λ ranges ws vs r at.
@@ -181,12 +189,14 @@ module _ {S N : Type 0} (terms : Terms S N) (setting : S) (base : List ℕ) (roo
       let q : Rule terms setting base room ranges (slice_set ws (lock_at c) n) (slice_set vs id u) × Sees terms v u =
       quiet ranges ws vs r id v at (lock_at c) (after_look t c n) v.told keep f.told
       (λ k a. absurd (no_number t.place Reading k p refl a))
-      (λ k a. absurd (if_known (λ (z : Seat). number_at z.place ≡ Some k → ⊥) (passes n t.rv) (placed (saw t c n) (Looked c n)) (conflict (saw t c n) Idle)
+      (λ k a. absurd (if_known (λ (z : Seat). number_at z.place ≡ Some k
+      → ⊥) (passes n t.rv) (placed (saw t c n) (Looked c n)) (conflict (saw t c n) Idle)
       (λ _ b. no_number (Looked c n) (Looked c n) k refl refl b) (λ _ b. no_number Idle Idle k refl refl b) a))
       (if_known (λ (z : Seat). LookIsFresh w.history z) (passes n t.rv) (placed (saw t c n) (Looked c n)) (conflict (saw t c n) Idle)
       (λ b. looked_fresh w.history (saw t c n) c n (pass_fresh base w c n t.rv x.0 r.invariant x.1 is rv b))
       (λ _ d word value a. absurd (not_looking Idle refl d word value a)))
-      (λ _ b. if_known (λ (z : Seat). z.held ≡ []) (passes n t.rv) (placed (saw t c n) (Looked c n)) (conflict (saw t c n) Idle) (λ _. b) (λ _. b)) u refl in (
+      (λ _ b. if_known (λ (z : Seat). z.held ≡ []) (passes n t.rv) (placed (saw t c n) (Looked c n)) (conflict (saw t c n) Idle) (λ _. b)
+      (λ _. b)) u refl in (
         lock_within ws w r.words_are c x.0 x.1,
         u,
         (refl, refl, refl),
@@ -195,8 +205,10 @@ module _ {S N : Type 0} (terms : Terms S N) (setting : S) (base : List ℕ) (roo
             (record { sees = q.1; written = half_written ranges ws vs r c n x.0 x.1 is; is = refl }),
       )
 
-  pub loads : (opened : Start) (slots id c word : ℕ) (me : Mine S N) (y : S) → me.0.setting ≡ Some y → c < length me.0.base → me.0.seat.place ≡ Looked c word
-      → Allows (Ruled terms setting base room opened) slots id me (value_at c) (λ n. n) (bare (loaded terms) (step slots (value_at c) 0 0 none) me)
+  pub loads : (opened : Start) (slots id c word : ℕ) (me : Mine S N) (y : S) → me.0.setting ≡ Some y → c < length me.0.base
+      → me.0.seat.place ≡ Looked c word
+      → Allows (Ruled terms setting base room opened) slots id me (value_at c) (λ n. n)
+      (bare (loaded terms) (step slots (value_at c) 0 0 none) me)
   loads opened slots id c word me y set l p =
       lifted terms setting base room opened slots id (value_at c) me (λ n. n)
       (loaded terms (step slots (value_at c) 0 0 none) me) λ ranges ws vs r at.
@@ -228,7 +240,8 @@ module _ {S N : Type 0} (terms : Terms S N) (setting : S) (base : List ℕ) (roo
           named = λ z d other known a ranged.
               let b : (c ≡ d) × (word ≡ other) = looked_same c word d other (sym p ∙ a) in
               let e2 : z ≡ setting = (f.own.setting_is z known).0 in
-              let at_setting : terms.ranged setting c ≡ true = subst (λ (k : S × ℕ). terms.ranged k.0 k.1 ≡ true) (λ j. (e2 j, sym b.0 j)) ranged in
+              let at_setting : terms.ranged setting c ≡ true =
+              subst (λ (k : S × ℕ). terms.ranged k.0 k.1 ≡ true) (λ j. (e2 j, sym b.0 j)) ranged in
               subst (λ (k : ℕ). Names ranges k) (sym is) (r.named c x.0 x.1 at_setting);
           is = λ d other a.
               let b : (c ≡ d) × (word ≡ other) = looked_same c word d other (sym p ∙ a) in
@@ -238,7 +251,8 @@ module _ {S N : Type 0} (terms : Terms S N) (setting : S) (base : List ℕ) (roo
 
   pub relooks : (opened : Start) (slots id c word value : ℕ) (me : Mine S N) (y : S) → me.0.setting ≡ Some y → c < length me.0.base
       → me.0.seat.place ≡ Loaded c word value
-      → Allows (Ruled terms setting base room opened) slots id me (lock_at c) (λ n. n) (bare (relooked terms) (step slots (lock_at c) 0 0 none) me)
+      → Allows (Ruled terms setting base room opened) slots id me (lock_at c) (λ n. n)
+      (bare (relooked terms) (step slots (lock_at c) 0 0 none) me)
   relooks opened slots id c word value me y set l p =
       lifted terms setting base room opened slots id (lock_at c) me (λ n. n)
       (relooked terms (step slots (lock_at c) 0 0 none) me) λ ranges ws vs r at.
@@ -249,7 +263,8 @@ module _ {S N : Type 0} (terms : Terms S N) (setting : S) (base : List ℕ) (roo
       let x : (x : Cell) × (slice_get w.cells c ≡ Some x) = cell_in ranges ws vs r id v at y set c l in
       let is : n ≡ (x.0).lock = lock_word ws w r.words_are c x.0 x.1 in
       let e : slice_get w.seats id ≡ Some t = seat_at terms setting base room ranges ws vs r id v at in
-      let lead : Leads base w id (Relook c) (relook w id t c word value x.0) = relook_leads base w id t c word value x.0 r.invariant e p x.1 in
+      let lead : Leads base w id (Relook c) (relook w id t c word value x.0) =
+      relook_leads base w id t c word value x.0 r.invariant e p x.1 in
       let z : Seat = after_relook t c word value n in
       let keep : Follows base w (with_seat w id z) =
       subst (λ (k : ℕ). Follows base w (with_seat w id (after_relook t c word value k))) (sym is) (by_event lead) in
@@ -266,11 +281,13 @@ module _ {S N : Type 0} (terms : Terms S N) (setting : S) (base : List ℕ) (roo
       (if_known (λ (z : Seat). LookIsFresh w.history z) (n == word) reads (conflict (saw t c n) Idle)
       (λ _ d o a b. absurd (not_looking Reading refl d o a b)) (λ _ d o a b. absurd (not_looking Idle refl d o a b)))
       (λ _ b. if_known (λ (z : Seat). z.held ≡ []) (n == word) reads (conflict (saw t c n) Idle) (λ _. b) (λ _. b)) u refl in
-      let same : (d other found : ℕ) → t.place ≡ Loaded d other found → Loaded c word value ≡ Loaded d other found = λ d other found a. sym p ∙ a in
+      let same : (d other found : ℕ) → t.place ≡ Loaded d other found → Loaded c word value ≡ Loaded d other found =
+      λ d other found a. sym p ∙ a in
       let half : WasWritten w.history c (n / 2) = half_written ranges ws vs r c n x.0 x.1 is in
       let fresh : IsFresh w.history t.rv c word = f.look c word value (inr p) in
       let miss : n ≢ word → n % 2 ≡ 0 → t.rv < n / 2 = λ other even.
-      let b : (n / 2 ≡ version w.history c) × ((i u : ℕ) → deed w.history c i ≡ Will u → ⊥) = free_word base w c n x.0 r.invariant x.1 is even in
+      let b : (n / 2 ≡ version w.history c) × ((i u : ℕ) → deed w.history c i ≡ Will u → ⊥) =
+      free_word base w c n x.0 r.invariant x.1 is even in
       dite (dec_lt t.rv (n / 2)) (λ m. m) (λ m.
       let low : version_after (deed w.history c) (length w.history) ≤ t.rv = omega (arith, m, b.0) in
       let k : version_after (deed w.history c) t.rv ≡ version_after (deed w.history c) (length w.history) =
@@ -283,16 +300,22 @@ module _ {S N : Type 0} (terms : Terms S N) (setting : S) (base : List ℕ) (roo
         q.0,
         record {
           sees = q.1;
-          written = λ d other found a. subst (λ (k : ℕ). WasWritten w.history k (n / 2)) (loaded_same c word value d other found (same d other found a)).0 half;
+          written = λ d other found a. subst (λ (k : ℕ). WasWritten w.history k (n / 2))
+              (loaded_same c word value d other found (same d other found a)).0 half;
           missed = λ d other found a ne even. miss (λ k. ne (k ∙ (loaded_same c word value d other found (same d other found a)).1)) even;
           is = λ d other found a. is_at d other found (same d other found a) v h n;
         },
       )
     where
       is_at : (d other found : ℕ) → Loaded c word value ≡ Loaded d other found → (v : View S N) (h : Seen N) (n : ℕ)
-          → record v { seen = h; seat = after_relook v.seat c word value n } ≡ record v { seen = h; seat = after_relook v.seat d other found n }
+          → record v { seen = h; seat = after_relook v.seat c word value n } ≡ record v {
+            seen = h;
+            seat =
+                after_relook v.seat d other found n;
+          }
       is_at d other found a v h n =
           let i : c ≡ d = cc in
           let j : word ≡ other = cc in
           let k : value ≡ found = cc in
-          ap (λ (z : ℕ × ℕ × ℕ). let m : View S N = record v { seen = h; seat = after_relook v.seat z.0 z.1 z.2 n } in m) (λ g. (i g, j g, k g))
+          ap (λ (z : ℕ × ℕ × ℕ). let m : View S N =
+          record v { seen = h; seat = after_relook v.seat z.0 z.1 z.2 n } in m) (λ g. (i g, j g, k g))

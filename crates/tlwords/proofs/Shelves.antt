@@ -21,12 +21,14 @@ one_staging o s t p q = let b : Some s ≡ Some t = sym p ∙ q in cc
 
 -- ---- a tail and words that go on
 
-pub taken_on : (low room tail later : ℕ) (store : List ℕ) (s : Staging) → tail ≤ later → IsTaken low room tail store s → IsTaken low room later store s
+pub taken_on : (low room tail later : ℕ) (store : List ℕ) (s : Staging) → tail ≤ later → IsTaken low room tail store s
+    → IsTaken low room later store s
 taken_on low room tail later store s l f =
     let b : s.start + length s.words ≤ tail = f.below in
     record { behind = f.behind; inside = f.inside; below = omega (arith, b, l); left = f.left; stored = f.stored }
 
-left_on : (opened : List ℕ) (room tail later : ℕ) (store : List ℕ) → tail ≤ later → IsLeft opened room tail store → IsLeft opened room later store
+left_on : (opened : List ℕ) (room tail later : ℕ) (store : List ℕ) → tail ≤ later → IsLeft opened room tail store
+    → IsLeft opened room later store
 left_on opened room tail later store l f = record { opening = f.opening; blank = λ o m n. f.blank o (omega (arith, l, m)) n }
 
 pub total_snoc : {V : Type 0} (f : V → ℕ) (vs : List V) (u : V) → total_of f (vs ++ u ∷ []) ≡ total_of f vs + f u
@@ -37,7 +39,8 @@ module _ {S N : Type 0} where
   -- what the change of one seat leaves the others
   pub record Others (low room tail : ℕ) (ranges : List Range) (store : List ℕ) (vs : List (View S N)) (id : ℕ) : Type 0 where
     pub taken : (j : ℕ) (u : View S N) (t : Staging) → j ≢ id → get_elem? vs j ≡ some u → u.staging ≡ Some t → IsTaken low room tail store t
-    pub apart : (j : ℕ) (u : View S N) (t : Staging) (r : Range) → j ≢ id → get_elem? vs j ≡ some u → u.staging ≡ Some t → Has r ranges → IsApart t r
+    pub apart : (j : ℕ) (u : View S N) (t : Staging) (r : Range) → j ≢ id → get_elem? vs j ≡ some u → u.staging ≡ Some t → Has r ranges
+        → IsApart t r
 
   -- what the seat itself has then
   pub record Own (low room tail : ℕ) (ranges : List Range) (store : List ℕ) (vs : List (View S N)) (id : ℕ) (s : Staging) : Type 0 where
@@ -46,10 +49,13 @@ module _ {S N : Type 0} where
     pub alone : (j : ℕ) (u : View S N) (t : Staging) → j ≢ id → get_elem? vs j ≡ some u → u.staging ≡ Some t → AreApart s t
 
   -- the seat id goes on with the view w, where the tail is `later`, the store's words are `words` and the finished ranges qs
-  shelf_set : (room : ℕ) (opened : List ℕ) (tail later : ℕ) (ranges qs : List Range) (store words : List ℕ) (vs : List (View S N)) (id : ℕ) (w : View S N)
-      → Shelf room opened ranges tail store vs → length words ≡ room → IsLeft opened room later words → IsTail (length opened) room later (slice_set vs id w)
+  shelf_set : (room : ℕ) (opened : List ℕ) (tail later : ℕ) (ranges qs : List Range) (store words : List ℕ) (vs : List (View S N)) (id : ℕ)
+      (w : View S N)
+      → Shelf room opened ranges tail store vs → length words ≡ room → IsLeft opened room later words
+      → IsTail (length opened) room later (slice_set vs id w)
       → ((r : Range) → Has r qs → IsStored later words r)
-      → Others (length opened) room later qs words vs id → ((s : Staging) → w.staging ≡ Some s → Own (length opened) room later qs words vs id s)
+      → Others (length opened) room later qs words vs id
+      → ((s : Staging) → w.staging ≡ Some s → Own (length opened) room later qs words vs id s)
       → Shelf room opened qs later words (slice_set vs id w)
   shelf_set room opened tail later ranges qs store words vs id w h long left counted finished others own = record {
     long = long;
@@ -67,7 +73,8 @@ module _ {S N : Type 0} where
   }
     where
       both : (j k : ℕ) (u v : View S N) (s t : Staging) → j ≢ k → u.staging ≡ Some s → v.staging ≡ Some t
-          → ((j ≡ id) × (w ≡ u)) ⊎ ((j ≢ id) × (get_elem? vs j ≡ some u)) → ((k ≡ id) × (w ≡ v)) ⊎ ((k ≢ id) × (get_elem? vs k ≡ some v)) → AreApart s t
+          → ((j ≡ id) × (w ≡ u)) ⊎ ((j ≢ id) × (get_elem? vs j ≡ some u)) → ((k ≡ id) × (w ≡ v)) ⊎ ((k ≢ id) × (get_elem? vs k ≡ some v))
+          → AreApart s t
       both j k u v s t other e f (inl p) (inl q) = absurd (other (p.0 ∙ sym q.0))
       both j k u v s t other e f (inl p) (inr q) = (own s (ap (λ (x : View S N). x.staging) p.1 ∙ e)).alone k v t q.0 q.1 f
       both j k u v s t other e f (inr p) (inl q) =
@@ -93,20 +100,24 @@ module _ {S N : Type 0} where
       total_set rights_of vs id v w at in
       omega (arith, t, e)
 
-  gone_least : (k : ℕ) (gs : List (Gone S N)) → ((g : Gone S N) → Has g gs → g.added ≤ k) → total_of (λ (g : Gone S N). g.added) gs ≤ k * length gs
+  gone_least : (k : ℕ) (gs : List (Gone S N)) → ((g : Gone S N) → Has g gs → g.added ≤ k)
+      → total_of (λ (g : Gone S N). g.added) gs ≤ k * length gs
   gone_least k [] each = omega arith
   gone_least k (g ∷ gs) each =
       let a : g.added ≤ k = each g (inl refl) in
       let b : total_of (λ (g : Gone S N). g.added) gs ≤ k * length gs = gone_least k gs (λ x has. each x (inr has)) in
       let c : k * (1 + length gs) ≡ k * 1 + k * length gs = mul-add k 1 (length gs) in
-      let d : k * suc (length gs) ≡ k * (1 + length gs) = ap (λ (n : ℕ). k * n) (let e : suc (length gs) ≡ 1 + length gs = omega arith in e) in
+      let d : k * suc (length gs) ≡ k * (1 + length gs) =
+      ap (λ (n : ℕ). k * n) (let e : suc (length gs) ≡ 1 + length gs = omega arith in e) in
       omega (arith, a, b, c, d)
 
   adds_least : (room tail : ℕ) (v : View S N) → Adds room tail v → added_of v ≤ (room + 1) * rights_of v
   adds_least room tail v f =
       let a : v.added ≤ (room + 1) * v.rights = f.once in
-      let b : total_of (λ (g : Gone S N). g.added) v.gone ≤ (room + 1) * length v.gone = gone_least (room + 1) v.gone (λ g has. (f.gone g has).0) in
-      let c : (room + 1) * (v.rights + length v.gone) ≡ (room + 1) * v.rights + (room + 1) * length v.gone = mul-add (room + 1) v.rights (length v.gone) in
+      let b : total_of (λ (g : Gone S N). g.added) v.gone ≤ (room + 1) * length v.gone =
+      gone_least (room + 1) v.gone (λ g has. (f.gone g has).0) in
+      let c : (room + 1) * (v.rights + length v.gone) ≡ (room + 1) * v.rights + (room + 1) * length v.gone =
+      mul-add (room + 1) v.rights (length v.gone) in
       omega (arith, a, b, c)
 
   -- each of the 64 parts of the right moves the tail beyond the room once at most
@@ -133,11 +144,16 @@ module _ {S N : Type 0} where
     unrefused = f.unrefused;
     found = λ n count e. let a : n + min count (room + 1) ≤ tail = f.found n count e in omega (arith, a, l);
     untaken = f.untaken;
-    gone = λ g has. ((f.gone g has).0, λ n count e. let a : n + min count (room + 1) ≤ tail = (f.gone g has).1 n count e in omega (arith, a, l));
+    gone = λ g has. (
+      (f.gone g has).0,
+      λ n count e. let a : n + min count (room + 1) ≤ tail =
+          (f.gone g has).1 n count e in omega (arith, a, l),
+    );
   }
 
   -- the seat id goes on with the view w, and the tail with it
-  tail_set : (opened room tail later : ℕ) (vs : List (View S N)) (id : ℕ) (v w : View S N) → IsTail opened room tail vs → get_elem? vs id ≡ some v
+  tail_set : (opened room tail later : ℕ) (vs : List (View S N)) (id : ℕ) (v w : View S N) → IsTail opened room tail vs
+      → get_elem? vs id ≡ some v
       → tail ≤ later → later + moved_of v ≡ tail + moved_of w
       → later ≤ room + total_of added_of (slice_set vs id w) → Adds room later w → IsTail opened room later (slice_set vs id w)
   tail_set opened room tail later vs id v w h at l moves most adds = record {
@@ -152,8 +168,10 @@ module _ {S N : Type 0} where
   }
 
   -- the view w has moved the tail as far as v, and has parts of the right to draw enough
-  tail_kept : (opened room tail : ℕ) (vs : List (View S N)) (id : ℕ) (v w : View S N) → IsTail opened room tail vs → get_elem? vs id ≡ some v
-      → moves_of w ≡ moves_of v → w.added ≤ (room + 1) * w.rights → (w.rights ≡ 0 → w.taken ≡ 0) → IsTail opened room tail (slice_set vs id w)
+  tail_kept : (opened room tail : ℕ) (vs : List (View S N)) (id : ℕ) (v w : View S N) → IsTail opened room tail vs
+      → get_elem? vs id ≡ some v
+      → moves_of w ≡ moves_of v → w.added ≤ (room + 1) * w.rights → (w.rights ≡ 0 → w.taken ≡ 0)
+      → IsTail opened room tail (slice_set vs id w)
   tail_kept opened room tail vs id v w h at same once untaken =
       let full : w.full ≡ v.full = ap (λ m. m.0) same in
       let added : w.added ≡ v.added = ap (λ m. m.2) same in
@@ -171,7 +189,8 @@ module _ {S N : Type 0} where
         gone = λ g has. f.gone g (subst (λ (gs : List (Gone S N)). Has g gs) (ap (λ m. m.3) same) has);
       })
 
-  tail_same : (opened room tail : ℕ) (vs : List (View S N)) (id : ℕ) (v w : View S N) → IsTail opened room tail vs → get_elem? vs id ≡ some v
+  tail_same : (opened room tail : ℕ) (vs : List (View S N)) (id : ℕ) (v w : View S N) → IsTail opened room tail vs
+      → get_elem? vs id ≡ some v
       → moves_of w ≡ moves_of v → w.rights ≡ v.rights → IsTail opened room tail (slice_set vs id w)
   tail_same opened room tail vs id v w h at same rights =
       let once : v.added ≤ (room + 1) * v.rights = (h.each id v at).once in
@@ -183,14 +202,16 @@ module _ {S N : Type 0} where
   -- ---- seats
 
   -- the others are as they were, where the tail goes on and the store and the ranges stay
-  others_stay : (room : ℕ) (opened : List ℕ) (tail later : ℕ) (ranges : List Range) (store : List ℕ) (vs : List (View S N)) (id : ℕ) → tail ≤ later
+  others_stay : (room : ℕ) (opened : List ℕ) (tail later : ℕ) (ranges : List Range) (store : List ℕ) (vs : List (View S N)) (id : ℕ)
+      → tail ≤ later
       → Shelf room opened ranges tail store vs → Others (length opened) room later ranges store vs id
   others_stay room opened tail later ranges store vs id l h = record {
     taken = λ j u t other there e. taken_on (length opened) room tail later store t l (h.taken j u t there e);
     apart = λ j u t r other there e has. h.apart j u t r there e has;
   }
 
-  own_stays : (room : ℕ) (opened : List ℕ) (tail later : ℕ) (ranges : List Range) (store : List ℕ) (vs : List (View S N)) (id : ℕ) (v : View S N) (s : Staging)
+  own_stays : (room : ℕ) (opened : List ℕ) (tail later : ℕ) (ranges : List Range) (store : List ℕ) (vs : List (View S N)) (id : ℕ)
+      (v : View S N) (s : Staging)
       → tail ≤ later → Shelf room opened ranges tail store vs → get_elem? vs id ≡ some v → v.staging ≡ Some s
       → Own (length opened) room later ranges store vs id s
   own_stays room opened tail later ranges store vs id v s l h at e = record {
@@ -200,15 +221,18 @@ module _ {S N : Type 0} where
   }
 
   -- the seat id goes on with a view of the same range
-  shelf_kept : (room : ℕ) (opened : List ℕ) (tail : ℕ) (ranges : List Range) (store : List ℕ) (vs : List (View S N)) (id : ℕ) (v w : View S N)
-      → Shelf room opened ranges tail store vs → get_elem? vs id ≡ some v → w.staging ≡ v.staging → IsTail (length opened) room tail (slice_set vs id w)
+  shelf_kept : (room : ℕ) (opened : List ℕ) (tail : ℕ) (ranges : List Range) (store : List ℕ) (vs : List (View S N)) (id : ℕ)
+      (v w : View S N)
+      → Shelf room opened ranges tail store vs → get_elem? vs id ≡ some v → w.staging ≡ v.staging
+      → IsTail (length opened) room tail (slice_set vs id w)
       → Shelf room opened ranges tail store (slice_set vs id w)
   shelf_kept room opened tail ranges store vs id v w h at staging counted =
       shelf_set room opened tail tail ranges ranges store store vs id w h h.long h.left counted h.finished
       (others_stay room opened tail tail ranges store vs id (omega arith) h)
       (λ s e. own_stays room opened tail tail ranges store vs id v s (omega arith) h at (sym staging ∙ e))
 
-  pub shelf_same : (room : ℕ) (opened : List ℕ) (tail : ℕ) (ranges : List Range) (store : List ℕ) (vs : List (View S N)) (id : ℕ) (v w : View S N)
+  pub shelf_same : (room : ℕ) (opened : List ℕ) (tail : ℕ) (ranges : List Range) (store : List ℕ) (vs : List (View S N)) (id : ℕ)
+      (v w : View S N)
       → Shelf room opened ranges tail store vs → get_elem? vs id ≡ some v
       → (w.staging ≡ v.staging) × (moves_of w ≡ moves_of v) × (w.rights ≡ v.rights)
       → Shelf room opened ranges tail store (slice_set vs id w)
@@ -261,19 +285,24 @@ module _ {S N : Type 0} where
       old j v s there e = ⊎_elim (λ (p : get_elem? vs j ≡ some v). p)
           (λ (p : u ≡ v). absurd (none-some s (sym unused.0 ∙ ap (λ (x : View S N). x.staging) p ∙ e))) (at_snoc vs u v j there)
 
-  pub shelf_shared : (room : ℕ) (opened : List ℕ) (tail : ℕ) (ranges : List Range) (store : List ℕ) (vs : List (View S N)) (id : ℕ) (v w u : View S N)
+  pub shelf_shared : (room : ℕ) (opened : List ℕ) (tail : ℕ) (ranges : List Range) (store : List ℕ) (vs : List (View S N)) (id : ℕ)
+      (v w u : View S N)
       → Shelf room opened ranges tail store vs → get_elem? vs id ≡ some v → w.staging ≡ v.staging → moves_of w ≡ moves_of v
-      → w.added ≤ (room + 1) * w.rights → (w.rights ≡ 0 → w.taken ≡ 0) → IsUnused u → Shelf room opened ranges tail store (slice_set vs id w ++ u ∷ [])
+      → w.added ≤ (room + 1) * w.rights → (w.rights ≡ 0 → w.taken ≡ 0) → IsUnused u
+      → Shelf room opened ranges tail store (slice_set vs id w ++ u ∷ [])
   shelf_shared room opened tail ranges store vs id v w u h at staging same once untaken unused =
       shelf_snoc room opened tail ranges store (slice_set vs id w) u
-      (shelf_kept room opened tail ranges store vs id v w h at staging (tail_kept (length opened) room tail vs id v w h.tail_is at same once untaken)) unused
+      (shelf_kept room opened tail ranges store vs id v w h at staging
+      (tail_kept (length opened) room tail vs id v w h.tail_is at same once untaken)) unused
 
   -- ---- the tail moves
 
   -- the words up to the new tail are the seat's
-  pub shelf_taken : (room : ℕ) (opened : List ℕ) (tail : ℕ) (ranges : List Range) (store : List ℕ) (vs : List (View S N)) (id : ℕ) (v w : View S N) (words : List ℕ)
+  pub shelf_taken : (room : ℕ) (opened : List ℕ) (tail : ℕ) (ranges : List Range) (store : List ℕ) (vs : List (View S N)) (id : ℕ)
+      (v w : View S N) (words : List ℕ)
       → Shelf room opened ranges tail store vs → get_elem? vs id ≡ some v → words ≢ [] → tail + length words ≤ room
-      → w.staging ≡ Some (record { start = tail; words = words; done = 0 }) → moves_of w ≡ (v.full, v.taken + length words, v.added, v.gone) → w.rights ≡ v.rights → 1 ≤ v.rights
+      → w.staging ≡ Some (record { start = tail; words = words; done = 0 }) → moves_of w ≡ (v.full, v.taken + length words, v.added, v.gone)
+      → w.rights ≡ v.rights → 1 ≤ v.rights
       → Shelf room opened ranges (tail + length words) store (slice_set vs id w)
   shelf_taken room opened tail ranges store vs id v w words h at some_words fits staging moves rights some_rights =
       shelf_set room opened tail (tail + length words) ranges ranges store store vs id w h h.long
@@ -295,7 +324,8 @@ module _ {S N : Type 0} where
           ap (λ m. (m.1 + m.2) + total_of (λ (g : Gone S N). g.taken + g.added) m.3) moves in
           let moved : moved_of w ≡ moved_of v + length words = omega (arith, all) in
           let f : Adds room (tail + length words) v = adds_on room tail (tail + length words) v (omega arith) (h.tail_is.each id v at) in
-          tail_set (length opened) room tail (tail + length words) vs id v w h.tail_is at (omega arith) (omega (arith, moved)) (omega (arith, fits))
+          tail_set (length opened) room tail (tail + length words) vs id v w h.tail_is at (omega arith) (omega (arith, moved))
+          (omega (arith, fits))
           (record {
             once = subst (λ (n : ℕ × ℕ). n.0 ≤ (room + 1) * n.1) (λ i. (sym added i, sym rights i)) f.once;
             unrefused = λ e. added ∙ f.unrefused (sym full ∙ e);
@@ -318,7 +348,8 @@ module _ {S N : Type 0} where
       }
 
   -- the tail is beyond the room
-  pub shelf_refused : (room : ℕ) (opened : List ℕ) (tail : ℕ) (ranges : List Range) (store : List ℕ) (vs : List (View S N)) (id : ℕ) (v w : View S N) (many count : ℕ)
+  pub shelf_refused : (room : ℕ) (opened : List ℕ) (tail : ℕ) (ranges : List Range) (store : List ℕ) (vs : List (View S N)) (id : ℕ)
+      (v w : View S N) (many count : ℕ)
       → Shelf room opened ranges tail store vs → get_elem? vs id ≡ some v → v.full ≡ None → 1 ≤ v.rights → count ≡ min many (room + 1)
       → w.staging ≡ v.staging → moves_of w ≡ (Some (tail, many), v.taken, count, v.gone) → w.rights ≡ v.rights
       → Shelf room opened ranges (tail + count) store (slice_set vs id w)
@@ -340,13 +371,17 @@ module _ {S N : Type 0} where
           let added : w.added ≡ count = ap (λ m. m.2) moves in
           let moved : moved_of w ≡ (v.taken + count) + total_of (λ (g : Gone S N). g.taken + g.added) v.gone =
           ap (λ m. (m.1 + m.2) + total_of (λ (g : Gone S N). g.taken + g.added) m.3) moves in
-          let more : added_of w ≡ count + total_of (λ (g : Gone S N). g.added) v.gone = ap (λ m. m.2 + total_of (λ (g : Gone S N). g.added) m.3) moves in
+          let more : added_of w ≡ count + total_of (λ (g : Gone S N). g.added) v.gone =
+          ap (λ m. m.2 + total_of (λ (g : Gone S N). g.added) m.3) moves in
           let none : v.added ≡ 0 = (h.tail_is.each id v at).unrefused none_refused in
           let most : tail ≤ room + total_of added_of vs = h.tail_is.most in
-          let t : total_of added_of (slice_set vs id w) + added_of v ≡ total_of added_of vs + added_of w = total_set added_of vs id v w at in
+          let t : total_of added_of (slice_set vs id w) + added_of v ≡ total_of added_of vs + added_of w =
+          total_set added_of vs id v w at in
           let least : min many (room + 1) ≤ room + 1 = min-le_right many (room + 1) in
-          let product : (room + 1) * 1 ≤ (room + 1) * w.rights = mul-le-mul_left (room + 1) (let l : 1 ≤ w.rights = omega (arith, some_rights, rights) in l) in
-          tail_set (length opened) room tail (tail + count) vs id v w h.tail_is at (omega arith) (omega (arith, moved, none)) (omega (arith, most, t, more, none))
+          let product : (room + 1) * 1 ≤ (room + 1) * w.rights =
+          mul-le-mul_left (room + 1) (let l : 1 ≤ w.rights = omega (arith, some_rights, rights) in l) in
+          tail_set (length opened) room tail (tail + count) vs id v w h.tail_is at (omega arith) (omega (arith, moved, none))
+          (omega (arith, most, t, more, none))
           (record {
             once = omega (arith, added, is_count, least, product);
             unrefused = λ e. absurd (none-some (tail, many) (sym e ∙ full));
@@ -358,8 +393,10 @@ module _ {S N : Type 0} where
 
   -- ---- the seat's next word is stored
 
-  module _ (room : ℕ) (opened : List ℕ) (tail : ℕ) (ranges : List Range) (store : List ℕ) (vs : List (View S N)) (id : ℕ) (v : View S N) (s : Staging) (word : ℕ)
-      (h : Shelf room opened ranges tail store vs) (at : get_elem? vs id ≡ some v) (staging : v.staging ≡ Some s) (next : slice_get s.words s.done ≡ Some word) where
+  module _ (room : ℕ) (opened : List ℕ) (tail : ℕ) (ranges : List Range) (store : List ℕ) (vs : List (View S N)) (id : ℕ) (v : View S N)
+      (s : Staging) (word : ℕ)
+      (h : Shelf room opened ranges tail store vs) (at : get_elem? vs id ≡ some v) (staging : v.staging ≡ Some s)
+      (next : slice_get s.words s.done ≡ Some word) where
     -- the store then
     abbrev pub with_word : List ℕ
     with_word = slice_set store (s.start + s.done) word
@@ -386,12 +423,14 @@ module _ {S N : Type 0} where
         let l : i < length r.words = get_within r.words i x e in
         let left : s.done < length s.words = mine.left in (
           elsewhere (r.start + i) x
-              (⊎_elim (λ (b : r.start + i < s.start). λ p. omega (arith, b, p)) (λ (b : s.start + length s.words ≤ r.start + i). λ p. omega (arith, b, p, left))
+              (⊎_elim (λ (b : r.start + i < s.start). λ p. omega (arith, b, p))
+              (λ (b : s.start + length s.words ≤ r.start + i). λ p. omega (arith, b, p, left))
               (h.apart id v s r at staging has i l)) a.0,
           a.1,
         )
 
-    others_taken : (j : ℕ) (u : View S N) (t : Staging) → j ≢ id → get_elem? vs j ≡ some u → u.staging ≡ Some t → IsTaken (length opened) room tail with_word t
+    others_taken : (j : ℕ) (u : View S N) (t : Staging) → j ≢ id → get_elem? vs j ≡ some u → u.staging ≡ Some t
+        → IsTaken (length opened) room tail with_word t
     others_taken j u t other at_u e =
         let f : IsTaken (length opened) room tail store t = h.taken j u t at_u e in
         let left : s.done < length s.words = mine.left in
@@ -413,7 +452,8 @@ module _ {S N : Type 0} where
         (λ (p : i ≡ s.done).
         let a : Some word ≡ Some x = sym next ∙ (ap (λ (k : ℕ). slice_get s.words k) (sym p) ∙ e) in
         ap (λ (k : ℕ). slice_get with_word (s.start + k)) p ∙ (there ∙ a))
-        (λ (p : i ≢ s.done). elsewhere (s.start + i) x (λ q. p (omega (arith, q))) (mine.stored i x (let m : i < s.done = grind (arith, l, p) in m) e))
+        (λ (p : i ≢ s.done). elsewhere (s.start + i) x (λ q. p (omega (arith, q))) (mine.stored i x (let m : i < s.done =
+        grind (arith, l, p) in m) e))
         (same_or_not s.done i)
 
     left_stays : IsLeft opened room tail with_word
@@ -429,13 +469,15 @@ module _ {S N : Type 0} where
     }
 
     -- more words are left
-    pub shelf_filled : (w : View S N) → s.done + 1 < length s.words → w.staging ≡ Some (record s { done = s.done + 1 }) → moves_of w ≡ moves_of v → w.rights ≡ v.rights
+    pub shelf_filled : (w : View S N) → s.done + 1 < length s.words → w.staging ≡ Some (record s { done = s.done + 1 })
+        → moves_of w ≡ moves_of v → w.rights ≡ v.rights
         → Shelf room opened ranges tail with_word (slice_set vs id w)
     shelf_filled w more after same rights =
         shelf_set room opened tail tail ranges ranges store with_word vs id w h long left_stays
         (tail_same (length opened) room tail vs id v w h.tail_is at same rights) finished_stay
         (record { taken = others_taken; apart = λ j u t r other at_u e has. h.apart j u t r at_u e has })
-        (λ z e. subst (λ (z : Staging). Own (length opened) room tail ranges with_word vs id z) (one_staging w.staging (record s { done = s.done + 1 }) z after e) own)
+        (λ z e. subst (λ (z : Staging). Own (length opened) room tail ranges with_word vs id z)
+        (one_staging w.staging (record s { done = s.done + 1 }) z after e) own)
       where
         own : Own (length opened) room tail ranges with_word vs id (record s { done = s.done + 1 })
         own = record {
@@ -475,7 +517,8 @@ module _ {S N : Type 0} where
             (λ (b : t.start + length t.words ≤ s.start). inr (omega (arith, b)))
             (h.alone id j v u s t (λ p. other (sym p)) at at_u staging e)
 
-        others_apart : (j : ℕ) (u : View S N) (t : Staging) (r : Range) → j ≢ id → get_elem? vs j ≡ some u → u.staging ≡ Some t → Has r with_range → IsApart t r
+        others_apart : (j : ℕ) (u : View S N) (t : Staging) (r : Range) → j ≢ id → get_elem? vs j ≡ some u → u.staging ≡ Some t
+            → Has r with_range → IsApart t r
         others_apart j u t r other at_u e (inl p) = subst (λ (r : Range). IsApart t r) (sym p) (new_apart j u t other at_u e)
         others_apart j u t r other at_u e (inr has) = h.apart j u t r at_u e has
 

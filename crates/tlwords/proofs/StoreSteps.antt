@@ -33,14 +33,24 @@ more_or_last a b l = grind arith
 module _ {S N : Type 0} (terms : Terms S N) (setting : S) (base : List ℕ) (room : ℕ) where
   -- ---- steps that leave the front as it is
 
-  module _ (ranges : List Range) (front : List ℕ) (vs : List (View S N)) (r : Rule terms setting base room ranges front vs) (id : ℕ) (v : View S N) where
+  module _ (ranges : List Range) (front : List ℕ) (vs : List (View S N)) (r : Rule terms setting base room ranges front vs) (id : ℕ)
+      (v : View S N) where
     -- the view after a step that has found these ranges finished
     abbrev pub aside : List Range → Option Staging → Option (ℕ × ℕ) → ℕ → ℕ → View S N
     aside qs staging full taken added =
-        record v { seen = record { history = (r.world).history; notes = r.notes; ranges = qs }; staging = staging; full = full; taken = taken; added = added }
+        record v {
+          seen = record { history = (r.world).history; notes = r.notes; ranges = qs };
+          staging = staging;
+          full = full;
+          taken =
+              taken;
+          added = added;
+        }
 
-    pub beside : get_elem? vs id ≡ some v → (qs : List Range) (staging : Option Staging) (full : Option (ℕ × ℕ)) (taken added : ℕ) → Within ranges qs → AreOfOneStore room qs
-        → Rule terms setting base room qs front (slice_set vs id (aside qs staging full taken added)) × Sees terms v (aside qs staging full taken added)
+    pub beside : get_elem? vs id ≡ some v → (qs : List Range) (staging : Option Staging) (full : Option (ℕ × ℕ)) (taken added : ℕ)
+        → Within ranges qs → AreOfOneStore room qs
+        → Rule terms setting base room qs front (slice_set vs id (aside qs staging full taken added))
+        × Sees terms v (aside qs staging full taken added)
     beside at qs staging full taken added wider lie =
         let world : World = r.world in
         let g : Seen N = now terms setting base room ranges front vs r in
@@ -50,7 +60,8 @@ module _ {S N : Type 0} (terms : Terms S N) (setting : S) (base : List ℕ) (roo
         let e : slice_get world.seats id ≡ Some v.seat = seat_at terms setting base room ranges front vs r id v at in
         let still : Follows base world world = by_none base world r.invariant in
         let grow : SeenGrows g h = (Grows-refl world.history, λ i n a. a, wider) in
-        let own : IsTold setting base h r.owner (tells v) = told_grows setting base g h r.owner r.owner (tells v) grow (λ n l. refl) f.own in
+        let own : IsTold setting base h r.owner (tells v) =
+        told_grows setting base g h r.owner r.owner (tells v) grow (λ n l. refl) f.own in
         let entries : EntriesAre terms setting h =
         λ i x n p q. (permits_grow terms setting ranges qs wider (r.entries i x n p q).0, (r.entries i x n p q).1) in
         let suit : Suits terms setting base room h r.owner w = record {
@@ -67,13 +78,15 @@ module _ {S N : Type 0} (terms : Terms S N) (setting : S) (base : List ℕ) (roo
         } in
         let rule : Rule terms setting base room qs front (slice_set vs id w) =
         moved terms setting base room ranges front vs r id v w at qs front world r.notes r.owner wider lie
-        (λ c x a k. names_grow ranges qs x.value wider (r.named c x a k)) still (sym (set_same world.seats id v.seat e)) r.words_are refl (λ i n a. a)
+        (λ c x a k. names_grow ranges qs x.value wider (r.named c x a k)) still (sym (set_same world.seats id v.seat e)) r.words_are refl
+        (λ i n a. a)
         r.notes_are entries (λ n l. refl) suit refl refl in (
           rule,
           record {
             own = seen_trans v.seen g h f.own.grows grow;
             told = seen_trans v.told.seen g h f.told.grows grow;
-            sound = sound_of terms setting base room qs world r.notes r.owner id w r.invariant r.notes_are entries rule.opening lie suit e refl;
+            sound = sound_of terms setting base room qs world r.notes r.owner id w r.invariant r.notes_are entries rule.opening lie suit e
+                refl;
           },
         )
 
@@ -95,7 +108,8 @@ module _ {S N : Type 0} (terms : Terms S N) (setting : S) (base : List ℕ) (roo
 
   -- ---- Advance
 
-  pub advances : (opened : Start) (slots id cells count : ℕ) (words : List ℕ) (me : Mine S N) (y : S) → me.0.setting ≡ Some y → cells ≡ length me.0.base
+  pub advances : (opened : Start) (slots id cells count : ℕ) (words : List ℕ) (me : Mine S N) (y : S) → me.0.setting ≡ Some y
+      → cells ≡ length me.0.base
       → count ≡ min (length words) (me.0.room + 1) → words ≢ [] → me.0.full ≡ None → 1 ≤ me.0.rights
       → Allows (Ruled terms setting base room opened) slots id me (tail_at cells) (λ n. (n + count) % 2 ^ 64)
       (bare (advanced terms words) (step slots (tail_at cells) count 0 none) me)
@@ -123,16 +137,19 @@ module _ {S N : Type 0} (terms : Terms S N) (setting : S) (base : List ℕ) (roo
       words_are : slice_set s.words (tail_at cells) ((n + count) % 2 ^ 64) ≡ r.front ++ shelf_of (r.tail + count) r.store
       words_are =
           ap (λ (k : ℕ). slice_set s.words (tail_at cells) ((k + count) % 2 ^ 64)) is
-          ∙ (ap (λ (k : ℕ). slice_set s.words (tail_at cells) k) (tail_stays (length opened.store) room r.tail count s.views (r.shelf).tail_is (r.shelf).small (r.kept).rights least)
+          ∙ (ap (λ (k : ℕ). slice_set s.words (tail_at cells) k)
+          (tail_stays (length opened.store) room r.tail count s.views (r.shelf).tail_is (r.shelf).small (r.kept).rights least)
           ∙ (ap (λ (ws : List ℕ). slice_set ws (tail_at cells) (r.tail + count)) r.words_are
           ∙ tail_is_set r.front r.tail r.store cells known.0 (r.tail + count)))
 
       go : (r.tail + length words ≤ room) ⊎ (room < r.tail + length words)
-          → Moves opened s (tail_at cells) ((n + count) % 2 ^ 64) id me (bare (advanced terms words) (step slots (tail_at cells) count 0 none) me n)
+          → Moves opened s (tail_at cells) ((n + count) % 2 ^ 64) id me
+          (bare (advanced terms words) (step slots (tail_at cells) count 0 none) me n)
       go (inl fits) =
           let taken : Option Staging = Some (record { start = n; words = words; done = 0 }) in
           let u : View S N = aside r.ranges r.front s.views r.kept id v r.ranges taken v.full (v.taken + length words) v.added in
-          let q = beside r.ranges r.front s.views r.kept id v at r.ranges taken v.full (v.taken + length words) v.added (within_refl r.ranges) (r.kept).lie in
+          let q = beside r.ranges r.front s.views r.kept id v at r.ranges taken v.full (v.taken + length words) v.added
+          (within_refl r.ranges) (r.kept).lie in
           let b : v.room ≡ room = known.1 in
           let whole : count ≡ length words = is_count ∙ min-eq_left (omega (arith, fits, b)) in (
             u,
@@ -148,14 +165,16 @@ module _ {S N : Type 0} (terms : Terms S N) (setting : S) (base : List ℕ) (roo
               dealt = dealt_same s.views id v u at refl ∙ r.dealt;
               shelf = subst (λ (k : ℕ). Shelf room opened.store r.ranges (r.tail + k) r.store (slice_set s.views id u)) (sym whole)
                   (shelf_taken room opened.store r.tail r.ranges r.store s.views id v u words r.shelf at some_words fits
-                  (ap (λ (k : ℕ). let z : Option Staging = Some (record { start = k; words = words; done = 0 }) in z) is) refl refl some_rights);
+                  (ap (λ (k : ℕ). let z : Option Staging =
+                  Some (record { start = k; words = words; done = 0 }) in z) is) refl refl some_rights);
             },
             (record { sees = q.1; taken = λ _. refl; refused = λ l. absurd (omega (arith, l, fits, is, b)) }, refl),
           )
       go (inr above) =
           let full : Option (ℕ × ℕ) = Some (n, length words) in
           let u : View S N = aside r.ranges r.front s.views r.kept id v r.ranges v.staging full v.taken count in
-          let q = beside r.ranges r.front s.views r.kept id v at r.ranges v.staging full v.taken count (within_refl r.ranges) (r.kept).lie in
+          let q = beside r.ranges r.front s.views r.kept id v at r.ranges v.staging full v.taken count (within_refl r.ranges)
+          (r.kept).lie in
           let b : v.room ≡ room = known.1 in (
             u,
             keeps,
@@ -168,9 +187,11 @@ module _ {S N : Type 0} (terms : Terms S N) (setting : S) (base : List ℕ) (roo
               words_are = words_are;
               kept = q.0;
               dealt = dealt_same s.views id v u at refl ∙ r.dealt;
-              shelf = shelf_refused room opened.store r.tail r.ranges r.store s.views id v u (length words) count r.shelf at unrefused some_rights
+              shelf = shelf_refused room opened.store r.tail r.ranges r.store s.views id v u
+                  (length words) count r.shelf at unrefused some_rights
                   (is_count ∙ ap (λ (k : ℕ). min (length words) (k + 1)) b) refl
-                  (ap (λ (k : ℕ). let m : Option (ℕ × ℕ) × ℕ × ℕ × List (Gone S N) = (Some (k, length words), v.taken, count, v.gone) in m) is) refl;
+                  (ap (λ (k : ℕ). let m : Option (ℕ × ℕ) × ℕ × ℕ × List (Gone S N) =
+                  (Some (k, length words), v.taken, count, v.gone) in m) is) refl;
             },
             (
               record {
@@ -186,7 +207,8 @@ module _ {S N : Type 0} (terms : Terms S N) (setting : S) (base : List ℕ) (roo
 
   pub fills : (opened : Start) (slots id cells o word : ℕ) (me : Mine S N) (y : S) → me.0.setting ≡ Some y → cells ≡ length me.0.base
       → (t : Staging) → me.0.staging ≡ Some t → o ≡ t.start + t.done → slice_get t.words t.done ≡ Some word
-      → Allows (Ruled terms setting base room opened) slots id me (store_at cells o) (λ _. word) (bare (filled terms) (step slots (store_at cells o) word 0 none) me)
+      → Allows (Ruled terms setting base room opened) slots id me (store_at cells o) (λ _. word)
+      (bare (filled terms) (step slots (store_at cells o) word 0 none) me)
   fills opened slots id cells o word me y set cells_are t staging place next s r _ at _ =
       go (more_or_last t.done (length t.words) (get_within t.words t.done word next))
     where
@@ -203,11 +225,13 @@ module _ {S N : Type 0} (terms : Terms S N) (setting : S) (base : List ℕ) (roo
           ∙ ap (λ (k : ℕ). r.front ++ shelf_of r.tail (slice_set r.store k word)) place)
 
       go : (t.done + 1 < length t.words) ⊎ (t.done + 1 ≡ length t.words)
-          → Moves opened s (store_at cells o) word id me (bare (filled terms) (step slots (store_at cells o) word 0 none) me (slice_index s.words (store_at cells o)))
+          → Moves opened s (store_at cells o) word id me
+          (bare (filled terms) (step slots (store_at cells o) word 0 none) me (slice_index s.words (store_at cells o)))
       go (inl more) =
           let after : Option Staging = Some (record t { done = t.done + 1 }) in
           let u : View S N = aside r.ranges r.front s.views r.kept id v r.ranges after v.full v.taken v.added in
-          let q = beside r.ranges r.front s.views r.kept id v at r.ranges after v.full v.taken v.added (within_refl r.ranges) (r.kept).lie in (
+          let q = beside r.ranges r.front s.views r.kept id v at r.ranges after v.full v.taken v.added (within_refl r.ranges)
+          (r.kept).lie in (
             u,
             keeps,
             tt,
@@ -219,14 +243,17 @@ module _ {S N : Type 0} (terms : Terms S N) (setting : S) (base : List ℕ) (roo
               words_are = words_are;
               kept = q.0;
               dealt = dealt_same s.views id v u at refl ∙ r.dealt;
-              shelf = shelf_filled room opened.store r.tail r.ranges r.store s.views id v t word r.shelf at staging next u more refl refl refl;
+              shelf = shelf_filled room opened.store r.tail r.ranges r.store s.views id v t word r.shelf at staging next u more refl refl
+                  refl;
             },
             (
               record {
                 sees = q.1;
-                next = λ z e _. ap (λ (z : Staging). let w : View S N = record v { seen = u.seen; staging = Some (record z { done = z.done + 1 }) } in w)
+                next = λ z e _. ap (λ (z : Staging). let w : View S N =
+                    record v { seen = u.seen; staging = Some (record z { done = z.done + 1 }) } in w)
                     (one_staging v.staging t z staging e);
-                last = λ z e l. absurd (let same : length t.words ≡ length z.words = ap (λ (z : Staging). length z.words) (one_staging v.staging t z staging e) in
+                last = λ z e l. absurd (let same : length t.words ≡ length z.words =
+                    ap (λ (z : Staging). length z.words) (one_staging v.staging t z staging e) in
                     let done : t.done ≡ z.done = ap (λ (z : Staging). z.done) (one_staging v.staging t z staging e) in
                     omega (arith, more, l, same, done));
               },
@@ -249,16 +276,19 @@ module _ {S N : Type 0} (terms : Terms S N) (setting : S) (base : List ℕ) (roo
               words_are = words_are;
               kept = q.0;
               dealt = dealt_same s.views id v u at refl ∙ r.dealt;
-              shelf = shelf_finished room opened.store r.tail r.ranges r.store s.views id v t word r.shelf at staging next u last refl refl refl;
+              shelf = shelf_finished room opened.store r.tail r.ranges r.store s.views id v t word r.shelf at staging next u last refl refl
+                  refl;
             },
             (
               record {
                 sees = q.1;
-                next = λ z e l. absurd (let same : length t.words ≡ length z.words = ap (λ (z : Staging). length z.words) (one_staging v.staging t z staging e) in
+                next = λ z e l. absurd (let same : length t.words ≡ length z.words =
+                    ap (λ (z : Staging). length z.words) (one_staging v.staging t z staging e) in
                     let done : t.done ≡ z.done = ap (λ (z : Staging). z.done) (one_staging v.staging t z staging e) in
                     omega (arith, last, l, same, done));
                 last = λ z e _. (
-                  subst (λ (z : Staging). Has (record { start = z.start; words = z.words }) qs) (one_staging v.staging t z staging e) (inl refl),
+                  subst (λ (z : Staging). Has (record { start = z.start; words = z.words }) qs) (one_staging v.staging t z staging e)
+                      (inl refl),
                   refl,
                 );
               },
@@ -269,7 +299,8 @@ module _ {S N : Type 0} (terms : Terms S N) (setting : S) (base : List ℕ) (roo
   -- ---- Fetch
 
   pub fetches : (opened : Start) (slots id cells o : ℕ) (me : Mine S N) (y : S) → me.0.setting ≡ Some y → cells ≡ length me.0.base
-      → Allows (Ruled terms setting base room opened) slots id me (store_at cells o) (λ n. n) (bare (fetched terms) (step slots (store_at cells o) 0 0 none) me)
+      → Allows (Ruled terms setting base room opened) slots id me (store_at cells o) (λ n. n)
+      (bare (fetched terms) (step slots (store_at cells o) 0 0 none) me)
   fetches opened slots id cells o me y set cells_are s r _ at _ =
       let v : View S N = me.0 in
       let n : ℕ = slice_index s.words (store_at cells o) in
@@ -278,7 +309,8 @@ module _ {S N : Type 0} (terms : Terms S N) (setting : S) (base : List ℕ) (roo
       ap (λ (ws : List ℕ). slice_index ws (store_at cells o)) r.words_are ∙ store_word r.front r.tail r.store cells known.0 o in
       let f = (r.kept).suits id v at in
       let u : View S N = aside r.ranges r.front s.views r.kept id v r.ranges v.staging v.full v.taken v.added in
-      let q = beside r.ranges r.front s.views r.kept id v at r.ranges v.staging v.full v.taken v.added (within_refl r.ranges) (r.kept).lie in
+      let q = beside r.ranges r.front s.views r.kept id v at r.ranges v.staging v.full v.taken v.added (within_refl r.ranges)
+      (r.kept).lie in
       let index : o ≡ store_at cells o - store_at (length v.base) 0 = omega (arith, cells_are) in (
         u,
         keeps,

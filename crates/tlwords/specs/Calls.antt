@@ -167,8 +167,8 @@ module _ {S N : Type 0} (terms : Terms S N) where
       (i : ℕ) × (number ≡ suc i) × (length k.seen.history ≤ i) × IsVoid r.seen i
       × (r ≡ record k { seen = r.seen; locked = cells ++ k.locked; looked = r.looked; drawn = k.drawn ++ number ∷ [] })
 
-  -- the call met this conflict, at a cell that the run had read, and drew this number or none. Each cell that it has locked is one that it was
-  -- to write
+  -- the call met this conflict, at a cell that the run had read, and drew this number or none. Each cell that it has locked is one that it
+  -- was to write
   pub record IsRejected (c : ConflictValue) (drawn : Option ℕ) (g : Going S N) (r : Known S N) : Type 0 where
     pub grows : SeenGrows g.known.seen r.seen
     pub knows : Knows terms r

@@ -46,15 +46,16 @@ pub record Shows (base : List ℕ) (h : List Entry) (clock : ℕ) (cells : List 
   -- the half of a lock word, locked or free, is 0 or the number of a Done entry that writes the cell
   pub written : (c : ℕ) (x : ClosedCell) → slice_get cells c ≡ Some x → WasWritten h c (x.lock / 2)
 
--- the machine's world of this history, in which its invariant holds, and which is reached by lawful events, has the clock and the cells that
--- the words show
+-- the machine's world of this history, in which its invariant holds, and which is reached by lawful events, has the clock and the cells
+-- that the words show
 pub record IsWorldOf (base : List ℕ) (h : List Entry) (clock : ℕ) (cells : List ClosedCell) (w : World) : Type 0 where
   pub invariant : Invariant base w
   pub reached : Reached base w
   pub history_is : w.history ≡ h
   pub clock_is : w.clock ≡ clock
   pub count : length w.cells ≡ length cells
-  pub cells_are : (c : ℕ) (x : ClosedCell) → slice_get cells c ≡ Some x → slice_get w.cells c ≡ Some (record { lock = x.lock; value = x.value })
+  pub cells_are : (c : ℕ) (x : ClosedCell) → slice_get cells c ≡ Some x
+      → slice_get w.cells c ≡ Some (record { lock = x.lock; value = x.value })
 
 -- a seat of the world holds the cell. It is in the middle of a run: one at rest, as that of each pass is, holds none
 pub record IsHeldIn (w : World) (c : ℕ) : Type 0 where
@@ -68,8 +69,9 @@ pub record IsHeldIn (w : World) (c : ℕ) : Type 0 where
 abbrev pub holders_in : World → ℕ
 holders_in w = total_of (λ (t : Seat). if is_nil t.held then 0 else 1) w.seats
 
--- there is one lawful history, of a lawful opening, which the words show; the store's words up to the tail have the finished ranges and begin
--- with the opening's words; what a range cell holds at the end, locked or free, is 0 or names one of these ranges; and a lock that is held is a seat's
+-- there is one lawful history, of a lawful opening, which the words show; the store's words up to the tail have the finished ranges and
+-- begin with the opening's words; what a range cell holds at the end, locked or free, is 0 or names one of these ranges; and a lock that is
+-- held is a seat's
 pub record Closes {S N : Type 0} (terms : Terms S N) (setting : S) (base opened : List ℕ) (words : ClosedWords) : Type 0 where
   pub seen : Seen N
   pub world : World
@@ -91,24 +93,28 @@ pub record Closes {S N : Type 0} (terms : Terms S N) (setting : S) (base opened 
   pub held : (c : ℕ) (x : ClosedCell) → slice_get words.cells.items c ≡ Some x → x.lock % 2 ≡ 1 → IsHeldIn world c
 
 -- what the pass had seen grows into it, its calls agree with it, and the tail is behind a staging of it that was refused
-pub record EndsIn {S N : Type 0} (terms : Terms S N) (setting : S) (base opened : List ℕ) (words : ClosedWords) (c : Closes terms setting base opened words)
+pub record EndsIn {S N : Type 0} (terms : Terms S N) (setting : S) (base opened : List ℕ) (words : ClosedWords)
+    (c : Closes terms setting base opened words)
     (v : Known S N) : Type 0 where
   pub same : (y : S) → v.home.setting ≡ Some y → (y ≡ setting) × (v.home.base ≡ base)
   pub grows : SeenGrows v.seen c.seen
   pub mine : Agree terms setting base c.seen v.mine
   pub found : (n count : ℕ) → v.full ≡ Some (n, count) → n + min count (words.room + 1) ≤ words.tail
 
--- no lock is held, the clock is how many numbers these passes drew, of which, where each has a name of its own, none is left out; and the tail is
--- where the opening and they moved it
+-- no lock is held, the clock is how many numbers these passes drew, of which, where each has a name of its own, none is left out; and the
+-- tail is where the opening and they moved it
 pub record IsStill {S N : Type 0} (opened : List ℕ) (words : ClosedWords) (given : List (Known S N)) : Type 0 where
   pub free : (c : ℕ) (x : ClosedCell) → slice_get words.cells.items c ≡ Some x → x.lock % 2 ≡ 0
   pub clock : words.clock ≡ total_of (λ (v : Known S N). length v.drawn) given
-  pub every : IsDistinct eqb (map (λ (v : Known S N). v.name) given) → (n : ℕ) → 1 ≤ n → n ≤ words.clock → (v : Known S N) × Has v given × Has n v.drawn
+  pub every : IsDistinct eqb (map (λ (v : Known S N). v.name) given) → (n : ℕ) → 1 ≤ n → n ≤ words.clock → (v : Known S N) × Has v given
+      × Has n v.drawn
   pub tail : words.tail ≡ length opened + total_of (λ (v : Known S N). v.taken + v.added) given
 
--- the words close a memory of so many sessions; each of the passes given ended in it, at rest, so that a seat that holds a cell is one of a pass
--- that is not among them: there are no more of these than sessions without a pass here; and where these passes are all, the words are still
-pub record ClosesAll {S N : Type 0} (terms : Terms S N) (setting : S) (base opened : List ℕ) (sessions : ℕ) (given : List (Known S N)) (words : ClosedWords) :
+-- the words close a memory of so many sessions; each of the passes given ended in it, at rest, so that a seat that holds a cell is one of a
+-- pass that is not among them: there are no more of these than sessions without a pass here; and where these passes are all, the words are
+-- still
+pub record ClosesAll {S N : Type 0} (terms : Terms S N) (setting : S) (base opened : List ℕ) (sessions : ℕ) (given : List (Known S N))
+    (words : ClosedWords) :
     Type 0 where
   pub closes : Closes terms setting base opened words
   pub each : (v : Known S N) → Has v given → EndsIn terms setting base opened words closes v

@@ -29,8 +29,8 @@ writes_kept slots = writes_below slots (length slots)
 abbrev pub cells_of : Pairs → List ℕ
 cells_of ps = map (λ p. p.0) ps
 
--- the cells that a run has locked where its commit met this conflict: all that it was to write where it drew a number, else those of them that
--- are below the conflict's cell, which it didn't get
+-- the cells that a run has locked where its commit met this conflict: all that it was to write where it drew a number, else those of them
+-- that are below the conflict's cell, which it didn't get
 abbrev pub cells_locked : List Slot → ConflictValue → Option ℕ → List ℕ
 cells_locked slots k None = cells_of (writes_below slots k.cell)
 cells_locked slots k (Some number) = cells_of (writes_kept slots)

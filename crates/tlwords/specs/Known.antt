@@ -30,8 +30,8 @@ pub record Known (S N : Type 0) : Type 0 where
   -- its name, and the numbers that it drew
   pub name : ℕ
   pub drawn : List ℕ
-  -- what its loads of the clock found, the newest first; the cells that it has locked, in all its runs, the newest first; and the cell and lock
-  -- word that its last look, check or take since the last load of the clock found
+  -- what its loads of the clock found, the newest first; the cells that it has locked, in all its runs, the newest first; and the cell and
+  -- lock word that its last look, check or take since the last load of the clock found
   pub clocks : List ℕ
   pub locked : List ℕ
   pub looked : Option (ℕ × ℕ)

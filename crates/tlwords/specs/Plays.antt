@@ -106,7 +106,8 @@ module _ {S N : Type 0} (terms : Terms S N) where
   -- Load: in a range cell it finds 0 or a word that names a finished range
   pub record Loads (m : Mine S N) (n : ℕ) (r : Mine S N) : Type 0 where
     pub sees : Sees m.0 r.0
-    pub named : (x : S) (c word : ℕ) → m.0.setting ≡ Some x → m.0.seat.place ≡ Looked c word → terms.ranged x c ≡ true → Names r.0.seen.ranges n
+    pub named : (x : S) (c word : ℕ) → m.0.setting ≡ Some x → m.0.seat.place ≡ Looked c word → terms.ranged x c ≡ true
+        → Names r.0.seen.ranges n
     pub is : (c word : ℕ) → m.0.seat.place ≡ Looked c word
         → r.0 ≡ record m.0 { seen = r.0.seen; seat = placed m.0.seat (Loaded c word n) }
 
@@ -146,7 +147,12 @@ module _ {S N : Type 0} (terms : Terms S N) where
     pub sees : Sees m.0 r.0
     pub first : (i upto : ℕ) (x : N) → m.0.seat.place ≡ Checking i upto → m.0.note ≡ Some x
         → IsDone r.0.seen i (work_of m.0.seat x)
-        × (r.0 ≡ record m.0 { seen = r.0.seen; seat = after_store m.0.seat i c; mine = m.0.mine ++ Committed (suc i) (work_of m.0.seat x) ∷ [] })
+        × (r.0 ≡ record m.0 {
+          seen = r.0.seen;
+          seat = after_store m.0.seat i c;
+          mine =
+              m.0.mine ++ Committed (suc i) (work_of m.0.seat x) ∷ [];
+        })
     pub next : (i : ℕ) → m.0.seat.place ≡ Storing i → r.0 ≡ record m.0 { seen = r.0.seen; seat = after_store m.0.seat i c }
 
   -- Release: after a failed check the entry is Void
@@ -169,11 +175,17 @@ module _ {S N : Type 0} (terms : Terms S N) where
 
   -- ---- steps on the store
 
-  -- the tail found was n: the words from there on are taken for these words where the room has so many. What was added to the tail is counted
+  -- the tail found was n: the words from there on are taken for these words where the room has so many. What was added to the tail is
+  -- counted
   pub record Advances (words : List ℕ) (m : Mine S N) (n : ℕ) (r : Mine S N) : Type 0 where
     pub sees : Sees m.0 r.0
     pub taken : n + length words ≤ m.0.room
-        → r.0 ≡ record m.0 { seen = r.0.seen; staging = Some (record { start = n; words = words; done = 0 }); taken = m.0.taken + length words }
+        → r.0 ≡ record m.0 {
+          seen = r.0.seen;
+          staging = Some (record { start = n; words = words; done = 0 });
+          taken =
+              m.0.taken + length words;
+        }
     pub refused : m.0.room < n + length words
         → r.0 ≡ record m.0 { seen = r.0.seen; full = Some (n, length words); added = min (length words) (m.0.room + 1) }
 

@@ -44,8 +44,8 @@ EntriesAre {S} {N} terms setting g =
 
 -- ---- the world
 
--- the world is reached from the opening values by events of the machine, each lawful where it came. A seat may join, idle; and one whose run is
--- over or holds no cell may leave, and is idle from then on
+-- the world is reached from the opening values by events of the machine, each lawful where it came. A seat may join, idle; and one whose
+-- run is over or holds no cell may leave, and is idle from then on
 pub data Reached (base : List ℕ) : World → Type 0 where
   at_opening : (seats : ℕ) → Reached base (start base seats)
   by_step : {w v : World} (s : ℕ) (a : Action) → Reached base w → next w s a ≡ Some v → Reached base v
@@ -60,7 +60,8 @@ pub record Start : Type 0 where
   pub store : List ℕ
   pub sessions : ℕ
 
--- a seat's range lies in the store, behind the opening's words, which are so many, and below the tail; its first words are stored, but not all
+-- a seat's range lies in the store, behind the opening's words, which are so many, and below the tail; its first words are stored, but not
+-- all
 pub record IsTaken (opened room tail : ℕ) (store : List ℕ) (s : Staging) : Type 0 where
   pub behind : opened ≤ s.start
   pub inside : s.start + length s.words ≤ room
@@ -120,7 +121,8 @@ module _ {S N : Type 0} where
     pub gone : (g : Gone S N) → Has g v.gone → IsGone terms setting base now owner g
 
   -- what holds of the clock and the cells' words
-  pub record Kept (terms : Terms S N) (setting : S) (base : List ℕ) (room : ℕ) (ranges : List Range) (words : List ℕ) (views : List (View S N)) : Type 0 where
+  pub record Kept (terms : Terms S N) (setting : S) (base : List ℕ) (room : ℕ) (ranges : List Range) (words : List ℕ)
+      (views : List (View S N)) : Type 0 where
     pub world : World
     pub notes : List N
     -- the name of the pass that drew the number
@@ -151,7 +153,8 @@ module _ {S N : Type 0} where
     pub gone : (g : Gone S N) → Has g v.gone
         → (g.added ≤ room + 1) × ((n count : ℕ) → g.full ≡ Some (n, count) → n + min count (room + 1) ≤ tail)
 
-  -- the tail is behind the opening's words, which are so many, by what each view took, and what stagings that were refused added. So it never wraps
+  -- the tail is behind the opening's words, which are so many, by what each view took, and what stagings that were refused added. So it
+  -- never wraps
   pub record IsTail (opened room tail : ℕ) (views : List (View S N)) : Type 0 where
     pub is : tail ≡ opened + total_of moved_of views
     pub most : tail ≤ room + total_of added_of views
@@ -164,13 +167,16 @@ module _ {S N : Type 0} where
     pub left : IsLeft opened room tail store
     pub tail_is : IsTail (length opened) room tail views
     pub finished : (r : Range) → Has r ranges → IsStored tail store r
-    pub taken : (j : ℕ) (v : View S N) (s : Staging) → get_elem? views j ≡ some v → v.staging ≡ Some s → IsTaken (length opened) room tail store s
-    pub apart : (j : ℕ) (v : View S N) (s : Staging) (r : Range) → get_elem? views j ≡ some v → v.staging ≡ Some s → Has r ranges → IsApart s r
+    pub taken : (j : ℕ) (v : View S N) (s : Staging) → get_elem? views j ≡ some v → v.staging ≡ Some s
+        → IsTaken (length opened) room tail store s
+    pub apart : (j : ℕ) (v : View S N) (s : Staging) (r : Range) → get_elem? views j ≡ some v → v.staging ≡ Some s → Has r ranges
+        → IsApart s r
     pub alone : (j k : ℕ) (u v : View S N) (s t : Staging) → j ≢ k → get_elem? views j ≡ some u → get_elem? views k ≡ some v
         → u.staging ≡ Some s → v.staging ≡ Some t → (s.start + length s.words ≤ t.start) ⊎ (t.start + length t.words ≤ s.start)
 
   -- the rule, of the setting, the opening values of the cells, the store's room and how it was opened
-  pub record Ruled (terms : Terms S N) (setting : S) (base : List ℕ) (room : ℕ) (opened : Start) (s : State (Unit {0}) (View S N)) : Type 0 where
+  pub record Ruled (terms : Terms S N) (setting : S) (base : List ℕ) (room : ℕ) (opened : Start)
+      (s : State (Unit {0}) (View S N)) : Type 0 where
     pub front : List ℕ
     pub tail : ℕ
     pub store : List ℕ

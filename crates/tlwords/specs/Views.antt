@@ -38,8 +38,8 @@ pub record View (S N : Type 0) : Type 0 where
   pub setting : Option S
   pub base : List ℕ
   pub room : ℕ
-  -- the machine's seat: the run, its place, its reads and the cells that it holds; its loads of the clock, the cells that it has locked, and its
-  -- last look or take
+  -- the machine's seat: the run, its place, its reads and the cells that it holds; its loads of the clock, the cells that it has locked,
+  -- and its last look or take
   pub seat : Seat
   -- the note of the run that drew last
   pub note : Option N

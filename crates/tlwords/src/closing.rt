@@ -57,7 +57,8 @@ pub fn close<L: Law>(
     passes: Vec<Pass<L>>,
 ) -> Result<ClosedWords, AllocError>
     requires { All (λ p. SitsAt words p) passes.items }
-    ensures closes { IfOk result (λ c. ClosesAll L.terms words.table.shared.key.setting.value words.table.shared.key.values.value.items words.table.shared.key.store.value.items words.table.shared.key.sessions passes.items c) }
+    ensures closes { IfOk result (λ c. ClosesAll L.terms words.table.shared.key.setting.value words.table.shared.key.values.value.items
+        words.table.shared.key.store.value.items words.table.shared.key.sessions passes.items c) }
     ensures store { IfOk result (λ c. (c.room ≡ words.room) × (length c.store.items ≡ min c.tail words.room)) }
 {
     let cells = words.cells;
@@ -94,9 +95,11 @@ fn close_with<L: Law>(
 ) -> Result<ClosedWords, AllocError>
     requires last { last.home.table ≡ table.shared.table_id }
     requires passes { All (λ p. p.home.table ≡ table.shared.table_id) passes.items }
-    requires words { (table.shared.table_id.words ≡ store_at cells room) × (table.shared.table_id.slots ≡ 0) × (cells < 2 ^ 32) × (room ≤ 2 ^ 24) }
+    requires words { (table.shared.table_id.words ≡ store_at cells room) × (table.shared.table_id.slots ≡ 0) × (cells < 2 ^ 32)
+        × (room ≤ 2 ^ 24) }
     requires keyed { table.shared.key.room ≡ room }
-    ensures closes { IfOk result (λ c. ClosesAll L.terms table.shared.key.setting.value table.shared.key.values.value.items table.shared.key.store.value.items table.shared.key.sessions (passes.items ++ last ∷ []) c) }
+    ensures closes { IfOk result (λ c. ClosesAll L.terms table.shared.key.setting.value table.shared.key.values.value.items
+        table.shared.key.store.value.items table.shared.key.sessions (passes.items ++ last ∷ []) c) }
     ensures store { IfOk result (λ c. (c.room ≡ room) × (length c.store.items ≡ min c.tail room)) }
 {
     let mut seat = last.into_parts().0;
@@ -111,9 +114,11 @@ fn close_alone<L: Law>(
     cells: usize,
     room: usize,
 ) -> Result<ClosedWords, AllocError>
-    requires words { (table.shared.table_id.words ≡ store_at cells room) × (table.shared.table_id.slots ≡ 0) × (cells < 2 ^ 32) × (room ≤ 2 ^ 24) }
+    requires words { (table.shared.table_id.words ≡ store_at cells room) × (table.shared.table_id.slots ≡ 0) × (cells < 2 ^ 32)
+        × (room ≤ 2 ^ 24) }
     requires keyed { (table.shared.key.room ≡ room) × (1 ≤ table.shared.key.sessions) }
-    ensures closes { IfOk result (λ c. ClosesAll L.terms table.shared.key.setting.value table.shared.key.values.value.items table.shared.key.store.value.items table.shared.key.sessions [] c) }
+    ensures closes { IfOk result (λ c. ClosesAll L.terms table.shared.key.setting.value table.shared.key.values.value.items
+        table.shared.key.store.value.items table.shared.key.sessions [] c) }
     ensures store { IfOk result (λ c. (c.room ≡ room) × (length c.store.items ≡ min c.tail room)) }
 {
     let table = table.close();
@@ -127,7 +132,8 @@ fn gather(
     cells: usize,
     room: usize,
 ) -> Result<ClosedWords, AllocError>
-    requires words { (slots_len table.words ≡ store_at cells room) × IsFull table.words × (slots_len table.slots ≡ 0) × (cells < 2 ^ 32) × (room ≤ 2 ^ 24) }
+    requires words { (slots_len table.words ≡ store_at cells room) × IsFull table.words × (slots_len table.slots ≡ 0) × (cells < 2 ^ 32)
+        × (room ≤ 2 ^ 24) }
     ensures { IfOk result (λ c. AreGathered (slots_items table.words) cells room c) }
 {
     let clock = table.word(CLOCK);

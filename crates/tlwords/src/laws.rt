@@ -12,15 +12,17 @@ use crate::law::Law;
 /// step, and one that shows those after it, and the machine goes from the one to the other by the action of the step's kind. The law knows
 /// a step by what it finds and what it tells its seat; it doesn't say which steps a call makes.
 ///
-/// Loads of the spare word, by which a pass sees the history so far or notes a call that wrote nothing, are no steps of the machine; nor are
-/// steps on the store's words.
+/// Loads of the spare word, by which a pass sees the history so far or notes a call that wrote nothing, are no steps of the machine; nor
+/// are steps on the store's words.
 pub fn running_steps<L: Law>()
     // A run begins: a load of the clock.
-    ensures clock_load { (setting : L.Setting) (base : List ℕ) (room : ℕ) (opened : Start) → ClockLoadIsEvent L.terms setting base room opened }
+    ensures clock_load { (setting : L.Setting) (base : List ℕ) (room : ℕ) (opened : Start)
+        → ClockLoadIsEvent L.terms setting base room opened }
     // A read: a look at the lock word, a load of the value word, and a second look.
     ensures look { (setting : L.Setting) (base : List ℕ) (room : ℕ) (opened : Start) → LookIsEvent L.terms setting base room opened }
     ensures load { (setting : L.Setting) (base : List ℕ) (room : ℕ) (opened : Start) → LoadIsEvent L.terms setting base room opened }
-    ensures second_look { (setting : L.Setting) (base : List ℕ) (room : ℕ) (opened : Start) → RelookIsEvent L.terms setting base room opened }
+    ensures second_look { (setting : L.Setting) (base : List ℕ) (room : ℕ) (opened : Start)
+        → RelookIsEvent L.terms setting base room opened }
     // A commit: the locks are taken, a number is drawn, the other reads are checked, the values are stored, and the locks are released.
     ensures take { (setting : L.Setting) (base : List ℕ) (room : ℕ) (opened : Start) → TakeIsEvent L.terms setting base room opened }
     ensures draw { (setting : L.Setting) (base : List ℕ) (room : ℕ) (opened : Start) → DrawIsEvent L.terms setting base room opened }

@@ -101,8 +101,8 @@ pub const MOST_ROOM: usize = 1 << 24;
 ///
 /// # Errors
 ///
-/// `BadShape` for more than 4,294,967,295 cells, other than 1 to 64 sessions, or a room of more than 16,777,216 words; then `StoreFull` where
-/// `store` has more words than the room; and `NoMemory`.
+/// `BadShape` for more than 4,294,967,295 cells, other than 1 to 64 sessions, or a room of more than 16,777,216 words; then `StoreFull`
+/// where `store` has more words than the room; and `NoMemory`.
 pub fn open<L: Law>(
     alloc: Global,
     setting: &L::Setting,
@@ -114,13 +114,18 @@ pub fn open<L: Law>(
     requires opens { L.terms.opens setting.now (ranges_named (L.terms.ranged setting.now) store.items values.items) values.items }
     requires named { AreNamed L.terms setting.now (ranges_named (L.terms.ranged setting.now) store.items values.items) values.items }
     ensures sizes { IfOk result (λ r. (r.0.cells ≡ length values.items) × (r.0.room ≡ room)) }
-    ensures key { IfOk result (λ r. (r.0.table.shared.key.setting.value ≡ setting.now) × (r.0.table.shared.key.values.value.items ≡ values.items) × (r.0.table.shared.key.store.value.items ≡ store.items) × (r.0.table.shared.key.sessions ≡ sessions)) }
-    ensures passes { IfOk result (λ r. All (λ p. p ≡ new_pass (home_of r.0) (ranges_named (L.terms.ranged setting.now) store.items values.items) p.name) r.1.items) }
+    ensures key { IfOk result (λ r. (r.0.table.shared.key.setting.value ≡ setting.now)
+        × (r.0.table.shared.key.values.value.items ≡ values.items) × (r.0.table.shared.key.store.value.items ≡ store.items)
+        × (r.0.table.shared.key.sessions ≡ sessions)) }
+    ensures passes { IfOk result (λ r. All (λ p. p
+        ≡ new_pass (home_of r.0) (ranges_named (L.terms.ranged setting.now) store.items values.items) p.name) r.1.items) }
     ensures opening { IfOk result (λ r. All (λ p. AreOfOneOpening r.0 p) r.1.items) }
     ensures sound { IfOk result (λ r. All (λ p. Knows L.terms p) r.1.items) }
     ensures names { IfOk result (λ r. map (λ p. p.name) r.1.items ≡ down sessions sessions) }
-    ensures shape { (IsBadShape (length values.items) sessions room → result ≡ Err BadShape) × (result ≡ Err BadShape → IsBadShape (length values.items) sessions room) }
-    ensures full { ((IsBadShape (length values.items) sessions room → ⊥) → room < length store.items → result ≡ Err StoreFull) × (result ≡ Err StoreFull → room < length store.items) }
+    ensures shape { (IsBadShape (length values.items) sessions room → result ≡ Err BadShape)
+        × (result ≡ Err BadShape → IsBadShape (length values.items) sessions room) }
+    ensures full { ((IsBadShape (length values.items) sessions room → ⊥) → room < length store.items → result ≡ Err StoreFull)
+        × (result ≡ Err StoreFull → room < length store.items) }
 {
     if values.len() > MOST_CELLS || sessions == 0 || sessions > 64 || room > MOST_ROOM {
         return Err(OpenFault::BadShape);
@@ -166,7 +171,8 @@ fn first_words(
     room: usize,
 ) -> Result<Vec<u64>, AllocError>
     requires { (length values.now < 2 ^ 32) × (length store.now ≤ room) × (room ≤ 2 ^ 24) }
-    ensures { IfOk result (λ v. v.items ≡ front_of 0 (opening_words values.now) ++ shelf_of (length store.now) (store.now ++ replicate (room - length store.now) 0)) }
+    ensures { IfOk result (λ v. v.items ≡ front_of 0 (opening_words values.now)
+        ++ shelf_of (length store.now) (store.now ++ replicate (room - length store.now) 0)) }
 {
     let mut words = cell_words(alloc, values, 2 * values.len() + STORE + room)?;
     words.extend_from_slice(&UNUSED)?;
@@ -203,8 +209,10 @@ fn deal_all<L: Law>(
 ) -> Result<Vec<Pass<L>>, AllocError>
     requires table { (seat.old.table_id ≡ words.now.table.shared.table_id) × (words.now.cells ≡ length values.now) }
     requires store { AreOfOneStore words.now.room (ranges_named (L.terms.ranged setting.now) store.now values.now) }
-    requires first { (sessions ≤ 64) × (seat.old.me.0 ≡ dealer setting.now values.now words.now.room (ranges_named (L.terms.ranged setting.now) store.now values.now) sessions 0) }
-    ensures passes { IfOk result (λ v. All (λ p. IsDealt setting.now values.now words.now.room (ranges_named (L.terms.ranged setting.now) store.now values.now) words.now.table.shared.table_id p) v.items) }
+    requires first { (sessions ≤ 64) × (seat.old.me.0
+        ≡ dealer setting.now values.now words.now.room (ranges_named (L.terms.ranged setting.now) store.now values.now) sessions 0) }
+    ensures passes { IfOk result (λ v. All (λ p. IsDealt setting.now values.now words.now.room
+        (ranges_named (L.terms.ranged setting.now) store.now values.now) words.now.table.shared.table_id p) v.items) }
     ensures names { IfOk result (λ v. map (λ p. p.name) v.items ≡ down sessions sessions) }
 {
     let mut passes = Vec::new(alloc);

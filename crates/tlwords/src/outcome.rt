@@ -8,8 +8,8 @@ pub struct Conflict {
     pub cell: usize,
     /// The lock word that was found.
     pub word: u64,
-    /// The lock word that the run's newest read of the cell had found. None exactly where no read of the cell had ended, and in a run that only
-    /// reads, which keeps none.
+    /// The lock word that the run's newest read of the cell had found. None exactly where no read of the cell had ended, and in a run that
+    /// only reads, which keeps none.
     pub before: Option<u64>,
 }
 

@@ -40,9 +40,14 @@ impl<L: Law> TableRule<(), View<L::Setting, L::Note>, Opening<L::Setting>> for R
     ghost use Rattle.ranges.specs.Ranges.{ranges_named};
     ghost use Rattle.tlwords.specs.Rule.{Ruled, first_view};
 
-    ghost holds = { λ key s. Ruled L.terms key.setting.value key.values.value.items key.room (record { store = key.store.value.items; sessions = key.sessions }) s };
+    ghost holds = { λ key s. Ruled L.terms key.setting.value key.values.value.items key.room (record {
+      store =
+          key.store.value.items;
+      sessions = key.sessions;
+    }) s };
 
-    ghost first = { λ key. first_view key.setting.value key.values.value.items key.room (ranges_named (L.terms.ranged key.setting.value) key.store.value.items key.values.value.items) key.sessions };
+    ghost first = { λ key. first_view key.setting.value key.values.value.items key.room
+        (ranges_named (L.terms.ranged key.setting.value) key.store.value.items key.values.value.items) key.sessions };
 }
 
 /// The words that all passes share.

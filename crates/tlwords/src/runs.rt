@@ -42,7 +42,8 @@ impl<'w, L: Law> Model for Run<'w, L> {
 
     ghost view = { λ a. going_of a.seat.table_id a.seat.me.0 a.place a.mode a.over a.log.slots };
 
-    ghost invariant = { λ a. Runs a.words.now.table.shared.table_id a.words.now.cells a.words.now.room a.seat a.log.slots a.mode a.count a.place (is_some a.over) a.full };
+    ghost invariant = { λ a. Runs a.words.now.table.shared.table_id a.words.now.cells a.words.now.room a.seat a.log.slots a.mode a.count
+        a.place (is_some a.over) a.full };
 }
 
 /// Begins a run in this mode, by one load of the clock.
@@ -90,7 +91,8 @@ impl<'w, L: Law> Run<'w, L> {
 
     /// The value of the cell: the one that this run keeps for it, or else that of the version at the run's place.
     ///
-    /// In Reading mode nothing of it is kept. An error is a conflict, and the run is over: each later read answers the same conflict, without a step.
+    /// In Reading mode nothing of it is kept. An error is a conflict, and the run is over: each later read answers the same conflict,
+    /// without a step.
     pub fn read(&mut self, cell: usize) -> Result<u64, Conflict>
         requires { cell < length self.old.known.home.base }
         ensures same { (self.new.known.home ≡ self.old.known.home) × (self.new.place ≡ self.old.place) × (self.new.mode ≡ self.old.mode) }

@@ -42,7 +42,8 @@ impl Model for Slots {
 
     ghost view = { λ s. slots_of s.places.items s.entries.items };
 
-    ghost invariant = { λ s. IsIndexed s.places.items s.entries.items × (length s.places.items ≤ vec_capacity s.entries) × (length s.places.items < 2 ^ 32) };
+    ghost invariant = { λ s. IsIndexed s.places.items s.entries.items × (length s.places.items ≤ vec_capacity s.entries)
+        × (length s.places.items < 2 ^ 32) };
 }
 
 impl Slots {

@@ -91,14 +91,16 @@ module _ (g : Given) (k : Carried) (mode : Mode) (may : Bool) (old : Lending) (l
     pub asks_within : ReadsForAll (sight_of old) (sight_of new) told → AsksWithin new cs
     asks_within reads cell was st lib s =
         ⊎_elim (λ early. absurd (unasked cell early))
-        (λ is. may_read (setting_of new.given) st (sight_of new) s.matches (sight_of old) lib cs setting_then lends.blank (views_then st lib s) fit_then
+        (λ is. may_read (setting_of new.given) st (sight_of new) s.matches (sight_of old) lib cs setting_then lends.blank
+        (views_then st lib s) fit_then
         cell is)
         ((subst (ReadsForAll (sight_of old) (sight_of new)) same reads).asked cell was)
 
     pub keeps_within : KeepsToAll (sight_of old) (sight_of new) told → KeepsWithin new cs
     keeps_within keeps cell was st lib s =
         ⊎_elim (λ early. absurd (unwritten cell early))
-        (λ is. may_write (setting_of new.given) st (sight_of new) s.matches (sight_of old) lib cs setting_then lends.blank (views_then st lib s) fit_then
+        (λ is. may_write (setting_of new.given) st (sight_of new) s.matches (sight_of old) lib cs setting_then lends.blank
+        (views_then st lib s) fit_then
         cell is)
         (subst (KeepsToAll (sight_of old) (sight_of new)) same keeps cell was)
 

@@ -88,14 +88,16 @@ module _ (l : Lending) (stage : Staged) (over : Option Conflict) (lent : IsLent 
 
   -- ---- commands that are done
 
-  module _ (c : Snapshot (List Command)) (r : Snapshot (List Reply)) (replies : List Reply) (is : c.value ≡ cs) (replied : r.value ≡ replies)
+  module _ (c : Snapshot (List Command)) (r : Snapshot (List Reply)) (replies : List Reply) (is : c.value ≡ cs) (replied : r.value
+      ≡ replies)
     where
       commit_recorded : (number : ℕ) (k : Pass) → IsCommitted library_terms number (work_done l.going (Done c r)) l.going.known k
           → IsRecordIn (history_of k.seen) (record { number = number; done = Some (cs, replies) })
       commit_recorded number k w =
           let work = work_done l.going (Done c r) in
           let at = (history k (ap (λ (z : Pass). z.home) w.is) w.knows).done w.index work w.done in
-          let here : number ≡ suc at.0 = (let a : suc w.index ≡ at.0 + 1 = at.1 in let b : number ≡ suc w.index = w.number_is in omega arith) in
+          let here : number ≡ suc at.0 = (let a : suc w.index ≡ at.0 + 1 = at.1 in let b : number ≡ suc w.index =
+          w.number_is in omega arith) in
           (at.0, here, at.2 ∙ (λ j. Some (done_entry (is j) (replied j))))
 
       pub commits : (number : ℕ) (k : Pass) → has_edit cs ≡ true
@@ -112,7 +114,8 @@ module _ (l : Lending) (stage : Staged) (over : Option Conflict) (lent : IsLent 
           omega arith
           ) in
           record {
-            later = later_by k (ap (λ (z : Pass). z.home) w.is) (ap (λ (z : Pass). z.name) w.is) (ap (λ (z : Pass). z.full) w.is) w.grows w.knows;
+            later = later_by k (ap (λ (z : Pass). z.home) w.is) (ap (λ (z : Pass). z.name) w.is)
+                (ap (λ (z : Pass). z.full) w.is) w.grows w.knows;
             gains = (
               edits,
               behind,
@@ -135,7 +138,8 @@ module _ (l : Lending) (stage : Staged) (over : Option Conflict) (lent : IsLent 
           let work = work_done l.going (Done c r) in
           let drawn : k.drawn ≡ l.began.drawn = ap (λ (z : Pass). z.drawn) w.is ∙ ap (λ (z : Pass). z.drawn) lent.since in
           record {
-            later = later_by k (ap (λ (z : Pass). z.home) w.is) (ap (λ (z : Pass). z.name) w.is) (ap (λ (z : Pass). z.full) w.is) w.grows w.knows;
+            later = later_by k (ap (λ (z : Pass). z.home) w.is) (ap (λ (z : Pass). z.name) w.is)
+                (ap (λ (z : Pass). z.full) w.is) w.grows w.knows;
             gains = (
               edits,
               lent.placed,
@@ -161,7 +165,8 @@ module _ (l : Lending) (stage : Staged) (over : Option Conflict) (lent : IsLent 
       let work = work_done l.going (Refused c r) in
       let drawn : k.drawn ≡ l.began.drawn = ap (λ (z : Pass). z.drawn) w.is ∙ ap (λ (z : Pass). z.drawn) lent.since in
       record {
-        later = later_by k (ap (λ (z : Pass). z.home) w.is) (ap (λ (z : Pass). z.name) w.is) (ap (λ (z : Pass). z.full) w.is) w.grows w.knows;
+        later = later_by k (ap (λ (z : Pass). z.home) w.is) (ap (λ (z : Pass). z.name) w.is)
+            (ap (λ (z : Pass). z.full) w.is) w.grows w.knows;
         gains = (
           lent.placed,
           drawn,
@@ -212,7 +217,8 @@ module _ (l : Lending) (stage : Staged) (over : Option Conflict) (lent : IsLent 
   rejects_undrawn c k writes edits w =
       let drawn : k.drawn ≡ l.began.drawn = ap (λ (z : Pass). z.drawn) w.entry ∙ ap (λ (z : Pass). z.drawn) lent.since in
       record {
-        later = later_by k (ap (λ (z : Pass). z.home) w.entry) (ap (λ (z : Pass). z.name) w.entry) (ap (λ (z : Pass). z.full) w.entry) w.grows w.knows;
+        later = later_by k (ap (λ (z : Pass). z.home) w.entry) (ap (λ (z : Pass). z.name) w.entry)
+            (ap (λ (z : Pass). z.full) w.entry) w.grows w.knows;
         gains = (
           ap (λ (z : Pass). z.mine) w.entry ∙ ap (λ (z : Pass). z.mine) lent.since,
           inl drawn,
@@ -225,7 +231,8 @@ module _ (l : Lending) (stage : Staged) (over : Option Conflict) (lent : IsLent 
         recorded = drawn;
       }
 
-  pub rejects_drawn : (c : Conflict) (number : ℕ) (k : Pass) → WritesEdits → has_edit cs ≡ true → IsRejected library_terms c (Some number) l.going k
+  pub rejects_drawn : (c : Conflict) (number : ℕ) (k : Pass) → WritesEdits → has_edit cs ≡ true
+      → IsRejected library_terms c (Some number) l.going k
       → Tries cs l.began k (outcome.Conflict (met_of c)) (Some (void_record number))
   rejects_drawn c number k writes edits w =
       let e = w.entry in
@@ -234,7 +241,8 @@ module _ (l : Lending) (stage : Staged) (over : Option Conflict) (lent : IsLent 
       ap (λ (z : Pass). z.drawn) same ∙ ap (λ (z : Pass). z.drawn ++ number ∷ []) lent.since in
       let void = (history k (ap (λ (z : Pass). z.home) same) w.knows).void e.0 e.3 in
       record {
-        later = later_by k (ap (λ (z : Pass). z.home) same) (ap (λ (z : Pass). z.name) same) (ap (λ (z : Pass). z.full) same) w.grows w.knows;
+        later = later_by k (ap (λ (z : Pass). z.home) same) (ap (λ (z : Pass). z.name) same)
+            (ap (λ (z : Pass). z.full) same) w.grows w.knows;
         gains = (
           ap (λ (z : Pass). z.mine) same ∙ ap (λ (z : Pass). z.mine) lent.since,
           inr (number, drawn, (e.0, e.1, void)),
@@ -338,11 +346,13 @@ module _ (l : Lending) (stage : Staged) (over : Option Conflict) (lent : IsLent 
         → Tries cs l.began k (outcome.Conflict (met_of c)) None
     met_by c own reading met same =
         subst (λ (x : Conflict). Tries cs l.began k (outcome.Conflict (met_of x)) None) same
-        (subst (λ (z : Pass). Tries cs l.began z (outcome.Conflict (met_of own)) None) (sym (stopped own met).1) (met_before own reading met))
+        (subst (λ (z : Pass). Tries cs l.began z (outcome.Conflict (met_of own)) None) (sym (stopped own met).1)
+        (met_before own reading met))
 
     conflicts_by : (c : Conflict) (drawn : Option ℕ) → WritesEdits → has_edit cs ≡ true → o ≡ EndsConflict c drawn → (v : Option Conflict)
         → l.going.over ≡ v → Tries cs l.began k (outcome.Conflict (met_of c)) (void_records drawn)
-    conflicts_by c drawn writes edits is None none = rejects c drawn k writes edits (subst (Ends library_terms n l.going k) is (ended none)).1
+    conflicts_by c drawn writes edits is None none =
+        rejects c drawn k writes edits (subst (Ends library_terms n l.going k) is (ended none)).1
     conflicts_by c drawn writes edits is (Some own) met =
         let e = (stopped own met).0 in
         let same : own ≡ c = cc in

@@ -168,7 +168,8 @@ module _ (m : Member) (k : Carried) (l : Look) (is : IsMember m) (later : IsLate
   pub looker_stays : IsMember (record m { known = k.pass; staged = k.staged })
   looker_stays = still_member m k.pass k.staged is later (draws_none m.known k.pass l sees)
 
-  pub session_looks : StoresNothing (record { pass = m.known; staged = m.staged }) k → Looks m (record m { known = k.pass; staged = k.staged }) l
+  pub session_looks : StoresNothing (record { pass = m.known; staged = m.staged }) k
+      → Looks m (record m { known = k.pass; staged = k.staged }) l
   session_looks stored =
       record {
         later = goes_on m k.pass k.staged is later (draws_none m.known k.pass l sees);

@@ -90,7 +90,8 @@ module _ (l : Lending) (stage : Staged) (over : Option Conflict) (lent : IsLent 
           matches = record {
             store = later.store;
             has = λ r at. later.grows.2 r (grows.2 r at);
-            reads = one_fits k.home.base new p l.going.reads (One-kept k.home.base k.seen.history new.history p l.going.reads later.grows.0 le one);
+            reads = one_fits k.home.base new p l.going.reads
+                (One-kept k.home.base k.seen.history new.history p l.going.reads later.grows.0 le one);
           };
           shows = later.history.show p (let more : length k.seen.history ≤ length new.history = later.grows.0.0 in omega (arith, le, more));
           verifies = later.history.verify p;
@@ -106,7 +107,8 @@ module _ (l : Lending) (stage : Staged) (over : Option Conflict) (lent : IsLent 
     suits_then : Suits (sight_of l) (state_after k.home.base new l.going.place) (library_after l.given new l.going.place)
     suits_then =
         suits_at l.going.place
-        (let own = lent.stands.placed in let more : length l.going.known.seen.history ≤ length k.seen.history = grows.0.0 in omega (arith, own, more)) one_then
+        (let own = lent.stands.placed in let more : length l.going.known.seen.history ≤ length k.seen.history =
+        grows.0.0 in omega (arith, own, more)) one_then
 
   -- ---- what it locked
 
@@ -144,10 +146,12 @@ module _ (l : Lending) (stage : Staged) (over : Option Conflict) (lent : IsLent 
   locks_rejected : KeepsWithin l cs → (c : Conflict) (drawn : Option ℕ) (k : Pass) → IsRejected library_terms c drawn l.going k
       → LocksWithin l.given cs l.began k
   locks_rejected keeps c None k r =
-      locks_some keeps k (ap (λ (z : Pass). z.home) r.entry) r.grows (ap (λ (z : Pass). z.clocks) r.entry) c.cell (ap (λ (z : Pass). z.locked) r.entry)
+      locks_some keeps k (ap (λ (z : Pass). z.home) r.entry) r.grows (ap (λ (z : Pass). z.clocks) r.entry) c.cell
+      (ap (λ (z : Pass). z.locked) r.entry)
   locks_rejected keeps c (Some number) k r =
       let e = r.entry in
-      locks_some keeps k (ap (λ (z : Pass). z.home) e.4) r.grows (ap (λ (z : Pass). z.clocks) e.4) (length l.going.slots) (ap (λ (z : Pass). z.locked) e.4)
+      locks_some keeps k (ap (λ (z : Pass). z.home) e.4) r.grows (ap (λ (z : Pass). z.clocks) e.4) (length l.going.slots)
+      (ap (λ (z : Pass). z.locked) e.4)
 
   -- ---- a conflict
 
@@ -155,14 +159,16 @@ module _ (l : Lending) (stage : Staged) (over : Option Conflict) (lent : IsLent 
       (locks : LocksWithin l.given cs l.began k) where
     -- at a cell that it asked for
     asked_within : (c : Conflict) → WasAsked (sight_of l) c.cell → EndsWithin l.began cs k (outcome.Conflict (met_at l.going.place c))
-    asked_within c was = for_given k (outcome.Conflict (met_at l.going.place c)) (λ new later. asks c.cell was _ _ (suits_then k home grows new later)) locks
+    asked_within c was = for_given k (outcome.Conflict (met_at l.going.place c))
+        (λ new later. asks c.cell was _ _ (suits_then k home grows new later)) locks
 
     -- which a read met
     pub read_within : (c : Conflict) → l.going.over ≡ Some c → EndsWithin l.began cs k (outcome.Conflict (met_at l.going.place c))
     read_within c is = asked_within c (inr (ap (option_map (λ (x : Conflict). x.cell)) is))
 
   -- which a commit met
-  pub rejected_within : AsksWithin l cs → KeepsWithin l cs → (c : Conflict) (drawn : Option ℕ) (k : Pass) → k.home ≡ l.going.known.home → k.found ≡ l.going.known.found
+  pub rejected_within : AsksWithin l cs → KeepsWithin l cs → (c : Conflict) (drawn : Option ℕ) (k : Pass) → k.home ≡ l.going.known.home
+      → k.found ≡ l.going.known.found
       → IsRejected library_terms c drawn l.going k → EndsWithin l.began cs k (outcome.Conflict (met_at l.going.place c))
   rejected_within asks keeps c drawn k home same r =
       let word = ended_by l.going.mode c.cell k.found c.before r.read r.finds.told in
@@ -218,14 +224,16 @@ module _ (l : Lending) (stage : Staged) (over : Option Conflict) (lent : IsLent 
     used_by : o ≡ NumbersUsed → (v : Option Conflict) → l.going.over ≡ v → EndsWithin l.began cs k outcome.NumbersUsed
     used_by is None none =
         let same : k ≡ l.going.known = (subst (Ends library_terms n l.going k) is (ended none)).2 in
-        for_given k outcome.NumbersUsed (λ new later. tt) (locks_none k (ap (λ (z : Pass). z.clocks) same) (ap (λ (z : Pass). z.locked) same))
+        for_given k outcome.NumbersUsed (λ new later. tt)
+        (locks_none k (ap (λ (z : Pass). z.clocks) same) (ap (λ (z : Pass). z.locked) same))
     used_by is (Some c) met = let own = (stopped c met).0 in absurd cc
 
     pub used_within : o ≡ NumbersUsed → EndsWithin l.began cs k outcome.NumbersUsed
     used_within is = used_by is l.going.over refl
 
   -- of one that is given up
-  pub given_up_within : AsksWithin l cs → (why : GivenUp) → IsGivenUp l why → EndsWithin l.began cs l.going.known (told_of l.going.place why)
+  pub given_up_within : AsksWithin l cs → (why : GivenUp) → IsGivenUp l why
+      → EndsWithin l.began cs l.going.known (told_of l.going.place why)
   given_up_within asks (given.Conflict c) is =
       read_within asks l.going.known refl (seen_refl l.going.known.seen) (locks_none l.going.known refl refl) c is
   given_up_within asks given.StoreFull is = for_given l.going.known outcome.StoreFull (λ new later. tt) (locks_none l.going.known refl refl)

@@ -44,7 +44,8 @@ abbrev pub with_record : List Record → Option Record → List Record
 with_record rs None = rs
 with_record rs (Some r) = rs ++ r ∷ []
 
-pub still_recorded : (m : Member) (k : Pass) (s : Staged) (r : Option Record) → SeenGrows m.known.seen k.seen → IsRecorded m.known k r → AreRecorded m
+pub still_recorded : (m : Member) (k : Pass) (s : Staged) (r : Option Record) → SeenGrows m.known.seen k.seen → IsRecorded m.known k r
+    → AreRecorded m
     → AreRecorded (record m { known = k; records = with_record m.records r; staged = s })
 still_recorded m k s None grows none are =
     record { numbers = are.numbers ∙ sym none; entries = records_grow m.known.seen k.seen m.records grows are.entries }

@@ -16,7 +16,8 @@ pub none_taken : AreTaken [] [] []
 none_taken = record { members_are = All-nil IsMember; passes_are = refl; records_are = refl }
 
 -- one session more
-pub one_taken : (ms : List Member) (passes : List Pass) (records : List (Vec Record Global)) (m : Member) (k : Pass) (own : Vec Record Global)
+pub one_taken : (ms : List Member) (passes : List Pass) (records : List (Vec Record Global)) (m : Member) (k : Pass)
+    (own : Vec Record Global)
     → AreTaken ms passes records → IsMember m → k ≡ m.known → own.items ≡ m.records
     → AreTaken (ms ++ m ∷ []) (passes ++ k ∷ []) (records ++ own ∷ [])
 one_taken ms passes records m k own taken is known records_are = record {

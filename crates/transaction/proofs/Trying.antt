@@ -102,7 +102,8 @@ module _ (m : Member) (is : IsMember m) where
         untouched = λ many. refl;
       }
 
-  pub member_after : (k : Carried) (r : Option Record) → IsLaterPass m.known k.pass → IsRecorded m.known k.pass r → IsMember (after_run m k r)
+  pub member_after : (k : Carried) (r : Option Record) → IsLaterPass m.known k.pass → IsRecorded m.known k.pass r
+      → IsMember (after_run m k r)
   member_after k r later recorded =
       record {
         on = subst (λ (h : Home Given). (h.setting ≡ Some m.given) × (h.room ≤ most_words)) (sym later.home) is.on;
@@ -110,7 +111,8 @@ module _ (m : Member) (is : IsMember m) where
         recorded = still_recorded m k.pass k.staged r later.grows recorded is.recorded;
       }
 
-  pub attempts_run : (cs : List Command) (k : Carried) (o : Outcome) (r : Option Record) → has_too_many cs ≡ false → Tries cs m.known k.pass o r
+  pub attempts_run : (cs : List Command) (k : Carried) (o : Outcome) (r : Option Record) → has_too_many cs ≡ false
+      → Tries cs m.known k.pass o r
       → Stores cs (record { pass = m.known; staged = m.staged }) k o → EndsWithin m.known cs k.pass o → Attempts cs m (after_run m k r) o
   attempts_run cs k o r few t stored within =
       record {
@@ -340,7 +342,8 @@ module _ (cs : List Command) (old now next : Member) (o : Outcome) (so_far : Tri
   adds : AddsNothing now.known next.known → AddsNothing before next.known
   adds is = record { mine = is.mine ∙ so_far.mine; drawn = is.drawn ∙ so_far.drawn }
 
-  calls : (call : Work Note → Call Note) (Says : Note → Type 0) → GainsCall now.known next.known call Says → GainsCall before next.known call Says
+  calls : (call : Work Note → Call Note) (Says : Note → Type 0) → GainsCall now.known next.known call Says
+      → GainsCall before next.known call Says
   calls call Says g = (g.0, g.1, g.2 ∙ ap (λ (z : List (Call Note)). z ++ call g.0 ∷ []) so_far.mine)
 
   one_more : (place : ℕ) → LoadsOnce now.known next.known place → LoadsOnce before next.known place
@@ -434,7 +437,8 @@ module _ (cs : List Command) (old now next : Member) (o : Outcome) (so_far : Tri
       let g = subst (Gains cs now.known next.known) is a.gains in
       let no : true ≡ false = sym g.1 ∙ few in absurd cc
 
-  submits_by : ((met : Met) → o ≢ outcome.Conflict met) → (o ≡ outcome.TooManyCommands) ⊎ (o ≢ outcome.TooManyCommands) → Submits cs old next o
+  submits_by : ((met : Met) → o ≢ outcome.Conflict met) → (o ≡ outcome.TooManyCommands) ⊎ (o ≢ outcome.TooManyCommands)
+      → Submits cs old next o
   submits_by settled (inl is) = submits_none so_far.since is
   submits_by settled (inr some) = submits_some settled some
 

@@ -72,7 +72,8 @@ module _ {O : Type 0} (k : Setting) (st : State) (last : Sight O) (matches : Mat
       let b = leaves_all mid t a.next cs (first.onward.setting ∙ is) rest on a.views (All-tail (CommandFits k.prelude) c cs fit) in
       record { next = b.next; done = (mid.writes, a.next, a.done, b.done); views = b.views }
 
-  module _ (first : Sight O) (lib : List Ranked) (cs : List Command) (is : first.setting ≡ k) (blank : first.writes ≡ []) (views : Views first st lib)
+  module _ (first : Sight O) (lib : List Ranked) (cs : List Command) (is : first.setting ≡ k) (blank : first.writes ≡ [])
+      (views : Views first st lib)
       (fit : All (CommandFits k.prelude) cs) where
     front_left : (mid : Sight O) (before behind : List Command) (one : Command) → cs ≡ before ++ one ∷ behind → PassesAll first before mid
         → Onward mid last → LeavesAll first mid lib before

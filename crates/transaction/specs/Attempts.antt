@@ -65,10 +65,10 @@ pub record AddsNothing (old new : Pass) : Type 0 where
   pub mine : new.mine ≡ old.mine
   pub drawn : DrawsNone old new
 
--- what was found of the conflict's cell: the one load of the clock of this call found the place, and the last look of its run the word, which
--- shows the lock held, a version above the place, or another word than the read before. The half of the word is 0 or the number of a Done
--- entry that writes this very cell. Where the run keeps its reads, the word before is the one that its newest read of the cell found, and
--- there is none exactly where no read of the cell had ended; where it keeps none, none is told
+-- what was found of the conflict's cell: the one load of the clock of this call found the place, and the last look of its run the word,
+-- which shows the lock held, a version above the place, or another word than the read before. The half of the word is 0 or the number of a
+-- Done entry that writes this very cell. Where the run keeps its reads, the word before is the one that its newest read of the cell found,
+-- and there is none exactly where no read of the cell had ended; where it keeps none, none is told
 pub record Meets (keeps : Bool) (old new : Pass) (met : Met) : Type 0 where
   pub placed : IsNotBefore old met.place
   pub run : new.clocks ≡ met.place ∷ old.clocks
@@ -105,16 +105,16 @@ Gains cs old new outcome.NoMemory = AddsNothing old new
 abbrev pub LoadsOnce : Pass → Pass → ℕ → Type 0
 LoadsOnce old new place = new.clocks ≡ place ∷ old.clocks
 
--- the last look of the run, if it made one, met no conflict: the word that it found shows the lock free, and a version up to the run's place, and
--- is the one under which the run's newest read of the cell ended
+-- the last look of the run, if it made one, met no conflict: the word that it found shows the lock free, and a version up to the run's
+-- place, and is the one under which the run's newest read of the cell ended
 pub record MetNone (old new : Pass) : Type 0 where
   pub place : ℕ
   pub placed : IsNotBefore old place
   pub run : LoadsOnce old new place
   pub found : FindsNone place new.looked new.found
 
--- the call was one run, at the place that is told, but where it had too many commands; and a full store or want of memory is told only where
--- that run met no conflict
+-- the call was one run, at the place that is told, but where it had too many commands; and a full store or want of memory is told only
+-- where that run met no conflict
 abbrev pub IsOneRun : Pass → Pass → Outcome → Type 0
 IsOneRun old new (outcome.Read place replies) = LoadsOnce old new place
 IsOneRun old new (outcome.Refused place refused) = LoadsOnce old new place
@@ -151,8 +151,8 @@ pub record Attempts (cs : List Command) (old new : Member) (o : Outcome) : Type 
 abbrev pub tried : Pass → List ℕ → List ℕ → Pass
 tried k numbers runs = record k { drawn = k.drawn ++ numbers; clocks = runs ++ k.clocks }
 
--- a conflict that a session met on the way to what it is now: it has its cause; the half of its word is 0 or the number of a Done entry that
--- writes its cell; and the cell is one that the transaction may read, over the library at the conflict's place
+-- a conflict that a session met on the way to what it is now: it has its cause; the half of its word is 0 or the number of a Done entry
+-- that writes its cell; and the cell is one that the transaction may read, over the library at the conflict's place
 pub record WasMet (cs : List Command) (now : Member) (met : Met) : Type 0 where
   pub cause : HasCause met.place met.word ⊎ ((w : ℕ) × (met.before ≡ Some w) × (w ≢ met.word))
   pub written : WasWritten now.known.seen.history met.cell (met.word / 2)

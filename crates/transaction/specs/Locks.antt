@@ -1,8 +1,8 @@
 -- Which cells the runs of a session lock: those that the transaction may write, whatever comes of it.
 --
--- A run locks what it is to write, cell by cell, at its end (TL2, section 2.2, step 3). So it may have locked cells where it committed, and where
--- it met a conflict then: at a lock that it didn't get, or in its check. What it is to write it has worked out from the library at its own place,
--- which is the one before its number only where it committed. So it is at the place that its footprint is told here.
+-- A run locks what it is to write, cell by cell, at its end (TL2, section 2.2, step 3). So it may have locked cells where it committed, and
+-- where it met a conflict then: at a lock that it didn't get, or in its check. What it is to write it has worked out from the library at
+-- its own place, which is the one before its number only where it committed. So it is at the place that its footprint is told here.
 use Rattle.std.specs.Prelude.{◌≡◌, ℕ, List, ◌++◌}
 use Rattle.library.specs.declared.command.Command.{Command}
 use Rattle.ranges.specs.Ranges.{Has}
@@ -19,8 +19,8 @@ abbrev pub MayLock : Given → List ℕ → Seen Note → List Command → List 
 MayLock g base seen cs places cells =
     (cell : ℕ) → Has cell cells → (place : ℕ) × Has place places × MayWriteAfter g base seen place cs cell
 
--- what the pass has locked between the two, whatever came of it: each cell is one that the transaction may write, over the library at the place of
--- one of its runs. So of what was seen then, and of each later history
+-- what the pass has locked between the two, whatever came of it: each cell is one that the transaction may write, over the library at the
+-- place of one of its runs. So of what was seen then, and of each later history
 pub record LocksWithin (g : Given) (cs : List Command) (old new : Pass) : Type 0 where
   -- the places of the runs, which their loads of the clock found, the newest first
   pub places : List ℕ

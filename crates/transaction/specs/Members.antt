@@ -65,8 +65,8 @@ pub record Stands (m : Member) : Type 0 where
   pub agree : AllAgree m.given (history_of m.known.seen) m.known.mine
   pub recorded : AreRecorded m
 
--- the session later: of the same library, with the same name, having seen more. Where a staging of it found the store full, that is told from
--- then on
+-- the session later: of the same library, with the same name, having seen more. Where a staging of it found the store full, that is told
+-- from then on
 pub record IsLater (old new : Member) : Type 0 where
   pub given : new.given ≡ old.given
   pub home : new.known.home ≡ old.known.home

@@ -51,8 +51,8 @@ pub record IsOpened (db : Contents) (shape : Shape) (home : Home) (members : Lis
   -- as many as the shape says, each with a name of its own
   pub names : map (λ m. m.known.name) members ≡ down shape.sessions shape.sessions
 
--- the first of these that is so: no such shape, more assertions than slots, a proof with a fault, bodies that exceed the room. Want of memory
--- may be answered of a shape whose assertions are no more than the slots
+-- the first of these that is so: no such shape, more assertions than slots, a proof with a fault, bodies that exceed the room. Want of
+-- memory may be answered of a shape whose assertions are no more than the slots
 abbrev pub Refuses : Contents → Shape → OpenError → Type 0
 Refuses db shape BadShape = IsShape shape → ⊥
 Refuses db shape TooMany = IsShape shape × (shape.slots < length db.assertions)

@@ -36,8 +36,8 @@ pub(crate) struct Tried {
 impl Session {
     /// Tries a transaction once, whose commands are within the limits of the prelude. It waits for nobody.
     ///
-    /// A transaction with an edit that is not refused is `Committed`; one without is `Read`, and keeps no read set. What it reads is the library
-    /// after one front of the history, which is no older than what this session had seen or been told.
+    /// A transaction with an edit that is not refused is `Committed`; one without is `Read`, and keeps no read set. What it reads is the
+    /// library after one front of the history, which is no older than what this session had seen or been told.
     ///
     /// Every other outcome changes nothing, and the session can be used again; only words of the store that were staged stay used: at most
     /// those of its bodies, each once, and none for a body that was staged since the last Committed, unless memory ran out for the note of

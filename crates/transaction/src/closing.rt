@@ -26,9 +26,9 @@ pub struct ClosedLibrary {
 }
 
 impl Library {
-    /// Ends the library, and the sessions of it that are handed in, none too. What each of them has seen grows into the one history that the
-    /// words show. A lock that is held is that of a session that is not handed in, in the middle of a run: so where all sessions are handed in,
-    /// none is; and then the clock is how many numbers they drew.
+    /// Ends the library, and the sessions of it that are handed in, none too. What each of them has seen grows into the one history that
+    /// the words show. A lock that is held is that of a session that is not handed in, in the middle of a run: so where all sessions are
+    /// handed in, none is; and then the clock is how many numbers they drew.
     ///
     /// # Errors
     ///

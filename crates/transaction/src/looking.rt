@@ -26,8 +26,8 @@ use std::snapshot::Snapshot;
 use tlwords::Mode;
 
 impl Session {
-    /// Looks once at the whole library: its assertions after the first `place` entries of the history, which are no fewer than this session had
-    /// seen or been told. It waits for nobody, keeps no read set, and draws no number.
+    /// Looks once at the whole library: its assertions after the first `place` entries of the history, which are no fewer than this session
+    /// had seen or been told. It waits for nobody, keeps no read set, and draws no number.
     pub fn snapshot(&mut self, alloc: Global, library: &Library) -> Look
         requires { IsOf library.now self.old }
         ensures { Looks self.old self.new result }

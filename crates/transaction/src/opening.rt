@@ -35,14 +35,14 @@ impl Shape {
 }
 
 impl Library {
-    /// Opens the library of a database, with as many sessions as the shape says. Its proofs are checked first, by as many threads as there are
-    /// processors. The sessions' look-ups draw their hashes from the keys.
+    /// Opens the library of a database, with as many sessions as the shape says. Its proofs are checked first, by as many threads as there
+    /// are processors. The sessions' look-ups draw their hashes from the keys.
     ///
     /// # Errors
     ///
-    /// In this order: `BadShape`, exactly for a shape outside the limits; `TooMany`, exactly for more assertions than slots; `ProofFails` with the
-    /// first assertion whose proof has a fault, and that fault; `StoreFull`, exactly where the bodies of the assertions have more words than
-    /// the room; want of memory.
+    /// In this order: `BadShape`, exactly for a shape outside the limits; `TooMany`, exactly for more assertions than slots; `ProofFails`
+    /// with the first assertion whose proof has a fault, and that fault; `StoreFull`, exactly where the bodies of the assertions have more
+    /// words than the room; want of memory.
     pub fn open<R: Threads + Sync>(
         rt: &R,
         alloc: Global,

@@ -15,9 +15,9 @@ pub struct Conflict {
     /// The lock word that was found there: it is odd where the cell was locked, and half of it is the number of the last transaction that
     /// wrote the cell, or 0.
     pub word: u64,
-    /// The lock word that this try's newest read of the cell had found. None exactly where no read of the cell had ended, and in each try that
-    /// keeps no reads: one without an edit, and a look. Where `word` is even, and half of it at most `place`, there is one, and it is another
-    /// than `word`.
+    /// The lock word that this try's newest read of the cell had found. None exactly where no read of the cell had ended, and in each try
+    /// that keeps no reads: one without an edit, and a look. Where `word` is even, and half of it at most `place`, there is one, and it is
+    /// another than `word`.
     pub before: Option<u64>,
 }
 

@@ -33,9 +33,21 @@ impl Model for Library {
 
     ghost Value = { Home };
 
-    ghost view = { λ l. record { given = l.given; words = home_of l.words; store = l.words.table.shared.key.store.value.items; sessions = l.words.table.shared.key.sessions } };
+    ghost view = { λ l. record {
+      given = l.given;
+      words = home_of l.words;
+      store = l.words.table.shared.key.store.value.items;
+      sessions =
+          l.words.table.shared.key.sessions;
+    } };
 
-    ghost invariant = { λ l. IsLibraryOf l.prelude (record { given = l.given; words = home_of l.words; store = l.words.table.shared.key.store.value.items; sessions = l.words.table.shared.key.sessions }) };
+    ghost invariant = { λ l. IsLibraryOf l.prelude (record {
+      given = l.given;
+      words = home_of l.words;
+      store =
+          l.words.table.shared.key.store.value.items;
+      sessions = l.words.table.shared.key.sessions;
+    }) };
 }
 
 impl Library {
@@ -48,7 +60,13 @@ impl Library {
 
     /// Its prelude, what was given at its opening, and its words.
     pub(crate) fn into_parts(self) -> (Prelude, Given, Words<LibraryLaw>)
-        ensures is { record { given = result.1; words = home_of result.2; store = result.2.table.shared.key.store.value.items; sessions = result.2.table.shared.key.sessions } ≡ self }
+        ensures is { record {
+          given = result.1;
+          words = home_of result.2;
+          store = result.2.table.shared.key.store.value.items;
+          sessions =
+              result.2.table.shared.key.sessions;
+        } ≡ self }
         ensures stands { IsLibraryOf result.0 self }
     {
         let Library {

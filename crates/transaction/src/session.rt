@@ -45,7 +45,8 @@ impl Model for Session {
 
     ghost view = { λ s. record { given = s.given.value; known = known_in s.kit; records = s.records.items; staged = staged_in s.kit } };
 
-    ghost invariant = { λ s. (is_some s.kit ≡ true) × IsMember (record { given = s.given.value; known = known_in s.kit; records = s.records.items; staged = staged_in s.kit }) };
+    ghost invariant = { λ s. (is_some s.kit ≡ true)
+        × IsMember (record { given = s.given.value; known = known_in s.kit; records = s.records.items; staged = staged_in s.kit }) };
 }
 
 impl Session {

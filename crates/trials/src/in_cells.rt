@@ -1,5 +1,5 @@
-//! A library in plain cells, and the transactions on it, one after another on one thread: for tests that it answers as the one-thread editor
-//! does, and for measuring it.
+//! A library in plain cells, and the transactions on it, one after another on one thread: for tests that it answers as the one-thread
+//! editor does, and for measuring it.
 
 ghost use Rattle.std.specs.Prelude.{◌≡◌, All, IsTrue};
 ghost use Rattle.library.specs.Fitting.{CommandFits};

@@ -21,7 +21,8 @@ all_later ranges more ps within all = All-weaker (IsThere ranges) (IsThere more)
 
 -- ---- what is written was kept
 
-written_by : (slots : List Slot) (n c v : ℕ) (ps : Pairs) → (Has (c, v) ps → value_kept slots c ≡ Some v) → (o : Option ℕ) → value_kept slots n ≡ o
+written_by : (slots : List Slot) (n c v : ℕ) (ps : Pairs) → (Has (c, v) ps → value_kept slots c ≡ Some v) → (o : Option ℕ)
+    → value_kept slots n ≡ o
     → Has (c, v) (with_write n o ps) → value_kept slots c ≡ Some v
 written_by slots n c v ps more None e h = more h
 written_by slots n c v ps more (Some w) e (inl p) =

@@ -99,7 +99,8 @@ module _ {L : Type 0} (words : Words L Bool ℕ) where
       }
 
   -- the same cells, and the same ranges, elsewhere
-  pub runs_same_read : (p : Playing) (read : Vec ℕ Global) → read.items ≡ p.read.items → RunsAt words p → RunsAt words (record p { read = read })
+  pub runs_same_read : (p : Playing) (read : Vec ℕ Global) → read.items ≡ p.read.items → RunsAt words p
+      → RunsAt words (record p { read = read })
   runs_same_read p read same old =
       record {
         home = old.home;
@@ -216,7 +217,8 @@ written_kept_at slots after ranges cell value kept named all c v (inr other) e =
 
 module _ {L : Type 0} (words : Words L Bool ℕ) where
   -- a value was kept for a cell
-  pub runs_written : (p : Playing) (r : Going Bool ℕ) (cell value : ℕ) → r ≡ record p.run { slots = r.slots } → HasKept p.run.slots r.slots cell value
+  pub runs_written : (p : Playing) (r : Going Bool ℕ) (cell value : ℕ) → r ≡ record p.run { slots = r.slots }
+      → HasKept p.run.slots r.slots cell value
       → (is_named words ≡ true → Names p.run.known.seen.ranges value) → RunsAt words p → RunsAt words (record p { run = r })
   runs_written p r cell value same kept named old =
       let ranges : r.known.seen.ranges ≡ p.run.known.seen.ranges = ap (λ (x : Going Bool ℕ). x.known.seen.ranges) same in
@@ -238,7 +240,8 @@ later_forgotten g r same forgot =
       within = λ x has. subst (λ (y : Going Bool ℕ). Has x y.known.seen.ranges) (sym same) has;
       read = λ c is. ap (λ (o : Option ℕ). is_some o) (forgot.2 c) ∙ is;
       kept = λ c v e. absurd (let f = forgot.1 c in cc);
-      store = λ x set one. subst (λ (k : Known Bool ℕ). AreOfOneStore k.home.room k.seen.ranges) (sym (ap (λ (y : Going Bool ℕ). y.known) same)) one;
+      store = λ x set one. subst (λ (k : Known Bool ℕ). AreOfOneStore k.home.room k.seen.ranges)
+          (sym (ap (λ (y : Going Bool ℕ). y.known) same)) one;
     }
 
 -- ---- the store
@@ -268,7 +271,8 @@ module _ {L : Type 0} (words : Words L Bool ℕ) where
 
   -- its pass is at rest again
   pub rests_later : (p : Playing) (r : Known Bool ℕ) (ranges : Vec Place Global) → r.home ≡ p.run.known.home
-      → Within p.run.known.seen.ranges r.seen.ranges → ranges ≡ p.ranges → RunsAt words p → RestsAt words (record { pass = r; ranges = ranges })
+      → Within p.run.known.seen.ranges r.seen.ranges → ranges ≡ p.ranges → RunsAt words p
+      → RestsAt words (record { pass = r; ranges = ranges })
   rests_later p r ranges home within same old =
       record {
         opening = home ∙ old.home;
@@ -280,7 +284,8 @@ module _ {L : Type 0} (words : Words L Bool ℕ) where
 
 module _ {L : Type 0} (words : Words L Bool ℕ) where
   -- a pass at rest knows more, and of the same ranges
-  pub rests_known : (r : Resting) (k : Known Bool ℕ) (ranges : Vec Place Global) → k.home ≡ r.pass.home → Within r.pass.seen.ranges k.seen.ranges
+  pub rests_known : (r : Resting) (k : Known Bool ℕ) (ranges : Vec Place Global) → k.home ≡ r.pass.home
+      → Within r.pass.seen.ranges k.seen.ranges
       → ranges.items ≡ r.ranges.items → RestsAt words r → RestsAt words (record { pass = k; ranges = ranges })
   rests_known r k ranges home within same old =
       record {
@@ -292,7 +297,8 @@ module _ {L : Type 0} (words : Words L Bool ℕ) where
   -- it has learnt of another one, and of its ranges
   pub rests_taught : (r other : Resting) (k : Known Bool ℕ) (ranges : Vec Place Global) → k.home ≡ r.pass.home
       → Within r.pass.seen.ranges k.seen.ranges
-      → Within other.pass.seen.ranges k.seen.ranges → ranges.items ≡ r.ranges.items ++ other.ranges.items → RestsAt words r → RestsAt words other
+      → Within other.pass.seen.ranges k.seen.ranges → ranges.items ≡ r.ranges.items ++ other.ranges.items → RestsAt words r
+      → RestsAt words other
       → RestsAt words (record { pass = k; ranges = ranges })
   rests_taught r other k ranges home within told same old told_old =
       record {

@@ -29,7 +29,8 @@ module _ {L : Type 0} (words : Words L Bool ℕ) where
     pub opening : AreOfOneOpening words r.pass
     pub there : All (IsThere r.pass.seen.ranges) r.ranges.items
 
-  -- a run of these words, the cells that it has read, and ranges that its pass has seen. Where cells name ranges, so does each value that it keeps
+  -- a run of these words, the cells that it has read, and ranges that its pass has seen. Where cells name ranges, so does each value that
+  -- it keeps
   pub record RunsAt (p : Playing) : Type 0 where
     pub home : p.run.known.home ≡ home_of words
     pub mode : p.run.mode ≡ p.mode

@@ -49,8 +49,8 @@ fn put_words(out: &mut Written, words: &[u64]) {
     }
 }
 
-/// The clock, the tail of the store, lock word and value of each cell, and the store: its words up to the tail, and 0 for each behind, which
-/// was never written.
+/// The clock, the tail of the store, lock word and value of each cell, and the store: its words up to the tail, and 0 for each behind,
+/// which was never written.
 pub fn put_closed(out: &mut Written, closed: &ClosedWords) {
     let (clock, tail) = (closed.clock, closed.tail);
     out.show(format_args!("clock {clock} tail {tail} cells"));

@@ -1,8 +1,8 @@
 //! The table of command lines: what the program does for each, on the files of `data`, and on those that rows write.
 //!
-//! Each line of the table is a row, and a line `| ..` a line of the text of the row before it: a line feed stands between each two, and none behind
-//! the last. A line `# ..` is a comment: it is not printed. Where a row is there for a wrong body that gives up by size, or takes memory by size, the
-//! comment in front of it names that body.
+//! Each line of the table is a row, and a line `| ..` a line of the text of the row before it: a line feed stands between each two, and
+//! none behind the last. A line `# ..` is a comment: it is not printed. Where a row is there for a wrong body that gives up by size, or
+//! takes memory by size, the comment in front of it names that body.
 //!
 //! | The row | What it does |
 //! |---|---|
@@ -17,9 +17,9 @@
 //! | `file PATH`, `first PATH`, `library PATH` | prints what a file has; its first line; what stands behind its line `library` |
 //! | `same PATH PATH` | whether behind their lines `library` two files have the same |
 //!
-//! The files `rN.*` are those of row N, as `docs/DEFINITIONS.md` counts the rows that its rules were read against; the files `sN.mm` are sources in the
-//! whole language. What is to be printed was worked out by hand from the README's tables, and stands in `stdout`, of clap's texts the first line.
-//! The gate compares the two.
+//! The files `rN.*` are those of row N, as `docs/DEFINITIONS.md` counts the rows that its rules were read against; the files `sN.mm` are
+//! sources in the whole language. What is to be printed was worked out by hand from the README's tables, and stands in `stdout`, of clap's
+//! texts the first line. The gate compares the two.
 
 pub(crate) mod stage;
 

@@ -1,11 +1,11 @@
 //! workbench: the tables that the gate compares, and what is measured. It is one program, since a program is built twice whatever it does.
 //!
-//! Without words it answers the tables of its standard input. A line `%% NAME` begins a table, which goes up to the next such line: `sessions`, `words`
-//! (runs over words that meet), `commands` (command lines, on the files of `data` and on those that its rows write), `measures` (measurements, for what
-//! they print besides their times). The crates `trials`, `wordrows` and the module `lines` say what stands in each. The tables `calls on cells` and
-//! `calls on sessions` name functions of `calls`, each of which makes calls that no row makes: what is printed is the name where all is answered as is
-//! wanted. The table `threads` comes last, and has no lines: whether a large database is checked on more threads than one. What is printed was worked
-//! out by hand, and stands in `stdout`.
+//! Without words it answers the tables of its standard input. A line `%% NAME` begins a table, which goes up to the next such line:
+//! `sessions`, `words` (runs over words that meet), `commands` (command lines, on the files of `data` and on those that its rows write),
+//! `measures` (measurements, for what they print besides their times). The crates `trials`, `wordrows` and the module `lines` say what
+//! stands in each. The tables `calls on cells` and `calls on sessions` name functions of `calls`, each of which makes calls that no row
+//! makes: what is printed is the name where all is answered as is wanted. The table `threads` comes last, and has no lines: whether a large
+//! database is checked on more threads than one. What is printed was worked out by hand, and stands in `stdout`.
 //!
 //! With words it measures: `workbench cells|check|words|sessions|meets|all WORD..`, for the programs of `benches/`.
 #![tactic(auto)]
@@ -31,7 +31,8 @@ fn main(rt: HostRuntime) -> ExitCode {
     let mut is_done = read_lines(&rt, &mut lines).is_ok();
     let mut rest = lines.as_slice();
     let mut name = "";
-    // Each step has a line at least. What starts threads by a runtime of its own, or shows one to a thread, stands here: the language has that of no other function.
+    // Each step has a line at least. What starts threads by a runtime of its own, or shows one to a thread, stands here: the language has
+    // that of no other function.
     for _ in 0..lines.len() {
         let Some((step, behind)) = next_step(name, rest) else {
             break;

@@ -27,8 +27,8 @@ fn put_part(out: &mut Vec<u8>, part: &[u8], number: usize) -> Result<(), AllocEr
     Ok(())
 }
 
-/// The text of a recipe, in which `<COUNT PART>` stands for so many times the part, with the numbers from 0 on in place of each `#`, and all
-/// else for itself.
+/// The text of a recipe, in which `<COUNT PART>` stands for so many times the part, with the numbers from 0 on in place of each `#`, and
+/// all else for itself.
 pub(crate) fn made(alloc: Global, recipe: &[u8]) -> Result<Vec<u8>, AllocError> {
     let mut out = Vec::new(alloc);
     let mut rest = recipe;

@@ -43,7 +43,8 @@ pub(crate) fn read_lines(
     Ok(())
 }
 
-/// What is done at a time: a table with all its lines, or a row of the table of command lines with the lines of its text. That table's first step has no line.
+/// What is done at a time: a table with all its lines, or a row of the table of command lines with the lines of its text. That table's
+/// first step has no line.
 #[derive(Clone, Copy)]
 pub(crate) struct Step<'l> {
     /// The name of the table.

@@ -104,7 +104,8 @@ module _ (last : Member) where
   pub submitted_draws : (cs : List Command) (old new : Member) (o : Outcome) → Submits cs old new o → Goes new last → Stands last
       → Draws last old new (numbers_of (o ∷ []))
   submitted_draws cs old new o submits goes stands =
-      let own = outcome_filtered last last.given cs o (submitted_agrees cs old new o submits last goes last.given (history_of last.known.seen) stands.agree) in
+      let own = outcome_filtered last last.given cs o
+      (submitted_agrees cs old new o submits last goes last.given (history_of last.known.seen) stands.agree) in
       let none = void_filtered last submits.numbers (voids_grow new.known last.known submits.numbers goes.later.grows submits.void) in
       record {
         numbers = submits.numbers ++ numbers_of (o ∷ []);

@@ -166,7 +166,8 @@ gained_fits cs old new outcome.NoMemory g = tt
 
 -- ---- why it was given up stays told
 
-still_full : (old new : Pass) → FullStays old new → (found : Option (ℕ × ℕ)) → old.full ≡ found → is_some found ≡ true → is_some new.full ≡ true
+still_full : (old new : Pass) → FullStays old new → (found : Option (ℕ × ℕ)) → old.full ≡ found → is_some found ≡ true
+    → is_some new.full ≡ true
 still_full old new stays None is some = absurd cc
 still_full old new stays (Some found) is some = ap is_some (stays found is)
 

@@ -24,7 +24,8 @@ promised_more scripts (d ∷ done) (q ∷ ps) m c p were s sm sc =
     (were.0, were.1, were.2, promised_more scripts done ps m c p were.3 s sm sc)
 
 -- one more shift, behind the others
-pub shifts_more : (scripts : List (List (List Command))) (done : List (Member × Claimant)) (ss : List Shift) (m : Member) (c : Claimant) (s : Shift)
+pub shifts_more : (scripts : List (List (List Command))) (done : List (Member × Claimant)) (ss : List Shift) (m : Member) (c : Claimant)
+    (s : Shift)
     → AreShifts scripts (map (λ d. d.0) done) (map (λ d. d.1) done) ss → IsShift scripts m c s.session s.claimant s.rows.items
     → AreShifts scripts (map (λ d. d.0) (done ++ (m, c) ∷ [])) (map (λ d. d.1) (done ++ (m, c) ∷ [])) (ss ++ s ∷ [])
 shifts_more scripts [] [] m c s were is = (is, tt)
@@ -69,7 +70,8 @@ walked_all f xs rest all is long =
     sym (append-nil (map f xs)) ∙ ap (λ l. map f xs ++ l) (sym none) ∙ is
 
 -- the next one is as all of them are
-pub walked_next : {B : Type 0} (P : B → Type 0) (front rest more all : List B) (y : B) → front ++ rest ≡ all → rest ≡ y ∷ more → All P all → P y
+pub walked_next : {B : Type 0} (P : B → Type 0) (front rest more all : List B) (y : B) → front ++ rest ≡ all → rest ≡ y ∷ more → All P all
+    → P y
 walked_next P front rest more all y is step each =
     let behind = All-drop P (length front) (front ++ rest) (subst (All P) (sym is) each) in
     subst (All P) (drop-append_seam front rest ∙ step) behind 0 y (omega arith)

@@ -25,8 +25,8 @@ use Rattle.workers.specs.declared.error.WorkError.TheVariants.{NoMemory, NoThrea
 
 -- ---- an outcome
 
--- what it says is so of a history from an opening library: the transaction is the entry with its number, or it read, or was refused, over the
--- library at its place. None is a conflict
+-- what it says is so of a history from an opening library: the transaction is the entry with its number, or it read, or was refused, over
+-- the library at its place. None is a conflict
 abbrev pub OutcomeAgrees : Setting → List Ranked → List Entry → List Command → Outcome → Type 0
 OutcomeAgrees s lib0 h cs (outcome.Committed number replies) = Agrees s lib0 h cs (committed number replies)
 OutcomeAgrees s lib0 h cs (outcome.Read place replies) = Agrees s lib0 h cs (read place replies)
@@ -42,8 +42,8 @@ OutcomeFits cs outcome.StoreFull = has_staging cs ≡ true
 OutcomeFits cs outcome.TooManyCommands = has_too_many cs ≡ true
 OutcomeFits cs _ = Unit {0}
 
--- why it was given up is told by the session, which is this at the end: that no number is left, by the 2^40 numbers that it drew, and it draws no
--- more; that the store is full, by what a staging of it found, which was refused
+-- why it was given up is told by the session, which is this at the end: that no number is left, by the 2^40 numbers that it drew, and it
+-- draws no more; that the store is full, by what a staging of it found, which was refused
 abbrev pub ToldBy : Member → Outcome → Type 0
 ToldBy m outcome.NumbersUsed = 2 ^ 40 ≤ length m.known.drawn
 ToldBy m outcome.StoreFull = is_some m.known.full ≡ true
@@ -86,8 +86,8 @@ ScriptAgrees s lib0 h place (cs ∷ rest) (o ∷ os) =
     OutcomeAgrees s lib0 h cs o × OutcomeFits cs o × (has_too_many cs ≡ true → o ≡ outcome.TooManyCommands) × StandsFrom place o
     × ScriptAgrees s lib0 h (place_behind place o) rest os
 
--- the session made a run for each of these outcomes, but where nothing was looked at: it loaded the clock once for each run, and these loads
--- found the places, the newest first. And each of its calls is told as an answer, so that none was given up
+-- the session made a run for each of these outcomes, but where nothing was looked at: it loaded the clock once for each run, and these
+-- loads found the places, the newest first. And each of its calls is told as an answer, so that none was given up
 pub record MakesRuns (old new : Member) (outcomes : List Outcome) : Type 0 where
   pub places : List ℕ
   pub loaded : new.known.clocks ≡ places ++ old.known.clocks
@@ -96,8 +96,9 @@ pub record MakesRuns (old new : Member) (outcomes : List Outcome) : Type 0 where
   pub made : new.known.mine ≡ old.known.mine ++ calls
   pub answers : length calls ≡ count_by is_answer outcomes
 
--- the session ran it, behind all that it had seen: as each history has it with which the session's calls agree. They agree with the one that it
--- has seen by now, and with the whole one at the library's end. What was given up, the session tells why; and it made its runs for them
+-- the session ran it, behind all that it had seen: as each history has it with which the session's calls agree. They agree with the one
+-- that it has seen by now, and with the whole one at the library's end. What was given up, the session tells why; and it made its runs for
+-- them
 pub record IsRunBy (g : Given) (old new : Member) (script : List (List Command)) (outcomes : List Outcome) : Type 0 where
   pub given : new.given ≡ g
   pub agrees : (h : List Entry) → AllAgree g h new.known.mine
@@ -111,8 +112,8 @@ pub record IsRunBy (g : Given) (old new : Member) (script : List (List Command))
 abbrev pub all_of : {A : Type 0} → List (List A) → List ℕ → List A
 all_of rows share = flat_map (λ n. slice_index_or rows n []) share
 
--- the session ran the scripts with these indexes, in their order, one after another: as it runs one script of all their transactions. So each is
--- true of the history, and what is told of one after another of them never goes back
+-- the session ran the scripts with these indexes, in their order, one after another: as it runs one script of all their transactions. So
+-- each is true of the history, and what is told of one after another of them never goes back
 pub record IsShareOf (g : Given) (scripts : List (List (List Command))) (rows : List (List Outcome)) (old new : Member) (share : List ℕ) :
     Type 0 where
   pub rising : IsStrictlyIncreasing share
@@ -167,9 +168,10 @@ IsHandedBack old new = IsLater old new × (numbers : List ℕ) × (new.known.dra
 abbrev pub HasOutcomes : List (List Command) → List Outcome → Type 0
 HasOutcomes script outcomes = length outcomes ≡ length script
 
--- each script has its outcomes; the sessions are those handed in, in this order, and each ran its share of the scripts, each script by one; and
--- the numbers newly drawn by them that are done are those of the committed transactions, each of one
-pub record Works (g : Given) (before : List Member) (scripts : List (List (List Command))) (outcomes : List (List Outcome)) (after : List Member)
+-- each script has its outcomes; the sessions are those handed in, in this order, and each ran its share of the scripts, each script by one;
+-- and the numbers newly drawn by them that are done are those of the committed transactions, each of one
+pub record Works (g : Given) (before : List Member) (scripts : List (List (List Command))) (outcomes : List (List Outcome))
+    (after : List Member)
     : Type 0 where
   pub each : AllZip HasOutcomes scripts outcomes
   pub back : AllZip IsHandedBack before after
@@ -178,7 +180,8 @@ pub record Works (g : Given) (before : List Member) (scripts : List (List (List 
   pub run : AreSharesOf g scripts outcomes before after shares
   pub numbers : IsPermutation (flat_map numbers_of outcomes) (all_newly_done before after)
 
--- why scripts aren't run to their end: memory ran out, or a thread can't be had, which is asked for only where there are two sessions or more
+-- why scripts aren't run to their end: memory ran out, or a thread can't be had, which is asked for only where there are two sessions or
+-- more
 abbrev pub IsLack : List Member → WorkError → Type 0
 IsLack sessions NoThread = 2 ≤ length sessions
 IsLack sessions NoMemory = Unit {0}

@@ -28,8 +28,8 @@ pub struct Worked {
     pub sessions: Vec<Session>,
 }
 
-/// Runs scripts on a library, with a worker for each of these sessions of it, of which there is at least one. The commands of the scripts are
-/// within the limits of its prelude. Two workers or more are each on a thread; one alone is on the calling thread, and none is started.
+/// Runs scripts on a library, with a worker for each of these sessions of it, of which there is at least one. The commands of the scripts
+/// are within the limits of its prelude. Two workers or more are each on a thread; one alone is on the calling thread, and none is started.
 ///
 /// A worker claims the next script that nobody has claimed, tells the gate, submits the script's transactions in order, whatever becomes of
 /// them, tells the gate of each, and at the end again, and goes on until all scripts are claimed. The call returns when every worker has
@@ -37,7 +37,8 @@ pub struct Worked {
 ///
 /// # Errors
 ///
-/// `NoThread` where there are two sessions or more and a thread can't be had, and want of memory. The sessions are gone then, and what they committed stays in the library.
+/// `NoThread` where there are two sessions or more and a thread can't be had, and want of memory. The sessions are gone then, and what they
+/// committed stays in the library.
 pub fn run_scripts<R: Threads + Wait + Sync, G: Gate + Sync>(
     rt: &R,
     alloc: Global,
@@ -49,7 +50,8 @@ pub fn run_scripts<R: Threads + Wait + Sync, G: Gate + Sync>(
     requires some { sessions.items ≢ [] }
     requires own { All (IsOf library.now) sessions.items }
     requires fit { All (All (All (CommandFits (setting_of library.now.given).prelude))) scripts.now }
-    ensures worked { IfOk result (λ worked. Works library.now.given sessions.items scripts.now (lists_of worked.outcomes.items) worked.sessions.items) }
+    ensures worked { IfOk result (λ worked. Works library.now.given sessions.items scripts.now
+        (lists_of worked.outcomes.items) worked.sessions.items) }
     ensures lack { IfErr result (IsLack sessions.items) }
 {
     // For the proof: the words were opened with what the library was given.

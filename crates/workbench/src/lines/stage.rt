@@ -41,8 +41,8 @@ pub struct Stage<'r, R> {
 }
 
 impl<'r, R> Stage<'r, R> {
-    /// The words are those of a row, between single spaces: the first, which says how the streams are, stands for the program's name. A row whose output
-    /// is kept has the path in front of them.
+    /// The words are those of a row, between single spaces: the first, which says how the streams are, stands for the program's name. A row
+    /// whose output is kept has the path in front of them.
     pub fn new(rt: &'r R, mode: Mode, row: &'r str) -> Self {
         let words = match mode {
             Mode::Kept => row.split_once(' ').unwrap_or((row, "")).1,

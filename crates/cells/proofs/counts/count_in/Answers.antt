@@ -45,7 +45,8 @@ loop-slot-preserved g c =
       changes = λ st m d.
           let m1 = matches_back _ _ st wrote m in
           let m0 = matches_back _ _ st read.looks.onward m1 in
-          let made = count_made one_more now _ new st _ _ _ _ x read.looks c.write.ensures c.citers_cell-in-loop-slot.ensures c.saturating_add.ensures
+          let made = count_made one_more now _ new st _ _ _ _ x read.looks c.write.ensures c.citers_cell-in-loop-slot.ensures
+          c.saturating_add.ensures
           (read.value st m1) c.citers_cell.ensures in
           subst (Changes one_more (take (i + 1) cited) (after old st)) (sym made)
           (changes_more one_more cited i x (after old st) (after now st) d (omega arith) refl (c.loop-slot.invariant.changes st m0 d));

@@ -43,7 +43,8 @@ loop-slot-preserved g c = elim c.if-slot-slots.branch [
             let made = count_made one_less now _ new st _ _ _ _ x read.looks w.write.ensures w.citers_cell-then-slot-slots.ensures
             w.saturating_sub.ensures (read.value st m1) w.citers_cell.ensures in
             subst (Changes one_less (take (i + 1) cited) (after old st)) (sym made)
-            (changes_more one_less cited i x (after old st) (after now st) d (omega arith) refl (c.loop-slot.invariant.changes st m0 within d)));
+            (changes_more one_less cited i x (after old st) (after now st) d (omega arith) refl
+            (c.loop-slot.invariant.changes st m0 within d)));
       })
   | else-slot-slots w ↦
       record {

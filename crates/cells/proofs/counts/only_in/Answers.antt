@@ -31,5 +31,6 @@ pub returns : goal.returns
 returns c =
     let slots = c.args.slots.now in
     let others = c.args.others.now in
-    let made = c.loop-slot.invariant ∙ ap (filter (is_outside c.args.others.now)) (take_all c.loop-slot.slot-index c.args.slots.now (omega arith)) in
+    let made = c.loop-slot.invariant ∙ ap (filter (is_outside c.args.others.now))
+    (take_all c.loop-slot.slot-index c.args.slots.now (omega arith)) in
     subst (AreOnlyIn c.args.slots.now c.args.others.now) (sym made) (are_only_in slots others c.requires.slots)

@@ -68,10 +68,12 @@ loop-preserved g c =
     let link : (slot < slots) × (c.loop.word ≡ slot + 1) = c.in-Some.ensures in
     let is : slots ≡ between.setting.slots = c.slot_count-slots.ensures.value ∙ sym (same_slots old between looks) in (
       looks_trans _ _ _ looks read.looks,
-      walk_on _ between new slots (IsLabelled label) c.loop.word c.loop.counter slot c.in_ok-word-2.word is c.has_label.ensures.looks read c.loop.invariant.1 link.1
+      walk_on _ between new slots (IsLabelled label) c.loop.word c.loop.counter slot c.in_ok-word-2.word is c.has_label.ensures.looks read
+          c.loop.invariant.1 link.1
           (λ st m named. let yes = (c.in_ok-has_label.ensures.ok st m).1 named in let no = c.if-branch.false in absurd cc),
       leads_next slot c.loop.invariant.2 c.has_label.ensures.looks read c.in-Some.ensures,
-      along_next slot (along_name c.in-Some.slot c.loop.invariant.3 c.loop.invariant.0 c.loop.invariant.2 c.in-Some.ensures c.has_label.ensures.looks.onward
+      along_next slot (along_name c.in-Some.slot c.loop.invariant.3 c.loop.invariant.0 c.loop.invariant.2 c.in-Some.ensures
+          c.has_label.ensures.looks.onward
           c.has_label.ensures.reads) c.loop.invariant.0 c.loop.invariant.2 c.in-Some.ensures
           c.has_label.ensures.looks.onward read.looks.onward c.next_cell.ensures c.read-in-loop.ensures.reads,
     )
@@ -88,7 +90,8 @@ returns-clause-ok g c =
 
 pub returns-in_err-word-clause-reads : goal.returns-in_err-word-clause-reads
 returns-in_err-word-clause-reads g c =
-    subst (λ (n : ℕ). ReadsWhere (IsAlong n (bucket n c.args.label.now)) (g.C.Cells.sight c.args.cells.now) (g.C.Cells.sight c.read.new.self))
+    subst (λ (n : ℕ). ReadsWhere (IsAlong n (bucket n c.args.label.now)) (g.C.Cells.sight c.args.cells.now)
+    (g.C.Cells.sight c.read.new.self))
     c.slot_count-slots.ensures.value
     (where_more (where_same _) c.in_err-word.ensures.err.onward c.read.ensures.reads
     (λ st m k at. inl (at ∙ c.bucket_cell.ensures ∙ ap (λ (n : ℕ). bucket_cell c.slot_count-slots.result n) c.bucket.ensures.value)))
@@ -101,23 +104,27 @@ returns-in_default-clause-reads g c =
 
 pub returns-in_err-has_label-clause-reads : goal.returns-in_err-has_label-clause-reads
 returns-in_err-has_label-clause-reads g c =
-    subst (λ (n : ℕ). ReadsWhere (IsAlong n (bucket n c.args.label.now)) (g.C.Cells.sight c.args.cells.now) (g.C.Cells.sight c.has_label.new.cells))
+    subst (λ (n : ℕ). ReadsWhere (IsAlong n (bucket n c.args.label.now)) (g.C.Cells.sight c.args.cells.now)
+    (g.C.Cells.sight c.has_label.new.cells))
     c.slot_count-slots.ensures.value
     (along_name c.in-Some.slot c.loop.invariant.3 c.loop.invariant.0 c.loop.invariant.2 c.in-Some.ensures c.has_label.ensures.looks.onward
     c.has_label.ensures.reads)
 
 pub returns-then-branch-clause-reads : goal.returns-then-branch-clause-reads
 returns-then-branch-clause-reads g c =
-    subst (λ (n : ℕ). ReadsWhere (IsAlong n (bucket n c.args.label.now)) (g.C.Cells.sight c.args.cells.now) (g.C.Cells.sight c.has_label.new.cells))
+    subst (λ (n : ℕ). ReadsWhere (IsAlong n (bucket n c.args.label.now)) (g.C.Cells.sight c.args.cells.now)
+    (g.C.Cells.sight c.has_label.new.cells))
     c.slot_count-slots.ensures.value
     (along_name c.in-Some.slot c.loop.invariant.3 c.loop.invariant.0 c.loop.invariant.2 c.in-Some.ensures c.has_label.ensures.looks.onward
     c.has_label.ensures.reads)
 
 pub returns-in_err-word-2-clause-reads : goal.returns-in_err-word-2-clause-reads
 returns-in_err-word-2-clause-reads g c =
-    subst (λ (n : ℕ). ReadsWhere (IsAlong n (bucket n c.args.label.now)) (g.C.Cells.sight c.args.cells.now) (g.C.Cells.sight c.read-in-loop.new.self))
+    subst (λ (n : ℕ). ReadsWhere (IsAlong n (bucket n c.args.label.now)) (g.C.Cells.sight c.args.cells.now)
+    (g.C.Cells.sight c.read-in-loop.new.self))
     c.slot_count-slots.ensures.value
-    (along_next c.in-Some.slot (along_name c.in-Some.slot c.loop.invariant.3 c.loop.invariant.0 c.loop.invariant.2 c.in-Some.ensures c.has_label.ensures.looks.onward
+    (along_next c.in-Some.slot (along_name c.in-Some.slot c.loop.invariant.3 c.loop.invariant.0 c.loop.invariant.2 c.in-Some.ensures
+    c.has_label.ensures.looks.onward
     c.has_label.ensures.reads) c.loop.invariant.0 c.loop.invariant.2 c.in-Some.ensures
     c.has_label.ensures.looks.onward c.in_err-word-2.ensures.err.onward c.next_cell.ensures c.read-in-loop.ensures.reads)
 

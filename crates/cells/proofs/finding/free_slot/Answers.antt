@@ -36,7 +36,8 @@ loop-steps-preserved g c =
     let i = (c.args.from + c.loop-steps.steps) % slots in
     let read : Reads (name_cell i) c.in_ok-read.field-0 between new = search rules in (
       looks_trans _ _ _ c.loop-steps.invariant.0 read.looks,
-      full_on between new slots c.args.from c.loop-steps.steps i c.in_ok-read.field-0 c.loop-steps.invariant.1 read c.if-branch-eq0.false refl,
+      full_on between new slots c.args.from c.loop-steps.steps i c.in_ok-read.field-0 c.loop-steps.invariant.1 read c.if-branch-eq0.false
+          refl,
       names_on i c.loop-steps.invariant.2 read c.if-branch-eq0.false refl,
       round_name c.loop-steps.invariant.3 c.loop-steps.invariant.0 c.loop-steps.invariant.2 c.name_cell.ensures read.looks.onward
           c.read.ensures.reads,
@@ -61,14 +62,16 @@ pub returns-in_err-read-clause-reads : goal.returns-in_err-read-clause-reads
 returns-in_err-read-clause-reads g c =
     subst (λ (n : ℕ). ReadsWhere (IsOfRound n c.args.from) (g.C.Cells.sight c.args.cells.now) (g.C.Cells.sight c.read.new.self))
     c.slot_count-slots.ensures.value
-    (round_name c.loop-steps.invariant.3 c.loop-steps.invariant.0 c.loop-steps.invariant.2 c.name_cell.ensures c.in_err-read.ensures.err.onward
+    (round_name c.loop-steps.invariant.3 c.loop-steps.invariant.0 c.loop-steps.invariant.2 c.name_cell.ensures
+    c.in_err-read.ensures.err.onward
     c.read.ensures.reads)
 
 pub returns-then-branch-eq0-clause-reads : goal.returns-then-branch-eq0-clause-reads
 returns-then-branch-eq0-clause-reads g c =
     subst (λ (n : ℕ). ReadsWhere (IsOfRound n c.args.from) (g.C.Cells.sight c.args.cells.now) (g.C.Cells.sight c.read.new.self))
     c.slot_count-slots.ensures.value
-    (round_name c.loop-steps.invariant.3 c.loop-steps.invariant.0 c.loop-steps.invariant.2 c.name_cell.ensures c.in_ok-read.ensures.ok.looks.onward
+    (round_name c.loop-steps.invariant.3 c.loop-steps.invariant.0 c.loop-steps.invariant.2 c.name_cell.ensures
+    c.in_ok-read.ensures.ok.looks.onward
     c.read.ensures.reads)
 
 pub returns-clause-reads : goal.returns-clause-reads

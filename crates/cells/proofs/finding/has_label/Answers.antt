@@ -27,8 +27,10 @@ returns-clause-ok g c = λ st m.
     let same = same_words s st c.range_of-range.result cell c.in_ok-word.word known.0 label m (knows_later _ _ _ _ looks.onward known.1)
     (value_later old between s cell c.in_ok-word.word st read looks m) c.range_of-range.ensures.word some in
     let iff = c.has_words.ensures.same known.0 known.1 in
-    let slots = same_slots old s (looks_trans _ _ _ read.looks looks) in
-    (λ yes. record { within = subst (λ (n : ℕ). c.args.slot < n) (sym slots) c.requires; body = same.0 (iff.0 yes) }, λ named. iff.1 (same.1 named.body))
+    let slots = same_slots old s (looks_trans _ _ _ read.looks looks) in (
+      λ yes. record { within = subst (λ (n : ℕ). c.args.slot < n) (sym slots) c.requires; body = same.0 (iff.0 yes) },
+      λ named. iff.1 (same.1 named.body),
+    )
 
 pub returns-in_err-word-clause-reads : goal.returns-in_err-word-clause-reads
 returns-in_err-word-clause-reads g c = asks_cell c.name_cell.ensures c.read.ensures.reads

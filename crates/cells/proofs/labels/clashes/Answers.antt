@@ -10,7 +10,8 @@ use Rattle.cells.proofs.labels.clashes.Goals as goal
 pub returns-then-eq-clause-same : goal.returns-then-eq-clause-same
 returns-then-eq-clause-same g c = λ words k.
     let label = c.args.label.now in
-    let whole : trunk label ≡ label = sym c.trunk-front.ensures ∙ same_bytes c.trunk-front.result.now label (sym c.eq.ensures ∙ c.if-eq.true) in
+    let whole : trunk label ≡ label = sym c.trunk-front.ensures
+    ∙ same_bytes c.trunk-front.result.now label (sym c.eq.ensures ∙ c.if-eq.true) in
     c.has_dotted.ensures.same words k ∙ clash_other words label (inl whole)
 
 pub returns-then-has_words-clause-same : goal.returns-then-has_words-clause-same

@@ -50,7 +50,8 @@ returns-then-has_words-clause-ok g c = λ st m.
     let slots = same_slots old s (looks_trans _ _ _ read.looks looks) in
     let iff = c.has_words.ensures.same known.0 known.1 in
     words_taken s st m c.range_of-range.result c.args.slot c.in_ok-word.word known.0 c.args.own.now c.args.label.now
-    (knows_later _ _ _ _ looks.onward known.1) (value_later old between s cell c.in_ok-word.word st read looks m) c.range_of-range.ensures.word
+    (knows_later _ _ _ _ looks.onward known.1)
+    (value_later old between s cell c.in_ok-word.word st read looks m) c.range_of-range.ensures.word
     (subst (λ (n : ℕ). c.args.slot < n) (sym slots) c.requires) some (iff.0 c.if-has_words.true)
 
 pub returns-then-has_words-clause-reads : goal.returns-then-has_words-clause-reads
@@ -77,7 +78,8 @@ returns-then-not-clashes-clause-ok g c = λ st m.
     let later = knows_later _ _ _ _ c.has_words.ensures.looks.onward known.1 in
     let iff = c.has_words.ensures.same known.0 known.1 in
     words_free s st m c.range_of-range.result c.args.slot c.in_ok-word.word known.0 c.args.own.now c.args.label.now
-    (knows_later _ _ _ _ looks.onward known.1) (value_later old between s cell c.in_ok-word.word st read looks m) c.range_of-range.ensures.word
+    (knows_later _ _ _ _ looks.onward known.1)
+    (value_later old between s cell c.in_ok-word.word st read looks m) c.range_of-range.ensures.word
     (λ e. let yes = iff.1 e in let no = c.if-has_words.false in absurd cc)
     (inl (sym (c.clashes.ensures.same known.0 later) ∙ c.if-not-clashes.true))
 
@@ -109,7 +111,8 @@ returns-then-has_words-2-clause-ok g c = λ st m.
     let iff = c.has_words.ensures.same known.0 known.1 in
     let own = c.has_words-2.ensures.same known.0 (knows_later _ _ _ _ first.onward known.1) in
     words_free s st m c.range_of-range.result c.args.slot c.in_ok-word.word known.0 c.args.own.now c.args.label.now
-    (knows_later _ _ _ _ looks.onward known.1) (value_later old between s cell c.in_ok-word.word st read looks m) c.range_of-range.ensures.word
+    (knows_later _ _ _ _ looks.onward known.1)
+    (value_later old between s cell c.in_ok-word.word st read looks m) c.range_of-range.ensures.word
     (λ e. let yes = iff.1 e in let no = c.if-has_words.false in absurd cc)
     (inr (own.0 c.if-has_words-2.true))
 
@@ -137,7 +140,8 @@ returns-clause-ok g c = λ st m.
     let slots = same_slots old s (looks_trans _ _ _ read.looks looks) in
     let own = c.has_words-2.ensures.same known.0 (knows_later _ _ _ _ first.onward known.1) in
     words_clashing s st m c.range_of-range.result c.args.slot c.in_ok-word.word known.0 c.args.own.now c.args.label.now
-    (knows_later _ _ _ _ looks.onward known.1) (value_later old between s cell c.in_ok-word.word st read looks m) c.range_of-range.ensures.word
+    (knows_later _ _ _ _ looks.onward known.1)
+    (value_later old between s cell c.in_ok-word.word st read looks m) c.range_of-range.ensures.word
     (subst (λ (n : ℕ). c.args.slot < n) (sym slots) c.requires)
     (sym (c.clashes.ensures.same known.0 (knows_later _ _ _ _ c.has_words.ensures.looks.onward known.1)) ∙ c.if-not-clashes.false)
     (λ e. let yes = own.1 e in let no = c.if-has_words-2.false in absurd cc)

@@ -49,10 +49,13 @@ returns-in_default-met g c =
     let s = g.C.Cells.sight c.standing_at.new.cells in
     record {
       looks = looks_trans _ _ _ c.loop.invariant.0 c.standing_at.ensures.looks;
-      ok = told_at s c.args.own.now c.args.label.now c.args.chain c.in-Some.slot c.in_ok-met.met c.in_default-met.not-Free c.in_ok-met.ensures.ok;
-      reads = subst (λ (n : ℕ). ReadsWhere (IsAlong n c.args.chain) (g.C.Cells.sight c.args.cells.now) (g.C.Cells.sight c.standing_at.new.cells))
+      ok = told_at s c.args.own.now c.args.label.now c.args.chain c.in-Some.slot c.in_ok-met.met c.in_default-met.not-Free
+          c.in_ok-met.ensures.ok;
+      reads = subst (λ (n : ℕ). ReadsWhere (IsAlong n c.args.chain) (g.C.Cells.sight c.args.cells.now)
+          (g.C.Cells.sight c.standing_at.new.cells))
           c.slot_count-slots.ensures.value
-          (along_name c.in-Some.slot c.loop.invariant.3 c.loop.invariant.0 c.loop.invariant.2 c.in-Some.ensures c.standing_at.ensures.looks.onward
+          (along_name c.in-Some.slot c.loop.invariant.3 c.loop.invariant.0 c.loop.invariant.2 c.in-Some.ensures
+          c.standing_at.ensures.looks.onward
           c.standing_at.ensures.reads);
     }
 
@@ -76,11 +79,13 @@ loop-preserved g c =
     let free : TellsStandingAt between c.in-Some.slot c.args.own.now c.args.label.now Free =
     subst (TellsStandingAt between c.in-Some.slot c.args.own.now c.args.label.now) c.in-Free.is c.in_ok-met.ensures.ok in (
       looks_trans _ _ _ looks read.looks,
-      walk_on _ between new slots (IsInTheWayIn c.args.chain own label) c.loop.word c.loop.counter slot c.in_ok-word-2.word is c.standing_at.ensures.looks
+      walk_on _ between new slots (IsInTheWayIn c.args.chain own label) c.loop.word c.loop.counter slot c.in_ok-word-2.word is
+          c.standing_at.ensures.looks
           read c.loop.invariant.1 link.1
           (λ st m here. free st m here.0 here.1 here.3),
       leads_next slot c.loop.invariant.2 c.standing_at.ensures.looks read c.in-Some.ensures,
-      along_next slot (along_name c.in-Some.slot c.loop.invariant.3 c.loop.invariant.0 c.loop.invariant.2 c.in-Some.ensures c.standing_at.ensures.looks.onward
+      along_next slot (along_name c.in-Some.slot c.loop.invariant.3 c.loop.invariant.0 c.loop.invariant.2 c.in-Some.ensures
+          c.standing_at.ensures.looks.onward
           c.standing_at.ensures.reads) c.loop.invariant.0 c.loop.invariant.2 c.in-Some.ensures
           c.standing_at.ensures.looks.onward read.looks.onward c.next_cell.ensures c.read-in-loop.ensures.reads,
     )
@@ -119,7 +124,8 @@ pub returns-in_err-word-2-clause-reads : goal.returns-in_err-word-2-clause-reads
 returns-in_err-word-2-clause-reads g c =
     subst (λ (n : ℕ). ReadsWhere (IsAlong n c.args.chain) (g.C.Cells.sight c.args.cells.now) (g.C.Cells.sight c.read-in-loop.new.self))
     c.slot_count-slots.ensures.value
-    (along_next c.in-Some.slot (along_name c.in-Some.slot c.loop.invariant.3 c.loop.invariant.0 c.loop.invariant.2 c.in-Some.ensures c.standing_at.ensures.looks.onward
+    (along_next c.in-Some.slot (along_name c.in-Some.slot c.loop.invariant.3 c.loop.invariant.0 c.loop.invariant.2 c.in-Some.ensures
+    c.standing_at.ensures.looks.onward
     c.standing_at.ensures.reads) c.loop.invariant.0 c.loop.invariant.2 c.in-Some.ensures
     c.standing_at.ensures.looks.onward c.in_err-word-2.ensures.err.onward c.next_cell.ensures c.read-in-loop.ensures.reads)
 

@@ -39,7 +39,8 @@ returns-then-eq-clause-ok g c =
     let s = g.C.Cells.sight c.standing_in.new.cells in
     let own = c.args.own.now in
     let label = c.args.label.now in
-    let whole : trunk label ≡ label = sym c.trunk-front.ensures ∙ same_bytes c.trunk-front.result.now label (sym c.eq.ensures ∙ c.if-eq.true) in
+    let whole : trunk label ≡ label = sym c.trunk-front.ensures
+    ∙ same_bytes c.trunk-front.result.now label (sym c.eq.ensures ∙ c.if-eq.true) in
     let is : c.bucket-first.result ≡ bucket s.setting.slots label =
     c.bucket-first.ensures.value
     ∙ ap (λ (n : ℕ). bucket n label) (c.slot_count-slots.ensures.value ∙ sym (same_slots old s c.standing_in.ensures.looks)) in
@@ -69,7 +70,8 @@ returns-in_err-met-2-clause-reads g c =
     let slots = c.slot_count-slots.ensures.value in
     let first : ReadsForStanding old own label r = first_walked old own label r c.bucket-first.result c.standing_in.ensures.looks
     (c.bucket-first.ensures.value ∙ ap (λ (n : ℕ). bucket n label) slots) c.standing_in.ensures.reads in
-    below_walked old own label r s c.hash.result c.standing_in.ensures.looks c.standing_in-2.ensures.looks first c.standing_in-2.ensures.reads
+    below_walked old own label r s c.hash.result c.standing_in.ensures.looks c.standing_in-2.ensures.looks first
+    c.standing_in-2.ensures.reads
     (c.hash.ensures.value ∙ ap (λ (n : ℕ). hash n label) slots)
 
 pub returns-in_default-met : goal.returns-in_default-met
@@ -130,7 +132,8 @@ returns-then-eq-2-clause-reads g c =
     let slots = c.slot_count-slots.ensures.value in
     let first : ReadsForStanding old own label r = first_walked old own label r c.bucket-first.result c.standing_in.ensures.looks
     (c.bucket-first.ensures.value ∙ ap (λ (n : ℕ). bucket n label) slots) c.standing_in.ensures.reads in
-    below_walked old own label r s c.hash.result c.standing_in.ensures.looks c.standing_in-2.ensures.looks first c.standing_in-2.ensures.reads
+    below_walked old own label r s c.hash.result c.standing_in.ensures.looks c.standing_in-2.ensures.looks first
+    c.standing_in-2.ensures.reads
     (c.hash.ensures.value ∙ ap (λ (n : ℕ). hash n label) slots)
 
 pub returns-clause-looks : goal.returns-clause-looks
@@ -179,7 +182,8 @@ returns-clause-reads g c =
     let first : ReadsForStanding old own label q = first_walked old own label q c.bucket-first.result c.standing_in.ensures.looks
     (c.bucket-first.ensures.value ∙ ap (λ (n : ℕ). bucket n label) slots) c.standing_in.ensures.reads in
     let then : ReadsForStanding old own label r =
-    below_walked old own label q r c.hash.result c.standing_in.ensures.looks c.standing_in-2.ensures.looks first c.standing_in-2.ensures.reads
+    below_walked old own label q r c.hash.result c.standing_in.ensures.looks c.standing_in-2.ensures.looks first
+    c.standing_in-2.ensures.reads
     (c.hash.ensures.value ∙ ap (λ (n : ℕ). hash n label) slots) in
     last_walked old own label r s c.bucket-last.result (looks_trans _ _ _ c.standing_in.ensures.looks c.standing_in-2.ensures.looks)
     c.standing_in-3.ensures.looks then c.standing_in-3.ensures.reads (λ e. part (front ∙ e)) (λ e. other (front ∙ e))

@@ -34,7 +34,8 @@ loop-index-preserved g c =
       looks_trans _ _ _ looks c.load.ensures.looks,
       λ j words below k.
           let word = get_or_from_slice_get words i c.load.result 0 (c.load.ensures.word words (knows_later _ _ _ _ looks.onward k)) in
-          below_more (λ (n : ℕ). get_or words n 0 ≡ get_or c.args.text.now n 0) _ (λ n l. c.loop-index.invariant.1 n words l k) (word ∙ c.if-load-byte.false) j below,
+          below_more (λ (n : ℕ). get_or words n 0 ≡ get_or c.args.text.now n 0) _ (λ n l. c.loop-index.invariant.1 n words l k) (word
+          ∙ c.if-load-byte.false) j below,
       nothing_trans c.loop-index.invariant.2 c.load.ensures.reads,
     )
 

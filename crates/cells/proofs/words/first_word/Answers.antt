@@ -16,7 +16,8 @@ returns-then-range-eq0-clause-ok g c = λ st w more m b.
     let new = g.C.Cells.sight c.read.new.self in
     let read : Reads c.args.cell c.in_ok-word.word (g.C.Cells.sight c.args.cells.now) new = search rules in
     let known = c.range_of-range.ensures.known in
-    absurd (no_first new st c.range_of-range.result c.args.cell c.in_ok-word.word w known.0 more m known.1 (read.value st m) c.range_of-range.ensures.word b
+    absurd (no_first new st c.range_of-range.result c.args.cell c.in_ok-word.word w known.0 more m known.1
+    (read.value st m) c.range_of-range.ensures.word b
     c.if-range-eq0.true)
 
 pub returns-clause-looks : goal.returns-clause-looks
@@ -33,5 +34,6 @@ returns-clause-ok g c = λ st w more m b.
     let read : Reads c.args.cell c.in_ok-word.word (g.C.Cells.sight c.args.cells.now) (g.C.Cells.sight c.read.new.self) = search rules in
     let looks = c.load.ensures.looks in
     let known = c.range_of-range.ensures.known in
-    first_known s st c.range_of-range.result c.args.cell c.in_ok-word.word w c.load.result known.0 more m (knows_later _ _ _ _ looks.onward known.1)
+    first_known s st c.range_of-range.result c.args.cell c.in_ok-word.word w c.load.result known.0 more m
+    (knows_later _ _ _ _ looks.onward known.1)
     (value_later _ _ s c.args.cell c.in_ok-word.word st read looks m) c.range_of-range.ensures.word b (c.load.ensures.word known.0 known.1)

@@ -39,7 +39,8 @@ returns-then-word-gt255-clause-same g c = λ words k.
     let looks = c.loop-index.invariant.0 in
     let front = c.args.front in
     let i = c.loop-index.index in
-    let word = get_or_from_slice_get words (front + i) c.load-word.result 0 (c.load-word.ensures.word words (knows_later _ _ _ _ looks.onward k)) in
+    let word = get_or_from_slice_get words (front + i) c.load-word.result 0
+    (c.load-word.ensures.word words (knows_later _ _ _ _ looks.onward k)) in
     let behind = get_or-drop front words i 0 in
     not_tail (drop front words) (λ t. let small = tail_bytes (drop front words) i t in omega arith)
 

@@ -6,5 +6,6 @@ abbrev pub invariant-loop-index : goal.invariant-loop-index
 invariant-loop-index g l =
     Looks (g.C.Cells.sight l.fn.cells) (g.C.Cells.sight l.cells)
     × (length l.tail ≡ 5)
-    × ((k : ℕ) (words : List ℕ) → k < l.index → Knows (g.C.Cells.sight l.fn.cells) l.range words → get_or l.tail k 0 ≡ get_or words (l.front + k) 0)
+    × ((k : ℕ) (words : List ℕ) → k < l.index → Knows (g.C.Cells.sight l.fn.cells) l.range words
+    → get_or l.tail k 0 ≡ get_or words (l.front + k) 0)
     × ReadsNothing (g.C.Cells.sight l.fn.cells) (g.C.Cells.sight l.cells)

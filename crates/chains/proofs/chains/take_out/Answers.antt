@@ -111,14 +111,16 @@ loop-preserved g c =
     record {
       looks = both;
       reads = where_more c.loop.invariant.reads read.looks.onward c.read-in-loop.ensures.reads
-          (λ st m k is. inr (subst (λ (n : ℕ). IsOnChain old.setting.slots (bucket old.setting.slots c.args.label.now) (after old st) n) (sym is)
+          (λ st m k is. inr (subst (λ (n : ℕ). IsOnChain old.setting.slots (bucket old.setting.slots c.args.label.now) (after old st) n)
+          (sym is)
           (c.loop.invariant.stands st m)));
       stands = λ st m.
           let word_is = sym (read.value st m ∙ ap (λ (x : State). x.value c.loop.before) (after_looks _ _ st both)) in
           inr (
             c.in-Some.member,
             member_of old.setting.slots (bucket old.setting.slots c.args.label.now) c.loop.before c.in-Some.member (after old st)
-                (c.loop.invariant.stands st (matches_back _ _ st read.looks.onward m)) (subst (λ (n : ℕ). c.in-Some.member < n) slots_are found.0)
+                (c.loop.invariant.stands st (matches_back _ _ st read.looks.onward m))
+                (subst (λ (n : ℕ). c.in-Some.member < n) slots_are found.0)
                 (word_is ∙ found.1),
             link,
           );
@@ -172,7 +174,8 @@ returns-then-member-slot-clause-keeps g c st m =
     keeps_trans such old mid new
     (keeps_trans such old now mid (keeps_same such old now both.writes)
     (keeps_wider (λ k. k ≡ c.loop.before) such now mid
-    (λ k is. inl (omega (arith, c.loop.invariant.low, is), ap (after old st).value is ∙ leads)) (keeps_written _ _ now mid c.write.ensures)))
+    (λ k is. inl (omega (arith, c.loop.invariant.low, is), ap (after old st).value is ∙ leads))
+    (keeps_written _ _ now mid c.write.ensures)))
     (keeps_wider (λ k. k ≡ c.next_cell-then-member-slot.result) such mid new (λ k is. inr (is ∙ link))
     (keeps_written _ _ mid new c.write-then-member-slot.ensures))
 

@@ -48,7 +48,8 @@ returns-clause-ok g c =
     let counting = c.in_ok-count_in.ensures.ok in
     let setting = c.count_in.ensures.onward.setting ∙ c.lay_down.ensures.onward.setting in
     let cites_are = subst (AreCitedSlots c.args.steps.now) (sym c.as_slice.ensures.value) c.in_ok-cited.ensures in
-    let then : (x : Unit {0}) → ((st : State) (held : List Held) (e : Ranked) → Matches s3 st → AreChained s2.setting.slots (after s2 st) held
+    let then : (x : Unit {0}) → ((st : State) (held : List Held) (e : Ranked) → Matches s3 st
+    → AreChained s2.setting.slots (after s2 st) held
     → label_of e ≡ c.as_slice-2.result.now → (Has c.args.slot (slots_of held) → ⊥)
     → Rechains s2.setting.slots (after s2 st) (after s3 st) held (record { slot = c.args.slot; entry = e } ∷ held))
     → (st : State) (lib : List Ranked) → Matches s3 st → (shown : Views old st lib)
@@ -67,7 +68,8 @@ returns-clause-ok g c =
     (λ label. omega (arith, few, room, count_by-le-length (cites label) lib)) in
     let here : Held = record { slot = c.args.slot; entry = record { rank = c.args.rank; assertion = c.args.assertion.now } } in
     let counts = counting st m2 (λ i h. let n = small i h in omega (arith, n)) cites_are.apart in
-    let chained = still_chained slots (after old st) (after s1 st) lib shows store c.args.slot c.args.rank a steps cited c.requires.slot lays
+    let chained = still_chained slots (after old st)
+    (after s1 st) lib shows store c.args.slot c.args.rank a steps cited c.requires.slot lays
     cites_are (after s2 st) counts c.requires.fillable in
     let chains = put st shows.held (record { rank = c.args.rank; assertion = c.args.assertion.now }) m
     (subst (λ (s : Setting). AreChained s.slots (after s2 st) shows.held) (sym setting) chained) (sym c.as_slice-2.ensures)
@@ -116,13 +118,15 @@ returns-in_err-cited-clause-reads g c = asks_wider (λ k is. inl is) c.lay_down.
 pub returns-in_err-count_in-clause-reads : goal.returns-in_err-count_in-clause-reads
 returns-in_err-count_in-clause-reads g c =
     asks_more (asks_wider (λ k is. inl is) c.lay_down.ensures.reads)
-    (λ k is. inr (inr (is.0, c.in_ok-cited.ensures.cited is.0 (subst (Has is.0) c.as_slice.ensures.value is.1), is.2))) c.count_in.ensures.reads
+    (λ k is. inr (inr (is.0, c.in_ok-cited.ensures.cited is.0 (subst (Has is.0) c.as_slice.ensures.value is.1), is.2)))
+    c.count_in.ensures.reads
 
 pub returns-clause-reads : goal.returns-clause-reads
 returns-clause-reads g c =
     let s0 = g.C.Cells.sight c.args.cells.now in
     asks_more (asks_more (asks_wider (λ k is. inl is) c.lay_down.ensures.reads)
-    (λ k is. inr (inr (is.0, c.in_ok-cited.ensures.cited is.0 (subst (Has is.0) c.as_slice.ensures.value is.1), is.2))) c.count_in.ensures.reads)
+    (λ k is. inr (inr (is.0, c.in_ok-cited.ensures.cited is.0 (subst (Has is.0) c.as_slice.ensures.value is.1), is.2)))
+    c.count_in.ensures.reads)
     (λ k is. inr (inl (subst (λ (l : List ℕ). IsOfFront s0.setting.slots c.args.slot l k) c.as_slice-2.ensures
     (subst (λ (s : Setting). IsOfFront s.slots c.args.slot c.as_slice-2.result.now k)
     (c.count_in.ensures.onward.setting ∙ c.lay_down.ensures.onward.setting) is)))) c.put_in.ensures.reads

@@ -50,7 +50,8 @@ returns-clause-ok g c =
     let proven = c.in_ok-put_proof.ensures in
     let ranked = c.in_ok-put.ensures.ok in
     let on3 = onward_trans _ _ _ c.put.ensures.onward c.put-2.ensures.onward in
-    let then : (x : Unit {0}) → ((st : State) → after s5 st ≡ with_value c.citers_cell.result 0 (after s4 st)) → (st : State) → Matches s5 st
+    let then : (x : Unit {0}) → ((st : State) → after s5 st ≡ with_value c.citers_cell.result 0 (after s4 st)) → (st : State)
+    → Matches s5 st
     → LaysDown (after old st) (after s5 st) c.args.slot c.args.rank c.args.assertion.now c.args.steps.now =
     λ x put st m.
     let m3 = matches_back s3 s5 st on3 m in
@@ -91,7 +92,8 @@ returns-clause-keeps g c =
     let s3 = g.C.Cells.sight c.put_proof.new.cells in
     let s4 = g.C.Cells.sight c.put.new.cells in
     let s5 = g.C.Cells.sight c.put-2.new.cells in
-    let named = one_more i 0 _ s0 s0 s1 (omega arith) (omega arith) (keeps_same (IsOfSlot c.args.slot) s0 s0 refl) c.in_ok-put_label.ensures.keeps in
+    let named = one_more i 0 _ s0 s0 s1 (omega arith) (omega arith)
+    (keeps_same (IsOfSlot c.args.slot) s0 s0 refl) c.in_ok-put_label.ensures.keeps in
     let stated = one_more i 1 _ s0 s1 s2 refl (omega arith) named c.in_ok-put_statement.ensures.keeps in
     let proven = one_more i 2 _ s0 s2 s3 refl (omega arith) stated c.in_ok-put_proof.ensures.keeps in
     let ranked = one_more i 3 _ s0 s3 s4 c.rank_cell.ensures (omega arith) proven c.in_ok-put.ensures.keeps in
@@ -99,7 +101,8 @@ returns-clause-keeps g c =
     (λ _ last. one_more i 4 _ s0 s4 s5 c.citers_cell.ensures (omega arith) ranked last) (λ _ t. t)
 
 -- a cell of the slot is read after others of it
-one_read : {O : Type 0} → {cell : ℕ} → {r s t : Sight O} → (slot part : ℕ) → cell ≡ 5 * slot + part → part < 5 → ReadsWithin (IsOfSlot slot) r s
+one_read : {O : Type 0} → {cell : ℕ} → {r s t : Sight O} → (slot part : ℕ) → cell ≡ 5 * slot + part → part < 5
+    → ReadsWithin (IsOfSlot slot) r s
     → ReadsWithin (λ c. c ≡ cell) s t → ReadsWithin (IsOfSlot slot) r t
 one_read slot part is few before last = asks_trans before (asks_cell (omega (arith, is), omega (arith, is, few)) last)
 
@@ -109,22 +112,32 @@ returns-in_err-put_label-clause-reads g c =
 
 pub returns-in_err-put_statement-clause-reads : goal.returns-in_err-put_statement-clause-reads
 returns-in_err-put_statement-clause-reads g c =
-    one_read c.args.slot 1 refl (omega arith) (one_read c.args.slot 0 (omega arith) (omega arith) (asks_nothing (nothing_same _)) c.put_label.ensures.reads)
+    one_read c.args.slot 1 refl (omega arith)
+    (one_read c.args.slot 0 (omega arith) (omega arith) (asks_nothing (nothing_same _)) c.put_label.ensures.reads)
     c.put_statement.ensures.reads
 
 pub returns-in_err-put_proof-clause-reads : goal.returns-in_err-put_proof-clause-reads
 returns-in_err-put_proof-clause-reads g c =
-    one_read c.args.slot 2 refl (omega arith) (one_read c.args.slot 1 refl (omega arith) (one_read c.args.slot 0 (omega arith) (omega arith) (asks_nothing (nothing_same _)) c.put_label.ensures.reads)
+    one_read c.args.slot 2 refl (omega arith)
+    (one_read c.args.slot 1 refl (omega arith)
+    (one_read c.args.slot 0 (omega arith) (omega arith) (asks_nothing (nothing_same _)) c.put_label.ensures.reads)
     c.put_statement.ensures.reads) c.put_proof.ensures.reads
 
 pub returns-in_err-put-clause-reads : goal.returns-in_err-put-clause-reads
 returns-in_err-put-clause-reads g c =
-    one_read c.args.slot 3 c.rank_cell.ensures (omega arith) (one_read c.args.slot 2 refl (omega arith) (one_read c.args.slot 1 refl (omega arith) (one_read c.args.slot 0 (omega arith) (omega arith) (asks_nothing (nothing_same _)) c.put_label.ensures.reads)
+    one_read c.args.slot 3 c.rank_cell.ensures (omega arith)
+    (one_read c.args.slot 2 refl (omega arith)
+    (one_read c.args.slot 1 refl (omega arith)
+    (one_read c.args.slot 0 (omega arith) (omega arith) (asks_nothing (nothing_same _)) c.put_label.ensures.reads)
     c.put_statement.ensures.reads) c.put_proof.ensures.reads)
     c.put.ensures.reads
 
 pub returns-clause-reads : goal.returns-clause-reads
 returns-clause-reads g c =
-    one_read c.args.slot 4 c.citers_cell.ensures (omega arith) (one_read c.args.slot 3 c.rank_cell.ensures (omega arith) (one_read c.args.slot 2 refl (omega arith) (one_read c.args.slot 1 refl (omega arith) (one_read c.args.slot 0 (omega arith) (omega arith) (asks_nothing (nothing_same _)) c.put_label.ensures.reads)
+    one_read c.args.slot 4 c.citers_cell.ensures (omega arith)
+    (one_read c.args.slot 3 c.rank_cell.ensures (omega arith)
+    (one_read c.args.slot 2 refl (omega arith)
+    (one_read c.args.slot 1 refl (omega arith)
+    (one_read c.args.slot 0 (omega arith) (omega arith) (asks_nothing (nothing_same _)) c.put_label.ensures.reads)
     c.put_statement.ensures.reads) c.put_proof.ensures.reads)
     c.put.ensures.reads) c.put-2.ensures.reads

@@ -17,5 +17,6 @@ returns-in_ok-proof-in-Theorem-clause-keeps g c =
 
 pub returns-in_ok-proof-in-Theorem-clause-reads : goal.returns-in_ok-proof-in-Theorem-clause-reads
 returns-in_ok-proof-in-Theorem-clause-reads g c =
-    subst (λ (n : ℕ). ReadsWithin (λ k. k ≡ n) (g.C.Cells.sight c.args.cells.now) (g.C.Cells.sight c.put_body.new.cells)) c.proof_cell.ensures
+    subst (λ (n : ℕ). ReadsWithin (λ k. k ≡ n) (g.C.Cells.sight c.args.cells.now)
+    (g.C.Cells.sight c.put_body.new.cells)) c.proof_cell.ensures
     c.put_body.ensures.reads

@@ -18,5 +18,6 @@ returns-clause-keeps g c =
 
 pub returns-clause-reads : goal.returns-clause-reads
 returns-clause-reads g c =
-    subst (λ (n : ℕ). ReadsWithin (λ k. k ≡ n) (g.C.Cells.sight c.args.cells.now) (g.C.Cells.sight c.put_body.new.cells)) c.statement_cell.ensures
+    subst (λ (n : ℕ). ReadsWithin (λ k. k ≡ n) (g.C.Cells.sight c.args.cells.now)
+    (g.C.Cells.sight c.put_body.new.cells)) c.statement_cell.ensures
     c.put_body.ensures.reads

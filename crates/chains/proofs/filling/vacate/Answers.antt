@@ -58,13 +58,15 @@ loop-part-preserved g c =
       onward = onward_trans _ _ _ c.loop-part.invariant.onward (onward_trans _ _ _ c.in_ok-read.ensures.ok.looks.onward wrote);
       taken = omega (arith, c.loop-part.invariant.taken, c.in_ok-read.ensures.ok.looks.taken, c.write.ensures.taken);
       keeps = keeps_trans (IsOfSlot c.args.slot) (g.C.Cells.sight c.args.cells.now) now new c.loop-part.invariant.keeps
-          (keeps_wider (λ k. k ≡ cell) (IsOfSlot c.args.slot) now new (λ k is. (omega (arith, at, is), omega (arith, at, is, c.loop-part-test.true)))
+          (keeps_wider (λ k. k ≡ cell) (IsOfSlot c.args.slot) now new
+          (λ k is. (omega (arith, at, is), omega (arith, at, is, c.loop-part-test.true)))
           (keeps_put cell 0 now _ new c.in_ok-read.ensures.ok.looks.writes c.write.ensures));
       reads = asks_still (asks_trans c.loop-part.invariant.reads
           (asks_cell (omega (arith, at), omega (arith, at, c.loop-part-test.true)) c.read.ensures.reads))
           (nothing_written c.write.ensures);
       zeros = λ st other low high. elim (cases_eq other cell) [
-        | inl is ↦ ap (λ (x : State). x.value other) (made st) ∙ ap (λ n. (with_value cell 0 (after now st)).value n) is ∙ value_there cell 0 (after now st)
+        | inl is ↦ ap (λ (x : State). x.value other) (made st) ∙ ap (λ n. (with_value cell 0 (after now st)).value n) is
+            ∙ value_there cell 0 (after now st)
         | inr ne ↦ elsewhere st other ne ∙ c.loop-part.invariant.zeros st other low (omega (arith, at, high, ne))
       ];
       others = λ st other out.
@@ -106,7 +108,8 @@ returns-clause-ok g c st =
     let end = c.loop-part.auto.part-end in
     record {
       zeros = λ cell low high. c.loop-part.invariant.zeros st cell low (omega (arith, all, high));
-      others = λ cell out. c.loop-part.invariant.others st cell (⊎_elim (λ before. inl before) (λ behind. inr (omega (arith, end, behind))) out);
+      others = λ cell out. c.loop-part.invariant.others st cell
+          (⊎_elim (λ before. inl before) (λ behind. inr (omega (arith, end, behind))) out);
     }
 
 pub returns-clause-written : goal.returns-clause-written

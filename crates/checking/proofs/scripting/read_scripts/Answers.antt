@@ -21,16 +21,19 @@ loop-i-init c = record {
 pub returns-in-Err-clause-err : goal.returns-in-Err-clause-err
 returns-in-Err-clause-err c =
     let p = c.args.prelude.now in
-    script_fault p c.args.texts.now c.loop-i.scripts.items c.index-texts-i.result c.loop-i.i c.in-Err.fault c.text_fault.result (omega arith)
+    script_fault p c.args.texts.now c.loop-i.scripts.items c.index-texts-i.result c.loop-i.i c.in-Err.fault c.text_fault.result
+    (omega arith)
     c.index-texts-i.is c.loop-i.invariant.spelled
-    (λ k. subst (λ (b : Bytes). FaultyScript p b c.in-Err.fault) c.as_slice.ensures.value (c.in-Err.ensures.read.fault k)) c.text_fault.ensures
+    (λ k. subst (λ (b : Bytes). FaultyScript p b c.in-Err.fault) c.as_slice.ensures.value
+    (c.in-Err.ensures.read.fault k)) c.text_fault.ensures
 
 pub loop-i-preserved : goal.loop-i-preserved
 loop-i-preserved c = record {
   spelled =
       let p = c.args.prelude.now in
       let texts = c.args.texts.now in
-      subst (λ (xs : List Orders). AreScripts p (map (λ t. t.items) (take (c.loop-i.i + 1) texts)) xs) (sym c.in_ok-push-in-Ok.ensures.items)
+      subst (λ (xs : List Orders). AreScripts p (map (λ t. t.items) (take (c.loop-i.i + 1) texts)) xs)
+      (sym c.in_ok-push-in-Ok.ensures.items)
       (spelled_next p texts c.loop-i.scripts.items c.index-texts-i.result c.in-Ok.script c.loop-i.i (omega arith) c.index-texts-i.is
       c.loop-i.invariant.spelled
       (read_as p _ _ c.in-Ok.script c.as_slice.ensures.value c.in-Ok.ensures.read.found c.in-Ok.ensures.read.refused));
@@ -41,7 +44,8 @@ loop-i-preserved c = record {
 }
 
 pub returns-clause-ok : goal.returns-clause-ok
-returns-clause-ok c = spelled_all c.args.prelude.now c.args.texts.now c.loop-i.scripts.items c.loop-i.i (omega arith) c.loop-i.invariant.spelled
+returns-clause-ok c = spelled_all c.args.prelude.now c.args.texts.now c.loop-i.scripts.items c.loop-i.i
+    (omega arith) c.loop-i.invariant.spelled
 
 pub returns-in-Err-clause-refused : goal.returns-in-Err-clause-refused
 returns-in-Err-clause-refused c = λ k f first.
@@ -50,7 +54,8 @@ returns-in-Err-clause-refused c = λ k f first.
     script_refused c.args.prelude.now c.args.texts.now c.loop-i.scripts.items text c.loop-i.i k c.in-Err.fault f c.text_fault.result
     (omega arith) c.index-texts-i.is c.loop-i.invariant.spelled
     (λ h faulty. c.in-Err.ensures.read.refused h (subst (λ (b : Bytes). FaultyScript c.args.prelude.now b h) (sym as_text) faulty))
-    (λ ne. subst (λ (b : Bytes). FaultyScript c.args.prelude.now b c.in-Err.fault) as_text (c.in-Err.ensures.read.fault ne)) c.text_fault.ensures first
+    (λ ne. subst (λ (b : Bytes). FaultyScript c.args.prelude.now b c.in-Err.fault) as_text
+    (c.in-Err.ensures.read.fault ne)) c.text_fault.ensures first
 
 pub returns-clause-refused : goal.returns-clause-refused
 returns-clause-refused c = λ k f first.

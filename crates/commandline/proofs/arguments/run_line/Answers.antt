@@ -20,7 +20,8 @@ with_history = with_rule with_room history_rule
 pub returns : goal.returns
 returns c =
     let bare : IsLine bare_run c.about.result = search rules in
-    let workers = IfOk-weaker c.arg-line.result _ (IsLine with_workers) (λ new adds. adds_argument _ _ _ _ new adds bare c.workers.ensures) c.arg-line.ensures in
+    let workers = IfOk-weaker c.arg-line.result _ (IsLine with_workers)
+    (λ new adds. adds_argument _ _ _ _ new adds bare c.workers.ensures) c.arg-line.ensures in
     let room = c.with_argument-line.ensures with_workers room_rule workers c.room.ensures in
     let history = c.with_argument-line-2.ensures with_room history_rule room c.history.ensures in
     let database = c.with_argument-line-3.ensures with_history database_rule history c.database.ensures in

@@ -12,23 +12,28 @@ returns-in-Add-clause-taken g c =
 
 pub returns-in-Reprove-clause-taken : goal.returns-in-Reprove-clause-taken
 returns-in-Reprove-clause-taken g c =
-    subst (λ x. TakesBodies x (g.C.Cells.sight c.args.cells.now) (g.C.Cells.sight c.reprove.new.cells)) (sym c.in-Reprove.is) c.reprove.ensures.taken
+    subst (λ x. TakesBodies x (g.C.Cells.sight c.args.cells.now) (g.C.Cells.sight c.reprove.new.cells))
+    (sym c.in-Reprove.is) c.reprove.ensures.taken
 
 pub returns-in-Replace-clause-taken : goal.returns-in-Replace-clause-taken
 returns-in-Replace-clause-taken g c =
-    subst (λ x. TakesBodies x (g.C.Cells.sight c.args.cells.now) (g.C.Cells.sight c.replace.new.cells)) (sym c.in-Replace.is) c.replace.ensures.taken
+    subst (λ x. TakesBodies x (g.C.Cells.sight c.args.cells.now) (g.C.Cells.sight c.replace.new.cells))
+    (sym c.in-Replace.is) c.replace.ensures.taken
 
 pub returns-in-Rename-clause-taken : goal.returns-in-Rename-clause-taken
 returns-in-Rename-clause-taken g c =
-    subst (λ x. TakesBodies x (g.C.Cells.sight c.args.cells.now) (g.C.Cells.sight c.rename.new.cells)) (sym c.in-Rename.is) c.rename.ensures.taken
+    subst (λ x. TakesBodies x (g.C.Cells.sight c.args.cells.now) (g.C.Cells.sight c.rename.new.cells))
+    (sym c.in-Rename.is) c.rename.ensures.taken
 
 pub returns-in-Move-clause-taken : goal.returns-in-Move-clause-taken
 returns-in-Move-clause-taken g c =
-    subst (λ x. TakesBodies x (g.C.Cells.sight c.args.cells.now) (g.C.Cells.sight c.move_to.new.cells)) (sym c.in-Move.is) c.move_to.ensures.taken
+    subst (λ x. TakesBodies x (g.C.Cells.sight c.args.cells.now) (g.C.Cells.sight c.move_to.new.cells))
+    (sym c.in-Move.is) c.move_to.ensures.taken
 
 pub returns-in-Delete-clause-taken : goal.returns-in-Delete-clause-taken
 returns-in-Delete-clause-taken g c =
-    subst (λ x. TakesBodies x (g.C.Cells.sight c.args.cells.now) (g.C.Cells.sight c.delete.new.cells)) (sym c.in-Delete.is) c.delete.ensures.taken
+    subst (λ x. TakesBodies x (g.C.Cells.sight c.args.cells.now) (g.C.Cells.sight c.delete.new.cells))
+    (sym c.in-Delete.is) c.delete.ensures.taken
 
 pub returns-in-Show-clause-taken : goal.returns-in-Show-clause-taken
 returns-in-Show-clause-taken g c =

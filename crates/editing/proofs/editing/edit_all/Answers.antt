@@ -18,7 +18,8 @@ returns-in_err-history-clause-lack g c =
     let p = err_from_is_err_and c.from_residual-in_err-history.result c.from_residual-in_err-history.ensures.1 in
     rw (p.1, p.2)
     (lacks c.args.library c.args.sessions.items c.requires.new c.args.scripts.now (lists_of c.in_ok-outcomes.field-0.outcomes.items)
-    c.in_ok-outcomes.field-0.sessions.items c.in_ok-outcomes.ensures.worked c.requires.all c.in_err-history.field-0.0 c.in_err-history.ensures)
+    c.in_ok-outcomes.field-0.sessions.items c.in_ok-outcomes.ensures.worked c.requires.all c.in_err-history.field-0.0
+    c.in_err-history.ensures)
 
 pub returns-clause-done : goal.returns-clause-done
 returns-clause-done g c =

@@ -7,7 +7,8 @@ use Rattle.finishing.specs.Shown.{values_of}
 use Rattle.finishing.proofs.Looked.{prelude_is, looked_verifies, looked_in_order}
 use Rattle.finishing.proofs.ending.shown.Goals as goal
 
-values_are : (words : ClosedWords) (cells : List ClosedCell) (values : List ℕ) → cells ≡ words.cells.items → values ≡ map (λ x. x.value) cells
+values_are : (words : ClosedWords) (cells : List ClosedCell) (values : List ℕ) → cells ≡ words.cells.items
+    → values ≡ map (λ x. x.value) cells
     → values ≡ values_of words
 values_are words cells values is made = made ∙ ap (λ (xs : List ClosedCell). map (λ x. x.value) xs) is
 

@@ -22,6 +22,7 @@ returns g c =
     let choice = was.taken.taken.choice in
     let entries = c.in_ok-replayed.replayed.entries in
     let edited = c.in_ok-replayed.replayed.edited in
-    IfOk-weaker c.give_edits.result (λ out. IsEdited source old choice taken entries edited out.items) (λ out. IsGiven source library history out.items)
+    IfOk-weaker c.give_edits.result (λ out. IsEdited source old choice taken entries edited out.items)
+    (λ out. IsGiven source library history out.items)
     (λ out. given_by source library history out.items old taken entries edited c.in_ok-old.ensures was c.in_ok-replayed.ensures)
     (c.give_edits.ensures choice was.taken.chosen_are)

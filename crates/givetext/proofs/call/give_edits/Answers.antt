@@ -34,7 +34,8 @@ returns g c choice are =
     (c.in_ok-changes-2.ensures ∙ c.in_ok-changes.ensures)
     (c.in_ok-own.ensures.flags choice are)
     then refl
-    (subst (λ (ws : List Word). All (λ x. IsTrue (names_none ws x.proof)) (others own old.assertions)) (ap seen_words c.as_slice-2.ensures.value)
+    (subst (λ (ws : List Word). All (λ x. IsTrue (names_none ws x.proof)) (others own old.assertions))
+    (ap seen_words c.as_slice-2.ensures.value)
     (subst (λ (fs : List Bool). All (λ x. IsTrue (names_none (seen_words c.as_slice-2.result.now) x.proof)) (others fs old.assertions))
     c.as_slice-own.ensures.value c.in_ok-are_uncited.ensures))
     c.in_ok-out.ensures.written

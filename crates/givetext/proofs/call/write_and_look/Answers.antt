@@ -21,5 +21,6 @@ pub returns-clause-looked : goal.returns-clause-looked
 returns-clause-looked g c =
     let old = c.args.old.now.stand.scope in
     let then = map label_then (seen_following c.args.following.now).living in
-    subst (λ (text : List ℕ). IsLookedAt old text c.args.changes.now c.args.own.now then c.args.replayed.now.edited) c.as_slice-text.ensures.value
+    subst (λ (text : List ℕ). IsLookedAt old text c.args.changes.now c.args.own.now then c.args.replayed.now.edited)
+    c.as_slice-text.ensures.value
     c.in_ok-look_at.ensures

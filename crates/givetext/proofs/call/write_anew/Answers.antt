@@ -10,5 +10,6 @@ pub returns : goal.returns
 returns c =
     let cs = c.args.changes.now in
     let source = c.args.source.now in
-    subst (λ (es : List Entry). IfOk c.write_edits.result (λ out. IsWrittenAnew (all_commands es) cs source out.items)) c.as_slice-entries.ensures
+    subst (λ (es : List Entry). IfOk c.write_edits.result
+    (λ out. IsWrittenAnew (all_commands es) cs source out.items)) c.as_slice-entries.ensures
     c.write_edits.ensures

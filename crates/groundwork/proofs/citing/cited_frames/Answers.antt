@@ -18,7 +18,12 @@ note_frame-requires g c =
     let slot = stored.Slot c.in-Slot.slot in
     let within : c.loop-i.i < length c.args.kept.now = omega (arith, c.min-i-end.ensures, c.loop-i-test.true) in
     let has : Has slot c.args.kept.now =
-    has_from_contains c.args.kept.now slot (c.loop-i.i, within, get_or_default c.args.kept.now c.loop-i.i slot (stored.Float 0) within ∙ c.in-Slot.is) in
+    has_from_contains c.args.kept.now slot (
+      c.loop-i.i,
+      within,
+      get_or_default c.args.kept.now c.loop-i.i slot (stored.Float 0) within
+          ∙ c.in-Slot.is,
+    ) in
     subst (λ (n : ℕ). c.in-Slot.slot < n) (sym (same_slots _ _ c.loop-i.invariant.0)) (c.requires c.in-Slot.slot has)
 
 pub returns-in_err-note_frame-clause-looks : goal.returns-in_err-note_frame-clause-looks
@@ -45,7 +50,8 @@ loop-i-preserved-in_default-kept g c =
     let kept = c.args.kept.now in
     let of_kept : c.loop-i.i < length kept = omega (arith, c.min-i-end.ensures, c.loop-i-test.true) in (
       c.loop-i.invariant.0,
-      noted_past s c.args.prelude.now c.args.steps.now kept c.loop-i.i (frames_in c.loop-i.by_label) (Float 0) (stored.Float 0) c.loop-i.invariant.1
+      noted_past s c.args.prelude.now c.args.steps.now kept c.loop-i.i (frames_in c.loop-i.by_label) (Float 0)
+          (stored.Float 0) c.loop-i.invariant.1
           of_kept (λ label slot _ is. c.in_default-kept.not-Slot slot is),
       c.loop-i.invariant.2,
     )
@@ -61,10 +67,16 @@ loop-i-preserved g c =
     let label = c.in-Cite.label.now in
     let of_steps : i < length steps = omega (arith, c.len.ensures.len, c.min-i-end.ensures, c.loop-i-test.true) in
     let of_kept : i < length kept = omega (arith, c.min-i-end.ensures, c.loop-i-test.true) in
-    let has : Has slot kept = has_from_contains kept slot (i, of_kept, get_or_default kept i slot (stored.Float 0) of_kept ∙ c.in-Slot.is) in
+    let has : Has slot kept = has_from_contains kept slot (
+      i,
+      of_kept,
+      get_or_default kept i slot (stored.Float 0) of_kept
+          ∙ c.in-Slot.is,
+    ) in
     let cites : seen_step c.step.result ≡ Cite label = ap seen_step c.in-Cite.is in (
       looks_trans _ _ _ c.loop-i.invariant.0 c.note_frame.ensures.looks,
-      noted_more s s' c.args.prelude.now steps kept i label c.in-Slot.slot (frames_in c.loop-i.by_label) (frames_in c.note_frame.new.by_label)
+      noted_more s s' c.args.prelude.now steps kept i label c.in-Slot.slot (frames_in c.loop-i.by_label)
+          (frames_in c.note_frame.new.by_label)
           (Float 0) (stored.Float 0) c.note_frame.ensures.looks c.loop-i.invariant.1 of_kept
           (sym (c.step.ensures ∙ get_or_default steps i (seen_step c.step.result) (Float 0) of_steps) ∙ cites) c.in-Slot.is
           c.in_ok-note_frame.ensures.ok,
@@ -83,5 +95,10 @@ returns-in_err-note_frame-clause-reads g c =
     let slot = stored.Slot c.in-Slot.slot in
     let within : c.loop-i.i < length c.args.kept.now = omega (arith, c.min-i-end.ensures, c.loop-i-test.true) in
     let has : Has slot c.args.kept.now =
-    has_from_contains c.args.kept.now slot (c.loop-i.i, within, get_or_default c.args.kept.now c.loop-i.i slot (stored.Float 0) within ∙ c.in-Slot.is) in
+    has_from_contains c.args.kept.now slot (
+      c.loop-i.i,
+      within,
+      get_or_default c.args.kept.now c.loop-i.i slot (stored.Float 0) within
+          ∙ c.in-Slot.is,
+    ) in
     asks_trans c.loop-i.invariant.2 (asks_cell (c.in-Slot.slot, has, refl) c.note_frame.ensures.reads)

@@ -41,7 +41,8 @@ returns-then-branch-clause-ok g c =
     let i = c.loop-slot.slot-index in
     let cited = c.as_slice-slot-items.result.now in
     let are = subst (AreCitedSlots c.args.steps.now) (sym c.as_slice-slot-items.ensures.value) c.in_ok-cited.ensures in
-    let ranked : ForEachHeld s (get_or c.as_slice-slot-items.result.now c.loop-slot.slot-index 0) (λ st lib e. c.in_ok-rank.field-0 ≡ e.rank) =
+    let ranked : ForEachHeld s (get_or c.as_slice-slot-items.result.now c.loop-slot.slot-index 0) (λ st lib e. c.in_ok-rank.field-0
+    ≡ e.rank) =
     c.in_ok-rank.ensures.ok in
     tells_not_below s limit (get_or cited i 0) c.args.steps.now (is_cited c.args.steps.now cited i are (omega arith))
     (ranked_below s limit (get_or cited i 0) c.in_ok-rank.field-0 true ranked (le-leb limit c.in_ok-rank.field-0 c.if-branch.true))
@@ -70,7 +71,8 @@ loop-slot-preserved g c =
     elim c.else-slot-slots.branch [
       | else-slot-slots-via-then-slot-slots+in_ok-rank+else-branch w ↦
           let s = g.C.Cells.sight w.rank.new.cells in
-          let ranked : ForEachHeld s (get_or c.as_slice-slot-items.result.now c.loop-slot.slot-index 0) (λ st lib e. w.in_ok-rank.field-0 ≡ e.rank) =
+          let ranked : ForEachHeld s (get_or c.as_slice-slot-items.result.now c.loop-slot.slot-index 0) (λ st lib e. w.in_ok-rank.field-0
+          ≡ e.rank) =
           w.in_ok-rank.ensures.ok in
           let one = ranked_below s limit slot w.in_ok-rank.field-0 false ranked (lt-leb limit w.in_ok-rank.field-0 w.if-branch.false) in
           subst Q (sym (ap (λ x. g.C.Cells.sight x) w.cells-is)) (
@@ -97,7 +99,8 @@ returns-clause-looks g c = c.loop-slot.invariant.0
 pub returns-clause-ok : goal.returns-clause-ok
 returns-clause-ok g c =
     let are = subst (AreCitedSlots c.args.steps.now) (sym c.as_slice-slot-items.ensures.value) c.in_ok-cited.ensures in
-    tells_below (g.C.Cells.sight c.loop-slot.cells) c.args.limit c.loop-slot.slot-index c.args.steps.now c.as_slice-slot-items.result.now are
+    tells_below (g.C.Cells.sight c.loop-slot.cells) c.args.limit c.loop-slot.slot-index c.args.steps.now c.as_slice-slot-items.result.now
+    are
     (omega arith) c.loop-slot.invariant.1
 
 pub returns-clause-reads : goal.returns-clause-reads

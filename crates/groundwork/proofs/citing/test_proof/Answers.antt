@@ -49,7 +49,8 @@ returns-then-branch-clause-err g c =
     let a = c.args.theorem.now in
     let kept = c.in-Some.kept.items in
     let resolved = of_proof s1 c.args.theorem.now.proof c.in_ok-kept.field-0 (Some c.in-Some.kept) c.in-Some.is c.in_ok-kept.ensures.ok in
-    let told : TellsNotBelow (g.C.Cells.sight c.cites_not_below.new.cells) c.args.rank c.as_slice.result.now c.in_ok-cites_not_below.field-0 =
+    let told : TellsNotBelow (g.C.Cells.sight c.cites_not_below.new.cells) c.args.rank c.as_slice.result.now
+    c.in_ok-cites_not_below.field-0 =
     c.in_ok-cites_not_below.ensures.ok in
     subst (TellsRefusal s2 rank a) (sym c.into-then-branch.ensures)
     (fails_below s1 s2 rank a kept c.cites_not_below.ensures.looks resolved
@@ -87,7 +88,8 @@ returns-in-Some-2-clause-err g c =
     let kept = c.in-Some.kept.items in
     let frames = frames_in c.in_ok-frames.frames.by_label in
     let resolved = of_proof s1 c.args.theorem.now.proof c.in_ok-kept.field-0 (Some c.in-Some.kept) c.in-Some.is c.in_ok-kept.ensures.ok in
-    let told : TellsNotBelow (g.C.Cells.sight c.cites_not_below.new.cells) c.args.rank c.as_slice.result.now c.in_ok-cites_not_below.field-0 =
+    let told : TellsNotBelow (g.C.Cells.sight c.cites_not_below.new.cells) c.args.rank c.as_slice.result.now
+    c.in_ok-cites_not_below.field-0 =
     c.in_ok-cites_not_below.ensures.ok in
     let known = sifted s0 s1 s2 s3 t rank a kept c.as_slice.result.now c.as_slice-2.result.now frames
     c.requires.prelude c.resolve.ensures.looks c.cites_not_below.ensures.looks c.cited_frames.ensures.looks
@@ -113,7 +115,8 @@ returns-in-None-clause-ok g c =
     let kept = c.in-Some.kept.items in
     let frames = frames_in c.in_ok-frames.frames.by_label in
     let resolved = of_proof s1 c.args.theorem.now.proof c.in_ok-kept.field-0 (Some c.in-Some.kept) c.in-Some.is c.in_ok-kept.ensures.ok in
-    let told : TellsNotBelow (g.C.Cells.sight c.cites_not_below.new.cells) c.args.rank c.as_slice.result.now c.in_ok-cites_not_below.field-0 =
+    let told : TellsNotBelow (g.C.Cells.sight c.cites_not_below.new.cells) c.args.rank c.as_slice.result.now
+    c.in_ok-cites_not_below.field-0 =
     c.in_ok-cites_not_below.ensures.ok in
     let known = sifted s0 s1 s2 s3 t rank a kept c.as_slice.result.now c.as_slice-2.result.now frames
     c.requires.prelude c.resolve.ensures.looks c.cites_not_below.ensures.looks c.cited_frames.ensures.looks

@@ -81,7 +81,8 @@ returns-clause-ok g c =
     let counts = subst (CountsOutOf s2 s3) c.as_slice-7.ensures.value c.in_ok-count_out.ensures.ok in
     MatchResult-weaker c.count_in.result {P' = λ _. (label : List ℕ) → ReprovesAt s0 s4 i label kept} c.count_in.ensures.ok
     (λ _ adds label. restepped s0 s1 s2 s3 s4 i label former kept before now dropped gained words c.stored_proof.ensures.looks
-    c.put_body.ensures.onward c.count_out.ensures.onward c.count_in.ensures.onward c.in_ok-former.ensures.ok cited_before c.in_ok-now.ensures
+    c.put_body.ensures.onward c.count_out.ensures.onward c.count_in.ensures.onward c.in_ok-former.ensures.ok cited_before
+    c.in_ok-now.ensures
     drops gains c.in_ok-body.ensures named others counts (subst (CountsInOf s3 s4) c.as_slice-8.ensures.value adds)) (λ _ t. t)
 
 pub returns-clause-keeps : goal.returns-clause-keeps
@@ -112,7 +113,8 @@ returns-in_err-former-clause-reads g c label =
     let s1 = g.C.Cells.sight c.stored_proof.new.cells in
     let i = c.args.slot in
     let kept = c.args.kept.now in
-    let r1 : ReadsSince (OfResteps s0 c.args.slot label c.args.kept.now) s0 s0 s1 = resteps_proof s0 i label kept s0 s1 c.stored_proof.ensures.reads in
+    let r1 : ReadsSince (OfResteps s0 c.args.slot label c.args.kept.now) s0 s0 s1 =
+    resteps_proof s0 i label kept s0 s1 c.stored_proof.ensures.reads in
     resteps_end s0 i label kept s1 r1
 
 pub returns-in_err-before-clause-reads : goal.returns-in_err-before-clause-reads
@@ -121,7 +123,8 @@ returns-in_err-before-clause-reads g c label =
     let s1 = g.C.Cells.sight c.stored_proof.new.cells in
     let i = c.args.slot in
     let kept = c.args.kept.now in
-    let r1 : ReadsSince (OfResteps s0 c.args.slot label c.args.kept.now) s0 s0 s1 = resteps_proof s0 i label kept s0 s1 c.stored_proof.ensures.reads in
+    let r1 : ReadsSince (OfResteps s0 c.args.slot label c.args.kept.now) s0 s0 s1 =
+    resteps_proof s0 i label kept s0 s1 c.stored_proof.ensures.reads in
     resteps_end s0 i label kept s1 r1
 
 pub returns-in_err-now-clause-reads : goal.returns-in_err-now-clause-reads
@@ -130,7 +133,8 @@ returns-in_err-now-clause-reads g c label =
     let s1 = g.C.Cells.sight c.stored_proof.new.cells in
     let i = c.args.slot in
     let kept = c.args.kept.now in
-    let r1 : ReadsSince (OfResteps s0 c.args.slot label c.args.kept.now) s0 s0 s1 = resteps_proof s0 i label kept s0 s1 c.stored_proof.ensures.reads in
+    let r1 : ReadsSince (OfResteps s0 c.args.slot label c.args.kept.now) s0 s0 s1 =
+    resteps_proof s0 i label kept s0 s1 c.stored_proof.ensures.reads in
     resteps_end s0 i label kept s1 r1
 
 pub returns-in_err-dropped-clause-reads : goal.returns-in_err-dropped-clause-reads
@@ -139,7 +143,8 @@ returns-in_err-dropped-clause-reads g c label =
     let s1 = g.C.Cells.sight c.stored_proof.new.cells in
     let i = c.args.slot in
     let kept = c.args.kept.now in
-    let r1 : ReadsSince (OfResteps s0 c.args.slot label c.args.kept.now) s0 s0 s1 = resteps_proof s0 i label kept s0 s1 c.stored_proof.ensures.reads in
+    let r1 : ReadsSince (OfResteps s0 c.args.slot label c.args.kept.now) s0 s0 s1 =
+    resteps_proof s0 i label kept s0 s1 c.stored_proof.ensures.reads in
     resteps_end s0 i label kept s1 r1
 
 pub returns-in_err-gained-clause-reads : goal.returns-in_err-gained-clause-reads
@@ -148,7 +153,8 @@ returns-in_err-gained-clause-reads g c label =
     let s1 = g.C.Cells.sight c.stored_proof.new.cells in
     let i = c.args.slot in
     let kept = c.args.kept.now in
-    let r1 : ReadsSince (OfResteps s0 c.args.slot label c.args.kept.now) s0 s0 s1 = resteps_proof s0 i label kept s0 s1 c.stored_proof.ensures.reads in
+    let r1 : ReadsSince (OfResteps s0 c.args.slot label c.args.kept.now) s0 s0 s1 =
+    resteps_proof s0 i label kept s0 s1 c.stored_proof.ensures.reads in
     resteps_end s0 i label kept s1 r1
 
 pub returns-in_err-body-clause-reads : goal.returns-in_err-body-clause-reads
@@ -157,7 +163,8 @@ returns-in_err-body-clause-reads g c label =
     let s1 = g.C.Cells.sight c.stored_proof.new.cells in
     let i = c.args.slot in
     let kept = c.args.kept.now in
-    let r1 : ReadsSince (OfResteps s0 c.args.slot label c.args.kept.now) s0 s0 s1 = resteps_proof s0 i label kept s0 s1 c.stored_proof.ensures.reads in
+    let r1 : ReadsSince (OfResteps s0 c.args.slot label c.args.kept.now) s0 s0 s1 =
+    resteps_proof s0 i label kept s0 s1 c.stored_proof.ensures.reads in
     resteps_end s0 i label kept s1 r1
 
 pub returns-in_err-put_body-clause-reads : goal.returns-in_err-put_body-clause-reads
@@ -166,7 +173,8 @@ returns-in_err-put_body-clause-reads g c label =
     let s1 = g.C.Cells.sight c.stored_proof.new.cells in
     let i = c.args.slot in
     let kept = c.args.kept.now in
-    let r1 : ReadsSince (OfResteps s0 c.args.slot label c.args.kept.now) s0 s0 s1 = resteps_proof s0 i label kept s0 s1 c.stored_proof.ensures.reads in
+    let r1 : ReadsSince (OfResteps s0 c.args.slot label c.args.kept.now) s0 s0 s1 =
+    resteps_proof s0 i label kept s0 s1 c.stored_proof.ensures.reads in
     let s2 = g.C.Cells.sight c.put_body.new.cells in
     let r2 : ReadsSince (OfResteps s0 c.args.slot label c.args.kept.now) s0 s0 s2 =
     since_then (OfResteps s0 i label kept) r1 c.put_body.ensures.onward
@@ -180,7 +188,8 @@ returns-in_err-count_out-clause-reads g c label =
     let s1 = g.C.Cells.sight c.stored_proof.new.cells in
     let i = c.args.slot in
     let kept = c.args.kept.now in
-    let r1 : ReadsSince (OfResteps s0 c.args.slot label c.args.kept.now) s0 s0 s1 = resteps_proof s0 i label kept s0 s1 c.stored_proof.ensures.reads in
+    let r1 : ReadsSince (OfResteps s0 c.args.slot label c.args.kept.now) s0 s0 s1 =
+    resteps_proof s0 i label kept s0 s1 c.stored_proof.ensures.reads in
     let s2 = g.C.Cells.sight c.put_body.new.cells in
     let r2 : ReadsSince (OfResteps s0 c.args.slot label c.args.kept.now) s0 s0 s2 =
     since_then (OfResteps s0 i label kept) r1 c.put_body.ensures.onward
@@ -196,7 +205,8 @@ returns-in_err-count_out-clause-reads g c label =
     let out = subst (λ (l : List ℕ). ReadsWithin (IsCitersOf l) s2 s3) c.as_slice-7.ensures.value c.count_out.ensures.reads in
     let r3 : ReadsSince (OfResteps s0 c.args.slot label c.args.kept.now) s0 s0 s3 =
     since_then (OfResteps s0 i label kept) r2 c.count_out.ensures.onward
-    (resteps_out s0 i label kept s1 s2 s3 former before now c.stored_proof.ensures.looks c.put_body.ensures.onward c.count_out.ensures.onward
+    (resteps_out s0 i label kept s1 s2 s3 former before now c.stored_proof.ensures.looks c.put_body.ensures.onward
+    c.count_out.ensures.onward
     c.in_ok-former.ensures.ok cited_before c.in_ok-now.ensures c.in_ok-dropped.dropped.items drops out) in
     resteps_end s0 i label kept s3 r3
 
@@ -206,7 +216,8 @@ returns-clause-reads g c label =
     let s1 = g.C.Cells.sight c.stored_proof.new.cells in
     let i = c.args.slot in
     let kept = c.args.kept.now in
-    let r1 : ReadsSince (OfResteps s0 c.args.slot label c.args.kept.now) s0 s0 s1 = resteps_proof s0 i label kept s0 s1 c.stored_proof.ensures.reads in
+    let r1 : ReadsSince (OfResteps s0 c.args.slot label c.args.kept.now) s0 s0 s1 =
+    resteps_proof s0 i label kept s0 s1 c.stored_proof.ensures.reads in
     let s2 = g.C.Cells.sight c.put_body.new.cells in
     let r2 : ReadsSince (OfResteps s0 c.args.slot label c.args.kept.now) s0 s0 s2 =
     since_then (OfResteps s0 i label kept) r1 c.put_body.ensures.onward
@@ -222,7 +233,8 @@ returns-clause-reads g c label =
     let out = subst (λ (l : List ℕ). ReadsWithin (IsCitersOf l) s2 s3) c.as_slice-7.ensures.value c.count_out.ensures.reads in
     let r3 : ReadsSince (OfResteps s0 c.args.slot label c.args.kept.now) s0 s0 s3 =
     since_then (OfResteps s0 i label kept) r2 c.count_out.ensures.onward
-    (resteps_out s0 i label kept s1 s2 s3 former before now c.stored_proof.ensures.looks c.put_body.ensures.onward c.count_out.ensures.onward
+    (resteps_out s0 i label kept s1 s2 s3 former before now c.stored_proof.ensures.looks c.put_body.ensures.onward
+    c.count_out.ensures.onward
     c.in_ok-former.ensures.ok cited_before c.in_ok-now.ensures c.in_ok-dropped.dropped.items drops out) in
     let s4 = g.C.Cells.sight c.count_in.new.cells in
     let gains = only_there _ _ _ _ _ c.as_slice-4.ensures.value c.as_slice-5.ensures.value c.in_ok-gained.ensures in

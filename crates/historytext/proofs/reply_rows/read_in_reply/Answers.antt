@@ -31,7 +31,8 @@ returns-in_err-citers-in-AtShownCiters c =
     let why = c.in_err-citers-in-AtShownCiters.field-0.0 in
     rw (p.1, p.2) (
     subst (λ (x : ReplyPlace). Fails why (answer u (in_reply t (seen_reply_place t x) u))) (sym c.in-AtShownCiters.is)
-    (number_fails highest_count u (λ (n : ℕ). going (in_shown c.in-AtShownCiters.rank n (unit_start t))) why c.in_err-citers-in-AtShownCiters.ensures))
+    (number_fails highest_count u (λ (n : ℕ). going
+    (in_shown c.in-AtShownCiters.rank n (unit_start t))) why c.in_err-citers-in-AtShownCiters.ensures))
 
 pub returns-in_err-left-in-AtLines : goal.returns-in_err-left-in-AtLines
 returns-in_err-left-in-AtLines c =

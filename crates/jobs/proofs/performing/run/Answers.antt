@@ -48,5 +48,6 @@ returns-clause-fault g c =
 
 pub returns-clause-refused : goal.returns-clause-refused
 returns-clause-refused g c f =
-    run_refused_by_room c.args.db.now _ c.args.plan.room c.in_ok-db.db _ c.prelude.ensures c.in_ok-db.ensures.refused c.in_ok-db.ensures.only
+    run_refused_by_room c.args.db.now _ c.args.plan.room c.in_ok-db.db _ c.prelude.ensures c.in_ok-db.ensures.refused
+    c.in_ok-db.ensures.only
     c.print_run.result f c.in_ok-scripts.ensures.refused c.print_run.ensures.full

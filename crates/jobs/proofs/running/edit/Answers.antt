@@ -7,21 +7,25 @@ use Rattle.jobs.proofs.running.edit.Goals as goal
 
 pub edit_all-edited-requires-clause-some : goal.edit_all-edited-requires-clause-some
 edit_all-edited-requires-clause-some g c κs outlives =
-    some_session c.args.db.now c.args.plan.workers c.args.plan.room c.in_ok-library.library c.in_ok-library.sessions.items c.in_ok-library.ensures.done
+    some_session c.args.db.now c.args.plan.workers c.args.plan.room c.in_ok-library.library c.in_ok-library.sessions.items
+    c.in_ok-library.ensures.done
     c.requires.within.0
 
 pub edit_all-edited-requires-clause-all : goal.edit_all-edited-requires-clause-all
 edit_all-edited-requires-clause-all g c κs outlives =
-    all_sessions c.args.db.now c.args.plan.workers c.args.plan.room c.in_ok-library.library c.in_ok-library.sessions.items c.in_ok-library.ensures.done
+    all_sessions c.args.db.now c.args.plan.workers c.args.plan.room c.in_ok-library.library c.in_ok-library.sessions.items
+    c.in_ok-library.ensures.done
 
 pub returns-in-Ok-clause-done : goal.returns-in-Ok-clause-done
 returns-in-Ok-clause-done g c =
     let edited = c.in-Ok.edited in
-    worked c.args.db.now c.args.plan.workers c.args.plan.room c.in_ok-library.library c.in_ok-library.sessions.items c.in_ok-library.ensures.done
+    worked c.args.db.now c.args.plan.workers c.args.plan.room c.in_ok-library.library c.in_ok-library.sessions.items
+    c.in_ok-library.ensures.done
     c.args.scripts.now (lists_of edited.outcomes.items) edited.history edited.library c.in-Ok.ensures.done
 
 pub returns-in-Err-clause-fault : goal.returns-in-Err-clause-fault
 returns-in-Err-clause-fault g c =
     subst (λ (f : Fault). IsWorkFault c.args.db.now c.args.plan.workers c.args.plan.room f) (sym c.fault_of.ensures)
-    (unworked c.args.db.now c.args.plan.workers c.args.plan.room c.in_ok-library.library c.in_ok-library.sessions.items c.in_ok-library.ensures.done
+    (unworked c.args.db.now c.args.plan.workers c.args.plan.room c.in_ok-library.library c.in_ok-library.sessions.items
+    c.in_ok-library.ensures.done
     c.in-Err.error c.in-Err.ensures.lack)

@@ -98,7 +98,12 @@ loop-other-preserved g c =
     let own_now = held_later first s i (λ st lib e. c.in_ok-current.current ≡ e.rank) since own in
     let is = sym (same_slots old s (looks_trans _ _ _ c.rank.ensures.looks since)) in
     let before = c.loop-other.invariant.uncited in
-    let within : other < slots = (omega (arith, c.slot_count-other-end.ensures.value, same_slots old _ (looks_trans _ _ _ c.rank.ensures.looks c.citers.ensures.looks), c.loop-other-test.true)) in
+    let within : other < slots = (omega (
+      arith,
+      c.slot_count-other-end.ensures.value,
+      same_slots old _ (looks_trans _ _ _ c.rank.ensures.looks c.citers.ensures.looks),
+      c.loop-other-test.true,
+    )) in
     let ranks = rank_read slots current limit other _ _ _ c.loop-other.invariant.reads read.looks.onward within c.rank_cell.ensures
     c.read.ensures.reads in
     elim c.else-rank-current.branch [
@@ -176,10 +181,18 @@ returns-in_err-rank-clause-reads g c =
     let counted : ForEachHeld second i (λ st lib e. c.in_ok-citers.field-0 ≡ citers lib (label_of e)) = c.in_ok-citers.ensures.ok in
     let own : ReadsWithin (λ k. (k ≡ rank_cell c.args.slot) ⊎ (k ≡ citers_cell c.args.slot)) old second =
     asks_trans (asks_cell (inl refl) c.rank.ensures.reads) (asks_cell (inr refl) c.citers.ensures.reads) in
-    rise_within old second (g.C.Cells.sight c.read.new.self) i c.args.limit current n (looks_trans _ _ _ c.rank.ensures.looks c.citers.ensures.looks)
-    (looks_trans _ _ _ c.loop-other.invariant.looks (read_looks _ _ _ _ c.read.ensures.ok c.read.ensures.err)) own ranked counted (omega (arith, c.if-limit-current.false)) c.if-branch-eq0.false
-    (rank_read old.setting.slots current c.args.limit c.loop-other.other _ _ _ c.loop-other.invariant.reads (let looks = read_looks _ _ _ _ c.read.ensures.ok c.read.ensures.err in looks.onward)
-    (omega (arith, c.slot_count-other-end.ensures.value, same_slots old _ (looks_trans _ _ _ c.rank.ensures.looks c.citers.ensures.looks), c.loop-other-test.true)) c.rank_cell.ensures c.read.ensures.reads)
+    rise_within old second (g.C.Cells.sight c.read.new.self) i c.args.limit current n
+    (looks_trans _ _ _ c.rank.ensures.looks c.citers.ensures.looks)
+    (looks_trans _ _ _ c.loop-other.invariant.looks (read_looks _ _ _ _ c.read.ensures.ok c.read.ensures.err)) own ranked counted
+    (omega (arith, c.if-limit-current.false)) c.if-branch-eq0.false
+    (rank_read old.setting.slots current c.args.limit c.loop-other.other _ _ _ c.loop-other.invariant.reads (let looks =
+    read_looks _ _ _ _ c.read.ensures.ok c.read.ensures.err in looks.onward)
+    (omega (
+      arith,
+      c.slot_count-other-end.ensures.value,
+      same_slots old _ (looks_trans _ _ _ c.rank.ensures.looks c.citers.ensures.looks),
+      c.loop-other-test.true,
+    )) c.rank_cell.ensures c.read.ensures.reads)
 
 pub returns-in_err-cites_slot-clause-reads : goal.returns-in_err-cites_slot-clause-reads
 returns-in_err-cites_slot-clause-reads g c =
@@ -200,13 +213,26 @@ returns-in_err-cites_slot-clause-reads g c =
     let read : Reads c.rank_cell.result c.in_ok-rank.rank r s = c.in_ok-rank.ensures.ok in
     let value : (st : State) → Matches s st → rank ≡ (after s st).value (rank_cell c.loop-other.other) = λ st m.
     read.value st m ∙ ap (λ (n : ℕ). (after s st).value n) c.rank_cell.ensures in
-    rise_within old second (g.C.Cells.sight c.cites_slot.new.cells) i c.args.limit current n (looks_trans _ _ _ c.rank.ensures.looks c.citers.ensures.looks)
-    (looks_trans _ _ _ c.loop-other.invariant.looks (looks_trans _ _ _ (read_looks _ _ _ _ c.read.ensures.ok c.read.ensures.err) c.cites_slot.ensures.looks)) own ranked counted (omega (arith, c.if-limit-current.false)) c.if-branch-eq0.false
+    rise_within old second (g.C.Cells.sight c.cites_slot.new.cells) i c.args.limit current n
+    (looks_trans _ _ _ c.rank.ensures.looks c.citers.ensures.looks)
+    (looks_trans _ _ _ c.loop-other.invariant.looks
+    (looks_trans _ _ _ (read_looks _ _ _ _ c.read.ensures.ok c.read.ensures.err) c.cites_slot.ensures.looks)) own ranked counted
+    (omega (arith, c.if-limit-current.false)) c.if-branch-eq0.false
     (proof_read old.setting.slots current c.args.limit c.loop-other.other rank second s (g.C.Cells.sight c.cites_slot.new.cells)
     (rank_read old.setting.slots current c.args.limit c.loop-other.other _ _ _ c.loop-other.invariant.reads (read.looks.onward)
-    (omega (arith, c.slot_count-other-end.ensures.value, same_slots old _ (looks_trans _ _ _ c.rank.ensures.looks c.citers.ensures.looks), c.loop-other-test.true)) c.rank_cell.ensures c.read.ensures.reads)
+    (omega (
+      arith,
+      c.slot_count-other-end.ensures.value,
+      same_slots old _ (looks_trans _ _ _ c.rank.ensures.looks c.citers.ensures.looks),
+      c.loop-other-test.true,
+    )) c.rank_cell.ensures c.read.ensures.reads)
     (looks_trans _ _ _ c.loop-other.invariant.looks read.looks) c.cites_slot.ensures.looks.onward
-    (omega (arith, c.slot_count-other-end.ensures.value, same_slots old _ (looks_trans _ _ _ c.rank.ensures.looks c.citers.ensures.looks), c.loop-other-test.true)) value
+    (omega (
+      arith,
+      c.slot_count-other-end.ensures.value,
+      same_slots old _ (looks_trans _ _ _ c.rank.ensures.looks c.citers.ensures.looks),
+      c.loop-other-test.true,
+    )) value
     (omega (arith, c.if-rank-current.true)) c.if-rank-limit.true c.cites_slot.ensures.reads)
 
 pub returns-then-branch-clause-reads : goal.returns-then-branch-clause-reads
@@ -228,13 +254,26 @@ returns-then-branch-clause-reads g c =
     let read : Reads c.rank_cell.result c.in_ok-rank.rank r s = c.in_ok-rank.ensures.ok in
     let value : (st : State) → Matches s st → rank ≡ (after s st).value (rank_cell c.loop-other.other) = λ st m.
     read.value st m ∙ ap (λ (n : ℕ). (after s st).value n) c.rank_cell.ensures in
-    rise_within old second (g.C.Cells.sight c.cites_slot.new.cells) i c.args.limit current n (looks_trans _ _ _ c.rank.ensures.looks c.citers.ensures.looks)
-    (looks_trans _ _ _ c.loop-other.invariant.looks (looks_trans _ _ _ (read_looks _ _ _ _ c.read.ensures.ok c.read.ensures.err) c.cites_slot.ensures.looks)) own ranked counted (omega (arith, c.if-limit-current.false)) c.if-branch-eq0.false
+    rise_within old second (g.C.Cells.sight c.cites_slot.new.cells) i c.args.limit current n
+    (looks_trans _ _ _ c.rank.ensures.looks c.citers.ensures.looks)
+    (looks_trans _ _ _ c.loop-other.invariant.looks
+    (looks_trans _ _ _ (read_looks _ _ _ _ c.read.ensures.ok c.read.ensures.err) c.cites_slot.ensures.looks)) own ranked counted
+    (omega (arith, c.if-limit-current.false)) c.if-branch-eq0.false
     (proof_read old.setting.slots current c.args.limit c.loop-other.other rank second s (g.C.Cells.sight c.cites_slot.new.cells)
     (rank_read old.setting.slots current c.args.limit c.loop-other.other _ _ _ c.loop-other.invariant.reads (read.looks.onward)
-    (omega (arith, c.slot_count-other-end.ensures.value, same_slots old _ (looks_trans _ _ _ c.rank.ensures.looks c.citers.ensures.looks), c.loop-other-test.true)) c.rank_cell.ensures c.read.ensures.reads)
+    (omega (
+      arith,
+      c.slot_count-other-end.ensures.value,
+      same_slots old _ (looks_trans _ _ _ c.rank.ensures.looks c.citers.ensures.looks),
+      c.loop-other-test.true,
+    )) c.rank_cell.ensures c.read.ensures.reads)
     (looks_trans _ _ _ c.loop-other.invariant.looks read.looks) c.cites_slot.ensures.looks.onward
-    (omega (arith, c.slot_count-other-end.ensures.value, same_slots old _ (looks_trans _ _ _ c.rank.ensures.looks c.citers.ensures.looks), c.loop-other-test.true)) value
+    (omega (
+      arith,
+      c.slot_count-other-end.ensures.value,
+      same_slots old _ (looks_trans _ _ _ c.rank.ensures.looks c.citers.ensures.looks),
+      c.loop-other-test.true,
+    )) value
     (omega (arith, c.if-rank-current.true)) c.if-rank-limit.true c.cites_slot.ensures.reads)
 
 pub returns-clause-reads : goal.returns-clause-reads
@@ -250,6 +289,7 @@ returns-clause-reads g c =
     let counted : ForEachHeld second i (λ st lib e. c.in_ok-citers.field-0 ≡ citers lib (label_of e)) = c.in_ok-citers.ensures.ok in
     let own : ReadsWithin (λ k. (k ≡ rank_cell c.args.slot) ⊎ (k ≡ citers_cell c.args.slot)) old second =
     asks_trans (asks_cell (inl refl) c.rank.ensures.reads) (asks_cell (inr refl) c.citers.ensures.reads) in
-    rise_within old second (g.C.Cells.sight c.loop-other.cells) i c.args.limit current n (looks_trans _ _ _ c.rank.ensures.looks c.citers.ensures.looks)
+    rise_within old second (g.C.Cells.sight c.loop-other.cells) i c.args.limit current n
+    (looks_trans _ _ _ c.rank.ensures.looks c.citers.ensures.looks)
     (c.loop-other.invariant.looks) own ranked counted (omega (arith, c.if-limit-current.false)) c.if-branch-eq0.false
     (c.loop-other.invariant.reads)

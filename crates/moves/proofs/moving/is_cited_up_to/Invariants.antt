@@ -9,6 +9,7 @@ abbrev pub invariant-loop-other : goal.invariant-loop-other
 invariant-loop-other g l =
     record {
       looks : Looks (g.C.Cells.sight l.initial.cells) (g.C.Cells.sight l.cells);
-      reads : ReadsWhere (IsOfRanks (g.C.Cells.sight l.fn.cells).setting.slots l.current l.limit) (g.C.Cells.sight l.initial.cells) (g.C.Cells.sight l.cells);
+      reads : ReadsWhere (IsOfRanks (g.C.Cells.sight l.fn.cells).setting.slots l.current l.limit) (g.C.Cells.sight l.initial.cells)
+          (g.C.Cells.sight l.cells);
       uncited : ForEach (g.C.Cells.sight l.cells) (AreUncited (g.C.Cells.sight l.fn.cells).setting.slots l.slot l.limit l.other);
     }

@@ -46,7 +46,8 @@ returns-then-rank-eq0-clause-answers g c =
     (refused_unranked old s c.known_slot.ensures.looks c.in_ok-slot.slot label c.args.rank some c.if-rank-eq0.true)
 
 pub returns-in_err-kept-clause-onward : goal.returns-in_err-kept-clause-onward
-returns-in_err-kept-clause-onward g c = let looks = looks_trans _ _ _ c.known_slot.ensures.looks c.stored_proof.ensures.looks in looks.onward
+returns-in_err-kept-clause-onward g c = let looks =
+    looks_trans _ _ _ c.known_slot.ensures.looks c.stored_proof.ensures.looks in looks.onward
 
 pub returns-in_err-cites_not_below-clause-onward : goal.returns-in_err-cites_not_below-clause-onward
 returns-in_err-cites_not_below-clause-onward g c =
@@ -112,7 +113,8 @@ returns-then-branch-2-clause-answers g c =
     let low : TellsCitedUpTo t i c.args.rank true =
     subst (TellsCitedUpTo t i c.args.rank) c.if-branch-2.true c.in_ok-is_cited_up_to.ensures.ok in
     answers_refused old t (Move label c.args.rank) CiterNotHigher c.into-then-branch-2.result c.into-then-branch-2.ensures
-    (refused_not_below old t (looks_trans _ _ _ c.known_slot.ensures.looks since) i label c.args.rank (finds_after first t label i since some)
+    (refused_not_below old t (looks_trans _ _ _ c.known_slot.ensures.looks since) i label c.args.rank
+    (finds_after first t label i since some)
     c.if-rank-eq0.false kept (stored_since second t i kept on c.in_ok-kept.ensures.ok) high low)
 
 pub returns-in_err-put-clause-onward : goal.returns-in_err-put-clause-onward
@@ -235,9 +237,11 @@ returns-in_err-cites_not_below-clause-reads g c =
     let ranks : ReadsWithin (IsRankOfSteps c.in_ok-kept.kept.items) s2 s3 =
     subst (λ ks. ReadsWithin (IsRankOfSteps ks) s2 s3) c.as_slice.ensures.value c.cites_not_below.ensures.reads in
     let m3 : MovesSo c.args.label.now c.args.rank old s3 =
-    move_more old label rank s2 s3 i (λ st lib e. IsRankOfCited old.setting.slots st lib e.assertion.proof) l2 c.cites_not_below.ensures.looks
+    move_more old label rank s2 s3 i (λ st lib e. IsRankOfCited old.setting.slots st lib e.assertion.proof) l2
+    c.cites_not_below.ensures.looks
     (finds_after s1 s2 label i c.stored_proof.ensures.looks some) m2
-    (ranks_within old label rank s2 s3 i kept (stored_since s2 s3 i kept c.cites_not_below.ensures.looks c.in_ok-kept.ensures.ok) l3.onward.setting ranks)
+    (ranks_within old label rank s2 s3 i kept
+    (stored_since s2 s3 i kept c.cites_not_below.ensures.looks c.in_ok-kept.ensures.ok) l3.onward.setting ranks)
     (λ st lib e k is. inr (inl is)) in
     move_now old label rank s3 l3 m3
 
@@ -263,9 +267,11 @@ returns-then-branch-clause-reads g c =
     let ranks : ReadsWithin (IsRankOfSteps c.in_ok-kept.kept.items) s2 s3 =
     subst (λ ks. ReadsWithin (IsRankOfSteps ks) s2 s3) c.as_slice.ensures.value c.cites_not_below.ensures.reads in
     let m3 : MovesSo c.args.label.now c.args.rank old s3 =
-    move_more old label rank s2 s3 i (λ st lib e. IsRankOfCited old.setting.slots st lib e.assertion.proof) l2 c.cites_not_below.ensures.looks
+    move_more old label rank s2 s3 i (λ st lib e. IsRankOfCited old.setting.slots st lib e.assertion.proof) l2
+    c.cites_not_below.ensures.looks
     (finds_after s1 s2 label i c.stored_proof.ensures.looks some) m2
-    (ranks_within old label rank s2 s3 i kept (stored_since s2 s3 i kept c.cites_not_below.ensures.looks c.in_ok-kept.ensures.ok) l3.onward.setting ranks)
+    (ranks_within old label rank s2 s3 i kept
+    (stored_since s2 s3 i kept c.cites_not_below.ensures.looks c.in_ok-kept.ensures.ok) l3.onward.setting ranks)
     (λ st lib e k is. inr (inl is)) in
     move_now old label rank s3 l3 m3
 
@@ -291,17 +297,21 @@ returns-in_err-is_cited_up_to-clause-reads g c =
     let ranks : ReadsWithin (IsRankOfSteps c.in_ok-kept.kept.items) s2 s3 =
     subst (λ ks. ReadsWithin (IsRankOfSteps ks) s2 s3) c.as_slice.ensures.value c.cites_not_below.ensures.reads in
     let m3 : MovesSo c.args.label.now c.args.rank old s3 =
-    move_more old label rank s2 s3 i (λ st lib e. IsRankOfCited old.setting.slots st lib e.assertion.proof) l2 c.cites_not_below.ensures.looks
+    move_more old label rank s2 s3 i (λ st lib e. IsRankOfCited old.setting.slots st lib e.assertion.proof) l2
+    c.cites_not_below.ensures.looks
     (finds_after s1 s2 label i c.stored_proof.ensures.looks some) m2
-    (ranks_within old label rank s2 s3 i kept (stored_since s2 s3 i kept c.cites_not_below.ensures.looks c.in_ok-kept.ensures.ok) l3.onward.setting ranks)
+    (ranks_within old label rank s2 s3 i kept
+    (stored_since s2 s3 i kept c.cites_not_below.ensures.looks c.in_ok-kept.ensures.ok) l3.onward.setting ranks)
     (λ st lib e k is. inr (inl is)) in
     let t = g.C.Cells.sight c.is_cited_up_to.new.cells in
     let l4 = looks_trans _ _ _ l3 c.is_cited_up_to.ensures.looks in
     let since = looks_trans _ _ _ c.stored_proof.ensures.looks c.cites_not_below.ensures.looks in
     let m4 : MovesSo c.args.label.now c.args.rank old t =
-    move_more old label rank s3 t i (λ st lib e. IsOfRise old.setting.slots st lib c.in_ok-slot.slot e c.args.rank) l3 c.is_cited_up_to.ensures.looks
+    move_more old label rank s3 t i (λ st lib e. IsOfRise old.setting.slots st lib c.in_ok-slot.slot e c.args.rank) l3
+    c.is_cited_up_to.ensures.looks
     (finds_after s1 s3 label i since some) m3
-    (subst (λ (x : Setting). ForEachHeld t c.in_ok-slot.slot (λ st lib e. ReadsWithin (IsOfRise x.slots st lib c.in_ok-slot.slot e c.args.rank) s3 t))
+    (subst (λ (x : Setting). ForEachHeld t c.in_ok-slot.slot
+    (λ st lib e. ReadsWithin (IsOfRise x.slots st lib c.in_ok-slot.slot e c.args.rank) s3 t))
     l3.onward.setting c.is_cited_up_to.ensures.reads)
     (λ st lib e k is. inr (inr is)) in
     move_now old label rank t l4 m4
@@ -328,17 +338,21 @@ returns-then-branch-2-clause-reads g c =
     let ranks : ReadsWithin (IsRankOfSteps c.in_ok-kept.kept.items) s2 s3 =
     subst (λ ks. ReadsWithin (IsRankOfSteps ks) s2 s3) c.as_slice.ensures.value c.cites_not_below.ensures.reads in
     let m3 : MovesSo c.args.label.now c.args.rank old s3 =
-    move_more old label rank s2 s3 i (λ st lib e. IsRankOfCited old.setting.slots st lib e.assertion.proof) l2 c.cites_not_below.ensures.looks
+    move_more old label rank s2 s3 i (λ st lib e. IsRankOfCited old.setting.slots st lib e.assertion.proof) l2
+    c.cites_not_below.ensures.looks
     (finds_after s1 s2 label i c.stored_proof.ensures.looks some) m2
-    (ranks_within old label rank s2 s3 i kept (stored_since s2 s3 i kept c.cites_not_below.ensures.looks c.in_ok-kept.ensures.ok) l3.onward.setting ranks)
+    (ranks_within old label rank s2 s3 i kept
+    (stored_since s2 s3 i kept c.cites_not_below.ensures.looks c.in_ok-kept.ensures.ok) l3.onward.setting ranks)
     (λ st lib e k is. inr (inl is)) in
     let t = g.C.Cells.sight c.is_cited_up_to.new.cells in
     let l4 = looks_trans _ _ _ l3 c.is_cited_up_to.ensures.looks in
     let since = looks_trans _ _ _ c.stored_proof.ensures.looks c.cites_not_below.ensures.looks in
     let m4 : MovesSo c.args.label.now c.args.rank old t =
-    move_more old label rank s3 t i (λ st lib e. IsOfRise old.setting.slots st lib c.in_ok-slot.slot e c.args.rank) l3 c.is_cited_up_to.ensures.looks
+    move_more old label rank s3 t i (λ st lib e. IsOfRise old.setting.slots st lib c.in_ok-slot.slot e c.args.rank) l3
+    c.is_cited_up_to.ensures.looks
     (finds_after s1 s3 label i since some) m3
-    (subst (λ (x : Setting). ForEachHeld t c.in_ok-slot.slot (λ st lib e. ReadsWithin (IsOfRise x.slots st lib c.in_ok-slot.slot e c.args.rank) s3 t))
+    (subst (λ (x : Setting). ForEachHeld t c.in_ok-slot.slot
+    (λ st lib e. ReadsWithin (IsOfRise x.slots st lib c.in_ok-slot.slot e c.args.rank) s3 t))
     l3.onward.setting c.is_cited_up_to.ensures.reads)
     (λ st lib e k is. inr (inr is)) in
     move_now old label rank t l4 m4
@@ -365,17 +379,21 @@ returns-in_err-put-clause-reads g c =
     let ranks : ReadsWithin (IsRankOfSteps c.in_ok-kept.kept.items) s2 s3 =
     subst (λ ks. ReadsWithin (IsRankOfSteps ks) s2 s3) c.as_slice.ensures.value c.cites_not_below.ensures.reads in
     let m3 : MovesSo c.args.label.now c.args.rank old s3 =
-    move_more old label rank s2 s3 i (λ st lib e. IsRankOfCited old.setting.slots st lib e.assertion.proof) l2 c.cites_not_below.ensures.looks
+    move_more old label rank s2 s3 i (λ st lib e. IsRankOfCited old.setting.slots st lib e.assertion.proof) l2
+    c.cites_not_below.ensures.looks
     (finds_after s1 s2 label i c.stored_proof.ensures.looks some) m2
-    (ranks_within old label rank s2 s3 i kept (stored_since s2 s3 i kept c.cites_not_below.ensures.looks c.in_ok-kept.ensures.ok) l3.onward.setting ranks)
+    (ranks_within old label rank s2 s3 i kept
+    (stored_since s2 s3 i kept c.cites_not_below.ensures.looks c.in_ok-kept.ensures.ok) l3.onward.setting ranks)
     (λ st lib e k is. inr (inl is)) in
     let t = g.C.Cells.sight c.is_cited_up_to.new.cells in
     let l4 = looks_trans _ _ _ l3 c.is_cited_up_to.ensures.looks in
     let since = looks_trans _ _ _ c.stored_proof.ensures.looks c.cites_not_below.ensures.looks in
     let m4 : MovesSo c.args.label.now c.args.rank old t =
-    move_more old label rank s3 t i (λ st lib e. IsOfRise old.setting.slots st lib c.in_ok-slot.slot e c.args.rank) l3 c.is_cited_up_to.ensures.looks
+    move_more old label rank s3 t i (λ st lib e. IsOfRise old.setting.slots st lib c.in_ok-slot.slot e c.args.rank) l3
+    c.is_cited_up_to.ensures.looks
     (finds_after s1 s3 label i since some) m3
-    (subst (λ (x : Setting). ForEachHeld t c.in_ok-slot.slot (λ st lib e. ReadsWithin (IsOfRise x.slots st lib c.in_ok-slot.slot e c.args.rank) s3 t))
+    (subst (λ (x : Setting). ForEachHeld t c.in_ok-slot.slot
+    (λ st lib e. ReadsWithin (IsOfRise x.slots st lib c.in_ok-slot.slot e c.args.rank) s3 t))
     l3.onward.setting c.is_cited_up_to.ensures.reads)
     (λ st lib e k is. inr (inr is)) in
     move_put old label rank t (g.C.Cells.sight c.put.new.cells) i l4 c.put.ensures.onward
@@ -404,17 +422,21 @@ returns-clause-reads g c =
     let ranks : ReadsWithin (IsRankOfSteps c.in_ok-kept.kept.items) s2 s3 =
     subst (λ ks. ReadsWithin (IsRankOfSteps ks) s2 s3) c.as_slice.ensures.value c.cites_not_below.ensures.reads in
     let m3 : MovesSo c.args.label.now c.args.rank old s3 =
-    move_more old label rank s2 s3 i (λ st lib e. IsRankOfCited old.setting.slots st lib e.assertion.proof) l2 c.cites_not_below.ensures.looks
+    move_more old label rank s2 s3 i (λ st lib e. IsRankOfCited old.setting.slots st lib e.assertion.proof) l2
+    c.cites_not_below.ensures.looks
     (finds_after s1 s2 label i c.stored_proof.ensures.looks some) m2
-    (ranks_within old label rank s2 s3 i kept (stored_since s2 s3 i kept c.cites_not_below.ensures.looks c.in_ok-kept.ensures.ok) l3.onward.setting ranks)
+    (ranks_within old label rank s2 s3 i kept
+    (stored_since s2 s3 i kept c.cites_not_below.ensures.looks c.in_ok-kept.ensures.ok) l3.onward.setting ranks)
     (λ st lib e k is. inr (inl is)) in
     let t = g.C.Cells.sight c.is_cited_up_to.new.cells in
     let l4 = looks_trans _ _ _ l3 c.is_cited_up_to.ensures.looks in
     let since = looks_trans _ _ _ c.stored_proof.ensures.looks c.cites_not_below.ensures.looks in
     let m4 : MovesSo c.args.label.now c.args.rank old t =
-    move_more old label rank s3 t i (λ st lib e. IsOfRise old.setting.slots st lib c.in_ok-slot.slot e c.args.rank) l3 c.is_cited_up_to.ensures.looks
+    move_more old label rank s3 t i (λ st lib e. IsOfRise old.setting.slots st lib c.in_ok-slot.slot e c.args.rank) l3
+    c.is_cited_up_to.ensures.looks
     (finds_after s1 s3 label i since some) m3
-    (subst (λ (x : Setting). ForEachHeld t c.in_ok-slot.slot (λ st lib e. ReadsWithin (IsOfRise x.slots st lib c.in_ok-slot.slot e c.args.rank) s3 t))
+    (subst (λ (x : Setting). ForEachHeld t c.in_ok-slot.slot
+    (λ st lib e. ReadsWithin (IsOfRise x.slots st lib c.in_ok-slot.slot e c.args.rank) s3 t))
     l3.onward.setting c.is_cited_up_to.ensures.reads)
     (λ st lib e k is. inr (inr is)) in
     move_put old label rank t (g.C.Cells.sight c.put.new.cells) i l4 c.put.ensures.onward

@@ -72,7 +72,8 @@ returns-in_err-kept-clause-answers g c =
       theorem = c.in_default.is;
       looks = c.test_new_label.ensures.looks;
     } in
-    answers_ended s0 s2 (command.Add rank a) c.from_residual-in_err-kept.result c.in_err-kept.field-0.0 c.from_residual-in_err-kept.ensures.1
+    answers_ended s0 s2 (command.Add rank a) c.from_residual-in_err-kept.result c.in_err-kept.field-0.0
+    c.from_residual-in_err-kept.ensures.1
     (add_refused s0 s1 s2 rank a may c.test_proof.ensures.looks c.in_err-kept.field-0.0 c.in_err-kept.ensures.err)
 
 pub returns-in_err-slot-clause-onward : goal.returns-in_err-slot-clause-onward
@@ -157,7 +158,8 @@ pub returns-in_err-fill-clause-taken : goal.returns-in_err-fill-clause-taken
 returns-in_err-fill-clause-taken g c st lib m v =
     let looks = looks_trans _ _ _ c.test_new_label.ensures.looks c.test_proof.ensures.looks in
     let on = onward_trans _ _ _ c.free_slot.ensures.looks.onward c.fill.ensures.onward in
-    let long = stored_taken (g.C.Cells.sight c.args.cells.now) (g.C.Cells.sight c.test_proof.new.cells) (g.C.Cells.sight c.fill.new.cells) looks on
+    let long = stored_taken (g.C.Cells.sight c.args.cells.now) (g.C.Cells.sight c.test_proof.new.cells)
+    (g.C.Cells.sight c.fill.new.cells) looks on
     c.args.assertion.now.proof c.in_ok-kept.kept.items c.in_ok-kept.ensures.ok.stored st lib m v in
     let same = ap (λ (ks : List StoredStep). length (proof_body ks)) c.as_slice.ensures.value in
     omega (arith, long, same, c.fill.ensures.taken, c.free_slot.ensures.looks.taken, looks.taken)
@@ -166,7 +168,8 @@ pub returns-clause-taken : goal.returns-clause-taken
 returns-clause-taken g c st lib m v =
     let looks = looks_trans _ _ _ c.test_new_label.ensures.looks c.test_proof.ensures.looks in
     let on = onward_trans _ _ _ c.free_slot.ensures.looks.onward c.fill.ensures.onward in
-    let long = stored_taken (g.C.Cells.sight c.args.cells.now) (g.C.Cells.sight c.test_proof.new.cells) (g.C.Cells.sight c.fill.new.cells) looks on
+    let long = stored_taken (g.C.Cells.sight c.args.cells.now) (g.C.Cells.sight c.test_proof.new.cells)
+    (g.C.Cells.sight c.fill.new.cells) looks on
     c.args.assertion.now.proof c.in_ok-kept.kept.items c.in_ok-kept.ensures.ok.stored st lib m v in
     let same = ap (λ (ks : List StoredStep). length (proof_body ks)) c.as_slice.ensures.value in
     omega (arith, long, same, c.fill.ensures.taken, c.free_slot.ensures.looks.taken, looks.taken)
@@ -206,7 +209,8 @@ returns-in_err-test_new_label-clause-reads g c =
     let x = command.Add c.args.rank a in
     let r1 : ReadsFor s0 s1 (command.Add c.args.rank c.args.assertion.now) =
     since_where (OfCommand s0 x) s0 s0 s1 (looks_refl s0) (λ n. IsOfNewLabel n a.label a.label) (λ st lib k is. inl is)
-    (subst (λ (l : List ℕ). ReadsWhere (IsOfNewLabel s0.setting.slots l l) s0 s1) c.as_slice-label.ensures c.test_new_label.ensures.reads) in
+    (subst (λ (l : List ℕ). ReadsWhere (IsOfNewLabel s0.setting.slots l l) s0 s1) c.as_slice-label.ensures
+    c.test_new_label.ensures.reads) in
     r1
 
 pub returns-in-Axiom-clause-reads : goal.returns-in-Axiom-clause-reads
@@ -217,7 +221,8 @@ returns-in-Axiom-clause-reads g c =
     let x = command.Add c.args.rank a in
     let r1 : ReadsFor s0 s1 (command.Add c.args.rank c.args.assertion.now) =
     since_where (OfCommand s0 x) s0 s0 s1 (looks_refl s0) (λ n. IsOfNewLabel n a.label a.label) (λ st lib k is. inl is)
-    (subst (λ (l : List ℕ). ReadsWhere (IsOfNewLabel s0.setting.slots l l) s0 s1) c.as_slice-label.ensures c.test_new_label.ensures.reads) in
+    (subst (λ (l : List ℕ). ReadsWhere (IsOfNewLabel s0.setting.slots l l) s0 s1) c.as_slice-label.ensures
+    c.test_new_label.ensures.reads) in
     r1
 
 pub returns-in_err-kept-clause-reads : goal.returns-in_err-kept-clause-reads
@@ -228,7 +233,8 @@ returns-in_err-kept-clause-reads g c =
     let x = command.Add c.args.rank a in
     let r1 : ReadsFor s0 s1 (command.Add c.args.rank c.args.assertion.now) =
     since_where (OfCommand s0 x) s0 s0 s1 (looks_refl s0) (λ n. IsOfNewLabel n a.label a.label) (λ st lib k is. inl is)
-    (subst (λ (l : List ℕ). ReadsWhere (IsOfNewLabel s0.setting.slots l l) s0 s1) c.as_slice-label.ensures c.test_new_label.ensures.reads) in
+    (subst (λ (l : List ℕ). ReadsWhere (IsOfNewLabel s0.setting.slots l l) s0 s1) c.as_slice-label.ensures
+    c.test_new_label.ensures.reads) in
     let s2 = g.C.Cells.sight c.test_proof.new.cells in
     let l1 = c.test_new_label.ensures.looks in
     let r2 : ReadsFor s0 s2 (command.Add c.args.rank c.args.assertion.now) =
@@ -245,7 +251,8 @@ returns-in_err-slot-clause-reads g c =
     let x = command.Add c.args.rank a in
     let r1 : ReadsFor s0 s1 (command.Add c.args.rank c.args.assertion.now) =
     since_where (OfCommand s0 x) s0 s0 s1 (looks_refl s0) (λ n. IsOfNewLabel n a.label a.label) (λ st lib k is. inl is)
-    (subst (λ (l : List ℕ). ReadsWhere (IsOfNewLabel s0.setting.slots l l) s0 s1) c.as_slice-label.ensures c.test_new_label.ensures.reads) in
+    (subst (λ (l : List ℕ). ReadsWhere (IsOfNewLabel s0.setting.slots l l) s0 s1) c.as_slice-label.ensures
+    c.test_new_label.ensures.reads) in
     let s2 = g.C.Cells.sight c.test_proof.new.cells in
     let l1 = c.test_new_label.ensures.looks in
     let r2 : ReadsFor s0 s2 (command.Add c.args.rank c.args.assertion.now) =
@@ -271,7 +278,8 @@ returns-in_default-2-clause-reads g c =
     let x = command.Add c.args.rank a in
     let r1 : ReadsFor s0 s1 (command.Add c.args.rank c.args.assertion.now) =
     since_where (OfCommand s0 x) s0 s0 s1 (looks_refl s0) (λ n. IsOfNewLabel n a.label a.label) (λ st lib k is. inl is)
-    (subst (λ (l : List ℕ). ReadsWhere (IsOfNewLabel s0.setting.slots l l) s0 s1) c.as_slice-label.ensures c.test_new_label.ensures.reads) in
+    (subst (λ (l : List ℕ). ReadsWhere (IsOfNewLabel s0.setting.slots l l) s0 s1) c.as_slice-label.ensures
+    c.test_new_label.ensures.reads) in
     let s2 = g.C.Cells.sight c.test_proof.new.cells in
     let l1 = c.test_new_label.ensures.looks in
     let r2 : ReadsFor s0 s2 (command.Add c.args.rank c.args.assertion.now) =
@@ -297,7 +305,8 @@ returns-in_err-fill-clause-reads g c =
     let x = command.Add c.args.rank a in
     let r1 : ReadsFor s0 s1 (command.Add c.args.rank c.args.assertion.now) =
     since_where (OfCommand s0 x) s0 s0 s1 (looks_refl s0) (λ n. IsOfNewLabel n a.label a.label) (λ st lib k is. inl is)
-    (subst (λ (l : List ℕ). ReadsWhere (IsOfNewLabel s0.setting.slots l l) s0 s1) c.as_slice-label.ensures c.test_new_label.ensures.reads) in
+    (subst (λ (l : List ℕ). ReadsWhere (IsOfNewLabel s0.setting.slots l l) s0 s1) c.as_slice-label.ensures
+    c.test_new_label.ensures.reads) in
     let s2 = g.C.Cells.sight c.test_proof.new.cells in
     let l1 = c.test_new_label.ensures.looks in
     let r2 : ReadsFor s0 s2 (command.Add c.args.rank c.args.assertion.now) =
@@ -325,7 +334,8 @@ returns-in_err-fill-clause-reads g c =
     subst (λ (steps : List StoredStep). ReadsWithin (IsOfFilling s3.setting.slots slot a.label steps) s3 s4) c.as_slice.ensures.value
     c.fill.ensures.reads in
     since_then (OfCommand s0 x) r3 c.fill.ensures.onward
-    (since_before (OfCommand s0 x) s0 s3 s4 (looks_trans _ _ _ l2 on) (λ n st lib k. Touches n st lib (command.Add c.args.rank c.args.assertion.now) k)
+    (since_before (OfCommand s0 x) s0 s3 s4 (looks_trans _ _ _ l2 on)
+    (λ n st lib k. Touches n st lib (command.Add c.args.rank c.args.assertion.now) k)
     (λ st lib k is. inr (inr (inr is))) c.fill.ensures.onward (λ st lib m v.
     asks_wider (add_touches s3 c.bucket-from.result slot c.args.rank a kept from_is first
     (stored_on s2 s3 a.proof kept on c.in_ok-kept.ensures.ok.stored) st lib v) filled))
@@ -338,7 +348,8 @@ returns-clause-reads g c =
     let x = command.Add c.args.rank a in
     let r1 : ReadsFor s0 s1 (command.Add c.args.rank c.args.assertion.now) =
     since_where (OfCommand s0 x) s0 s0 s1 (looks_refl s0) (λ n. IsOfNewLabel n a.label a.label) (λ st lib k is. inl is)
-    (subst (λ (l : List ℕ). ReadsWhere (IsOfNewLabel s0.setting.slots l l) s0 s1) c.as_slice-label.ensures c.test_new_label.ensures.reads) in
+    (subst (λ (l : List ℕ). ReadsWhere (IsOfNewLabel s0.setting.slots l l) s0 s1) c.as_slice-label.ensures
+    c.test_new_label.ensures.reads) in
     let s2 = g.C.Cells.sight c.test_proof.new.cells in
     let l1 = c.test_new_label.ensures.looks in
     let r2 : ReadsFor s0 s2 (command.Add c.args.rank c.args.assertion.now) =
@@ -366,7 +377,8 @@ returns-clause-reads g c =
     subst (λ (steps : List StoredStep). ReadsWithin (IsOfFilling s3.setting.slots slot a.label steps) s3 s4) c.as_slice.ensures.value
     c.fill.ensures.reads in
     since_then (OfCommand s0 x) r3 c.fill.ensures.onward
-    (since_before (OfCommand s0 x) s0 s3 s4 (looks_trans _ _ _ l2 on) (λ n st lib k. Touches n st lib (command.Add c.args.rank c.args.assertion.now) k)
+    (since_before (OfCommand s0 x) s0 s3 s4 (looks_trans _ _ _ l2 on)
+    (λ n st lib k. Touches n st lib (command.Add c.args.rank c.args.assertion.now) k)
     (λ st lib k is. inr (inr (inr is))) c.fill.ensures.onward (λ st lib m v.
     asks_wider (add_touches s3 c.bucket-from.result slot c.args.rank a kept from_is first
     (stored_on s2 s3 a.proof kept on c.in_ok-kept.ensures.ok.stored) st lib v) filled))

@@ -118,4 +118,5 @@ returns-clause-reads g c =
     let front = subst (λ (l : List ℕ). ReadsWithin (IsOfFront s2.setting.slots c.args.slot l) s2 s3) c.as_slice-2.ensures
     c.put_in.ensures.reads in
     found_end s0 s3 i from (Rename from to)
-    (relabel_in s0 s2 i from to s3 (onward_trans _ _ _ c.put_body.ensures.onward c.take_out.ensures.onward) c.put_in.ensures.onward front r2)
+    (relabel_in s0 s2 i from to s3 (onward_trans _ _ _ c.put_body.ensures.onward c.take_out.ensures.onward) c.put_in.ensures.onward front
+    r2)

@@ -26,7 +26,8 @@ returns-in_err-slot-clause-answers g c =
     let to = c.args.new.now in
     let x = command.Rename c.args.old.now c.args.new.now in
     answers_unknown s0 s1 x from c.from_residual.result c.in_err-slot.field-0.0 c.from_residual.ensures.1 c.in_err-slot.ensures.err
-    (λ none. refused s0 s1 x reason.UnknownLabel c.known_slot.ensures.looks (λ st lib v. rename_unknown s0.setting lib from to (none st lib v)))
+    (λ none. refused s0 s1 x reason.UnknownLabel c.known_slot.ensures.looks
+    (λ st lib v. rename_unknown s0.setting lib from to (none st lib v)))
 
 pub returns-in_err-test_new_label-clause-onward : goal.returns-in_err-test_new_label-clause-onward
 returns-in_err-test_new_label-clause-onward g c = onward_trans _ _ _ c.known_slot.ensures.looks.onward c.test_new_label.ensures.looks.onward
@@ -43,7 +44,8 @@ returns-in_err-test_new_label-clause-answers g c =
     let told : TellsNotNew s2 from to error =
     subst (λ (x : List ℕ). TellsNotNew s2 from x error) c.as_slice-2.ensures
     (subst (λ (x : List ℕ). TellsNotNew s2 x c.as_slice-2.result.now error) c.as_slice.ensures c.in_err-test_new_label.ensures.err) in
-    answers_ended s0 s2 (command.Rename from to) c.from_residual-in_err-test_new_label.result error c.from_residual-in_err-test_new_label.ensures.1
+    answers_ended s0 s2 (command.Rename from to) c.from_residual-in_err-test_new_label.result error
+    c.from_residual-in_err-test_new_label.ensures.1
     (rename_unlabelled s0 s1 s2 c.in_ok-slot.slot from to finds c.known_slot.ensures.looks c.test_new_label.ensures.looks error told)
 
 pub returns-in_err-body-clause-onward : goal.returns-in_err-body-clause-onward

@@ -38,7 +38,8 @@ fill-requires-clause-fillable c =
     subst (λ (ys : List StoredStep). Resolves (sight_of q) a.proof (Some ys)) (sym c.as_slice.ensures.value)
     (subst (λ (o : Option (Vec StoredStep Global)). Resolves (sight_of q) a.proof (option_map (λ (v : Vec StoredStep Global). v.items) o))
     c.in-Ok-Some.field-0-is c.in-Ok-Some.ensures.ok) in
-    resolved_fillable db c.args.slot a c.requires.next at c.assertions.ensures.sound c.requires.checks p c.requires.fits c.requires.opened q kept
+    resolved_fillable db c.args.slot a c.requires.next at c.assertions.ensures.sound c.requires.checks p c.requires.fits c.requires.opened q
+    kept
     c.in-Ok-Some.ensures.looks resolved
 
 pub keep-requires : goal.keep-requires
@@ -60,9 +61,11 @@ keep-requires c =
     c.in-Ok-Some.field-0-is c.in-Ok-Some.ensures.ok) in
     let setting : setting_of r ≡ setting_of p = onward.setting ∙ looks.onward.setting in
     let held : ShowsHeld p.slots (now_state r) (opening (front (k + 1) db)) (held_from 0 (opening (front (k + 1) db))) =
-    filled_held db k a c.requires.next at c.assertions.ensures.sound c.requires.checks p c.requires.fits c.requires.opened q r kept looks onward
+    filled_held db k a c.requires.next at c.assertions.ensures.sound c.requires.checks p c.requires.fits c.requires.opened q r kept looks
+    onward
     resolved c.in-Ok.ensures.ok in
-    ∣ shows_some db k a c.requires.next at c.assertions.ensures.sound c.requires.checks p c.requires.fits c.requires.opened r setting held ∣₁
+    ∣ shows_some db k a c.requires.next at c.assertions.ensures.sound c.requires.checks p c.requires.fits c.requires.opened r setting held
+    ∣₁
 
 pub returns-in-Ok : goal.returns-in-Ok
 returns-in-Ok c =
@@ -83,7 +86,8 @@ returns-in-Ok c =
     c.in-Ok-Some.field-0-is c.in-Ok-Some.ensures.ok) in
     let setting : setting_of r ≡ setting_of p = onward.setting ∙ looks.onward.setting in
     let held : ShowsHeld p.slots (now_state r) (opening (front (k + 1) db)) (held_from 0 (opening (front (k + 1) db))) =
-    filled_held db k a c.requires.next at c.assertions.ensures.sound c.requires.checks p c.requires.fits c.requires.opened q r kept looks onward
+    filled_held db k a c.requires.next at c.assertions.ensures.sound c.requires.checks p c.requires.fits c.requires.opened q r kept looks
+    onward
     resolved c.in-Ok.ensures.ok in
     let made = c.keep.new.self in
     let same = c.keep.ensures.same in
@@ -93,5 +97,6 @@ returns-in-Ok c =
       slots_are = same.4 ∙ ap (λ (s : Setting). s.slots) setting;
       room_is = same.5 ∙ onward.room ∙ looks.onward.room;
       kept = c.keep.ensures.log;
-      shows = subst (λ (x : State). ShowsHeld p.slots x (opening (front (k + 1) db)) (held_from 0 (opening (front (k + 1) db)))) (sym e) held;
+      shows = subst (λ (x : State). ShowsHeld p.slots x (opening (front (k + 1) db)) (held_from 0 (opening (front (k + 1) db))))
+          (sym e) held;
     }

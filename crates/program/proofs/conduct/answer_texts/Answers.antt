@@ -9,5 +9,9 @@ returns g c =
     let told = c.answer_job.ensures in
     let paths = map (λ (p : Bor (List ℕ)). p.now) c.args.order.now.paths.items in
     let history = option_map (λ (s : Bor (List ℕ)). s.now) c.args.order.now.history in
-    let texts = map (λ (t : Vec ℕ Global). t.items) c.args.texts.items in
-    (told.0, told.1, texts_answered (is_some c.args.keys) c.args.order.now.task paths history texts c.in-Some.job told.0 c.answer_job.result c.in-Some.ensures.job told.2)
+    let texts = map (λ (t : Vec ℕ Global). t.items) c.args.texts.items in (
+      told.0,
+      told.1,
+      texts_answered (is_some c.args.keys) c.args.order.now.task paths history texts c.in-Some.job told.0 c.answer_job.result
+          c.in-Some.ensures.job told.2,
+    )

@@ -14,7 +14,8 @@ returns-in-Err g c =
     let texts = map (λ (t : Vec ℕ Global). t.items) c.read_all.new.texts.items in (
       read.0 ++ told.0,
       adds_more read.1 told.1,
-      untold (is_some c.args.keys) c.args.order.now.task _ _ history texts c.in-Err.unread read.0 told.0 c.tell_unread.result same read.2 told.2,
+      untold (is_some c.args.keys) c.args.order.now.task _ _ history texts c.in-Err.unread read.0 told.0 c.tell_unread.result same read.2
+          told.2,
     )
 
 pub returns : goal.returns
@@ -26,5 +27,6 @@ returns g c =
     let texts = map (λ (t : Vec ℕ Global). t.items) c.read_all.new.texts.items in (
       read.0 ++ rest.0,
       adds_more read.1 rest.1,
-      followed (is_some c.args.keys) c.args.order.now.task _ _ history texts read.0 rest.0 c.answer_texts.result same read.2.0 read.2.1 rest.2,
+      followed (is_some c.args.keys) c.args.order.now.task _ _ history texts read.0 rest.0 c.answer_texts.result same read.2.0 read.2.1
+          rest.2,
     )

@@ -9,6 +9,7 @@ returns-in-Some g c =
     let order = c.in-Some.order in (
       done.0,
       done.1,
-      give_ordered (is_some c.args.keys) (subcommand_rows_of c.args.matches.now) order.source.now order.library.now order.history.now done.0 c.follow_give.result
+      give_ordered (is_some c.args.keys) (subcommand_rows_of c.args.matches.now) order.source.now order.library.now order.history.now done.0
+          c.follow_give.result
           c.in-Some.ensures.some done.2,
     )

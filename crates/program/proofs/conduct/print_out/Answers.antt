@@ -5,5 +5,8 @@ use Rattle.program.proofs.conduct.print_out.Goals as goal
 
 pub returns : goal.returns
 returns g c =
-    let printed = rw c.if-print.false at c.print.ensures in
-    (prints c.args.out.now false ∷ says (codes "cannot write") ∷ [], adds_more printed c.refuse.ensures.said, inr (refl, c.refuse.ensures.status))
+    let printed = rw c.if-print.false at c.print.ensures in (
+      prints c.args.out.now false ∷ says (codes "cannot write") ∷ [],
+      adds_more printed c.refuse.ensures.said,
+      inr (refl, c.refuse.ensures.status),
+    )

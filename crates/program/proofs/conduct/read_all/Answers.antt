@@ -17,4 +17,5 @@ pub loop-path-preserved : goal.loop-path-preserved
 loop-path-preserved g c =
     let read = c.in-Ok.ensures in
     let within : c.loop-path.path-index < length c.args.paths.now = omega (arith, c.loop-path-test.true) in
-    goes_on _ _ _ _ _ read.0 c.in-Ok.field-0 (path_here c.args.paths.now c.loop-path.path-index _ within) c.loop-path.invariant read.1 read.2
+    goes_on _ _ _ _ _ read.0 c.in-Ok.field-0
+    (path_here c.args.paths.now c.loop-path.path-index _ within) c.loop-path.invariant read.1 read.2

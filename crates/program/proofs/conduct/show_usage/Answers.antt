@@ -5,5 +5,8 @@ use Rattle.program.proofs.conduct.show_usage.Goals as goal
 
 pub returns : goal.returns
 returns g c =
-    let shown = rw c.if-show.false at c.show.ensures in
-    (shows c.args.error.now false ∷ says (codes "cannot write") ∷ [], adds_more shown c.refuse.ensures.said, inr (refl, c.refuse.ensures.status))
+    let shown = rw c.if-show.false at c.show.ensures in (
+      shows c.args.error.now false ∷ says (codes "cannot write") ∷ [],
+      adds_more shown c.refuse.ensures.said,
+      inr (refl, c.refuse.ensures.status),
+    )

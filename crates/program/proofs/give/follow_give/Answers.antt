@@ -13,7 +13,8 @@ returns-in-Err g c =
     let texts = map (λ (t : Vec ℕ Global). t.items) c.read_all.new.texts.items in (
       read.0 ++ told.0,
       adds_more read.1 told.1,
-      unread_given (is_some c.args.keys) order.source.now order.library.now order.history.now texts c.in-Err.unread read.0 told.0 c.tell_unread.result read.2 told.2,
+      unread_given (is_some c.args.keys) order.source.now order.library.now order.history.now texts c.in-Err.unread read.0 told.0
+          c.tell_unread.result read.2 told.2,
     )
 
 pub returns : goal.returns
@@ -24,6 +25,7 @@ returns g c =
     let texts = map (λ (t : Vec ℕ Global). t.items) c.read_all.new.texts.items in (
       read.0 ++ rest.0,
       adds_more read.1 rest.1,
-      given_done (is_some c.args.keys) order.source.now order.library.now order.history.now texts read.0 rest.0 c.answer_given.result read.2.1
+      given_done (is_some c.args.keys) order.source.now order.library.now order.history.now texts read.0 rest.0 c.answer_given.result
+          read.2.1
           (rw c.as_slice.ensures.value at rest.2),
     )

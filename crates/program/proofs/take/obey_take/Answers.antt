@@ -11,7 +11,8 @@ returns-in-Ok-Some g c =
     let asked = rw c.in-Ok-Some.field-0-is at c.in-Ok-Some.ensures.some in (
       done.0,
       done.1,
-      take_ordered (is_some c.args.keys) (subcommand_rows_of c.args.matches.now) order.path.now (map (λ (l : Bor (List ℕ)). l.now) order.labels.items)
+      take_ordered (is_some c.args.keys) (subcommand_rows_of c.args.matches.now) order.path.now
+          (map (λ (l : Bor (List ℕ)). l.now) order.labels.items)
           (option_map (λ (s : Bor (List ℕ)). s.now) order.from) (option_map (λ (s : Bor (List ℕ)). s.now) order.to)
           done.0 c.follow_take.result asked done.2,
     )

@@ -38,7 +38,8 @@ returns-then-citers-gt0-clause-answers g c =
     counted s1 s2 c.in_ok-slot.slot label c.in_ok-citers.citers c.citers.ensures.looks finds c.in_ok-citers.ensures.ok in
     let n = c.in_ok-citers.citers in
     answers_refused s0 s2 (command.Delete label) (reason.StillCited n) c.into.result c.into.ensures
-    (refused s0 s2 (command.Delete label) (reason.StillCited n) (looks_trans _ _ _ c.known_slot.ensures.looks c.citers.ensures.looks) (λ st lib v.
+    (refused s0 s2 (command.Delete label) (reason.StillCited n) (looks_trans _ _ _ c.known_slot.ensures.looks c.citers.ensures.looks)
+    (λ st lib v.
     let e = counts st lib v in delete_cited s0.setting lib label e.0 e.1 n e.2 c.if-citers-gt0.true))
 
 pub returns-in_err-remove-clause-onward : goal.returns-in_err-remove-clause-onward
@@ -71,7 +72,8 @@ returns-clause-keeps g c =
     let s3 = g.C.Cells.sight c.remove.new.cells in
     let label = c.args.label.now in
     let finds = c.in_ok-slot.ensures.ok in
-    keeps_to_since s0 s2 s3 (command.Delete label) (looks_trans _ _ _ c.known_slot.ensures.looks c.citers.ensures.looks) c.remove.ensures.onward
+    keeps_to_since s0 s2 s3 (command.Delete label)
+    (looks_trans _ _ _ c.known_slot.ensures.looks c.citers.ensures.looks) c.remove.ensures.onward
     (delete_keeps s2 s3 c.in_ok-slot.slot label (finds_after s1 s2 label c.in_ok-slot.slot c.citers.ensures.looks finds).1
     c.in_ok-remove.ensures.keeps)
 
@@ -95,7 +97,8 @@ returns-in_err-citers-clause-reads g c =
     let i = c.in_ok-slot.slot in
     let finds = c.in_ok-slot.ensures.ok in
     let r2 : ReadsFor s0 s2 (command.Delete c.args.label.now) =
-    then_cells s0 s1 s2 (command.Delete label) label i c.known_slot.ensures.looks finds r1 c.citers.ensures.looks.onward (λ k. k ≡ citers_cell i)
+    then_cells s0 s1 s2 (command.Delete label) label i c.known_slot.ensures.looks finds r1 c.citers.ensures.looks.onward (λ k. k
+    ≡ citers_cell i)
     (λ st lib at k is. inr (i, at, inr (inl (of_slot i 4 k (omega arith) is)))) c.citers.ensures.reads in
     r2
 
@@ -110,7 +113,8 @@ returns-then-citers-gt0-clause-reads g c =
     let i = c.in_ok-slot.slot in
     let finds = c.in_ok-slot.ensures.ok in
     let r2 : ReadsFor s0 s2 (command.Delete c.args.label.now) =
-    then_cells s0 s1 s2 (command.Delete label) label i c.known_slot.ensures.looks finds r1 c.citers.ensures.looks.onward (λ k. k ≡ citers_cell i)
+    then_cells s0 s1 s2 (command.Delete label) label i c.known_slot.ensures.looks finds r1 c.citers.ensures.looks.onward (λ k. k
+    ≡ citers_cell i)
     (λ st lib at k is. inr (i, at, inr (inl (of_slot i 4 k (omega arith) is)))) c.citers.ensures.reads in
     r2
 
@@ -125,7 +129,8 @@ returns-in_err-remove-clause-reads g c =
     let i = c.in_ok-slot.slot in
     let finds = c.in_ok-slot.ensures.ok in
     let r2 : ReadsFor s0 s2 (command.Delete c.args.label.now) =
-    then_cells s0 s1 s2 (command.Delete label) label i c.known_slot.ensures.looks finds r1 c.citers.ensures.looks.onward (λ k. k ≡ citers_cell i)
+    then_cells s0 s1 s2 (command.Delete label) label i c.known_slot.ensures.looks finds r1 c.citers.ensures.looks.onward (λ k. k
+    ≡ citers_cell i)
     (λ st lib at k is. inr (i, at, inr (inl (of_slot i 4 k (omega arith) is)))) c.citers.ensures.reads in
     let s3 = g.C.Cells.sight c.remove.new.cells in
     then_found s0 s2 s3 (command.Delete label) label i (looks_trans _ _ _ c.known_slot.ensures.looks c.citers.ensures.looks)
@@ -142,7 +147,8 @@ returns-clause-reads g c =
     let i = c.in_ok-slot.slot in
     let finds = c.in_ok-slot.ensures.ok in
     let r2 : ReadsFor s0 s2 (command.Delete c.args.label.now) =
-    then_cells s0 s1 s2 (command.Delete label) label i c.known_slot.ensures.looks finds r1 c.citers.ensures.looks.onward (λ k. k ≡ citers_cell i)
+    then_cells s0 s1 s2 (command.Delete label) label i c.known_slot.ensures.looks finds r1 c.citers.ensures.looks.onward (λ k. k
+    ≡ citers_cell i)
     (λ st lib at k is. inr (i, at, inr (inl (of_slot i 4 k (omega arith) is)))) c.citers.ensures.reads in
     let s3 = g.C.Cells.sight c.remove.new.cells in
     then_found s0 s2 s3 (command.Delete label) label i (looks_trans _ _ _ c.known_slot.ensures.looks c.citers.ensures.looks)

@@ -69,7 +69,8 @@ returns-in_err-former-clause-reads g c =
     let s1 = g.C.Cells.sight c.stored_proof.new.cells in
     let i = c.args.slot in
     let label = c.args.label.now in
-    let r1 : ReadsSince (OfCommandFound s0 c.args.slot c.args.label.now (Delete c.args.label.now)) s0 s0 s1 = removal_proof s0 s1 i label c.stored_proof.ensures.reads in
+    let r1 : ReadsSince (OfCommandFound s0 c.args.slot c.args.label.now (Delete c.args.label.now)) s0 s0 s1 =
+    removal_proof s0 s1 i label c.stored_proof.ensures.reads in
     found_end s0 s1 i label (Delete c.args.label.now) r1
 
 pub returns-in_err-cited-clause-reads : goal.returns-in_err-cited-clause-reads
@@ -78,7 +79,8 @@ returns-in_err-cited-clause-reads g c =
     let s1 = g.C.Cells.sight c.stored_proof.new.cells in
     let i = c.args.slot in
     let label = c.args.label.now in
-    let r1 : ReadsSince (OfCommandFound s0 c.args.slot c.args.label.now (Delete c.args.label.now)) s0 s0 s1 = removal_proof s0 s1 i label c.stored_proof.ensures.reads in
+    let r1 : ReadsSince (OfCommandFound s0 c.args.slot c.args.label.now (Delete c.args.label.now)) s0 s0 s1 =
+    removal_proof s0 s1 i label c.stored_proof.ensures.reads in
     found_end s0 s1 i label (Delete c.args.label.now) r1
 
 pub returns-in_err-count_out-clause-reads : goal.returns-in_err-count_out-clause-reads
@@ -87,7 +89,8 @@ returns-in_err-count_out-clause-reads g c =
     let s1 = g.C.Cells.sight c.stored_proof.new.cells in
     let i = c.args.slot in
     let label = c.args.label.now in
-    let r1 : ReadsSince (OfCommandFound s0 c.args.slot c.args.label.now (Delete c.args.label.now)) s0 s0 s1 = removal_proof s0 s1 i label c.stored_proof.ensures.reads in
+    let r1 : ReadsSince (OfCommandFound s0 c.args.slot c.args.label.now (Delete c.args.label.now)) s0 s0 s1 =
+    removal_proof s0 s1 i label c.stored_proof.ensures.reads in
     let s2 = g.C.Cells.sight c.count_out.new.cells in
     let former = c.in_ok-former.former.items in
     let listed = c.as_slice-2.result.now in
@@ -105,7 +108,8 @@ returns-in_err-take_out-clause-reads g c =
     let s1 = g.C.Cells.sight c.stored_proof.new.cells in
     let i = c.args.slot in
     let label = c.args.label.now in
-    let r1 : ReadsSince (OfCommandFound s0 c.args.slot c.args.label.now (Delete c.args.label.now)) s0 s0 s1 = removal_proof s0 s1 i label c.stored_proof.ensures.reads in
+    let r1 : ReadsSince (OfCommandFound s0 c.args.slot c.args.label.now (Delete c.args.label.now)) s0 s0 s1 =
+    removal_proof s0 s1 i label c.stored_proof.ensures.reads in
     let s2 = g.C.Cells.sight c.count_out.new.cells in
     let former = c.in_ok-former.former.items in
     let listed = c.as_slice-2.result.now in
@@ -130,7 +134,8 @@ returns-clause-reads g c =
     let s1 = g.C.Cells.sight c.stored_proof.new.cells in
     let i = c.args.slot in
     let label = c.args.label.now in
-    let r1 : ReadsSince (OfCommandFound s0 c.args.slot c.args.label.now (Delete c.args.label.now)) s0 s0 s1 = removal_proof s0 s1 i label c.stored_proof.ensures.reads in
+    let r1 : ReadsSince (OfCommandFound s0 c.args.slot c.args.label.now (Delete c.args.label.now)) s0 s0 s1 =
+    removal_proof s0 s1 i label c.stored_proof.ensures.reads in
     let s2 = g.C.Cells.sight c.count_out.new.cells in
     let former = c.in_ok-former.former.items in
     let listed = c.as_slice-2.result.now in

@@ -27,22 +27,27 @@ returns-clause-ok g c = λ st lib v e at held f f_at f_held.
 
 pub returns-in_err-former-clause-reads : goal.returns-in_err-former-clause-reads
 returns-in_err-former-clause-reads g c =
-    let first : ReadsWithin (λ k. (k ≡ statement_cell c.args.old) ⊎ (k ≡ statement_cell c.args.new)) (g.C.Cells.sight c.args.cells.now) (g.C.Cells.sight c.frame.new.cells) =
+    let first : ReadsWithin (λ k. (k ≡ statement_cell c.args.old)
+    ⊎ (k ≡ statement_cell c.args.new)) (g.C.Cells.sight c.args.cells.now) (g.C.Cells.sight c.frame.new.cells) =
     asks_cell (inl refl) c.frame.ensures.reads in
     first
 
 pub returns-in_err-next-clause-reads : goal.returns-in_err-next-clause-reads
 returns-in_err-next-clause-reads g c =
-    let first : ReadsWithin (λ k. (k ≡ statement_cell c.args.old) ⊎ (k ≡ statement_cell c.args.new)) (g.C.Cells.sight c.args.cells.now) (g.C.Cells.sight c.frame.new.cells) =
+    let first : ReadsWithin (λ k. (k ≡ statement_cell c.args.old)
+    ⊎ (k ≡ statement_cell c.args.new)) (g.C.Cells.sight c.args.cells.now) (g.C.Cells.sight c.frame.new.cells) =
     asks_cell (inl refl) c.frame.ensures.reads in
-    let next : ReadsWithin (λ k. (k ≡ statement_cell c.args.old) ⊎ (k ≡ statement_cell c.args.new)) (g.C.Cells.sight c.frame.new.cells) (g.C.Cells.sight c.frame-2.new.cells) =
+    let next : ReadsWithin (λ k. (k ≡ statement_cell c.args.old)
+    ⊎ (k ≡ statement_cell c.args.new)) (g.C.Cells.sight c.frame.new.cells) (g.C.Cells.sight c.frame-2.new.cells) =
     asks_cell (inr refl) c.frame-2.ensures.reads in
     asks_trans first next
 
 pub returns-clause-reads : goal.returns-clause-reads
 returns-clause-reads g c =
-    let first : ReadsWithin (λ k. (k ≡ statement_cell c.args.old) ⊎ (k ≡ statement_cell c.args.new)) (g.C.Cells.sight c.args.cells.now) (g.C.Cells.sight c.frame.new.cells) =
+    let first : ReadsWithin (λ k. (k ≡ statement_cell c.args.old)
+    ⊎ (k ≡ statement_cell c.args.new)) (g.C.Cells.sight c.args.cells.now) (g.C.Cells.sight c.frame.new.cells) =
     asks_cell (inl refl) c.frame.ensures.reads in
-    let next : ReadsWithin (λ k. (k ≡ statement_cell c.args.old) ⊎ (k ≡ statement_cell c.args.new)) (g.C.Cells.sight c.frame.new.cells) (g.C.Cells.sight c.frame-2.new.cells) =
+    let next : ReadsWithin (λ k. (k ≡ statement_cell c.args.old)
+    ⊎ (k ≡ statement_cell c.args.new)) (g.C.Cells.sight c.frame.new.cells) (g.C.Cells.sight c.frame-2.new.cells) =
     asks_cell (inr refl) c.frame-2.ensures.reads in
     asks_trans first next

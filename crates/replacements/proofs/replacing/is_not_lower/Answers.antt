@@ -25,22 +25,27 @@ returns-clause-ok g c = λ st lib v e at held f f_at f_held.
 
 pub returns-in_err-limit-clause-reads : goal.returns-in_err-limit-clause-reads
 returns-in_err-limit-clause-reads g c =
-    let first : ReadsWithin (λ k. (k ≡ rank_cell c.args.citing) ⊎ (k ≡ rank_cell c.args.cited)) (g.C.Cells.sight c.args.cells.now) (g.C.Cells.sight c.rank.new.cells) =
+    let first : ReadsWithin (λ k. (k ≡ rank_cell c.args.citing)
+    ⊎ (k ≡ rank_cell c.args.cited)) (g.C.Cells.sight c.args.cells.now) (g.C.Cells.sight c.rank.new.cells) =
     asks_cell (inl refl) c.rank.ensures.reads in
     first
 
 pub returns-in_err-rank-clause-reads : goal.returns-in_err-rank-clause-reads
 returns-in_err-rank-clause-reads g c =
-    let first : ReadsWithin (λ k. (k ≡ rank_cell c.args.citing) ⊎ (k ≡ rank_cell c.args.cited)) (g.C.Cells.sight c.args.cells.now) (g.C.Cells.sight c.rank.new.cells) =
+    let first : ReadsWithin (λ k. (k ≡ rank_cell c.args.citing)
+    ⊎ (k ≡ rank_cell c.args.cited)) (g.C.Cells.sight c.args.cells.now) (g.C.Cells.sight c.rank.new.cells) =
     asks_cell (inl refl) c.rank.ensures.reads in
-    let next : ReadsWithin (λ k. (k ≡ rank_cell c.args.citing) ⊎ (k ≡ rank_cell c.args.cited)) (g.C.Cells.sight c.rank.new.cells) (g.C.Cells.sight c.rank-2.new.cells) =
+    let next : ReadsWithin (λ k. (k ≡ rank_cell c.args.citing)
+    ⊎ (k ≡ rank_cell c.args.cited)) (g.C.Cells.sight c.rank.new.cells) (g.C.Cells.sight c.rank-2.new.cells) =
     asks_cell (inr refl) c.rank-2.ensures.reads in
     asks_trans first next
 
 pub returns-clause-reads : goal.returns-clause-reads
 returns-clause-reads g c =
-    let first : ReadsWithin (λ k. (k ≡ rank_cell c.args.citing) ⊎ (k ≡ rank_cell c.args.cited)) (g.C.Cells.sight c.args.cells.now) (g.C.Cells.sight c.rank.new.cells) =
+    let first : ReadsWithin (λ k. (k ≡ rank_cell c.args.citing)
+    ⊎ (k ≡ rank_cell c.args.cited)) (g.C.Cells.sight c.args.cells.now) (g.C.Cells.sight c.rank.new.cells) =
     asks_cell (inl refl) c.rank.ensures.reads in
-    let next : ReadsWithin (λ k. (k ≡ rank_cell c.args.citing) ⊎ (k ≡ rank_cell c.args.cited)) (g.C.Cells.sight c.rank.new.cells) (g.C.Cells.sight c.rank-2.new.cells) =
+    let next : ReadsWithin (λ k. (k ≡ rank_cell c.args.citing)
+    ⊎ (k ≡ rank_cell c.args.cited)) (g.C.Cells.sight c.rank.new.cells) (g.C.Cells.sight c.rank-2.new.cells) =
     asks_cell (inr refl) c.rank-2.ensures.reads in
     asks_trans first next

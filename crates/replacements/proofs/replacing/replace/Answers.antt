@@ -55,7 +55,8 @@ returns-in_err-former-clause-answers g c =
 
 pub returns-in_err-next-clause-onward : goal.returns-in_err-next-clause-onward
 returns-in_err-next-clause-onward g c =
-    onward_trans _ _ _ c.known_slot.ensures.looks.onward (onward_trans _ _ _ c.known_slot-2.ensures.looks.onward c.known_slot-3.ensures.looks.onward)
+    onward_trans _ _ _ c.known_slot.ensures.looks.onward
+    (onward_trans _ _ _ c.known_slot-2.ensures.looks.onward c.known_slot-3.ensures.looks.onward)
 
 pub returns-in_err-next-clause-answers : goal.returns-in_err-next-clause-answers
 returns-in_err-next-clause-answers g c =
@@ -99,7 +100,8 @@ returns-then-is_empty-clause-answers g c =
     let old = c.args.old.now in
     let new = c.args.new.now in
     let kept = c.in_ok-kept.kept.items in
-    let known = sought i j k label old new kept s0 s1 s2 s3 s4 c.known_slot.ensures.looks c.known_slot-2.ensures.looks c.known_slot-3.ensures.looks
+    let known = sought i j k label old new kept s0 s1 s2 s3 s4 c.known_slot.ensures.looks c.known_slot-2.ensures.looks
+    c.known_slot-3.ensures.looks
     c.stored_proof.ensures.looks c.in_ok-slot.ensures.ok c.in_ok-former.ensures.ok c.in_ok-next.ensures.ok c.in_ok-kept.ensures.ok in
     let zero = (Decides-eqb (vec_len c.in_ok-kept.kept) 0).0 (sym c.is_empty.ensures ∙ c.if-is_empty.true) in
     let short : length c.in_ok-kept.kept.items ≡ 0 = omega (arith, zero) in
@@ -135,7 +137,8 @@ returns-then-not-branch-clause-answers g c =
     let new = c.args.new.now in
     let p = c.args.prelude.now in
     let kept = c.in_ok-kept.kept.items in
-    let known = sought i j k label old new kept s0 s1 s2 s3 s4 c.known_slot.ensures.looks c.known_slot-2.ensures.looks c.known_slot-3.ensures.looks
+    let known = sought i j k label old new kept s0 s1 s2 s3 s4 c.known_slot.ensures.looks c.known_slot-2.ensures.looks
+    c.known_slot-3.ensures.looks
     c.stored_proof.ensures.looks c.in_ok-slot.ensures.ok c.in_ok-former.ensures.ok c.in_ok-next.ensures.ok c.in_ok-kept.ensures.ok in
     let there = sought_later i j k label old new kept s0 s4 s5 c.are_alike.ensures.looks known in
     let some : c.in_ok-kept.kept.items ≢ [] = search rules in
@@ -172,7 +175,8 @@ returns-then-branch-clause-answers g c =
     let new = c.args.new.now in
     let p = c.args.prelude.now in
     let kept = c.in_ok-kept.kept.items in
-    let known = sought i j k label old new kept s0 s1 s2 s3 s4 c.known_slot.ensures.looks c.known_slot-2.ensures.looks c.known_slot-3.ensures.looks
+    let known = sought i j k label old new kept s0 s1 s2 s3 s4 c.known_slot.ensures.looks c.known_slot-2.ensures.looks
+    c.known_slot-3.ensures.looks
     c.stored_proof.ensures.looks c.in_ok-slot.ensures.ok c.in_ok-former.ensures.ok c.in_ok-next.ensures.ok c.in_ok-kept.ensures.ok in
     let since = looks_trans s4 s5 s6 c.are_alike.ensures.looks c.is_not_lower.ensures.looks in
     let there = sought_later i j k label old new kept s0 s4 s6 since known in
@@ -235,7 +239,8 @@ returns-clause-answers g c =
     let new = c.args.new.now in
     let p = c.args.prelude.now in
     let kept = c.in_ok-kept.kept.items in
-    let known = sought i j k label old new kept s0 s1 s2 s3 s4 c.known_slot.ensures.looks c.known_slot-2.ensures.looks c.known_slot-3.ensures.looks
+    let known = sought i j k label old new kept s0 s1 s2 s3 s4 c.known_slot.ensures.looks c.known_slot-2.ensures.looks
+    c.known_slot-3.ensures.looks
     c.stored_proof.ensures.looks c.in_ok-slot.ensures.ok c.in_ok-former.ensures.ok c.in_ok-next.ensures.ok c.in_ok-kept.ensures.ok in
     let since = looks_trans s4 s5 s6 c.are_alike.ensures.looks c.is_not_lower.ensures.looks in
     let there = sought_later i j k label old new kept s0 s4 s6 since known in
@@ -257,7 +262,8 @@ returns-in_err-put_steps-clause-taken g c st lib m v =
     let j = c.in_ok-former.former in
     let k = c.in_ok-next.next in
     let kept = c.in_ok-kept.kept.items in
-    let since = looks_trans _ _ _ c.known_slot-2.ensures.looks (looks_trans _ _ _ c.known_slot-3.ensures.looks c.stored_proof.ensures.looks) in
+    let since = looks_trans _ _ _ c.known_slot-2.ensures.looks
+    (looks_trans _ _ _ c.known_slot-3.ensures.looks c.stored_proof.ensures.looks) in
     let looks = looks_trans _ _ _ c.known_slot.ensures.looks since in
     let later = looks_trans _ _ _ c.are_alike.ensures.looks c.is_not_lower.ensures.looks in
     let on = onward_trans _ _ _ later.onward c.put_steps.ensures.onward in
@@ -278,7 +284,8 @@ returns-clause-taken g c st lib m v =
     let j = c.in_ok-former.former in
     let k = c.in_ok-next.next in
     let kept = c.in_ok-kept.kept.items in
-    let since = looks_trans _ _ _ c.known_slot-2.ensures.looks (looks_trans _ _ _ c.known_slot-3.ensures.looks c.stored_proof.ensures.looks) in
+    let since = looks_trans _ _ _ c.known_slot-2.ensures.looks
+    (looks_trans _ _ _ c.known_slot-3.ensures.looks c.stored_proof.ensures.looks) in
     let looks = looks_trans _ _ _ c.known_slot.ensures.looks since in
     let later = looks_trans _ _ _ c.are_alike.ensures.looks c.is_not_lower.ensures.looks in
     let on = onward_trans _ _ _ later.onward c.put_steps.ensures.onward in
@@ -309,7 +316,8 @@ returns-clause-keeps g c =
     let old = c.args.old.now in
     let new = c.args.new.now in
     let kept = c.in_ok-kept.kept.items in
-    let known = sought i j k label old new kept s0 s1 s2 s3 s4 c.known_slot.ensures.looks c.known_slot-2.ensures.looks c.known_slot-3.ensures.looks
+    let known = sought i j k label old new kept s0 s1 s2 s3 s4 c.known_slot.ensures.looks c.known_slot-2.ensures.looks
+    c.known_slot-3.ensures.looks
     c.stored_proof.ensures.looks c.in_ok-slot.ensures.ok c.in_ok-former.ensures.ok c.in_ok-next.ensures.ok c.in_ok-kept.ensures.ok in
     let since = looks_trans s4 s5 s6 c.are_alike.ensures.looks c.is_not_lower.ensures.looks in
     let there = sought_later i j k label old new kept s0 s4 s6 since known in
@@ -329,7 +337,8 @@ returns-in_err-slot-clause-reads g c =
     let old = c.args.old.now in
     let new = c.args.new.now in
     let x = Replace label old new in
-    let r1 : ReadsFor s0 s1 (Replace c.args.label.now c.args.old.now c.args.new.now) = first_look s0 s1 x label (λ st lib c is. inl (inl is)) c.known_slot.ensures.reads in
+    let r1 : ReadsFor s0 s1 (Replace c.args.label.now c.args.old.now c.args.new.now) =
+    first_look s0 s1 x label (λ st lib c is. inl (inl is)) c.known_slot.ensures.reads in
     r1
 
 pub returns-in_err-former-clause-reads : goal.returns-in_err-former-clause-reads
@@ -340,7 +349,8 @@ returns-in_err-former-clause-reads g c =
     let old = c.args.old.now in
     let new = c.args.new.now in
     let x = Replace label old new in
-    let r1 : ReadsFor s0 s1 (Replace c.args.label.now c.args.old.now c.args.new.now) = first_look s0 s1 x label (λ st lib c is. inl (inl is)) c.known_slot.ensures.reads in
+    let r1 : ReadsFor s0 s1 (Replace c.args.label.now c.args.old.now c.args.new.now) =
+    first_look s0 s1 x label (λ st lib c is. inl (inl is)) c.known_slot.ensures.reads in
     let s2 = g.C.Cells.sight c.known_slot-2.new.cells in
     let l1 = c.known_slot.ensures.looks in
     let r2 : ReadsFor s0 s2 (Replace c.args.label.now c.args.old.now c.args.new.now) =
@@ -356,7 +366,8 @@ returns-in_err-next-clause-reads g c =
     let old = c.args.old.now in
     let new = c.args.new.now in
     let x = Replace label old new in
-    let r1 : ReadsFor s0 s1 (Replace c.args.label.now c.args.old.now c.args.new.now) = first_look s0 s1 x label (λ st lib c is. inl (inl is)) c.known_slot.ensures.reads in
+    let r1 : ReadsFor s0 s1 (Replace c.args.label.now c.args.old.now c.args.new.now) =
+    first_look s0 s1 x label (λ st lib c is. inl (inl is)) c.known_slot.ensures.reads in
     let s2 = g.C.Cells.sight c.known_slot-2.new.cells in
     let l1 = c.known_slot.ensures.looks in
     let r2 : ReadsFor s0 s2 (Replace c.args.label.now c.args.old.now c.args.new.now) =
@@ -377,7 +388,8 @@ returns-in_err-kept-clause-reads g c =
     let old = c.args.old.now in
     let new = c.args.new.now in
     let x = Replace label old new in
-    let r1 : ReadsFor s0 s1 (Replace c.args.label.now c.args.old.now c.args.new.now) = first_look s0 s1 x label (λ st lib c is. inl (inl is)) c.known_slot.ensures.reads in
+    let r1 : ReadsFor s0 s1 (Replace c.args.label.now c.args.old.now c.args.new.now) =
+    first_look s0 s1 x label (λ st lib c is. inl (inl is)) c.known_slot.ensures.reads in
     let s2 = g.C.Cells.sight c.known_slot-2.new.cells in
     let l1 = c.known_slot.ensures.looks in
     let r2 : ReadsFor s0 s2 (Replace c.args.label.now c.args.old.now c.args.new.now) =
@@ -394,7 +406,8 @@ returns-in_err-kept-clause-reads g c =
     let n = c.in_ok-next.next in
     let since = looks_trans _ _ _ c.known_slot-2.ensures.looks c.known_slot-3.ensures.looks in
     let r4 : ReadsFor s0 s4 (Replace c.args.label.now c.args.old.now c.args.new.now) =
-    then_cells s0 s3 s4 x label i (looks_trans _ _ _ l2 c.known_slot-3.ensures.looks) (finds_after s1 s3 label i since c.in_ok-slot.ensures.ok)
+    then_cells s0 s3 s4 x label i (looks_trans _ _ _ l2 c.known_slot-3.ensures.looks)
+    (finds_after s1 s3 label i since c.in_ok-slot.ensures.ok)
     r3 c.stored_proof.ensures.looks.onward (λ m. m ≡ proof_cell i) (λ st lib at c is. inr (inr (inr (inr (i, at, inl is)))))
     c.stored_proof.ensures.reads in
     r4
@@ -407,7 +420,8 @@ returns-then-is_empty-clause-reads g c =
     let old = c.args.old.now in
     let new = c.args.new.now in
     let x = Replace label old new in
-    let r1 : ReadsFor s0 s1 (Replace c.args.label.now c.args.old.now c.args.new.now) = first_look s0 s1 x label (λ st lib c is. inl (inl is)) c.known_slot.ensures.reads in
+    let r1 : ReadsFor s0 s1 (Replace c.args.label.now c.args.old.now c.args.new.now) =
+    first_look s0 s1 x label (λ st lib c is. inl (inl is)) c.known_slot.ensures.reads in
     let s2 = g.C.Cells.sight c.known_slot-2.new.cells in
     let l1 = c.known_slot.ensures.looks in
     let r2 : ReadsFor s0 s2 (Replace c.args.label.now c.args.old.now c.args.new.now) =
@@ -424,7 +438,8 @@ returns-then-is_empty-clause-reads g c =
     let n = c.in_ok-next.next in
     let since = looks_trans _ _ _ c.known_slot-2.ensures.looks c.known_slot-3.ensures.looks in
     let r4 : ReadsFor s0 s4 (Replace c.args.label.now c.args.old.now c.args.new.now) =
-    then_cells s0 s3 s4 x label i (looks_trans _ _ _ l2 c.known_slot-3.ensures.looks) (finds_after s1 s3 label i since c.in_ok-slot.ensures.ok)
+    then_cells s0 s3 s4 x label i (looks_trans _ _ _ l2 c.known_slot-3.ensures.looks)
+    (finds_after s1 s3 label i since c.in_ok-slot.ensures.ok)
     r3 c.stored_proof.ensures.looks.onward (λ m. m ≡ proof_cell i) (λ st lib at c is. inr (inr (inr (inr (i, at, inl is)))))
     c.stored_proof.ensures.reads in
     r4
@@ -437,7 +452,8 @@ returns-in_err-are_alike-clause-reads g c =
     let old = c.args.old.now in
     let new = c.args.new.now in
     let x = Replace label old new in
-    let r1 : ReadsFor s0 s1 (Replace c.args.label.now c.args.old.now c.args.new.now) = first_look s0 s1 x label (λ st lib c is. inl (inl is)) c.known_slot.ensures.reads in
+    let r1 : ReadsFor s0 s1 (Replace c.args.label.now c.args.old.now c.args.new.now) =
+    first_look s0 s1 x label (λ st lib c is. inl (inl is)) c.known_slot.ensures.reads in
     let s2 = g.C.Cells.sight c.known_slot-2.new.cells in
     let l1 = c.known_slot.ensures.looks in
     let r2 : ReadsFor s0 s2 (Replace c.args.label.now c.args.old.now c.args.new.now) =
@@ -454,7 +470,8 @@ returns-in_err-are_alike-clause-reads g c =
     let n = c.in_ok-next.next in
     let since = looks_trans _ _ _ c.known_slot-2.ensures.looks c.known_slot-3.ensures.looks in
     let r4 : ReadsFor s0 s4 (Replace c.args.label.now c.args.old.now c.args.new.now) =
-    then_cells s0 s3 s4 x label i (looks_trans _ _ _ l2 c.known_slot-3.ensures.looks) (finds_after s1 s3 label i since c.in_ok-slot.ensures.ok)
+    then_cells s0 s3 s4 x label i (looks_trans _ _ _ l2 c.known_slot-3.ensures.looks)
+    (finds_after s1 s3 label i since c.in_ok-slot.ensures.ok)
     r3 c.stored_proof.ensures.looks.onward (λ m. m ≡ proof_cell i) (λ st lib at c is. inr (inr (inr (inr (i, at, inl is)))))
     c.stored_proof.ensures.reads in
     let known = sought i j n label old new c.in_ok-kept.kept.items s0 s1 s2 s3 s4 c.known_slot.ensures.looks c.known_slot-2.ensures.looks
@@ -462,7 +479,8 @@ returns-in_err-are_alike-clause-reads g c =
     c.in_ok-kept.ensures.ok in
     let s5 = g.C.Cells.sight c.are_alike.new.cells in
     let r5 : ReadsFor s0 s5 (Replace c.args.label.now c.args.old.now c.args.new.now) =
-    replace_alike s0 s4 s5 i j n label old new c.in_ok-kept.kept.items known c.are_alike.ensures.looks.onward r4 c.are_alike.ensures.reads in
+    replace_alike s0 s4 s5 i j n label old new c.in_ok-kept.kept.items known c.are_alike.ensures.looks.onward r4
+    c.are_alike.ensures.reads in
     r5
 
 pub returns-then-not-branch-clause-reads : goal.returns-then-not-branch-clause-reads
@@ -473,7 +491,8 @@ returns-then-not-branch-clause-reads g c =
     let old = c.args.old.now in
     let new = c.args.new.now in
     let x = Replace label old new in
-    let r1 : ReadsFor s0 s1 (Replace c.args.label.now c.args.old.now c.args.new.now) = first_look s0 s1 x label (λ st lib c is. inl (inl is)) c.known_slot.ensures.reads in
+    let r1 : ReadsFor s0 s1 (Replace c.args.label.now c.args.old.now c.args.new.now) =
+    first_look s0 s1 x label (λ st lib c is. inl (inl is)) c.known_slot.ensures.reads in
     let s2 = g.C.Cells.sight c.known_slot-2.new.cells in
     let l1 = c.known_slot.ensures.looks in
     let r2 : ReadsFor s0 s2 (Replace c.args.label.now c.args.old.now c.args.new.now) =
@@ -490,7 +509,8 @@ returns-then-not-branch-clause-reads g c =
     let n = c.in_ok-next.next in
     let since = looks_trans _ _ _ c.known_slot-2.ensures.looks c.known_slot-3.ensures.looks in
     let r4 : ReadsFor s0 s4 (Replace c.args.label.now c.args.old.now c.args.new.now) =
-    then_cells s0 s3 s4 x label i (looks_trans _ _ _ l2 c.known_slot-3.ensures.looks) (finds_after s1 s3 label i since c.in_ok-slot.ensures.ok)
+    then_cells s0 s3 s4 x label i (looks_trans _ _ _ l2 c.known_slot-3.ensures.looks)
+    (finds_after s1 s3 label i since c.in_ok-slot.ensures.ok)
     r3 c.stored_proof.ensures.looks.onward (λ m. m ≡ proof_cell i) (λ st lib at c is. inr (inr (inr (inr (i, at, inl is)))))
     c.stored_proof.ensures.reads in
     let known = sought i j n label old new c.in_ok-kept.kept.items s0 s1 s2 s3 s4 c.known_slot.ensures.looks c.known_slot-2.ensures.looks
@@ -498,7 +518,8 @@ returns-then-not-branch-clause-reads g c =
     c.in_ok-kept.ensures.ok in
     let s5 = g.C.Cells.sight c.are_alike.new.cells in
     let r5 : ReadsFor s0 s5 (Replace c.args.label.now c.args.old.now c.args.new.now) =
-    replace_alike s0 s4 s5 i j n label old new c.in_ok-kept.kept.items known c.are_alike.ensures.looks.onward r4 c.are_alike.ensures.reads in
+    replace_alike s0 s4 s5 i j n label old new c.in_ok-kept.kept.items known c.are_alike.ensures.looks.onward r4
+    c.are_alike.ensures.reads in
     r5
 
 pub returns-in_err-is_not_lower-clause-reads : goal.returns-in_err-is_not_lower-clause-reads
@@ -509,7 +530,8 @@ returns-in_err-is_not_lower-clause-reads g c =
     let old = c.args.old.now in
     let new = c.args.new.now in
     let x = Replace label old new in
-    let r1 : ReadsFor s0 s1 (Replace c.args.label.now c.args.old.now c.args.new.now) = first_look s0 s1 x label (λ st lib c is. inl (inl is)) c.known_slot.ensures.reads in
+    let r1 : ReadsFor s0 s1 (Replace c.args.label.now c.args.old.now c.args.new.now) =
+    first_look s0 s1 x label (λ st lib c is. inl (inl is)) c.known_slot.ensures.reads in
     let s2 = g.C.Cells.sight c.known_slot-2.new.cells in
     let l1 = c.known_slot.ensures.looks in
     let r2 : ReadsFor s0 s2 (Replace c.args.label.now c.args.old.now c.args.new.now) =
@@ -526,7 +548,8 @@ returns-in_err-is_not_lower-clause-reads g c =
     let n = c.in_ok-next.next in
     let since = looks_trans _ _ _ c.known_slot-2.ensures.looks c.known_slot-3.ensures.looks in
     let r4 : ReadsFor s0 s4 (Replace c.args.label.now c.args.old.now c.args.new.now) =
-    then_cells s0 s3 s4 x label i (looks_trans _ _ _ l2 c.known_slot-3.ensures.looks) (finds_after s1 s3 label i since c.in_ok-slot.ensures.ok)
+    then_cells s0 s3 s4 x label i (looks_trans _ _ _ l2 c.known_slot-3.ensures.looks)
+    (finds_after s1 s3 label i since c.in_ok-slot.ensures.ok)
     r3 c.stored_proof.ensures.looks.onward (λ m. m ≡ proof_cell i) (λ st lib at c is. inr (inr (inr (inr (i, at, inl is)))))
     c.stored_proof.ensures.reads in
     let known = sought i j n label old new c.in_ok-kept.kept.items s0 s1 s2 s3 s4 c.known_slot.ensures.looks c.known_slot-2.ensures.looks
@@ -534,7 +557,8 @@ returns-in_err-is_not_lower-clause-reads g c =
     c.in_ok-kept.ensures.ok in
     let s5 = g.C.Cells.sight c.are_alike.new.cells in
     let r5 : ReadsFor s0 s5 (Replace c.args.label.now c.args.old.now c.args.new.now) =
-    replace_alike s0 s4 s5 i j n label old new c.in_ok-kept.kept.items known c.are_alike.ensures.looks.onward r4 c.are_alike.ensures.reads in
+    replace_alike s0 s4 s5 i j n label old new c.in_ok-kept.kept.items known c.are_alike.ensures.looks.onward r4
+    c.are_alike.ensures.reads in
     let s6 = g.C.Cells.sight c.is_not_lower.new.cells in
     let there = sought_later i j n label old new c.in_ok-kept.kept.items s0 s4 s5 c.are_alike.ensures.looks known in
     let r6 : ReadsFor s0 s6 (Replace c.args.label.now c.args.old.now c.args.new.now) =
@@ -550,7 +574,8 @@ returns-then-branch-clause-reads g c =
     let old = c.args.old.now in
     let new = c.args.new.now in
     let x = Replace label old new in
-    let r1 : ReadsFor s0 s1 (Replace c.args.label.now c.args.old.now c.args.new.now) = first_look s0 s1 x label (λ st lib c is. inl (inl is)) c.known_slot.ensures.reads in
+    let r1 : ReadsFor s0 s1 (Replace c.args.label.now c.args.old.now c.args.new.now) =
+    first_look s0 s1 x label (λ st lib c is. inl (inl is)) c.known_slot.ensures.reads in
     let s2 = g.C.Cells.sight c.known_slot-2.new.cells in
     let l1 = c.known_slot.ensures.looks in
     let r2 : ReadsFor s0 s2 (Replace c.args.label.now c.args.old.now c.args.new.now) =
@@ -567,7 +592,8 @@ returns-then-branch-clause-reads g c =
     let n = c.in_ok-next.next in
     let since = looks_trans _ _ _ c.known_slot-2.ensures.looks c.known_slot-3.ensures.looks in
     let r4 : ReadsFor s0 s4 (Replace c.args.label.now c.args.old.now c.args.new.now) =
-    then_cells s0 s3 s4 x label i (looks_trans _ _ _ l2 c.known_slot-3.ensures.looks) (finds_after s1 s3 label i since c.in_ok-slot.ensures.ok)
+    then_cells s0 s3 s4 x label i (looks_trans _ _ _ l2 c.known_slot-3.ensures.looks)
+    (finds_after s1 s3 label i since c.in_ok-slot.ensures.ok)
     r3 c.stored_proof.ensures.looks.onward (λ m. m ≡ proof_cell i) (λ st lib at c is. inr (inr (inr (inr (i, at, inl is)))))
     c.stored_proof.ensures.reads in
     let known = sought i j n label old new c.in_ok-kept.kept.items s0 s1 s2 s3 s4 c.known_slot.ensures.looks c.known_slot-2.ensures.looks
@@ -575,7 +601,8 @@ returns-then-branch-clause-reads g c =
     c.in_ok-kept.ensures.ok in
     let s5 = g.C.Cells.sight c.are_alike.new.cells in
     let r5 : ReadsFor s0 s5 (Replace c.args.label.now c.args.old.now c.args.new.now) =
-    replace_alike s0 s4 s5 i j n label old new c.in_ok-kept.kept.items known c.are_alike.ensures.looks.onward r4 c.are_alike.ensures.reads in
+    replace_alike s0 s4 s5 i j n label old new c.in_ok-kept.kept.items known c.are_alike.ensures.looks.onward r4
+    c.are_alike.ensures.reads in
     let s6 = g.C.Cells.sight c.is_not_lower.new.cells in
     let there = sought_later i j n label old new c.in_ok-kept.kept.items s0 s4 s5 c.are_alike.ensures.looks known in
     let r6 : ReadsFor s0 s6 (Replace c.args.label.now c.args.old.now c.args.new.now) =
@@ -591,7 +618,8 @@ returns-in_err-put_steps-clause-reads g c =
     let old = c.args.old.now in
     let new = c.args.new.now in
     let x = Replace label old new in
-    let r1 : ReadsFor s0 s1 (Replace c.args.label.now c.args.old.now c.args.new.now) = first_look s0 s1 x label (λ st lib c is. inl (inl is)) c.known_slot.ensures.reads in
+    let r1 : ReadsFor s0 s1 (Replace c.args.label.now c.args.old.now c.args.new.now) =
+    first_look s0 s1 x label (λ st lib c is. inl (inl is)) c.known_slot.ensures.reads in
     let s2 = g.C.Cells.sight c.known_slot-2.new.cells in
     let l1 = c.known_slot.ensures.looks in
     let r2 : ReadsFor s0 s2 (Replace c.args.label.now c.args.old.now c.args.new.now) =
@@ -608,7 +636,8 @@ returns-in_err-put_steps-clause-reads g c =
     let n = c.in_ok-next.next in
     let since = looks_trans _ _ _ c.known_slot-2.ensures.looks c.known_slot-3.ensures.looks in
     let r4 : ReadsFor s0 s4 (Replace c.args.label.now c.args.old.now c.args.new.now) =
-    then_cells s0 s3 s4 x label i (looks_trans _ _ _ l2 c.known_slot-3.ensures.looks) (finds_after s1 s3 label i since c.in_ok-slot.ensures.ok)
+    then_cells s0 s3 s4 x label i (looks_trans _ _ _ l2 c.known_slot-3.ensures.looks)
+    (finds_after s1 s3 label i since c.in_ok-slot.ensures.ok)
     r3 c.stored_proof.ensures.looks.onward (λ m. m ≡ proof_cell i) (λ st lib at c is. inr (inr (inr (inr (i, at, inl is)))))
     c.stored_proof.ensures.reads in
     let known = sought i j n label old new c.in_ok-kept.kept.items s0 s1 s2 s3 s4 c.known_slot.ensures.looks c.known_slot-2.ensures.looks
@@ -616,7 +645,8 @@ returns-in_err-put_steps-clause-reads g c =
     c.in_ok-kept.ensures.ok in
     let s5 = g.C.Cells.sight c.are_alike.new.cells in
     let r5 : ReadsFor s0 s5 (Replace c.args.label.now c.args.old.now c.args.new.now) =
-    replace_alike s0 s4 s5 i j n label old new c.in_ok-kept.kept.items known c.are_alike.ensures.looks.onward r4 c.are_alike.ensures.reads in
+    replace_alike s0 s4 s5 i j n label old new c.in_ok-kept.kept.items known c.are_alike.ensures.looks.onward r4
+    c.are_alike.ensures.reads in
     let s6 = g.C.Cells.sight c.is_not_lower.new.cells in
     let there = sought_later i j n label old new c.in_ok-kept.kept.items s0 s4 s5 c.are_alike.ensures.looks known in
     let r6 : ReadsFor s0 s6 (Replace c.args.label.now c.args.old.now c.args.new.now) =
@@ -642,7 +672,8 @@ returns-clause-reads g c =
     let old = c.args.old.now in
     let new = c.args.new.now in
     let x = Replace label old new in
-    let r1 : ReadsFor s0 s1 (Replace c.args.label.now c.args.old.now c.args.new.now) = first_look s0 s1 x label (λ st lib c is. inl (inl is)) c.known_slot.ensures.reads in
+    let r1 : ReadsFor s0 s1 (Replace c.args.label.now c.args.old.now c.args.new.now) =
+    first_look s0 s1 x label (λ st lib c is. inl (inl is)) c.known_slot.ensures.reads in
     let s2 = g.C.Cells.sight c.known_slot-2.new.cells in
     let l1 = c.known_slot.ensures.looks in
     let r2 : ReadsFor s0 s2 (Replace c.args.label.now c.args.old.now c.args.new.now) =
@@ -659,7 +690,8 @@ returns-clause-reads g c =
     let n = c.in_ok-next.next in
     let since = looks_trans _ _ _ c.known_slot-2.ensures.looks c.known_slot-3.ensures.looks in
     let r4 : ReadsFor s0 s4 (Replace c.args.label.now c.args.old.now c.args.new.now) =
-    then_cells s0 s3 s4 x label i (looks_trans _ _ _ l2 c.known_slot-3.ensures.looks) (finds_after s1 s3 label i since c.in_ok-slot.ensures.ok)
+    then_cells s0 s3 s4 x label i (looks_trans _ _ _ l2 c.known_slot-3.ensures.looks)
+    (finds_after s1 s3 label i since c.in_ok-slot.ensures.ok)
     r3 c.stored_proof.ensures.looks.onward (λ m. m ≡ proof_cell i) (λ st lib at c is. inr (inr (inr (inr (i, at, inl is)))))
     c.stored_proof.ensures.reads in
     let known = sought i j n label old new c.in_ok-kept.kept.items s0 s1 s2 s3 s4 c.known_slot.ensures.looks c.known_slot-2.ensures.looks
@@ -667,7 +699,8 @@ returns-clause-reads g c =
     c.in_ok-kept.ensures.ok in
     let s5 = g.C.Cells.sight c.are_alike.new.cells in
     let r5 : ReadsFor s0 s5 (Replace c.args.label.now c.args.old.now c.args.new.now) =
-    replace_alike s0 s4 s5 i j n label old new c.in_ok-kept.kept.items known c.are_alike.ensures.looks.onward r4 c.are_alike.ensures.reads in
+    replace_alike s0 s4 s5 i j n label old new c.in_ok-kept.kept.items known c.are_alike.ensures.looks.onward r4
+    c.are_alike.ensures.reads in
     let s6 = g.C.Cells.sight c.is_not_lower.new.cells in
     let there = sought_later i j n label old new c.in_ok-kept.kept.items s0 s4 s5 c.are_alike.ensures.looks known in
     let r6 : ReadsFor s0 s6 (Replace c.args.label.now c.args.old.now c.args.new.now) =

@@ -49,7 +49,8 @@ returns-in-Axiom-clause-answers g c =
     let steps = c.args.steps.now in
     let finds = c.in_ok-slot.ensures.ok in
     answers_refused s0 s2 (command.Reprove label steps) reason.NotATheorem c.into.result c.into.ensures
-    (refused_later s0 s2 (command.Reprove label steps) reason.NotATheorem (looks_trans _ _ _ c.known_slot.ensures.looks c.statement.ensures.looks)
+    (refused_later s0 s2 (command.Reprove label steps) reason.NotATheorem
+    (looks_trans _ _ _ c.known_slot.ensures.looks c.statement.ensures.looks)
     (axiom_refused s2 c.in_ok-slot.slot label c.in_ok-statement.statement c.in_ok-statement.ensures.ok
     (finds_after s1 s2 label c.in_ok-slot.slot c.statement.ensures.looks finds).1 steps c.in-Axiom.is))
 
@@ -149,7 +150,8 @@ returns-in_err-put_steps-clause-taken g c st lib m v =
     let is = c.into_assertion-theorem.ensures
     ∙ retitled c.in_ok-statement.statement c.in_ok-copy.field-0 c.args.label.now c.in_ok-proof.proof c.args.steps.now c.in_ok-copy.ensures
     c.in_ok-proof.ensures in
-    let long = stored_taken (g.C.Cells.sight c.args.cells.now) (g.C.Cells.sight c.test_proof.new.cells) (g.C.Cells.sight c.put_steps.new.cells)
+    let long = stored_taken (g.C.Cells.sight c.args.cells.now) (g.C.Cells.sight c.test_proof.new.cells)
+    (g.C.Cells.sight c.put_steps.new.cells)
     looks c.put_steps.ensures.onward a.proof c.in_ok-kept.kept.items c.in_ok-kept.ensures.ok.stored st lib m v in
     let steps = ap (λ (x : Assertion). length x.proof) is in
     let same = ap (λ (ks : List StoredStep). length (proof_body ks)) c.as_slice.ensures.value in
@@ -163,7 +165,8 @@ returns-clause-taken g c st lib m v =
     let is = c.into_assertion-theorem.ensures
     ∙ retitled c.in_ok-statement.statement c.in_ok-copy.field-0 c.args.label.now c.in_ok-proof.proof c.args.steps.now c.in_ok-copy.ensures
     c.in_ok-proof.ensures in
-    let long = stored_taken (g.C.Cells.sight c.args.cells.now) (g.C.Cells.sight c.test_proof.new.cells) (g.C.Cells.sight c.put_steps.new.cells)
+    let long = stored_taken (g.C.Cells.sight c.args.cells.now) (g.C.Cells.sight c.test_proof.new.cells)
+    (g.C.Cells.sight c.put_steps.new.cells)
     looks c.put_steps.ensures.onward a.proof c.in_ok-kept.kept.items c.in_ok-kept.ensures.ok.stored st lib m v in
     let steps = ap (λ (x : Assertion). length x.proof) is in
     let same = ap (λ (ks : List StoredStep). length (proof_body ks)) c.as_slice.ensures.value in
@@ -373,7 +376,8 @@ returns-in_err-put_steps-clause-reads g c =
     let reads = reprove_reads s4 s5 i label steps kept (finds_after s1 s4 label i since finds).1 stored
     (subst (ReprovesReading s4 s5 i label) c.as_slice.ensures.value (c.put_steps.ensures.reads label)) in
     since_then (OfCommand s0 x) r4 c.put_steps.ensures.onward
-    (since_before (OfCommand s0 x) s0 s4 s5 (looks_trans _ _ _ l3 c.test_proof.ensures.looks) (λ n st lib k. Touches n st lib (command.Reprove c.args.label.now c.args.steps.now) k)
+    (since_before (OfCommand s0 x) s0 s4 s5 (looks_trans _ _ _ l3 c.test_proof.ensures.looks)
+    (λ n st lib k. Touches n st lib (command.Reprove c.args.label.now c.args.steps.now) k)
     (λ st lib k it. inr (inr (inr it))) c.put_steps.ensures.onward reads)
 
 pub returns-clause-reads : goal.returns-clause-reads
@@ -415,5 +419,6 @@ returns-clause-reads g c =
     let reads = reprove_reads s4 s5 i label steps kept (finds_after s1 s4 label i since finds).1 stored
     (subst (ReprovesReading s4 s5 i label) c.as_slice.ensures.value (c.put_steps.ensures.reads label)) in
     since_then (OfCommand s0 x) r4 c.put_steps.ensures.onward
-    (since_before (OfCommand s0 x) s0 s4 s5 (looks_trans _ _ _ l3 c.test_proof.ensures.looks) (λ n st lib k. Touches n st lib (command.Reprove c.args.label.now c.args.steps.now) k)
+    (since_before (OfCommand s0 x) s0 s4 s5 (looks_trans _ _ _ l3 c.test_proof.ensures.looks)
+    (λ n st lib k. Touches n st lib (command.Reprove c.args.label.now c.args.steps.now) k)
     (λ st lib k it. inr (inr (inr it))) c.put_steps.ensures.onward reads)

@@ -17,7 +17,8 @@ put_assertion-requires c =
     let a = c.assertion-item.result in
     let within : i < length db.assertions = rw (sym c.assertions-assertions.ensures.value) c.loop-assertion-test.true in
     let fits : Fits db.prelude (get_or db.assertions i a) = ((declarable db c.assertions-assertions.ensures.sound).units i a within).fits in
-    let is : get_or db.assertions i a ≡ a = sym (c.assertion-item.is ∙ ap (λ (xs : List Assertion). get_or xs i a) c.assertions-assertions.ensures.value) in
+    let is : get_or db.assertions i a ≡ a = sym (c.assertion-item.is
+    ∙ ap (λ (xs : List Assertion). get_or xs i a) c.assertions-assertions.ensures.value) in
     subst (λ (t : Tables). Fits t a) (sym c.prelude.ensures) (subst (Fits db.prelude) is fits)
 
 pub loop-assertion-preserved : goal.loop-assertion-preserved

@@ -16,7 +16,8 @@ use Rattle.secondlook.proofs.own.own_of.Goals as goal
 use Rattle.secondlook.proofs.own.own_of.Goals.{then-index, else-index}
 
 flags_more : (g : Over) (c : goal.In_ok-push g) (choice : Choice)
-    → map (λ (x : Assertion). is_in choice.chosen x.label) (g.D.Declared.scope c.args.declared.now).assertions ≡ c.args.taken.now.chosen.items
+    → map (λ (x : Assertion). is_in choice.chosen x.label) (g.D.Declared.scope c.args.declared.now).assertions
+    ≡ c.args.taken.now.chosen.items
     → c.push.new.self.items
     ≡ map (is_own choice (axioms_of c.args.taken.now)) (take (c.loop-place.place + 1) (g.D.Declared.scope c.args.declared.now).assertions)
 flags_more g c choice are =
@@ -32,9 +33,11 @@ flags_more g c choice are =
     let axioms = axioms_of c.args.taken.now in
     let same : l.now ≡ x.0.label = label_is l c.label.result x.0 _ c.in-Some.is c.label.ensures x.1 in
     let is_told : c.is_some-is_told.result ≡ is_in (map (λ p. p.0) axioms) x.0.label =
-    told_found c.args.taken.now.axioms.items c.as_slice.result.now c.in_ok-told.told l.now x.0.label c.text_for.result c.is_some-is_told.result
+    told_found c.args.taken.now.axioms.items c.as_slice.result.now c.in_ok-told.told l.now x.0.label c.text_for.result
+    c.is_some-is_told.result
     c.as_slice.ensures.value c.in_ok-told.ensures c.text_for.ensures c.is_some-is_told.ensures same in
-    let chosen : c.index.result.now ≡ get_or flags i false = get_or_read flags i c.index.result.now (omega (arith, c.requires)) c.index.ensures false in
+    let chosen : c.index.result.now ≡ get_or flags i false =
+    get_or_read flags i c.index.result.now (omega (arith, c.requires)) c.index.ensures false in
     let flag : c.if-index.push ≡ (c.index.result.now && not c.is_some-is_told.result) =
     elim c.if-index.branch [
       | then-index w ↦ w.push-is ∙ ap (λ (b : Bool). b && not c.is_some-is_told.result) (sym w.if-index.true)
@@ -56,7 +59,8 @@ pub returns-clause-flags : goal.returns-clause-flags
 returns-clause-flags g c choice are =
     let xs : List Assertion = (g.D.Declared.scope c.args.declared.now).assertions in
     let i = c.loop-place.place in
-    subst (λ (ys : List Assertion). c.loop-place.own.items ≡ map (is_own choice (axioms_of c.args.taken.now)) ys) (take_all i xs (omega arith))
+    subst (λ (ys : List Assertion). c.loop-place.own.items ≡ map (is_own choice (axioms_of c.args.taken.now)) ys)
+    (take_all i xs (omega arith))
     (c.loop-place.invariant.flags choice are)
 
 pub loop-place-init : goal.loop-place-init

@@ -15,7 +15,12 @@ use Rattle.shows.proofs.showing.all_lines.Goals.{in-Some+in_ok-line+in_ok-push, 
 pub loop-slot-init : goal.loop-slot-init
 loop-slot-init g c =
     let old = g.C.Cells.sight c.args.cells.now in
-    record { looks = looks_refl _; lines = λ st lib v. told_none line old.setting.slots _ _ lib c.new-lines.ensures.items; reads = λ st lib m v. asks_nothing (nothing_same _) }
+    record {
+      looks = looks_refl _;
+      lines = λ st lib v. told_none line old.setting.slots _ _ lib c.new-lines.ensures.items;
+      reads =
+          λ st lib m v. asks_nothing (nothing_same _);
+    }
 
 pub returns-in_err-label-clause-looks : goal.returns-in_err-label-clause-looks
 returns-in_err-label-clause-looks g c = looks_trans _ _ _ c.loop-slot.invariant.looks c.label.ensures.looks
@@ -59,7 +64,12 @@ loop-slot-preserved g c =
           })
       | in_default w ↦
           let no : TellsLabelOf s k None = subst (TellsLabelOf s k) w.in_default.is told in
-          rw (w.cells-is, w.lines-is) (record { looks = onto; lines = one_empty line r s slots k is c.label.ensures.looks made lines no; reads = named })
+          rw (w.cells-is, w.lines-is) (record {
+            looks = onto;
+            lines =
+                one_empty line r s slots k is c.label.ensures.looks made lines no;
+            reads = named;
+          })
     ]
 
 pub returns-clause-ok : goal.returns-clause-ok
@@ -76,7 +86,8 @@ returns-in_err-label-clause-reads g c =
     let s = g.C.Cells.sight c.label.new.cells in
     let slots = (g.C.Cells.sight c.args.cells.now).setting.slots in
     let k = c.loop-slot.slot in
-    let inside : c.loop-slot.slot < (g.C.Cells.sight c.args.cells.now).setting.slots = omega (arith, c.loop-slot-test.true, c.slot_count-slot-end.ensures.value) in
+    let inside : c.loop-slot.slot < (g.C.Cells.sight c.args.cells.now).setting.slots =
+    omega (arith, c.loop-slot-test.true, c.slot_count-slot-end.ensures.value) in
     let named : ReadsFor old s command.List =
     list_name old r s k c.loop-slot.invariant.looks inside c.loop-slot.invariant.reads c.label.ensures.looks c.label.ensures.reads in
     named
@@ -88,7 +99,8 @@ returns-in_err-line-clause-reads g c =
     let s = g.C.Cells.sight c.label.new.cells in
     let slots = (g.C.Cells.sight c.args.cells.now).setting.slots in
     let k = c.loop-slot.slot in
-    let inside : c.loop-slot.slot < (g.C.Cells.sight c.args.cells.now).setting.slots = omega (arith, c.loop-slot-test.true, c.slot_count-slot-end.ensures.value) in
+    let inside : c.loop-slot.slot < (g.C.Cells.sight c.args.cells.now).setting.slots =
+    omega (arith, c.loop-slot-test.true, c.slot_count-slot-end.ensures.value) in
     let named : ReadsFor old s command.List =
     list_name old r s k c.loop-slot.invariant.looks inside c.loop-slot.invariant.reads c.label.ensures.looks c.label.ensures.reads in
     let t = g.C.Cells.sight c.line.new.cells in
@@ -104,7 +116,8 @@ returns-in_err-push-clause-reads g c =
     let s = g.C.Cells.sight c.label.new.cells in
     let slots = (g.C.Cells.sight c.args.cells.now).setting.slots in
     let k = c.loop-slot.slot in
-    let inside : c.loop-slot.slot < (g.C.Cells.sight c.args.cells.now).setting.slots = omega (arith, c.loop-slot-test.true, c.slot_count-slot-end.ensures.value) in
+    let inside : c.loop-slot.slot < (g.C.Cells.sight c.args.cells.now).setting.slots =
+    omega (arith, c.loop-slot-test.true, c.slot_count-slot-end.ensures.value) in
     let named : ReadsFor old s command.List =
     list_name old r s k c.loop-slot.invariant.looks inside c.loop-slot.invariant.reads c.label.ensures.looks c.label.ensures.reads in
     let t = g.C.Cells.sight c.line.new.cells in

@@ -28,7 +28,8 @@ returns-clause-ok g c = λ st lib v e at h.
     let on2 = c.citers.ensures.looks in
     let on1 = looks_trans _ _ _ c.kind.ensures.looks on2 in
     let on0 = looks_trans _ _ _ c.rank.ensures.looks on1 in
-    let r : c.in_ok-rank.field-0 ≡ e.rank = held_later s1 s3 i (λ x l f. c.in_ok-rank.field-0 ≡ f.rank) on1 c.in_ok-rank.ensures.ok st lib v e at h in
+    let r : c.in_ok-rank.field-0 ≡ e.rank = held_later s1 s3 i (λ x l f. c.in_ok-rank.field-0
+    ≡ f.rank) on1 c.in_ok-rank.ensures.ok st lib v e at h in
     let l : c.args.label ≡ label_of e = held_later s0 s3 i (λ x m f. c.args.label ≡ label_of f) on0 c.requires.label st lib v e at h in
     let k : c.in_ok-kind.field-0 ≡ e.assertion.kind =
     held_later s2 s3 i (λ x m f. c.in_ok-kind.field-0 ≡ f.assertion.kind) on2 c.in_ok-kind.ensures.ok st lib v e at h in

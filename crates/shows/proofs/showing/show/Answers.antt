@@ -24,7 +24,8 @@ returns-in_err-slot-clause-answers g c =
     let label = c.args.label.now in
     let x = Show c.args.label.now in
     answers_unknown s0 s1 x label c.from_residual.result c.in_err-slot.field-0.0 c.from_residual.ensures.1 c.in_err-slot.ensures.err
-    (λ none. refused s0 s1 x UnknownLabel c.known_slot.ensures.looks (λ st lib v. of_none lib label (λ e. Ok (shown lib e)) (none st lib v)))
+    (λ none. refused s0 s1 x UnknownLabel c.known_slot.ensures.looks
+    (λ st lib v. of_none lib label (λ e. Ok (shown lib e)) (none st lib v)))
 
 pub entry-requires-clause-label : goal.entry-requires-clause-label
 entry-requires-clause-label g c = λ st lib v e at h.
@@ -37,11 +38,13 @@ returns-in_err-shown-clause-onward g c = let looks = looks_trans _ _ _ c.known_s
 
 pub returns-in_err-citers-clause-onward : goal.returns-in_err-citers-clause-onward
 returns-in_err-citers-clause-onward g c =
-    let looks = looks_trans _ _ _ c.known_slot.ensures.looks (looks_trans _ _ _ c.entry.ensures.looks c.citers.ensures.looks) in looks.onward
+    let looks = looks_trans _ _ _ c.known_slot.ensures.looks
+    (looks_trans _ _ _ c.entry.ensures.looks c.citers.ensures.looks) in looks.onward
 
 pub returns-clause-onward : goal.returns-clause-onward
 returns-clause-onward g c =
-    let looks = looks_trans _ _ _ c.known_slot.ensures.looks (looks_trans _ _ _ c.entry.ensures.looks c.citers.ensures.looks) in looks.onward
+    let looks = looks_trans _ _ _ c.known_slot.ensures.looks
+    (looks_trans _ _ _ c.entry.ensures.looks c.citers.ensures.looks) in looks.onward
 
 pub returns-clause-answers : goal.returns-clause-answers
 returns-clause-answers g c =

@@ -23,8 +23,10 @@ returns-then-is_some c =
     let d : Bor (List ℕ) = record { ref_ptr = (0, 0); now = [] } in
     let within : k < length (seen_words labels) = rw length-map c.loop-label-test.true in
     let found : is_in gone (get_or labels k d).now ≡ true =
-    sym (text_found c.args.gone.now (get_or labels k d).now c.text_for.result c.text_for.ensures) ∙ sym c.is_some.ensures ∙ c.if-is_some.true in
-    sym (list_any_at (is_in gone) (seen_words labels) k [] within (ap (is_in gone) (get_or-map now labels k d [] c.loop-label-test.true) ∙ found))
+    sym (text_found c.args.gone.now (get_or labels k d).now c.text_for.result c.text_for.ensures) ∙ sym c.is_some.ensures
+    ∙ c.if-is_some.true in
+    sym (list_any_at (is_in gone) (seen_words labels) k [] within (ap (is_in gone) (get_or-map now labels k d [] c.loop-label-test.true)
+    ∙ found))
 
 pub loop-label-preserved : goal.loop-label-preserved
 loop-label-preserved c =
@@ -34,9 +36,11 @@ loop-label-preserved c =
     let d : Bor (List ℕ) = record { ref_ptr = (0, 0); now = [] } in
     let within : k < length (seen_words labels) = rw length-map c.loop-label-test.true in
     let none : is_in gone (get_or labels k d).now ≡ false =
-    sym (text_found c.args.gone.now (get_or labels k d).now c.text_for.result c.text_for.ensures) ∙ sym c.is_some.ensures ∙ c.if-is_some.false in
+    sym (text_found c.args.gone.now (get_or labels k d).now c.text_for.result c.text_for.ensures) ∙ sym c.is_some.ensures
+    ∙ c.if-is_some.false in
     ap (list_any (is_in gone)) (sym (take-map now (k + 1) labels))
     ∙ list_any_more (is_in gone) (seen_words labels) k [] within
-    ∙ ap (λ (b : Bool). b || is_in gone (get_or (seen_words labels) k [])) (ap (list_any (is_in gone)) (take-map now k labels) ∙ c.loop-label.invariant)
+    ∙ ap (λ (b : Bool). b || is_in gone (get_or (seen_words labels) k [])) (ap (list_any (is_in gone)) (take-map now k labels)
+    ∙ c.loop-label.invariant)
     ∙ ap (is_in gone) (get_or-map now labels k d [] c.loop-label-test.true)
     ∙ none

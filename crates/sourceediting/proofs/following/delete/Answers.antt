@@ -58,7 +58,8 @@ loop-followed-preserved c =
           record {
             left =
                 rw w.left-is
-                (sym (append-nil (seen_living left)) ∙ passes_more xs k nobody within test (seen_living left) false so_far.left (ap not same));
+                (sym (append-nil (seen_living left)) ∙ passes_more xs k nobody within test (seen_living left) false so_far.left
+                (ap not same));
             gone =
                 rw w.gone-is
                 (ap seen_words w.in_ok-push-2.ensures.items
@@ -72,7 +73,8 @@ loop-followed-preserved c =
           record {
             left =
                 rw w.left-is
-                (sym (append-nil (seen_living left)) ∙ passes_more xs k nobody within test (seen_living left) false so_far.left (ap not same));
+                (sym (append-nil (seen_living left)) ∙ passes_more xs k nobody within test (seen_living left) false so_far.left
+                (ap not same));
             gone =
                 rw w.gone-is
                 (sym (append-nil (seen_words gone))

@@ -12,5 +12,6 @@ use Rattle.sourceediting.proofs.following.delete.Given as goal
 abbrev pub invariant-loop-followed : goal.invariant-loop-followed
 invariant-loop-followed l = record {
   left : seen_living l.left.items ≡ filter (λ x. not (bytes_eq x.now l.label)) (seen_living (take l.followed-index l.living));
-  gone : seen_words l.gone.items ≡ seen_words l.initial.gone.items ++ filter_map (source_of l.label) (seen_living (take l.followed-index l.living));
+  gone : seen_words l.gone.items ≡ seen_words l.initial.gone.items
+      ++ filter_map (source_of l.label) (seen_living (take l.followed-index l.living));
 }

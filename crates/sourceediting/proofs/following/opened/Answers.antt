@@ -50,7 +50,12 @@ returns-in_default-get g c choice are =
     let xs : List Assertion = (g.D.Declared.scope c.args.declared.now).assertions in
     let before = c.loop-place.invariant choice are in
     let ps = before.0 in
-    let many : c.len.result ≡ length ps = omega (arith, c.len.ensures, c.loop-place.living.ok.0, as_many c.loop-place.living.items ps before.1) in
+    let many : c.len.result ≡ length ps = omega (
+      arith,
+      c.len.ensures,
+      c.loop-place.living.ok.0,
+      as_many c.loop-place.living.items ps before.1,
+    ) in
     let few : length c.args.database.now.assertions ≤ length ps =
     let past = rw c.assertions-assertions.ensures.value at c.in_default-get.ensures.lookup.3 in
     omega (arith, past, many) in

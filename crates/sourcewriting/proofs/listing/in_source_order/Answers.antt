@@ -10,13 +10,15 @@ loop-is_float-init c = none_placed c.args.kinds.now c.args.arguments.now _ _ c.c
 pub bounds-arguments-floats : goal.bounds-arguments-floats
 bounds-arguments-floats c =
     let l = c.loop-is_float in
-    float_there c.args.kinds.now c.args.arguments.now l.is_float-index l.floats l.premises l.made.items [] l.invariant c.loop-is_float-test.true
+    float_there c.args.kinds.now c.args.arguments.now l.is_float-index l.floats l.premises l.made.items [] l.invariant
+    c.loop-is_float-test.true
     c.requires c.if-is_float.true
 
 pub bounds-arguments-premises : goal.bounds-arguments-premises
 bounds-arguments-premises c =
     let l = c.loop-is_float in
-    premise_there c.args.kinds.now c.args.arguments.now l.is_float-index l.floats l.premises l.made.items [] l.invariant c.loop-is_float-test.true
+    premise_there c.args.kinds.now c.args.arguments.now l.is_float-index l.floats l.premises l.made.items [] l.invariant
+    c.loop-is_float-test.true
     c.requires c.if-is_float.false
 
 pub overflow_add-floats : goal.overflow_add-floats
@@ -50,4 +52,5 @@ loop-is_float-preserved c =
 pub returns : goal.returns
 returns c =
     let l = c.loop-is_float in
-    all_placed c.args.kinds.now c.args.arguments.now l.is_float-index l.floats l.premises l.made.items l.invariant (omega arith) (omega arith) c.requires
+    all_placed c.args.kinds.now c.args.arguments.now l.is_float-index l.floats l.premises l.made.items l.invariant (omega arith)
+    (omega arith) c.requires

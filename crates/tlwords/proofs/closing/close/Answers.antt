@@ -4,7 +4,8 @@ use Rattle.tlwords.proofs.closing.close.Goals as goal
 
 pub close_with-requires-clause-passes : goal.close_with-requires-clause-passes
 close_with-requires-clause-passes g c =
-    rw (c.into_table-table.ensures) (all_front (λ p. p.home.table ≡ c.args.words.table.shared.table_id) c.pop.new.self.items (c.in-Some.last ∷ [])
+    rw (c.into_table-table.ensures) (all_front (λ p. p.home.table ≡ c.args.words.table.shared.table_id) c.pop.new.self.items (c.in-Some.last
+    ∷ [])
     (subst (λ ps. All (λ p. p.home.table ≡ c.args.words.table.shared.table_id) ps) c.in-Some.ensures.items c.requires))
 
 pub returns-in-Some-clause-closes : goal.returns-in-Some-clause-closes

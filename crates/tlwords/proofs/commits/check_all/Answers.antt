@@ -27,7 +27,8 @@ check-word-requires-clause-cell g c =
     let ws = c.plan_checks.new.self.checks.items in
     let t = c.index-read.result.now in
     let p : IsPlan c.args.log.now.slots false ws = subst (λ x. IsPlan x false ws) c.plan_checks.ensures.same.0 c.plan_checks.ensures.plan in
-    let s = plan_at c.args.log.now.slots false ws p c.loop-i.i _ _ t c.loop-i-test.true c.len-i-end.ensures c.plan_checks.new.self.checks.ok.0
+    let s = plan_at c.args.log.now.slots false ws p c.loop-i.i _ _ t c.loop-i-test.true c.len-i-end.ensures
+    c.plan_checks.new.self.checks.ok.0
     c.index-read.ensures in
     let l = s.0.1 in
     let p = c.requires.cells in
@@ -38,7 +39,8 @@ check-word-requires-clause-place g c =
     let ws = c.plan_checks.new.self.checks.items in
     let t = c.index-read.result.now in
     let p : IsPlan c.args.log.now.slots false ws = subst (λ x. IsPlan x false ws) c.plan_checks.ensures.same.0 c.plan_checks.ensures.plan in
-    let s = plan_at c.args.log.now.slots false ws p c.loop-i.i _ _ t c.loop-i-test.true c.len-i-end.ensures c.plan_checks.new.self.checks.ok.0
+    let s = plan_at c.args.log.now.slots false ws p c.loop-i.i _ _ t c.loop-i-test.true c.len-i-end.ensures
+    c.plan_checks.new.self.checks.ok.0
     c.index-read.ensures in
     check_place g.L.Law.terms c.args.log.now.slots c.args.index c.args.seat.now.me c.requires.kept c.requires.run.2
     (low_of ws c.loop-i.i) _ c.loop-i.invariant.1
@@ -49,7 +51,8 @@ check-word-requires-clause-read g c =
     let ws = c.plan_checks.new.self.checks.items in
     let t = c.index-read.result.now in
     let p : IsPlan c.args.log.now.slots false ws = subst (λ x. IsPlan x false ws) c.plan_checks.ensures.same.0 c.plan_checks.ensures.plan in
-    let s = plan_at c.args.log.now.slots false ws p c.loop-i.i _ _ t c.loop-i-test.true c.len-i-end.ensures c.plan_checks.new.self.checks.ok.0
+    let s = plan_at c.args.log.now.slots false ws p c.loop-i.i _ _ t c.loop-i-test.true c.len-i-end.ensures
+    c.plan_checks.new.self.checks.ok.0
     c.index-read.ensures in
     let d = read_found c.args.seat.now.me.0.seat c.args.log.now.slots c.requires.kept t.cell t.word s.1 in
     (d.0, goes_read g.L.Law.terms _ _ _ c.loop-i.invariant.1 refl t.cell d.0 d.1)
@@ -63,7 +66,8 @@ returns-then-not-passes-clause-err g c =
     let ws = c.plan_checks.new.self.checks.items in
     let t = c.index-read.result.now in
     let p : IsPlan c.args.log.now.slots false ws = subst (λ x. IsPlan x false ws) c.plan_checks.ensures.same.0 c.plan_checks.ensures.plan in
-    let s = plan_at c.args.log.now.slots false ws p c.loop-i.i _ _ t c.loop-i-test.true c.len-i-end.ensures c.plan_checks.new.self.checks.ok.0
+    let s = plan_at c.args.log.now.slots false ws p c.loop-i.i _ _ t c.loop-i-test.true c.len-i-end.ensures
+    c.plan_checks.new.self.checks.ok.0
     c.index-read.ensures in
     check_fails g.L.Law.terms c.args.log.now.slots c.args.index c.args.seat.now.me c.requires.kept c.requires.run.2
     (low_of ws c.loop-i.i) _ c.loop-i.invariant.1
@@ -75,13 +79,15 @@ loop-i-preserved g c =
     let ws = c.plan_checks.new.self.checks.items in
     let t = c.index-read.result.now in
     let p : IsPlan c.args.log.now.slots false ws = subst (λ x. IsPlan x false ws) c.plan_checks.ensures.same.0 c.plan_checks.ensures.plan in
-    let s = plan_at c.args.log.now.slots false ws p c.loop-i.i _ _ t c.loop-i-test.true c.len-i-end.ensures c.plan_checks.new.self.checks.ok.0
+    let s = plan_at c.args.log.now.slots false ws p c.loop-i.i _ _ t c.loop-i-test.true c.len-i-end.ensures
+    c.plan_checks.new.self.checks.ok.0
     c.index-read.ensures in
     let m = c.args.seat.now.me in (
       seat_trans c.args.seat.now c.loop-i.seat c.check-word.new.seat c.loop-i.invariant.0 c.check-word.ensures.seat,
       subst (λ k. Goes g.L.Law.terms m (placed m.0.seat (Checking c.args.index k)) c.check-word.new.seat.me)
           {x = t.cell + 1} {y = low_of ws (c.loop-i.i + 1)}
-          (sym (plan_next c.args.log.now.slots false ws p c.loop-i.i _ _ t c.loop-i-test.true c.len-i-end.ensures c.plan_checks.new.self.checks.ok.0
+          (sym (plan_next c.args.log.now.slots false ws p c.loop-i.i _ _ t c.loop-i-test.true c.len-i-end.ensures
+          c.plan_checks.new.self.checks.ok.0
           c.index-read.ensures))
           (check_goes g.L.Law.terms c.args.log.now.slots c.args.index c.args.seat.now.me c.requires.kept c.requires.run.2
           (low_of ws c.loop-i.i) _ c.loop-i.invariant.1

@@ -16,7 +16,8 @@ pub returns-then-kept-high-clause-releases : goal.returns-then-kept-high-clause-
 returns-then-kept-high-clause-releases g c =
     let ws = c.args.log.now.writes.items in
     let t = c.index-kept.result.now in
-    let s = plan_at c.args.log.now.slots true ws c.requires.plan c.loop-i.i _ _ t c.loop-i-test.true c.len-i-end.ensures c.args.log.now.writes.ok.0
+    let s = plan_at c.args.log.now.slots true ws c.requires.plan c.loop-i.i _ _ t c.loop-i-test.true c.len-i-end.ensures
+    c.args.log.now.writes.ok.0
     c.index-kept.ensures in
     let past = c.if-kept-high.true in
     let u = unkept_of c.args.seat.now.me.0.seat c.args.log.now.slots c.requires.kept _ _ s.0.3 in
@@ -31,7 +32,8 @@ pub release-requires-clause-cell : goal.release-requires-clause-cell
 release-requires-clause-cell g c =
     let ws = c.args.log.now.writes.items in
     let t = c.index-kept.result.now in
-    let s = plan_at c.args.log.now.slots true ws c.requires.plan c.loop-i.i _ _ t c.loop-i-test.true c.len-i-end.ensures c.args.log.now.writes.ok.0
+    let s = plan_at c.args.log.now.slots true ws c.requires.plan c.loop-i.i _ _ t c.loop-i-test.true c.len-i-end.ensures
+    c.args.log.now.writes.ok.0
     c.index-kept.ensures in
     let l = s.0.1 in
     let p = c.requires.cells.0 in
@@ -41,7 +43,8 @@ pub release-requires-clause-held : goal.release-requires-clause-held
 release-requires-clause-held g c =
     let ws = c.args.log.now.writes.items in
     let t = c.index-kept.result.now in
-    let s = plan_at c.args.log.now.slots true ws c.requires.plan c.loop-i.i _ _ t c.loop-i-test.true c.len-i-end.ensures c.args.log.now.writes.ok.0
+    let s = plan_at c.args.log.now.slots true ws c.requires.plan c.loop-i.i _ _ t c.loop-i-test.true c.len-i-end.ensures
+    c.args.log.now.writes.ok.0
     c.index-kept.ensures in
     release_held g.L.Law.terms c.args.log.now.slots c.args.high c.args.new (low_of ws c.loop-i.i) _ _ c.loop-i.invariant.1 t.cell t.value
     s.0.0
@@ -51,13 +54,15 @@ pub loop-i-preserved : goal.loop-i-preserved
 loop-i-preserved g c =
     let ws = c.args.log.now.writes.items in
     let t = c.index-kept.result.now in
-    let s = plan_at c.args.log.now.slots true ws c.requires.plan c.loop-i.i _ _ t c.loop-i-test.true c.len-i-end.ensures c.args.log.now.writes.ok.0
+    let s = plan_at c.args.log.now.slots true ws c.requires.plan c.loop-i.i _ _ t c.loop-i-test.true c.len-i-end.ensures
+    c.args.log.now.writes.ok.0
     c.index-kept.ensures in
     let m = c.args.seat.now.me in (
       seat_trans c.args.seat.now c.loop-i.seat c.release.new.seat c.loop-i.invariant.0 c.release.ensures.seat,
       subst (λ k. Releasing g.L.Law.terms c.args.log.now.slots c.args.high c.args.new k m c.release.new.seat.me)
           {x = t.cell + 1} {y = low_of ws (c.loop-i.i + 1)}
-          (sym (plan_next c.args.log.now.slots true ws c.requires.plan c.loop-i.i _ _ t c.loop-i-test.true c.len-i-end.ensures c.args.log.now.writes.ok.0
+          (sym (plan_next c.args.log.now.slots true ws c.requires.plan c.loop-i.i _ _ t c.loop-i-test.true c.len-i-end.ensures
+          c.args.log.now.writes.ok.0
           c.index-kept.ensures))
           (release_goes g.L.Law.terms c.args.log.now.slots c.args.high c.args.new (low_of ws c.loop-i.i) _ _ c.loop-i.invariant.1 t.cell
           t.value s.0.0

@@ -20,7 +20,8 @@ pub store-requires-clause-cell : goal.store-requires-clause-cell
 store-requires-clause-cell g c =
     let ws = c.args.log.now.writes.items in
     let t = c.index-kept.result.now in
-    let s = plan_at c.args.log.now.slots true ws c.requires.plan c.loop-i.i _ _ t c.loop-i-test.true c.len-i-end.ensures c.args.log.now.writes.ok.0
+    let s = plan_at c.args.log.now.slots true ws c.requires.plan c.loop-i.i _ _ t c.loop-i-test.true c.len-i-end.ensures
+    c.args.log.now.writes.ok.0
     c.index-kept.ensures in
     let l = s.0.1 in
     let p = c.requires.cells in
@@ -37,7 +38,8 @@ pub store-requires-clause-held : goal.store-requires-clause-held
 store-requires-clause-held g c =
     let ws = c.args.log.now.writes.items in
     let t = c.index-kept.result.now in
-    let s = plan_at c.args.log.now.slots true ws c.requires.plan c.loop-i.i _ _ t c.loop-i-test.true c.len-i-end.ensures c.args.log.now.writes.ok.0
+    let s = plan_at c.args.log.now.slots true ws c.requires.plan c.loop-i.i _ _ t c.loop-i-test.true c.len-i-end.ensures
+    c.args.log.now.writes.ok.0
     c.index-kept.ensures in
     store_held g.L.Law.terms c.args.log.now.slots c.args.index c.args.note.now c.args.seat.now.me _ c.requires.run.1 c.requires.held.0
     (low_of ws c.loop-i.i) _
@@ -47,13 +49,15 @@ pub loop-i-preserved : goal.loop-i-preserved
 loop-i-preserved g c =
     let ws = c.args.log.now.writes.items in
     let t = c.index-kept.result.now in
-    let s = plan_at c.args.log.now.slots true ws c.requires.plan c.loop-i.i _ _ t c.loop-i-test.true c.len-i-end.ensures c.args.log.now.writes.ok.0
+    let s = plan_at c.args.log.now.slots true ws c.requires.plan c.loop-i.i _ _ t c.loop-i-test.true c.len-i-end.ensures
+    c.args.log.now.writes.ok.0
     c.index-kept.ensures in
     let m = c.args.seat.now.me in (
       seat_trans c.args.seat.now c.loop-i.seat c.store.new.seat c.loop-i.invariant.0 c.store.ensures.seat,
       subst (λ k. StoresSoFar g.L.Law.terms c.args.log.now.slots c.args.index c.args.note.now m k c.store.new.seat.me)
           {x = t.cell + 1} {y = low_of ws (c.loop-i.i + 1)}
-          (sym (plan_next c.args.log.now.slots true ws c.requires.plan c.loop-i.i _ _ t c.loop-i-test.true c.len-i-end.ensures c.args.log.now.writes.ok.0
+          (sym (plan_next c.args.log.now.slots true ws c.requires.plan c.loop-i.i _ _ t c.loop-i-test.true c.len-i-end.ensures
+          c.args.log.now.writes.ok.0
           c.index-kept.ensures))
           (store_goes g.L.Law.terms c.args.log.now.slots c.args.index c.args.note.now c.args.seat.now.me _ c.requires.run.1
           c.requires.held.0 (low_of ws c.loop-i.i) _

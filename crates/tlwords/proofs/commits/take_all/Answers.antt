@@ -25,7 +25,8 @@ pub take-found-requires-clause-cell : goal.take-found-requires-clause-cell
 take-found-requires-clause-cell g c =
     let ws = c.args.log.now.writes.items in
     let t = c.index.result.now in
-    let s = plan_at c.args.log.now.slots true ws c.requires.plan c.loop-i.i _ _ t c.loop-i-test.true c.len-i-end.ensures c.args.log.now.writes.ok.0
+    let s = plan_at c.args.log.now.slots true ws c.requires.plan c.loop-i.i _ _ t c.loop-i-test.true c.len-i-end.ensures
+    c.args.log.now.writes.ok.0
     c.index.ensures in
     let l = s.0.1 in
     let p = c.requires.cells in
@@ -35,7 +36,8 @@ pub take-found-requires-clause-place : goal.take-found-requires-clause-place
 take-found-requires-clause-place g c =
     let ws = c.args.log.now.writes.items in
     let t = c.index.result.now in
-    let s = plan_at c.args.log.now.slots true ws c.requires.plan c.loop-i.i _ _ t c.loop-i-test.true c.len-i-end.ensures c.args.log.now.writes.ok.0
+    let s = plan_at c.args.log.now.slots true ws c.requires.plan c.loop-i.i _ _ t c.loop-i-test.true c.len-i-end.ensures
+    c.args.log.now.writes.ok.0
     c.index.ensures in
     take_place g.L.Law.terms c.args.log.now.slots _ _ (low_of ws c.loop-i.i) c.loop-i.invariant.1 t.cell s.0.0
 
@@ -43,7 +45,8 @@ pub take-found-requires-clause-read : goal.take-found-requires-clause-read
 take-found-requires-clause-read g c =
     let ws = c.args.log.now.writes.items in
     let t = c.index.result.now in
-    let s = plan_at c.args.log.now.slots true ws c.requires.plan c.loop-i.i _ _ t c.loop-i-test.true c.len-i-end.ensures c.args.log.now.writes.ok.0
+    let s = plan_at c.args.log.now.slots true ws c.requires.plan c.loop-i.i _ _ t c.loop-i-test.true c.len-i-end.ensures
+    c.args.log.now.writes.ok.0
     c.index.ensures in
     let d = read_found c.args.seat.now.me.0.seat c.args.log.now.slots c.requires.kept t.cell t.word s.1 in
     (d.0, goes_read g.L.Law.terms _ _ _ c.loop-i.invariant.1 refl t.cell d.0 d.1, d.2)
@@ -52,7 +55,8 @@ pub take-found-requires-clause-room : goal.take-found-requires-clause-room
 take-found-requires-clause-room g c =
     let ws = c.args.log.now.writes.items in
     let t = c.index.result.now in
-    let s = plan_at c.args.log.now.slots true ws c.requires.plan c.loop-i.i _ _ t c.loop-i-test.true c.len-i-end.ensures c.args.log.now.writes.ok.0
+    let s = plan_at c.args.log.now.slots true ws c.requires.plan c.loop-i.i _ _ t c.loop-i-test.true c.len-i-end.ensures
+    c.args.log.now.writes.ok.0
     c.index.ensures in
     let even = c.requires.kept.2 t.cell t.word s.1 in
     let same = goes_rights g.L.Law.terms _ _ _ c.loop-i.invariant.1 in
@@ -67,7 +71,8 @@ pub returns-then-found-word-clause-err : goal.returns-then-found-word-clause-err
 returns-then-found-word-clause-err g c =
     let ws = c.args.log.now.writes.items in
     let t = c.index.result.now in
-    let s = plan_at c.args.log.now.slots true ws c.requires.plan c.loop-i.i _ _ t c.loop-i-test.true c.len-i-end.ensures c.args.log.now.writes.ok.0
+    let s = plan_at c.args.log.now.slots true ws c.requires.plan c.loop-i.i _ _ t c.loop-i-test.true c.len-i-end.ensures
+    c.args.log.now.writes.ok.0
     c.index.ensures in
     take_fails g.L.Law.terms c.args.log.now.slots _ _ (low_of ws c.loop-i.i) c.loop-i.invariant.1 t.cell t.value t.word
     c.take-found.result _ s.0.0 (unkept_of c.args.seat.now.me.0.seat c.args.log.now.slots c.requires.kept _ _ s.0.3)
@@ -77,14 +82,16 @@ pub loop-i-preserved : goal.loop-i-preserved
 loop-i-preserved g c =
     let ws = c.args.log.now.writes.items in
     let t = c.index.result.now in
-    let s = plan_at c.args.log.now.slots true ws c.requires.plan c.loop-i.i _ _ t c.loop-i-test.true c.len-i-end.ensures c.args.log.now.writes.ok.0
+    let s = plan_at c.args.log.now.slots true ws c.requires.plan c.loop-i.i _ _ t c.loop-i-test.true c.len-i-end.ensures
+    c.args.log.now.writes.ok.0
     c.index.ensures in
     let m = c.args.seat.now.me in (
       seat_trans c.args.seat.now c.loop-i.seat c.take-found.new.seat c.loop-i.invariant.0 c.take-found.ensures.seat,
       subst (λ k. Goes g.L.Law.terms m (locking m.0.seat Taking Reading (held_in c.args.log.now.slots 0 0 k))
           c.take-found.new.seat.me)
           {x = t.cell + 1} {y = low_of ws (c.loop-i.i + 1)}
-          (sym (plan_next c.args.log.now.slots true ws c.requires.plan c.loop-i.i _ _ t c.loop-i-test.true c.len-i-end.ensures c.args.log.now.writes.ok.0
+          (sym (plan_next c.args.log.now.slots true ws c.requires.plan c.loop-i.i _ _ t c.loop-i-test.true c.len-i-end.ensures
+          c.args.log.now.writes.ok.0
           c.index.ensures))
           (take_goes g.L.Law.terms c.args.log.now.slots _ _ (low_of ws c.loop-i.i) c.loop-i.invariant.1 t.cell t.value t.word
           c.take-found.result _ s.0.0 (unkept_of m.0.seat c.args.log.now.slots c.requires.kept _ _ s.0.3) c.take-found.ensures.told

@@ -9,24 +9,38 @@ use Rattle.tlwords.proofs.opening.deal_all.Goals as goal
 
 pub split_seat-requires : goal.split_seat-requires
 split_seat-requires g c =
-    let i = c.loop.invariant in let e : c.loop.seat.me.0.rights ≡ c.args.sessions - c.loop.counter = ap (λ v. v.rights) i.1 in let l = c.loop-test.true in let m = c.requires.first.0 in
-    (i.0, (let s = c.args.words.now.sized in omega arith), deals g.L.Law.terms _ _ _ _ _ _ (ap (λ v. v.drawn) i.1) (omega arith) (ap (λ v. v.full) i.1) (ap (λ v. v.taken) i.1) (ap (λ v. v.seat) i.1) (ap (λ v. v.gone) i.1))
+    let i = c.loop.invariant in let e : c.loop.seat.me.0.rights ≡ c.args.sessions - c.loop.counter = ap (λ v. v.rights) i.1 in let l =
+    c.loop-test.true in let m = c.requires.first.0 in (
+      i.0,
+      (let s = c.args.words.now.sized in omega arith),
+      deals g.L.Law.terms _ _ _ _ _ _ (ap (λ v. v.drawn) i.1) (omega arith) (ap (λ v. v.full) i.1) (ap (λ v. v.taken) i.1)
+          (ap (λ v. v.seat) i.1) (ap (λ v. v.gone) i.1),
+    )
 
 pub loop-preserved : goal.loop-preserved
 loop-preserved g c =
     let i = c.loop.invariant in let e = c.split_seat.ensures in
-    let setting = c.args.setting.now in let base = c.args.values.now in let room = c.args.words.now.room in let ranges = ranges_named (g.L.Law.terms.ranged setting) c.args.store.now c.args.values.now in
+    let setting = c.args.setting.now in let base = c.args.values.now in let room = c.args.words.now.room in let ranges =
+    ranges_named (g.L.Law.terms.ranged setting) c.args.store.now c.args.values.now in
     let new = new_of setting base room ranges c.args.sessions c.loop.seat.me c.split_seat.result.me c.loop.counter i.1 e.4 in
     let m = dealt_all (λ p. IsDealt setting base room ranges c.args.words.now.table.shared.table_id p) (λ p. p.name) c.args.sessions
-    c.loop.passes.items c.reserve.new.self.items c.push_reserved.new.self.items _ c.loop.counter c.in_ok-reserve.ensures.items c.push_reserved.ensures.items i.2 i.3 i.4
-    (λ j. known_of ((e.3 ∙ i.0) j) (new.0 j)) new.1 in
-    (e.0 ∙ i.0, dealer_more setting base room ranges c.args.sessions c.loop.seat.me c.split_seat.new.seat.me c.loop.counter i.1 e.2, m.0, m.1, m.2)
+    c.loop.passes.items c.reserve.new.self.items c.push_reserved.new.self.items _ c.loop.counter c.in_ok-reserve.ensures.items
+    c.push_reserved.ensures.items i.2 i.3 i.4
+    (λ j. known_of ((e.3 ∙ i.0) j) (new.0 j)) new.1 in (
+      e.0 ∙ i.0,
+      dealer_more setting base room ranges c.args.sessions c.loop.seat.me c.split_seat.new.seat.me c.loop.counter i.1 e.2,
+      m.0,
+      m.1,
+      m.2,
+    )
 
 pub invariant_of-pass : goal.invariant_of-pass
 invariant_of-pass g c =
     let i = c.loop.invariant in
-    let setting = c.args.setting.now in let base = c.args.values.now in let room = c.args.words.now.room in let ranges = ranges_named (g.L.Law.terms.ranged setting) c.args.store.now c.args.values.now in
-    let new = (new_of setting base room ranges c.args.sessions c.loop.seat.me c.split_seat.result.me c.loop.counter i.1 c.split_seat.ensures.4).0 in
+    let setting = c.args.setting.now in let base = c.args.values.now in let room = c.args.words.now.room in let ranges =
+    ranges_named (g.L.Law.terms.ranged setting) c.args.store.now c.args.values.now in
+    let new = (new_of setting base room ranges c.args.sessions c.loop.seat.me c.split_seat.result.me c.loop.counter i.1
+    c.split_seat.ensures.4).0 in
     record {
       fits = (
         ap (λ v. is_some v.setting) new,

@@ -33,10 +33,12 @@ returns-clause-tries c =
     elim c.match-ended.branch [
       | in-Read w ↦ subst outcomes (sym w.outcome-is) (done w.in-Read.place w.in-Read.is)
       | in-Conflict w ↦
-          let met = met_is l stage over lent cs w.in-Conflict.conflict c.place-place.result w.met.result w.met.ensures c.place-place.ensures.value in
+          let met = met_is l stage over lent cs w.in-Conflict.conflict c.place-place.result w.met.result w.met.ensures
+          c.place-place.ensures.value in
           let never : l.going.over ≡ None → ⊥ = λ none. let a = ends.reading none c.requires.reading in let b = w.in-Conflict.is in cc in
           subst outcomes (sym (w.outcome-is ∙ ap outcome.Conflict met))
-          (met_only l stage over lent cs _ k o ends.over ends.ended w.in-Conflict.conflict _ (ap is_writing c.requires.reading ∙ sym c.requires.edit)
+          (met_only l stage over lent cs _ k o ends.over ends.ended w.in-Conflict.conflict _ (ap is_writing c.requires.reading
+          ∙ sym c.requires.edit)
           w.in-Conflict.is never)
     ]
 
@@ -66,7 +68,8 @@ returns-clause-within c =
           let a = answered l lending.0 lending.1 lending.2 cs _ k o ends.over ends.ended w.in-Read.place w.in-Read.is in
           let told = outcome.Read w.in-Read.place c.args.replies in
           subst outcomes (sym w.outcome-is)
-          (for_given l lending.0 lending.1 lending.2 cs k told (λ new later. tt) (locks_answered l lending.0 lending.1 lending.2 cs k _ _ a.1))
+          (for_given l lending.0 lending.1 lending.2 cs k told (λ new later. tt)
+          (locks_answered l lending.0 lending.1 lending.2 cs k _ _ a.1))
       | in-Conflict w ↦
           let met = met_is l lending.0 lending.1 lending.2 cs w.in-Conflict.conflict c.place-place.result w.met.result w.met.ensures
           c.place-place.ensures.value in

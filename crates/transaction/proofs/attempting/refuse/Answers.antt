@@ -38,7 +38,8 @@ returns-clause-tries c =
           (subst (λ (z : Pass). Tries cs z k (outcome.Refused l.going.place c.args.refused) None) began
           (refuses l stage over lent cs c.of.result c.of-2.result c.args.refused k c.of.ensures c.of-2.ensures a.1)))
       | in-Conflict w ↦
-          let met = met_is l stage over lent cs w.in-Conflict.conflict c.place-place.result w.met.result w.met.ensures c.place-place.ensures.value in
+          let met = met_is l stage over lent cs w.in-Conflict.conflict c.place-place.result w.met.result w.met.ensures
+          c.place-place.ensures.value in
           subst outcomes (sym (w.outcome-is ∙ ap outcome.Conflict met))
           (subst (λ (z : Pass). Tries cs z k (outcome.Conflict (met_of l stage over lent cs w.in-Conflict.conflict)) None) began
           (met_only l stage over lent cs _ k o ends.over ends.ended w.in-Conflict.conflict _ writes w.in-Conflict.is
@@ -75,13 +76,16 @@ returns-clause-within c =
           let told = outcome.Refused w.in-Read.place c.args.refused in
           subst outcomes (sym w.outcome-is)
           (subst (λ (z : Pass). EndsWithin z cs k told) began
-          (for_given l lending.0 lending.1 lending.2 cs k told (λ new later. tt) (locks_answered l lending.0 lending.1 lending.2 cs k _ _ a.1)))
+          (for_given l lending.0 lending.1 lending.2 cs k told (λ new later. tt)
+          (locks_answered l lending.0 lending.1 lending.2 cs k _ _ a.1)))
       | in-Conflict w ↦
           let met = met_is l lending.0 lending.1 lending.2 cs w.in-Conflict.conflict c.place-place.result w.met.result w.met.ensures
           c.place-place.ensures.value in
           subst outcomes (sym (w.outcome-is ∙ ap outcome.Conflict met))
-          (subst (λ (z : Pass). EndsWithin z cs k (outcome.Conflict (met_of l lending.0 lending.1 lending.2 cs w.in-Conflict.conflict))) began
+          (subst (λ (z : Pass). EndsWithin z cs k (outcome.Conflict (met_of l lending.0 lending.1 lending.2 cs w.in-Conflict.conflict)))
+          began
           (conflict_within l lending.0 lending.1 lending.2 cs (forgotten_asks c.args.live.run l cs c.forget.ensures c.requires.asks)
-          (λ none. absurd (never_rejects l lending.0 lending.1 lending.2 cs _ k o ends.over ends.ended c.forget.ensures.none w.in-Conflict.conflict _
+          (λ none. absurd (never_rejects l lending.0 lending.1 lending.2 cs _ k o ends.over ends.ended c.forget.ensures.none
+          w.in-Conflict.conflict _
           w.in-Conflict.is none)) _ k o ends.over ends.ended w.in-Conflict.conflict _ w.in-Conflict.is))
     ]

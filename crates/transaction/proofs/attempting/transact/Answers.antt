@@ -19,7 +19,8 @@ run-requires-clause-may c =
     ap has_edit (c.as_slice-3.ensures ∙ sym c.as_slice.ensures) ∙ sym c.has_edit-edits.ensures in
     may_do_all (sight_of c.begin-live.result.run) cs
     (λ is. ap is_writing c.begin-live.ensures.mode_is ∙ (c.mode_of-mode.ensures.writes ∙ (sym edits ∙ is)))
-    (λ is. c.begin-live.ensures.may ∙ (c.has_staging-may_stage.ensures ∙ (ap has_staging (c.as_slice-2.ensures ∙ sym c.as_slice-3.ensures) ∙ is)))
+    (λ is. c.begin-live.ensures.may ∙ (c.has_staging-may_stage.ensures
+    ∙ (ap has_staging (c.as_slice-2.ensures ∙ sym c.as_slice-3.ensures) ∙ is)))
 
 pub commit-requires-clause-lawful : goal.commit-requires-clause-lawful
 commit-requires-clause-lawful c =
@@ -27,7 +28,8 @@ commit-requires-clause-lawful c =
     let old = c.begin-live.result.run in
     let new = c.run.new.cells.run in
     let cs = c.args.commands.now in
-    let lends = subst (λ (b : Bool). Lends g c.args.kit c.mode_of-mode.result b old) (c.has_staging-may_stage.ensures ∙ ap has_staging c.as_slice-2.ensures)
+    let lends = subst (λ (b : Bool). Lends g c.args.kit c.mode_of-mode.result b old) (c.has_staging-may_stage.ensures
+    ∙ ap has_staging c.as_slice-2.ensures)
     c.begin-live.ensures in
     may_be_done g c.args.kit c.mode_of-mode.result cs old lends new c.run.ensures.onward c.requires.fit c.in-Ok.replies
     (subst (λ (x : List Command). DoesAll (sight_of old) (sight_of new) x c.in-Ok.replies) c.as_slice-3.ensures c.in-Ok.ensures.answers)
@@ -38,7 +40,8 @@ answer-requires-clause-lawful c =
     let old = c.begin-live.result.run in
     let new = c.run.new.cells.run in
     let cs = c.args.commands.now in
-    let lends = subst (λ (b : Bool). Lends g c.args.kit c.mode_of-mode.result b old) (c.has_staging-may_stage.ensures ∙ ap has_staging c.as_slice-2.ensures)
+    let lends = subst (λ (b : Bool). Lends g c.args.kit c.mode_of-mode.result b old) (c.has_staging-may_stage.ensures
+    ∙ ap has_staging c.as_slice-2.ensures)
     c.begin-live.ensures in
     may_be_done g c.args.kit c.mode_of-mode.result cs old lends new c.run.ensures.onward c.requires.fit c.in-Ok.replies
     (subst (λ (x : List Command). DoesAll (sight_of old) (sight_of new) x c.in-Ok.replies) c.as_slice-3.ensures c.in-Ok.ensures.answers)
@@ -49,7 +52,8 @@ refuse-requires-clause-lawful c = λ commands reason is why.
     let old = c.begin-live.result.run in
     let new = c.run.new.cells.run in
     let cs = c.args.commands.now in
-    let lends = subst (λ (b : Bool). Lends g c.args.kit c.mode_of-mode.result b old) (c.has_staging-may_stage.ensures ∙ ap has_staging c.as_slice-2.ensures)
+    let lends = subst (λ (b : Bool). Lends g c.args.kit c.mode_of-mode.result b old) (c.has_staging-may_stage.ensures
+    ∙ ap has_staging c.as_slice-2.ensures)
     c.begin-live.ensures in
     let answers = subst (λ (x : List Command). RunAnswers (sight_of old) (sight_of new) x (Err c.in-Err-Refused.field-0))
     c.as_slice-3.ensures c.in-Err-Refused.ensures.answers in
@@ -75,7 +79,8 @@ returns-in-Err-Refused-clause-stored c =
 pub returns-in-Err-clause-stored : goal.returns-in-Err-clause-stored
 returns-in-Err-clause-stored c =
     stored _ c.args.kit _ _ c.begin-live.result.run c.run.new.cells.run c.begin-live.ensures c.run.ensures.onward c.args.commands.now _
-    c.as_slice-3.ensures c.stop-in-Err.result.kit c.run.new.cells.agrees c.run.ensures.taken c.stop-in-Err.result.outcome c.stop-in-Err.ensures.stored
+    c.as_slice-3.ensures c.stop-in-Err.result.kit c.run.new.cells.agrees c.run.ensures.taken c.stop-in-Err.result.outcome
+    c.stop-in-Err.ensures.stored
 
 pub returns-then-is_err-clause-stored : goal.returns-then-is_err-clause-stored
 returns-then-is_err-clause-stored c =
@@ -86,24 +91,28 @@ returns-then-is_err-clause-stored c =
 pub commit-requires-clause-asks : goal.commit-requires-clause-asks
 commit-requires-clause-asks c =
     let lends = c.begin-live.ensures in
-    asks_within c.args.library.now.given c.args.kit _ _ c.begin-live.result.run lends c.args.commands.now c.run.new.cells.run c.run.ensures.onward _
+    asks_within c.args.library.now.given c.args.kit _ _ c.begin-live.result.run lends c.args.commands.now c.run.new.cells.run
+    c.run.ensures.onward _
     c.as_slice-3.ensures c.requires.fit c.run.ensures.reads
 
 pub commit-requires-clause-keeps : goal.commit-requires-clause-keeps
 commit-requires-clause-keeps c =
-    keeps_within c.args.library.now.given c.args.kit _ _ c.begin-live.result.run c.begin-live.ensures c.args.commands.now c.run.new.cells.run
+    keeps_within c.args.library.now.given c.args.kit _ _ c.begin-live.result.run c.begin-live.ensures c.args.commands.now
+    c.run.new.cells.run
     c.run.ensures.onward _ c.as_slice-3.ensures c.requires.fit c.in-Ok.ensures.keeps
 
 pub answer-requires-clause-asks : goal.answer-requires-clause-asks
 answer-requires-clause-asks c =
     let lends = c.begin-live.ensures in
-    asks_within c.args.library.now.given c.args.kit _ _ c.begin-live.result.run lends c.args.commands.now c.run.new.cells.run c.run.ensures.onward _
+    asks_within c.args.library.now.given c.args.kit _ _ c.begin-live.result.run lends c.args.commands.now c.run.new.cells.run
+    c.run.ensures.onward _
     c.as_slice-3.ensures c.requires.fit c.run.ensures.reads
 
 pub refuse-requires-clause-asks : goal.refuse-requires-clause-asks
 refuse-requires-clause-asks c =
     let lends = c.begin-live.ensures in
-    asks_within c.args.library.now.given c.args.kit _ _ c.begin-live.result.run lends c.args.commands.now c.run.new.cells.run c.run.ensures.onward _
+    asks_within c.args.library.now.given c.args.kit _ _ c.begin-live.result.run lends c.args.commands.now c.run.new.cells.run
+    c.run.ensures.onward _
     c.as_slice-3.ensures c.requires.fit c.run.ensures.reads
 
 pub stop-requires-clause-asks : goal.stop-requires-clause-asks
@@ -182,22 +191,26 @@ stop-requires-in-Err-clause-stages c =
 
 pub stop-requires-clause-writes : goal.stop-requires-clause-writes
 stop-requires-clause-writes c =
-    ap is_writing c.begin-live.ensures.mode_is ∙ (c.mode_of-mode.ensures.writes ∙ (c.has_edit-edits.ensures ∙ ap has_edit c.as_slice.ensures))
+    ap is_writing c.begin-live.ensures.mode_is
+    ∙ (c.mode_of-mode.ensures.writes ∙ (c.has_edit-edits.ensures ∙ ap has_edit c.as_slice.ensures))
 
 pub commit-requires-clause-writes : goal.commit-requires-clause-writes
 commit-requires-clause-writes c =
     c.run.ensures.onward.may_write
-    ∙ (ap is_writing c.begin-live.ensures.mode_is ∙ (c.mode_of-mode.ensures.writes ∙ (c.has_edit-edits.ensures ∙ ap has_edit c.as_slice.ensures)))
+    ∙ (ap is_writing c.begin-live.ensures.mode_is
+    ∙ (c.mode_of-mode.ensures.writes ∙ (c.has_edit-edits.ensures ∙ ap has_edit c.as_slice.ensures)))
 
 pub refuse-requires-clause-writes : goal.refuse-requires-clause-writes
 refuse-requires-clause-writes c =
     c.run.ensures.onward.may_write
-    ∙ (ap is_writing c.begin-live.ensures.mode_is ∙ (c.mode_of-mode.ensures.writes ∙ (c.has_edit-edits.ensures ∙ ap has_edit c.as_slice.ensures)))
+    ∙ (ap is_writing c.begin-live.ensures.mode_is
+    ∙ (c.mode_of-mode.ensures.writes ∙ (c.has_edit-edits.ensures ∙ ap has_edit c.as_slice.ensures)))
 
 pub stop-requires-in-Err-clause-writes : goal.stop-requires-in-Err-clause-writes
 stop-requires-in-Err-clause-writes c =
     c.run.ensures.onward.may_write
-    ∙ (ap is_writing c.begin-live.ensures.mode_is ∙ (c.mode_of-mode.ensures.writes ∙ (c.has_edit-edits.ensures ∙ ap has_edit c.as_slice.ensures)))
+    ∙ (ap is_writing c.begin-live.ensures.mode_is
+    ∙ (c.mode_of-mode.ensures.writes ∙ (c.has_edit-edits.ensures ∙ ap has_edit c.as_slice.ensures)))
 
 -- ---- memory was had for one record more
 

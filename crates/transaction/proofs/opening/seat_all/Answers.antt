@@ -21,8 +21,10 @@ loop-pass-preserved c =
     let pushed = c.push_reserved.ensures in
     let n = ap length next.0 in
     record {
-      all = seat_next c.args.given.now c.of.result.value c.in-Some.pass c.new-in-loop-pass.result.items c.new.result c.loop-pass.sessions.items
-          c.push_reserved.new.self.items _ _ c.args.passes.items pushed.items c.of.ensures c.new-in-loop-pass.ensures.items c.new.ensures next.0 i.all;
+      all = seat_next c.args.given.now c.of.result.value c.in-Some.pass c.new-in-loop-pass.result.items c.new.result
+          c.loop-pass.sessions.items
+          c.push_reserved.new.self.items _ _ c.args.passes.items pushed.items c.of.ensures c.new-in-loop-pass.ensures.items c.new.ensures
+          next.0 i.all;
       left = let l = i.left in omega (arith, n, l, next.1);
       room = let r = i.room in omega (arith, n, r, pushed.len, pushed.capacity);
       on = All-rest (IsPassOn c.args.given.now) c.in-Some.pass _ _ next.0 i.on;

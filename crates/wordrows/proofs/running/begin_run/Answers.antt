@@ -14,7 +14,8 @@ returns c =
       mode = ap (λ x. x.mode) begins.is;
       read = All-same (λ k. was_read c.begin-run.result.slots k ≡ true) c.new.result.items _ c.new.ensures.items
           (All-nil (λ k. was_read c.begin-run.result.slots k ≡ true));
-      there = all_later c.args.rest.pass.seen.ranges c.begin-run.result.known.seen.ranges c.args.rest.ranges.items begins.grows.2 c.requires.there;
+      there = all_later c.args.rest.pass.seen.ranges c.begin-run.result.known.seen.ranges c.args.rest.ranges.items begins.grows.2
+          c.requires.there;
       store = subst (λ (n : ℕ). AreOfOneStore n c.begin-run.result.known.seen.ranges) (ap (λ h. h.room) home)
           (begins.stands.knows.ranges _ (ap (λ h. h.setting) home));
       kept = λ _ d v e. absurd (let f = (begins.blank d).1 in cc);

@@ -4,7 +4,10 @@ use Rattle.wordrows.proofs.Later.{run_lawful, rests_later, commit_within}
 use Rattle.wordrows.proofs.running.commit.Goals as goal
 
 pub commit-pass-requires : goal.commit-pass-requires
-commit-pass-requires c = record { lawful = λ _. run_lawful c.args.words.now c.args.playing c.into_parts-run.result.0 c.args.note c.into_parts-run.ensures.run c.requires }
+commit-pass-requires c = record {
+  lawful =
+      λ _. run_lawful c.args.words.now c.args.playing c.into_parts-run.result.0 c.args.note c.into_parts-run.ensures.run c.requires;
+}
 
 pub returns : goal.returns
 returns c =

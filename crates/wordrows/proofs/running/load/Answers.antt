@@ -6,7 +6,8 @@ use Rattle.wordrows.proofs.running.load.Goals as goal
 
 pub load-requires : goal.load-requires
 load-requires c =
-    let there = All-contains (IsThere c.args.playing.now.run.known.seen.ranges) c.args.playing.now.ranges.items c.args.range c.requires.there
+    let there = All-contains (IsThere c.args.playing.now.run.known.seen.ranges) c.args.playing.now.ranges.items c.args.range
+    c.requires.there
     (search rules) in
     (there.0, there.1, there.2, omega (arith, c.if-index-range.false))
 

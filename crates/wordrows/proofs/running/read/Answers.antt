@@ -9,7 +9,8 @@ returns-in-Err c =
     let p = c.args.playing.now in
     let read = c.in-Err.ensures in
     let reads : Reads p.run c.read.new.self c.args.cell _ = record { over = read.over; kept = read.kept; ok = read.ok; err = read.err } in
-    runs_later c.args.words.now p c.read.new.self read.same.0 read.same.2 (read_later p.run c.read.new.self c.args.cell _ reads) c.requires.runs
+    runs_later c.args.words.now p c.read.new.self read.same.0 read.same.2
+    (read_later p.run c.read.new.self c.args.cell _ reads) c.requires.runs
 
 pub note_cell-noted-requires : goal.note_cell-noted-requires
 note_cell-noted-requires c =
@@ -28,11 +29,13 @@ note_range-known-requires-clause-there c =
     let read = c.in-Ok.ensures in
     let old = c.requires.runs in
     let reads : Reads p.run c.read.new.self c.args.cell _ = record { over = read.over; kept = read.kept; ok = read.ok; err = read.err } in
-    let runs = runs_later c.args.words.now p c.read.new.self read.same.0 read.same.2 (read_later p.run c.read.new.self c.args.cell _ reads) old in
+    let runs = runs_later c.args.words.now p c.read.new.self read.same.0 read.same.2
+    (read_later p.run c.read.new.self c.args.cell _ reads) old in
     let named : is_named c.args.words.now ≡ true = c.requires.named ∙ c.if-named.true in
     let set = ap (λ h. h.setting) old.home ∙ ap (λ (b : Bool). let o : Option Bool = Some b in o) named in
     let names = read_names p.run c.read.new.self c.args.cell c.in-Ok.value reads set (old.kept named) in
     let range = c.named-range.ensures in
     subst (λ g. IsThere g.known.seen.ranges c.named-range.result) (sym c.note_cell-noted.ensures.same)
-    (named_there c.args.words.now.room c.in-Ok.value c.read.new.self.known.seen.ranges c.named-range.result c.args.words.now.small.1 runs.store names
+    (named_there c.args.words.now.room c.in-Ok.value c.read.new.self.known.seen.ranges c.named-range.result c.args.words.now.small.1
+    runs.store names
     range.start range.len c.if-range-ne0.true)

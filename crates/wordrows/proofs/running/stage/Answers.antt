@@ -16,5 +16,6 @@ pub returns-in-Err : goal.returns-in-Err
 returns-in-Err c =
     let p = c.args.playing.now in
     let same = c.stage.ensures.same in
-    runs_later c.args.words.now p c.stage.new.self same.0 (ap (λ x. x.mode) same.1) (later_refused _ p.run c.stage.new.self c.in-Err.ensures.err)
+    runs_later c.args.words.now p c.stage.new.self same.0 (ap (λ x. x.mode) same.1)
+    (later_refused _ p.run c.stage.new.self c.in-Err.ensures.err)
     c.requires

@@ -65,11 +65,13 @@ returns g c =
 
 pub start-requires-clause-own : goal.start-requires-clause-own
 start-requires-clause-own g c κs within =
-    walked_next (IsOf c.args.shop.library.now) _ _ _ _ c.in-Some.session c.loop-session.invariant.1 c.in-Some.ensures.steps.0.0 c.requires.own
+    walked_next (IsOf c.args.shop.library.now) _ _ _ _ c.in-Some.session c.loop-session.invariant.1 c.in-Some.ensures.steps.0.0
+    c.requires.own
 
 pub start-requires-clause-claims : goal.start-requires-clause-claims
 start-requires-clause-claims g c κs within =
-    walked_next (Claims c.args.shop.numbers.now) _ _ _ _ c.in-Some.claimant c.loop-session.invariant.2 c.in-Some.ensures.steps.1.0 c.requires.claims
+    walked_next (Claims c.args.shop.numbers.now) _ _ _ _ c.in-Some.claimant c.loop-session.invariant.2 c.in-Some.ensures.steps.1.0
+    c.requires.claims
 
 pub loop-session-smaller : goal.loop-session-smaller
 loop-session-smaller g c =

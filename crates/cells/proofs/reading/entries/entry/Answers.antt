@@ -23,7 +23,8 @@ returns-clause-ok g c = λ st lib v e at h.
     let first = g.C.Cells.sight c.rank.new.cells in
     let s = g.C.Cells.sight c.assertion.new.cells in
     let r : c.in_ok-rank.rank ≡ e.rank =
-    held_later first s c.args.slot (λ x l f. c.in_ok-rank.rank ≡ f.rank) c.assertion.ensures.looks c.in_ok-rank.ensures.ok st lib v e at h in
+    held_later first s c.args.slot (λ x l f. c.in_ok-rank.rank
+    ≡ f.rank) c.assertion.ensures.looks c.in_ok-rank.ensures.ok st lib v e at h in
     let a : c.in_ok-assertion.assertion ≡ e.assertion = c.in_ok-assertion.ensures.ok st lib v e at h in
     λ k. record { rank = r k; assertion = a k }
 
@@ -34,12 +35,14 @@ pub returns-in_err-assertion-clause-reads : goal.returns-in_err-assertion-clause
 returns-in_err-assertion-clause-reads g c = λ st lib v e at h.
     let s = g.C.Cells.sight c.assertion.new.cells in
     asks_more (asks_cell (inl refl) c.rank.ensures.reads)
-    (λ k is. inr (subst (λ (x : Setting). IsOfAssertion x.slots c.args.slot e.assertion.proof (after s st) k) c.rank.ensures.looks.onward.setting is))
+    (λ k is. inr (subst (λ (x : Setting). IsOfAssertion x.slots c.args.slot e.assertion.proof
+    (after s st) k) c.rank.ensures.looks.onward.setting is))
     (c.assertion.ensures.reads st lib v e at h)
 
 pub returns-clause-reads : goal.returns-clause-reads
 returns-clause-reads g c = λ st lib v e at h.
     let s = g.C.Cells.sight c.assertion.new.cells in
     asks_more (asks_cell (inl refl) c.rank.ensures.reads)
-    (λ k is. inr (subst (λ (x : Setting). IsOfAssertion x.slots c.args.slot e.assertion.proof (after s st) k) c.rank.ensures.looks.onward.setting is))
+    (λ k is. inr (subst (λ (x : Setting). IsOfAssertion x.slots c.args.slot e.assertion.proof
+    (after s st) k) c.rank.ensures.looks.onward.setting is))
     (c.assertion.ensures.reads st lib v e at h)

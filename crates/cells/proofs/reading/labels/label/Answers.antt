@@ -19,7 +19,8 @@ pub returns-then-is_empty-clause-ok : goal.returns-then-is_empty-clause-ok
 returns-then-is_empty-clause-ok g c =
     let s = g.C.Cells.sight c.words_of.new.cells in
     let words = c.in_ok-words.words.items in
-    let lt : c.args.slot < s.setting.slots = subst (λ (n : ℕ). c.args.slot < n) (sym (same_slots _ _ c.words_of.ensures.looks)) c.requires in
+    let lt : c.args.slot < s.setting.slots =
+    subst (λ (n : ℕ). c.args.slot < n) (sym (same_slots _ _ c.words_of.ensures.looks)) c.requires in
     let are : (st : State) → Matches s st → AreWordsOf (after s st) (name_cell c.args.slot) c.in_ok-words.words.items =
     λ st m. subst (λ (n : ℕ). AreWordsOf (after s st) n words) c.name_cell.ensures (c.in_ok-words.ensures.ok st m) in
     let zero = (Decides-eqb (vec_len c.in_ok-words.words) 0).0 (sym c.is_empty.ensures ∙ c.if-is_empty.true) in
@@ -30,7 +31,8 @@ pub returns-clause-ok : goal.returns-clause-ok
 returns-clause-ok g c =
     let s = g.C.Cells.sight c.words_of.new.cells in
     let words = c.in_ok-words.words.items in
-    let lt : c.args.slot < s.setting.slots = subst (λ (n : ℕ). c.args.slot < n) (sym (same_slots _ _ c.words_of.ensures.looks)) c.requires in
+    let lt : c.args.slot < s.setting.slots =
+    subst (λ (n : ℕ). c.args.slot < n) (sym (same_slots _ _ c.words_of.ensures.looks)) c.requires in
     let are : (st : State) → Matches s st → AreWordsOf (after s st) (name_cell c.args.slot) c.in_ok-words.words.items =
     λ st m. subst (λ (n : ℕ). AreWordsOf (after s st) n words) c.name_cell.ensures (c.in_ok-words.ensures.ok st m) in
     let some : c.in_ok-words.words.items ≢ [] = λ none.

@@ -21,7 +21,8 @@ returns-clause-ok g c = λ st lib v e at h.
     subst (λ (n : ℕ). AreWordsOf (after s st) n words) c.proof_cell.ensures (c.in_ok-words.ensures.ok st v.matches) in
     let kept = stored_words slots c.args.slot (after s st) e.assertion.kind e.assertion.proof words h.proof are in
     let made : c.in_ok-decode_proof.field-0.items ≡ kept.0 =
-    c.in_ok-decode_proof.ensures kept.0 (steps_small s.setting lib v.verifies e at (after s st) kept.0 kept.2) (kept.1 ∙ sym c.as_slice.ensures.value) in
+    c.in_ok-decode_proof.ensures kept.0 (steps_small s.setting lib v.verifies e at (after s st) kept.0 kept.2) (kept.1
+    ∙ sym c.as_slice.ensures.value) in
     subst (AreStoredAs slots (after s st) e.assertion.proof) (sym made) kept.2
 
 pub returns-in_err-words-clause-reads : goal.returns-in_err-words-clause-reads

@@ -12,6 +12,7 @@ returns-in-Hyp-clause-ok g c =
 
 pub returns-in_ok-push-in-Slot-clause-ok : goal.returns-in_ok-push-in-Slot-clause-ok
 returns-in_ok-push-in-Slot-clause-ok g c =
-    slot_word_of (g.C.Cells.sight c.cited_label.new.cells) c.args.slots c.args.cited.now.items c.push.new.self.items c.in_ok-label-in-Slot.label
+    slot_word_of (g.C.Cells.sight c.cited_label.new.cells) c.args.slots c.args.cited.now.items c.push.new.self.items
+    c.in_ok-label-in-Slot.label
     c.len-place.result c.in-Slot.slot c.args.step c.in-Slot.is c.in_ok-push-in-Slot.ensures.items
     (c.len-place.ensures ∙ c.args.cited.now.ok.0) c.in_ok-label-in-Slot.ensures.ok

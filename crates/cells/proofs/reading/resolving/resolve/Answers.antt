@@ -67,7 +67,13 @@ returns-clause-ok g c =
     let s = g.C.Cells.sight c.loop-i.cells in
     let steps = c.args.steps.now in
     let n : length steps ≡ c.loop-i.i = let long = ap (λ (ss : List Step). length ss) c.word_steps-over.ensures in
-    omega (arith, long, length-map c.word_steps-over.result.words.now (step_of c.word_steps-over.result.cited.now), c.loop-i-test.false, c.loop-i.auto.i-end) in
+    omega (
+      arith,
+      long,
+      length-map c.word_steps-over.result.words.now (step_of c.word_steps-over.result.cited.now),
+      c.loop-i-test.false,
+      c.loop-i.auto.i-end,
+    ) in
     resolve_all s old.setting.slots c.loop-i.i steps c.loop-i.kept.items (sym (same_slots old s c.loop-i.invariant.0)) n
     c.loop-i.invariant.1
 

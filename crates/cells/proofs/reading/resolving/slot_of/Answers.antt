@@ -7,12 +7,14 @@ use Rattle.cells.proofs.reading.resolving.slot_of.Goals as goal
 
 pub returns-in_err-slot-clause-found : goal.returns-in_err-slot-clause-found
 returns-in_err-slot-clause-found g c =
-    found_later (g.C.Cells.sight c.args.cells.now) (g.C.Cells.sight c.find.new.cells) c.args.labels.now c.args.found.now c.find.ensures.looks
+    found_later (g.C.Cells.sight c.args.cells.now)
+    (g.C.Cells.sight c.find.new.cells) c.args.labels.now c.args.found.now c.find.ensures.looks
     c.requires.found
 
 pub returns-in_default-2-clause-found : goal.returns-in_default-2-clause-found
 returns-in_default-2-clause-found g c =
-    found_later (g.C.Cells.sight c.args.cells.now) (g.C.Cells.sight c.find.new.cells) c.args.labels.now c.args.found.now c.find.ensures.looks
+    found_later (g.C.Cells.sight c.args.cells.now)
+    (g.C.Cells.sight c.find.new.cells) c.args.labels.now c.args.found.now c.find.ensures.looks
     c.requires.found
 
 pub returns-in_default-2-clause-ok : goal.returns-in_default-2-clause-ok
@@ -31,7 +33,8 @@ returns-clause-found g c =
     c.as_slice.ensures ∙ c.index-labels-n.is ∙ get_or_default labels c.args.n c.index-labels-n.result [] c.requires.within in
     found_more (g.C.Cells.sight c.args.cells.now) s labels c.args.found.now c.args.n c.in-Some-2.slot c.find.ensures.looks c.requires.within
     c.requires.found
-    (subst (λ (l : List ℕ). Finds s l (Some c.in-Some-2.slot)) at (subst (Finds s c.as_slice.result.now) c.in-Some-2.is c.in_ok-slot.ensures.ok))
+    (subst (λ (l : List ℕ). Finds s l (Some c.in-Some-2.slot)) at
+    (subst (Finds s c.as_slice.result.now) c.in-Some-2.is c.in_ok-slot.ensures.ok))
 
 pub overflow_cast-found : goal.overflow_cast-found
 overflow_cast-found g c =

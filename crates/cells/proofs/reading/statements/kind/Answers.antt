@@ -12,7 +12,8 @@ statement_cell-requires g c = small_slot _ (g.met.C.Cells.grounded c.args.cells.
 pub returns-clause-ok : goal.returns-clause-ok
 returns-clause-ok g c = λ st lib v e at h.
     let new = g.C.Cells.sight c.first_word.new.cells in
-    let body = subst (λ (n : ℕ). HasBody (after new st) n (statement_body (statement_of e.assertion))) (sym c.statement_cell.ensures) h.statement in
+    let body = subst (λ (n : ℕ). HasBody (after new st) n (statement_body (statement_of e.assertion)))
+    (sym c.statement_cell.ensures) h.statement in
     c.kind_of.ensures e.assertion.kind (sym (c.in_ok-first_word.ensures.ok st _ _ v.matches body))
 
 pub returns-in_err-first_word-clause-reads : goal.returns-in_err-first_word-clause-reads

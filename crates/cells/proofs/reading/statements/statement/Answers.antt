@@ -19,7 +19,8 @@ returns-clause-ok g c = λ st lib v e at h.
     subst (λ (n : ℕ). AreWordsOf (after s st) n words) c.statement_cell.ensures (c.in_ok-words.ensures.ok st v.matches) in
     let body = statement_body (statement_of e.assertion) in
     let same : body ≡ words = sym (are.body body h.statement) in
-    c.in_ok-decode_statement.ensures (statement_of e.assertion) (statement_small s.setting lib v.verifies e at) (same ∙ sym c.as_slice.ensures.value)
+    c.in_ok-decode_statement.ensures (statement_of e.assertion) (statement_small s.setting lib v.verifies e at) (same
+    ∙ sym c.as_slice.ensures.value)
 
 pub returns-in_err-words-clause-reads : goal.returns-in_err-words-clause-reads
 returns-in_err-words-clause-reads g c = asks_cell c.statement_cell.ensures c.words_of.ensures.reads

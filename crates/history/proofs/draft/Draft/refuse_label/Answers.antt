@@ -15,7 +15,8 @@ returns-then-not-is_lawful_label c =
     let lawful : is_lawful_label d.setting.prelude w ≡ false =
     ap (λ (x : Drafted). is_lawful_label x.setting.prelude w) (sym c.self.view_is) ∙ sym c.is_lawful_label.ensures
     ∙ c.if-not-is_lawful_label.true in
-    sym (first-some (bad_label d.setting w) _ reason.BadLabel (so (not (is_lawful_label d.setting.prelude w)) reason.BadLabel (ap not lawful)))
+    sym (first-some (bad_label d.setting w) _ reason.BadLabel
+    (so (not (is_lawful_label d.setting.prelude w)) reason.BadLabel (ap not lawful)))
 
 pub returns-then-is_some : goal.returns-then-is_some
 returns-then-is_some c =

@@ -54,7 +54,8 @@ put-requires-clause-framed c =
     let e = c.in-Some.entry.now in
     let p = c.in-Some.place in
     let own : HasLabel i.places d.entries w p e =
-    has_label i.places i.entries.items d.entries c.as_slice-2.result.now c.as_slice-own.result.now w p e c.self.invariant.0.indexed held slice
+    has_label i.places i.entries.items d.entries c.as_slice-2.result.now c.as_slice-own.result.now w p e c.self.invariant.0.indexed held
+    slice
     at.0 at.1 c.as_slice-own.ensures in
     let stands : StandsIn i.entries.items p e = subst (λ l. StandsIn l p e) slice at.0 in
     let framed = c.self.invariant.0.framed.framed p e stands in
@@ -74,7 +75,8 @@ citers_of-requires c =
     let e = c.in-Some.entry.now in
     let p = c.in-Some.place in
     let own : HasLabel i.places d.entries w p e =
-    has_label i.places i.entries.items d.entries c.as_slice-2.result.now c.as_slice-own.result.now w p e c.self.invariant.0.indexed held slice
+    has_label i.places i.entries.items d.entries c.as_slice-2.result.now c.as_slice-own.result.now w p e c.self.invariant.0.indexed held
+    slice
     at.0 at.1 c.as_slice-own.ensures in
     let new = c.args.new.now in
     (e, own.at)
@@ -91,7 +93,8 @@ put-requires-clause-covered c =
     let e = c.in-Some.entry.now in
     let p = c.in-Some.place in
     let own : HasLabel i.places d.entries w p e =
-    has_label i.places i.entries.items d.entries c.as_slice-2.result.now c.as_slice-own.result.now w p e c.self.invariant.0.indexed held slice
+    has_label i.places i.entries.items d.entries c.as_slice-2.result.now c.as_slice-own.result.now w p e c.self.invariant.0.indexed held
+    slice
     at.0 at.1 c.as_slice-own.ensures in
     let new = c.args.new.now in
     let told =
@@ -117,7 +120,8 @@ recite_all-requires-clause-all c =
     let e = c.in-Some.entry.now in
     let p = c.in-Some.place in
     let own : HasLabel i.places d.entries w p e =
-    has_label i.places i.entries.items d.entries c.as_slice-2.result.now c.as_slice-own.result.now w p e c.self.invariant.0.indexed held slice
+    has_label i.places i.entries.items d.entries c.as_slice-2.result.now c.as_slice-own.result.now w p e c.self.invariant.0.indexed held
+    slice
     at.0 at.1 c.as_slice-own.ensures in
     let new = c.args.new.now in
     let same : c.as_slice-3.result.now ≡ c.citers_of.result.now = c.as_slice-3.ensures.value ∙ c.in_ok-citers.ensures.items in
@@ -138,7 +142,8 @@ recite_all-requires-clause-listed c =
     let e = c.in-Some.entry.now in
     let p = c.in-Some.place in
     let own : HasLabel i.places d.entries w p e =
-    has_label i.places i.entries.items d.entries c.as_slice-2.result.now c.as_slice-own.result.now w p e c.self.invariant.0.indexed held slice
+    has_label i.places i.entries.items d.entries c.as_slice-2.result.now c.as_slice-own.result.now w p e c.self.invariant.0.indexed held
+    slice
     at.0 at.1 c.as_slice-own.ensures in
     let new = c.args.new.now in
     let same : c.as_slice-3.result.now ≡ c.citers_of.result.now = c.as_slice-3.ensures.value ∙ c.in_ok-citers.ensures.items in
@@ -166,7 +171,8 @@ returns-clause-taken c =
     let e = c.in-Some.entry.now in
     let p = c.in-Some.place in
     let own : HasLabel i.places d.entries w p e =
-    has_label i.places i.entries.items d.entries c.as_slice-2.result.now c.as_slice-own.result.now w p e c.self.invariant.0.indexed held slice
+    has_label i.places i.entries.items d.entries c.as_slice-2.result.now c.as_slice-own.result.now w p e c.self.invariant.0.indexed held
+    slice
     at.0 at.1 c.as_slice-own.ensures in
     let new = c.args.new.now in
     let told =

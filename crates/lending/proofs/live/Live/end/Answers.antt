@@ -12,7 +12,8 @@ pub commit-pass-requires : goal.commit-pass-requires
 commit-pass-requires c =
     let s = c.self.inside in
     let note = c.args.note.now in
-    let may = subst (λ x. x.run.going.over ≡ None → IsLawfulWith x.run (writes_kept x.run.going.slots) note) (sym c.self.view_is) c.requires in
+    let may = subst (λ x. x.run.going.over ≡ None
+    → IsLawfulWith x.run (writes_kept x.run.going.slots) note) (sym c.self.view_is) c.requires in
     record { lawful = λ none. may_end (lending_in s) s.stage s.over c.self.invariant.1 note (may none) }
 
 pub invariant_of-result : goal.invariant_of-result

@@ -22,7 +22,8 @@ invariant_of-result c =
     let is : IsSetting s = record { sound = c.floats-sound.ensures.sound; some = some; few = few } in
     let shown : ShowsSome s (undone values log) store places =
     subst (λ (l : Pairs). ShowsSome s (undone values l) store places) (sym none)
-    (subst (λ xs. ShowsSome s values xs places) (sym c.new-2.ensures.items) (subst (λ xs. ShowsSome s xs [] places) (sym zeros) (zeros_show s n places is))) in
+    (subst (λ xs. ShowsSome s values xs places) (sym c.new-2.ensures.items)
+    (subst (λ xs. ShowsSome s xs [] places) (sym zeros) (zeros_show s n places is))) in
     record {
       some = some;
       few = few;
@@ -31,8 +32,11 @@ invariant_of-result c =
       stored = subst (λ (xs : List ℕ). length xs ≤ c.args.room) (sym c.new-2.ensures.items) (omega arith);
       logged = subst (IsLogOf n) (sym none) (λ i q at. absurd cc);
       lie = subst (LieInStore store) (sym c.new-3.ensures.items) (λ i q at. absurd cc);
-      names = subst (λ xs. HoldNames c.args.slots xs (ranges_in store places)) (sym zeros) (zeros_name c.args.slots n (ranges_in store places));
+      names = subst (λ xs. HoldNames c.args.slots xs (ranges_in store places)) (sym zeros)
+          (zeros_name c.args.slots n (ranges_in store places));
       began_with_names = subst (λ (l : Pairs). HoldNames c.args.slots (undone values l) (ranges_in store places)) (sym none)
-          (subst (λ xs. HoldNames c.args.slots xs (ranges_in store places)) (sym zeros) (zeros_name c.args.slots n (ranges_in store places)));
-      began = ∣ plain_began s c.args.room values log store places (subst (λ (xs : List ℕ). length xs ≤ 16777216) (sym c.new-2.ensures.items) (omega arith)) shown ∣₁;
+          (subst (λ xs. HoldNames c.args.slots xs (ranges_in store places)) (sym zeros)
+          (zeros_name c.args.slots n (ranges_in store places)));
+      began = ∣ plain_began s c.args.room values log store places
+          (subst (λ (xs : List ℕ). length xs ≤ 16777216) (sym c.new-2.ensures.items) (omega arith)) shown ∣₁;
     }

@@ -21,7 +21,9 @@ invariant_of-self c =
       logged = subst (IsLogOf (7 * p.slots)) (sym none) (λ i q at. absurd cc);
       lie = p.lie;
       names = p.names;
-      began_with_names = subst (λ l. HoldNames p.slots (undone p.values.items l) (ranges_in p.store.items p.ranges.items)) (sym none) p.names;
-      began = ∥∥₁_map c.requires (λ b. plain_began s p.room p.values.items log p.store.items p.ranges.items (omega (arith, p.stored, p.roomy))
+      began_with_names = subst (λ l. HoldNames p.slots (undone p.values.items l) (ranges_in p.store.items p.ranges.items))
+          (sym none) p.names;
+      began = ∥∥₁_map c.requires (λ b. plain_began s p.room p.values.items log p.store.items p.ranges.items
+          (omega (arith, p.stored, p.roomy))
           (subst (λ l. ShowsSome s (undone p.values.items l) p.store.items p.ranges.items) (sym none) b));
     }

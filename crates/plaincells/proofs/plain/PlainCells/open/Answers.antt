@@ -7,7 +7,8 @@ use Rattle.plaincells.proofs.plain.PlainCells.open.Goals as goal
 pub put_next-requires-clause-opened : goal.put_next-requires-clause-opened
 put_next-requires-clause-opened c =
     let o = c.loop-slot.invariant in
-    opens_at (front c.loop-slot.slot c.args.database.now) c.args.slots c.args.room c.loop-slot.cells.slots c.loop-slot.cells.room c.loop-slot.cells
+    opens_at (front c.loop-slot.slot c.args.database.now) c.args.slots c.args.room c.loop-slot.cells.slots c.loop-slot.cells.room
+    c.loop-slot.cells
     (sym o.slots_are) (sym o.room_is) o
 
 pub put_next-requires-clause-fits : goal.put_next-requires-clause-fits
@@ -18,7 +19,8 @@ put_next-requires-clause-fits c =
 pub loop-slot-init : goal.loop-slot-init
 loop-slot-init c =
     let e = c.in_ok-cells.ensures in
-    opens_none c.args.database.now c.args.slots c.args.room c.in_ok-cells.cells (e.0 ∙ c.in_ok-copy.ensures ∙ c.prelude.ensures) e.1 e.2 e.3 e.5
+    opens_none c.args.database.now c.args.slots c.args.room c.in_ok-cells.cells (e.0 ∙ c.in_ok-copy.ensures
+    ∙ c.prelude.ensures) e.1 e.2 e.3 e.5
 
 pub loop-slot-preserved : goal.loop-slot-preserved
 loop-slot-preserved c =

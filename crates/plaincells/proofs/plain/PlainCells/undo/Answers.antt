@@ -14,11 +14,13 @@ invariant_of-self c =
     let s : Setting = setting_of p in
     let made = c.give_back.new.values in
     let log = c.give_back.new.log.items in
-    let base : made ≡ undone p.values.items p.log.items = c.give_back.ensures.values ∙ ap (λ xs. undone xs p.log.items) c.as_mut_slice.ensures.value in
+    let base : made ≡ undone p.values.items p.log.items =
+    c.give_back.ensures.values ∙ ap (λ xs. undone xs p.log.items) c.as_mut_slice.ensures.value in
     let n : length made ≡ length p.values.items = ap (λ (xs : List ℕ). length xs) base ∙ length-undone p.values.items p.log.items in
     let same : take p.values.len (made ++ drop (length made) p.values.items) ≡ made = grind (arith, common_steps) in
     let begun : take p.values.len (made ++ drop (length made) p.values.items) ≡ undone p.values.items p.log.items = same ∙ base in
-    let now = λ (l : Pairs). HoldNames p.slots (undone (take p.values.len (made ++ drop (length made) p.values.items)) l) (ranges_in p.store.items p.ranges.items) in
+    let now = λ (l : Pairs). HoldNames p.slots (undone (take p.values.len (made ++ drop (length made) p.values.items)) l)
+    (ranges_in p.store.items p.ranges.items) in
     let hold : HoldNames p.slots (take p.values.len (made ++ drop (length made) p.values.items)) (ranges_in p.store.items p.ranges.items) =
     subst (λ xs. HoldNames p.slots xs (ranges_in p.store.items p.ranges.items)) (sym begun) p.began_with_names in
     record {
@@ -32,5 +34,6 @@ invariant_of-self c =
       names = hold;
       began_with_names = subst now (sym c.give_back.ensures.log) hold;
       began = began_same s p.room p.values.items _ p.log.items log p.store.items p.ranges.items (omega (arith, p.stored, p.roomy))
-          (ap (λ (l : Pairs). undone (take p.values.len (made ++ drop (length made) p.values.items)) l) c.give_back.ensures.log ∙ begun) p.began;
+          (ap (λ (l : Pairs). undone (take p.values.len (made ++ drop (length made) p.values.items)) l) c.give_back.ensures.log
+          ∙ begun) p.began;
     }

@@ -6,13 +6,15 @@ use Rattle.plaincells.proofs.plain.PlainCellsCells.load.Goals as goal
 pub overflow_add-range : goal.overflow_add-range
 overflow_add-range c =
     let p = c.args.self.now in
-    let w = known_words p.store.items p.ranges.items c.args.range.start c.args.range.len c.requires.0 p.lie c.requires.1.finished c.requires.1.len in
+    let w = known_words p.store.items p.ranges.items c.args.range.start c.args.range.len c.requires.0 p.lie c.requires.1.finished
+    c.requires.1.len in
     omega (arith, w.0, p.stored, p.roomy, c.requires.2)
 
 pub index-requires : goal.index-requires
 index-requires c =
     let p = c.args.self.now in
-    let w = known_words p.store.items p.ranges.items c.args.range.start c.args.range.len c.requires.0 p.lie c.requires.1.finished c.requires.1.len in
+    let w = known_words p.store.items p.ranges.items c.args.range.start c.args.range.len c.requires.0 p.lie c.requires.1.finished
+    c.requires.1.len in
     let within : c.args.range.start + c.args.index < length p.store.items = omega (arith, w.0, c.requires.2) in
     grind (arith, common_steps)
 

@@ -14,14 +14,16 @@ invariant_of-self c =
     let lt : c.args.cell < length p.values.items = omega (arith, p.long, c.requires) in
     let at = read_at p.values.items c.args.cell c.index-value.result.now lt c.index-value.ensures in
     let ok = is_ok c.push.result in
-    let same = undone_logged p.values.items p.log.items c.push.new.self.items c.args.cell c.index-value.result.now ok at c.push.ensures.items in
+    let same = undone_logged p.values.items p.log.items c.push.new.self.items c.args.cell c.index-value.result.now ok at
+    c.push.ensures.items in
     record {
       some = p.some;
       few = p.few;
       long = p.long;
       roomy = p.roomy;
       stored = p.stored;
-      logged = logged_either _ p.log.items c.push.new.self.items c.args.cell c.index-value.result.now ok p.logged c.requires c.push.ensures.items;
+      logged = logged_either _ p.log.items c.push.new.self.items c.args.cell c.index-value.result.now ok p.logged c.requires
+          c.push.ensures.items;
       lie = p.lie;
       names = p.names;
       began_with_names = subst (λ xs. HoldNames p.slots xs (ranges_in p.store.items p.ranges.items)) (sym same) p.began_with_names;
@@ -44,7 +46,8 @@ returns-in-Err-clause-err c =
     let p = c.args.self.now in
     let s : Setting = setting_of p in
     let before = sight_of p in
-    subst (λ l. Looks before (plain_sight s p.room p.values.items l p.store.items p.ranges.items)) (sym c.in-Err.ensures.items) (looks_refl before)
+    subst (λ l. Looks before (plain_sight s p.room p.values.items l p.store.items p.ranges.items)) (sym c.in-Err.ensures.items)
+    (looks_refl before)
 
 pub returns-in-Ok-clause-reads : goal.returns-in-Ok-clause-reads
 returns-in-Ok-clause-reads c =

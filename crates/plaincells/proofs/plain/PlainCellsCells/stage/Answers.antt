@@ -29,7 +29,8 @@ invariant_of-self c =
       stored = either (λ st pl. length st ≤ p.room) fits p.stored;
       logged = p.logged;
       lie = either LieInStore (lie_staged old words places (has_some words c.requires.some) p.lie) p.lie;
-      names = either (λ st pl. HoldNames p.slots p.values.items (ranges_in st pl)) (hold_staged p.slots p.values.items old words places p.lie p.names) p.names;
+      names = either (λ st pl. HoldNames p.slots p.values.items (ranges_in st pl))
+          (hold_staged p.slots p.values.items old words places p.lie p.names) p.names;
       began_with_names = either (λ st pl. HoldNames p.slots (undone p.values.items p.log.items) (ranges_in st pl))
           (hold_staged p.slots (undone p.values.items p.log.items) old words places p.lie p.began_with_names) p.began_with_names;
       began = either (λ st pl. ∥ BeganWithSome s p.room p.values.items p.log.items st pl ∥₁)
@@ -45,6 +46,9 @@ returns-in-Ok-clause-ok c =
     let words = c.args.words.now in
     let before = plain_sight s p.room p.values.items p.log.items old places in
     let made = plain_stages s p.room p.values.items p.log.items old words places p.lie in
-    subst (λ r. Stages words r before (plain_sight s p.room p.values.items p.log.items c.put_behind.new.store.items c.put_behind.new.ranges.items)) (sym c.in-Ok.ensures.range)
-    (subst (λ st. Stages words (behind old words) before (plain_sight s p.room p.values.items p.log.items st c.put_behind.new.ranges.items)) (sym c.in-Ok.ensures.store)
-    (subst (λ pl. Stages words (behind old words) before (plain_sight s p.room p.values.items p.log.items (old ++ words) pl)) (sym c.in-Ok.ensures.ranges) made))
+    subst (λ r. Stages words r before (plain_sight s p.room p.values.items p.log.items c.put_behind.new.store.items
+    c.put_behind.new.ranges.items)) (sym c.in-Ok.ensures.range)
+    (subst (λ st. Stages words (behind old words) before (plain_sight s p.room p.values.items p.log.items st c.put_behind.new.ranges.items))
+    (sym c.in-Ok.ensures.store)
+    (subst (λ pl. Stages words (behind old words) before (plain_sight s p.room p.values.items p.log.items (old ++ words) pl))
+    (sym c.in-Ok.ensures.ranges) made))

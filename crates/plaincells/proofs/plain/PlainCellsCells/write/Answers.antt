@@ -22,11 +22,13 @@ invariant_of-self c =
       lie = p.lie;
       names = hold_set p.slots p.values.items (ranges_in p.store.items p.ranges.items) c.args.cell c.args.value lt p.names c.requires.named;
       began_with_names = subst (λ xs. HoldNames p.slots xs (ranges_in p.store.items p.ranges.items)) (sym same) p.began_with_names;
-      began = began_same s p.room p.values.items _ p.log.items p.log.items p.store.items p.ranges.items (omega (arith, p.stored, p.roomy)) same p.began;
+      began = began_same s p.room p.values.items _ p.log.items p.log.items p.store.items p.ranges.items
+          (omega (arith, p.stored, p.roomy)) same p.began;
     }
 
 pub returns : goal.returns
 returns c =
     let p = c.args.self.now in
     let s : Setting = setting_of p in
-    plain_writes s p.room p.values.items p.log.items p.store.items p.ranges.items c.args.cell c.args.value (omega (arith, p.long, c.requires.cell)) c.requires.read
+    plain_writes s p.room p.values.items p.log.items p.store.items p.ranges.items c.args.cell c.args.value
+    (omega (arith, p.long, c.requires.cell)) c.requires.read

@@ -20,7 +20,8 @@ returns-in-InProof-clause-taken c =
     let new = c.take_step.new.steps in
     let made = λ (steps : List Step). command.Reprove label steps in
     subst (λ (x : CommandPlace). TakesInCommand t (seen_command_place t x) u (in_proof label made new) c.take_step.result)
-    (sym c.in-InProof.is) (step_taken t label c.as_slice.result.now made old new u c.take_step.result c.as_slice.ensures c.take_step.ensures.taken)
+    (sym c.in-InProof.is) (step_taken t label c.as_slice.result.now made old new u c.take_step.result c.as_slice.ensures
+    c.take_step.ensures.taken)
 
 pub returns-in-InUnit-clause-taken : goal.returns-in-InUnit-clause-taken
 returns-in-InUnit-clause-taken c =

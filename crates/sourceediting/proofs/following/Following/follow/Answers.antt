@@ -15,5 +15,6 @@ loop-entry-preserved c =
       | in-Done+in_ok-take_all w ↦ search rules
       | in_default w ↦ search rules
     ] in
-    entry_more c.args.entries.now c.loop-entry.entry-index e (seen_following c.args.self.now) so_far _ c.loop-entry-test.true c.entry-item.is
+    entry_more c.args.entries.now c.loop-entry.entry-index e
+    (seen_following c.args.self.now) so_far _ c.loop-entry-test.true c.entry-item.is
     c.loop-entry.invariant next

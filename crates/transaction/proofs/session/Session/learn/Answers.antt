@@ -30,7 +30,8 @@ invariant_of-self c =
     let other : c.other.inside.kit ≡ Some (carried c.others.inside.pass c.others.inside.stage) =
     sym c.take-2.ensures.value ∙ c.in-Some-take.is ∙ ap (λ (k : Carried). Some k) (sym c.others.view_is) in (
       refl,
-      own_stays (own (Some (carried c.kit.inside.pass c.kit.inside.stage))) (others (Some (carried c.others.inside.pass c.others.inside.stage))) c.learn.new.pass c.learn.new.other
+      own_stays (own (Some (carried c.kit.inside.pass c.kit.inside.stage)))
+          (others (Some (carried c.others.inside.pass c.others.inside.stage))) c.learn.new.pass c.learn.new.other
           (subst (λ (o : Option Carried). IsMember (own o)) kit c.self.invariant.1)
           (subst (λ (o : Option Carried). IsMember (others o)) other c.other.invariant.1) c.learn.ensures,
     )
@@ -44,7 +45,8 @@ invariant_of-other c =
     let other : c.other.inside.kit ≡ Some (carried c.others.inside.pass c.others.inside.stage) =
     sym c.take-2.ensures.value ∙ c.in-Some-take.is ∙ ap (λ (k : Carried). Some k) (sym c.others.view_is) in (
       refl,
-      other_stays (own (Some (carried c.kit.inside.pass c.kit.inside.stage))) (others (Some (carried c.others.inside.pass c.others.inside.stage))) c.learn.new.pass c.learn.new.other
+      other_stays (own (Some (carried c.kit.inside.pass c.kit.inside.stage)))
+          (others (Some (carried c.others.inside.pass c.others.inside.stage))) c.learn.new.pass c.learn.new.other
           (subst (λ (o : Option Carried). IsMember (own o)) kit c.self.invariant.1)
           (subst (λ (o : Option Carried). IsMember (others o)) other c.other.invariant.1) c.learn.ensures,
     )
@@ -60,7 +62,9 @@ returns c =
     let own_new = own (Some (carried c.learn.new.pass c.kit.inside.stage)) in
     let others_new = others (Some (carried c.learn.new.other c.others.inside.stage)) in
     subst (λ (m : Member). Learns m c.args.other.now own_new others_new) (ap own (sym kit) ∙ c.self.view_is)
-    (subst (λ (o : Member). Learns (own (Some (carried c.kit.inside.pass c.kit.inside.stage))) o own_new others_new) (ap others (sym other) ∙ c.other.view_is)
-    (session_learns (own (Some (carried c.kit.inside.pass c.kit.inside.stage))) (others (Some (carried c.others.inside.pass c.others.inside.stage))) c.learn.new.pass c.learn.new.other
+    (subst (λ (o : Member). Learns (own (Some (carried c.kit.inside.pass c.kit.inside.stage))) o own_new others_new) (ap others (sym other)
+    ∙ c.other.view_is)
+    (session_learns (own (Some (carried c.kit.inside.pass c.kit.inside.stage)))
+    (others (Some (carried c.others.inside.pass c.others.inside.stage))) c.learn.new.pass c.learn.new.other
     (subst (λ (o : Option Carried). IsMember (own o)) kit c.self.invariant.1)
     (subst (λ (o : Option Carried). IsMember (others o)) other c.other.invariant.1) c.learn.ensures))

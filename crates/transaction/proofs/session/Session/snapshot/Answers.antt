@@ -10,8 +10,11 @@ pub invariant_of-self : goal.invariant_of-self
 invariant_of-self c =
     let of : Option Carried → Member = session_with c.self.inside.given.value c.self.inside.records.items in
     let kit : c.self.inside.kit ≡ Some c.in-Some.kit = sym c.take.ensures.value ∙ c.in-Some.is in
-    let is : IsMember (of (Some c.in-Some.kit)) = subst (λ (o : Option Carried). IsMember (of o)) kit c.self.invariant.1 in
-    (refl, looker_stays (of (Some c.in-Some.kit)) c.look-kit.result.0 c.look-kit.result.1 is c.look-kit.ensures.later c.look-kit.ensures.sees)
+    let is : IsMember (of (Some c.in-Some.kit)) = subst (λ (o : Option Carried). IsMember (of o)) kit c.self.invariant.1 in (
+      refl,
+      looker_stays (of (Some c.in-Some.kit)) c.look-kit.result.0 c.look-kit.result.1 is c.look-kit.ensures.later
+          c.look-kit.ensures.sees,
+    )
 
 pub returns : goal.returns
 returns c =
