@@ -30,8 +30,9 @@ use Rattle.historytext.specs.Places.{ReplyPlace, at_shown_rank, at_shown_citers,
 use Rattle.historytext.specs.Places.{at_begin, at_command, at_reply, answering, at_history, at_count, at_entry, in_entry, EntryPlace, Progress}
 use Rattle.historytext.specs.Places.{Answered, going, whole_reply, wrong, number_row, lines_left, reply_word, in_reply, at}
 use Rattle.historytext.specs.Places.{history_language}
+use Rattle.scripts.proofs.ScriptRows.{cond_case}
 use Rattle.historytext.proofs.HistoryRows.{progress, behind, behind_last, behind_earlier, asking, asks, next_answer, answered_is, has_shown}
-use Rattle.historytext.proofs.HistoryRows.{at_lines_left, lines_are, IsNumber, cond_case, numeral_case, label_case, kind_case}
+use Rattle.historytext.proofs.HistoryRows.{at_lines_left, lines_are, IsNumber, numeral_case, label_case, kind_case}
 use Rattle.historytext.proofs.HistoryWords.{rank_low, count_low}
 
 number_rank : (w : Word) (n : ℕ) → IsNumber highest_rank w n → IsRank w n

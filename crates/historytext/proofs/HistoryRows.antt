@@ -26,6 +26,7 @@ use Rattle.scripts.specs.ScriptFaults.{Led, inside, whole_command, bad, bad_text
 use Rattle.mmsyntax.proofs.Numerals.{decimal_value, digits_lack, not_above}
 use Rattle.scripts.proofs.Numerals.{numeral_decimal, numeral_digits, decimal_numeral}
 use Rattle.scripts.proofs.InnerUnits.{unit_end, unit_next, HasUnits}
+use Rattle.scripts.proofs.ScriptRows.{cond_case}
 use Rattle.scripts.proofs.CommandWords.{next_of, Asking, and_one, Asks}
 use Rattle.library.specs.declared.history.Entry.{Entry}
 use Rattle.library.specs.declared.history.Entry.TheVariants as entry
@@ -170,10 +171,6 @@ number_led highest u w n next low i e =
     ∙ cond-false (ltb highest v) (wrong TooLong) (next v) (not_above highest v (omega arith)) ∙ ap next value
 
 -- ---- what a row says, where what it leads to has a property
-
-pub cond_case : {X : Type 0} (Q : X → Type 0) (b : Bool) (x y : X) → (b ≡ true → Q x) → (b ≡ false → Q y) → Q (cond b x y)
-cond_case Q true x y p q = p refl
-cond_case Q false x y p q = q refl
 
 -- a number, by what is wanted of it
 pub numeral_case : {X : Type 0} (Q : X → Type 0) (highest : ℕ) (w : Word) (next : ℕ → X) (long other : X) → highest < 2 ^ 64
