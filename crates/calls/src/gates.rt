@@ -2,8 +2,8 @@
 
 ghost use Rattle.std.specs.Prelude.{All, IfOk};
 ghost use Rattle.library.specs.Fitting.{CommandFits};
-ghost use Rattle.lawful.specs.Lawful.{setting_of};
-ghost use Rattle.transaction.specs.Members.{IsOf};
+ghost use Rattle.lawful.specs.Lawful.{setting_given};
+ghost use Rattle.transaction.specs.Members.{IsSessionOf};
 
 use crate::samples::mini;
 use crate::sessions::{end_of, opened};
@@ -290,7 +290,7 @@ fn part_of(text: &str, script: usize) -> &str {
 
 /// The scripts of a row.
 fn scripts_of(alloc: Global, library: &Library, row: &Row) -> Result<Vec<Script>, Fail>
-    ensures { IfOk result (λ scripts. All (All (All (CommandFits (setting_of library.now.given).prelude))) scripts.items) }
+    ensures { IfOk result (λ scripts. All (All (All (CommandFits (setting_given library.now.given).prelude))) scripts.items) }
 {
     let prelude = library.prelude();
     let mut scripts = Vec::new(alloc);
@@ -338,8 +338,8 @@ fn work<R: AllocGlobal + Threads + Wait + Sync>(
     row: &Row,
     gate: &Watch,
 ) -> Result<Worked, Fail>
-    requires { All (IsOf library.now) sessions.items }
-    ensures { IfOk result (λ worked. All (IsOf library.now) worked.sessions.items) }
+    requires { All (IsSessionOf library.now) sessions.items }
+    ensures { IfOk result (λ worked. All (IsSessionOf library.now) worked.sessions.items) }
 {
     if sessions.is_empty() {
         return Err(Fail::from("there are sessions"));

@@ -3,8 +3,8 @@
 
 ghost use Rattle.std.specs.Prelude.{All, IfOk};
 ghost use Rattle.library.specs.Fitting.{CommandFits};
-ghost use Rattle.lawful.specs.Lawful.{setting_of};
-ghost use Rattle.transaction.specs.Members.{IsOf};
+ghost use Rattle.lawful.specs.Lawful.{setting_given};
+ghost use Rattle.transaction.specs.Members.{IsSessionOf};
 
 use crate::samples::mini;
 use crate::sessions::{opened, tried};
@@ -50,9 +50,9 @@ fn try_often(
     most: u64,
     done: &AtomicBool,
 ) -> (Session, Tries)
-    requires own { IsOf library.now session }
-    requires fit { All (CommandFits (setting_of library.now.given).prelude) transaction.now }
-    ensures { IsOf library.now result.0 }
+    requires own { IsSessionOf library.now session }
+    requires fit { All (CommandFits (setting_given library.now.given).prelude) transaction.now }
+    ensures { IsSessionOf library.now result.0 }
 {
     let mut tries = Tries {
         conflicts: 0,
@@ -83,11 +83,11 @@ fn meet<R: Threads + Sync>(
     refused: &Transaction,
     moves: &Transaction,
 ) -> (Session, Tries)
-    requires one { IsOf library.now one }
-    requires other { IsOf library.now other }
-    requires refused { All (CommandFits (setting_of library.now.given).prelude) refused.now }
-    requires moves { All (CommandFits (setting_of library.now.given).prelude) moves.now }
-    ensures { IsOf library.now result.0 }
+    requires one { IsSessionOf library.now one }
+    requires other { IsSessionOf library.now other }
+    requires refused { All (CommandFits (setting_given library.now.given).prelude) refused.now }
+    requires moves { All (CommandFits (setting_given library.now.given).prelude) moves.now }
+    ensures { IsSessionOf library.now result.0 }
 {
     let flag = AtomicBool::new(false);
     let done = &flag;
@@ -107,9 +107,9 @@ fn meet_by<R: Threads + Sync>(
     one: Session,
     other: Session,
 ) -> Result<(Session, Tries), Fail>
-    requires one { IsOf library.now one }
-    requires other { IsOf library.now other }
-    ensures { IfOk result (λ made. IsOf library.now made.0) }
+    requires one { IsSessionOf library.now one }
+    requires other { IsSessionOf library.now other }
+    ensures { IfOk result (λ made. IsSessionOf library.now made.0) }
 {
     let script = read_script(alloc, library.prelude(), BOTH)?;
     let [refused, moves] = script.as_slice() else {
@@ -126,8 +126,8 @@ fn end_of_try(
     session: &mut Session,
     script: &[u8],
 ) -> Result<u8, Fail>
-    requires { IsOf library.now session.old }
-    ensures { IsOf library.now session.new }
+    requires { IsSessionOf library.now session.old }
+    ensures { IsSessionOf library.now session.new }
 {
     let outcome = tried(alloc, library, session, script)?;
     Ok(match &outcome {
@@ -140,7 +140,7 @@ fn end_of_try(
 
 /// Whether no word of the store is left but for what a session staged.
 fn has_none_left(alloc: Global, library: &Library, one: &mut Session) -> Result<bool, Fail>
-    requires { IsOf library.now one.old }
+    requires { IsSessionOf library.now one.old }
 {
     let renaming = end_of_try(alloc, library, one, b"begin rename we wf commit")?;
     let addition = b"begin add 200 t $p wff $= we $. commit";
@@ -157,8 +157,8 @@ fn has_its_words_alone<R: Threads + Sync>(
     mut one: Session,
     other: Session,
 ) -> Result<bool, Fail>
-    requires one { IsOf library.now one }
-    requires other { IsOf library.now other }
+    requires one { IsSessionOf library.now one }
+    requires other { IsSessionOf library.now other }
 {
     let first = end_of_try(alloc, library, &mut one, REFUSED)?;
     let (mut one, tries) = meet_by(rt, alloc, library, one, other)?;
@@ -168,9 +168,9 @@ fn has_its_words_alone<R: Threads + Sync>(
 
 /// Takes the last of the sessions.
 fn last_of(library: &Library, sessions: &mut Vec<Session>) -> Result<Session, Fail>
-    requires { All (IsOf library.now) sessions.old.items }
-    ensures own { IfOk result (IsOf library.now) }
-    ensures others { All (IsOf library.now) sessions.new.items }
+    requires { All (IsSessionOf library.now) sessions.old.items }
+    ensures own { IfOk result (IsSessionOf library.now) }
+    ensures others { All (IsSessionOf library.now) sessions.new.items }
 {
     let _ = library;
     match sessions.pop() {

@@ -5,7 +5,7 @@
 //! after it, want of memory is the error.
 
 ghost use Rattle.std.specs.Prelude.{All};
-ghost use Rattle.transaction.specs.Members.{IsOf};
+ghost use Rattle.transaction.specs.Members.{IsSessionOf};
 
 use crate::samples::{DEMO, database};
 use crate::sessions::{end_of, opened, tried};
@@ -227,8 +227,8 @@ fn sees(
     session: &mut Session,
     text: &[u8],
 ) -> Result<Option<bool>, AllocError>
-    requires { IsOf library.now session.old }
-    ensures { IsOf library.now session.new }
+    requires { IsSessionOf library.now session.old }
+    ensures { IsSessionOf library.now session.new }
 {
     match session.snapshot(alloc, library) {
         Look::Read { place: 0, library } => {
@@ -246,7 +246,7 @@ fn sees_at_last(
     sessions: &mut Vec<Session>,
     text: &[u8],
 ) -> Result<bool, AllocError>
-    requires { All (IsOf library.now) sessions.old.items }
+    requires { All (IsSessionOf library.now) sessions.old.items }
 {
     let Some(session) = sessions.get_mut(0) else {
         return Ok(false);
@@ -274,8 +274,8 @@ fn has_answer(
     script: &str,
     count: usize,
 ) -> Result<bool, Fail>
-    requires { All (IsOf library.now) sessions.old.items }
-    ensures { All (IsOf library.now) sessions.new.items }
+    requires { All (IsSessionOf library.now) sessions.old.items }
+    ensures { All (IsSessionOf library.now) sessions.new.items }
 {
     match sessions.get_mut(0) {
         Some(session) => {

@@ -1,9 +1,9 @@
 //! What the calls begin and end with: a library in running words with its sessions, one try, and the library's end.
 
 ghost use Rattle.std.specs.Prelude.{All, IfOk};
-ghost use Rattle.lawful.specs.Lawful.{setting_of};
+ghost use Rattle.lawful.specs.Lawful.{setting_given};
 ghost use Rattle.library.specs.Fitting.{CommandFits};
-ghost use Rattle.transaction.specs.Members.{IsOf};
+ghost use Rattle.transaction.specs.Members.{IsSessionOf};
 
 use crate::samples::database;
 use finishing::{FinishError, finish};
@@ -23,7 +23,7 @@ pub(crate) fn opened(
     room: usize,
     sessions: usize,
 ) -> Result<(Library, Vec<Session>), Fail>
-    ensures { IfOk result (λ made. All (IsOf made.0) made.1.items) }
+    ensures { IfOk result (λ made. All (IsSessionOf made.0) made.1.items) }
 {
     let keys = RandomState::new(rt)?;
     let db = database(rt, text)?;
@@ -42,9 +42,9 @@ fn try_twice(
     session: &mut Session,
     transaction: &Transaction,
 ) -> Outcome
-    requires own { IsOf library.now session.old }
-    requires fit { All (CommandFits (setting_of library.now.given).prelude) transaction.now }
-    ensures { IsOf library.now session.new }
+    requires own { IsSessionOf library.now session.old }
+    requires fit { All (CommandFits (setting_given library.now.given).prelude) transaction.now }
+    ensures { IsSessionOf library.now session.new }
 {
     match session.attempt(alloc, library, transaction) {
         Outcome::NoMemory => session.attempt(alloc, library, transaction),
@@ -59,8 +59,8 @@ pub(crate) fn tried(
     session: &mut Session,
     script: &[u8],
 ) -> Result<Outcome, Fail>
-    requires { IsOf library.now session.old }
-    ensures { IsOf library.now session.new }
+    requires { IsSessionOf library.now session.old }
+    ensures { IsSessionOf library.now session.new }
 {
     let script = read_script(alloc, library.prelude(), script)?;
     match script.as_slice() {
@@ -75,7 +75,7 @@ pub(crate) fn end_of(
     library: Library,
     sessions: Vec<Session>,
 ) -> Result<(usize, usize), FinishError>
-    requires { All (IsOf library) sessions.items }
+    requires { All (IsSessionOf library) sessions.items }
 {
     let (history, after) = finish(alloc, library, sessions)?;
     Ok((history.as_slice().len(), after.entries().len()))

@@ -5,7 +5,7 @@ ghost use Rattle.mmsyntax.specs.declared.statement.Step.{Step};
 ghost use Rattle.mmsyntax.specs.ProofWords.{seen_step};
 ghost use Rattle.library.specs.declared.library.Ranked.{Ranked};
 ghost use Rattle.library.specs.Library.{label_of, in_export_order};
-ghost use Rattle.library.specs.Edits.{line, line_cmp};
+ghost use Rattle.library.specs.Edits.{listing_line, line_cmp};
 ghost use Rattle.catalog.specs.Entries.{living, StandsIn};
 ghost use Rattle.catalog.specs.Places.{IsIndex};
 ghost use Rattle.catalog.specs.Listing.{AreNoted, AreCounted};
@@ -117,7 +117,7 @@ fn lines_by_place(
     counts: &[u64],
 ) -> Result<Vec<Line>, AllocError>
     requires { AreCounted entries.now counts.now }
-    ensures { IfOk result (λ made. made.items ≡ map (line (living entries.now)) (living entries.now)) }
+    ensures { IfOk result (λ made. made.items ≡ map (listing_line (living entries.now)) (living entries.now)) }
 {
     let mut lines = Vec::new(alloc);
     for (place, entry) in entries.iter().enumerate() {
@@ -146,7 +146,7 @@ pub fn list_lines(
     places: &Places,
 ) -> Result<Sequence<Line>, AllocError>
     requires { IsIndex places.now entries.now }
-    ensures { IfOk result (λ lines. lines ≡ map (line (living entries.now)) (in_export_order (living entries.now))) }
+    ensures { IfOk result (λ lines. lines ≡ map (listing_line (living entries.now)) (in_export_order (living entries.now))) }
 {
     let counts = count_by_place(alloc, entries, places)?;
     let mut lines = lines_by_place(alloc, entries, counts.as_slice())?;

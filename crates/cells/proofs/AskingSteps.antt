@@ -15,6 +15,7 @@ use Rattle.cells.specs.Lookups.{ForEachHeld, AreStepsAt}
 use Rattle.cells.specs.Footprints.{StandsBehind, IsMember, IsOnChain, IsOfProof, IsNameCited}
 use Rattle.cells.proofs.Asking.{item_has, asks_cell, asks_wider, asks_more}
 use Rattle.cells.proofs.ReadBack.{held_later}
+use Rattle.cells.proofs.Sights.{setting_kept}
 
 -- ---- the steps of a proof
 
@@ -62,7 +63,7 @@ pub proof_within : {O : Type 0} → (r s t : Sight O) (i : ℕ) (kept : List Sto
 proof_within r s t i kept first looks steps own names st lib v e at h =
     let there = held_later s t i (λ x l f. AreStoredAs s.setting.slots x f.assertion.proof kept) looks steps st lib v e at h in
     let here : AreStoredAs r.setting.slots (after t st) e.assertion.proof kept =
-    subst (λ (x : Setting). AreStoredAs x.slots (after t st) e.assertion.proof kept) first.onward.setting there in
+    subst (λ (x : Setting). AreStoredAs x.slots (after t st) e.assertion.proof kept) (setting_kept first.onward) there in
     asks_more (asks_cell (inl refl) own) (of_proof r.setting.slots i e.assertion.proof kept (after t st) here) names
 
 -- ---- along a chain to a slot

@@ -9,7 +9,7 @@ use Rattle.ranges.specs.Ranges.{Range, Has, Names, AreOfOneStore, word_of}
 use Rattle.ranges.specs.declared.range.Range.{Range as Place}
 use Rattle.ranges.proofs.Words.{names_one}
 use Rattle.cells.specs.State.{State, HasBody, most_words}
-use Rattle.cells.specs.Sight.{Sight, Matches, Suits, Onward, Looks, Reads, Knows, after}
+use Rattle.cells.specs.Sight.{Sight, Matches, Suits, Onward, Looks, Reads, KnowsRange, after}
 use Rattle.cells.specs.Lookups.{AreWordsOf}
 use Rattle.cells.proofs.Sights.{matches_back, after_looks}
 
@@ -58,20 +58,21 @@ body_same st next cell words ranges same b =
 
 -- ---- ranges that a run knows
 
-pub knows_later : {O : Type 0} → (s t : Sight O) (range : Place) (words : List ℕ) → Onward s t → Knows s range words → Knows t range words
+pub knows_later : {O : Type 0} → (s t : Sight O) (range : Place) (words : List ℕ) → Onward s t → KnowsRange s range words
+    → KnowsRange t range words
 knows_later s t range words on k =
     record { finished = on.ranges (record { start = range.start; words = words }) k.finished; len = k.len }
 
 module _ {O : Type 0} (s : Sight O) (st : State) (matches : Matches s st) where
   -- the words of a known range are those of the body of the cell that names it
-  pub words_known : (range : Place) (cell : ℕ) (words body : List ℕ) → Knows s range words
+  pub words_known : (range : Place) (cell : ℕ) (words body : List ℕ) → KnowsRange s range words
       → (after s st).value cell ≡ range.start * 2 ^ 25 + range.len → HasBody (after s st) cell body → words ≡ body
   words_known range cell words body k e b =
       one_named st.ranges (record { start = range.start; words = words }) (record { start = b.start; words = body }) matches.store
       (matches.has _ k.finished) b.finished (ap (λ (n : ℕ). range.start * 2 ^ 25 + n) (sym k.len) ∙ (sym e ∙ b.named))
 
   -- a cell that names a known range has its words as a body
-  pub body_known : (range : Place) (cell : ℕ) (words : List ℕ) → Knows s range words
+  pub body_known : (range : Place) (cell : ℕ) (words : List ℕ) → KnowsRange s range words
       → (after s st).value cell ≡ range.start * 2 ^ 25 + range.len → words ≢ [] → HasBody (after s st) cell words
   body_known range cell words k e some = record {
     start = range.start;
@@ -85,7 +86,7 @@ module _ {O : Type 0} (s : Sight O) (st : State) (matches : Matches s st) where
 module _ {O : Type 0} (s : Sight O) (grounded : ∥ ((st : State) × (lib : List Ranked) × Suits s st lib) ∥₁) where
   -- a word that is not 0 and names a range: where it starts, and how many words it has
   pub named_known : (word : ℕ) (range : Place) → word ≢ 0 → Names s.ranges word → range.start ≡ word / 2 ^ 25 → range.len ≡ word % 2 ^ 25
-      → (words : List ℕ) × Knows s range words
+      → (words : List ℕ) × KnowsRange s range words
   named_known word range ne (inl e) a b = absurd (ne e)
   named_known word range ne (inr (r, h, e)) a b =
       let few : length r.words < 2 ^ 25 = ∥∥₁_elim grounded le_prop (λ x. short x.0.ranges r x.2.matches.store (x.2.matches.has r h)) in
@@ -103,7 +104,7 @@ value_later r s t cell v st reads looks m =
 
 -- the words of the range that a cell names
 pub are_words : {O : Type 0} → (s : Sight O) (st : State) (range : Place) (cell word : ℕ) (words : List ℕ) → Matches s st
-    → Knows s range words
+    → KnowsRange s range words
     → word ≡ (after s st).value cell → word ≢ 0 → word ≡ range.start * 2 ^ 25 + range.len → AreWordsOf (after s st) cell words
 are_words s st range cell word words m k read some is = record {
   body = λ body b. words_known s st m range cell words body k (sym read ∙ is) b;
@@ -116,7 +117,7 @@ no_words st cell e = record { body = λ words b. absurd (no_body st cell words b
 
 -- a cell that names a known range has a body just where that has its words
 pub same_words : {O : Type 0} → (s : Sight O) (st : State) (range : Place) (cell word : ℕ) (words body : List ℕ) → Matches s st
-    → Knows s range words
+    → KnowsRange s range words
     → word ≡ (after s st).value cell → word ≡ range.start * 2 ^ 25 + range.len → body ≢ [] → (words ≡ body) ↔ HasBody (after s st) cell body
 same_words s st range cell word words body m k read is some = (
   λ e. subst (HasBody (after s st) cell) e (body_known s st m range cell words k (sym read ∙ is) (λ none. some (sym e ∙ none))),
@@ -127,7 +128,7 @@ same_words s st range cell word words body m k read is some = (
 
 -- a cell that holds 0 has no body, and a range without words is none
 pub no_first : {O : Type 0} → (s : Sight O) (st : State) (range : Place) (cell word w : ℕ) (words more : List ℕ) → Matches s st
-    → Knows s range words
+    → KnowsRange s range words
     → word ≡ (after s st).value cell → word ≡ range.start * 2 ^ 25 + range.len → HasBody (after s st) cell (w ∷ more) → range.len ≡ 0 → ⊥
 no_first s st range cell word w words more m k read is b none =
     let same : words ≡ w ∷ more = words_known s st m range cell words (w ∷ more) k (sym read ∙ is) b in
@@ -137,7 +138,7 @@ no_first s st range cell word w words more m k read is b none =
 
 -- the first word of a known range is that of the body
 pub first_known : {O : Type 0} → (s : Sight O) (st : State) (range : Place) (cell word w first : ℕ) (words more : List ℕ) → Matches s st
-    → Knows s range words
+    → KnowsRange s range words
     → word ≡ (after s st).value cell → word ≡ range.start * 2 ^ 25 + range.len → HasBody (after s st) cell (w ∷ more)
     → slice_get words 0 ≡ Some first → first ≡ w
 first_known s st range cell word w first words more m k read is b at =

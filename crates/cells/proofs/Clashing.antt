@@ -5,7 +5,7 @@ use Rattle.std.specs.List.{Contains}
 use Rattle.std.specs.Str.{bytes_eq}
 use Rattle.std.proofs.lemmas.Bool.{both_ways, false_from_ne_true, or_cases, or_from, or_left}
 use Rattle.mmsyntax.proofs.Names.{same_bytes, bytes_eq-same}
-use Rattle.mmsyntax.specs.Dotted.{is_dotted, clash, trunk, AreApart}
+use Rattle.mmsyntax.specs.Dotted.{is_dotted, clash, trunk, ClashNowhere}
 use Rattle.mmsyntax.proofs.DottedWords.{not_dotted_itself, dotted_trunk, dotted_parts, trunk_whole_or_dotted}
 use Rattle.library.specs.declared.library.Ranked.{Ranked}
 use Rattle.library.specs.Library.{label_of}
@@ -17,7 +17,7 @@ use Rattle.ranges.specs.declared.range.Range.{Range as Place}
 use Rattle.cells.specs.State.{State}
 use Rattle.cells.specs.Slots.{name_cell, hash, bucket}
 use Rattle.cells.specs.Shows.{Held, IsNamed, Shows}
-use Rattle.cells.specs.Sight.{Sight, Matches, Views, Looks, Knows, after}
+use Rattle.cells.specs.Sight.{Sight, Matches, Views, Looks, KnowsRange, after}
 use Rattle.cells.specs.Lookups.{TellsStanding}
 use Rattle.cells.specs.Clashing.{IsInTheWay, StandsAt, TellsStandingAt, IsClearIn, TellsStandingIn}
 use Rattle.cells.specs.declared.labels.Standing.{Standing}
@@ -83,7 +83,7 @@ unnamed_free own label slots st i zero = λ name named way. no_body st (name_cel
 -- ---- the words of a name
 
 module _ {O : Type 0} (s : Sight O) (st : State) (matches : Matches s st) (range : Place) (slot word : ℕ) (words own label : List ℕ)
-    (k : Knows s range words) (read : word ≡ (after s st).value (name_cell slot)) (is : word ≡ range.start * 2 ^ 25 + range.len) where
+    (k : KnowsRange s range words) (read : word ≡ (after s st).value (name_cell slot)) (is : word ≡ range.start * 2 ^ 25 + range.len) where
   named_words : (name : List ℕ) → IsNamed s.setting.slots (after s st) slot name → words ≡ name
   named_words name named = words_known s st matches range (name_cell slot) words name k (sym read ∙ is) named.body
 
@@ -121,7 +121,7 @@ abbrev pub IsInTheWayIn : ℕ → List ℕ → List ℕ → ℕ → State → �
 IsInTheWayIn b own label slots st i = (name : List ℕ) × IsNamed slots st i name × (bucket slots name ≡ b) × IsInTheWay own label name
 
 -- a label that clashes with that of an assertion is no other's
-free_apart : (lib : List Ranked) (label : List ℕ) (e : Ranked) → AreApart (map label_of lib) → Contains lib e
+free_apart : (lib : List Ranked) (label : List ℕ) (e : Ranked) → ClashNowhere (map label_of lib) → Contains lib e
     → clash (label_of e) label ≡ true
     → has lib label ≡ false
 free_apart lib label e apart at y = false_from_ne_true (has lib label) (λ z.

@@ -6,6 +6,7 @@ use Rattle.library.specs.Library.{Setting}
 use Rattle.library.specs.declared.library.Ranked.{Ranked}
 use Rattle.cells.specs.State.{State}
 use Rattle.cells.specs.Sight.{Sight, Suits, Looks}
+use Rattle.cells.proofs.Sights.{setting_kept}
 
 module _ {O : Type 0} (s : Sight O) (grounded : ∥ ((st : State) × (lib : List Ranked) × Suits s st lib) ∥₁) where
   -- a library has a slot, and at most 4096
@@ -19,4 +20,4 @@ module _ {O : Type 0} (s : Sight O) (grounded : ∥ ((st : State) × (lib : List
   small_slot i lt = let few = few_slots in omega arith
 
 pub same_slots : {O : Type 0} → (s t : Sight O) → Looks s t → t.setting.slots ≡ s.setting.slots
-same_slots s t looks = ap (λ (x : Setting). x.slots) looks.onward.setting
+same_slots s t looks = ap (λ (x : Setting). x.slots) (setting_kept looks.onward)

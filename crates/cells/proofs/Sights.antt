@@ -10,21 +10,36 @@ use Rattle.ranges.specs.declared.range.Range.{Range as Place}
 use Rattle.ranges.proofs.Grown.{within_refl, within_trans}
 use Rattle.bodystore.specs.Stages.{Staged}
 use Rattle.cells.specs.State.{State, FitsReads, with_writes, value_or, with_value}
-use Rattle.cells.specs.Sight.{Sight, WasWritten, Matches, Views, Onward, TakesAtMost, Looks, Writes, Stages, after}
+use Rattle.cells.specs.Sight.{Sight, Terms, WasWritten, Matches, Views, Onward, TakesAtMost, Looks, Writes, Stages, after}
 use Rattle.library.specs.Library.{Setting, Verifies}
 use Rattle.cells.specs.Shows.{Shows}
 use Rattle.cells.specs.Lookups.{ForEach}
+use Rattle.cells.proofs.Sights.{setting_kept}
+
+-- ---- what never changes in a run
+
+module _ {O : Type 0} {old new : Sight O} (on : Onward old new) where
+  pub origin_kept : new.origin ≡ old.origin
+  origin_kept = ap (λ (t : Terms O). t.origin) on.terms
+
+  pub setting_kept : new.setting ≡ old.setting
+  setting_kept = ap (λ (t : Terms O). t.setting) on.terms
+
+  pub may_write_kept : new.may_write ≡ old.may_write
+  may_write_kept = ap (λ (t : Terms O). t.may_write) on.terms
+
+  pub may_stage_kept : new.may_stage ≡ old.may_stage
+  may_stage_kept = ap (λ (t : Terms O). t.may_stage) on.terms
+
+  pub room_kept : new.room ≡ old.room
+  room_kept = ap (λ (t : Terms O). t.room) on.terms
 
 -- ---- nothing is lost
 
 pub onward_refl : {O : Type 0} → (s : Sight O) → Onward s s
 onward_refl s =
     record {
-      origin = refl;
-      setting = refl;
-      may_write = refl;
-      may_stage = refl;
-      room = refl;
+      terms = refl;
       ranges = within_refl s.ranges;
       reads = λ st h. h;
       read = λ c h. h;
@@ -36,11 +51,7 @@ onward_refl s =
 pub onward_trans : {O : Type 0} → (r s t : Sight O) → Onward r s → Onward s t → Onward r t
 onward_trans r s t f g =
     record {
-      origin = g.origin ∙ f.origin;
-      setting = g.setting ∙ f.setting;
-      may_write = g.may_write ∙ f.may_write;
-      may_stage = g.may_stage ∙ f.may_stage;
-      room = g.room ∙ f.room;
+      terms = g.terms ∙ f.terms;
       ranges = within_trans r.ranges s.ranges t.ranges f.ranges g.ranges;
       reads = λ st h. f.reads st (g.reads st h);
       read = λ c h. g.read c (f.read c h);
@@ -64,11 +75,7 @@ looks_trans r s t f g =
 pub writes_onward : {O : Type 0} → (cell v : ℕ) (s t : Sight O) → Writes cell v s t → Onward s t
 writes_onward cell v s t w =
     record {
-      origin = w.origin;
-      setting = w.setting;
-      may_write = w.may_write;
-      may_stage = w.may_stage;
-      room = w.room;
+      terms = w.terms;
       ranges = subst (Within s.ranges) (sym w.ranges) (within_refl s.ranges);
       reads = λ st h. subst (FitsReads st) w.reads h;
       read = λ c h. (h.0, subst (Has (c, h.0)) (sym w.reads) h.1);
@@ -122,8 +129,8 @@ views_back s t st lib f v =
     record {
       matches = matches_back s t st f.onward v.matches;
       shows = subst (λ (x : State). Shows s.setting.slots x lib) (after_looks s t st f)
-          (subst (λ (x : Setting). Shows x.slots (after t st) lib) f.onward.setting v.shows);
-      verifies = subst (λ (x : Setting). Verifies x lib) f.onward.setting v.verifies;
+          (subst (λ (x : Setting). Shows x.slots (after t st) lib) (setting_kept f.onward) v.shows);
+      verifies = subst (λ (x : Setting). Verifies x lib) (setting_kept f.onward) v.verifies;
     }
 
 -- what was so of each state stays so while nothing is written

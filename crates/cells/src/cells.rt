@@ -5,7 +5,7 @@ ghost use Rattle.library.specs.declared.library.Ranked.{Ranked};
 ghost use Rattle.ranges.specs.Ranges.{Names};
 ghost use Rattle.cells.specs.State.{State};
 ghost use Rattle.cells.specs.Slots.{cell_count, is_ranged};
-ghost use Rattle.cells.specs.Sight.{Sight, WasRead, Suits, Looks, Reads, Writes, Stages, Knows, ReadsWithin, ReadsNothing};
+ghost use Rattle.cells.specs.Sight.{Sight, WasRead, Suits, Looks, Reads, Writes, Stages, KnowsRange, ReadsWithin, ReadsNothing};
 
 use crate::halt::Halt;
 use ranges::Range;
@@ -49,9 +49,9 @@ pub trait Cells {
 
     /// A word of a finished range that the run knows, by its index from 0.
     fn load(&mut self, range: Range, index: usize) -> u64
-        requires { (words : List ℕ) × Knows (sight self.old) range words × (index < range.len) }
+        requires { (words : List ℕ) × KnowsRange (sight self.old) range words × (index < range.len) }
         ensures looks { Looks (sight self.old) (sight self.new) }
-        ensures word { (words : List ℕ) → Knows (sight self.old) range words → slice_get words index ≡ Some result }
+        ensures word { (words : List ℕ) → KnowsRange (sight self.old) range words → slice_get words index ≡ Some result }
         ensures reads { ReadsNothing (sight self.old) (sight self.new) };
 
     /// Puts the words of a finished range that the run knows behind others, in order.
@@ -60,9 +60,9 @@ pub trait Cells {
     ///
     /// Want of memory. What was kept aside stays.
     fn load_all(&mut self, range: Range, words: &mut Vec<u64>) -> Result<(), AllocError>
-        requires { (found : List ℕ) × Knows (sight self.old) range found }
+        requires { (found : List ℕ) × KnowsRange (sight self.old) range found }
         ensures looks { Looks (sight self.old) (sight self.new) }
-        ensures ok { OnOk result ((found : List ℕ) → Knows (sight self.old) range found → words.new.items ≡ words.old.items ++ found) }
+        ensures ok { OnOk result ((found : List ℕ) → KnowsRange (sight self.old) range found → words.new.items ≡ words.old.items ++ found) }
         ensures reads { ReadsNothing (sight self.old) (sight self.new) };
 
     /// A finished range with these words, of which there is at least one, in a run that may stage.

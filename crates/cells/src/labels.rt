@@ -2,7 +2,7 @@
 
 ghost use Rattle.std.specs.Prelude.{◌≡◌, ◌<◌, ◌⊎◌, ℕ, List, IfOk};
 ghost use Rattle.mmsyntax.specs.Dotted.{clash};
-ghost use Rattle.cells.specs.Sight.{Sight, Looks, Knows, ReadsWithin, ReadsNothing};
+ghost use Rattle.cells.specs.Sight.{Sight, Looks, KnowsRange, ReadsWithin, ReadsNothing};
 ghost use Rattle.cells.specs.Slots.{name_cell};
 ghost use Rattle.cells.specs.Footprints.{ReadsWhere, IsAlong, IsOfLook, IsOfClash};
 ghost use Rattle.cells.specs.Lookups.{TellsStanding};
@@ -121,9 +121,9 @@ fn standing_at<C: Cells>(
 
 /// Whether the label clashes with the words of the range.
 fn clashes<C: Cells>(cells: &mut C, range: Range, label: &[u8]) -> bool
-    requires { (words : List ℕ) × Knows (C.sight cells.old) range words }
+    requires { (words : List ℕ) × KnowsRange (C.sight cells.old) range words }
     ensures looks { Looks (C.sight cells.old) (C.sight cells.new) }
-    ensures same { (words : List ℕ) → Knows (C.sight cells.old) range words → result ≡ clash words label.now }
+    ensures same { (words : List ℕ) → KnowsRange (C.sight cells.old) range words → result ≡ clash words label.now }
     ensures reads { ReadsNothing (C.sight cells.old) (C.sight cells.new) }
 {
     let front = trunk(label);

@@ -4,7 +4,7 @@ ghost use Rattle.std.specs.Prelude.{◌≡◌, ◌≢◌, ◌<◌, ◌+◌, ◌*
 ghost use Rattle.mmsyntax.specs.Dotted.{hypothesis_numbered, is_dotted};
 ghost use Rattle.ranges.specs.Ranges.{Names};
 ghost use Rattle.cells.specs.Slots.{cell_count, is_ranged};
-ghost use Rattle.cells.specs.Sight.{Sight, Looks, Knows, ForEachState, ReadsWithin, ReadsNothing};
+ghost use Rattle.cells.specs.Sight.{Sight, Looks, KnowsRange, ForEachState, ReadsWithin, ReadsNothing};
 ghost use Rattle.cells.specs.Lookups.{AreWordsOf, IsFirstWordOf};
 
 use crate::cells::Cells;
@@ -23,7 +23,7 @@ const LONGEST_TAIL: usize = 5;
 pub(crate) fn range_of<C: Cells>(cells: &C, word: u64) -> Range
     requires some { word ≢ 0 }
     requires named { Names (C.sight cells.now).ranges word }
-    ensures known { (words : List ℕ) × Knows (C.sight cells.now) result words }
+    ensures known { (words : List ℕ) × KnowsRange (C.sight cells.now) result words }
     ensures word { word ≡ result.start * 2 ^ 25 + result.len }
 {
     Range::named(word)
@@ -31,9 +31,9 @@ pub(crate) fn range_of<C: Cells>(cells: &C, word: u64) -> Range
 
 /// Whether the range has these words.
 pub(crate) fn has_words<C: Cells>(cells: &mut C, range: Range, text: &[u8]) -> bool
-    requires { (words : List ℕ) × Knows (C.sight cells.old) range words }
+    requires { (words : List ℕ) × KnowsRange (C.sight cells.old) range words }
     ensures looks { Looks (C.sight cells.old) (C.sight cells.new) }
-    ensures same { (words : List ℕ) → Knows (C.sight cells.old) range words → (IsTrue result ↔ words ≡ text.now) }
+    ensures same { (words : List ℕ) → KnowsRange (C.sight cells.old) range words → (IsTrue result ↔ words ≡ text.now) }
     ensures reads { ReadsNothing (C.sight cells.old) (C.sight cells.new) }
 {
     if range.len != text.len() {
@@ -44,10 +44,11 @@ pub(crate) fn has_words<C: Cells>(cells: &mut C, range: Range, text: &[u8]) -> b
 
 /// Whether the words of the range begin with these.
 fn begins_with<C: Cells>(cells: &mut C, range: Range, text: &[u8]) -> bool
-    requires known { (words : List ℕ) × Knows (C.sight cells.old) range words }
+    requires known { (words : List ℕ) × KnowsRange (C.sight cells.old) range words }
     requires long { length text.now ≤ range.len }
     ensures looks { Looks (C.sight cells.old) (C.sight cells.new) }
-    ensures same { (words : List ℕ) → Knows (C.sight cells.old) range words → (IsTrue result ↔ take (length text.now) words ≡ text.now) }
+    ensures same { (words : List ℕ) → KnowsRange (C.sight cells.old) range words
+        → (IsTrue result ↔ take (length text.now) words ≡ text.now) }
     ensures reads { ReadsNothing (C.sight cells.old) (C.sight cells.new) }
 {
     for (index, byte) in text.iter().enumerate() {
@@ -61,9 +62,9 @@ fn begins_with<C: Cells>(cells: &mut C, range: Range, text: &[u8]) -> bool
 /// Whether the words of the range are a label `L.k`, where L is this label, for a k from 1 to 1,000. It loads no word of a range that isn't
 /// 2 to 5 words longer than the label.
 pub(crate) fn has_dotted<C: Cells>(cells: &mut C, range: Range, label: &[u8]) -> bool
-    requires { (words : List ℕ) × Knows (C.sight cells.old) range words }
+    requires { (words : List ℕ) × KnowsRange (C.sight cells.old) range words }
     ensures looks { Looks (C.sight cells.old) (C.sight cells.new) }
-    ensures same { (words : List ℕ) → Knows (C.sight cells.old) range words → result ≡ is_dotted label.now words }
+    ensures same { (words : List ℕ) → KnowsRange (C.sight cells.old) range words → result ≡ is_dotted label.now words }
     ensures reads { ReadsNothing (C.sight cells.old) (C.sight cells.new) }
 {
     if label.is_empty() || range.len < label.len() {
@@ -74,10 +75,11 @@ pub(crate) fn has_dotted<C: Cells>(cells: &mut C, range: Range, label: &[u8]) ->
 
 /// Whether the words of the range behind the first ones are `.k`, for a k from 1 to 1,000.
 fn is_numbered<C: Cells>(cells: &mut C, range: Range, front: usize) -> bool
-    requires known { (words : List ℕ) × Knows (C.sight cells.old) range words }
+    requires known { (words : List ℕ) × KnowsRange (C.sight cells.old) range words }
     requires long { front ≤ range.len }
     ensures looks { Looks (C.sight cells.old) (C.sight cells.new) }
-    ensures same { (words : List ℕ) → Knows (C.sight cells.old) range words → result ≡ is_some (hypothesis_numbered [] (drop front words)) }
+    ensures same { (words : List ℕ) → KnowsRange (C.sight cells.old) range words
+        → result ≡ is_some (hypothesis_numbered [] (drop front words)) }
     ensures reads { ReadsNothing (C.sight cells.old) (C.sight cells.new) }
 {
     let mut tail = [0; LONGEST_TAIL];

@@ -7,12 +7,12 @@ use Rattle.derivation.specs.Databases.{AllCheck}
 use Rattle.library.specs.Library.{Verifies, opening}
 use Rattle.librarylaws.proofs.Opening.{opening_verifies}
 use Rattle.library.specs.declared.history.Entry.{Entry}
-use Rattle.library.specs.Histories.{told, after, EntriesFit}
+use Rattle.library.specs.Histories.{told, after_front, EntriesFit}
 use Rattle.librarylaws.proofs.Fronts.{fronts_verify}
-use Rattle.checking.specs.Outcomes.{setting_of}
+use Rattle.checking.specs.Outcomes.{program_setting}
 
 -- so does the opening library of a database whose proofs check
-pub opening_stands : (db : Contents) → HasSpelling db → AllCheck db → Verifies (setting_of db) (opening db)
+pub opening_stands : (db : Contents) → HasSpelling db → AllCheck db → Verifies (program_setting db) (opening db)
 opening_stands db spelled checks =
     let few : length db.assertions ≤ 4096 = (declarable db spelled).few in
     let some : 1 ≤ 4096 = omega arith in
@@ -21,6 +21,6 @@ opening_stands db spelled checks =
 
 -- of entries whose commands are within the limits
 pub fronts_of : (db : Contents) (es : List Entry) → HasSpelling db → AllCheck db → EntriesFit db.prelude (map told es)
-    → (k : ℕ) → Verifies (setting_of db) (after (setting_of db) (opening db) (map told es) k)
+    → (k : ℕ) → Verifies (program_setting db) (after_front (program_setting db) (opening db) (map told es) k)
 fronts_of db es spelled checks within k =
-    fronts_verify (setting_of db) (opening db) (map told es) k (opening_stands db spelled checks) within
+    fronts_verify (program_setting db) (opening db) (map told es) k (opening_stands db spelled checks) within

@@ -9,7 +9,7 @@ use Rattle.scripts.specs.Scripts.{SpellsScript}
 use Rattle.scripts.specs.ScriptFaults.{FaultyScript}
 use Rattle.checking.specs.declared.fault.Fault.{Fault}
 use Rattle.checking.specs.declared.fault.Fault.TheVariants.{Text, NoMemory}
-use Rattle.checking.specs.Checks.{Bytes, Orders, IsScript, AreScripts, IsFirstFault}
+use Rattle.checking.specs.Checks.{Bytes, Orders, IsScript, AreScripts, IsFirstFaultyScript}
 use Rattle.checking.specs.Parts.{IsScriptFault, IsTextFaultOf, IsRefusedBy, IsRefusedWith}
 use Rattle.mmsyntax.specs.Tables.{Tables}
 
@@ -26,7 +26,7 @@ module _ (p : Tables) where
 
   -- behind texts that are spelled a fault is the first
   first_behind : (ts : List Bytes) (xs : List Orders) (t : Bytes) (rest : List Bytes) (f : TextFault) → AreScripts p ts xs
-      → FaultyScript p t f → IsFirstFault p (ts ++ t ∷ rest) (length ts) f
+      → FaultyScript p t f → IsFirstFaultyScript p (ts ++ t ∷ rest) (length ts) f
   first_behind [] xs t rest f h faulty = faulty
   first_behind (s ∷ ss) [] t rest f h faulty = absurd h
   first_behind (s ∷ ss) (y ∷ ys) t rest f h faulty = ((y, h.0), first_behind ss ys t rest f h.1 faulty)
@@ -68,12 +68,12 @@ module _ (p : Tables) where
   length-front ts i within = length_bytes (take i ts) ∙ length-take-le i ts (omega arith)
 
   first_at : (ts : Texts) (xs : List Orders) (t : Vec ℕ Global) (i : ℕ) (f : TextFault) → i < length ts → t ≡ get_or ts i t
-      → AreScripts p (bytes (take i ts)) xs → FaultyScript p t.items f → IsFirstFault p (bytes ts) i f
+      → AreScripts p (bytes (take i ts)) xs → FaultyScript p t.items f → IsFirstFaultyScript p (bytes ts) i f
   first_at ts xs t i f within is_t h faulty =
       let front = bytes (take i ts) in
       let rest = bytes (drop (suc i) ts) in
-      subst (λ (us : List Bytes). IsFirstFault p us i f) (sym (cut_at ts t i within is_t))
-      (subst (λ (n : ℕ). IsFirstFault p (front ++ t.items ∷ rest) n f) (length-front ts i within)
+      subst (λ (us : List Bytes). IsFirstFaultyScript p us i f) (sym (cut_at ts t i within is_t))
+      (subst (λ (n : ℕ). IsFirstFaultyScript p (front ++ t.items ∷ rest) n f) (length-front ts i within)
       (first_behind front xs t.items rest f h faulty))
 
   -- the fault of the text at a place is the scripts' fault, at the place counted from 1
@@ -113,7 +113,7 @@ module _ (p : Tables) where
 
   -- behind texts that are read the first fault is that of the next text, or it has none
   first_or_none : (ts : List Bytes) (xs : List Orders) (t : Bytes) (rest : List Bytes) (k : ℕ) (f : TextFault) → AreScripts p ts xs
-      → IsFirstFault p (ts ++ t ∷ rest) k f → ((k ≡ length ts) × FaultyScript p t f) ⊎ ((g : TextFault) → FaultyScript p t g → ⊥)
+      → IsFirstFaultyScript p (ts ++ t ∷ rest) k f → ((k ≡ length ts) × FaultyScript p t f) ⊎ ((g : TextFault) → FaultyScript p t g → ⊥)
   first_or_none [] xs t rest zero f h first = inl (refl, first)
   first_or_none [] xs t rest (suc k) f h first = inr first.0.1.faultless
   first_or_none (s ∷ ss) [] t rest k f h first = absurd h
@@ -125,7 +125,7 @@ module _ (p : Tables) where
       ]
 
   -- texts that are all read have no first fault
-  pub no_first : (ts : List Bytes) (xs : List Orders) (k : ℕ) (f : TextFault) → AreScripts p ts xs → IsFirstFault p ts k f → ⊥
+  pub no_first : (ts : List Bytes) (xs : List Orders) (k : ℕ) (f : TextFault) → AreScripts p ts xs → IsFirstFaultyScript p ts k f → ⊥
   no_first [] xs k f h first = first
   no_first (t ∷ ts) [] k f h first = h
   no_first (t ∷ ts) (x ∷ xs) zero f h first = h.0.faultless f first
@@ -142,12 +142,12 @@ module _ (p : Tables) where
   -- the script at a place is refused, and those before it are read
   pub script_refused : (ts : Texts) (xs : List Orders) (t : Vec ℕ Global) (i k : ℕ) (g f : TextFault) (fault : Fault)
       → i < length ts → t ≡ get_or ts i t → AreScripts p (bytes (take i ts)) xs → Answers (FaultyScript p t.items) g
-      → (g.kind ≢ OutOfMemory → FaultyScript p t.items g) → IsTextFaultOf (i + 1) g fault → IsFirstFault p (bytes ts) k f
+      → (g.kind ≢ OutOfMemory → FaultyScript p t.items g) → IsTextFaultOf (i + 1) g fault → IsFirstFaultyScript p (bytes ts) k f
       → IsRefusedBy (k + 1) f fault
   script_refused ts xs t i k g f fault within is_t h answers faulty is first =
       let front = bytes (take i ts) in
       let rest = bytes (drop (suc i) ts) in
-      let cut = subst (λ (us : List Bytes). IsFirstFault p us k f) (cut_at ts t i within is_t) first in
+      let cut = subst (λ (us : List Bytes). IsFirstFaultyScript p us k f) (cut_at ts t i within is_t) first in
       elim (first_or_none front xs t.items rest k f h cut) [
         | inl here ↦
             let same : i ≡ k = sym (here.0 ∙ length-front ts i within) in

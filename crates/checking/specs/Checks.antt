@@ -22,7 +22,7 @@ use Rattle.historytext.specs.Places.{FaultyHistory}
 use Rattle.export.specs.Exported.{IsAccepted, exported_text}
 use Rattle.checking.specs.declared.fault.Fault.{Fault}
 use Rattle.checking.specs.declared.fault.Fault.TheVariants.{Text, Proof, Differs, NoMemory}
-use Rattle.checking.specs.Outcomes.{setting_of}
+use Rattle.checking.specs.Outcomes.{program_setting}
 
 abbrev pub Bytes : Type 0
 Bytes = List ℕ
@@ -41,7 +41,7 @@ replayed_lines count library = codes "replayed " ++ (decimal count ++ 10 ∷ lib
 
 -- the library after a history, in export order: the history is legal over the library of the database
 abbrev pub IsAfter : Contents → List Entry → Listed → Type 0
-IsAfter contents history library = IsAfterHistory (setting_of contents) (opening contents) (map told history) library
+IsAfter contents history library = IsAfterHistory (program_setting contents) (opening contents) (map told history) library
 
 -- `replayed`, the number of entries, and the library after them, whose text is accepted: the history is legal
 pub record PrintsReplay (contents : Contents) (history : List Entry) (out : Bytes) : Type 0 where
@@ -104,10 +104,10 @@ pub record LeadsTo (db text : Bytes) (history : List Entry) (library : Listed) :
   pub after : IsAfter contents history library
 
 -- the fault of the script at a place, where each script before it is read
-abbrev pub IsFirstFault : Tables → List Bytes → ℕ → TextFault → Type 0
-IsFirstFault p [] k f = ⊥
-IsFirstFault p (t ∷ ts) zero f = FaultyScript p t f
-IsFirstFault p (t ∷ ts) (suc k) f = ((x : Orders) × IsScript p t x) × IsFirstFault p ts k f
+abbrev pub IsFirstFaultyScript : Tables → List Bytes → ℕ → TextFault → Type 0
+IsFirstFaultyScript p [] k f = ⊥
+IsFirstFaultyScript p (t ∷ ts) zero f = FaultyScript p t f
+IsFirstFaultyScript p (t ∷ ts) (suc k) f = ((x : Orders) × IsScript p t x) × IsFirstFaultyScript p ts k f
 
 -- the label of the assertion at a place
 abbrev pub IsLabelAt : Contents → ℕ → List ℕ → Type 0
@@ -127,7 +127,7 @@ IsDatabaseFault text _ = ⊥
 
 -- an entry is the first of the history that differs
 abbrev pub IsDifference : Contents → List Entry → Fault → Type 0
-IsDifference contents history (Differs n) = IsFirstDiffering (setting_of contents) (opening contents) (map told history) n
+IsDifference contents history (Differs n) = IsFirstDiffering (program_setting contents) (opening contents) (map told history) n
 IsDifference contents history _ = ⊥
 
 -- the fault of a replay: that of its database, or of the history's text, or the first entry that differs

@@ -3,7 +3,7 @@ use Rattle.std.specs.Prelude.{ℕ, List, [], ◌++◌, Option, Some, None, codes
 use Rattle.std.specs.Str.{is_utf8}
 use Rattle.std.specs.Fmt.{decimal}
 use Rattle.mmtext.specs.FaultNames.{printed_fault as printed_text_fault}
-use Rattle.derivation.specs.FaultNames.{printed_fault}
+use Rattle.derivation.specs.FaultNames.{printed_proof_fault}
 use Rattle.checking.specs.declared.fault.Fault.{Fault}
 use Rattle.checking.specs.declared.fault.Fault.TheVariants.{Text, Proof, Differs, StoreFull, Missing, Held, NoThread, NoMemory}
 
@@ -15,7 +15,7 @@ shown_label label = if is_utf8 label then label else codes "?"
 -- `no memory`
 abbrev pub fault_text : Fault → List ℕ
 fault_text (Text file fault) = codes "text " ++ printed_text_fault fault
-fault_text (Proof label fault) = codes "proof of " ++ (shown_label label ++ (codes ": " ++ printed_fault fault))
+fault_text (Proof label fault) = codes "proof of " ++ (shown_label label ++ (codes ": " ++ printed_proof_fault fault))
 fault_text (Differs n) = codes "entry " ++ (decimal n ++ codes " differs")
 fault_text StoreFull = codes "store full"
 fault_text (Missing n) = codes "missing " ++ decimal n

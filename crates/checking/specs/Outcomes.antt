@@ -3,5 +3,5 @@ use Rattle.mmsyntax.specs.Tables.{Contents}
 use Rattle.library.specs.Library.{Setting, setting_over}
 
 -- how a library of the program stands: over the prelude of its database, with 4,096 slots
-abbrev pub setting_of : Contents → Setting
-setting_of db = setting_over db 4096
+abbrev pub program_setting : Contents → Setting
+program_setting db = setting_over db 4096

@@ -9,11 +9,11 @@ use Rattle.derivation.specs.declared.fault.ProofFaultKind.TheVariants.{NoMemory 
 use Rattle.historytext.specs.Places.{FaultyHistory}
 use Rattle.checking.specs.declared.fault.Fault.{Fault}
 use Rattle.checking.specs.declared.fault.Fault.TheVariants.{Text, Proof, NoMemory}
-use Rattle.checking.specs.Checks.{Bytes, IsFirstFault, IsLabelAt}
+use Rattle.checking.specs.Checks.{Bytes, IsFirstFaultyScript, IsLabelAt}
 
 -- the scripts' part of a fault
 abbrev pub IsScriptFault : Tables → List Bytes → Fault → Type 0
-IsScriptFault p texts (Text (suc k) f) = IsFirstFault p texts k f × (f.kind ≢ OutOfMemory)
+IsScriptFault p texts (Text (suc k) f) = IsFirstFaultyScript p texts k f × (f.kind ≢ OutOfMemory)
 IsScriptFault p texts NoMemory = Unit {0}
 IsScriptFault p texts _ = ⊥
 

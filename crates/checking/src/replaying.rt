@@ -6,7 +6,7 @@ ghost use Rattle.mmtext.specs.declared.fault.TextFault.{TextFault as FaultOfText
 ghost use Rattle.derivation.specs.Databases.{AllCheck};
 ghost use Rattle.library.specs.declared.history.Entry.{Entry as EntryOf};
 ghost use Rattle.historytext.specs.Places.{FaultyHistory};
-ghost use Rattle.historytext.specs.Layout.{EntryFits};
+ghost use Rattle.historytext.specs.Layout.{EntryFitsText};
 ghost use Rattle.checking.specs.declared.fault.Fault.{Fault as FaultOfJob};
 ghost use Rattle.checking.specs.declared.fault.Fault.TheVariants.{NoMemory};
 ghost use Rattle.checking.specs.Checks.{library_lines, IsHistory, IsAfter, IsDifference, RefusesWith};
@@ -27,7 +27,7 @@ pub const SLOTS: usize = 4096;
 /// Reads the history of a replay, which is the text behind the database's.
 pub(crate) fn read_entries(alloc: Global, prelude: &Prelude, text: &[u8]) -> Result<History, Fault>
     ensures done { IfOk result (IsHistory prelude.now text.now) }
-    ensures fit { IfOk result (λ history. All (EntryFits prelude.now) history) }
+    ensures fit { IfOk result (λ history. All (EntryFitsText prelude.now) history) }
     ensures only { (history : List EntryOf) → IsHistory prelude.now text.now history → GivesOrLacksMemory result history }
     ensures fault { IfErr result (λ f. f ≢ NoMemory → IsHistoryFault prelude.now text.now f) }
     ensures refused { (f : FaultOfText) → FaultyHistory prelude.now text.now f → IsRefusedWith 1 f result }
@@ -46,7 +46,7 @@ pub(crate) fn replay_entries(
     history: &[Entry],
 ) -> Result<PlainLibrary, Fault>
     requires checks { AllCheck db.now }
-    requires fit { All (EntryFits db.now.prelude) history.now }
+    requires fit { All (EntryFitsText db.now.prelude) history.now }
     ensures done { IfOk result (IsAfter db.now history.now) }
     ensures fault { IfErr result (λ f. f ≢ NoMemory → IsDifference db.now history.now f) }
     ensures refused { (f : FaultOfJob) → IsDifference db.now history.now f → RefusesWith f result }

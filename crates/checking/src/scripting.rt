@@ -3,7 +3,7 @@
 ghost use Rattle.std.specs.Prelude.{◌+◌, ℕ, All, IfOk, IfErr, map};
 ghost use Rattle.mmtext.specs.declared.fault.TextFault.{TextFault as FaultOfText};
 ghost use Rattle.library.specs.Fitting.{CommandFits};
-ghost use Rattle.checking.specs.Checks.{AreScripts, IsFirstFault};
+ghost use Rattle.checking.specs.Checks.{AreScripts, IsFirstFaultyScript};
 ghost use Rattle.checking.specs.Parts.{IsScriptFault, IsRefusedWith};
 
 use crate::fault::{Fault, text_fault};
@@ -21,7 +21,7 @@ pub fn read_scripts(
     ensures ok { IfOk result (λ v. AreScripts prelude.now (map (λ t. t.items) texts.now) v.items) }
     ensures fit { IfOk result (λ v. All (All (All (CommandFits prelude.now))) v.items) }
     ensures err { IfErr result (IsScriptFault prelude.now (map (λ t. t.items) texts.now)) }
-    ensures refused { (k : ℕ) (f : FaultOfText) → IsFirstFault prelude.now (map (λ t. t.items) texts.now) k f
+    ensures refused { (k : ℕ) (f : FaultOfText) → IsFirstFaultyScript prelude.now (map (λ t. t.items) texts.now) k f
         → IsRefusedWith (k + 1) f result }
 {
     let mut scripts = Vec::new(alloc);

@@ -2,7 +2,7 @@
 use Rattle.std.proofs.Common.{◌≡◌, ℕ, ◌+◌, ◌-◌, ◌<◌, ◌≤◌, List, [], ◌∷◌, ◌++◌, ap, arith}
 use Rattle.std.specs.Prelude.{All, max}
 use Rattle.std.proofs.lemmas.List.Elements.{All-head, All-tail}
-use Rattle.claims.specs.Claims.{Home, Claimant, Claims}
+use Rattle.claims.specs.Claims.{Counting, Claimant, Claims}
 
 abbrev pub past_all : List ℕ → ℕ
 past_all [] = 0
@@ -19,7 +19,7 @@ past_last : (ns : List ℕ) (n : ℕ) → n < past_all (ns ++ n ∷ [])
 past_last [] n = omega arith
 past_last (m ∷ ns) n = let others = past_last ns n in omega arith
 
-pub claim_nears : (home : Home) (n : ℕ) (old new : Claimant) → Claims home n old new
+pub claim_nears : (home : Counting) (n : ℕ) (old new : Claimant) → Claims home n old new
     → home.count - past_all new.claimed < home.count - past_all old.claimed
 claim_nears home n old new claims =
     let before = past_below old.claimed n claims.later in

@@ -9,7 +9,7 @@ use lib.ListN.{get_elem?}
 use Rattle.atomic_table.specs.Table.{State, Me}
 use Rattle.atomic_table.specs.Seated.{TableId}
 use Rattle.ranges.specs.Ranges.{Has}
-use Rattle.claims.specs.Claims.{Home, Claimant, claims_of, AreClaimed}
+use Rattle.claims.specs.Claims.{Counting, Claimant, claims_of, AreClaimed}
 use Rattle.claims.specs.Rule.{View, joined, shown, SitsWith, with_claimant, gathered, all_claimed, all_parts, all_ended, IsFair, Ruled}
 use Rattle.claims.proofs.Alike.{at_front}
 use Rattle.claims.proofs.RuleSteps.{of_view, reordered, parts_of, ended_of}
@@ -78,7 +78,7 @@ idle_claims (v ∷ vs) fair none =
     ap (λ (l : List ℕ). l ++ all_claimed vs) (f.idle (omega (arith, sum))) ∙ idle_claims vs (All-tail IsFair v vs fair) (omega (arith, sum))
 
 -- the last claimant's seat, to which the others gave what they have, has all there is
-pub all_gathered : (home : Home) (cs : List Claimant) (c : Claimant) (me : Mine) (s : State (Unit {0}) View) (id : ℕ)
+pub all_gathered : (home : Counting) (cs : List Claimant) (c : Claimant) (me : Mine) (s : State (Unit {0}) View) (id : ℕ)
     → Ruled home.count home.claimants s → get_elem? s.views id ≡ some (gathered me cs).0
     → me.0.parts ≡ 1 → me.0.claimed ≡ c.claimed → me.0.ended ≡ one_if c.ended
     → length (cs ++ c ∷ []) ≡ home.claimants → AreClaimed home (cs ++ c ∷ [])

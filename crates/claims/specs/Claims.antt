@@ -4,7 +4,7 @@ use Rattle.atomic_table.specs.Seated.{TableId}
 use Rattle.ranges.specs.Ranges.{Has}
 
 -- the table in which the numbers lie, up to which count there are numbers, and how many claimants there are
-pub record Home : Type 0 where
+pub record Counting : Type 0 where
   pub table : TableId
   pub count : ℕ
   pub claimants : ℕ
@@ -18,15 +18,15 @@ pub record Claimant : Type 0 where
   pub ended : Bool
 
 -- the claimant is one of these numbers': of their table, and with their count
-abbrev pub IsOf : Home → Claimant → Type 0
-IsOf home c = (c.table ≡ home.table) × (c.count ≡ home.count)
+abbrev pub IsClaimantOf : Counting → Claimant → Type 0
+IsClaimantOf home c = (c.table ≡ home.table) × (c.count ≡ home.count)
 
 -- and has claimed none so far
-abbrev pub IsNewOf : Home → Claimant → Type 0
+abbrev pub IsNewOf : Counting → Claimant → Type 0
 IsNewOf home c = c ≡ record { table = home.table; count = home.count; claimed = []; ended = false }
 
 -- it claims the number n, which is behind all that it claimed before
-pub record Claims (home : Home) (n : ℕ) (old new : Claimant) : Type 0 where
+pub record Claims (home : Counting) (n : ℕ) (old new : Claimant) : Type 0 where
   pub below : n < home.count
   pub later : All (λ m. m < n) old.claimed
   pub is : new ≡ record old { claimed = old.claimed ++ n ∷ [] }
@@ -46,7 +46,7 @@ claims_of claimants = flat_map (λ c. c.claimed) claimants
 
 -- what they claimed are the numbers from 0 up to some number, each once; and up to the count where one of them was told that there are
 -- no more
-pub record AreClaimed (home : Home) (claimants : List Claimant) : Type 0 where
+pub record AreClaimed (home : Counting) (claimants : List Claimant) : Type 0 where
   pub many : ℕ
   pub each : IsPermutation (up_to many) (claims_of claimants)
   pub within : many ≤ home.count

@@ -3,7 +3,7 @@ use Rattle.std.specs.Prelude.{◌≡◌, ◌<◌, ◌≤◌, ◌+◌, ◌-◌, �
 use Rattle.atomic_table.specs.Seated.{TableId}
 use Rattle.atomic_table.specs.Table.{State, Me, Step}
 use Rattle.claims.specs.declared.rule.Sizes.{Sizes}
-use Rattle.claims.specs.Claims.{Home, Claimant, up_to}
+use Rattle.claims.specs.Claims.{Counting, Claimant, up_to}
 
 -- a seat: how many claimants it stands for, up to which count there are numbers, those claimed by it, and how many of its claimants were
 -- told that there are no more
@@ -73,7 +73,7 @@ abbrev pub claimed : Step (Unit {0}) → Me (Unit {0}) View → ℕ → Me (Unit
 claimed _ old n new = Claimed old n new
 
 -- the numbers in a table
-abbrev pub home_of : TableId → Sizes → Home
+abbrev pub home_of : TableId → Sizes → Counting
 home_of table sizes = record { table = table; count = sizes.count; claimants = sizes.claimants }
 
 -- the claimant at a seat

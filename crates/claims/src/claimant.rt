@@ -1,7 +1,7 @@
 //! Claims numbers.
 
 ghost use Rattle.std.specs.Prelude.{◌≡◌, IfNone, IfSome};
-ghost use Rattle.claims.specs.Claims.{IsOf, Claims, Ends};
+ghost use Rattle.claims.specs.Claims.{IsClaimantOf, Claims, Ends};
 
 use crate::numbers::Numbers;
 use crate::plays::Claim;
@@ -30,7 +30,7 @@ impl Model for Claimant {
 impl Claimant {
     /// The next number that nobody has claimed; none when all are claimed, and from then on.
     pub fn claim(&mut self, numbers: &Numbers) -> Option<usize>
-        requires { IsOf numbers.now self.old }
+        requires { IsClaimantOf numbers.now self.old }
         ensures some { IfSome result (λ n. Claims numbers.now n self.old self.new) }
         ensures none { IfNone result (Ends self.old self.new) }
     {

@@ -1,7 +1,7 @@
 //! What was claimed, in the end.
 
 ghost use Rattle.std.specs.Prelude.{◌≡◌, All, length};
-ghost use Rattle.claims.specs.Claims.{IsOf, AreClaimed};
+ghost use Rattle.claims.specs.Claims.{IsClaimantOf, AreClaimed};
 ghost use Rattle.claims.specs.Rule.{gathered};
 
 use crate::claimant::Claimant;
@@ -12,7 +12,7 @@ use crate::rule::Place;
 impl Numbers {
     /// Takes the numbers back from all claimants: each was claimed once, and all were where a claimant was told so. Contracts alone see it.
     pub fn close(self, claimants: Vec<Claimant>)
-        requires own { All (IsOf self) claimants.items }
+        requires own { All (IsClaimantOf self) claimants.items }
         requires all { length claimants.items ≡ self.claimants }
         ensures { AreClaimed self claimants.items }
     {
@@ -30,7 +30,7 @@ impl Numbers {
 /// Gives what all these claimants have to the one of this seat, the last of them first.
 fn gather_all(numbers: &Numbers, seat: &mut Place, claimants: &mut Vec<Claimant>)
     requires table { seat.old.table_id ≡ numbers.now.table }
-    requires own { All (IsOf numbers.now) claimants.old.items }
+    requires own { All (IsClaimantOf numbers.now) claimants.old.items }
     ensures same { (seat.new.table_id ≡ seat.old.table_id) × (seat.new.id ≡ seat.old.id) }
     ensures me { seat.new.me ≡ gathered seat.old.me claimants.old.items }
 {

@@ -14,10 +14,10 @@ pub struct Numbers {
 }
 
 impl Model for Numbers {
-    ghost use Rattle.claims.specs.Claims.{Home};
+    ghost use Rattle.claims.specs.Claims.{Counting};
     ghost use Rattle.claims.specs.Rule.{AreLaid, home_of};
 
-    ghost Value = { Home };
+    ghost Value = { Counting };
 
     ghost view = { λ n. home_of n.table.shared.table_id n.table.shared.key };
 

@@ -34,7 +34,7 @@ MayStay cs gone false words left end until old new =
     (new ≡ old ++ reading_then cs (comment_of words left) ∷ []) ⊎ ((new ≡ old) × ((end < until) ⊎ IsInFront gone (comment_of words left)))
 
 -- a comment was taken, up to its end
-pub record IsTaken (cs : List Change) (gone : List Word) (source : List ℕ) (from : ℕ) (old new : Walk) (end : ℕ) : Type 0 where
+pub record IsCommentTaken (cs : List Change) (gone : List Word) (source : List ℕ) (from : ℕ) (old new : Walk) (end : ℕ) : Type 0 where
   pub words : List Word
   pub closed : IsClosed old.stating words (tokens_at source from) (tokens_at source end) end
   pub stating : new.stating ≡ old.stating

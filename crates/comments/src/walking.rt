@@ -6,7 +6,7 @@ ghost use Rattle.giving.specs.Staying.{Change};
 ghost use Rattle.comments.specs.Comments.{stands_between, comments_from};
 ghost use Rattle.comments.specs.Outside.{tokens_at};
 ghost use Rattle.comments.specs.Insides.{labels_in};
-ghost use Rattle.comments.specs.Walks.{MayEnd, IsTaken, IsWalked, seen_texts, AreTexts};
+ghost use Rattle.comments.specs.Walks.{MayEnd, IsCommentTaken, IsWalked, seen_texts, AreTexts};
 
 use crate::deleted::{end_of_deleted, is_in_front};
 use crate::passing::{Gathered, end_of_comment, read_comment};
@@ -69,7 +69,7 @@ impl Walk {
     ) -> Result<Option<usize>, AllocError>
         requires { from ≤ length source.now }
         ensures { IfOk result (λ end. MatchOption end ((comments_from self.old.stating (Some []) (tokens_at source.now from) ≡ [])
-            × (self.new ≡ self.old)) (IsTaken changes.now (labels_in gone.now) source.now from self.old self.new)) }
+            × (self.new ≡ self.old)) (IsCommentTaken changes.now (labels_in gone.now) source.now from self.old self.new)) }
     {
         if self.stating {
             return Ok(end_of_comment(source, from));

@@ -11,15 +11,15 @@ use Rattle.transaction.specs.declared.outcome.Outcome.{Outcome}
 use Rattle.transaction.specs.Members.{Member}
 use Rattle.transaction.specs.Footprints.{IsLaterHistory, MayWriteAfter, MayReadAfter}
 use Rattle.transaction.specs.Locks.{LocksWithin}
-use Rattle.contention.specs.Laws.{Runs, AreBeside, LocksMeet, ApartLocksNone}
+use Rattle.contention.specs.Laws.{HasTried, AreBeside, LocksMeet, ApartLocksNone}
 use Rattle.contention.proofs.Meeting.{same_given, was_met, opened_by}
 
 module _ (cs : List Command) (old new : Member) (o : Outcome) where
-  opened : Runs cs old new o → new.known.home.setting ≡ Some new.given
+  opened : HasTried cs old new o → new.known.home.setting ≡ Some new.given
   opened (inl a) = a.later.stands.setting
   opened (inr s) = s.later.stands.setting
 
-  locks : Runs cs old new o → LocksWithin new.given cs old.known new.known
+  locks : HasTried cs old new o → LocksWithin new.given cs old.known new.known
   locks (inl a) = a.locks
   locks (inr s) = s.locks
 

@@ -3,7 +3,7 @@ use Rattle.std.proofs.Common.{◌≡◌, ℕ, suc, ◌<◌, ◌/◌, List, Some,
 use Rattle.library.specs.declared.command.Command.{Command}
 use Rattle.library.specs.declared.command.Reply.{Reply}
 use Rattle.ranges.proofs.Members.{all_has}
-use Rattle.tlcore.specs.History.{WasWritten}
+use Rattle.tlcore.specs.History.{IsVersionOf}
 use Rattle.tlcore.proofs.Growth.{WasWritten-kept}
 use Rattle.tlwords.specs.Seen.{Seen}
 use Rattle.lawful.specs.declared.notes.Given.{Given}
@@ -13,20 +13,21 @@ use Rattle.transaction.specs.declared.outcome.Outcome.TheVariants.{Committed}
 use Rattle.transaction.specs.Members.{Member, IsLater}
 use Rattle.transaction.specs.Attempts.{WasMet}
 use Rattle.transaction.specs.Footprints.{WritesWithin, IsLaterHistory, MayWriteAfter, MayReadAfter}
-use Rattle.contention.specs.Laws.{Runs, RunsInto, AreMet, ConflictsMeet, ApartIsNoCause}
+use Rattle.contention.specs.Laws.{HasTried, RunsInto, AreMet, ConflictsMeet, ApartIsNoCause}
 
 module _ (cs : List Command) (old new : Member) (number : ℕ) (replies : List Reply) where
   -- a number that was committed is not 0
-  numbered : Runs cs old new (Committed number replies) → 0 < number
+  numbered : HasTried cs old new (Committed number replies) → 0 < number
   numbered (inl a) = let g = a.gains.1 in omega (arith, g)
   numbered (inr s) = let g = s.gains.1 in omega (arith, g)
 
-  opened : Runs cs old new (Committed number replies) → new.known.home.setting ≡ Some new.given
+  opened : HasTried cs old new (Committed number replies) → new.known.home.setting ≡ Some new.given
   opened (inl a) = a.later.stands.setting
   opened (inr s) = s.later.stands.setting
 
   -- its writes are within what it may write
-  wrote : Runs cs old new (Committed number replies) → (seen : Seen Note) → IsLaterHistory new.given new.known.home.base new.known.seen seen
+  wrote : HasTried cs old new (Committed number replies) → (seen : Seen Note)
+      → IsLaterHistory new.given new.known.home.base new.known.seen seen
       → WritesWithin new.given new.known.home.base seen number cs
   wrote (inl a) seen later = a.footprint seen later
   wrote (inr s) seen later = s.footprint seen later
@@ -68,7 +69,7 @@ module _ (ones others : List Command) (number : ℕ) (met : Met) (by : Member) (
   was : WasMet others by met
   was = was_met others m.before by met m.conflicted
 
-  found : WasWritten seen.history met.cell (met.word / 2)
+  found : IsVersionOf seen.history met.cell (met.word / 2)
   found = WasWritten-kept by.known.seen.history seen.history met.cell (met.word / 2) m.later.grows.0 was.written
 
   pub meets : met.word / 2 ≡ number
@@ -76,7 +77,7 @@ module _ (ones others : List Command) (number : ℕ) (met : Met) (by : Member) (
       × MayReadAfter by.given by.known.home.base seen met.place others met.cell
   meets is = of found
     where
-      of : WasWritten seen.history met.cell (met.word / 2)
+      of : IsVersionOf seen.history met.cell (met.word / 2)
           → (i : ℕ) × (number ≡ suc i) × MayWriteAfter by.given by.known.home.base seen i ones met.cell
           × MayReadAfter by.given by.known.home.base seen met.place others met.cell
       of (inl none) = let some = numbered ones m.one_before m.one number m.replies m.committed in absurd (omega (arith, none, is, some))

@@ -14,12 +14,12 @@ use Rattle.transaction.specs.Attempts.{Attempts, Submits}
 use Rattle.transaction.specs.Footprints.{MayReadAfter, MayWriteAfter, IsLaterHistory}
 
 -- over whichever fronts of the history the two stand, the one may write no cell that the other may read
-abbrev pub AreApart : Given → List ℕ → Seen Note → List Command → List Command → Type 0
-AreApart g base seen ones others = (k l cell : ℕ) → MayWriteAfter g base seen k ones cell → MayReadAfter g base seen l others cell → ⊥
+abbrev pub MeetNowhere : Given → List ℕ → Seen Note → List Command → List Command → Type 0
+MeetNowhere g base seen ones others = (k l cell : ℕ) → MayWriteAfter g base seen k ones cell → MayReadAfter g base seen l others cell → ⊥
 
 -- a session has tried the transaction, once or until it met no conflict, and this became of it
-abbrev pub Runs : List Command → Member → Member → Outcome → Type 0
-Runs cs old new o = Attempts cs old new o ⊎ Submits cs old new o
+abbrev pub HasTried : List Command → Member → Member → Outcome → Type 0
+HasTried cs old new o = Attempts cs old new o ⊎ Submits cs old new o
 
 -- a session met this conflict in the transaction: in its one try, or in one of those before the last
 abbrev pub RunsInto : List Command → Member → Member → Met → Type 0
@@ -33,7 +33,7 @@ pub record AreMet (ones others : List Command) (number : ℕ) (met : Met) (by : 
   pub one_before : Member
   pub one : Member
   pub replies : List Reply
-  pub committed : Runs ones one_before one (Committed number replies)
+  pub committed : HasTried ones one_before one (Committed number replies)
   pub before : Member
   pub conflicted : RunsInto others before by met
   pub home : one.known.home ≡ by.known.home
@@ -53,7 +53,7 @@ ConflictsMeet =
 abbrev pub ApartIsNoCause : Type 0
 ApartIsNoCause =
     (ones others : List Command) (number : ℕ) (met : Met) (by : Member) (seen : Seen Note) → AreMet ones others number met by seen
-    → AreApart by.given by.known.home.base seen ones others → met.word / 2 ≢ number
+    → MeetNowhere by.given by.known.home.base seen ones others → met.word / 2 ≢ number
 
 -- ---- locks
 
@@ -63,7 +63,7 @@ pub record AreBeside (ones others : List Command) (cells : List ℕ) (met : Met)
   pub one_before : Member
   pub one : Member
   pub outcome : Outcome
-  pub ran : Runs ones one_before one outcome
+  pub ran : HasTried ones one_before one outcome
   pub locked : one.known.locked ≡ cells ++ one_before.known.locked
   pub before : Member
   pub conflicted : RunsInto others before by met
@@ -84,4 +84,4 @@ LocksMeet =
 abbrev pub ApartLocksNone : Type 0
 ApartLocksNone =
     (ones others : List Command) (cells : List ℕ) (met : Met) (by : Member) (seen : Seen Note) → AreBeside ones others cells met by seen
-    → AreApart by.given by.known.home.base seen ones others → Has met.cell cells → ⊥
+    → MeetNowhere by.given by.known.home.base seen ones others → Has met.cell cells → ⊥

@@ -36,5 +36,5 @@ abbrev pub printed_kind : ProofFaultKind → List ℕ
 printed_kind kind = numbered_name (number_of kind) (name_of kind)
 
 -- the step, then the kind, as in: step 3: 6 NotOneLeft
-abbrev pub printed_fault : ProofFault → List ℕ
-printed_fault fault = codes "step " ++ decimal fault.step ++ codes ": " ++ printed_kind fault.kind
+abbrev pub printed_proof_fault : ProofFault → List ℕ
+printed_proof_fault fault = codes "step " ++ decimal fault.step ++ codes ": " ++ printed_kind fault.kind

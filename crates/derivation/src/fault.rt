@@ -94,9 +94,9 @@ impl fmt::Display for ProofFaultKind {
 /// The step and the kind, as in `step 3: 6 NotOneLeft`.
 impl fmt::Display for ProofFault {
     ghost use Rattle.std.specs.Prelude.{Some};
-    ghost use Rattle.derivation.specs.FaultNames.{printed_fault};
+    ghost use Rattle.derivation.specs.FaultNames.{printed_proof_fault};
 
-    ghost output = { λ fault. Some (printed_fault fault) };
+    ghost output = { λ fault. Some (printed_proof_fault fault) };
 
     fn fmt<W: fmt::Write>(&self, f: &mut fmt::Formatter<W>) -> fmt::Result {
         let step = self.step;

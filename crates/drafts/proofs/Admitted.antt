@@ -8,7 +8,7 @@ use Rattle.mmsyntax.specs.declared.statement.Assertion.{Assertion}
 use Rattle.mmtext.specs.Words.{Word}
 use Rattle.mmsyntax.specs.Tables.{Tables, Contents, meaning}
 use Rattle.mmsyntax.specs.Rows.{Units, is_used, is_assertion_label}
-use Rattle.mmsyntax.specs.Dotted.{clash, AreApart}
+use Rattle.mmsyntax.specs.Dotted.{clash, ClashNowhere}
 use Rattle.mmsyntax.specs.Layout.{HasSpelling, text_of}
 use Rattle.mmsyntax.specs.Preludes.{AreSound}
 use Rattle.mmsyntax.specs.Assertions.{Distinct, IsUnit, is_lawful_label}
@@ -54,7 +54,7 @@ admissible_next t front a rest h =
     let label : Assertion → Word = λ x. x.label in
     let split : labels_of (front ++ a ∷ rest) ≡ labels_of front ++ a.label ∷ labels_of rest = map-append label front (a ∷ rest) in
     let distinct = subst (Distinct bytes_eq) split s.distinct in
-    let apart = subst AreApart split s.apart in
+    let apart = subst ClashNowhere split s.apart in
     record {
       unit = (all_right (IsUnit t) front (a ∷ rest) s.units).0;
       lawful = (all_right (λ x. is_lawful_label t x.label ≡ true) front (a ∷ rest) s.lawful).0;

@@ -11,19 +11,19 @@ use Rattle.library.specs.Library.{Listed}
 use Rattle.library.specs.Histories.{told}
 use Rattle.lending.specs.Lent.{Pass}
 use Rattle.transaction.specs.declared.outcome.Outcome.{Outcome}
-use Rattle.transaction.specs.Members.{Home, Member, IsOf}
-use Rattle.transaction.specs.Openings.{IsNew}
+use Rattle.transaction.specs.Members.{Home, Member, IsSessionOf}
+use Rattle.transaction.specs.Openings.{IsNewSession}
 use Rattle.transaction.specs.Closings.{passes_of}
 use Rattle.ranges.specs.Ranges.{Has}
 use Rattle.ranges.proofs.Members.{mapped_has}
 use Rattle.workers.specs.declared.error.WorkError.{WorkError}
 use Rattle.workers.specs.declared.error.WorkError.TheVariants as work
-use Rattle.workers.specs.Works.{Works, HasOutcomes, IsHandedBack, IsLack as IsWorkLack}
+use Rattle.workers.specs.Works.{Works, HasOutcomes, IsHandedBack, IsWorkLack}
 use Rattle.workers.proofs.Whole.{still_of}
 use Rattle.finishing.specs.declared.error.FinishError.{FinishError}
 use Rattle.finishing.specs.declared.error.FinishError.TheVariants.{Missing, Held, NoMemory}
 use Rattle.finishing.specs.Finishes.{IsFinished, Finishes}
-use Rattle.editing.specs.Edits.{IsEdited, IsLack, ToldIn, from_work, from_finish}
+use Rattle.editing.specs.Edits.{IsEdited, IsEditLack, ToldIn, from_work, from_finish}
 use Rattle.editing.proofs.DoneNumbers.{done_are, few_drawn}
 use Rattle.editing.proofs.Shares.{of_each}
 use Rattle.editing.proofs.Told.{as_many_shares, shares_told, share_told, shares_end}
@@ -37,28 +37,29 @@ names_kept (m ∷ ms) [] back = absurd back
 names_kept (m ∷ ms) (n ∷ ns) back = λ i. back.0.0.name i ∷ names_kept ms ns back.1 i
 
 -- why scripts weren't run to their end
-pub unrun : (before : List Member) (error : WorkError) → IsWorkLack before error → IsLack before (from_work error)
+pub unrun : (before : List Member) (error : WorkError) → IsWorkLack before error → IsEditLack before (from_work error)
 unrun before work.NoMemory h = tt
 unrun before work.NoThread h = h
 
-module _ (home : Home) (before : List Member) (new : All (IsNew home) before) where
-  pub new_own : All (IsOf home) before
-  new_own = All-weaker (IsNew home) (IsOf home) (λ m n. ap (λ (k : Pass). k.home) n.known) before new
+module _ (home : Home) (before : List Member) (new : All (IsNewSession home) before) where
+  pub new_own : All (IsSessionOf home) before
+  new_own = All-weaker (IsNewSession home) (IsSessionOf home) (λ m n. ap (λ (k : Pass). k.home) n.known) before new
 
   none_drawn : All (λ (m : Member). m.known.drawn ≡ []) before
   none_drawn =
-      All-weaker (IsNew home) (λ (m : Member). m.known.drawn ≡ []) (λ m n. ap (λ (k : Pass). k.drawn) n.known) before new
+      All-weaker (IsNewSession home) (λ (m : Member). m.known.drawn ≡ []) (λ m n. ap (λ (k : Pass). k.drawn) n.known) before new
 
   none_seen : All (λ (m : Member). m.known.seen.history ≡ []) before
   none_seen =
-      All-weaker (IsNew home) (λ (m : Member). m.known.seen.history ≡ []) (λ m n. ap (λ (k : Pass). k.seen.history) n.known) before new
+      All-weaker (IsNewSession home) (λ (m : Member). m.known.seen.history ≡ [])
+      (λ m n. ap (λ (k : Pass). k.seen.history) n.known) before new
 
   none_called : All (λ (m : Member). m.known.mine ≡ []) before
-  none_called = All-weaker (IsNew home) (λ (m : Member). m.known.mine ≡ []) (λ m n. ap (λ (k : Pass). k.mine) n.known) before new
+  none_called = All-weaker (IsNewSession home) (λ (m : Member). m.known.mine ≡ []) (λ m n. ap (λ (k : Pass). k.mine) n.known) before new
 
   module _ (scripts : List (List (List Command))) (rows : List (List Outcome)) (after : List Member)
       (works : Works home.given before scripts rows after) (many : length before ≡ home.sessions) where
-    pub handed_on : All (IsOf home) after
+    pub handed_on : All (IsSessionOf home) after
     handed_on = still_of home before after new_own works.back
 
     -- that no number is left is shown by the history
@@ -94,7 +95,7 @@ module _ (home : Home) (before : List Member) (new : All (IsNew home) before) wh
     all : length (passes_of after) ≡ home.sessions
     all = length-map after (λ (m : Member). m.known) ∙ AllZip-long IsHandedBack before after works.back ∙ many
 
-    pub lacks : (error : FinishError) → Finishes home after (Err error) → IsLack before (from_finish error)
+    pub lacks : (error : FinishError) → Finishes home after (Err error) → IsEditLack before (from_finish error)
     lacks (Missing n) f = (
       f.2.some,
       λ names.

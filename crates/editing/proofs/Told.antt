@@ -9,7 +9,7 @@ use Rattle.ranges.specs.Ranges.{Has}
 use Rattle.tlwords.specs.Seen.{Call}
 use Rattle.lawful.specs.declared.notes.Given.{Given}
 use Rattle.lawful.specs.declared.notes.Note.{Note}
-use Rattle.lawful.specs.Lawful.{setting_of, first_library}
+use Rattle.lawful.specs.Lawful.{setting_given, first_library}
 use Rattle.lawful.specs.History.{AllAgree}
 use Rattle.transaction.specs.declared.outcome.Outcome.{Outcome}
 use Rattle.transaction.specs.declared.outcome.Outcome.TheVariants as outcome
@@ -28,18 +28,18 @@ module _ (g : Given) (h : List Entry) (scripts : List (List (List Command))) (ro
   -- the shares of sessions that had seen nothing, as a history has them with which the calls of all agree
   pub shares_told : (before after : List Member) (shares : List (List ℕ)) → All (λ (m : Member). m.known.seen.history ≡ []) before
       → All (λ (m : Member). AllAgree g h m.known.mine) after → AreSharesOf g scripts rows before after shares
-      → All (IsShareIn (setting_of g) (first_library g) h scripts rows) shares
-  shares_told [] [] [] none agree run = All-nil (IsShareIn (setting_of g) (first_library g) h scripts rows)
+      → All (IsShareIn (setting_given g) (first_library g) h scripts rows) shares
+  shares_told [] [] [] none agree run = All-nil (IsShareIn (setting_given g) (first_library g) h scripts rows)
   shares_told (m ∷ ms) (n ∷ ns) (x ∷ xs) none agree run =
       let unseen = λ (m : Member). m.known.seen.history ≡ [] in
       let agrees = λ (m : Member). AllAgree g h m.known.mine in
-      let own : IsShareIn (setting_of g) (first_library g) h scripts rows x = record {
+      let own : IsShareIn (setting_given g) (first_library g) h scripts rows x = record {
         rising = run.0.rising;
         agrees =
-            subst (λ place. ScriptAgrees (setting_of g) (first_library g) h place (all_of scripts x) (all_of rows x))
+            subst (λ place. ScriptAgrees (setting_given g) (first_library g) h place (all_of scripts x) (all_of rows x))
             (ap length (All-head unseen m ms none)) (run.0.run.agrees h (All-head agrees n ns agree));
       } in
-      All-cons (IsShareIn (setting_of g) (first_library g) h scripts rows) x xs own
+      All-cons (IsShareIn (setting_given g) (first_library g) h scripts rows) x xs own
       (shares_told ms ns xs (All-tail unseen m ms none) (All-tail agrees n ns agree) run.1)
   shares_told _ _ _ none agree run = absurd run
 

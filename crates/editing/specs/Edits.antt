@@ -7,7 +7,7 @@ use Rattle.library.specs.declared.history.Entry.{Entry as CodeEntry}
 use Rattle.library.specs.declared.library.Ranked.{Ranked}
 use Rattle.library.specs.Library.{Setting, Listed}
 use Rattle.library.specs.Histories.{Entry, EntriesFit, told, IsAfterHistory}
-use Rattle.lawful.specs.Lawful.{setting_of, first_library}
+use Rattle.lawful.specs.Lawful.{setting_given, first_library}
 use Rattle.claims.specs.Claims.{up_to}
 use Rattle.transaction.specs.declared.outcome.Outcome.{Outcome}
 use Rattle.transaction.specs.declared.outcome.Outcome.TheVariants as outcome
@@ -77,15 +77,15 @@ pub record IsEditedFrom (s : Setting) (lib0 : List Ranked) (home : Home) (script
 
 -- from the library at the opening
 abbrev pub IsEdited : Home → List (List (List Command)) → List (List Outcome) → List CodeEntry → Listed → Type 0
-IsEdited home = IsEditedFrom (setting_of home.given) (first_library home.given) home
+IsEdited home = IsEditedFrom (setting_given home.given) (first_library home.given) home
 
 -- why there is no history. A thread is asked for only where there are two sessions or more; no number is missing where each session has a
 -- name of its own, and no lock is held where all workers have ended
-abbrev pub IsLack : List Member → EditError → Type 0
-IsLack sessions NoThread = 2 ≤ length sessions
-IsLack sessions (Missing n) = (1 ≤ n) × (IsDistinct eqb (map (λ (m : Member). m.known.name) sessions) → ⊥)
-IsLack sessions (Held c) = ⊥
-IsLack sessions NoMemory = Unit {0}
+abbrev pub IsEditLack : List Member → EditError → Type 0
+IsEditLack sessions NoThread = 2 ≤ length sessions
+IsEditLack sessions (Missing n) = (1 ≤ n) × (IsDistinct eqb (map (λ (m : Member). m.known.name) sessions) → ⊥)
+IsEditLack sessions (Held c) = ⊥
+IsEditLack sessions NoMemory = Unit {0}
 
 -- the reason of one who runs the scripts, and of one who ends the library
 abbrev pub from_work : WorkError → EditError

@@ -2,10 +2,10 @@
 
 ghost use Rattle.std.specs.Prelude.{◌≡◌, ◌≢◌, [], All, IfOk, IfErr, length};
 ghost use Rattle.library.specs.Fitting.{CommandFits};
-ghost use Rattle.lawful.specs.Lawful.{setting_of};
-ghost use Rattle.transaction.specs.Openings.{IsNew};
+ghost use Rattle.lawful.specs.Lawful.{setting_given};
+ghost use Rattle.transaction.specs.Openings.{IsNewSession};
 ghost use Rattle.transaction.specs.Closings.{lists_of};
-ghost use Rattle.editing.specs.Edits.{IsEdited, IsLack};
+ghost use Rattle.editing.specs.Edits.{IsEdited, IsEditLack};
 
 use crate::error::EditError;
 use finishing::finish;
@@ -47,10 +47,10 @@ pub fn edit_all<R: Threads + Wait + Sync, G: Gate + Sync>(
 ) -> Result<Edited, EditError>
     requires some { sessions.items ≢ [] }
     requires all { length sessions.items ≡ library.sessions }
-    requires new { All (IsNew library) sessions.items }
-    requires fit { All (All (All (CommandFits (setting_of library.given).prelude))) scripts.now }
+    requires new { All (IsNewSession library) sessions.items }
+    requires fit { All (All (All (CommandFits (setting_given library.given).prelude))) scripts.now }
     ensures done { IfOk result (λ e. IsEdited library scripts.now (lists_of e.outcomes.items) e.history e.library) }
-    ensures lack { IfErr result (IsLack sessions.items) }
+    ensures lack { IfErr result (IsEditLack sessions.items) }
 {
     let Worked { outcomes, sessions } = run_scripts(rt, alloc, &library, sessions, scripts, gate)?;
     let (history, library) = finish(alloc, library, sessions)?;

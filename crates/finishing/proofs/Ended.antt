@@ -17,7 +17,7 @@ use Rattle.cells.specs.Shows.{Shows}
 use Rattle.plaincells.specs.PlainViews.{named_state}
 use Rattle.ranges.proofs.Members.{has_mapped, mapped_has, all_has, all_from_has}
 use Rattle.lawful.specs.declared.notes.Note.{Note}
-use Rattle.lawful.specs.Lawful.{setting_of, first_library, state_of}
+use Rattle.lawful.specs.Lawful.{setting_given, first_library, state_of}
 use Rattle.lawful.specs.History.{history_of, IsHistoryOf, AllAgree}
 use Rattle.lawful.specs.Laws.{AreFree}
 use Rattle.lawful.proofs.Entries.{at_index, length-entries_of, histories_grow}
@@ -191,12 +191,12 @@ module _ (home : Home) (members : List Member) (closed : ClosedLibrary) (is : Is
       -- ---- the library
 
       abbrev pub last_library : List Ranked
-      last_library = after_all (setting_of home.given) (first_library home.given) (map told history)
+      last_library = after_all (setting_given home.given) (first_library home.given) (map told history)
 
-      verifies : Verifies (setting_of home.given) last_library
+      verifies : Verifies (setting_given home.given) last_library
       verifies =
           let g = home.given in
-          subst (λ h. Verifies (setting_of g) (after_all (setting_of g) (first_library g) h))
+          subst (λ h. Verifies (setting_given g) (after_all (setting_given g) (first_library g) h))
           (take_all (length (history_of seen)) (history_of seen) (omega arith) ∙ is_history) (stands.verify (length (history_of seen)))
 
       module _ (unheld : IsFirstHeld words.cells.items None) where
@@ -207,7 +207,7 @@ module _ (home : Home) (members : List Member) (closed : ClosedLibrary) (is : Is
         shows =
             let g = home.given in
             subst (λ h. Shows g.slots (state_of (map (λ x. x.value) words.cells.items) seen.ranges)
-            (after_all (setting_of g) (first_library g) h)) is_history
+            (after_all (setting_given g) (first_library g) h)) is_history
             (closed_words_show g home.words.base home.store words is.words.closes small free)
 
         abbrev values : List ℕ
@@ -221,7 +221,7 @@ module _ (home : Home) (members : List Member) (closed : ClosedLibrary) (is : Is
             named_shows home.given.slots words.tail values words.store.items seen.ranges small is.words.closes.stored count
             last_library shows
 
-        setting_is : record { prelude = closed.prelude; slots = closed.given.slots } ≡ setting_of home.given
+        setting_is : record { prelude = closed.prelude; slots = closed.given.slots } ≡ setting_given home.given
         setting_is = λ i. record { prelude = is.prelude i; slots = (is.given i).slots }
 
         pub at_end : ShowsAtEnd (record { prelude = closed.prelude; slots = closed.given.slots }) words
@@ -246,10 +246,10 @@ module _ (home : Home) (members : List Member) (closed : ClosedLibrary) (is : Is
               grow = grows;
               agree = agree;
               recorded = recorded_by;
-              fit = subst (λ h. EntriesFit (setting_of home.given).prelude h) is_history stands.fit;
+              fit = subst (λ h. EntriesFit (setting_given home.given).prelude h) is_history stands.fit;
               after = record {
                 setting = by.setting_is ∙ setting_is;
-                legal = subst (λ h. IsLegal (setting_of home.given) (first_library home.given) h) is_history stands.legal;
+                legal = subst (λ h. IsLegal (setting_given home.given) (first_library home.given) h) is_history stands.legal;
                 shows = (subst (λ (s : Setting). IsShownBy s words library) setting_is by).shown last_library shows_named verifies;
               };
               shows = shows;

@@ -12,8 +12,9 @@ use Rattle.cells.specs.State.{State, most_words}
 use Rattle.cells.specs.Slots.{is_ranged}
 use Rattle.cells.specs.Shows.{Shows}
 use Rattle.cells.specs.Sight.{Views, Looks, after}
+use Rattle.cells.proofs.Sights.{setting_kept}
 use Rattle.plaincells.specs.Plain.{numbered_from, undone, ranges_in}
-use Rattle.plaincells.specs.PlainViews.{setting_of, sight_of, now_state, first_state, named_state, AreOfWords}
+use Rattle.plaincells.specs.PlainViews.{cells_setting, cells_sight, now_state, first_state, named_state, AreOfWords}
 use Rattle.plaincells.specs.declared.plain.PlainCells.{PlainCells}
 use Rattle.plaincells.proofs.Logs.{length-undone}
 use Rattle.plaincells.proofs.Numbered.{over_all}
@@ -27,12 +28,12 @@ numbered_values c [] = refl
 numbered_values c (v ∷ values) = let rest = numbered_values (suc c) values in λ i. v ∷ rest i
 
 module _ (setting : Setting) (values store : List ℕ) (old new : PlainCells)
-    (are : AreOfWords setting.prelude setting.slots values store old) (looks : Looks (sight_of old) (sight_of new)) where
+    (are : AreOfWords setting.prelude setting.slots values store old) (looks : Looks (cells_sight old) (cells_sight new)) where
   abbrev named : List Range
   named = ranges_named (is_ranged setting.slots) store values
 
-  setting_is : setting_of new ≡ setting
-  setting_is = looks.onward.setting ∙ (λ i. record { prelude = are.prelude_is i; slots = are.slots_are i })
+  setting_is : cells_setting new ≡ setting
+  setting_is = (setting_kept looks.onward) ∙ (λ i. record { prelude = are.prelude_is i; slots = are.slots_are i })
 
   pub prelude_is : new.prelude ≡ setting.prelude
   prelude_is = ap (λ (s : Setting). s.prelude) setting_is
@@ -48,7 +49,7 @@ module _ (setting : Setting) (values store : List ℕ) (old new : PlainCells)
       (subst (λ xs. Within (ranges_in xs old.ranges.items) (ranges_in new.store.items new.ranges.items)) are.store_is looks.onward.ranges)
 
   -- with the values, the state that the run began with is the one that they show
-  after_is : after (sight_of new) (first_state new) ≡ now_state new
+  after_is : after (cells_sight new) (first_state new) ≡ now_state new
   after_is =
       over_all new.values.items (undone new.values.items new.log.items) (ranges_in new.store.items new.ranges.items)
       (length-undone new.values.items new.log.items)
@@ -64,25 +65,25 @@ module _ (setting : Setting) (values store : List ℕ) (old new : PlainCells)
           refl,
         )).0
 
-    views : Views (sight_of new) (first_state new) lib
+    views : Views (cells_sight new) (first_state new) lib
     views =
         let stored = new.stored in
         let roomy = new.roomy in
         let short : length new.store.items ≤ most_words = omega (arith, stored, roomy) in
         record {
-          matches = plain_matches (setting_of new) new.room new.values.items new.log.items new.store.items new.ranges.items short;
+          matches = plain_matches (cells_setting new) new.room new.values.items new.log.items new.store.items new.ranges.items short;
           shows = subst (λ (st : State). Shows new.slots st lib) (sym after_is)
               (subst (λ (s : Setting). Shows s.slots (now_state new) lib) (sym setting_is) now_shows);
           verifies = subst (λ (s : Setting). Verifies s lib) (sym setting_is) verifies;
         }
 
-    looked_same : (found : List Ranked) → AreEntries (sight_of new) found → IsPermutation lib found
+    looked_same : (found : List Ranked) → AreEntries (cells_sight new) found → IsPermutation lib found
     looked_same found entries = entries (first_state new) lib views
 
-    pub looked_verifies : (found : List Ranked) → AreEntries (sight_of new) found → Verifies setting found
+    pub looked_verifies : (found : List Ranked) → AreEntries (cells_sight new) found → Verifies setting found
     looked_verifies found entries = verifies_permutation setting lib found verifies (looked_same found entries)
 
-    pub looked_in_order : (found sorted : List Ranked) → AreEntries (sight_of new) found → ShowsInOrder found sorted
+    pub looked_in_order : (found sorted : List Ranked) → AreEntries (cells_sight new) found → ShowsInOrder found sorted
         → ShowsInOrder lib sorted
     looked_in_order found sorted entries by =
         record { same = IsPermutation-trans lib found sorted (looked_same found entries) by.same; ordered = by.ordered }

@@ -8,7 +8,7 @@ use Rattle.tlwords.specs.declared.closing.ClosedCell.{ClosedCell}
 use Rattle.tlwords.specs.declared.closing.ClosedWords.{ClosedWords}
 use Rattle.tlwords.specs.Closing.{ClosesAll, IsHeldIn}
 use Rattle.cells.specs.Shows.{Shows}
-use Rattle.lawful.specs.Lawful.{setting_of, first_library, state_of, library_terms}
+use Rattle.lawful.specs.Lawful.{setting_given, first_library, state_of, library_terms}
 use Rattle.lawful.specs.History.{history_of, AllAgree}
 use Rattle.transaction.specs.Members.{Home, Member, entry_recorded}
 use Rattle.transaction.specs.Closings.{passes_of}
@@ -59,10 +59,10 @@ pub record IsFinished (home : Home) (members : List Member) (history : List Code
   pub grow : All (λ m. Grows (history_of m.known.seen) (map told history)) members
   pub agree : All (λ m. AllAgree home.given (map told history) m.known.mine) members
   pub recorded : AreRecordedBy members history
-  pub fit : EntriesFit (setting_of home.given).prelude (map told history)
-  pub after : IsAfterHistory (setting_of home.given) (first_library home.given) (map told history) library
+  pub fit : EntriesFit (setting_given home.given).prelude (map told history)
+  pub after : IsAfterHistory (setting_given home.given) (first_library home.given) (map told history) library
   pub shows : Shows home.given.slots (state_of (map (λ x. x.value) words.cells.items) its.closes.seen.ranges)
-      (after_all (setting_of home.given) (first_library home.given) (map told history))
+      (after_all (setting_given home.given) (first_library home.given) (map told history))
 
 -- the least number that is missing; then the least cell whose lock is held, by a session that isn't handed in
 abbrev pub Finishes : Home → List Member → Result (List CodeEntry × Listed) FinishError → Type 0

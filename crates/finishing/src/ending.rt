@@ -1,7 +1,7 @@
 //! Finishes libraries.
 
 ghost use Rattle.std.specs.Prelude.{◌≡◌, All, List, map, IfOk};
-ghost use Rattle.transaction.specs.Members.{Home, Member, IsOf};
+ghost use Rattle.transaction.specs.Members.{Home, Member, IsSessionOf};
 ghost use Rattle.transaction.specs.Closings.{IsClosed};
 ghost use Rattle.finishing.specs.Finishes.{Finishes};
 ghost use Rattle.finishing.specs.Shown.{ShowsAtEnd, IsShownBy};
@@ -33,7 +33,7 @@ pub fn finish(
     library: Library,
     sessions: Vec<Session>,
 ) -> Result<(History, PlainLibrary), FinishError>
-    requires { All (IsOf library) sessions.items }
+    requires { All (IsSessionOf library) sessions.items }
     ensures { Finishes library sessions.items result }
 {
     let closed = library.close(alloc, sessions)?;

@@ -23,7 +23,7 @@ use Rattle.library.specs.declared.reason.Reason.{Reason}
 use Rattle.library.specs.declared.reason.Reason.TheVariants.{CitesUnknown, CitedNotLower, ProofFails}
 use Rattle.library.specs.Library.{Setting, label_of, lower, citable}
 use Rattle.library.specs.Edits.{Tests, Edited, found, is_of_unknown, is_not_below, cites_not_below, fault_of}
-use Rattle.library.specs.Edits.{cited_not_lower, proof_fails, tested}
+use Rattle.library.specs.Edits.{cited_not_lower, proof_fails, proof_tests, tested}
 use Rattle.library.proofs.Frames.{frame_given}
 use Rattle.library.proofs.Lower.{lower_has, lower_distinct}
 use Rattle.library.proofs.Places.{found_in}
@@ -35,11 +35,11 @@ use Rattle.cells.specs.Shows.{IsNamed, IsStoredAs, AreStoredAs, Shows}
 use Rattle.cells.specs.Sight.{Sight, Views, Looks, after}
 use Rattle.cells.specs.Lookups.{ForEach, AreWithin, Resolves}
 use Rattle.ranges.proofs.Members.{any_has, has_from_contains}
-use Rattle.cells.proofs.Sights.{for_each_later, looks_trans}
+use Rattle.cells.proofs.Sights.{for_each_later, looks_trans, setting_kept}
 use Rattle.cells.proofs.Settings.{same_slots}
 use Rattle.cells.proofs.Holders.{found_at}
 use Rattle.cells.proofs.Holding.{named_has}
-use Rattle.groundwork.specs.Citing.{TellsNotBelow, AreFrames, TellsFrames, TellsFault, Passes, Fails, proof_tests}
+use Rattle.groundwork.specs.Citing.{TellsNotBelow, AreFrames, TellsFrames, TellsFault, Passes, Fails}
 use Rattle.groundwork.proofs.CitedRanks.{stored_later}
 use Rattle.groundwork.proofs.Refusing.{first_refuses, first_passes}
 
@@ -115,7 +115,7 @@ fails_unknown s rank a unknown = λ st lib v more edited.
 pub past_unknown : {O : Type 0} → (s : Sight O) (rank : ℕ) (a : Assertion) (kept : List StoredStep) (st : State) (lib : List Ranked)
     → Views s st lib
     → AreStoredAs s.setting.slots (after s st) a.proof kept → (more : Tests) (edited : Edited)
-    → tested (proof_tests s lib rank a more) edited
+    → tested (proof_tests s.setting lib rank a ++ more) edited
     ≡ tested (cited_not_lower lib rank a.proof ∷ proof_fails s.setting lib rank a ∷ more) edited
 past_unknown s rank a kept st lib v are more edited =
     first_passes (list_any (is_of_unknown lib) a.proof) CitesUnknown
@@ -151,7 +151,7 @@ pub record IsSifted {O : Type 0} (s : Sight O) (t : Tables) (rank : ℕ) (a : As
 pub sifted_tests : {O : Type 0} → (s : Sight O) (t : Tables) (rank : ℕ) (a : Assertion) (kept : List StoredStep) (frames : Citable)
     (fault : Option ProofFault) → IsSifted s t rank a kept frames → TellsFault frames t a fault → (st : State) (lib : List Ranked)
     → Views s st lib → (more : Tests) (edited : Edited)
-    → tested (proof_tests s lib rank a more) edited ≡ tested (option_map ProofFails fault ∷ more) edited
+    → tested (proof_tests s.setting lib rank a ++ more) edited ≡ tested (option_map ProofFails fault ∷ more) edited
 sifted_tests s t rank a kept frames fault sifted tells st lib v more edited =
     let are = sifted.stored st lib v in
     let apart = v.verifies.library.distinct in
@@ -198,7 +198,7 @@ sifted s0 s1 s2 s3 t rank a kept first second frames prelude looks1 looks2 looks
     let later = looks_trans s1 s2 s3 looks2 looks3 in
     let all = looks_trans s0 s1 s3 looks1 later in
     record {
-      same_prelude = prelude ∙ ap (λ (x : Setting). x.prelude) (sym all.onward.setting);
+      same_prelude = prelude ∙ ap (λ (x : Setting). x.prelude) (sym (setting_kept all.onward));
       stored = stored_on s1 s3 a.proof kept later resolved.2;
       below = stored_later s2 s3 kept (λ lib xs. false ≡ list_any (cites_not_below lib rank) xs) looks3
           (subst (λ (ks : List StoredStep). TellsNotBelow s2 rank ks false) is_first below);

@@ -17,6 +17,7 @@ use Rattle.groundwork.specs.Citing.{TellsRefusal, Fails}
 use Rattle.groundwork.specs.Known.{TellsUnknown}
 use Rattle.cells.specs.declared.ending.CommandError.{CommandError}
 use Rattle.cells.specs.declared.ending.CommandError.TheVariants as command
+use Rattle.cells.proofs.Sights.{setting_kept}
 use Rattle.groundwork.proofs.Seeing.{views_later}
 
 -- ---- tests
@@ -52,7 +53,7 @@ pub refused_later : {O : Type 0} → (s t : Sight O) (c : Command) (r : Reason) 
     → ForEach t (λ st lib. edit t.setting lib c ≡ Err r)
     → IsRefused s t c r
 refused_later s t c r looks each =
-    refused s t c r looks (λ st lib v. subst (λ (x : Setting). edit x lib c ≡ Err r) looks.onward.setting (each st lib v))
+    refused s t c r looks (λ st lib v. subst (λ (x : Setting). edit x lib c ≡ Err r) (setting_kept looks.onward) (each st lib v))
 
 -- so the answer is this reason
 pub answers_refused : {O : Type 0} → (s t : Sight O) (c : Command) (r : Reason) (error : CommandError) → error ≡ command.Refused r

@@ -14,7 +14,7 @@ use Rattle.cells.specs.Aside.{IsCitersOf}
 use Rattle.cells.specs.Counts.{AreCitedSlots, AreOnlyIn}
 use Rattle.cells.specs.Lookups.{ForEachHeld, IsFoundAt}
 use Rattle.cells.proofs.Asking.{asks_wider}
-use Rattle.cells.proofs.Sights.{matches_back, after_looks}
+use Rattle.cells.proofs.Sights.{matches_back, after_looks, setting_kept}
 use Rattle.groundwork.specs.Touches.{IsOfReproof}
 use Rattle.groundwork.specs.Footprints.{ReprovesReading}
 use Rattle.groundwork.proofs.Since.{ReadsSince}
@@ -30,7 +30,7 @@ pub stored_before : {O : Type 0} → (s t : Sight O) (i : ℕ) (label : List ℕ
 stored_before s t i label former looks read st lib m v at =
     let now = found_later s t st lib label i looks at in
     subst (λ (x : State). AreStoredAs s.setting.slots x at.entry.assertion.proof former) (after_looks s t st looks)
-    (subst (λ (x : Setting). AreStoredAs x.slots (after t st) at.entry.assertion.proof former) looks.onward.setting
+    (subst (λ (x : Setting). AreStoredAs x.slots (after t st) at.entry.assertion.proof former) (setting_kept looks.onward)
     (read st lib (views_later s t st lib looks m v) now.entry (found_in lib label now.entry now.found).0 now.holds))
 
 -- what may be read where the label was found in the slot, and the steps are stored so

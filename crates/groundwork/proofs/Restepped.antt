@@ -15,7 +15,7 @@ use Rattle.cells.specs.Shows.{AreStoredAs, Shows}
 use Rattle.cells.specs.Sight.{Sight, Matches, Onward, Looks, after}
 use Rattle.cells.specs.Lookups.{ForEachHeld}
 use Rattle.cells.specs.Counts.{AreCitedSlots, AreOnlyIn, CountsIn, CountsOut}
-use Rattle.cells.proofs.Sights.{matches_back, after_looks}
+use Rattle.cells.proofs.Sights.{matches_back, after_looks, setting_kept}
 use Rattle.cells.proofs.Holding.{stored_named, named_held}
 use Rattle.cells.proofs.Counted.{listed_within}
 use Rattle.cells.proofs.Reproving.{less_few, reproved_shows}
@@ -58,7 +58,7 @@ restepped s0 s1 s2 s3 s4 i label former kept before now dropped gained words loo
     let slots_are : s2.setting.slots ≡ s1.setting.slots = ap (λ (x : Setting). x.slots) on2.setting in
     let stored = read st lib v at.entry (found_in lib label at.entry at.found).0 at.holds in
     let stored_now = subst (λ (x : State). AreStoredAs slots x steps kept) (sym (after_looks s0 s1 st looks))
-    (subst (λ (x : Setting). AreStoredAs x.slots (after s0 st) steps kept) (sym looks.onward.setting) stored_as) in
+    (subst (λ (x : Setting). AreStoredAs x.slots (after s0 st) steps kept) (sym (setting_kept looks.onward)) stored_as) in
     let within = all_from_has (λ j. j < s2.setting.slots) dropped (λ j h.
     subst (λ (n : ℕ). j < n) (sym slots_are)
     (listed_within slots (after s1 st) lib v.shows store at.entry.assertion.proof former before stored cited_before j

@@ -11,7 +11,7 @@ use Rattle.cells.specs.Sight.{Sight, Matches, Views, Looks, after}
 use Rattle.cells.specs.Lookups.{IsFoundAt, Finds, ForEachHeld}
 use Rattle.library.proofs.Places.{find_nowhere, found_in}
 use Rattle.cells.proofs.Bodies.{one_body}
-use Rattle.cells.proofs.Sights.{after_looks}
+use Rattle.cells.proofs.Sights.{after_looks, setting_kept}
 
 -- a library that was seen is seen still while nothing is written
 pub views_later : {O : Type 0} → (s t : Sight O) (st : State) (lib : List Ranked) → Looks s t → Matches t st → Views s st lib
@@ -20,8 +20,8 @@ views_later s t st lib looks m v =
     record {
       matches = m;
       shows = subst (λ (x : State). Shows t.setting.slots x lib) (sym (after_looks s t st looks))
-          (subst (λ (x : Setting). Shows x.slots (after s st) lib) (sym looks.onward.setting) v.shows);
-      verifies = subst (λ (x : Setting). Verifies x lib) (sym looks.onward.setting) v.verifies;
+          (subst (λ (x : Setting). Shows x.slots (after s st) lib) (sym (setting_kept looks.onward)) v.shows);
+      verifies = subst (λ (x : Setting). Verifies x lib) (sym (setting_kept looks.onward)) v.verifies;
     }
 
 -- a label that is found is an assertion's
@@ -40,7 +40,7 @@ found_later s t st lib label i looks at =
       entry = at.entry;
       found = at.found;
       holds = subst (λ (x : State). Holds t.setting.slots x lib i at.entry) (sym (after_looks s t st looks))
-          (subst (λ (x : Setting). Holds x.slots (after s st) lib i at.entry) (sym looks.onward.setting) at.holds);
+          (subst (λ (x : Setting). Holds x.slots (after s st) lib i at.entry) (sym (setting_kept looks.onward)) at.holds);
     }
 
 -- a slot where a label was found holds no assertion with another

@@ -13,7 +13,7 @@ use Rattle.cells.specs.Footprints.{ReadsWhere, StandsBehind, IsMember, IsOfLook,
 use Rattle.cells.specs.Lookups.{ForEachHeld, Finds, IsFoundAt}
 use Rattle.cells.specs.Answers.{ForEachBefore}
 use Rattle.cells.proofs.Asking.{asks_trans, asks_wider}
-use Rattle.cells.proofs.Sights.{matches_back, looks_refl, looks_trans, after_looks}
+use Rattle.cells.proofs.Sights.{matches_back, looks_refl, looks_trans, after_looks, setting_kept}
 use Rattle.groundwork.specs.Footprints.{IsReadBy, ReadsFor, ReadsForFound}
 use Rattle.cells.proofs.Resolving.{finds_after}
 use Rattle.groundwork.proofs.Seeing.{views_later}
@@ -34,7 +34,7 @@ module _ {O : Type 0} (such : State → List Ranked → ℕ → Type 0) (old s t
       → ReadsWhere (some s.setting.slots) s t → ReadsSince such old s t
   since_where some wider reads st lib m v =
       asks_wider
-      (λ c is. wider (after old st) lib c (subst (λ (x : Setting). some x.slots (after old st) c) looks.onward.setting
+      (λ c is. wider (after old st) lib c (subst (λ (x : Setting). some x.slots (after old st) c) (setting_kept looks.onward)
       (subst (λ (x : State). some s.setting.slots x c) (after_looks old s st looks) is)))
       (reads.each st m)
 
@@ -44,7 +44,7 @@ module _ {O : Type 0} (such : State → List Ranked → ℕ → Type 0) (old s t
       → ForEachBefore s t (λ st lib. ReadsWithin (some s.setting.slots (after s st) lib) s t) → ReadsSince such old s t
   since_before some wider on reads st lib m v =
       asks_wider
-      (λ c is. wider (after old st) lib c (subst (λ (x : Setting). some x.slots (after old st) lib c) looks.onward.setting
+      (λ c is. wider (after old st) lib c (subst (λ (x : Setting). some x.slots (after old st) lib c) (setting_kept looks.onward)
       (subst (λ (x : State). some s.setting.slots x lib c) (after_looks old s st looks) is)))
       (reads st lib m (views_later old s st lib looks (matches_back s t st on m) v))
 
@@ -54,7 +54,7 @@ module _ {O : Type 0} (such : State → List Ranked → ℕ → Type 0) (old s t
         → IsFoundAt old.setting.slots (after old st) lib label i
     found_before on st lib m v =
         subst (λ (x : State). IsFoundAt old.setting.slots x lib label i) (after_looks old s st looks)
-        (subst (λ (x : Setting). IsFoundAt x.slots (after s st) lib label i) looks.onward.setting
+        (subst (λ (x : Setting). IsFoundAt x.slots (after s st) lib label i) (setting_kept looks.onward)
         (finds.1 st lib (views_later old s st lib looks (matches_back s t st on m) v)))
 
     -- one that reads cells of the assertion that was found
@@ -78,10 +78,11 @@ module _ {O : Type 0} (such : State → List Ranked → ℕ → Type 0) (old s t
           entry = e;
           found = there.found;
           holds = subst (λ (x : State). Holds old.setting.slots x lib i there.entry) (after_looks old t st all)
-              (subst (λ (x : Setting). Holds x.slots (after t st) lib i there.entry) all.onward.setting there.holds);
+              (subst (λ (x : Setting). Holds x.slots (after t st) lib i there.entry) (setting_kept all.onward) there.holds);
         } in
         asks_wider
-        (λ c is. wider (after old st) lib at c (subst (λ (x : Setting). some x.slots (after old st) lib there.entry c) looks.onward.setting
+        (λ c is. wider (after old st) lib at c
+        (subst (λ (x : Setting). some x.slots (after old st) lib there.entry c) (setting_kept looks.onward)
         (subst (λ (x : State). some s.setting.slots x lib there.entry c) (after_looks old t st all) is)))
         (reads st lib now e (found_in lib label e there.found).0 there.holds)
 

@@ -14,7 +14,7 @@ use Rattle.cells.specs.Slots.{rank_cell}
 use Rattle.cells.specs.Counts.{AreCitedSlots}
 use Rattle.cells.proofs.Asking.{asks_wider, asks_cell}
 use Rattle.cells.proofs.AskingSteps.{cited_slot}
-use Rattle.cells.proofs.Sights.{matches_back, after_looks}
+use Rattle.cells.proofs.Sights.{matches_back, after_looks, setting_kept}
 use Rattle.groundwork.specs.Footprints.{IsOfCited, IsOfProofTest, IsRankOfSteps}
 use Rattle.groundwork.proofs.CitedRanks.{is_cited}
 use Rattle.groundwork.proofs.Seeing.{views_later}
@@ -34,7 +34,7 @@ since_cited such s0 s1 s t steps kept cell first later on stored wider reads st 
     let m1 = matches_back s1 s st later.onward (matches_back s t st on m) in
     let are : AreStoredAs s0.setting.slots (after s0 st) steps kept =
     subst (λ (x : State). AreStoredAs s0.setting.slots x steps kept) (after_looks s0 s1 st first)
-    (subst (λ (x : Setting). AreStoredAs x.slots (after s1 st) steps kept) first.onward.setting
+    (subst (λ (x : Setting). AreStoredAs x.slots (after s1 st) steps kept) (setting_kept first.onward)
     (stored st lib (views_later s0 s1 st lib first m1 v))) in
     asks_wider
     (λ c k. let n = cited_slot s0.setting.slots steps kept (after s0 st) k.0 are k.1 in wider (after s0 st) lib c (

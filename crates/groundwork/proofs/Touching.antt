@@ -19,7 +19,7 @@ use Rattle.cells.specs.Sight.{Sight, Onward, Looks, after}
 use Rattle.cells.specs.Aside.{KeepsAside, IsCitersOf, IsCitersOfCited}
 use Rattle.cells.specs.Counts.{AreCitedSlots, AreOnlyIn}
 use Rattle.cells.specs.Lookups.{ForEachHeld}
-use Rattle.cells.proofs.Sights.{matches_back, after_looks}
+use Rattle.cells.proofs.Sights.{matches_back, after_looks, setting_kept}
 use Rattle.cells.proofs.Keeping.{keeps_same, keeps_trans, keeps_wider}
 use Rattle.cells.proofs.Holding.{stored_named, named_held, stored_cites, cites_stored}
 use Rattle.cells.proofs.Found.{held_holds}
@@ -34,7 +34,7 @@ keeps_to_since s t u c looks on keeps st lib m v cell was =
     let later = keeps st lib m (views_later s t st lib looks (matches_back t u st on m) v) cell was in
     ⊎_elim (λ before. keeps_same (Touches s.setting.slots (after s st) lib c) s t looks.writes cell before)
     (λ is. inr (subst (λ (x : State). Touches s.setting.slots x lib c cell) (after_looks s t st looks)
-    (subst (λ (x : Setting). Touches x.slots (after t st) lib c cell) looks.onward.setting is))) later
+    (subst (λ (x : Setting). Touches x.slots (after t st) lib c cell) (setting_kept looks.onward) is))) later
 
 -- ---- what steps cite, by its slots
 
@@ -125,7 +125,7 @@ resteps_within s0 s1 s2 s3 s4 i label former kept before now dropped gained look
         let m1 = matches_back s1 s2 st on2 (matches_back s2 s3 st on3 (matches_back s3 s4 st on4 m)) in
         let at = found_later s0 s1 st lib label i looks here in
         subst (λ (x : State). AreStoredAs s0.setting.slots x here.entry.assertion.proof former) (after_looks s0 s1 st looks)
-        (subst (λ (x : Setting). AreStoredAs x.slots (after s1 st) here.entry.assertion.proof former) looks.onward.setting
+        (subst (λ (x : Setting). AreStoredAs x.slots (after s1 st) here.entry.assertion.proof former) (setting_kept looks.onward)
         (read st lib (views_later s0 s1 st lib looks m1 seen) at.entry (found_in lib label at.entry at.found).0 at.holds))
 
     was_cited : (c : ℕ) → IsCitersOf dropped c

@@ -1,5 +1,5 @@
 -- Of the code's inside, apart from the rules: what the tests of a proof tell, for every state that may be under the run.
-use Rattle.std.specs.Prelude.{◌≡◌, ◌≢◌, ℕ, List, [], ◌∷◌, Option, Some, None, Bool, Err, Vec}
+use Rattle.std.specs.Prelude.{◌≡◌, ◌≢◌, ℕ, List, [], ◌∷◌, ◌++◌, Option, Some, None, Bool, Err, Vec}
 use Rattle.std.specs.Option.{option_map}
 use Rattle.std.specs.List.{list_any}
 use Rattle.std.specs.Ordering.{nat_cmp}
@@ -18,7 +18,7 @@ use Rattle.derivation.specs.Outcomes.{outcome}
 use Rattle.library.specs.declared.library.Ranked.{Ranked}
 use Rattle.library.specs.declared.reason.Reason.{Reason}
 use Rattle.library.specs.declared.reason.Reason.TheVariants.{ProofFails}
-use Rattle.library.specs.Edits.{Tests, Edited, found, cites_not_below, fault_of, cites_unknown, cited_not_lower, proof_fails, tested}
+use Rattle.library.specs.Edits.{Tests, Edited, found, cites_not_below, fault_of, proof_tests, tested}
 use Rattle.ranges.specs.Ranges.{Has}
 use Rattle.bodystore.specs.declared.stored.StoredStep.{StoredStep}
 use Rattle.cells.specs.Shows.{AreStoredAs}
@@ -56,20 +56,18 @@ pub record TellsFault (frames : Citable) (prelude : Tables) (a : Assertion) (fau
   pub outcome : option_map ProofFails fault ≡ fault_of (outcome frames prelude a)
   pub some : fault ≡ None → a.proof ≢ []
 
--- the tests of a theorem's proof, with more behind them
-abbrev pub proof_tests : {O : Type 0} → Sight O → List Ranked → ℕ → Assertion → Tests → Tests
-proof_tests s lib rank a more = cites_unknown lib a.proof ∷ cited_not_lower lib rank a.proof ∷ proof_fails s.setting lib rank a ∷ more
-
 -- the proof of a theorem passes its tests, and its steps are stored as these, of which there is one
 pub record Passes {O : Type 0} (s : Sight O) (rank : ℕ) (a : Assertion) (kept : List StoredStep) : Type 0 where
   pub some : kept ≢ []
   pub within : AreWithin s.setting.slots kept
   pub stored : ForEach s (λ st lib. AreStoredAs s.setting.slots st a.proof kept)
-  pub passes : ForEach s (λ st lib. (more : Tests) (edited : Edited) → tested (proof_tests s lib rank a more) edited ≡ tested more edited)
+  pub passes : ForEach s
+      (λ st lib. (more : Tests) (edited : Edited) → tested (proof_tests s.setting lib rank a ++ more) edited ≡ tested more edited)
 
 -- or one of them refuses it
 abbrev pub Fails : {O : Type 0} → Sight O → ℕ → Assertion → Reason → Type 0
-Fails s rank a reason = ForEach s (λ st lib. (more : Tests) (edited : Edited) → tested (proof_tests s lib rank a more) edited ≡ Err reason)
+Fails s rank a reason = ForEach s
+    (λ st lib. (more : Tests) (edited : Edited) → tested (proof_tests s.setting lib rank a ++ more) edited ≡ Err reason)
 
 -- why the test of a proof ends early: it was refused, or the run halts
 abbrev pub TellsRefusal : {O : Type 0} → Sight O → ℕ → Assertion → CommandError → Type 0

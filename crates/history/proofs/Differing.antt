@@ -8,13 +8,13 @@ use Rattle.library.specs.declared.command.Command.{Command}
 use Rattle.library.specs.declared.command.Reply.{Reply}
 use Rattle.library.specs.Library.{Setting}
 use Rattle.library.specs.Transactions.{Applied, apply}
-use Rattle.library.specs.Histories.{Entry, open_entry, void_entry, done_entry, after, after_all, IsRepeated, IsLegal}
+use Rattle.library.specs.Histories.{Entry, open_entry, void_entry, done_entry, after_front, after_all, IsRepeated, IsLegal}
 use Rattle.librarylaws.proofs.Legal.{get_in_front}
 use Rattle.history.specs.Replays.{IsFirstDiffering}
 
 -- the next entry, which differs, is the first that does
 pub first_differing : (s : Setting) (lib : List Ranked) (h : List Entry) (i : ℕ) (e : Entry) → slice_get h i ≡ Some e
-    → IsLegal s lib (take i h) → (IsRepeated s (after s lib h i) e → ⊥) → IsFirstDiffering s lib h (i + 1)
+    → IsLegal s lib (take i h) → (IsRepeated s (after_front s lib h i) e → ⊥) → IsFirstDiffering s lib h (i + 1)
 first_differing s lib h i (done_entry cs replies) is legal differs = record {
   place = i;
   counted = refl;

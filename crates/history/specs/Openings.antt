@@ -7,8 +7,8 @@ use Rattle.history.specs.declared.editor.OpenError.TheVariants.{TooMany, NoMemor
 use Rattle.history.specs.Editors.{Held}
 
 -- where there are as many slots as assertions, at least, on the opening library of the database
-abbrev pub Opens : Contents → ℕ → Result Held OpenError → Type 0
-Opens db slots (Ok e) = (length db.assertions ≤ slots)
+abbrev pub EditorOpens : Contents → ℕ → Result Held OpenError → Type 0
+EditorOpens db slots (Ok e) = (length db.assertions ≤ slots)
     × (e ≡ record { setting = setting_over db slots; library = opening db })
-Opens db slots (Err TooMany) = slots < length db.assertions
-Opens db slots (Err NoMemory) = Unit {0}
+EditorOpens db slots (Err TooMany) = slots < length db.assertions
+EditorOpens db slots (Err NoMemory) = Unit {0}

@@ -10,7 +10,7 @@ use Rattle.history.specs.declared.editor.OpenError.{OpenError}
 use Rattle.history.specs.declared.editor.OpenError.TheVariants as opening_error
 use Rattle.history.specs.declared.replaying.ReplayError.{ReplayError}
 use Rattle.history.specs.declared.replaying.ReplayError.TheVariants.{Differs, TooMany, NoMemory}
-use Rattle.library.specs.Histories.{Entry, done_entry, after, IsLegal, IsAfterHistory}
+use Rattle.library.specs.Histories.{Entry, done_entry, after_front, IsLegal, IsAfterHistory}
 
 -- the first entry whose replies aren't the editor's: those before it are legal, and its transaction is refused, or has other replies
 pub record IsFirstDiffering (s : Setting) (lib0 : List Ranked) (h : List Entry) (n : ℕ) : Type 0 where
@@ -20,7 +20,7 @@ pub record IsFirstDiffering (s : Setting) (lib0 : List Ranked) (h : List Entry) 
   pub commands : List Command
   pub replies : List Reply
   pub stands : slice_get h place ≡ Some (done_entry commands replies)
-  pub differs : (next : List Ranked) → apply s (after s lib0 h place) commands ≢ Ok (record { library = next; replies = replies })
+  pub differs : (next : List Ranked) → apply s (after_front s lib0 h place) commands ≢ Ok (record { library = next; replies = replies })
 
 -- the error of a replay whose editor isn't opened
 abbrev pub unopened : OpenError → ReplayError

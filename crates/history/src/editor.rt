@@ -133,7 +133,7 @@ impl Editor {
     ghost use Rattle.library.specs.Library.{Verifies, ShowsInOrder};
     ghost use Rattle.library.specs.Fitting.{CommandFits};
     ghost use Rattle.history.specs.Editors.{Answers};
-    ghost use Rattle.history.specs.Openings.{Opens};
+    ghost use Rattle.history.specs.Openings.{EditorOpens};
 
     /// Opens the opening library of a database whose proofs check over the earlier assertions. Its k-th assertion has the rank 100 k, and
     /// there is room for `slots` assertions, 1 to 4,096.
@@ -149,7 +149,7 @@ impl Editor {
     ) -> Result<Editor, OpenError>
         requires slots { (1 ≤ slots) × (slots ≤ 4096) }
         requires checks { AllCheck db.now }
-        ensures { Opens db.now slots result }
+        ensures { EditorOpens db.now slots result }
     {
         let assertions = db.assertions();
         if assertions.len() > slots {

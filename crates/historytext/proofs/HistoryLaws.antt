@@ -20,7 +20,7 @@ use Rattle.scripts.proofs.ScriptLaws.{unit_fits, each_fits, transaction_fits}
 use Rattle.library.specs.declared.history.Entry.{Entry}
 use Rattle.library.specs.declared.history.Entry.TheVariants as entry
 use Rattle.historytext.specs.Grammar.{SpellsReply, SpellsEntry, SpellsHistory}
-use Rattle.historytext.specs.Layout.{EntryFits}
+use Rattle.historytext.specs.Layout.{EntryFitsText}
 use Rattle.historytext.specs.Places.{Place, at_history, at_count, at_entry, in_entry, whole, history_language}
 use Rattle.historytext.proofs.HistoryRows.{progress}
 use Rattle.historytext.proofs.HistoryWords.{history_ordinary, history_leads}
@@ -81,7 +81,8 @@ reply_fits t sound (Shown citers e) ws words d =
     let all = subst (AllByRecursion IsWord) d.6 words in unit_fits t d.2 e.assertion sound all.1.1.1 d.5
 reply_fits t sound (Listed lines) ws words d = tt
 
-entry_fits : (t : Tables) → IsSoundPrelude t → (e : Entry) (ws : List Word) → AllByRecursion IsWord ws → SpellsEntry t e ws → EntryFits t e
+entry_fits : (t : Tables) → IsSoundPrelude t → (e : Entry) (ws : List Word) → AllByRecursion IsWord ws → SpellsEntry t e ws
+    → EntryFitsText t e
 entry_fits t sound entry.Void ws words d = tt
 entry_fits t sound (entry.Done commands replies) ws words d =
     let all = subst (AllByRecursion IsWord) d.5 words in
@@ -90,13 +91,13 @@ entry_fits t sound (entry.Done commands replies) ws words d =
     (transaction_fits t sound commands d.0 asked d.2, each_fits (SpellsReply t) (ReplyFits t) (reply_fits t sound) replies d.1 answered d.3)
 
 pub history_fits : (t : Tables) (bytes : List ℕ) (history : List Entry) → IsSoundPrelude t → SpellsHistory t bytes history
-    → All (EntryFits t) history
+    → All (EntryFitsText t) history
 history_fits t bytes history sound s =
     let words = clean_words bytes (codes "history" ∷ s.count ∷ s.inner) s.clean s.words_are in
-    each_fits (SpellsEntry t) (EntryFits t) (entry_fits t sound) history s.inner words.1.1 s.entries
+    each_fits (SpellsEntry t) (EntryFitsText t) (entry_fits t sound) history s.inner words.1.1 s.entries
 
 -- so are those that are read
 pub read_fits : (t : Tables) (bytes : List ℕ) (r : Result (List Entry) TextFault) → IsSoundPrelude t
-    → IsRead (history_language t) (SpellsHistory t) bytes r → IfOk r (All (EntryFits t))
+    → IsRead (history_language t) (SpellsHistory t) bytes r → IfOk r (All (EntryFitsText t))
 read_fits t bytes (Ok history) sound h = history_fits t bytes history sound h.found
 read_fits t bytes (Err f) sound h = tt

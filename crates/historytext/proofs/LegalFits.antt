@@ -11,16 +11,16 @@ use Rattle.library.specs.declared.history.Entry.TheVariants.{Void, Done}
 use Rattle.library.specs.Library.{Setting, Verifies}
 use Rattle.library.specs.Histories.{told, EntryFits as CommandsFit, EntriesFit, IsLegal}
 use Rattle.librarylaws.proofs.Agreeing.{legal_replies_fit}
-use Rattle.historytext.specs.Layout.{EntryFits}
+use Rattle.historytext.specs.Layout.{EntryFitsText}
 use Rattle.historytext.specs.Laws.{LegalHistoriesFit}
 
 -- the commands of an entry that can be written are within the limits
-told_fits : (t : Tables) (e : CodeEntry) → EntryFits t e → CommandsFit t (told e)
+told_fits : (t : Tables) (e : CodeEntry) → EntryFitsText t e → CommandsFit t (told e)
 told_fits t Void h = tt
 told_fits t (Done commands replies) h = h.0
 
-pub entries_fit : (t : Tables) (es : List CodeEntry) → All (EntryFits t) es → EntriesFit t (map told es)
-entries_fit t es h = All-map (CommandsFit t) told es (All-weaker (EntryFits t) (λ e. CommandsFit t (told e)) (told_fits t) es h)
+pub entries_fit : (t : Tables) (es : List CodeEntry) → All (EntryFitsText t) es → EntriesFit t (map told es)
+entries_fit t es h = All-map (CommandsFit t) told es (All-weaker (EntryFitsText t) (λ e. CommandsFit t (told e)) (told_fits t) es h)
 
 -- an entry at its place, as the definitions see it
 pub told_there : (h : List CodeEntry) (i : ℕ) (d : CodeEntry) → i < length h
@@ -33,7 +33,8 @@ told_there h i d lt =
 
 module _ (s : Setting) (lib0 : List Ranked) (h : List CodeEntry) (v : Verifies s lib0) (fit : EntriesFit s.prelude (map told h))
     (legal : IsLegal s lib0 (map told h)) where
-  entry_fits : (i : ℕ) (e : CodeEntry) → slice_get (map told h) i ≡ Some (told e) → CommandsFit s.prelude (told e) → EntryFits s.prelude e
+  entry_fits : (i : ℕ) (e : CodeEntry) → slice_get (map told h) i ≡ Some (told e) → CommandsFit s.prelude (told e)
+      → EntryFitsText s.prelude e
   entry_fits i Void at commands = tt
   entry_fits i (Done cs replies) at commands = (commands, legal_replies_fit s lib0 (map told h) i cs replies v fit legal at)
 

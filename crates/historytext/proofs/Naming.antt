@@ -31,10 +31,10 @@ use Rattle.library.specs.declared.reason.Reason.TheVariants.{NotATheorem, Unknow
 use Rattle.library.specs.declared.reason.Refused.{Refused as Refusal}
 use Rattle.library.specs.Library.{highest_rank, Setting, Verifies, label_of, in_export_order}
 use Rattle.library.specs.Edits.{Edited, Tests, tested, of_found, done, has, found, cites, citers, is_axiom, is_labelled, added, changed, with_rank, recited, where_so}
-use Rattle.library.specs.Edits.{with_proof, rename, without, still_cited, add_tests, reprove_tests, replace_tests, rename_tests, move_tests, shown, line, edit}
+use Rattle.library.specs.Edits.{with_proof, rename, without, still_cited, add_tests, reprove_tests, replace_tests, rename_tests, move_tests, shown, listing_line, edit}
 use Rattle.library.specs.Fitting.{CommandFits}
 use Rattle.library.specs.Transactions.{Applied, with_reply, then_apply, apply_from, apply}
-use Rattle.library.specs.Histories.{Entry, open_entry, done_entry, EntryFits, EntriesFit, after, IsLegal}
+use Rattle.library.specs.Histories.{Entry, open_entry, done_entry, EntryFits, EntriesFit, after_front, IsLegal}
 use Rattle.librarylaws.proofs.Editing.{tests_passed, where_none, lawful_where, edit_verifies}
 use Rattle.library.proofs.Filtered.{contains_mapped}
 use Rattle.librarylaws.proofs.Fronts.{fronts_verify}
@@ -99,17 +99,17 @@ module _ (s : Setting) (lib : List Ranked) (v : Verifies s lib) where
       let own = found_in lib label e here in
       subst (IsLawful s.prelude) (sym own.1) (sound_in s lib v e own.0).lawful
 
-  line_sound : (e : Ranked) → IsSound s.prelude e → IsSoundLine s.prelude (line lib e)
+  line_sound : (e : Ranked) → IsSound s.prelude e → IsSoundLine s.prelude (listing_line lib e)
   line_sound e h = (h.small, h.lawful, few_citers (label_of e))
 
-  lines_sound : IsSoundReply s.prelude (Listed (map (line lib) (in_export_order lib)))
+  lines_sound : IsSoundReply s.prelude (Listed (map (listing_line lib) (in_export_order lib)))
   lines_sound =
       let shown = in_export_order lib in
       let same = (library_shown lib).same in
       let all : All (IsSound s.prelude) lib = λ i d lt. sound_in s lib v (get_or lib i d) (Contains-get_or lib i d lt) in (
-        omega (arith, length-map shown (line lib), length_permutation lib shown same, v.library.room, v.setting.few),
-        All-map (IsSoundLine s.prelude) (line lib) shown
-            (All-weaker (IsSound s.prelude) (λ e. IsSoundLine s.prelude (line lib e)) line_sound shown
+        omega (arith, length-map shown (listing_line lib), length_permutation lib shown same, v.library.room, v.setting.few),
+        All-map (IsSoundLine s.prelude) (listing_line lib) shown
+            (All-weaker (IsSound s.prelude) (λ e. IsSoundLine s.prelude (listing_line lib e)) line_sound shown
             (All-permutation (IsSound s.prelude) lib shown same all)),
       )
 
@@ -202,8 +202,8 @@ module _ (s : Setting) (lib : List Ranked) (v : Verifies s lib) (e : Edited) whe
       let passed = (tests_passed ts (done (rename old new lib)) e h).0 in
       let known = not-false (has lib old) (where_none (not (has lib old)) UnknownLabel passed.0) in
       let before = named s.prelude old (labelled_lawful s lib v old known) in
-      let after = named s.prelude new (lawful_where s new passed.1.0) in
-      ((((λ i. absurd cc), refl), (before, (after, tt))), done_reply ts (rename old new lib) h)
+      let after_front = named s.prelude new (lawful_where s new passed.1.0) in
+      ((((λ i. absurd cc), refl), (before, (after_front, tt))), done_reply ts (rename old new lib) h)
 
   move_sound : (label : List ℕ) (rank : ℕ) → rank ≤ highest_rank → edit s lib (command.Move label rank) ≡ Ok e
       → IsSoundTurn s.prelude (command.Move label rank) e.reply
@@ -240,7 +240,7 @@ module _ (s : Setting) (lib : List Ranked) (v : Verifies s lib) (e : Edited) whe
   edit_sound (command.Delete label) fits h = delete_sound label h
   edit_sound (command.Show label) fits h = show_sound label h
   edit_sound command.List fits h =
-      let all : Edited = record { library = lib; reply = Listed (map (line lib) (in_export_order lib)) } in
+      let all : Edited = record { library = lib; reply = Listed (map (listing_line lib) (in_export_order lib)) } in
       let same : all ≡ e = (let ok : Ok all ≡ Ok e = h in cc) in
       ((((λ i. absurd cc), refl), tt), subst (λ (x : Edited). IsSoundReply s.prelude x.reply) same (lines_sound s lib v))
 
@@ -285,5 +285,5 @@ legal_sound s lib0 h i cs replies v fit legal at =
     let is = get_or_from_slice_get h i (done_entry cs replies) open_entry at in
     let commands : All (CommandFits s.prelude) cs = subst (EntryFits s.prelude) is (fit i open_entry within) in
     let answer = legal i cs replies at in
-    apply_sound s (after s lib0 h i) cs (record { library = answer.0; replies = replies })
+    apply_sound s (after_front s lib0 h i) cs (record { library = answer.0; replies = replies })
     (fronts_verify s lib0 h i v fit) commands answer.1

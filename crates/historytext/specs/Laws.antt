@@ -9,7 +9,7 @@ use Rattle.library.specs.declared.library.Ranked.{Ranked}
 use Rattle.library.specs.Library.{Setting, Verifies}
 use Rattle.library.specs.Histories.{told, EntriesFit, IsLegal}
 use Rattle.historytext.specs.Places.{history_language}
-use Rattle.historytext.specs.Layout.{history_text, EntryFits}
+use Rattle.historytext.specs.Layout.{history_text, EntryFitsText}
 
 -- a history that some text spells, over a prelude that some text declares, is spelled by its canonical text
 abbrev pub TextsSpell : Type 0
@@ -20,7 +20,7 @@ TextsSpell = (t : Tables) (bytes : List ℕ) (history : List Entry) → IsSoundP
 abbrev pub LegalHistoriesFit : Type 0
 LegalHistoriesFit =
     (s : Setting) (lib0 : List Ranked) (history : List Entry) → Verifies s lib0 → EntriesFit s.prelude (map told history)
-    → IsLegal s lib0 (map told history) → All (EntryFits s.prelude) history
+    → IsLegal s lib0 (map told history) → All (EntryFitsText s.prelude) history
 
 -- and it is spelled by its canonical text, where it has at most 18,446,744,073,709,551,615 entries
 abbrev pub LegalHistoriesAreSpelled : Type 0

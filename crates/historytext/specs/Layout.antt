@@ -67,6 +67,6 @@ history_text t history = line (codes "history" ∷ decimal (length history) ∷ 
 -- ---- what can be written
 
 -- commands and replies within the limits of the prelude
-abbrev pub EntryFits : Tables → Entry → Type 0
-EntryFits t entry.Void = Unit {0}
-EntryFits t (entry.Done commands replies) = All (CommandFits t) commands × All (ReplyFits t) replies
+abbrev pub EntryFitsText : Tables → Entry → Type 0
+EntryFitsText t entry.Void = Unit {0}
+EntryFitsText t (entry.Done commands replies) = All (CommandFits t) commands × All (ReplyFits t) replies

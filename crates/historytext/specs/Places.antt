@@ -129,13 +129,13 @@ abbrev pub at : List Entry → Place → Result Progress TextFault
 at entries place = Ok (record { entries = entries; place = place })
 
 -- one more entry is whole
-abbrev pub ended : List Entry → ℕ → Entry → Result Progress TextFault
-ended entries left e = at (entries ++ e ∷ []) (at_entry left)
+abbrev pub entry_ended : List Entry → ℕ → Entry → Result Progress TextFault
+entry_ended entries left e = at (entries ++ e ∷ []) (at_entry left)
 
 -- an entry has one reply for each command
 abbrev pub replies_left : List Entry → ℕ → List Command → List Reply → Result Progress TextFault
 replies_left entries left commands replies =
-    if length replies == length commands then ended entries left (entry.Done commands replies)
+    if length replies == length commands then entry_ended entries left (entry.Done commands replies)
     else at entries (in_entry left (at_reply commands replies))
 
 -- where a token leads in a command behind whole ones
@@ -189,7 +189,7 @@ count_row entries t =
 abbrev pub entry_row : List Entry → ℕ → Token → Result Progress TextFault
 entry_row entries zero t = fault t BadToken
 entry_row entries (suc left) t =
-    if bytes_eq t.text (codes "void") then ended entries left entry.Void else (
+    if bytes_eq t.text (codes "void") then entry_ended entries left entry.Void else (
     if bytes_eq t.text (codes "done") then at entries (in_entry left at_begin) else fault t BadToken)
 
 -- the row of each place

@@ -5,7 +5,7 @@ ghost use Rattle.mmtext.specs.Views.{seen, Gives};
 ghost use Rattle.mmtext.specs.Laws.{IsRead};
 ghost use Rattle.mmsyntax.specs.Tables.{Tables};
 ghost use Rattle.historytext.specs.Grammar.{SpellsHistory};
-ghost use Rattle.historytext.specs.Layout.{EntryFits};
+ghost use Rattle.historytext.specs.Layout.{EntryFitsText};
 ghost use Rattle.historytext.specs.Places.{entry_row, in_place, whole, history_language};
 ghost use Rattle.historytext.specs.Views.{seen_place, seen_at};
 
@@ -93,7 +93,7 @@ fn ended_at(entries: Vec<Entry>, place: &Place<'_>) -> Option<History>
 impl<'a> Reader<'a> for HistoryReader<'a> {
     ghost use Rattle.std.specs.Prelude.{List};
     ghost use Rattle.library.specs.declared.history.Entry.{Entry};
-    ghost use Rattle.statementreader.specs.Recalls.{Knows};
+    ghost use Rattle.statementreader.specs.Recalls.{RecallsTrue};
     ghost use Rattle.historytext.specs.Places.{Progress, history_language};
     ghost use Rattle.historytext.specs.Views.{seen_progress};
 
@@ -107,7 +107,7 @@ impl<'a> Reader<'a> for HistoryReader<'a> {
 
     ghost place = { seen_progress };
 
-    ghost IsReady = { λ r. Knows r.prelude.now r.recent };
+    ghost IsReady = { λ r. RecallsTrue r.prelude.now r.recent };
 
     ghost meaning = { λ history. history };
 
@@ -175,7 +175,7 @@ pub fn read_history(alloc: Global, prelude: &Prelude, text: &[u8]) -> Result<His
     // What is read is spelled so, and what is spelled so is read, unless memory runs out; a fault is the text's, or want of memory.
     ensures read { IsRead (history_language prelude.now) (SpellsHistory prelude.now) text.now result }
     // Its commands and replies are within the limits of the prelude.
-    ensures fits { IfOk result (λ history. All (EntryFits prelude.now) history) }
+    ensures fits { IfOk result (λ history. All (EntryFitsText prelude.now) history) }
 {
     // Some text declares a prelude, so what is read over it fits.
     // For the proof: some text declares the prelude.

@@ -3,7 +3,7 @@
 ghost use Rattle.std.specs.Prelude.{◌≡◌, ◌++◌, All, OnOk, IfOk};
 ghost use Rattle.std.specs.List.{flat_map};
 ghost use Rattle.library.specs.Fitting.{CommandFits, ReplyFits};
-ghost use Rattle.historytext.specs.Layout.{reply_text, entry_text, history_text, EntryFits};
+ghost use Rattle.historytext.specs.Layout.{reply_text, entry_text, history_text, EntryFitsText};
 
 use crate::numbers::put_number;
 use crate::replies::put_reply;
@@ -50,7 +50,7 @@ fn put_entry(
     prelude: &Prelude,
     entry: &Entry,
 ) -> Result<(), AllocError>
-    requires { EntryFits prelude.now entry.now }
+    requires { EntryFitsText prelude.now entry.now }
     ensures { OnOk result (out.new.items ≡ out.old.items ++ entry_text prelude.now entry.now) }
 {
     match entry {
@@ -67,7 +67,7 @@ fn put_entries(
     prelude: &Prelude,
     entries: &[Entry],
 ) -> Result<(), AllocError>
-    requires { All (EntryFits prelude.now) entries.now }
+    requires { All (EntryFitsText prelude.now) entries.now }
     ensures { OnOk result (out.new.items ≡ out.old.items ++ flat_map (entry_text prelude.now) entries.now) }
 {
     for entry in entries {
@@ -85,7 +85,7 @@ pub fn write_history(
     prelude: &Prelude,
     history: &[Entry],
 ) -> Result<Vec<u8>, AllocError>
-    requires { All (EntryFits prelude.now) history.now }
+    requires { All (EntryFitsText prelude.now) history.now }
     ensures { IfOk result (λ text. text.items ≡ history_text prelude.now history.now) }
 {
     let mut out = Vec::new(alloc);

@@ -20,7 +20,7 @@ use Rattle.intake.specs.declared.refusal.Refusal.{Refusal}
 use Rattle.intake.specs.declared.refusal.Refusal.TheVariants as refusal
 use Rattle.gathering.specs.Placed.{map_of, tables_of}
 use Rattle.gathering.specs.Gatherings.{told_in}
-use Rattle.intake.specs.Intakes.{IsTaken, IsLibraryOf, IsRefused, IsRefusedOf, IsWide}
+use Rattle.intake.specs.Intakes.{IsTakenByWish, IsLibraryOf, IsRefused, IsRefusedOf, IsWide}
 use Rattle.intake.specs.Parts.{AreTakenBy, IsGathered, IsChoiceByFlags, AreAsMany, lists_of, changed_of}
 use Rattle.intake.proofs.Libraries.{chosen_kept, taken_of}
 
@@ -38,7 +38,7 @@ too_wide s w flags c wide =
 
 -- ---- what is taken
 
-pub is_taken : (s : Scope) (w : Wish) (t : Taken) → IsLibraryOf s w t → (text : List ℕ) → DeclaresText text s → IsTaken text w t
+pub is_taken : (s : Scope) (w : Wish) (t : Taken) → IsLibraryOf s w t → (text : List ℕ) → DeclaresText text s → IsTakenByWish text w t
 is_taken s w t l text d = record {
   source = s;
   declares = d;
@@ -92,7 +92,7 @@ pub whole_source : SourcesAreWhole → (text : List ℕ) (s : Scope) → Declare
 whole_source law text s d = law d.statements s d.declared
 
 pub taken_by : (text : List ℕ) (s : Scope) (w : Wish) (r : Result Taken Refusal) → DeclaresText text s → IfOk r (IsLibraryOf s w)
-    → IfOk r (IsTaken text w)
+    → IfOk r (IsTakenByWish text w)
 taken_by text s w (Ok t) d l = is_taken s w t l text d
 taken_by text s w (Err why) d l = tt
 

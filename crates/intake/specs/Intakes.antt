@@ -34,7 +34,7 @@ names_of t = map (λ p. (p.0.now, p.1)) t.names.items
 
 -- the text declares a source, from which the library is taken by the wish, whose labels are labels of the source and stand the right way
 -- round; its proofs check
-pub record IsTaken (text : List ℕ) (w : Wish) (t : Taken) : Type 0 where
+pub record IsTakenByWish (text : List ℕ) (w : Wish) (t : Taken) : Type 0 where
   pub source : Scope
   pub declares : DeclaresText text source
   pub choice : Choice

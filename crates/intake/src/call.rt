@@ -8,7 +8,7 @@ ghost use Rattle.sites.specs.Sites.{AreSites};
 ghost use Rattle.naming.specs.Namings.{AreNamedWell};
 ghost use Rattle.choosing.specs.Choices.{IsChosen};
 ghost use Rattle.choosing.specs.declared.wish.Wish.{Wish as WishOf};
-ghost use Rattle.intake.specs.Intakes.{IsTaken, IsLibraryOf, IsRefused, IsRefusedOf};
+ghost use Rattle.intake.specs.Intakes.{IsTakenByWish, IsLibraryOf, IsRefused, IsRefusedOf};
 ghost use Rattle.intake.specs.Parts.{IsChoiceByFlags};
 ghost use Rattle.intake.specs.declared.refusal.Refusal.TheVariants.{NoMemory};
 ghost use Rattle.mmsyntax.specs.declared.limits.TheConstants.{MOST_DECLARED};
@@ -158,7 +158,7 @@ fn take_text<'a, 'w>(
     wish: Wish<'w>,
     follow: &impl Follow,
 ) -> Result<Taken<'a>, Refusal<'a, 'w>>
-    ensures taken { IfOk result (IsTaken text.now wish.entry) }
+    ensures taken { IfOk result (IsTakenByWish text.now wish.entry) }
     ensures refused { IfErr result (λ why. why ≢ NoMemory → IsRefused text.now wish.entry why) }
 {
     follow.begin_reading();
@@ -185,7 +185,7 @@ pub fn take<'a, 'w>(
     wish: Wish<'w>,
     follow: &impl Follow,
 ) -> Result<Taken<'a>, Refusal<'a, 'w>>
-    ensures taken { IfOk result (IsTaken text.now wish.entry) }
+    ensures taken { IfOk result (IsTakenByWish text.now wish.entry) }
     ensures refused { IfErr result (λ why. why ≢ NoMemory → IsRefused text.now wish.entry why) }
 {
     let taken = take_text(rt, alloc, keys, text, wish, follow);

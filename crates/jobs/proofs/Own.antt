@@ -19,7 +19,7 @@ use Rattle.jobs.specs.declared.job.Printed.{Printed}
 use Rattle.jobs.specs.declared.answering.Answered.TheVariants.{Refused}
 use Rattle.checking.specs.declared.fault.Fault.{Fault}
 use Rattle.checking.specs.declared.fault.Fault.TheVariants.{Text, Proof, Differs, NoMemory}
-use Rattle.checking.specs.Outcomes.{setting_of}
+use Rattle.checking.specs.Outcomes.{program_setting}
 use Rattle.checking.specs.Checks.{Bytes, ok_line, replayed_lines, IsChecked, IsHistory, IsDifference, PrintsReplay, IsReplay, IsReplayFault}
 use Rattle.jobs.specs.Jobs.{IsRun, DoneAsAsked}
 use Rattle.jobs.specs.Jobs.{IsFaultOf, AnswersItsOwn, IsPrintedBy}
@@ -71,7 +71,7 @@ module _ (db text out : Bytes) (texts : List Bytes) (workers room : ℕ) (run : 
   -- what its replay prints is the library of the run
   pub replay_printed : (again : Bytes) → IsReplay db text again → again ≡ replayed_lines (length kept) run.printed.library
   replay_printed again h =
-      let s = setting_of run.contents in
+      let s = program_setting run.contents in
       let first = opening run.contents in
       let entries = map told kept in
       let p = subst (λ es. PrintsReplay run.contents es again) (one_history h.contents h.history h.checked h.read)

@@ -3,12 +3,12 @@ use Rattle.std.proofs.Common.{◌≡◌, ◌≢◌, ◌∙◌, ◌+◌, ◌<◌,
 use Rattle.std.specs.Prelude.{IfOk, IfErr}
 use Rattle.mmtext.specs.declared.fault.TextFault.{TextFault}
 use Rattle.mmsyntax.specs.Tables.{Tables, Contents}
-use Rattle.plaincells.specs.Measures.{bodies_length}
+use Rattle.plaincells.specs.Measures.{all_bodies_length}
 use Rattle.checking.specs.declared.fault.Fault.{Fault}
 use Rattle.checking.specs.declared.fault.Fault.TheVariants.{Text, Proof, StoreFull, NoMemory}
 use Rattle.jobs.specs.declared.job.Job.{Job}
 use Rattle.jobs.specs.declared.job.Printed.{Printed}
-use Rattle.checking.specs.Checks.{Bytes, Orders, IsChecked, AreScripts, IsFirstFault, IsDatabaseFault, IsOrLacksMemory, RefusesWith}
+use Rattle.checking.specs.Checks.{Bytes, Orders, IsChecked, AreScripts, IsFirstFaultyScript, IsDatabaseFault, IsOrLacksMemory, RefusesWith}
 use Rattle.jobs.specs.Jobs.{PrintsRun, IsRun}
 use Rattle.jobs.specs.Jobs.{IsRunFault, IsRunLack, IsFaultOf, IsLackOf}
 use Rattle.checking.specs.Parts.{IsScriptFault, IsRefusedBy}
@@ -29,7 +29,7 @@ pub script_of_run : (db : Bytes) (texts : List Bytes) (room : ℕ) (contents : C
     → IsChecked db contents → IsScriptFault p texts f → f ≢ NoMemory → IsRunFault db texts room f
 script_of_run db texts room contents p NoMemory over checked h ne = absurd (ne refl)
 script_of_run db texts room contents p (Text (suc k) g) over checked h ne =
-    ((contents, checked, subst (λ t. IsFirstFault t texts k g) over h.0), h.1)
+    ((contents, checked, subst (λ t. IsFirstFaultyScript t texts k g) over h.0), h.1)
 script_of_run db texts room contents p _ over checked h ne = absurd h
 
 module _ (db : Bytes) (texts : List Bytes) (workers room : ℕ) (contents : Contents) (scripts : List Orders)
@@ -68,9 +68,10 @@ module _ (text : Bytes) (texts : List Bytes) (room : ℕ) (db : Contents) (p : T
     (none : (g : Fault) → IsDatabaseFault text g → ⊥)
     (same : (contents : Contents) → IsChecked text contents → db ≡ contents) where
   -- the first fault of the scripts over the one database that is read
-  over_it : (k : ℕ) (g : TextFault) (contents : Contents) → IsChecked text contents → IsFirstFault contents.prelude texts k g
-      → IsFirstFault p texts k g
-  over_it k g contents checked = subst (λ (t : Tables). IsFirstFault t texts k g) (sym (same_prelude text db p over same contents checked))
+  over_it : (k : ℕ) (g : TextFault) (contents : Contents) → IsChecked text contents → IsFirstFaultyScript contents.prelude texts k g
+      → IsFirstFaultyScript p texts k g
+  over_it k g contents checked = subst (λ (t : Tables). IsFirstFaultyScript t texts k g)
+      (sym (same_prelude text db p over same contents checked))
 
   refused_by_text : (k : ℕ) (g : TextFault) (answer : Fault) → IsRefusedBy (k + 1) g answer → IsOrLacksMemory (Text (suc k) g) answer
   refused_by_text k g NoMemory h = inr refl
@@ -86,7 +87,8 @@ module _ (text : Bytes) (texts : List Bytes) (room : ℕ) (db : Contents) (p : T
   memory_alone scripts _ read h = absurd h
 
   -- a run is refused with the fault of a script
-  pub run_refused_by_script : (answer f : Fault) → ((k : ℕ) (g : TextFault) → IsFirstFault p texts k g → IsRefusedBy (k + 1) g answer)
+  pub run_refused_by_script : (answer f : Fault)
+      → ((k : ℕ) (g : TextFault) → IsFirstFaultyScript p texts k g → IsRefusedBy (k + 1) g answer)
       → IsScriptFault p texts answer → IsRunFault text texts room f → IsOrLacksMemory f answer
   run_refused_by_script answer (Text zero g) refuses is h = absurd (none (Text zero g) h)
   run_refused_by_script answer (Text (suc k) g) refuses is h = refused_by_text k g answer (refuses k g (over_it k g h.0.0 h.0.1 h.0.2))
@@ -96,13 +98,13 @@ module _ (text : Bytes) (texts : List Bytes) (room : ℕ) (db : Contents) (p : T
   run_refused_by_script answer _ refuses is h = absurd h
 
   -- one of scripts without a fault with too small a room
-  pub run_refused_by_room : {A : Type 0} (r : Result A Fault) (f : Fault) → ((k : ℕ) (g : TextFault) → IsFirstFault p texts k g → ⊥)
-      → (room < bodies_length db.assertions → RefusesWith StoreFull r) → IsRunFault text texts room f → RefusesWith f r
+  pub run_refused_by_room : {A : Type 0} (r : Result A Fault) (f : Fault) → ((k : ℕ) (g : TextFault) → IsFirstFaultyScript p texts k g → ⊥)
+      → (room < all_bodies_length db.assertions → RefusesWith StoreFull r) → IsRunFault text texts room f → RefusesWith f r
   run_refused_by_room r (Text zero g) first full h = absurd (none (Text zero g) h)
   run_refused_by_room r (Text (suc k) g) first full h = absurd (first k g (over_it k g h.0.0 h.0.1 h.0.2))
   run_refused_by_room r (Proof label g) first full h = absurd (none (Proof label g) h)
   run_refused_by_room r StoreFull first full h =
-      full (subst (λ (c : Contents). room < bodies_length c.assertions) (sym (same h.0 h.2)) h.4)
+      full (subst (λ (c : Contents). room < all_bodies_length c.assertions) (sym (same h.0 h.2)) h.4)
   run_refused_by_room r _ first full h = absurd h
 
 -- ---- jobs that come to an end

@@ -9,14 +9,14 @@ use Rattle.library.specs.declared.library.Ranked.{Ranked}
 use Rattle.library.specs.Library.{Setting, Listed, opening, setting_over}
 use Rattle.tlwords.specs.Runs.{down}
 use Rattle.tlwords.proofs.Once.{down_distinct}
-use Rattle.lawful.specs.Lawful.{first_library, setting_of as setting_given}
+use Rattle.lawful.specs.Lawful.{first_library, setting_given}
 use Rattle.transaction.specs.declared.outcome.Outcome.{Outcome}
 use Rattle.transaction.specs.Members.{Home, Member}
 use Rattle.transaction.specs.Openings.{IsOpened}
-use Rattle.editing.specs.Edits.{IsEdited, IsEditedFrom, IsLack}
+use Rattle.editing.specs.Edits.{IsEdited, IsEditedFrom, IsEditLack}
 use Rattle.editing.specs.declared.error.EditError.{EditError}
 use Rattle.editing.specs.declared.error.EditError.TheVariants as edit
-use Rattle.checking.specs.Outcomes.{setting_of}
+use Rattle.checking.specs.Outcomes.{program_setting}
 use Rattle.jobs.specs.Jobs.{IsWorked}
 use Rattle.jobs.specs.Parts.{shape_with, IsWorkFault, from_edit}
 
@@ -49,20 +49,21 @@ module _ (db : Contents) (workers room : ℕ) (home : Home) (members : List Memb
   some_session some = nothing_there members (let same = many_sessions in omega arith)
 
   -- its setting and its library are those of the database
-  same_setting : setting_given home.given ≡ setting_of db
+  same_setting : setting_given home.given ≡ program_setting db
   same_setting = ap (λ d. setting_over d home.given.slots) o.database ∙ ap (λ n. setting_over db n) o.slots
 
   same_library : first_library home.given ≡ opening db
   same_library = ap opening o.database
 
   -- so what is so over the ones is so over the others
-  over : (P : Setting → List Ranked → Type 0) → P (setting_given home.given) (first_library home.given) → P (setting_of db) (opening db)
+  over : (P : Setting → List Ranked → Type 0) → P (setting_given home.given) (first_library home.given)
+      → P (program_setting db) (opening db)
   over P h = subst (λ s. P s (opening db)) same_setting (subst (P (setting_given home.given)) same_library h)
 
   -- ---- its end
 
   -- why scripts that were run on all its sessions came to none
-  pub unworked : (e : EditError) → IsLack members e → IsWorkFault db workers room (from_edit e)
+  pub unworked : (e : EditError) → IsEditLack members e → IsWorkFault db workers room (from_edit e)
   unworked edit.NoThread h = let same = many_sessions in omega (arith, h, same)
   unworked (edit.Missing n) h = absurd (h.1 (subst (IsDistinct eqb) (sym o.names) (down_distinct workers workers (omega arith))))
   unworked (edit.Held c) h = absurd h

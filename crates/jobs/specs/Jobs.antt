@@ -6,8 +6,8 @@ use Rattle.mmtext.specs.declared.fault.FaultKind.TheVariants.{NoMemory as OutOfM
 use Rattle.mmsyntax.specs.Tables.{Contents}
 use Rattle.library.specs.Library.{Listed, Verifies, opening}
 use Rattle.library.specs.declared.history.Entry.{Entry}
-use Rattle.library.specs.Histories.{told, after}
-use Rattle.plaincells.specs.Measures.{bodies_length}
+use Rattle.library.specs.Histories.{told, after_front}
+use Rattle.plaincells.specs.Measures.{all_bodies_length}
 use Rattle.transaction.specs.declared.outcome.Outcome.{Outcome}
 use Rattle.transaction.specs.Members.{Home}
 use Rattle.editing.specs.Edits.{IsEditedFrom}
@@ -19,10 +19,10 @@ use Rattle.jobs.specs.declared.job.Job.TheVariants.{Check, Run, Replay}
 use Rattle.jobs.specs.declared.job.Printed.{Printed}
 use Rattle.checking.specs.declared.fault.Fault.{Fault}
 use Rattle.checking.specs.declared.fault.Fault.TheVariants.{Text, StoreFull, NoThread, NoMemory}
-use Rattle.checking.specs.Outcomes.{setting_of}
+use Rattle.checking.specs.Outcomes.{program_setting}
 use Rattle.checking.specs.Tasks.{IsWithin}
 use Rattle.checking.specs.Checks.{Bytes, Orders, library_lines, replayed_lines, AreScripts, IsChecked, ok_line, IsCheck, IsReplay}
-use Rattle.checking.specs.Checks.{IsFirstFault, IsDatabaseFault, IsReplayFault}
+use Rattle.checking.specs.Checks.{IsFirstFaultyScript, IsDatabaseFault, IsReplayFault}
 use Rattle.reports.specs.Reports.{report_text}
 
 -- ---- what is printed
@@ -33,12 +33,12 @@ use Rattle.reports.specs.Reports.{report_text}
 -- refused in the store of this room
 pub record IsWorked (contents : Contents) (workers room : ℕ) (scripts : List Orders) (rows : List (List Outcome)) (history : List Entry)
     (library : Listed) : Type 0 where
-  pub fits : bodies_length contents.assertions ≤ room
+  pub fits : all_bodies_length contents.assertions ≤ room
   pub home : Home
   pub of_database : home.given.database.value ≡ contents
   pub of_room : home.words.room ≡ room
   pub of_workers : home.sessions ≡ workers
-  pub edited : IsEditedFrom (setting_of contents) (opening contents) home scripts rows history library
+  pub edited : IsEditedFrom (program_setting contents) (opening contents) home scripts rows history library
 
 -- the report of what became of all transactions, and the library after them, whose text is accepted; and, where it is asked for, the text
 -- of the history, which spells it. After each front of it, too, the library verifies
@@ -47,7 +47,8 @@ pub record PrintsRun (contents : Contents) (workers room : ℕ) (asked : Bool) (
   pub entries : List Entry
   pub library : Listed
   pub worked : IsWorked contents workers room scripts rows entries library
-  pub fronts : (k : ℕ) → Verifies (setting_of contents) (after (setting_of contents) (opening contents) (map told entries) k)
+  pub fronts : (k : ℕ) → Verifies (program_setting contents)
+      (after_front (program_setting contents) (opening contents) (map told entries) k)
   pub prints : out ≡ report_text contents.prelude rows ++ library_lines library
   pub accepted : IsAccepted library
   pub kept : history ≡ (if asked then history_text contents.prelude entries else [])
@@ -96,10 +97,10 @@ IsPrintedBy (Err f) out = f ≡ NoMemory
 -- that the bodies of the database's assertions have more words than the room
 abbrev pub IsRunFault : Bytes → List Bytes → ℕ → Fault → Type 0
 IsRunFault db texts room (Text (suc k) f) =
-    ((contents : Contents) × IsChecked db contents × IsFirstFault contents.prelude texts k f) × (f.kind ≢ OutOfMemory)
+    ((contents : Contents) × IsChecked db contents × IsFirstFaultyScript contents.prelude texts k f) × (f.kind ≢ OutOfMemory)
 IsRunFault db texts room StoreFull =
     (contents : Contents) × (scripts : List Orders) × IsChecked db contents × AreScripts contents.prelude texts scripts
-    × (room < bodies_length contents.assertions)
+    × (room < all_bodies_length contents.assertions)
 IsRunFault db texts room f = IsDatabaseFault db f
 
 -- why a run that has no fault may come to no end: a thread for one of two workers or more can't be had. No number is missing in its

@@ -4,7 +4,7 @@ use Rattle.mmsyntax.specs.Tables.{Contents}
 use Rattle.checking.specs.declared.fault.Fault.{Fault}
 use Rattle.checking.specs.declared.fault.Fault.TheVariants.{StoreFull, Missing, Held, NoThread, NoMemory}
 use Rattle.jobs.specs.Jobs.{IsRunLack}
-use Rattle.plaincells.specs.Measures.{bodies_length}
+use Rattle.plaincells.specs.Measures.{all_bodies_length}
 use Rattle.transaction.specs.declared.shape.Shape.{Shape}
 use Rattle.editing.specs.declared.error.EditError.{EditError}
 use Rattle.editing.specs.declared.error.EditError.TheVariants as edit
@@ -15,13 +15,13 @@ shape_with workers room = record { slots = 4096; room = room; sessions = workers
 
 -- why the library of a database whose proofs check isn't opened
 abbrev pub IsOpenFault : Contents → ℕ → Fault → Type 0
-IsOpenFault contents room StoreFull = room < bodies_length contents.assertions
+IsOpenFault contents room StoreFull = room < all_bodies_length contents.assertions
 IsOpenFault contents room NoMemory = Unit {0}
 IsOpenFault contents room _ = ⊥
 
 -- nor its scripts run to their end
 abbrev pub IsWorkFault : Contents → ℕ → ℕ → Fault → Type 0
-IsWorkFault contents workers room StoreFull = room < bodies_length contents.assertions
+IsWorkFault contents workers room StoreFull = room < all_bodies_length contents.assertions
 IsWorkFault contents workers room NoMemory = Unit {0}
 IsWorkFault contents workers room f = IsRunLack workers f
 

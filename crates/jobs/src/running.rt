@@ -3,16 +3,16 @@
 ghost use Rattle.std.specs.Prelude.{◌≡◌, ℕ, ◌<◌, ◌^◌, ◌++◌, [], if◌then◌else◌, All, IfOk, IfErr, length};
 ghost use Rattle.derivation.specs.Databases.{AllCheck};
 ghost use Rattle.library.specs.Fitting.{CommandFits};
-ghost use Rattle.plaincells.specs.Measures.{bodies_length};
+ghost use Rattle.plaincells.specs.Measures.{all_bodies_length};
 ghost use Rattle.transaction.specs.Openings.{IsOpened};
-ghost use Rattle.historytext.specs.Layout.{EntryFits, history_text};
+ghost use Rattle.historytext.specs.Layout.{EntryFitsText, history_text};
 ghost use Rattle.transaction.specs.Closings.{lists_of};
 ghost use Rattle.checking.specs.declared.fault.Fault.TheVariants.{StoreFull};
 ghost use Rattle.checking.specs.Tasks.{IsWithin};
 ghost use Rattle.jobs.specs.Jobs.{IsWorked, PrintsRun};
 ghost use Rattle.checking.specs.Checks.{RefusesWith, library_lines};
 ghost use Rattle.jobs.specs.Parts.{IsOpenFault, IsWorkFault, from_edit, shape_with};
-ghost use Rattle.reports.specs.Reports.{OutcomesFit, report_text};
+ghost use Rattle.reports.specs.Reports.{AreReportable, report_text};
 
 use crate::job::Printed;
 use crate::watching::Watch;
@@ -111,7 +111,7 @@ fn edit(
     requires fit { All (All (All (CommandFits db.now.prelude))) scripts.now }
     ensures done { IfOk result (λ e. IsWorked db.now plan.workers plan.room scripts.now (lists_of e.outcomes.items) e.history e.library) }
     ensures fault { IfErr result (IsWorkFault db.now plan.workers plan.room) }
-    ensures full { plan.room < bodies_length db.now.assertions → RefusesWith StoreFull result }
+    ensures full { plan.room < all_bodies_length db.now.assertions → RefusesWith StoreFull result }
 {
     let (library, sessions) = open(alloc, keys, db, plan)?;
     watch.begin(scripts.len(), transactions_of(scripts));
@@ -130,7 +130,7 @@ fn report_run(
     outcomes: Vec<Vec<Outcome>>,
     library: &PlainLibrary,
 ) -> Result<Vec<u8>, AllocError>
-    requires { OutcomesFit prelude.now (lists_of outcomes.items) }
+    requires { AreReportable prelude.now (lists_of outcomes.items) }
     ensures { IfOk result (λ v. v.items ≡ report_text prelude.now (lists_of outcomes.items) ++ library_lines library.now) }
 {
     let mut out = report(alloc, prelude, outcomes)?;
@@ -154,7 +154,7 @@ fn history_where(
     prelude: &Prelude,
     history: &[Entry],
 ) -> Result<Vec<u8>, AllocError>
-    requires { All (EntryFits prelude.now) history.now }
+    requires { All (EntryFitsText prelude.now) history.now }
     ensures { IfOk result (λ v. v.items ≡ (if asked then history_text prelude.now history.now else [])) }
 {
     if asked {
@@ -214,7 +214,7 @@ pub(crate) fn print_run(
     requires fit { All (All (All (CommandFits db.now.prelude))) scripts.now }
     ensures done { IfOk result (λ p. PrintsRun db.now plan.workers plan.room plan.history scripts.now p.out.items p.history.items) }
     ensures fault { IfErr result (IsWorkFault db.now plan.workers plan.room) }
-    ensures full { plan.room < bodies_length db.now.assertions → RefusesWith StoreFull result }
+    ensures full { plan.room < all_bodies_length db.now.assertions → RefusesWith StoreFull result }
 {
     let edited = edit(rt, alloc, keys, db, scripts, plan, watch)?;
     Ok(print_edited(alloc, db, scripts, edited, plan.history)?)

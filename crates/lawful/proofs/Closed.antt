@@ -6,7 +6,7 @@ use Rattle.std.proofs.lemmas.Option.{slice_get_within, get_or_from_slice_get}
 use Rattle.library.specs.Histories.{after_all}
 use Rattle.tlwords.specs.declared.closing.ClosedCell.{ClosedCell}
 use Rattle.cells.specs.Shows.{Shows}
-use Rattle.lawful.specs.Lawful.{setting_of, first_library, state_of}
+use Rattle.lawful.specs.Lawful.{setting_given, first_library, state_of}
 use Rattle.lawful.specs.History.{history_of, library_after, state_after}
 use Rattle.lawful.specs.Laws.{ClosedHistoriesStand, ClosedWordsShow}
 use Rattle.lawful.proofs.Entries.{at_index, length-entries_of}
@@ -31,8 +31,9 @@ closed_words_show g base opened words c small free =
     let seen = c.seen in
     let history = (closed_histories_stand g base opened words c small).0 in
     let size = length-entries_of seen.history seen.notes in
-    let library : library_after g seen (length seen.history) ≡ after_all (setting_of g) (first_library g) (history_of seen) =
-    ap (library_after g seen) (sym size) ∙ ap (after_all (setting_of g) (first_library g)) (take_all _ (history_of seen) (omega arith)) in
+    let library : library_after g seen (length seen.history) ≡ after_all (setting_given g) (first_library g) (history_of seen) =
+    ap (library_after g seen) (sym size)
+    ∙ ap (after_all (setting_given g) (first_library g)) (take_all _ (history_of seen) (omega arith)) in
     let count = c.shows.count in
     let wide = c.opening.opens.count in
     shown_is_kept g.slots (state_after base seen (length seen.history)) (state_of (values_of words.cells.items) seen.ranges) _

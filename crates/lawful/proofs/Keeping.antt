@@ -18,7 +18,7 @@ use Rattle.cells.specs.Shows.{Held, slots_of, IsNamed, IsStoredAs, AreStoredAs, 
 use Rattle.cells.specs.Sight.{Suits}
 use Rattle.lawful.specs.declared.notes.Given.{Given}
 use Rattle.lawful.specs.declared.notes.Note.TheVariants.{Done, Refused, Looked}
-use Rattle.lawful.specs.Lawful.{sight_of}
+use Rattle.lawful.specs.Lawful.{sight_over}
 use Rattle.lawful.specs.Laws.{ShownIsKept, LawfulIsKept}
 
 -- ---- what is shown
@@ -116,7 +116,7 @@ shown_is_kept slots st next lib same more h =
 
 -- what suits a run that knows more ranges suits one that knows fewer
 fewer : (g : Given) (ranges more : List Range) (reads writes : Pairs) (st : State) (lib : List Ranked) → Within ranges more
-    → Suits (sight_of g more reads writes) st lib → Suits (sight_of g ranges reads writes) st lib
+    → Suits (sight_over g more reads writes) st lib → Suits (sight_over g ranges reads writes) st lib
 fewer g ranges more reads writes st lib within h =
     record {
       matches = record { store = h.matches.store; has = λ r at. h.matches.has r (within r at); reads = h.matches.reads };

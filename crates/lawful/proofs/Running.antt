@@ -7,10 +7,10 @@ use Rattle.ranges.specs.Pairs.{Pairs, written}
 use Rattle.cells.specs.State.{State, with_writes}
 use Rattle.cells.specs.Shows.{Shows}
 use Rattle.cells.specs.Sight.{Sight, Suits, Matches, Views, Onward, after}
-use Rattle.cells.proofs.Sights.{onward_refl, matches_back}
+use Rattle.cells.proofs.Sights.{onward_refl, matches_back, setting_kept}
 use Rattle.cells.specs.Answers.{WritesIfEdit}
 use Rattle.lawful.specs.declared.notes.Given.{Given}
-use Rattle.lawful.specs.Lawful.{setting_of, sight_of}
+use Rattle.lawful.specs.Lawful.{setting_given, sight_over}
 use Rattle.lawful.specs.Laws.{RunsAreLawful, LooksAreLawful}
 
 -- where nothing is kept aside at the end, no command was an edit
@@ -21,14 +21,14 @@ no_edit true old new some none =
     cc
 no_edit false old new looks none = refl
 
-module _ {O : Type 0} (g : Given) (old new : Sight O) (setting : old.setting ≡ setting_of g) (blank : old.writes ≡ [])
+module _ {O : Type 0} (g : Given) (old new : Sight O) (setting : old.setting ≡ setting_given g) (blank : old.writes ≡ [])
     (onward : Onward old new) (writes : Pairs) where
   -- what suits the run at its end matches it
-  matches_new : (st : State) (lib : List Ranked) → Suits (sight_of g new.ranges new.reads writes) st lib → Matches new st
+  matches_new : (st : State) (lib : List Ranked) → Suits (sight_over g new.ranges new.reads writes) st lib → Matches new st
   matches_new st lib s = record { store = s.matches.store; has = s.matches.has; reads = s.matches.reads }
 
   -- and was viewed by it at its beginning
-  views_old : (st : State) (lib : List Ranked) → Suits (sight_of g new.ranges new.reads writes) st lib → Views old st lib
+  views_old : (st : State) (lib : List Ranked) → Suits (sight_over g new.ranges new.reads writes) st lib → Views old st lib
   views_old st lib s =
       record {
         matches = matches_back old new st onward (matches_new st lib s);
@@ -49,7 +49,7 @@ runs_are_lawful g old new commands setting blank onward fit = (
           next = d.0;
           applied =
               subst (λ (x : Setting). apply x lib commands.value ≡ Ok (record { library = d.0; replies = replies.value })) setting d.1;
-          shows = subst (λ (x : Setting). Shows x.slots (after new st) d.0) (onward.setting ∙ setting) d.2;
+          shows = subst (λ (x : Setting). Shows x.slots (after new st) d.0) ((setting_kept onward) ∙ setting) d.2;
         },
   ),
   λ refused refuses. (

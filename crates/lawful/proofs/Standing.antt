@@ -10,11 +10,12 @@ use Rattle.library.specs.declared.command.Reply.{Reply}
 use Rattle.library.specs.Library.{Setting, Verifies}
 use Rattle.library.specs.Transactions.{apply, library_of, HasReplies}
 use Rattle.library.specs.Fitting.{CommandFits}
-use Rattle.library.specs.Histories.{Entry, open_entry, void_entry, done_entry, EntryFits, EntriesFit, after, after_entry, IsLegal}
+use Rattle.library.specs.Histories.{Entry, open_entry, void_entry, done_entry, EntryFits, EntriesFit, after_front, after_entry, IsLegal}
 use Rattle.librarylaws.proofs.Fronts.{fronts_verify}
 use Rattle.librarylaws.proofs.Leaving.{apply_leaves}
 use Rattle.librarylaws.proofs.Legal.{after-more}
-use Rattle.tlcore.specs.History.{Entry as WordsEntry, One, deed, deed_in, deed_of, value_after, value_over, written}
+use Rattle.tlcore.specs.History.{Entry as WordsEntry, One, deed, deed_in, deed_of, value_after, value_over}
+use Rattle.ranges.specs.Pairs.{written}
 use Rattle.tlcore.specs.declared.entries.Status.{Status}
 use Rattle.tlcore.specs.declared.entries.Status.TheVariants as status
 use Rattle.tlwords.specs.Seen.{Seen, Work, Call, Committed, Answered, IsDone, Legal, Agree, CallAgrees as WordsAgree}
@@ -27,8 +28,8 @@ use Rattle.cells.specs.Sight.{Suits}
 use Rattle.lawful.specs.declared.notes.Given.{Given}
 use Rattle.lawful.specs.declared.notes.Note.{Note}
 use Rattle.lawful.specs.declared.notes.Note.TheVariants.{Done, Refused, Looked}
-use Rattle.lawful.specs.Lawful.{setting_of, first_library, state_of, sight_of, library_terms}
-use Rattle.lawful.specs.History.{entry_of, history_of, library_after, state_after, IsHistoryOf, CommitAgrees, AnswerAgrees, CallAgrees}
+use Rattle.lawful.specs.Lawful.{setting_given, first_library, state_of, sight_over, library_terms}
+use Rattle.lawful.specs.History.{entry_of, history_of, library_after, state_after, IsHistoryOf, CommitAgrees, AnswerAgrees, NoteAgrees}
 use Rattle.lawful.specs.History.{AllAgree}
 use Rattle.lawful.specs.Laws.{SessionsStand, OtherCallsAgree, RunsSuit}
 use Rattle.lawful.proofs.Entries.{at_index, length-entries_of, entry_at, HasDone, of_done}
@@ -57,10 +58,10 @@ one_fits base seen k (r ∷ reads) one = (one.0.0, one_fits base seen k reads on
 
 -- the library after one more entry
 after_next : (s : Setting) (lib : List Ranked) (h : List Entry) (k : ℕ) (e : Entry) → slice_get h k ≡ Some e
-    → after s lib h (suc k) ≡ after_entry s (after s lib h k) e
+    → after_front s lib h (suc k) ≡ after_entry s (after_front s lib h k) e
 after_next s lib h k e at =
     let more : suc k ≡ k + 1 = omega arith in
-    ap (λ n. after s lib h n) more ∙ after-more s lib h k e (slice_get_within h k e at) (sym (get_or_from_slice_get h k e e at))
+    ap (λ n. after_front s lib h n) more ∙ after-more s lib h k e (slice_get_within h k e at) (sym (get_or_from_slice_get h k e e at))
 
 module _ (g : Given) (base : List ℕ) (seen : Seen Note) (legal : Legal library_terms g base seen)
     (noted : length seen.notes ≡ length seen.history) (opened : Opened library_terms g seen.ranges base)
@@ -69,7 +70,7 @@ module _ (g : Given) (base : List ℕ) (seen : Seen Note) (legal : Legal library
   h = history_of seen
 
   abbrev s : Setting
-  s = setting_of g
+  s = setting_given g
 
   abbrev lib_at : ℕ → List Ranked
   lib_at = library_after g seen
@@ -106,7 +107,7 @@ module _ (g : Given) (base : List ℕ) (seen : Seen Note) (legal : Legal library
   -- what was one version after k entries suits the cells there
   suits : (k : ℕ) (reads writes : Pairs) (note : Note) (p : Permits library_terms g seen.ranges reads writes note)
       → One base seen.history k reads → IsShown k
-      → Suits (sight_of g p.some reads writes) (st_at k) (lib_at k)
+      → Suits (sight_over g p.some reads writes) (st_at k) (lib_at k)
   suits k reads writes note p one shown =
       record {
         matches = record { store = store; has = p.among; reads = one_fits base seen k reads one };
@@ -263,15 +264,15 @@ module _ (g : Given) (base : List ℕ) (seen : Seen Note) (legal : Legal library
       (le, p.lawful.2 _ _ (suits k reads [] (Refused commands refused) p one shown))
   answer_agrees k reads (Looked library) le p one shown = (p.lawful.0, (le, p.lawful.2 _ _ (suits k reads [] (Looked library) p one shown)))
 
-  call_agrees : (call : Call Note) → WordsAgree library_terms g base seen call → CallAgrees g h call
+  call_agrees : (call : Call Note) → WordsAgree library_terms g base seen call → NoteAgrees g h call
   call_agrees (Committed n w) a = committed_agrees n a.0 w a.1 a.2
   call_agrees (Answered k w) a =
       let size = length-entries_of seen.history seen.notes in
       answer_agrees k w.reads w.note (subst (λ z. k ≤ z) (sym size) a.0) a.2 a.3 (show k a.0)
 
   pub all_agree : (calls : List (Call Note)) → Agree library_terms g base seen calls → AllAgree g h calls
-  all_agree [] a = All-nil (CallAgrees g h)
-  all_agree (call ∷ calls) a = All-cons (CallAgrees g h) call calls (call_agrees call a.0) (all_agree calls a.1)
+  all_agree [] a = All-nil (NoteAgrees g h)
+  all_agree (call ∷ calls) a = All-cons (NoteAgrees g h) call calls (call_agrees call a.0) (all_agree calls a.1)
 
 -- ---- passes and runs
 

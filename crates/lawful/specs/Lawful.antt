@@ -20,8 +20,8 @@ use Rattle.lawful.specs.declared.notes.Note.TheVariants.{Done, Refused, Looked}
 
 -- ---- what is given
 
-abbrev pub setting_of : Given → Setting
-setting_of g = setting_over g.database.value g.slots
+abbrev pub setting_given : Given → Setting
+setting_given g = setting_over g.database.value g.slots
 
 -- the library at the opening
 abbrev pub first_library : Given → List Ranked
@@ -35,7 +35,7 @@ state_of values ranges = record { value = slice_index values; ranges = ranges }
 pub record OpensWell (g : Given) (ranges : List Range) (values : List ℕ) : Type 0 where
   pub count : length values ≡ cell_count g.slots
   pub shows : Shows g.slots (state_of values ranges) (first_library g)
-  pub verifies : Verifies (setting_of g) (first_library g)
+  pub verifies : Verifies (setting_given g) (first_library g)
 
 -- ---- transactions
 
@@ -66,11 +66,11 @@ DoesAsSaid s (Looked library) =
     (library.value.setting ≡ s.setting) × (s.writes ≡ []) × ForEachUnder s (λ st lib. ShowsInOrder lib library.value.entries)
 
 -- what a run has seen that knows these ranges, with its reads and writes. What it took of the store and staged is no matter here
-abbrev pub sight_of : Given → List Range → Pairs → Pairs → Sight (Unit {0})
-sight_of g ranges reads writes =
+abbrev pub sight_over : Given → List Range → Pairs → Pairs → Sight (Unit {0})
+sight_over g ranges reads writes =
     record {
       origin = tt;
-      setting = setting_of g;
+      setting = setting_given g;
       may_write = true;
       may_stage = true;
       ranges = ranges;
@@ -84,7 +84,7 @@ sight_of g ranges reads writes =
 
 -- the transaction with these reads, writes and note is lawful for these ranges
 abbrev pub Lawful : Given → List Range → Pairs → Pairs → Note → Type 0
-Lawful g ranges reads writes note = DoesAsSaid (sight_of g ranges reads writes) note
+Lawful g ranges reads writes note = DoesAsSaid (sight_over g ranges reads writes) note
 
 -- the terms of words that hold a library
 abbrev pub library_terms : Terms Given Note

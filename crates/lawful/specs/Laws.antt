@@ -27,7 +27,7 @@ use Rattle.cells.specs.Answers.{DoesAll, RefusesAll}
 use Rattle.lawful.specs.declared.notes.Given.{Given}
 use Rattle.lawful.specs.declared.notes.Note.{Note}
 use Rattle.lawful.specs.declared.notes.Note.TheVariants.{Done, Refused, Looked}
-use Rattle.lawful.specs.Lawful.{setting_of, first_library, state_of, sight_of, Lawful, library_terms}
+use Rattle.lawful.specs.Lawful.{setting_given, first_library, state_of, sight_over, Lawful, library_terms}
 use Rattle.lawful.specs.History.{history_of, library_after, state_after, IsHistoryOf, AllAgree}
 
 -- a library stays shown where further ranges are finished, whatever the cells behind its own hold
@@ -48,9 +48,9 @@ LawfulIsKept =
 -- where it is refused, once what it keeps aside is thrown away
 abbrev pub RunsAreLawful : Type 0 → Type 0
 RunsAreLawful O =
-    (g : Given) (old new : Sight O) (commands : Snapshot (List Command)) → old.setting ≡ setting_of g → old.writes ≡ []
+    (g : Given) (old new : Sight O) (commands : Snapshot (List Command)) → old.setting ≡ setting_given g → old.writes ≡ []
     → Onward old new
-    → All (CommandFits (setting_of g).prelude) commands.value
+    → All (CommandFits (setting_given g).prelude) commands.value
     → ((replies : Snapshot (List Reply)) → DoesAll old new commands.value replies.value
     → Lawful g new.ranges new.reads new.writes (Done commands replies))
     × ((refused : Snapshot Refusal) → RefusesAll old new commands.value refused.value
@@ -59,7 +59,8 @@ RunsAreLawful O =
 -- a run that keeps nothing aside is lawful where it looked at the library, which is in order the one that its note has
 abbrev pub LooksAreLawful : Type 0 → Type 0
 LooksAreLawful O =
-    (g : Given) (s : Sight O) (library : Snapshot Listed) → s.setting ≡ setting_of g → s.writes ≡ [] → library.value.setting ≡ setting_of g
+    (g : Given) (s : Sight O) (library : Snapshot Listed) → s.setting ≡ setting_given g → s.writes ≡ []
+    → library.value.setting ≡ setting_given g
     → ForEach s (λ st lib. ShowsInOrder lib library.value.entries) → Lawful g s.ranges s.reads [] (Looked library)
 
 -- ---- histories
@@ -88,7 +89,7 @@ OtherCallsAgree =
 abbrev pub RunsSuit : Type 0
 RunsSuit =
     (g : Given) (r : Going Given Note) (writes : Pairs) → IsPassOn g r.known → Stands library_terms r
-    → Suits (sight_of g r.known.seen.ranges r.reads writes) (state_after r.known.home.base r.known.seen r.place)
+    → Suits (sight_over g r.known.seen.ranges r.reads writes) (state_after r.known.home.base r.known.seen r.place)
     (library_after g r.known.seen r.place)
 
 -- at the end the words have one history, which is one of the library, and which the calls agree with that agree with the words
@@ -110,7 +111,7 @@ ClosedWordsShow =
     → length words.store.items ≤ most_words
     → AreFree words.cells.items
     → Shows g.slots (state_of (map (λ x. x.value) words.cells.items) c.seen.ranges)
-    (after_all (setting_of g) (first_library g) (history_of c.seen))
+    (after_all (setting_given g) (first_library g) (history_of c.seen))
 
 -- ---- one assertion in two slots
 

@@ -14,7 +14,7 @@ use Rattle.tlwords.specs.declared.mode.Mode.{Mode}
 use Rattle.tlwords.specs.declared.mode.Mode.TheVariants.{Reading, Writing}
 use Rattle.tlwords.specs.declared.outcome.Conflict.{Conflict}
 use Rattle.tlwords.specs.Seen.{Seen, SeenGrows}
-use Rattle.tlwords.specs.Known.{Home, Going, Stands, word_told}
+use Rattle.tlwords.specs.Known.{WordsHome, Going, Stands, word_told}
 use Rattle.tlwords.specs.Runs.{word_seen, value_kept, was_read, HasKept, HasCause}
 use Rattle.tlwords.specs.Commits.{writes_kept, HasForgotten}
 use Rattle.tlwords.specs.Calls.{Begins, HasRead, HasStopped, HasLoaded, HasLoadedSome, HasStaged, IsRefused, Notes}
@@ -32,7 +32,7 @@ use Rattle.lawful.specs.History.{library_after, state_after}
 use Rattle.lawful.specs.Laws.{IsPassOn}
 use Rattle.lawful.proofs.Standing.{runs_suit}
 use Rattle.lending.specs.declared.live.Live.TheInside.{Inside}
-use Rattle.lending.specs.Lent.{Pass, Lending, sight_of, Agrees, HasMet, IsLent, FindsNone}
+use Rattle.lending.specs.Lent.{Pass, Lending, lent_sight, AgreesWithSome, HasMet, IsLent, FindsNone}
 use Rattle.lending.proofs.Kept.{has_kept, kept_has, blank_writes, same_writes}
 
 -- ---- it agrees with some state
@@ -41,10 +41,10 @@ use Rattle.lending.proofs.Kept.{has_kept, kept_has, blank_writes, same_writes}
 pub pass_on : (l : Lending) (stage : Staged) (over : Option Conflict) → IsLent l stage over → IsPassOn l.given l.going.known
 pass_on l stage over i =
     let home : l.going.known.home ≡ l.began.home = ap (λ (k : Pass). k.home) i.since in
-    subst (λ (h : Home Given). (h.setting ≡ Some l.given) × (h.room ≤ most_words)) (sym home) i.on
+    subst (λ (h : WordsHome Given). (h.setting ≡ Some l.given) × (h.room ≤ most_words)) (sym home) i.on
 
 -- with the cells at its place
-pub agrees_of : (l : Lending) (stage : Staged) (over : Option Conflict) → IsLent l stage over → Agrees l
+pub agrees_of : (l : Lending) (stage : Staged) (over : Option Conflict) → IsLent l stage over → AgreesWithSome l
 agrees_of l stage over i =
     let r = l.going in
     let s = runs_suit l.given r (writes_kept r.slots) (pass_on l stage over i) i.stands in (
@@ -82,7 +82,7 @@ module _ (g : Given) (k : Pass) (stage : Staged) (mode : Mode) (may : Bool) (r :
   abbrev begun : Lending
   begun = record { given = g; began = k; going = r; may_stage = may; full = false; staged = stage }
 
-  unread : (c : ℕ) → WasRead (sight_of begun) c → ⊥
+  unread : (c : ℕ) → WasRead (lent_sight begun) c → ⊥
   unread c w = subst (Has (c, w.0)) (ap (λ (x : Going Given Note). x.reads) b.is) w.1
 
   unkept : (c : ℕ) → is_some (value_kept r.slots c) ≡ true → ⊥
@@ -368,7 +368,7 @@ module _ (l : Lending) (stage : Staged) (over : Option Conflict) (i : IsLent l s
     read_now = read_on l r.known.seen cell h.word value r.slots
 
     was_on : (l.going.mode ≡ Writing → was_read r.slots cell ≡ true) → l.going.mode ≡ Writing → (c : ℕ)
-        → WasRead (sight_of read_now) c → was_read r.slots c ≡ true
+        → WasRead (lent_sight read_now) c → was_read r.slots c ≡ true
     was_on noted m c (v, inl e) = ap (λ (p : ℕ × ℕ). was_read r.slots p.0) e ∙ noted m
     was_on noted m c (v, inr has) = noted_still l.going.mode l.going.slots r.slots cell h.word h.notes c (i.read m c (v, has))
 
@@ -404,7 +404,7 @@ module _ (l : Lending) (stage : Staged) (over : Option Conflict) (i : IsLent l s
         subst (λ (x : Going Given Note). IsLent (record l { going = x }) stage over) (sym h.is) (read_lent none noted)
 
   -- a value is kept aside
-  kept_lent : (cell value : ℕ) (slots : List Slot) → HasKept l.going.slots slots cell value → WasRead (sight_of l) cell
+  kept_lent : (cell value : ℕ) (slots : List Slot) → HasKept l.going.slots slots cell value → WasRead (lent_sight l) cell
       → (is_ranged l.given.slots cell ≡ true → Names l.going.known.seen.ranges value) → IsLent (slots_on l slots) stage over
   kept_lent cell value slots k read named =
       record {
@@ -415,7 +415,7 @@ module _ (l : Lending) (stage : Staged) (over : Option Conflict) (i : IsLent l s
         stands = record { knows = i.stands.knows; placed = i.stands.placed; one = i.stands.one; ended = i.stands.ended };
         unnoted = λ m c. k.3 c ∙ i.unnoted m c;
         read = λ m c w. ap is_some (k.3 c) ∙ i.read m c w;
-        kept = λ c is. dite (ℕ_discrete c cell) (λ e. subst (WasRead (sight_of l)) (sym e) read)
+        kept = λ c is. dite (ℕ_discrete c cell) (λ e. subst (WasRead (lent_sight l)) (sym e) read)
             (λ n. i.kept c (ap is_some (sym (k.2 c n)) ∙ is));
         named = λ c v has ranged. dite (ℕ_discrete c cell)
             (λ e. let q : Some value ≡ Some v = sym k.1 ∙ (ap (value_kept slots) (sym e) ∙ has_kept slots c v has) in
@@ -432,7 +432,7 @@ module _ (l : Lending) (stage : Staged) (over : Option Conflict) (i : IsLent l s
       }
 
   pub writes_lent : (cell value : ℕ) (r : Going Given Note) → HasKept l.going.slots r.slots cell value
-      → r ≡ record l.going { slots = r.slots } → WasRead (sight_of l) cell
+      → r ≡ record l.going { slots = r.slots } → WasRead (lent_sight l) cell
       → (is_ranged l.given.slots cell ≡ true → Names l.going.known.seen.ranges value) → IsLent (record l { going = r }) stage over
   writes_lent cell value r k same read named =
       subst (λ (x : Going Given Note). IsLent (record l { going = x }) stage over) (sym same) (kept_lent cell value r.slots k read named)

@@ -12,7 +12,7 @@ use Rattle.cells.proofs.Asking.{nothing_same, asks_nothing}
 use Rattle.lawful.specs.declared.notes.Given.{Given}
 use Rattle.lawful.specs.declared.notes.Note.{Note}
 use Rattle.lawful.specs.Lawful.{library_terms}
-use Rattle.lending.specs.Lent.{Lending, sight_of, IsLent}
+use Rattle.lending.specs.Lent.{Lending, lent_sight, IsLent}
 use Rattle.lending.proofs.Lending.{reads_lent, stops_lent}
 use Rattle.lending.proofs.Sighted.{rereads_sight, reads_sight, reads_within, stops_look, stops_within}
 
@@ -34,8 +34,8 @@ module _ (l : Lending) (stage : Staged) (over : Option Conflict) (i : IsLent l s
     going_on = not_over l.going.over (λ c e. let a : ◌≡◌ {A = Answer} (Ok v) (Err c) = (stopped c e).0 in cc)
 
     abbrev Ends : Going Given Note → Type 0
-    Ends x = IsLent (record l { going = x }) stage over × Reads cell v (sight_of l) (sight_of (record l { going = x }))
-        × ReadsWithin (λ c. c ≡ cell) (sight_of l) (sight_of (record l { going = x }))
+    Ends x = IsLent (record l { going = x }) stage over × Reads cell v (lent_sight l) (lent_sight (record l { going = x }))
+        × ReadsWithin (λ c. c ≡ cell) (lent_sight l) (lent_sight (record l { going = x }))
 
     pub read_ends : Ends r
     read_ends = go (value_kept l.going.slots cell) refl
@@ -51,14 +51,14 @@ module _ (l : Lending) (stage : Staged) (over : Option Conflict) (i : IsLent l s
             let k = kept w going_on e in
             let same : w ≡ v = (let a : ◌≡◌ {A = Answer} (Ok v) (Ok w) = k.0 in cc) in
             subst Ends (sym k.1)
-            (i, rereads_sight l stage over i cell v (e ∙ ap (λ (x : ℕ). Some x) same), asks_nothing (nothing_same (sight_of l)))
+            (i, rereads_sight l stage over i cell v (e ∙ ap (λ (x : ℕ). Some x) same), asks_nothing (nothing_same (lent_sight l)))
 
   -- it met a conflict, or had met it before
   module _ (met : Conflict) (stopped : (c : Conflict) → l.going.over ≡ Some c → ◌≡◌ {A = Answer} (Err met) (Err c) × (r ≡ l.going))
       (stops : l.going.over ≡ None → HasStopped library_terms cell met l.going r) where
     abbrev Stops : Going Given Note → Type 0
-    Stops x = IsLent (record l { going = x }) stage (Some met) × Looks (sight_of l) (sight_of (record l { going = x }))
-        × ReadsWithin (λ c. c ≡ cell) (sight_of l) (sight_of (record l { going = x }))
+    Stops x = IsLent (record l { going = x }) stage (Some met) × Looks (lent_sight l) (lent_sight (record l { going = x }))
+        × ReadsWithin (λ c. c ≡ cell) (lent_sight l) (lent_sight (record l { going = x }))
 
     pub stop_ends : Stops r
     stop_ends = go l.going.over refl
@@ -70,6 +70,6 @@ module _ (l : Lending) (stage : Staged) (over : Option Conflict) (i : IsLent l s
             let same : c ≡ met = (let a : ◌≡◌ {A = Answer} (Err met) (Err c) = k.0 in cc) in
             subst Stops (sym k.1) (
               subst (IsLent l stage) (sym i.over_is ∙ (e ∙ ap (λ (x : Conflict). Some x) same)) i,
-              looks_refl (sight_of l),
-              asks_nothing (nothing_same (sight_of l)),
+              looks_refl (lent_sight l),
+              asks_nothing (nothing_same (lent_sight l)),
             )

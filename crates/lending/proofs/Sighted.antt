@@ -28,7 +28,7 @@ use Rattle.cells.proofs.Sights.{onward_refl, looks_refl}
 use Rattle.lawful.specs.declared.notes.Given.{Given}
 use Rattle.lawful.specs.declared.notes.Note.{Note}
 use Rattle.lawful.specs.Lawful.{library_terms}
-use Rattle.lending.specs.Lent.{Lending, sight_of, IsLent}
+use Rattle.lending.specs.Lent.{Lending, lent_sight, IsLent}
 use Rattle.lending.proofs.Kept.{written_kept, kept_has}
 use Rattle.lending.proofs.Lending.{pass_on, noted_values, noted_writes, later, read_on, slots_on}
 
@@ -36,14 +36,10 @@ use Rattle.lending.proofs.Lending.{pass_on, noted_values, noted_writes, later, r
 
 later_onward : (l : Lending) (seen : Seen Note) (looked full : Option (ℕ × ℕ)) (taken added : ℕ) (over : Option Conflict) (no_room : Bool)
     → l.going.known.taken ≤ taken → SeenGrows l.going.known.seen seen
-    → Onward (sight_of l) (sight_of (later l seen looked full taken added over no_room))
+    → Onward (lent_sight l) (lent_sight (later l seen looked full taken added over no_room))
 later_onward l seen looked full taken added over no_room more grows =
     record {
-      origin = refl;
-      setting = refl;
-      may_write = refl;
-      may_stage = refl;
-      room = refl;
+      terms = refl;
       ranges = grows.2;
       reads = λ st f. f;
       read = λ c w. w;
@@ -54,7 +50,7 @@ later_onward l seen looked full taken added over no_room more grows =
 
 later_looks : (l : Lending) (seen : Seen Note) (looked full : Option (ℕ × ℕ)) (added : ℕ) (over : Option Conflict) (no_room : Bool)
     → SeenGrows l.going.known.seen seen
-    → Looks (sight_of l) (sight_of (later l seen looked full l.going.known.taken added over no_room))
+    → Looks (lent_sight l) (lent_sight (later l seen looked full l.going.known.taken added over no_room))
 later_looks l seen looked full added over no_room grows =
     record {
       onward = later_onward l seen looked full l.going.known.taken added over no_room (omega arith) grows;
@@ -65,71 +61,71 @@ later_looks l seen looked full added over no_room grows =
 
 -- a word was loaded
 pub loads_look : (l : Lending) (r : Going Given Note) → HasLoaded library_terms l.going r
-    → Looks (sight_of l) (sight_of (record l { going = r }))
+    → Looks (lent_sight l) (lent_sight (record l { going = r }))
 loads_look l r h =
     let k = l.going.known in
-    subst (λ (x : Going Given Note). Looks (sight_of l) (sight_of (record l { going = x }))) (sym h.is)
+    subst (λ (x : Going Given Note). Looks (lent_sight l) (lent_sight (record l { going = x }))) (sym h.is)
     (later_looks l r.known.seen k.looked k.full k.added l.going.over l.full h.grows)
 
 -- and no cell was read
 pub loads_nothing : (l : Lending) (r : Going Given Note) → HasLoaded library_terms l.going r
-    → ReadsNothing (sight_of l) (sight_of (record l { going = r }))
+    → ReadsNothing (lent_sight l) (lent_sight (record l { going = r }))
 loads_nothing l r h =
-    subst (λ (x : Going Given Note). ReadsNothing (sight_of l) (sight_of (record l { going = x }))) (sym h.is) (record {
+    subst (λ (x : Going Given Note). ReadsNothing (lent_sight l) (lent_sight (record l { going = x }))) (sym h.is) (record {
       asked =
           λ c was. was;
     })
 
 -- words were loaded, or none
 pub loads_some : (l : Lending) (r : Going Given Note) → HasLoadedSome library_terms l.going r
-    → Looks (sight_of l) (sight_of (record l { going = r })) × ReadsNothing (sight_of l) (sight_of (record l { going = r }))
+    → Looks (lent_sight l) (lent_sight (record l { going = r })) × ReadsNothing (lent_sight l) (lent_sight (record l { going = r }))
 loads_some l r h =
     let told : Going Given Note → Type 0 =
-    λ x. Looks (sight_of l) (sight_of (record l { going = x })) × ReadsNothing (sight_of l) (sight_of (record l { going = x })) in
-    ⊎_elim (λ same. subst told (sym same) (looks_refl (sight_of l), nothing_same (sight_of l)))
+    λ x. Looks (lent_sight l) (lent_sight (record l { going = x })) × ReadsNothing (lent_sight l) (lent_sight (record l { going = x })) in
+    ⊎_elim (λ same. subst told (sym same) (looks_refl (lent_sight l), nothing_same (lent_sight l)))
     (λ some. (loads_look l r some, loads_nothing l r some)) h
 
 -- a read met a conflict
 pub stops_look : (l : Lending) (cell : ℕ) (met : Conflict) (r : Going Given Note) → HasStopped library_terms cell met l.going r
-    → Looks (sight_of l) (sight_of (record l { going = r }))
+    → Looks (lent_sight l) (lent_sight (record l { going = r }))
 stops_look l cell met r h =
     let k = l.going.known in
-    subst (λ (x : Going Given Note). Looks (sight_of l) (sight_of (record l { going = x }))) (sym h.is)
+    subst (λ (x : Going Given Note). Looks (lent_sight l) (lent_sight (record l { going = x }))) (sym h.is)
     (later_looks l r.known.seen (Some (cell, met.word)) k.full k.added (Some met) l.full h.grows)
 
 -- and no cell was asked for but its own
 pub stops_within : (l : Lending) (cell : ℕ) (met : Conflict) (r : Going Given Note) → HasStopped library_terms cell met l.going r
-    → ReadsWithin (λ c. c ≡ cell) (sight_of l) (sight_of (record l { going = r }))
+    → ReadsWithin (λ c. c ≡ cell) (lent_sight l) (lent_sight (record l { going = r }))
 stops_within l cell met r h =
-    subst (λ (x : Going Given Note). ReadsWithin (λ c. c ≡ cell) (sight_of l) (sight_of (record l { going = x }))) (sym h.is)
+    subst (λ (x : Going Given Note). ReadsWithin (λ c. c ≡ cell) (lent_sight l) (lent_sight (record l { going = x }))) (sym h.is)
     (record { asked = either })
   where
     stopped : Lending
     stopped = later l r.known.seen (Some (cell, met.word)) l.going.known.full l.going.known.taken l.going.known.added (Some met) l.full
 
-    either : (c : ℕ) → WasAsked (sight_of stopped) c → WasAsked (sight_of l) c ⊎ (c ≡ cell)
+    either : (c : ℕ) → WasAsked (lent_sight stopped) c → WasAsked (lent_sight l) c ⊎ (c ≡ cell)
     either c (inl read) = inl (inl read)
     either c (inr is) = inr (let same : met.cell ≡ c = cc in sym same ∙ h.cell_is)
 
 -- a staging was refused
 pub refused_look : (l : Lending) (count : ℕ) (r : Going Given Note) → IsRefused library_terms count l.going r
-    → Looks (sight_of l) (sight_of (record l { going = r; full = true }))
+    → Looks (lent_sight l) (lent_sight (record l { going = r; full = true }))
 refused_look l count r (inl (p, e, same)) =
-    subst (λ (x : Going Given Note). Looks (sight_of l) (sight_of (record l { going = x; full = true }))) (sym same)
-    (looks_refl (sight_of l))
+    subst (λ (x : Going Given Note). Looks (lent_sight l) (lent_sight (record l { going = x; full = true }))) (sym same)
+    (looks_refl (lent_sight l))
 refused_look l count r (inr (tail, h)) =
     let k = l.going.known in
-    subst (λ (x : Going Given Note). Looks (sight_of l) (sight_of (record l { going = x; full = true }))) (sym h.is)
+    subst (λ (x : Going Given Note). Looks (lent_sight l) (lent_sight (record l { going = x; full = true }))) (sym h.is)
     (later_looks l r.known.seen k.looked (Some (tail, count)) (min count (k.home.room + 1)) l.going.over true h.grows)
 
 -- and no cell was read
 pub refused_nothing : (l : Lending) (count : ℕ) (r : Going Given Note) → IsRefused library_terms count l.going r
-    → ReadsNothing (sight_of l) (sight_of (record l { going = r; full = true }))
+    → ReadsNothing (lent_sight l) (lent_sight (record l { going = r; full = true }))
 refused_nothing l count r (inl (p, e, same)) =
-    subst (λ (x : Going Given Note). ReadsNothing (sight_of l) (sight_of (record l { going = x; full = true }))) (sym same)
+    subst (λ (x : Going Given Note). ReadsNothing (lent_sight l) (lent_sight (record l { going = x; full = true }))) (sym same)
     (record { asked = λ c was. was })
 refused_nothing l count r (inr (tail, h)) =
-    subst (λ (x : Going Given Note). ReadsNothing (sight_of l) (sight_of (record l { going = x; full = true }))) (sym h.is)
+    subst (λ (x : Going Given Note). ReadsNothing (lent_sight l) (lent_sight (record l { going = x; full = true }))) (sym h.is)
     (record { asked = λ c was. was })
 
 -- ---- words are staged
@@ -164,20 +160,16 @@ none_staged stage words e = go (get stage words) refl
 pub stages_sight : {A E : Type 0} (l : Lending) (words : List ℕ) (range : Place) (r : Going Given Note) (next : Staged) (made : Result A E)
     → HasStaged library_terms words range.start l.going r → get l.staged words ≡ None
     → OnOk made (next ≡ insert l.staged words range.start) → OnErr made (next ≡ l.staged)
-    → range.len ≡ length words → Stages words range (sight_of l) (sight_of (record l { going = r; staged = next }))
+    → range.len ≡ length words → Stages words range (lent_sight l) (lent_sight (record l { going = r; staged = next }))
 stages_sight l words range r next made h none ok err len =
     let k = l.going.known in
     let taken = k.taken + length words in
     let stays = stays_or_not l.staged next words range.start made none ok err in
     let on = later_onward l r.known.seen k.looked k.full taken k.added l.going.over l.full (omega arith) h.grows in
-    subst (λ (x : Going Given Note). Stages words range (sight_of l) (sight_of (record l { going = x; staged = next }))) (sym h.is)
+    subst (λ (x : Going Given Note). Stages words range (lent_sight l) (lent_sight (record l { going = x; staged = next }))) (sym h.is)
     (record {
       onward = record {
-        origin = refl;
-        setting = refl;
-        may_write = refl;
-        may_stage = refl;
-        room = refl;
+        terms = refl;
         ranges = on.ranges;
         reads = on.reads;
         read = on.read;
@@ -195,19 +187,19 @@ stages_sight l words range r next made h none ok err len =
 -- and no cell is read
 pub stages_nothing : (l : Lending) (words : List ℕ) (start : ℕ) (r : Going Given Note) (next : Staged)
     → HasStaged library_terms words start l.going r
-    → ReadsNothing (sight_of l) (sight_of (record l { going = r; staged = next }))
+    → ReadsNothing (lent_sight l) (lent_sight (record l { going = r; staged = next }))
 stages_nothing l words start r next h =
-    subst (λ (x : Going Given Note). ReadsNothing (sight_of l) (sight_of (record l { going = x; staged = next }))) (sym h.is)
+    subst (λ (x : Going Given Note). ReadsNothing (lent_sight l) (lent_sight (record l { going = x; staged = next }))) (sym h.is)
     (record { asked = λ c was. was })
 
 -- words that were staged are taken again
 pub again_sight : (l : Lending) (stage : Staged) (over : Option Conflict) → IsLent l stage over → (words : List ℕ) (range : Place)
-    → l.staged ≡ stage → option_map (range_at words) (get stage words) ≡ Some range → Stages words range (sight_of l) (sight_of l)
+    → l.staged ≡ stage → option_map (range_at words) (get stage words) ≡ Some range → Stages words range (lent_sight l) (lent_sight l)
 again_sight l stage over i words range own found =
     let is = found_is_staged l.going.known.seen.ranges stage words range i.staged found in
     let at = staged_at stage words range found in
     record {
-      onward = onward_refl (sight_of l);
+      onward = onward_refl (lent_sight l);
       writes = refl;
       finished = is.0;
       len = is.1;
@@ -234,10 +226,10 @@ again_sight l stage over i words range own found =
 
 module _ (l : Lending) (stage : Staged) (over : Option Conflict) (i : IsLent l stage over) (cell value : ℕ) where
   -- its value was kept
-  pub rereads_sight : value_kept l.going.slots cell ≡ Some value → Reads cell value (sight_of l) (sight_of l)
+  pub rereads_sight : value_kept l.going.slots cell ≡ Some value → Reads cell value (lent_sight l) (lent_sight l)
   rereads_sight e =
       record {
-        looks = looks_refl (sight_of l);
+        looks = looks_refl (lent_sight l);
         value = λ st m. sym (ap (λ (o : Option ℕ). value_or o (st.value cell)) (written_kept l.going.slots cell ∙ e));
         read = i.kept cell (ap is_some e);
         named = i.named cell value (kept_has l.going.slots cell value e);
@@ -250,15 +242,11 @@ module _ (l : Lending) (stage : Staged) (over : Option Conflict) (i : IsLent l s
     same : writes_kept r.slots ≡ writes_kept l.going.slots
     same = noted_writes l.going.mode l.going.slots r.slots cell h.word h.notes
 
-    looks_now : Looks (sight_of l) (sight_of now)
+    looks_now : Looks (lent_sight l) (lent_sight now)
     looks_now =
         record {
           onward = record {
-            origin = refl;
-            setting = refl;
-            may_write = refl;
-            may_stage = refl;
-            room = refl;
+            terms = refl;
             ranges = h.grows.2;
             reads = λ st f. f.1;
             read = λ c w. (w.0, inr w.1);
@@ -271,7 +259,7 @@ module _ (l : Lending) (stage : Staged) (over : Option Conflict) (i : IsLent l s
           staged = refl;
         }
 
-    reads_now : value_kept l.going.slots cell ≡ None → Reads cell value (sight_of l) (sight_of now)
+    reads_now : value_kept l.going.slots cell ≡ None → Reads cell value (lent_sight l) (lent_sight now)
     reads_now unkept =
         record {
           looks = looks_now;
@@ -282,17 +270,18 @@ module _ (l : Lending) (stage : Staged) (over : Option Conflict) (i : IsLent l s
         }
 
     -- it was read
-    pub reads_sight : value_kept l.going.slots cell ≡ None → Reads cell value (sight_of l) (sight_of (record l { going = r }))
+    pub reads_sight : value_kept l.going.slots cell ≡ None → Reads cell value (lent_sight l) (lent_sight (record l { going = r }))
     reads_sight unkept =
-        subst (λ (x : Going Given Note). Reads cell value (sight_of l) (sight_of (record l { going = x }))) (sym h.is) (reads_now unkept)
+        subst (λ (x : Going Given Note). Reads cell value (lent_sight l) (lent_sight (record l { going = x }))) (sym h.is)
+        (reads_now unkept)
 
     -- and no other
-    pub reads_within : ReadsWithin (λ c. c ≡ cell) (sight_of l) (sight_of (record l { going = r }))
+    pub reads_within : ReadsWithin (λ c. c ≡ cell) (lent_sight l) (lent_sight (record l { going = r }))
     reads_within =
-        subst (λ (x : Going Given Note). ReadsWithin (λ c. c ≡ cell) (sight_of l) (sight_of (record l { going = x }))) (sym h.is)
+        subst (λ (x : Going Given Note). ReadsWithin (λ c. c ≡ cell) (lent_sight l) (lent_sight (record l { going = x }))) (sym h.is)
         (record { asked = either })
       where
-        either : (c : ℕ) → WasAsked (sight_of now) c → WasAsked (sight_of l) c ⊎ (c ≡ cell)
+        either : (c : ℕ) → WasAsked (lent_sight now) c → WasAsked (lent_sight l) c ⊎ (c ≡ cell)
         either c (inl (v, inl here)) = inr (ap (λ (p : ℕ × ℕ). p.0) here)
         either c (inl (v, inr before)) = inl (inl (v, before))
         either c (inr stopped) = inl (inr stopped)
@@ -300,14 +289,10 @@ module _ (l : Lending) (stage : Staged) (over : Option Conflict) (i : IsLent l s
 -- ---- a value is kept aside for a cell
 
 kept_sight : (l : Lending) (cell value : ℕ) (slots : List Slot) → HasKept l.going.slots slots cell value
-    → Writes cell value (sight_of l) (sight_of (slots_on l slots))
+    → Writes cell value (lent_sight l) (lent_sight (slots_on l slots))
 kept_sight l cell value slots k =
     record {
-      origin = refl;
-      setting = refl;
-      may_write = refl;
-      may_stage = refl;
-      room = refl;
+      terms = refl;
       ranges = refl;
       reads = refl;
       taken = refl;
@@ -322,7 +307,7 @@ kept_sight l cell value slots k =
         (λ n. rw (ne_eqb c cell n) (written_kept slots c ∙ (k.2 c n ∙ sym (written_kept l.going.slots c))))
 
 pub writes_sight : (l : Lending) (cell value : ℕ) (r : Going Given Note) → HasKept l.going.slots r.slots cell value
-    → r ≡ record l.going { slots = r.slots } → Writes cell value (sight_of l) (sight_of (record l { going = r }))
+    → r ≡ record l.going { slots = r.slots } → Writes cell value (lent_sight l) (lent_sight (record l { going = r }))
 writes_sight l cell value r k same =
-    subst (λ (x : Going Given Note). Writes cell value (sight_of l) (sight_of (record l { going = x }))) (sym same)
+    subst (λ (x : Going Given Note). Writes cell value (lent_sight l) (lent_sight (record l { going = x }))) (sym same)
     (kept_sight l cell value r.slots k)

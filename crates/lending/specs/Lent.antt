@@ -3,7 +3,7 @@ use Rattle.std.specs.Prelude.{◌≡◌, ℕ, ◌/◌, ◌≤◌, Bool, true, fa
 use Rattle.std.specs.Coded.{Coded, coded_ℕ, coded_list}
 use Rattle.std.specs.FinMap as map
 use Rattle.std.specs.Option.{option_map}
-use Rattle.tlcore.specs.History.{WasWritten}
+use Rattle.tlcore.specs.History.{IsVersionOf}
 use Rattle.ranges.specs.Ranges.{Has, Names}
 use Rattle.ranges.specs.Pairs.{Pairs, written}
 use Rattle.tlwords.specs.declared.mode.Mode.{Mode}
@@ -20,7 +20,7 @@ use Rattle.cells.specs.Slots.{is_ranged}
 use Rattle.cells.specs.Sight.{Sight, WasRead, Suits}
 use Rattle.lawful.specs.declared.notes.Given.{Given}
 use Rattle.lawful.specs.declared.notes.Note.{Note}
-use Rattle.lawful.specs.Lawful.{setting_of, library_terms}
+use Rattle.lawful.specs.Lawful.{setting_given, library_terms}
 use Rattle.lawful.specs.Laws.{IsPassOn}
 
 -- what a pass of a library knows
@@ -55,11 +55,11 @@ is_writing Reading = false
 is_writing Writing = true
 
 -- what commands see of it
-abbrev pub sight_of : Lending → Sight Pass
-sight_of l =
+abbrev pub lent_sight : Lending → Sight Pass
+lent_sight l =
     record {
       origin = l.began;
-      setting = setting_of l.given;
+      setting = setting_given l.given;
       may_write = is_writing l.going.mode;
       may_stage = l.may_stage;
       ranges = l.going.known.seen.ranges;
@@ -72,13 +72,13 @@ sight_of l =
     }
 
 -- some state that shows a library that verifies agrees with all that the run has seen
-abbrev pub Agrees : Lending → Type 0
-Agrees l = (st : State) × (lib : List Ranked) × Suits (sight_of l) st lib
+abbrev pub AgreesWithSome : Lending → Type 0
+AgreesWithSome l = (st : State) × (lib : List Ranked) × Suits (lent_sight l) st lib
 
 -- a run that commands may be given: at all times it agrees with some state
 pub record Lent : Type 0 where
   pub run : Lending
-  pub agrees : ∥ Agrees run ∥₁
+  pub agrees : ∥ AgreesWithSome run ∥₁
 
 -- the word that the last look found, if there was one, is no conflict of a run at the place: it shows the lock free, and a version up to
 -- there, and it is the one under which the newest read of the cell ended
@@ -90,7 +90,7 @@ FindsNone place looked found =
 -- none
 pub record HasMet (met : Conflict) (g : Going Given Note) : Type 0 where
   pub looked : g.known.looked ≡ Some (met.cell, met.word)
-  pub written : WasWritten g.known.seen.history met.cell (met.word / 2)
+  pub written : IsVersionOf g.known.seen.history met.cell (met.word / 2)
   pub cause : HasCause g.place met.word
   pub before : met.before ≡ word_told g.mode met.cell g.known.found
 
@@ -113,8 +113,8 @@ pub record IsLent (l : Lending) (stage : Staged) (over : Option Conflict) : Type
   -- a run that only reads notes nothing of what it read
   pub unnoted : l.going.mode ≡ Reading → (c : ℕ) → word_seen l.going.slots c ≡ None
   -- what is kept aside is of cells that were read, and in range cells it names finished ranges
-  pub read : l.going.mode ≡ Writing → (c : ℕ) → WasRead (sight_of l) c → was_read l.going.slots c ≡ true
-  pub kept : (c : ℕ) → is_some (value_kept l.going.slots c) ≡ true → WasRead (sight_of l) c
+  pub read : l.going.mode ≡ Writing → (c : ℕ) → WasRead (lent_sight l) c → was_read l.going.slots c ≡ true
+  pub kept : (c : ℕ) → is_some (value_kept l.going.slots c) ≡ true → WasRead (lent_sight l) c
   pub named : (c v : ℕ) → Has (c, v) (writes_kept l.going.slots) → is_ranged l.given.slots c ≡ true → Names l.going.known.seen.ranges v
   pub staged : AreStaged l.going.known.seen.ranges stage
   pub over_is : l.going.over ≡ over

@@ -1,7 +1,7 @@
 //! A run of a library's words as the cells of a library.
 
 ghost use Rattle.std.specs.Prelude.{◌≡◌, ◌≢◌, ◌<◌, ℕ, List, [], Some, None, true, IfOk, IfErr, slice_get};
-ghost use Rattle.lending.specs.Lent.{Agrees};
+ghost use Rattle.lending.specs.Lent.{AgreesWithSome};
 
 use crate::kit::Kit;
 use bodystore::Stage;
@@ -37,7 +37,7 @@ pub struct Live<'w> {
     may_stage: bool,
     given: Snapshot<Given>,
     began: Snapshot<Pass<LibraryLaw>>,
-    ghost agrees: { ∥ Agrees (record {
+    ghost agrees: { ∥ AgreesWithSome (record {
       given = given.value;
       began = began.value;
       going = run;
@@ -200,11 +200,11 @@ impl<'w> Cells for Live<'w> {
     ghost use Rattle.std.specs.Prelude.{IsOkUnless};
     ghost use Rattle.cells.specs.Sight.{Looks, Reads, Stages, ReadsWithin, ReadsNothing};
     ghost use Rattle.cells.specs.Slots.{cell_count};
-    ghost use Rattle.lending.specs.Lent.{sight_of};
+    ghost use Rattle.lending.specs.Lent.{lent_sight};
 
     type Origin = Pass<LibraryLaw>;
 
-    ghost sight = { λ l. sight_of l.run };
+    ghost sight = { λ l. lent_sight l.run };
 
     fn slots(&self) -> usize {
         self.slots
@@ -212,10 +212,10 @@ impl<'w> Cells for Live<'w> {
 
     // the trait's clauses, and why it halts
     fn read(&mut self, cell: usize) -> Result<u64, Halt>
-        requires { cell < cell_count (sight_of self.old.run).setting.slots }
-        ensures ok { IfOk result (λ v. Reads cell v (sight_of self.old.run) (sight_of self.new.run)) }
-        ensures err { IfErr result (λ _. Looks (sight_of self.old.run) (sight_of self.new.run)) }
-        ensures reads { ReadsWithin (λ c. c ≡ cell) (sight_of self.old.run) (sight_of self.new.run) }
+        requires { cell < cell_count (lent_sight self.old.run).setting.slots }
+        ensures ok { IfOk result (λ v. Reads cell v (lent_sight self.old.run) (lent_sight self.new.run)) }
+        ensures err { IfErr result (λ _. Looks (lent_sight self.old.run) (lent_sight self.new.run)) }
+        ensures reads { ReadsWithin (λ c. c ≡ cell) (lent_sight self.old.run) (lent_sight self.new.run) }
         ensures conflict { IsOkUnless result Halt.Conflict }
     {
         match self.run.read(cell) {
@@ -241,11 +241,11 @@ impl<'w> Cells for Live<'w> {
 
     // the trait's clauses, and why it halts
     fn stage(&mut self, words: &[u64]) -> Result<Range, Halt>
-        requires may { (sight_of self.old.run).may_stage ≡ true }
+        requires may { (lent_sight self.old.run).may_stage ≡ true }
         requires some { words.now ≢ [] }
-        ensures ok { IfOk result (λ range. Stages words.now range (sight_of self.old.run) (sight_of self.new.run)) }
-        ensures err { IfErr result (λ _. Looks (sight_of self.old.run) (sight_of self.new.run)) }
-        ensures reads { ReadsNothing (sight_of self.old.run) (sight_of self.new.run) }
+        ensures ok { IfOk result (λ range. Stages words.now range (lent_sight self.old.run) (lent_sight self.new.run)) }
+        ensures err { IfErr result (λ _. Looks (lent_sight self.old.run) (lent_sight self.new.run)) }
+        ensures reads { ReadsNothing (lent_sight self.old.run) (lent_sight self.new.run) }
         ensures full { IsOkUnless result Halt.StoreFull }
     {
         if let Some(range) = self.stage.find(words) {

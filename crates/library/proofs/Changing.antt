@@ -7,7 +7,7 @@ use Rattle.std.proofs.lemmas.Bool.{cond_both}
 use Rattle.std.proofs.lemmas.List.{length-map}
 use Rattle.std.proofs.lemmas.List.Elements.{All-map, All-contains, Contains-get_or}
 use Rattle.mmsyntax.specs.Assertions.{is_lawful_label, Distinct, Fits}
-use Rattle.mmsyntax.specs.Dotted.{AreApart}
+use Rattle.mmsyntax.specs.Dotted.{ClashNowhere}
 use Rattle.mmsyntax.specs.Tables.{Tables}
 use Rattle.mmframes.specs.Frames.{frame}
 use Rattle.library.specs.declared.library.Ranked.{Ranked}
@@ -82,7 +82,7 @@ module _ (s : Setting) (lib : List Ranked) (label : List ℕ) (change : Ranked �
             lawful = changed_all Lawful (subst (λ l. IsTrue (is_lawful_label s.prelude l)) (sym (keeps e).0) own)
                 (λ f at n. All-contains Lawful lib f v.library.lawful at);
             distinct = changed_distinct v.library.distinct;
-            apart = subst AreApart (sym (labels-changed lib)) v.library.apart;
+            apart = subst ClashNowhere (sym (labels-changed lib)) v.library.apart;
             room = omega (arith, length-map lib (change_at label change), v.library.room);
           };
           fit = changed_all Fit fits (λ f at n. All-contains Fit lib f v.fit at);

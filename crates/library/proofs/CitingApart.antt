@@ -8,7 +8,7 @@ use Rattle.mmsyntax.specs.declared.statement.Kind.TheVariants.{Axiom, Theorem}
 use Rattle.mmsyntax.specs.declared.statement.Step.{Step}
 use Rattle.mmsyntax.specs.declared.statement.Step.TheVariants.{Float, Hyp, Cite}
 use Rattle.mmsyntax.specs.Assertions.{CitesApart}
-use Rattle.mmsyntax.specs.Dotted.{AreApart}
+use Rattle.mmsyntax.specs.Dotted.{ClashNowhere}
 use Rattle.library.specs.declared.library.Ranked.{Ranked}
 use Rattle.library.specs.Library.{Setting, label_of, lower, citable}
 use Rattle.library.proofs.Derivations.{NamesOne, steps_named}
@@ -17,7 +17,7 @@ use Rattle.library.proofs.Frames.{frame_found}
 use Rattle.library.proofs.Lower.{lower_all}
 use Rattle.library.proofs.Showing.{ChecksIn}
 
-module _ (s : Setting) (lib : List Ranked) (apart : AreApart (map label_of lib)) where
+module _ (s : Setting) (lib : List Ranked) (apart : ClashNowhere (map label_of lib)) where
   step_apart : (rank : ℕ) (a : Assertion) → Contains (map label_of lib) a.label → (step : Step)
       → NamesOne (citable s lib rank) s.prelude a step → CitesApart a.label step
   step_apart rank a own (Float j) h = tt

@@ -7,7 +7,7 @@ use Rattle.std.specs.Str.{bytes_eq}
 use Rattle.std.proofs.lemmas.Bool.{cases_Bool, cond-true, not-true, not_from_false, or_parts}
 use Rattle.std.proofs.lemmas.List.Elements.{All-contains, Contains-get_or, filter_passes}
 use Rattle.std.proofs.lemmas.List.Folds.{list_any_at, list_any_none, Any-from_list_any}
-use Rattle.mmsyntax.specs.Dotted.{clash, AreApart}
+use Rattle.mmsyntax.specs.Dotted.{clash, ClashNowhere}
 use Rattle.mmsyntax.proofs.Apart.{apart_cons, apart_with, apart_within}
 use Rattle.mmsyntax.proofs.Distinct.{any-map}
 use Rattle.derivation.specs.Laws.{replacing}
@@ -81,21 +81,21 @@ without-absent (e ∷ lib) label h =
 -- ---- labels apart
 
 -- assertions among some whose labels are apart
-pub apart_among : (lib other : List Ranked) → ((e : Ranked) → Contains other e → Contains lib e) → AreApart (map label_of lib)
-    → AreApart (map label_of other)
+pub apart_among : (lib other : List Ranked) → ((e : Ranked) → Contains other e → Contains lib e) → ClashNowhere (map label_of lib)
+    → ClashNowhere (map label_of other)
 apart_among lib other among h =
     apart_within (map label_of lib) (map label_of other) (λ w w_in.
     let e = contains_unmapped label_of other w w_in in
     subst (Contains (map label_of lib)) e.2 (contains_mapped label_of lib e.0 (among e.0 e.1))) h
 
 -- one more in front
-pub apart_front : (lib : List Ranked) (e : Ranked) → clashes lib (label_of e) ≡ false → AreApart (map label_of lib)
-    → AreApart (map label_of (e ∷ lib))
+pub apart_front : (lib : List Ranked) (e : Ranked) → clashes lib (label_of e) ≡ false → ClashNowhere (map label_of lib)
+    → ClashNowhere (map label_of (e ∷ lib))
 apart_front lib e clear h = apart_cons (label_of e) (map label_of lib) (clashes-labels lib (label_of e) ∙ clear) h
 
 -- a label in the place of one, where it clashes with none of the others
-pub apart_replaced : (lib : List Ranked) (old new : List ℕ) → clashes (without old lib) new ≡ false → AreApart (map label_of lib)
-    → AreApart (map (replacing old new) (map label_of lib))
+pub apart_replaced : (lib : List Ranked) (old new : List ℕ) → clashes (without old lib) new ≡ false → ClashNowhere (map label_of lib)
+    → ClashNowhere (map (replacing old new) (map label_of lib))
 apart_replaced lib old new clear h =
     let ls = map label_of lib in
     apart_with ls (map (replacing old new) ls) new (λ w w_in.

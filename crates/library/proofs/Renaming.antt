@@ -10,7 +10,7 @@ use Rattle.mmsyntax.specs.declared.statement.Assertion.{Assertion}
 use Rattle.mmsyntax.specs.declared.statement.Kind.TheVariants.{Axiom}
 use Rattle.mmsyntax.specs.Tables.{Tables}
 use Rattle.mmsyntax.specs.Assertions.{is_lawful_label, CitesApart, Distinct, Fits}
-use Rattle.mmsyntax.specs.Dotted.{AreApart}
+use Rattle.mmsyntax.specs.Dotted.{ClashNowhere}
 use Rattle.derivation.specs.Laws.{replacing, step_relabelled, renamed}
 use Rattle.derivation.specs.Derivation.{Proves}
 use Rattle.derivation.specs.Databases.{frame_in}
@@ -67,7 +67,7 @@ library_renamed s lib old new l lawful free clear =
           (λ e own. cond_both (bytes_eq old (label_of e)) new (label_of e) Good (λ _. lawful) (λ _. own)) lib l.lawful);
       distinct = subst (Distinct bytes_eq) (sym (labels-rename old new lib))
           (distinct_replaced old new (map label_of lib) l.distinct (has-labels lib new ∙ free));
-      apart = subst AreApart (sym (labels-rename old new lib)) (apart_replaced lib old new clear l.apart);
+      apart = subst ClashNowhere (sym (labels-rename old new lib)) (apart_replaced lib old new clear l.apart);
       room = subst (λ n. n ≤ s.slots) (sym (length-map lib f)) l.room;
     }
 

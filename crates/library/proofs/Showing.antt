@@ -18,7 +18,7 @@ use Rattle.mmsyntax.specs.declared.symbols.Name.{Name}
 use Rattle.mmsyntax.specs.Tables.{Tables, meaning}
 use Rattle.mmsyntax.specs.Steps.{float_named}
 use Rattle.mmsyntax.specs.Assertions.{is_lawful_label, is_citable_label, Distinct, Fits, IsNameable, IsUnit, IsDeclarable}
-use Rattle.mmsyntax.specs.Dotted.{AreApart}
+use Rattle.mmsyntax.specs.Dotted.{ClashNowhere}
 use Rattle.mmsyntax.proofs.Declarable.{spelled_where_declarable}
 use Rattle.derivation.specs.Derivation.{Checks}
 use Rattle.library.specs.declared.library.Ranked.{Ranked}
@@ -123,7 +123,7 @@ shown_declarable l v =
       units = All-map (IsUnit l.setting.prelude) (λ e. e.assertion) l.entries (units_of l.setting l.entries v);
       lawful = All-map (λ a. IsTrue (is_lawful_label l.setting.prelude a.label)) (λ e. e.assertion) l.entries v.library.lawful;
       distinct = subst (Distinct bytes_eq) (sym (labels-assertions l.entries)) v.library.distinct;
-      apart = subst AreApart (sym (labels-assertions l.entries)) v.library.apart;
+      apart = subst ClashNowhere (sym (labels-assertions l.entries)) v.library.apart;
       few = omega (arith, length-map l.entries (λ (e : Ranked). e.assertion));
     }
 
@@ -146,7 +146,7 @@ verifies_shown s lib setting ranks room d checks =
         ranks = ranks;
         lawful = All-unmap (λ a. IsTrue (is_lawful_label s.prelude a.label)) assertion lib d.lawful;
         distinct = subst (Distinct bytes_eq) (labels-assertions lib) d.distinct;
-        apart = subst AreApart (labels-assertions lib) d.apart;
+        apart = subst ClashNowhere (labels-assertions lib) d.apart;
         room = room;
       };
       fit = All-unmap (Fits s.prelude) assertion lib (λ i z lt. (d.units i z lt).fits);

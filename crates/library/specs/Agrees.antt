@@ -6,7 +6,7 @@ use Rattle.library.specs.declared.command.Reply.{Reply}
 use Rattle.library.specs.declared.reason.Refused.{Refused}
 use Rattle.library.specs.Library.{Setting, ShowsInOrder}
 use Rattle.library.specs.Transactions.{apply}
-use Rattle.library.specs.Histories.{Entry, done_entry, after, IsSettledBefore}
+use Rattle.library.specs.Histories.{Entry, done_entry, after_front, IsSettledBefore}
 
 -- what is told: the transaction committed with number n, with these replies; it only read, or was refused, at place k, which is over the
 -- library after the first k entries; or these are the assertions of the library there
@@ -27,9 +27,9 @@ ReadsOver s lib cs replies = apply s lib cs ≡ Ok (record { library = lib; repl
 -- what is told of a call with these commands is so in a history from this opening library
 abbrev pub Agrees : Setting → List Ranked → List Entry → List Command → Answer → Type 0
 Agrees s lib0 h cs (committed n replies) = IsEntry h n cs replies
-Agrees s lib0 h cs (read k replies) = (k ≤ length h) × ReadsOver s (after s lib0 h k) cs replies
-Agrees s lib0 h cs (refused k reason) = (k ≤ length h) × (apply s (after s lib0 h k) cs ≡ Err reason)
-Agrees s lib0 h cs (snapshot k entries) = (k ≤ length h) × ShowsInOrder (after s lib0 h k) entries
+Agrees s lib0 h cs (read k replies) = (k ≤ length h) × ReadsOver s (after_front s lib0 h k) cs replies
+Agrees s lib0 h cs (refused k reason) = (k ≤ length h) × (apply s (after_front s lib0 h k) cs ≡ Err reason)
+Agrees s lib0 h cs (snapshot k entries) = (k ≤ length h) × ShowsInOrder (after_front s lib0 h k) entries
 
 -- the entries whose library an answer tells of are settled: those below its place. A committed one tells of its own entry alone
 abbrev pub IsSettledBelow : List Entry → Answer → Type 0

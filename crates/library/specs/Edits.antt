@@ -260,8 +260,8 @@ abbrev pub shown : List Ranked → Ranked → Edited
 shown lib e = record { library = lib; reply = Shown (citers lib (label_of e)) e }
 
 -- what is listed of an assertion
-abbrev pub line : List Ranked → Ranked → Line
-line lib e = record { rank = e.rank; label = label_of e; kind = e.assertion.kind; citers = citers lib (label_of e) }
+abbrev pub listing_line : List Ranked → Ranked → Line
+listing_line lib e = record { rank = e.rank; label = label_of e; kind = e.assertion.kind; citers = citers lib (label_of e) }
 
 -- the order of lines: by rank, then by the label
 abbrev pub line_cmp : Line → Line → Ordering
@@ -269,7 +269,7 @@ line_cmp a b = by_rank_then_label (λ l. l.rank) (λ l. l.label) a b
 
 -- all assertions in export order
 abbrev pub listed : List Ranked → Edited
-listed lib = record { library = lib; reply = Listed (map (line lib) (in_export_order lib)) }
+listed lib = record { library = lib; reply = Listed (map (listing_line lib) (in_export_order lib)) }
 
 abbrev pub edit : Setting → List Ranked → Command → Result Edited Reason
 edit s lib (command.Add rank a) = tested (add_tests s lib rank a) (done (added lib rank a))

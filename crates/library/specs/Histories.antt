@@ -38,8 +38,8 @@ after_all s lib [] = lib
 after_all s lib (e ∷ es) = after_all s (after_entry s lib e) es
 
 -- the library after the first k entries, which are a front of the history
-abbrev pub after : Setting → List Ranked → List Entry → ℕ → List Ranked
-after s lib h k = after_all s lib (take k h)
+abbrev pub after_front : Setting → List Ranked → List Entry → ℕ → List Ranked
+after_front s lib h k = after_all s lib (take k h)
 
 -- none of the first k entries is open
 abbrev pub IsSettledBefore : ℕ → List Entry → Type 0
@@ -59,7 +59,7 @@ IsRepeated s lib _ = Unit {0}
 abbrev pub IsLegal : Setting → List Ranked → List Entry → Type 0
 IsLegal s lib0 h =
     (i : ℕ) (cs : List Command) (replies : List Reply) → slice_get h i ≡ Some (done_entry cs replies)
-    → HasReplies s (after s lib0 h i) cs replies
+    → HasReplies s (after_front s lib0 h i) cs replies
 
 -- the library, in export order, after all of a history that is legal from an opening library
 pub record IsAfterHistory (s : Setting) (lib0 : List Ranked) (h : List Entry) (library : Listed) : Type 0 where

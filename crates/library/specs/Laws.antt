@@ -13,7 +13,7 @@ use Rattle.library.specs.Library.{setting_over, Listed, shown_database}
 use Rattle.library.specs.Fitting.{CommandFits, ReplyFits}
 use Rattle.library.specs.Edits.{Edited, edit}
 use Rattle.library.specs.Transactions.{Applied, apply, HasReplies, library_of, has_edit}
-use Rattle.library.specs.Histories.{Entry, done_entry, EntriesFit, after, Grows, IsSettledBefore, IsLegal}
+use Rattle.library.specs.Histories.{Entry, done_entry, EntriesFit, after_front, Grows, IsSettledBefore, IsLegal}
 use Rattle.library.specs.Agrees.{Answer, committed, Agrees, IsSettledBelow}
 
 -- the opening library of what some text declares verifies where each proof checks over the earlier assertions, with as many slots as one
@@ -67,7 +67,8 @@ ExportOrderIsOne = (lib a b : List Ranked) → Distinct bytes_eq (map label_of l
 -- from an opening library that verifies, the library after each front verifies, where the commands are within the limits of the prelude
 abbrev pub FrontsVerify : Type 0
 FrontsVerify =
-    (s : Setting) (lib0 : List Ranked) (h : List Entry) (k : ℕ) → Verifies s lib0 → EntriesFit s.prelude h → Verifies s (after s lib0 h k)
+    (s : Setting) (lib0 : List Ranked) (h : List Entry) (k : ℕ) → Verifies s lib0 → EntriesFit s.prelude h
+    → Verifies s (after_front s lib0 h k)
 
 -- a history is a later one of itself
 abbrev pub GrowthIsReflexive : Type 0
@@ -81,7 +82,7 @@ GrowthIsTransitive = (f g h : List Entry) → Grows f g → Grows g h → Grows 
 abbrev pub SettledFrontsStay : Type 0
 SettledFrontsStay =
     (s : Setting) (lib0 : List Ranked) (g h : List Entry) (k : ℕ) → Grows g h → k ≤ length g → IsSettledBefore k g
-    → after s lib0 h k ≡ after s lib0 g k
+    → after_front s lib0 h k ≡ after_front s lib0 g k
 
 -- a history that is legal from an opening library that verifies holds replies within the limits, where its commands are
 abbrev pub LegalRepliesFit : Type 0
@@ -102,4 +103,4 @@ abbrev pub CommitsAreLegal : Type 0
 CommitsAreLegal =
     (s : Setting) (lib0 : List Ranked) (h : List Entry) (cs : List Command) (k : ℕ) (replies : List Reply) → IsLegal s lib0 h
     → Agrees s lib0 h cs (committed (k + 1) replies)
-    → HasReplies s (after s lib0 h k) cs replies
+    → HasReplies s (after_front s lib0 h k) cs replies

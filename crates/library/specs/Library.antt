@@ -9,7 +9,7 @@ use Rattle.mmsyntax.specs.declared.statement.Assertion.{Assertion}
 use Rattle.mmsyntax.specs.Tables.{Tables, Contents}
 use Rattle.mmsyntax.specs.Layout.{IsSoundPrelude}
 use Rattle.mmsyntax.specs.Assertions.{is_lawful_label, Distinct, Fits}
-use Rattle.mmsyntax.specs.Dotted.{AreApart}
+use Rattle.mmsyntax.specs.Dotted.{ClashNowhere}
 use Rattle.derivation.specs.Derivation.{Citable, Checks}
 use Rattle.derivation.specs.Databases.{frame_in}
 use Rattle.library.specs.declared.library.Ranked.{Ranked}
@@ -42,7 +42,7 @@ pub record IsLibrary (s : Setting) (lib : List Ranked) : Type 0 where
   pub ranks : All (λ e. (1 ≤ e.rank) × (e.rank ≤ highest_rank)) lib
   pub lawful : All (λ e. IsTrue (is_lawful_label s.prelude (label_of e))) lib
   pub distinct : Distinct bytes_eq (map label_of lib)
-  pub apart : AreApart (map label_of lib)
+  pub apart : ClashNowhere (map label_of lib)
   pub room : length lib ≤ s.slots
 
 -- the assertions of strictly lower rank

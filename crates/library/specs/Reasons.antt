@@ -2,7 +2,7 @@
 use Rattle.std.specs.Prelude.{ℕ, List, [], ◌∷◌, ◌++◌, codes}
 use Rattle.std.specs.Fmt.{decimal}
 use Rattle.mmtext.specs.FaultNames.{numbered_name}
-use Rattle.derivation.specs.FaultNames.{printed_fault}
+use Rattle.derivation.specs.FaultNames.{printed_proof_fault}
 use Rattle.library.specs.declared.reason.Reason.{Reason}
 use Rattle.library.specs.declared.reason.Reason.TheVariants.{UnknownLabel, LabelTaken, BadLabel, BadRank, CitesUnknown, CitedNotLower}
 use Rattle.library.specs.declared.reason.Reason.TheVariants.{CiterNotHigher, StillCited, NotATheorem, AxiomNotAllowed, ProofFails}
@@ -43,7 +43,7 @@ name_of LabelClashes = codes "LabelClashes"
 -- what stands behind the name of a reason: the number of citers, or the step and the fault of the proof
 abbrev pub said_besides : Reason → List ℕ
 said_besides (StillCited citers) = 32 ∷ decimal citers
-said_besides (ProofFails fault) = 32 ∷ printed_fault fault
+said_besides (ProofFails fault) = 32 ∷ printed_proof_fault fault
 said_besides _ = []
 
 -- as in: 2 LabelTaken; 8 StillCited 3; 11 ProofFails step 1: 2 StackShort

@@ -6,7 +6,7 @@ use Rattle.library.specs.declared.library.Ranked.{Ranked}
 use Rattle.library.specs.Library.{Setting, ShowsInOrder}
 use Rattle.library.specs.Transactions.{apply}
 use Rattle.library.specs.Fitting.{CommandFits}
-use Rattle.library.specs.Histories.{Entry, open_entry, done_entry, EntryFits, after, Grows, IsSettledBefore}
+use Rattle.library.specs.Histories.{Entry, open_entry, done_entry, EntryFits, after_front, Grows, IsSettledBefore}
 use Rattle.library.specs.Agrees.{committed, read, refused, snapshot, ReadsOver}
 use Rattle.library.specs.Laws.{LegalRepliesFit, AgreementStays, CommitsAreLegal}
 use Rattle.librarylaws.proofs.Fitting.{replies_fit}
@@ -16,7 +16,7 @@ use Rattle.librarylaws.proofs.Fronts.{fronts_verify, settled_fronts_stay}
 
 -- what is so of the library at a place stays so
 place_stays : (P : List Ranked → Type 0) (s : Setting) (lib0 : List Ranked) (g h : List Entry) (k : ℕ) → Grows g h → IsSettledBefore k g
-    → (k ≤ length g) × P (after s lib0 g k) → (k ≤ length h) × P (after s lib0 h k)
+    → (k ≤ length g) × P (after_front s lib0 g k) → (k ≤ length h) × P (after_front s lib0 h k)
 place_stays P s lib0 g h k grows settled a =
     let longer = grows.longer in
     let within = a.0 in
@@ -37,7 +37,7 @@ agreement_stays s lib0 g h cs (snapshot k entries) grows settled a =
 pub commits_are_legal : CommitsAreLegal
 commits_are_legal s lib0 h cs k replies legal (i, is, at) =
     let same : i ≡ k = omega arith in
-    subst (λ n. (next : List Ranked) × (apply s (after s lib0 h n) cs ≡ Ok (record { library = next; replies = replies }))) same
+    subst (λ n. (next : List Ranked) × (apply s (after_front s lib0 h n) cs ≡ Ok (record { library = next; replies = replies }))) same
     (legal i cs replies at)
 
 pub legal_replies_fit : LegalRepliesFit
@@ -47,5 +47,5 @@ legal_replies_fit s lib0 h i cs replies v fit legal at =
     let is = get_or_from_slice_get h i e open_entry at in
     let commands : All (CommandFits s.prelude) cs = subst (EntryFits s.prelude) is (fit i open_entry within) in
     let answer = legal i cs replies at in
-    replies_fit s (after s lib0 h i) cs (record { library = answer.0; replies = replies })
+    replies_fit s (after_front s lib0 h i) cs (record { library = answer.0; replies = replies })
     (fronts_verify s lib0 h i v fit) commands answer.1

@@ -26,7 +26,7 @@ use Rattle.library.specs.declared.reason.Refused.{Refused}
 use Rattle.library.specs.Library.{Setting, Verifies, label_of, citable, in_export_order}
 use Rattle.library.specs.Edits.{Edited, Tests, tested, of_found, done, has, clashes, found, cites, citers, added, changed, with_rank, with_proof}
 use Rattle.library.specs.Edits.{rename, without, where_so, is_axiom, bad_rank, bad_label, cites_not_below, still_cited, fault_of, proof_fails}
-use Rattle.library.specs.Edits.{add_tests, reprove_tests, replace_tests, rename_tests, move_tests, recited, are_alike, shown, line, edit}
+use Rattle.library.specs.Edits.{add_tests, reprove_tests, replace_tests, rename_tests, move_tests, recited, are_alike, shown, listing_line, edit}
 use Rattle.library.specs.Fitting.{CommandFits, highest_rank}
 use Rattle.library.specs.Transactions.{Applied, with_reply, then_apply, apply_from, apply, library_of}
 use Rattle.library.specs.Laws.{EditsVerify, TransactionsVerify}
@@ -167,7 +167,7 @@ edit_verifies s lib (Delete label) e v fits h =
     (λ f here. edit_kept s ts next e (λ t. delete_kept s lib label v t.0)) h
 edit_verifies s lib (Show label) e v fits h =
     found_kept s (found lib label) (λ f. Ok (shown lib f)) e (λ f here. shown_kept s lib (Shown (citers lib (label_of f)) f) e v) h
-edit_verifies s lib ListAll e v fits h = shown_kept s lib (Listed (map (line lib) (in_export_order lib))) e v h
+edit_verifies s lib ListAll e v fits h = shown_kept s lib (Listed (map (listing_line lib) (in_export_order lib))) e v h
 
 -- ---- transactions
 

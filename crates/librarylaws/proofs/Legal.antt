@@ -5,7 +5,7 @@ use Rattle.std.specs.Prelude.{slice_get}
 use Rattle.library.specs.declared.library.Ranked.{Ranked}
 use Rattle.library.specs.declared.history.Entry.{Entry as CodeEntry}
 use Rattle.library.specs.Library.{Setting}
-use Rattle.library.specs.Histories.{Entry, done_entry, told, after, after_entry, after_all, IsRepeated, IsLegal}
+use Rattle.library.specs.Histories.{Entry, done_entry, told, after_front, after_entry, after_all, IsRepeated, IsLegal}
 
 module _ (s : Setting) where
   -- the library after it
@@ -29,10 +29,10 @@ module _ (s : Setting) (lib : List Ranked) (h : List Entry) (i : ℕ) (e : Entry
   one_more : i < length h → e ≡ get_or h i e → take (i + 1) h ≡ take i h ++ e ∷ []
   one_more lt is = take_more h i e lt ∙ ap (λ x. take i h ++ x ∷ []) (sym is)
 
-  pub after-more : i < length h → e ≡ get_or h i e → after s lib h (i + 1) ≡ after_entry s (after s lib h i) e
+  pub after-more : i < length h → e ≡ get_or h i e → after_front s lib h (i + 1) ≡ after_entry s (after_front s lib h i) e
   after-more lt is = ap (after_all s lib) (one_more lt is) ∙ after_all-more s lib (take i h) e
 
-  pub goes_on : i < length h → e ≡ get_or h i e → IsLegal s lib (take i h) → IsRepeated s (after s lib h i) e
+  pub goes_on : i < length h → e ≡ get_or h i e → IsLegal s lib (take i h) → IsRepeated s (after_front s lib h i) e
       → IsLegal s lib (take (i + 1) h)
   goes_on lt is legal repeated = subst (λ g. IsLegal s lib g) (sym (one_more lt is)) (legal_more s lib (take i h) e legal repeated)
 

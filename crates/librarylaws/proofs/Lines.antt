@@ -11,7 +11,7 @@ use Rattle.mmsyntax.specs.Assertions.{Distinct}
 use Rattle.library.specs.declared.command.Line.{Line}
 use Rattle.library.specs.declared.library.Ranked.{Ranked}
 use Rattle.library.specs.Library.{label_of, entry_cmp, in_export_order}
-use Rattle.library.specs.Edits.{line, line_cmp}
+use Rattle.library.specs.Edits.{listing_line, line_cmp}
 use Rattle.librarylaws.proofs.Listing.{in-export-order-is}
 
 pub line_cmp_total : IsTotalOrder line_cmp
@@ -43,15 +43,16 @@ module _ {A B : Type 0} (f : A → B) (xs : List A) where
       )) ys p
 
 -- entries whose lines are sorted are sorted
-entries_sorted : (lib es : List Ranked) → IsSorted line_cmp (map (line lib) es) → IsSorted entry_cmp es
+entries_sorted : (lib es : List Ranked) → IsSorted line_cmp (map (listing_line lib) es) → IsSorted entry_cmp es
 entries_sorted lib es up k d le next =
-    let f = line lib in
+    let f = listing_line lib in
     let here : k < length es = omega arith in
     rw (get_or-map f es (k + 1) d (f d) next, get_or-map f es k d (f d) here) at (up k (f d) le (omega (arith, length-map es f)))
 
-pub lines_in_order : (lib : List Ranked) (ls : List Line) → Distinct bytes_eq (map label_of lib) → IsPermutation (map (line lib) lib) ls
-    → IsSorted line_cmp ls → ls ≡ map (line lib) (in_export_order lib)
+pub lines_in_order : (lib : List Ranked) (ls : List Line) → Distinct bytes_eq (map label_of lib)
+    → IsPermutation (map (listing_line lib) lib) ls
+    → IsSorted line_cmp ls → ls ≡ map (listing_line lib) (in_export_order lib)
 lines_in_order lib ls apart perm up =
-    let z = order_lifted (line lib) lib ls perm in
+    let z = order_lifted (listing_line lib) lib ls perm in
     let ordered = entries_sorted lib z.0 (subst (IsSorted line_cmp) z.2 up) in
-    z.2 ∙ ap (map (line lib)) (in-export-order-is lib z.0 apart (record { same = z.1; ordered = ordered }))
+    z.2 ∙ ap (map (listing_line lib)) (in-export-order-is lib z.0 apart (record { same = z.1; ordered = ordered }))

@@ -5,8 +5,8 @@ use Rattle.mmsyntax.specs.declared.statement.Assertion.{Assertion}
 use Rattle.mmsyntax.specs.Tables.{Tables, Contents}
 use Rattle.mmsyntax.specs.Faults.{Position}
 use Rattle.mmunits.specs.Views.{known_of}
-use Rattle.statementreader.specs.Standing.{Stands}
-use Rattle.statementreader.specs.Recalls.{Knows}
+use Rattle.statementreader.specs.Standing.{SuitsPlace}
+use Rattle.statementreader.specs.Recalls.{RecallsTrue}
 use Rattle.statementreader.specs.Views.{seen_place, seen_position}
 use Rattle.mmreader.specs.declared.reading.DatabaseReader.{DatabaseReader}
 
@@ -16,7 +16,7 @@ database_place r = seen_position r.symbols r.units r.place
 
 -- it stands there, and what it keeps of words is so
 abbrev pub IsReadyDatabase : DatabaseReader → Type 0
-IsReadyDatabase r = Stands (known_of r.symbols r.units) (seen_place r.place) × Knows r.symbols r.recent
+IsReadyDatabase r = SuitsPlace (known_of r.symbols r.units) (seen_place r.place) × RecallsTrue r.symbols r.recent
 
 -- a database of two parts
 abbrev pub contents_of : Tables → List Assertion → Contents

@@ -7,8 +7,8 @@ ghost use Rattle.mmsyntax.specs.Faults.{in_place, row, database_language};
 ghost use Rattle.mmsyntax.specs.Grammar.{Spells};
 ghost use Rattle.mmsyntax.specs.Layout.{HasSpelling};
 ghost use Rattle.mmtext.specs.Views.{seen, Gives};
-ghost use Rattle.statementreader.specs.Recalls.{Knows};
-ghost use Rattle.statementreader.specs.Standing.{Stands};
+ghost use Rattle.statementreader.specs.Recalls.{RecallsTrue};
+ghost use Rattle.statementreader.specs.Standing.{SuitsPlace};
 ghost use Rattle.mmunits.specs.Views.{known_of};
 ghost use Rattle.statementreader.specs.Views.{seen_place, seen_position, IsUnitPlace, Leads};
 ghost use Rattle.mmreader.specs.Readers.{contents_of};
@@ -42,7 +42,7 @@ fn place_by_mark<'a>(
     token: Token<'a>,
     mark: Mark,
 ) -> Result<Place<'a>, Stop>
-    requires { Stands (known_of symbols.old units.old) (seen_place place) }
+    requires { SuitsPlace (known_of symbols.old units.old) (seen_place place) }
     ensures leads { Leads symbols.new units.new result
         (in_place (known_of symbols.old units.old) (seen_place place.entry) (seen token.entry) mark) }
     ensures kept { IsUnitPlace place.entry → symbols.new ≡ symbols.old }
@@ -62,10 +62,10 @@ fn next_place<'a>(
     token: Token<'a>,
     mark: Mark,
 ) -> Result<Place<'a>, Stop>
-    requires stands { Stands (known_of symbols.old units.old) (seen_place place) }
+    requires stands { SuitsPlace (known_of symbols.old units.old) (seen_place place) }
     requires mark { mark ≡ mark_of token.text.now }
     ensures leads { Leads symbols.new units.new result (row (seen_position symbols.old units.old place.entry) (seen token.entry)) }
-    ensures stands { IfOk result (λ p. Stands (known_of symbols.new units.new) (seen_place p)) }
+    ensures stands { IfOk result (λ p. SuitsPlace (known_of symbols.new units.new) (seen_place p)) }
     ensures kept { IsUnitPlace place.entry → symbols.new ≡ symbols.old }
 {
     place_by_mark(alloc, symbols, units, place, token, mark)
@@ -81,13 +81,13 @@ fn advance<'a>(
     token: Token<'a>,
     mark: Mark,
 ) -> Result<(), Stop>
-    requires stands { Stands (known_of symbols.old units.old) (seen_place place.old) }
-    requires knows { Knows symbols.old recent.old }
+    requires stands { SuitsPlace (known_of symbols.old units.old) (seen_place place.old) }
+    requires knows { RecallsTrue symbols.old recent.old }
     requires mark { mark ≡ mark_of token.text.now }
     ensures leads { Gives (λ _. seen_position symbols.new units.new place.new) result
         (row (seen_position symbols.old units.old place.old) (seen token.entry)) }
-    ensures stands { OnOk result (Stands (known_of symbols.new units.new) (seen_place place.new)) }
-    ensures knows { OnOk result (Knows symbols.new recent.new) }
+    ensures stands { OnOk result (SuitsPlace (known_of symbols.new units.new) (seen_place place.new)) }
+    ensures knows { OnOk result (RecallsTrue symbols.new recent.new) }
 {
     recent.keep_at(place);
     let here = mem::replace(place, Place::Unit(UnitPlace::AtClose));

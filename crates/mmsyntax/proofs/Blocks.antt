@@ -16,7 +16,7 @@ use Rattle.mmsyntax.specs.declared.statement.Assertion.{Assertion}
 use Rattle.mmtext.specs.declared.fault.FaultKind.TheVariants.{RepeatedLabel, BadLabel, TooLong}
 use Rattle.mmtext.specs.Words.{Word}
 use Rattle.mmsyntax.specs.Tables.{Tables, meaning}
-use Rattle.mmsyntax.specs.Dotted.{clash, AreApart}
+use Rattle.mmsyntax.specs.Dotted.{clash, ClashNowhere}
 use Rattle.mmsyntax.specs.Rows.{Known, clashes, is_used, Pass, first_fault, assertion_label_tests, with_assertion}
 use Rattle.mmsyntax.specs.Blocks.{Hypothesis, Block, no_block, hypothesis_label_tests, with_hypothesis}
 use Rattle.mmsyntax.specs.Grammar.{Claim, Piece, Restricts, ReadsAfter, StepsAfter, Claims, HoldAll, Declares, DeclareAll}
@@ -264,7 +264,7 @@ module _ (t : Tables) (s : AreSound t) where
     pub whole : database_of known ≡ record { prelude = t; assertions = front ++ rest }
 
   pub units_declare : (closed : Bool) (front : List Assertion) (hs : List Word) (rest : List Assertion) → AllByRecursion (IsUnit t) rest
-      → AllByRecursion (λ a. IsTrue (is_lawful_label t a.label)) rest → AreApart (labels_of (front ++ rest))
+      → AllByRecursion (λ a. IsTrue (is_lawful_label t a.label)) rest → ClashNowhere (labels_of (front ++ rest))
       → Distinct bytes_eq (labels_of (front ++ rest)) → length (front ++ rest) ≤ 4096 → AllByRecursion (IsNumbered (labels_of front)) hs
       → UnitsDeclare closed front hs rest
   units_declare closed front hs [] u l apart d fit old = record {
@@ -276,11 +276,11 @@ module _ (t : Tables) (s : AreSound t) where
       let all_labels : labels_of (front ++ a ∷ rest) ≡ labels_of front ++ a.label ∷ labels_of rest =
       map-append (λ x. x.label) front (a ∷ rest) in
       let new = distinct_front bytes_eq bytes_eq-sym (labels_of front) (labels_of rest) a.label (subst (Distinct bytes_eq) all_labels d) in
-      let clear = apart_front (labels_of front) (labels_of rest) a.label (subst AreApart all_labels apart) in
+      let clear = apart_front (labels_of front) (labels_of rest) a.label (subst ClashNowhere all_labels apart) in
       let one = unit_declares closed front hs a u.0 l.0 clear new (omega (arith, length-append front (a ∷ rest))) old in
       let more : (front ++ a ∷ []) ++ rest ≡ front ++ a ∷ rest = append_assoc front (a ∷ []) rest in
       let all = units_declare true (front ++ a ∷ []) one.behind rest u.1 l.1
-      (subst (λ xs. AreApart (labels_of xs)) (sym more) apart)
+      (subst (λ xs. ClashNowhere (labels_of xs)) (sym more) apart)
       (subst (λ xs. Distinct bytes_eq (labels_of xs)) (sym more) d)
       (subst (λ (x : List Assertion). length x ≤ 4096) (sym more) fit) one.numbered in
       record {

@@ -18,7 +18,7 @@ use Rattle.mmsyntax.specs.Rows.{with_hypothesis_label, with_assertion}
 use Rattle.mmsyntax.specs.Grammar.{DeclaresConstants, DeclaresVariables}
 pub use Rattle.mmsyntax.specs.Preludes.{IsSymbolWord, IsLabelWord, IsFloatSound, AreSound, variables_used}
 use Rattle.mmsyntax.specs.Assertions.{Distinct, IsUnit, is_lawful_label}
-use Rattle.mmsyntax.specs.Dotted.{clash, AreApart}
+use Rattle.mmsyntax.specs.Dotted.{clash, ClashNowhere}
 use Rattle.mmsyntax.proofs.Names.{place_of-at, variable_from_named, bytes_eq-sym}
 use Rattle.mmsyntax.proofs.Distinct.{distinct_insert, float_labels, labels_of, prelude_names, is_some-meaning, is_some-place_of, IsNew}
 use Rattle.mmsyntax.proofs.Distinct.{new_word, any-map, all_push, all_weaker}
@@ -35,7 +35,7 @@ pub record IsSound (k : Known) : Type 0 where
   pub units : AllByRecursion (IsUnit k.tables) k.units.assertions
   pub lawful : AllByRecursion (λ a. IsTrue (is_lawful_label k.tables a.label)) k.units.assertions
   pub distinct : Distinct bytes_eq (labels_of k.units.assertions)
-  pub apart : AreApart (labels_of k.units.assertions)
+  pub apart : ClashNowhere (labels_of k.units.assertions)
   pub few : length k.units.assertions ≤ 4096
   pub unclosed : IsTrue (in_prelude k) → k.units.assertions ≡ []
 
@@ -304,7 +304,7 @@ assertion_sound k a s unit lawful p =
       distinct = subst (Distinct bytes_eq) (sym behind)
           (distinct_insert bytes_eq bytes_eq-sym ls [] a.label (subst (Distinct bytes_eq) (sym (append-nil ls)) s.distinct)
           (ap (list_any (bytes_eq a.label)) (append-nil ls) ∙ p.new.not_label));
-      apart = subst AreApart (sym behind)
+      apart = subst ClashNowhere (sym behind)
           (apart_behind ls a.label (any-map (λ l. clash l a.label) (λ x. x.label) xs ∙ p.clear) s.apart);
       few = let room : length xs < 4096 = p.room in omega (arith, length-append xs (a ∷ []));
       unclosed = λ h. absurd cc;

@@ -13,7 +13,7 @@ use Rattle.mmsyntax.specs.declared.statement.Assertion.{Assertion}
 use Rattle.mmsyntax.specs.Tables.{Tables, Contents, meaning}
 use Rattle.mmsyntax.specs.Blocks.{is_pair_below}
 use Rattle.mmtext.specs.Words.{Word, is_label}
-use Rattle.mmsyntax.specs.Dotted.{is_dotted, AreApart}
+use Rattle.mmsyntax.specs.Dotted.{is_dotted, ClashNowhere}
 use Rattle.mmsyntax.specs.Steps.{float_named}
 use Rattle.mmsyntax.specs.Layout.{HasSpelling, IsSoundPrelude, HasUnitSpelling}
 use Rattle.mmsyntax.specs.declared.limits.TheConstants.{MOST_ASSERTIONS, MOST_HYPOTHESES, MOST_NAME_BYTES, MOST_PAIRS, MOST_STEPS, MOST_SYMBOLS}
@@ -115,7 +115,7 @@ pub record IsDeclarable (t : Tables) (xs : List Assertion) : Type 0 where
   pub units : All (IsUnit t) xs
   pub lawful : All (λ a. IsTrue (is_lawful_label t a.label)) xs
   pub distinct : Distinct bytes_eq (map (λ a. a.label) xs)
-  pub apart : AreApart (map (λ a. a.label) xs)
+  pub apart : ClashNowhere (map (λ a. a.label) xs)
   pub few : length xs ≤ MOST_ASSERTIONS
 
 -- a database has a spelling just where its assertions are declarable over its prelude

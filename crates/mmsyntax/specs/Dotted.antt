@@ -28,8 +28,8 @@ abbrev pub clash : Word → Word → Bool
 clash l w = is_dotted l w || is_dotted w l
 
 -- none of these labels is L.k of another of them
-abbrev pub AreApart : List Word → Type 0
-AreApart labels = (l w : Word) → Contains labels l → Contains labels w → is_dotted l w ≡ false
+abbrev pub ClashNowhere : List Word → Type 0
+ClashNowhere labels = (l w : Word) → Contains labels l → Contains labels w → is_dotted l w ≡ false
 
 -- the fronts of a word, but the whole
 abbrev pub fronts : Word → List Word

@@ -17,7 +17,7 @@ use Rattle.cells.proofs.Asking.{asks_wider, asks_more}
 use Rattle.cells.proofs.Along.{where_more}
 use Rattle.cells.proofs.AskingSteps.{cited_slot}
 use Rattle.cells.proofs.ReadBack.{held_later}
-use Rattle.cells.proofs.Sights.{matches_back, after_looks, for_each_later}
+use Rattle.cells.proofs.Sights.{matches_back, after_looks, for_each_later, setting_kept}
 use Rattle.groundwork.specs.Footprints.{IsOfRanks, IsOfRise, IsOfMoving, IsReadByMove, IsRankOfCited, IsRankOfSteps, ReadsFor}
 use Rattle.groundwork.specs.Touches.{KeepsTo}
 use Rattle.cells.proofs.Resolving.{finds_after}
@@ -80,7 +80,7 @@ module _ {O : Type 0} (old : Sight O) (label : List ℕ) (rank : ℕ) where
       → MovesSo label rank old t
   move_more s t i such first looks finds before reads wider st lib v =
       let here = (finds_after s t label i looks finds).1 st lib v in
-      let same = looks.onward.setting ∙ first.onward.setting in
+      let same = (setting_kept looks.onward) ∙ (setting_kept first.onward) in
       let at : IsFoundAt old.setting.slots (after t st) lib label i =
       subst (λ (x : Setting). IsFoundAt x.slots (after t st) lib label i) same here in
       asks_more (for_each_later s t (λ x l. ReadsWithin (IsReadByMove old.setting.slots x l label rank) old s) looks before st lib v)
@@ -102,7 +102,7 @@ module _ {O : Type 0} (old : Sight O) (label : List ℕ) (rank : ℕ) where
       let now = views_later old t st lib looks back v in
       let at : IsFoundAt old.setting.slots (after old st) lib label i =
       subst (λ (x : State). IsFoundAt old.setting.slots x lib label i) (after_looks old t st looks)
-      (subst (λ (x : Setting). IsFoundAt x.slots (after t st) lib label i) looks.onward.setting (finds.1 st lib now)) in
+      (subst (λ (x : Setting). IsFoundAt x.slots (after t st) lib label i) (setting_kept looks.onward) (finds.1 st lib now)) in
       asks_more (move_now t looks before st lib back v) (λ c is. inr (i, at, inr (inr (inl is)))) put
 
   -- the ranks of what its proof cites are read

@@ -19,7 +19,7 @@ use Rattle.cells.specs.Sight.{Sight, WasWritten, Views, Looks, Onward, after}
 use Rattle.cells.specs.Lookups.{ForEachHeld, Finds}
 use Rattle.cells.specs.Answers.{Does, IsRefused}
 use Rattle.moves.proofs.AnotherRank.{moved_shows}
-use Rattle.cells.proofs.Sights.{matches_back}
+use Rattle.cells.proofs.Sights.{matches_back, setting_kept}
 use Rattle.cells.proofs.Values.{value_there, value_elsewhere}
 use Rattle.groundwork.specs.Citing.{TellsNotBelow}
 use Rattle.groundwork.proofs.Refusing.{first_refuses, first_passes, of_some, refused}
@@ -126,7 +126,7 @@ module _ {O : Type 0} (s t : Sight O) (looks : Looks s t) (i : ℕ) (label : Lis
                   more,
                   move_done s.setting lib label rank at.entry at.found some (cited_there false st lib now high)
                       (citing_there false st lib now low),
-                  subst (λ (x : Setting). Shows x.slots (after u st) more) (sym onward.setting)
+                  subst (λ (x : Setting). Shows x.slots (after u st) more) (sym (setting_kept onward))
                       (subst (λ (x : State). Shows t.setting.slots x more) (sym (put st)) shows),
                 );
             writes = (rank_cell i, written);

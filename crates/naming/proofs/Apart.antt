@@ -8,7 +8,7 @@ use Rattle.std.proofs.lemmas.Bool.{cases_Bool}
 use Rattle.std.proofs.lemmas.List.{get_or-map, get_or_default}
 use Rattle.std.proofs.lemmas.List.Folds.{list_any_at}
 use Rattle.mmtext.specs.Words.{Word, has_dot}
-use Rattle.mmsyntax.specs.Dotted.{is_dotted, AreApart}
+use Rattle.mmsyntax.specs.Dotted.{is_dotted, ClashNowhere}
 use Rattle.mmsyntax.proofs.DottedWords.{plain_not_dotted}
 use Rattle.mmsyntax.proofs.Names.{bytes_eq-same, same_bytes}
 use Rattle.source.specs.Scopes.{is_in}
@@ -53,7 +53,7 @@ module _ (free : Word → Bool) (labels names : List Word) (given : AreGiven fre
             inr (list_any_at (bytes_eq w) labels c.0 [] lt (ap (bytes_eq w) same ∙ bytes_eq-same w), ap (changing labels) (sym same) ∙ s.1)
       ]
 
-  pub are_apart : AreApart names
+  pub are_apart : ClashNowhere names
   are_apart l w there here =
       elim (kinds w here) [
         | inl f ↦ plain_not_dotted l w (plain w f)
@@ -65,6 +65,6 @@ module _ (free : Word → Bool) (labels names : List Word) (given : AreGiven fre
 
 pub given_apart : {free : Word → Bool} {changes : List Bool} {labels names : List Word} → AreGiven free changes labels names
     → changes ≡ map (changing labels) labels → ((w : Word) → free w ≡ true → has_dot w ≡ false)
-    → ((l w : Word) → free l ≡ true → is_in labels w ≡ true → is_dotted l w ≡ false) → AreApart names
+    → ((l w : Word) → free l ≡ true → is_in labels w ≡ true → is_dotted l w ≡ false) → ClashNowhere names
 given_apart {free} {changes} {labels} {names} given are plain no_trunk =
     are_apart free labels names (subst (λ (bs : List Bool). AreGiven free bs labels names) are given) plain no_trunk

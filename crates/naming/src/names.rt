@@ -2,7 +2,7 @@
 
 ghost use Rattle.std.specs.Prelude.{◌≡◌, length, true, IfOk, IfErr};
 ghost use Rattle.mmtext.specs.Words.{Word};
-ghost use Rattle.mmsyntax.specs.Dotted.{AreApart};
+ghost use Rattle.mmsyntax.specs.Dotted.{ClashNowhere};
 ghost use Rattle.source.specs.Views.{seen_words};
 ghost use Rattle.taking.specs.Fresh.{AreGiven, IsRefused};
 ghost use Rattle.naming.specs.Changes.{HasTrunks, IsAmongChanging, IsUnnamedBy};
@@ -98,7 +98,7 @@ pub fn name_all<'a, D: Declared<'a>>(
 ) -> Result<LibraryNames, Unnamed<'a>>
     ensures names { IfOk result (AreNamedWell (D.scope declared.now) (seen_words constants.now) (seen_words variables.now)
         (seen_words floats.now) (seen_words labels.now)) }
-    ensures apart { IfOk result (λ names. AreApart names.labels) }
+    ensures apart { IfOk result (λ names. ClashNowhere names.labels) }
     ensures refused { IfErr result (IsUnnamed (seen_words constants.now) (seen_words variables.now) (seen_words floats.now)
         (seen_words labels.now)) }
 {
@@ -122,7 +122,7 @@ fn named_by<'a, D: Declared<'a>>(
     requires { HasTrunks names.old.trunks (seen_words labels.now) }
     ensures names { IfOk result (AreNamedWell (D.scope names.old.declared.now) (seen_words constants.now) (seen_words variables.now)
         (seen_words floats.now) (seen_words labels.now)) }
-    ensures apart { IfOk result (λ names. AreApart names.labels) }
+    ensures apart { IfOk result (λ names. ClashNowhere names.labels) }
     ensures refused { IfErr result (IsUnnamed (seen_words constants.now) (seen_words variables.now) (seen_words floats.now)
         (seen_words labels.now)) }
 {

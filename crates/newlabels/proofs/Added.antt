@@ -15,7 +15,7 @@ use Rattle.library.specs.declared.command.Reply.TheVariants.{Done}
 use Rattle.library.specs.declared.reason.Reason.TheVariants as reason
 use Rattle.library.specs.Library.{Setting}
 use Rattle.library.specs.Edits.{Tests, added, done, where_so, is_axiom, bad_label, label_taken, label_clashes}
-use Rattle.library.specs.Edits.{proof_tests, tested, edit}
+use Rattle.library.specs.Edits.{label_tests, proof_tests, tested, edit}
 use Rattle.ranges.specs.Ranges.{Has, AreOfOneStore}
 use Rattle.bodystore.specs.declared.stored.StoredStep.{StoredStep}
 use Rattle.cells.specs.State.{State, most_words}
@@ -27,12 +27,12 @@ use Rattle.chains.specs.Filling.{MayFill, Fills}
 use Rattle.ranges.proofs.Members.{mapped_has, cases_has, none_absent}
 use Rattle.cells.proofs.Holding.{held_name, empty_free}
 use Rattle.cells.proofs.Found.{length_held}
-use Rattle.cells.proofs.Sights.{views_back, matches_back, looks_trans}
+use Rattle.cells.proofs.Sights.{views_back, matches_back, looks_trans, setting_kept}
 use Rattle.cells.specs.Answers.{Does, IsRefused, CommandAnswers}
 use Rattle.cells.specs.declared.ending.CommandError.{CommandError}
 use Rattle.cells.specs.declared.ending.CommandError.TheVariants.{Halted, Refused}
 use Rattle.groundwork.specs.Citing.{Passes, TellsRefusal}
-use Rattle.newlabels.specs.Naming.{PassesAsNew, TellsNotNew, label_tests}
+use Rattle.newlabels.specs.Naming.{PassesAsNew, TellsNotNew}
 use Rattle.groundwork.proofs.Seeing.{views_later}
 use Rattle.groundwork.proofs.Refusing.{first_refuses, first_passes, refused}
 use Rattle.groundwork.proofs.ProofTests.{stored_on}
@@ -90,7 +90,7 @@ of_kind s lib rank a = where_so (is_axiom a.kind) reason.AxiomNotAllowed ∷ of_
 -- behind that of the rank stand those of the label
 to_label : (s : Setting) (lib : List Ranked) (rank : ℕ) (a : Assertion) → (rank == 0) ≡ false
     → edit s lib (command.Add rank a)
-    ≡ tested (label_tests s lib a.label a.label (of_kind s lib rank a)) (done (added lib rank a))
+    ≡ tested (label_tests s lib a.label a.label ++ of_kind s lib rank a) (done (added lib rank a))
 to_label s lib rank a ranked =
     let then = done (added lib rank a) in
     first_passes (rank == 0) reason.BadRank
@@ -99,10 +99,11 @@ to_label s lib rank a ranked =
 
 module _ {O : Type 0} (s t : Sight O) (rank : ℕ) (a : Assertion) (ranked : (rank == 0) ≡ false) (looks : Looks s t) where
   by_label : (lib : List Ranked) → edit s.setting lib (command.Add rank a)
-      ≡ tested (label_tests t.setting lib a.label a.label (of_kind t.setting lib rank a)) (done (added lib rank a))
+      ≡ tested (label_tests t.setting lib a.label a.label ++ of_kind t.setting lib rank a) (done (added lib rank a))
   by_label lib =
       subst (λ (x : Setting). edit x lib (command.Add rank a)
-      ≡ tested (label_tests t.setting lib a.label a.label (of_kind t.setting lib rank a)) (done (added lib rank a))) looks.onward.setting
+      ≡ tested (label_tests t.setting lib a.label a.label ++ of_kind t.setting lib rank a) (done (added lib rank a)))
+      (setting_kept looks.onward)
       (to_label t.setting lib rank a ranked)
 
   -- a label that is refused is why it is not added
@@ -148,7 +149,7 @@ module _ {O : Type 0} (s t u : Sight O) (rank : ℕ) (a : Assertion) (may : MayT
       → edit s.setting lib (command.Add rank a) ≡ tested (of_proof u.setting lib rank a) (done (added lib rank a))
   to_proof st lib v =
       add_theorem s t rank a may.ranked may.looks may.new may.theorem st lib (views_back t u st lib later v)
-      ∙ ap (λ (x : Setting). tested (of_proof x lib rank a) (done (added lib rank a))) (sym later.onward.setting)
+      ∙ ap (λ (x : Setting). tested (of_proof x lib rank a) (done (added lib rank a))) (sym (setting_kept later.onward))
 
   -- a proof that is refused is why it is not added
   pub add_refused : (error : CommandError) → TellsRefusal u rank a error
@@ -165,7 +166,7 @@ module _ {O : Type 0} (s t u : Sight O) (rank : ℕ) (a : Assertion) (may : MayT
     to_room st lib v =
         let before = views_back u w st lib on v in
         to_proof st lib before ∙ passes.passes st lib before (of_room u.setting lib) (done (added lib rank a))
-        ∙ ap (λ (x : Setting). tested (of_room x lib) (done (added lib rank a))) (sym on.onward.setting)
+        ∙ ap (λ (x : Setting). tested (of_room x lib) (done (added lib rank a))) (sym (setting_kept on.onward))
 
     pub add_full : (from : ℕ) → FindsFree w from None → IsRefused s w (command.Add rank a) reason.LibraryFull
     add_full from full =
@@ -198,7 +199,7 @@ module _ {O : Type 0} (s t u : Sight O) (rank : ℕ) (a : Assertion) (may : MayT
                 added lib rank a,
                 to_room st lib v ∙ first_passes (nat_le w.setting.slots (length lib)) reason.LibraryFull [] (done (added lib rank a))
                     (lt-leb w.setting.slots (length lib) lt),
-                subst (λ (z : Setting). Shows z.slots (after x st) (added lib rank a)) (sym onward.setting)
+                subst (λ (z : Setting). Shows z.slots (after x st) (added lib rank a)) (sym (setting_kept onward))
                     (fills st lib m v may_fill).0,
               );
           writes = (name_cell slot, written);

@@ -6,7 +6,7 @@ use Rattle.library.specs.declared.command.Command.TheVariants as command
 use Rattle.library.specs.declared.command.Reply.TheVariants.{Done}
 use Rattle.library.specs.declared.reason.Reason.TheVariants as reason
 use Rattle.library.specs.Library.{Setting}
-use Rattle.library.specs.Edits.{has, found, rename, done, edit, tested}
+use Rattle.library.specs.Edits.{has, found, label_tests, rename, done, edit, tested}
 use Rattle.bodystore.specs.Bodies.{label_body}
 use Rattle.cells.specs.State.{State, HasBody}
 use Rattle.cells.specs.Slots.{name_cell}
@@ -14,7 +14,7 @@ use Rattle.cells.specs.Shows.{Shows}
 use Rattle.cells.specs.Sight.{Sight, Matches, Views, Onward, Looks, after}
 use Rattle.cells.specs.Lookups.{Finds}
 use Rattle.chains.specs.Chains.{without_slot}
-use Rattle.cells.proofs.Sights.{matches_back, views_back, looks_trans}
+use Rattle.cells.proofs.Sights.{matches_back, views_back, looks_trans, setting_kept}
 use Rattle.cells.proofs.Found.{unfound}
 use Rattle.chains.proofs.Renaming.{still_chained, renamed_shows}
 use Rattle.chains.proofs.Unlinking.{slot_gone}
@@ -22,7 +22,7 @@ use Rattle.cells.specs.Answers.{WritesSome, Does, CommandAnswers}
 use Rattle.cells.specs.declared.ending.CommandError.{CommandError}
 use Rattle.cells.specs.declared.ending.CommandError.TheVariants.{Halted, Refused}
 use Rattle.newlabels.specs.Changes.{RenamesAt}
-use Rattle.newlabels.specs.Naming.{PassesAsNew, TellsNotNew, label_tests}
+use Rattle.newlabels.specs.Naming.{PassesAsNew, TellsNotNew}
 use Rattle.chains.proofs.Chaining.{TakesOut, PutsIn, taken_out, put_in_chain}
 use Rattle.groundwork.proofs.Refusing.{first_refuses, first_passes, refused}
 use Rattle.groundwork.proofs.Seeing.{has_found, views_later, found_later}
@@ -56,7 +56,7 @@ module _ (s : Setting) (lib : List Ranked) (from to : List ℕ) where
   rename_unknown h = first_refuses (not (has lib from)) reason.UnknownLabel _ _ (ap not (unfound lib from h))
 
   to_label : (e : Ranked) → found lib from ≡ Some e
-      → edit s lib (command.Rename from to) ≡ tested (label_tests s lib from to []) (done (rename from to lib))
+      → edit s lib (command.Rename from to) ≡ tested (label_tests s lib from to ++ []) (done (rename from to lib))
   to_label e at = first_passes (not (has lib from)) reason.UnknownLabel _ _ (ap not (has_found lib from e at))
 
 -- the assertion with the one label was found, and then the other label was tested
@@ -66,11 +66,11 @@ module _ {O : Type 0} (s t u : Sight O) (i : ℕ) (from to : List ℕ) (found : 
   all_looks = looks_trans s t u looks later
 
   by_label : (st : State) (lib : List Ranked) → Views u st lib
-      → edit s.setting lib (command.Rename from to) ≡ tested (label_tests u.setting lib from to []) (done (rename from to lib))
+      → edit s.setting lib (command.Rename from to) ≡ tested (label_tests u.setting lib from to ++ []) (done (rename from to lib))
   by_label st lib v =
       let at = found.1 st lib (views_back t u st lib later v) in
       subst (λ (x : Setting). edit x lib (command.Rename from to)
-      ≡ tested (label_tests u.setting lib from to []) (done (rename from to lib))) all_looks.onward.setting
+      ≡ tested (label_tests u.setting lib from to ++ []) (done (rename from to lib))) (setting_kept all_looks.onward)
       (to_label u.setting lib from to at.entry at.found)
 
   -- a label that is refused is why it is not renamed

@@ -3,27 +3,23 @@ use Rattle.std.specs.Prelude.{◌≡◌, ◌≢◌, ℕ, List, [], ◌++◌, Err
 use Rattle.library.specs.declared.library.Ranked.{Ranked}
 use Rattle.library.specs.declared.reason.Reason.{Reason}
 use Rattle.library.specs.Library.{Setting}
-use Rattle.library.specs.Edits.{Tests, Edited, tested, has, label_tests as all_label_tests}
+use Rattle.library.specs.Edits.{Tests, Edited, tested, has, label_tests}
 use Rattle.cells.specs.Sight.{Sight}
 use Rattle.cells.specs.Lookups.{ForEach}
 use Rattle.cells.specs.declared.ending.CommandError.{CommandError}
 use Rattle.cells.specs.declared.ending.CommandError.TheVariants.{Refused}
-
--- the tests of a new label, with more behind them; it may clash with the label `own`
-abbrev pub label_tests : Setting → List Ranked → List ℕ → List ℕ → Tests → Tests
-label_tests s lib own label more = all_label_tests s lib own label ++ more
 
 -- a label, which has a byte, passes its tests
 pub record PassesAsNew {O : Type 0} (s : Sight O) (own label : List ℕ) : Type 0 where
   pub some : label ≢ []
   pub free : ForEach s (λ st lib. has lib label ≡ false)
   pub passes : ForEach s (λ st lib. (more : Tests) (edited : Edited)
-      → tested (label_tests s.setting lib own label more) edited ≡ tested more edited)
+      → tested (label_tests s.setting lib own label ++ more) edited ≡ tested more edited)
 
 -- or one of them refuses it
 abbrev pub FailsAsNew : {O : Type 0} → Sight O → List ℕ → List ℕ → Reason → Type 0
 FailsAsNew s own label reason = ForEach s (λ st lib. (more : Tests) (edited : Edited)
-    → tested (label_tests s.setting lib own label more) edited ≡ Err reason)
+    → tested (label_tests s.setting lib own label ++ more) edited ≡ Err reason)
 
 -- why the test of a new label ends early: it was refused, or the run halts
 abbrev pub TellsNotNew : {O : Type 0} → Sight O → List ℕ → List ℕ → CommandError → Type 0

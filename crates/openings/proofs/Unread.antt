@@ -8,7 +8,7 @@ use Rattle.library.specs.Transactions.{apply, apply_from}
 use Rattle.ranges.specs.Ranges.{Range}
 use Rattle.cells.specs.State.{State}
 use Rattle.plaincells.proofs.Empty.{shows_none, none_verifies}
-use Rattle.lawful.specs.Lawful.{setting_of}
+use Rattle.lawful.specs.Lawful.{setting_given}
 use Rattle.openings.specs.Laws.{UnreadIsUnlawful}
 
 abbrev zeros : List Range → State
@@ -23,9 +23,9 @@ unread_is_unlawful g ranges writes commands replies label setting store is lawfu
     let d = lawful.2 (zeros ranges) [] (record {
       matches = record { store = store; has = λ r h. h; reads = tt };
       shows = (shows_none g.slots (zeros ranges) (λ c. refl)).0;
-      verifies = none_verifies (setting_of g) setting;
+      verifies = none_verifies (setting_given g) setting;
     }) in
-    let a = refuses (setting_of g) label in
-    let b = ap (apply (setting_of g) []) is in
+    let a = refuses (setting_given g) label in
+    let b = ap (apply (setting_given g) []) is in
     let c = d.applied in
     cc

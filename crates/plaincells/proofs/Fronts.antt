@@ -17,7 +17,7 @@ use Rattle.mmsyntax.specs.declared.statement.Step.TheVariants.{Float, Hyp, Cite}
 use Rattle.mmsyntax.specs.Tables.{Tables, Contents}
 use Rattle.mmsyntax.specs.Layout.{HasSpelling}
 use Rattle.mmsyntax.specs.Assertions.{Distinct, IsUnit, IsDeclarable, is_lawful_label}
-use Rattle.mmsyntax.specs.Dotted.{AreApart}
+use Rattle.mmsyntax.specs.Dotted.{ClashNowhere}
 use Rattle.mmsyntax.proofs.Apart.{apart_within}
 use Rattle.mmsyntax.proofs.Names.{bytes_eq-same, bytes_eq-sym}
 use Rattle.mmsyntax.proofs.Distinct.{distinct_left, distinct_front}
@@ -54,7 +54,7 @@ front_declarable t k xs d =
       units = All-take (IsUnit t) k xs d.units;
       lawful = All-take (λ a. IsTrue (is_lawful_label t a.label)) k xs d.lawful;
       distinct = distinct_left bytes_eq some others (subst (λ ls. Distinct bytes_eq ls) (sym (front_labels k xs)) d.distinct);
-      apart = apart_within (some ++ others) some (Contains-append_left some others) (subst AreApart (sym (front_labels k xs)) d.apart);
+      apart = apart_within (some ++ others) some (Contains-append_left some others) (subst ClashNowhere (sym (front_labels k xs)) d.apart);
       few = let n : length (take k xs) ≤ length xs = grind (arith, common_steps) in omega (arith, n, d.few);
     }
 

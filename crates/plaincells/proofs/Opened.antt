@@ -23,8 +23,8 @@ use Rattle.cells.specs.Sight.{Sight, Matches, Views, Onward, Looks, after}
 use Rattle.cells.specs.Lookups.{Resolves}
 use Rattle.chains.specs.Filling.{MayFill, Fills, IsFillable}
 use Rattle.plaincells.specs.Plain.{undone, ShowsSome}
-pub use Rattle.plaincells.specs.PlainViews.{setting_of, sight_of, now_state, first_state}
-use Rattle.plaincells.specs.Opening.{Opens, front, held_from}
+pub use Rattle.plaincells.specs.PlainViews.{cells_setting, cells_sight, now_state, first_state}
+use Rattle.plaincells.specs.Opening.{CellsOpen, front, held_from}
 use Rattle.std.proofs.Math.Seq.{take-length}
 use Rattle.plaincells.proofs.Empty.{shows_none}
 use Rattle.plaincells.proofs.Logs.{length-undone}
@@ -32,33 +32,35 @@ use Rattle.plaincells.proofs.Numbered.{over_all}
 use Rattle.plaincells.proofs.Widened.{shows_widened}
 use Rattle.plaincells.proofs.PlainSights.{plain_matches}
 use Rattle.plaincells.proofs.Fronts.{front_verifies, slots_from, opening_next, length_opening, held_next, label_new, label_some, unit_of, all_known}
-use Rattle.cells.proofs.Sights.{onward_refl, matches_back}
+use Rattle.cells.proofs.Sights.{onward_refl, matches_back, setting_kept}
 
 -- ---- plain cells
 
-pub first_matches : (c : PlainCells) → Matches (sight_of c) (first_state c)
-first_matches c = plain_matches (setting_of c) c.room c.values.items c.log.items c.store.items c.ranges.items
+pub first_matches : (c : PlainCells) → Matches (cells_sight c) (first_state c)
+first_matches c = plain_matches (cells_setting c) c.room c.values.items c.log.items c.store.items c.ranges.items
     (omega (arith, c.stored, c.roomy))
 
 -- with what is kept aside, the state with which the run began is that of the values
-pub after_first : (c : PlainCells) → after (sight_of c) (first_state c) ≡ now_state c
+pub after_first : (c : PlainCells) → after (cells_sight c) (first_state c) ≡ now_state c
 after_first c = over_all c.values.items (undone c.values.items c.log.items) _ (length-undone c.values.items c.log.items)
 
 -- what cells showed, a later sight of them shows over a state with as many values, where nothing was written since
 pub later_held : (c d : PlainCells) (t : Sight (Unit {0})) (lib : List Ranked) (held : List Held) → d.slots ≡ c.slots
-    → t.writes ≡ (sight_of c).writes → Within (sight_of c).ranges (sight_of d).ranges
+    → t.writes ≡ (cells_sight c).writes → Within (cells_sight c).ranges (cells_sight d).ranges
     → ShowsHeld c.slots (now_state c) lib held → ShowsHeld c.slots (after t (first_state d)) lib held
 later_held c d t lib held slots writes within h =
     let long : length (undone d.values.items d.log.items) ≡ length c.values.items =
     length-undone d.values.items d.log.items ∙ d.long ∙ ap (λ n. 7 * n) slots ∙ sym c.long in
     subst (λ (st : State). ShowsHeld c.slots st lib held)
-    (sym (ap (with_writes (first_state d)) writes ∙ over_all c.values.items (undone d.values.items d.log.items) (sight_of d).ranges long))
-    (shows_widened c.slots (λ n. get_or c.values.items n 0) (sight_of c).ranges (sight_of d).ranges within lib held h)
+    (sym (ap (with_writes (first_state d)) writes
+    ∙ over_all c.values.items (undone d.values.items d.log.items) (cells_sight d).ranges long))
+    (shows_widened c.slots (λ n. get_or c.values.items n 0) (cells_sight c).ranges (cells_sight d).ranges within lib held h)
 
 -- so the state views the library
 pub later_views : (c d : PlainCells) (t : Sight (Unit {0})) (lib : List Ranked) (held : List Held) → d.slots ≡ c.slots
-    → t.setting ≡ setting_of c → t.writes ≡ (sight_of c).writes → Within (sight_of c).ranges (sight_of d).ranges → Matches t (first_state d)
-    → Verifies (setting_of c) lib → ShowsHeld c.slots (now_state c) lib held
+    → t.setting ≡ cells_setting c → t.writes ≡ (cells_sight c).writes → Within (cells_sight c).ranges (cells_sight d).ranges
+    → Matches t (first_state d)
+    → Verifies (cells_setting c) lib → ShowsHeld c.slots (now_state c) lib held
     → (v : Views t (first_state d) lib) × (v.shows.held ≡ held)
 later_views c d t lib held slots setting writes within matches verifies h =
     let shown : ShowsHeld t.setting.slots (after t (first_state d)) lib held =
@@ -70,22 +72,22 @@ later_views c d t lib held slots setting writes within matches verifies h =
 
 -- ---- openings
 
-pub opens_at : (db : Contents) (slots room n m : ℕ) (made : PlainCells) → slots ≡ n → room ≡ m → Opens db slots room made
-    → Opens db n m made
-opens_at db slots room n m made e f o = subst (λ x. Opens db x m made) e (subst (λ x. Opens db slots x made) f o)
+pub opens_at : (db : Contents) (slots room n m : ℕ) (made : PlainCells) → slots ≡ n → room ≡ m → CellsOpen db slots room made
+    → CellsOpen db n m made
+opens_at db slots room n m made e f o = subst (λ x. CellsOpen db x m made) e (subst (λ x. CellsOpen db slots x made) f o)
 
 -- empty cells open the front with no assertion
 pub opens_none : (db : Contents) (slots room : ℕ) (made : PlainCells) → made.prelude ≡ db.prelude → made.slots ≡ slots → made.room ≡ room
-    → made.log.items ≡ [] → ((c : ℕ) → get_or made.values.items c 0 ≡ 0) → Opens (front 0 db) slots room made
+    → made.log.items ≡ [] → ((c : ℕ) → get_or made.values.items c 0 ≡ 0) → CellsOpen (front 0 db) slots room made
 opens_none db slots room made prelude slots_are room_is kept zeros =
     record { prelude = prelude; slots_are = slots_are; room_is = room_is; kept = kept; shows = shows_none slots (now_state made) zeros }
 
 -- all assertions are the front of them all
-pub opens_all : (db : Contents) (slots room k : ℕ) (made : PlainCells) → length db.assertions ≡ k → Opens (front k db) slots room made
-    → Opens db slots room made
+pub opens_all : (db : Contents) (slots room k : ℕ) (made : PlainCells) → length db.assertions ≡ k → CellsOpen (front k db) slots room made
+    → CellsOpen db slots room made
 opens_all db slots room k made whole o =
     let xs : take k db.assertions ≡ db.assertions = ap (λ n. take n db.assertions) (sym whole) ∙ take-length db.assertions in
-    subst (λ (d : Contents). Opens d slots room made) (λ i. record { prelude = db.prelude; assertions = xs i }) o
+    subst (λ (d : Contents). CellsOpen d slots room made) (λ i. record { prelude = db.prelude; assertions = xs i }) o
 
 -- ---- stored steps
 
@@ -145,56 +147,57 @@ module _ (db : Contents) (k : ℕ) (a : Assertion) (lt : k < length db.assertion
 -- cells in which the front of a database stands, and what becomes of them
 module _ (db : Contents) (k : ℕ) (a : Assertion) (lt : k < length db.assertions) (is : a ≡ get_or db.assertions k a)
     (spelled : HasSpelling db) (all : AllCheck db) (p : PlainCells) (room : length db.assertions ≤ p.slots)
-    (opened : Opens (front k db) p.slots p.room p) where
+    (opened : CellsOpen (front k db) p.slots p.room p) where
   abbrev first_held : List Held
   first_held = held_from 0 (opening (front k db))
 
-  verifies : (n : ℕ) (c : PlainCells) → setting_of c ≡ setting_of p → Verifies (setting_of c) (opening (front n db))
+  verifies : (n : ℕ) (c : PlainCells) → cells_setting c ≡ cells_setting p → Verifies (cells_setting c) (opening (front n db))
   verifies n c same =
       subst (λ (s : Setting). Verifies s (opening (front n db)))
       (sym (same ∙ (λ i. record { prelude = opened.prelude i; slots = p.slots })))
       (front_verifies db n p.slots spelled all p.some p.few room)
 
   -- over each state that a later run leaves possible it views the front, in its slots
-  opened_views : (q : PlainCells) (t : Sight (Unit {0})) → Looks (sight_of p) t → Onward t (sight_of q)
+  opened_views : (q : PlainCells) (t : Sight (Unit {0})) → Looks (cells_sight p) t → Onward t (cells_sight q)
       → (v : Views t (first_state q) (opening (front k db))) × (v.shows.held ≡ first_held)
   opened_views q t looks onward =
-      let setting : setting_of q ≡ setting_of p = onward.setting ∙ looks.onward.setting in
-      later_views p q t (opening (front k db)) first_held (ap (λ (s : Setting). s.slots) setting) looks.onward.setting looks.writes
-      (within_trans (sight_of p).ranges t.ranges (sight_of q).ranges looks.onward.ranges onward.ranges)
-      (matches_back t (sight_of q) (first_state q) onward (first_matches q)) (verifies k p refl) opened.shows
+      let setting : cells_setting q ≡ cells_setting p = (setting_kept onward) ∙ (setting_kept looks.onward) in
+      later_views p q t (opening (front k db)) first_held (ap (λ (s : Setting). s.slots) setting) (setting_kept looks.onward) looks.writes
+      (within_trans (cells_sight p).ranges t.ranges (cells_sight q).ranges looks.onward.ranges onward.ranges)
+      (matches_back t (cells_sight q) (first_state q) onward (first_matches q)) (verifies k p refl) opened.shows
 
-  pub none_unknown : (q : PlainCells) → Looks (sight_of p) (sight_of q) → Resolves (sight_of q) a.proof None → ⊥
+  pub none_unknown : (q : PlainCells) → Looks (cells_sight p) (cells_sight q) → Resolves (cells_sight q) a.proof None → ⊥
   none_unknown q looks unknown =
-      let v = opened_views q (sight_of q) looks (onward_refl (sight_of q)) in
+      let v = opened_views q (cells_sight q) looks (onward_refl (cells_sight q)) in
       let yes = unknown (first_state q) (opening (front k db)) v.0 in
       let no = all_known db k a lt is (declarable db spelled) all in
       absurd cc
 
-  pub resolved_fillable : (q : PlainCells) (kept : List StoredStep) → Looks (sight_of p) (sight_of q)
-      → Resolves (sight_of q) a.proof (Some kept) → IsFillable q.slots a kept
+  pub resolved_fillable : (q : PlainCells) (kept : List StoredStep) → Looks (cells_sight p) (cells_sight q)
+      → Resolves (cells_sight q) a.proof (Some kept) → IsFillable q.slots a kept
   resolved_fillable q kept looks resolved =
-      let v = opened_views q (sight_of q) looks (onward_refl (sight_of q)) in
-      next_fillable db k a lt is (declarable db spelled) q.slots (after (sight_of q) (first_state q)) kept
+      let v = opened_views q (cells_sight q) looks (onward_refl (cells_sight q)) in
+      next_fillable db k a lt is (declarable db spelled) q.slots (after (cells_sight q) (first_state q)) kept
       (resolved.2 (first_state q) (opening (front k db)) v.0)
 
   -- filled with the next assertion, they show one more
-  pub filled_held : (q r : PlainCells) (kept : List StoredStep) → Looks (sight_of p) (sight_of q) → Onward (sight_of q) (sight_of r)
-      → Resolves (sight_of q) a.proof (Some kept)
-      → ((st : State) (lib : List Ranked) → Matches (sight_of r) st → (shown : Views (sight_of q) st lib)
-      → MayFill q.slots (after (sight_of q) st) lib k a kept
-      → Fills q.slots (after (sight_of r) st) lib shown.shows.held k (100 * (k + 1)) a)
+  pub filled_held : (q r : PlainCells) (kept : List StoredStep) → Looks (cells_sight p) (cells_sight q)
+      → Onward (cells_sight q) (cells_sight r)
+      → Resolves (cells_sight q) a.proof (Some kept)
+      → ((st : State) (lib : List Ranked) → Matches (cells_sight r) st → (shown : Views (cells_sight q) st lib)
+      → MayFill q.slots (after (cells_sight q) st) lib k a kept
+      → Fills q.slots (after (cells_sight r) st) lib shown.shows.held k (100 * (k + 1)) a)
       → ShowsHeld p.slots (now_state r) (opening (front (k + 1) db)) (held_from 0 (opening (front (k + 1) db)))
   filled_held q r kept looks onward resolved fills =
-      let v = opened_views r (sight_of q) looks onward in
-      let slots : q.slots ≡ p.slots = ap (λ (s : Setting). s.slots) looks.onward.setting in
+      let v = opened_views r (cells_sight q) looks onward in
+      let slots : q.slots ≡ p.slots = ap (λ (s : Setting). s.slots) (setting_kept looks.onward) in
       let st = first_state r in
-      let may = next_may_fill db k a lt is (declarable db spelled) q.slots (after (sight_of q) st) kept v.0.shows v.1
+      let may = next_may_fill db k a lt is (declarable db spelled) q.slots (after (cells_sight q) st) kept v.0.shows v.1
       (omega (arith, slots, lt, room))
       (resolved.2 st (opening (front k db)) v.0) in
       let made = fills st (opening (front k db)) (first_matches r) v.0 may in
       let entry : Held = record { slot = k; entry = record { rank = 100 * (k + 1); assertion = a } } in
-      let one : ShowsHeld q.slots (after (sight_of r) st) (added (opening (front k db)) (100 * (k + 1)) a) (first_held ++ entry ∷ []) =
+      let one : ShowsHeld q.slots (after (cells_sight r) st) (added (opening (front k db)) (100 * (k + 1)) a) (first_held ++ entry ∷ []) =
       (made.0, made.1 ∙ ap (λ (ps : List Held). ps ++ entry ∷ []) v.1) in
       let two : ShowsHeld p.slots (now_state r) (added (opening (front k db)) (100 * (k + 1)) a) (first_held ++ entry ∷ []) =
       subst (λ n. ShowsHeld n (now_state r) (added (opening (front k db)) (100 * (k + 1)) a) (first_held ++ entry ∷ [])) slots
@@ -203,9 +206,9 @@ module _ (db : Contents) (k : ℕ) (a : Assertion) (lt : k < length db.assertion
       subst (λ (ps : List Held). ShowsHeld p.slots (now_state r) (opening (front (k + 1) db)) ps) (sym (held_next db k a lt is))
       (subst (λ (lib : List Ranked). ShowsHeld p.slots (now_state r) lib (first_held ++ entry ∷ [])) (sym (opening_next db k a lt is)) two)
 
-  pub shows_some : (r : PlainCells) → setting_of r ≡ setting_of p
+  pub shows_some : (r : PlainCells) → cells_setting r ≡ cells_setting p
       → ShowsHeld p.slots (now_state r) (opening (front (k + 1) db)) (held_from 0 (opening (front (k + 1) db)))
-      → ShowsSome (setting_of r) r.values.items r.store.items r.ranges.items
+      → ShowsSome (cells_setting r) r.values.items r.store.items r.ranges.items
   shows_some r same h = (
     opening (front (k + 1) db),
     subst (λ (s : Setting). Shows s.slots (now_state r) (opening (front (k + 1) db))) (sym same) h.0,

@@ -8,8 +8,8 @@ abbrev pub body_length : Assertion → ℕ
 body_length a = length (label_body a.label) + length (statement_body (statement_of a)) + length a.proof
 
 -- those of all assertions
-abbrev pub bodies_length : List Assertion → ℕ
-bodies_length xs = sum_by body_length xs
+abbrev pub all_bodies_length : List Assertion → ℕ
+all_bodies_length xs = sum_by body_length xs
 
 -- what is left of a room where so many words are taken of it; none where they don't fit
 abbrev pub IsLeft : ℕ → ℕ → Option ℕ → Type 0

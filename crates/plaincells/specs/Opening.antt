@@ -7,7 +7,7 @@ use Rattle.plaincells.specs.declared.opening.OpenError.{OpenError}
 use Rattle.plaincells.specs.declared.opening.OpenError.TheVariants.{TooMany, StoreFull, NoMemory}
 use Rattle.plaincells.specs.declared.plain.PlainCells.{PlainCells}
 use Rattle.plaincells.specs.PlainViews.{now_state}
-use Rattle.plaincells.specs.Measures.{bodies_length}
+use Rattle.plaincells.specs.Measures.{all_bodies_length}
 use Rattle.cells.specs.Shows.{Held, ShowsHeld}
 
 -- assertions, each with a slot: the slots from the slot i on, in order
@@ -16,7 +16,7 @@ held_from i [] = []
 held_from i (e ∷ es) = record { slot = i; entry = e } ∷ held_from (suc i) es
 
 -- the cells show the opening library, the assertion k in the slot k, both counted from 0; and nothing was written since
-pub record Opens (db : Contents) (slots room : ℕ) (made : PlainCells) : Type 0 where
+pub record CellsOpen (db : Contents) (slots room : ℕ) (made : PlainCells) : Type 0 where
   pub prelude : made.prelude ≡ db.prelude
   pub slots_are : made.slots ≡ slots
   pub room_is : made.room ≡ room
@@ -30,5 +30,5 @@ front k db = record db { assertions = take k db.assertions }
 -- more assertions than slots; or bodies of more words than the room
 abbrev pub Refuses : Contents → ℕ → ℕ → OpenError → Type 0
 Refuses db slots room TooMany = slots < length db.assertions
-Refuses db slots room StoreFull = (length db.assertions ≤ slots) × (room < bodies_length db.assertions)
-Refuses db slots room NoMemory = (length db.assertions ≤ slots) × (bodies_length db.assertions ≤ room)
+Refuses db slots room StoreFull = (length db.assertions ≤ slots) × (room < all_bodies_length db.assertions)
+Refuses db slots room NoMemory = (length db.assertions ≤ slots) × (all_bodies_length db.assertions ≤ room)

@@ -11,12 +11,12 @@ use Rattle.cells.specs.Sight.{Sight}
 use Rattle.plaincells.specs.Plain.{undone, ranges_in, plain_sight, plain_state}
 use Rattle.plaincells.specs.declared.plain.PlainCells.{PlainCells}
 
-abbrev pub setting_of : PlainCells → Setting
-setting_of c = record { prelude = c.prelude; slots = c.slots }
+abbrev pub cells_setting : PlainCells → Setting
+cells_setting c = record { prelude = c.prelude; slots = c.slots }
 
 -- what the run has seen: all ranges, and the cells of its log; all values as they are now are kept aside
-abbrev pub sight_of : PlainCells → Sight (Unit {0})
-sight_of c = plain_sight (setting_of c) c.room c.values.items c.log.items c.store.items c.ranges.items
+abbrev pub cells_sight : PlainCells → Sight (Unit {0})
+cells_sight c = plain_sight (cells_setting c) c.room c.values.items c.log.items c.store.items c.ranges.items
 
 -- the state that the values show
 abbrev pub now_state : PlainCells → State

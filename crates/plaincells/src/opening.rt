@@ -2,9 +2,9 @@
 
 ghost use Rattle.std.specs.Prelude.{◌≡◌, ◌≢◌, ◌≤◌, ◌<◌, ◌*◌, ◌+◌, ◌↔◌, [], length, IfOk, IfErr, IsTrue, MatchOption};
 ghost use Rattle.derivation.specs.Databases.{AllCheck};
-ghost use Rattle.plaincells.specs.Measures.{body_length, bodies_length, IsLeft};
+ghost use Rattle.plaincells.specs.Measures.{body_length, all_bodies_length, IsLeft};
 ghost use Rattle.bodystore.specs.Bodies.{expressions_words};
-ghost use Rattle.plaincells.specs.Opening.{Opens, front, Refuses};
+ghost use Rattle.plaincells.specs.Opening.{CellsOpen, front, Refuses};
 
 use crate::plain::PlainCells;
 use cells::resolve;
@@ -82,8 +82,8 @@ impl PlainCells {
         requires some { 1 ≤ slots }
         requires few { slots ≤ 4096 }
         requires roomy { room ≤ 16777216 }
-        ensures within { IfOk result (λ _. (length database.now.assertions ≤ slots) × (bodies_length database.now.assertions ≤ room)) }
-        ensures ok { IfOk result (λ made. Opens database.now slots room made) }
+        ensures within { IfOk result (λ _. (length database.now.assertions ≤ slots) × (all_bodies_length database.now.assertions ≤ room)) }
+        ensures ok { IfOk result (λ made. CellsOpen database.now slots room made) }
         ensures err { IfErr result (λ error. Refuses database.now slots room error) }
     {
         let assertions = database.assertions();
@@ -111,8 +111,8 @@ fn put_next(
     requires next { slot < length database.now.assertions }
     requires fits { length database.now.assertions ≤ cells.old.slots }
     requires checks { AllCheck database.now }
-    requires opened { Opens (front slot database.now) cells.old.slots cells.old.room cells.old }
-    ensures { IfOk result (λ _. Opens (front (slot + 1) database.now) cells.old.slots cells.old.room cells.new) }
+    requires opened { CellsOpen (front slot database.now) cells.old.slots cells.old.room cells.old }
+    ensures { IfOk result (λ _. CellsOpen (front (slot + 1) database.now) cells.old.slots cells.old.room cells.new) }
 {
     let assertion = &database.assertions()[slot];
     let rank = 100 * (slot as u32 + 1);
@@ -133,7 +133,7 @@ fn put_next(
 
 /// Whether the bodies of the assertions have at most as many words as the room.
 fn fit_into(assertions: &[Assertion], room: usize) -> bool
-    ensures { IsTrue result ↔ bodies_length assertions.now ≤ room }
+    ensures { IsTrue result ↔ all_bodies_length assertions.now ≤ room }
 {
     let mut left = room;
     for assertion in assertions {

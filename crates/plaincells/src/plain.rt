@@ -50,7 +50,7 @@ impl Drop for PlainCells {
 }
 
 impl PlainCells {
-    ghost use Rattle.plaincells.specs.PlainViews.{setting_of, AreBlank, AreOfWords, ShowNamed, AreSameButLog, AreSameButValues};
+    ghost use Rattle.plaincells.specs.PlainViews.{cells_setting, AreBlank, AreOfWords, ShowNamed, AreSameButLog, AreSameButValues};
 
     /// The cells of a library without assertions, over a prelude, with a store that has room for so many words.
     ///
@@ -175,7 +175,7 @@ impl PlainCells {
 
     /// Keeps what this run wrote, and begins another.
     pub fn keep(&mut self)
-        requires { ∥ ShowsSome (setting_of self.old) self.old.values.items self.old.store.items self.old.ranges.items ∥₁ }
+        requires { ∥ ShowsSome (cells_setting self.old) self.old.values.items self.old.store.items self.old.ranges.items ∥₁ }
         ensures log { self.new.log.items ≡ [] }
         ensures same { AreSameButLog self.old self.new }
     {
@@ -239,11 +239,11 @@ fn put_behind(
 
 impl Cells for PlainCells {
     ghost use mathlib.Core.Logic.{∥∥₁_map};
-    ghost use Rattle.plaincells.specs.PlainViews.{sight_of, first_state};
+    ghost use Rattle.plaincells.specs.PlainViews.{cells_sight, first_state};
 
     type Origin = ();
 
-    ghost sight = { sight_of };
+    ghost sight = { cells_sight };
 
     fn slots(&self) -> usize {
         self.slots
@@ -251,10 +251,10 @@ impl Cells for PlainCells {
 
     // the trait's clauses, and why it halts
     fn read(&mut self, cell: usize) -> Result<u64, Halt>
-        requires { cell < cell_count (sight_of self.old).setting.slots }
-        ensures ok { IfOk result (λ v. Reads cell v (sight_of self.old) (sight_of self.new)) }
-        ensures err { IfErr result (λ _. Looks (sight_of self.old) (sight_of self.new)) }
-        ensures reads { ReadsWithin (λ c. c ≡ cell) (sight_of self.old) (sight_of self.new) }
+        requires { cell < cell_count (cells_sight self.old).setting.slots }
+        ensures ok { IfOk result (λ v. Reads cell v (cells_sight self.old) (cells_sight self.new)) }
+        ensures err { IfErr result (λ _. Looks (cells_sight self.old) (cells_sight self.new)) }
+        ensures reads { ReadsWithin (λ c. c ≡ cell) (cells_sight self.old) (cells_sight self.new) }
         ensures memory { IsOkUnless result Halt.NoMemory }
     {
         let value = self.values[cell];
@@ -279,11 +279,11 @@ impl Cells for PlainCells {
 
     // the trait's clauses, and when the store is full
     fn stage(&mut self, words: &[u64]) -> Result<Range, Halt>
-        requires may { (sight_of self.old).may_stage ≡ true }
+        requires may { (cells_sight self.old).may_stage ≡ true }
         requires some { words.now ≢ [] }
-        ensures ok { IfOk result (λ range. Stages words.now range (sight_of self.old) (sight_of self.new)) }
-        ensures err { IfErr result (λ _. Looks (sight_of self.old) (sight_of self.new)) }
-        ensures reads { ReadsNothing (sight_of self.old) (sight_of self.new) }
+        ensures ok { IfOk result (λ range. Stages words.now range (cells_sight self.old) (cells_sight self.new)) }
+        ensures err { IfErr result (λ _. Looks (cells_sight self.old) (cells_sight self.new)) }
+        ensures reads { ReadsNothing (cells_sight self.old) (cells_sight self.new) }
         ensures full { IsErrOf result Halt.StoreFull ↔ (self.old.room < length self.old.store.items + length words.now) }
     {
         if words.len() > self.room - self.store.len() {

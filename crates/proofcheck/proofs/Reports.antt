@@ -10,7 +10,7 @@ use Rattle.std.proofs.lemmas.Bool.{cases_lt, ltb-true, ltb-false}
 use Rattle.mmsyntax.specs.Tables.{Contents}
 use Rattle.ranges.specs.Ranges.{Has}
 use Rattle.ranges.proofs.Members.{all_has, has_append_left, has_append_right, has_append_cases, has_permutation}
-use Rattle.claims.specs.Claims.{Home, Claimant, AreClaimed, Claims, IsOf, IsNewOf, claims_of, up_to}
+use Rattle.claims.specs.Claims.{Counting, Claimant, AreClaimed, Claims, IsClaimantOf, IsNewOf, claims_of, up_to}
 use Rattle.claims.proofs.UpTo.{each_below, below_has}
 use Rattle.derivation.specs.declared.fault.ProofFault.{ProofFault}
 use Rattle.derivation.specs.declared.fault.ProofFaultKind.TheVariants.{NoMemory}
@@ -28,7 +28,7 @@ pub earliest_last : (found : Found) (others : List Found) (last : Found)
 earliest_last found [] last = refl
 earliest_last found (other ∷ others) last = earliest_last (earlier found other) others last
 
-pub all_ready : (home : Home) (cs : List Claimant) → All (IsNewOf home) cs → All (IsReady home) (map checker_of cs)
+pub all_ready : (home : Counting) (cs : List Claimant) → All (IsNewOf home) cs → All (IsReady home) (map checker_of cs)
 all_ready home cs new =
     All-map (IsReady home) checker_of cs (All-weaker (IsNewOf home) (λ c. IsReady home (checker_of c)) (λ c is. (is, refl)) cs new)
 
@@ -64,7 +64,7 @@ module _ (db : Contents) where
       (λ k has. has_append_right xs ys k has) (λ k has. has_append_cases xs ys k has)
 
   -- one more place is claimed, behind those before it, and is checked where no fault was found before
-  module _ (home : Home) (n : ℕ) (old new : Claimant) (claims : Claims home n old new) where
+  module _ (home : Counting) (n : ℕ) (old new : Claimant) (claims : Claims home n old new) where
     abbrev Before : ℕ → Type 0
     Before k = Has k old.claimed
 
@@ -103,12 +103,12 @@ module _ (db : Contents) where
               ⊎_elim (λ h. f.4 j lt h) (λ (e : j ≡ n). absurd (omega (arith, below, lt, e))) (before_or_last j here),
         )
 
-    pub claimed_own : IsOf home old → IsOf home new
-    claimed_own own = subst (IsOf home) (sym claims.is) own
+    pub claimed_own : IsClaimantOf home old → IsClaimantOf home new
+    claimed_own own = subst (IsClaimantOf home) (sym claims.is) own
 
   -- ---- all who check
 
-  module _ (home : Home) where
+  module _ (home : Counting) where
     all_checkers : (before : List ℕ) (found : Found) (cs : List Checker) → All (HasChecked db home) cs
         → FoundAmong db (λ k. Has k before) found
         → FoundAmong db (λ k. Has k (before ++ claims_of (map (λ c. c.claimant) cs))) (earliest found (map (λ c. c.found) cs))

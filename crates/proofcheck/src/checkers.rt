@@ -3,7 +3,7 @@
 ghost use Rattle.std.specs.Prelude.{◌≡◌, ◌≢◌, ◌<◌, ◌≤◌, [], None, All, map, IfOk, OnOk, IfErr, length, vec_capacity};
 ghost use Rattle.mmframes.specs.Frames.{frame};
 ghost use Rattle.derivation.specs.Databases.{ChecksAt, HasFaultAt};
-ghost use Rattle.claims.specs.Claims.{IsOf, AreClaimed};
+ghost use Rattle.claims.specs.Claims.{IsClaimantOf, AreClaimed};
 ghost use Rattle.proofcheck.specs.Reports.{FoundAmong, earlier, earliest};
 ghost use Rattle.proofcheck.specs.Checkers.{checker_of, IsReady, HasChecked};
 
@@ -176,7 +176,7 @@ fn first_found(
     checkers: Vec<Checker>,
     mut claimants: Vec<Claimant>,
 ) -> Option<(usize, ProofFault)>
-    requires own { All (λ c. IsOf numbers c.claimant) checkers.items }
+    requires own { All (λ c. IsClaimantOf numbers c.claimant) checkers.items }
     requires all { length checkers.items ≡ numbers.claimants }
     requires none { claimants.items ≡ [] }
     requires room { length checkers.items ≤ vec_capacity claimants }

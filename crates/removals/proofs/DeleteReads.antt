@@ -16,7 +16,7 @@ use Rattle.cells.specs.Footprints.{ReadsWhere, IsOfTakingOut}
 use Rattle.cells.specs.Lookups.{ForEachHeld, IsFoundAt}
 use Rattle.cells.proofs.Asking.{asks_wider}
 use Rattle.cells.proofs.Counted.{listed_within}
-use Rattle.cells.proofs.Sights.{matches_back, after_looks}
+use Rattle.cells.proofs.Sights.{matches_back, after_looks, setting_kept}
 use Rattle.groundwork.proofs.Restepped.{CountsOutOf}
 use Rattle.groundwork.proofs.Since.{ReadsSince, OfCommandFound, since_then, of_slot, taking_out, look_before}
 use Rattle.groundwork.proofs.Touching.{cited_citers}
@@ -52,7 +52,7 @@ module _ {O : Type 0} (s0 s1 : Sight O) (i : ℕ) (label : List ℕ) where
         let stored = stored_before s0 s1 i label former looks read st lib (matches_back s1 s2 st on2 m) v at in
         let within : (j : ℕ) → Has j listed → j < s0.setting.slots =
         listed_within s0.setting.slots (after s0 st) lib v.shows v.matches.store at.entry.assertion.proof former listed stored cited in
-        let early : s1.setting.slots ≡ s0.setting.slots = ap (λ (x : Setting). x.slots) looks.onward.setting in
+        let early : s1.setting.slots ≡ s0.setting.slots = ap (λ (x : Setting). x.slots) (setting_kept looks.onward) in
         let counted = counts st m (all_from_has (λ j. j < s1.setting.slots) listed (λ j h. let lt = within j h in omega (arith, lt, early)))
         cited.apart in
         counted.others c (λ j h z. let lt = within j h in omega (arith, low, lt, z))
@@ -67,7 +67,7 @@ module _ {O : Type 0} (s0 s1 : Sight O) (i : ℕ) (label : List ℕ) where
         ⊎_elim (λ own. inr (i, at, inl own))
         (λ look. inl (look_before s0.setting.slots (after s0 st) (after s2 st) (chains_before counts st lib back v at) label c look))
         (taking_out s0.setting.slots i label (after s2 st) c
-        (subst (λ (x : Setting). IsOfTakingOut x.slots i label (after s2 st) c) (on2.setting ∙ looks.onward.setting) is)))
+        (subst (λ (x : Setting). IsOfTakingOut x.slots i label (after s2 st) c) (on2.setting ∙ (setting_kept looks.onward)) is)))
         (reads.each st m))
 
   pub removal_slot : (s2 : Sight O) → Onward s1 s2 → ReadsWithin (IsOfSlot i) s1 s2

@@ -13,7 +13,7 @@ use Rattle.cells.specs.Aside.{KeepsAside, IsOfSlot, IsCitersOf, IsOfLeaving}
 use Rattle.chains.specs.Chains.{KeepsLeaving}
 use Rattle.cells.specs.Counts.{AreCitedSlots}
 use Rattle.cells.specs.Lookups.{ForEach, ForEachHeld, IsFoundAt}
-use Rattle.cells.proofs.Sights.{matches_back, after_looks}
+use Rattle.cells.proofs.Sights.{matches_back, after_looks, setting_kept}
 use Rattle.cells.proofs.Keeping.{keeps_same, keeps_trans, keeps_wider}
 use Rattle.cells.proofs.Counted.{listed_within}
 use Rattle.groundwork.specs.Touches.{IsOfDeletion, KeepsTo}
@@ -52,7 +52,7 @@ removes_within s0 s1 s2 s3 s4 i label former listed looks on2 on3 on4 read cited
     stored =
         let at = found_later s0 s1 st lib label i looks here in
         subst (λ (x : State). AreStoredAs s0.setting.slots x here.entry.assertion.proof former) (after_looks s0 s1 st looks)
-        (subst (λ (x : Setting). AreStoredAs x.slots (after s1 st) here.entry.assertion.proof former) looks.onward.setting
+        (subst (λ (x : Setting). AreStoredAs x.slots (after s1 st) here.entry.assertion.proof former) (setting_kept looks.onward)
         (read st lib (views_later s0 s1 st lib looks (matches_back s1 s2 st on2 m2) seen) at.entry (found_in lib label at.entry at.found).0
         at.holds))
 
@@ -61,8 +61,8 @@ removes_within s0 s1 s2 s3 s4 i label former listed looks on2 on3 on4 read cited
 
     still : (c : ℕ) → IsOfLeaving s2.setting.slots (after s2 st) i c → IsOfLeaving s0.setting.slots (after s0 st) i c
     still c is =
-        let early : s1.setting.slots ≡ s0.setting.slots = ap (λ (x : Setting). x.slots) looks.onward.setting in
-        let slots_are : s2.setting.slots ≡ s0.setting.slots = ap (λ (x : Setting). x.slots) (on2.setting ∙ looks.onward.setting) in
+        let early : s1.setting.slots ≡ s0.setting.slots = ap (λ (x : Setting). x.slots) (setting_kept looks.onward) in
+        let slots_are : s2.setting.slots ≡ s0.setting.slots = ap (λ (x : Setting). x.slots) (on2.setting ∙ (setting_kept looks.onward)) in
         let counted = counts st m2 (all_from_has (λ j. j < s1.setting.slots) listed (λ j h. let lt =
         within j h in omega (arith, lt, early)))
         cited.apart in

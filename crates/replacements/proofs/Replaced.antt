@@ -31,7 +31,7 @@ use Rattle.cells.specs.Answers.{WritesSome, Does, IsRefused, ForEachBefore}
 use Rattle.cells.proofs.Found.{unfound, found_named}
 use Rattle.cells.proofs.ReadBack.{held_later}
 use Rattle.cells.proofs.Settings.{same_slots}
-use Rattle.cells.proofs.Sights.{looks_trans, matches_back}
+use Rattle.cells.proofs.Sights.{looks_trans, matches_back, setting_kept}
 use Rattle.cells.proofs.Asking.{asks_wider}
 use Rattle.groundwork.specs.Changes.{ReprovesAt}
 use Rattle.groundwork.specs.Touches.{ReprovesWithin, KeepsTo, Touches}
@@ -260,7 +260,7 @@ module _ {O : Type 0} (first s : Sight O) (i j k : ℕ) (label old new : List �
         let at_new = known.finds_new.1 st lib v in
         let f = at_old.entry in
         let g = at_new.entry in
-        let is : p ≡ s.setting.prelude = prelude ∙ ap (λ (x : Setting). x.prelude) (sym known.looks.onward.setting) in
+        let is : p ≡ s.setting.prelude = prelude ∙ ap (λ (x : Setting). x.prelude) (sym (setting_kept known.looks.onward)) in
         subst (λ (t : Tables). is_alike (frame t f.assertion) (frame t g.assertion) ≡ b) is
         (sym (told st lib v f (found_in lib old f at_old.found).0 at_old.holds g (found_in lib new g at_new.found).0 at_new.holds))
 
@@ -310,7 +310,7 @@ module _ {O : Type 0} (first s : Sight O) (i j k : ℕ) (label old new : List �
                 let named = found_named slots (after s st) lib now.shows now.matches.store apart new k at_new in
                 let theorem = theorem_there st lib now in (
                   next,
-                  subst (λ (x : Setting). edit x lib (Replace label old new) ≡ Ok (done next)) known.looks.onward.setting
+                  subst (λ (x : Setting). edit x lib (Replace label old new) ≡ Ok (done next)) (setting_kept known.looks.onward)
                       (replace_done s.setting lib label old new at.entry at.found at_old.entry at_old.found at_new.entry at_new.found
                       (ap is_axiom theorem) (alike_there true like st lib now) (lower_there false told st lib now)),
                   reproves st lib m now at (recited old new steps) theorem

@@ -8,7 +8,7 @@ use Rattle.std.specs.Fmt.{decimal}
 use Rattle.mmsyntax.specs.Tables.{Tables}
 use Rattle.transaction.specs.declared.outcome.Outcome.{Outcome}
 use Rattle.transaction.specs.Closings.{lists_of}
-use Rattle.reports.specs.Reports.{OutcomeFits, OutcomesFit, outcome_text, numbered_text, script_text_from, scripts_text_from, report_text}
+use Rattle.reports.specs.Reports.{IsReportable, AreReportable, outcome_text, numbered_text, script_text_from, scripts_text_from, report_text}
 
 -- from the place of an item on, a list has the item and then what stands behind it
 pub here : {A : Type 0} (xs : List A) (i : ℕ) (x : A) → i < length xs → x ≡ get_or xs i x → drop i xs ≡ x ∷ drop (i + 1) xs
@@ -32,7 +32,7 @@ told_on t s i out number mid end all os o within is numbered is_mid is_end befor
 pub record AreLeft (t : Tables) (rows : List (Vec Outcome Global)) (out : List ℕ) (told : ℕ) (left : List (Vec Outcome Global)) (count : ℕ)
     : Type 0 where
   pub text : out ++ scripts_text_from t (told + 1) (lists_of left) ≡ report_text t (lists_of rows)
-  pub fit : OutcomesFit t (lists_of left)
+  pub fit : AreReportable t (lists_of left)
   pub counted : told + length left ≡ length rows
   pub count_is : count ≡ length left
 
@@ -51,15 +51,15 @@ row_on t rows left rest out end told count less row os a next one same is_end =
           ∙ append_assoc out (script_text_from t (told + 1) 1 row.items) behind
           ∙ ap (λ (xs : List (Vec Outcome Global)). out ++ scripts_text_from t (told + 1) (lists_of xs)) (sym next) ∙ a.text;
       fit =
-          All-tail (All (OutcomeFits t)) row.items (lists_of rest)
-          (subst (λ (xs : List (Vec Outcome Global)). OutcomesFit t (lists_of xs)) next a.fit);
+          All-tail (All (IsReportable t)) row.items (lists_of rest)
+          (subst (λ (xs : List (Vec Outcome Global)). AreReportable t (lists_of xs)) next a.fit);
       counted = omega (arith, size, counted);
       count_is = omega (arith, one, count_is, size);
     }
 
 -- the outcomes of the next script can be printed
 pub next_fits : (t : Tables) (rows left rest : List (Vec Outcome Global)) (out : List ℕ) (told count : ℕ) (row : Vec Outcome Global)
-    (os : List Outcome) → AreLeft t rows out told left count → left ≡ row ∷ rest → os ≡ row.items → All (OutcomeFits t) os
+    (os : List Outcome) → AreLeft t rows out told left count → left ≡ row ∷ rest → os ≡ row.items → All (IsReportable t) os
 next_fits t rows left rest out told count row os a next same =
-    let fit = subst (λ (xs : List (Vec Outcome Global)). OutcomesFit t (lists_of xs)) next a.fit in
-    subst (All (OutcomeFits t)) (sym same) (All-head (All (OutcomeFits t)) row.items (lists_of rest) fit)
+    let fit = subst (λ (xs : List (Vec Outcome Global)). AreReportable t (lists_of xs)) next a.fit in
+    subst (All (IsReportable t)) (sym same) (All-head (All (IsReportable t)) row.items (lists_of rest) fit)

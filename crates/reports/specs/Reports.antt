@@ -27,14 +27,14 @@ outcome_text t TooManyCommands = codes "too many commands" ++ 10 ∷ []
 outcome_text t NoMemory = codes "no memory" ++ 10 ∷ []
 
 -- what a report can print: replies within the limits, and no conflict
-abbrev pub OutcomeFits : Tables → Outcome → Type 0
-OutcomeFits t (Committed n replies) = All (ReplyFits t) replies
-OutcomeFits t (Read n replies) = All (ReplyFits t) replies
-OutcomeFits t (Conflict met) = ⊥
-OutcomeFits t _ = Unit {0}
+abbrev pub IsReportable : Tables → Outcome → Type 0
+IsReportable t (Committed n replies) = All (ReplyFits t) replies
+IsReportable t (Read n replies) = All (ReplyFits t) replies
+IsReportable t (Conflict met) = ⊥
+IsReportable t _ = Unit {0}
 
-abbrev pub OutcomesFit : Tables → List (List Outcome) → Type 0
-OutcomesFit t rows = All (All (OutcomeFits t)) rows
+abbrev pub AreReportable : Tables → List (List Outcome) → Type 0
+AreReportable t rows = All (All (IsReportable t)) rows
 
 -- ---- reports
 

@@ -7,7 +7,7 @@ ghost use Rattle.mmsyntax.specs.Layout.{line};
 ghost use Rattle.library.specs.Fitting.{ReplyFits};
 ghost use Rattle.historytext.specs.Layout.{reply_text};
 ghost use Rattle.transaction.specs.declared.outcome.Outcome.TheVariants as outcome;
-ghost use Rattle.reports.specs.Reports.{OutcomeFits, OutcomesFit, outcome_text, script_text_from, report_text};
+ghost use Rattle.reports.specs.Reports.{IsReportable, AreReportable, outcome_text, script_text_from, report_text};
 
 use historytext::put_reply;
 use library::{Refused, Reply};
@@ -71,7 +71,7 @@ fn put_outcome(
     prelude: &Prelude,
     outcome: &Outcome,
 ) -> Result<(), AllocError>
-    requires { OutcomeFits prelude.now outcome.now }
+    requires { IsReportable prelude.now outcome.now }
     ensures { OnOk result (out.new.items ≡ out.old.items ++ outcome_text prelude.now outcome.now) }
 {
     match outcome {
@@ -105,7 +105,7 @@ fn put_script(
     script: u64,
     outcomes: &[Outcome],
 ) -> Result<(), AllocError>
-    requires { All (OutcomeFits prelude.now) outcomes.now }
+    requires { All (IsReportable prelude.now) outcomes.now }
     ensures { OnOk result (out.new.items ≡ out.old.items ++ script_text_from prelude.now script 1 outcomes.now) }
 {
     for (i, outcome) in outcomes.iter().enumerate() {
@@ -129,7 +129,7 @@ pub fn report(
     prelude: &Prelude,
     rows: Vec<Vec<Outcome>>,
 ) -> Result<Vec<u8>, AllocError>
-    requires { OutcomesFit prelude.now (map (λ row. row.items) rows.items) }
+    requires { AreReportable prelude.now (map (λ row. row.items) rows.items) }
     ensures { IfOk result (λ out. out.items ≡ report_text prelude.now (map (λ row. row.items) rows.items)) }
 {
     let mut out = Vec::new(alloc);

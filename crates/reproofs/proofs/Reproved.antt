@@ -9,7 +9,7 @@ use Rattle.library.specs.declared.command.Reply.TheVariants.{Done}
 use Rattle.library.specs.declared.reason.Reason.{Reason}
 use Rattle.library.specs.declared.reason.Reason.TheVariants as reason
 use Rattle.library.specs.Library.{Setting}
-use Rattle.library.specs.Edits.{changed, with_proof, is_axiom, done, edit, tested}
+use Rattle.library.specs.Edits.{changed, with_proof, is_axiom, done, edit, proof_tests, tested}
 use Rattle.library.proofs.Places.{found_in}
 use Rattle.bodystore.specs.declared.statement.Statement.{Statement}
 use Rattle.bodystore.specs.declared.stored.StoredStep.{StoredStep}
@@ -18,11 +18,11 @@ use Rattle.cells.specs.State.{State}
 use Rattle.cells.specs.Shows.{AreStoredAs}
 use Rattle.cells.specs.Sight.{Sight, Views, Onward, Looks, after}
 use Rattle.cells.specs.Lookups.{ForEach, ForEachHeld, IsFoundAt}
-use Rattle.cells.proofs.Sights.{matches_back}
+use Rattle.cells.proofs.Sights.{matches_back, setting_kept}
 use Rattle.cells.proofs.ReadBack.{assembled}
 use Rattle.cells.specs.Answers.{WritesSome, Does}
 use Rattle.groundwork.specs.Changes.{ReprovesAt}
-use Rattle.groundwork.specs.Citing.{proof_tests, Passes, Fails}
+use Rattle.groundwork.specs.Citing.{Passes, Fails}
 use Rattle.groundwork.proofs.Seeing.{views_later}
 use Rattle.groundwork.proofs.Refusing.{first_refuses, first_passes, of_some}
 
@@ -55,7 +55,7 @@ module _ {O : Type 0} (s : Sight O) (i : ℕ) (label : List ℕ) (made : Stateme
       (is : a ≡ titled label made steps) where
     reprove_tested : (st : State) (lib : List Ranked) → Views s st lib
         → edit s.setting lib (command.Reprove label steps)
-        ≡ tested (proof_tests s lib rank a []) (done (changed label (with_proof steps) lib))
+        ≡ tested (proof_tests s.setting lib rank a ++ []) (done (changed label (with_proof steps) lib))
     reprove_tested st lib v =
         let at = here st lib v in
         let next = done (changed label (with_proof steps) lib) in
@@ -66,8 +66,8 @@ module _ {O : Type 0} (s : Sight O) (i : ℕ) (label : List ℕ) (made : Stateme
         is ∙ assembled (with_proof steps at.entry).assertion label made steps own.1 read refl in
         of_some lib label _ at.entry at.found
         ∙ first_passes (is_axiom at.entry.assertion.kind) reason.NotATheorem _ _ (ap is_axiom (sym (same_kind st lib v at) ∙ theorem))
-        ∙ ap (λ n. tested (proof_tests s lib n (with_proof steps at.entry).assertion []) next) (sym is_rank)
-        ∙ ap (λ x. tested (proof_tests s lib rank x []) next) (sym is_theorem)
+        ∙ ap (λ n. tested (proof_tests s.setting lib n (with_proof steps at.entry).assertion ++ []) next) (sym is_rank)
+        ∙ ap (λ x. tested (proof_tests s.setting lib rank x ++ []) next) (sym is_theorem)
 
     pub reprove_refused : (r : Reason) → Fails s rank a r → ForEach s (λ st lib. edit s.setting lib (command.Reprove label steps) ≡ Err r)
     reprove_refused r fails st lib v = reprove_tested st lib v ∙ fails st lib v [] (done (changed label (with_proof steps) lib))
@@ -82,7 +82,7 @@ module _ {O : Type 0} (s : Sight O) (i : ℕ) (label : List ℕ) (made : Stateme
               let at = here st lib now in
               let next = changed label (with_proof steps) lib in (
                 next,
-                subst (λ (x : Setting). edit x lib (command.Reprove label steps) ≡ Ok (done next)) looks.onward.setting
+                subst (λ (x : Setting). edit x lib (command.Reprove label steps) ≡ Ok (done next)) (setting_kept looks.onward)
                     (reprove_tested st lib now ∙ passes.passes st lib now [] (done next)),
                 reproves st lib m now at steps (sym (same_kind st lib now at) ∙ theorem)
                     (subst (λ (x : List Step). AreStoredAs s.setting.slots (after s st) x kept) (ap (λ (x : Assertion). x.proof) is)

@@ -10,7 +10,7 @@ use Rattle.scopes.specs.declared.tables.Active.{Active}
 use Rattle.scopes.specs.declared.tables.Block.{Block}
 use Rattle.scopes.specs.Paths.{path}
 use Rattle.scopes.specs.Views.{Kept, active_of, hypothesis_at, pairs_at, assertions_of, is_outermost, scope_before, scopes_around, scope_of, stand_of}
-use Rattle.scopes.specs.Sound.{Knows, IsSound, IsBelow, AreNested, last_link}
+use Rattle.scopes.specs.Sound.{KnowsWord, IsSound, IsBelow, AreNested, last_link}
 use Rattle.scopes.proofs.Naming.{knows_less}
 use Rattle.scopes.proofs.Growing.{sizes_of, began, Agree, nested_more, around_stays}
 use Rattle.scopes.proofs.Linking.{all_take, take_past, split_at}
@@ -57,7 +57,7 @@ same_below k = record {
   assertions = omega arith;
 }
 
-knows_inside : (t : Scope) (b : Bool) (w : Word) (o : Option Name) → Knows t w o → Knows (record t { outermost = b }) w o
+knows_inside : (t : Scope) (b : Bool) (w : Word) (o : Option Name) → KnowsWord t w o → KnowsWord (record t { outermost = b }) w o
 knows_inside t b w o k = record {
   constant = k.constant;
   symbol = k.symbol;
@@ -158,7 +158,7 @@ sound_closed look k front b s split =
     let vs : length (take b.variables k.variables) ≡ b.variables = length-take-le b.variables k.variables below.variables in
     let hs : length (take b.active k.active) ≡ b.active = length-take-le b.active k.active below.active in
     record {
-      named = λ w. subst (λ (t : Scope). Knows t w (look w)) (sym (scope_front k front b))
+      named = λ w. subst (λ (t : Scope). KnowsWord t w (look w)) (sym (scope_front k front b))
           (knows_less (scope_of k) (is_outermost (reverse front)) b.variables b.active (pairs_at k.aparts b.apart) w (look w) (s.named w));
       within = all_take (λ a. a.link < length k.links) b.active k.active s.within;
       listed = listed_front look k b.active s;

@@ -14,7 +14,7 @@ use Rattle.scopes.specs.declared.tables.Name.TheVariants as name
 use Rattle.scopes.specs.declared.tables.Active.{Active}
 use Rattle.scopes.specs.Paths.{path, IsWithin}
 use Rattle.scopes.specs.Views.{Linked, Entry, Kept, active_of, pairs_at, assertion_of, assertions_of, scopes_around, scope_of, stand_of}
-use Rattle.scopes.specs.Sound.{Knows, IsSound, IsCounted, last_link}
+use Rattle.scopes.specs.Sound.{KnowsWord, IsSound, IsCounted, last_link}
 use Rattle.scopes.specs.Effects.{with_link}
 use Rattle.scopes.proofs.Paths.{path_stays, path_grows}
 use Rattle.scopes.proofs.Naming.{knows_premise, knows_float, knows_assertion}
@@ -27,7 +27,7 @@ use Rattle.scopes.proofs.Lawful.{lawful_hypothesis, lawful_float, lawful_asserte
 -- ---- hypotheses
 
 pub sound_link : (look found : Word → Option Name) (k : Kept) (h : Hypothesis) → IsSound look k
-    → ((w : Word) → Knows (with_hypothesis (scope_of k) h) w (found w)) → IsSound found (with_link k h)
+    → ((w : Word) → KnowsWord (with_hypothesis (scope_of k) h) w (found w)) → IsSound found (with_link k h)
 sound_link look found k h s known =
     let j = with_link k h in
     let new : Active = record { link = length k.links; is_mandatory = false } in
@@ -42,7 +42,7 @@ sound_link look found k h s known =
       es = omega arith;
     } in
     record {
-      named = λ w. subst (λ (t : Scope). Knows t w (found w)) (sym (scope_link look k h s)) (known w);
+      named = λ w. subst (λ (t : Scope). KnowsWord t w (found w)) (sym (scope_link look k h s)) (known w);
       within = all_push (λ a. a.link < length j.links) k.active new
           (all_map (λ a. a.link < length k.links) (λ a. a.link < length j.links) (λ a lt. omega arith) k.active s.within) longer;
       listed = listed_more look k h s;
@@ -88,12 +88,12 @@ sound_premise look k label ws s lawful =
     let new = lawful_hypothesis (scope_of k) label ws lawful in
     let len : length (scope_of k).hypotheses ≡ length k.active = length-map k.active _ in
     sound_link look (λ w. cond (bytes_eq label w) (Some (name.Hypothesis (length k.active))) (look w)) k (premise label ws) s
-    (λ w. subst (λ (n : ℕ). Knows (with_hypothesis (scope_of k) (premise label ws)) w
+    (λ w. subst (λ (n : ℕ). KnowsWord (with_hypothesis (scope_of k) (premise label ws)) w
     (cond (bytes_eq label w) (Some (name.Hypothesis n)) (look w)))
     len (knows_premise (scope_of k) label ws look s.named new.0 new.1 w))
 
 -- the name of a variable
-variable_named : (s : Scope) (v : Word) (o : Option Name) → Knows s v o → list_any (bytes_eq v) s.symbols ≡ true
+variable_named : (s : Scope) (v : Word) (o : Option Name) → KnowsWord s v o → list_any (bytes_eq v) s.symbols ≡ true
     → list_any (bytes_eq v) s.constants ≡ false → (i : ℕ) × (f : Option ℕ) × (o ≡ Some (name.Variable i f))
 variable_named s v None k y c = absurd (let e = k.symbol in cc)
 variable_named s v (Some name.Constant) k y c = absurd (let e = k.constant in cc)
@@ -117,7 +117,8 @@ sound_float look k label c v i f s lawful at =
     let len : length (scope_of k).hypotheses ≡ length k.active = length-map k.active _ in
     sound_link look (λ w. cond (bytes_eq v w) (Some (name.Variable i (Some (length k.active))))
     (cond (bytes_eq label w) (Some (name.Hypothesis (length k.active))) (look w))) k (typing label c v) s
-    (λ w. subst (λ (n : ℕ). Knows (with_hypothesis (scope_of k) (typing label c v)) w (cond (bytes_eq v w) (Some (name.Variable i (Some n)))
+    (λ w. subst (λ (n : ℕ). KnowsWord (with_hypothesis (scope_of k) (typing label c v)) w
+    (cond (bytes_eq v w) (Some (name.Variable i (Some n)))
     (cond (bytes_eq label w) (Some (name.Hypothesis n)) (look w))))
     len (knows_float (scope_of k) label c v i f look s.named new.0 new.1 at new.4 w))
 
@@ -154,7 +155,7 @@ sound_apart look k vs s =
       es = omega arith;
     } in
     record {
-      named = λ w. subst (λ (t : Scope). Knows t w (look w)) (sym (scope_apart look k vs s))
+      named = λ w. subst (λ (t : Scope). KnowsWord t w (look w)) (sym (scope_apart look k vs s))
           (knows_apart (scope_of k) vs w (look w) (s.named w));
       within = s.within;
       listed = s.listed;
@@ -164,7 +165,7 @@ sound_apart look k vs s =
       nested = nested_more (reverse k.blocks) (length k.aparts) (length j.aparts) (sizes_of k) (sizes_of j) (omega arith) more s.nested;
     }
   where
-    knows_apart : (t : Scope) (vs : List Word) (w : Word) (o : Option Name) → Knows t w o → Knows (behind t (distinct vs)) w o
+    knows_apart : (t : Scope) (vs : List Word) (w : Word) (o : Option Name) → KnowsWord t w o → KnowsWord (behind t (distinct vs)) w o
     knows_apart t vs w o k = record {
       constant = k.constant;
       symbol = k.symbol;
@@ -250,9 +251,9 @@ sound_entry look k label ws proof arity s lawful counts =
       active = (scope_of k).hypotheses;
     } in
     record {
-      named = λ w. subst (λ (t : Scope). Knows t w (cond (bytes_eq label w) (Some (name.Assertion (length k.entries))) (look w)))
+      named = λ w. subst (λ (t : Scope). KnowsWord t w (cond (bytes_eq label w) (Some (name.Assertion (length k.entries))) (look w)))
           (sym (scope_entry look k label ws proof arity s))
-          (subst (λ (n : ℕ). Knows (with_assertion (scope_of k) label ws proof) w
+          (subst (λ (n : ℕ). KnowsWord (with_assertion (scope_of k) label ws proof) w
           (cond (bytes_eq label w) (Some (name.Assertion n)) (look w))) len
           (knows_assertion (scope_of k) a look s.named new.0 new.1 w));
       within = s.within;

@@ -15,7 +15,7 @@ use Rattle.scopes.specs.declared.tables.Active.{Active}
 use Rattle.scopes.specs.Paths.{path}
 use Rattle.scopes.specs.Found.{Found, passes_at}
 use Rattle.scopes.specs.Views.{Linked, Kept, active_of, hypothesis_at, scopes_around, scope_of, stand_of}
-use Rattle.scopes.specs.Sound.{Knows, IsSound, AreNested, last_link}
+use Rattle.scopes.specs.Sound.{KnowsWord, IsSound, AreNested, last_link}
 use Rattle.scopes.proofs.Found.{none_passes, some_passes, found_any}
 use Rattle.scopes.proofs.Growing.{sizes_of, Agree, around_stays}
 
@@ -61,7 +61,7 @@ marked_scope k xs e = let hs : active_of k.links xs ≡ active_of k.links k.acti
 pub marked_sound : (look : Word → Option Name) (k : Kept) (xs : List Active) → IsSound look k → numbers xs ≡ numbers k.active
     → IsSound look (with_active k xs)
 marked_sound look k xs s e = record {
-  named = λ w. subst (λ (t : Scope). Knows t w (look w)) (sym (marked_scope k xs e)) (s.named w);
+  named = λ w. subst (λ (t : Scope). KnowsWord t w (look w)) (sym (marked_scope k xs e)) (s.named w);
   within = numbers_below (length k.links) xs
       (subst (λ (ns : List ℕ). AllByRecursion (λ i. i < length k.links) ns) (sym e) (below_numbers (length k.links) k.active s.within));
   listed = λ n. ap (path k.links) (same_last (take n xs) (take n k.active) (same_take n xs k.active e)) ∙ s.listed n

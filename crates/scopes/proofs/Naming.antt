@@ -13,7 +13,7 @@ use Rattle.source.specs.Scopes.{Hypothesis, typing, premise, label_of, Assertion
 use Rattle.scopes.specs.declared.tables.Name.{Name}
 use Rattle.scopes.specs.declared.tables.Name.TheVariants as name
 use Rattle.scopes.specs.Found.{Found}
-use Rattle.scopes.specs.Sound.{Knows, is_symbol, is_label, variable_place, float_place, hypothesis_place, assertion_place}
+use Rattle.scopes.specs.Sound.{KnowsWord, is_symbol, is_label_name, variable_place, float_place, hypothesis_place, assertion_place}
 use Rattle.scopes.proofs.Found.{found_push, found_here, found_any, found_take}
 
 -- ---- words
@@ -40,14 +40,14 @@ module _ (P : Word → Option Name → Type 0) (c : Word) (new : Name) (look : W
 
 -- ---- names
 
-no_name : (o : Option Name) → is_label o ≡ false → is_symbol o ≡ false → o ≡ None
+no_name : (o : Option Name) → is_label_name o ≡ false → is_symbol o ≡ false → o ≡ None
 no_name None l m = refl
 no_name (Some name.Constant) l m = absurd cc
 no_name (Some (name.Variable i f)) l m = absurd cc
 no_name (Some (name.Hypothesis i)) l m = absurd cc
 no_name (Some (name.Assertion i)) l m = absurd cc
 
-no_label : (o : Option Name) → is_label o ≡ false → (hypothesis_place o ≡ None) × (assertion_place o ≡ None)
+no_label : (o : Option Name) → is_label_name o ≡ false → (hypothesis_place o ≡ None) × (assertion_place o ≡ None)
 no_label None l = (refl, refl)
 no_label (Some name.Constant) l = (refl, refl)
 no_label (Some (name.Variable i f)) l = (refl, refl)
@@ -55,20 +55,20 @@ no_label (Some (name.Hypothesis i)) l = absurd cc
 no_label (Some (name.Assertion i)) l = absurd cc
 
 -- a word that is neither a label nor a symbol has no name
-pub unknown : (s : Scope) (c : Word) (o : Option Name) → Knows s c o → is_in s.labels c ≡ false → is_in s.symbols c ≡ false
-    → Knows s c None
-unknown s c o k l m = subst (λ o. Knows s c o) (no_name o (sym k.label ∙ l) (sym k.symbol ∙ m)) k
+pub unknown : (s : Scope) (c : Word) (o : Option Name) → KnowsWord s c o → is_in s.labels c ≡ false → is_in s.symbols c ≡ false
+    → KnowsWord s c None
+unknown s c o k l m = subst (λ o. KnowsWord s c o) (no_name o (sym k.label ∙ l) (sym k.symbol ∙ m)) k
 
 -- ---- one more constant or variable
 
-pub knows_constant : (s : Scope) (c : Word) (look : Word → Option Name) → ((w : Word) → Knows s w (look w))
+pub knows_constant : (s : Scope) (c : Word) (look : Word → Option Name) → ((w : Word) → KnowsWord s w (look w))
     → is_in s.labels c ≡ false → is_in s.symbols c ≡ false
-    → (w : Word) → Knows (record s { constants = s.constants ++ c ∷ []; symbols = s.symbols ++ c ∷ [] }) w
+    → (w : Word) → KnowsWord (record s { constants = s.constants ++ c ∷ []; symbols = s.symbols ++ c ∷ [] }) w
     (cond (bytes_eq c w) (Some name.Constant) (look w))
 knows_constant s c look known l m =
     let t : Scope = record s { constants = s.constants ++ c ∷ []; symbols = s.symbols ++ c ∷ [] } in
     let k = unknown s c (look c) (known c) l m in
-    with_name (Knows t) c name.Constant look (record {
+    with_name (KnowsWord t) c name.Constant look (record {
       constant = push_here c s.constants;
       symbol = push_here c s.symbols;
       label = l;
@@ -86,15 +86,15 @@ knows_constant s c look known l m =
       assertion = (known w).assertion;
     })
 
-pub knows_variable : (s : Scope) (v : Word) (look : Word → Option Name) → ((w : Word) → Knows s w (look w))
+pub knows_variable : (s : Scope) (v : Word) (look : Word → Option Name) → ((w : Word) → KnowsWord s w (look w))
     → is_in s.labels v ≡ false → is_in s.constants v ≡ false → is_in s.variables v ≡ false
-    → (w : Word) → Knows (record s { variables = s.variables ++ v ∷ []; symbols = s.symbols ++ v ∷ [] }) w
+    → (w : Word) → KnowsWord (record s { variables = s.variables ++ v ∷ []; symbols = s.symbols ++ v ∷ [] }) w
     (cond (bytes_eq v w) (Some (name.Variable (length s.variables) (float_place (look v)))) (look w))
 knows_variable s v look known l c inactive =
     let t : Scope = record s { variables = s.variables ++ v ∷ []; symbols = s.symbols ++ v ∷ [] } in
     let k = known v in
     let none = no_label (look v) (sym k.label ∙ l) in
-    with_name (Knows t) v (name.Variable (length s.variables) (float_place (look v))) look (record {
+    with_name (KnowsWord t) v (name.Variable (length s.variables) (float_place (look v))) look (record {
       constant = c;
       symbol = push_here v s.symbols;
       label = l;
@@ -115,16 +115,16 @@ knows_variable s v look known l c inactive =
 -- ---- one more label
 
 -- of a hypothesis: of a word that isn't its variable
-knows_label : (s : Scope) (h : Hypothesis) (look : Word → Option Name) → ((w : Word) → Knows s w (look w))
+knows_label : (s : Scope) (h : Hypothesis) (look : Word → Option Name) → ((w : Word) → KnowsWord s w (look w))
     → is_in s.labels (label_of h) ≡ false → is_in s.symbols (label_of h) ≡ false
     → (w : Word) → is_float_of w h ≡ false
-    → Knows (record s { hypotheses = s.hypotheses ++ h ∷ []; labels = s.labels ++ label_of h ∷ [] }) w
+    → KnowsWord (record s { hypotheses = s.hypotheses ++ h ∷ []; labels = s.labels ++ label_of h ∷ [] }) w
     (cond (bytes_eq (label_of h) w) (Some (name.Hypothesis (length s.hypotheses))) (look w))
 knows_label s h look known l m =
     let t : Scope = record s { hypotheses = s.hypotheses ++ h ∷ []; labels = s.labels ++ label_of h ∷ [] } in
     let c = label_of h in
     let k = unknown s c (look c) (known c) l m in
-    with_name (λ w o. is_float_of w h ≡ false → Knows t w o) c (name.Hypothesis (length s.hypotheses)) look (λ apart. record {
+    with_name (λ w o. is_float_of w h ≡ false → KnowsWord t w o) c (name.Hypothesis (length s.hypotheses)) look (λ apart. record {
       constant = k.constant;
       symbol = m;
       label = push_here c s.labels;
@@ -143,24 +143,24 @@ knows_label s h look known l m =
       assertion = (known w).assertion;
     })
 
-pub knows_premise : (s : Scope) (label : Word) (ws : List Word) (look : Word → Option Name) → ((w : Word) → Knows s w (look w))
+pub knows_premise : (s : Scope) (label : Word) (ws : List Word) (look : Word → Option Name) → ((w : Word) → KnowsWord s w (look w))
     → is_in s.labels label ≡ false → is_in s.symbols label ≡ false
-    → (w : Word) → Knows (record s { hypotheses = s.hypotheses ++ premise label ws ∷ []; labels = s.labels ++ label ∷ [] }) w
+    → (w : Word) → KnowsWord (record s { hypotheses = s.hypotheses ++ premise label ws ∷ []; labels = s.labels ++ label ∷ [] }) w
     (cond (bytes_eq label w) (Some (name.Hypothesis (length s.hypotheses))) (look w))
 knows_premise s label ws look known l m w = knows_label s (premise label ws) look known l m w refl
 
-pub knows_float : (s : Scope) (label c v : Word) (i : ℕ) (f : Option ℕ) (look : Word → Option Name) → ((w : Word) → Knows s w (look w))
+pub knows_float : (s : Scope) (label c v : Word) (i : ℕ) (f : Option ℕ) (look : Word → Option Name) → ((w : Word) → KnowsWord s w (look w))
     → is_in s.labels label ≡ false → is_in s.symbols label ≡ false
     → look v ≡ Some (name.Variable i f) → list_any (is_float_of v) s.hypotheses ≡ false
-    → (w : Word) → Knows (record s { hypotheses = s.hypotheses ++ typing label c v ∷ []; labels = s.labels ++ label ∷ [] }) w
+    → (w : Word) → KnowsWord (record s { hypotheses = s.hypotheses ++ typing label c v ∷ []; labels = s.labels ++ label ∷ [] }) w
     (cond (bytes_eq v w) (Some (name.Variable i (Some (length s.hypotheses))))
     (cond (bytes_eq label w) (Some (name.Hypothesis (length s.hypotheses))) (look w)))
 knows_float s label c v i f look known l m at free =
     let h = typing label c v in
     let t : Scope = record s { hypotheses = s.hypotheses ++ h ∷ []; labels = s.labels ++ label ∷ [] } in
-    let k : Knows s v (Some (name.Variable i f)) = subst (λ o. Knows s v o) at (known v) in
+    let k : KnowsWord s v (Some (name.Variable i f)) = subst (λ o. KnowsWord s v o) at (known v) in
     let differ : bytes_eq v label ≡ false = differs s v label k.symbol m in
-    with_name (Knows t) v (name.Variable i (Some (length s.hypotheses)))
+    with_name (KnowsWord t) v (name.Variable i (Some (length s.hypotheses)))
     (λ w. cond (bytes_eq label w) (Some (name.Hypothesis (length s.hypotheses))) (look w)) (record {
       constant = k.constant;
       symbol = k.symbol;
@@ -179,15 +179,15 @@ knows_float s label c v i f look known l m at free =
           | inr e ↦ e
         ]
 
-pub knows_assertion : (s : Scope) (a : Assertion) (look : Word → Option Name) → ((w : Word) → Knows s w (look w))
+pub knows_assertion : (s : Scope) (a : Assertion) (look : Word → Option Name) → ((w : Word) → KnowsWord s w (look w))
     → is_in s.labels a.label ≡ false → is_in s.symbols a.label ≡ false
-    → (w : Word) → Knows (record s { labels = s.labels ++ a.label ∷ []; assertions = s.assertions ++ a ∷ [] }) w
+    → (w : Word) → KnowsWord (record s { labels = s.labels ++ a.label ∷ []; assertions = s.assertions ++ a ∷ [] }) w
     (cond (bytes_eq a.label w) (Some (name.Assertion (length s.assertions))) (look w))
 knows_assertion s a look known l m =
     let t : Scope = record s { labels = s.labels ++ a.label ∷ []; assertions = s.assertions ++ a ∷ [] } in
     let c = a.label in
     let k = unknown s c (look c) (known c) l m in
-    with_name (Knows t) c (name.Assertion (length s.assertions)) look (record {
+    with_name (KnowsWord t) c (name.Assertion (length s.assertions)) look (record {
       constant = k.constant;
       symbol = m;
       label = push_here c s.labels;
@@ -208,8 +208,8 @@ knows_assertion s a look known l m =
 
 -- ---- less that is active
 
-pub knows_less : (s : Scope) (outermost : Bool) (vs hs : ℕ) (pairs : List (Word × Word)) (w : Word) (o : Option Name) → Knows s w o
-    → Knows (record s {
+pub knows_less : (s : Scope) (outermost : Bool) (vs hs : ℕ) (pairs : List (Word × Word)) (w : Word) (o : Option Name) → KnowsWord s w o
+    → KnowsWord (record s {
       outermost = outermost;
       variables = take vs s.variables;
       hypotheses = take hs s.hypotheses;

@@ -5,7 +5,7 @@ use Rattle.source.specs.Scopes.{outset}
 use Rattle.scopes.specs.declared.tables.Name.{Name}
 use Rattle.scopes.specs.Paths.{path}
 use Rattle.scopes.specs.Views.{Kept, scope_of, stand_of}
-use Rattle.scopes.specs.Sound.{Knows, IsSound}
+use Rattle.scopes.specs.Sound.{KnowsWord, IsSound}
 use Rattle.scopes.proofs.Found.{found_none}
 
 abbrev pub kept_nothing : Kept
@@ -26,7 +26,7 @@ take_nothing : {A : Type 0} (n : ℕ) → take {A = A} n [] ≡ []
 take_nothing zero = refl
 take_nothing (suc n) = refl
 
-knows_nothing : (w : Word) (o : Option Name) → o ≡ None → Knows (scope_of kept_nothing) w o
+knows_nothing : (w : Word) (o : Option Name) → o ≡ None → KnowsWord (scope_of kept_nothing) w o
 knows_nothing w o none = rw none (record {
   constant = refl;
   symbol = refl;

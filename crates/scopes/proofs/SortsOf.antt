@@ -9,7 +9,7 @@ use Rattle.source.specs.Scopes.{Scope, label_of, is_float_of}
 use Rattle.scopes.specs.declared.tables.Name.TheVariants as name
 use Rattle.scopes.specs.declared.sorts.Sort.TheVariants as sort
 use Rattle.scopes.specs.Found.{Found, passes_at, passing}
-use Rattle.scopes.specs.Sound.{Knows}
+use Rattle.scopes.specs.Sound.{KnowsWord}
 use Rattle.scopes.specs.Sorts.{IsSortOf}
 use Rattle.scopes.proofs.Found.{found_any, found_find, found_none, finds_none, some_there, found_there}
 
@@ -17,7 +17,7 @@ passing_there : {A : Type 0} (test : A → Bool) (o : Option A) → option_map_o
 passing_there test None h = absurd cc
 passing_there test (Some x) h = ap (λ b. cond b (Some x) None) h
 
-pub sort_unknown : (s : Scope) (w : Word) → Knows s w None → IsSortOf s w sort.Unknown
+pub sort_unknown : (s : Scope) (w : Word) → KnowsWord s w None → IsSortOf s w sort.Unknown
 sort_unknown s w k = record {
   constant = k.constant;
   symbol = k.symbol;
@@ -32,7 +32,7 @@ sort_unknown s w k = record {
   first = found_find _ _ _ k.assertion;
 }
 
-pub sort_constant : (s : Scope) (w : Word) → Knows s w (Some name.Constant) → IsSortOf s w sort.Constant
+pub sort_constant : (s : Scope) (w : Word) → KnowsWord s w (Some name.Constant) → IsSortOf s w sort.Constant
 sort_constant s w k = record {
   constant = k.constant;
   symbol = k.symbol;
@@ -47,7 +47,7 @@ sort_constant s w k = record {
   first = found_find _ _ _ k.assertion;
 }
 
-pub sort_variable : (s : Scope) (w : Word) (i : ℕ) (f float : Option ℕ) (active : Bool) → Knows s w (Some (name.Variable i f))
+pub sort_variable : (s : Scope) (w : Word) (i : ℕ) (f float : Option ℕ) (active : Bool) → KnowsWord s w (Some (name.Variable i f))
     → active ≡ passes_at (bytes_eq w) s.variables (Some i) → float ≡ cond (passes_at (is_float_of w) s.hypotheses f) f None
     → IsSortOf s w (sort.Variable active float)
 sort_variable s w i f float active k a t = record {
@@ -64,7 +64,7 @@ sort_variable s w i f float active k a t = record {
   first = found_find _ _ _ k.assertion;
 }
 
-pub sort_hypothesis : (s : Scope) (w : Word) (i : ℕ) → Knows s w (Some (name.Hypothesis i))
+pub sort_hypothesis : (s : Scope) (w : Word) (i : ℕ) → KnowsWord s w (Some (name.Hypothesis i))
     → passes_at (λ h. bytes_eq w (label_of h)) s.hypotheses (Some i) ≡ true → IsSortOf s w (sort.Hypothesis i)
 sort_hypothesis s w i k there = record {
   constant = k.constant;
@@ -80,7 +80,7 @@ sort_hypothesis s w i k there = record {
   first = found_find _ _ _ k.assertion;
 }
 
-pub sort_assertion : (s : Scope) (w : Word) (i : ℕ) → Knows s w (Some (name.Assertion i))
+pub sort_assertion : (s : Scope) (w : Word) (i : ℕ) → KnowsWord s w (Some (name.Assertion i))
     → passes_at (λ a. bytes_eq w a.label) s.assertions (Some i) ≡ true → IsSortOf s w (sort.Assertion i)
 sort_assertion s w i k there = record {
   constant = k.constant;
@@ -96,7 +96,7 @@ sort_assertion s w i k there = record {
   first = found_find _ _ _ k.assertion ∙ passing_there _ (slice_get s.assertions i) there;
 }
 
-pub closed_hypothesis : (s : Scope) (w : Word) (i : ℕ) → Knows s w (Some (name.Hypothesis i))
+pub closed_hypothesis : (s : Scope) (w : Word) (i : ℕ) → KnowsWord s w (Some (name.Hypothesis i))
     → passes_at (λ h. bytes_eq w (label_of h)) s.hypotheses (Some i) ≡ false → IsSortOf s w sort.Closed
 closed_hypothesis s w i k gone =
     let none = found_any (λ h. bytes_eq w (label_of h)) s.hypotheses (Some i) k.hypothesis ∙ gone in
@@ -114,7 +114,7 @@ closed_hypothesis s w i k gone =
       first = found_find _ _ _ k.assertion;
     }
 
-pub closed_assertion : (s : Scope) (w : Word) (i : ℕ) → Knows s w (Some (name.Assertion i))
+pub closed_assertion : (s : Scope) (w : Word) (i : ℕ) → KnowsWord s w (Some (name.Assertion i))
     → passes_at (λ a. bytes_eq w a.label) s.assertions (Some i) ≡ false → IsSortOf s w sort.Closed
 closed_assertion s w i k gone =
     let none = found_any (λ a. bytes_eq w a.label) s.assertions (Some i) k.assertion ∙ gone in

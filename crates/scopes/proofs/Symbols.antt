@@ -7,7 +7,7 @@ use Rattle.source.specs.Tests.{is_lawful, a_constant, a_variable}
 use Rattle.scopes.specs.declared.tables.Name.{Name}
 use Rattle.scopes.specs.declared.tables.Name.TheVariants as name
 use Rattle.scopes.specs.Views.{Kept, scope_of, stand_of}
-use Rattle.scopes.specs.Sound.{Knows, IsSound, float_place}
+use Rattle.scopes.specs.Sound.{KnowsWord, IsSound, float_place}
 use Rattle.scopes.proofs.Naming.{knows_constant, knows_variable}
 use Rattle.scopes.proofs.Growing.{sizes_of, IsMore, Agree, nested_more, around_stays, take_stays, push_more}
 use Rattle.scopes.proofs.Lawful.{lawful_constant, lawful_variable}
@@ -15,7 +15,7 @@ use Rattle.scopes.proofs.Lawful.{lawful_constant, lawful_variable}
 -- the map goes by what it finds
 pub sound_looks : (look found : Word → Option Name) (k : Kept) → IsSound look k → ((w : Word) → found w ≡ look w) → IsSound found k
 sound_looks look found k s same = record {
-  named = λ w. subst (λ o. Knows (scope_of k) w o) (sym (same w)) (s.named w);
+  named = λ w. subst (λ o. KnowsWord (scope_of k) w o) (sym (same w)) (s.named w);
   within = s.within;
   listed = s.listed;
   apart = s.apart;

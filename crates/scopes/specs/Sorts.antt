@@ -17,11 +17,11 @@ is_symbol Constant = true
 is_symbol (Variable active float) = true
 is_symbol _ = false
 
-abbrev pub is_label : Sort → Bool
-is_label (Hypothesis i) = true
-is_label (AnAssertion i) = true
-is_label Closed = true
-is_label _ = false
+abbrev pub is_label_name : Sort → Bool
+is_label_name (Hypothesis i) = true
+is_label_name (AnAssertion i) = true
+is_label_name Closed = true
+is_label_name _ = false
 
 abbrev pub is_active : Sort → Bool
 is_active (Variable active float) = active
@@ -51,7 +51,7 @@ is_assertion _ = false
 pub record IsSortOf (s : Scope) (w : Word) (sort : Sort) : Type 0 where
   pub constant : is_in s.constants w ≡ is_constant sort
   pub symbol : is_in s.symbols w ≡ is_symbol sort
-  pub label : is_in s.labels w ≡ is_label sort
+  pub label : is_in s.labels w ≡ is_label_name sort
   pub active : is_in s.variables w ≡ is_active sort
   pub typed : has_float s w ≡ is_some (float_place sort)
   pub float : Found (is_float_of w) s.hypotheses (float_place sort)

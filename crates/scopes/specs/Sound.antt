@@ -28,10 +28,10 @@ is_symbol (Some name.Constant) = true
 is_symbol (Some (name.Variable i f)) = true
 is_symbol _ = false
 
-abbrev pub is_label : Option Name → Bool
-is_label (Some (name.Hypothesis i)) = true
-is_label (Some (name.Assertion i)) = true
-is_label _ = false
+abbrev pub is_label_name : Option Name → Bool
+is_label_name (Some (name.Hypothesis i)) = true
+is_label_name (Some (name.Assertion i)) = true
+is_label_name _ = false
 
 abbrev pub variable_place : Option Name → Option ℕ
 variable_place (Some (name.Variable i f)) = Some i
@@ -50,10 +50,10 @@ assertion_place (Some (name.Assertion i)) = Some i
 assertion_place _ = None
 
 -- the name that is noted for a word, if any, says where to look
-pub record Knows (s : Scope) (w : Word) (o : Option Name) : Type 0 where
+pub record KnowsWord (s : Scope) (w : Word) (o : Option Name) : Type 0 where
   pub constant : is_in s.constants w ≡ is_constant o
   pub symbol : is_in s.symbols w ≡ is_symbol o
-  pub label : is_in s.labels w ≡ is_label o
+  pub label : is_in s.labels w ≡ is_label_name o
   pub variable : Found (bytes_eq w) s.variables (variable_place o)
   pub float : Found (is_float_of w) s.hypotheses (float_place o)
   pub hypothesis : Found (λ h. bytes_eq w (label_of h)) s.hypotheses (hypothesis_place o)
@@ -90,7 +90,7 @@ pub record IsCounted (links : List Linked) (aparts : ℕ) (e : Entry) : Type 0 w
 
 -- what is always true, where the map of names finds what `look` says
 pub record IsSound (look : Word → Option Name) (k : Kept) : Type 0 where
-  pub named : (w : Word) → Knows (scope_of k) w (look w)
+  pub named : (w : Word) → KnowsWord (scope_of k) w (look w)
   pub within : AllByRecursion (λ a. a.link < length k.links) k.active
   pub listed : (n : ℕ) → path k.links (last_link (take n k.active)) ≡ active_of k.links (take n k.active)
   pub apart : IsWithin k.last_apart (length k.aparts)

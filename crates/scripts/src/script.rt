@@ -113,7 +113,7 @@ fn ended_at(script: Vec<Transaction>, place: &Place<'_>) -> Option<Script>
 impl<'a> Reader<'a> for ScriptReader<'a> {
     ghost use Rattle.std.specs.Prelude.{List};
     ghost use Rattle.library.specs.declared.command.Command.{Command};
-    ghost use Rattle.statementreader.specs.Recalls.{Knows};
+    ghost use Rattle.statementreader.specs.Recalls.{RecallsTrue};
     ghost use Rattle.scripts.specs.ScriptFaults.{Progress, script_language};
     ghost use Rattle.scripts.specs.ScriptViews.{seen_progress};
 
@@ -127,7 +127,7 @@ impl<'a> Reader<'a> for ScriptReader<'a> {
 
     ghost place = { seen_progress };
 
-    ghost IsReady = { λ r. Knows r.prelude.now r.recent };
+    ghost IsReady = { λ r. RecallsTrue r.prelude.now r.recent };
 
     ghost meaning = { λ script. script };
 

@@ -8,7 +8,7 @@ use Rattle.std.proofs.lemmas.Option.{some_pair_parts, slice_get-get_or, slice_ge
 use Rattle.mmtext.specs.Words.{Word}
 use Rattle.source.specs.declared.entries.Entries.{Entries}
 use Rattle.source.specs.Scopes.{Hypothesis, Assertion}
-use Rattle.source.specs.Proofs.{Step, names, again, numbered, taken_by, Stack, pop, put, cite, repeat, stepped, run, there}
+use Rattle.source.specs.Proofs.{Step, names, again, numbered, taken_by, Stack, pop, put, cite, repeat, stepped, run_steps, there}
 use Rattle.source.specs.Counts.{counts, HaveArities, IsStep}
 
 -- ---- entries come off
@@ -157,7 +157,7 @@ module _ (earlier : List Assertion) (active : List Hypothesis) where
   -- ---- steps one after the other
 
   pub run-append : (s : Option (Stack (Unit {0}))) (xs ys : List Step)
-      → run there earlier active s (xs ++ ys) ≡ run there earlier active (run there earlier active s xs) ys
+      → run_steps there earlier active s (xs ++ ys) ≡ run_steps there earlier active (run_steps there earlier active s xs) ys
   run-append s [] ys = refl
   run-append None (x ∷ xs) [] = refl
   run-append None (x ∷ xs) (y ∷ ys) = refl
@@ -165,16 +165,16 @@ module _ (earlier : List Assertion) (active : List Hypothesis) where
 
   one_on : (s : Option (Stack (Unit {0}))) (x : Step) (old new : Entries) (goes : Bool) → counts s ≡ Some (old.entries, old.marked)
       → IsStep earlier active x old new goes
-      → counts (run there earlier active s (x ∷ [])) ≡ (if goes then Some (new.entries, new.marked) else None)
+      → counts (run_steps there earlier active s (x ∷ [])) ≡ (if goes then Some (new.entries, new.marked) else None)
   one_on None x old new goes c step = absurd cc
   one_on (Some s) x old new goes c step = step.leads s c
 
   -- one more step
   pub one_more : (s : Option (Stack (Unit {0}))) (xs : List Step) (x : Step) (old new : Entries) (goes : Bool)
-      → counts (run there earlier active s xs) ≡ Some (old.entries, old.marked) → IsStep earlier active x old new goes
-      → counts (run there earlier active s (xs ++ x ∷ [])) ≡ (if goes then Some (new.entries, new.marked) else None)
+      → counts (run_steps there earlier active s xs) ≡ Some (old.entries, old.marked) → IsStep earlier active x old new goes
+      → counts (run_steps there earlier active s (xs ++ x ∷ [])) ≡ (if goes then Some (new.entries, new.marked) else None)
   one_more s xs x old new goes c step =
-      ap counts (run-append s xs (x ∷ [])) ∙ one_on (run there earlier active s xs) x old new goes c step
+      ap counts (run-append s xs (x ∷ [])) ∙ one_on (run_steps there earlier active s xs) x old new goes c step
 
 -- whether a stack is there
 pub counted_some : (s : Option (Stack (Unit {0}))) (goes : Bool) (p : ℕ × ℕ) → counts s ≡ (if goes then Some p else None) → goes ≡ is_some s

@@ -10,7 +10,7 @@ use mathlib.Core.Bool.{not}
 use Rattle.mmtext.specs.Words.{Word}
 use Rattle.source.specs.declared.entries.Entries.{Entries}
 use Rattle.source.specs.Scopes.{Hypothesis, Assertion, is_unknown}
-use Rattle.source.specs.Proofs.{names, empty, run, there, known_labels, labels_go_on}
+use Rattle.source.specs.Proofs.{names, empty, run_steps, there, known_labels, labels_go_on}
 use Rattle.source.specs.Counts.{counts, LabelsAreCounted, IsStep}
 use Rattle.source.proofs.Fronts.{open_front, shut_front, whole_front, stopped}
 use Rattle.source.proofs.Counted.{one_more, counted_some}
@@ -37,8 +37,8 @@ module _ (earlier : List Assertion) (active : List Hypothesis) where
   label_after ws w c counted off =
       let found = known_one is_unknown ws c.is_known counted.known off in
       let same = shut_front is_unknown ws (w ∷ []) found in
-      let left = ap (λ ks. counts (run there earlier active (Some empty) (map (λ k. names k) ks))) same ∙ counted.left in (
-        counted_some (run there earlier active (Some empty) (map (λ k. names k) (known_labels (ws ++ w ∷ [])))) true
+      let left = ap (λ ks. counts (run_steps there earlier active (Some empty) (map (λ k. names k) ks))) same ∙ counted.left in (
+        counted_some (run_steps there earlier active (Some empty) (map (λ k. names k) (known_labels (ws ++ w ∷ [])))) true
             (c.entries, c.marked) left,
         record {
           left = left;
@@ -53,7 +53,7 @@ module _ (earlier : List Assertion) (active : List Hypothesis) where
       → new ≡ record old { is_known = false } → LabelsAreCounted earlier active (ws ++ w ∷ []) new
   label_skipped ws w old new counted unknown new-is =
       subst (λ c. LabelsAreCounted earlier active (ws ++ w ∷ []) c) (sym new-is) (record {
-        left = ap (λ ks. counts (run there earlier active (Some empty) (map (λ k. names k) ks))) same ∙ counted.left;
+        left = ap (λ ks. counts (run_steps there earlier active (Some empty) (map (λ k. names k) ks))) same ∙ counted.left;
         front = counted.front;
         known = ap not (sym found);
       })
@@ -77,7 +77,7 @@ module _ (earlier : List Assertion) (active : List Hypothesis) where
       → old.is_known ≡ true → is_unknown w ≡ false → IsStep earlier active (names w) old new goes
       → (goes ≡ labels_go_on earlier active (ws ++ w ∷ [])) × (goes ≡ true → LabelsAreCounted earlier active (ws ++ w ∷ []) new)
   label_counted ws w old new goes counted on label step = (
-    counted_some (run there earlier active (Some empty) (map (λ k. names k) (known_labels (ws ++ w ∷ [])))) goes
+    counted_some (run_steps there earlier active (Some empty) (map (λ k. names k) (known_labels (ws ++ w ∷ [])))) goes
         (new.entries, new.marked) left,
     λ go. record {
       left = left ∙ ap (λ b. if b then Some (new.entries, new.marked) else None) go;
@@ -94,9 +94,9 @@ module _ (earlier : List Assertion) (active : List Hypothesis) where
           whole_front is_unknown (ws ++ w ∷ []) (any_more is_unknown ws w false false none label)
           ∙ ap (λ z. z ++ w ∷ []) (sym (whole_front is_unknown ws none))
 
-      left : counts (run there earlier active (Some empty) (map (λ k. names k) (known_labels (ws ++ w ∷ []))))
+      left : counts (run_steps there earlier active (Some empty) (map (λ k. names k) (known_labels (ws ++ w ∷ []))))
           ≡ (if goes then Some (new.entries, new.marked) else None)
       left =
-          ap (λ ks. counts (run there earlier active (Some empty) (map (λ k. names k) ks))) all
-          ∙ ap (λ xs. counts (run there earlier active (Some empty) xs)) (map-append (λ k. names k) (known_labels ws) (w ∷ []))
+          ap (λ ks. counts (run_steps there earlier active (Some empty) (map (λ k. names k) ks))) all
+          ∙ ap (λ xs. counts (run_steps there earlier active (Some empty) xs)) (map-append (λ k. names k) (known_labels ws) (w ∷ []))
           ∙ one_more earlier active (Some empty) (map (λ k. names k) (known_labels ws)) (names w) old new goes counted.left step

@@ -12,7 +12,7 @@ use Rattle.source.specs.declared.letters.Turn.{Turn}
 use Rattle.source.specs.declared.entries.Entries.{Entries}
 use Rattle.source.specs.Scopes.{Hypothesis, Assertion}
 use Rattle.source.specs.Letters.{is_last, is_front, is_too_large, turn_at, Decoded, before, turned, decoded}
-use Rattle.source.specs.Proofs.{Step, Stack, step_of, empty, run, there, go_on, known_letters, letters_go_on}
+use Rattle.source.specs.Proofs.{Step, Stack, step_of, empty, run_steps, there, go_on, known_letters, letters_go_on}
 use Rattle.source.specs.Tests.{is_letter}
 use Rattle.source.specs.Counts.{counts, LettersAreCounted, IsStep}
 use Rattle.source.proofs.Decoded.{following}
@@ -94,7 +94,7 @@ no_turn front b letter other =
 module _ (earlier : List Assertion) (active : List Hypothesis) (labels : List Word) where
   -- what letters leave
   abbrev pub left_by : List Code → Option (Stack (Unit {0}))
-  left_by codes = run there earlier active (Some empty) (map (step_of labels) codes)
+  left_by codes = run_steps there earlier active (Some empty) (map (step_of labels) codes)
 
   -- letters go on where their codes leave something
   pub goes_by : (letters : List ℕ) (codes : List Code) (front : ℕ) (goes : Bool) (p : ℕ × ℕ)
@@ -226,7 +226,7 @@ module _ (earlier : List Assertion) (active : List Hypothesis) (labels : List Wo
 
         left : counts (left_by (counted.codes ++ code ∷ [])) ≡ (if goes then Some (new.entries, new.marked) else None)
         left =
-            ap (λ xs. counts (run there earlier active (Some empty) xs)) (map-append (step_of labels) counted.codes (code ∷ []))
+            ap (λ xs. counts (run_steps there earlier active (Some empty) xs)) (map-append (step_of labels) counted.codes (code ∷ []))
             ∙ one_more earlier active (Some empty) (map (step_of labels) counted.codes) (step_of labels code) mid new goes
             (counted.left ∙ ap (λ (c : Entries). Some (c.entries, c.marked)) (sym mid-is)) step
 
@@ -245,12 +245,12 @@ module _ (earlier : List Assertion) (active : List Hypothesis) (labels : List Wo
 
   stuck : (steps more : List Step) → go_on earlier active (Some steps) ≡ false → go_on earlier active (Some (steps ++ more)) ≡ false
   stuck steps more h = ap is_some (run-append earlier active (Some empty) steps more)
-      ∙ none_on (run there earlier active (Some empty) steps) h
+      ∙ none_on (run_steps there earlier active (Some empty) steps) h
     where
-      none_on : (s : Option (Stack (Unit {0}))) → is_some s ≡ false → is_some (run there earlier active s more) ≡ false
+      none_on : (s : Option (Stack (Unit {0}))) → is_some s ≡ false → is_some (run_steps there earlier active s more) ≡ false
       none_on None e = lost more
         where
-          lost : (xs : List Step) → is_some (run there earlier active None xs) ≡ false
+          lost : (xs : List Step) → is_some (run_steps there earlier active None xs) ≡ false
           lost [] = refl
           lost (x ∷ xs) = refl
       none_on (Some s) e = absurd cc

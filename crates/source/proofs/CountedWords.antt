@@ -22,7 +22,7 @@ use Rattle.source.specs.declared.entries.Entries.{Entries}
 use Rattle.source.specs.Statements.{normal, compressed}
 use Rattle.source.specs.Scopes.{Scope, Hypothesis, Assertion, label_of, mandatory, is_mandatory, is_unknown, is_named}
 use Rattle.source.specs.Letters.{decoded, uncut, codes_of}
-use Rattle.source.specs.Proofs.{Stack, names, step_of, taken_by, empty, run, there, only, single, made, denotes, letters_go_on}
+use Rattle.source.specs.Proofs.{Stack, names, step_of, taken_by, empty, run_steps, there, only, single, made, denotes, letters_go_on}
 use Rattle.source.specs.Tests.{letter_tests, is_letter, numbered_labels}
 use Rattle.source.specs.Counts.{counts, LabelsAreCounted, LettersAreCounted, CountsLetters, HaveArities, CountNumbers}
 use Rattle.source.proofs.Fronts.{whole_front}
@@ -219,8 +219,8 @@ pub labels_ended : (earlier : List Assertion) (active hypotheses : List Hypothes
 labels_ended earlier active hypotheses ws c counted =
     ended c (list_any is_unknown ws) (is_some (made there earlier active (map (λ w. names w) ws))) counted.known
     (λ none.
-    one_left (run there earlier active (Some empty) (map (λ w. names w) ws)) c.entries c.marked
-    (ap (λ ks. counts (run there earlier active (Some empty) (map (λ w. names w) ks))) (sym (whole_front is_unknown ws none))
+    one_left (run_steps there earlier active (Some empty) (map (λ w. names w) ws)) c.entries c.marked
+    (ap (λ ks. counts (run_steps there earlier active (Some empty) (map (λ w. names w) ks))) (sym (whole_front is_unknown ws none))
     ∙ counted.left)
     ∙ beside_true (c.entries == 1) (c.front == 0) (ap (λ n. n == 0) counted.front))
 
@@ -249,7 +249,7 @@ letters_ended earlier active hypotheses labels ls c counted =
         → makes (uncut (Some (record { codes = counted.codes; front = c.front }))) ≡ ((c.entries == 1) && (c.front == 0))
     uncut_makes (inl whole) =
         ap makes (cond-true (c.front == 0) (Some counted.codes) None whole)
-        ∙ one_left (run there earlier active (Some empty) (map (step_of (map label_of hypotheses ++ labels)) counted.codes))
+        ∙ one_left (run_steps there earlier active (Some empty) (map (step_of (map label_of hypotheses ++ labels)) counted.codes))
         c.entries c.marked counted.left
         ∙ beside_true (c.entries == 1) (c.front == 0) whole
     uncut_makes (inr cut) =

@@ -9,7 +9,7 @@ use Rattle.source.specs.declared.letters.Code.{Code}
 use Rattle.source.specs.declared.entries.Entries.{Entries}
 use Rattle.source.specs.Scopes.{Hypothesis, Assertion, Scope, is_unknown, is_mandatory}
 use Rattle.source.specs.Letters.{decoded}
-use Rattle.source.specs.Proofs.{Step, names, step_of, taken_by, Stack, empty, stepped, run, there, known_labels, known_letters}
+use Rattle.source.specs.Proofs.{Step, names, step_of, taken_by, Stack, empty, stepped, run_steps, there, known_labels, known_letters}
 use Rattle.source.specs.Tests.{numbered_labels}
 
 -- which of the active hypotheses are mandatory for an expression
@@ -22,7 +22,7 @@ counts s = option_map (λ s. (length s.entries, length s.marked)) s
 
 -- steps leave so many
 abbrev pub Leave : List Assertion → List Hypothesis → List Step → Entries → Type 0
-Leave earlier active steps c = counts (run there earlier active (Some empty) steps) ≡ Some (c.entries, c.marked)
+Leave earlier active steps c = counts (run_steps there earlier active (Some empty) steps) ≡ Some (c.entries, c.marked)
 
 -- the labels and ? of a normal proof so far: each label in front of the first ? takes what is there
 pub record LabelsAreCounted (earlier : List Assertion) (active : List Hypothesis) (ws : List Word) (c : Entries) : Type 0 where

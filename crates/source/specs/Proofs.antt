@@ -101,10 +101,11 @@ stepped make earlier active s (again n) = repeat s (slice_get s.marked n)
 stepped make earlier active s marks = mark s.entries s.marked
 
 -- steps one after the other
-abbrev pub run : {A : Type 0} → (Word → List A → A) → List Assertion → List Hypothesis → Option (Stack A) → List Step → Option (Stack A)
-run make earlier active s [] = s
-run make earlier active None (x ∷ xs) = None
-run make earlier active (Some s) (x ∷ xs) = run make earlier active (stepped make earlier active s x) xs
+abbrev pub run_steps : {A : Type 0} → (Word → List A → A) → List Assertion → List Hypothesis → Option (Stack A) → List Step
+    → Option (Stack A)
+run_steps make earlier active s [] = s
+run_steps make earlier active None (x ∷ xs) = None
+run_steps make earlier active (Some s) (x ∷ xs) = run_steps make earlier active (stepped make earlier active s x) xs
 
 -- one entry is left
 abbrev pub only : {A : Type 0} → List A → Option A
@@ -117,7 +118,7 @@ single (Some s) = only s.entries
 
 -- what steps make
 abbrev pub made : {A : Type 0} → (Word → List A → A) → List Assertion → List Hypothesis → List Step → Option A
-made make earlier active steps = single (run make earlier active (Some empty) steps)
+made make earlier active steps = single (run_steps make earlier active (Some empty) steps)
 
 -- trees of a list
 abbrev pub over : List Tree → Trees
@@ -175,7 +176,7 @@ there w trees = tt
 -- each step takes what is there
 abbrev pub go_on : List Assertion → List Hypothesis → Option (List Step) → Bool
 go_on earlier active None = false
-go_on earlier active (Some steps) = is_some (run there earlier active (Some empty) steps)
+go_on earlier active (Some steps) = is_some (run_steps there earlier active (Some empty) steps)
 
 -- the labels in front of the first ?
 abbrev pub known_labels : List Word → List Word

@@ -29,7 +29,7 @@ use Rattle.source.specs.Faults.{ends_proof, faulted, tested, closes, start_row, 
 use Rattle.source.specs.Faults.{distinct_row, float_end_row, hypothesis_row, axiom_row, theorem_row, next_step, proof_row}
 use Rattle.source.specs.Faults.{labels_row, letters_row, in_place, row}
 use Rattle.sourcereader.specs.declared.place.Place.{Place as CodePlace}
-use Rattle.sourcereader.specs.Standing.{has_begun, is_stated, Stands, IsCounted, IsReadySource}
+use Rattle.sourcereader.specs.Standing.{has_begun, is_stated, HasPassed, IsCounted, IsReadySource}
 use Rattle.sourcereader.specs.Views.{Leads}
 
 -- ---- what a row keeps
@@ -74,7 +74,7 @@ one_more_passes tests front (v ∷ ws) w h p =
 -- ---- what stands
 
 abbrev pub StandsAt : Position → Type 0
-StandsAt p = Stands p.stand.scope p.place
+StandsAt p = HasPassed p.stand.scope p.place
 
 abbrev pub OkStands : Next → Type 0
 OkStands r = OnPlace StandsAt r
@@ -94,7 +94,7 @@ start_stands p t _ = tt
 
 -- a label that passed its tests begins a statement
 begun : (p : Position) (label : Token) (place : Place) → is_label label.text ≡ true
-    → (is_new_label p.stand.scope label.text ≡ true → Stands p.stand.scope place)
+    → (is_new_label p.stand.scope label.text ≡ true → HasPassed p.stand.scope place)
     → OkStands (tested label (label_tests p.stand.scope label.text) (to p place))
 begun p label place h next =
     ok_tested StandsAt label (label_tests p.stand.scope label.text) (to p place) (λ e. next (and_from _ _ h e))
@@ -116,7 +116,7 @@ variable_stands p true t mark.End = refl
 variable_stands p b t m =
     ok_tested StandsAt t (variable_tests p.stand.scope t.text) (declares p (a_variable t.text) (in_variables true)) (λ e. refl)
 
-distinct_stands : (p : Position) (vs : List Word) (t : Token) (m : Mark) → Stands p.stand.scope (in_distinct vs)
+distinct_stands : (p : Position) (vs : List Word) (t : Token) (m : Mark) → HasPassed p.stand.scope (in_distinct vs)
     → OkStands (distinct_row p vs t m)
 distinct_stands p (v ∷ w ∷ vs) t mark.End h = refl
 distinct_stands p vs t m h =
@@ -195,7 +195,7 @@ letters_stands p label e ws ls t m h =
 
 -- ---- all places
 
-place_stands : (p : Position) (place : Place) (t : Token) (m : Mark) → Stands p.stand.scope place → OkStands (in_place p place t m)
+place_stands : (p : Position) (place : Place) (t : Token) (m : Mark) → HasPassed p.stand.scope place → OkStands (in_place p place t m)
 place_stands p at_start t m h = start_stands p t m
 place_stands p (after_label label) t m h = keyword_stands p label t m h
 place_stands p (in_constants some) t m h = constant_stands p some t m h
@@ -213,7 +213,7 @@ place_stands p (in_steps label e ws) t m h = proof_stands p label e ws t m h
 place_stands p (in_labels label e ws) t m h = labels_stands p label e ws t h
 place_stands p (in_letters label e ws ls) t m h = letters_stands p label e ws ls t m h
 
-pub row_stands : (p : Position) (t : Token) → Stands p.stand.scope p.place → OkStands (row p t)
+pub row_stands : (p : Position) (t : Token) → HasPassed p.stand.scope p.place → OkStands (row p t)
 unfolding row
 row_stands p t h = place_stands p p.place t (mark_of t.text) h
 

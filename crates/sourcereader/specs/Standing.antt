@@ -40,8 +40,8 @@ has_passed s (in_labels label e ws) = is_stated s label e
 has_passed s (in_letters label e ws ls) = is_stated s label e
 
 -- it passed them
-abbrev pub Stands : Scope → Place → Type 0
-Stands s p = has_passed s p ≡ true
+abbrev pub HasPassed : Scope → Place → Type 0
+HasPassed s p = has_passed s p ≡ true
 
 -- what is counted of what numbers count, in the proof of an expression
 pub record IsNumbered (s : Scope) (e : List Word) (n : Numbered) : Type 0 where
@@ -64,5 +64,5 @@ IsCounted s marks _ = Unit {0}
 
 -- what is so of what a reader of sources keeps
 pub record IsReadySource (s : Stand) (marks : List Bool) (p : CodePlace) : Type 0 where
-  pub stands : Stands s.scope (seen_place p)
+  pub stands : HasPassed s.scope (seen_place p)
   pub counted : IsCounted s.scope marks p

@@ -12,7 +12,7 @@ ghost use Rattle.source.specs.Faults.{at_start, in_steps, in_labels, in_letters,
 ghost use Rattle.source.specs.Faults.{proof_row, labels_row, letters_row};
 ghost use Rattle.source.specs.Views.{seen_words, seen_proof};
 ghost use Rattle.source.specs.Counts.{CountsSteps, mandatory_marks};
-ghost use Rattle.sourcereader.specs.Standing.{Stands, IsCounted, IsCountedProof, is_stated};
+ghost use Rattle.sourcereader.specs.Standing.{HasPassed, IsCounted, IsCountedProof, is_stated};
 ghost use Rattle.sourcereader.specs.Views.{standing_at, seen_place, Leads};
 ghost use Rattle.sourcereader.specs.declared.place.ProofPlace.TheVariants.{InSteps, InLabels, InLetters};
 

@@ -7,7 +7,7 @@ ghost use Rattle.mmtext.specs.Laws.{IsRead};
 ghost use Rattle.source.specs.Sources.{DeclaresText};
 ghost use Rattle.source.specs.Scopes.{outset};
 ghost use Rattle.source.specs.Faults.{in_place, row, source_language};
-ghost use Rattle.sourcereader.specs.Standing.{Stands, IsCounted, IsCountedProof, IsReadySource};
+ghost use Rattle.sourcereader.specs.Standing.{HasPassed, IsCounted, IsCountedProof, IsReadySource};
 ghost use Rattle.sourcereader.specs.Views.{seen_place, seen_proof_place, seen_at, Leads};
 ghost use Rattle.source.specs.Views.{seen_words};
 ghost use Rattle.sourcereader.specs.declared.place.Place.TheVariants.{AtStart, InProof};
@@ -36,7 +36,7 @@ fn proof_place_by_mark<'a, S: Standing<'a>>(
     token: Token<'a>,
     mark: Mark,
 ) -> Result<Place<'a>, Stop>
-    requires stands { Stands (S.stand standing.old).scope (seen_place (InProof theorem place)) }
+    requires stands { HasPassed (S.stand standing.old).scope (seen_place (InProof theorem place)) }
     requires counted { IsCountedProof (S.stand standing.old).scope (S.marks standing.old) (seen_words theorem.expression.items) place }
     ensures leads { let here = seen_at (S.stand standing.old) (InProof theorem.entry place.entry) in
         Leads (S.stand standing.new) result (in_place here here.place (seen token.entry) mark) }

@@ -10,7 +10,7 @@ ghost use Rattle.source.specs.Faults.{at_start, after_label, in_constants, in_va
 ghost use Rattle.source.specs.Faults.{in_hypothesis, in_axiom, in_theorem, tested, start_row, keyword_row, constant_row, variable_row};
 ghost use Rattle.source.specs.Faults.{distinct_row, hypothesis_row, axiom_row, theorem_row, in_place};
 ghost use Rattle.source.specs.Views.{seen_words};
-ghost use Rattle.sourcereader.specs.Standing.{Stands, IsCounted};
+ghost use Rattle.sourcereader.specs.Standing.{HasPassed, IsCounted};
 ghost use Rattle.sourcereader.specs.Takings.{one_more};
 ghost use Rattle.sourcereader.specs.Views.{standing_at, Leads};
 
@@ -95,7 +95,7 @@ pub(crate) fn constant<'a, S: Standing<'a>>(
     token: Token<'a>,
     mark: Mark,
 ) -> Result<Place<'a>, Stop>
-    requires { Stands (S.stand standing.old).scope (in_constants some) }
+    requires { HasPassed (S.stand standing.old).scope (in_constants some) }
     ensures leads { Leads (S.stand standing.new) result
         (constant_row (standing_at (S.stand standing.old) (in_constants some)) some (seen token.entry) mark) }
     ensures counted { IfOk result (λ p. IsCounted (S.stand standing.new).scope (S.marks standing.new) p) }
@@ -156,7 +156,7 @@ pub(crate) fn distinct<'a, S: Standing<'a>>(
     token: Token<'a>,
     mark: Mark,
 ) -> Result<Place<'a>, Stop>
-    requires { Stands (S.stand standing.old).scope (in_distinct (seen_words variables.items)) }
+    requires { HasPassed (S.stand standing.old).scope (in_distinct (seen_words variables.items)) }
     ensures leads { let vs = seen_words variables.entry.items in Leads (S.stand standing.new) result
         (distinct_row (standing_at (S.stand standing.old) (in_distinct vs)) vs (seen token.entry) mark) }
     ensures counted { IfOk result (λ p. IsCounted (S.stand standing.new).scope (S.marks standing.new) p) }
@@ -212,7 +212,7 @@ pub(crate) fn float_end<'a, S: Standing<'a>>(
     token: Token<'a>,
     mark: Mark,
 ) -> Result<Place<'a>, Stop>
-    requires { Stands (S.stand standing.old).scope (float_end label.now type_code.now variable.now) }
+    requires { HasPassed (S.stand standing.old).scope (float_end label.now type_code.now variable.now) }
     ensures leads { let place = float_end label.entry.now type_code.entry.now variable.entry.now in Leads (S.stand standing.new) result
         (in_place (standing_at (S.stand standing.old) place) place (seen token.entry) mark) }
     ensures counted { IfOk result (λ p. IsCounted (S.stand standing.new).scope (S.marks standing.new) p) }
@@ -252,7 +252,7 @@ pub(crate) fn hypothesis<'a, S: Standing<'a>>(
     token: Token<'a>,
     mark: Mark,
 ) -> Result<Place<'a>, Stop>
-    requires { Stands (S.stand standing.old).scope (in_hypothesis label.now (seen_words expression.items)) }
+    requires { HasPassed (S.stand standing.old).scope (in_hypothesis label.now (seen_words expression.items)) }
     ensures leads { let e = seen_words expression.entry.items in Leads (S.stand standing.new) result
         (hypothesis_row (standing_at (S.stand standing.old) (in_hypothesis label.entry.now e)) label.entry.now e (seen token.entry) mark) }
     ensures counted { IfOk result (λ p. IsCounted (S.stand standing.new).scope (S.marks standing.new) p) }
@@ -274,7 +274,7 @@ pub(crate) fn axiom<'a, S: Standing<'a>>(
     token: Token<'a>,
     mark: Mark,
 ) -> Result<Place<'a>, Stop>
-    requires stands { Stands (S.stand standing.old).scope (in_axiom label.now (seen_words expression.items)) }
+    requires stands { HasPassed (S.stand standing.old).scope (in_axiom label.now (seen_words expression.items)) }
     requires marks { S.marks standing.old ≡ mandatory_marks (S.stand standing.old).scope (seen_words expression.items) }
     ensures leads { let e = seen_words expression.entry.items in Leads (S.stand standing.new) result
         (axiom_row (standing_at (S.stand standing.old) (in_axiom label.entry.now e)) label.entry.now e (seen token.entry) mark) }

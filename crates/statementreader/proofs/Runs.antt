@@ -11,7 +11,7 @@ use Rattle.mmtext.specs.declared.fault.FaultKind.TheVariants.{OutOfProfile, BadT
 use Rattle.mmtext.specs.declared.fault.TextFault.{TextFault}
 use Rattle.mmtext.specs.declared.mark.Mark.{Mark}
 use Rattle.mmtext.specs.declared.mark.Mark.TheVariants as mark
-use Rattle.statementreader.specs.Standing.{IsRoomy, Stands}
+use Rattle.statementreader.specs.Standing.{IsRoomy, SuitsPlace}
 use Rattle.statementreader.specs.declared.place.Place.{Place as CodePlace}
 use Rattle.statementreader.specs.declared.place.Place.TheVariants as code
 use Rattle.statementreader.specs.declared.place.PreludePlace.TheVariants as prelude
@@ -78,7 +78,7 @@ variable_here t w v h = if_ok (has_dollar w) UnknownSymbol (variable_named (mean
 -- ---- what stands
 
 abbrev pub StandsAt : Position → Type 0
-StandsAt p = Stands p.known p.place
+StandsAt p = SuitsPlace p.known p.place
 
 abbrev pub OkStands : Result Position TextFault → Type 0
 OkStands r = OnPlace StandsAt r
@@ -173,7 +173,7 @@ proof_stands k s label e steps t m h =
     ok_given StandsAt t (step_of k.tables label (block_of s).hyps (length steps) t.text) (λ x. at k (in_proof s label e (steps ++ x ∷ [])))
     (λ x g. h)
 
-place_stands : (k : Known) (p : Place) (t : Token) (m : Mark) → Stands k p → OkStands (in_place k p t m)
+place_stands : (k : Known) (p : Place) (t : Token) (m : Mark) → SuitsPlace k p → OkStands (in_place k p t m)
 place_stands k (at_start outside) t m h = outermost_stands k t m
 place_stands k (at_start (inside b)) t m h = block_stands k b t m h
 place_stands k at_close t m h = close_stands k t m
@@ -203,7 +203,7 @@ row_at p t m is = ap (in_place p.known p.place t) (sym is)
 
 -- what stands at a place stands where its row leads
 pub stands_on : (here : Position) (w : Token) (m : Mark) (t : Tables) (u : Units) (r : Result CodePlace Stop) → m ≡ mark_of w.text
-    → StandsAt here → Leads t u r (in_place here.known here.place w m) → IfOk r (λ q. Stands (known_of t u) (seen_place q))
+    → StandsAt here → Leads t u r (in_place here.known here.place w m) → IfOk r (λ q. SuitsPlace (known_of t u) (seen_place q))
 stands_on here w m t u (Ok q) is h leads = subst OkStands (row_at here w m is ∙ leads) (row_stands here w h)
 stands_on here w m t u (Err e) is h leads = tt
 

@@ -24,9 +24,9 @@ use Rattle.statementreader.specs.declared.recent.Recalled.{Recalled}
 use Rattle.statementreader.specs.declared.recent.Recent.{Recent}
 use Rattle.statementreader.specs.declared.place.Place.{Place as CodePlace}
 use Rattle.statementreader.specs.declared.place.Place.TheVariants as code
-use Rattle.statementreader.specs.Recalls.{IsTrueOf, Knows, IsKept}
-use Rattle.statementreader.specs.Standing.{Stands}
-use Rattle.statementreader.specs.Takings.{TakesItem, TakesWord, pushed}
+use Rattle.statementreader.specs.Recalls.{IsTrueOf, RecallsTrue, IsKept}
+use Rattle.statementreader.specs.Standing.{SuitsPlace}
+use Rattle.statementreader.specs.Takings.{TakesItem, TakesWordAt, pushed}
 use Rattle.statementreader.specs.Views.{IsUnitPlace}
 use Rattle.statementreader.proofs.Runs.{StandsAt, row_at, row_stands}
 
@@ -99,7 +99,7 @@ pub plain_row : (k : Known) (p : Place) (t : Token) → has_dollar t.text ≡ fa
 plain_row k p t h = row_at (record { known = k; place = p }) t mark.Plain (sym (mark_plain t.text h))
 
 -- what is taken in a place is what the language leads to
-pub taken : (k : Known) (p q : Place) (t : Token) (r : Result Bool Stop) → TakesWord k p t q r
+pub taken : (k : Known) (p q : Place) (t : Token) (r : Result Bool Stop) → TakesWordAt k p t q r
     → Takes database_language (record { known = k; place = p }) t (record { known = k; place = q }) r
 taken k p q t (Ok true) h = (h.0, plain_row k p t h.0 ∙ h.1)
 taken k p q t (Ok false) h = ap (λ x. record { known = k; place = x }) h
@@ -107,19 +107,21 @@ taken k p q t (Err stop.Memory) h = tt
 taken k p q t (Err (stop.Fault f)) h = (h.0, plain_row k p t h.0 ∙ h.1)
 
 -- and what stands there stands then
-pub still_stands : (k : Known) (p q : Place) (t : Token) (b : Bool) → TakesWord k p t q (Ok b) → Stands k p → Stands k q
+pub still_stands : (k : Known) (p q : Place) (t : Token) (b : Bool) → TakesWordAt k p t q (Ok b) → SuitsPlace k p → SuitsPlace k q
 still_stands k p q t true h stands =
     subst (OnPlace StandsAt) (plain_row k p t h.0 ∙ h.1) (row_stands (record { known = k; place = p }) t stands)
-still_stands k p q t false h stands = subst (Stands k) (sym h) stands
+still_stands k p q t false h stands = subst (SuitsPlace k) (sym h) stands
 
-pub ready_after : (s : Tables) (k : Known) (p q : Place) (c : Recent) (t : Token) (r : Result Bool Stop) → TakesWord k p t q r → Stands k p
-    → Knows s c → OnOk r (Stands k q × Knows s c)
+pub ready_after : (s : Tables) (k : Known) (p q : Place) (c : Recent) (t : Token) (r : Result Bool Stop) → TakesWordAt k p t q r
+    → SuitsPlace k p
+    → RecallsTrue s c → OnOk r (SuitsPlace k q × RecallsTrue s c)
 ready_after s k p q c t (Ok b) h stands knows = (still_stands k p q t b h stands, knows)
 ready_after s k p q c t (Err e) h stands knows = tt
 
 -- what is kept of words stays true where the symbols don't change, or nothing is kept
-pub still_known : (p : CodePlace) (t u : Tables) (old new : Recent) → Knows t old → IsKept p old new → (IsUnitPlace p → u ≡ t) → Knows u new
+pub still_known : (p : CodePlace) (t u : Tables) (old new : Recent) → RecallsTrue t old → IsKept p old new → (IsUnitPlace p → u ≡ t)
+    → RecallsTrue u new
 still_known (code.Prelude p) t u old new knows kept same = λ k d lt.
     absurd (let none : length new.entries.items ≡ 0 = ap (λ xs. length xs) kept in omega arith)
 still_known (code.Unit p) t u old new knows kept same =
-    subst (λ r. Knows u r) (sym kept) (subst (λ x. Knows x old) (sym (same tt)) knows)
+    subst (λ r. RecallsTrue u r) (sym kept) (subst (λ x. RecallsTrue x old) (sym (same tt)) knows)

@@ -6,7 +6,7 @@ use Rattle.mmsyntax.specs.declared.statement.Assertion.{Assertion}
 use Rattle.mmtext.specs.Text.{Token, mark_of}
 use Rattle.mmtext.specs.declared.mark.Mark.{Mark}
 use Rattle.mmtext.specs.declared.fault.TextFault.{TextFault}
-use Rattle.statementreader.specs.Standing.{Stands}
+use Rattle.statementreader.specs.Standing.{SuitsPlace}
 use Rattle.statementreader.specs.declared.place.UnitPlace.{UnitPlace}
 use Rattle.statementreader.specs.declared.place.UnitPlace.TheVariants as unit
 use Rattle.statementreader.specs.declared.place.Place.{Place as CodePlace}
@@ -56,7 +56,7 @@ in_unit_place (unit.InTheorem s label e) = tt
 in_unit_place (unit.InProof p) = tt
 
 -- outside of $c, $v and $f, what stands doesn't speak of the prelude
-stands_over : (k l : Known) (p : Place) → InUnit p → Stands k p → Stands l p
+stands_over : (k l : Known) (p : Place) → InUnit p → SuitsPlace k p → SuitsPlace l p
 stands_over k l (in_constants b) i h = absurd i
 stands_over k l (in_variables b) i h = absurd i
 stands_over k l (float_type label) i h = absurd i

@@ -20,8 +20,8 @@ pub record IsTrueOf (t : Tables) (r : Recalled) : Type 0 where
   pub symbol : NamesFew r.name
 
 -- all that is kept is so
-abbrev pub Knows : Tables → Recent → Type 0
-Knows t r = All (λ e. IsTrueOf t e) r.entries.items
+abbrev pub RecallsTrue : Tables → Recent → Type 0
+RecallsTrue t r = All (λ e. IsTrueOf t e) r.entries.items
 
 -- at a place all is kept of a word
 abbrev pub IsKeptAt : Tables → List Recalled → ℕ → Word → Type 0

@@ -17,15 +17,15 @@ abbrev pub IsRoomy : Scope → Type 0
 IsRoomy s = length (block_of s).hyps ≤ MOST_HYPOTHESES
 
 -- what holds of what is known at a place: in a $f its label is free, there is room, and its variable has none yet; in a block there is room
-abbrev pub Stands : Known → Place → Type 0
-Stands k (at_start s) = IsRoomy s
-Stands k (after_label s label) = IsRoomy s
-Stands k (float_type label) = IsFree k label
-Stands k (float_variable label i) = IsFree k label
-Stands k (float_end label i w v) = IsFree k label × (meaning k.tables w ≡ Some (Variable v None))
-Stands k (in_distinct b vs) = IsRoomy (inside b)
-Stands k (in_hypothesis b label e) = length b.hyps < MOST_HYPOTHESES
-Stands k (in_axiom s label e) = IsRoomy s
-Stands k (in_theorem s label e) = IsRoomy s
-Stands k (in_proof s label e steps) = IsRoomy s
-Stands k _ = Unit {0}
+abbrev pub SuitsPlace : Known → Place → Type 0
+SuitsPlace k (at_start s) = IsRoomy s
+SuitsPlace k (after_label s label) = IsRoomy s
+SuitsPlace k (float_type label) = IsFree k label
+SuitsPlace k (float_variable label i) = IsFree k label
+SuitsPlace k (float_end label i w v) = IsFree k label × (meaning k.tables w ≡ Some (Variable v None))
+SuitsPlace k (in_distinct b vs) = IsRoomy (inside b)
+SuitsPlace k (in_hypothesis b label e) = length b.hyps < MOST_HYPOTHESES
+SuitsPlace k (in_axiom s label e) = IsRoomy s
+SuitsPlace k (in_theorem s label e) = IsRoomy s
+SuitsPlace k (in_proof s label e steps) = IsRoomy s
+SuitsPlace k _ = Unit {0}

@@ -29,11 +29,11 @@ TakesItem t old new given (Err stop.Memory) = Unit {0}
 TakesItem t old new given (Err (stop.Fault f)) = (has_dollar t.text ≡ false) × (pushed t old given ≡ Err f)
 
 -- whether it took the word at a place, and the place then
-abbrev pub TakesWord : Known → Place → Token → Place → Result Bool Stop → Type 0
-TakesWord k p t q (Ok true) = (has_dollar t.text ≡ false) × (in_place k p t mark.Plain ≡ Ok (record { known = k; place = q }))
-TakesWord k p t q (Ok false) = q ≡ p
-TakesWord k p t q (Err stop.Memory) = Unit {0}
-TakesWord k p t q (Err (stop.Fault f)) = (has_dollar t.text ≡ false) × (in_place k p t mark.Plain ≡ Err f)
+abbrev pub TakesWordAt : Known → Place → Token → Place → Result Bool Stop → Type 0
+TakesWordAt k p t q (Ok true) = (has_dollar t.text ≡ false) × (in_place k p t mark.Plain ≡ Ok (record { known = k; place = q }))
+TakesWordAt k p t q (Ok false) = q ≡ p
+TakesWordAt k p t q (Err stop.Memory) = Unit {0}
+TakesWordAt k p t q (Err (stop.Fault f)) = (has_dollar t.text ≡ false) × (in_place k p t mark.Plain ≡ Err f)
 
 -- the step that a word is by what it names
 abbrev pub step_as : Word → Named → Step

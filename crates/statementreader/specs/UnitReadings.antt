@@ -3,7 +3,7 @@ use Rattle.std.specs.Prelude.{◌≡◌, true}
 use Rattle.mmsyntax.specs.Tables.{Tables}
 use Rattle.mmsyntax.specs.Rows.{Units, no_units}
 use Rattle.mmsyntax.specs.Faults.{Place, outside, at_start, Position}
-use Rattle.statementreader.specs.Standing.{Stands}
+use Rattle.statementreader.specs.Standing.{SuitsPlace}
 use Rattle.mmunits.specs.Views.{known_of}
 
 -- what is known of it, and the place
@@ -22,4 +22,4 @@ position_of t r = record { known = known_of t r.units; place = r.place }
 -- no $c, $v or $f comes, and there is room in the block, over whichever prelude
 pub record GoesOn (r : UnitReading) : Type 0 where
   pub closed : r.units.prelude_closed ≡ true
-  pub stands : (t : Tables) → Stands (known_of t r.units) r.place
+  pub stands : (t : Tables) → SuitsPlace (known_of t r.units) r.place

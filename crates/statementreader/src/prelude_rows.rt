@@ -5,7 +5,7 @@ ghost use Rattle.mmsyntax.specs.Tables.{meaning};
 ghost use Rattle.mmsyntax.specs.Rows.{type_of, variable_of};
 ghost use Rattle.mmsyntax.specs.Faults.{constant_row, variable_row, type_row, float_variable_row, float_end_row, in_place};
 ghost use Rattle.mmtext.specs.Views.{seen};
-ghost use Rattle.statementreader.specs.Standing.{IsFree, Stands};
+ghost use Rattle.statementreader.specs.Standing.{IsFree, SuitsPlace};
 ghost use Rattle.mmunits.specs.Views.{known_of};
 ghost use Rattle.statementreader.specs.Views.{seen_prelude_place, Leads};
 ghost use Rattle.mmsyntax.specs.declared.symbols.Name.TheVariants.{Variable};
@@ -138,7 +138,7 @@ pub fn next_prelude_place<'a>(
     token: Token<'a>,
     mark: Mark,
 ) -> Result<Place<'a>, Stop>
-    requires { Stands (known_of symbols.old units.now) (seen_prelude_place place) }
+    requires { SuitsPlace (known_of symbols.old units.now) (seen_prelude_place place) }
     ensures { Leads symbols.new units.now result
         (in_place (known_of symbols.old units.now) (seen_prelude_place place.entry) (seen token.entry) mark) }
 {

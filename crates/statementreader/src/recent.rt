@@ -3,7 +3,7 @@
 ghost use Rattle.std.specs.Prelude.{◌≡◌, ◌<◌, ◌++◌, ◌∷◌, [], IfOk, OnOk, length};
 ghost use Rattle.mmsyntax.specs.Tables.{Tables};
 ghost use Rattle.mmtext.specs.Words.{Word};
-ghost use Rattle.statementreader.specs.Recalls.{IsTrueOf, IsKept, IsKeptAt, Knows};
+ghost use Rattle.statementreader.specs.Recalls.{IsTrueOf, IsKept, IsKeptAt, RecallsTrue};
 ghost use Rattle.statementreader.specs.Takings.{IsSmallNamed, step_as};
 
 use crate::place::Place;
@@ -75,7 +75,7 @@ impl<'a> Recent<'a> {
 
     /// No word, of a text of a length in bytes: the shorter it is, the fewer are kept.
     pub fn for_text(alloc: Global, length: usize) -> Self
-        ensures { (t : Tables) → Knows t result }
+        ensures { (t : Tables) → RecallsTrue t result }
     {
         Recent {
             entries: Vec::new(alloc),
@@ -96,7 +96,7 @@ impl<'a> Recent<'a> {
     /// Makes room for words.
     fn open(&mut self, alloc: Global, symbols: &SymbolTable) -> Result<(), AllocError>
         requires { self.old.entries.items ≡ [] }
-        ensures knows { Knows symbols.now self.new }
+        ensures knows { RecallsTrue symbols.now self.new }
         ensures room { OnOk result (0 < length self.new.entries.items) }
     {
         let size = size_for(symbols, self.most);
@@ -112,8 +112,8 @@ impl<'a> Recent<'a> {
         symbols: &SymbolTable,
         word: &'a [u8],
     ) -> Result<usize, AllocError>
-        requires { Knows symbols.now self.old }
-        ensures knows { Knows symbols.now self.new }
+        requires { RecallsTrue symbols.now self.old }
+        ensures knows { RecallsTrue symbols.now self.new }
         ensures found { IfOk result (λ place. IsKeptAt symbols.now self.new.entries.items place word.now) }
     {
         if self.entries.is_empty() {
@@ -126,9 +126,9 @@ impl<'a> Recent<'a> {
 
     /// Keeps a word at a place, unless it is there.
     fn keep(&mut self, symbols: &SymbolTable, word: &'a [u8], place: usize)
-        requires knows { Knows symbols.now self.old }
+        requires knows { RecallsTrue symbols.now self.old }
         requires place { place < length self.old.entries.items }
-        ensures knows { Knows symbols.now self.new }
+        ensures knows { RecallsTrue symbols.now self.new }
         ensures kept { IsKeptAt symbols.now self.new.entries.items place word.now }
     {
         if self.entries[place].word != word {
@@ -139,7 +139,7 @@ impl<'a> Recent<'a> {
     /// Notes where the word that is kept at a place stands among the labels that a proof cites.
     pub(crate) fn note(&mut self, place: usize, cited_at: usize)
         requires { place < length self.old.entries.items }
-        ensures { (t : Tables) → Knows t self.old → Knows t self.new }
+        ensures { (t : Tables) → RecallsTrue t self.old → RecallsTrue t self.new }
     {
         self.entries[place].cited_at = cited_at;
     }
@@ -158,7 +158,7 @@ impl<'a> Recent<'a> {
         word: &[u8],
     ) -> Result<(), AllocError>
         requires { IsSmallNamed named }
-        ensures known { (t : Tables) → Knows t self.old → Knows t self.new }
+        ensures known { (t : Tables) → RecallsTrue t self.old → RecallsTrue t self.new }
         ensures pushed { OnOk result (steps.new ≡ steps.old ++ step_as word.now named ∷ []) }
     {
         if self.entries.is_empty() {

@@ -8,7 +8,7 @@ ghost use Rattle.mmsyntax.specs.Rows.{first_fault};
 ghost use Rattle.mmsyntax.specs.Blocks.{typed_named, distinct_of, with_distinct};
 ghost use Rattle.mmsyntax.specs.Steps.{step_tests, float_named, hypothesis_named, step_named, unless_faulty, step_of};
 ghost use Rattle.mmsyntax.specs.Faults.{block_of};
-ghost use Rattle.statementreader.specs.Recalls.{IsTrueOf, Knows};
+ghost use Rattle.statementreader.specs.Recalls.{IsTrueOf, RecallsTrue};
 ghost use Rattle.statementreader.specs.Takings.{IsSmallNamed, step_as, step_or_fault};
 ghost use Rattle.statementreader.specs.Views.{seen_scope};
 ghost use Rattle.mmsyntax.specs.declared.limits.TheConstants.{MOST_DECLARED, MOST_HYPOTHESES};
@@ -261,9 +261,9 @@ pub fn recalled_named_step<'a>(
     count: usize,
     word: &'a [u8],
 ) -> Result<Result<Named, FaultKind>, AllocError>
-    requires knows { Knows symbols.now recent.old }
+    requires knows { RecallsTrue symbols.now recent.old }
     requires few { (n : ℕ) → hypothesis ≡ Some n → n < MOST_HYPOTHESES }
-    ensures knows { Knows symbols.now recent.new }
+    ensures knows { RecallsTrue symbols.now recent.new }
     ensures named { IfOk result (λ r. step_or_fault word.now r ≡ unless_faulty (first_fault (step_tests count word.now))
         (step_named label.now word.now (float_named (meaning symbols.now word.now)) hypothesis)) }
     ensures small { IfOk result (λ r. IfOk r IsSmallNamed) }

@@ -7,7 +7,7 @@ ghost use Rattle.mmtext.specs.Views.{seen};
 ghost use Rattle.statementreader.specs.Views.{seen_place, seen_position, IsUnitPlace};
 ghost use Rattle.statementreader.specs.UnitReadings.{nothing_read, position_of, GoesOn};
 ghost use Rattle.statementreader.specs.UnitViews.{IsProgress, Progresses, TakesInUnit};
-ghost use Rattle.statementreader.specs.Recalls.{Knows};
+ghost use Rattle.statementreader.specs.Recalls.{RecallsTrue};
 
 use crate::place::{Place, Scope, UnitPlace};
 use crate::recent::Recent;
@@ -123,8 +123,8 @@ impl<'a> UnitReader<'a> {
         recent: &mut Recent<'a>,
         token: Token<'a>,
     ) -> Result<bool, Stop>
-        requires { Knows prelude.now recent.old }
-        ensures knows { Knows prelude.now recent.new }
+        requires { RecallsTrue prelude.now recent.old }
+        ensures knows { RecallsTrue prelude.now recent.new }
         ensures taken { TakesInUnit prelude.now self.old (seen token.entry) self.new result }
     {
         take_unit_word(alloc, prelude.symbols(), recent, &mut self.place, token)

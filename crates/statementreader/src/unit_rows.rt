@@ -8,7 +8,7 @@ ghost use Rattle.mmsyntax.specs.Faults.{theorem_row, proof_row, next_step, behin
 ghost use Rattle.mmsyntax.specs.Faults.{at, at_start};
 ghost use Rattle.mmtext.specs.Views.{seen, Gives};
 ghost use Rattle.mmtext.specs.declared.mark.Mark.TheVariants.{Floating, Essential};
-ghost use Rattle.statementreader.specs.Standing.{Stands};
+ghost use Rattle.statementreader.specs.Standing.{SuitsPlace};
 ghost use Rattle.statementreader.specs.Takings.{pushed};
 ghost use Rattle.mmunits.specs.Views.{known_of};
 ghost use Rattle.statementreader.specs.Views.{seen_scope, seen_behind, seen_unit_place, Leads};
@@ -475,7 +475,7 @@ pub fn next_unit_place<'a>(
     token: Token<'a>,
     mark: Mark,
 ) -> Result<Place<'a>, Stop>
-    requires { Stands (known_of symbols.now units.old) (seen_unit_place place) }
+    requires { SuitsPlace (known_of symbols.now units.old) (seen_unit_place place) }
     ensures { Leads symbols.now units.new result
         (in_place (known_of symbols.now units.old) (seen_unit_place place.entry) (seen token.entry) mark) }
 {

@@ -8,7 +8,7 @@ ghost use Rattle.mmtext.specs.Laws.{IsRead};
 ghost use Rattle.mmsyntax.specs.Faults.{unit_at, unit_row, unit_language, first_of};
 ghost use Rattle.mmsyntax.specs.Grammar.{SpellsUnit};
 ghost use Rattle.mmtext.specs.Views.{seen, Gives};
-ghost use Rattle.statementreader.specs.Standing.{Stands};
+ghost use Rattle.statementreader.specs.Standing.{SuitsPlace};
 ghost use Rattle.statementreader.specs.Readers.{IsReadyUnit};
 ghost use Rattle.mmunits.specs.Views.{known_of};
 ghost use Rattle.statementreader.specs.Views.{seen_place, seen_position, IsUnitPlace, Leads};
@@ -46,7 +46,7 @@ fn place_by_row<'a>(
     token: Token<'a>,
     mark: Mark,
 ) -> Result<Place<'a>, Stop>
-    requires stands { Stands (known_of symbols.now units.old) (seen_place place) }
+    requires stands { SuitsPlace (known_of symbols.now units.old) (seen_place place) }
     requires unit { IsUnitPlace place }
     requires mark { mark ≡ mark_of token.text.now }
     ensures { Leads symbols.now units.new result (unit_row (seen_position symbols.now units.old place.entry) (seen token.entry)) }

@@ -5,9 +5,9 @@ ghost use Rattle.mmsyntax.specs.Rows.{Known, Units, symbol_of};
 ghost use Rattle.mmsyntax.specs.Steps.{step_of};
 ghost use Rattle.mmsyntax.specs.Faults.{block_of, unit_at};
 ghost use Rattle.mmtext.specs.Views.{seen};
-ghost use Rattle.statementreader.specs.Recalls.{IsTrueOf, Knows};
-ghost use Rattle.statementreader.specs.Standing.{Stands};
-ghost use Rattle.statementreader.specs.Takings.{IsSmallNamed, TakesItem, TakesWord, step_or_fault};
+ghost use Rattle.statementreader.specs.Recalls.{IsTrueOf, RecallsTrue};
+ghost use Rattle.statementreader.specs.Standing.{SuitsPlace};
+ghost use Rattle.statementreader.specs.Takings.{IsSmallNamed, TakesItem, TakesWordAt, step_or_fault};
 ghost use Rattle.mmunits.specs.Views.{known_of};
 ghost use Rattle.statementreader.specs.Views.{seen_scope, seen_unit_place, seen_place};
 
@@ -49,8 +49,8 @@ fn take_symbol<'a>(
     expression: &mut Vec<SymbolWord>,
     token: Token<'a>,
 ) -> Result<bool, Stop>
-    requires { Knows symbols.now recent.old }
-    ensures knows { Knows symbols.now recent.new }
+    requires { RecallsTrue symbols.now recent.old }
+    ensures knows { RecallsTrue symbols.now recent.new }
     ensures taken { TakesItem (seen token.entry) expression.old.items expression.new.items
         (symbol_of symbols.now (length expression.old.items) token.entry.text.now) result }
 {
@@ -76,8 +76,8 @@ fn take_step<'a>(
     theorem: &mut Theorem<'a>,
     token: Token<'a>,
 ) -> Result<bool, Stop>
-    requires { Knows symbols.now recent.old }
-    ensures knows { Knows symbols.now recent.new }
+    requires { RecallsTrue symbols.now recent.old }
+    ensures knows { RecallsTrue symbols.now recent.new }
     ensures kept { theorem.new ≡ record theorem.old { steps = theorem.new.steps } }
     ensures taken { TakesItem (seen token.entry) theorem.old.steps.value theorem.new.steps.value
         (step_of symbols.now theorem.old.label.now (block_of (seen_scope theorem.old.scope)).hyps (length theorem.old.steps.value)
@@ -109,13 +109,13 @@ pub(crate) fn take_unit_word<'a>(
     place: &mut UnitPlace<'a>,
     token: Token<'a>,
 ) -> Result<bool, Stop>
-    requires { Knows symbols.now recent.old }
-    ensures knows { Knows symbols.now recent.new }
+    requires { RecallsTrue symbols.now recent.old }
+    ensures knows { RecallsTrue symbols.now recent.new }
     ensures taken { (u : Units) →
-        TakesWord (known_of symbols.now u) (seen_unit_place place.old) (seen token.entry) (seen_unit_place place.new) result }
+        TakesWordAt (known_of symbols.now u) (seen_unit_place place.old) (seen token.entry) (seen_unit_place place.new) result }
     // What is taken ends no assertion.
     ensures within { IfOk result (λ taken. taken ≡ true → (k : Known) → unit_at k (seen_unit_place place.new) ≡ None) }
-    ensures stands { (k : Known) → Stands k (seen_unit_place place.old) → Stands k (seen_unit_place place.new) }
+    ensures stands { (k : Known) → SuitsPlace k (seen_unit_place place.old) → SuitsPlace k (seen_unit_place place.new) }
 {
     match place {
         UnitPlace::InHypothesis(_, _, expression) => {
@@ -140,10 +140,10 @@ pub fn take_word<'a>(
     place: &mut Place<'a>,
     token: Token<'a>,
 ) -> Result<bool, Stop>
-    requires { Knows symbols.now recent.old }
-    ensures knows { Knows symbols.now recent.new }
+    requires { RecallsTrue symbols.now recent.old }
+    ensures knows { RecallsTrue symbols.now recent.new }
     ensures taken { (u : Units) →
-        TakesWord (known_of symbols.now u) (seen_place place.old) (seen token.entry) (seen_place place.new) result }
+        TakesWordAt (known_of symbols.now u) (seen_place place.old) (seen token.entry) (seen_place place.new) result }
 {
     match place {
         Place::Unit(place) => take_unit_word(alloc, symbols, recent, place, token),

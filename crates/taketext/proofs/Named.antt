@@ -38,7 +38,7 @@ use Rattle.choosing.specs.Choices.{labels_of, labels_wished}
 use Rattle.choosing.specs.declared.wish.Wish.{Wish}
 use Rattle.choosing.proofs.Apart.{filter_hold}
 use Rattle.intake.specs.declared.taken.Taken.{Taken}
-use Rattle.intake.specs.Intakes.{axioms_of, names_of, IsTaken as IsTakenOf}
+use Rattle.intake.specs.Intakes.{axioms_of, names_of, IsTakenByWish}
 use Rattle.taketext.proofs.Quiet.{AreQuiet, quiet_word, quiet_label}
 use Rattle.taketext.proofs.Commented.{IsQuietNaming, IsQuietAxiom}
 
@@ -367,7 +367,7 @@ all_known ls (w ∷ ws) q h =
 
 -- ---- what is told of a library
 
-module _ (text : List ℕ) (w : Wish) (t : Taken) (h : IsTakenOf text w t) where
+module _ (text : List ℕ) (w : Wish) (t : Taken) (h : IsTakenByWish text w t) where
   worded_source : IsWorded h.source
   worded_source = sources_worded text h.source h.declares
 

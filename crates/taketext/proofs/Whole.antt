@@ -6,7 +6,7 @@ use Rattle.mmsyntax.proofs.Canonical.{spelled_again}
 use Rattle.textlaws.proofs.Behind.{spelled_behind}
 use Rattle.choosing.specs.declared.wish.Wish.{Wish}
 use Rattle.intake.specs.declared.taken.Taken.{Taken}
-use Rattle.intake.specs.Intakes.{IsTaken}
+use Rattle.intake.specs.Intakes.{IsTakenByWish}
 use Rattle.taketext.specs.Answers.{taken_text}
 use Rattle.taketext.specs.Comments.{comment_of}
 use Rattle.taketext.proofs.Commented.{comment_silent}
@@ -19,7 +19,7 @@ whole_text path source w t empty front library slice out none comment text is al
     all ∙ ap₂ (λ x y. x ++ y) (comment ∙ ap (λ x. x ++ comment_of path source w t) none) (is ∙ text)
 
 -- the comment in front of it says nothing, so that the text spells what the library's own text spells
-pub whole_spelled : (path source : List ℕ) (w : Wish) (t : Taken) → IsTaken source w t → HasSpelling t.database
+pub whole_spelled : (path source : List ℕ) (w : Wish) (t : Taken) → IsTakenByWish source w t → HasSpelling t.database
     → Spells (taken_text path source w t) t.database
 whole_spelled path source w t taken spelling =
     let db = t.database in

@@ -4,7 +4,7 @@ use Rattle.std.specs.Option.{option_map}
 use Rattle.std.specs.Str.{is_utf8}
 use Rattle.std.specs.Fmt.{decimal}
 use Rattle.mmtext.specs.FaultNames.{printed_fault as printed_text_fault}
-use Rattle.derivation.specs.FaultNames.{printed_fault}
+use Rattle.derivation.specs.FaultNames.{printed_proof_fault}
 use Rattle.drafts.specs.declared.limits.Limit.{Limit}
 use Rattle.drafts.specs.declared.limits.Limit.TheVariants as limit
 use Rattle.intake.specs.declared.refusal.Refusal.{Refusal}
@@ -42,7 +42,7 @@ refusal_text refusal.TooWide = codes "more than 65535 constants or $f"
 refusal_text (refusal.NoFreshName word) = codes "no free name for " ++ shown word.now
 refusal_text (refusal.Passes limit name) = at_name (option_map (λ w. w.now) name) (limit_text limit)
 refusal_text refusal.Unlawful = codes "what is taken is not of the profile"
-refusal_text (refusal.Proof label fault) = codes "proof of " ++ (shown label ++ (codes ": " ++ printed_fault fault))
+refusal_text (refusal.Proof label fault) = codes "proof of " ++ (shown label ++ (codes ": " ++ printed_proof_fault fault))
 refusal_text refusal.NoMemory = codes "no memory"
 
 -- behind the path of the source; want of memory has none

@@ -1,7 +1,7 @@
 //! The answer of the program where a library is to be taken.
 
 ghost use Rattle.std.specs.Prelude.{◌≡◌, IfOk};
-ghost use Rattle.intake.specs.Intakes.{IsTaken};
+ghost use Rattle.intake.specs.Intakes.{IsTakenByWish};
 ghost use Rattle.taketext.specs.Answers.{taken_text, IsTakeAnswer};
 
 use crate::comment::put_comment;
@@ -48,7 +48,7 @@ fn tell_taken(
     wish: Wish<'_>,
     taken: &Taken<'_>,
 ) -> Result<Told, AllocError>
-    requires { IsTaken source.now wish taken.now }
+    requires { IsTakenByWish source.now wish taken.now }
     ensures { IfOk result (IsTakeAnswer path.now source.now wish.entry) }
 {
     // For the proof: some text spells a database.

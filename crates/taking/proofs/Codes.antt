@@ -5,7 +5,7 @@ use Rattle.std.proofs.lemmas.List.{length-map, at_drop_more, at_drop_all}
 use Rattle.source.specs.declared.letters.Code.{Code}
 use Rattle.source.specs.declared.letters.Code.TheVariants.{Number}
 use Rattle.source.specs.Scopes.{Hypothesis, Assertion}
-use Rattle.source.specs.Proofs.{Tree, Step, names, again, Stack, run, stepped, step_of}
+use Rattle.source.specs.Proofs.{Tree, Step, names, again, Stack, run_steps, stepped, step_of}
 use Rattle.taking.specs.declared.named.Named.{Named}
 use Rattle.taking.specs.Settings.{Setting, AreNamed}
 use Rattle.taking.specs.Listings.{step_in}
@@ -46,17 +46,17 @@ step_repeats s named are code n place mark is place-is mark-is =
 module _ (earlier : List Assertion) (active : List Hypothesis) (labels : List (List ℕ)) (codes : List Code) where
   -- what is done behind a code
   pub next : (i : ℕ) (d : Code) (s : Stack Tree) → i < length codes
-      → run grown earlier active (Some s) (map (step_of labels) (drop i codes))
-      ≡ run grown earlier active (stepped grown earlier active s (step_of labels (get_or codes i d)))
+      → run_steps grown earlier active (Some s) (map (step_of labels) (drop i codes))
+      ≡ run_steps grown earlier active (stepped grown earlier active s (step_of labels (get_or codes i d)))
       (map (step_of labels) (drop (i + 1) codes))
-  next i d s h = at_drop_more (λ xs. run grown earlier active (Some s) (map (step_of labels) xs)) codes i d h
+  next i d s h = at_drop_more (λ xs. run_steps grown earlier active (Some s) (map (step_of labels) xs)) codes i d h
 
   -- what isn't there stays so
-  pub lost : (xs : List Step) → run grown earlier active None xs ≡ None
+  pub lost : (xs : List Step) → run_steps grown earlier active None xs ≡ None
   lost [] = refl
   lost (x ∷ xs) = refl
 
   -- nothing is left to do
   pub done : (i : ℕ) (s : Stack Tree) → length codes ≤ i
-      → run grown earlier active (Some s) (map (step_of labels) (drop i codes)) ≡ Some s
-  done i s h = at_drop_all (λ xs. run grown earlier active (Some s) (map (step_of labels) xs)) codes i h
+      → run_steps grown earlier active (Some s) (map (step_of labels) (drop i codes)) ≡ Some s
+  done i s h = at_drop_all (λ xs. run_steps grown earlier active (Some s) (map (step_of labels) xs)) codes i h

@@ -13,7 +13,7 @@ use Rattle.source.specs.Statements.{Proof}
 use Rattle.source.specs.Scopes.{Hypothesis, typing, premise, Assertion}
 use Rattle.source.specs.Proofs.{Tree, Trees, node, none, some, over, Step, names, again, marks, steps_of, taken_by}
 use Rattle.source.specs.Proofs.{Stack, empty, pop, put, cite}
-use Rattle.source.specs.Proofs.{repeat, mark, stepped, run, only, single, denoted_by, denoted, size, sizes, total, is_unfinished}
+use Rattle.source.specs.Proofs.{repeat, mark, stepped, run_steps, only, single, denoted_by, denoted, size, sizes, total, is_unfinished}
 use Rattle.taking.specs.declared.reason.Reason.{Reason}
 use Rattle.taking.specs.declared.reason.Reason.TheVariants.{Unfinished, TooLong}
 use Rattle.taking.specs.Names.{Map}
@@ -87,7 +87,7 @@ module _ (earlier : List Assertion) (active : List Hypothesis) where
   one s s' (again n) e a = repeated s s' n (slice_get s.marked n) refl e a
   one s s' marks e a = marked s.entries s.marked s' e a.0 a.1
 
-  all : (o : Option (Stack Tree)) (xs : List Step) (s' : Stack Tree) → run make earlier active o xs ≡ Some s'
+  all : (o : Option (Stack Tree)) (xs : List Step) (s' : Stack Tree) → run_steps make earlier active o xs ≡ Some s'
       → ((s : Stack Tree) → o ≡ Some s → Sound s) → Sound s'
   all o [] s' e a = a s' e
   all None (x ∷ xs) s' e a = absurd cc
@@ -104,7 +104,7 @@ module _ (earlier : List Assertion) (active : List Hypothesis) where
 
   made_enough : (steps : List Step) (t : Tree) → denoted_by earlier active steps ≡ Some t → TakesEnough earlier active t
   made_enough steps t e =
-      lone (run make earlier active (Some empty) steps) t e
+      lone (run_steps make earlier active (Some empty) steps) t e
       (λ s is. all (Some empty) steps s is (λ s2 e2. subst Sound (same_Some _ _ e2) (tt, tt)))
 
 pub denoted_enough : (earlier : List Assertion) (x : Assertion) (t : Tree) → denoted earlier x ≡ Some t → TakesEnough earlier x.active t

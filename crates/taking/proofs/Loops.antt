@@ -3,7 +3,7 @@ use Rattle.std.proofs.Common.{◌≡◌, ◌∙◌, ◌<◌, ℕ, List, [], refl
 use Rattle.std.specs.Prelude.{Some, All}
 use Rattle.std.proofs.lemmas.List.Elements.{All-from_recursion}
 use Rattle.source.specs.declared.letters.Code.{Code}
-use Rattle.source.specs.Proofs.{run, empty, step_of}
+use Rattle.source.specs.Proofs.{run_steps, empty, step_of}
 use Rattle.taking.specs.declared.named.Named.{Named}
 use Rattle.taking.specs.declared.decoder.Decoder.{Decoder}
 use Rattle.taking.specs.Settings.{Setting, AreNamed}
@@ -14,8 +14,8 @@ use Rattle.taking.specs.Walks.{TakesAll}
 pub record Goes (named : List Named) (codes : List Code) (i : ℕ) (d : Decoder) : Type 0 where
   pub stands : StandsOn named d
   pub goes : (s : Setting) → AreNamed s named
-      → run grown s.earlier s.active (Some (stack_of s.labels d)) (map (step_of s.labels) (drop i codes))
-      ≡ run grown s.earlier s.active (Some empty) (map (step_of s.labels) codes)
+      → run_steps grown s.earlier s.active (Some (stack_of s.labels d)) (map (step_of s.labels) (drop i codes))
+      ≡ run_steps grown s.earlier s.active (Some empty) (map (step_of s.labels) codes)
 
 -- nothing is on the stack yet
 pub start : (named : List Named) (codes : List Code) (d : Decoder) → d.nodes ≡ [] → d.entries.items ≡ [] → d.marked.items ≡ []
@@ -33,6 +33,7 @@ start named codes d nodes entries marked = record {
   };
   goes =
       λ s are.
-      ap (λ es. run grown s.earlier s.active (Some (stack_on s.labels d.nodes es d.marked.items)) (map (step_of s.labels) codes)) entries
-      ∙ ap (λ ms. run grown s.earlier s.active (Some (stack_on s.labels d.nodes [] ms)) (map (step_of s.labels) codes)) marked;
+      ap (λ es. run_steps grown s.earlier s.active (Some (stack_on s.labels d.nodes es d.marked.items)) (map (step_of s.labels) codes))
+      entries
+      ∙ ap (λ ms. run_steps grown s.earlier s.active (Some (stack_on s.labels d.nodes [] ms)) (map (step_of s.labels) codes)) marked;
 }

@@ -3,7 +3,7 @@ use Rattle.std.proofs.Common.{Bool, List, None, Option, Some, [], ap, arith, eq-
 use Rattle.std.proofs.lemmas.Bool.{both_ways}
 use Rattle.std.proofs.lemmas.Option.{none-some}
 use Rattle.tlcore.specs.History.{Will, deed, value, version}
-use Rattle.tlcore.specs.Seats.{Checking, Held, Idle, Loaded, Looked, Place, Reading, Seat, Storing, Taking, all_below, find_held, is_held, is_nil, is_settled, passes, settled_below, stored, without}
+use Rattle.tlcore.specs.Seats.{Checking, Held, Idle, Loaded, Looked, Place, Reading, Seat, Storing, Taking, all_below, find_held, is_held, is_nil, is_settled, passes, settled_below, with_stored, without}
 use Rattle.tlcore.specs.Machine.{Action, Begin, Cell, World, begun, given, next, placed, saw, with_seat}
 use Rattle.tlcore.specs.Schedules.{Event, run}
 use Rattle.tlcore.specs.Conflicts.{ConflictsHaveCause, HeldByOther, HeldMeanwhile, NoBegin, cell_of}
@@ -116,7 +116,7 @@ module _ (o : List ℕ) (w : World) (s : ℕ) (t : Seat) (I : Consistent o w) (e
     λ L b. stale L c x (active_at L c (Checking i n) p b) h
         (λ k j. due_free c n t.held (settled_below c t.held n t.reads) k d j) m,
   )
-  row_cause a v u (stores {i} {c} p h j) f g = no_conflict (record t { place = Storing i; held = stored c t.held }) u a calm f g
+  row_cause a v u (stores {i} {c} p h j) f g = no_conflict (record t { place = Storing i; held = with_stored c t.held }) u a calm f g
   row_cause a v u (releases_done {i} {c} p h st j) f g =
       no_conflict (record t { place = (if is_nil (without c t.held) then Idle else t.place); held = without c t.held }) u a calm f g
   row_cause a v u (releases_failed {c} p h j) f g =

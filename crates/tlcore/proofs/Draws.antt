@@ -2,7 +2,8 @@
 use Rattle.std.proofs.Common.{List, None, Option, Some, [], ap, arith, inl, inr, length, nat_lt, refl, slice_get, slice_index, subst, suc}
 use Rattle.std.proofs.Common.{sym, true, ℕ, ◌*◌, ◌++◌, ◌<◌, ◌∙◌, ◌∷◌, ◌≡◌, ◌≤◌, ◌⊎◌}
 use Rattle.tlcore.specs.History.{Deed, Did, Done, Entry, Grows, IsOne, Nothing, One, Open, Will, deed, deed_in, deed_of, value, value_after}
-use Rattle.tlcore.specs.History.{value_over, version, version_after, version_over, written}
+use Rattle.tlcore.specs.History.{value_over, version, version_after, version_over}
+use Rattle.ranges.specs.Pairs.{written}
 use Rattle.tlcore.specs.Seats.{Checking, Held, Place, Read, Seat, Taking, find_held, is_held, number_at, reads_of, writes_of}
 use Rattle.tlcore.specs.Machine.{Cell, World, drawn, placed}
 use Rattle.tlcore.specs.Invariant.{CellsOk, Consistent, HeldOk, HeldShows, HistoryOk, ReadsOk, SeatOk, SettledOk, done_at}

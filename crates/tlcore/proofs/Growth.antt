@@ -1,8 +1,9 @@
 -- How histories grow, and that one version stays one.
 use Rattle.std.proofs.Common.{List, None, Option, Some, [], ap, arith, inl, inr, length, refl, slice_get, slice_index, suc, sym, zero, ℕ}
 use Rattle.std.proofs.Common.{◌++◌, ◌<◌, ◌∙◌, ◌∷◌, ◌≡◌, ◌≢◌, ◌≤◌, ◌⊎◌}
-use Rattle.tlcore.specs.History.{Did, Done, Entry, EntryGrows, Grows, IsOne, Nothing, One, Open, Status, Void, WasWritten, Will, deed}
-use Rattle.tlcore.specs.History.{deed_in, deed_of, settle, written}
+use Rattle.tlcore.specs.History.{Did, Done, Entry, EntryGrows, Grows, IsOne, Nothing, One, Open, Status, Void, IsVersionOf, Will, deed}
+use Rattle.tlcore.specs.History.{deed_in, deed_of, settle}
+use Rattle.ranges.specs.Pairs.{written}
 use Rattle.tlcore.proofs.Deeds.{did, value-same}
 use Rattle.tlcore.proofs.Lists.{get-append_left, get_within, length-append_one, same_or_not}
 use Rattle.tlcore.proofs.Settling.{get-settle_other, get-settle_same, length-settle}
@@ -84,7 +85,7 @@ deed_within [] c i x e = cc
 deed_within (d ∷ h) c zero x e = omega arith
 deed_within (d ∷ h) c (suc i) x e = let r : i < length h = deed_within h c i x e in omega arith
 
-pub WasWritten-kept : (g h : List Entry) (c v : ℕ) → Grows g h → WasWritten g c v → WasWritten h c v
+pub WasWritten-kept : (g h : List Entry) (c v : ℕ) → Grows g h → IsVersionOf g c v → IsVersionOf h c v
 WasWritten-kept g h c v r (inl p) = inl p
 WasWritten-kept g h c v r (inr p) =
     inr (p.0, p.1, p.2, deed-kept g h c p.0 r (deed_within g c p.0 p.1 p.3) (λ u e. apart u (sym p.3 ∙ e)) ∙ p.3)

@@ -1,6 +1,6 @@
 -- The half of each lock word is 0 or the number of a Done entry that writes the cell.
 use Rattle.std.proofs.Common.{Some, ap, arith, inl, inr, length, slice_get, suc, sym, ℕ, ◌∙◌, ◌≡◌, ◌⊎◌}
-use Rattle.tlcore.specs.History.{Did, WasWritten, Will, deed, value, version}
+use Rattle.tlcore.specs.History.{Did, IsVersionOf, Will, deed, value, version}
 use Rattle.tlcore.specs.Seats.{Seat}
 use Rattle.tlcore.specs.Machine.{Cell}
 use Rattle.tlcore.specs.Opacity.{Always, HalvesWereWritten}
@@ -18,7 +18,7 @@ halves o w I c v x f (inl e) =
     by (version-deed (deed w.history c) (length w.history)) b.0
   where
     by : (version w.history c ≡ 0) ⊎ ((i : ℕ) × (y : ℕ) × (version w.history c ≡ suc i) × (deed w.history c i ≡ Did y))
-        → v ≡ version w.history c → WasWritten w.history c v
+        → v ≡ version w.history c → IsVersionOf w.history c v
     by (inl p) q = inl (q ∙ p)
     by (inr p) q = inr (p.0, p.1, q ∙ p.2, p.3)
 halves o w I c v x f (inr e) =

@@ -4,7 +4,7 @@ use Rattle.std.proofs.Common.{sym, true, ℕ, ◌++◌, ◌==◌, ◌||◌, ◌�
 use Rattle.std.specs.List.{list_any}
 use Rattle.std.proofs.lemmas.List.Folds.{list_any-append}
 use Rattle.tlcore.specs.Seats.{Checking, Failing, Held, Idle, Loaded, Looked, Reading, Seat, Storing, Taking, Voiding, find_held, is_nil}
-use Rattle.tlcore.specs.Seats.{stored, without}
+use Rattle.tlcore.specs.Seats.{with_stored, without}
 use Rattle.tlcore.specs.Machine.{Action, World, begun, conflict, next, placed, saw}
 use Rattle.tlcore.specs.Schedules.{Event, run}
 use Rattle.tlcore.specs.Invariant.{Holds}
@@ -110,9 +110,9 @@ module _ (w : World) (s : ℕ) (t : Seat) where
   row_locks a v (check_conflicts {i} {c = c} {x} p d f m) =
       (conflict (saw t c x.lock) (Voiding i), refl, locks_none t (conflict (saw t c x.lock) (Voiding i)) refl (λ d h. h))
   row_locks a v (stores {i} {c} {k} {x} p g f) = (
-    record t { place = Storing i; held = stored c t.held },
+    record t { place = Storing i; held = with_stored c t.held },
     refl,
-    locks_none t (record t { place = Storing i; held = stored c t.held }) refl
+    locks_none t (record t { place = Storing i; held = with_stored c t.held }) refl
         (λ d h. let m = stored-find c d t.held h.0 h.1 in (m.0, m.1)),
   )
   row_locks a v (releases_done {i} {c} {k} {x} p g st f) =

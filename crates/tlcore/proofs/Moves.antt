@@ -3,7 +3,7 @@ use Rattle.std.proofs.Common.{List, Some, [], ap, false, if◌then◌else◌, in
 use Rattle.std.proofs.Common.{◌==◌, ◌∙◌, ◌∷◌, ◌≡◌, ◌≢◌, ◌⊎◌}
 use Rattle.tlcore.specs.History.{Entry, Void, settle}
 use Rattle.tlcore.specs.Seats.{Checking, Failing, Held, Idle, Loaded, Looked, Place, Reading, Seat, Storing, Taking, Voiding, find_held}
-use Rattle.tlcore.specs.Seats.{is_nil, stored, without}
+use Rattle.tlcore.specs.Seats.{is_nil, with_stored, without}
 use Rattle.tlcore.specs.Machine.{Action, Cell, World, begun, conflict, placed, saw, with_seat}
 use Rattle.tlcore.specs.Invariant.{Consistent, HeldOk, Holds, LockedAreHeld, PlaceOk}
 use Rattle.tlcore.proofs.Lists.{equal_numbers, get-set_cases, get-set_other, get-set_same, known, odd_even, other_numbers, same_or_not}
@@ -21,17 +21,17 @@ CellMoves w t z c y =
 abbrev pub Moves : World → ℕ → Seat → World → Type 0
 Moves w s t v = (z : Seat) × (v.seats ≡ slice_set w.seats s z) × ((c : ℕ) (y : Cell) → slice_get v.cells c ≡ Some y → CellMoves w t z c y)
 
-stored-held : (c d : ℕ) (ks : List Held) (k : Held) → find_held d ks ≡ Some k → (m : Held) × (find_held d (stored c ks) ≡ Some m)
+stored-held : (c d : ℕ) (ks : List Held) (k : Held) → find_held d ks ≡ Some k → (m : Held) × (find_held d (with_stored c ks) ≡ Some m)
 stored-held c d [] k e = cc
 stored-held c d (x ∷ ks) k e = go (known (x.cell == c)) (known (x.cell == d)) (stored-held c d ks k)
   where
     go : ((x.cell == c) ≡ true) ⊎ ((x.cell == c) ≡ false) → ((x.cell == d) ≡ true) ⊎ ((x.cell == d) ≡ false)
-        → (find_held d ks ≡ Some k → (m : Held) × (find_held d (stored c ks) ≡ Some m))
-        → (m : Held) × (find_held d (stored c (x ∷ ks)) ≡ Some m)
+        → (find_held d ks ≡ Some k → (m : Held) × (find_held d (with_stored c ks) ≡ Some m))
+        → (m : Held) × (find_held d (with_stored c (x ∷ ks)) ≡ Some m)
     go (inl a) (inl b) ih = (record x { stored = true }, rw a (rw b refl))
     go (inr a) (inl b) ih = (x, rw a (rw b refl))
-    go (inl a) (inr b) ih = let r : (m : Held) × (find_held d (stored c ks) ≡ Some m) = ih (rw b at e) in (r.0, rw a (rw b r.1))
-    go (inr a) (inr b) ih = let r : (m : Held) × (find_held d (stored c ks) ≡ Some m) = ih (rw b at e) in (r.0, rw a (rw b r.1))
+    go (inl a) (inr b) ih = let r : (m : Held) × (find_held d (with_stored c ks) ≡ Some m) = ih (rw b at e) in (r.0, rw a (rw b r.1))
+    go (inr a) (inr b) ih = let r : (m : Held) × (find_held d (with_stored c ks) ≡ Some m) = ih (rw b at e) in (r.0, rw a (rw b r.1))
 
 without-held : (c d : ℕ) (ks : List Held) (k : Held) → d ≢ c → find_held d ks ≡ Some k → find_held d (without c ks) ≡ Some k
 without-held c d [] k n e = e
@@ -136,17 +136,17 @@ module _ (o : List ℕ) (w : World) (s : ℕ) (t : Seat) (I : Consistent o w) (e
   row_moves a v (checks {i} {u} {c} {x} p d f m) = seat_moves (placed (saw t c x.lock) (Checking i (suc c))) (λ d h. h)
   row_moves a v (check_conflicts {i} {c = c} {x} p d f m) = seat_moves (conflict (saw t c x.lock) (Voiding i)) (λ d h. h)
   row_moves a v (stores {i} {c} {k} {x} p g f) = (
-    record t { place = Storing i; held = stored c t.held },
+    record t { place = Storing i; held = with_stored c t.held },
     refl,
     λ d y h. go d y
         (get-set_cases w.cells c d (record x { value = k.value }) y h),
   )
     where
-      on : (d : ℕ) → Holds t d → Holds (record t { place = Storing i; held = stored c t.held }) d
+      on : (d : ℕ) → Holds t d → Holds (record t { place = Storing i; held = with_stored c t.held }) d
       on d h = stored-held c d t.held h.0 h.1
 
       go : (d : ℕ) (y : Cell) → ((d ≡ c) × (y ≡ record x { value = k.value })) ⊎ ((d ≢ c) × (slice_get w.cells d ≡ Some y))
-          → CellMoves w t (record t { place = Storing i; held = stored c t.held }) d y
+          → CellMoves w t (record t { place = Storing i; held = with_stored c t.held }) d y
       go d y (inl q) = inl (x, ap (slice_get w.cells) q.0 ∙ f, ap (λ (b : Cell). b.lock) q.1, on d)
       go d y (inr q) = inl (y, q.1, refl, on d)
   row_moves a v (releases_done {i} {c} {k} {x} p g st f) =

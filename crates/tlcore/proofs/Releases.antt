@@ -1,7 +1,8 @@
 -- The release of a cell keeps what the parts say of each other: after its store, and after a conflict.
 use Rattle.std.proofs.Common.{List, None, Option, Some, ap, arith, inl, inr, length, refl, slice_get, slice_set, subst, suc, sym, true, ℕ}
 use Rattle.std.proofs.Common.{◌*◌, ◌<◌, ◌∙◌, ◌≡◌, ◌≢◌, ◌⊎◌}
-use Rattle.tlcore.specs.History.{Done, Entry, Grows, One, Open, Status, Void, Will, deed, deed_of, settle, value, written}
+use Rattle.tlcore.specs.History.{Done, Entry, Grows, One, Open, Status, Void, Will, deed, deed_of, settle, value}
+use Rattle.ranges.specs.Pairs.{written}
 use Rattle.tlcore.specs.Seats.{Failing, Held, Place, Seat, Storing, Voiding, find_held, number_at, without}
 use Rattle.tlcore.specs.Machine.{Cell, World, release}
 use Rattle.tlcore.specs.Invariant.{Consistent, HeldOk, HistoryOk, PlaceOk, SeatOk}

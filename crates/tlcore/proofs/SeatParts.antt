@@ -1,9 +1,10 @@
 -- The parts of a seat: its reads and the cells that it holds.
 use Rattle.std.proofs.Common.{List, None, Some, [], ap, arith, false, inl, inr, length, nat_le, refl, slice_get, slice_index, subst, sym}
 use Rattle.std.proofs.Common.{true, ℕ, ◌%◌, ◌/◌, ◌<◌, ◌==◌, ◌∙◌, ◌∷◌, ◌≡◌, ◌≢◌, ◌≤◌, ◌⊎◌}
-use Rattle.tlcore.specs.History.{Entry, IsOne, One, Will, deed, value, version, written}
+use Rattle.tlcore.specs.History.{Entry, IsOne, One, Will, deed, value, version}
+use Rattle.ranges.specs.Pairs.{written}
 use Rattle.tlcore.specs.Seats.{Checking, Failing, Held, Idle, Loaded, Looked, Place, Read, Reading, Seat, Storing, Taking, Voiding}
-use Rattle.tlcore.specs.Seats.{find_held, find_read, is_held, is_nil, number_at, passes, reads_of, stored, without, writes_of}
+use Rattle.tlcore.specs.Seats.{find_held, find_read, is_held, is_nil, number_at, passes, reads_of, with_stored, without, writes_of}
 use Rattle.tlcore.specs.Machine.{Cell}
 use Rattle.tlcore.specs.Invariant.{CellsOk, IsOld, PlaceOk, ReadsOk}
 use Rattle.tlcore.proofs.Deeds.{value-settled}
@@ -109,7 +110,7 @@ without-find c d (x ∷ ks) k e = go (known (x.cell == c)) (known (x.cell == d))
         (b.0, rw u b.1)
 
 -- what is held after a store: the same, or c with its mark
-pub stored-find : (c d : ℕ) (ks : List Held) (k : Held) → find_held d (stored c ks) ≡ Some k
+pub stored-find : (c d : ℕ) (ks : List Held) (k : Held) → find_held d (with_stored c ks) ≡ Some k
     → (m : Held) × (find_held d ks ≡ Some m) × (k.word ≡ m.word) × (k.value ≡ m.value) × (d ≢ c → k ≡ m)
 stored-find c d [] k e = cc
 stored-find c d (x ∷ ks) k e = go (known (x.cell == c)) (known (x.cell == d)) (stored-find c d ks k)
@@ -118,11 +119,11 @@ stored-find c d (x ∷ ks) k e = go (known (x.cell == c)) (known (x.cell == d)) 
     Res zs = (m : Held) × (find_held d zs ≡ Some m) × (k.word ≡ m.word) × (k.value ≡ m.value) × (d ≢ c → k ≡ m)
 
     go : ((x.cell == c) ≡ true) ⊎ ((x.cell == c) ≡ false) → ((x.cell == d) ≡ true) ⊎ ((x.cell == d) ≡ false)
-        → (find_held d (stored c ks) ≡ Some k → (m : Held) × (find_held d ks ≡ Some m) × (k.word ≡ m.word) × (k.value ≡ m.value)
+        → (find_held d (with_stored c ks) ≡ Some k → (m : Held) × (find_held d ks ≡ Some m) × (k.word ≡ m.word) × (k.value ≡ m.value)
         × (d ≢ c → k ≡ m))
         → (m : Held) × (find_held d (x ∷ ks) ≡ Some m) × (k.word ≡ m.word) × (k.value ≡ m.value) × (d ≢ c → k ≡ m)
     go (inl t) (inl u) ih =
-        let q : find_held d (record x { stored = true } ∷ stored c ks) ≡ Some k = rw t at e in
+        let q : find_held d (record x { stored = true } ∷ with_stored c ks) ≡ Some k = rw t at e in
         let r : Some (record x { stored = true }) ≡ Some k = rw u at q in
         let s : record x { stored = true } ≡ k = cc in (
           x,
@@ -133,18 +134,18 @@ stored-find c d (x ∷ ks) k e = go (known (x.cell == c)) (known (x.cell == d)) 
               (n (sym (equal_numbers x.cell d u) ∙ equal_numbers x.cell c t)),
         )
     go (inl t) (inr u) ih =
-        let q : find_held d (record x { stored = true } ∷ stored c ks) ≡ Some k = rw t at e in
-        let r : find_held d (stored c ks) ≡ Some k = rw u at q in
+        let q : find_held d (record x { stored = true } ∷ with_stored c ks) ≡ Some k = rw t at e in
+        let r : find_held d (with_stored c ks) ≡ Some k = rw u at q in
         let b : (m : Held) × (find_held d ks ≡ Some m) × (k.word ≡ m.word) × (k.value ≡ m.value) × (d ≢ c → k ≡ m) = ih r in
         (b.0, rw u b.1, b.2, b.3, b.4)
     go (inr t) (inl u) ih =
-        let q : find_held d (x ∷ stored c ks) ≡ Some k = rw t at e in
+        let q : find_held d (x ∷ with_stored c ks) ≡ Some k = rw t at e in
         let r : Some x ≡ Some k = rw u at q in
         let s : x ≡ k = cc in
         (x, rw u refl, ap (λ (y : Held). y.word) (sym s), ap (λ (y : Held). y.value) (sym s), λ n. sym s)
     go (inr t) (inr u) ih =
-        let q : find_held d (x ∷ stored c ks) ≡ Some k = rw t at e in
-        let r : find_held d (stored c ks) ≡ Some k = rw u at q in
+        let q : find_held d (x ∷ with_stored c ks) ≡ Some k = rw t at e in
+        let r : find_held d (with_stored c ks) ≡ Some k = rw u at q in
         let b : (m : Held) × (find_held d ks ≡ Some m) × (k.word ≡ m.word) × (k.value ≡ m.value) × (d ≢ c → k ≡ m) = ih r in
         (b.0, rw u b.1, b.2, b.3, b.4)
 

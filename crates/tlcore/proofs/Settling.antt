@@ -1,7 +1,8 @@
 -- Histories in which an entry is settled.
 use Rattle.std.proofs.Common.{List, Some, [], ap, arith, inl, inr, length, refl, slice_get, slice_set, suc, sym, zero, ℕ, ◌∷◌, ◌≡◌, ◌≢◌}
 use Rattle.std.proofs.Common.{◌≤◌, ◌⊎◌}
-use Rattle.tlcore.specs.History.{Entry, Status, deed, deed_in, deed_of, settle, written}
+use Rattle.tlcore.specs.History.{Entry, Status, deed, deed_in, deed_of, settle}
+use Rattle.ranges.specs.Pairs.{written}
 
 pub length-settle : (h : List Entry) (i : ℕ) (s : Status) → length (settle h i s) ≡ length h
 length-settle [] i s = refl

@@ -2,7 +2,7 @@
 use Rattle.std.proofs.Common.{Bool, List, None, Some, ap, false, if◌then◌else◌, inl, inr, refl, slice_get, slice_set, subst, suc, sym, true}
 use Rattle.std.proofs.Common.{ℕ, ◌*◌, ◌==◌, ◌∙◌, ◌∷◌, ◌≡◌, ◌≢◌, ◌⊎◌}
 use Rattle.tlcore.specs.Seats.{Checking, Failing, Held, Idle, Loaded, Looked, Place, Read, Reading, Seat, Storing, Taking, Voiding}
-use Rattle.tlcore.specs.Seats.{all_below, find_held, find_read, is_nil, stored, without}
+use Rattle.tlcore.specs.Seats.{all_below, find_held, find_read, is_nil, with_stored, without}
 use Rattle.tlcore.specs.Machine.{Action, Begin, Cell, World, conflict, placed, saw}
 use Rattle.tlcore.specs.Conflicts.{HeldByOther}
 use Rattle.tlcore.specs.Invariant.{Consistent, IsOld}
@@ -174,8 +174,11 @@ module _ (o : List ℕ) (L : ℕ) (w : World) (s c : ℕ) (t : Seat) (I : Consis
       (placed (saw t d x.lock) (Checking i (suc d)), after_seat (placed (saw t d x.lock) (Checking i (suc d))), st)
   own_step b v n (check_conflicts {i} {c = d} {x} p q f m) =
       (conflict (saw t d x.lock) (Voiding i), after_seat (conflict (saw t d x.lock) (Voiding i)), tt)
-  own_step b v n (stores {i} {c = d} p g f) =
-      (record t { place = Storing i; held = stored d t.held }, after_seat (record t { place = Storing i; held = stored d t.held }), tt)
+  own_step b v n (stores {i} {c = d} p g f) = (
+    record t { place = Storing i; held = with_stored d t.held },
+    after_seat (record t { place = Storing i; held = with_stored d t.held }),
+    tt,
+  )
   own_step b v n (releases_done {i} {c = d} {k} {x} p g st f) = (
     record t { place = (if is_nil (without d t.held) then Idle else t.place); held = without d t.held },
     after_seat (record t { place = (if is_nil (without d t.held) then Idle else t.place); held = without d t.held }),

@@ -2,8 +2,9 @@
 use Rattle.std.proofs.Common.{List, None, Option, Some, [], ap, arith, inl, inr, length, refl, slice_get, slice_index, slice_set, subst, suc, sym, true, ℕ, ◌*◌, ◌<◌, ◌∙◌, ◌∷◌, ◌≡◌, ◌≢◌, ◌≤◌, ◌⊎◌}
 use Rattle.std.proofs.lemmas.Bool.{true≢false}
 use Rattle.std.proofs.lemmas.Option.{none-some}
-use Rattle.tlcore.specs.History.{Did, Done, Entry, Grows, Nothing, One, Status, Will, deed, deed_of, settle, value, value_after, version, version_after, written}
-use Rattle.tlcore.specs.Seats.{Checking, Held, Place, Read, Seat, Storing, all_settled, find_held, is_settled, number_at, reads_of, stored}
+use Rattle.tlcore.specs.History.{Did, Done, Entry, Grows, Nothing, One, Status, Will, deed, deed_of, settle, value, value_after, version, version_after}
+use Rattle.ranges.specs.Pairs.{written}
+use Rattle.tlcore.specs.Seats.{Checking, Held, Place, Read, Seat, Storing, all_settled, find_held, is_settled, number_at, reads_of, with_stored}
 use Rattle.tlcore.specs.Machine.{Cell, World, store}
 use Rattle.tlcore.specs.Invariant.{CellsOk, CheckingOk, Consistent, HeldOk, HistoryOk, IsOld, PlaceOk, SeatOk, SettledOk}
 use Rattle.tlcore.proofs.AfterEvent.{Consistent-step, Others, others-own}
@@ -159,7 +160,7 @@ module _ (o : List ℕ) (w : World) (s : ℕ) (t : Seat) (i u c : ℕ) (k : Held
           let l : j < length w.history = get_within w.history j d b.1 in
           One-kept o w.history later j d.reads first_grows (omega arith) (I.history j d b.1 st)
 
-  store_seat : SeatOk o xs later (record t { place = Storing i; held = stored c t.held })
+  store_seat : SeatOk o xs later (record t { place = Storing i; held = with_stored c t.held })
   store_seat =
       record {
         place = (record (r.entry) { status = Done }, get-settle_same w.history i Done r.entry r.here, refl);
@@ -217,7 +218,7 @@ module _ (o : List ℕ) (w : World) (s : ℕ) (t : Seat) (i u c : ℕ) (k : Held
 
   pub first_store_keeps : Consistent o (store w s t i c k x)
   first_store_keeps =
-      Consistent-step o w s t (record t { place = Storing i; held = stored c t.held }) xs later w.clock t.held (Some i) I e
+      Consistent-step o w s t (record t { place = Storing i; held = with_stored c t.held }) xs later w.clock t.held (Some i) I e
       store_frame (others o w s t I e (Some i) (ap number_at p)) (I.clock ∙ sym len) store_cells store_history store_seat
       (λ d l a. let b : (m : Held) × (find_held d t.held ≡ Some m) × (l.word ≡ m.word) × (l.value ≡ m.value) × (d ≢ c → l ≡ m) =
       stored-find c d t.held l a in (b.0, b.1))

@@ -1,7 +1,7 @@
 -- A further store of a value keeps what the parts say of each other.
 use Rattle.std.proofs.Common.{List, Option, Some, ap, arith, inl, inr, slice_get, slice_set, subst, suc, sym, ℕ, ◌∙◌, ◌≡◌, ◌≢◌, ◌⊎◌}
 use Rattle.tlcore.specs.History.{Done, Entry, Will, deed, settle, value, version}
-use Rattle.tlcore.specs.Seats.{Held, Place, Seat, Storing, find_held, number_at, stored}
+use Rattle.tlcore.specs.Seats.{Held, Place, Seat, Storing, find_held, number_at, with_stored}
 use Rattle.tlcore.specs.Machine.{Cell, World, store}
 use Rattle.tlcore.specs.Invariant.{CellsOk, Consistent, HeldOk, IsOld, PlaceOk, SeatOk}
 use Rattle.tlcore.proofs.AfterEvent.{Consistent-step, Others, others-own}
@@ -48,7 +48,7 @@ module _ (o : List ℕ) (w : World) (s : ℕ) (t : Seat) (i c : ℕ) (k : Held) 
           absurd (odd_even z.2.old.0 v (omega (arith, l, j, z.2.old.1)))
       go (inr n) = I.cells d v y n.1 j
 
-  again_seat : SeatOk o xs w.history (record t { place = Storing i; held = stored c t.held })
+  again_seat : SeatOk o xs w.history (record t { place = Storing i; held = with_stored c t.held })
   again_seat =
       record {
         place = r;
@@ -98,11 +98,11 @@ module _ (o : List ℕ) (w : World) (s : ℕ) (t : Seat) (i c : ℕ) (k : Held) 
         seats = slice_set w.seats s (record t {
           place =
               Storing i;
-          held = stored c t.held;
+          held = with_stored c t.held;
         });
         history = h;
       })) (sym again_same)
-      (Consistent-step o w s t (record t { place = Storing i; held = stored c t.held }) xs w.history w.clock t.held (Some i) I e
+      (Consistent-step o w s t (record t { place = Storing i; held = with_stored c t.held }) xs w.history w.clock t.held (Some i) I e
       again_frame others I.clock again_cells I.history again_seat
       (λ d l a. let b : (m : Held) × (find_held d t.held ≡ Some m) × (l.word ≡ m.word) × (l.value ≡ m.value) × (d ≢ c → l ≡ m) =
       stored-find c d t.held l a in (b.0, b.1))

@@ -1,7 +1,7 @@
 -- The take of a cell, and one that is lost, keep what the parts say of each other.
 use Rattle.std.proofs.Common.{List, None, Some, ap, arith, false, if◌then◌else◌, inl, inr, length, refl, slice_get, slice_set, subst, suc, sym, true, ℕ, ◌*◌, ◌==◌, ◌∙◌, ◌∷◌, ◌≡◌, ◌≢◌, ◌⊎◌}
 use Rattle.std.proofs.lemmas.Option.{none-some}
-use Rattle.tlcore.specs.History.{Did, WasWritten, Will, deed, value, version}
+use Rattle.tlcore.specs.History.{Did, IsVersionOf, Will, deed, value, version}
 use Rattle.tlcore.specs.Seats.{Failing, Held, Idle, Seat, Taking, find_held, is_nil, number_at}
 use Rattle.tlcore.specs.Machine.{Cell, World, conflict, saw, taken, with_seat}
 use Rattle.tlcore.specs.Invariant.{CellsOk, Consistent, HeldOk, IsOld, SeatOk, done_at}
@@ -28,7 +28,7 @@ module _ (o : List ℕ) (w : World) (s : ℕ) (t : Seat) (c v word : ℕ) (x : C
 
   written_at : (v : ℕ) → word ≡ 2 * v
       → (version w.history c ≡ 0) ⊎ ((i : ℕ) × (x : ℕ) × (version w.history c ≡ suc i) × (deed w.history c i ≡ Did x))
-      → WasWritten w.history c v
+      → IsVersionOf w.history c v
   written_at v a (inl p) = inl (omega (arith, a, free_cell.0, p))
   written_at v a (inr p) = inr (p.0, p.1, omega (arith, a, free_cell.0, p.2), p.3)
 

@@ -2,9 +2,10 @@
 --
 -- TL2 is Dice, Shalev, Shavit, "Transactional Locking II" (DISC 2006). A number is its write version wv (section 2.2,
 -- write transactions, step 4). That a number is used up where its run fails after the draw is this project's own rule.
-use Rattle.std.specs.Prelude.{◌≡◌, ◌≢◌, ℕ, zero, suc, ◌<◌, ◌≤◌, Bool, true, false, ◌==◌, if◌then◌else◌, Option, Some, None, List, [], ◌∷◌}
+use Rattle.std.specs.Prelude.{◌≡◌, ◌≢◌, ℕ, zero, suc, ◌<◌, ◌≤◌, Bool, true, false, Option, Some, None, List, [], ◌∷◌}
 use Rattle.std.specs.Prelude.{length, slice_get, slice_index, ◌⊎◌}
 use Rattle.std.specs.Prelude.{option_and_then}
+use Rattle.ranges.specs.Pairs.{written}
 pub use Rattle.tlcore.specs.declared.entries.Status.{Status}
 pub use Rattle.tlcore.specs.declared.entries.Status.TheVariants.{Open, Void, Done}
 
@@ -42,11 +43,6 @@ pub data Deed : Type 0 where
   Nothing : Deed
   Will : (value : ℕ) → Deed
   Did : (value : ℕ) → Deed
-
--- the value that is written to the cell c
-abbrev pub written : ℕ → List (ℕ × ℕ) → Option ℕ
-written c [] = None
-written c (p ∷ ps) = if p.0 == c then Some p.1 else written c ps
 
 -- what an entry of this status does to a cell, to which it writes this value or none
 abbrev pub deed_of : Status → Option ℕ → Deed
@@ -99,8 +95,8 @@ abbrev pub value : List ℕ → List Entry → ℕ → ℕ
 value o h c = value_after (deed h c) (slice_index o c) (length h)
 
 -- v is 0, or the number of a Done entry that writes the cell c
-abbrev pub WasWritten : List Entry → ℕ → ℕ → Type 0
-WasWritten h c v = (v ≡ 0) ⊎ ((i : ℕ) × (x : ℕ) × (v ≡ wv i) × (deed h c i ≡ Did x))
+abbrev pub IsVersionOf : List Entry → ℕ → ℕ → Type 0
+IsVersionOf h c v = (v ≡ 0) ⊎ ((i : ℕ) × (x : ℕ) × (v ≡ wv i) × (deed h c i ≡ Did x))
 
 -- ---- one version
 

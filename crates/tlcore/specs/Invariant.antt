@@ -1,7 +1,7 @@
 -- The invariant: what holds in the opening world and is kept by each lawful event. docs/OPACITY.md gives the reason for each clause.
 -- o are the opening values, xs the cells, h the history, c a cell, t a seat.
 use Rattle.std.specs.Prelude.{◌≡◌, ◌≢◌, ℕ, suc, ◌*◌, ◌≤◌, true, false, Option, Some, None, List, [], ◌∷◌, length, slice_get}
-use Rattle.tlcore.specs.History.{Open, Done, Entry, wv, Will, deed, version, value, WasWritten, IsOne, One}
+use Rattle.tlcore.specs.History.{Open, Done, Entry, wv, Will, deed, version, value, IsVersionOf, IsOne, One}
 use Rattle.tlcore.specs.Seats.{Read, Held, Place, Idle, Reading, Looked, Loaded, Taking, Checking, Storing, Failing, Voiding, Seat}
 use Rattle.tlcore.specs.Seats.{number_at, reads_of, find_held, writes_of, is_settled}
 use Rattle.tlcore.specs.Machine.{Cell, World}
@@ -55,7 +55,7 @@ pub record HeldOk (o : List ℕ) (h : List Entry) (rv : ℕ) (p : Place) (c : �
   pub old : IsOld k.word rv
   pub shows : HeldShows o h (done_at p) c k x
   -- the half of the word seen is 0 or the number of a Done entry that writes the cell
-  pub was : (v : ℕ) → k.word ≡ 2 * v → WasWritten h c v
+  pub was : (v : ℕ) → k.word ≡ 2 * v → IsVersionOf h c v
   -- no Open entry but the run's own writes the cell
   pub mine : (i v : ℕ) → deed h c i ≡ Will v → number_at p ≡ Some i
 

@@ -6,7 +6,7 @@ use Rattle.std.specs.Prelude.{ℕ, suc, ◌*◌, Bool, true, false, not, ◌&&�
 use Rattle.std.specs.Prelude.{slice_get, slice_set}
 use Rattle.tlcore.specs.History.{Open, Void, Done, Entry, wv, settle}
 use Rattle.tlcore.specs.Seats.{Held, Place, Idle, Reading, Looked, Loaded, Taking, Checking, Storing, Failing, Voiding, Seat, passes}
-use Rattle.tlcore.specs.Seats.{find_read, reads_of, find_held, is_nil, all_below, without, stored, writes_of, all_settled, is_due, is_next}
+use Rattle.tlcore.specs.Seats.{find_read, reads_of, find_held, is_nil, all_below, without, with_stored, writes_of, all_settled, is_due, is_next}
 pub use Rattle.tlcore.specs.declared.cells.Cell.{Cell}
 pub use Rattle.tlcore.specs.declared.actions.Action.{Action}
 pub use Rattle.tlcore.specs.declared.actions.Action.TheVariants.{Begin, Look, Load, Relook, Take, Draw, Check, Store, Release}
@@ -107,7 +107,7 @@ abbrev pub store : World → ℕ → Seat → ℕ → ℕ → Held → Cell → 
 store w s t i c k x =
     record w {
       cells = slice_set w.cells c (record x { value = k.value });
-      seats = slice_set w.seats s (record t { place = Storing i; held = stored c t.held });
+      seats = slice_set w.seats s (record t { place = Storing i; held = with_stored c t.held });
       history = settle w.history i Done;
     }
 

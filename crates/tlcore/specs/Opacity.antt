@@ -1,7 +1,7 @@
 -- Opacity: in every schedule what a run has read is one version, now and later, and the words show the history.
 -- o are the opening values, `now` is reached from the opening by a schedule, and `later` from `now`.
 use Rattle.std.specs.Prelude.{◌≡◌, ◌≢◌, ℕ, suc, ◌*◌, Some, List, slice_get, ◌⊎◌}
-use Rattle.tlcore.specs.History.{Done, Entry, Will, deed, version, value, WasWritten, One, Grows}
+use Rattle.tlcore.specs.History.{Done, Entry, Will, deed, version, value, IsVersionOf, One, Grows}
 use Rattle.tlcore.specs.Seats.{Seat, reads_of, number_at}
 use Rattle.tlcore.specs.Machine.{Cell, Action, World, next}
 use Rattle.tlcore.specs.Schedules.{Event, run, start}
@@ -57,4 +57,4 @@ StoresAreDone before s after later =
 -- the half of each lock word, free or locked, is 0 or the number of a Done entry that writes the cell
 abbrev pub HalvesWereWritten : List ℕ → World → Type 0
 HalvesWereWritten o w =
-    (c v : ℕ) (x : Cell) → slice_get w.cells c ≡ Some x → (x.lock ≡ 2 * v) ⊎ (x.lock ≡ suc (2 * v)) → WasWritten w.history c v
+    (c v : ℕ) (x : Cell) → slice_get w.cells c ≡ Some x → (x.lock ≡ 2 * v) ⊎ (x.lock ≡ suc (2 * v)) → IsVersionOf w.history c v

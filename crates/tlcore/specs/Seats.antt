@@ -105,11 +105,11 @@ without c ks = filter (λ k. not (k.cell == c)) ks
 
 -- the value is stored, where this is the cell c
 abbrev pub marked : ℕ → Held → Held
-marked c k = if k.cell == c then record k { stored = true } else k
+marked c k = if k.cell == c then record k { with_stored = true } else k
 
 -- the value of the cell c is stored
-abbrev pub stored : ℕ → List Held → List Held
-stored c ks = map (marked c) ks
+abbrev pub with_stored : ℕ → List Held → List Held
+with_stored c ks = map (marked c) ks
 
 -- the writes as cells and values
 abbrev pub writes_of : List Held → List (ℕ × ℕ)

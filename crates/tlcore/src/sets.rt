@@ -3,7 +3,7 @@
 
 ghost use Rattle.std.specs.Prelude.{◌≡◌, IfOk};
 ghost use Rattle.tlcore.specs.Seats.{passes as passes_of, find_read as find_read_of, reads_of};
-ghost use Rattle.tlcore.specs.Seats.{find_held as find_held_of, is_held as is_held_of, all_below as all_below_of, without as without_of, stored as stored_of, writes_of};
+ghost use Rattle.tlcore.specs.Seats.{find_held as find_held_of, is_held as is_held_of, all_below as all_below_of, without as without_of, with_stored, writes_of};
 ghost use Rattle.tlcore.specs.Seats.{all_settled as all_settled_of, settled_below as settled_below_of};
 
 use crate::seats::{Held, Read};
@@ -70,7 +70,7 @@ pub fn without(alloc: Global, cell: usize, held: &[Held]) -> Result<Vec<Held>, A
 
 /// What is held, the cell's value being stored.
 pub fn stored(alloc: Global, cell: usize, held: &[Held]) -> Result<Vec<Held>, AllocError>
-    ensures { IfOk result (λ v. v.items ≡ stored_of cell held.now) }
+    ensures { IfOk result (λ v. v.items ≡ with_stored cell held.now) }
 {
     held.iter()
         .map(|k| if k.cell == cell {

@@ -11,7 +11,7 @@ use Rattle.atomic_table.specs.Table.{step, Allows}
 use Rattle.atomic_table.proofs.Lists.{exchanged}
 use Rattle.tlcore.specs.History.{Entry, wv, settle}
 use Rattle.tlcore.specs.Seats.{Seat, number_at, passes, reads_of, writes_of, find_read, find_held, all_below, all_settled, is_due, is_next}
-use Rattle.tlcore.specs.Seats.{is_nil, without, stored as stored_in}
+use Rattle.tlcore.specs.Seats.{is_nil, without, with_stored}
 use Rattle.tlcore.specs.Machine.{World, with_seat, placed, conflict, saw, taken, take_cell, drawn, check, store, release}
 use Rattle.tlcore.specs.Invariant.{PlaceOk, CheckingOk}
 use Rattle.tlcore.specs.declared.actions.Action.TheVariants.{Take, Draw, Check, Store, Release}
@@ -399,7 +399,7 @@ module _ {S N : Type 0} (terms : Terms S N) (setting : S) (base : List ℕ) (roo
       (named_after terms setting base room ranges ws vs r c (record x { value = k.value }) names) stays refl
       (value_is_set ws w r.words_are c k.value x f) (length-slice_set w.cells c (record x { value = k.value })) len calls told
       (λ j a. inl (sym number ∙ a)) (λ j a. number ∙ a) (λ d o a b. absurd (not_looking (Storing i) refl d o a b))
-      (λ _ b. ap (stored_in c) b))
+      (λ _ b. ap (with_stored c) b))
 
   pub stores : (opened : Start) (slots id c i value : ℕ) (k : Held) (me : Mine S N) (y : S) → me.0.setting ≡ Some y → c < length me.0.base
       → ((upto : ℕ) × (me.0.seat.place ≡ Checking i upto) × ((is_next me.0.seat i || all_settled me.0.seat.held upto

@@ -3,7 +3,8 @@ use Rattle.std.proofs.Common.{◌≡◌, ◌≢◌, ℕ, zero, suc, ◌⊎◌, i
 use Rattle.std.proofs.Common.{slice_get, slice_set, slice_index, sym, refl, ap, ◌∙◌, subst, arith}
 use mathlib.Core.Option.{some}
 use lib.ListN.{get_elem?}
-use Rattle.tlcore.specs.History.{Entry, Deed, Nothing, Will, Did, wv, written, value_over, version_over, value_after, version_after, deed}
+use Rattle.tlcore.specs.History.{Entry, Deed, Nothing, Will, Did, wv, value_over, version_over, value_after, version_after, deed}
+use Rattle.ranges.specs.Pairs.{written}
 use Rattle.tlcore.specs.History.{deed_of, version, value}
 use Rattle.tlcore.specs.Seats.{Seat, number_at, find_held}
 use Rattle.tlcore.specs.Invariant.{PlaceOk, HeldOk, HeldShows, CheckingOk, done_at}

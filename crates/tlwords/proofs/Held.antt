@@ -4,7 +4,7 @@ use Rattle.std.proofs.Common.{nat_le, ◌||◌, ◌&&◌, not, if◌then◌else�
 use Rattle.std.proofs.lemmas.Bool.Decides.{nat_tests}
 use mathlib.Core.Logic.{dite}
 use native.Mathlib.Decide.{ℕ_discrete}
-use Rattle.tlcore.specs.Seats.{find_held, is_held, all_below, without, stored, writes_of, marked}
+use Rattle.tlcore.specs.Seats.{find_held, is_held, all_below, without, with_stored, writes_of, marked}
 use Rattle.tlcore.proofs.Lists.{option_known}
 use Rattle.tlcore.proofs.Deeds.{up_to}
 use Rattle.tlcore.specs.declared.seats.Held.{Held}
@@ -170,7 +170,7 @@ module _ (slots : List Slot) where
       record { cell = n; word = word_or_zero (word_seen slots n); value = v; stored = b } in k) q
 
   -- the cell c is stored, and the kept ones below it were before
-  pub held_stored : (d low n c : ℕ) → d ≤ c → NoneKept d c → stored c (held_in slots d low n) ≡ held_in slots (suc c) low n
+  pub held_stored : (d low n c : ℕ) → d ≤ c → NoneKept d c → with_stored c (held_in slots d low n) ≡ held_in slots (suc c) low n
   held_stored d low zero c l unkept = refl
   held_stored d low (suc n) c l unkept = go (steps low n) (held_stored d low n c l unkept)
     where
@@ -189,12 +189,12 @@ module _ (slots : List Slot) where
           ∙ same_marks d (suc c) n v (⊎_elim (λ (m : d ≤ n). lt_no n d m ∙ sym (lt_no n (suc c) (above v e other m)))
           (λ (m : n < d). lt_yes n d m ∙ sym (lt_yes n (suc c) (omega arith))) (le_cases d n)))
 
-      go : Steps low n → stored c (held_in slots d low n) ≡ held_in slots (suc c) low n
-          → stored c (held_in slots d low (suc n)) ≡ held_in slots (suc c) low (suc n)
+      go : Steps low n → with_stored c (held_in slots d low n) ≡ held_in slots (suc c) low n
+          → with_stored c (held_in slots d low (suc n)) ≡ held_in slots (suc c) low (suc n)
       go (inl s) ih =
-          ap (stored c) (step_some d low n s.0 s.1 s.2)
+          ap (with_stored c) (step_some d low n s.0 s.1 s.2)
           ∙ ((λ j. mark s.0 s.1 j ∷ ih j) ∙ sym (step_some (suc c) low n s.0 s.1 s.2))
-      go (inr s) ih = ap (stored c) (step_not d low n s) ∙ (ih ∙ sym (step_not (suc c) low n s))
+      go (inr s) ih = ap (with_stored c) (step_not d low n s) ∙ (ih ∙ sym (step_not (suc c) low n s))
 
   -- the cell c is released, and the kept ones below it were before
   pub held_without : (d low n c : ℕ) → low ≤ c → NoneKept low c → without c (held_in slots d low n) ≡ held_in slots d (suc c) n

@@ -6,7 +6,7 @@ use native.Mathlib.Decide.{ℕ_discrete, dec_lt}
 use lib.ListN.{get_elem?}
 use Rattle.std.proofs.lemmas.List.{set-get_or}
 use Rattle.atomic_table.specs.Table.{step, Allows}
-use Rattle.tlcore.specs.History.{Entry, WasWritten, Will, deed, version, version_after, value}
+use Rattle.tlcore.specs.History.{Entry, IsVersionOf, Will, deed, version, version_after, value}
 use Rattle.tlcore.specs.Seats.{Seat, number_at, passes}
 use Rattle.tlcore.specs.Machine.{World, with_seat, begun, placed, conflict, saw, look, load, relook}
 use Rattle.tlcore.specs.Invariant.{Invariant, IsOld}
@@ -105,7 +105,7 @@ module _ {S N : Type 0} (terms : Terms S N) (setting : S) (base : List ℕ) (roo
   -- the half of a lock word is 0 or the number of a Done entry that writes the cell
   pub half_written : (ranges : List Range) (ws : List ℕ) (vs : List (View S N)) (r : Rule terms setting base room ranges ws vs) (c n : ℕ)
       (x : Cell)
-      → slice_get (r.world).cells c ≡ Some x → n ≡ x.lock → WasWritten (r.world).history c (n / 2)
+      → slice_get (r.world).cells c ≡ Some x → n ≡ x.lock → IsVersionOf (r.world).history c (n / 2)
   half_written ranges ws vs r c n x f is =
       halves base r.world r.invariant c (n / 2) x f
       (⊎_elim (λ (e : n ≡ 2 * (n / 2)). inl (sym is ∙ e)) (λ (e : n ≡ suc (2 * (n / 2))). inr (sym is ∙ e)) (half_of n))
@@ -283,7 +283,7 @@ module _ {S N : Type 0} (terms : Terms S N) (setting : S) (base : List ℕ) (roo
       (λ _ b. if_known (λ (z : Seat). z.held ≡ []) (n == word) reads (conflict (saw t c n) Idle) (λ _. b) (λ _. b)) u refl in
       let same : (d other found : ℕ) → t.place ≡ Loaded d other found → Loaded c word value ≡ Loaded d other found =
       λ d other found a. sym p ∙ a in
-      let half : WasWritten w.history c (n / 2) = half_written ranges ws vs r c n x.0 x.1 is in
+      let half : IsVersionOf w.history c (n / 2) = half_written ranges ws vs r c n x.0 x.1 is in
       let fresh : IsFresh w.history t.rv c word = f.look c word value (inr p) in
       let miss : n ≢ word → n % 2 ≡ 0 → t.rv < n / 2 = λ other even.
       let b : (n / 2 ≡ version w.history c) × ((i u : ℕ) → deed w.history c i ≡ Will u → ⊥) =
@@ -300,7 +300,7 @@ module _ {S N : Type 0} (terms : Terms S N) (setting : S) (base : List ℕ) (roo
         q.0,
         record {
           sees = q.1;
-          written = λ d other found a. subst (λ (k : ℕ). WasWritten w.history k (n / 2))
+          written = λ d other found a. subst (λ (k : ℕ). IsVersionOf w.history k (n / 2))
               (loaded_same c word value d other found (same d other found a)).0 half;
           missed = λ d other found a ne even. miss (λ k. ne (k ∙ (loaded_same c word value d other found (same d other found a)).1)) even;
           is = λ d other found a. is_at d other found (same d other found a) v h n;

@@ -5,7 +5,7 @@ use mathlib.Core.Logic.{dite}
 use native.Mathlib.Decide.{ℕ_discrete}
 use Rattle.atomic_table.specs.Seated.{TableId}
 use Rattle.atomic_table.specs.declared.shared.Seat.{Seat as TableSeat}
-use Rattle.tlcore.specs.History.{WasWritten}
+use Rattle.tlcore.specs.History.{IsVersionOf}
 use Rattle.tlcore.specs.Seats.{Seat, passes, is_reading, is_resting}
 use Rattle.tlcore.specs.Machine.{placed, conflict, saw}
 use Rattle.tlcore.specs.declared.seats.Place.TheVariants.{Idle, Reading, Looked, Loaded}
@@ -49,7 +49,7 @@ module _ {S N : Type 0} (terms : Terms S N) (c place : ℕ) (m0 m1 : Mine S N) (
     (p : Looks terms c m0 a m1) where
   -- a look found this word and ended the run
   abbrev Stops : ℕ → Mine S N → Type 0
-  Stops k r = Sees terms m0.0 r.0 × WasWritten r.0.seen.history c (k / 2) × HasCause place k
+  Stops k r = Sees terms m0.0 r.0 × IsVersionOf r.0.seen.history c (k / 2) × HasCause place k
       × (r.0 ≡ record m0.0 { seen = r.0.seen; seat = conflict (saw m0.0.seat c k) Idle })
 
   -- the first look doesn't pass
@@ -185,7 +185,7 @@ module _ {S N : Type 0} (terms : Terms S N) (table : TableId) (cells words count
         p.me.0.taken p.me.0.added is s.sound slots true full refl refl refl
         (still_kept mode p.me.0.seat (conflict (saw p.me.0.seat c word) Idle) slots refl i.kept) refl i.knows.full
 
-    pub stop_tells : (before : Option ℕ) → WasWritten q.me.0.seen.history c (word / 2) → HasCause place word → word_seen slots c ≡ before
+    pub stop_tells : (before : Option ℕ) → IsVersionOf q.me.0.seen.history c (word / 2) → HasCause place word → word_seen slots c ≡ before
         → HasStopped terms c (record { cell = c; word = word; before = before }) (going_of p.table_id p.me.0 place mode over slots)
         (going_of q.table_id q.me.0 place mode (Some (record { cell = c; word = word; before = before })) slots)
     stop_tells before found cause seen =

@@ -1,7 +1,7 @@
 -- A run that stores its values, one after another.
 use Rattle.std.proofs.Common.{◌≡◌, ◌≢◌, ℕ, suc, ◌+◌, ◌<◌, ◌≤◌, ◌⊎◌, inl, inr, ⊎_elim, ◌||◌, true, Some, List, [], ◌∷◌, ◌++◌, length, sym}
 use Rattle.std.proofs.Common.{refl, ap, ◌∙◌, subst, arith}
-use Rattle.tlcore.specs.Seats.{find_held, is_next, all_settled, stored, reads_of, writes_of}
+use Rattle.tlcore.specs.Seats.{find_held, is_next, all_settled, with_stored, reads_of, writes_of}
 use Rattle.tlcore.specs.declared.seats.Held.{Held}
 use Rattle.tlcore.specs.declared.seats.Place.TheVariants.{Checking, Storing}
 use Rattle.tlwords.specs.declared.log.Slot.{Slot}
@@ -84,7 +84,7 @@ module _ {S N : Type 0} (terms : Terms S N) (slots : List Slot) (i : ℕ) (x : N
                   seat = record m.0.seat {
                     place = Storing i;
                     held =
-                        (ap (stored c) held ∙ held_stored slots 0 0 (length slots) c (omega arith)
+                        (ap (with_stored c) held ∙ held_stored slots 0 0 (length slots) c (omega arith)
                         (unkept_both slots 0 low c before unkept))
                         j;
                     looked = sym (ap (λ (v : View S N). v.seat.looked) f.1) j;

@@ -1,11 +1,11 @@
 -- What callers say of words and passes together.
 use Rattle.std.specs.Prelude.{◌≡◌, Some}
 use Rattle.tlwords.specs.declared.words.Words.{Words}
-use Rattle.tlwords.specs.Known.{Home, Known}
+use Rattle.tlwords.specs.Known.{WordsHome, Known}
 
 module _ {L S N : Type 0} where
   -- the opening that the words are of
-  abbrev pub home_of : Words L S N → Home S
+  abbrev pub home_of : Words L S N → WordsHome S
   home_of words =
       record {
         table = words.table.shared.table_id;

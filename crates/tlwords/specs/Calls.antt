@@ -1,7 +1,7 @@
 -- What the calls on passes and runs tell their callers.
 use Rattle.std.specs.Prelude.{◌≡◌, ◌≢◌, ℕ, suc, ◌+◌, ◌/◌, ◌%◌, ◌^◌, ◌<◌, ◌≤◌, true, is_some, Option, Some, None, List, [], ◌∷◌, ◌++◌, length, ◌⊎◌, min}
 use Rattle.atomic_table.specs.Seated.{TableId}
-use Rattle.tlcore.specs.History.{WasWritten}
+use Rattle.tlcore.specs.History.{IsVersionOf}
 use Rattle.ranges.specs.Ranges.{Range, Has, Names}
 use Rattle.tlwords.specs.declared.log.Slot.{Slot}
 use Rattle.tlwords.specs.declared.mode.Mode.{Mode}
@@ -13,10 +13,10 @@ use Rattle.tlwords.specs.Terms.{Terms, Permits}
 use Rattle.tlwords.specs.Seen.{Work, SeenGrows, IsDone, Agree, Committed, Answered, opening_seen}
 use Rattle.tlwords.specs.Runs.{word_seen, IsBlank, HasNoted, HasCause}
 use Rattle.tlwords.specs.Commits.{writes_kept, cells_of, cells_locked, IsVoid}
-use Rattle.tlwords.specs.Known.{Home, Known, Going, Knows, Stands, word_told}
+use Rattle.tlwords.specs.Known.{WordsHome, Known, Going, Knows, Stands, word_told}
 
 -- a pass of an opening, which has seen these ranges and done nothing yet
-abbrev pub new_pass : {S N : Type 0} → Home S → List Range → ℕ → Known S N
+abbrev pub new_pass : {S N : Type 0} → WordsHome S → List Range → ℕ → Known S N
 new_pass home ranges name =
     record {
       home = home;
@@ -88,7 +88,7 @@ module _ {S N : Type 0} (terms : Terms S N) where
   -- a look or a take of the conflict's cell found its word; the word before is the one that the run's newest read of the cell found
   pub record Finds (mode : Mode) (slots : List Slot) (c : ConflictValue) (k : Known S N) : Type 0 where
     pub looked : k.looked ≡ Some (c.cell, c.word)
-    pub written : WasWritten k.seen.history c.cell (c.word / 2)
+    pub written : IsVersionOf k.seen.history c.cell (c.word / 2)
     pub before : word_seen slots c.cell ≡ c.before
     pub told : c.before ≡ word_told mode c.cell k.found
 

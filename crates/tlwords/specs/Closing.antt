@@ -4,7 +4,7 @@ use Rattle.std.specs.Prelude.{if◌then◌else◌}
 use Rattle.std.specs.List.{IsDistinct}
 use mathlib.Core.Option.{some}
 use lib.ListN.{get_elem?}
-use Rattle.tlcore.specs.History.{Entry, WasWritten, Will, version, value, deed}
+use Rattle.tlcore.specs.History.{Entry, IsVersionOf, Will, version, value, deed}
 use Rattle.tlwords.specs.declared.closing.ClosedCell.{ClosedCell}
 use Rattle.tlwords.specs.declared.closing.ClosedWords.{ClosedWords}
 use Rattle.ranges.specs.Ranges.{Range, Has, Names, IsStored, AreOfOneStore}
@@ -44,7 +44,7 @@ pub record Shows (base : List ℕ) (h : List Entry) (clock : ℕ) (cells : List 
   pub free : (c v : ℕ) (x : ClosedCell) → slice_get cells c ≡ Some x → x.lock ≡ 2 * v
       → (v ≡ version h c) × (x.value ≡ value base h c) × ((i u : ℕ) → deed h c i ≡ Will u → ⊥)
   -- the half of a lock word, locked or free, is 0 or the number of a Done entry that writes the cell
-  pub written : (c : ℕ) (x : ClosedCell) → slice_get cells c ≡ Some x → WasWritten h c (x.lock / 2)
+  pub written : (c : ℕ) (x : ClosedCell) → slice_get cells c ≡ Some x → IsVersionOf h c (x.lock / 2)
 
 -- the machine's world of this history, in which its invariant holds, and which is reached by lawful events, has the clock and the cells
 -- that the words show

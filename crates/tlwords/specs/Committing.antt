@@ -3,7 +3,7 @@ use Rattle.std.specs.Prelude.{◌≡◌, ◌≢◌, ℕ, zero, suc, ◌*◌, ◌
 use Rattle.std.specs.Prelude.{None, List, []}
 use Rattle.std.specs.Prelude.{◌∷◌, ◌++◌, length, ◌⊎◌}
 use Rattle.atomic_table.specs.declared.shared.Seat.{Seat as TableSeat}
-use Rattle.tlcore.specs.History.{WasWritten, wv}
+use Rattle.tlcore.specs.History.{IsVersionOf, wv}
 use Rattle.tlcore.specs.Seats.{Seat, is_nil, writes_of, is_next, all_settled}
 use Rattle.tlcore.specs.Machine.{placed, conflict}
 use Rattle.tlcore.specs.declared.seats.Held.{Held}
@@ -54,7 +54,7 @@ module _ {S N : Type 0} (terms : Terms S N) where
   -- a look or a take of the conflict's cell found its word, and the run's newest read of it the one before
   pub record Meets (slots : List Slot) (k : ConflictValue) (r : Mine S N) : Type 0 where
     pub looked : r.0.seat.looked ≡ Some (k.cell, k.word)
-    pub written : WasWritten r.0.seen.history k.cell (k.word / 2)
+    pub written : IsVersionOf r.0.seen.history k.cell (k.word / 2)
     pub before : word_seen slots k.cell ≡ k.before
 
   -- the take of the conflict's cell failed, and the smaller cells are held

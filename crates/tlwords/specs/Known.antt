@@ -15,7 +15,7 @@ use Rattle.tlwords.specs.Seen.{Call, Seen, IsSettled, Legal, Agree}
 use Rattle.tlwords.specs.Views.{Gone, View}
 
 -- an opening: the table, the setting, the opening values of the cells, and how many words the store has
-pub record Home (S : Type 0) : Type 0 where
+pub record WordsHome (S : Type 0) : Type 0 where
   pub table : TableId
   pub setting : Option S
   pub base : List ℕ
@@ -23,7 +23,7 @@ pub record Home (S : Type 0) : Type 0 where
 
 pub record Known (S N : Type 0) : Type 0 where
   -- which opening it is of
-  pub home : Home S
+  pub home : WordsHome S
   -- what it has seen, and its calls
   pub seen : Seen N
   pub mine : List (Call N)

@@ -2,8 +2,8 @@
 use Rattle.std.specs.Prelude.{◌≡◌, ◌≢◌, ℕ, suc, ◌+◌, ◌-◌, ◌*◌, ◌/◌, ◌%◌, ◌^◌, ◌<◌, ◌≤◌, Option, Some, None, List, [], ◌∷◌, ◌++◌, length, slice_get, if◌then◌else◌, true, false, ◌==◌, ◌||◌, ◌⊎◌, min}
 use Rattle.atomic_table.specs.Table.{Me, Step}
 use Rattle.atomic_table.specs.declared.shared.Seat.{Seat as TableSeat}
-use Rattle.tlcore.specs.History.{Entry, WasWritten, wv}
-use Rattle.tlcore.specs.Seats.{Seat, passes, reads_of, writes_of, is_nil, is_next, all_settled, without, stored as stored_in}
+use Rattle.tlcore.specs.History.{Entry, IsVersionOf, wv}
+use Rattle.tlcore.specs.Seats.{Seat, passes, reads_of, writes_of, is_nil, is_next, all_settled, without, with_stored}
 use Rattle.tlcore.specs.Machine.{placed, conflict, saw}
 use Rattle.tlcore.specs.declared.entries.Status.TheVariants.{Void}
 use Rattle.tlcore.specs.declared.seats.Held.{Held}
@@ -64,7 +64,7 @@ after_check t i c word =
 
 -- after the store of the cell's value
 abbrev pub after_store : Seat → ℕ → ℕ → Seat
-after_store t i c = record t { place = Storing i; held = stored_in c t.held }
+after_store t i c = record t { place = Storing i; held = with_stored c t.held }
 
 -- after the release of the cell
 abbrev pub after_release : Seat → ℕ → Seat
@@ -100,7 +100,7 @@ module _ {S N : Type 0} (terms : Terms S N) where
   -- Look
   pub record Looks (c : ℕ) (m : Mine S N) (n : ℕ) (r : Mine S N) : Type 0 where
     pub sees : Sees m.0 r.0
-    pub written : WasWritten r.0.seen.history c (n / 2)
+    pub written : IsVersionOf r.0.seen.history c (n / 2)
     pub is : r.0 ≡ record m.0 { seen = r.0.seen; seat = after_look m.0.seat c n }
 
   -- Load: in a range cell it finds 0 or a word that names a finished range
@@ -114,7 +114,7 @@ module _ {S N : Type 0} (terms : Terms S N) where
   -- Relook
   pub record Relooks (m : Mine S N) (n : ℕ) (r : Mine S N) : Type 0 where
     pub sees : Sees m.0 r.0
-    pub written : (c word value : ℕ) → m.0.seat.place ≡ Loaded c word value → WasWritten r.0.seen.history c (n / 2)
+    pub written : (c word value : ℕ) → m.0.seat.place ≡ Loaded c word value → IsVersionOf r.0.seen.history c (n / 2)
     -- another word than that of the first look is locked, or of a version above the place
     pub missed : (c word value : ℕ) → m.0.seat.place ≡ Loaded c word value → n ≢ word → n % 2 ≡ 0 → m.0.seat.rv < n / 2
     pub is : (c word value : ℕ) → m.0.seat.place ≡ Loaded c word value
@@ -123,7 +123,7 @@ module _ {S N : Type 0} (terms : Terms S N) where
   -- Take, from the word `word`
   pub record Takes (c value word : ℕ) (m : Mine S N) (n : ℕ) (r : Mine S N) : Type 0 where
     pub sees : Sees m.0 r.0
-    pub written : WasWritten r.0.seen.history c (n / 2)
+    pub written : IsVersionOf r.0.seen.history c (n / 2)
     pub is : r.0 ≡ record m.0 { seen = r.0.seen; seat = after_take m.0.seat c value word n }
 
   -- Draw: the number is n + 1
@@ -138,7 +138,7 @@ module _ {S N : Type 0} (terms : Terms S N) where
   -- Check
   pub record Checks (c : ℕ) (m : Mine S N) (n : ℕ) (r : Mine S N) : Type 0 where
     pub sees : Sees m.0 r.0
-    pub written : WasWritten r.0.seen.history c (n / 2)
+    pub written : IsVersionOf r.0.seen.history c (n / 2)
     pub is : (i upto : ℕ) → m.0.seat.place ≡ Checking i upto
         → r.0 ≡ record m.0 { seen = r.0.seen; seat = after_check m.0.seat i c n }
 

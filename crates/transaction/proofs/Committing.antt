@@ -13,7 +13,7 @@ use Rattle.cells.specs.State.{most_words}
 use Rattle.cells.specs.Answers.{has_staging}
 use Rattle.tlwords.specs.declared.outcome.Conflict.{Conflict}
 use Rattle.tlwords.specs.Seen.{SeenGrows, Committed, Answered}
-use Rattle.tlwords.specs.Known.{Home, Knows}
+use Rattle.tlwords.specs.Known.{WordsHome, Knows}
 use Rattle.tlwords.specs.Commits.{writes_kept}
 use Rattle.tlwords.specs.Calls.{work_done, IsCommitted, IsAnswered, IsRejected, Ends}
 use Rattle.tlwords.specs.declared.outcome.Outcome.{Outcome as Answer}
@@ -82,7 +82,7 @@ module _ (l : Lending) (stage : Staged) (over : Option Conflict) (lent : IsLent 
   -- what the pass has seen then is a history of the library
   history : (k : Pass) → k.home ≡ l.going.known.home → Knows library_terms k → IsHistoryOf l.given k.home.base k.seen
   history k home knows =
-      let on : IsPassOn l.given k = subst (λ (h : Home Given). (h.setting ≡ Some l.given) × (h.room ≤ most_words))
+      let on : IsPassOn l.given k = subst (λ (h : WordsHome Given). (h.setting ≡ Some l.given) × (h.room ≤ most_words))
       (sym (home ∙ ap (λ (z : Pass). z.home) lent.since)) lent.on in
       (sessions_stand l.given k on knows).0
 

@@ -10,6 +10,7 @@ use Rattle.cells.specs.State.{with_writes}
 use Rattle.cells.specs.Shows.{Shows}
 use Rattle.cells.specs.Sight.{Looks as LooksOn, Views}
 use Rattle.cells.specs.Lookups.{ForEach}
+use Rattle.cells.proofs.Sights.{setting_kept}
 use Rattle.shows.specs.Looking.{AreEntries}
 use Rattle.tlwords.specs.declared.mode.Mode.{Mode}
 use Rattle.tlwords.specs.declared.mode.Mode.TheVariants.{Reading, Writing}
@@ -21,19 +22,19 @@ use Rattle.tlwords.specs.Calls.{work_done, IsAnswered, Ends}
 use Rattle.tlwords.specs.Commits.{writes_kept}
 use Rattle.tlwords.proofs.Seens.{seen_trans}
 use Rattle.lawful.specs.declared.notes.Note.{Note}
-use Rattle.lawful.specs.Lawful.{setting_of, library_terms}
+use Rattle.lawful.specs.Lawful.{setting_given, library_terms}
 use Rattle.lawful.specs.History.{library_after, state_after}
 use Rattle.lawful.proofs.Standing.{runs_suit}
 use Rattle.lawful.proofs.Running.{looks_are_lawful}
 use Rattle.lending.specs.declared.live.GivenUp.{GivenUp}
 use Rattle.lending.specs.declared.live.GivenUp.TheVariants as given
-use Rattle.lending.specs.Lent.{Pass, Carried, Lending, IsLent, is_writing, sight_of}
+use Rattle.lending.specs.Lent.{Pass, Carried, Lending, IsLent, is_writing, lent_sight}
 use Rattle.lending.specs.Ends.{IsGivenUp}
 use Rattle.transaction.specs.declared.outcome.Look.{Look}
 use Rattle.transaction.specs.declared.outcome.Look.TheVariants as look
 use Rattle.transaction.specs.Members.{Member, IsMember}
 use Rattle.transaction.specs.Attempts.{Meets}
-use Rattle.transaction.specs.Looks.{Looks, Sees, SaysLooked}
+use Rattle.transaction.specs.Looks.{TakesLook, Sees, SaysLooked}
 use Rattle.transaction.specs.Tries.{IsLaterPass, StoresNothing, MayBeLooked}
 use Rattle.transaction.proofs.Ended.{met_at, is_later, adds_nothing, runs_once, met_none, meets}
 use Rattle.transaction.proofs.Staying.{pass_on, still_member, goes_on}
@@ -42,21 +43,21 @@ use Rattle.transaction.proofs.Staying.{pass_on, still_member, goes_on}
 
 -- the assertions that were read verify in whatever order: some library does that the cells may show
 pub entries_verify : (l : Lending) (stage : Staged) (over : Option Conflict) (made : List Ranked) → IsLent l stage over
-    → writes_kept l.going.slots ≡ [] → AreEntries (sight_of l) made → Verifies (setting_of l.given) made
+    → writes_kept l.going.slots ≡ [] → AreEntries (lent_sight l) made → Verifies (setting_given l.given) made
 entries_verify l stage over made lent blank are =
     let on = pass_on l.given l.began l.going.known (ap (λ (z : Pass). z.home) lent.since) lent.on in
     let suits = runs_suit l.given l.going [] on lent.stands in
     let st = state_after l.going.known.home.base l.going.known.seen l.going.place in
     let lib = library_after l.given l.going.known.seen l.going.place in
-    let views : Views (sight_of l) st lib = record {
+    let views : Views (lent_sight l) st lib = record {
       matches = record { store = suits.matches.store; has = suits.matches.has; reads = suits.matches.reads };
       shows = subst (λ (ps : Pairs). Shows l.given.slots (with_writes st ps) lib) (sym blank) suits.shows;
       verifies = suits.verifies;
     } in
-    verifies_permutation (setting_of l.given) lib made suits.verifies (are st lib views)
+    verifies_permutation (setting_given l.given) lib made suits.verifies (are st lib views)
 
-pub entries_shown : (l : Lending) (made listed : List Ranked) → AreEntries (sight_of l) made → ShowsInOrder made listed
-    → ForEach (sight_of l) (λ st lib. ShowsInOrder lib listed)
+pub entries_shown : (l : Lending) (made listed : List Ranked) → AreEntries (lent_sight l) made → ShowsInOrder made listed
+    → ForEach (lent_sight l) (λ st lib. ShowsInOrder lib listed)
 entries_shown l made listed are shown st lib views =
     record { same = IsPermutation-trans lib made listed (are st lib views) shown.same; ordered = shown.ordered }
 
@@ -66,13 +67,13 @@ pub reading : (mode : Mode) → is_writing mode ≡ false → mode ≡ Reading
 reading Reading is = refl
 reading Writing is = cc
 
-pub may_be_looked : (old new : Lending) (library : Listed) → LooksOn (sight_of old) (sight_of new) → writes_kept old.going.slots ≡ []
-    → library.setting ≡ setting_of old.given → ForEach (sight_of new) (λ st lib. ShowsInOrder lib library.entries)
+pub may_be_looked : (old new : Lending) (library : Listed) → LooksOn (lent_sight old) (lent_sight new) → writes_kept old.going.slots ≡ []
+    → library.setting ≡ setting_given old.given → ForEach (lent_sight new) (λ st lib. ShowsInOrder lib library.entries)
     → MayBeLooked new library
 may_be_looked old new library looks blank setting told s is =
-    looks_are_lawful new.given (sight_of new) s refl (looks.writes ∙ blank)
-    (ap (λ (z : Listed). z.setting) is ∙ setting ∙ sym looks.onward.setting)
-    (subst (λ (z : Listed). ForEach (sight_of new) (λ st lib. ShowsInOrder lib z.entries)) (sym is) told)
+    looks_are_lawful new.given (lent_sight new) s refl (looks.writes ∙ blank)
+    (ap (λ (z : Listed). z.setting) is ∙ setting ∙ sym (setting_kept looks.onward))
+    (subst (λ (z : Listed). ForEach (lent_sight new) (λ st lib. ShowsInOrder lib z.entries)) (sym is) told)
 
 -- ---- its end
 
@@ -169,7 +170,7 @@ module _ (m : Member) (k : Carried) (l : Look) (is : IsMember m) (later : IsLate
   looker_stays = still_member m k.pass k.staged is later (draws_none m.known k.pass l sees)
 
   pub session_looks : StoresNothing (record { pass = m.known; staged = m.staged }) k
-      → Looks m (record m { known = k.pass; staged = k.staged }) l
+      → TakesLook m (record m { known = k.pass; staged = k.staged }) l
   session_looks stored =
       record {
         later = goes_on m k.pass k.staged is later (draws_none m.known k.pass l sees);

@@ -27,7 +27,7 @@ use Rattle.lawful.specs.declared.notes.Note.{Note}
 use Rattle.lawful.specs.Lawful.{library_terms}
 use Rattle.lawful.specs.History.{library_after, state_after}
 use Rattle.lawful.proofs.Standing.{one_fits}
-use Rattle.lending.specs.Lent.{Pass, Lending, sight_of, IsLent}
+use Rattle.lending.specs.Lent.{Pass, Lending, lent_sight, IsLent}
 use Rattle.lending.specs.declared.live.GivenUp.{GivenUp}
 use Rattle.lending.specs.declared.live.GivenUp.TheVariants as given
 use Rattle.lending.specs.Ends.{IsForgotten, IsGivenUp}
@@ -84,7 +84,7 @@ module _ (l : Lending) (stage : Staged) (over : Option Conflict) (lent : IsLent 
       (later : IsLaterHistory l.given k.home.base k.seen new) where
     -- where it is one version at a place, it suits the state there
     suits_at : (p : ℕ) → p ≤ length k.seen.history → One k.home.base k.seen.history p l.going.reads
-        → Suits (sight_of l) (state_after k.home.base new p) (library_after l.given new p)
+        → Suits (lent_sight l) (state_after k.home.base new p) (library_after l.given new p)
     suits_at p le one =
         record {
           matches = record {
@@ -104,7 +104,7 @@ module _ (l : Lending) (stage : Staged) (over : Option Conflict) (lent : IsLent 
         (lent.stands.one l.given setting_is))
 
     -- at its own place
-    suits_then : Suits (sight_of l) (state_after k.home.base new l.going.place) (library_after l.given new l.going.place)
+    suits_then : Suits (lent_sight l) (state_after k.home.base new l.going.place) (library_after l.given new l.going.place)
     suits_then =
         suits_at l.going.place
         (let own = lent.stands.placed in let more : length l.going.known.seen.history ≤ length k.seen.history =
@@ -158,7 +158,7 @@ module _ (l : Lending) (stage : Staged) (over : Option Conflict) (lent : IsLent 
   module _ (asks : AsksWithin l cs) (k : Pass) (home : k.home ≡ l.going.known.home) (grows : SeenGrows l.going.known.seen k.seen)
       (locks : LocksWithin l.given cs l.began k) where
     -- at a cell that it asked for
-    asked_within : (c : Conflict) → WasAsked (sight_of l) c.cell → EndsWithin l.began cs k (outcome.Conflict (met_at l.going.place c))
+    asked_within : (c : Conflict) → WasAsked (lent_sight l) c.cell → EndsWithin l.began cs k (outcome.Conflict (met_at l.going.place c))
     asked_within c was = for_given k (outcome.Conflict (met_at l.going.place c))
         (λ new later. asks c.cell was _ _ (suits_then k home grows new later)) locks
 

@@ -16,7 +16,7 @@ use Rattle.bodystore.specs.Stages.{Staged, AreStaged}
 use Rattle.cells.specs.Slots.{is_ranged}
 use Rattle.cells.specs.State.{most_words}
 use Rattle.plaincells.specs.declared.plain.PlainCells.{PlainCells}
-use Rattle.plaincells.specs.Opening.{Opens as CellsOpen}
+use Rattle.plaincells.specs.Opening.{CellsOpen}
 use Rattle.tlwords.specs.declared.words.Words.{Words}
 use Rattle.tlwords.specs.Terms.{AreNamed}
 use Rattle.tlwords.specs.Callers.{home_of}
@@ -25,13 +25,13 @@ use Rattle.tlwords.specs.Calls.{new_pass}
 use Rattle.tlwords.specs.Runs.{down}
 use Rattle.lawful.specs.declared.notes.Given.{Given}
 use Rattle.lawful.specs.declared.notes.Note.{Note}
-use Rattle.lawful.specs.Lawful.{setting_of, first_library, OpensWell, library_terms}
+use Rattle.lawful.specs.Lawful.{setting_given, first_library, OpensWell, library_terms}
 use Rattle.lawful.specs.History.{history_of}
 use Rattle.lawful.specs.Laws.{IsPassOn}
 use Rattle.openings.proofs.Openings.{opened_cells_open_well}
 use Rattle.transaction.specs.declared.outcome.Record.{Record}
 use Rattle.transaction.specs.Members.{Home, Member, IsMember, IsRecordIn}
-use Rattle.transaction.specs.Openings.{IsNew, seated, AreSeated}
+use Rattle.transaction.specs.Openings.{IsNewSession, seated, AreSeated}
 use Rattle.transaction.proofs.Standing.{stands}
 
 -- what plain cells hold that a database opened, whose proofs check, opens words well
@@ -41,7 +41,7 @@ pub words_open : (db : Contents) (g : Given) (room : ℕ) (made : PlainCells) (v
     → OpensWell g (ranges_named (library_terms.ranged g) store values) values
     × AreNamed library_terms g (ranges_named (library_terms.ranged g) store values) values
 words_open db g room made values store is spelled checks some few many opens values_are store_is =
-    let verifies : Verifies (setting_of g) (first_library g) =
+    let verifies : Verifies (setting_given g) (first_library g) =
     subst (λ (d : Contents). Verifies (setting_over d g.slots) (opening d)) (sym is)
     (opening_verifies db g.slots spelled checks some few many) in
     let own : CellsOpen g.database.value g.slots room made = subst (λ (d : Contents). CellsOpen d g.slots room made) (sym is) opens in
@@ -123,10 +123,10 @@ module _ (home : Home) (sessions : ℕ) (passes : List (Known Given Note)) (sett
   undrawn i d lt = ap (λ (k : Known Given Note). k.drawn) (are.new i d lt)
 
   -- the sessions of the passes are new ones, with the passes' names
-  pub new_sessions : (members : List Member) → AreSeated home.given passes members → All (IsNew home) members
+  pub new_sessions : (members : List Member) → AreSeated home.given passes members → All (IsNewSession home) members
   new_sessions members seats =
-      subst (All (IsNew home)) (sym seats)
-      (All-map (IsNew home) (seated home.given) passes
+      subst (All (IsNewSession home)) (sym seats)
+      (All-map (IsNewSession home) (seated home.given) passes
       (λ i d lt.
       record {
         given = refl;

@@ -1,8 +1,8 @@
 -- What a session keeps gives what is promised of it.
 use Rattle.lawful.proofs.Standing.{sessions_stand, small_store}
-use Rattle.transaction.specs.Members.{Member, Stands, IsMember}
+use Rattle.transaction.specs.Members.{Member, IsSoundMember, IsMember}
 
-pub stands : (m : Member) → IsMember m → Stands m
+pub stands : (m : Member) → IsMember m → IsSoundMember m
 stands m is =
     let seen = sessions_stand m.given m.known is.on is.knows in
     record {

@@ -1,7 +1,7 @@
 -- A session whose pass is a later one, and drew no number.
 use Rattle.std.proofs.Common.{◌≡◌, ◌≤◌, List, Option, Some, refl, sym, subst, ◌∙◌}
 use Rattle.cells.specs.State.{most_words}
-use Rattle.tlwords.specs.Known.{Home}
+use Rattle.tlwords.specs.Known.{WordsHome}
 use Rattle.lawful.specs.declared.notes.Given.{Given}
 use Rattle.lawful.specs.Laws.{IsPassOn}
 use Rattle.bodystore.specs.Stages.{Staged}
@@ -18,7 +18,7 @@ abbrev pub session_with : Given → List Record → Option Carried → Member
 session_with given records kit = record { given = given; known = known_in kit; records = records; staged = staged_in kit }
 
 pub pass_on : (g : Given) (old new : Pass) → new.home ≡ old.home → IsPassOn g old → IsPassOn g new
-pass_on g old new same is = subst (λ (h : Home Given). (h.setting ≡ Some g) × (h.room ≤ most_words)) (sym same) is
+pass_on g old new same is = subst (λ (h : WordsHome Given). (h.setting ≡ Some g) × (h.room ≤ most_words)) (sym same) is
 
 module _ (m : Member) (k : Pass) (s : Staged) (is : IsMember m) (later : IsLaterPass m.known k) (none : k.drawn ≡ m.known.drawn) where
   pub still_member : IsMember (record m { known = k; staged = s })

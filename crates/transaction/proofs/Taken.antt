@@ -5,11 +5,11 @@ use Rattle.std.specs.declared.alloc.Global.{Global}
 use Rattle.std.proofs.lemmas.List.{map-append}
 use Rattle.std.proofs.lemmas.List.Elements.{All-append, All-cons, All-head, All-nil, All-tail}
 use Rattle.atomic_table.specs.Seated.{TableId}
-use Rattle.tlwords.specs.Known.{Home as WordsHome}
+use Rattle.tlwords.specs.Known.{WordsHome}
 use Rattle.lawful.specs.declared.notes.Given.{Given}
 use Rattle.lending.specs.Lent.{Pass}
 use Rattle.transaction.specs.declared.outcome.Record.{Record}
-use Rattle.transaction.specs.Members.{Home, Member, IsOf, IsMember}
+use Rattle.transaction.specs.Members.{Home, Member, IsSessionOf, IsMember}
 use Rattle.transaction.specs.Closings.{AreTaken, passes_of}
 
 pub none_taken : AreTaken [] [] []
@@ -30,10 +30,10 @@ one_taken ms passes records m k own taken is known records_are = record {
 }
 
 -- each sits at the table of the library's words
-pub all_seated : (home : Home) (table : TableId) (ms : List Member) → home.words.table ≡ table → All (IsOf home) ms
+pub all_seated : (home : Home) (table : TableId) (ms : List Member) → home.words.table ≡ table → All (IsSessionOf home) ms
     → All (λ (k : Pass). k.home.table ≡ table) (passes_of ms)
 all_seated home table [] same are = All-nil (λ (k : Pass). k.home.table ≡ table)
 all_seated home table (m ∷ ms) same are =
     All-cons (λ (k : Pass). k.home.table ≡ table) m.known (passes_of ms)
-    (ap (λ (h : WordsHome Given). h.table) (All-head (IsOf home) m ms are) ∙ same)
-    (all_seated home table ms same (All-tail (IsOf home) m ms are))
+    (ap (λ (h : WordsHome Given). h.table) (All-head (IsSessionOf home) m ms are) ∙ same)
+    (all_seated home table ms same (All-tail (IsSessionOf home) m ms are))

@@ -14,7 +14,7 @@ use Rattle.ranges.specs.Ranges.{Has}
 use Rattle.ranges.proofs.Members.{has_append_left, has_append_right, has_append_cases}
 use Rattle.tlcore.proofs.Growth.{WasWritten-kept}
 use Rattle.tlwords.specs.Seen.{Seen, SeenGrows, Work, Call, Committed, Answered}
-use Rattle.tlwords.specs.Known.{Home}
+use Rattle.tlwords.specs.Known.{WordsHome}
 use Rattle.tlwords.proofs.Seens.{seen_refl, seen_trans}
 use Rattle.lawful.specs.declared.notes.Given.{Given}
 use Rattle.lawful.specs.declared.notes.Note.{Note}
@@ -24,7 +24,7 @@ use Rattle.transaction.specs.declared.outcome.Conflict.{Conflict as Met}
 use Rattle.transaction.specs.declared.outcome.Outcome.{Outcome}
 use Rattle.transaction.specs.declared.outcome.Outcome.TheVariants as outcome
 use Rattle.transaction.specs.declared.outcome.Record.{Record}
-use Rattle.transaction.specs.Members.{Member, IsLater, IsMember, Stands}
+use Rattle.transaction.specs.Members.{Member, IsLater, IsMember, IsSoundMember}
 use Rattle.transaction.specs.Locks.{LocksWithin}
 use Rattle.transaction.specs.Attempts.{Gains, LeavesStaged, Attempts, Submits, IsVoidNumber, DrawsVoid, AddsNothing, GainsCall, SaysDone, SaysRefused}
 use Rattle.transaction.specs.Attempts.{tried, IsOneRun, LoadsOnce, MetNone, WasMet}
@@ -80,7 +80,7 @@ abbrev pub after_run : Member → Carried → Option Record → Member
 after_run m k r = record m { known = k.pass; records = with_record m.records r; staged = k.staged }
 
 -- a session is no earlier than itself
-pub later_refl : (m : Member) → Stands m → IsLater m m
+pub later_refl : (m : Member) → IsSoundMember m → IsLater m m
 later_refl m stands =
     record { given = refl; home = refl; name = refl; grows = seen_refl m.known.seen; full = λ p e. e; stands = stands }
 
@@ -106,7 +106,7 @@ module _ (m : Member) (is : IsMember m) where
       → IsMember (after_run m k r)
   member_after k r later recorded =
       record {
-        on = subst (λ (h : Home Given). (h.setting ≡ Some m.given) × (h.room ≤ most_words)) (sym later.home) is.on;
+        on = subst (λ (h : WordsHome Given). (h.setting ≡ Some m.given) × (h.room ≤ most_words)) (sym later.home) is.on;
         knows = later.knows;
         recorded = still_recorded m k.pass k.staged r later.grows recorded is.recorded;
       }
@@ -185,7 +185,7 @@ still_met cs a b later met was =
       cause = was.cause;
       written = WasWritten-kept a.known.seen.history b.known.seen.history met.cell (met.word / 2) later.grows.0 was.written;
       footprint =
-          subst (λ (h : Home Given). StaysWithin b.given h.base b.known.seen cs o) (sym later.home)
+          subst (λ (h : WordsHome Given). StaysWithin b.given h.base b.known.seen cs o) (sym later.home)
           (subst (λ (g : Given). StaysWithin g a.known.home.base b.known.seen cs o) (sym later.given)
           (within_later a.given a.known.home.base a.known.seen b.known.seen cs o later.grows was.footprint));
     }

@@ -12,7 +12,7 @@ use Rattle.cells.specs.Answers.{has_staging}
 use Rattle.cells.specs.Sight.{StaysStaged}
 use Rattle.commands.specs.Takes.{most_words_of}
 use Rattle.ranges.specs.Pairs.{written}
-use Rattle.tlcore.specs.History.{WasWritten}
+use Rattle.tlcore.specs.History.{IsVersionOf}
 use Rattle.tlwords.specs.Seen.{Work, Call, Committed as CommittedCall, Answered}
 use Rattle.tlwords.specs.Runs.{HasCause}
 use Rattle.lawful.specs.declared.notes.Note.{Note}
@@ -75,7 +75,7 @@ pub record Meets (keeps : Bool) (old new : Pass) (met : Met) : Type 0 where
   pub looked : new.looked ≡ Some (met.cell, met.word)
   pub before : met.before ≡ (if keeps then written met.cell new.found else None)
   pub cause : HasCause met.place met.word ⊎ ((w : ℕ) × (met.before ≡ Some w) × (w ≢ met.word))
-  pub written : WasWritten new.seen.history met.cell (met.word / 2)
+  pub written : IsVersionOf new.seen.history met.cell (met.word / 2)
 
 -- the try kept no read set: nothing of what it had read before is told, and it drew no number
 abbrev pub KeptNoReads : Pass → Pass → Met → Type 0
@@ -155,7 +155,7 @@ tried k numbers runs = record k { drawn = k.drawn ++ numbers; clocks = runs ++ k
 -- that writes its cell; and the cell is one that the transaction may read, over the library at the conflict's place
 pub record WasMet (cs : List Command) (now : Member) (met : Met) : Type 0 where
   pub cause : HasCause met.place met.word ⊎ ((w : ℕ) × (met.before ≡ Some w) × (w ≢ met.word))
-  pub written : WasWritten now.known.seen.history met.cell (met.word / 2)
+  pub written : IsVersionOf now.known.seen.history met.cell (met.word / 2)
   pub footprint : StaysWithin now.given now.known.home.base now.known.seen cs (outcome.Conflict met)
 
 -- what tries until there is no conflict do: as the last one, after others, each of one run that met a conflict, that drew further numbers,

@@ -2,7 +2,7 @@
 use Rattle.std.specs.Prelude.{◌≡◌, ◌≤◌, ◌^◌, List, map, All, Vec}
 use Rattle.std.specs.declared.alloc.Global.{Global}
 use Rattle.tlwords.specs.Closing.{ClosesAll}
-use Rattle.lawful.specs.Lawful.{setting_of, library_terms}
+use Rattle.lawful.specs.Lawful.{setting_given, library_terms}
 use Rattle.lending.specs.Lent.{Pass}
 use Rattle.transaction.specs.declared.closing.ClosedLibrary.{ClosedLibrary}
 use Rattle.transaction.specs.declared.outcome.Record.{Record}
@@ -19,7 +19,7 @@ lists_of rows = map (λ row. row.items) rows
 -- the words are those of the library at its end, into whose history grows what each of these sessions had seen; and these are their records
 pub record IsClosed (home : Home) (members : List Member) (closed : ClosedLibrary) : Type 0 where
   pub given : closed.given ≡ home.given
-  pub prelude : closed.prelude ≡ (setting_of home.given).prelude
+  pub prelude : closed.prelude ≡ (setting_given home.given).prelude
   pub words : ClosesAll library_terms home.given home.words.base home.store home.sessions (passes_of members) closed.words
   pub room : closed.words.room ≡ home.words.room
   pub small : home.words.room ≤ 2 ^ 24

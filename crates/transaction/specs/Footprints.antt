@@ -16,7 +16,7 @@ use Rattle.tlcore.specs.History.{deed, Did}
 use Rattle.tlwords.specs.Seen.{Seen, SeenGrows}
 use Rattle.lawful.specs.declared.notes.Given.{Given}
 use Rattle.lawful.specs.declared.notes.Note.{Note}
-use Rattle.lawful.specs.Lawful.{setting_of}
+use Rattle.lawful.specs.Lawful.{setting_given}
 use Rattle.lawful.specs.History.{library_after, state_after, IsHistoryOf}
 use Rattle.transaction.specs.declared.outcome.Outcome.{Outcome}
 use Rattle.transaction.specs.declared.outcome.Outcome.TheVariants as outcome
@@ -66,11 +66,11 @@ module _ (s : Setting) (st : State) where
 module _ (g : Given) (base : List ℕ) (seen : Seen Note) where
   -- the transaction may read the cell, over the library after the first k entries
   abbrev pub MayReadAfter : ℕ → List Command → ℕ → Type 0
-  MayReadAfter k cs cell = MayRead (setting_of g) (state_after base seen k) (library_after g seen k) cs cell
+  MayReadAfter k cs cell = MayRead (setting_given g) (state_after base seen k) (library_after g seen k) cs cell
 
   -- it may write the cell
   abbrev pub MayWriteAfter : ℕ → List Command → ℕ → Type 0
-  MayWriteAfter k cs cell = MayWrite (setting_of g) (state_after base seen k) (library_after g seen k) cs cell
+  MayWriteAfter k cs cell = MayWrite (setting_given g) (state_after base seen k) (library_after g seen k) cs cell
 
   -- the entry of the number wrote no cells but those that the transaction may write, over the library before it
   abbrev pub WritesWithin : ℕ → List Command → Type 0

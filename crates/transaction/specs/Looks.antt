@@ -25,7 +25,7 @@ Sees old new (look.Conflict met) = AddsNothing old new × Meets false old new me
 Sees old new look.NoMemory = AddsNothing old new × MetNone old new
 
 -- what a look does
-pub record Looks (old new : Member) (l : Look) : Type 0 where
+pub record TakesLook (old new : Member) (l : Look) : Type 0 where
   pub later : IsLater old new
   pub sees : Sees old.known new.known l
   pub staged : new.staged ≡ old.staged

@@ -7,7 +7,7 @@ use Rattle.library.specs.Histories.{Entry, void_entry, done_entry}
 use Rattle.ranges.specs.Ranges.{AreOfOneStore}
 use Rattle.cells.specs.State.{most_words}
 use Rattle.tlwords.specs.Seen.{SeenGrows}
-use Rattle.tlwords.specs.Known.{Home as WordsHome, Known, Knows}
+use Rattle.tlwords.specs.Known.{WordsHome, Known, Knows}
 use Rattle.tlwords.specs.Calls.{new_pass}
 use Rattle.lawful.specs.declared.notes.Given.{Given}
 use Rattle.lawful.specs.declared.notes.Note.{Note}
@@ -34,8 +34,8 @@ pub record Member : Type 0 where
   pub staged : Staged
 
 -- the session is one of the library
-abbrev pub IsOf : Home → Member → Type 0
-IsOf home m = m.known.home ≡ home.words
+abbrev pub IsSessionOf : Home → Member → Type 0
+IsSessionOf home m = m.known.home ≡ home.words
 
 -- ---- records
 
@@ -58,7 +58,7 @@ pub record AreRecorded (m : Member) : Type 0 where
 -- its words were opened with what it was given; the history that it has seen is one of the library, with which its calls agree: each
 -- transaction's replies are the definition's, from the library at the opening, the library after each front verifies, and the cells show it
 -- there; the ranges that it has seen are of one store; and each number that it drew has its record
-pub record Stands (m : Member) : Type 0 where
+pub record IsSoundMember (m : Member) : Type 0 where
   pub setting : m.known.home.setting ≡ Some m.given
   pub history : IsHistoryOf m.given m.known.home.base m.known.seen
   pub store : AreOfOneStore most_words m.known.seen.ranges
@@ -73,7 +73,7 @@ pub record IsLater (old new : Member) : Type 0 where
   pub name : new.known.name ≡ old.known.name
   pub grows : SeenGrows old.known.seen new.known.seen
   pub full : FullStays old.known new.known
-  pub stands : Stands new
+  pub stands : IsSoundMember new
 
 -- ---- what is so at all times
 

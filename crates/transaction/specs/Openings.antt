@@ -9,7 +9,7 @@ use Rattle.ranges.specs.Ranges.{ranges_named}
 use Rattle.cells.specs.Slots.{is_ranged}
 use Rattle.plaincells.specs.declared.opening.OpenError.{OpenError as CellsError}
 use Rattle.plaincells.specs.declared.opening.OpenError.TheVariants as cells
-use Rattle.plaincells.specs.Measures.{bodies_length}
+use Rattle.plaincells.specs.Measures.{all_bodies_length}
 use Rattle.tlwords.specs.Known.{Known}
 use Rattle.tlwords.specs.Calls.{new_pass}
 use Rattle.tlwords.specs.Runs.{down}
@@ -19,7 +19,7 @@ use Rattle.lawful.specs.Lawful.{OpensWell}
 use Rattle.transaction.specs.declared.shape.Shape.{Shape}
 use Rattle.transaction.specs.declared.shape.OpenError.{OpenError}
 use Rattle.transaction.specs.declared.shape.OpenError.TheVariants.{BadShape, TooMany, ProofFails, StoreFull, NoMemory}
-use Rattle.transaction.specs.Members.{Home, Member, Stands}
+use Rattle.transaction.specs.Members.{Home, Member, IsSoundMember}
 
 -- 1 to 4,096 slots, a room of at most 2^24 words, and 1 to 64 sessions
 pub record IsShape (shape : Shape) : Type 0 where
@@ -30,24 +30,24 @@ pub record IsShape (shape : Shape) : Type 0 where
   pub few_sessions : shape.sessions ≤ 64
 
 -- a session of the library that has seen nothing but the ranges of the opening, and has done nothing
-pub record IsNew (home : Home) (m : Member) : Type 0 where
+pub record IsNewSession (home : Home) (m : Member) : Type 0 where
   pub given : m.given ≡ home.given
   pub known : m.known ≡ new_pass home.words (ranges_named (is_ranged home.given.slots) home.store home.words.base) m.known.name
   pub records : m.records ≡ []
-  pub stands : Stands m
+  pub stands : IsSoundMember m
 
 -- the library is that of the database, which the opening words show and which verifies; and it has as many new sessions as the shape says
 pub record IsOpened (db : Contents) (shape : Shape) (home : Home) (members : List Member) : Type 0 where
   pub shape_is : IsShape shape
   pub many : length db.assertions ≤ shape.slots
   pub checks : AllCheck db
-  pub fit : bodies_length db.assertions ≤ shape.room
+  pub fit : all_bodies_length db.assertions ≤ shape.room
   pub database : home.given.database.value ≡ db
   pub slots : home.given.slots ≡ shape.slots
   pub room : home.words.room ≡ shape.room
   pub sessions : home.sessions ≡ shape.sessions
   pub opens : OpensWell home.given (ranges_named (is_ranged home.given.slots) home.store home.words.base) home.words.base
-  pub new : All (IsNew home) members
+  pub new : All (IsNewSession home) members
   -- as many as the shape says, each with a name of its own
   pub names : map (λ m. m.known.name) members ≡ down shape.sessions shape.sessions
 
@@ -59,12 +59,12 @@ Refuses db shape TooMany = IsShape shape × (shape.slots < length db.assertions)
 Refuses db shape (ProofFails index found) =
     IsShape shape × (length db.assertions ≤ shape.slots) × (found.kind ≢ fault.NoMemory) × IsFirstFault db index found
 Refuses db shape StoreFull =
-    IsShape shape × (length db.assertions ≤ shape.slots) × AllCheck db × (shape.room < bodies_length db.assertions)
+    IsShape shape × (length db.assertions ≤ shape.slots) × AllCheck db × (shape.room < all_bodies_length db.assertions)
 Refuses db shape NoMemory = IsShape shape × (length db.assertions ≤ shape.slots)
 
-abbrev pub Opens : Contents → Shape → Result (Home × Vec Member Global) OpenError → Type 0
-Opens db shape (Ok made) = IsOpened db shape made.0 made.1.items
-Opens db shape (Err error) = Refuses db shape error
+abbrev pub LibraryOpens : Contents → Shape → Result (Home × Vec Member Global) OpenError → Type 0
+LibraryOpens db shape (Ok made) = IsOpened db shape made.0 made.1.items
+LibraryOpens db shape (Err error) = Refuses db shape error
 
 -- ---- what is so of an open library at all times
 

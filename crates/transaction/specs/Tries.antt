@@ -13,9 +13,9 @@ use Rattle.tlwords.specs.Known.{Knows}
 use Rattle.tlwords.specs.Commits.{writes_kept}
 use Rattle.lawful.specs.declared.notes.Note.TheVariants.{Done, Refused, Looked}
 use Rattle.lawful.specs.declared.notes.Given.{Given}
-use Rattle.lawful.specs.Lawful.{setting_of, ForEachUnder, library_terms}
+use Rattle.lawful.specs.Lawful.{setting_given, ForEachUnder, library_terms}
 use Rattle.lawful.specs.History.{history_of}
-use Rattle.lending.specs.Lent.{Pass, Carried, Lending, sight_of, FullStays}
+use Rattle.lending.specs.Lent.{Pass, Carried, Lending, lent_sight, FullStays}
 use Rattle.lending.specs.Ends.{IsLawfulWith}
 use Rattle.transaction.specs.declared.outcome.Record.{Record}
 use Rattle.transaction.specs.declared.outcome.Outcome.{Outcome}
@@ -84,12 +84,12 @@ MayBeLooked l library = (s : Snapshot Listed) → s.value ≡ library → IsLawf
 -- each cell that the run has asked for is one that the transaction may read, in each state that may be under it and shows a library
 abbrev pub AsksWithin : Lending → List Command → Type 0
 AsksWithin l cs =
-    (cell : ℕ) → WasAsked (sight_of l) cell → ForEachUnder (sight_of l) (λ st lib. MayRead (setting_of l.given) st lib cs cell)
+    (cell : ℕ) → WasAsked (lent_sight l) cell → ForEachUnder (lent_sight l) (λ st lib. MayRead (setting_given l.given) st lib cs cell)
 
 -- each for which it keeps a value aside is one that the transaction may write
 abbrev pub KeepsWithin : Lending → List Command → Type 0
 KeepsWithin l cs =
-    (cell : ℕ) → WasWritten (sight_of l) cell → ForEachUnder (sight_of l) (λ st lib. MayWrite (setting_of l.given) st lib cs cell)
+    (cell : ℕ) → WasWritten (lent_sight l) cell → ForEachUnder (lent_sight l) (λ st lib. MayWrite (setting_given l.given) st lib cs cell)
 
 -- so what is told of cells at the end is of these, and what was locked, by what the words were opened with
 abbrev pub EndsWithin : Pass → List Command → Pass → Outcome → Type 0

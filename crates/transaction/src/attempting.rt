@@ -8,8 +8,8 @@ ghost use Rattle.tlwords.specs.Commits.{writes_kept};
 ghost use Rattle.tlwords.specs.declared.mode.Mode.TheVariants.{Reading};
 ghost use Rattle.lawful.specs.Laws.{IsPassOn};
 ghost use Rattle.lending.specs.Lent.{is_writing};
-ghost use Rattle.lawful.specs.Lawful.{setting_of};
-ghost use Rattle.transaction.specs.Members.{IsOf};
+ghost use Rattle.lawful.specs.Lawful.{setting_given};
+ghost use Rattle.transaction.specs.Members.{IsSessionOf};
 ghost use Rattle.transaction.specs.Attempts.{Attempts};
 ghost use Rattle.transaction.specs.Tries.{Tries, Stores, EndsStored, carried_by, MayBeDone, MayBeRefused, AsksWithin, KeepsWithin, EndsWithin};
 
@@ -46,8 +46,8 @@ impl Session {
     /// conflict is one that some command may read, and a commit writes no cells but those that its commands may write. The same cells alone
     /// are locked by a try, whatever comes of it, and none but where it committed or met a conflict.
     pub fn attempt(&mut self, alloc: Global, library: &Library, commands: &Transaction) -> Outcome
-        requires own { IsOf library.now self.old }
-        requires fit { All (CommandFits (setting_of library.now.given).prelude) commands.now }
+        requires own { IsSessionOf library.now self.old }
+        requires fit { All (CommandFits (setting_given library.now.given).prelude) commands.now }
         ensures { Attempts commands.now self.old self.new result }
     {
         // For the proof: what is so of the session and of the library's words at all times.
@@ -90,7 +90,7 @@ fn transact(
 ) -> Tried
     requires own { kit.pass.home ≡ library.now.words }
     requires on { IsPassOn library.now.given kit.pass }
-    requires fit { All (CommandFits (setting_of library.now.given).prelude) commands.now }
+    requires fit { All (CommandFits (setting_given library.now.given).prelude) commands.now }
     ensures tries { Tries commands.now kit.pass result.kit.pass result.outcome result.drawn }
     ensures stored { Stores commands.now kit result.kit result.outcome }
     ensures within { EndsWithin kit.pass commands.now result.kit.pass result.outcome }

@@ -1,7 +1,7 @@
 //! Ends libraries.
 
 ghost use Rattle.std.specs.Prelude.{All, IfOk};
-ghost use Rattle.transaction.specs.Members.{IsOf};
+ghost use Rattle.transaction.specs.Members.{IsSessionOf};
 ghost use Rattle.transaction.specs.Closings.{IsClosed, AreTaken};
 
 use crate::outcome::Record;
@@ -34,7 +34,7 @@ impl Library {
     ///
     /// Want of memory. The library and the sessions are gone then.
     pub fn close(self, alloc: Global, sessions: Vec<Session>) -> Result<ClosedLibrary, AllocError>
-        requires { All (IsOf self) sessions.items }
+        requires { All (IsSessionOf self) sessions.items }
         ensures { IfOk result (λ made. IsClosed self sessions.items made) }
     {
         let (passes, records) = take_all(alloc, sessions)?;

@@ -7,10 +7,10 @@ ghost use Rattle.cells.specs.Lookups.{ForEach};
 ghost use Rattle.tlwords.specs.declared.mode.Mode.TheVariants.{Reading};
 ghost use Rattle.tlwords.specs.Commits.{writes_kept};
 ghost use Rattle.lawful.specs.Laws.{IsPassOn};
-ghost use Rattle.lawful.specs.Lawful.{setting_of};
-ghost use Rattle.lending.specs.Lent.{sight_of};
-ghost use Rattle.transaction.specs.Members.{IsOf};
-ghost use Rattle.transaction.specs.Looks.{Looks, Sees};
+ghost use Rattle.lawful.specs.Lawful.{setting_given};
+ghost use Rattle.lending.specs.Lent.{lent_sight};
+ghost use Rattle.transaction.specs.Members.{IsSessionOf};
+ghost use Rattle.transaction.specs.Looks.{TakesLook, Sees};
 ghost use Rattle.transaction.specs.Tries.{IsLaterPass, StoresNothing, carried_by, MayBeLooked};
 
 use crate::outcome::{Look, met};
@@ -29,8 +29,8 @@ impl Session {
     /// Looks once at the whole library: its assertions after the first `place` entries of the history, which are no fewer than this session
     /// had seen or been told. It waits for nobody, keeps no read set, and draws no number.
     pub fn snapshot(&mut self, alloc: Global, library: &Library) -> Look
-        requires { IsOf library.now self.old }
-        ensures { Looks self.old self.new result }
+        requires { IsSessionOf library.now self.old }
+        ensures { TakesLook self.old self.new result }
     {
         // For the proof: the library's words are opened for what was given.
         let _ = &library.words;
@@ -62,9 +62,9 @@ fn look(alloc: Global, library: &Library, kit: Kit) -> (Kit, Look)
 fn read_all(alloc: Global, library: &Library, live: &mut Live<'_>) -> Result<PlainLibrary, Halt>
     requires given { live.old.run.given ≡ library.now.given }
     requires blank { writes_kept live.old.run.going.slots ≡ [] }
-    ensures looks { LooksOn (sight_of live.old.run) (sight_of live.new.run) }
-    ensures setting { IfOk result (λ seen. seen.setting ≡ setting_of library.now.given) }
-    ensures ok { IfOk result (λ seen. ForEach (sight_of live.new.run) (λ st lib. ShowsInOrder lib seen.entries)) }
+    ensures looks { LooksOn (lent_sight live.old.run) (lent_sight live.new.run) }
+    ensures setting { IfOk result (λ seen. seen.setting ≡ setting_given library.now.given) }
+    ensures ok { IfOk result (λ seen. ForEach (lent_sight live.new.run) (λ st lib. ShowsInOrder lib seen.entries)) }
 {
     let entries = entries(alloc, live)?;
     // For the proof: what the run has read is of a library that verifies.

@@ -5,7 +5,7 @@ ghost use Rattle.derivation.specs.Databases.{AllCheck};
 ghost use Rattle.tlwords.specs.Known.{Knows};
 ghost use Rattle.lawful.specs.Lawful.{library_terms};
 ghost use Rattle.lawful.specs.Laws.{IsPassOn};
-ghost use Rattle.transaction.specs.Openings.{IsShape, Opens, Refuses, Faults, AreSeated};
+ghost use Rattle.transaction.specs.Openings.{IsShape, LibraryOpens, Refuses, Faults, AreSeated};
 
 use crate::running::Library;
 use crate::session::Session;
@@ -50,7 +50,7 @@ impl Library {
         database: &Database,
         shape: Shape,
     ) -> Result<(Library, Vec<Session>), OpenError>
-        ensures { Opens database.now shape result }
+        ensures { LibraryOpens database.now shape result }
     {
         fits(shape, database)?;
         check(rt, alloc, database)?;
@@ -69,7 +69,7 @@ impl Library {
         shape: Shape,
     ) -> Result<(Library, Vec<Session>), OpenError>
         requires checks { AllCheck database.now }
-        ensures { Opens database.now shape result }
+        ensures { LibraryOpens database.now shape result }
     {
         fits(shape, database)?;
         // For the proof: some text declares the database.

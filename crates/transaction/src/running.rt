@@ -53,7 +53,7 @@ impl Model for Library {
 impl Library {
     ghost use Rattle.std.specs.Prelude.{◌≡◌, Some};
     ghost use Rattle.tlwords.specs.Callers.{home_of};
-    ghost use Rattle.lawful.specs.Lawful.{setting_of};
+    ghost use Rattle.lawful.specs.Lawful.{setting_given};
     ghost use Rattle.lawful.specs.Laws.{IsPassOn};
     ghost use Rattle.lending.specs.Lent.{Lends};
     ghost use Rattle.transaction.specs.Openings.{IsLibraryOf};
@@ -88,7 +88,7 @@ impl Library {
 
     /// The prelude of the library's assertions.
     pub fn prelude(&self) -> &Prelude
-        ensures value { result.now ≡ (setting_of self.now.given).prelude }
+        ensures value { result.now ≡ (setting_given self.now.given).prelude }
         // the words were opened with what the library was given
         ensures setting { self.now.words.setting ≡ Some self.now.given }
     {

@@ -1,7 +1,7 @@
 //! A session of a library.
 
 ghost use Rattle.std.specs.Prelude.{◌≡◌};
-ghost use Rattle.transaction.specs.Members.{IsOf};
+ghost use Rattle.transaction.specs.Members.{IsSessionOf};
 ghost use Rattle.transaction.specs.Looks.{Learns};
 
 use crate::outcome::Record;
@@ -50,7 +50,7 @@ impl Model for Session {
 }
 
 impl Session {
-    ghost use Rattle.transaction.specs.Members.{Stands, IsMember};
+    ghost use Rattle.transaction.specs.Members.{IsSoundMember, IsMember};
 
     /// Its pass, and its records. What was staged is forgotten.
     pub(crate) fn into_parts(self) -> (Pass<LibraryLaw>, Vec<Record>)
@@ -70,15 +70,15 @@ impl Session {
     /// The records of the numbers that the session drew, in order: what became of each.
     pub fn records(&self) -> &[Record]
         ensures value { result.now ≡ self.now.records }
-        ensures stands { Stands self.now }
+        ensures stands { IsSoundMember self.now }
     {
         self.records.as_slice()
     }
 
     /// Tells this session what another one has seen by now: it will not read what is older. It waits for nobody, and takes no memory.
     pub fn learn(&mut self, library: &Library, other: &mut Session)
-        requires own { IsOf library.now self.old }
-        requires other { IsOf library.now other.old }
+        requires own { IsSessionOf library.now self.old }
+        requires other { IsSessionOf library.now other.old }
         ensures { Learns self.old other.old self.new other.new }
     {
         let Some(mut kit) = self.kit.take() else {

@@ -2,8 +2,8 @@
 
 ghost use Rattle.std.specs.Prelude.{◌≡◌, All};
 ghost use Rattle.library.specs.Fitting.{CommandFits};
-ghost use Rattle.lawful.specs.Lawful.{setting_of};
-ghost use Rattle.transaction.specs.Members.{IsOf};
+ghost use Rattle.lawful.specs.Lawful.{setting_given};
+ghost use Rattle.transaction.specs.Members.{IsSessionOf};
 ghost use Rattle.transaction.specs.Attempts.{Submits};
 
 use crate::outcome::Outcome;
@@ -23,8 +23,8 @@ impl Session {
         library: &Library,
         commands: &Transaction,
     ) -> Outcome
-        requires own { IsOf library.now self.old }
-        requires fit { All (CommandFits (setting_of library.now.given).prelude) commands.now }
+        requires own { IsSessionOf library.now self.old }
+        requires fit { All (CommandFits (setting_given library.now.given).prelude) commands.now }
         ensures { Submits commands.now self.old self.new result }
     {
         let backoff = Backoff::new();

@@ -11,36 +11,36 @@ use Rattle.librarylaws.proofs.Opening.{opening_verifies}
 use Rattle.derivation.specs.Databases.{AllCheck}
 use Rattle.mmsyntax.specs.Layout.{HasSpelling}
 use Rattle.mmsyntax.specs.Tables.{Contents, Tables}
-use Rattle.plaincells.specs.Opening.{Opens}
+use Rattle.plaincells.specs.Opening.{CellsOpen}
 use Rattle.plaincells.specs.declared.plain.PlainCells.{PlainCells}
 use Rattle.cells.specs.State.{State}
 use Rattle.cells.specs.Shows.{Shows}
 use Rattle.cells.specs.Sight.{Views, Onward}
 use Rattle.cells.specs.Answers.{DoesAll}
 use Rattle.plaincells.specs.Plain.{plain_state, undone}
-use Rattle.plaincells.specs.PlainViews.{setting_of, sight_of, first_state, now_state}
+use Rattle.plaincells.specs.PlainViews.{cells_setting, cells_sight, first_state, now_state}
 use Rattle.ranges.specs.Pairs.{Pairs}
-use Rattle.cells.proofs.Sights.{matches_back}
+use Rattle.cells.proofs.Sights.{matches_back, setting_kept}
 use Rattle.plaincells.proofs.Opened.{first_matches, after_first, later_views}
 use Rattle.trials.specs.InCells.{ShowsSomeNow}
 
 -- what the cells showed before a run, its state views at first
-views_before : (c d : PlainCells) (lib : List Ranked) → Onward (sight_of c) (sight_of d) → Shows c.slots (now_state c) lib
-    → Verifies (setting_of c) lib → Views (sight_of c) (first_state d) lib
+views_before : (c d : PlainCells) (lib : List Ranked) → Onward (cells_sight c) (cells_sight d) → Shows c.slots (now_state c) lib
+    → Verifies (cells_setting c) lib → Views (cells_sight c) (first_state d) lib
 views_before c d lib onward shows verifies =
-    (later_views c d (sight_of c) lib shows.held (ap (λ (s : Setting). s.slots) onward.setting) refl refl onward.ranges
-    (matches_back (sight_of c) (sight_of d) (first_state d) onward (first_matches d)) verifies (shows, refl)).0
+    (later_views c d (cells_sight c) lib shows.held (ap (λ (s : Setting). s.slots) (setting_kept onward)) refl refl onward.ranges
+    (matches_back (cells_sight c) (cells_sight d) (first_state d) onward (first_matches d)) verifies (shows, refl)).0
 
 -- where a run does its commands, the cells show some library then
-pub done_shows_some : (c d : PlainCells) (cs : List Command) (replies : List Reply) → Onward (sight_of c) (sight_of d)
-    → All (CommandFits c.prelude) cs → DoesAll (sight_of c) (sight_of d) cs replies → ShowsSomeNow c → ShowsSomeNow d
+pub done_shows_some : (c d : PlainCells) (cs : List Command) (replies : List Reply) → Onward (cells_sight c) (cells_sight d)
+    → All (CommandFits c.prelude) cs → DoesAll (cells_sight c) (cells_sight d) cs replies → ShowsSomeNow c → ShowsSomeNow d
 done_shows_some c d cs replies onward fits does shown =
     ∥∥₁_map shown (λ s.
     let r = does.applies (first_state d) s.0 (first_matches d) (views_before c d s.0 onward s.1 s.2) in (
       r.0,
       subst (λ (st : State). Shows d.slots st r.0) (after_first d) r.2,
-      subst (λ (set : Setting). Verifies set r.0) (sym onward.setting)
-          (apply_verifies (setting_of c) s.0 cs (record { library = r.0; replies = replies }) s.2 fits r.1),
+      subst (λ (set : Setting). Verifies set r.0) (sym (setting_kept onward))
+          (apply_verifies (cells_setting c) s.0 cs (record { library = r.0; replies = replies }) s.2 fits r.1),
     ))
 
 -- cells that begin a run show some library
@@ -54,7 +54,7 @@ begun_shows c none =
 
 -- a database that opened in cells is shown as its opening library
 pub opened_shows : (db : Contents) (slots room : ℕ) (made : PlainCells) → HasSpelling db → AllCheck db → 1 ≤ slots → slots ≤ 4096
-    → length db.assertions ≤ slots → Opens db slots room made → ShowsSomeNow made
+    → length db.assertions ≤ slots → CellsOpen db slots room made → ShowsSomeNow made
 opened_shows db slots room made spelled checks some few within o =
     ∣ (
       opening db,

@@ -1,7 +1,7 @@
 -- What is so of a library that is open, and of its sessions.
 use Rattle.std.specs.Prelude.{◌≡◌, ◌≤◌, All}
 use Rattle.derivation.specs.Databases.{AllCheck}
-use Rattle.transaction.specs.Members.{IsOf}
+use Rattle.transaction.specs.Members.{IsSessionOf}
 use Rattle.trials.specs.declared.opening.Opened.{Opened}
 
 -- the library is of the database, each of whose proofs checks, with 1 to 4,096 slots; and each session is one of the library
@@ -10,4 +10,4 @@ pub record IsOpen (o : Opened) : Type 0 where
   pub checks : AllCheck o.database
   pub some_slots : 1 ≤ o.library.given.slots
   pub few_slots : o.library.given.slots ≤ 4096
-  pub own : All (IsOf o.library) o.sessions.items
+  pub own : All (IsSessionOf o.library) o.sessions.items

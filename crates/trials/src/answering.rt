@@ -16,9 +16,9 @@
 //! The sessions of a library are called `A` to `Z`, or `1` to `64`. A line that can't be read changes nothing.
 
 ghost use Rattle.std.specs.Prelude.{All, IfSome};
-ghost use Rattle.lawful.specs.Lawful.{setting_of};
+ghost use Rattle.lawful.specs.Lawful.{setting_given};
 ghost use Rattle.library.specs.Fitting.{CommandFits};
-ghost use Rattle.transaction.specs.Members.{IsOf};
+ghost use Rattle.transaction.specs.Members.{IsSessionOf};
 ghost use Rattle.trials.specs.Opened.{IsOpen};
 
 use crate::ending::end;
@@ -110,8 +110,8 @@ fn answer_session(
 
 /// Writes the lines of a look at the whole library: its place, and the exported text.
 fn look(alloc: Global, out: &mut Written, library: &Library, session: &mut Session)
-    requires { IsOf library.now session.old }
-    ensures { IsOf library.now session.new }
+    requires { IsSessionOf library.now session.old }
+    ensures { IsSessionOf library.now session.new }
 {
     match session.snapshot(alloc, library) {
         Look::Read { place, library } => {
@@ -133,8 +133,8 @@ fn attempt(
     session: &mut Session,
     words: &str,
 ) -> bool
-    requires { IsOf library.now session.old }
-    ensures { IsOf library.now session.new }
+    requires { IsSessionOf library.now session.old }
+    ensures { IsSessionOf library.now session.new }
 {
     if words == "snapshot" {
         look(alloc, out, library, session);
@@ -156,9 +156,9 @@ fn attempt_script(
     session: &mut Session,
     script: &[Transaction],
 ) -> bool
-    requires own { IsOf library.now session.old }
-    requires fit { All (All (CommandFits (setting_of library.now.given).prelude)) script.now }
-    ensures { IsOf library.now session.new }
+    requires own { IsSessionOf library.now session.old }
+    requires fit { All (All (CommandFits (setting_given library.now.given).prelude)) script.now }
+    ensures { IsSessionOf library.now session.new }
 {
     let [transaction] = script else {
         return false;

@@ -3,7 +3,7 @@
 ghost use Rattle.std.specs.Prelude.{◌≤◌, map, All, IfSome};
 ghost use Rattle.derivation.specs.Databases.{AllCheck};
 ghost use Rattle.library.specs.Histories.{told, EntriesFit};
-ghost use Rattle.transaction.specs.Members.{IsOf};
+ghost use Rattle.transaction.specs.Members.{IsSessionOf};
 ghost use Rattle.trials.specs.Opened.{IsOpen};
 
 use crate::opening::Opened;
@@ -74,7 +74,7 @@ fn conclude(
 
 /// Ends a library with these sessions, and writes its lock words.
 fn put_locks(alloc: Global, out: &mut Written, library: Library, sessions: Vec<Session>)
-    requires own { All (IsOf library) sessions.items }
+    requires own { All (IsSessionOf library) sessions.items }
     requires slots { library.given.slots ≤ 4096 }
 {
     let slots = library.slots();

@@ -5,8 +5,8 @@
 
 ghost use Rattle.std.specs.Prelude.{All};
 ghost use Rattle.library.specs.Fitting.{CommandFits};
-ghost use Rattle.lawful.specs.Lawful.{setting_of};
-ghost use Rattle.transaction.specs.Members.{IsOf};
+ghost use Rattle.lawful.specs.Lawful.{setting_given};
+ghost use Rattle.transaction.specs.Members.{IsSessionOf};
 
 use crate::files::{ROOM, SLOTS};
 use crate::measuring::Ending;
@@ -47,9 +47,9 @@ fn meets(
     commands: &Transaction,
     place: (usize, usize),
 ) -> bool
-    requires own { IsOf library.now session.old }
-    requires fit { All (CommandFits (setting_of library.now.given).prelude) commands.now }
-    ensures { IsOf library.now session.new }
+    requires own { IsSessionOf library.now session.old }
+    requires fit { All (CommandFits (setting_given library.now.given).prelude) commands.now }
+    ensures { IsSessionOf library.now session.new }
 {
     let outcome = session.attempt(alloc, library, commands);
     put_try(out, place, &outcome)
@@ -65,9 +65,9 @@ fn settle<R: Wait>(
     commands: &Transaction,
     place: (usize, usize),
 )
-    requires own { IsOf library.now session.old }
-    requires fit { All (CommandFits (setting_of library.now.given).prelude) commands.now }
-    ensures { IsOf library.now session.new }
+    requires own { IsSessionOf library.now session.old }
+    requires fit { All (CommandFits (setting_given library.now.given).prelude) commands.now }
+    ensures { IsSessionOf library.now session.new }
 {
     for _ in rt.forever() {
         if !meets(alloc, out, library, session, commands, place) {
@@ -87,8 +87,8 @@ fn work<R: Wait>(
     script: &Script,
     number: usize,
 ) -> Option<Vec<u8>>
-    requires own { IsOf library.now session }
-    requires fit { All (All (CommandFits (setting_of library.now.given).prelude)) script.now }
+    requires own { IsSessionOf library.now session }
+    requires fit { All (All (CommandFits (setting_given library.now.given).prelude)) script.now }
 {
     let mut session = session;
     let mut out = Written::new(alloc);
@@ -109,8 +109,8 @@ fn work_all<R: Threads + Wait + Sync>(
     sessions: Vec<Session>,
     scripts: &[Script],
 ) -> Option<Vec<Option<Vec<u8>>>>
-    requires own { All (IsOf library.now) sessions.items }
-    requires fit { All (All (All (CommandFits (setting_of library.now.given).prelude))) scripts.now }
+    requires own { All (IsSessionOf library.now) sessions.items }
+    requires fit { All (All (All (CommandFits (setting_given library.now.given).prelude))) scripts.now }
 {
     let taken = AtomicUsize::new(0);
     let taken = &taken;
@@ -118,7 +118,8 @@ fn work_all<R: Threads + Wait + Sync>(
         rt,
         sessions,
         &|session: Session| -> Option<Vec<u8>>
-            requires { IsOf library.now session × All (All (All (CommandFits (setting_of library.now.given).prelude))) scripts.now }
+            requires { IsSessionOf library.now session
+                × All (All (All (CommandFits (setting_given library.now.given).prelude))) scripts.now }
         {
             let place = taken.fetch_add(1, Ordering::SeqCst);
             if place >= scripts.len() {

@@ -1,7 +1,7 @@
 //! The sessions of a library at their places, from 0.
 
 ghost use Rattle.std.specs.Prelude.{◌≡◌, ◌+◌, ◌<◌, ◌≤◌, length, All};
-ghost use Rattle.transaction.specs.Members.{IsOf};
+ghost use Rattle.transaction.specs.Members.{IsSessionOf};
 
 use crate::written::Written;
 use transaction::{Library, Session};
@@ -33,9 +33,9 @@ pub fn named(names: &str, count: usize) -> Option<[bool; MOST_SESSIONS]> {
 /// Takes the session at a place out; those behind it move up.
 fn take(library: &Library, sessions: &mut Vec<Session>, place: usize) -> Session
     requires place { place < length sessions.old.items }
-    requires own { All (IsOf library.now) sessions.old.items }
-    ensures own { IsOf library.now result }
-    ensures others { All (IsOf library.now) sessions.new.items }
+    requires own { All (IsSessionOf library.now) sessions.old.items }
+    ensures own { IsSessionOf library.now result }
+    ensures others { All (IsSessionOf library.now) sessions.new.items }
     ensures one_less { length sessions.new.items + 1 ≡ length sessions.old.items }
 {
     let _ = library;
@@ -51,9 +51,9 @@ fn put_back(
     session: Session,
 )
     requires place { place ≤ length sessions.old.items }
-    requires own { IsOf library.now session }
-    requires others { All (IsOf library.now) sessions.old.items }
-    ensures { All (IsOf library.now) sessions.new.items }
+    requires own { IsSessionOf library.now session }
+    requires others { All (IsSessionOf library.now) sessions.old.items }
+    ensures { All (IsSessionOf library.now) sessions.new.items }
 {
     let _ = library;
     if sessions.insert(place, session).is_err() {
@@ -69,8 +69,8 @@ pub fn learn(
     place: usize,
     other: &str,
 ) -> bool
-    requires { All (IsOf library.now) sessions.old.items }
-    ensures { All (IsOf library.now) sessions.new.items }
+    requires { All (IsSessionOf library.now) sessions.old.items }
+    ensures { All (IsSessionOf library.now) sessions.new.items }
 {
     let Some(other) = place_of(other) else {
         return false;
@@ -88,8 +88,8 @@ pub fn learn(
 
 /// Leaves out the sessions that aren't named.
 pub fn leave_others(library: &Library, sessions: &mut Vec<Session>, is_named: &[bool])
-    requires { All (IsOf library.now) sessions.old.items }
-    ensures { All (IsOf library.now) sessions.new.items }
+    requires { All (IsSessionOf library.now) sessions.old.items }
+    ensures { All (IsSessionOf library.now) sessions.new.items }
 {
     for place in (0..sessions.len()).rev() {
         if is_named.get(place) != Some(&true) {

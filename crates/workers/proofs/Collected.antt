@@ -12,7 +12,7 @@ use Rattle.std.proofs.lemmas.List.Elements.{All-head, All-tail}
 use Rattle.std.proofs.lemmas.List.Sorted.{IsPermutation-sym, IsPermutation-trans, IsPermutation-map, length_permutation}
 use Rattle.std.proofs.lemmas.Map.Lookups.{exact_unsigned}
 use Rattle.library.proofs.Orders.{ties_at}
-use Rattle.claims.specs.Claims.{Home as Numbers, AreClaimed, claims_of, up_to}
+use Rattle.claims.specs.Claims.{Counting, AreClaimed, claims_of, up_to}
 use Rattle.workers.specs.declared.shift.Row.{Row}
 use Rattle.workers.specs.declared.shift.Shift.{Shift}
 use Rattle.workers.specs.Shifts.{AreWhole}
@@ -93,7 +93,7 @@ claims_are (s ∷ ss) claimed =
     ∙ sym (map-append script s.rows.items (rows_of ss)))
 
 -- the rows in the order of their scripts are one for each script
-pub in_order : (numbers : Numbers) (shifts : List Shift) (rows : List Row) → AreWhole numbers shifts
+pub in_order : (numbers : Counting) (shifts : List Shift) (rows : List Row) → AreWhole numbers shifts
     → AreClaimed numbers (map (λ s. s.claimant) shifts) → IsPermutation (rows_of shifts) rows
     → IsNonDecreasingBy (λ row. row.script) rows → map (λ row. row.script) rows ≡ up_to numbers.count
 in_order numbers [] rows whole claimed same rises = absurd (whole.some refl)

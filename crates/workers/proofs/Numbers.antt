@@ -10,11 +10,11 @@ use Rattle.cells.proofs.Ones.{filter_none}
 use Rattle.library.specs.declared.command.Command.{Command}
 use Rattle.library.specs.Histories.{Entry, void_entry, done_entry}
 use Rattle.lawful.specs.declared.notes.Given.{Given}
-use Rattle.lawful.specs.Lawful.{setting_of, first_library}
+use Rattle.lawful.specs.Lawful.{setting_given, first_library}
 use Rattle.lawful.specs.History.{history_of}
 use Rattle.transaction.specs.declared.outcome.Outcome.{Outcome}
 use Rattle.transaction.specs.declared.outcome.Outcome.TheVariants as outcome
-use Rattle.transaction.specs.Members.{Member, Stands}
+use Rattle.transaction.specs.Members.{Member, IsSoundMember}
 use Rattle.transaction.specs.Attempts.{Submits, IsVoidNumber}
 use Rattle.transaction.proofs.Recorded.{voids_grow}
 use Rattle.workers.specs.Works.{OutcomeAgrees, is_done, is_done_entry, newly_done, numbers_of}
@@ -39,7 +39,7 @@ module _ (last : Member) where
       filter_none is_done_last numbers (λ n has. void_not_done n (all_has (IsVoidNumber last.known) numbers n void has))
 
   outcome_filtered : (g : Given) (cs : List Command) (o : Outcome)
-      → OutcomeAgrees (setting_of g) (first_library g) (history_of last.known.seen) cs o
+      → OutcomeAgrees (setting_given g) (first_library g) (history_of last.known.seen) cs o
       → filter is_done_last (numbers_of (o ∷ [])) ≡ numbers_of (o ∷ [])
   outcome_filtered g cs (outcome.Committed number replies) told =
       let is : number ≡ suc told.0 = omega (arith, told.1) in
@@ -101,7 +101,7 @@ module _ (last : Member) where
     are = filter-append (is_done (history_of last.known.seen)) p.numbers q.numbers ∙ λ j. p.are j ++ q.are j;
   }
 
-  pub submitted_draws : (cs : List Command) (old new : Member) (o : Outcome) → Submits cs old new o → Goes new last → Stands last
+  pub submitted_draws : (cs : List Command) (old new : Member) (o : Outcome) → Submits cs old new o → Goes new last → IsSoundMember last
       → Draws last old new (numbers_of (o ∷ []))
   submitted_draws cs old new o submits goes stands =
       let own = outcome_filtered last last.given cs o

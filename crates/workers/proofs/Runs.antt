@@ -7,10 +7,10 @@ use Rattle.library.specs.declared.command.Command.{Command}
 use Rattle.library.specs.Histories.{Entry}
 use Rattle.ranges.specs.Ranges.{Has}
 use Rattle.lawful.specs.declared.notes.Given.{Given}
-use Rattle.lawful.specs.Lawful.{setting_of, first_library}
+use Rattle.lawful.specs.Lawful.{setting_given, first_library}
 use Rattle.lawful.specs.History.{AllAgree}
 use Rattle.transaction.specs.declared.outcome.Outcome.{Outcome}
-use Rattle.transaction.specs.Members.{Member, Stands}
+use Rattle.transaction.specs.Members.{Member, IsSoundMember}
 use Rattle.workers.specs.declared.shift.Row.{Row}
 use Rattle.workers.specs.Works.{ScriptAgrees, HasOutcomes, ToldBy, MakesRuns, IsRunBy, IsHandedBack, all_of, newly_done, numbers_of}
 use Rattle.workers.specs.Works.{place_behind}
@@ -28,7 +28,7 @@ has_outcomes [] old new (o ∷ os) none = absurd none
 has_outcomes (cs ∷ rest) old new [] none = absurd none
 has_outcomes (cs ∷ rest) old new (o ∷ os) (mid, first, others) = let h = has_outcomes rest mid new os others in omega arith
 
-module _ (new : Member) (stands : Stands new) where
+module _ (new : Member) (stands : IsSoundMember new) where
   script_goes : (script : List (List Command)) (old : Member) (os : List Outcome) → SubmitsAll script old new os → Goes old new
   script_goes [] old [] same = subst (λ (m : Member). Goes m new) same (goes_nowhere new stands)
   script_goes [] old (o ∷ os) none = absurd none
@@ -39,7 +39,7 @@ module _ (new : Member) (stands : Stands new) where
   -- as each history has it with which the calls agree
   script_agrees : (g : Given) (h : List Entry) → AllAgree g h new.known.mine → (place : ℕ) (script : List (List Command)) (old : Member)
       (os : List Outcome) → SubmitsAll script old new os → place ≤ length old.known.seen.history
-      → ScriptAgrees (setting_of g) (first_library g) h place script os
+      → ScriptAgrees (setting_given g) (first_library g) h place script os
   script_agrees g h agree place [] old [] same seen = tt
   script_agrees g h agree place [] old (o ∷ os) none seen = absurd none
   script_agrees g h agree place (cs ∷ rest) old [] none seen = absurd none
@@ -119,11 +119,11 @@ module _ (scripts : List (List (List Command))) (old new : Member) (rows : List 
   all_submitted : SubmitsAll (all_of scripts (map (λ row. row.script) rows)) old new (told_in rows)
   all_submitted = one_script scripts old new rows runs
 
-  pub runs_later : Stands new → IsHandedBack old new
+  pub runs_later : IsSoundMember new → IsHandedBack old new
   runs_later stands =
       let goes = script_goes new stands _ old (told_in rows) all_submitted in (goes.later, goes.numbers, goes.drawn)
 
-  pub runs_share : Stands new → (g : Given) → new.given ≡ g
+  pub runs_share : IsSoundMember new → (g : Given) → new.given ≡ g
       → IsRunBy g old new (all_of scripts (map (λ row. row.script) rows)) (told_in rows)
   runs_share stands g same = record {
     given = same;
@@ -133,5 +133,5 @@ module _ (scripts : List (List (List Command))) (old new : Member) (rows : List 
     ran = script_runs _ old new (told_in rows) all_submitted;
   }
 
-  pub runs_numbers : Stands new → newly_done old new ≡ numbers_of (told_in rows)
+  pub runs_numbers : IsSoundMember new → newly_done old new ≡ numbers_of (told_in rows)
   runs_numbers stands = drawn_newly old new (numbers_of (told_in rows)) (script_draws new stands _ old (told_in rows) all_submitted)

@@ -11,9 +11,9 @@ use Rattle.std.proofs.lemmas.Option.{slice_get-get_or}
 use Rattle.std.proofs.lemmas.List.{map-append, take_more}
 use Rattle.library.specs.declared.command.Command.{Command}
 use Rattle.transaction.specs.declared.outcome.Outcome.{Outcome}
-use Rattle.transaction.specs.Members.{Member, Stands}
+use Rattle.transaction.specs.Members.{Member, IsSoundMember}
 use Rattle.transaction.specs.Attempts.{Submits}
-use Rattle.claims.specs.Claims.{Home, Claimant, IsOf, Claims, Ends}
+use Rattle.claims.specs.Claims.{Counting, Claimant, IsClaimantOf, Claims, Ends}
 use Rattle.workers.specs.declared.shift.Row.{Row}
 use Rattle.workers.specs.Shifts.{SubmitsAll, RunsAll, IsShift}
 
@@ -72,9 +72,9 @@ rises_more xs n rises below k within =
           omega (arith, first, second, up)
     ]
 
-module _ (home : Home) (n : ℕ) (old new : Claimant) (claims : Claims home n old new) where
-  pub claims_on : IsOf home old → IsOf home new
-  claims_on is = subst (IsOf home) (sym claims.is) is
+module _ (home : Counting) (n : ℕ) (old new : Claimant) (claims : Claims home n old new) where
+  pub claims_on : IsClaimantOf home old → IsClaimantOf home new
+  claims_on is = subst (IsClaimantOf home) (sym claims.is) is
 
   pub same_table : new.table ≡ old.table
   same_table = ap (λ (c : Claimant). c.table) claims.is
@@ -107,7 +107,7 @@ module _ (home : Home) (n : ℕ) (old new : Claimant) (claims : Claims home n ol
 
 -- a worker that is told that there are no more ends its shift
 pub shift_ends : (scripts : List (List (List Command))) (session after : Member) (claimant last told : Claimant) (rows : List Row)
-    → RunsAll scripts session after rows → Stands after → last.table ≡ claimant.table → last.count ≡ claimant.count
+    → RunsAll scripts session after rows → IsSoundMember after → last.table ≡ claimant.table → last.count ≡ claimant.count
     → last.claimed ≡ claimant.claimed ++ map (λ row. row.script) rows → IsStrictlyIncreasing (map (λ row. row.script) rows) → Ends last told
     → IsShift scripts session claimant after told rows
 shift_ends scripts session after claimant last told rows runs stands table count claimed rises ends =

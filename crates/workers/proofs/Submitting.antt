@@ -16,14 +16,14 @@ use Rattle.tlwords.specs.Seen.{Work, Call, Committed, Answered}
 use Rattle.lawful.specs.declared.notes.Given.{Given}
 use Rattle.lawful.specs.declared.notes.Note.{Note}
 use Rattle.lawful.specs.declared.notes.Note.TheVariants as note
-use Rattle.lawful.specs.Lawful.{setting_of, first_library}
-use Rattle.lawful.specs.History.{history_of, CommitAgrees, AnswerAgrees, CallAgrees, AllAgree}
+use Rattle.lawful.specs.Lawful.{setting_given, first_library}
+use Rattle.lawful.specs.History.{history_of, CommitAgrees, AnswerAgrees, NoteAgrees, AllAgree}
 use Rattle.lawful.proofs.Entries.{length-entries_of}
 use Rattle.lending.specs.Lent.{Pass, FullStays}
 use Rattle.transaction.specs.declared.outcome.Conflict.{Conflict as Met}
 use Rattle.transaction.specs.declared.outcome.Outcome.{Outcome}
 use Rattle.transaction.specs.declared.outcome.Outcome.TheVariants as outcome
-use Rattle.transaction.specs.Members.{Member, IsLater, Stands}
+use Rattle.transaction.specs.Members.{Member, IsLater, IsSoundMember}
 use Rattle.transaction.specs.Attempts.{Gains, GainsCall, IsOneRun, Submits, SaysDone, SaysRefused, tried}
 use Rattle.transaction.proofs.Trying.{later_refl, later_trans}
 use Rattle.workers.specs.Works.{OutcomeAgrees, OutcomeFits, ToldBy, MakesRuns, StandsFrom, is_answer, is_of_run, place_behind, numbers_of}
@@ -38,7 +38,7 @@ pub record Goes (old new : Member) : Type 0 where
   pub numbers : List ℕ
   pub drawn : new.known.drawn ≡ old.known.drawn ++ numbers
 
-pub goes_nowhere : (m : Member) → Stands m → Goes m m
+pub goes_nowhere : (m : Member) → IsSoundMember m → Goes m m
 goes_nowhere m stands = record {
   later = later_refl m stands;
   calls = [];
@@ -95,36 +95,36 @@ agrees_within P xs ys x all =
 module _ (g : Given) (h : List Entry) where
   -- the call that was gained is one of those that agree
   gained_agrees : (old new : Pass) (call : Work Note → Call Note) (Says : Note → Type 0) (gains : GainsCall old new call Says)
-      → (rest : List (Call Note)) → AllAgree g h (new.mine ++ rest) → CallAgrees g h (call gains.0)
+      → (rest : List (Call Note)) → AllAgree g h (new.mine ++ rest) → NoteAgrees g h (call gains.0)
   gained_agrees old new call Says gains rest all =
-      agrees_within (CallAgrees g h) old.mine rest (call gains.0)
+      agrees_within (NoteAgrees g h) old.mine rest (call gains.0)
       (subst (λ (calls : List (Call Note)). AllAgree g h (calls ++ rest)) gains.2 all)
 
   commit_told : (cs : List Command) (replies : List Reply) (number : ℕ) (n : Note) → SaysDone cs replies n → CommitAgrees g h number n
-      → Agrees (setting_of g) (first_library g) h cs (committed number replies)
+      → Agrees (setting_given g) (first_library g) h cs (committed number replies)
   commit_told cs replies number (note.Done c r) says agrees =
       (agrees.0, agrees.1, agrees.2 ∙ λ j. Some (done_entry (says.0 j) (says.1 j)))
   commit_told cs replies number (note.Refused c r) says agrees = absurd says
   commit_told cs replies number (note.Looked library) says agrees = absurd says
 
   read_told : (cs : List Command) (replies : List Reply) (place : ℕ) (n : Note) → SaysDone cs replies n → AnswerAgrees g h place n
-      → Agrees (setting_of g) (first_library g) h cs (read place replies)
+      → Agrees (setting_given g) (first_library g) h cs (read place replies)
   read_told cs replies place (note.Done c r) says agrees =
-      subst (λ (z : List Command). Agrees (setting_of g) (first_library g) h z (read place replies)) says.0
-      (subst (λ (z : List Reply). Agrees (setting_of g) (first_library g) h c.value (read place z)) says.1 agrees)
+      subst (λ (z : List Command). Agrees (setting_given g) (first_library g) h z (read place replies)) says.0
+      (subst (λ (z : List Reply). Agrees (setting_given g) (first_library g) h c.value (read place z)) says.1 agrees)
   read_told cs replies place (note.Refused c r) says agrees = absurd says
   read_told cs replies place (note.Looked library) says agrees = absurd says
 
   refusal_told : (cs : List Command) (reason : Refusal) (place : ℕ) (n : Note) → SaysRefused cs reason n → AnswerAgrees g h place n
-      → Agrees (setting_of g) (first_library g) h cs (refused place reason)
+      → Agrees (setting_given g) (first_library g) h cs (refused place reason)
   refusal_told cs reason place (note.Refused c r) says agrees =
-      subst (λ (z : List Command). Agrees (setting_of g) (first_library g) h z (refused place reason)) says.0
-      (subst (λ (z : Refusal). Agrees (setting_of g) (first_library g) h c.value (refused place z)) says.1 agrees)
+      subst (λ (z : List Command). Agrees (setting_given g) (first_library g) h z (refused place reason)) says.0
+      (subst (λ (z : Refusal). Agrees (setting_given g) (first_library g) h c.value (refused place z)) says.1 agrees)
   refusal_told cs reason place (note.Done c r) says agrees = absurd says
   refusal_told cs reason place (note.Looked library) says agrees = absurd says
 
   outcome_told : (cs : List Command) (old new : Pass) (o : Outcome) → Gains cs old new o → ((met : Met) → o ≢ outcome.Conflict met)
-      → (rest : List (Call Note)) → AllAgree g h (new.mine ++ rest) → OutcomeAgrees (setting_of g) (first_library g) h cs o
+      → (rest : List (Call Note)) → AllAgree g h (new.mine ++ rest) → OutcomeAgrees (setting_given g) (first_library g) h cs o
   outcome_told cs old new (outcome.Committed number replies) gains settled rest all =
       commit_told cs replies number gains.3.0.note gains.3.1
       (gained_agrees old new (Committed number) (SaysDone cs replies) gains.3 rest all)
@@ -140,7 +140,8 @@ module _ (g : Given) (h : List Entry) where
   outcome_told cs old new outcome.NoMemory gains settled rest all = tt
 
   -- what comes behind it stands within the history
-  behind_within : (cs : List Command) (o : Outcome) (place : ℕ) → OutcomeAgrees (setting_of g) (first_library g) h cs o → place ≤ length h
+  behind_within : (cs : List Command) (o : Outcome) (place : ℕ) → OutcomeAgrees (setting_given g) (first_library g) h cs o
+      → place ≤ length h
       → place_behind place o ≤ length h
   behind_within cs (outcome.Committed number replies) place told within =
       let last = slice_get_within h told.0 (done_entry cs replies) told.2 in let is = told.1 in omega arith
@@ -266,7 +267,7 @@ module _ (cs : List Command) (old new : Member) (o : Outcome) (submits : Submits
       }
 
   pub submitted_agrees : (last : Member) → Goes new last → (g : Given) (h : List Entry) → AllAgree g h last.known.mine
-      → OutcomeAgrees (setting_of g) (first_library g) h cs o
+      → OutcomeAgrees (setting_given g) (first_library g) h cs o
   submitted_agrees last goes g h agree =
       outcome_told g h cs before new.known o submits.gains submits.settled goes.calls (subst (AllAgree g h) goes.mine agree)
 

@@ -13,9 +13,9 @@ use Rattle.library.specs.declared.command.Command.{Command}
 use Rattle.ranges.specs.Ranges.{Has}
 use Rattle.ranges.proofs.Members.{all_from_has, contains_from_has, has_append_left, has_append_right, has_permutation}
 use Rattle.cells.proofs.Tallies.{is_one, permutation_from_counts}
-use Rattle.claims.specs.Claims.{Home as Numbers, Claimant, IsOf as IsClaimantOf, IsNewOf, up_to}
+use Rattle.claims.specs.Claims.{Counting, Claimant, IsClaimantOf, IsNewOf, up_to}
 use Rattle.transaction.specs.declared.outcome.Outcome.{Outcome}
-use Rattle.transaction.specs.Members.{Home, Member, IsOf, IsLater}
+use Rattle.transaction.specs.Members.{Home, Member, IsSessionOf, IsLater}
 use Rattle.workers.specs.declared.shift.Row.{Row}
 use Rattle.workers.specs.declared.shift.Shift.{Shift}
 use Rattle.workers.specs.Works.{Works, HasOutcomes, IsRunBy, IsShareOf, AreSharesOf, IsHandedBack, all_of, all_newly_done, numbers_of}
@@ -124,7 +124,7 @@ numbers_in row = numbers_of row.outcomes.items
 
 module _ (home : Home) (opened : home.words.setting ≡ Some home.given) (scripts : List Script) where
   -- what a session was given is what the library was given
-  given_is : (old new : Member) → IsOf home old → IsLater old new → new.given ≡ home.given
+  given_is : (old new : Member) → IsSessionOf home old → IsLater old new → new.given ≡ home.given
   given_is old new own later =
       let told : Some new.given ≡ Some home.given = sym later.stands.setting ∙ (ap (λ h. h.setting) (later.home ∙ own) ∙ opened) in
       cc
@@ -156,7 +156,7 @@ module _ (home : Home) (opened : home.words.setting ≡ Some home.given) (script
       (all_outcomes ms cs ss shifts.1)
   all_outcomes _ _ _ shifts = absurd shifts
 
-  all_shares : (outcomes : List (List Outcome)) (ms : List Member) (cs : List Claimant) (ss : List Shift) → All (IsOf home) ms
+  all_shares : (outcomes : List (List Outcome)) (ms : List Member) (cs : List Claimant) (ss : List Shift) → All (IsSessionOf home) ms
       → AreShifts scripts ms cs ss
       → ((row : Row) → Has row (rows_of ss) → slice_index_or outcomes row.script [] ≡ row.outcomes.items)
       → AreSharesOf home.given scripts outcomes ms (sessions_of ss) (map share_of ss)
@@ -164,7 +164,7 @@ module _ (home : Home) (opened : home.words.setting ≡ Some home.given) (script
   all_shares outcomes (m ∷ ms) (c ∷ cs) (s ∷ ss) own shifts each =
       let shift = shifts.0 in
       let later = (runs_later scripts m s.session s.rows.items shift.runs shift.stands).0 in
-      let same = given_is m s.session (All-head (IsOf home) m ms own) later in
+      let same = given_is m s.session (All-head (IsSessionOf home) m ms own) later in
       let told = share_told outcomes s.rows.items (λ row has. each row (has_append_left s.rows.items (rows_of ss) row has)) in
       let run = runs_share scripts m s.session s.rows.items shift.runs shift.stands home.given same in
       let share : IsShareOf home.given scripts outcomes m s.session (share_of s) = record {
@@ -172,14 +172,14 @@ module _ (home : Home) (opened : home.words.setting ≡ Some home.given) (script
         run = subst (IsRunBy home.given m s.session (all_of scripts (share_of s))) (sym told) run;
       } in (
         share,
-        all_shares outcomes ms cs ss (All-tail (IsOf home) m ms own) shifts.1
+        all_shares outcomes ms cs ss (All-tail (IsSessionOf home) m ms own) shifts.1
             (λ row has. each row (has_append_right s.rows.items (rows_of ss) row has)),
       )
   all_shares outcomes _ _ _ own shifts each = absurd shifts
 
   -- what became of all scripts
   pub works : (before : List Member) (cs : List Claimant) (ss : List Shift) (outcomes : List (List Outcome)) (after : List Member)
-      → All (IsOf home) before → AreShifts scripts before cs ss → AreCollected (length scripts) ss outcomes after
+      → All (IsSessionOf home) before → AreShifts scripts before cs ss → AreCollected (length scripts) ss outcomes after
       → Works home.given before scripts outcomes after
   works before cs ss outcomes after own shifts made =
       let outcomes_of = λ (row : Row). row.outcomes.items in
@@ -209,8 +209,8 @@ module _ (home : Home) (opened : home.words.setting ≡ Some home.given) (script
       (subst (λ (ms : List Member). Works home.given before scripts all ms) (sym made.sessions_are) whole)
 
 -- the sessions that are handed back are of the library
-pub still_of : (home : Home) (before after : List Member) → All (IsOf home) before → AllZip IsHandedBack before after
-    → All (IsOf home) after
+pub still_of : (home : Home) (before after : List Member) → All (IsSessionOf home) before → AllZip IsHandedBack before after
+    → All (IsSessionOf home) after
 still_of home before after own back i d within =
     let same = length_all_zip IsHandedBack before after back in
     let here : i < length before = omega (arith, same, within) in
@@ -218,7 +218,7 @@ still_of home before after own back i d within =
 
 -- ---- the claimants
 
-module _ (numbers : Numbers) (scripts : List Script) where
+module _ (numbers : Counting) (scripts : List Script) where
   -- what is so of each shift of a new claimant
   each_shift : (P : Shift → Type 0)
       → ((m : Member) (c : Claimant) (s : Shift) → IsNewOf numbers c → IsShift scripts m c s.session s.claimant s.rows.items → P s)

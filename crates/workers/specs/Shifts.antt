@@ -2,9 +2,9 @@
 use Rattle.std.specs.Prelude.{◌≡◌, ◌≢◌, ℕ, List, [], ◌∷◌, ◌++◌, true, Some, All, IsPermutation, flat_map, length, map, slice_get}
 use Rattle.std.specs.List.Sorted.{IsStrictlyIncreasing}
 use Rattle.library.specs.declared.command.Command.{Command}
-use Rattle.claims.specs.Claims.{Home as Numbers, Claimant, IsOf, up_to}
+use Rattle.claims.specs.Claims.{Counting, Claimant, IsClaimantOf, up_to}
 use Rattle.transaction.specs.declared.outcome.Outcome.{Outcome}
-use Rattle.transaction.specs.Members.{Member, Stands}
+use Rattle.transaction.specs.Members.{Member, IsSoundMember}
 use Rattle.transaction.specs.Attempts.{Submits}
 use Rattle.workers.specs.declared.shift.Row.{Row}
 use Rattle.workers.specs.declared.shift.Shift.{Shift}
@@ -28,7 +28,7 @@ RunsAll scripts old new (row ∷ rows) =
 pub record IsShift (scripts : List (List (List Command))) (session : Member) (claimant : Claimant) (after : Member) (last : Claimant)
     (rows : List Row) : Type 0 where
   pub runs : RunsAll scripts session after rows
-  pub stands : Stands after
+  pub stands : IsSoundMember after
   pub table : last.table ≡ claimant.table
   pub count : last.count ≡ claimant.count
   pub claimed : last.claimed ≡ claimant.claimed ++ map (λ row. row.script) rows
@@ -57,10 +57,10 @@ IsKept p s = IsShift p.scripts.now p.session.value p.claimant.value s.session s.
 -- ---- all shifts together
 
 -- so many claimants, all of these numbers, claimed the scripts that were run, until they were told that there are no more
-pub record AreWhole (numbers : Numbers) (shifts : List Shift) : Type 0 where
+pub record AreWhole (numbers : Counting) (shifts : List Shift) : Type 0 where
   pub some : shifts ≢ []
   pub all : length shifts ≡ numbers.claimants
-  pub own : All (λ s. IsOf numbers s.claimant) shifts
+  pub own : All (λ s. IsClaimantOf numbers s.claimant) shifts
   pub ended : All (λ s. s.claimant.ended ≡ true) shifts
   pub claimed : All (λ s. s.claimant.claimed ≡ map (λ row. row.script) s.rows.items) shifts
 

@@ -15,7 +15,7 @@ use Rattle.claims.specs.Claims.{up_to}
 use Rattle.tlwords.specs.Seen.{Call}
 use Rattle.lawful.specs.declared.notes.Given.{Given}
 use Rattle.lawful.specs.declared.notes.Note.{Note}
-use Rattle.lawful.specs.Lawful.{setting_of, first_library}
+use Rattle.lawful.specs.Lawful.{setting_given, first_library}
 use Rattle.lawful.specs.History.{history_of, AllAgree}
 use Rattle.transaction.specs.declared.outcome.Outcome.{Outcome}
 use Rattle.transaction.specs.declared.outcome.Outcome.TheVariants as outcome
@@ -102,7 +102,7 @@ pub record MakesRuns (old new : Member) (outcomes : List Outcome) : Type 0 where
 pub record IsRunBy (g : Given) (old new : Member) (script : List (List Command)) (outcomes : List Outcome) : Type 0 where
   pub given : new.given ≡ g
   pub agrees : (h : List Entry) → AllAgree g h new.known.mine
-      → ScriptAgrees (setting_of g) (first_library g) h (length old.known.seen.history) script outcomes
+      → ScriptAgrees (setting_given g) (first_library g) h (length old.known.seen.history) script outcomes
   pub told : All (ToldBy new) outcomes
   pub ran : MakesRuns old new outcomes
 
@@ -182,6 +182,6 @@ pub record Works (g : Given) (before : List Member) (scripts : List (List (List 
 
 -- why scripts aren't run to their end: memory ran out, or a thread can't be had, which is asked for only where there are two sessions or
 -- more
-abbrev pub IsLack : List Member → WorkError → Type 0
-IsLack sessions NoThread = 2 ≤ length sessions
-IsLack sessions NoMemory = Unit {0}
+abbrev pub IsWorkLack : List Member → WorkError → Type 0
+IsWorkLack sessions NoThread = 2 ≤ length sessions
+IsWorkLack sessions NoMemory = Unit {0}

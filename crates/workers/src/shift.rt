@@ -2,9 +2,9 @@
 
 ghost use Rattle.std.specs.Prelude.{◌≡◌, All, IfOk, length};
 ghost use Rattle.library.specs.Fitting.{CommandFits};
-ghost use Rattle.claims.specs.Claims.{IsOf as Claims};
-ghost use Rattle.lawful.specs.Lawful.{setting_of};
-ghost use Rattle.transaction.specs.Members.{IsOf};
+ghost use Rattle.claims.specs.Claims.{IsClaimantOf};
+ghost use Rattle.lawful.specs.Lawful.{setting_given};
+ghost use Rattle.transaction.specs.Members.{IsSessionOf};
 ghost use Rattle.workers.specs.Shifts.{SubmitsAll, IsShift};
 
 use crate::gate::Gate;
@@ -62,10 +62,10 @@ pub(crate) fn work<R: Wait, G: Gate>(
     session: Session,
     claimant: Claimant,
 ) -> Result<Shift, AllocError>
-    requires own { IsOf shop.library.now session }
-    requires claims { Claims shop.numbers.now claimant }
+    requires own { IsSessionOf shop.library.now session }
+    requires claims { IsClaimantOf shop.numbers.now claimant }
     requires indexes { shop.numbers.now.count ≡ length shop.scripts.now }
-    requires fit { All (All (All (CommandFits (setting_of shop.library.now.given).prelude))) shop.scripts.now }
+    requires fit { All (All (All (CommandFits (setting_given shop.library.now.given).prelude))) shop.scripts.now }
     ensures { IfOk result (λ shift. IsShift shop.entry.scripts.now session claimant shift.session shift.claimant shift.rows.items) }
 {
     let mut session = session;
@@ -99,9 +99,9 @@ fn submit_all<R: Wait, G: Gate>(
     session: &mut Session,
     transactions: &[Transaction],
 ) -> Result<Vec<Outcome>, AllocError>
-    requires own { IsOf shop.library.now session.old }
-    requires fit { All (All (CommandFits (setting_of shop.library.now.given).prelude)) transactions.now }
-    ensures own { IsOf shop.entry.library.now session.new }
+    requires own { IsSessionOf shop.library.now session.old }
+    requires fit { All (All (CommandFits (setting_given shop.library.now.given).prelude)) transactions.now }
+    ensures own { IsSessionOf shop.entry.library.now session.new }
     ensures ok { IfOk result (λ outcomes. SubmitsAll transactions.now session.old session.new outcomes.items) }
 {
     let mut outcomes = Vec::with_capacity(alloc, transactions.len())?;

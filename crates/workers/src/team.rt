@@ -3,11 +3,11 @@
 ghost use Rattle.std.specs.Prelude.{◌≡◌, All, IfOk, IfErr, length, map};
 ghost use Rattle.std.specs.List.{AllZip};
 ghost use Rattle.library.specs.Fitting.{CommandFits};
-ghost use Rattle.claims.specs.Claims.{IsOf as Claims};
-ghost use Rattle.lawful.specs.Lawful.{setting_of};
-ghost use Rattle.transaction.specs.Members.{IsOf};
+ghost use Rattle.claims.specs.Claims.{IsClaimantOf};
+ghost use Rattle.lawful.specs.Lawful.{setting_given};
+ghost use Rattle.transaction.specs.Members.{IsSessionOf};
 ghost use Rattle.workers.specs.Shifts.{AreShifts, ArePromised, IsKept};
-ghost use Rattle.workers.specs.Works.{IsLack};
+ghost use Rattle.workers.specs.Works.{IsWorkLack};
 
 use crate::error::WorkError;
 use crate::gate::Gate;
@@ -51,13 +51,13 @@ pub(crate) fn employ<R: Threads + Wait + Sync, G: Gate + Sync>(
     sessions: Vec<Session>,
     claimants: Vec<Claimant>,
 ) -> Result<Vec<Shift>, WorkError>
-    requires own { All (IsOf shop.library.now) sessions.items }
-    requires claims { All (Claims shop.numbers.now) claimants.items }
+    requires own { All (IsSessionOf shop.library.now) sessions.items }
+    requires claims { All (IsClaimantOf shop.numbers.now) claimants.items }
     requires pairs { length claimants.items ≡ length sessions.items }
     requires indexes { shop.numbers.now.count ≡ length shop.scripts.now }
-    requires fit { All (All (All (CommandFits (setting_of shop.library.now.given).prelude))) shop.scripts.now }
+    requires fit { All (All (All (CommandFits (setting_given shop.library.now.given).prelude))) shop.scripts.now }
     ensures shifts { IfOk result (λ shifts. AreShifts shop.entry.scripts.now sessions.items claimants.items shifts.items) }
-    ensures lack { IfErr result (IsLack sessions.items) }
+    ensures lack { IfErr result (IsWorkLack sessions.items) }
 {
     if sessions.len() < 2 {
         Ok(work_here(rt, alloc, shop, sessions, claimants)?)
@@ -74,11 +74,11 @@ fn work_here<R: Wait, G: Gate>(
     sessions: Vec<Session>,
     claimants: Vec<Claimant>,
 ) -> Result<Vec<Shift>, AllocError>
-    requires own { All (IsOf shop.library.now) sessions.items }
-    requires claims { All (Claims shop.numbers.now) claimants.items }
+    requires own { All (IsSessionOf shop.library.now) sessions.items }
+    requires claims { All (IsClaimantOf shop.numbers.now) claimants.items }
     requires pairs { length claimants.items ≡ length sessions.items }
     requires indexes { shop.numbers.now.count ≡ length shop.scripts.now }
-    requires fit { All (All (All (CommandFits (setting_of shop.library.now.given).prelude))) shop.scripts.now }
+    requires fit { All (All (All (CommandFits (setting_given shop.library.now.given).prelude))) shop.scripts.now }
     ensures { IfOk result (λ shifts. AreShifts shop.entry.scripts.now sessions.items claimants.items shifts.items) }
 {
     let mut shifts = Vec::with_capacity(alloc, sessions.len())?;
@@ -96,11 +96,11 @@ fn work_on_threads<R: Threads + Wait + Sync, G: Gate + Sync>(
     sessions: Vec<Session>,
     claimants: Vec<Claimant>,
 ) -> Result<Vec<Shift>, WorkError>
-    requires own { All (IsOf shop.library.now) sessions.items }
-    requires claims { All (Claims shop.numbers.now) claimants.items }
+    requires own { All (IsSessionOf shop.library.now) sessions.items }
+    requires claims { All (IsClaimantOf shop.numbers.now) claimants.items }
     requires pairs { length claimants.items ≡ length sessions.items }
     requires indexes { shop.numbers.now.count ≡ length shop.scripts.now }
-    requires fit { All (All (All (CommandFits (setting_of shop.library.now.given).prelude))) shop.scripts.now }
+    requires fit { All (All (All (CommandFits (setting_given shop.library.now.given).prelude))) shop.scripts.now }
     ensures { IfOk result (λ shifts. AreShifts shop.entry.scripts.now sessions.items claimants.items shifts.items) }
 {
     // The closures of this file capture the parts of the shop: of one that captures a `Shop`, its caller learns nothing that it ensures.
@@ -114,11 +114,11 @@ fn work_on_threads<R: Threads + Wait + Sync, G: Gate + Sync>(
         thread::scope_env(),
         rt,
         |scope| -> Result<Vec<Shift>, WorkError>
-            requires own { All (IsOf library.now) sessions.items }
-            requires claims { All (Claims numbers.now) claimants.items }
+            requires own { All (IsSessionOf library.now) sessions.items }
+            requires claims { All (IsClaimantOf numbers.now) claimants.items }
             requires pairs { length claimants.items ≡ length sessions.items }
             requires indexes { numbers.now.count ≡ length scripts.now }
-            requires fit { All (All (All (CommandFits (setting_of library.now.given).prelude))) scripts.now }
+            requires fit { All (All (All (CommandFits (setting_given library.now.given).prelude))) scripts.now }
             ensures { IfOk result (λ shifts. AreShifts scripts.entry.now sessions.items claimants.items shifts.items) }
         {
             let shop = Shop {
@@ -142,11 +142,11 @@ fn start_all<'s, 'w: 's, R: Threads + Wait + Sync, G: Gate + Sync>(
     sessions: Vec<Session>,
     claimants: Vec<Claimant>,
 ) -> Result<Vec<PromisedHandle<Handed, ShiftOf<'w>>>, WorkError>
-    requires own { All (IsOf shop.library.now) sessions.items }
-    requires claims { All (Claims shop.numbers.now) claimants.items }
+    requires own { All (IsSessionOf shop.library.now) sessions.items }
+    requires claims { All (IsClaimantOf shop.numbers.now) claimants.items }
     requires pairs { length claimants.items ≡ length sessions.items }
     requires indexes { shop.numbers.now.count ≡ length shop.scripts.now }
-    requires fit { All (All (All (CommandFits (setting_of shop.library.now.given).prelude))) shop.scripts.now }
+    requires fit { All (All (All (CommandFits (setting_given shop.library.now.given).prelude))) shop.scripts.now }
     ensures { IfOk result (λ made. ArePromised shop.entry.scripts.now sessions.items claimants.items (map (λ h. h.promise) made.items)) }
 {
     let mut handles = Vec::with_capacity(alloc, sessions.len())?;
@@ -165,10 +165,10 @@ fn start<'s, 'w: 's, R: Threads + Wait + Sync, G: Gate + Sync>(
     session: Session,
     claimant: Claimant,
 ) -> Result<PromisedHandle<Handed, ShiftOf<'w>>, WorkError>
-    requires own { IsOf shop.library.now session }
-    requires claims { Claims shop.numbers.now claimant }
+    requires own { IsSessionOf shop.library.now session }
+    requires claims { IsClaimantOf shop.numbers.now claimant }
     requires indexes { shop.numbers.now.count ≡ length shop.scripts.now }
-    requires fit { All (All (All (CommandFits (setting_of shop.library.now.given).prelude))) shop.scripts.now }
+    requires fit { All (All (All (CommandFits (setting_given shop.library.now.given).prelude))) shop.scripts.now }
     ensures scripts { IfOk result (λ handle. handle.promise.scripts.now ≡ shop.entry.scripts.now) }
     ensures session { IfOk result (λ handle. handle.promise.session.value ≡ session) }
     ensures claimant { IfOk result (λ handle. handle.promise.claimant.value ≡ claimant) }

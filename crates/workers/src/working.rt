@@ -2,10 +2,10 @@
 
 ghost use Rattle.std.specs.Prelude.{◌≡◌, ◌≢◌, [], All, IfOk, IfErr, length};
 ghost use Rattle.library.specs.Fitting.{CommandFits};
-ghost use Rattle.lawful.specs.Lawful.{setting_of};
-ghost use Rattle.transaction.specs.Members.{IsOf};
+ghost use Rattle.lawful.specs.Lawful.{setting_given};
+ghost use Rattle.transaction.specs.Members.{IsSessionOf};
 ghost use Rattle.transaction.specs.Closings.{lists_of};
-ghost use Rattle.workers.specs.Works.{Works, IsLack};
+ghost use Rattle.workers.specs.Works.{Works, IsWorkLack};
 ghost use Rattle.workers.specs.Shifts.{AreWhole, AreCollected};
 
 use crate::error::WorkError;
@@ -48,11 +48,11 @@ pub fn run_scripts<R: Threads + Wait + Sync, G: Gate + Sync>(
     gate: &G,
 ) -> Result<Worked, WorkError>
     requires some { sessions.items ≢ [] }
-    requires own { All (IsOf library.now) sessions.items }
-    requires fit { All (All (All (CommandFits (setting_of library.now.given).prelude))) scripts.now }
+    requires own { All (IsSessionOf library.now) sessions.items }
+    requires fit { All (All (All (CommandFits (setting_given library.now.given).prelude))) scripts.now }
     ensures worked { IfOk result (λ worked. Works library.now.given sessions.items scripts.now
         (lists_of worked.outcomes.items) worked.sessions.items) }
-    ensures lack { IfErr result (IsLack sessions.items) }
+    ensures lack { IfErr result (IsWorkLack sessions.items) }
 {
     // For the proof: the words were opened with what the library was given.
     let _ = library.prelude();

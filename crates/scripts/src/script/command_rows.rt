@@ -8,7 +8,7 @@ ghost use Rattle.mmsyntax.specs.Tables.{Tables};
 ghost use Rattle.mmsyntax.specs.Faults.{row};
 ghost use Rattle.statementreader.specs.UnitReadings.{position_of};
 ghost use Rattle.statementreader.specs.Takings.{IsSmallNamed, TakesItem, step_or_fault};
-ghost use Rattle.statementreader.specs.Recalls.{Knows};
+ghost use Rattle.statementreader.specs.Recalls.{RecallsTrue};
 ghost use Rattle.scripts.specs.Scripts.{other_step_of};
 ghost use Rattle.scripts.specs.ScriptFaults.{behind_verb, command_word, in_command, proof_start, step_row, unit_row, verb_of};
 ghost use Rattle.scripts.specs.ScriptViews.{label_at, rank_at, behind_labels, seen_labels, AsksLabel};
@@ -107,8 +107,8 @@ fn recalled_other_step<'a>(
     count: usize,
     word: &'a [u8],
 ) -> Result<Result<Named, FaultKind>, AllocError>
-    requires { Knows prelude.now recent.old }
-    ensures knows { Knows prelude.now recent.new }
+    requires { RecallsTrue prelude.now recent.old }
+    ensures knows { RecallsTrue prelude.now recent.new }
     ensures named { IfOk result (λ r. step_or_fault word.now r ≡ other_step_of prelude.now label.now count word.now) }
     ensures small { IfOk result (λ r. IfOk r IsSmallNamed) }
 {
@@ -150,8 +150,8 @@ fn take_step<'a>(
     steps: &mut Proof,
     token: Token<'a>,
 ) -> Result<bool, Stop>
-    requires { Knows prelude.now recent.old }
-    ensures knows { Knows prelude.now recent.new }
+    requires { RecallsTrue prelude.now recent.old }
+    ensures knows { RecallsTrue prelude.now recent.new }
     ensures taken { TakesItem (seen token.entry) steps.old steps.new
         (other_step_of prelude.now label.now (length steps.old) token.entry.text.now) result }
 {
@@ -180,8 +180,8 @@ pub fn take_in_command<'a>(
     place: &mut CommandPlace<'a>,
     token: Token<'a>,
 ) -> Result<bool, Stop>
-    requires { Knows prelude.now recent.old }
-    ensures knows { Knows prelude.now recent.new }
+    requires { RecallsTrue prelude.now recent.old }
+    ensures knows { RecallsTrue prelude.now recent.new }
     ensures taken { TakesInCommand prelude.now (seen_command_place prelude.now place.old) (seen token.entry)
         (seen_command_place prelude.now place.new) result }
 {

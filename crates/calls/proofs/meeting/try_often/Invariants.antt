@@ -1,5 +1,5 @@
-use Rattle.transaction.specs.Members.{IsOf}
+use Rattle.transaction.specs.Members.{IsSessionOf}
 use Rattle.calls.proofs.meeting.try_often.Given as goal
 
 abbrev pub invariant-loop : goal.invariant-loop
-invariant-loop l = IsOf l.library l.session
+invariant-loop l = IsSessionOf l.library l.session

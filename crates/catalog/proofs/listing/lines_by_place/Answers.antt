@@ -2,7 +2,7 @@ use Rattle.std.proofs.Common.{◌≡◌, ℕ, Some, length, refl, sym, ap, ◌�
 use Rattle.std.proofs.lemmas.Option.{slice_get_read}
 use Rattle.library.specs.declared.command.Line.{Line}
 use Rattle.library.specs.Library.{label_of}
-use Rattle.library.specs.Edits.{line}
+use Rattle.library.specs.Edits.{listing_line}
 use Rattle.catalog.specs.Entries.{living, StandsIn}
 use Rattle.catalog.proofs.Lines.{lines-empty, lines-more}
 use Rattle.catalog.proofs.listing.lines_by_place.Goals as goal
@@ -11,7 +11,7 @@ use Rattle.catalog.proofs.listing.lines_by_place.Goals.{in-Some+in_ok-line_of+in
 pub loop-place-preserved : goal.loop-place-preserved
 loop-place-preserved c =
     let xs = c.args.entries.now in
-    let f = line (living xs) in
+    let f = listing_line (living xs) in
     let k = c.loop-place.place in
     let o = c.index-entries-place.result in
     let here = sym c.index-entries-place.is in

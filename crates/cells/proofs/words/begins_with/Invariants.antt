@@ -1,9 +1,10 @@
 use Rattle.std.proofs.Common.{◌≡◌, ℕ, ◌<◌, List, get_or}
-use Rattle.cells.specs.Sight.{Looks, Knows, ReadsNothing}
+use Rattle.cells.specs.Sight.{Looks, KnowsRange, ReadsNothing}
 use Rattle.cells.proofs.words.begins_with.Given as goal
 
 abbrev pub invariant-loop-index : goal.invariant-loop-index
 invariant-loop-index g l =
     Looks (g.C.Cells.sight l.fn.cells) (g.C.Cells.sight l.cells)
-    × ((k : ℕ) (words : List ℕ) → k < l.index → Knows (g.C.Cells.sight l.fn.cells) l.range words → get_or words k 0 ≡ get_or l.text k 0)
+    × ((k : ℕ) (words : List ℕ) → k < l.index → KnowsRange (g.C.Cells.sight l.fn.cells) l.range words
+    → get_or words k 0 ≡ get_or l.text k 0)
     × ReadsNothing (g.C.Cells.sight l.fn.cells) (g.C.Cells.sight l.cells)

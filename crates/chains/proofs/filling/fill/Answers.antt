@@ -15,7 +15,7 @@ use Rattle.chains.specs.Filling.{IsOfFilling}
 use Rattle.cells.proofs.Keeping.{keeps_trans, keeps_wider}
 use Rattle.cells.proofs.Asking.{asks_wider, asks_more}
 use Rattle.cells.specs.Sight.{Matches, Views, after}
-use Rattle.cells.proofs.Sights.{onward_trans, matches_back}
+use Rattle.cells.proofs.Sights.{onward_trans, matches_back, setting_kept}
 use Rattle.ranges.proofs.Members.{all_from_has}
 use Rattle.cells.proofs.Holding.{empty_free}
 use Rattle.std.proofs.lemmas.Result.{MatchResult-weaker}
@@ -25,7 +25,7 @@ use Rattle.chains.proofs.filling.fill.Goals as goal
 pub count_in-requires-clause-slots : goal.count_in-requires-clause-slots
 count_in-requires-clause-slots g c =
     all_from_has (λ i. i < (g.C.Cells.sight c.lay_down.new.cells).setting.slots) c.as_slice.result.now (λ i h.
-    subst (λ (s : Setting). i < s.slots) (sym c.lay_down.ensures.onward.setting)
+    subst (λ (s : Setting). i < s.slots) (sym (setting_kept c.lay_down.ensures.onward))
     (c.requires.fillable.within i (c.in_ok-cited.ensures.cited i (subst (Has i) c.as_slice.ensures.value h))))
 
 pub returns-in_err-count_in-clause-onward : goal.returns-in_err-count_in-clause-onward
@@ -46,7 +46,7 @@ returns-clause-ok g c =
     let steps = c.args.steps.now in
     let cited = c.as_slice.result.now in
     let counting = c.in_ok-count_in.ensures.ok in
-    let setting = c.count_in.ensures.onward.setting ∙ c.lay_down.ensures.onward.setting in
+    let setting = (setting_kept c.count_in.ensures.onward) ∙ (setting_kept c.lay_down.ensures.onward) in
     let cites_are = subst (AreCitedSlots c.args.steps.now) (sym c.as_slice.ensures.value) c.in_ok-cited.ensures in
     let then : (x : Unit {0}) → ((st : State) (held : List Held) (e : Ranked) → Matches s3 st
     → AreChained s2.setting.slots (after s2 st) held
@@ -98,7 +98,7 @@ returns-clause-keeps g c =
     let steps = c.args.steps.now in
     let cited = c.as_slice.result.now in
     let such = IsOfFilling s0.setting.slots c.args.slot c.args.assertion.now.label c.args.steps.now in
-    let setting = c.count_in.ensures.onward.setting ∙ c.lay_down.ensures.onward.setting in
+    let setting = (setting_kept c.count_in.ensures.onward) ∙ (setting_kept c.lay_down.ensures.onward) in
     let own = keeps_wider (IsOfSlot c.args.slot) such s0 s1 (λ k is. inl is) c.in_ok-lay_down.ensures.keeps in
     let counted = keeps_wider (IsCitersOf c.as_slice.result.now) such s1 s2
     (λ k is. inr (inr (is.0, c.in_ok-cited.ensures.cited is.0 (subst (Has is.0) c.as_slice.ensures.value is.1), is.2)))
@@ -129,4 +129,4 @@ returns-clause-reads g c =
     c.count_in.ensures.reads)
     (λ k is. inr (inl (subst (λ (l : List ℕ). IsOfFront s0.setting.slots c.args.slot l k) c.as_slice-2.ensures
     (subst (λ (s : Setting). IsOfFront s.slots c.args.slot c.as_slice-2.result.now k)
-    (c.count_in.ensures.onward.setting ∙ c.lay_down.ensures.onward.setting) is)))) c.put_in.ensures.reads
+    ((setting_kept c.count_in.ensures.onward) ∙ (setting_kept c.lay_down.ensures.onward)) is)))) c.put_in.ensures.reads

@@ -4,7 +4,7 @@ use Rattle.library.specs.Library.{Setting}
 use Rattle.cells.specs.State.{State, with_value}
 use Rattle.cells.specs.Slots.{cell_count}
 use Rattle.cells.specs.Sight.{Sight, WasWritten, Onward, after}
-use Rattle.cells.proofs.Sights.{onward_refl, onward_trans, writes_onward, writes_cell, after_looks, after_writes}
+use Rattle.cells.proofs.Sights.{onward_refl, onward_trans, writes_onward, writes_cell, after_looks, after_writes, setting_kept}
 use Rattle.cells.specs.Aside.{IsOfSlot}
 use Rattle.cells.proofs.Keeping.{keeps_same, keeps_trans, keeps_wider, keeps_put}
 use Rattle.cells.proofs.Asking.{nothing_same, nothing_written, asks_nothing, asks_cell, asks_trans, asks_still}
@@ -32,7 +32,7 @@ read-requires g c =
     let at = c.name_cell.ensures in
     let few = c.loop-part-test.true in
     let within = c.requires.slot in
-    subst (λ (s : Setting). c.name_cell.result + c.loop-part.part < cell_count s.slots) (sym c.loop-part.invariant.onward.setting)
+    subst (λ (s : Setting). c.name_cell.result + c.loop-part.part < cell_count s.slots) (sym (setting_kept c.loop-part.invariant.onward))
     (omega (arith, at, few, within))
 
 pub returns-in_err-read-clause-onward : goal.returns-in_err-read-clause-onward
@@ -50,7 +50,8 @@ write-requires-clause-cell g c =
     let few = c.loop-part-test.true in
     let within = c.requires.slot in
     subst (λ (s : Setting). c.name_cell.result + c.loop-part.part < cell_count s.slots)
-    (sym (c.in_ok-read.ensures.ok.looks.onward.setting ∙ c.loop-part.invariant.onward.setting)) (omega (arith, at, few, within))
+    (sym ((setting_kept c.in_ok-read.ensures.ok.looks.onward) ∙ (setting_kept c.loop-part.invariant.onward)))
+    (omega (arith, at, few, within))
 
 pub loop-part-preserved : goal.loop-part-preserved
 loop-part-preserved g c =

@@ -1,6 +1,6 @@
 use Rattle.std.proofs.Common.{arith, ◌∙◌, sym, ap, Some}
 use Rattle.std.proofs.lemmas.List.Elements.{All-pop}
-use Rattle.claims.specs.Claims.{IsOf}
+use Rattle.claims.specs.Claims.{IsClaimantOf}
 use Rattle.claims.specs.Rule.{with_claimant, gathered}
 use Rattle.claims.proofs.RuleSteps.{joins}
 use Rattle.claims.proofs.Gathered.{gathered_last, gathered_seat}
@@ -13,7 +13,7 @@ join_seat-requires c =
     let key = c.numbers.inside.table.shared.key in
     let home = sym (ap (λ v. v.table) c.numbers.view_is) in
     let own =
-    All-pop (IsOf c.args.numbers.now) c.loop-claimant.claimants.items c.pop.new.self.items
+    All-pop (IsClaimantOf c.args.numbers.now) c.loop-claimant.claimants.items c.pop.new.self.items
     (Some c.in-Some.claimant) c.in-Some.ensures.items i.own in (
       i.table ∙ (c.requires.table ∙ home),
       ap (λ v. v.table) c.claimant.view_is ∙ (own.1.0 ∙ home),
@@ -30,7 +30,7 @@ loop-claimant-preserved c =
     let seat = c.claimant.inside.seat in
     let me = c.loop-claimant.seat.me in
     let own =
-    All-pop (IsOf c.args.numbers.now) c.loop-claimant.claimants.items cs (Some c.in-Some.claimant) c.in-Some.ensures.items i.own in
+    All-pop (IsClaimantOf c.args.numbers.now) c.loop-claimant.claimants.items cs (Some c.in-Some.claimant) c.in-Some.ensures.items i.own in
     record {
       table = joined.0 ∙ i.table;
       id = joined.1 ∙ i.id;

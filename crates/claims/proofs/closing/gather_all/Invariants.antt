@@ -1,5 +1,5 @@
 use Rattle.std.proofs.Common.{◌≡◌, All}
-use Rattle.claims.specs.Claims.{IsOf}
+use Rattle.claims.specs.Claims.{IsClaimantOf}
 use Rattle.claims.specs.Rule.{gathered}
 use Rattle.claims.proofs.closing.gather_all.Given as goal
 
@@ -9,7 +9,7 @@ invariant-loop-claimant l =
       table : l.seat.table_id ≡ l.fn.seat.table_id;
       id : l.seat.id ≡ l.fn.seat.id;
       me : gathered l.seat.me l.claimants.items ≡ gathered l.fn.seat.me l.fn.claimants.items;
-      own : All (IsOf l.numbers) l.claimants.items;
+      own : All (IsClaimantOf l.numbers) l.claimants.items;
     }
 
 abbrev pub decreases-loop-claimant : goal.decreases-loop-claimant

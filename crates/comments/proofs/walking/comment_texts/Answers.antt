@@ -5,7 +5,7 @@ use mathlib.Core.Bool.{not}
 use Rattle.mmtext.specs.Views.{seen}
 use Rattle.comments.specs.Outside.{tokens_at}
 use Rattle.comments.specs.Insides.{labels_in}
-use Rattle.comments.specs.Walks.{IsTaken}
+use Rattle.comments.specs.Walks.{IsCommentTaken}
 use Rattle.comments.proofs.Walked.{walked_outside, walked_comment}
 use Rattle.comments.proofs.walking.comment_texts.Goals as goal
 
@@ -40,7 +40,7 @@ loop-token-preserved-then-eq c =
     let new = c.take_comment.new.self in
     let opens : bytes_eq t.text (codes "$(") ≡ true = search rules in
     let le : at ≤ end = omega (arith, next.later) in
-    let taken : IsTaken cs gone source end old new closed = rw c.in-Some-2.is at c.in_ok-closed.ensures in record {
+    let taken : IsCommentTaken cs gone source end old new closed = rw c.in-Some-2.is at c.in_ok-closed.ensures in record {
       within = taken.within;
       walked =
           walked_comment cs gone source (tokens_at source at) (tokens_at source end) t at le next.some old new c.loop-token.invariant.walked

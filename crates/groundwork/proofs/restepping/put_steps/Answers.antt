@@ -7,7 +7,7 @@ use Rattle.cells.specs.Slots.{proof_cell}
 use Rattle.cells.specs.Sight.{Matches, after}
 use Rattle.cells.specs.Counts.{AreCitedSlots, AreOnlyIn}
 use Rattle.cells.specs.Aside.{KeepsAside, IsCitersOf}
-use Rattle.cells.proofs.Sights.{onward_trans}
+use Rattle.cells.proofs.Sights.{onward_trans, setting_kept}
 use Rattle.std.proofs.lemmas.Result.{MatchResult-weaker}
 use Rattle.ranges.proofs.Members.{all_from_has}
 use Rattle.cells.specs.Answers.{WritesSome}
@@ -37,7 +37,8 @@ only_there k l m n only first second h = subst (λ x. AreOnlyIn x n only) first 
 
 pub count_in-requires-clause-slots : goal.count_in-requires-clause-slots
 count_in-requires-clause-slots g c =
-    let setting = c.count_out.ensures.onward.setting ∙ (c.put_body.ensures.onward.setting ∙ c.stored_proof.ensures.looks.onward.setting) in
+    let setting = (setting_kept c.count_out.ensures.onward)
+    ∙ ((setting_kept c.put_body.ensures.onward) ∙ (setting_kept c.stored_proof.ensures.looks.onward)) in
     let gains = only_there _ _ _ _ _ c.as_slice-4.ensures.value c.as_slice-5.ensures.value c.in_ok-gained.ensures in
     all_from_has (λ i. i < (g.C.Cells.sight c.count_out.new.cells).setting.slots) c.as_slice-8.result.now (λ i h.
     subst (λ (s : Setting). i < s.slots) (sym setting)

@@ -4,13 +4,13 @@ use Rattle.mmsyntax.specs.Tables.{Tables}
 use Rattle.library.specs.declared.history.Entry.{Entry}
 use Rattle.library.specs.Library.{opening}
 use Rattle.historytext.specs.Grammar.{highest_count, SpellsHistory}
-use Rattle.historytext.specs.Layout.{EntryFits, history_text}
+use Rattle.historytext.specs.Layout.{EntryFitsText, history_text}
 use Rattle.historytext.proofs.LegalFits.{legal_histories_fit}
 use Rattle.historytext.proofs.Spelled.{legal_histories_are_spelled}
 use Rattle.export.proofs.Accepted.{exported_accepted}
 use Rattle.transaction.specs.Closings.{lists_of}
-use Rattle.checking.specs.Outcomes.{setting_of}
-use Rattle.reports.specs.Reports.{OutcomesFit, report_text}
+use Rattle.checking.specs.Outcomes.{program_setting}
+use Rattle.reports.specs.Reports.{AreReportable, report_text}
 use Rattle.checking.specs.Checks.{library_lines}
 use Rattle.checking.proofs.Fronts.{opening_stands, fronts_of}
 use Rattle.jobs.proofs.Printable.{printable}
@@ -20,7 +20,7 @@ pub report_run-requires : goal.report_run-requires
 report_run-requires c =
     let e = c.args.edited in
     let rows = lists_of e.outcomes.items in
-    subst (λ p. OutcomesFit p rows) (sym c.prelude-2.ensures)
+    subst (λ p. AreReportable p rows) (sym c.prelude-2.ensures)
     (printable c.args.db.now c.requires.worked.0 c.requires.worked.1 c.args.scripts.now rows e.history e.library
     c.assertions-assertions.ensures.sound c.requires.checks c.requires.fit c.requires.worked.2)
 
@@ -29,9 +29,9 @@ history_where-requires c =
     let db = c.args.db.now in
     let w = c.requires.worked.2.edited in
     let stands = opening_stands db c.assertions-assertions.ensures.sound c.requires.checks in
-    let fit = legal_histories_fit (setting_of db) (opening db) c.args.edited.history stands w.fit w.after.legal in
-    subst (λ p. All (EntryFits p) c.as_slice-2.result.now) (sym c.prelude.ensures)
-    (subst (All (EntryFits db.prelude)) (sym c.as_slice-2.ensures) fit)
+    let fit = legal_histories_fit (program_setting db) (opening db) c.args.edited.history stands w.fit w.after.legal in
+    subst (λ p. All (EntryFitsText p) c.as_slice-2.result.now) (sym c.prelude.ensures)
+    (subst (All (EntryFitsText db.prelude)) (sym c.as_slice-2.ensures) fit)
 
 pub returns : goal.returns
 returns c = λ workers room w.
@@ -46,7 +46,7 @@ returns c = λ workers room w.
     let counted = c.count_of-count.ensures in
     let few : length e.history ≤ highest_count = omega (arith, counted.value, counted.small, ap length c.as_slice.ensures) in
     let spelled =
-    legal_histories_are_spelled (setting_of db) (opening db) e.history (opening_stands db sound c.requires.checks) w.edited.fit
+    legal_histories_are_spelled (program_setting db) (opening db) e.history (opening_stands db sound c.requires.checks) w.edited.fit
     w.edited.after.legal few in
     record {
       rows = rows;

@@ -8,7 +8,7 @@ use Rattle.library.specs.Library.{Setting}
 use Rattle.cells.specs.Slots.{proof_cell}
 use Rattle.cells.specs.Sight.{WasWritten, ReadsWithin, after}
 use Rattle.cells.specs.Lookups.{ForEachHeld}
-use Rattle.cells.proofs.Sights.{onward_trans, looks_trans}
+use Rattle.cells.proofs.Sights.{onward_trans, looks_trans, setting_kept}
 use Rattle.cells.specs.Aside.{KeepsAside}
 use Rattle.groundwork.specs.Citing.{TellsNotBelow}
 use Rattle.moves.specs.Citers.{TellsCitedUpTo}
@@ -241,7 +241,7 @@ returns-in_err-cites_not_below-clause-reads g c =
     c.cites_not_below.ensures.looks
     (finds_after s1 s2 label i c.stored_proof.ensures.looks some) m2
     (ranks_within old label rank s2 s3 i kept
-    (stored_since s2 s3 i kept c.cites_not_below.ensures.looks c.in_ok-kept.ensures.ok) l3.onward.setting ranks)
+    (stored_since s2 s3 i kept c.cites_not_below.ensures.looks c.in_ok-kept.ensures.ok) (setting_kept l3.onward) ranks)
     (λ st lib e k is. inr (inl is)) in
     move_now old label rank s3 l3 m3
 
@@ -271,7 +271,7 @@ returns-then-branch-clause-reads g c =
     c.cites_not_below.ensures.looks
     (finds_after s1 s2 label i c.stored_proof.ensures.looks some) m2
     (ranks_within old label rank s2 s3 i kept
-    (stored_since s2 s3 i kept c.cites_not_below.ensures.looks c.in_ok-kept.ensures.ok) l3.onward.setting ranks)
+    (stored_since s2 s3 i kept c.cites_not_below.ensures.looks c.in_ok-kept.ensures.ok) (setting_kept l3.onward) ranks)
     (λ st lib e k is. inr (inl is)) in
     move_now old label rank s3 l3 m3
 
@@ -301,7 +301,7 @@ returns-in_err-is_cited_up_to-clause-reads g c =
     c.cites_not_below.ensures.looks
     (finds_after s1 s2 label i c.stored_proof.ensures.looks some) m2
     (ranks_within old label rank s2 s3 i kept
-    (stored_since s2 s3 i kept c.cites_not_below.ensures.looks c.in_ok-kept.ensures.ok) l3.onward.setting ranks)
+    (stored_since s2 s3 i kept c.cites_not_below.ensures.looks c.in_ok-kept.ensures.ok) (setting_kept l3.onward) ranks)
     (λ st lib e k is. inr (inl is)) in
     let t = g.C.Cells.sight c.is_cited_up_to.new.cells in
     let l4 = looks_trans _ _ _ l3 c.is_cited_up_to.ensures.looks in
@@ -312,7 +312,7 @@ returns-in_err-is_cited_up_to-clause-reads g c =
     (finds_after s1 s3 label i since some) m3
     (subst (λ (x : Setting). ForEachHeld t c.in_ok-slot.slot
     (λ st lib e. ReadsWithin (IsOfRise x.slots st lib c.in_ok-slot.slot e c.args.rank) s3 t))
-    l3.onward.setting c.is_cited_up_to.ensures.reads)
+    (setting_kept l3.onward) c.is_cited_up_to.ensures.reads)
     (λ st lib e k is. inr (inr is)) in
     move_now old label rank t l4 m4
 
@@ -342,7 +342,7 @@ returns-then-branch-2-clause-reads g c =
     c.cites_not_below.ensures.looks
     (finds_after s1 s2 label i c.stored_proof.ensures.looks some) m2
     (ranks_within old label rank s2 s3 i kept
-    (stored_since s2 s3 i kept c.cites_not_below.ensures.looks c.in_ok-kept.ensures.ok) l3.onward.setting ranks)
+    (stored_since s2 s3 i kept c.cites_not_below.ensures.looks c.in_ok-kept.ensures.ok) (setting_kept l3.onward) ranks)
     (λ st lib e k is. inr (inl is)) in
     let t = g.C.Cells.sight c.is_cited_up_to.new.cells in
     let l4 = looks_trans _ _ _ l3 c.is_cited_up_to.ensures.looks in
@@ -353,7 +353,7 @@ returns-then-branch-2-clause-reads g c =
     (finds_after s1 s3 label i since some) m3
     (subst (λ (x : Setting). ForEachHeld t c.in_ok-slot.slot
     (λ st lib e. ReadsWithin (IsOfRise x.slots st lib c.in_ok-slot.slot e c.args.rank) s3 t))
-    l3.onward.setting c.is_cited_up_to.ensures.reads)
+    (setting_kept l3.onward) c.is_cited_up_to.ensures.reads)
     (λ st lib e k is. inr (inr is)) in
     move_now old label rank t l4 m4
 
@@ -383,7 +383,7 @@ returns-in_err-put-clause-reads g c =
     c.cites_not_below.ensures.looks
     (finds_after s1 s2 label i c.stored_proof.ensures.looks some) m2
     (ranks_within old label rank s2 s3 i kept
-    (stored_since s2 s3 i kept c.cites_not_below.ensures.looks c.in_ok-kept.ensures.ok) l3.onward.setting ranks)
+    (stored_since s2 s3 i kept c.cites_not_below.ensures.looks c.in_ok-kept.ensures.ok) (setting_kept l3.onward) ranks)
     (λ st lib e k is. inr (inl is)) in
     let t = g.C.Cells.sight c.is_cited_up_to.new.cells in
     let l4 = looks_trans _ _ _ l3 c.is_cited_up_to.ensures.looks in
@@ -394,7 +394,7 @@ returns-in_err-put-clause-reads g c =
     (finds_after s1 s3 label i since some) m3
     (subst (λ (x : Setting). ForEachHeld t c.in_ok-slot.slot
     (λ st lib e. ReadsWithin (IsOfRise x.slots st lib c.in_ok-slot.slot e c.args.rank) s3 t))
-    l3.onward.setting c.is_cited_up_to.ensures.reads)
+    (setting_kept l3.onward) c.is_cited_up_to.ensures.reads)
     (λ st lib e k is. inr (inr is)) in
     move_put old label rank t (g.C.Cells.sight c.put.new.cells) i l4 c.put.ensures.onward
     (finds_after s1 t label i (looks_trans _ _ _ since c.is_cited_up_to.ensures.looks) some) m4
@@ -426,7 +426,7 @@ returns-clause-reads g c =
     c.cites_not_below.ensures.looks
     (finds_after s1 s2 label i c.stored_proof.ensures.looks some) m2
     (ranks_within old label rank s2 s3 i kept
-    (stored_since s2 s3 i kept c.cites_not_below.ensures.looks c.in_ok-kept.ensures.ok) l3.onward.setting ranks)
+    (stored_since s2 s3 i kept c.cites_not_below.ensures.looks c.in_ok-kept.ensures.ok) (setting_kept l3.onward) ranks)
     (λ st lib e k is. inr (inl is)) in
     let t = g.C.Cells.sight c.is_cited_up_to.new.cells in
     let l4 = looks_trans _ _ _ l3 c.is_cited_up_to.ensures.looks in
@@ -437,7 +437,7 @@ returns-clause-reads g c =
     (finds_after s1 s3 label i since some) m3
     (subst (λ (x : Setting). ForEachHeld t c.in_ok-slot.slot
     (λ st lib e. ReadsWithin (IsOfRise x.slots st lib c.in_ok-slot.slot e c.args.rank) s3 t))
-    l3.onward.setting c.is_cited_up_to.ensures.reads)
+    (setting_kept l3.onward) c.is_cited_up_to.ensures.reads)
     (λ st lib e k is. inr (inr is)) in
     move_put old label rank t (g.C.Cells.sight c.put.new.cells) i l4 c.put.ensures.onward
     (finds_after s1 t label i (looks_trans _ _ _ since c.is_cited_up_to.ensures.looks) some) m4

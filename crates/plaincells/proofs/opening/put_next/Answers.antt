@@ -8,7 +8,8 @@ use Rattle.cells.specs.Shows.{ShowsHeld}
 use Rattle.plaincells.specs.Plain.{plain_state}
 use Rattle.plaincells.specs.Opening.{front, held_from}
 use Rattle.cells.specs.Lookups.{Resolves}
-use Rattle.plaincells.proofs.Opened.{setting_of, sight_of, now_state, none_unknown, resolved_fillable, filled_held, shows_some}
+use Rattle.cells.proofs.Sights.{room_kept, setting_kept}
+use Rattle.plaincells.proofs.Opened.{cells_setting, cells_sight, now_state, none_unknown, resolved_fillable, filled_held, shows_some}
 use Rattle.plaincells.proofs.opening.put_next.Goals as goal
 
 pub unreachable-requires : goal.unreachable-requires
@@ -19,8 +20,8 @@ unreachable-requires c =
     let db = c.args.database.now in
     let at : a ≡ get_or db.assertions c.args.slot a =
     c.index-assertions-slot.is ∙ ap (λ (xs : List Assertion). get_or xs c.args.slot a) c.assertions.ensures.value in
-    let unknown : Resolves (sight_of q) a.proof None =
-    subst (λ (o : Option (Vec StoredStep Global)). Resolves (sight_of q) a.proof (option_map (λ (v : Vec StoredStep Global). v.items) o))
+    let unknown : Resolves (cells_sight q) a.proof None =
+    subst (λ (o : Option (Vec StoredStep Global)). Resolves (cells_sight q) a.proof (option_map (λ (v : Vec StoredStep Global). v.items) o))
     c.in-Ok-None.field-0-is c.in-Ok-None.ensures.ok in
     none_unknown db c.args.slot a c.requires.next at c.assertions.ensures.sound c.requires.checks p c.requires.fits c.requires.opened q
     c.in-Ok-None.ensures.looks unknown
@@ -34,9 +35,10 @@ fill-requires-clause-fillable c =
     let kept : List StoredStep = c.as_slice.result.now in
     let at : a ≡ get_or db.assertions c.args.slot a =
     c.index-assertions-slot.is ∙ ap (λ (xs : List Assertion). get_or xs c.args.slot a) c.assertions.ensures.value in
-    let resolved : Resolves (sight_of q) a.proof (Some kept) =
-    subst (λ (ys : List StoredStep). Resolves (sight_of q) a.proof (Some ys)) (sym c.as_slice.ensures.value)
-    (subst (λ (o : Option (Vec StoredStep Global)). Resolves (sight_of q) a.proof (option_map (λ (v : Vec StoredStep Global). v.items) o))
+    let resolved : Resolves (cells_sight q) a.proof (Some kept) =
+    subst (λ (ys : List StoredStep). Resolves (cells_sight q) a.proof (Some ys)) (sym c.as_slice.ensures.value)
+    (subst (λ (o : Option (Vec StoredStep Global)). Resolves (cells_sight q) a.proof
+    (option_map (λ (v : Vec StoredStep Global). v.items) o))
     c.in-Ok-Some.field-0-is c.in-Ok-Some.ensures.ok) in
     resolved_fillable db c.args.slot a c.requires.next at c.assertions.ensures.sound c.requires.checks p c.requires.fits c.requires.opened q
     kept
@@ -55,11 +57,12 @@ keep-requires c =
     let onward = c.in-Ok.ensures.onward in
     let at : a ≡ get_or db.assertions k a =
     c.index-assertions-slot.is ∙ ap (λ (xs : List Assertion). get_or xs k a) c.assertions.ensures.value in
-    let resolved : Resolves (sight_of q) a.proof (Some kept) =
-    subst (λ (ys : List StoredStep). Resolves (sight_of q) a.proof (Some ys)) (sym c.as_slice.ensures.value)
-    (subst (λ (o : Option (Vec StoredStep Global)). Resolves (sight_of q) a.proof (option_map (λ (v : Vec StoredStep Global). v.items) o))
+    let resolved : Resolves (cells_sight q) a.proof (Some kept) =
+    subst (λ (ys : List StoredStep). Resolves (cells_sight q) a.proof (Some ys)) (sym c.as_slice.ensures.value)
+    (subst (λ (o : Option (Vec StoredStep Global)). Resolves (cells_sight q) a.proof
+    (option_map (λ (v : Vec StoredStep Global). v.items) o))
     c.in-Ok-Some.field-0-is c.in-Ok-Some.ensures.ok) in
-    let setting : setting_of r ≡ setting_of p = onward.setting ∙ looks.onward.setting in
+    let setting : cells_setting r ≡ cells_setting p = (setting_kept onward) ∙ (setting_kept looks.onward) in
     let held : ShowsHeld p.slots (now_state r) (opening (front (k + 1) db)) (held_from 0 (opening (front (k + 1) db))) =
     filled_held db k a c.requires.next at c.assertions.ensures.sound c.requires.checks p c.requires.fits c.requires.opened q r kept looks
     onward
@@ -80,11 +83,12 @@ returns-in-Ok c =
     let onward = c.in-Ok.ensures.onward in
     let at : a ≡ get_or db.assertions k a =
     c.index-assertions-slot.is ∙ ap (λ (xs : List Assertion). get_or xs k a) c.assertions.ensures.value in
-    let resolved : Resolves (sight_of q) a.proof (Some kept) =
-    subst (λ (ys : List StoredStep). Resolves (sight_of q) a.proof (Some ys)) (sym c.as_slice.ensures.value)
-    (subst (λ (o : Option (Vec StoredStep Global)). Resolves (sight_of q) a.proof (option_map (λ (v : Vec StoredStep Global). v.items) o))
+    let resolved : Resolves (cells_sight q) a.proof (Some kept) =
+    subst (λ (ys : List StoredStep). Resolves (cells_sight q) a.proof (Some ys)) (sym c.as_slice.ensures.value)
+    (subst (λ (o : Option (Vec StoredStep Global)). Resolves (cells_sight q) a.proof
+    (option_map (λ (v : Vec StoredStep Global). v.items) o))
     c.in-Ok-Some.field-0-is c.in-Ok-Some.ensures.ok) in
-    let setting : setting_of r ≡ setting_of p = onward.setting ∙ looks.onward.setting in
+    let setting : cells_setting r ≡ cells_setting p = (setting_kept onward) ∙ (setting_kept looks.onward) in
     let held : ShowsHeld p.slots (now_state r) (opening (front (k + 1) db)) (held_from 0 (opening (front (k + 1) db))) =
     filled_held db k a c.requires.next at c.assertions.ensures.sound c.requires.checks p c.requires.fits c.requires.opened q r kept looks
     onward
@@ -95,7 +99,7 @@ returns-in-Ok c =
     record {
       prelude = same.3 ∙ ap (λ (s : Setting). s.prelude) setting ∙ c.requires.opened.prelude;
       slots_are = same.4 ∙ ap (λ (s : Setting). s.slots) setting;
-      room_is = same.5 ∙ onward.room ∙ looks.onward.room;
+      room_is = same.5 ∙ (room_kept onward) ∙ (room_kept looks.onward);
       kept = c.keep.ensures.log;
       shows = subst (λ (x : State). ShowsHeld p.slots x (opening (front (k + 1) db)) (held_from 0 (opening (front (k + 1) db))))
           (sym e) held;

@@ -1,13 +1,13 @@
 use Rattle.std.proofs.Common.{◌-◌}
 use Rattle.ranges.specs.Ranges.{Has}
-use Rattle.claims.specs.Claims.{IsOf}
+use Rattle.claims.specs.Claims.{IsClaimantOf}
 use Rattle.claims.proofs.Claiming.{past_all}
 use Rattle.proofcheck.specs.Reports.{FoundAmong}
 use Rattle.proofcheck.proofs.checkers.check_claimed.Given as goal
 
 abbrev pub invariant-loop-place : goal.invariant-loop-place
 invariant-loop-place l = record {
-  own : IsOf l.numbers l.checker.claimant;
+  own : IsClaimantOf l.numbers l.checker.claimant;
   found : FoundAmong l.db (λ k. Has k l.checker.claimant.claimed) l.checker.found;
 }
 

@@ -4,7 +4,7 @@ use Rattle.std.proofs.lemmas.Iterator.Adapters.{YieldsList-from_vec}
 use Rattle.std.proofs.lemmas.Iterator.Consumers.{YieldsList-end}
 use Rattle.std.proofs.lemmas.List.{map-append}
 use Rattle.std.proofs.lemmas.List.Elements.{All-map}
-use Rattle.claims.specs.Claims.{IsOf}
+use Rattle.claims.specs.Claims.{IsClaimantOf}
 use Rattle.proofcheck.specs.declared.checkers.Checker.{Checker}
 use Rattle.proofcheck.specs.Reports.{earlier, earliest}
 use Rattle.proofcheck.proofs.Reports.{earliest_last}
@@ -45,4 +45,5 @@ close-requires-clause-own c =
     c.loop-checker.yielded_by c.next.result c.next.new.self c.in-None.is c.next.ensures.steps in
     let all : c.loop-checker.yielded ≡ c.args.checkers.items = sym (map_same c.loop-checker.yielded) ∙ end.0 in
     let claimants = c.loop-checker.invariant.1 ∙ ap (map claimant) all in
-    subst (All (IsOf c.args.numbers)) (sym claimants) (All-map (IsOf c.args.numbers) claimant c.args.checkers.items c.requires.own)
+    subst (All (IsClaimantOf c.args.numbers)) (sym claimants)
+    (All-map (IsClaimantOf c.args.numbers) claimant c.args.checkers.items c.requires.own)

@@ -1,5 +1,5 @@
 use Rattle.std.proofs.Common.{◌≡◌, ◌<◌, ◌++◌, [], ◌∷◌, Some, None, sym, subst, arith}
-use Rattle.library.specs.Edits.{line}
+use Rattle.library.specs.Edits.{listing_line}
 use Rattle.shows.specs.Listing.{TellsLine}
 use Rattle.cells.specs.Lookups.{TellsLabelOf}
 use Rattle.cells.proofs.Settings.{same_slots}
@@ -17,7 +17,7 @@ loop-slot-init g c =
     let old = g.C.Cells.sight c.args.cells.now in
     record {
       looks = looks_refl _;
-      lines = λ st lib v. told_none line old.setting.slots _ _ lib c.new-lines.ensures.items;
+      lines = λ st lib v. told_none listing_line old.setting.slots _ _ lib c.new-lines.ensures.items;
       reads =
           λ st lib m v. asks_nothing (nothing_same _);
     }
@@ -59,7 +59,8 @@ loop-slot-preserved g c =
           rw (w.cells-is, w.lines-is) (record {
             looks = looks_trans _ _ _ onto on;
             reads = more;
-            lines = one_full line r s slots k is c.label.ensures.looks made lines t on yes.0 w.in_ok-line.field-0 w.push.new.self.items
+            lines = one_full listing_line r s slots k is c.label.ensures.looks made lines t on yes.0 w.in_ok-line.field-0
+                w.push.new.self.items
                 line_is push;
           })
       | in_default w ↦
@@ -67,7 +68,7 @@ loop-slot-preserved g c =
           rw (w.cells-is, w.lines-is) (record {
             looks = onto;
             lines =
-                one_empty line r s slots k is c.label.ensures.looks made lines no;
+                one_empty listing_line r s slots k is c.label.ensures.looks made lines no;
             reads = named;
           })
     ]
@@ -77,7 +78,7 @@ returns-clause-ok g c =
     let end = c.slot_count-slot-end.ensures.value in
     let upto = c.loop-slot.auto.slot-end in
     let lines = c.loop-slot.invariant.lines in
-    whole_told line _ _ c.loop-slot.slot c.loop-slot.lines.items c.loop-slot.invariant.looks (omega (arith, end, upto)) lines
+    whole_told listing_line _ _ c.loop-slot.slot c.loop-slot.lines.items c.loop-slot.invariant.looks (omega (arith, end, upto)) lines
 
 pub returns-in_err-label-clause-reads : goal.returns-in_err-label-clause-reads
 returns-in_err-label-clause-reads g c =

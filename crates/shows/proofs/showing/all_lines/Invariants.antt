@@ -1,4 +1,4 @@
-use Rattle.library.specs.Edits.{line}
+use Rattle.library.specs.Edits.{listing_line}
 use Rattle.cells.specs.Sight.{Looks}
 use Rattle.cells.specs.Lookups.{ForEach}
 use Rattle.library.specs.declared.command.Command.TheVariants as command
@@ -10,6 +10,6 @@ abbrev pub invariant-loop-slot : goal.invariant-loop-slot
 invariant-loop-slot g l =
     record {
       looks : Looks (g.C.Cells.sight l.fn.cells) (g.C.Cells.sight l.cells);
-      lines : ForEach (g.C.Cells.sight l.cells) (AreToldBelow line (g.C.Cells.sight l.fn.cells).setting.slots l.slot l.lines.items);
+      lines : ForEach (g.C.Cells.sight l.cells) (AreToldBelow listing_line (g.C.Cells.sight l.fn.cells).setting.slots l.slot l.lines.items);
       reads : ReadsFor (g.C.Cells.sight l.fn.cells) (g.C.Cells.sight l.cells) command.List;
     }

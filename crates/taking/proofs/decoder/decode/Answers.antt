@@ -2,7 +2,7 @@
 use Rattle.std.proofs.Common.{◌∙◌, ◌+◌, sym, ap, map, drop}
 use Rattle.std.specs.Prelude.{Some, None, if◌then◌else◌}
 use Rattle.source.specs.declared.letters.Code.TheVariants.{Number}
-use Rattle.source.specs.Proofs.{run, single, step_of}
+use Rattle.source.specs.Proofs.{run_steps, single, step_of}
 use Rattle.taking.specs.Decoding.{grown, stack_of}
 use Rattle.taking.proofs.Codes.{next, lost, done}
 use Rattle.taking.proofs.Loops.{start}
@@ -22,7 +22,7 @@ loop-code-preserved c =
       goes =
           λ s are.
           sym (next s.earlier s.active s.labels codes l.code-index (Number 0) (stack_of s.labels l.decoder) c.loop-code-test.true
-          ∙ ap (λ o. run grown s.earlier s.active o (map (step_of s.labels) (drop (l.code-index + 1) codes)))
+          ∙ ap (λ o. run_steps grown s.earlier s.active o (map (step_of s.labels) (drop (l.code-index + 1) codes)))
           (c.in_ok-take.ensures.taken s are
           ∙ ap (λ b. if b then Some (stack_of s.labels c.take.new.self) else None) c.if-not-branch.false))
           ∙ l.invariant.goes s are;
@@ -36,7 +36,7 @@ returns-then-not-branch-clause-decoded c =
     let rest = map (step_of s.labels) (drop (l.code-index + 1) codes) in
     ap single (sym (l.invariant.goes s are)
     ∙ next s.earlier s.active s.labels codes l.code-index (Number 0) (stack_of s.labels l.decoder) c.loop-code-test.true
-    ∙ ap (λ o. run grown s.earlier s.active o rest)
+    ∙ ap (λ o. run_steps grown s.earlier s.active o rest)
     (c.in_ok-take.ensures.taken s are
     ∙ ap (λ b. if b then Some (stack_of s.labels c.take.new.self) else None) c.if-not-branch.true)
     ∙ lost s.earlier s.active s.labels codes rest)

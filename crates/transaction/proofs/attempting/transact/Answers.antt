@@ -5,9 +5,9 @@ use Rattle.library.specs.declared.command.Command.{Command}
 use Rattle.library.specs.Transactions.{has_edit}
 use Rattle.cells.specs.declared.ending.RunError.{RunError}
 use Rattle.cells.specs.Answers.{has_staging, DoesAll, RunAnswers}
-use Rattle.cells.proofs.Sights.{onward_refl}
+use Rattle.cells.proofs.Sights.{onward_refl, may_stage_kept, may_write_kept, origin_kept}
 use Rattle.commands.proofs.Allowed.{may_do_all}
-use Rattle.lending.specs.Lent.{Pass, Lends, is_writing, sight_of}
+use Rattle.lending.specs.Lent.{Pass, Lends, is_writing, lent_sight}
 use Rattle.transaction.specs.Tries.{Tries, EndsWithin}
 use Rattle.transaction.proofs.Applying.{may_be_done, may_be_refused, none_asked, asks_within, keeps_within, stored}
 use Rattle.transaction.proofs.attempting.transact.Goals as goal
@@ -17,7 +17,7 @@ run-requires-clause-may c =
     let cs = c.as_slice-3.result.now in
     let edits : has_edit cs ≡ c.has_edit-edits.result =
     ap has_edit (c.as_slice-3.ensures ∙ sym c.as_slice.ensures) ∙ sym c.has_edit-edits.ensures in
-    may_do_all (sight_of c.begin-live.result.run) cs
+    may_do_all (lent_sight c.begin-live.result.run) cs
     (λ is. ap is_writing c.begin-live.ensures.mode_is ∙ (c.mode_of-mode.ensures.writes ∙ (sym edits ∙ is)))
     (λ is. c.begin-live.ensures.may ∙ (c.has_staging-may_stage.ensures
     ∙ (ap has_staging (c.as_slice-2.ensures ∙ sym c.as_slice-3.ensures) ∙ is)))
@@ -32,7 +32,7 @@ commit-requires-clause-lawful c =
     ∙ ap has_staging c.as_slice-2.ensures)
     c.begin-live.ensures in
     may_be_done g c.args.kit c.mode_of-mode.result cs old lends new c.run.ensures.onward c.requires.fit c.in-Ok.replies
-    (subst (λ (x : List Command). DoesAll (sight_of old) (sight_of new) x c.in-Ok.replies) c.as_slice-3.ensures c.in-Ok.ensures.answers)
+    (subst (λ (x : List Command). DoesAll (lent_sight old) (lent_sight new) x c.in-Ok.replies) c.as_slice-3.ensures c.in-Ok.ensures.answers)
 
 pub answer-requires-clause-lawful : goal.answer-requires-clause-lawful
 answer-requires-clause-lawful c =
@@ -44,7 +44,7 @@ answer-requires-clause-lawful c =
     ∙ ap has_staging c.as_slice-2.ensures)
     c.begin-live.ensures in
     may_be_done g c.args.kit c.mode_of-mode.result cs old lends new c.run.ensures.onward c.requires.fit c.in-Ok.replies
-    (subst (λ (x : List Command). DoesAll (sight_of old) (sight_of new) x c.in-Ok.replies) c.as_slice-3.ensures c.in-Ok.ensures.answers)
+    (subst (λ (x : List Command). DoesAll (lent_sight old) (lent_sight new) x c.in-Ok.replies) c.as_slice-3.ensures c.in-Ok.ensures.answers)
 
 pub refuse-requires-clause-lawful : goal.refuse-requires-clause-lawful
 refuse-requires-clause-lawful c = λ commands reason is why.
@@ -55,10 +55,10 @@ refuse-requires-clause-lawful c = λ commands reason is why.
     let lends = subst (λ (b : Bool). Lends g c.args.kit c.mode_of-mode.result b old) (c.has_staging-may_stage.ensures
     ∙ ap has_staging c.as_slice-2.ensures)
     c.begin-live.ensures in
-    let answers = subst (λ (x : List Command). RunAnswers (sight_of old) (sight_of new) x (Err c.in-Err-Refused.field-0))
+    let answers = subst (λ (x : List Command). RunAnswers (lent_sight old) (lent_sight new) x (Err c.in-Err-Refused.field-0))
     c.as_slice-3.ensures c.in-Err-Refused.ensures.answers in
     may_be_refused g c.args.kit c.mode_of-mode.result cs old lends new c.run.ensures.onward c.requires.fit c.in-Err-Refused.refused
-    (subst (λ (e : RunError). RunAnswers (sight_of old) (sight_of new) cs (Err e)) c.in-Err-Refused.field-0-is answers)
+    (subst (λ (e : RunError). RunAnswers (lent_sight old) (lent_sight new) cs (Err e)) c.in-Err-Refused.field-0-is answers)
     commands reason is (why ∙ c.in-Err-Refused.refused-is)
 
 pub returns-in-Ok-clause-stored : goal.returns-in-Ok-clause-stored
@@ -85,7 +85,7 @@ returns-in-Err-clause-stored c =
 pub returns-then-is_err-clause-stored : goal.returns-then-is_err-clause-stored
 returns-then-is_err-clause-stored c =
     let l = c.begin-live.result.run in
-    stored _ c.args.kit _ _ l l c.begin-live.ensures (onward_refl (sight_of l)) c.args.commands.now _ refl c.stop.result.kit
+    stored _ c.args.kit _ _ l l c.begin-live.ensures (onward_refl (lent_sight l)) c.args.commands.now _ refl c.stop.result.kit
     c.begin-live.result.agrees (λ st lib m v. omega arith) c.stop.result.outcome c.stop.ensures.stored
 
 pub commit-requires-clause-asks : goal.commit-requires-clause-asks
@@ -127,22 +127,22 @@ stop-requires-in-Err-clause-asks c =
 pub returns-in-Ok-clause-within : goal.returns-in-Ok-clause-within
 returns-in-Ok-clause-within c =
     subst (λ (z : Pass). EndsWithin z c.args.commands.now c.commit.result.kit.pass c.commit.result.outcome)
-    (c.run.ensures.onward.origin ∙ c.begin-live.ensures.began) c.commit.ensures.within
+    ((origin_kept c.run.ensures.onward) ∙ c.begin-live.ensures.began) c.commit.ensures.within
 
 pub returns-in-Ok-2-clause-within : goal.returns-in-Ok-2-clause-within
 returns-in-Ok-2-clause-within c =
     subst (λ (z : Pass). EndsWithin z c.args.commands.now c.answer.result.kit.pass c.answer.result.outcome)
-    (c.run.ensures.onward.origin ∙ c.begin-live.ensures.began) c.answer.ensures.within
+    ((origin_kept c.run.ensures.onward) ∙ c.begin-live.ensures.began) c.answer.ensures.within
 
 pub returns-in-Err-Refused-clause-within : goal.returns-in-Err-Refused-clause-within
 returns-in-Err-Refused-clause-within c =
     subst (λ (z : Pass). EndsWithin z c.args.commands.now c.refuse.result.kit.pass c.refuse.result.outcome)
-    (c.run.ensures.onward.origin ∙ c.begin-live.ensures.began) c.refuse.ensures.within
+    ((origin_kept c.run.ensures.onward) ∙ c.begin-live.ensures.began) c.refuse.ensures.within
 
 pub returns-in-Err-clause-within : goal.returns-in-Err-clause-within
 returns-in-Err-clause-within c =
     subst (λ (z : Pass). EndsWithin z c.args.commands.now c.stop-in-Err.result.kit.pass c.stop-in-Err.result.outcome)
-    (c.run.ensures.onward.origin ∙ c.begin-live.ensures.began) c.stop-in-Err.ensures.within
+    ((origin_kept c.run.ensures.onward) ∙ c.begin-live.ensures.began) c.stop-in-Err.ensures.within
 
 pub returns-then-is_err-clause-within : goal.returns-then-is_err-clause-within
 returns-then-is_err-clause-within c =
@@ -153,25 +153,25 @@ pub returns-in-Ok-clause-tries : goal.returns-in-Ok-clause-tries
 returns-in-Ok-clause-tries c =
     let made = c.commit.result in
     subst (λ (z : Pass). Tries c.args.commands.now z made.kit.pass made.outcome made.drawn)
-    (c.run.ensures.onward.origin ∙ c.begin-live.ensures.began) c.commit.ensures.tries
+    ((origin_kept c.run.ensures.onward) ∙ c.begin-live.ensures.began) c.commit.ensures.tries
 
 pub returns-in-Ok-2-clause-tries : goal.returns-in-Ok-2-clause-tries
 returns-in-Ok-2-clause-tries c =
     let made = c.answer.result in
     subst (λ (z : Pass). Tries c.args.commands.now z made.kit.pass made.outcome made.drawn)
-    (c.run.ensures.onward.origin ∙ c.begin-live.ensures.began) c.answer.ensures.tries
+    ((origin_kept c.run.ensures.onward) ∙ c.begin-live.ensures.began) c.answer.ensures.tries
 
 pub returns-in-Err-Refused-clause-tries : goal.returns-in-Err-Refused-clause-tries
 returns-in-Err-Refused-clause-tries c =
     let made = c.refuse.result in
     subst (λ (z : Pass). Tries c.args.commands.now z made.kit.pass made.outcome made.drawn)
-    (c.run.ensures.onward.origin ∙ c.begin-live.ensures.began) c.refuse.ensures.tries
+    ((origin_kept c.run.ensures.onward) ∙ c.begin-live.ensures.began) c.refuse.ensures.tries
 
 pub returns-in-Err-clause-tries : goal.returns-in-Err-clause-tries
 returns-in-Err-clause-tries c =
     let made = c.stop-in-Err.result in
     subst (λ (z : Pass). Tries c.args.commands.now z made.kit.pass made.outcome made.drawn)
-    (c.run.ensures.onward.origin ∙ c.begin-live.ensures.began) c.stop-in-Err.ensures.tries
+    ((origin_kept c.run.ensures.onward) ∙ c.begin-live.ensures.began) c.stop-in-Err.ensures.tries
 
 pub returns-then-is_err-clause-tries : goal.returns-then-is_err-clause-tries
 returns-then-is_err-clause-tries c =
@@ -183,11 +183,13 @@ stop-requires-clause-stages c = c.begin-live.ensures.may ∙ (c.has_staging-may_
 
 pub commit-requires-clause-stages : goal.commit-requires-clause-stages
 commit-requires-clause-stages c =
-    c.run.ensures.onward.may_stage ∙ (c.begin-live.ensures.may ∙ (c.has_staging-may_stage.ensures ∙ ap has_staging c.as_slice-2.ensures))
+    (may_stage_kept c.run.ensures.onward)
+    ∙ (c.begin-live.ensures.may ∙ (c.has_staging-may_stage.ensures ∙ ap has_staging c.as_slice-2.ensures))
 
 pub stop-requires-in-Err-clause-stages : goal.stop-requires-in-Err-clause-stages
 stop-requires-in-Err-clause-stages c =
-    c.run.ensures.onward.may_stage ∙ (c.begin-live.ensures.may ∙ (c.has_staging-may_stage.ensures ∙ ap has_staging c.as_slice-2.ensures))
+    (may_stage_kept c.run.ensures.onward)
+    ∙ (c.begin-live.ensures.may ∙ (c.has_staging-may_stage.ensures ∙ ap has_staging c.as_slice-2.ensures))
 
 pub stop-requires-clause-writes : goal.stop-requires-clause-writes
 stop-requires-clause-writes c =
@@ -196,19 +198,19 @@ stop-requires-clause-writes c =
 
 pub commit-requires-clause-writes : goal.commit-requires-clause-writes
 commit-requires-clause-writes c =
-    c.run.ensures.onward.may_write
+    (may_write_kept c.run.ensures.onward)
     ∙ (ap is_writing c.begin-live.ensures.mode_is
     ∙ (c.mode_of-mode.ensures.writes ∙ (c.has_edit-edits.ensures ∙ ap has_edit c.as_slice.ensures)))
 
 pub refuse-requires-clause-writes : goal.refuse-requires-clause-writes
 refuse-requires-clause-writes c =
-    c.run.ensures.onward.may_write
+    (may_write_kept c.run.ensures.onward)
     ∙ (ap is_writing c.begin-live.ensures.mode_is
     ∙ (c.mode_of-mode.ensures.writes ∙ (c.has_edit-edits.ensures ∙ ap has_edit c.as_slice.ensures)))
 
 pub stop-requires-in-Err-clause-writes : goal.stop-requires-in-Err-clause-writes
 stop-requires-in-Err-clause-writes c =
-    c.run.ensures.onward.may_write
+    (may_write_kept c.run.ensures.onward)
     ∙ (ap is_writing c.begin-live.ensures.mode_is
     ∙ (c.mode_of-mode.ensures.writes ∙ (c.has_edit-edits.ensures ∙ ap has_edit c.as_slice.ensures)))
 

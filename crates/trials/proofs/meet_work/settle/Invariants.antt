@@ -1,5 +1,5 @@
-use Rattle.transaction.specs.Members.{IsOf}
+use Rattle.transaction.specs.Members.{IsSessionOf}
 use Rattle.trials.proofs.meet_work.settle.Given as goal
 
 abbrev pub invariant-loop : goal.invariant-loop
-invariant-loop g l = IsOf l.library l.session
+invariant-loop g l = IsSessionOf l.library l.session

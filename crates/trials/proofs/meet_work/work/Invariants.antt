@@ -1,5 +1,5 @@
-use Rattle.transaction.specs.Members.{IsOf}
+use Rattle.transaction.specs.Members.{IsSessionOf}
 use Rattle.trials.proofs.meet_work.work.Given as goal
 
 abbrev pub invariant-loop-commands : goal.invariant-loop-commands
-invariant-loop-commands g l = IsOf l.library l.session
+invariant-loop-commands g l = IsSessionOf l.library l.session

@@ -1,12 +1,12 @@
 use Rattle.std.proofs.Common.{◌≡◌, take, vec_len}
-use Rattle.transaction.specs.Members.{IsOf}
+use Rattle.transaction.specs.Members.{IsSessionOf}
 use Rattle.workers.specs.Shifts.{SubmitsAll}
 use Rattle.workers.proofs.shift.submit_all.Given as goal
 
 abbrev pub invariant-loop-transaction : goal.invariant-loop-transaction
 invariant-loop-transaction g l =
     record {
-      own : IsOf l.shop.library.now l.session;
+      own : IsSessionOf l.shop.library.now l.session;
       so_far : SubmitsAll (take l.transaction-index l.transactions) l.fn.session l.session l.outcomes.items;
       long : vec_len l.outcomes ≡ l.transaction-index;
     }

@@ -1,7 +1,7 @@
 use Rattle.std.proofs.Common.{◌≡◌, ◌-◌, ◌++◌, map}
 use Rattle.std.specs.List.Sorted.{IsStrictlyIncreasing}
-use Rattle.claims.specs.Claims.{IsOf as Claims}
-use Rattle.transaction.specs.Members.{IsOf}
+use Rattle.claims.specs.Claims.{IsClaimantOf}
+use Rattle.transaction.specs.Members.{IsSessionOf}
 use Rattle.workers.specs.Shifts.{RunsAll}
 use Rattle.claims.proofs.Claiming.{past_all}
 use Rattle.workers.proofs.shift.work.Given as goal
@@ -9,8 +9,8 @@ use Rattle.workers.proofs.shift.work.Given as goal
 abbrev pub invariant-loop-script : goal.invariant-loop-script
 invariant-loop-script g l =
     record {
-      own : IsOf l.shop.library.now l.session;
-      claims : Claims l.shop.numbers.now l.claimant;
+      own : IsSessionOf l.shop.library.now l.session;
+      claims : IsClaimantOf l.shop.numbers.now l.claimant;
       runs : RunsAll l.shop.scripts.now l.fn.session l.session l.rows.items;
       table : l.claimant.table ≡ l.fn.claimant.table;
       count : l.claimant.count ≡ l.fn.claimant.count;

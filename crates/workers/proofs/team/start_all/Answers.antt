@@ -2,8 +2,8 @@ use Rattle.std.proofs.Common.{◌≡◌, List, [], ◌∷◌, ◌++◌, length, 
 use Rattle.std.proofs.lemmas.List.{map-append}
 use Rattle.std.specs.Iterator.Adapters.{zip_first, zip_second}
 use Rattle.std.specs.Vec.Iter.{into_iter_items, into_iter_len}
-use Rattle.claims.specs.Claims.{Claimant, IsOf as Claims}
-use Rattle.transaction.specs.Members.{Member, IsOf}
+use Rattle.claims.specs.Claims.{Claimant, IsClaimantOf}
+use Rattle.transaction.specs.Members.{Member, IsSessionOf}
 use Rattle.workers.specs.declared.team.ShiftOf.{ShiftOf}
 use Rattle.workers.specs.Shifts.{ArePromised}
 use Rattle.workers.proofs.Teams.{promised_more, walked_next, walked_more, walked_all}
@@ -65,12 +65,12 @@ returns g c =
 
 pub start-requires-clause-own : goal.start-requires-clause-own
 start-requires-clause-own g c κs within =
-    walked_next (IsOf c.args.shop.library.now) _ _ _ _ c.in-Some.session c.loop-session.invariant.1 c.in-Some.ensures.steps.0.0
+    walked_next (IsSessionOf c.args.shop.library.now) _ _ _ _ c.in-Some.session c.loop-session.invariant.1 c.in-Some.ensures.steps.0.0
     c.requires.own
 
 pub start-requires-clause-claims : goal.start-requires-clause-claims
 start-requires-clause-claims g c κs within =
-    walked_next (Claims c.args.shop.numbers.now) _ _ _ _ c.in-Some.claimant c.loop-session.invariant.2 c.in-Some.ensures.steps.1.0
+    walked_next (IsClaimantOf c.args.shop.numbers.now) _ _ _ _ c.in-Some.claimant c.loop-session.invariant.2 c.in-Some.ensures.steps.1.0
     c.requires.claims
 
 pub loop-session-smaller : goal.loop-session-smaller

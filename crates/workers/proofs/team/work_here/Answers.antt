@@ -1,8 +1,8 @@
 use Rattle.std.proofs.Common.{◌≡◌, List, [], ◌∷◌, ◌++◌, length, length-append, map, ap, sym, subst, ◌∙◌, inl, inr, arith}
 use Rattle.std.specs.Iterator.Adapters.{zip_first, zip_second}
 use Rattle.std.specs.Vec.Iter.{into_iter_items, into_iter_len}
-use Rattle.claims.specs.Claims.{Claimant, IsOf as Claims}
-use Rattle.transaction.specs.Members.{Member, IsOf}
+use Rattle.claims.specs.Claims.{Claimant, IsClaimantOf}
+use Rattle.transaction.specs.Members.{Member, IsSessionOf}
 use Rattle.workers.specs.declared.shift.Shift.{Shift}
 use Rattle.workers.specs.Shifts.{AreShifts}
 use Rattle.workers.proofs.Teams.{shifts_more, walked_next, walked_more, walked_all}
@@ -60,12 +60,12 @@ returns g c =
 
 pub work-requires-clause-own : goal.work-requires-clause-own
 work-requires-clause-own g c =
-    walked_next (IsOf c.args.shop.library.now) _ _ _ _ c.in-Some.session c.loop-session.invariant.1 c.in-Some.ensures.steps.0.0
+    walked_next (IsSessionOf c.args.shop.library.now) _ _ _ _ c.in-Some.session c.loop-session.invariant.1 c.in-Some.ensures.steps.0.0
     c.requires.own
 
 pub work-requires-clause-claims : goal.work-requires-clause-claims
 work-requires-clause-claims g c =
-    walked_next (Claims c.args.shop.numbers.now) _ _ _ _ c.in-Some.claimant c.loop-session.invariant.2 c.in-Some.ensures.steps.1.0
+    walked_next (IsClaimantOf c.args.shop.numbers.now) _ _ _ _ c.in-Some.claimant c.loop-session.invariant.2 c.in-Some.ensures.steps.1.0
     c.requires.claims
 
 pub loop-session-smaller : goal.loop-session-smaller

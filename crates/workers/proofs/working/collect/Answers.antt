@@ -3,7 +3,7 @@ use Rattle.std.specs.Vec.Iter.{into_iter_items}
 use Rattle.std.proofs.lemmas.Simd.{map-map}
 use Rattle.std.proofs.lemmas.List.Elements.{All-map}
 use Rattle.std.proofs.lemmas.List.Sorted.{IsNonDecreasingBy-from_sort_by}
-use Rattle.claims.specs.Claims.{IsOf as Claims, AreClaimed}
+use Rattle.claims.specs.Claims.{IsClaimantOf, AreClaimed}
 use Rattle.workers.specs.declared.shift.Row.{Row}
 use Rattle.workers.specs.declared.shift.Shift.{Shift}
 use Rattle.transaction.specs.Closings.{lists_of}
@@ -16,7 +16,8 @@ close-requires-clause-own c =
     let claimant = λ (s : Shift). s.claimant in
     let ended : length (into_iter_items c.loop-shift.shift-iterator) ≡ 0 = omega (arith, c.in-None.ensures.steps, i.left) in
     let claimants = all_done (map claimant) c.loop-shift.claimants.items _ _ refl ended i.claimants in
-    subst (All (Claims c.args.numbers)) (sym claimants) (All-map (Claims c.args.numbers) claimant c.args.shifts.items c.requires.whole.own)
+    subst (All (IsClaimantOf c.args.numbers)) (sym claimants)
+    (All-map (IsClaimantOf c.args.numbers) claimant c.args.shifts.items c.requires.whole.own)
 
 pub returns : goal.returns
 returns c =

@@ -4,7 +4,7 @@ use Rattle.library.specs.Library.{Setting, label_of}
 use Rattle.cells.specs.Footprints.{IsOfProof}
 use Rattle.cells.specs.Sight.{after}
 use Rattle.cells.proofs.Asking.{asks_cell, asks_more}
-use Rattle.cells.proofs.Sights.{looks_trans}
+use Rattle.cells.proofs.Sights.{looks_trans, setting_kept}
 use Rattle.cells.proofs.ReadBack.{held_later, assembled}
 use Rattle.cells.proofs.reading.entries.assertion.Goals as goal
 
@@ -36,12 +36,12 @@ pub returns-in_err-proof-clause-reads : goal.returns-in_err-proof-clause-reads
 returns-in_err-proof-clause-reads g c = λ st lib v e at h.
     asks_more (asks_cell (inl refl) c.statement.ensures.reads)
     (λ k is. inr (subst (λ (x : Setting). IsOfProof x.slots c.args.slot e.assertion.proof (after (g.C.Cells.sight c.proof.new.cells) st) k)
-    c.statement.ensures.looks.onward.setting is))
+    (setting_kept c.statement.ensures.looks.onward) is))
     (c.proof.ensures.reads st lib v e at h)
 
 pub returns-clause-reads : goal.returns-clause-reads
 returns-clause-reads g c = λ st lib v e at h.
     asks_more (asks_cell (inl refl) c.statement.ensures.reads)
     (λ k is. inr (subst (λ (x : Setting). IsOfProof x.slots c.args.slot e.assertion.proof (after (g.C.Cells.sight c.proof.new.cells) st) k)
-    c.statement.ensures.looks.onward.setting is))
+    (setting_kept c.statement.ensures.looks.onward) is))
     (c.proof.ensures.reads st lib v e at h)

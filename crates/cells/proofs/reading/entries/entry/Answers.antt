@@ -4,7 +4,7 @@ use Rattle.library.specs.Library.{Setting, label_of}
 use Rattle.cells.specs.Sight.{after}
 use Rattle.cells.specs.Footprints.{IsOfAssertion}
 use Rattle.cells.proofs.Asking.{asks_cell, asks_more}
-use Rattle.cells.proofs.Sights.{looks_trans}
+use Rattle.cells.proofs.Sights.{looks_trans, setting_kept}
 use Rattle.cells.proofs.ReadBack.{held_later}
 use Rattle.cells.proofs.reading.entries.entry.Goals as goal
 
@@ -36,7 +36,7 @@ returns-in_err-assertion-clause-reads g c = λ st lib v e at h.
     let s = g.C.Cells.sight c.assertion.new.cells in
     asks_more (asks_cell (inl refl) c.rank.ensures.reads)
     (λ k is. inr (subst (λ (x : Setting). IsOfAssertion x.slots c.args.slot e.assertion.proof
-    (after s st) k) c.rank.ensures.looks.onward.setting is))
+    (after s st) k) (setting_kept c.rank.ensures.looks.onward) is))
     (c.assertion.ensures.reads st lib v e at h)
 
 pub returns-clause-reads : goal.returns-clause-reads
@@ -44,5 +44,5 @@ returns-clause-reads g c = λ st lib v e at h.
     let s = g.C.Cells.sight c.assertion.new.cells in
     asks_more (asks_cell (inl refl) c.rank.ensures.reads)
     (λ k is. inr (subst (λ (x : Setting). IsOfAssertion x.slots c.args.slot e.assertion.proof
-    (after s st) k) c.rank.ensures.looks.onward.setting is))
+    (after s st) k) (setting_kept c.rank.ensures.looks.onward) is))
     (c.assertion.ensures.reads st lib v e at h)

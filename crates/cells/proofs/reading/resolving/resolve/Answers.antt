@@ -9,7 +9,7 @@ use Rattle.cells.specs.Footprints.{IsOfLook}
 use Rattle.cells.specs.Words.{AreFound}
 use Rattle.cells.proofs.Asking.{item_has}
 use Rattle.cells.proofs.Along.{where_trans}
-use Rattle.cells.proofs.Sights.{looks_trans}
+use Rattle.cells.proofs.Sights.{looks_trans, setting_kept}
 use Rattle.cells.proofs.Settings.{same_slots}
 use Rattle.cells.proofs.Resolving.{resolve_on, resolve_fails, resolve_all, written_back}
 use Rattle.cells.proofs.reading.resolving.resolve.Goals as goal
@@ -56,7 +56,7 @@ loop-i-preserved g c =
           (λ st k at. (
             at.0,
             subst (λ (y : Step). Has y c.args.steps.now) (sym here ∙ at.1) (item_has c.args.steps.now c.loop-i.i x within),
-            subst (λ (q : Setting). IsOfLook q.slots at.0 st k) c.loop-i.invariant.0.onward.setting at.2,
+            subst (λ (q : Setting). IsOfLook q.slots at.0 st k) (setting_kept c.loop-i.invariant.0.onward) at.2,
           )),
       subst (AreFound s labels) (sym back) c.stored_step.ensures.found,
     )
@@ -88,7 +88,7 @@ returns-in_err-stored-clause-reads g c =
     (λ st k at. (
       at.0,
       subst (λ (y : Step). Has y c.args.steps.now) (sym here ∙ at.1) (item_has c.args.steps.now c.loop-i.i x within),
-      subst (λ (q : Setting). IsOfLook q.slots at.0 st k) c.loop-i.invariant.0.onward.setting at.2,
+      subst (λ (q : Setting). IsOfLook q.slots at.0 st k) (setting_kept c.loop-i.invariant.0.onward) at.2,
     ))
 
 pub returns-in_default-clause-reads : goal.returns-in_default-clause-reads
@@ -102,7 +102,7 @@ returns-in_default-clause-reads g c =
     (λ st k at. (
       at.0,
       subst (λ (y : Step). Has y c.args.steps.now) (sym here ∙ at.1) (item_has c.args.steps.now c.loop-i.i x within),
-      subst (λ (q : Setting). IsOfLook q.slots at.0 st k) c.loop-i.invariant.0.onward.setting at.2,
+      subst (λ (q : Setting). IsOfLook q.slots at.0 st k) (setting_kept c.loop-i.invariant.0.onward) at.2,
     ))
 
 pub returns-in_err-push-clause-reads : goal.returns-in_err-push-clause-reads
@@ -116,5 +116,5 @@ returns-in_err-push-clause-reads g c =
     (λ st k at. (
       at.0,
       subst (λ (y : Step). Has y c.args.steps.now) (sym here ∙ at.1) (item_has c.args.steps.now c.loop-i.i x within),
-      subst (λ (q : Setting). IsOfLook q.slots at.0 st k) c.loop-i.invariant.0.onward.setting at.2,
+      subst (λ (q : Setting). IsOfLook q.slots at.0 st k) (setting_kept c.loop-i.invariant.0.onward) at.2,
     ))

@@ -1,6 +1,6 @@
 use Rattle.std.proofs.Common.{subst}
 use Rattle.cells.specs.Sight.{Looks, ReadsNothing}
-use Rattle.lending.specs.Lent.{sight_of}
+use Rattle.lending.specs.Lent.{lent_sight}
 use Rattle.lending.proofs.Lending.{lending_in, agrees_of, loads_lent}
 use Rattle.lending.proofs.Sighted.{loads_look, loads_nothing}
 use Rattle.lending.proofs.live.LiveCells.load.Goals as goal
@@ -19,11 +19,11 @@ invariant_of-self-inside c =
 pub returns-clause-looks : goal.returns-clause-looks
 returns-clause-looks c =
     let l = lending_in c.self.inside in
-    subst (λ x. Looks (sight_of x.run) (sight_of (record l { going = c.load.new.self }))) c.self.view_is
+    subst (λ x. Looks (lent_sight x.run) (lent_sight (record l { going = c.load.new.self }))) c.self.view_is
     (loads_look l c.load.new.self c.load.ensures.loaded)
 
 pub returns-clause-reads : goal.returns-clause-reads
 returns-clause-reads c =
     let l = lending_in c.self.inside in
-    subst (λ x. ReadsNothing (sight_of x.run) (sight_of (record l { going = c.load.new.self }))) c.self.view_is
+    subst (λ x. ReadsNothing (lent_sight x.run) (lent_sight (record l { going = c.load.new.self }))) c.self.view_is
     (loads_nothing l c.load.new.self c.load.ensures.loaded)

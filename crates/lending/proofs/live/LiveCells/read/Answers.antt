@@ -1,7 +1,7 @@
 use Rattle.std.proofs.Common.{◌<◌, ◌≡◌, ℕ, Some, sym, subst}
 use Rattle.cells.specs.Slots.{cell_count}
 use Rattle.cells.specs.Sight.{Looks, Reads, ReadsWithin}
-use Rattle.lending.specs.Lent.{sight_of}
+use Rattle.lending.specs.Lent.{lent_sight}
 use Rattle.lending.proofs.Lending.{lending_in, agrees_of, base_count}
 use Rattle.lending.proofs.Reading.{read_ends, stop_ends}
 use Rattle.lending.proofs.live.LiveCells.read.Goals as goal
@@ -10,7 +10,7 @@ pub read-requires : goal.read-requires
 read-requires c =
     let s = c.self.inside in
     subst (λ (n : ℕ). c.args.cell < n) (sym (base_count (lending_in s) s.stage s.over c.self.invariant.1))
-    (subst (λ x. c.args.cell < cell_count (sight_of x.run).setting.slots) (sym c.self.view_is) c.requires)
+    (subst (λ x. c.args.cell < cell_count (lent_sight x.run).setting.slots) (sym c.self.view_is) c.requires)
 
 pub invariant_of-self : goal.invariant_of-self
 invariant_of-self c =
@@ -51,7 +51,7 @@ returns-in-Ok-clause-ok c =
     let l = lending_in s in
     let e = c.in-Ok.ensures in
     let r = c.read.new.self in
-    subst (λ x. Reads c.args.cell c.in-Ok.value (sight_of x.run) (sight_of (record l { going = r }))) c.self.view_is
+    subst (λ x. Reads c.args.cell c.in-Ok.value (lent_sight x.run) (lent_sight (record l { going = r }))) c.self.view_is
     (read_ends l s.stage s.over c.self.invariant.1 c.args.cell r c.in-Ok.value e.over e.kept e.ok e.noted).1
 
 pub returns-in-Err-clause-err : goal.returns-in-Err-clause-err
@@ -60,7 +60,7 @@ returns-in-Err-clause-err c =
     let l = lending_in s in
     let e = c.in-Err.ensures in
     let r = c.read.new.self in
-    subst (λ x. Looks (sight_of x.run) (sight_of (record l { going = r }))) c.self.view_is
+    subst (λ x. Looks (lent_sight x.run) (lent_sight (record l { going = r }))) c.self.view_is
     (stop_ends l s.stage s.over c.self.invariant.1 c.args.cell r c.in-Err.conflict e.over e.err).1
 
 pub returns-in-Ok-clause-reads : goal.returns-in-Ok-clause-reads
@@ -69,7 +69,7 @@ returns-in-Ok-clause-reads c =
     let l = lending_in s in
     let e = c.in-Ok.ensures in
     let r = c.read.new.self in
-    subst (λ x. ReadsWithin (λ k. k ≡ c.args.cell) (sight_of x.run) (sight_of (record l { going = r }))) c.self.view_is
+    subst (λ x. ReadsWithin (λ k. k ≡ c.args.cell) (lent_sight x.run) (lent_sight (record l { going = r }))) c.self.view_is
     (read_ends l s.stage s.over c.self.invariant.1 c.args.cell r c.in-Ok.value e.over e.kept e.ok e.noted).2
 
 pub returns-in-Err-clause-reads : goal.returns-in-Err-clause-reads
@@ -78,5 +78,5 @@ returns-in-Err-clause-reads c =
     let l = lending_in s in
     let e = c.in-Err.ensures in
     let r = c.read.new.self in
-    subst (λ x. ReadsWithin (λ k. k ≡ c.args.cell) (sight_of x.run) (sight_of (record l { going = r }))) c.self.view_is
+    subst (λ x. ReadsWithin (λ k. k ≡ c.args.cell) (lent_sight x.run) (lent_sight (record l { going = r }))) c.self.view_is
     (stop_ends l s.stage s.over c.self.invariant.1 c.args.cell r c.in-Err.conflict e.over e.err).2

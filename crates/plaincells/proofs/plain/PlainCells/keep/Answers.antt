@@ -2,14 +2,14 @@ use Rattle.std.proofs.Common.{◌*◌, sym, subst, arith}
 use mathlib.Core.Logic.{∥∥₁_map}
 use Rattle.library.specs.Library.{Setting}
 use Rattle.plaincells.specs.Plain.{HoldNames, ShowsSome, IsLogOf, ranges_in, undone}
-use Rattle.plaincells.specs.PlainViews.{setting_of}
+use Rattle.plaincells.specs.PlainViews.{cells_setting}
 use Rattle.plaincells.proofs.PlainSights.{plain_began}
 use Rattle.plaincells.proofs.plain.PlainCells.keep.Goals as goal
 
 pub invariant_of-self : goal.invariant_of-self
 invariant_of-self c =
     let p = c.args.self.now in
-    let s : Setting = setting_of p in
+    let s : Setting = cells_setting p in
     let none = c.clear.ensures.items in
     let log = c.clear.new.self.items in
     record {

@@ -3,7 +3,7 @@ use Rattle.std.proofs.lemmas.Grind.{common_steps}
 use Rattle.library.specs.Library.{Setting}
 use Rattle.ranges.specs.Pairs.{Pairs}
 use Rattle.plaincells.specs.Plain.{HoldNames, IsLogOf, ranges_in, undone}
-use Rattle.plaincells.specs.PlainViews.{setting_of}
+use Rattle.plaincells.specs.PlainViews.{cells_setting}
 use Rattle.plaincells.proofs.Logs.{length-undone}
 use Rattle.plaincells.proofs.PlainSights.{began_same}
 use Rattle.plaincells.proofs.plain.PlainCells.undo.Goals as goal
@@ -11,7 +11,7 @@ use Rattle.plaincells.proofs.plain.PlainCells.undo.Goals as goal
 pub invariant_of-self : goal.invariant_of-self
 invariant_of-self c =
     let p = c.args.self.now in
-    let s : Setting = setting_of p in
+    let s : Setting = cells_setting p in
     let made = c.give_back.new.values in
     let log = c.give_back.new.log.items in
     let base : made ≡ undone p.values.items p.log.items =

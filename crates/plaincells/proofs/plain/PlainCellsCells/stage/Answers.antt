@@ -4,7 +4,7 @@ use Rattle.ranges.specs.declared.range.Range.{Range as Place}
 use Rattle.cells.specs.Sight.{Stages}
 use Rattle.library.specs.Library.{Setting}
 use Rattle.plaincells.specs.Plain.{HoldNames, LieInStore, BeganWithSome, ranges_in, undone, behind, plain_sight}
-use Rattle.plaincells.specs.PlainViews.{setting_of}
+use Rattle.plaincells.specs.PlainViews.{cells_setting}
 use Rattle.plaincells.proofs.Stores.{has_some, lie_staged}
 use Rattle.plaincells.proofs.PlainSights.{staged_or_not, hold_staged, began_staged, plain_stages}
 use Rattle.plaincells.proofs.plain.PlainCellsCells.stage.Goals as goal
@@ -12,7 +12,7 @@ use Rattle.plaincells.proofs.plain.PlainCellsCells.stage.Goals as goal
 pub invariant_of-self : goal.invariant_of-self
 invariant_of-self c =
     let p = c.args.self.now in
-    let s : Setting = setting_of p in
+    let s : Setting = cells_setting p in
     let old = p.store.items in
     let places = p.ranges.items in
     let words = c.args.words.now in
@@ -40,7 +40,7 @@ invariant_of-self c =
 pub returns-in-Ok-clause-ok : goal.returns-in-Ok-clause-ok
 returns-in-Ok-clause-ok c =
     let p = c.args.self.now in
-    let s : Setting = setting_of p in
+    let s : Setting = cells_setting p in
     let old = p.store.items in
     let places = p.ranges.items in
     let words = c.args.words.now in
