@@ -105,7 +105,7 @@ without c ks = filter (λ k. not (k.cell == c)) ks
 
 -- the value is stored, where this is the cell c
 abbrev pub marked : ℕ → Held → Held
-marked c k = if k.cell == c then record k { with_stored = true } else k
+marked c k = if k.cell == c then record k { stored = true } else k
 
 -- the value of the cell c is stored
 abbrev pub with_stored : ℕ → List Held → List Held
