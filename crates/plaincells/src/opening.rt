@@ -4,10 +4,10 @@ ghost use Rattle.std.specs.Prelude.{◌≡◌, ◌≢◌, ◌≤◌, ◌<◌, �
 ghost use Rattle.derivation.specs.Databases.{AllCheck};
 ghost use Rattle.plaincells.specs.Measures.{body_length, all_bodies_length, IsLeft};
 ghost use Rattle.bodystore.specs.Bodies.{expressions_words};
-ghost use Rattle.plaincells.specs.Opening.{CellsOpen, front, Refuses};
+ghost use Rattle.plaincells.specs.Opening.{CellsOpen, OpensIn, front, spread, Refuses};
 
 use crate::plain::PlainCells;
-use cells::resolve;
+use cells::{resolve, slot_count};
 use chains::fill;
 use mmsyntax::{Assertion, Database, Expr};
 use std::alloc::{AllocError, Global};
@@ -65,8 +65,8 @@ impl From<AllocError> for OpenError {
 }
 
 impl PlainCells {
-    /// The opening library of a database whose proofs check, in so many slots, with a store that has room for so many words. The assertion
-    /// k stands in the slot k, both counted from 0; they are put in in their order.
+    /// The opening library of a database whose proofs check, in so many slots, with a store that has room for so many words. The
+    /// assertions are put in in their order, spread evenly over the slots: the assertion k of n, from 0, in the slot `k * slots / n`.
     ///
     /// # Errors
     ///
@@ -94,28 +94,32 @@ impl PlainCells {
             return Err(OpenError::StoreFull);
         }
         let mut cells = PlainCells::empty(alloc, database.prelude().copy(alloc)?, slots, room)?;
-        for slot in 0..assertions.len() {
-            put_next(alloc, &mut cells, database, slot)?;
+        for index in 0..assertions.len() {
+            put_next(alloc, &mut cells, database, index)?;
         }
         Ok(cells)
     }
 }
 
-/// Puts the next assertion of a database into its slot: that many stand in their slots.
+/// Puts the next assertion of a database into its slot: that many before it stand in theirs.
 fn put_next(
     alloc: Global,
     cells: &mut PlainCells,
     database: &Database,
-    slot: usize,
+    index: usize,
 ) -> Result<(), AllocError>
-    requires next { slot < length database.now.assertions }
+    requires next { index < length database.now.assertions }
     requires fits { length database.now.assertions ≤ cells.old.slots }
     requires checks { AllCheck database.now }
-    requires opened { CellsOpen (front slot database.now) cells.old.slots cells.old.room cells.old }
-    ensures { IfOk result (λ _. CellsOpen (front (slot + 1) database.now) cells.old.slots cells.old.room cells.new) }
+    requires opened { OpensIn (spread cells.old.slots (length database.now.assertions)) (front index database.now) cells.old.slots
+        cells.old.room cells.old }
+    ensures { IfOk result (λ _. OpensIn (spread cells.old.slots (length database.now.assertions)) (front (index + 1) database.now)
+        cells.old.slots cells.old.room cells.new) }
 {
-    let assertion = &database.assertions()[slot];
-    let rank = 100 * (slot as u32 + 1);
+    let assertions = database.assertions();
+    let assertion = &assertions[index];
+    let slot = spread(slot_count(cells), assertions.len(), index);
+    let rank = 100 * (index as u32 + 1);
     let steps = match resolve(alloc, cells, &assertion.proof) {
         Ok(Some(steps)) => steps,
         Ok(None) => unreachable!(),
@@ -129,6 +133,16 @@ fn put_next(
         // the room was tested, so it is memory that ran out
         Err(_) => Err(AllocError),
     }
+}
+
+/// The slot of an assertion, by its index among so many.
+fn spread(slots: usize, count: usize, index: usize) -> usize
+    requires next { index < count }
+    requires few { (count ≤ slots) × (slots ≤ 4096) }
+    ensures value { result ≡ spread slots count index }
+    ensures within { result < slots }
+{
+    index * slots / count
 }
 
 /// Whether the bodies of the assertions have at most as many words as the room.
