@@ -5,10 +5,8 @@ ghost use Rattle.bodystore.specs.Citing.{AreCitedSlots};
 ghost use Rattle.bodystore.specs.Listing.{AreSlotsOf, AreSameSlots, AreSeen};
 
 use crate::stored::StoredStep;
+use mmsyntax::MOST_ASSERTIONS;
 use std::alloc::{AllocError, Global};
-
-/// How many slots a library has at most.
-const MOST_SLOTS: usize = 4096;
 
 /// The slots that the steps of a proof cite, each once, ascending.
 ///
@@ -28,7 +26,7 @@ pub fn cited_slots(alloc: Global, steps: &[StoredStep]) -> Result<Vec<usize>, Al
 fn listed_slots(alloc: Global, steps: &[StoredStep]) -> Result<Vec<usize>, AllocError>
     ensures { IfOk result (λ made. AreSlotsOf steps.now made.items) }
 {
-    let mut seen = vec![in alloc; false; MOST_SLOTS]?;
+    let mut seen = vec![in alloc; false; MOST_ASSERTIONS]?;
     let mut slots = Vec::new(alloc);
     for step in steps {
         if let StoredStep::Slot(slot) = step {

@@ -1,5 +1,6 @@
 //! Where each label of a library stands: a map from labels to places.
 
+ghost use Rattle.mmsyntax.specs.declared.limits.TheConstants.{MOST_ASSERTIONS};
 ghost use Rattle.std.specs.Prelude.{◌≡◌, ◌∷◌, ◌++◌, ◌≤◌, [], Some, false, length, map, IsSome, IfNone, IfSome, IfOk, OnOk};
 ghost use Rattle.std.specs.Str.{bytes_eq};
 ghost use Rattle.mmsyntax.specs.Assertions.{Distinct};
@@ -111,7 +112,7 @@ pub fn open_entries(
     keys: RandomState,
     assertions: &[Assertion],
 ) -> Result<(Vec<Option<Ranked>>, Places), AllocError>
-    requires few { length assertions.now ≤ 4096 }
+    requires few { length assertions.now ≤ MOST_ASSERTIONS }
     requires distinct { Distinct bytes_eq (map label_of (ranked_from 1 assertions.now)) }
     ensures entries { IfOk result (λ made. made.0.items ≡ standing (ranked_from 1 assertions.now)) }
     ensures indexed { IfOk result (λ made. IsIndex made.1 made.0.items) }

@@ -1,5 +1,6 @@
 //! Where a library lies: the numbers of its cells.
 
+ghost use Rattle.mmsyntax.specs.declared.limits.TheConstants.{MOST_ASSERTIONS};
 ghost use Rattle.std.specs.Prelude.{◌≡◌, ◌<◌, ◌≤◌, ◌+◌, Some, None, MatchOption};
 ghost use Rattle.cells.specs.Slots.{name_cell, statement_cell, proof_cell, rank_cell, citers_cell, bucket_cell, next_cell, hash, bucket, is_ranged};
 
@@ -10,7 +11,7 @@ use mmsyntax::trunk;
 pub fn slot_count<C: Cells>(cells: &C) -> usize
     ensures value { result ≡ (C.sight cells.now).setting.slots }
     ensures some { 1 ≤ result }
-    ensures few { result ≤ 4096 }
+    ensures few { result ≤ MOST_ASSERTIONS }
 {
     cells.slots()
 }
@@ -19,7 +20,7 @@ pub fn slot_count<C: Cells>(cells: &C) -> usize
 /// labels `L.k` all lie in the bucket of the hash of L.
 pub fn bucket(label: &[u8], slots: usize) -> usize
     requires some { 1 ≤ slots }
-    requires few { slots ≤ 4096 }
+    requires few { slots ≤ MOST_ASSERTIONS }
     ensures value { result ≡ bucket slots label.now }
     ensures within { result < slots }
 {
@@ -30,7 +31,7 @@ pub fn bucket(label: &[u8], slots: usize) -> usize
 #[tactic(auto, using(std::proofs::lemmas::List::Sums::fold_more))]
 pub(crate) fn hash(word: &[u8], slots: usize) -> usize
     requires some { 1 ≤ slots }
-    requires few { slots ≤ 4096 }
+    requires few { slots ≤ MOST_ASSERTIONS }
     ensures value { result ≡ hash slots word.now }
     ensures within { result < slots }
 {
@@ -53,7 +54,7 @@ pub fn link(word: u64, slots: usize) -> Option<usize>
 
 /// Whether the cell is a range cell: a name, statement or proof cell, which holds 0 or a word that names a range.
 pub fn is_range_cell(slots: usize, cell: usize) -> bool
-    requires { slots ≤ 4096 }
+    requires { slots ≤ MOST_ASSERTIONS }
     ensures { result ≡ is_ranged slots cell }
 {
     cell < 5 * slots && cell % 5 < 3
@@ -61,7 +62,7 @@ pub fn is_range_cell(slots: usize, cell: usize) -> bool
 
 /// The cell of a slot's name.
 pub fn name_cell(slot: usize) -> usize
-    requires { slot < 4096 }
+    requires { slot < MOST_ASSERTIONS }
     ensures { result ≡ name_cell slot }
 {
     5 * slot
@@ -69,7 +70,7 @@ pub fn name_cell(slot: usize) -> usize
 
 /// The cell of a slot's statement.
 pub fn statement_cell(slot: usize) -> usize
-    requires { slot < 4096 }
+    requires { slot < MOST_ASSERTIONS }
     ensures { result ≡ statement_cell slot }
 {
     5 * slot + 1
@@ -77,7 +78,7 @@ pub fn statement_cell(slot: usize) -> usize
 
 /// The cell of a slot's proof.
 pub fn proof_cell(slot: usize) -> usize
-    requires { slot < 4096 }
+    requires { slot < MOST_ASSERTIONS }
     ensures { result ≡ proof_cell slot }
 {
     5 * slot + 2
@@ -85,7 +86,7 @@ pub fn proof_cell(slot: usize) -> usize
 
 /// The cell of a slot's rank.
 pub fn rank_cell(slot: usize) -> usize
-    requires { slot < 4096 }
+    requires { slot < MOST_ASSERTIONS }
     ensures { result ≡ rank_cell slot }
 {
     5 * slot + 3
@@ -93,7 +94,7 @@ pub fn rank_cell(slot: usize) -> usize
 
 /// The cell of a slot's number of citers.
 pub fn citers_cell(slot: usize) -> usize
-    requires { slot < 4096 }
+    requires { slot < MOST_ASSERTIONS }
     ensures { result ≡ citers_cell slot }
 {
     5 * slot + 4
@@ -101,7 +102,7 @@ pub fn citers_cell(slot: usize) -> usize
 
 /// The cell of a bucket, which holds the first slot of its chain plus 1, or 0.
 pub fn bucket_cell(slots: usize, bucket: usize) -> usize
-    requires few { slots ≤ 4096 }
+    requires few { slots ≤ MOST_ASSERTIONS }
     requires within { bucket < slots }
     ensures { result ≡ bucket_cell slots bucket }
 {
@@ -110,7 +111,7 @@ pub fn bucket_cell(slots: usize, bucket: usize) -> usize
 
 /// The next cell of a slot, which holds the next slot of its chain plus 1, or 0.
 pub fn next_cell(slots: usize, slot: usize) -> usize
-    requires few { slots ≤ 4096 }
+    requires few { slots ≤ MOST_ASSERTIONS }
     requires within { slot < slots }
     ensures { result ≡ next_cell slots slot }
 {

@@ -6,6 +6,7 @@ use Rattle.library.specs.Fitting.{CommandFits}
 use Rattle.scripts.specs.Scripts.{SpellsScript}
 use Rattle.export.specs.Exported.{Accepts}
 use Rattle.checking.specs.Checks.{Bytes, Orders, IsChecked}
+use Rattle.mmsyntax.specs.declared.limits.TheConstants.{MOST_BYTES}
 
 -- over a prelude that some text declares, each command of a script that is spelled is within the limits
 abbrev pub SpelledScriptsFit : Type 0
@@ -14,4 +15,4 @@ SpelledScriptsFit =
 
 -- an accepted text of at most 16,777,216 bytes is read, as the database that it spells, and each of its proofs checks: so is each export
 abbrev pub AcceptedTextsCheck : Type 0
-AcceptedTextsCheck = (text : Bytes) (a : Accepts text) → length text ≤ 16777216 → IsChecked text a.database
+AcceptedTextsCheck = (text : Bytes) (a : Accepts text) → length text ≤ MOST_BYTES → IsChecked text a.database

@@ -5,6 +5,8 @@ use Rattle.library.specs.Library.{Setting, Listed, ShowsInOrder, Verifies}
 use Rattle.cells.specs.Shows.{Shows}
 use Rattle.plaincells.specs.PlainViews.{named_state, ShowNamed}
 use Rattle.tlwords.specs.declared.closing.ClosedWords.{ClosedWords}
+use Rattle.mmsyntax.specs.declared.limits.TheConstants.{MOST_ASSERTIONS}
+use Rattle.cells.specs.State.{most_words}
 
 -- the values of the cells
 abbrev pub values_of : ClosedWords → List ℕ
@@ -13,9 +15,9 @@ values_of words = map (λ x. x.value) words.cells.items
 -- the words lie as those of a library of this setting, and show one that verifies
 pub record ShowsAtEnd (setting : Setting) (words : ClosedWords) : Type 0 where
   pub some : 1 ≤ setting.slots
-  pub few : setting.slots ≤ 4096
+  pub few : setting.slots ≤ MOST_ASSERTIONS
   pub count : length (values_of words) ≡ 7 * setting.slots
-  pub small : length words.store.items ≤ 16777216
+  pub small : length words.store.items ≤ most_words
   pub shows : ShowNamed setting (values_of words) words.store.items
 
 -- the library is every one that the words show and that verifies, in order

@@ -1,5 +1,6 @@
 //! A library during a transaction: all that was done to it can be taken back, and that takes no memory.
 
+ghost use Rattle.mmsyntax.specs.declared.limits.TheConstants.{MOST_ASSERTIONS};
 ghost use Rattle.std.specs.Prelude.{◌≡◌, ◌≤◌, length, map, IfOk, vec_len, vec_capacity};
 ghost use Rattle.std.specs.Str.{bytes_eq};
 ghost use Rattle.mmsyntax.specs.Assertions.{Distinct};
@@ -72,7 +73,7 @@ impl Draft {
         slots: usize,
         assertions: &[Assertion],
     ) -> Result<Draft, AllocError>
-        requires few { length assertions.now ≤ 4096 }
+        requires few { length assertions.now ≤ MOST_ASSERTIONS }
         requires distinct { Distinct bytes_eq (map label_of (ranked_from 1 assertions.now)) }
         ensures { IfOk result (IsOpened (record { prelude = prelude; slots = slots }) (ranked_from 1 assertions.now)) }
     {

@@ -1,5 +1,7 @@
 //! The one-thread editor: the definition of transactions as a program.
 
+ghost use Rattle.mmsyntax.specs.declared.limits.TheConstants.{MOST_ASSERTIONS};
+
 use crate::draft::Draft;
 use library::{Command, PlainLibrary, Refused, Reply};
 use mmsyntax::{Database, Prelude, Sequence};
@@ -147,7 +149,7 @@ impl Editor {
         db: &Database,
         slots: usize,
     ) -> Result<Editor, OpenError>
-        requires slots { (1 ≤ slots) × (slots ≤ 4096) }
+        requires slots { (1 ≤ slots) × (slots ≤ MOST_ASSERTIONS) }
         requires checks { AllCheck db.now }
         ensures { EditorOpens db.now slots result }
     {

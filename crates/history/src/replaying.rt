@@ -1,5 +1,6 @@
 //! Histories done again: what an editor answers to their transactions, against the replies that they hold.
 
+ghost use Rattle.mmsyntax.specs.declared.limits.TheConstants.{MOST_ASSERTIONS};
 ghost use Rattle.std.specs.Prelude.{◌≡◌, ◌≤◌, ◌↔◌, IfOk, OnOk, IsTrue, map};
 ghost use Rattle.derivation.specs.Databases.{AllCheck};
 ghost use Rattle.library.specs.Histories.{told, after_entry, EntryFits, EntriesFit, IsRepeated};
@@ -109,7 +110,7 @@ pub fn replay(
     slots: usize,
     history: &[Entry],
 ) -> Result<PlainLibrary, ReplayError>
-    requires slots { (1 ≤ slots) × (slots ≤ 4096) }
+    requires slots { (1 ≤ slots) × (slots ≤ MOST_ASSERTIONS) }
     requires checks { AllCheck db.now }
     requires fit { EntriesFit db.now.prelude (map told history.now) }
     ensures { Replays db.now slots (map told history.now) result }

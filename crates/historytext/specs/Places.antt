@@ -22,6 +22,7 @@ use Rattle.scripts.specs.ScriptFaults.{CommandPlace, Led, inside, whole_command,
 use Rattle.library.specs.declared.history.Entry.{Entry}
 use Rattle.library.specs.declared.history.Entry.TheVariants as entry
 use Rattle.historytext.specs.Grammar.{highest_count}
+use Rattle.mmsyntax.specs.declared.limits.TheConstants.{MOST_BYTES}
 
 -- ---- places
 
@@ -207,7 +208,7 @@ whole entries _ = None
 -- the language of histories over a prelude
 abbrev pub history_language : Tables → Language Progress (List Entry)
 history_language t = record {
-  most_bytes = 16777216;
+  most_bytes = MOST_BYTES;
   start = record { entries = []; place = at_history };
   row = λ p token. in_place t p.entries p.place token;
   said = λ p. whole p.entries p.place;

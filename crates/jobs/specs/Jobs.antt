@@ -24,6 +24,7 @@ use Rattle.checking.specs.Tasks.{IsWithin}
 use Rattle.checking.specs.Checks.{Bytes, Orders, library_lines, replayed_lines, AreScripts, IsChecked, ok_line, IsCheck, IsReplay}
 use Rattle.checking.specs.Checks.{IsFirstFaultyScript, IsDatabaseFault, IsReplayFault}
 use Rattle.reports.specs.Reports.{report_text}
+use Rattle.mmsyntax.specs.declared.limits.TheConstants.{MOST_BYTES}
 
 -- ---- what is printed
 
@@ -79,11 +80,11 @@ DoneAsAsked (Replay db history) p = IsReplay db.items history.items p.out.items 
 -- of at most 16,777,216 bytes each: to a check of a text that is accepted, as every export is, `ok` is answered; to a replay of the history
 -- that a run over the same database gave where it was asked for, the library of that run
 abbrev pub AnswersItsOwn : Job → (Bytes → Type 0) → Type 0
-AnswersItsOwn (Check db) is_answered = (a : Accepts db.items) → length db.items ≤ 16777216 → is_answered (ok_line a.database)
+AnswersItsOwn (Check db) is_answered = (a : Accepts db.items) → length db.items ≤ MOST_BYTES → is_answered (ok_line a.database)
 AnswersItsOwn (Run db texts workers room asked) is_answered = Unit {0}
 AnswersItsOwn (Replay db history) is_answered =
     (texts : List Bytes) (workers room : ℕ) (out : Bytes) (run : IsRun db.items texts workers room true out history.items)
-    → length history.items ≤ 16777216
+    → length history.items ≤ MOST_BYTES
     → is_answered (replayed_lines (length run.printed.entries) run.printed.library)
 
 -- this is printed, unless memory ran out

@@ -10,6 +10,7 @@ use Rattle.checking.specs.FaultLines.{shown_label}
 use Rattle.export.specs.Exported.{Accepts}
 use Rattle.checking.specs.Checks.{Bytes}
 use Rattle.jobs.specs.Jobs.{IsRun, IsFaultOf}
+use Rattle.mmsyntax.specs.declared.limits.TheConstants.{MOST_BYTES}
 
 -- the label in the fault of a job is printed as it is
 abbrev pub FaultLabelsAreShown : Type 0
@@ -18,7 +19,7 @@ FaultLabelsAreShown = (j : Job) (label : List ℕ) (fault : ProofFault) → IsFa
 -- a check of an accepted text of at most 16,777,216 bytes has no fault
 abbrev pub AcceptedTextsHaveNoFault : Type 0
 AcceptedTextsHaveNoFault =
-    (text : Vec ℕ Global) (f : Fault) → Accepts text.items → length text.items ≤ 16777216 → IsFaultOf (Check text) f → ⊥
+    (text : Vec ℕ Global) (f : Fault) → Accepts text.items → length text.items ≤ MOST_BYTES → IsFaultOf (Check text) f → ⊥
 
 -- nor has a replay of the history that a run gave where it was asked for, over the same database, where its text has at most 16,777,216
 -- bytes
@@ -26,4 +27,4 @@ abbrev pub RunsHaveNoFaultAgain : Type 0
 RunsHaveNoFaultAgain =
     (db history : Vec ℕ Global) (texts : List Bytes) (workers room : ℕ) (out : Bytes) (f : Fault)
     → IsRun db.items texts workers room true out history.items
-    → length history.items ≤ 16777216 → IsFaultOf (Replay db history) f → ⊥
+    → length history.items ≤ MOST_BYTES → IsFaultOf (Replay db history) f → ⊥

@@ -8,10 +8,11 @@ use Rattle.plaincells.specs.Measures.{all_bodies_length}
 use Rattle.transaction.specs.declared.shape.Shape.{Shape}
 use Rattle.editing.specs.declared.error.EditError.{EditError}
 use Rattle.editing.specs.declared.error.EditError.TheVariants as edit
+use Rattle.mmsyntax.specs.declared.limits.TheConstants.{MOST_ASSERTIONS}
 
 -- how the library of a run lies in words
 abbrev pub shape_with : ℕ → ℕ → Shape
-shape_with workers room = record { slots = 4096; room = room; sessions = workers }
+shape_with workers room = record { slots = MOST_ASSERTIONS; room = room; sessions = workers }
 
 -- why the library of a database whose proofs check isn't opened
 abbrev pub IsOpenFault : Contents → ℕ → Fault → Type 0

@@ -7,12 +7,13 @@ use Rattle.library.specs.declared.command.Command.{Command}
 use Rattle.library.specs.declared.command.Command.TheVariants.{Add, Reprove, Replace, Rename, Move, Delete, Show, List}
 use Rattle.library.specs.declared.command.Reply.{Reply}
 use Rattle.library.specs.declared.command.Reply.TheVariants.{Done, Shown, Listed}
+use Rattle.mmsyntax.specs.declared.limits.TheConstants.{MOST_STEPS}
 
 -- a rank is at most the highest, an added assertion fits the prelude, and another proof of L has at most 16,384 steps, of which none cites
 -- L.k
 abbrev pub CommandFits : Tables → Command → Type 0
 CommandFits t (Add rank a) = (rank ≤ highest_rank) × Fits t a
-CommandFits t (Reprove label steps) = (length steps ≤ 16384) × All (CitesApart label) steps
+CommandFits t (Reprove label steps) = (length steps ≤ MOST_STEPS) × All (CitesApart label) steps
 CommandFits t (Replace label old new) = Unit {0}
 CommandFits t (Rename old new) = Unit {0}
 CommandFits t (Move label rank) = rank ≤ highest_rank

@@ -15,12 +15,13 @@ use Rattle.library.specs.Edits.{Edited, edit}
 use Rattle.library.specs.Transactions.{Applied, apply, HasReplies, library_of, has_edit}
 use Rattle.library.specs.Histories.{Entry, done_entry, EntriesFit, after_front, Grows, IsSettledBefore, IsLegal}
 use Rattle.library.specs.Agrees.{Answer, committed, Agrees, IsSettledBelow}
+use Rattle.mmsyntax.specs.declared.limits.TheConstants.{MOST_ASSERTIONS}
 
 -- the opening library of what some text declares verifies where each proof checks over the earlier assertions, with as many slots as one
 -- likes, from 1 to 4,096, if there is room
 abbrev pub OpeningsVerify : Type 0
 OpeningsVerify =
-    (db : Contents) (slots : ℕ) → HasSpelling db → AllCheck db → 1 ≤ slots → slots ≤ 4096 → length db.assertions ≤ slots
+    (db : Contents) (slots : ℕ) → HasSpelling db → AllCheck db → 1 ≤ slots → slots ≤ MOST_ASSERTIONS → length db.assertions ≤ slots
     → Verifies (setting_over db slots) (opening db)
 
 -- a command within the limits that is not refused leaves a library that verifies

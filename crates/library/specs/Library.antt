@@ -13,6 +13,7 @@ use Rattle.mmsyntax.specs.Dotted.{ClashNowhere}
 use Rattle.derivation.specs.Derivation.{Citable, Checks}
 use Rattle.derivation.specs.Databases.{frame_in}
 use Rattle.library.specs.declared.library.Ranked.{Ranked}
+use Rattle.mmsyntax.specs.declared.limits.TheConstants.{MOST_ASSERTIONS}
 
 -- what is fixed throughout: the prelude, and how many assertions a library may hold
 pub record Setting : Type 0 where
@@ -23,7 +24,7 @@ pub record Setting : Type 0 where
 pub record IsSetting (s : Setting) : Type 0 where
   pub sound : IsSoundPrelude s.prelude
   pub some : 1 ≤ s.slots
-  pub few : s.slots ≤ 4096
+  pub few : s.slots ≤ MOST_ASSERTIONS
 
 -- so many slots over the prelude of a database
 abbrev pub setting_over : Contents → ℕ → Setting

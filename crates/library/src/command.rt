@@ -7,13 +7,12 @@ ghost use Rattle.library.specs.Transactions.{has_edit, has_too_many};
 
 use crate::library::Ranked;
 use crate::shared::SharedList;
-use mmsyntax::{Assertion, Kind, Label, Prelude, Proof, Sequence, are_citing_apart, fits};
+use mmsyntax::{
+    Assertion, Kind, Label, MOST_STEPS, Prelude, Proof, Sequence, are_citing_apart, fits,
+};
 
 /// The highest rank.
 const HIGHEST_RANK: u32 = 4_294_967_295;
-
-/// The most steps of a proof.
-const MOST_STEPS: usize = 16_384;
 
 /// A command on a library.
 #[derive(Debug, Drop)]

@@ -1,5 +1,7 @@
 //! Opens a library in plain cells from a database.
 
+ghost use Rattle.cells.specs.State.{most_words};
+ghost use Rattle.mmsyntax.specs.declared.limits.TheConstants.{MOST_ASSERTIONS};
 ghost use Rattle.std.specs.Prelude.{◌≡◌, ◌≢◌, ◌≤◌, ◌<◌, ◌*◌, ◌+◌, ◌↔◌, [], length, IfOk, IfErr, IsTrue, MatchOption};
 ghost use Rattle.derivation.specs.Databases.{AllCheck};
 ghost use Rattle.plaincells.specs.Measures.{body_length, all_bodies_length, IsLeft};
@@ -80,8 +82,8 @@ impl PlainCells {
     ) -> Result<PlainCells, OpenError>
         requires checks { AllCheck database.now }
         requires some { 1 ≤ slots }
-        requires few { slots ≤ 4096 }
-        requires roomy { room ≤ 16777216 }
+        requires few { slots ≤ MOST_ASSERTIONS }
+        requires roomy { room ≤ most_words }
         ensures within { IfOk result (λ _. (length database.now.assertions ≤ slots) × (all_bodies_length database.now.assertions ≤ room)) }
         ensures ok { IfOk result (λ made. CellsOpen database.now slots room made) }
         ensures err { IfErr result (λ error. Refuses database.now slots room error) }
@@ -138,7 +140,7 @@ fn put_next(
 /// The slot of an assertion, by its index among so many.
 fn spread(slots: usize, count: usize, index: usize) -> usize
     requires next { index < count }
-    requires few { (count ≤ slots) × (slots ≤ 4096) }
+    requires few { (count ≤ slots) × (slots ≤ MOST_ASSERTIONS) }
     ensures value { result ≡ spread slots count index }
     ensures within { result < slots }
 {

@@ -1,5 +1,7 @@
 //! Cells and a store on plain vectors, for one thread.
 
+ghost use Rattle.cells.specs.State.{most_words};
+ghost use Rattle.mmsyntax.specs.declared.limits.TheConstants.{MOST_ASSERTIONS};
 ghost use Rattle.std.specs.Prelude.{◌≡◌, ◌≢◌, ◌≤◌, ◌<◌, ◌*◌, ◌+◌, ◌++◌, ◌↔◌, [], ◌∷◌, length, slice_index, is_ok, true, if◌then◌else◌, IfOk, IfErr, IsErrOf, IsOkUnless};
 ghost use Rattle.cells.specs.Sight.{Looks, Reads, Stages, ReadsWithin, ReadsNothing};
 ghost use Rattle.cells.specs.Slots.{cell_count};
@@ -23,9 +25,9 @@ pub struct PlainCells {
     store: Vec<u64>,
     ranges: Vec<Range>,
     ghost some: { 1 ≤ slots },
-    ghost few: { slots ≤ 4096 },
+    ghost few: { slots ≤ MOST_ASSERTIONS },
     ghost long: { length values.items ≡ 7 * slots },
-    ghost roomy: { room ≤ 16777216 },
+    ghost roomy: { room ≤ most_words },
     ghost stored: { length store.items ≤ room },
     ghost logged: { IsLogOf (7 * slots) log.items },
     ghost lie: { LieInStore store.items ranges.items },
@@ -64,8 +66,8 @@ impl PlainCells {
         room: usize,
     ) -> Result<PlainCells, AllocError>
         requires some { 1 ≤ slots }
-        requires few { slots ≤ 4096 }
-        requires roomy { room ≤ 16777216 }
+        requires few { slots ≤ MOST_ASSERTIONS }
+        requires roomy { room ≤ most_words }
         ensures { IfOk result (λ made. AreBlank prelude slots room made) }
     {
         // For the proof: a prelude is sound.
@@ -94,9 +96,9 @@ impl PlainCells {
         store: Vec<u64>,
     ) -> Result<PlainCells, AllocError>
         requires some { 1 ≤ slots }
-        requires few { slots ≤ 4096 }
+        requires few { slots ≤ MOST_ASSERTIONS }
         requires long { length values.items ≡ 7 * slots }
-        requires roomy { length store.items ≤ 16777216 }
+        requires roomy { length store.items ≤ most_words }
         requires shows { ShowNamed (record { prelude = prelude; slots = slots }) values.items store.items }
         ensures { IfOk result (λ made. AreOfWords prelude slots values.items store.items made) }
     {
@@ -194,7 +196,7 @@ impl PlainCells {
 
 /// The ranges that the range cells name which have these values, once for each cell that names one.
 fn named_ranges(alloc: Global, slots: usize, values: &[u64]) -> Result<Vec<Range>, AllocError>
-    requires { slots ≤ 4096 }
+    requires { slots ≤ MOST_ASSERTIONS }
     ensures { IfOk result (λ ranges. AreNamedBy slots values.now (length values.now) ranges.items) }
 {
     let mut ranges = Vec::new(alloc);

@@ -22,6 +22,7 @@ use Rattle.library.specs.Fitting.{highest_rank}
 use Rattle.scripts.specs.declared.script.place.Verb.{Verb}
 use Rattle.scripts.specs.declared.script.place.Verb.TheVariants as verb
 use Rattle.scripts.specs.Scripts.{other_step_of}
+use Rattle.mmsyntax.specs.declared.limits.TheConstants.{MOST_BYTES}
 
 -- ---- places
 
@@ -183,7 +184,7 @@ whole script _ = None
 -- the language of scripts over a prelude: no transaction at the start
 abbrev pub script_language : Tables → Language Progress (List (List Command))
 script_language t = record {
-  most_bytes = 16777216;
+  most_bytes = MOST_BYTES;
   start = record { script = []; place = outermost };
   row = λ p token. in_place t p.script p.place token;
   said = λ p. whole p.script p.place;

@@ -20,11 +20,12 @@ use Rattle.transaction.specs.declared.shape.Shape.{Shape}
 use Rattle.transaction.specs.declared.shape.OpenError.{OpenError}
 use Rattle.transaction.specs.declared.shape.OpenError.TheVariants.{BadShape, TooMany, ProofFails, StoreFull, NoMemory}
 use Rattle.transaction.specs.Members.{Home, Member, IsSoundMember}
+use Rattle.mmsyntax.specs.declared.limits.TheConstants.{MOST_ASSERTIONS}
 
 -- 1 to 4,096 slots, a room of at most 2^24 words, and 1 to 64 sessions
 pub record IsShape (shape : Shape) : Type 0 where
   pub some_slots : 1 ≤ shape.slots
-  pub few_slots : shape.slots ≤ 4096
+  pub few_slots : shape.slots ≤ MOST_ASSERTIONS
   pub room : shape.room ≤ 2 ^ 24
   pub some_sessions : 1 ≤ shape.sessions
   pub few_sessions : shape.sessions ≤ 64

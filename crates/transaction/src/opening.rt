@@ -14,7 +14,7 @@ use bodystore::Stage;
 use derivation::ProofFaultKind;
 use lawful::{Given, LibraryLaw};
 use lending::Kit;
-use mmsyntax::Database;
+use mmsyntax::{Database, MOST_ASSERTIONS};
 use plaincells::PlainCells;
 use proofcheck::check_all;
 use std::alloc::{AllocError, Global};
@@ -28,7 +28,7 @@ impl Shape {
     pub fn is_lawful(self) -> bool
         ensures { IsTrue result ↔ IsShape self }
     {
-        (1..=4096).contains(&self.slots)
+        (1..=MOST_ASSERTIONS).contains(&self.slots)
             && self.room <= 16_777_216
             && (1..=64).contains(&self.sessions)
     }

@@ -1,5 +1,6 @@
 //! Ends of libraries.
 
+ghost use Rattle.mmsyntax.specs.declared.limits.TheConstants.{MOST_ASSERTIONS};
 ghost use Rattle.std.specs.Prelude.{◌≤◌, map, All, IfSome};
 ghost use Rattle.derivation.specs.Databases.{AllCheck};
 ghost use Rattle.library.specs.Histories.{told, EntriesFit};
@@ -75,7 +76,7 @@ fn conclude(
 /// Ends a library with these sessions, and writes its lock words.
 fn put_locks(alloc: Global, out: &mut Written, library: Library, sessions: Vec<Session>)
     requires own { All (IsSessionOf library) sessions.items }
-    requires slots { library.given.slots ≤ 4096 }
+    requires slots { library.given.slots ≤ MOST_ASSERTIONS }
 {
     let slots = library.slots();
     match library.close(alloc, sessions) {
@@ -124,7 +125,7 @@ fn put_finished(
     history: &[Entry],
     after: &PlainLibrary,
 )
-    requires slots { (1 ≤ slots) × (slots ≤ 4096) }
+    requires slots { (1 ≤ slots) × (slots ≤ MOST_ASSERTIONS) }
     requires checks { AllCheck database.now }
     requires fit { EntriesFit database.now.prelude (map told history.now) }
 {
@@ -150,7 +151,7 @@ fn put_replayed(
     slots: usize,
     history: &[Entry],
 )
-    requires slots { (1 ≤ slots) × (slots ≤ 4096) }
+    requires slots { (1 ≤ slots) × (slots ≤ MOST_ASSERTIONS) }
     requires checks { AllCheck database.now }
     requires fit { EntriesFit database.now.prelude (map told history.now) }
 {
@@ -174,7 +175,7 @@ fn put_told(out: &mut Written, library: &PlainLibrary, is_with_ranks: bool) {
 
 /// The kind of a cell, and the number of its slot or bucket, from 0.
 fn place_of(slots: usize, cell: usize) -> (&'static str, usize)
-    requires { slots ≤ 4096 }
+    requires { slots ≤ MOST_ASSERTIONS }
 {
     if cell < 5 * slots {
         (PARTS[cell % 5], cell / 5)
@@ -188,7 +189,7 @@ fn place_of(slots: usize, cell: usize) -> (&'static str, usize)
 /// Writes the line of the cells whose lock words aren't those of the opening, which are 0: each by its kind and its slot or bucket, from
 /// 0, in the order of the cells; or `none`.
 fn put_moved(out: &mut Written, slots: usize, cells: &[ClosedCell])
-    requires { slots ≤ 4096 }
+    requires { slots ≤ MOST_ASSERTIONS }
 {
     let mut behind = "none\n";
     let mut comma = "";

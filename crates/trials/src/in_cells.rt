@@ -1,6 +1,8 @@
 //! A library in plain cells, and the transactions on it, one after another on one thread: for tests that it answers as the one-thread
 //! editor does, and for measuring it.
 
+ghost use Rattle.cells.specs.State.{most_words};
+ghost use Rattle.mmsyntax.specs.declared.limits.TheConstants.{MOST_ASSERTIONS};
 ghost use Rattle.std.specs.Prelude.{◌≡◌, All, IsTrue};
 ghost use Rattle.library.specs.Fitting.{CommandFits};
 ghost use Rattle.trials.specs.InCells.{ShowsSomeNow};
@@ -46,8 +48,8 @@ impl InCells {
         room: usize,
     ) -> Result<InCells, OpenError>
         requires checks { AllCheck db.now }
-        requires slots { (1 ≤ slots) × (slots ≤ 4096) }
-        requires room { room ≤ 16777216 }
+        requires slots { (1 ≤ slots) × (slots ≤ MOST_ASSERTIONS) }
+        requires room { room ≤ most_words }
     {
         // For the proof: some text declares the database.
         let _assertions = db.assertions();
