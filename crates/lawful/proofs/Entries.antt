@@ -5,7 +5,7 @@ use Rattle.std.proofs.lemmas.Option.{slice_get_within}
 use Rattle.library.specs.declared.command.Command.{Command}
 use Rattle.library.specs.declared.command.Reply.{Reply}
 use Rattle.library.specs.Histories.{open_entry, done_entry}
-use Rattle.tlcore.specs.History.{Entry as WordsEntry}
+use Rattle.tlcore.specs.History.{WordsEntry}
 pub use Rattle.tlcore.proofs.Growth.{get_exists as at_index}
 use Rattle.tlcore.specs.declared.entries.Status.{Status}
 use Rattle.tlcore.specs.declared.entries.Status.TheVariants as status

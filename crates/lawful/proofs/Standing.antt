@@ -14,7 +14,7 @@ use Rattle.library.specs.Histories.{Entry, open_entry, void_entry, done_entry, E
 use Rattle.librarylaws.proofs.Fronts.{fronts_verify}
 use Rattle.librarylaws.proofs.Leaving.{apply_leaves}
 use Rattle.librarylaws.proofs.Legal.{after-more}
-use Rattle.tlcore.specs.History.{Entry as WordsEntry, One, deed, deed_in, deed_of, value_after, value_over}
+use Rattle.tlcore.specs.History.{WordsEntry, One, deed, deed_in, deed_of, value_after, value_over}
 use Rattle.ranges.specs.Pairs.{written}
 use Rattle.tlcore.specs.declared.entries.Status.{Status}
 use Rattle.tlcore.specs.declared.entries.Status.TheVariants as status

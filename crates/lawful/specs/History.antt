@@ -4,7 +4,7 @@ use Rattle.library.specs.declared.library.Ranked.{Ranked}
 use Rattle.library.specs.Library.{Verifies}
 use Rattle.library.specs.Histories.{Entry, open_entry, void_entry, done_entry, EntriesFit, after_front, IsLegal}
 use Rattle.library.specs.Agrees.{Agrees, committed, read, refused, snapshot}
-use Rattle.tlcore.specs.History.{Entry as WordsEntry, deed, value_after}
+use Rattle.tlcore.specs.History.{WordsEntry, deed, value_after}
 use Rattle.tlcore.specs.declared.entries.Status.{Status}
 use Rattle.tlcore.specs.declared.entries.Status.TheVariants as status
 use Rattle.tlwords.specs.Seen.{Seen, Work, Call, Committed, Answered, IsDone, IsSettled}

@@ -1,6 +1,6 @@
 -- What the parts say of each other after an event, from what it left.
 use Rattle.std.proofs.Common.{List, None, Option, Some, ap, inl, inr, length, refl, slice_get, slice_set, subst, sym, ℕ, ◌∙◌, ◌≡◌, ◌≢◌, ◌⊎◌}
-use Rattle.tlcore.specs.History.{Entry}
+use Rattle.tlcore.specs.History.{WordsEntry}
 use Rattle.tlcore.specs.Seats.{Held, Seat, find_held, number_at}
 use Rattle.tlcore.specs.Machine.{Cell, World, with_seat}
 use Rattle.tlcore.specs.Invariant.{CellsOk, Consistent, HistoryOk, SeatOk}
@@ -23,7 +23,7 @@ others-own o w s t I e q u ne f =
     alone None a b = refl
     alone (Some i) a b = absurd (ne (sym (I.numbers_apart s q t u i e f a b)))
 
-module _ (o : List ℕ) (w : World) (s : ℕ) (t z : Seat) (ys : List Cell) (g : List Entry) (m : ℕ) (ks : List Held) (n : Option ℕ) where
+module _ (o : List ℕ) (w : World) (s : ℕ) (t z : Seat) (ys : List Cell) (g : List WordsEntry) (m : ℕ) (ks : List Held) (n : Option ℕ) where
   pub Consistent-step : Consistent o w → slice_get w.seats s ≡ Some t → Frame o w.cells ys w.history g ks n → Others w.seats s ks n
       → m ≡ length g → CellsOk o ys g → HistoryOk o g → SeatOk o ys g z
       → ((c : ℕ) (k : Held) → find_held c z.held ≡ Some k → (l : Held) × (find_held c ks ≡ Some l))
@@ -72,7 +72,7 @@ module _ (o : List ℕ) (w : World) (s : ℕ) (t z : Seat) (ys : List Cell) (g :
           absurd (taken_number i q ((others a x p.0 p.1).1 (h ∙ sym q)))
       number_case a b x y i h j (inr p) (inr r) = I.numbers_apart a b x y i p.1 r.1 h j
 
-Frame-refl : (o : List ℕ) (xs : List Cell) (h : List Entry) (ks : List Held) (n : Option ℕ) → Frame o xs xs h h ks n
+Frame-refl : (o : List ℕ) (xs : List Cell) (h : List WordsEntry) (ks : List Held) (n : Option ℕ) → Frame o xs xs h h ks n
 Frame-refl o xs h ks n =
     record {
       grows = Grows-refl h;

@@ -1,7 +1,7 @@
 -- The draw of a number keeps what the parts say of each other.
 use Rattle.std.proofs.Common.{List, None, Option, Some, [], ap, arith, inl, inr, length, nat_lt, refl, slice_get, slice_index, subst, suc}
 use Rattle.std.proofs.Common.{sym, true, ℕ, ◌*◌, ◌++◌, ◌<◌, ◌∙◌, ◌∷◌, ◌≡◌, ◌≤◌, ◌⊎◌}
-use Rattle.tlcore.specs.History.{Deed, Did, Done, Entry, Grows, IsOne, Nothing, One, Open, Will, deed, deed_in, deed_of, value, value_after}
+use Rattle.tlcore.specs.History.{Deed, Did, Done, WordsEntry, Grows, IsOne, Nothing, One, Open, Will, deed, deed_in, deed_of, value, value_after}
 use Rattle.tlcore.specs.History.{value_over, version, version_after, version_over}
 use Rattle.ranges.specs.Pairs.{written}
 use Rattle.tlcore.specs.Seats.{Checking, Held, Place, Read, Seat, Taking, find_held, is_held, number_at, reads_of, writes_of}
@@ -21,8 +21,8 @@ open_did : (ws : Option ℕ) → did (deed_of Open ws) ≡ None
 open_did None = refl
 open_did (Some v) = refl
 
-module _ (o : List ℕ) (h : List Entry) (rs ws : List (ℕ × ℕ)) where
-  abbrev g : List Entry
+module _ (o : List ℕ) (h : List WordsEntry) (rs ws : List (ℕ × ℕ)) where
+  abbrev g : List WordsEntry
   g = h ++ record { status = Open; reads = rs; writes = ws } ∷ []
 
   deed_new : (c i : ℕ) → (deed g c i ≡ deed h c i) ⊎ ((i ≡ length h) × (deed g c i ≡ deed_of Open (written c ws)))
@@ -66,10 +66,10 @@ module _ (o : List ℕ) (h : List Entry) (rs ws : List (ℕ × ℕ)) where
       }
 
 module _ (o : List ℕ) (w : World) (s : ℕ) (t : Seat) (I : Consistent o w) (e : slice_get w.seats s ≡ Some t) (p : t.place ≡ Taking) where
-  abbrev entry : Entry
+  abbrev entry : WordsEntry
   entry = record { status = Open; reads = reads_of t.reads; writes = writes_of t.held }
 
-  abbrev later : List Entry
+  abbrev later : List WordsEntry
   later = w.history ++ record { status = Open; reads = reads_of t.reads; writes = writes_of t.held } ∷ []
 
   q : SeatOk o w.cells w.history t
@@ -151,7 +151,7 @@ module _ (o : List ℕ) (w : World) (s : ℕ) (t : Seat) (I : Consistent o w) (e
       go (inr a) =
           let b : Some entry ≡ Some d = sym a.1 ∙ g in
           let c : entry ≡ d = cc in
-          let f : Open ≡ Done = ap (λ (y : Entry). y.status) c ∙ st in
+          let f : Open ≡ Done = ap (λ (y : WordsEntry). y.status) c ∙ st in
           cc
 
   -- a read of a cell that is held is of the version at the draw

@@ -1,6 +1,6 @@
 -- Each lawful event keeps the invariant, and the history grows.
 use Rattle.std.proofs.Common.{List, None, Some, [], ap, arith, inl, inr, refl, slice_get, subst, suc, sym, true, ℕ, ◌||◌, ◌≡◌, ◌⊎◌}
-use Rattle.tlcore.specs.History.{Entry, Grows, One, Open}
+use Rattle.tlcore.specs.History.{WordsEntry, Grows, One, Open}
 use Rattle.tlcore.specs.Seats.{Checking, Loaded, Place, Reading, Seat, Taking, all_below, all_settled, is_next, number_at, reads_of}
 use Rattle.tlcore.specs.Seats.{writes_of}
 use Rattle.tlcore.specs.Machine.{Action, World, begun, with_seat}
@@ -41,7 +41,7 @@ drawn_one o w s t i u I e p b = either (one_of (is_next t i) (all_settled t.held
 module _ (o : List ℕ) (w : World) (s : ℕ) (t : Seat) (I : Consistent o w) (e : slice_get w.seats s ≡ Some t) where
   -- nothing is drawn, settled or forgotten
   same : (v : World) → v.history ≡ w.history → Consistent o v → Kept o w v
-  same v a b = (b, subst (λ (h : List Entry). Grows w.history h) (sym a) (Grows-refl w.history))
+  same v a b = (b, subst (λ (h : List WordsEntry). Grows w.history h) (sym a) (Grows-refl w.history))
 
   empty_at : (p : Place) → t.place ≡ p → (PlaceOk o w.cells w.history t p → t.held ≡ []) → t.held ≡ []
   empty_at p a f = f (subst (λ (y : Place). PlaceOk o w.cells w.history t y) a (I.seats s t e).place)

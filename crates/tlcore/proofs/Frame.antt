@@ -1,7 +1,7 @@
 -- What an event of one seat leaves to the others, which keep what holds of them.
 use Rattle.std.proofs.Common.{List, None, Option, Some, [], ap, arith, inl, inr, length, refl, slice_get, slice_set, subst, sym, ℕ, ◌*◌}
 use Rattle.std.proofs.Common.{◌<◌, ◌∙◌, ◌∷◌, ◌≡◌, ◌≢◌, ◌≤◌, ◌⊎◌}
-use Rattle.tlcore.specs.History.{Entry, Grows, Will, deed, value, version}
+use Rattle.tlcore.specs.History.{WordsEntry, Grows, Will, deed, value, version}
 use Rattle.tlcore.specs.Seats.{Checking, Failing, Held, Idle, Loaded, Looked, Place, Read, Reading, Seat, Storing, Taking, Voiding}
 use Rattle.tlcore.specs.Seats.{find_held, number_at}
 use Rattle.tlcore.specs.Machine.{Cell}
@@ -11,27 +11,27 @@ use Rattle.tlcore.proofs.Lists.{get-set_cases, get-set_other, get_within}
 use Rattle.tlcore.proofs.Stays.{Stays}
 
 -- nothing of the cell changes, and no further Open entry writes it
-pub record Untouched (o : List ℕ) (xs ys : List Cell) (h g : List Entry) (c : ℕ) : Type 0 where
+pub record Untouched (o : List ℕ) (xs ys : List Cell) (h g : List WordsEntry) (c : ℕ) : Type 0 where
   pub cell : slice_get ys c ≡ slice_get xs c
   pub same_version : version g c ≡ version h c
   pub same_value : value o g c ≡ value o h c
   pub will : (i u : ℕ) → deed g c i ≡ Will u → deed h c i ≡ Will u
 
 -- the cell goes on to a later version; where the version stays, so does the value, and a value word that showed it still does
-pub record Evolves (o : List ℕ) (xs ys : List Cell) (h g : List Entry) (c : ℕ) : Type 0 where
+pub record Evolves (o : List ℕ) (xs ys : List Cell) (h g : List WordsEntry) (c : ℕ) : Type 0 where
   pub up : version h c ≤ version g c
   pub same_value : version g c ≡ version h c → value o g c ≡ value o h c
   pub word : version g c ≡ version h c → ((x : Cell) → slice_get xs c ≡ Some x → x.value ≡ value o h c) → (y : Cell)
       → slice_get ys c ≡ Some y → y.value ≡ value o g c
 
 -- what an event leaves: ks are the cells of its seat, n the index of that run's entry
-pub record Frame (o : List ℕ) (xs ys : List Cell) (h g : List Entry) (ks : List Held) (n : Option ℕ) : Type 0 where
+pub record Frame (o : List ℕ) (xs ys : List Cell) (h g : List WordsEntry) (ks : List Held) (n : Option ℕ) : Type 0 where
   pub grows : Grows h g
   pub same : (c : ℕ) → ((k : Held) → find_held c ks ≡ Some k → ⊥) → Untouched o xs ys h g c
   pub evolves : (c : ℕ) → Evolves o xs ys h g c
-  pub entries : (i : ℕ) (e : Entry) → (n ≡ Some i → ⊥) → slice_get h i ≡ Some e → slice_get g i ≡ Some e
+  pub entries : (i : ℕ) (e : WordsEntry) → (n ≡ Some i → ⊥) → slice_get h i ≡ Some e → slice_get g i ≡ Some e
 
-pub Untouched-evolves : (o : List ℕ) (xs ys : List Cell) (h g : List Entry) (c : ℕ) → Untouched o xs ys h g c → Evolves o xs ys h g c
+pub Untouched-evolves : (o : List ℕ) (xs ys : List Cell) (h g : List WordsEntry) (c : ℕ) → Untouched o xs ys h g c → Evolves o xs ys h g c
 Untouched-evolves o xs ys h g c u =
     record {
       up = omega (arith, u.same_version);
@@ -39,25 +39,25 @@ Untouched-evolves o xs ys h g c u =
       word = λ e f y p. f y (sym u.cell ∙ p) ∙ sym u.same_value;
     }
 
-pub Untouched-refl : (o : List ℕ) (xs : List Cell) (h : List Entry) (c : ℕ) → Untouched o xs xs h h c
+pub Untouched-refl : (o : List ℕ) (xs : List Cell) (h : List WordsEntry) (c : ℕ) → Untouched o xs xs h h c
 Untouched-refl o xs h c = record { cell = refl; same_version = refl; same_value = refl; will = λ i u e. e }
 
-pub ReadsOk-kept : (o : List ℕ) (h g : List Entry) (rv : ℕ) (rs : List Read) → Grows h g → rv ≤ length h → ReadsOk o h rv rs
+pub ReadsOk-kept : (o : List ℕ) (h g : List WordsEntry) (rv : ℕ) (rs : List Read) → Grows h g → rv ≤ length h → ReadsOk o h rv rs
     → ReadsOk o g rv rs
 ReadsOk-kept o h g rv [] r l p = tt
 ReadsOk-kept o h g rv (x ∷ rs) r l p = ((p.0.0, IsOne-kept o h g rv x.cell x.value r l p.0.1), ReadsOk-kept o h g rv rs r l p.1)
 
-pub SettledOk-kept : (o : List ℕ) (h g : List Entry) (i : ℕ) (ks : List Held) (u : ℕ) (rs : List Read) → Grows h g → i ≤ length h
+pub SettledOk-kept : (o : List ℕ) (h g : List WordsEntry) (i : ℕ) (ks : List Held) (u : ℕ) (rs : List Read) → Grows h g → i ≤ length h
     → SettledOk o h i ks u rs → SettledOk o g i ks u rs
 SettledOk-kept o h g i ks u [] r l p = tt
 SettledOk-kept o h g i ks u (x ∷ rs) r l p = (λ e. IsOne-kept o h g i x.cell x.value r l (p.0 e), SettledOk-kept o h g i ks u rs r l p.1)
 
-pub HeldShows-kept : (o : List ℕ) (xs ys : List Cell) (h g : List Entry) (d : Option ℕ) (c : ℕ) (k : Held) (x : Cell)
+pub HeldShows-kept : (o : List ℕ) (xs ys : List Cell) (h g : List WordsEntry) (d : Option ℕ) (c : ℕ) (k : Held) (x : Cell)
     → Untouched o xs ys h g c → HeldShows o h d c k x → HeldShows o g d c k x
 HeldShows-kept o xs ys h g None c k x u p = (omega (arith, u.same_version, p.0), p.1 ∙ sym u.same_value, p.2)
 HeldShows-kept o xs ys h g (Some i) c k x u p = (u.same_version ∙ p.0, u.same_value ∙ p.1, p.2)
 
-pub HeldOk-kept : (o : List ℕ) (xs ys : List Cell) (h g : List Entry) (rv : ℕ) (p : Place) (c : ℕ) (k : Held) (x : Cell) → Grows h g
+pub HeldOk-kept : (o : List ℕ) (xs ys : List Cell) (h g : List WordsEntry) (rv : ℕ) (p : Place) (c : ℕ) (k : Held) (x : Cell) → Grows h g
     → Untouched o xs ys h g c → HeldOk o h rv p c k x → HeldOk o g rv p c k x
 HeldOk-kept o xs ys h g rv p c k x r u q =
     record {
@@ -68,7 +68,7 @@ HeldOk-kept o xs ys h g rv p c k x r u q =
       mine = λ i v e. q.mine i v (u.will i v e);
     }
 
-module _ (o : List ℕ) (xs ys : List Cell) (h g : List Entry) (ks : List Held) (n : Option ℕ) (f : Frame o xs ys h g ks n) where
+module _ (o : List ℕ) (xs ys : List Cell) (h g : List WordsEntry) (ks : List Held) (n : Option ℕ) (f : Frame o xs ys h g ks n) where
   looked_kept : (c word : ℕ) (v : ℕ) → word ≤ 2 * version h c → (word ≡ 2 * version h c → v ≡ value o h c)
       → (word ≤ 2 * version g c) × (word ≡ 2 * version g c → v ≡ value o g c)
   looked_kept c word v l e =
@@ -129,9 +129,9 @@ module _ (o : List ℕ) (xs ys : List Cell) (h g : List Entry) (ks : List Held) 
 -- ---- one cell of the seat is set
 
 -- one cell of the seat is set, and a value word that showed its value still does
-pub set_frame : (o : List ℕ) (xs : List Cell) (h g : List Entry) (ks : List Held) (n : Option ℕ) (c : ℕ) (x : Cell)
+pub set_frame : (o : List ℕ) (xs : List Cell) (h g : List WordsEntry) (ks : List Held) (n : Option ℕ) (c : ℕ) (x : Cell)
     → Grows h g → Stays o h g → ((d i u : ℕ) → deed g d i ≡ Will u → deed h d i ≡ Will u)
-    → ((i : ℕ) (e : Entry) → (n ≡ Some i → ⊥) → slice_get h i ≡ Some e → slice_get g i ≡ Some e)
+    → ((i : ℕ) (e : WordsEntry) → (n ≡ Some i → ⊥) → slice_get h i ≡ Some e → slice_get g i ≡ Some e)
     → (k : Held) → find_held c ks ≡ Some k
     → (((y : Cell) → slice_get xs c ≡ Some y → y.value ≡ value o h c) → x.value ≡ value o h c)
     → Frame o xs (slice_set xs c x) h g ks n

@@ -1,7 +1,7 @@
 -- A held cell's lock word is set to a word that shows the history: what the parts say of each other is kept.
 use Rattle.std.proofs.Common.{Bool, List, None, Some, [], ap, arith, false, if◌then◌else◌, inl, inr, length, refl, slice_get, slice_set}
 use Rattle.std.proofs.Common.{subst, sym, true, ℕ, ◌*◌, ◌∙◌, ◌≡◌, ◌≢◌, ◌⊎◌}
-use Rattle.tlcore.specs.History.{Entry, Grows, Will, deed, value, version}
+use Rattle.tlcore.specs.History.{WordsEntry, Grows, Will, deed, value, version}
 use Rattle.tlcore.specs.Seats.{Held, Idle, Place, Seat, find_held, is_nil, number_at, without}
 use Rattle.tlcore.specs.Machine.{Cell, World, release}
 use Rattle.tlcore.specs.Invariant.{CellsOk, Consistent, HeldOk, HistoryOk, PlaceOk, SeatOk}
@@ -13,11 +13,11 @@ use Rattle.tlcore.proofs.SeatParts.{is_nil-nil, without-find}
 use Rattle.tlcore.proofs.Stays.{Stays}
 
 -- the seat goes on without the cell
-module _ (o : List ℕ) (w : World) (s : ℕ) (t : Seat) (c word : ℕ) (k : Held) (x : Cell) (g : List Entry)
+module _ (o : List ℕ) (w : World) (s : ℕ) (t : Seat) (c word : ℕ) (k : Held) (x : Cell) (g : List WordsEntry)
     (I : Consistent o w) (e : slice_get w.seats s ≡ Some t) (f : find_held c t.held ≡ Some k) (j : slice_get w.cells c ≡ Some x)
     (grows : Grows w.history g) (stays : Stays o w.history g) (len : length g ≡ length w.history)
     (will : (d i u : ℕ) → deed g d i ≡ Will u → deed w.history d i ≡ Will u)
-    (entries : (i : ℕ) (e : Entry) → (number_at t.place ≡ Some i → ⊥) → slice_get w.history i ≡ Some e → slice_get g i ≡ Some e)
+    (entries : (i : ℕ) (e : WordsEntry) → (number_at t.place ≡ Some i → ⊥) → slice_get w.history i ≡ Some e → slice_get g i ≡ Some e)
     (shows : (v : ℕ) → word ≡ 2 * v → (v ≡ version w.history c) × (x.value ≡ value o w.history c))
     (keeps : ((y : Cell) → slice_get w.cells c ≡ Some y → y.value ≡ value o w.history c) → x.value ≡ value o w.history c)
     (none : (i u : ℕ) → deed g c i ≡ Will u → ⊥)

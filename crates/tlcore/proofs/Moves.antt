@@ -1,7 +1,7 @@
 -- What each row does to one cell: its lock word stays, or the seat takes it, or gives it back. So each locked cell is held.
 use Rattle.std.proofs.Common.{List, Some, [], ap, false, if◌then◌else◌, inl, inr, refl, slice_get, slice_set, subst, suc, sym, true, ℕ, ◌*◌}
 use Rattle.std.proofs.Common.{◌==◌, ◌∙◌, ◌∷◌, ◌≡◌, ◌≢◌, ◌⊎◌}
-use Rattle.tlcore.specs.History.{Entry, Void, settle}
+use Rattle.tlcore.specs.History.{WordsEntry, Void, settle}
 use Rattle.tlcore.specs.Seats.{Checking, Failing, Held, Idle, Loaded, Looked, Place, Reading, Seat, Storing, Taking, Voiding, find_held}
 use Rattle.tlcore.specs.Seats.{is_nil, with_stored, without}
 use Rattle.tlcore.specs.Machine.{Action, Cell, World, begun, conflict, placed, saw, with_seat}
@@ -52,7 +52,7 @@ module _ (o : List ℕ) (w : World) (s : ℕ) (t : Seat) (I : Consistent o w) (e
   pub none_held : (p : Place) → t.place ≡ p → (PlaceOk o w.cells w.history t p → t.held ≡ []) → (c : ℕ) → Holds t c → ⊥
   none_held p a f c h = empty_held t.held (f (subst (λ (y : Place). PlaceOk o w.cells w.history t y) a (I.seats s t e).place)) c h.0 h.1
 
-  gives : (z : Seat) (d word : ℕ) (x : Cell) (g : List Entry) (u : ℕ) → z.held ≡ without d t.held → word ≡ 2 * u → (k : Held)
+  gives : (z : Seat) (d word : ℕ) (x : Cell) (g : List WordsEntry) (u : ℕ) → z.held ≡ without d t.held → word ≡ 2 * u → (k : Held)
       → find_held d t.held ≡ Some k
       → Moves w s t (record {
         clock = w.clock;

@@ -1,7 +1,7 @@
 -- The theorem over all schedules.
 use Rattle.std.proofs.Common.{List, None, Option, Some, [], ap, arith, inl, inr, length, refl, slice_get, slice_index, slice_set, subst}
 use Rattle.std.proofs.Common.{suc, sym, zero, ℕ, ◌*◌, ◌<◌, ◌∙◌, ◌∷◌, ◌≡◌, ◌≢◌, ◌⊎◌}
-use Rattle.tlcore.specs.History.{Done, Entry, Grows, Open, Will, deed, value, version}
+use Rattle.tlcore.specs.History.{Done, WordsEntry, Grows, Open, Will, deed, value, version}
 use Rattle.tlcore.specs.Seats.{Held, Place, Seat, find_held, idle, number_at, reads_of}
 use Rattle.tlcore.specs.Machine.{Action, Cell, World, given, next, store}
 use Rattle.tlcore.specs.Schedules.{Event, opened, run, seated, start}
@@ -108,7 +108,7 @@ words_show o w I = record {
 abbrev pub Wrote : World → Seat → World → Type 0
 Wrote w t v =
     (c : ℕ) (x y : Cell) → slice_get w.cells c ≡ Some x → slice_get v.cells c ≡ Some y → y.value ≢ x.value
-    → (i : ℕ) × (e : Entry) × (number_at t.place ≡ Some i) × (slice_get v.history i ≡ Some e) × (e.status ≡ Done)
+    → (i : ℕ) × (e : WordsEntry) × (number_at t.place ≡ Some i) × (slice_get v.history i ≡ Some e) × (e.status ≡ Done)
 
 module _ (o : List ℕ) (w : World) (s : ℕ) (t : Seat) (I : Consistent o w) (e : slice_get w.seats s ≡ Some t) where
   -- no value word changes
@@ -133,7 +133,7 @@ module _ (o : List ℕ) (w : World) (s : ℕ) (t : Seat) (I : Consistent o w) (e
           let m : y ≡ x = cc in
           ap (λ (r : Cell). r.value) m
 
-  written_by : (i c : ℕ) (k : Held) (x : Cell) (d : Entry) → number_at t.place ≡ Some i → slice_get w.history i ≡ Some d
+  written_by : (i c : ℕ) (k : Held) (x : Cell) (d : WordsEntry) → number_at t.place ≡ Some i → slice_get w.history i ≡ Some d
       → Wrote w t (store w s t i c k x)
   written_by i c k x d n h a y z f g m = (i, record d { status = Done }, n, get-settle_same w.history i Done d h, refl)
 
@@ -153,7 +153,7 @@ module _ (o : List ℕ) (w : World) (s : ℕ) (t : Seat) (I : Consistent o w) (e
       let r : CheckingOk o w.history t i p.0 = subst (λ (y : Place). PlaceOk o w.cells w.history t y) p.1 (I.seats s t e).place in
       written_by i c k x r.entry (ap number_at p.1) r.here
   row_wrote a v (stores {i} {c} {k} {x} (inr p) f g) =
-      let r : (d : Entry) × (slice_get w.history i ≡ Some d) × (d.status ≡ Done) =
+      let r : (d : WordsEntry) × (slice_get w.history i ≡ Some d) × (d.status ≡ Done) =
       subst (λ (y : Place). PlaceOk o w.cells w.history t y) p (I.seats s t e).place in
       written_by i c k x r.0 (ap number_at p) r.1
   row_wrote a v (releases_done {i} {c} {x = x} p f st g) = locks v c x (2 * suc i) g refl
@@ -161,11 +161,12 @@ module _ (o : List ℕ) (w : World) (s : ℕ) (t : Seat) (I : Consistent o w) (e
   row_wrote a v (releases_void {c = c} {k} {x} p f g) = locks v c x k.word g refl
 
 -- an entry that is Done stays Done
-done_stays : (g h : List Entry) (i : ℕ) (e : Entry) → Grows g h → slice_get g i ≡ Some e → e.status ≡ Done
-    → (f : Entry) × (slice_get h i ≡ Some f) × (f.status ≡ Done)
+done_stays : (g h : List WordsEntry) (i : ℕ) (e : WordsEntry) → Grows g h → slice_get g i ≡ Some e → e.status ≡ Done
+    → (f : WordsEntry) × (slice_get h i ≡ Some f) × (f.status ≡ Done)
 done_stays g h i e r p d =
-    let a : (f : Entry) × (slice_get h i ≡ Some f) × (f.reads ≡ e.reads) × (f.writes ≡ e.writes) × (e.status ≢ Open → f.status ≡ e.status) =
-    let b : (f : Entry) × (slice_get h i ≡ Some f) × ((f.reads ≡ e.reads) × (f.writes ≡ e.writes)
+    let a : (f : WordsEntry) × (slice_get h i ≡ Some f) × (f.reads ≡ e.reads) × (f.writes ≡ e.writes)
+    × (e.status ≢ Open → f.status ≡ e.status) =
+    let b : (f : WordsEntry) × (slice_get h i ≡ Some f) × ((f.reads ≡ e.reads) × (f.writes ≡ e.writes)
     × (e.status ≢ Open → f.status ≡ e.status)) = r.1 i e p in
     (b.0, b.1, b.2.0, b.2.1, b.2.2)
     in
@@ -185,9 +186,9 @@ next_wrote o w v s a t I e n =
 pub stores_are_done : (o : List ℕ) (w v later : World) (s : ℕ) (a : Action) → Consistent o w → next w s a ≡ Some v
     → Grows v.history later.history → StoresAreDone w s v later
 stores_are_done o w v later s a I n g c x y t f j m e =
-    let b : (i : ℕ) × (d : Entry) × (number_at t.place ≡ Some i) × (slice_get v.history i ≡ Some d) × (d.status ≡ Done) =
+    let b : (i : ℕ) × (d : WordsEntry) × (number_at t.place ≡ Some i) × (slice_get v.history i ≡ Some d) × (d.status ≡ Done) =
     next_wrote o w v s a t I e n c x y f j m in
-    let d : (f : Entry) × (slice_get later.history b.0 ≡ Some f) × (f.status ≡ Done) =
+    let d : (f : WordsEntry) × (slice_get later.history b.0 ≡ Some f) × (f.status ≡ Done) =
     done_stays v.history later.history b.0 b.1 g b.3 b.4 in
     (b.0, d.0, b.2, d.1, d.2)
 

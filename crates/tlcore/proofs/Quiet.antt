@@ -1,7 +1,7 @@
 -- The events that change no word: begin, look, load, relook and check, and conflicts. Each keeps what the parts say of each other.
 use Rattle.std.proofs.Common.{Bool, List, None, Option, Some, [], ap, arith, false, inl, inr, length, nat_le, nat_lt, not, refl, slice_get}
 use Rattle.std.proofs.Common.{subst, suc, sym, true, ℕ, ◌*◌, ◌<◌, ◌==◌, ◌||◌, ◌∙◌, ◌∷◌, ◌≡◌, ◌≤◌, ◌⊎◌}
-use Rattle.tlcore.specs.History.{Done, Entry, IsOne, Open, Will, deed, value, version}
+use Rattle.tlcore.specs.History.{Done, WordsEntry, IsOne, Open, Will, deed, value, version}
 use Rattle.tlcore.specs.Seats.{Checking, Held, Idle, Loaded, Looked, Place, Read, Reading, Seat, Voiding, find_held, is_due, is_held}
 use Rattle.tlcore.specs.Seats.{is_settled, number_at, passes, settled_below}
 use Rattle.tlcore.specs.Machine.{Cell, World, begun, conflict, placed, saw, with_seat}
@@ -14,7 +14,7 @@ use Rattle.tlcore.proofs.SeatParts.{free_is_one, one_on, passes-old}
 pub empty_held : (ks : List Held) → ks ≡ [] → (c : ℕ) (k : Held) → find_held c ks ≡ Some k → ⊥
 empty_held ks e c k f = let g : find_held c [] ≡ Some k = rw e at f in cc
 
-pub seat_empty : (o : List ℕ) (xs : List Cell) (h : List Entry) (t : Seat) → PlaceOk o xs h t t.place → t.rv ≤ length h
+pub seat_empty : (o : List ℕ) (xs : List Cell) (h : List WordsEntry) (t : Seat) → PlaceOk o xs h t t.place → t.rv ≤ length h
     → ReadsOk o h t.rv t.reads → t.held ≡ [] → SeatOk o xs h t
 seat_empty o xs h t p l r e =
     record { place = p; rv = l; reads = r; held = λ c k f. absurd (empty_held t.held e c k f) }
@@ -103,7 +103,7 @@ relooked_keeps o w s t c word v x I e p f m =
 
 -- ---- the check
 
-pub held_place : (o : List ℕ) (h : List Entry) (rv : ℕ) (p q : Place) (c : ℕ) (k : Held) (x : Cell) → done_at q ≡ done_at p
+pub held_place : (o : List ℕ) (h : List WordsEntry) (rv : ℕ) (p q : Place) (c : ℕ) (k : Held) (x : Cell) → done_at q ≡ done_at p
     → number_at q ≡ number_at p → HeldOk o h rv p c k x → HeldOk o h rv q c k x
 held_place o h rv p q c k x d n r =
     record {
@@ -133,7 +133,8 @@ Consistent-place o w s t p b l I e d n ok =
     (λ c k f. (k, f)) (λ i f. sym n ∙ f)
 
 -- after the check of c each read that is taken or stands below suc c is of the version before the entry
-settled_more : (o : List ℕ) (h : List Entry) (rv i c u : ℕ) (ks : List Held) (rs : List Read) → ReadsOk o h rv rs → SettledOk o h i ks u rs
+settled_more : (o : List ℕ) (h : List WordsEntry) (rv i c u : ℕ) (ks : List Held) (rs : List Read) → ReadsOk o h rv rs
+    → SettledOk o h i ks u rs
     → settled_below c ks u rs ≡ true
     → ((v : ℕ) → IsOne o h rv c v → IsOne o h i c v) → SettledOk o h i ks (suc c) rs
 settled_more o h rv i c u ks [] p q b f = tt

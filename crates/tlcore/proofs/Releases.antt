@@ -1,7 +1,7 @@
 -- The release of a cell keeps what the parts say of each other: after its store, and after a conflict.
 use Rattle.std.proofs.Common.{List, None, Option, Some, ap, arith, inl, inr, length, refl, slice_get, slice_set, subst, suc, sym, true, ℕ}
 use Rattle.std.proofs.Common.{◌*◌, ◌<◌, ◌∙◌, ◌≡◌, ◌≢◌, ◌⊎◌}
-use Rattle.tlcore.specs.History.{Done, Entry, Grows, One, Open, Status, Void, Will, deed, deed_of, settle, value}
+use Rattle.tlcore.specs.History.{Done, WordsEntry, Grows, One, Open, Status, Void, Will, deed, deed_of, settle, value}
 use Rattle.ranges.specs.Pairs.{written}
 use Rattle.tlcore.specs.Seats.{Failing, Held, Place, Seat, Storing, Voiding, find_held, number_at, without}
 use Rattle.tlcore.specs.Machine.{Cell, World, release}
@@ -38,7 +38,7 @@ open_or_void Void n m = refl
 open_or_void Done n m = absurd (n refl)
 
 -- the held cell as the step finds it
-found_cell : (o : List ℕ) (xs : List Cell) (h : List Entry) (rv : ℕ) (p r : Place) (c : ℕ) (k : Held) (x : Cell) → r ≡ p
+found_cell : (o : List ℕ) (xs : List Cell) (h : List WordsEntry) (rv : ℕ) (p r : Place) (c : ℕ) (k : Held) (x : Cell) → r ≡ p
     → slice_get xs c ≡ Some x → (y : Cell) × (slice_get xs c ≡ Some y) × HeldOk o h rv r c k y → HeldOk o h rv p c k x
 found_cell o xs h rv p r c k x e f a =
     let b : Some a.0 ≡ Some x = sym a.1 ∙ f in
@@ -57,7 +57,7 @@ module _ (o : List ℕ) (w : World) (s : ℕ) (t : Seat) (c : ℕ) (k : Held) (x
       (subst (λ (y : Place). PlaceOk o (slice_set w.cells c (record x { lock = 2 * suc i })) w.history
       (record t { place = t.place; held = without c t.held }) y) (sym p) r)
     where
-      r : (d : Entry) × (slice_get w.history i ≡ Some d) × (d.status ≡ Done)
+      r : (d : WordsEntry) × (slice_get w.history i ≡ Some d) × (d.status ≡ Done)
       r = subst (λ (y : Place). PlaceOk o w.cells w.history t y) p q.place
 
       b : HeldOk o w.history t.rv (Storing i) c k x
@@ -87,10 +87,10 @@ module _ (o : List ℕ) (w : World) (s : ℕ) (t : Seat) (c : ℕ) (k : Held) (x
       none m u a = let n : None ≡ Some m = b.mine m u a in cc
 
   module _ (i : ℕ) (p : t.place ≡ Voiding i) where
-    abbrev later : List Entry
+    abbrev later : List WordsEntry
     later = settle w.history i Void
 
-    r : (d : Entry) × (slice_get w.history i ≡ Some d) × (d.status ≢ Done)
+    r : (d : WordsEntry) × (slice_get w.history i ≡ Some d) × (d.status ≢ Done)
     r = subst (λ (y : Place). PlaceOk o w.cells w.history t y) p q.place
 
     b : HeldOk o w.history t.rv (Voiding i) c k x
@@ -99,10 +99,10 @@ module _ (o : List ℕ) (w : World) (s : ℕ) (t : Seat) (c : ℕ) (k : Held) (x
     pub void_grows : Grows w.history later
     void_grows = Grows-settle w.history i Void (λ d a n. at_entry d (sym r.1 ∙ a) n)
       where
-        at_entry : (d : Entry) → Some r.0 ≡ Some d → d.status ≢ Open → Void ≡ d.status
+        at_entry : (d : WordsEntry) → Some r.0 ≡ Some d → d.status ≢ Open → Void ≡ d.status
         at_entry d a n =
             let m : r.0 ≡ d = cc in
-            open_or_void d.status (λ z. r.2 (ap (λ (y : Entry). y.status) m ∙ z)) n
+            open_or_void d.status (λ z. r.2 (ap (λ (y : WordsEntry). y.status) m ∙ z)) n
 
     void_deed : (d m : ℕ) → did (deed later d m) ≡ did (deed w.history d m)
     void_deed d m = go (same_or_not i m)
@@ -129,10 +129,10 @@ module _ (o : List ℕ) (w : World) (s : ℕ) (t : Seat) (c : ℕ) (k : Held) (x
     void_history m d a st = go (get-settle_cases w.history i m Void d a)
       where
         go :
-            ((m ≡ i) × ((y : Entry) × (slice_get w.history i ≡ Some y) × (d ≡ record y { status = Void })))
+            ((m ≡ i) × ((y : WordsEntry) × (slice_get w.history i ≡ Some y) × (d ≡ record y { status = Void })))
             ⊎ ((m ≢ i) × (slice_get w.history m ≡ Some d))
             → One o later m d.reads
-        go (inl n) = let z : Void ≡ Done = sym (ap (λ (y : Entry). y.status) n.1.2) ∙ st in cc
+        go (inl n) = let z : Void ≡ Done = sym (ap (λ (y : WordsEntry). y.status) n.1.2) ∙ st in cc
         go (inr n) =
             let l : m < length w.history = get_within w.history m d n.1 in
             One-kept o w.history later m d.reads void_grows (omega arith) (I.history m d n.1 st)

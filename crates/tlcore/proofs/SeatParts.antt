@@ -1,7 +1,7 @@
 -- The parts of a seat: its reads and the cells that it holds.
 use Rattle.std.proofs.Common.{List, None, Some, [], ap, arith, false, inl, inr, length, nat_le, refl, slice_get, slice_index, subst, sym}
 use Rattle.std.proofs.Common.{true, ℕ, ◌%◌, ◌/◌, ◌<◌, ◌==◌, ◌∙◌, ◌∷◌, ◌≡◌, ◌≢◌, ◌≤◌, ◌⊎◌}
-use Rattle.tlcore.specs.History.{Entry, IsOne, One, Will, deed, value, version}
+use Rattle.tlcore.specs.History.{WordsEntry, IsOne, One, Will, deed, value, version}
 use Rattle.ranges.specs.Pairs.{written}
 use Rattle.tlcore.specs.Seats.{Checking, Failing, Held, Idle, Loaded, Looked, Place, Read, Reading, Seat, Storing, Taking, Voiding}
 use Rattle.tlcore.specs.Seats.{find_held, find_read, is_held, is_nil, number_at, passes, reads_of, with_stored, without, writes_of}
@@ -18,7 +18,7 @@ passes-old word rv h =
 
 -- ---- reads
 
-pub find_read-ok : (o : List ℕ) (h : List Entry) (rv c : ℕ) (rs : List Read) (r : Read) → ReadsOk o h rv rs → find_read c rs ≡ Some r
+pub find_read-ok : (o : List ℕ) (h : List WordsEntry) (rv c : ℕ) (rs : List Read) (r : Read) → ReadsOk o h rv rs → find_read c rs ≡ Some r
     → (r.cell ≡ c) × IsOld r.word rv × IsOne o h rv c r.value
 find_read-ok o h rv c [] r p e = cc
 find_read-ok o h rv c (x ∷ rs) r p e = go (known (x.cell == c)) (find_read-ok o h rv c rs r p.1)
@@ -34,7 +34,7 @@ find_read-ok o h rv c (x ∷ rs) r p e = go (known (x.cell == c)) (find_read-ok 
         (n, p.0.0, subst (λ (d : ℕ). IsOne o h rv d x.value) n p.0.1)
     go (inr t) ih = let q : find_read c rs ≡ Some r = rw t at e in ih q
 
-pub ReadsOk-one : (o : List ℕ) (h : List Entry) (rv : ℕ) (rs : List Read) → ReadsOk o h rv rs → One o h rv (reads_of rs)
+pub ReadsOk-one : (o : List ℕ) (h : List WordsEntry) (rv : ℕ) (rs : List Read) → ReadsOk o h rv rs → One o h rv (reads_of rs)
 ReadsOk-one o h rv [] p = tt
 ReadsOk-one o h rv (x ∷ rs) p = (p.0.1, ReadsOk-one o h rv rs p.1)
 
@@ -156,7 +156,7 @@ is_nil-nil (x ∷ ks) e = cc
 -- ---- numbers and cells
 
 -- a number that a run has drawn is that of an entry
-pub number_within : (o : List ℕ) (xs : List Cell) (h : List Entry) (t : Seat) (p : Place) (i : ℕ) → PlaceOk o xs h t p
+pub number_within : (o : List ℕ) (xs : List Cell) (h : List WordsEntry) (t : Seat) (p : Place) (i : ℕ) → PlaceOk o xs h t p
     → number_at p ≡ Some i → i < length h
 number_within o xs h t Idle i q e = cc
 number_within o xs h t Reading i q e = cc
@@ -169,14 +169,14 @@ number_within o xs h t Failing i q e = cc
 number_within o xs h t (Voiding j) i q e = let l : j < length h = get_within h j q.0 q.1 in let s : j ≡ i = cc in omega arith
 
 -- a free cell of version at most k shows its value at k
-pub free_is_one : (o : List ℕ) (xs : List Cell) (h : List Entry) (c k : ℕ) (x : Cell) → CellsOk o xs h → slice_get xs c ≡ Some x
+pub free_is_one : (o : List ℕ) (xs : List Cell) (h : List WordsEntry) (c k : ℕ) (x : Cell) → CellsOk o xs h → slice_get xs c ≡ Some x
     → IsOld x.lock k → k ≤ length h → IsOne o h k c (value o h c)
 free_is_one o xs h c k x I e p l =
     let b : (p.0 ≡ version h c) × (x.value ≡ value o h c) × ((i u : ℕ) → deed h c i ≡ Will u → ⊥) = I c p.0 x e p.1 in
     (value-settled (deed h c) (slice_index o c) (length h) k (omega (arith, b.0, p.2)) l, λ i u m f. b.2 i u f)
 
 -- one version at rv, and no later writer: one at each place from rv on
-pub one_on : (o : List ℕ) (h : List Entry) (c rv k v : ℕ) → IsOne o h rv c v → version h c ≤ rv → rv ≤ k → k ≤ length h
+pub one_on : (o : List ℕ) (h : List WordsEntry) (c rv k v : ℕ) → IsOne o h rv c v → version h c ≤ rv → rv ≤ k → k ≤ length h
     → ((i u : ℕ) → i < k → deed h c i ≡ Will u → ⊥) → IsOne o h k c v
 one_on o h c rv k v p a b l n =
     let d : value o h c ≡ v = sym (value-settled (deed h c) (slice_index o c) (length h) rv a (omega arith)) ∙ p.0 in

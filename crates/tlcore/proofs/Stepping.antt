@@ -2,7 +2,7 @@
 use Rattle.std.proofs.Common.{Bool, List, None, Option, Some, [], add-one, ap, arith, false, length, refl, slice_get, slice_set, subst, suc}
 use Rattle.std.proofs.Common.{sym, true, zero, ℕ, ◌++◌, ◌+◌, ◌<◌, ◌∙◌, ◌∷◌, ◌≡◌, ◌≤◌}
 use Rattle.std.specs.Bool.{MatchBool}
-use Rattle.tlcore.specs.History.{Entry, IsOne}
+use Rattle.tlcore.specs.History.{WordsEntry, IsOne}
 use Rattle.tlcore.specs.Seats.{Read, Seat, Storing, find_read, idle, number_at}
 use Rattle.tlcore.specs.Machine.{Action, Cell, World, act, given, next}
 use Rattle.tlcore.specs.Schedules.{opened, seated}
@@ -27,8 +27,8 @@ numbers_fit w s t I e l i p =
     omega (arith, b, l)
 
 pub acts_next :
-    (xs : List Cell) (ss : List Seat) (h : List Entry) (s : ℕ) (t : Seat) (a : Action) (b : Bool) (ys : List Cell) (z : Seat)
-    (g : List Entry)
+    (xs : List Cell) (ss : List Seat) (h : List WordsEntry) (s : ℕ) (t : Seat) (a : Action) (b : Bool) (ys : List Cell) (z : Seat)
+    (g : List WordsEntry)
     → slice_get ss s ≡ Some t → Acts xs t h a b ys z g
     → MatchBool b (next (world_of xs ss h) s a ≡ Some (world_of ys (slice_set ss s z) g)) (next (world_of xs ss h) s a ≡ None)
 acts_next xs ss h s t a true ys z g e k = ap (λ (y : Option Seat). given y (λ t. act (world_of xs ss h) s t t.place a)) e ∙ k ss s
@@ -39,7 +39,8 @@ get_past [] i l = refl
 get_past (x ∷ xs) zero l = absurd (omega arith)
 get_past (x ∷ xs) (suc i) l = get_past xs i (omega arith)
 
-pub next_past : (xs : List Cell) (ss : List Seat) (h : List Entry) (s : ℕ) (a : Action) → length ss ≤ s → next (world_of xs ss h) s a ≡ None
+pub next_past : (xs : List Cell) (ss : List Seat) (h : List WordsEntry) (s : ℕ) (a : Action) → length ss ≤ s
+    → next (world_of xs ss h) s a ≡ None
 next_past xs ss h s a l = ap (λ (y : Option Seat). given y (λ t. act (world_of xs ss h) s t t.place a)) (get_past ss s l)
 
 pub reachable_next : (w v : World) (s : ℕ) (a : Action) → MeetsInvariant w → next w s a ≡ Some v → MeetsInvariant v
@@ -52,11 +53,12 @@ seated_more n = rw add-one (go n)
     go zero = refl
     go (suc n) = ap (λ (y : List Seat). idle ∷ y) (go n)
 
-pub start_reachable : (vs : List ℕ) (n : ℕ) (xs : List Cell) (ss : List Seat) (h : List Entry) → xs ≡ opened vs → ss ≡ seated n → h ≡ []
+pub start_reachable : (vs : List ℕ) (n : ℕ) (xs : List Cell) (ss : List Seat) (h : List WordsEntry) → xs ≡ opened vs → ss ≡ seated n
+    → h ≡ []
     → MeetsInvariant (world_of xs ss h)
 start_reachable vs n xs ss h a b c = (
   vs,
   subst (λ (y : List Cell). Invariant vs (world_of y ss h)) (sym a)
       (subst (λ (y : List Seat). Invariant vs (world_of (opened vs) y h)) (sym b)
-      (subst (λ (y : List Entry). Invariant vs (world_of (opened vs) (seated n) y)) (sym c) (start_ok vs n))),
+      (subst (λ (y : List WordsEntry). Invariant vs (world_of (opened vs) (seated n) y)) (sym c) (start_ok vs n))),
 )

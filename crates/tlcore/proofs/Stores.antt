@@ -2,7 +2,7 @@
 use Rattle.std.proofs.Common.{List, None, Option, Some, [], ap, arith, inl, inr, length, refl, slice_get, slice_index, slice_set, subst, suc, sym, true, ℕ, ◌*◌, ◌<◌, ◌∙◌, ◌∷◌, ◌≡◌, ◌≢◌, ◌≤◌, ◌⊎◌}
 use Rattle.std.proofs.lemmas.Bool.{true≢false}
 use Rattle.std.proofs.lemmas.Option.{none-some}
-use Rattle.tlcore.specs.History.{Did, Done, Entry, Grows, Nothing, One, Status, Will, deed, deed_of, settle, value, value_after, version, version_after}
+use Rattle.tlcore.specs.History.{Did, Done, WordsEntry, Grows, Nothing, One, Status, Will, deed, deed_of, settle, value, value_after, version, version_after}
 use Rattle.ranges.specs.Pairs.{written}
 use Rattle.tlcore.specs.Seats.{Checking, Held, Place, Read, Seat, Storing, all_settled, find_held, is_settled, number_at, reads_of, with_stored}
 use Rattle.tlcore.specs.Machine.{Cell, World, store}
@@ -15,7 +15,7 @@ use Rattle.tlcore.proofs.Lists.{both_left, both_right, get-set_cases, get-set_ot
 use Rattle.tlcore.proofs.SeatParts.{stored-find, written-find, written-held}
 use Rattle.tlcore.proofs.Settling.{deed_elsewhere, deed_now, deed_there, get-settle_cases, get-settle_other, get-settle_same, length-settle}
 
-pub all_one : (o : List ℕ) (h : List Entry) (i u : ℕ) (ks : List Held) (rs : List Read) → SettledOk o h i ks u rs
+pub all_one : (o : List ℕ) (h : List WordsEntry) (i u : ℕ) (ks : List Held) (rs : List Read) → SettledOk o h i ks u rs
     → all_settled ks u rs ≡ true → One o h i (reads_of rs)
 all_one o h i u ks [] a b = tt
 all_one o h i u ks (r ∷ rs) a b = (
@@ -29,7 +29,7 @@ module _ (o : List ℕ) (w : World) (s : ℕ) (t : Seat) (i u c : ℕ) (k : Held
   abbrev xs : List Cell
   xs = slice_set w.cells c (record x { value = k.value })
 
-  abbrev later : List Entry
+  abbrev later : List WordsEntry
   later = settle w.history i Done
 
   q : SeatOk o w.cells w.history t
@@ -47,8 +47,8 @@ module _ (o : List ℕ) (w : World) (s : ℕ) (t : Seat) (i u c : ℕ) (k : Held
   pub first_grows : Grows w.history later
   first_grows = Grows-settle w.history i Done (λ d a n. absurd (n (same d a ∙ r.status)))
     where
-      same : (d : Entry) → slice_get w.history i ≡ Some d → d.status ≡ r.entry.status
-      same d a = let b : Some d ≡ Some r.entry = sym a ∙ r.here in let y : d ≡ r.entry = cc in ap (λ (z : Entry). z.status) y
+      same : (d : WordsEntry) → slice_get w.history i ≡ Some d → d.status ≡ r.entry.status
+      same d a = let b : Some d ≡ Some r.entry = sym a ∙ r.here in let y : d ≡ r.entry = cc in ap (λ (z : WordsEntry). z.status) y
 
   held_ok : (d : ℕ) (l : Held) → find_held d t.held ≡ Some l
       → (y : Cell) × (slice_get w.cells d ≡ Some y) × HeldOk o w.history t.rv (Checking i u) d l y
@@ -146,13 +146,14 @@ module _ (o : List ℕ) (w : World) (s : ℕ) (t : Seat) (i u c : ℕ) (k : Held
   store_history j d a st = go (get-settle_cases w.history i j Done d a)
     where
       go :
-          ((j ≡ i) × ((m : Entry) × (slice_get w.history i ≡ Some m) × (d ≡ record m { status = Done })))
+          ((j ≡ i) × ((m : WordsEntry) × (slice_get w.history i ≡ Some m) × (d ≡ record m { status = Done })))
           ⊎ ((j ≢ i) × (slice_get w.history j ≡ Some d))
           → One o later j d.reads
       go (inl b) =
           let m : Some b.1.0 ≡ Some r.entry = sym b.1.1 ∙ r.here in
           let n : b.1.0 ≡ r.entry = cc in
-          let reads : d.reads ≡ reads_of t.reads = ap (λ (y : Entry). y.reads) b.1.2 ∙ (ap (λ (y : Entry). y.reads) n ∙ r.reads) in
+          let reads : d.reads ≡ reads_of t.reads = ap (λ (y : WordsEntry). y.reads) b.1.2
+          ∙ (ap (λ (y : WordsEntry). y.reads) n ∙ r.reads) in
           let one : One o later i (reads_of t.reads) =
           One-kept o w.history later i (reads_of t.reads) first_grows (omega (arith, within)) alls in
           subst (λ (y : ℕ). One o later y d.reads) (sym b.0) (subst (λ (y : List (ℕ × ℕ)). One o later i y) (sym reads) one)

@@ -1,6 +1,6 @@
 -- A further store of a value keeps what the parts say of each other.
 use Rattle.std.proofs.Common.{List, Option, Some, ap, arith, inl, inr, slice_get, slice_set, subst, suc, sym, ℕ, ◌∙◌, ◌≡◌, ◌≢◌, ◌⊎◌}
-use Rattle.tlcore.specs.History.{Done, Entry, Will, deed, settle, value, version}
+use Rattle.tlcore.specs.History.{Done, WordsEntry, Will, deed, settle, value, version}
 use Rattle.tlcore.specs.Seats.{Held, Place, Seat, Storing, find_held, number_at, with_stored}
 use Rattle.tlcore.specs.Machine.{Cell, World, store}
 use Rattle.tlcore.specs.Invariant.{CellsOk, Consistent, HeldOk, IsOld, PlaceOk, SeatOk}
@@ -21,7 +21,7 @@ module _ (o : List ℕ) (w : World) (s : ℕ) (t : Seat) (i c : ℕ) (k : Held) 
   q : SeatOk o w.cells w.history t
   q = I.seats s t e
 
-  r : (d : Entry) × (slice_get w.history i ≡ Some d) × (d.status ≡ Done)
+  r : (d : WordsEntry) × (slice_get w.history i ≡ Some d) × (d.status ≡ Done)
   r = subst (λ (y : Place). PlaceOk o w.cells w.history t y) p q.place
 
   held_ok : (d : ℕ) (l : Held) → find_held d t.held ≡ Some l
@@ -92,7 +92,7 @@ module _ (o : List ℕ) (w : World) (s : ℕ) (t : Seat) (i c : ℕ) (k : Held) 
 
   pub store_keeps : Consistent o (store w s t i c k x)
   store_keeps =
-      subst (λ (h : List Entry). Consistent o (record {
+      subst (λ (h : List WordsEntry). Consistent o (record {
         clock = w.clock;
         cells = xs;
         seats = slice_set w.seats s (record t {

@@ -1,7 +1,7 @@
 -- The invariant: what holds in the opening world and is kept by each lawful event. docs/OPACITY.md gives the reason for each clause.
 -- o are the opening values, xs the cells, h the history, c a cell, t a seat.
 use Rattle.std.specs.Prelude.{◌≡◌, ◌≢◌, ℕ, suc, ◌*◌, ◌≤◌, true, false, Option, Some, None, List, [], ◌∷◌, length, slice_get}
-use Rattle.tlcore.specs.History.{Open, Done, Entry, wv, Will, deed, version, value, IsVersionOf, IsOne, One}
+use Rattle.tlcore.specs.History.{Open, Done, WordsEntry, wv, Will, deed, version, value, IsVersionOf, IsOne, One}
 use Rattle.tlcore.specs.Seats.{Read, Held, Place, Idle, Reading, Looked, Loaded, Taking, Checking, Storing, Failing, Voiding, Seat}
 use Rattle.tlcore.specs.Seats.{number_at, reads_of, find_held, writes_of, is_settled}
 use Rattle.tlcore.specs.Machine.{Cell, World}
@@ -9,14 +9,14 @@ use Rattle.tlcore.specs.Machine.{Cell, World}
 -- ---- cells and history
 
 -- a free cell shows its last Done writer, and no Open entry writes it
-abbrev pub CellsOk : List ℕ → List Cell → List Entry → Type 0
+abbrev pub CellsOk : List ℕ → List Cell → List WordsEntry → Type 0
 CellsOk o xs h =
     (c v : ℕ) (x : Cell) → slice_get xs c ≡ Some x → x.lock ≡ 2 * v
     → (v ≡ version h c) × (x.value ≡ value o h c) × ((i u : ℕ) → deed h c i ≡ Will u → ⊥)
 
 -- what the run of a Done entry read is one version, just before the entry
-abbrev pub HistoryOk : List ℕ → List Entry → Type 0
-HistoryOk o h = (i : ℕ) (e : Entry) → slice_get h i ≡ Some e → e.status ≡ Done → One o h i e.reads
+abbrev pub HistoryOk : List ℕ → List WordsEntry → Type 0
+HistoryOk o h = (i : ℕ) (e : WordsEntry) → slice_get h i ≡ Some e → e.status ≡ Done → One o h i e.reads
 
 -- ---- the reads of a seat
 
@@ -25,7 +25,7 @@ abbrev pub IsOld : ℕ → ℕ → Type 0
 IsOld word rv = (v : ℕ) × (word ≡ 2 * v) × (v ≤ rv)
 
 -- each read was made under such a word, and is of the version at rv
-abbrev pub ReadsOk : List ℕ → List Entry → ℕ → List Read → Type 0
+abbrev pub ReadsOk : List ℕ → List WordsEntry → ℕ → List Read → Type 0
 ReadsOk o h rv [] = Unit {0}
 ReadsOk o h rv (r ∷ rs) = (IsOld r.word rv × IsOne o h rv r.cell r.value) × ReadsOk o h rv rs
 
@@ -44,12 +44,12 @@ done_at Failing = None
 done_at (Voiding i) = None
 
 -- what a held cell shows: the state before the run's entry, or, where that is Done, the entry's write
-abbrev pub HeldShows : List ℕ → List Entry → Option ℕ → ℕ → Held → Cell → Type 0
+abbrev pub HeldShows : List ℕ → List WordsEntry → Option ℕ → ℕ → Held → Cell → Type 0
 HeldShows o h None c k x = (k.word ≡ 2 * version h c) × (x.value ≡ value o h c) × (k.stored ≡ false)
 HeldShows o h (Some i) c k x = (version h c ≡ wv i) × (value o h c ≡ k.value) × (k.stored ≡ true → x.value ≡ k.value)
 
 -- p is the place of the seat that holds the cell c as k says, and x the cell's words
-pub record HeldOk (o : List ℕ) (h : List Entry) (rv : ℕ) (p : Place) (c : ℕ) (k : Held) (x : Cell) : Type 0 where
+pub record HeldOk (o : List ℕ) (h : List WordsEntry) (rv : ℕ) (p : Place) (c : ℕ) (k : Held) (x : Cell) : Type 0 where
   -- the lock word is the one seen at the read, and locked
   pub locked : x.lock ≡ suc k.word
   pub old : IsOld k.word rv
@@ -62,13 +62,13 @@ pub record HeldOk (o : List ℕ) (h : List Entry) (rv : ℕ) (p : Place) (c : �
 -- ---- the place of a seat
 
 -- the reads that need no check any more are of the version just before the entry at i
-abbrev pub SettledOk : List ℕ → List Entry → ℕ → List Held → ℕ → List Read → Type 0
+abbrev pub SettledOk : List ℕ → List WordsEntry → ℕ → List Held → ℕ → List Read → Type 0
 SettledOk o h i held upto [] = Unit {0}
 SettledOk o h i held upto (r ∷ rs) = (is_settled held upto r.cell ≡ true → IsOne o h i r.cell r.value) × SettledOk o h i held upto rs
 
 -- the run has drawn the entry at i, which is Open and has its reads and its writes
-pub record CheckingOk (o : List ℕ) (h : List Entry) (t : Seat) (i upto : ℕ) : Type 0 where
-  pub entry : Entry
+pub record CheckingOk (o : List ℕ) (h : List WordsEntry) (t : Seat) (i upto : ℕ) : Type 0 where
+  pub entry : WordsEntry
   pub here : slice_get h i ≡ Some entry
   pub status : entry.status ≡ Open
   pub reads : entry.reads ≡ reads_of t.reads
@@ -78,7 +78,7 @@ pub record CheckingOk (o : List ℕ) (h : List Entry) (t : Seat) (i upto : ℕ) 
 
 -- what the place of the seat tells. The word that a look has found stays at most twice the version, and where it is twice the
 -- version still, the value word shows the value (Looked), or what was loaded is the value (Loaded)
-abbrev pub PlaceOk : List ℕ → List Cell → List Entry → Seat → Place → Type 0
+abbrev pub PlaceOk : List ℕ → List Cell → List WordsEntry → Seat → Place → Type 0
 PlaceOk o xs h t Idle = t.held ≡ []
 PlaceOk o xs h t Reading = t.held ≡ []
 PlaceOk o xs h t (Looked c word) =
@@ -88,12 +88,12 @@ PlaceOk o xs h t (Loaded c word v) =
     (t.held ≡ []) × IsOld word t.rv × (word ≤ 2 * version h c) × (word ≡ 2 * version h c → v ≡ value o h c)
 PlaceOk o xs h t Taking = Unit {0}
 PlaceOk o xs h t (Checking i upto) = CheckingOk o h t i upto
-PlaceOk o xs h t (Storing i) = (e : Entry) × (slice_get h i ≡ Some e) × (e.status ≡ Done)
+PlaceOk o xs h t (Storing i) = (e : WordsEntry) × (slice_get h i ≡ Some e) × (e.status ≡ Done)
 PlaceOk o xs h t Failing = Unit {0}
-PlaceOk o xs h t (Voiding i) = (e : Entry) × (slice_get h i ≡ Some e) × (e.status ≢ Done)
+PlaceOk o xs h t (Voiding i) = (e : WordsEntry) × (slice_get h i ≡ Some e) × (e.status ≢ Done)
 
 -- what holds of each seat
-pub record SeatOk (o : List ℕ) (xs : List Cell) (h : List Entry) (t : Seat) : Type 0 where
+pub record SeatOk (o : List ℕ) (xs : List Cell) (h : List WordsEntry) (t : Seat) : Type 0 where
   pub place : PlaceOk o xs h t t.place
   pub rv : t.rv ≤ length h
   pub reads : ReadsOk o h t.rv t.reads

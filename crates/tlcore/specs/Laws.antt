@@ -1,7 +1,7 @@
 -- Laws of single events, for whoever runs the machine's events on words of its own: one for each kind of event, with the world
 -- that follows. o are the opening values; t is the seat s of w, x the cell c.
 use Rattle.std.specs.Prelude.{◌≡◌, ℕ, ◌*◌, ◌||◌, true, false, Some, List, [], ◌∷◌, ◌++◌, length, ◌≤◌, slice_get, ◌⊎◌}
-use Rattle.tlcore.specs.History.{Void, Entry, wv, settle, One, Grows}
+use Rattle.tlcore.specs.History.{Void, WordsEntry, wv, settle, One, Grows}
 use Rattle.tlcore.specs.Seats.{Read, Held, Idle, Reading, Looked, Loaded, Taking, Checking, Storing, Failing, Voiding, Seat, idle}
 use Rattle.tlcore.specs.Seats.{find_read, find_held, all_below, all_settled, is_due, is_next}
 use Rattle.tlcore.specs.Machine.{Cell, World, Action, Begin, Look, Load, Relook, Take, Draw, Check, Store, Release, with_seat, begun, look}
@@ -116,5 +116,5 @@ HalvesAreWritten = (o : List ℕ) (w : World) → Invariant o w → HalvesWereWr
 -- what is one version stays so in every later history
 abbrev pub OneStays : Type 0
 OneStays =
-    (o : List ℕ) (g h : List Entry) (k : ℕ) (reads : List (ℕ × ℕ))
+    (o : List ℕ) (g h : List WordsEntry) (k : ℕ) (reads : List (ℕ × ℕ))
     → Grows g h → k ≤ length g → One o g k reads → One o h k reads

@@ -4,7 +4,7 @@
 -- clock and for each cell a versioned lock word and a value word (TL2, section 2). All words open at 0 but the value words.
 use Rattle.std.specs.Prelude.{ℕ, suc, ◌*◌, Bool, true, false, not, ◌&&◌, ◌||◌, if◌then◌else◌, ◌==◌, Option, Some, None, List, [], ◌∷◌, ◌++◌}
 use Rattle.std.specs.Prelude.{slice_get, slice_set}
-use Rattle.tlcore.specs.History.{Open, Void, Done, Entry, wv, settle}
+use Rattle.tlcore.specs.History.{Open, Void, Done, WordsEntry, wv, settle}
 use Rattle.tlcore.specs.Seats.{Held, Place, Idle, Reading, Looked, Loaded, Taking, Checking, Storing, Failing, Voiding, Seat, passes}
 use Rattle.tlcore.specs.Seats.{find_read, reads_of, find_held, is_nil, all_below, without, with_stored, writes_of, all_settled, is_due, is_next}
 pub use Rattle.tlcore.specs.declared.cells.Cell.{Cell}
@@ -16,7 +16,7 @@ pub record World : Type 0 where
   pub clock : ℕ
   pub cells : List Cell
   pub seats : List Seat
-  pub history : List Entry
+  pub history : List WordsEntry
 
 -- the seat s is t now
 abbrev pub with_seat : World → ℕ → Seat → World
@@ -112,7 +112,7 @@ store w s t i c k x =
     }
 
 -- Release (step 6): the lock word is set, and the run is over where it holds nothing more
-abbrev pub release : World → ℕ → Seat → ℕ → ℕ → Cell → List Entry → World
+abbrev pub release : World → ℕ → Seat → ℕ → ℕ → Cell → List WordsEntry → World
 release w s t c word x history =
     record w {
       cells = slice_set w.cells c (record x { lock = word });

@@ -1,7 +1,7 @@
 -- Opacity: in every schedule what a run has read is one version, now and later, and the words show the history.
 -- o are the opening values, `now` is reached from the opening by a schedule, and `later` from `now`.
 use Rattle.std.specs.Prelude.{◌≡◌, ◌≢◌, ℕ, suc, ◌*◌, Some, List, slice_get, ◌⊎◌}
-use Rattle.tlcore.specs.History.{Done, Entry, Will, deed, version, value, IsVersionOf, One, Grows}
+use Rattle.tlcore.specs.History.{Done, WordsEntry, Will, deed, version, value, IsVersionOf, One, Grows}
 use Rattle.tlcore.specs.Seats.{Seat, reads_of, number_at}
 use Rattle.tlcore.specs.Machine.{Cell, Action, World, next}
 use Rattle.tlcore.specs.Schedules.{Event, run, start}
@@ -37,7 +37,7 @@ ReadsAreOne o now later = (s : ℕ) (t : Seat) → slice_get now.seats s ≡ Som
 
 -- (b) the reads of each Done entry are one version just before the entry: after as many entries as its index i
 abbrev pub DoneAreOne : List ℕ → World → World → Type 0
-DoneAreOne o now later = (i : ℕ) (e : Entry) → slice_get now.history i ≡ Some e → e.status ≡ Done → One o later.history i e.reads
+DoneAreOne o now later = (i : ℕ) (e : WordsEntry) → slice_get now.history i ≡ Some e → e.status ≡ Done → One o later.history i e.reads
 
 -- (c) an even lock word is twice the number of the cell's last Done writer, or 0, and the value word is what that wrote, or
 -- the opening value; and each cell that an Open entry will write is locked
@@ -52,7 +52,7 @@ abbrev pub StoresAreDone : World → ℕ → World → World → Type 0
 StoresAreDone before s after later =
     (c : ℕ) (x y : Cell) (t : Seat)
     → slice_get before.cells c ≡ Some x → slice_get after.cells c ≡ Some y → y.value ≢ x.value → slice_get before.seats s ≡ Some t
-    → (i : ℕ) × (e : Entry) × (number_at t.place ≡ Some i) × (slice_get later.history i ≡ Some e) × (e.status ≡ Done)
+    → (i : ℕ) × (e : WordsEntry) × (number_at t.place ≡ Some i) × (slice_get later.history i ≡ Some e) × (e.status ≡ Done)
 
 -- the half of each lock word, free or locked, is 0 or the number of a Done entry that writes the cell
 abbrev pub HalvesWereWritten : List ℕ → World → Type 0

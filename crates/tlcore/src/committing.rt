@@ -4,7 +4,7 @@
 #![tactic(auto)]
 
 ghost use Rattle.std.specs.Prelude.{◌≡◌, ◌<◌, ◌*◌, ◌+◌, ℕ, List, IfOk, length, Some};
-ghost use Rattle.tlcore.specs.History.{Entry as EntryValue};
+ghost use Rattle.tlcore.specs.History.{WordsEntry};
 ghost use Rattle.tlcore.specs.Seats.{Read as ReadValue, find_read as find_read_of};
 ghost use Rattle.tlcore.specs.Machine.{Take, Draw, Check, Store, Release};
 ghost use Rattle.tlcore.specs.Steps.{Acts, Releases};
@@ -26,7 +26,7 @@ pub fn take(
     value: u64,
 ) -> Result<bool, AllocError>
     requires { (r : ReadValue) → find_read_of cell seat.old.reads ≡ Some r → r.word < 18446744073709551615 }
-    ensures { IfOk result (λ b. (h : List EntryValue) → Acts cells.old seat.old h (Take cell value) b cells.new seat.new h) }
+    ensures { IfOk result (λ b. (h : List WordsEntry) → Acts cells.old seat.old h (Take cell value) b cells.new seat.new h) }
 {
     match seat.place {
         Place::Reading => {}
@@ -94,7 +94,7 @@ pub fn draw(
 
 /// The look of the check, at the smallest cell that is due. Where rv + 1 = wv no cell is.
 pub fn check(cells: &[Cell], seat: &mut Seat, cell: usize) -> bool
-    ensures { (h : List EntryValue) → Acts cells.now seat.old h (Check cell) result cells.now seat.new h }
+    ensures { (h : List WordsEntry) → Acts cells.now seat.old h (Check cell) result cells.now seat.new h }
 {
     match seat.place {
         Place::Checking { entry, upto } => {
@@ -168,7 +168,7 @@ fn give_back(
     word: u64,
 ) -> Result<(), AllocError>
     requires { cell < length cells.old }
-    ensures { IfOk result (λ _. (h g : List EntryValue) → length g ≡ length h
+    ensures { IfOk result (λ _. (h g : List WordsEntry) → length g ≡ length h
         → Releases cells.old seat.old h cell word cells.new seat.new g) }
 {
     cells[cell].lock = word;

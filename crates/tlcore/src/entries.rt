@@ -30,9 +30,9 @@ pub struct Entry {
 }
 
 impl Model for Entry {
-    ghost use Rattle.tlcore.specs.History.{Entry as EntryValue};
+    ghost use Rattle.tlcore.specs.History.{WordsEntry};
 
-    ghost Value = { EntryValue };
+    ghost Value = { WordsEntry };
 
     ghost view = { λ a. record { status = a.status; reads = a.reads.items; writes = a.writes.items } };
 }

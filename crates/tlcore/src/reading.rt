@@ -4,7 +4,7 @@
 #![tactic(auto)]
 
 ghost use Rattle.std.specs.Prelude.{List, IfOk};
-ghost use Rattle.tlcore.specs.History.{Entry as EntryValue};
+ghost use Rattle.tlcore.specs.History.{WordsEntry};
 ghost use Rattle.tlcore.specs.Machine.{Begin, Look, Load, Relook};
 ghost use Rattle.tlcore.specs.Steps.{Acts};
 
@@ -41,7 +41,7 @@ pub fn begin(
 
 /// The first look at the lock word.
 pub fn look(cells: &[Cell], seat: &mut Seat, cell: usize) -> bool
-    ensures { (h : List EntryValue) → Acts cells.now seat.old h (Look cell) result cells.now seat.new h }
+    ensures { (h : List WordsEntry) → Acts cells.now seat.old h (Look cell) result cells.now seat.new h }
 {
     match seat.place {
         Place::Reading => {
@@ -64,7 +64,7 @@ pub fn look(cells: &[Cell], seat: &mut Seat, cell: usize) -> bool
 
 /// The load of the value word.
 pub fn load(cells: &[Cell], seat: &mut Seat, cell: usize) -> bool
-    ensures { (h : List EntryValue) → Acts cells.now seat.old h (Load cell) result cells.now seat.new h }
+    ensures { (h : List WordsEntry) → Acts cells.now seat.old h (Load cell) result cells.now seat.new h }
 {
     match seat.place {
         Place::Looked { cell: looked, word } => {
@@ -84,7 +84,7 @@ pub fn load(cells: &[Cell], seat: &mut Seat, cell: usize) -> bool
 
 /// The second look at the lock word: the cell is read where the word is the same.
 pub fn relook(cells: &[Cell], seat: &mut Seat, cell: usize) -> Result<bool, AllocError>
-    ensures { IfOk result (λ b. (h : List EntryValue) → Acts cells.now seat.old h (Relook cell) b cells.now seat.new h) }
+    ensures { IfOk result (λ b. (h : List WordsEntry) → Acts cells.now seat.old h (Relook cell) b cells.now seat.new h) }
 {
     match seat.place {
         Place::Loaded {

@@ -9,7 +9,7 @@ use prog.Atomic.{either}
 use Rattle.std.proofs.lemmas.List.{length-append}
 use Rattle.atomic_table.specs.Table.{step, Allows}
 use Rattle.atomic_table.proofs.Lists.{exchanged}
-use Rattle.tlcore.specs.History.{Entry, wv, settle}
+use Rattle.tlcore.specs.History.{WordsEntry, wv, settle}
 use Rattle.tlcore.specs.Seats.{Seat, number_at, passes, reads_of, writes_of, find_read, find_held, all_below, all_settled, is_due, is_next}
 use Rattle.tlcore.specs.Seats.{is_nil, without, with_stored}
 use Rattle.tlcore.specs.Machine.{World, with_seat, placed, conflict, saw, taken, take_cell, drawn, check, store, release}
@@ -168,7 +168,7 @@ module _ {S N : Type 0} (terms : Terms S N) (setting : S) (base : List ℕ) (roo
       omega (arith, a, b, c)
 
   -- one entry more, with its note
-  more_entries : (ranges : List Range) (h : List Entry) (ns : List N) (e : Entry) (n : N) → length ns ≡ length h
+  more_entries : (ranges : List Range) (h : List WordsEntry) (ns : List N) (e : WordsEntry) (n : N) → length ns ≡ length h
       → EntriesAre terms setting (record { history = h; notes = ns; ranges = ranges }) → Permits terms setting ranges e.reads e.writes n
       → e.writes ≢ []
       → EntriesAre terms setting (record { history = h ++ e ∷ []; notes = ns ++ n ∷ []; ranges = ranges })
@@ -181,9 +181,9 @@ module _ {S N : Type 0} (terms : Terms S N) (setting : S) (base : List ℕ) (roo
           let t : e ≡ f = cc in
           let u : Some n ≡ Some m = sym q.1 ∙ b in
           let k : n ≡ m = cc in (
-            subst (λ (z : Entry × N). Permits terms setting ranges (z.0).reads (z.0).writes z.1) (λ j. (t j, k j)) law,
+            subst (λ (z : WordsEntry × N). Permits terms setting ranges (z.0).reads (z.0).writes z.1) (λ j. (t j, k j)) law,
             subst
-                (λ (z : Entry). z.writes ≢ []) t wrote,
+                (λ (z : WordsEntry). z.writes ≢ []) t wrote,
           )
 
       go : (slice_get (h ++ e ∷ []) i ≡ slice_get h i) ⊎ ((i ≡ length h) × (slice_get (h ++ e ∷ []) i ≡ Some e))
@@ -503,7 +503,7 @@ module _ {S N : Type 0} (terms : Terms S N) (setting : S) (base : List ℕ) (roo
   -- the rule after a release with this word, where the history becomes h; the entry of a run that has drawn is settled
   releases_go : (ranges : List Range) (ws : List ℕ) (vs : List (View S N)) (r : Rule terms setting base room ranges ws vs) (id : ℕ)
       (v : View S N) → get_elem? vs id ≡ some v
-      → (c word : ℕ) (x : Cell) (h : List Entry) → slice_get (r.world).cells c ≡ Some x
+      → (c word : ℕ) (x : Cell) (h : List WordsEntry) → slice_get (r.world).cells c ≡ Some x
       → Follows base r.world (release r.world id v.seat c word x h) → length h ≡ length (r.world).history
       → ((i : ℕ) → number_at v.seat.place ≡ Some i → IsSettled h i)
       → ((d word value : ℕ) → is_looking v.seat.place ≡ false)
@@ -543,7 +543,7 @@ module _ {S N : Type 0} (terms : Terms S N) (setting : S) (base : List ℕ) (roo
       let e : slice_get w.seats id ≡ Some t = seat_at terms setting base room ranges ws vs r id v at in
       let lead : Leads base w id (Release c) (release w id t c (2 * wv p.0) x.0 w.history) = release_leads base w id t p.0 c k x.0
       r.invariant e p.1 holds p.2 x.1 in
-      let ok : (e : Entry) × (slice_get w.history p.0 ≡ Some e) × (e.status ≡ Done) =
+      let ok : (e : WordsEntry) × (slice_get w.history p.0 ≡ Some e) × (e.status ≡ Done) =
       subst (λ (z : Place). PlaceOk base w.cells w.history t z) p.1 ((r.invariant).consistent.seats id t e).place in
       let u : View S N = record v { seen = record { history = w.history; notes = r.notes; ranges = ranges }; seat = after_release t c } in
       let q : Rule terms setting base room ranges (slice_set ws (lock_at c) (2 * wv p.0)) (slice_set vs id u) × Sees terms v u =
@@ -587,10 +587,10 @@ module _ {S N : Type 0} (terms : Terms S N) (setting : S) (base : List ℕ) (roo
       let w : World = r.world in
       let x : (x : Cell) × (slice_get w.cells c ≡ Some x) = cell_in terms setting base room ranges ws vs r id v at y set c l in
       let e : slice_get w.seats id ≡ Some t = seat_at terms setting base room ranges ws vs r id v at in
-      let h : List Entry = settle w.history p.0 Void in
+      let h : List WordsEntry = settle w.history p.0 Void in
       let lead : Leads base w id (Release c) (release w id t c k.word x.0 h) = release_void_leads base w id t p.0 c k x.0 r.invariant e
       p.1 holds x.1 in
-      let ok : (e : Entry) × (slice_get w.history p.0 ≡ Some e) × (e.status ≢ Done) =
+      let ok : (e : WordsEntry) × (slice_get w.history p.0 ≡ Some e) × (e.status ≢ Done) =
       subst (λ (z : Place). PlaceOk base w.cells w.history t z) p.1 ((r.invariant).consistent.seats id t e).place in
       let there : slice_get h p.0 ≡ Some (record ok.0 { status = Void }) = get-settle_same w.history p.0 Void ok.0 ok.1 in
       let u : View S N = record v { seen = record { history = h; notes = r.notes; ranges = ranges }; seat = after_release t c } in
@@ -605,7 +605,7 @@ module _ {S N : Type 0} (terms : Terms S N) (setting : S) (base : List ℕ) (roo
         subst (λ (z : ℕ). Rule terms setting base room ranges (slice_set ws (lock_at c) z) (slice_set vs id u)) (sym p.2) q.0,
         subst (λ (z : ℕ). Releases terms z me (u, me.1)) (sym (lock_back c)) (record {
           sees = q.1;
-          void = λ j a. subst (λ (z : ℕ). (e : Entry) × (slice_get h z ≡ Some e) × (e.status ≡ Void)) (voiding_is p.0 j (sym p.1 ∙ a))
+          void = λ j a. subst (λ (z : ℕ). (e : WordsEntry) × (slice_get h z ≡ Some e) × (e.status ≡ Void)) (voiding_is p.0 j (sym p.1 ∙ a))
               (record ok.0 { status = Void }, there, refl);
           is = refl;
         }),

@@ -3,7 +3,7 @@ use Rattle.std.proofs.Common.{◌≡◌, ℕ, suc, ◌+◌, ◌*◌, ◌%◌, �
 use mathlib.Core.Logic.{dite}
 use native.Mathlib.Decide.{ℕ_discrete}
 use Rattle.std.proofs.lemmas.List.{set-get_or, get_or_append_left, set-append_left}
-use Rattle.tlcore.specs.History.{Entry, wv, settle}
+use Rattle.tlcore.specs.History.{WordsEntry, wv, settle}
 use Rattle.tlcore.specs.Seats.{Seat, is_next, is_nil, all_settled, number_at}
 use Rattle.tlcore.specs.Machine.{World, with_seat, begun, placed, conflict, saw, taken, drawn, store, release}
 use Rattle.tlcore.specs.Laws.{Leads}
@@ -84,7 +84,7 @@ module _ {S N : Type 0} (terms : Terms S N) (setting : S) (base : List ℕ) (roo
     value_is c x e = found_front (value_at c) (value_within front w k.words_are c x e) ∙ value_word front w k.words_are c x e
 
     -- a release with this word
-    let_go : (c word : ℕ) (x : Cell) (h : List Entry) → slice_get w.cells c ≡ Some x
+    let_go : (c word : ℕ) (x : Cell) (h : List WordsEntry) → slice_get w.cells c ≡ Some x
         → Leads base w at.seat (Release c) (release w at.seat m.0.seat c word x h) → r.0.seat ≡ after_release m.0.seat c
         → IsEvent terms setting base room opened m r at (Release c) (lock_at c) word
     let_go c word x h e leads is =

@@ -3,7 +3,7 @@ use Rattle.std.proofs.Common.{◌≡◌, ◌≢◌, ℕ, zero, suc, ◌⊎◌, i
 use Rattle.std.proofs.Common.{slice_get, slice_set, slice_index, sym, refl, ap, ◌∙◌, subst, arith}
 use mathlib.Core.Option.{some}
 use lib.ListN.{get_elem?}
-use Rattle.tlcore.specs.History.{Entry, Deed, Nothing, Will, Did, wv, value_over, version_over, value_after, version_after, deed}
+use Rattle.tlcore.specs.History.{WordsEntry, Deed, Nothing, Will, Did, wv, value_over, version_over, value_after, version_after, deed}
 use Rattle.ranges.specs.Pairs.{written}
 use Rattle.tlcore.specs.History.{deed_of, version, value}
 use Rattle.tlcore.specs.Seats.{Seat, number_at, find_held}
@@ -82,7 +82,7 @@ module _ {S N : Type 0} (terms : Terms S N) (setting : S) (base : List ℕ) (roo
     named_locked c word x f = named_after c (record x { lock = word }) (r.named c x f)
 
     -- what an entry writes to a range cell names a range
-    written_named : (i c v : ℕ) (e : Entry) (n : N) → slice_get (r.world).history i ≡ Some e → slice_get r.notes i ≡ Some n
+    written_named : (i c v : ℕ) (e : WordsEntry) (n : N) → slice_get (r.world).history i ≡ Some e → slice_get r.notes i ≡ Some n
         → written c e.writes ≡ Some v → terms.ranged setting c ≡ true → Names ranges v
     written_named i c v e n here note wrote ranged =
         let p : Permits terms setting ranges e.reads e.writes n × (e.writes ≢ []) = r.entries i e n here note in
@@ -104,11 +104,11 @@ module _ {S N : Type 0} (terms : Terms S N) (setting : S) (base : List ℕ) (roo
         written_named i c k.value ok.entry noted.0 ok.here noted.2 wrote
     held_named id v at c i k (inr p) holds =
         let t : Seat = v.seat in
-        let h : List Entry = (r.world).history in
+        let h : List WordsEntry = (r.world).history in
         let e : slice_get (r.world).seats id ≡ Some t = seat_at terms setting base room ranges ws vs r id v at in
         let f : Suits terms setting base room (now terms setting base room ranges ws vs r) r.owner v = r.suits id v at in
         let noted : (n : N) × (v.note ≡ Some n) × (slice_get r.notes i ≡ Some n) = f.noted i (ap number_at p) in
-        let ok : (e : Entry) × (slice_get h i ≡ Some e) × (e.status ≡ Done) =
+        let ok : (e : WordsEntry) × (slice_get h i ≡ Some e) × (e.status ≡ Done) =
         subst (λ (z : Place). PlaceOk base (r.world).cells h t z) p ((r.invariant).consistent.seats id t e).place in
         let b : (x : Cell) × (slice_get (r.world).cells c ≡ Some x) × HeldOk base h t.rv t.place c k x =
         ((r.invariant).consistent.seats id t e).held c k holds in

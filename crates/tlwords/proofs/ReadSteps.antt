@@ -6,7 +6,7 @@ use native.Mathlib.Decide.{ℕ_discrete, dec_lt}
 use lib.ListN.{get_elem?}
 use Rattle.std.proofs.lemmas.List.{set-get_or}
 use Rattle.atomic_table.specs.Table.{step, Allows}
-use Rattle.tlcore.specs.History.{Entry, IsVersionOf, Will, deed, version, version_after, value}
+use Rattle.tlcore.specs.History.{WordsEntry, IsVersionOf, Will, deed, version, version_after, value}
 use Rattle.tlcore.specs.Seats.{Seat, number_at, passes}
 use Rattle.tlcore.specs.Machine.{World, with_seat, begun, placed, conflict, saw, look, load, relook}
 use Rattle.tlcore.specs.Invariant.{Invariant, IsOld}
@@ -54,13 +54,13 @@ value_back c = omega arith
 
 -- ---- looks
 
-looked_fresh : (h : List Entry) (t : Seat) (c word : ℕ) → IsFresh h t.rv c word → LookIsFresh h (placed t (Looked c word))
+looked_fresh : (h : List WordsEntry) (t : Seat) (c word : ℕ) → IsFresh h t.rv c word → LookIsFresh h (placed t (Looked c word))
 looked_fresh h t c word f d other value (inl p) =
     let e : (c ≡ d) × (word ≡ other) = looked_same c word d other p in
     subst (λ (z : ℕ × ℕ). IsFresh h t.rv z.0 z.1) (λ j. (e.0 j, e.1 j)) f
 looked_fresh h t c word f d other value (inr p) = absurd (looked_not_loaded c word d other value p)
 
-loaded_fresh : (h : List Entry) (t : Seat) (c word seen : ℕ) → IsFresh h t.rv c word → LookIsFresh h (placed t (Loaded c word seen))
+loaded_fresh : (h : List WordsEntry) (t : Seat) (c word seen : ℕ) → IsFresh h t.rv c word → LookIsFresh h (placed t (Loaded c word seen))
 loaded_fresh h t c word seen f d other value (inl p) = absurd (looked_not_loaded d other c word seen (sym p))
 loaded_fresh h t c word seen f d other value (inr p) =
     let e : (c ≡ d) × (word ≡ other) = loaded_same c word seen d other value p in

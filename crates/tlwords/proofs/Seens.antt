@@ -1,7 +1,7 @@
 -- Histories that were seen, as they grow.
 use Rattle.std.proofs.Common.{◌≡◌, ◌≢◌, ℕ, zero, suc, ◌*◌, ◌<◌, ◌≤◌, ◌⊎◌, inl, inr, Some, List, [], ◌∷◌, ◌++◌, length, slice_get, sym, refl}
 use Rattle.std.proofs.Common.{ap, ◌∙◌, subst, arith}
-use Rattle.tlcore.specs.History.{Entry, Deed, Nothing, Will, Did, EntryGrows, Grows, version_over, version_after, deed}
+use Rattle.tlcore.specs.History.{WordsEntry, Deed, Nothing, Will, Did, EntryGrows, Grows, version_over, version_after, deed}
 use Rattle.tlcore.specs.Seats.{Seat}
 use Rattle.tlcore.proofs.Deeds.{did, version-same, up_to}
 use Rattle.tlcore.proofs.Growth.{deed-kept, get_exists, Grows-refl, Grows-trans, One-kept}
@@ -14,9 +14,9 @@ use Rattle.tlwords.specs.Terms.{Terms, Permits}
 use Rattle.tlwords.specs.Seen.{Work, Call, Committed, Answered, Seen, IsSettled, SeenGrows, IsDone, CallAgrees, Agree}
 use Rattle.tlwords.specs.Rule.{IsFresh, LookIsFresh, EntriesAre}
 
-pub settled_grows : (g h : List Entry) (i : ℕ) → Grows g h → IsSettled g i → IsSettled h i
+pub settled_grows : (g h : List WordsEntry) (i : ℕ) → Grows g h → IsSettled g i → IsSettled h i
 settled_grows g h i r s =
-    let b : (f : Entry) × (slice_get h i ≡ Some f) × EntryGrows s.0 f = r.1 i s.0 s.1 in
+    let b : (f : WordsEntry) × (slice_get h i ≡ Some f) × EntryGrows s.0 f = r.1 i s.0 s.1 in
     (b.0, b.1, λ e. s.2 (sym (b.2.2 s.2) ∙ e))
 
 over_same : (x : Deed) (n v k : ℕ) → version_over x (suc n) v ≤ k → k ≤ n → version_over x (suc n) v ≡ v
@@ -36,7 +36,7 @@ version_settled d (suc n) k l m = go (up_to k n m) (version_settled d n k)
         let same : version_after d (suc n) ≡ version_after d n = over_same (d n) n (version_after d n) k l b in
         ih (omega (arith, same, l)) b ∙ sym same
 
-pub fresh_grows : (g h : List Entry) (rv c word : ℕ) → Grows g h → rv ≤ length g → IsFresh g rv c word → IsFresh h rv c word
+pub fresh_grows : (g h : List WordsEntry) (rv c word : ℕ) → Grows g h → rv ≤ length g → IsFresh g rv c word → IsFresh h rv c word
 fresh_grows g h rv c word r l f = (
   f.0 ∙ sym (ap (λ (n : ℕ). 2 * n) (version-same (deed g c) (deed h c) rv (λ i m. ap did (same i m)))),
   λ i v m e. f.1 i v m (sym (same i m) ∙ e),
@@ -45,7 +45,7 @@ fresh_grows g h rv c word r l f = (
     same : (i : ℕ) → i < rv → deed h c i ≡ deed g c i
     same i m = deed-kept g h c i r (omega arith) (λ v e. f.1 i v m e)
 
-pub look_grows : (g h : List Entry) (t : Seat) → Grows g h → t.rv ≤ length g → LookIsFresh g t → LookIsFresh h t
+pub look_grows : (g h : List WordsEntry) (t : Seat) → Grows g h → t.rv ≤ length g → LookIsFresh g t → LookIsFresh h t
 look_grows g h t r l f c word value p = fresh_grows g h t.rv c word r l (f c word value p)
 
 -- ---- the ranges
@@ -69,7 +69,7 @@ module _ {N : Type 0} where
 
   pub done_grows : (g h : Seen N) (i : ℕ) (w : Work N) → SeenGrows g h → IsDone g i w → IsDone h i w
   done_grows g h i w r d =
-      let b : (f : Entry) × (slice_get h.history i ≡ Some f) × EntryGrows d.entry f = r.0.1 i d.entry d.here in
+      let b : (f : WordsEntry) × (slice_get h.history i ≡ Some f) × EntryGrows d.entry f = r.0.1 i d.entry d.here in
       record {
         entry = b.0;
         here = b.1;
@@ -98,17 +98,17 @@ module _ {N : Type 0} where
     agree_snoc g (d ∷ cs) c a b = (a.0, agree_snoc g cs c a.1 b)
 
   -- entries keep their reads, writes and notes
-  pub entries_grow : {S : Type 0} (terms : Terms S N) (setting : S) (g h : List Entry) (ns : List N) (rs : List Range) → Grows g h
+  pub entries_grow : {S : Type 0} (terms : Terms S N) (setting : S) (g h : List WordsEntry) (ns : List N) (rs : List Range) → Grows g h
       → length h ≡ length g → EntriesAre terms setting (record { history = g; notes = ns; ranges = rs })
       → EntriesAre terms setting (record { history = h; notes = ns; ranges = rs })
   entries_grow terms setting g h ns rs r l a i e n f k =
       let m : i < length h = get_within h i e f in
-      let b : (x : Entry) × (slice_get g i ≡ Some x) = get_exists g i (omega (arith, m, l)) in
-      let c : (x : Entry) × (slice_get h i ≡ Some x) × EntryGrows b.0 x = r.1 i b.0 b.1 in
+      let b : (x : WordsEntry) × (slice_get g i ≡ Some x) = get_exists g i (omega (arith, m, l)) in
+      let c : (x : WordsEntry) × (slice_get h i ≡ Some x) × EntryGrows b.0 x = r.1 i b.0 b.1 in
       let p : Some c.0 ≡ Some e = sym c.1 ∙ f in
       let q : c.0 ≡ e = cc in
       let was : Permits terms setting rs (b.0).reads (b.0).writes n × ((b.0).writes ≢ []) = a i b.0 n b.1 k in
-      let same_reads : e.reads ≡ (b.0).reads = ap (λ (x : Entry). x.reads) (sym q) ∙ c.2.0 in
-      let same_writes : e.writes ≡ (b.0).writes = ap (λ (x : Entry). x.writes) (sym q) ∙ c.2.1 in
+      let same_reads : e.reads ≡ (b.0).reads = ap (λ (x : WordsEntry). x.reads) (sym q) ∙ c.2.0 in
+      let same_writes : e.writes ≡ (b.0).writes = ap (λ (x : WordsEntry). x.writes) (sym q) ∙ c.2.1 in
       let same : ((b.0).reads, (b.0).writes) ≡ (e.reads, e.writes) = λ j. (sym same_reads j, sym same_writes j) in
       (subst (λ (z : Pairs × Pairs). Permits terms setting rs z.0 z.1 n) same was.0, λ x. was.1 (sym same_writes ∙ x))

@@ -4,7 +4,7 @@ use Rattle.std.specs.Prelude.{if◌then◌else◌}
 use Rattle.std.specs.List.{IsDistinct}
 use mathlib.Core.Option.{some}
 use lib.ListN.{get_elem?}
-use Rattle.tlcore.specs.History.{Entry, IsVersionOf, Will, version, value, deed}
+use Rattle.tlcore.specs.History.{WordsEntry, IsVersionOf, Will, version, value, deed}
 use Rattle.tlwords.specs.declared.closing.ClosedCell.{ClosedCell}
 use Rattle.tlwords.specs.declared.closing.ClosedWords.{ClosedWords}
 use Rattle.ranges.specs.Ranges.{Range, Has, Names, IsStored, AreOfOneStore}
@@ -38,7 +38,7 @@ pub record AreGathered (words : List ℕ) (cells room : ℕ) (closed : ClosedWor
   pub store_count : length closed.store.items ≡ min closed.tail room
 
 -- the words after the history h, over the opening values: a free cell shows its last Done writer, and no Open entry writes it
-pub record Shows (base : List ℕ) (h : List Entry) (clock : ℕ) (cells : List ClosedCell) : Type 0 where
+pub record Shows (base : List ℕ) (h : List WordsEntry) (clock : ℕ) (cells : List ClosedCell) : Type 0 where
   pub clock_is : length h ≡ clock
   pub count : length cells ≡ length base
   pub free : (c v : ℕ) (x : ClosedCell) → slice_get cells c ≡ Some x → x.lock ≡ 2 * v
@@ -48,7 +48,7 @@ pub record Shows (base : List ℕ) (h : List Entry) (clock : ℕ) (cells : List 
 
 -- the machine's world of this history, in which its invariant holds, and which is reached by lawful events, has the clock and the cells
 -- that the words show
-pub record IsWorldOf (base : List ℕ) (h : List Entry) (clock : ℕ) (cells : List ClosedCell) (w : World) : Type 0 where
+pub record IsWorldOf (base : List ℕ) (h : List WordsEntry) (clock : ℕ) (cells : List ClosedCell) (w : World) : Type 0 where
   pub invariant : Invariant base w
   pub reached : Reached base w
   pub history_is : w.history ≡ h

@@ -1,6 +1,6 @@
 -- How a run commits: what it writes.
 use Rattle.std.specs.Prelude.{◌≡◌, ℕ, zero, suc, Option, Some, None, List, [], ◌∷◌, length, map, slice_get}
-use Rattle.tlcore.specs.History.{Entry}
+use Rattle.tlcore.specs.History.{WordsEntry}
 use Rattle.tlcore.specs.Seats.{Seat, reads_of}
 use Rattle.tlcore.specs.declared.entries.Status.TheVariants.{Void}
 use Rattle.tlwords.specs.declared.log.Slot.{Slot}
@@ -51,4 +51,4 @@ HasForgotten slots after =
 
 -- the entry at the index i is Void
 abbrev pub IsVoid : {N : Type 0} → Seen N → ℕ → Type 0
-IsVoid g i = (e : Entry) × (slice_get g.history i ≡ Some e) × (e.status ≡ Void)
+IsVoid g i = (e : WordsEntry) × (slice_get g.history i ≡ Some e) × (e.status ≡ Void)

@@ -2,7 +2,7 @@
 use Rattle.std.specs.Prelude.{◌≡◌, ◌≢◌, ℕ, suc, ◌+◌, ◌-◌, ◌*◌, ◌/◌, ◌%◌, ◌^◌, ◌<◌, ◌≤◌, Option, Some, None, List, [], ◌∷◌, ◌++◌, length, slice_get, if◌then◌else◌, true, false, ◌==◌, ◌||◌, ◌⊎◌, min}
 use Rattle.atomic_table.specs.Table.{Me, Step}
 use Rattle.atomic_table.specs.declared.shared.Seat.{Seat as TableSeat}
-use Rattle.tlcore.specs.History.{Entry, IsVersionOf, wv}
+use Rattle.tlcore.specs.History.{WordsEntry, IsVersionOf, wv}
 use Rattle.tlcore.specs.Seats.{Seat, passes, reads_of, writes_of, is_nil, is_next, all_settled, without, with_stored}
 use Rattle.tlcore.specs.Machine.{placed, conflict, saw}
 use Rattle.tlcore.specs.declared.entries.Status.TheVariants.{Void}
@@ -158,7 +158,7 @@ module _ {S N : Type 0} (terms : Terms S N) where
   -- Release: after a failed check the entry is Void
   pub record Releases (c : ℕ) (m r : Mine S N) : Type 0 where
     pub sees : Sees m.0 r.0
-    pub void : (i : ℕ) → m.0.seat.place ≡ Voiding i → (e : Entry) × (slice_get r.0.seen.history i ≡ Some e) × (e.status ≡ Void)
+    pub void : (i : ℕ) → m.0.seat.place ≡ Voiding i → (e : WordsEntry) × (slice_get r.0.seen.history i ≡ Some e) × (e.status ≡ Void)
     pub is : r.0 ≡ record m.0 { seen = r.0.seen; seat = after_release m.0.seat c }
 
   -- a load of the spare word, where a run that wrote nothing ends

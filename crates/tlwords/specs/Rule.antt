@@ -6,7 +6,7 @@ use lib.ListN.{get_elem?}
 use Rattle.atomic_table.specs.Table.{State}
 use Rattle.std.specs.Prelude.{suc, ◌⊎◌, eqb}
 use Rattle.std.specs.List.{IsDistinct}
-use Rattle.tlcore.specs.History.{Entry, version_after, deed, NoneWill}
+use Rattle.tlcore.specs.History.{WordsEntry, version_after, deed, NoneWill}
 use Rattle.tlcore.specs.Seats.{Seat, idle, is_resting, number_at}
 use Rattle.tlcore.specs.Machine.{World, next, with_seat}
 use Rattle.tlcore.specs.declared.actions.Action.{Action}
@@ -28,18 +28,18 @@ total_of f [] = 0
 total_of f (v ∷ vs) = f v + total_of f vs
 
 -- the word that the run's look at c found is twice the version at its place, and no Open entry up to there writes c
-abbrev pub IsFresh : List Entry → ℕ → ℕ → ℕ → Type 0
+abbrev pub IsFresh : List WordsEntry → ℕ → ℕ → ℕ → Type 0
 IsFresh h rv c word = (word ≡ 2 * version_after (deed h c) rv) × NoneWill (deed h c) rv
 
 -- the same of the seat's look, until its second look
-abbrev pub LookIsFresh : List Entry → Seat → Type 0
+abbrev pub LookIsFresh : List WordsEntry → Seat → Type 0
 LookIsFresh h t =
     (c word value : ℕ) → (t.place ≡ Looked c word) ⊎ (t.place ≡ Loaded c word value) → IsFresh h t.rv c word
 
 -- each entry, an Open one too, is lawful and writes something
 abbrev pub EntriesAre : {S N : Type 0} → Terms S N → S → Seen N → Type 0
 EntriesAre {S} {N} terms setting g =
-    (i : ℕ) (e : Entry) (n : N) → slice_get g.history i ≡ Some e → slice_get g.notes i ≡ Some n
+    (i : ℕ) (e : WordsEntry) (n : N) → slice_get g.history i ≡ Some e → slice_get g.notes i ≡ Some n
     → Permits terms setting g.ranges e.reads e.writes n × (e.writes ≢ [])
 
 -- ---- the world

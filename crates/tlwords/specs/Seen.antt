@@ -1,6 +1,6 @@
 -- What was seen of the history, with a note for each entry, and of the store; what calls did, and when that agrees with the history.
 use Rattle.std.specs.Prelude.{◌≡◌, ◌≢◌, ℕ, suc, ◌≤◌, Some, List, [], ◌∷◌, length, slice_get}
-use Rattle.tlcore.specs.History.{Entry, One, Grows}
+use Rattle.tlcore.specs.History.{WordsEntry, One, Grows}
 use Rattle.tlcore.specs.declared.entries.Status.TheVariants.{Open, Done}
 use Rattle.ranges.specs.Ranges.{Range, Within}
 use Rattle.ranges.specs.Pairs.{Pairs}
@@ -19,13 +19,13 @@ pub data Call (N : Type 0) : Type 0 where
 
 -- a history, the note of the entry i at the index i, and the finished ranges of the store
 pub record Seen (N : Type 0) : Type 0 where
-  pub history : List Entry
+  pub history : List WordsEntry
   pub notes : List N
   pub ranges : List Range
 
 -- the entry at the index i is Done or Void
-abbrev pub IsSettled : List Entry → ℕ → Type 0
-IsSettled h i = (e : Entry) × (slice_get h i ≡ Some e) × (e.status ≢ Open)
+abbrev pub IsSettled : List WordsEntry → ℕ → Type 0
+IsSettled h i = (e : WordsEntry) × (slice_get h i ≡ Some e) × (e.status ≢ Open)
 
 module _ {N : Type 0} where
   -- nothing of a history, and these ranges
@@ -42,7 +42,7 @@ module _ {N : Type 0} where
 
   -- the entry at the index i is Done, and w is its work
   pub record IsDone (g : Seen N) (i : ℕ) (w : Work N) : Type 0 where
-    pub entry : Entry
+    pub entry : WordsEntry
     pub here : slice_get g.history i ≡ Some entry
     pub done : entry.status ≡ Done
     pub reads : entry.reads ≡ w.reads

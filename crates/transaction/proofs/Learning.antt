@@ -6,7 +6,7 @@ use Rattle.lawful.specs.Lawful.{library_terms}
 use Rattle.lawful.proofs.Standing.{other_calls_agree}
 use Rattle.lending.specs.Lent.{Pass}
 use Rattle.transaction.specs.Members.{Member, IsMember}
-use Rattle.transaction.specs.Looks.{Learns}
+use Rattle.transaction.specs.Looks.{SessionsLearn}
 use Rattle.transaction.specs.Tries.{IsLaterPass}
 use Rattle.transaction.proofs.Staying.{pass_on, still_member, goes_on}
 
@@ -44,7 +44,7 @@ module _ (m o : Member) (k j : Pass) (is : IsMember m) (other : IsMember o) (lea
   pub other_stays : IsMember (record o { known = j })
   other_stays = still_member o j o.staged other other_later other_none
 
-  pub session_learns : Learns m o (record m { known = k }) (record o { known = j })
+  pub session_learns : SessionsLearn m o (record m { known = k }) (record o { known = j })
   session_learns = record {
     own = goes_on m k m.staged is own_later own_none;
     other_own = goes_on o j o.staged other other_later other_none;

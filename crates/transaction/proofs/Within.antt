@@ -18,7 +18,7 @@ use Rattle.commands.specs.Touches.{Passes, PassesAll, IsTouchedByOne}
 use Rattle.groundwork.specs.Footprints.{IsReadBy}
 use Rattle.commands.specs.Footprints.{IsReadByOne}
 use Rattle.tlwords.proofs.Gathers.{all_front}
-use Rattle.transaction.specs.Footprints.{IsDone, AreDone, OfOne, MayRead, MayWrite}
+use Rattle.transaction.specs.Footprints.{IsCommandDone, AreDone, OfOne, MayRead, MayWrite}
 
 passes_onward : {O : Type 0} → (s t : Sight O) (cs : List Command) → PassesAll s cs t → Onward s t
 passes_onward s t [] is = subst (λ z. Onward s z) (sym is) (onward_refl s)
@@ -29,7 +29,7 @@ module _ {O : Type 0} (k : Setting) (st : State) (last : Sight O) (matches : Mat
   -- what a command leaves there
   record Leaves (s t : Sight O) (lib : List Ranked) (c : Command) : Type 0 where
     next : List Ranked
-    done : IsDone k st s.writes lib c t.writes next
+    done : IsCommandDone k st s.writes lib c t.writes next
     views : Views t st next
 
   leaves : (s t : Sight O) (lib : List Ranked) (c : Command) → s.setting ≡ k → Passes s t c → Onward t last → Views s st lib

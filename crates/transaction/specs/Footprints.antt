@@ -30,7 +30,7 @@ IsAside aside cell = (v : ℕ) × (written cell aside ≡ Some v)
 module _ (s : Setting) (st : State) where
   -- over what is kept aside by then, with which the cells show the library, the command is done: it keeps values aside for no further cells
   -- but those that it touches, and with them the cells show the library as it is then
-  pub record IsDone (aside : Pairs) (lib : List Ranked) (c : Command) (now : Pairs) (next : List Ranked) : Type 0 where
+  pub record IsCommandDone (aside : Pairs) (lib : List Ranked) (c : Command) (now : Pairs) (next : List Ranked) : Type 0 where
     pub reply : Reply
     pub edits : edit s lib c ≡ Ok (record { library = next; reply = reply })
     pub keeps : (cell : ℕ) → IsAside now cell → IsAside aside cell ⊎ Touches s.slots (with_writes st aside) lib c cell
@@ -40,7 +40,7 @@ module _ (s : Setting) (st : State) where
   abbrev pub AreDone : Pairs → List Ranked → List Command → Pairs → List Ranked → Type 0
   AreDone aside lib [] now next = (now ≡ aside) × (next ≡ lib)
   AreDone aside lib (c ∷ cs) now next =
-      (mid : Pairs) × (between : List Ranked) × IsDone aside lib c mid between × AreDone mid between cs now next
+      (mid : Pairs) × (between : List Ranked) × IsCommandDone aside lib c mid between × AreDone mid between cs now next
 
   -- of one of the commands this is so, once those before it are done
   pub record OfOne (told : State → List Ranked → Command → Type 0) (lib : List Ranked) (cs : List Command) : Type 0 where

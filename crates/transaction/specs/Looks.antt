@@ -32,7 +32,7 @@ pub record TakesLook (old new : Member) (l : Look) : Type 0 where
   pub taken : new.known.taken ≡ old.known.taken
 
 -- one session has learnt of another
-pub record Learns (old other new other_new : Member) : Type 0 where
+pub record SessionsLearn (old other new other_new : Member) : Type 0 where
   pub own : IsLater old new
   pub other_own : IsLater other other_new
   -- what both had seen grows into what the first has seen now

@@ -2,7 +2,7 @@
 
 ghost use Rattle.std.specs.Prelude.{◌≡◌};
 ghost use Rattle.transaction.specs.Members.{IsSessionOf};
-ghost use Rattle.transaction.specs.Looks.{Learns};
+ghost use Rattle.transaction.specs.Looks.{SessionsLearn};
 
 use crate::outcome::Record;
 use crate::running::Library;
@@ -79,7 +79,7 @@ impl Session {
     pub fn learn(&mut self, library: &Library, other: &mut Session)
         requires own { IsSessionOf library.now self.old }
         requires other { IsSessionOf library.now other.old }
-        ensures { Learns self.old other.old self.new other.new }
+        ensures { SessionsLearn self.old other.old self.new other.new }
     {
         let Some(mut kit) = self.kit.take() else {
             unreachable!()

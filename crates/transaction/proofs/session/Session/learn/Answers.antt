@@ -3,7 +3,7 @@ use Rattle.bodystore.proofs.Staging.{staged_go_on}
 use Rattle.bodystore.specs.Stages.{Staged}
 use Rattle.lending.specs.Lent.{Pass, Carried}
 use Rattle.transaction.specs.Members.{Member, IsMember}
-use Rattle.transaction.specs.Looks.{Learns}
+use Rattle.transaction.specs.Looks.{SessionsLearn}
 use Rattle.transaction.proofs.Staying.{session_with}
 use Rattle.transaction.proofs.Learning.{own_stays, other_stays, session_learns}
 use Rattle.transaction.proofs.session.Session.learn.Goals as goal
@@ -61,8 +61,9 @@ returns c =
     sym c.take-2.ensures.value ∙ c.in-Some-take.is ∙ ap (λ (k : Carried). Some k) (sym c.others.view_is) in
     let own_new = own (Some (carried c.learn.new.pass c.kit.inside.stage)) in
     let others_new = others (Some (carried c.learn.new.other c.others.inside.stage)) in
-    subst (λ (m : Member). Learns m c.args.other.now own_new others_new) (ap own (sym kit) ∙ c.self.view_is)
-    (subst (λ (o : Member). Learns (own (Some (carried c.kit.inside.pass c.kit.inside.stage))) o own_new others_new) (ap others (sym other)
+    subst (λ (m : Member). SessionsLearn m c.args.other.now own_new others_new) (ap own (sym kit) ∙ c.self.view_is)
+    (subst (λ (o : Member). SessionsLearn (own (Some (carried c.kit.inside.pass c.kit.inside.stage))) o own_new others_new)
+    (ap others (sym other)
     ∙ c.other.view_is)
     (session_learns (own (Some (carried c.kit.inside.pass c.kit.inside.stage)))
     (others (Some (carried c.others.inside.pass c.others.inside.stage))) c.learn.new.pass c.learn.new.other
