@@ -14,7 +14,6 @@ use Rattle.cells.specs.Sight.{Sight, Terms, WasWritten, Matches, Views, Onward, 
 use Rattle.library.specs.Library.{Setting, Verifies}
 use Rattle.cells.specs.Shows.{Shows}
 use Rattle.cells.specs.Lookups.{ForEach}
-use Rattle.cells.proofs.Sights.{setting_kept}
 
 -- ---- what never changes in a run
 
