@@ -10,7 +10,7 @@ use Rattle.ranges.specs.declared.range.Range.{Range as Place}
 use Rattle.ranges.proofs.Grown.{within_refl, within_trans}
 use Rattle.bodystore.specs.Stages.{Staged}
 use Rattle.cells.specs.State.{State, FitsReads, with_writes, value_or, with_value}
-use Rattle.cells.specs.Sight.{Sight, Terms, WasWritten, Matches, Views, Onward, TakesAtMost, Looks, Writes, Stages, after}
+use Rattle.cells.specs.Sight.{Sight, Fixed, WasWritten, Matches, Views, Onward, TakesAtMost, Looks, Writes, Stages, after}
 use Rattle.library.specs.Library.{Setting, Verifies}
 use Rattle.cells.specs.Shows.{Shows}
 use Rattle.cells.specs.Lookups.{ForEach}
@@ -19,26 +19,26 @@ use Rattle.cells.specs.Lookups.{ForEach}
 
 module _ {O : Type 0} {old new : Sight O} (on : Onward old new) where
   pub origin_kept : new.origin ≡ old.origin
-  origin_kept = ap (λ (t : Terms O). t.origin) on.terms
+  origin_kept = ap (λ (t : Fixed O). t.origin) on.fixed
 
   pub setting_kept : new.setting ≡ old.setting
-  setting_kept = ap (λ (t : Terms O). t.setting) on.terms
+  setting_kept = ap (λ (t : Fixed O). t.setting) on.fixed
 
   pub may_write_kept : new.may_write ≡ old.may_write
-  may_write_kept = ap (λ (t : Terms O). t.may_write) on.terms
+  may_write_kept = ap (λ (t : Fixed O). t.may_write) on.fixed
 
   pub may_stage_kept : new.may_stage ≡ old.may_stage
-  may_stage_kept = ap (λ (t : Terms O). t.may_stage) on.terms
+  may_stage_kept = ap (λ (t : Fixed O). t.may_stage) on.fixed
 
   pub room_kept : new.room ≡ old.room
-  room_kept = ap (λ (t : Terms O). t.room) on.terms
+  room_kept = ap (λ (t : Fixed O). t.room) on.fixed
 
 -- ---- nothing is lost
 
 pub onward_refl : {O : Type 0} → (s : Sight O) → Onward s s
 onward_refl s =
     record {
-      terms = refl;
+      fixed = refl;
       ranges = within_refl s.ranges;
       reads = λ st h. h;
       read = λ c h. h;
@@ -50,7 +50,7 @@ onward_refl s =
 pub onward_trans : {O : Type 0} → (r s t : Sight O) → Onward r s → Onward s t → Onward r t
 onward_trans r s t f g =
     record {
-      terms = g.terms ∙ f.terms;
+      fixed = g.fixed ∙ f.fixed;
       ranges = within_trans r.ranges s.ranges t.ranges f.ranges g.ranges;
       reads = λ st h. f.reads st (g.reads st h);
       read = λ c h. g.read c (f.read c h);
@@ -74,7 +74,7 @@ looks_trans r s t f g =
 pub writes_onward : {O : Type 0} → (cell v : ℕ) (s t : Sight O) → Writes cell v s t → Onward s t
 writes_onward cell v s t w =
     record {
-      terms = w.terms;
+      fixed = w.fixed;
       ranges = subst (Within s.ranges) (sym w.ranges) (within_refl s.ranges);
       reads = λ st h. subst (FitsReads st) w.reads h;
       read = λ c h. (h.0, subst (Has (c, h.0)) (sym w.reads) h.1);

@@ -29,15 +29,15 @@ pub record Sight (O : Type 0) : Type 0 where
   pub halted : Option ℕ
 
 -- what never changes in a run
-pub record Terms (O : Type 0) : Type 0 where
+pub record Fixed (O : Type 0) : Type 0 where
   pub origin : O
   pub setting : Setting
   pub may_write : Bool
   pub may_stage : Bool
   pub room : ℕ
 
-abbrev pub terms_of : {O : Type 0} → Sight O → Terms O
-terms_of s = record { origin = s.origin; setting = s.setting; may_write = s.may_write; may_stage = s.may_stage; room = s.room }
+abbrev pub fixed_of : {O : Type 0} → Sight O → Fixed O
+fixed_of s = record { origin = s.origin; setting = s.setting; may_write = s.may_write; may_stage = s.may_stage; room = s.room }
 
 -- the cell was read
 abbrev pub WasRead : {O : Type 0} → Sight O → ℕ → Type 0
@@ -95,7 +95,7 @@ StaysStaged old new = (words : List ℕ) (start : ℕ) → get old words ≡ Som
 
 -- it is the same run, and nothing that was read, seen, written or staged is lost
 pub record Onward {O : Type 0} (old new : Sight O) : Type 0 where
-  pub terms : terms_of new ≡ terms_of old
+  pub fixed : fixed_of new ≡ fixed_of old
   pub ranges : Within old.ranges new.ranges
   pub reads : (st : State) → FitsReads st new.reads → FitsReads st old.reads
   pub read : (c : ℕ) → WasRead old c → WasRead new c
@@ -131,7 +131,7 @@ pub record Reads {O : Type 0} (cell v : ℕ) (old new : Sight O) : Type 0 where
 
 -- the value is kept aside for the cell
 pub record Writes {O : Type 0} (cell v : ℕ) (old new : Sight O) : Type 0 where
-  pub terms : terms_of new ≡ terms_of old
+  pub fixed : fixed_of new ≡ fixed_of old
   pub ranges : new.ranges ≡ old.ranges
   pub reads : new.reads ≡ old.reads
   pub taken : new.taken ≡ old.taken

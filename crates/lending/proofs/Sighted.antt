@@ -39,7 +39,7 @@ later_onward : (l : Lending) (seen : Seen Note) (looked full : Option (ℕ × �
     → Onward (lent_sight l) (lent_sight (later l seen looked full taken added over no_room))
 later_onward l seen looked full taken added over no_room more grows =
     record {
-      terms = refl;
+      fixed = refl;
       ranges = grows.2;
       reads = λ st f. f;
       read = λ c w. w;
@@ -169,7 +169,7 @@ stages_sight l words range r next made h none ok err len =
     subst (λ (x : Going Given Note). Stages words range (lent_sight l) (lent_sight (record l { going = x; staged = next }))) (sym h.is)
     (record {
       onward = record {
-        terms = refl;
+        fixed = refl;
         ranges = on.ranges;
         reads = on.reads;
         read = on.read;
@@ -246,7 +246,7 @@ module _ (l : Lending) (stage : Staged) (over : Option Conflict) (i : IsLent l s
     looks_now =
         record {
           onward = record {
-            terms = refl;
+            fixed = refl;
             ranges = h.grows.2;
             reads = λ st f. f.1;
             read = λ c w. (w.0, inr w.1);
@@ -292,7 +292,7 @@ kept_sight : (l : Lending) (cell value : ℕ) (slots : List Slot) → HasKept l.
     → Writes cell value (lent_sight l) (lent_sight (slots_on l slots))
 kept_sight l cell value slots k =
     record {
-      terms = refl;
+      fixed = refl;
       ranges = refl;
       reads = refl;
       taken = refl;

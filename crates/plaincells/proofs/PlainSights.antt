@@ -93,7 +93,7 @@ plain_reads s room values log store places cell v lt e hold =
     record {
       looks = record {
         onward = record {
-          terms = refl;
+          fixed = refl;
           ranges = within_refl (ranges_in store places);
           reads = λ st h. fits_front st (read_at_first base log) _ (subst (FitsReads st) more h);
           read = λ c h. (h.0, subst (Has (c, h.0)) (sym more) (has_front (c, h.0) (read_at_first base log) _ h.1));
@@ -155,7 +155,7 @@ pub plain_writes : (s : Setting) (room : ℕ) (values : List ℕ) (log : Pairs) 
     → Writes cell v (plain_sight s room values log store places) (plain_sight s room (set values cell v) log store places)
 plain_writes s room values log store places cell v lt read =
     record {
-      terms = refl;
+      fixed = refl;
       ranges = refl;
       reads = ap (λ xs. read_at_first xs log) (plain_undone s room values log store places cell v read);
       taken = refl;
@@ -185,7 +185,7 @@ pub plain_stages : (s : Setting) (room : ℕ) (values : List ℕ) (log : Pairs) 
 plain_stages s room values log store words places lie =
     record {
       onward = record {
-        terms = refl;
+        fixed = refl;
         ranges = within_staged store words places lie;
         reads = λ st h. h;
         read = λ c h. h;
