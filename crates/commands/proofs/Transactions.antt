@@ -15,7 +15,7 @@ use Rattle.library.specs.Transactions.{Applied, with_reply, then_apply, apply_fr
 use Rattle.librarylaws.proofs.Editing.{apply_verifies}
 use Rattle.cells.specs.State.{State}
 use Rattle.cells.specs.Sight.{Sight, Matches, Views, Onward, TakesAtMost}
-use Rattle.cells.proofs.Sights.{looks_refl, looks_trans, matches_back}
+use Rattle.cells.proofs.Sights.{looks_refl, looks_trans, matches_back, setting_kept}
 use Rattle.cells.specs.Answers.{ForEachBefore, WritesIfEdit, error_at, Does, IsRefused, CommandAnswers, DoesAll, RefusesAll, RunAnswers}
 use Rattle.cells.specs.declared.ending.CommandError.{CommandError}
 use Rattle.cells.specs.declared.ending.CommandError.TheVariants as command
@@ -145,7 +145,7 @@ module _ {O : Type 0} (s t u : Sight O) (cs : List Command) (replies : List Repl
       record {
         next = d.0;
         applied = d.1;
-        views = record { matches = before; shows = d.2; verifies = subst (λ (x : Setting). Verifies x d.0) (sym since.setting) verifies };
+        views = record { matches = before; shows = d.2; verifies = subst (λ (x : Setting). Verifies x d.0) (sym (setting_kept since)) verifies };
       }
 
   pub does_more : (c : Command) (reply : Reply) → Does t u c reply → DoesAll s u (cs ++ c ∷ []) (replies ++ reply ∷ [])
@@ -155,7 +155,7 @@ module _ {O : Type 0} (s t u : Sight O) (cs : List Command) (replies : List Repl
             let now = made st lib m v in
             let e = one.edits st now.next m now.views in
             let edited : Edited = record { library = e.0; reply = reply } in
-            let is = subst (λ (x : Setting). edit x now.next c ≡ Ok edited) since.setting e.1 in
+            let is = subst (λ (x : Setting). edit x now.next c ≡ Ok edited) (setting_kept since) e.1 in
             (e.0, apply_more s.setting 1 lib cs c (record { library = now.next; replies = replies }) edited now.applied is, e.2);
         writes = subst (λ b. WritesIfEdit b s u) (has_edit_more cs c) (writes_on (has_edit cs) (is_edit c) s t u on does.writes one.writes);
       }
@@ -175,7 +175,7 @@ module _ {O : Type 0} (s t u : Sight O) (cs : List Command) (replies : List Repl
       → RefusesAll s u (cs ++ c ∷ more) (record { index = 1 + length cs; reason = reason })
   refuses_more c more reason one st lib m v =
       let now = made st lib m v in
-      let is = subst (λ (x : Setting). edit x now.next c ≡ Err reason) since.setting (one.refuses st now.next m now.views) in
+      let is = subst (λ (x : Setting). edit x now.next c ≡ Err reason) (setting_kept since) (one.refuses st now.next m now.views) in
       apply_refused s.setting 1 lib cs c more (record { library = now.next; replies = replies }) reason now.applied is
 
   -- a command that has no reply ends the transaction

@@ -33,7 +33,7 @@ module _ (setting : Setting) (values store : List ℕ) (old new : PlainCells)
   named = ranges_named (is_ranged setting.slots) store values
 
   setting_is : cells_setting new ≡ setting
-  setting_is = (setting_kept looks.onward) ∙ (λ i. record { prelude = are.prelude_is i; slots = are.slots_are i })
+  setting_is = setting_kept looks.onward ∙ (λ i. record { prelude = are.prelude_is i; slots = are.slots_are i })
 
   pub prelude_is : new.prelude ≡ setting.prelude
   prelude_is = ap (λ (s : Setting). s.prelude) setting_is

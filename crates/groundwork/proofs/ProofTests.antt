@@ -1,5 +1,5 @@
 -- The tests of a theorem's proof, by the steps as they are stored and the frames that they cite.
-use Rattle.std.proofs.Common.{◌≡◌, ◌≢◌, ℕ, ◌<◌, true, false, List, [], ◌∷◌, Option, Some, None, length, map}
+use Rattle.std.proofs.Common.{◌≡◌, ◌≢◌, ℕ, ◌<◌, true, false, List, [], ◌∷◌, ◌++◌, Option, Some, None, length, map}
 use Rattle.std.proofs.Common.{refl, sym, ap, subst, ◌∙◌, inl, inr, arith}
 use mathlib.Core.Bool.{not}
 use Rattle.std.specs.Prelude.{nat_le}

@@ -54,8 +54,8 @@ restepped s0 s1 s2 s3 s4 i label former kept before now dropped gained words loo
     let at = found_later s0 s1 st lib label i looks here in
     let store = v.matches.store in
     let apart = v.verifies.library.distinct in
-    let setting : s4.setting ≡ s1.setting = on4.setting ∙ (on3.setting ∙ on2.setting) in
-    let slots_are : s2.setting.slots ≡ s1.setting.slots = ap (λ (x : Setting). x.slots) on2.setting in
+    let setting : s4.setting ≡ s1.setting = setting_kept on4 ∙ (setting_kept on3 ∙ (setting_kept on2)) in
+    let slots_are : s2.setting.slots ≡ s1.setting.slots = ap (λ (x : Setting). x.slots) (setting_kept on2) in
     let stored = read st lib v at.entry (found_in lib label at.entry at.found).0 at.holds in
     let stored_now = subst (λ (x : State). AreStoredAs slots x steps kept) (sym (after_looks s0 s1 st looks))
     (subst (λ (x : Setting). AreStoredAs x.slots (after s0 st) steps kept) (sym (setting_kept looks.onward)) stored_as) in

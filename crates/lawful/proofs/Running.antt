@@ -49,7 +49,7 @@ runs_are_lawful g old new commands setting blank onward fit = (
           next = d.0;
           applied =
               subst (λ (x : Setting). apply x lib commands.value ≡ Ok (record { library = d.0; replies = replies.value })) setting d.1;
-          shows = subst (λ (x : Setting). Shows x.slots (after new st) d.0) ((setting_kept onward) ∙ setting) d.2;
+          shows = subst (λ (x : Setting). Shows x.slots (after new st) d.0) (setting_kept onward ∙ setting) d.2;
         },
   ),
   λ refused refuses. (

@@ -80,7 +80,7 @@ module _ {O : Type 0} (old : Sight O) (label : List ℕ) (rank : ℕ) where
       → MovesSo label rank old t
   move_more s t i such first looks finds before reads wider st lib v =
       let here = (finds_after s t label i looks finds).1 st lib v in
-      let same = (setting_kept looks.onward) ∙ (setting_kept first.onward) in
+      let same = setting_kept looks.onward ∙ setting_kept first.onward in
       let at : IsFoundAt old.setting.slots (after t st) lib label i =
       subst (λ (x : Setting). IsFoundAt x.slots (after t st) lib label i) same here in
       asks_more (for_each_later s t (λ x l. ReadsWithin (IsReadByMove old.setting.slots x l label rank) old s) looks before st lib v)

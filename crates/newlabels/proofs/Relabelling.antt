@@ -1,5 +1,5 @@
 -- The slot of an assertion that has another label, and the tests of giving it one.
-use Rattle.std.proofs.Common.{◌≡◌, ◌≢◌, ℕ, List, [], Some, None, Err, refl, sym, ap, subst, ◌∙◌}
+use Rattle.std.proofs.Common.{◌≡◌, ◌≢◌, ℕ, List, [], ◌++◌, Some, None, Err, refl, sym, ap, subst, ◌∙◌}
 use mathlib.Core.Bool.{not}
 use Rattle.library.specs.declared.library.Ranked.{Ranked}
 use Rattle.library.specs.declared.command.Command.TheVariants as command
@@ -39,11 +39,11 @@ relabelled s0 s1 s2 s3 i from to words on1 on2 on3 words_are named others takes 
     let apart = v.verifies.library.distinct in
     let m2 = matches_back s2 s3 st on3 m in
     let m1 = matches_back s1 s2 st on2 m2 in
-    let setting : s3.setting ≡ s0.setting = on3.setting ∙ (on2.setting ∙ on1.setting) in
+    let setting : s3.setting ≡ s0.setting = setting_kept on3 ∙ (setting_kept on2 ∙ (setting_kept on1)) in
     let f : Ranked = record { rank = at.entry.rank; assertion = record at.entry.assertion { label = to } } in
     let chained = still_chained slots (after s0 st) (after s1 st) lib v.shows store apart from to i at (others st) in
-    let leaves = taken_out s0 s1 s2 i from st lib on1.setting takes m2 v at chained in
-    let enters = put_in_chain s0 s2 s3 i to st (without_slot i v.shows.held) f (on2.setting ∙ on1.setting) puts m refl
+    let leaves = taken_out s0 s1 s2 i from st lib (setting_kept on1) takes m2 v at chained in
+    let enters = put_in_chain s0 s2 s3 i to st (without_slot i v.shows.held) f (setting_kept on2 ∙ (setting_kept on1)) puts m refl
     (slot_gone v.shows.held i) leaves.chained in
     subst (λ (x : Setting). Shows x.slots (after s3 st) (rename from to lib)) (sym setting)
     (renamed_shows slots (after s0 st) (after s1 st) lib v.shows store apart from to i at (others st) (after s2 st) (after s3 st) f refl

@@ -8,6 +8,7 @@ use Rattle.cells.specs.Sight.{Sight, Onward, ReadsWithin, after}
 use Rattle.cells.specs.Aside.{IsOfFront}
 use Rattle.cells.specs.Footprints.{ReadsWhere, IsOfTakingOut}
 use Rattle.cells.proofs.Asking.{asks_wider}
+use Rattle.cells.proofs.Sights.{setting_kept}
 use Rattle.groundwork.proofs.Since.{ReadsSince, OfCommandFound, since_then, taking_out, look_before}
 
 -- ---- the slot gets the label
@@ -27,7 +28,7 @@ module _ {O : Type 0} (s0 s1 : Sight O) (i : ℕ) (from to : List ℕ) where
       (λ look. inl (look_before s0.setting.slots (after s0 st) (after s1 st)
       (λ k low. others st k (λ z. omega (arith, low, within, z))) from c look))
       (taking_out s0.setting.slots i from (after s1 st) c
-      (subst (λ (x : Setting). IsOfTakingOut x.slots i from (after s1 st) c) on1.setting is)))
+      (subst (λ (x : Setting). IsOfTakingOut x.slots i from (after s1 st) c) (setting_kept on1) is)))
       (reads.each st m))
 
   pub relabel_in : (s2 : Sight O) → Onward s0 s1 → Onward s1 s2 → ReadsWithin (IsOfFront s1.setting.slots i to) s1 s2
@@ -36,4 +37,4 @@ module _ {O : Type 0} (s0 s1 : Sight O) (i : ℕ) (from to : List ℕ) where
       since_then (OfCommandFound s0 i from (Rename from to)) before on2 (λ st lib m v.
       asks_wider (λ c is at.
       ⊎_elim (λ front. inr (inl (inl (inl front)))) (λ own. inr (inr (i, at, inr own)))
-      (subst (λ (x : Setting). IsOfFront x.slots i to c) on1.setting is)) reads)
+      (subst (λ (x : Setting). IsOfFront x.slots i to c) (setting_kept on1) is)) reads)

@@ -13,7 +13,7 @@ use Rattle.cells.specs.Aside.{KeepsAside, IsOfFront, IsOfLeaving}
 use Rattle.chains.specs.Chains.{KeepsLeaving}
 use Rattle.chains.specs.Filling.{IsOfFilling}
 use Rattle.cells.specs.Lookups.{ForEach, IsFoundAt, IsFirstEmpty}
-use Rattle.cells.proofs.Sights.{matches_back}
+use Rattle.cells.proofs.Sights.{matches_back, setting_kept}
 use Rattle.cells.proofs.Keeping.{keeps_trans, keeps_wider}
 use Rattle.groundwork.specs.Touches.{IsFirstFree, Touches, KeepsTo}
 use Rattle.groundwork.proofs.Touching.{cited_citers}
@@ -31,14 +31,14 @@ relabels_within s0 s1 s2 s3 i to on1 on2 on3 within others named leaves comes st
     (keeps_wider (IsOfLeaving s1.setting.slots (after s1 st) i) such s1 s2 (λ c is. inr (inl (still c is)))
     (leaves st (matches_back s2 s3 st on3 m))))
     (keeps_wider (IsOfFront s2.setting.slots i to) such s2 s3
-    (λ c is. inr (inr (subst (λ (x : Setting). IsOfFront x.slots i to c) (on2.setting ∙ on1.setting) is))) comes)
+    (λ c is. inr (inr (subst (λ (x : Setting). IsOfFront x.slots i to c) (setting_kept on2 ∙ (setting_kept on1)) is))) comes)
   where
     such : ℕ → Type 0
     such c = (c ≡ name_cell i) ⊎ (IsOfLeaving s0.setting.slots (after s0 st) i c ⊎ IsOfFront s0.setting.slots i to c)
 
     still : (c : ℕ) → IsOfLeaving s1.setting.slots (after s1 st) i c → IsOfLeaving s0.setting.slots (after s0 st) i c
     still c is =
-        let slots_are : s1.setting.slots ≡ s0.setting.slots = ap (λ (x : Setting). x.slots) on1.setting in
+        let slots_are : s1.setting.slots ≡ s0.setting.slots = ap (λ (x : Setting). x.slots) (setting_kept on1) in
         ⊎_elim (λ leads. let low = leads.0 in
         inl (omega (arith, low, slots_are), sym (others st c (λ z. omega (arith, low, slots_are, within, z))) ∙ leads.1))
         (λ own. inr (omega (arith, own, slots_are))) is

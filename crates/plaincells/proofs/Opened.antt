@@ -175,7 +175,7 @@ module _ (db : Contents) (k : ℕ) (a : Assertion) (lt : k < length db.assertion
   opened_views : (q : PlainCells) (t : Sight (Unit {0})) → Looks (cells_sight p) t → Onward t (cells_sight q)
       → (v : Views t (first_state q) (opening (front k db))) × (v.shows.held ≡ first_held)
   opened_views q t looks onward =
-      let setting : cells_setting q ≡ cells_setting p = (setting_kept onward) ∙ (setting_kept looks.onward) in
+      let setting : cells_setting q ≡ cells_setting p = setting_kept onward ∙ setting_kept looks.onward in
       later_views p q t (opening (front k db)) first_held (ap (λ (s : Setting). s.slots) setting) (setting_kept looks.onward) looks.writes
       (within_trans (cells_sight p).ranges t.ranges (cells_sight q).ranges looks.onward.ranges onward.ranges)
       (matches_back t (cells_sight q) (first_state q) onward (first_matches q)) (verifies k p refl) opened.shows

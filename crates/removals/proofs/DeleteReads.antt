@@ -67,7 +67,7 @@ module _ {O : Type 0} (s0 s1 : Sight O) (i : ℕ) (label : List ℕ) where
         ⊎_elim (λ own. inr (i, at, inl own))
         (λ look. inl (look_before s0.setting.slots (after s0 st) (after s2 st) (chains_before counts st lib back v at) label c look))
         (taking_out s0.setting.slots i label (after s2 st) c
-        (subst (λ (x : Setting). IsOfTakingOut x.slots i label (after s2 st) c) (on2.setting ∙ (setting_kept looks.onward)) is)))
+        (subst (λ (x : Setting). IsOfTakingOut x.slots i label (after s2 st) c) (setting_kept on2 ∙ (setting_kept looks.onward)) is)))
         (reads.each st m))
 
   pub removal_slot : (s2 : Sight O) → Onward s1 s2 → ReadsWithin (IsOfSlot i) s1 s2

@@ -18,7 +18,7 @@ use Rattle.cells.specs.Lookups.{ForEach, ForEachHeld, Finds}
 use Rattle.cells.specs.Counts.{AreCitedSlots}
 use Rattle.chains.specs.Filling.{Empties}
 use Rattle.cells.specs.Answers.{WritesSome, Does}
-use Rattle.cells.proofs.Sights.{matches_back, views_back}
+use Rattle.cells.proofs.Sights.{matches_back, views_back, setting_kept}
 use Rattle.cells.proofs.Counted.{listed_within}
 use Rattle.removals.proofs.WithoutSlot.{still_chained, deleted_shows}
 use Rattle.chains.proofs.Chaining.{TakesOut, taken_out}
@@ -42,13 +42,13 @@ removed s0 s1 s2 s3 s4 i label former listed looks on2 on3 on4 read cited counts
     let at = found_later s0 s1 st lib label i looks here in
     let store = v.matches.store in
     let apart = v.verifies.library.distinct in
-    let setting : s4.setting ≡ s1.setting = on4.setting ∙ (on3.setting ∙ on2.setting) in
+    let setting : s4.setting ≡ s1.setting = setting_kept on4 ∙ (setting_kept on3 ∙ (setting_kept on2)) in
     let stored = read st lib v at.entry (found_in lib label at.entry at.found).0 at.holds in
     let within = all_from_has (λ j. j < slots) listed
     (listed_within slots (after s1 st) lib v.shows store at.entry.assertion.proof former listed stored cited) in
     let out = counts st m2 within cited.apart in
     let chained = still_chained slots (after s1 st) (after s2 st) lib v.shows store apart label i at former listed stored cited out in
-    let chains = taken_out s1 s2 s3 i label st lib on2.setting takes m3 v at chained in
+    let chains = taken_out s1 s2 s3 i label st lib (setting_kept on2) takes m3 v at chained in
     let none = empties st in
     subst (λ (x : Setting). Shows x.slots (after s4 st) (without label lib)) (sym setting)
     (deleted_shows slots (after s1 st) (after s2 st) lib v.shows store apart label i at former listed stored cited out (after s3 st)

@@ -36,7 +36,7 @@ use Rattle.transaction.proofs.Within.{may_read, may_write}
 module _ (g : Given) (k : Carried) (mode : Mode) (cs : List Command) (old : Lending) (lends : Lends g k mode (has_staging cs) old) where
   module _ (new : Lending) (onward : Onward (lent_sight old) (lent_sight new)) where
     setting_is : setting_given g ≡ setting_given new.given
-    setting_is = sym ((setting_kept onward) ∙ ap setting_given lends.given)
+    setting_is = sym (setting_kept onward ∙ ap setting_given lends.given)
 
     module _ (fit : All (CommandFits (setting_given g).prelude) cs) where
       fit_for : (c : List Command) → c ≡ cs → All (CommandFits (setting_given new.given).prelude) c

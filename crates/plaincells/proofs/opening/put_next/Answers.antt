@@ -115,7 +115,7 @@ returns-in-Ok c =
     record {
       prelude = same.3 ∙ ap (λ (s : Setting). s.prelude) setting ∙ c.requires.opened.prelude;
       slots_are = same.4 ∙ ap (λ (s : Setting). s.slots) setting;
-      room_is = same.5 ∙ (room_kept onward) ∙ (room_kept looks.onward);
+      room_is = same.5 ∙ room_kept onward ∙ room_kept looks.onward;
       kept = c.keep.ensures.log;
       shows = subst (λ (x : State). ShowsHeld p.slots x (opening (front (k + 1) db))
           (held_by (spread p.slots (length db.assertions)) 0 (opening (front (k + 1) db))))

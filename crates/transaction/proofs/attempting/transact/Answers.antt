@@ -127,22 +127,22 @@ stop-requires-in-Err-clause-asks c =
 pub returns-in-Ok-clause-within : goal.returns-in-Ok-clause-within
 returns-in-Ok-clause-within c =
     subst (λ (z : Pass). EndsWithin z c.args.commands.now c.commit.result.kit.pass c.commit.result.outcome)
-    ((origin_kept c.run.ensures.onward) ∙ c.begin-live.ensures.began) c.commit.ensures.within
+    (origin_kept c.run.ensures.onward ∙ c.begin-live.ensures.began) c.commit.ensures.within
 
 pub returns-in-Ok-2-clause-within : goal.returns-in-Ok-2-clause-within
 returns-in-Ok-2-clause-within c =
     subst (λ (z : Pass). EndsWithin z c.args.commands.now c.answer.result.kit.pass c.answer.result.outcome)
-    ((origin_kept c.run.ensures.onward) ∙ c.begin-live.ensures.began) c.answer.ensures.within
+    (origin_kept c.run.ensures.onward ∙ c.begin-live.ensures.began) c.answer.ensures.within
 
 pub returns-in-Err-Refused-clause-within : goal.returns-in-Err-Refused-clause-within
 returns-in-Err-Refused-clause-within c =
     subst (λ (z : Pass). EndsWithin z c.args.commands.now c.refuse.result.kit.pass c.refuse.result.outcome)
-    ((origin_kept c.run.ensures.onward) ∙ c.begin-live.ensures.began) c.refuse.ensures.within
+    (origin_kept c.run.ensures.onward ∙ c.begin-live.ensures.began) c.refuse.ensures.within
 
 pub returns-in-Err-clause-within : goal.returns-in-Err-clause-within
 returns-in-Err-clause-within c =
     subst (λ (z : Pass). EndsWithin z c.args.commands.now c.stop-in-Err.result.kit.pass c.stop-in-Err.result.outcome)
-    ((origin_kept c.run.ensures.onward) ∙ c.begin-live.ensures.began) c.stop-in-Err.ensures.within
+    (origin_kept c.run.ensures.onward ∙ c.begin-live.ensures.began) c.stop-in-Err.ensures.within
 
 pub returns-then-is_err-clause-within : goal.returns-then-is_err-clause-within
 returns-then-is_err-clause-within c =
@@ -153,25 +153,25 @@ pub returns-in-Ok-clause-tries : goal.returns-in-Ok-clause-tries
 returns-in-Ok-clause-tries c =
     let made = c.commit.result in
     subst (λ (z : Pass). Tries c.args.commands.now z made.kit.pass made.outcome made.drawn)
-    ((origin_kept c.run.ensures.onward) ∙ c.begin-live.ensures.began) c.commit.ensures.tries
+    (origin_kept c.run.ensures.onward ∙ c.begin-live.ensures.began) c.commit.ensures.tries
 
 pub returns-in-Ok-2-clause-tries : goal.returns-in-Ok-2-clause-tries
 returns-in-Ok-2-clause-tries c =
     let made = c.answer.result in
     subst (λ (z : Pass). Tries c.args.commands.now z made.kit.pass made.outcome made.drawn)
-    ((origin_kept c.run.ensures.onward) ∙ c.begin-live.ensures.began) c.answer.ensures.tries
+    (origin_kept c.run.ensures.onward ∙ c.begin-live.ensures.began) c.answer.ensures.tries
 
 pub returns-in-Err-Refused-clause-tries : goal.returns-in-Err-Refused-clause-tries
 returns-in-Err-Refused-clause-tries c =
     let made = c.refuse.result in
     subst (λ (z : Pass). Tries c.args.commands.now z made.kit.pass made.outcome made.drawn)
-    ((origin_kept c.run.ensures.onward) ∙ c.begin-live.ensures.began) c.refuse.ensures.tries
+    (origin_kept c.run.ensures.onward ∙ c.begin-live.ensures.began) c.refuse.ensures.tries
 
 pub returns-in-Err-clause-tries : goal.returns-in-Err-clause-tries
 returns-in-Err-clause-tries c =
     let made = c.stop-in-Err.result in
     subst (λ (z : Pass). Tries c.args.commands.now z made.kit.pass made.outcome made.drawn)
-    ((origin_kept c.run.ensures.onward) ∙ c.begin-live.ensures.began) c.stop-in-Err.ensures.tries
+    (origin_kept c.run.ensures.onward ∙ c.begin-live.ensures.began) c.stop-in-Err.ensures.tries
 
 pub returns-then-is_err-clause-tries : goal.returns-then-is_err-clause-tries
 returns-then-is_err-clause-tries c =

@@ -14,7 +14,7 @@ sorted-requires c =
     let given = c.requires.given ∙ sym (ap (λ (h : Home). h.given) c.library.view_is) in
     let slots = c.library.inside.given.slots in
     let setting : setting_given run.given ≡ record { prelude = c.in_ok-prelude.prelude; slots = slots } =
-    (setting_kept looks.onward) ∙ ap setting_given given
+    setting_kept looks.onward ∙ ap setting_given given
     ∙ (λ i. record { prelude = sym (c.in_ok-prelude.ensures ∙ c.library.invariant.prelude_is) i; slots = slots }) in
     subst (λ (s : Setting). Verifies s c.in_ok-entries.entries.items) setting
     (entries_verify run lending.0 lending.1 c.in_ok-entries.entries.items lending.2 (looks.writes ∙ c.requires.blank)
