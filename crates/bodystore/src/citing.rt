@@ -8,6 +8,9 @@ use crate::stored::StoredStep;
 use mmsyntax::MOST_ASSERTIONS;
 use std::alloc::{AllocError, Global};
 
+/// From how many steps on a proof's slots are looked up in a table before they are listed.
+const LONG_PROOF: usize = 128;
+
 /// The slots that the steps of a proof cite, each once, ascending.
 ///
 /// # Errors
@@ -22,11 +25,12 @@ pub fn cited_slots(alloc: Global, steps: &[StoredStep]) -> Result<Vec<usize>, Al
     Ok(slots)
 }
 
-/// The slots that the steps of a proof cite, in the order in which they are first cited; each once, but what is no slot of a library.
+/// The slots that the steps of a proof cite, in the order in which they are first cited; each once in a long proof, but what
+/// is no slot of a library.
 fn listed_slots(alloc: Global, steps: &[StoredStep]) -> Result<Vec<usize>, AllocError>
     ensures { IfOk result (λ made. AreSlotsOf steps.now made.items) }
 {
-    let mut seen = vec![in alloc; false; MOST_ASSERTIONS]?;
+    let mut seen = vec![in alloc; false; seen_for(steps.len())]?;
     let mut slots = Vec::new(alloc);
     for step in steps {
         if let StoredStep::Slot(slot) = step {
@@ -34,6 +38,16 @@ fn listed_slots(alloc: Global, steps: &[StoredStep]) -> Result<Vec<usize>, Alloc
         }
     }
     Ok(slots)
+}
+
+/// For how many slots a table is kept of those that were seen, in a proof of so many steps: none in a short one, whose slots are listed as
+/// often as they are cited.
+fn seen_for(steps: usize) -> usize {
+    if steps < LONG_PROOF {
+        0
+    } else {
+        MOST_ASSERTIONS
+    }
 }
 
 /// Lists a slot behind others, unless it was seen before; one that is too high for the table of those that were seen in any case.

@@ -62,7 +62,8 @@ removes_within s0 s1 s2 s3 s4 i label former listed looks on2 on3 on4 read cited
     still : (c : ℕ) → IsOfLeaving s2.setting.slots (after s2 st) i c → IsOfLeaving s0.setting.slots (after s0 st) i c
     still c is =
         let early : s1.setting.slots ≡ s0.setting.slots = ap (λ (x : Setting). x.slots) (setting_kept looks.onward) in
-        let slots_are : s2.setting.slots ≡ s0.setting.slots = ap (λ (x : Setting). x.slots) (setting_kept on2 ∙ (setting_kept looks.onward)) in
+        let slots_are : s2.setting.slots
+        ≡ s0.setting.slots = ap (λ (x : Setting). x.slots) (setting_kept on2 ∙ (setting_kept looks.onward)) in
         let counted = counts st m2 (all_from_has (λ j. j < s1.setting.slots) listed (λ j h. let lt =
         within j h in omega (arith, lt, early)))
         cited.apart in

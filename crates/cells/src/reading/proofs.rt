@@ -53,7 +53,7 @@ pub fn proof<C: Cells>(alloc: Global, cells: &mut C, slot: usize) -> Result<Proo
     let slots = slot_count(cells);
     let mut cited = Vec::new(alloc);
     let mut words = Vec::with_capacity(alloc, stored.len())?;
-    let mut hints = Hints::new(alloc, slots)?;
+    let mut hints = Hints::new(alloc, stored.len(), slots)?;
     for (i, word) in stored.iter().enumerate() {
         let step = StoredStep::of_word(*word);
         if !is_small(step) {

@@ -8,8 +8,10 @@ use Rattle.bodystore.proofs.citing.listed_slots.Goals.{in-Slot+in_ok-list_slot, 
 use Rattle.bodystore.proofs.citing.listed_slots.Goals as goal
 
 pub loop-step-init : goal.loop-step-init
-loop-step-init c =
-    (none_listed c.new-slots.ensures.items, none_seen c.new-slots.result.items 4096 (c.in_ok-seen.ensures.items_if_clones_equal (λ y e. e)))
+loop-step-init c = (
+  none_listed c.new-slots.ensures.items,
+  none_seen c.new-slots.result.items c.seen_for.result (c.in_ok-seen.ensures.items_if_clones_equal (λ y e. e)),
+)
 
 pub loop-step-preserved : goal.loop-step-preserved
 loop-step-preserved c =
