@@ -21,9 +21,6 @@ from statistics import median
 
 HERE = pathlib.Path(__file__).resolve().parent
 SIZES = (1, 4, 16)
-# the bodies of the largest inputs have more words than the room of a run has by default
-LARGE = 8_000_000
-ROOM = ["--room", "4194304"]
 
 
 def make(path, *arguments):
@@ -124,8 +121,7 @@ def main():
         outputs = {}
         for _ in range(options.rounds):
             for program, command in programs.items():
-                room = ROOM if program == "mmrefactor" and arguments[0].stat().st_size > LARGE else []
-                spent, outputs[program] = milliseconds([*command, "run", *room, *arguments])
+                spent, outputs[program] = milliseconds([*command, "run", *arguments])
                 took[program].append(spent)
         if len(set(outputs.values())) > 1:
             raise SystemExit(f"{name}: the programs print different texts")

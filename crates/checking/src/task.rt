@@ -5,11 +5,11 @@
 pub enum Task {
     /// Checks the proofs of a database.
     Check,
-    /// Runs scripts over a database, with so many workers, in a store with room for so many words. The text of the history may be asked
-    /// for.
+    /// Runs scripts over a database, with so many workers, in a store with room for so many words, if a room is given, and else for as
+    /// many as the run can need. The text of the history may be asked for.
     Run {
         workers: usize,
-        room: usize,
+        room: Option<usize>,
         history: bool,
     },
     /// Does a history again over a database.

@@ -22,13 +22,12 @@ workers_rule = record (new_rule (codes "workers")) {
   action = Some Set;
 }
 
--- `--room W`, of at most 2^24, and 2^20 where it isn't given
+-- `--room W`, of at most 2^24
 abbrev pub room_rule : Rule
 room_rule = record (new_rule (codes "room")) {
   long = Some (codes "room");
   value_names = 1;
   parser = Some (parser.Unsigned 0 16777216);
-  defaults = codes "1048576" ∷ [];
   action = Some Set;
 }
 

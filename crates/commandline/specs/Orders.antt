@@ -1,5 +1,5 @@
 -- What a command line asks for, by what its parser found in the words.
-use Rattle.std.specs.Prelude.{◌≡◌, ℕ, List, [], ◌∷◌, ◌++◌, Option, Some, None, codes, is_some}
+use Rattle.std.specs.Prelude.{◌≡◌, ℕ, List, [], ◌∷◌, ◌++◌, Option, Some, None, IsNone, codes, is_some}
 use Rattle.std.specs.Str.Parse.{IsNumeral, digits_value, without_leading_plus}
 use Rattle.clap.specs.Words.{Row, Text, all_of, first_of, one_of}
 use Rattle.checking.specs.declared.task.Task.{Task}
@@ -11,10 +11,15 @@ abbrev pub IsNumber : Option Text → ℕ → Type 0
 IsNumber (Some text) n = IsNumeral 10 (without_leading_plus text) × (n ≡ digits_value 10 (without_leading_plus text))
 IsNumber None n = ⊥
 
--- the numbers of a run: its workers and its room, within their limits
-pub record HasLimits (rows : List Row) (workers room : ℕ) : Type 0 where
+-- so it does, where there is a text; and there is no number where there is none
+abbrev pub IsNumberIfGiven : Option Text → Option ℕ → Type 0
+IsNumberIfGiven text (Some n) = IsNumber text n
+IsNumberIfGiven text None = IsNone text
+
+-- the numbers of a run: its workers, and its room where one is given, within their limits
+pub record HasLimits (rows : List Row) (workers : ℕ) (room : Option ℕ) : Type 0 where
   pub workers_given : IsNumber (one_of (codes "workers") rows) workers
-  pub room_given : IsNumber (one_of (codes "room") rows) room
+  pub room_given : IsNumberIfGiven (one_of (codes "room") rows) room
   pub within : IsWithin workers room
 
 -- the task of a subcommand: that of its name, and a run has the numbers that are given, and its history's text is asked for where a file is

@@ -46,13 +46,16 @@ fn room<'a>(alloc: Global) -> Arg<'a>
     Arg::new(alloc, "room")
         .long("room")
         .value_name("W")
-        .help("How many words the store of labels, statements and proofs has, up to 16777216")
+        .help(
+            "How many words the store of labels, statements and proofs has, up to 16777216; \
+             without it as many as the database and the scripts can need",
+        )
         .long_help(
-            "How many words the store of labels, statements and proofs has, up to 16777216. \
+            "How many words the store of labels, statements and proofs has, up to 16777216; \
+             without it as many as the database and the scripts can need. \
              What a transaction stages stays used. Raise it where a run answers `store full`",
         )
         .value_parser(ValueParser::unsigned(0, ROOM as u64))
-        .default_value("1048576")
         .action(ArgAction::Set)
 }
 

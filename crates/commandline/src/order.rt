@@ -1,9 +1,9 @@
 //! What a command line asks for.
 
-ghost use Rattle.std.specs.Prelude.{◌≡◌, ◌<◌, ◌^◌, ◌++◌, codes, ℕ, IfOk, OnOk, IfSome, IsNone, map, option_map};
+ghost use Rattle.std.specs.Prelude.{◌≡◌, ◌<◌, ◌^◌, ◌++◌, codes, ℕ, IfOk, OnOk, IfSome, IsNone, Option, map, option_map};
 ghost use Rattle.clap.specs.Words.{all_of, first_of, found_of, one_of, rows_of, subcommand_rows_of};
 ghost use Rattle.checking.specs.declared.task.Task.{Task as TaskOfJob};
-ghost use Rattle.commandline.specs.Orders.{IsNumber, HasLimits, IsTaskOf, AsksFor, IsOrder, listed, all_listed, paths_of, history_of};
+ghost use Rattle.commandline.specs.Orders.{IsNumber, IsNumberIfGiven, HasLimits, IsTaskOf, AsksFor, IsOrder, listed, all_listed, paths_of, history_of};
 
 use crate::arguments::{ROOM, WORKERS};
 use checking::Task;
@@ -51,14 +51,23 @@ fn number_in(of: &ArgMatches<'_>, id: &str) -> Option<usize>
     of.get_one::<usize>(id)
 }
 
-/// How many workers a run has, and for how many words its store has room. None beyond their limits.
-fn limits_in(of: &ArgMatches<'_>) -> Option<(usize, usize)>
+/// The number that an argument has, if it is given. None where it has a text that writes none below 2^64.
+fn number_if_given(of: &ArgMatches<'_>, id: &str) -> Option<Option<usize>>
+    ensures some { IfSome result (IsNumberIfGiven (one_of id.now (rows_of (found_of of.now)))) }
+    ensures none { IsNone result → (n : Option ℕ) → IfSome n (λ m. m < 2 ^ 64)
+        → IsNumberIfGiven (one_of id.now (rows_of (found_of of.now))) n → ⊥ }
+{
+    of.try_get_one::<usize>(id).ok()
+}
+
+/// How many workers a run has, and for how many words its store has room, if that is given. None beyond their limits.
+fn limits_in(of: &ArgMatches<'_>) -> Option<(usize, Option<usize>)>
     ensures some { IfSome result (λ r. HasLimits (rows_of (found_of of.now)) r.0 r.1) }
-    ensures none { IsNone result → (workers room : ℕ) → HasLimits (rows_of (found_of of.now)) workers room → ⊥ }
+    ensures none { IsNone result → (workers : ℕ) (room : Option ℕ) → HasLimits (rows_of (found_of of.now)) workers room → ⊥ }
 {
     let workers = number_in(of, "workers")?;
-    let room = number_in(of, "room")?;
-    if workers < 1 || workers > WORKERS || room > ROOM {
+    let room = number_if_given(of, "room")?;
+    if workers < 1 || workers > WORKERS || room.is_some_and(|words| words > ROOM) {
         return None;
     }
     Some((workers, room))
@@ -67,7 +76,7 @@ fn limits_in(of: &ArgMatches<'_>) -> Option<(usize, usize)>
 /// The task of a run.
 fn run_in(of: &ArgMatches<'_>) -> Option<Task>
     ensures some { IfSome result (IsTaskOf (codes "run") (rows_of (found_of of.now))) }
-    ensures none { IsNone result → (workers room : ℕ) → HasLimits (rows_of (found_of of.now)) workers room → ⊥ }
+    ensures none { IsNone result → (workers : ℕ) (room : Option ℕ) → HasLimits (rows_of (found_of of.now)) workers room → ⊥ }
 {
     let (workers, room) = limits_in(of)?;
     Some(Task::Run {

@@ -1,5 +1,5 @@
 -- What the program answers to its own texts: `ok` to an export, and its library to the history of a run.
-use Rattle.std.proofs.Common.{◌≡◌, ◌≢◌, ◌∙◌, ℕ, zero, suc, ◌≤◌, true, List, Result, Ok, Err, length, map, take, refl, sym, ap, subst, arith}
+use Rattle.std.proofs.Common.{◌≡◌, ◌≢◌, ◌∙◌, ℕ, zero, suc, ◌≤◌, true, List, Option, Result, Ok, Err, length, map, take, refl, sym, ap, subst, arith}
 use Rattle.std.specs.Prelude.{IfOk, IfErr, String, string_bytes}
 use Rattle.std.specs.declared.alloc.Global.{Global}
 use Rattle.std.proofs.lemmas.List.{take_all}
@@ -36,7 +36,7 @@ memory_alone _ h = absurd (h (λ e. cc))
 
 -- ---- the history of a run
 
-module _ (db text out : Bytes) (texts : List Bytes) (workers room : ℕ) (run : IsRun db texts workers room true out text) where
+module _ (db text out : Bytes) (texts : List Bytes) (workers : ℕ) (room : Option ℕ) (run : IsRun db texts workers room true out text) where
   -- the entries that the run kept
   abbrev kept : List Entry
   kept = run.printed.entries

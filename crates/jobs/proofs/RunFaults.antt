@@ -1,5 +1,5 @@
 -- The faults of a run: that of its database, that of a script, and bodies that its room has no place for; and which is answered.
-use Rattle.std.proofs.Common.{◌≡◌, ◌≢◌, ◌∙◌, ◌+◌, ◌<◌, ◌⊎◌, inl, inr, Bool, ℕ, zero, suc, List, Result, Ok, Err, subst, sym, ap, refl, arith}
+use Rattle.std.proofs.Common.{◌≡◌, ◌≢◌, ◌∙◌, ◌+◌, ◌<◌, ◌⊎◌, inl, inr, Bool, ℕ, zero, suc, List, Option, Some, None, Result, Ok, Err, subst, sym, ap, refl, arith}
 use Rattle.std.specs.Prelude.{IfOk, IfErr}
 use Rattle.mmtext.specs.declared.fault.TextFault.{TextFault}
 use Rattle.mmsyntax.specs.Tables.{Tables, Contents}
@@ -9,7 +9,7 @@ use Rattle.checking.specs.declared.fault.Fault.TheVariants.{Text, Proof, StoreFu
 use Rattle.jobs.specs.declared.job.Job.{Job}
 use Rattle.jobs.specs.declared.job.Printed.{Printed}
 use Rattle.checking.specs.Checks.{Bytes, Orders, IsChecked, AreScripts, IsFirstFaultyScript, IsDatabaseFault, IsOrLacksMemory, RefusesWith}
-use Rattle.jobs.specs.Jobs.{PrintsRun, IsRun}
+use Rattle.jobs.specs.Jobs.{room_of, PrintsRun, IsRun}
 use Rattle.jobs.specs.Jobs.{IsRunFault, IsRunLack, IsFaultOf, IsLackOf}
 use Rattle.checking.specs.Parts.{IsScriptFault, IsRefusedBy}
 use Rattle.jobs.specs.Parts.{IsWorkFault}
@@ -19,29 +19,30 @@ use Rattle.checking.proofs.ScriptFaults.{no_first}
 -- ---- what is answered
 
 -- the fault of the database is one of the run
-pub database_of_run : (db : Bytes) (texts : List Bytes) (room : ℕ) (f : Fault) → IsDatabaseFault db f → IsRunFault db texts room f
+pub database_of_run : (db : Bytes) (texts : List Bytes) (room : Option ℕ) (f : Fault) → IsDatabaseFault db f → IsRunFault db texts room f
 database_of_run db texts room (Text zero g) h = h
 database_of_run db texts room (Proof label g) h = h
 database_of_run db texts room _ h = absurd h
 
 -- so is that of a script
-pub script_of_run : (db : Bytes) (texts : List Bytes) (room : ℕ) (contents : Contents) (p : Tables) (f : Fault) → p ≡ contents.prelude
-    → IsChecked db contents → IsScriptFault p texts f → f ≢ NoMemory → IsRunFault db texts room f
+pub script_of_run : (db : Bytes) (texts : List Bytes) (room : Option ℕ) (contents : Contents) (p : Tables) (f : Fault)
+    → p ≡ contents.prelude → IsChecked db contents → IsScriptFault p texts f → f ≢ NoMemory → IsRunFault db texts room f
 script_of_run db texts room contents p NoMemory over checked h ne = absurd (ne refl)
 script_of_run db texts room contents p (Text (suc k) g) over checked h ne =
     ((contents, checked, subst (λ t. IsFirstFaultyScript t texts k g) over h.0), h.1)
 script_of_run db texts room contents p _ over checked h ne = absurd h
 
-module _ (db : Bytes) (texts : List Bytes) (workers room : ℕ) (contents : Contents) (scripts : List Orders)
+module _ (db : Bytes) (texts : List Bytes) (workers : ℕ) (room : Option ℕ) (contents : Contents) (scripts : List Orders)
     (checked : IsChecked db contents)
     (ordered : AreScripts contents.prelude texts scripts) where
   -- and too small a room, where all scripts are read. Else the run came to no end
-  work_of_run : (f : Fault) → IsWorkFault contents workers room f → f ≢ NoMemory → IsRunFault db texts room f ⊎ IsRunLack workers f
+  work_of_run : (f : Fault) → IsWorkFault contents workers (room_of room contents scripts) f → f ≢ NoMemory
+      → IsRunFault db texts room f ⊎ IsRunLack workers f
   work_of_run StoreFull h ne = inl (contents, scripts, checked, ordered, h)
   work_of_run NoMemory h ne = absurd (ne refl)
   work_of_run _ h ne = inr h
 
-  pub run_faulted : (r : Result Printed Fault) → IfErr r (IsWorkFault contents workers room)
+  pub run_faulted : (r : Result Printed Fault) → IfErr r (IsWorkFault contents workers (room_of room contents scripts))
       → IfErr r (λ f. f ≢ NoMemory → IsRunFault db texts room f ⊎ IsRunLack workers f)
   run_faulted (Ok printed) h = h
   run_faulted (Err f) h = λ ne. work_of_run f h ne
@@ -54,8 +55,14 @@ module _ (db : Bytes) (texts : List Bytes) (workers room : ℕ) (contents : Cont
 
 -- ---- which is answered
 
+-- a room is too small for the bodies of a database whatever the scripts are: that of a run that isn't given one only where none is larger
+too_small : (room : Option ℕ) (db : Contents) (scripts others : List Orders) → room_of room db scripts < all_bodies_length db.assertions
+    → room_of room db others < all_bodies_length db.assertions
+too_small (Some words) db scripts others h = h
+too_small None db scripts others h = omega (arith, h)
+
 -- a run whose database is refused is refused with it
-pub run_refused_by_database : (text : Bytes) (texts : List Bytes) (room : ℕ) (answer f : Fault)
+pub run_refused_by_database : (text : Bytes) (texts : List Bytes) (room : Option ℕ) (answer f : Fault)
     → ((g : Fault) → IsDatabaseFault text g → IsOrLacksMemory g answer)
     → ((contents : Contents) → IsChecked text contents → answer ≡ NoMemory) → IsRunFault text texts room f → IsOrLacksMemory f answer
 run_refused_by_database text texts room answer (Text zero g) database only h = database (Text zero g) h
@@ -64,7 +71,7 @@ run_refused_by_database text texts room answer (Proof label g) database only h =
 run_refused_by_database text texts room answer StoreFull database only h = inr (only h.0 h.2)
 run_refused_by_database text texts room answer _ database only h = absurd h
 
-module _ (text : Bytes) (texts : List Bytes) (room : ℕ) (db : Contents) (p : Tables) (over : p ≡ db.prelude)
+module _ (text : Bytes) (texts : List Bytes) (room : Option ℕ) (db : Contents) (p : Tables) (over : p ≡ db.prelude)
     (none : (g : Fault) → IsDatabaseFault text g → ⊥)
     (same : (contents : Contents) → IsChecked text contents → db ≡ contents) where
   -- the first fault of the scripts over the one database that is read
@@ -98,14 +105,17 @@ module _ (text : Bytes) (texts : List Bytes) (room : ℕ) (db : Contents) (p : T
   run_refused_by_script answer _ refuses is h = absurd h
 
   -- one of scripts without a fault with too small a room
-  pub run_refused_by_room : {A : Type 0} (r : Result A Fault) (f : Fault) → ((k : ℕ) (g : TextFault) → IsFirstFaultyScript p texts k g → ⊥)
-      → (room < all_bodies_length db.assertions → RefusesWith StoreFull r) → IsRunFault text texts room f → RefusesWith f r
-  run_refused_by_room r (Text zero g) first full h = absurd (none (Text zero g) h)
-  run_refused_by_room r (Text (suc k) g) first full h = absurd (first k g (over_it k g h.0.0 h.0.1 h.0.2))
-  run_refused_by_room r (Proof label g) first full h = absurd (none (Proof label g) h)
-  run_refused_by_room r StoreFull first full h =
-      full (subst (λ (c : Contents). room < all_bodies_length c.assertions) (sym (same h.0 h.2)) h.4)
-  run_refused_by_room r _ first full h = absurd h
+  pub run_refused_by_room : {A : Type 0} (scripts : List Orders) (r : Result A Fault) (f : Fault)
+      → ((k : ℕ) (g : TextFault) → IsFirstFaultyScript p texts k g → ⊥)
+      → (room_of room db scripts < all_bodies_length db.assertions → RefusesWith StoreFull r) → IsRunFault text texts room f
+      → RefusesWith f r
+  run_refused_by_room scripts r (Text zero g) first full h = absurd (none (Text zero g) h)
+  run_refused_by_room scripts r (Text (suc k) g) first full h = absurd (first k g (over_it k g h.0.0 h.0.1 h.0.2))
+  run_refused_by_room scripts r (Proof label g) first full h = absurd (none (Proof label g) h)
+  run_refused_by_room scripts r StoreFull first full h =
+      full (subst (λ (c : Contents). room_of room c scripts < all_bodies_length c.assertions) (sym (same h.0 h.2))
+      (too_small room h.0 h.1 scripts h.4))
+  run_refused_by_room scripts r _ first full h = absurd h
 
 -- ---- jobs that come to an end
 

@@ -1,13 +1,14 @@
 -- What a job prints, and which fault it has.
 use Rattle.std.specs.Prelude.{◌≡◌, ◌≢◌, ◌<◌, ◌≤◌, ℕ, suc, List, [], ◌++◌, length, map}
 use Rattle.std.specs.Prelude.{Bool, true, IsTrue, if◌then◌else◌}
-use Rattle.std.specs.Prelude.{Result, Ok, Err}
+use Rattle.std.specs.Prelude.{Option, Some, None, Result, Ok, Err}
 use Rattle.mmtext.specs.declared.fault.FaultKind.TheVariants.{NoMemory as OutOfMemory}
 use Rattle.mmsyntax.specs.Tables.{Contents}
 use Rattle.library.specs.Library.{Listed, Verifies, opening}
 use Rattle.library.specs.declared.history.Entry.{Entry}
 use Rattle.library.specs.Histories.{told, after_front}
 use Rattle.plaincells.specs.Measures.{all_bodies_length}
+use Rattle.rooms.specs.Rooms.{room_for}
 use Rattle.transaction.specs.declared.outcome.Outcome.{Outcome}
 use Rattle.transaction.specs.Members.{Home}
 use Rattle.editing.specs.Edits.{IsEditedFrom}
@@ -28,6 +29,11 @@ use Rattle.mmsyntax.specs.declared.limits.TheConstants.{MOST_BYTES}
 
 -- ---- what is printed
 
+-- the room of a run: the one that was asked for, or just what the run can need
+abbrev pub room_of : Option ℕ → Contents → List Orders → ℕ
+room_of (Some words) contents scripts = words
+room_of None contents scripts = room_for contents scripts
+
 -- the scripts were run by so many workers over the library of a database, whose bodies the store has room for: these are their outcomes in
 -- this history, which is legal from the opening library and within the limits; the library is the one after it; and the sessions of the
 -- workers tell why they gave up what they gave up. So a full store is told only where a staging of the session that ran the script was
@@ -43,11 +49,12 @@ pub record IsWorked (contents : Contents) (workers room : ℕ) (scripts : List O
 
 -- the report of what became of all transactions, and the library after them, whose text is accepted; and, where it is asked for, the text
 -- of the history, which spells it. After each front of it, too, the library verifies
-pub record PrintsRun (contents : Contents) (workers room : ℕ) (asked : Bool) (scripts : List Orders) (out history : Bytes) : Type 0 where
+pub record PrintsRun (contents : Contents) (workers : ℕ) (room : Option ℕ) (asked : Bool) (scripts : List Orders) (out history : Bytes)
+    : Type 0 where
   pub rows : List (List Outcome)
   pub entries : List Entry
   pub library : Listed
-  pub worked : IsWorked contents workers room scripts rows entries library
+  pub worked : IsWorked contents workers (room_of room contents scripts) scripts rows entries library
   pub fronts : (k : ℕ) → Verifies (program_setting contents)
       (after_front (program_setting contents) (opening contents) (map told entries) k)
   pub prints : out ≡ report_text contents.prelude rows ++ library_lines library
@@ -57,7 +64,7 @@ pub record PrintsRun (contents : Contents) (workers room : ℕ) (asked : Bool) (
 
 -- the database is read as it is spelled, and its proofs check; the scripts are read as they are spelled; and what is printed is that of
 -- their run, whose history's text is asked for or not
-pub record IsRun (db : Bytes) (texts : List Bytes) (workers room : ℕ) (asked : Bool) (out history : Bytes) : Type 0 where
+pub record IsRun (db : Bytes) (texts : List Bytes) (workers : ℕ) (room : Option ℕ) (asked : Bool) (out history : Bytes) : Type 0 where
   pub contents : Contents
   pub checked : IsChecked db contents
   pub scripts : List Orders
@@ -83,7 +90,7 @@ abbrev pub AnswersItsOwn : Job → (Bytes → Type 0) → Type 0
 AnswersItsOwn (Check db) is_answered = (a : Accepts db.items) → length db.items ≤ MOST_BYTES → is_answered (ok_line a.database)
 AnswersItsOwn (Run db texts workers room asked) is_answered = Unit {0}
 AnswersItsOwn (Replay db history) is_answered =
-    (texts : List Bytes) (workers room : ℕ) (out : Bytes) (run : IsRun db.items texts workers room true out history.items)
+    (texts : List Bytes) (workers : ℕ) (room : Option ℕ) (out : Bytes) (run : IsRun db.items texts workers room true out history.items)
     → length history.items ≤ MOST_BYTES
     → is_answered (replayed_lines (length run.printed.entries) run.printed.library)
 
@@ -96,12 +103,12 @@ IsPrintedBy (Err f) out = f ≡ NoMemory
 
 -- the fault of a run: that of its database, or the fault of the first script that has one, the k-th at the place k; or, where all are read,
 -- that the bodies of the database's assertions have more words than the room
-abbrev pub IsRunFault : Bytes → List Bytes → ℕ → Fault → Type 0
+abbrev pub IsRunFault : Bytes → List Bytes → Option ℕ → Fault → Type 0
 IsRunFault db texts room (Text (suc k) f) =
     ((contents : Contents) × IsChecked db contents × IsFirstFaultyScript contents.prelude texts k f) × (f.kind ≢ OutOfMemory)
 IsRunFault db texts room StoreFull =
     (contents : Contents) × (scripts : List Orders) × IsChecked db contents × AreScripts contents.prelude texts scripts
-    × (room < all_bodies_length contents.assertions)
+    × (room_of room contents scripts < all_bodies_length contents.assertions)
 IsRunFault db texts room f = IsDatabaseFault db f
 
 -- why a run that has no fault may come to no end: a thread for one of two workers or more can't be had. No number is missing in its

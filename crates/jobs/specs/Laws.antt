@@ -1,5 +1,5 @@
 -- What is true of every fault of a job, and of every text that is accepted.
-use Rattle.std.specs.Prelude.{◌≡◌, ◌≤◌, ℕ, true, List, Vec, length}
+use Rattle.std.specs.Prelude.{◌≡◌, ◌≤◌, ℕ, true, List, Option, Vec, length}
 use Rattle.std.specs.declared.alloc.Global.{Global}
 use Rattle.derivation.specs.declared.fault.ProofFault.{ProofFault}
 use Rattle.jobs.specs.declared.job.Job.{Job}
@@ -25,6 +25,6 @@ AcceptedTextsHaveNoFault =
 -- bytes
 abbrev pub RunsHaveNoFaultAgain : Type 0
 RunsHaveNoFaultAgain =
-    (db history : Vec ℕ Global) (texts : List Bytes) (workers room : ℕ) (out : Bytes) (f : Fault)
+    (db history : Vec ℕ Global) (texts : List Bytes) (workers : ℕ) (room : Option ℕ) (out : Bytes) (f : Fault)
     → IsRun db.items texts workers room true out history.items
     → length history.items ≤ MOST_BYTES → IsFaultOf (Replay db history) f → ⊥

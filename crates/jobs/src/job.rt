@@ -8,12 +8,13 @@ pub enum Job {
         db: Vec<u8>,
     },
     /// Runs the scripts over the library of a database, with so many workers, 1 to 64, each of which claims the next script. The store of
-    /// the library has room for so many words, at most 16,777,216. The history's text is written where it is asked for.
+    /// the library has room for so many words, at most 16,777,216, if a room is given, and else for as many as the run can need. The
+    /// history's text is written where it is asked for.
     Run {
         db: Vec<u8>,
         scripts: Vec<Vec<u8>>,
         workers: usize,
-        room: usize,
+        room: Option<usize>,
         history: bool,
     },
     /// Does the transactions of a history again, over the library of a database, and compares their replies.

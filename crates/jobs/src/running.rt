@@ -1,6 +1,6 @@
 //! Scripts run over the library of a database by workers, and what is printed of it.
 
-ghost use Rattle.std.specs.Prelude.{◌≡◌, ℕ, ◌<◌, ◌^◌, ◌++◌, [], if◌then◌else◌, All, IfOk, IfErr, length};
+ghost use Rattle.std.specs.Prelude.{◌≡◌, ℕ, ◌<◌, ◌^◌, ◌++◌, [], if◌then◌else◌, All, IfOk, IfErr, Option, Some, length};
 ghost use Rattle.derivation.specs.Databases.{AllCheck};
 ghost use Rattle.library.specs.Fitting.{CommandFits};
 ghost use Rattle.plaincells.specs.Measures.{all_bodies_length};
@@ -9,7 +9,7 @@ ghost use Rattle.historytext.specs.Layout.{EntryFitsText, history_text};
 ghost use Rattle.transaction.specs.Closings.{lists_of};
 ghost use Rattle.checking.specs.declared.fault.Fault.TheVariants.{StoreFull};
 ghost use Rattle.checking.specs.Tasks.{IsWithin};
-ghost use Rattle.jobs.specs.Jobs.{IsWorked, PrintsRun};
+ghost use Rattle.jobs.specs.Jobs.{IsWorked, PrintsRun, room_of};
 ghost use Rattle.checking.specs.Checks.{RefusesWith, library_lines};
 ghost use Rattle.jobs.specs.Parts.{IsOpenFault, IsWorkFault, from_edit, shape_with};
 ghost use Rattle.reports.specs.Reports.{AreReportable, report_text};
@@ -23,6 +23,7 @@ use historytext::write_history;
 use library::{Entry, PlainLibrary, Script};
 use mmstatement::{Database, Prelude};
 use reports::report;
+use rooms::room_for;
 use std::alloc::{AllocError, Global};
 use std::hash::RandomState;
 use std::sync::Wait;
@@ -34,19 +35,25 @@ use transaction::{Library, OpenError, Outcome, Session, Shape};
 pub(crate) struct Plan {
     /// How many workers it has, 1 to 64.
     pub(crate) workers: usize,
-    /// For how many words its store has room, at most 16,777,216.
-    pub(crate) room: usize,
+    /// For how many words its store has room, at most 16,777,216. None: for as many as it can need.
+    pub(crate) room: Option<usize>,
     /// Whether the text of its history is asked for.
     pub(crate) history: bool,
 }
 
-/// How the library of a run lies in words.
-fn shape(plan: Plan) -> Shape
-    ensures { result ≡ shape_with plan.workers plan.room }
+/// How the library of a run lies in words: in the room that was asked for, or in one that the run can need.
+fn shape(plan: Plan, db: &Database, scripts: &[Script]) -> Shape
+    requires { IsWithin plan.workers plan.room }
+    ensures is { result ≡ shape_with plan.workers (room_of plan.room db.now scripts.now) }
+    ensures within { IsWithin plan.workers (Some result.room) }
 {
+    let room = match plan.room {
+        Some(room) => room,
+        None => room_for(db, scripts),
+    };
     Shape {
         slots: SLOTS,
-        room: plan.room,
+        room,
         sessions: plan.workers,
     }
 }
@@ -56,16 +63,17 @@ fn open(
     alloc: Global,
     keys: RandomState,
     db: &Database,
-    plan: Plan,
+    shape: Shape,
 ) -> Result<(Library, Vec<Session>), Fault>
     requires checks { AllCheck db.now }
-    requires within { IsWithin plan.workers plan.room }
-    ensures done { IfOk result (λ made. IsOpened db.now (shape_with plan.workers plan.room) made.0 made.1.items) }
-    ensures fault { IfErr result (IsOpenFault db.now plan.room) }
+    requires within { IsWithin shape.sessions (Some shape.room) }
+    requires slots { shape.slots ≡ 4096 }
+    ensures done { IfOk result (λ made. IsOpened db.now shape made.0 made.1.items) }
+    ensures fault { IfErr result (IsOpenFault db.now shape.room) }
 {
     // For the proof: a database has at most as many assertions as there are slots.
     let _assertions = db.assertions();
-    match Library::open_checked(alloc, keys, db, shape(plan)) {
+    match Library::open_checked(alloc, keys, db, shape) {
         Ok(opened) => Ok(opened),
         Err(OpenError::StoreFull) => Err(Fault::StoreFull),
         Err(OpenError::NoMemory) => Err(Fault::NoMemory),
@@ -109,11 +117,12 @@ fn edit(
     requires checks { AllCheck db.now }
     requires within { IsWithin plan.workers plan.room }
     requires fit { All (All (All (CommandFits db.now.prelude))) scripts.now }
-    ensures done { IfOk result (λ e. IsWorked db.now plan.workers plan.room scripts.now (lists_of e.outcomes.items) e.history e.library) }
-    ensures fault { IfErr result (IsWorkFault db.now plan.workers plan.room) }
-    ensures full { plan.room < all_bodies_length db.now.assertions → RefusesWith StoreFull result }
+    ensures done { IfOk result (λ e. IsWorked db.now plan.workers (room_of plan.room db.now scripts.now) scripts.now
+        (lists_of e.outcomes.items) e.history e.library) }
+    ensures fault { IfErr result (IsWorkFault db.now plan.workers (room_of plan.room db.now scripts.now)) }
+    ensures full { room_of plan.room db.now scripts.now < all_bodies_length db.now.assertions → RefusesWith StoreFull result }
 {
-    let (library, sessions) = open(alloc, keys, db, plan)?;
+    let (library, sessions) = open(alloc, keys, db, shape(plan, db, scripts))?;
     watch.begin(scripts.len(), transactions_of(scripts));
     let edited = edit_all(rt, alloc, library, sessions, scripts, watch);
     watch.end();
@@ -177,8 +186,9 @@ fn print_edited(
     requires fit { All (All (All (CommandFits db.now.prelude))) scripts.now }
     requires worked { (workers : ℕ) × (room : ℕ)
         × IsWorked db.now workers room scripts.now (lists_of edited.outcomes.items) edited.history edited.library }
-    ensures { (workers room : ℕ) →
-        IsWorked db.now workers room scripts.now (lists_of edited.outcomes.items) edited.history edited.library →
+    ensures { (workers : ℕ) (room : Option ℕ) →
+        IsWorked db.now workers (room_of room db.now scripts.now) scripts.now
+        (lists_of edited.outcomes.items) edited.history edited.library →
         IfOk result (λ p. PrintsRun db.now workers room asked scripts.now p.out.items p.history.items) }
 {
     // For the proof: some text declares the database; the library verifies, and is in export order; and there are no more entries than a
@@ -213,8 +223,8 @@ pub(crate) fn print_run(
     requires within { IsWithin plan.workers plan.room }
     requires fit { All (All (All (CommandFits db.now.prelude))) scripts.now }
     ensures done { IfOk result (λ p. PrintsRun db.now plan.workers plan.room plan.history scripts.now p.out.items p.history.items) }
-    ensures fault { IfErr result (IsWorkFault db.now plan.workers plan.room) }
-    ensures full { plan.room < all_bodies_length db.now.assertions → RefusesWith StoreFull result }
+    ensures fault { IfErr result (IsWorkFault db.now plan.workers (room_of plan.room db.now scripts.now)) }
+    ensures full { room_of plan.room db.now scripts.now < all_bodies_length db.now.assertions → RefusesWith StoreFull result }
 {
     let edited = edit(rt, alloc, keys, db, scripts, plan, watch)?;
     Ok(print_edited(alloc, db, scripts, edited, plan.history)?)

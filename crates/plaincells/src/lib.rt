@@ -4,5 +4,5 @@
 mod opening;
 mod plain;
 
-pub use opening::OpenError;
+pub use opening::{OpenError, room_behind};
 pub use plain::PlainCells;

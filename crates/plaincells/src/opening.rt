@@ -161,8 +161,9 @@ fn fit_into(assertions: &[Assertion], room: usize) -> bool
     true
 }
 
-/// What is left of the room behind the bodies of an assertion; none where they don't fit.
-fn room_behind(assertion: &Assertion, room: usize) -> Option<usize>
+/// How many words are left of a room behind the bodies of an assertion: its label, its statement, and a word for each step of its proof.
+/// None where they don't fit.
+pub fn room_behind(assertion: &Assertion, room: usize) -> Option<usize>
     ensures { IsLeft room (body_length assertion.now) result }
 {
     let left = room

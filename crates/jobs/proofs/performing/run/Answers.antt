@@ -44,10 +44,11 @@ returns-clause-fault g c =
     let texts = map (λ t. t.items) c.args.scripts.now in
     let ordered = subst (λ t. AreScripts t texts scripts) c.prelude.ensures c.in_ok-scripts.ensures.ok in
     run_faulted c.args.db.now texts c.args.plan.workers c.args.plan.room db scripts c.in_ok-db.ensures.done ordered c.print_run.result
-    c.print_run.ensures.fault
+    (rw c.as_slice.ensures.value at c.print_run.ensures.fault)
 
 pub returns-clause-refused : goal.returns-clause-refused
 returns-clause-refused g c f =
     run_refused_by_room c.args.db.now _ c.args.plan.room c.in_ok-db.db _ c.prelude.ensures c.in_ok-db.ensures.refused
     c.in_ok-db.ensures.only
-    c.print_run.result f c.in_ok-scripts.ensures.refused c.print_run.ensures.full
+    c.in_ok-scripts.scripts.items c.print_run.result f c.in_ok-scripts.ensures.refused
+    (rw c.as_slice.ensures.value at c.print_run.ensures.full)
