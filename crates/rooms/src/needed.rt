@@ -74,8 +74,8 @@ fn behind_scripts(scripts: &[Script], longest: usize, room: usize) -> usize
 }
 
 /// For how many words a store has to have room at most, where these scripts are run over the database: the words of the bodies of its
-/// assertions, and twice those that the commands of the scripts stage, each once: a try that meets a conflict may stage other words the
-/// next time. But at most 16,777,216, as no store has more.
+/// assertions, and twice those that the commands of the scripts stage: a try that meets a conflict may stage other words the next
+/// time. But at most 16,777,216, as no store has more.
 ///
 /// A command that adds a theorem takes the words of its label, its statement and its proof; one that gives a theorem another proof or
 /// another label those of that; one that replaces citations in a proof as many as the longest proof of the database and of the scripts has
