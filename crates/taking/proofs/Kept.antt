@@ -1,19 +1,19 @@
 -- What the code keeps of nodes: one more node leaves the others as they are.
-use Rattle.std.proofs.Common.{◌≡◌, ◌≤◌, ℕ, suc, ◌+◌, ◌-◌, List, [], ◌∷◌, ◌++◌, length, map, take, drop, refl, sym, ap, ◌∙◌, subst}
-use Rattle.std.proofs.Common.{arith, inl, inr}
+use Rattle.std.proofs.Common.{◌≡◌, ◌<◌, ◌≤◌, ℕ, suc, ◌+◌, ◌-◌, List, [], ◌∷◌, ◌++◌, length, map, take, drop, refl, sym, ap, ◌∙◌, subst}
+use Rattle.std.proofs.Common.{arith, get_or, inl, inr}
 use Rattle.std.specs.Prelude.{Some, slice_get, slice_range, filter_map, min}
 use Rattle.std.specs.Option.{option_map}
 use Rattle.std.specs.List.{AllByRecursion, cons_option}
-use Rattle.std.proofs.lemmas.List.{map-append, length-append, length-drop, drop-append-le, take-append-le}
+use Rattle.std.proofs.lemmas.List.{map-append, length-append, length-map, length-drop, drop-append-le, take-append-le}
 use Rattle.std.proofs.Math.Seq.{drop-append_seam}
 use Rattle.std.proofs.lemmas.Bool.{cases_lt}
 use Rattle.std.proofs.lemmas.List.Elements.{filter_map-append}
 use Rattle.std.proofs.lemmas.List.{take_all, length_push}
 use Rattle.std.proofs.lemmas.List.Elements.{All-from_recursion, recursion_from_All}
-use Rattle.std.proofs.lemmas.Option.{slice_get-map, slice_get_within}
+use Rattle.std.proofs.lemmas.Option.{slice_get-map, slice_get_read, slice_get_within}
 use Rattle.source.specs.Proofs.{total}
 use Rattle.taking.specs.declared.nodes.Node.{Node}
-use Rattle.taking.specs.Nodes.{AreBelow, values, sizes, counted}
+use Rattle.taking.specs.Nodes.{AreBelow, Shared, values, sizes, counted}
 use Rattle.taking.specs.Views.{seen_node, seen_nodes, AreSound, size_over}
 use Rattle.mmsyntax.proofs.Distinct.{all_append}
 use Rattle.taking.proofs.Values.{mapped, get_front, get_last, values_more}
@@ -27,6 +27,13 @@ sound_none = record {
   below = λ k n is. absurd cc;
   sizes_are = refl;
 }
+
+-- the node that is read at a place of those that are seen
+pub node_at : (args : List ℕ) (ns : List Node) (seen : List Shared) (k : ℕ) (x : Node) → seen_nodes args ns ≡ seen → k < length seen
+    → x ≡ get_or ns k x → slice_get ns k ≡ Some x
+node_at args ns seen k x same within is =
+    let long : length ns ≡ length seen = sym (length-map ns (seen_node args)) ∙ ap length same in
+    slice_get_read ns (length ns) k x refl (subst (λ n. k < n) (sym long) within) is
 
 -- the size that is kept
 pub size_kept : (ns : List Node) (ss : List ℕ) (k : ℕ) (x : Node) → map (λ n. n.size) ns ≡ map counted ss → slice_get ns k ≡ Some x

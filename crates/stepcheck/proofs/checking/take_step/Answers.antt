@@ -1,8 +1,17 @@
-use Rattle.std.proofs.Common.{None, Some}
+use Rattle.std.proofs.Common.{None, Some, ◌≡◌, ◌∙◌, ◌++◌, ◌∷◌, [], Bor, List, length, ℕ, ap, refl, subst, sym}
 use Rattle.std.proofs.lemmas.Result.{on_ok_weaker, IfErr-weaker}
+use Rattle.std.proofs.lemmas.Bool.{ltb-true}
+use Rattle.std.proofs.lemmas.Option.{slice_get_read}
+use Rattle.std.specs.Prelude.{slice_get}
+use Rattle.std.specs.Slice.{IsItemAt}
 use Rattle.stepcheck.proofs.FewPlaces.{places_are_small}
 use Rattle.stepcheck.proofs.LookedUp.{looked_up, cite_fails}
 use Rattle.stepcheck.proofs.checking.take_step.Goals as goal
+
+item_at : {X : Type 0} (xs ys : List X) (i : ℕ) (x : Bor X) → xs ≡ ys → IsItemAt xs i (Some x) → slice_get ys i ≡ Some x.now
+item_at {X} xs ys i x same at =
+    subst (λ (zs : List X). slice_get zs i ≡ Some x.now) same
+    (slice_get_read xs (length xs) i x.now refl (ltb-true i (length xs) (sym at.0)) at.1)
 
 pub new-requires : goal.new-requires
 new-requires c =
@@ -33,3 +42,19 @@ returns-in-Some-frames-clause-err c =
     let is = looked_up lib labels c.args.frames.now c.in-Cite.n _ (Some c.in-Some-frames.frame) same within c.in-Some-frames.is in
     rw c.in-Cite.is (cite_fails lib c.args.prelude.now c.args.thesis.now c.args.stack.now _ c.in-Some-frames.frame.now kind is (fails n)))
     c.cite.ensures.err
+
+pub returns-in_ok-lend-in-Some-get-clause-ok : goal.returns-in_ok-lend-in-Some-get-clause-ok
+returns-in_ok-lend-in-Some-get-clause-ok c = λ lib labels same.
+    rw c.in-Hyp.is (
+      c.in-Some-get.hyp.now,
+      item_at _ _ _ c.in-Some-get.hyp (c.as_slice.ensures ∙ ap (λ a. a.hyps) c.assertion.ensures) c.in-Some-get.ensures.lookup,
+      c.in_ok-lend-in-Some-get.ensures ∙ ap (λ e. c.args.stack.now ++ e ∷ []) c.as_slice-in-Some-get.ensures,
+    )
+
+pub returns-in_ok-push_two-in-Some-clause-ok : goal.returns-in_ok-push_two-in-Some-clause-ok
+returns-in_ok-push_two-in-Some-clause-ok c = λ lib labels same.
+    rw c.in-Float.is (
+      c.new.result ∷ c.new-in-Some.result ∷ [],
+      (c.in-Some.float.now, item_at _ _ _ c.in-Some.float c.floats.ensures.value c.in-Some.ensures.lookup, cc),
+      c.in_ok-push_two-in-Some.ensures,
+    )

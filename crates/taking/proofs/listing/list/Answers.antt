@@ -1,5 +1,5 @@
 -- What is left to show of `list`.
-use Rattle.std.proofs.Common.{rules, ◌≡◌, ◌<◌, ◌∙◌, ◌++◌, ◌∷◌, [], sym, ap, subst, List, ℕ, Bor, reverse}
+use Rattle.std.proofs.Common.{rules, length, ◌≡◌, ◌<◌, ◌∙◌, ◌++◌, ◌∷◌, [], sym, ap, subst, List, ℕ, Bor, reverse}
 use Rattle.std.proofs.lemmas.List.{map_push}
 use Rattle.std.specs.Prelude.{Some}
 use Rattle.mmsyntax.specs.declared.statement.Step.{Step}
@@ -34,6 +34,13 @@ pub bounds-named-number : goal.bounds-named-number
 bounds-named-number c =
     named_within c.args.named.now c.args.nodes.now c.in-Some.place c.named-number.result c.arguments-arguments.result.now c.requires.whole
     c.named-number.ensures c.arguments-arguments.ensures.value
+
+pub offset_bounds-named-number : goal.offset_bounds-named-number
+offset_bounds-named-number c =
+    let within : c.named-number.result < length c.args.named.now =
+    named_within c.args.named.now c.args.nodes.now c.in-Some.place c.named-number.result c.arguments-arguments.result.now
+    c.requires.whole c.named-number.ensures c.arguments-arguments.ensures.value in
+    search rules
 
 pub loop-place-smaller : goal.loop-place-smaller
 loop-place-smaller c =

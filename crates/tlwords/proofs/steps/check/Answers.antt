@@ -1,5 +1,7 @@
-use Rattle.std.proofs.Common.{rules, arith}
+use Rattle.std.proofs.Common.{rules, arith, subst}
+use Rattle.tlwords.specs.Plays.{Checks}
 use Rattle.tlwords.proofs.CommitSteps.{checks}
+use Rattle.tlwords.proofs.ReadSteps.{lock_back}
 use Rattle.tlwords.proofs.steps.check.Goals as goal
 
 pub load-requires : goal.load-requires
@@ -10,3 +12,7 @@ load-requires g c = (
       omega arith) c.requires.place.2 c.requires.place.3 c.requires.place.4
       c.requires.read.0 c.requires.read.1,
 )
+
+pub returns-clause-told : goal.returns-clause-told
+returns-clause-told g c =
+    subst (λ k. Checks g.L.Law.terms k c.args.seat.now.me c.load.result c.load.new.seat.me) (lock_back c.args.cell) c.load.ensures.2.0

@@ -1,5 +1,8 @@
-use Rattle.std.proofs.Common.{◌≡◌, List, [], ◌∷◌, ◌++◌, Vec, length, length-append, sym, ap, subst, ◌∙◌, arith}
+use Rattle.std.proofs.Common.{List, [], ◌∷◌, ◌++◌, Vec, length, length-append, sym, ap, subst, ◌∙◌, arith}
 use Rattle.std.specs.declared.alloc.Global.{Global}
+use Rattle.std.proofs.lemmas.Iterator.Adapters.{YieldsList-from_vec}
+use Rattle.std.proofs.lemmas.Iterator.Consumers.{YieldsList-turn, YieldsList-end}
+use Rattle.std.proofs.lemmas.List.{map-id}
 use Rattle.lending.specs.Lent.{Pass}
 use Rattle.transaction.specs.declared.outcome.Record.{Record}
 use Rattle.transaction.specs.Closings.{AreTaken}
@@ -30,3 +33,30 @@ loop-session-preserved c =
       omega (arith, c.push_reserved.ensures.capacity, was.3),
       omega (arith, c.push_reserved-in-loop-session.ensures.capacity, was.4),
     )
+
+pub push_reserved-requires : goal.push_reserved-requires
+push_reserved-requires c =
+    let l = c.loop-session in
+    let given = c.into_iter-session-iterator.ensures.into_iter_gives in
+    let all = YieldsList-from_vec c.args.sessions.items given.0 (given.1 ∙ c.args.sessions.ok.0) in
+    let turn = YieldsList-turn all l.yielded l.session-iterator l.yielded_by
+    c.next.result c.next.new.self c.in-Some.session c.in-Some.is c.next.ensures.steps in
+    omega (arith, turn.0, l.invariant.1, l.invariant.3, l.passes.ok.0)
+
+pub push_reserved-requires-in-loop-session : goal.push_reserved-requires-in-loop-session
+push_reserved-requires-in-loop-session c =
+    let l = c.loop-session in
+    let given = c.into_iter-session-iterator.ensures.into_iter_gives in
+    let all = YieldsList-from_vec c.args.sessions.items given.0 (given.1 ∙ c.args.sessions.ok.0) in
+    let turn = YieldsList-turn all l.yielded l.session-iterator l.yielded_by
+    c.next.result c.next.new.self c.in-Some.session c.in-Some.is c.next.ensures.steps in
+    omega (arith, turn.0, l.invariant.2, l.invariant.4, l.records.ok.0)
+
+pub returns : goal.returns
+returns c =
+    let l = c.loop-session in
+    let given = c.into_iter-session-iterator.ensures.into_iter_gives in
+    let all = YieldsList-from_vec c.args.sessions.items given.0 (given.1 ∙ c.args.sessions.ok.0) in
+    let end = YieldsList-end all l.yielded l.session-iterator l.yielded_by
+    c.next.result c.next.new.self c.in-None.is c.next.ensures.steps in
+    subst (λ ms. AreTaken ms l.passes.items l.records.items) (sym (map-id l.yielded) ∙ end.0) l.invariant.0
