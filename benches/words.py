@@ -1,11 +1,11 @@
 #!/usr/bin/env python3
 """Times transactions over shared words, side by side with the engines of a C++ transactional memory.
 
-    words.py --yardstick DIR [--out DIR] [--rounds 5] [--cells 28672] [--transactions 300000] [--threads 1,2,4] [--engines tl2,mutex,gnu]
-             [PATTERN..]
+    words.py --yardstick DIR [--program PATH] [--out DIR] [--rounds 5] [--cells 28672] [--transactions 300000] [--threads 1,2,4]
+             [--engines tl2,mutex,gnu] [PATTERN..]
 
-It builds ../crates/workbench, and DIR/yard_stm.cpp, whose engines are `tl2` (a hand-written Transactional Locking II), `mutex` (one lock) and
-`gnu` (GCC's transactional memory). In each program each thread commits so many transactions, of the same cells in the same order: a
+It builds ../crates/workbench, unless --program names one that is built, and DIR/yard_stm.cpp, whose engines are `tl2` (a hand-written
+Transactional Locking II), `mutex` (one lock) and `gnu` (GCC's transactional memory). In each program each thread commits so many transactions, of the same cells in the same order: a
 transaction reads four cells and adds one to two of them, and in the pattern `read` it reads a hundred and writes none. In `disjoint` each
 thread has its own part of the cells, and `hot` is over eight cells.
 
@@ -40,6 +40,8 @@ def build(options):
     yardstick = options.out / "yard_stm"
     source = options.yardstick / "yard_stm.cpp"
     subprocess.run(["g++", "-std=c++20", "-O2", "-fgnu-tm", "-pthread", "-o", str(yardstick), str(source)], check=True)
+    if options.program:
+        return options.program, yardstick
     # A short run: the command that builds the program also runs it.
     subprocess.run(["rt", "run", "--", "words", "hot", "8", "1", "2"], cwd=CRATE, stdout=subprocess.DEVNULL, check=True)
     return CRATE / "out" / "workbench", yardstick
@@ -135,6 +137,7 @@ def options_given():
     parser = argparse.ArgumentParser(description=__doc__, formatter_class=argparse.RawDescriptionHelpFormatter)
     parser.add_argument("patterns", nargs="*", metavar="PATTERN", help=", ".join(PATTERNS))
     parser.add_argument("--yardstick", type=pathlib.Path, required=True, help="the folder of yard_stm.cpp")
+    parser.add_argument("--program", type=pathlib.Path, help="the built workbench; else it is built")
     parser.add_argument("--out", type=pathlib.Path, default=pathlib.Path("/tmp/words-bench"))
     parser.add_argument("--rounds", type=int, default=5)
     parser.add_argument("--cells", type=int, default=28672)
