@@ -145,8 +145,11 @@ module _ {O : Type 0} (s t u : Sight O) (cs : List Command) (replies : List Repl
       record {
         next = d.0;
         applied = d.1;
-        views = record { matches = before; shows = d.2;
-            verifies = subst (λ (x : Setting). Verifies x d.0) (sym (setting_kept since)) verifies };
+        views = record {
+          matches = before;
+          shows = d.2;
+          verifies = subst (λ (x : Setting). Verifies x d.0) (sym (setting_kept since)) verifies;
+        };
       }
 
   pub does_more : (c : Command) (reply : Reply) → Does t u c reply → DoesAll s u (cs ++ c ∷ []) (replies ++ reply ∷ [])
