@@ -82,7 +82,7 @@ module _ {O : Type 0} (k : Setting) (st : State) (last : Sight O) (matches : Mat
         (all_front (CommandFits k.prelude) before (one ∷ behind) (subst (λ (l : List Command). All (CommandFits k.prelude) l) all fit))
 
     slots_then : (mid : Sight O) (before : List Command) → PassesAll first before mid → mid.setting ≡ k
-    slots_then mid before passes = (passes_onward first mid before passes).setting ∙ is
+    slots_then mid before passes = setting_kept (passes_onward first mid before passes) ∙ is
 
     -- a cell that was read for one of the commands
     pub may_read : (cell : ℕ) → IsReadByOne first last cs cell → MayRead k st lib cs cell
