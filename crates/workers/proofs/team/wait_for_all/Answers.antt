@@ -1,6 +1,8 @@
-use Rattle.std.proofs.Common.{◌≡◌, List, [], ◌∷◌, ◌++◌, length-append, length, map, ap, sym, subst, arith}
+use Rattle.std.proofs.Common.{◌≡◌, List, [], ◌∷◌, ◌++◌, length-append, length, map, ap, sym, subst, ◌∙◌, arith}
 use Rattle.std.specs.List.{AllZip}
-use Rattle.std.proofs.lemmas.List.{map-append}
+use Rattle.std.proofs.lemmas.Iterator.Adapters.{YieldsList-from_vec}
+use Rattle.std.proofs.lemmas.Iterator.Consumers.{YieldsList-turn, YieldsList-end}
+use Rattle.std.proofs.lemmas.List.{map-append, map-id}
 use Rattle.std.proofs.lemmas.Slice.Zip.{all_zipped_more}
 use Rattle.workers.specs.declared.shift.Shift.{Shift}
 use Rattle.workers.specs.declared.team.ShiftOf.{ShiftOf}
@@ -36,3 +38,21 @@ loop-handle-init g c =
     let wide = c.in_ok-shifts.ensures.capacity in
     let long = c.len.ensures in
     (rw none tt, ap length none, omega (arith, wide, long))
+
+pub push_reserved-requires : goal.push_reserved-requires
+push_reserved-requires g c =
+    let l = c.loop-handle in
+    let given = c.into_iter-handle-iterator.ensures.into_iter_gives in
+    let all = YieldsList-from_vec c.args.handles.items given.0 (given.1 ∙ c.args.handles.ok.0) in
+    let turn = YieldsList-turn all l.yielded l.handle-iterator l.yielded_by
+    c.next.result c.next.new.self c.in-Some.handle c.in-Some.is c.next.ensures.steps in
+    omega (arith, turn.0, l.invariant.1, l.invariant.2, l.shifts.ok.0)
+
+pub returns : goal.returns
+returns g c =
+    let l = c.loop-handle in
+    let given = c.into_iter-handle-iterator.ensures.into_iter_gives in
+    let all = YieldsList-from_vec c.args.handles.items given.0 (given.1 ∙ c.args.handles.ok.0) in
+    let end = YieldsList-end all l.yielded l.handle-iterator l.yielded_by
+    c.next.result c.next.new.self c.in-None.is c.next.ensures.steps in
+    subst (λ hs. AllZip IsKept (map (λ h. h.promise) hs) l.shifts.items) (sym (map-id l.yielded) ∙ end.0) l.invariant.0
