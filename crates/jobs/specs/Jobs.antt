@@ -29,7 +29,7 @@ use Rattle.mmsyntax.specs.declared.limits.TheConstants.{MOST_BYTES}
 
 -- ---- what is printed
 
--- the room of a run: the one that was asked for, or just what the run can need
+-- the room of a run: the one that was asked for, or what the run can need
 abbrev pub room_of : Option ℕ → Contents → List Orders → ℕ
 room_of (Some words) contents scripts = words
 room_of None contents scripts = room_for contents scripts

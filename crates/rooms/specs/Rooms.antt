@@ -1,4 +1,4 @@
--- What room a run can need: the words of its database's bodies, and twice those that the commands of its scripts stage at most, each once.
+-- What room a run can need: the words of its database's bodies, twice those that the commands of its scripts stage at most, and some to spare.
 use Rattle.std.specs.Prelude.{ℕ, ◌+◌, ◌*◌, List, [], ◌∷◌, length, max, min, sum_by}
 use Rattle.mmsyntax.specs.declared.statement.Assertion.{Assertion}
 use Rattle.mmsyntax.specs.Tables.{Contents}
@@ -33,7 +33,11 @@ longest_proof db scripts =
 abbrev pub staged_words : ℕ → List (List (List Command)) → ℕ
 staged_words longest scripts = sum_by (sum_by (sum_by (command_words (λ label. longest)))) scripts
 
--- the room of a run that isn't given one: what is staged counts twice, for tries that meet a conflict and stage other words then; a store
--- has at most 2^24 words
+-- how many words are left to spare
+abbrev pub spare_words : ℕ
+spare_words = 65536
+
+-- the room of a run that isn't given one: what is staged counts twice, and there are words to spare, for tries that meet a conflict and stage
+-- other words then; a store has at most 2^24 words
 abbrev pub room_for : Contents → List (List (List Command)) → ℕ
-room_for db scripts = min most_words (all_bodies_length db.assertions + 2 * staged_words (longest_proof db scripts) scripts)
+room_for db scripts = min most_words (all_bodies_length db.assertions + 2 * staged_words (longest_proof db scripts) scripts + spare_words)

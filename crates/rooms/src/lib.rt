@@ -1,7 +1,7 @@
 //! The room of a run: for how many words of labels, statements and proofs a store has to have room, so that the scripts of the run can be
 //! run over a database.
 //!
-//! A store is given the room that was asked for, or just what the run can need:
+//! A store is given the room that was asked for, or what the run can need:
 //!
 //! ```
 //! fn shape(asked: Option<usize>, db: &Database, scripts: &[Script]) -> Shape {

@@ -14,6 +14,9 @@ use plaincells::room_behind;
 /// The most words that a store has room for.
 const MOST_ROOM: usize = 16_777_216;
 
+/// How many words are left to spare.
+const SPARE: usize = 65_536;
+
 /// What is left of a room behind the bodies of assertions, 0 where they don't fit.
 fn behind_assertions(assertions: &[Assertion], room: usize) -> usize
     ensures { result ≡ room - all_bodies_length assertions.now }
@@ -74,8 +77,8 @@ fn behind_scripts(scripts: &[Script], longest: usize, room: usize) -> usize
 }
 
 /// For how many words a store has to have room at most, where these scripts are run over the database: the words of the bodies of its
-/// assertions, and twice those that the commands of the scripts stage: a try that meets a conflict may stage other words the next
-/// time. But at most 16,777,216, as no store has more.
+/// assertions, twice those that the commands of the scripts stage, and 65,536 to spare: a try that meets a conflict may stage other words
+/// the next time. But at most 16,777,216, as no store has more.
 ///
 /// A command that adds a theorem takes the words of its label, its statement and its proof; one that gives a theorem another proof or
 /// another label those of that; one that replaces citations in a proof as many as the longest proof of the database and of the scripts has
@@ -87,7 +90,7 @@ pub fn room_for(db: &Database, scripts: &[Script]) -> usize
     ensures fits { all_bodies_length db.now.assertions ≤ most_words → all_bodies_length db.now.assertions ≤ result }
 {
     let longest = longest_in(db, scripts);
-    let left = behind_assertions(db.assertions(), MOST_ROOM);
+    let left = behind_assertions(db.assertions(), MOST_ROOM - SPARE);
     let once = behind_scripts(scripts, longest, left);
     MOST_ROOM - behind_scripts(scripts, longest, once)
 }
