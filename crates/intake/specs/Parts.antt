@@ -52,10 +52,10 @@ pub record IsChoiceByFlags (s : Scope) (w : Wish) (flags : List Bool) : Type 0 w
   pub flags_are : map (λ x. is_in choice.chosen x.label) s.assertions ≡ flags
 
 -- sites have as many names, and few $f
-pub record AreAsMany (t : Sited) (names : LibraryNames) : Type 0 where
-  pub constants : length names.constants ≡ length t.constants
-  pub variables : length names.variables ≡ length t.variables
-  pub floats : length names.floats ≡ length t.floats
-  pub labels : length names.labels ≡ length t.labels
-  pub types : AreTyped t
-  pub few : length t.floats ≤ MOST_DECLARED
+pub record AreAsMany (sites : Sited) (names : LibraryNames) : Type 0 where
+  pub constants : length names.constants ≡ length sites.constants
+  pub variables : length names.variables ≡ length sites.variables
+  pub floats : length names.floats ≡ length sites.floats
+  pub labels : length names.labels ≡ length sites.labels
+  pub types : AreTyped sites
+  pub few : length sites.floats ≤ MOST_DECLARED
