@@ -21,13 +21,13 @@ keep-requires c =
 pub invariant_of-self : goal.invariant_of-self
 invariant_of-self c =
     record {
-      same = c.keep.ensures.same.3 ∙ ap (λ (s : Setting). s.prelude) setting_kept c.run.ensures.onward ∙ c.args.self.now.same;
+      same = c.keep.ensures.same.3 ∙ ap (λ (s : Setting). s.prelude) (setting_kept c.run.ensures.onward) ∙ c.args.self.now.same;
       shown = begun_shows c.keep.new.self c.keep.ensures.log;
     }
 
 pub invariant_of-self-in-Err : goal.invariant_of-self-in-Err
 invariant_of-self-in-Err c =
     record {
-      same = c.undo.ensures.same.2 ∙ ap (λ (s : Setting). s.prelude) setting_kept c.run.ensures.onward ∙ c.args.self.now.same;
+      same = c.undo.ensures.same.2 ∙ ap (λ (s : Setting). s.prelude) (setting_kept c.run.ensures.onward) ∙ c.args.self.now.same;
       shown = begun_shows c.undo.new.self c.undo.ensures.log;
     }
