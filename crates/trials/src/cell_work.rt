@@ -21,29 +21,31 @@ use std::alloc::Global;
 use std::hash::RandomState;
 use std::thread::Threads;
 
-/// Reads each of the first assertions in plain cells back.
-fn read_back(alloc: Global, cells: &mut PlainCells, count: usize) -> Option<()> {
-    for slot in 0..count {
+/// Reads the assertions in the first so many slots of plain cells back.
+fn read_back(alloc: Global, cells: &mut PlainCells, slots: usize) -> Option<()> {
+    for slot in 0..slots {
         if slot >= cells.slots() {
             return None;
         }
-        let Ok(Some(label)) = label(alloc, cells, slot) else {
+        let Ok(found) = label(alloc, cells, slot) else {
             return None;
         };
-        if entry(alloc, cells, slot, label).is_err() {
-            return None;
+        if let Some(label) = found {
+            if entry(alloc, cells, slot, label).is_err() {
+                return None;
+            }
         }
         cells.undo();
     }
     Some(())
 }
 
-/// Opens a database in plain cells, and reads each of its first assertions back.
-fn open(alloc: Global, db: &Database, count: usize) -> Option<()>
+/// Opens a database in plain cells, and reads the assertions in the first so many slots back.
+fn open(alloc: Global, db: &Database, slots: usize) -> Option<()>
     requires { AllCheck db.now }
 {
     let mut cells = PlainCells::open(alloc, db, SLOTS, ROOM).ok()?;
-    read_back(alloc, &mut cells, count)
+    read_back(alloc, &mut cells, slots)
 }
 
 /// How a transaction by the editor ends.
@@ -99,7 +101,7 @@ fn read(rt: &(impl AllocGlobal + Print), db: &Database, task: &str) -> Option<En
     let done = match task {
         "check" => Some(()),
         "open" => open(rt.alloc(), db, 0),
-        "back" => open(rt.alloc(), db, count),
+        "back" => open(rt.alloc(), db, SLOTS),
         _ => return Some(Ending::Misused),
     };
     match done {
