@@ -1,4 +1,5 @@
--- What room a run can need: the words of its database's bodies, twice those that the commands of its scripts stage at most, and some to spare.
+-- What room a run can need: the words of the bodies of its database, twice those that the commands of its scripts stage at most, and some
+-- to spare.
 use Rattle.std.specs.Prelude.{ℕ, ◌+◌, ◌*◌, List, [], ◌∷◌, length, max, min, sum_by}
 use Rattle.mmsyntax.specs.declared.statement.Assertion.{Assertion}
 use Rattle.mmsyntax.specs.Tables.{Contents}
@@ -37,7 +38,10 @@ staged_words longest scripts = sum_by (sum_by (sum_by (command_words (λ label. 
 abbrev pub spare_words : ℕ
 spare_words = 65536
 
--- the room of a run that isn't given one: what is staged counts twice, and there are words to spare, for tries that meet a conflict and stage
--- other words then; a store has at most 2^24 words
+-- what is staged counts twice, and there are words to spare, for tries that meet a conflict and stage other words then
+abbrev pub needed_words : Contents → List (List (List Command)) → ℕ
+needed_words db scripts = all_bodies_length db.assertions + 2 * staged_words (longest_proof db scripts) scripts + spare_words
+
+-- the room of a run that isn't given one; a store has at most 2^24 words
 abbrev pub room_for : Contents → List (List (List Command)) → ℕ
-room_for db scripts = min most_words (all_bodies_length db.assertions + 2 * staged_words (longest_proof db scripts) scripts + spare_words)
+room_for db scripts = min most_words (needed_words db scripts)
