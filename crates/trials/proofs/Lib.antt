@@ -1,2 +1,1 @@
 mod Dealt
-mod Plain

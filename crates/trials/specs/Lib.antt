@@ -1,2 +1,1 @@
-pub mod InCells
 pub mod Opened

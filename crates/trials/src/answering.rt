@@ -22,13 +22,13 @@ ghost use Rattle.transaction.specs.Members.{IsSessionOf};
 ghost use Rattle.trials.specs.Opened.{IsOpen};
 
 use crate::ending::end;
-use crate::opening::{Opened, open, unread};
+use crate::opening::{Opened, open};
 use crate::outcomes::put_outcome;
-use crate::random::compare;
 use crate::seats::{learn, place_of};
-use crate::written::Written;
 use export::put_library;
 use library::Transaction;
+use plaintrials::{compare, unread};
+use rows::Written;
 use scripts::read_script;
 use std::alloc::Global;
 use std::hash::RandomState;

@@ -9,12 +9,12 @@ ghost use Rattle.trials.specs.Opened.{IsOpen};
 
 use crate::opening::Opened;
 use crate::seats::{leave_others, named};
-use crate::written::Written;
 use export::put_library;
 use finishing::{FinishError, finish};
 use history::{ReplayError, replay};
 use library::{Entry, PlainLibrary};
 use mmsyntax::Database;
+use rows::Written;
 use std::alloc::Global;
 use std::hash::RandomState;
 use tlwords::ClosedCell;

@@ -11,31 +11,20 @@ mod answering;
 mod ending;
 mod opening;
 mod outcomes;
-mod random;
 mod seats;
 
-// for both: a library in plain cells, and what is written
-mod in_cells;
-mod written;
-
 // measurements
-mod cell_work;
-mod check_work;
-mod files;
 mod measuring;
 mod meet_work;
-mod mutex_work;
 mod session_work;
-mod times;
-mod word_work;
 
 ghost use Rattle.std.specs.Prelude.{IfSome};
 ghost use Rattle.trials.specs.Opened.{IsOpen};
 
 use crate::answering::answer_line;
-pub use crate::measuring::{Ending, measure};
+pub use crate::measuring::measure;
 use crate::opening::Opened;
-use crate::written::Written;
+use rows::Written;
 use std::alloc::{AllocError, Global};
 use std::hash::RandomState;
 use std::thread::Threads;

@@ -8,11 +8,10 @@ ghost use Rattle.library.specs.Fitting.{CommandFits};
 ghost use Rattle.lawful.specs.Lawful.{setting_given};
 ghost use Rattle.transaction.specs.Members.{IsSessionOf};
 
-use crate::files::{ROOM, SLOTS};
-use crate::measuring::Ending;
-use crate::written::Written;
 use library::{Script, Transaction};
 use mmstatement::Database;
+use plaintrials::{Ending, ROOM, SLOTS};
+use rows::Written;
 use std::alloc::Global;
 use std::hash::RandomState;
 use std::sync::Wait;

@@ -4,10 +4,10 @@ ghost use Rattle.std.specs.Prelude.{IfSome};
 ghost use Rattle.trials.specs.Opened.{IsOpen};
 
 use crate::outcomes::put_unopened;
-use crate::written::Written;
 use mmreader::read_database;
 use mmsyntax::Database;
-use mmtext::{FaultKind, TextFault};
+use plaintrials::unread;
+use rows::Written;
 use std::alloc::Global;
 use std::hash::RandomState;
 use std::mem;
@@ -20,14 +20,6 @@ pub struct Opened {
     pub database: Database,
     pub library: Library,
     pub sessions: Vec<Session>,
-}
-
-/// False: what has this fault can't be read, if it isn't want of memory.
-pub fn unread(out: &mut Written, fault: TextFault) -> bool {
-    if let FaultKind::NoMemory = fault.kind {
-        out.is_short = true;
-    }
-    false
 }
 
 /// The shape that three words say: the slots, the room and the sessions.

@@ -3,7 +3,7 @@
 ghost use Rattle.std.specs.Prelude.{◌≡◌, ◌+◌, ◌<◌, ◌≤◌, length, All};
 ghost use Rattle.transaction.specs.Members.{IsSessionOf};
 
-use crate::written::Written;
+use rows::Written;
 use transaction::{Library, Session};
 
 /// The most sessions that a library has.

@@ -31,6 +31,5 @@ mod line;
 mod print;
 mod running;
 mod seat;
-mod written;
 
 pub use crate::block::answer_table;

@@ -1,6 +1,6 @@
 //! How lines are read.
 
-use crate::written::Written;
+use rows::Written;
 use tlwords::Mode;
 
 /// What a line asks of a pass.

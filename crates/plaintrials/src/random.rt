@@ -5,9 +5,7 @@
 //! commands are drawn, over few labels, ranks and steps, so that each test of each command passes often and fails often.
 
 use crate::in_cells::{InCells, apply};
-use crate::opening::unread;
-use crate::outcomes::{put_refusal, put_replies};
-use crate::written::Written;
+use crate::replies::{put_refusal, put_replies, unread};
 use commands::RunError;
 use history::{ApplyError, Editor};
 use library::{Command, Transaction};
@@ -16,6 +14,7 @@ use mmsyntax::Database;
 use proofcheck::check_all;
 use rand_core::Rng;
 use rand_pcg::Pcg32;
+use rows::Written;
 use scripts::read_script;
 use std::alloc::Global;
 use std::hash::RandomState;
