@@ -66,7 +66,7 @@ behind_labels p (label ∷ more) = at_end command.List
 -- a place of the code in a command
 abbrev pub seen_command_place : Tables → CodeCommandPlace → CommandPlace
 seen_command_place t (code.Behind v given) = behind_labels (behind_verb t v) (seen_labels given)
-seen_command_place t (code.InUnit rank r) = in_unit (λ a. command.Add rank a) (position_of t r)
+seen_command_place t (code.InUnit rank r) = in_unit (λ a. command.Add rank a) (position_of t r.value)
 seen_command_place t (code.InProof label steps) = in_proof label (λ given. command.Reprove label given) steps
 
 -- behind labels of a command no rank and no proof is wanted

@@ -1,1 +1,2 @@
 mod Dealt
+mod Plain

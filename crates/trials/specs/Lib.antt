@@ -1,1 +1,2 @@
+pub mod InCells
 pub mod Opened

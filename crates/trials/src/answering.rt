@@ -22,18 +22,18 @@ ghost use Rattle.transaction.specs.Members.{IsSessionOf};
 ghost use Rattle.trials.specs.Opened.{IsOpen};
 
 use crate::ending::end;
-use crate::opening::{Opened, open};
+use crate::opening::{Opened, open, unread};
 use crate::outcomes::put_outcome;
+use crate::random::compare;
 use crate::seats::{learn, place_of};
 use export::put_library;
 use library::Transaction;
-use plaintrials::{compare, unread};
-use rows::Written;
 use scripts::read_script;
 use std::alloc::Global;
 use std::hash::RandomState;
 use std::thread::Threads;
 use transaction::{Library, Look, Session};
+use wordrows::Written;
 
 /// Writes what a line is answered; false where it can't be read. Before it stand the lines `before`; none where none of them begins a
 /// database.

@@ -14,11 +14,11 @@ use finishing::{FinishError, finish};
 use history::{ReplayError, replay};
 use library::{Entry, PlainLibrary};
 use mmsyntax::Database;
-use rows::Written;
 use std::alloc::Global;
 use std::hash::RandomState;
 use tlwords::ClosedCell;
 use transaction::{Library, Session};
+use wordrows::Written;
 
 /// The names of the five cells of a slot, in their order.
 const PARTS: [&str; 5] = ["name", "statement", "proof", "rank", "citers"];

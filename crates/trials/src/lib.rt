@@ -11,23 +11,33 @@ mod answering;
 mod ending;
 mod opening;
 mod outcomes;
+mod random;
 mod seats;
 
+// for both: a library in plain cells
+mod in_cells;
+
 // measurements
+mod cell_work;
+mod check_work;
+mod files;
 mod measuring;
 mod meet_work;
+mod mutex_work;
 mod session_work;
+mod times;
+mod word_work;
 
 ghost use Rattle.std.specs.Prelude.{IfSome};
 ghost use Rattle.trials.specs.Opened.{IsOpen};
 
 use crate::answering::answer_line;
-pub use crate::measuring::measure;
+pub use crate::measuring::{Ending, measure};
 use crate::opening::Opened;
-use rows::Written;
 use std::alloc::{AllocError, Global};
 use std::hash::RandomState;
 use std::thread::Threads;
+use wordrows::Written;
 
 /// Writes what the lines of a table are answered, in order.
 fn answer_all(

@@ -8,16 +8,40 @@
 ghost use Rattle.std.specs.Prelude.{All};
 ghost use Rattle.library.specs.Fitting.{CommandFits};
 
-use crate::{meet_work, session_work};
+use crate::files::{read_db, read_scripts};
+use crate::{cell_work, check_work, meet_work, mutex_work, session_work, word_work};
 use library::Script;
 use mmstatement::Database;
-use plaintrials::{Ending, cell_work, check_work, mutex_work, read_db, read_scripts, word_work};
+use std::fmt::Display;
 use std::hash::RandomState;
+use std::process::ExitCode;
 use std::random::RandomSource;
 use std::rt::{Clock, Files};
 use std::sync::Wait;
 use std::thread::Threads;
 use std::time::CpuClock;
+
+/// How a run ends.
+#[derive(Clone, Copy, PartialEq)]
+pub enum Ending {
+    /// It was done.
+    Done,
+    /// Something failed: status 1.
+    Failed,
+    /// The words weren't understood: status 2.
+    Misused,
+}
+
+impl Ending {
+    /// The status of the program.
+    pub fn status(self) -> ExitCode {
+        match self {
+            Ending::Done => ExitCode::SUCCESS,
+            Ending::Failed => ExitCode::from(1),
+            Ending::Misused => ExitCode::from(2),
+        }
+    }
+}
 
 /// What is said where the words aren't understood.
 const USAGE: &str =
@@ -28,6 +52,14 @@ or meets DB SCRIPT.., of 1 to 64 scripts, or all DB SCRIPT SCRIPTS..";
 /// What is said where something fails.
 const FAILURE: &str =
     "a file cannot be read, a text has a fault, or there is no room, no memory, no thread or no clock";
+
+/// Prints the line that a run ends with. None where it can't be printed.
+pub(crate) fn finish(rt: &impl Print, line: impl Display + Drop) -> Option<Ending> {
+    match rt.println(line) {
+        Ok(()) => Some(Ending::Done),
+        Err(_) => None,
+    }
+}
 
 /// Does a task with a database and scripts. It may wait.
 fn do_task<R>(

@@ -8,10 +8,10 @@ ghost use Rattle.library.specs.Fitting.{CommandFits};
 ghost use Rattle.lawful.specs.Lawful.{setting_given};
 ghost use Rattle.transaction.specs.Members.{IsSessionOf};
 
+use crate::files::{ROOM, SLOTS};
+use crate::measuring::Ending;
 use library::{Script, Transaction};
 use mmstatement::Database;
-use plaintrials::{Ending, ROOM, SLOTS};
-use rows::Written;
 use std::alloc::Global;
 use std::hash::RandomState;
 use std::sync::Wait;
@@ -19,6 +19,7 @@ use std::sync::atomic::{AtomicUsize, Ordering};
 use std::thread;
 use std::thread::Threads;
 use transaction::{Library, Outcome, Session, Shape};
+use wordrows::Written;
 
 /// Writes the line of a try of the transaction at this place, if it has one. Whether it met another session.
 fn put_try(out: &mut Written, place: (usize, usize), outcome: &Outcome) -> bool {

@@ -6,13 +6,13 @@ ghost use Rattle.trials.specs.Opened.{IsOpen};
 use crate::outcomes::put_unopened;
 use mmreader::read_database;
 use mmsyntax::Database;
-use plaintrials::unread;
-use rows::Written;
+use mmtext::{FaultKind, TextFault};
 use std::alloc::Global;
 use std::hash::RandomState;
 use std::mem;
 use std::thread::Threads;
 use transaction::{Library, Session, Shape};
+use wordrows::Written;
 
 /// A library that is open, with all its sessions in the order of their names, and the database that it was opened from.
 #[derive(Drop)]
@@ -20,6 +20,14 @@ pub struct Opened {
     pub database: Database,
     pub library: Library,
     pub sessions: Vec<Session>,
+}
+
+/// False: what has this fault can't be read, if it isn't want of memory.
+pub fn unread(out: &mut Written, fault: TextFault) -> bool {
+    if let FaultKind::NoMemory = fault.kind {
+        out.is_short = true;
+    }
+    false
 }
 
 /// The shape that three words say: the slots, the room and the sessions.

@@ -1,10 +1,30 @@
 //! The lines of outcomes, and of openings that fail.
 
-use mmsyntax::Prelude;
-use plaintrials::{put_refusal, put_replies};
-use rows::Written;
+use historytext::put_reply;
+use library::{Refused, Reply};
+use mmsyntax::{Prelude, fits};
 use std::alloc::Global;
 use transaction::{OpenError, Outcome};
+use wordrows::Written;
+
+/// Writes the line of a transaction that is refused at a place.
+pub fn put_refusal(out: &mut Written, place: u64, refused: Refused) {
+    let Refused { index, reason } = refused;
+    out.show(format_args!("refused {place} at {index}: {reason}\n"));
+}
+
+/// Writes the lines of replies, and `  unfit` for one whose assertion isn't one over the prelude.
+pub fn put_replies(alloc: Global, out: &mut Written, prelude: &Prelude, replies: &[Reply]) {
+    for reply in replies {
+        match reply {
+            Reply::Shown { shown, .. } if !fits(prelude, &shown.assertion) => out.put(b"  unfit\n"),
+            _ => {
+                let done = put_reply(alloc, &mut out.bytes, prelude, reply);
+                out.note(done);
+            }
+        }
+    }
+}
 
 /// Writes the lines of an outcome.
 pub fn put_outcome(alloc: Global, out: &mut Written, prelude: &Prelude, outcome: &Outcome) {

@@ -3,8 +3,8 @@
 ghost use Rattle.std.specs.Prelude.{◌≡◌, ◌+◌, ◌<◌, ◌≤◌, length, All};
 ghost use Rattle.transaction.specs.Members.{IsSessionOf};
 
-use rows::Written;
 use transaction::{Library, Session};
+use wordrows::Written;
 
 /// The most sessions that a library has.
 const MOST_SESSIONS: usize = 64;

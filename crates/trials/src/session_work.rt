@@ -8,9 +8,11 @@
 ghost use Rattle.std.specs.Prelude.{All};
 ghost use Rattle.library.specs.Fitting.{CommandFits};
 
+use crate::files::{ROOM, SLOTS};
+use crate::measuring::Ending;
+use crate::times::{Counts, End, count, tell, times};
 use library::Script;
 use mmstatement::Database;
-use plaintrials::{Counts, End, Ending, ROOM, SLOTS, count, tell, times};
 use std::hash::RandomState;
 use std::rt::Clock;
 use std::sync::Wait;

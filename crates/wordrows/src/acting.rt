@@ -6,7 +6,7 @@ ghost use Rattle.wordrows.specs.Seats.{is_named, RestsAt, RunsAt, StandsAt};
 use crate::line::{Step, cut, letter_of, mode_of, place_of, read_numbers};
 use crate::running::{begin_run, commit, go_on, leave};
 use crate::seat::{Anything, Playing, Resting, Stand};
-use rows::Written;
+use crate::written::Written;
 use std::alloc::{AllocError, Global};
 use std::mem;
 use tlwords::{Words, learn};

@@ -8,7 +8,7 @@ use crate::acting::{answer_line, take_stand};
 use crate::line::{count_at, is_comment, place_of, read_numbers};
 use crate::print::{CANNOT, put_closed};
 use crate::seat::{Anything, Resting, Stand};
-use rows::Written;
+use crate::written::Written;
 use std::alloc::{AllocError, Global};
 use tlwords::{Pass, Words, close, open};
 

@@ -2,7 +2,7 @@
 //!
 //! The lines stand in the `stdin` of `workbench`, and what was worked out by hand from the definitions in its `stdout`: each line again,
 //! and behind a colon its answer. The gate runs that program over the one and compares what it prints with the other, so that a line costs
-//! no proof.
+//! no proof. What lines are answered with is written by [`Written`], as `trials` does too.
 //!
 //! | The line | It means |
 //! |---|---|
@@ -31,5 +31,7 @@ mod line;
 mod print;
 mod running;
 mod seat;
+mod written;
 
 pub use crate::block::answer_table;
+pub use crate::written::Written;

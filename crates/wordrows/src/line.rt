@@ -1,6 +1,6 @@
 //! How lines are read.
 
-use rows::Written;
+use crate::written::Written;
 use tlwords::Mode;
 
 /// What a line asks of a pass.

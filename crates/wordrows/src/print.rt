@@ -1,6 +1,6 @@
 //! How answers are written.
 
-use rows::Written;
+use crate::written::Written;
 use tlwords::{ClosedCell, ClosedWords, Conflict, Outcome};
 
 /// What is said of a line that can't be read, or can't be done now.

@@ -8,7 +8,7 @@ ghost use Rattle.wordrows.specs.Seats.{is_named, IsThere, RestsAt, RunsAt};
 use crate::line::Step;
 use crate::print::{put_conflict, put_outcome};
 use crate::seat::{Anything, Playing, Resting};
-use rows::Written;
+use crate::written::Written;
 use std::alloc::{AllocError, Global};
 use tlwords::{Mode, Range, Words, begin};
 

@@ -2,8 +2,7 @@
 
 ghost use Rattle.std.specs.Prelude.{◌≤◌, length};
 
-use plaintrials::Ending;
-use rows::{do_row, is_silent, words_of};
+use crate::lines::{do_row, is_silent, words_of};
 use std::alloc::{AllocError, Global};
 use std::hash::RandomState;
 use std::io::{BufRead, BufReader};
@@ -15,7 +14,7 @@ use std::test::Fail;
 use std::thread::Threads;
 use std::time::CpuClock;
 use std::{env, io};
-use trials::{answer_sessions, measure};
+use trials::{Ending, answer_sessions, measure};
 use wordrows::answer_table;
 
 /// What stands in front of the name of a table.

@@ -68,7 +68,10 @@ fn read_in_unit<'a>(
         (decided (seen token.entry) (unit_row (λ a. Command.Add rank a) (row (position_of prelude.now reader.entry) (seen token.entry)))) }
 {
     match reader.read(alloc, prelude, token)? {
-        UnitProgress::Within(reader) => Ok(Led::Inside(CommandPlace::InUnit(rank, reader))),
+        UnitProgress::Within(reader) => {
+            let reader = Box::new(alloc, reader)?;
+            Ok(Led::Inside(CommandPlace::InUnit(rank, reader)))
+        }
         UnitProgress::Whole(assertion) => Ok(Led::Whole(Command::Add { rank, assertion })),
     }
 }
@@ -247,7 +250,7 @@ fn read_added_rank<'a>(alloc: Global, prelude: &Prelude, token: Token<'a>) -> Re
         (decided (seen token.entry) (in_command prelude.now (behind_verb prelude.now Verb.Add) (seen token.entry))) }
 {
     let rank = read_rank(token)?;
-    let reader = UnitReader::new(alloc, prelude.keys());
+    let reader = Box::new(alloc, UnitReader::new(alloc, prelude.keys()))?;
     Ok(Led::Inside(CommandPlace::InUnit(rank, reader)))
 }
 
@@ -348,7 +351,9 @@ pub fn read_in_command<'a>(
 {
     match place {
         CommandPlace::Behind(verb, labels) => read_behind(alloc, prelude, verb, labels, token),
-        CommandPlace::InUnit(rank, reader) => read_in_unit(alloc, prelude, rank, reader, token),
+        CommandPlace::InUnit(rank, reader) => {
+            read_in_unit(alloc, prelude, rank, Box::into_inner(reader), token)
+        }
         CommandPlace::InProof(label, steps) => read_step(alloc, prelude, label, steps, token),
     }
 }

@@ -3,6 +3,7 @@
 use library::{Command, Transaction};
 use mmsyntax::{Label, Prelude, Proof};
 use statementreader::{Recent, UnitReader};
+use std::alloc::Global;
 
 /// Which command it is, as its word says.
 #[derive(Clone, Copy)]
@@ -41,8 +42,8 @@ pub enum Labels {
 pub enum CommandPlace<'a> {
     /// Its word, and labels.
     Behind(Verb, Labels),
-    /// `add`, a rank, and the front of the assertion.
-    InUnit(u32, UnitReader<'a>),
+    /// `add`, a rank, and the front of the assertion: on the heap, since a place moves with each token.
+    InUnit(u32, Box<UnitReader<'a>, Global>),
     /// `reprove`, a label, `$=` and steps.
     InProof(Label, Proof),
 }

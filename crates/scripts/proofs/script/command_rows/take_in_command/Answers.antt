@@ -4,7 +4,7 @@ use Rattle.mmtext.specs.Views.{seen}
 use Rattle.mmsyntax.specs.declared.statement.Step.{Step}
 use Rattle.mmsyntax.specs.declared.statement.Assertion.{Assertion}
 use Rattle.library.specs.declared.command.Command.TheVariants as command
-use Rattle.statementreader.specs.UnitReadings.{position_of}
+use Rattle.statementreader.specs.UnitReadings.{position_of, UnitReading}
 use Rattle.scripts.specs.declared.script.place.CommandPlace.{CommandPlace}
 use Rattle.scripts.specs.ScriptFaults.{in_proof, in_unit}
 use Rattle.scripts.specs.ScriptViews.{seen_command_place, TakesInCommand}
@@ -27,8 +27,10 @@ pub returns-in-InUnit-clause-taken : goal.returns-in-InUnit-clause-taken
 returns-in-InUnit-clause-taken c =
     let t = c.args.prelude.now in
     let u = seen c.args.token in
-    let old = c.in-InUnit.reader in
+    let old = c.deref_mut.result.now in
     let new = c.take_word.new.self in
     let made = λ (a : Assertion). command.Add c.in-InUnit.field-0 a in
     subst (λ (x : CommandPlace). TakesInCommand t (seen_command_place t x) u (in_unit made (position_of t new)) c.take_word.result)
-    (sym c.in-InUnit.is) (unit_taken t made old new u c.take_word.result c.take_word.ensures.taken)
+    (sym c.in-InUnit.is)
+    (subst (λ (r : UnitReading). TakesInCommand t (in_unit made (position_of t r)) u (in_unit made (position_of t new)) c.take_word.result)
+    c.deref_mut.ensures.value (unit_taken t made old new u c.take_word.result c.take_word.ensures.taken))

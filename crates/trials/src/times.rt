@@ -1,12 +1,12 @@
 //! How long transactions took, and how they ended.
 
-use crate::ends::{Ending, finish};
+use crate::measuring::{Ending, finish};
 use std::rt::Clock;
 use std::time::{CpuClock, Duration, Instant};
 
 /// How a transaction ends.
 #[derive(Clone, Copy)]
-pub enum End {
+pub(crate) enum End {
     /// It is committed.
     Committed,
     /// It has only read.
@@ -18,17 +18,17 @@ pub enum End {
 }
 
 /// How many transactions committed, how many only read, how many were refused, and how many ended otherwise.
-pub type Counts = [u64; 4];
+pub(crate) type Counts = [u64; 4];
 
 /// Counts one more that ends so.
-pub fn count(counts: &mut Counts, end: End) {
+pub(crate) fn count(counts: &mut Counts, end: End) {
     if let Some(count) = counts.get_mut(end as usize) {
         *count = count.saturating_add(1);
     }
 }
 
 /// The time by now: by the clock, and what all threads together have used of the processors. None where a clock can't be read.
-pub fn times(rt: &(impl Clock + CpuClock)) -> Option<(Instant, Duration)> {
+pub(crate) fn times(rt: &(impl Clock + CpuClock)) -> Option<(Instant, Duration)> {
     Some((Instant::now(rt).ok()?, rt.process_cpu_time().ok()?))
 }
 
@@ -40,7 +40,7 @@ fn say(rt: &impl Eprint, start: (Instant, Duration), end: (Instant, Duration), v
 }
 
 /// Says how long transactions took between two times and how many numbers met a conflict, and prints how they ended.
-pub fn tell(
+pub(crate) fn tell(
     rt: &(impl Print + Eprint),
     start: Option<(Instant, Duration)>,
     end: Option<(Instant, Duration)>,

@@ -21,8 +21,10 @@
 //! sources in the whole language. What is to be printed was worked out by hand from the README's tables, and stands in `stdout`, of clap's
 //! texts the first line. The gate compares the two.
 
+pub(crate) mod stage;
+
+use crate::lines::stage::Mode;
 use crate::making::{cut, made};
-use crate::stage::Mode;
 use std::alloc::{AllocError, Global};
 use std::rt::Files;
 use std::{fs, io};
@@ -31,11 +33,7 @@ use std::{fs, io};
 const LIBRARY: &[u8] = b"library";
 
 /// The words of a text, between single spaces.
-///
-/// # Errors
-///
-/// Want of memory.
-pub fn words_of(alloc: Global, text: &str) -> Result<Vec<String>, AllocError> {
+pub(crate) fn words_of(alloc: Global, text: &str) -> Result<Vec<String>, AllocError> {
     let mut words = Vec::new(alloc);
     for word in text.split(' ') {
         words.push(String::from_str(alloc, word)?)?;
@@ -143,7 +141,7 @@ fn print_same(rt: &(impl Files + AllocGlobal + Print), paths: &str) -> io::Resul
 }
 
 /// How the streams of a row's command line are. None of a row that is none.
-pub fn mode_of(row: &str) -> Option<Mode> {
+pub(crate) fn mode_of(row: &str) -> Option<Mode> {
     match row.split_once(' ').unwrap_or((row, "")).0 {
         "line" => Some(Mode::Open),
         "closed" => Some(Mode::Closed),
@@ -156,7 +154,7 @@ pub fn mode_of(row: &str) -> Option<Mode> {
 }
 
 /// Whether nothing is printed of a row: it is empty, a comment, or writes its text.
-pub fn is_silent(row: &str) -> bool {
+pub(crate) fn is_silent(row: &str) -> bool {
     row.is_empty() || row.starts_with("#") || row.starts_with("text ")
 }
 
@@ -165,7 +163,7 @@ pub fn is_silent(row: &str) -> bool {
 /// # Errors
 ///
 /// Those of printing, and of files that a row writes or tells of.
-pub fn do_row(
+pub(crate) fn do_row(
     rt: &(impl Files + AllocGlobal + Print),
     row: &str,
     lines: &[Vec<u8>],

@@ -1,5 +1,5 @@
 use Rattle.tlwords.specs.Callers.{AreOfOneOpening}
-use Rattle.plaintrials.proofs.word_work.work.Given as goal
+use Rattle.trials.proofs.word_work.work.Given as goal
 
 abbrev pub invariant-loop : goal.invariant-loop
 invariant-loop l = AreOfOneOpening l.words l.pass

@@ -2,7 +2,7 @@
 //!
 //! It prints in how many of the checks a fault was found; and on the standard error how many microseconds reading took, and each check.
 
-use crate::ends::{Ending, finish};
+use crate::measuring::{Ending, finish};
 use mmstatement::{Database, read_database};
 use proofcheck::check_all;
 use std::fs;
@@ -54,7 +54,7 @@ fn read_timed(
 }
 
 /// Reads a database, and checks its proofs so often. None where that can't be done.
-pub fn run(
+pub(crate) fn run(
     rt: &(impl AllocGlobal + Files + Print + Eprint + Clock + Threads + Sync),
     keys: RandomState,
     path: &str,

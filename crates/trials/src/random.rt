@@ -5,7 +5,8 @@
 //! commands are drawn, over few labels, ranks and steps, so that each test of each command passes often and fails often.
 
 use crate::in_cells::{InCells, apply};
-use crate::replies::{put_refusal, put_replies, unread};
+use crate::opening::unread;
+use crate::outcomes::{put_refusal, put_replies};
 use commands::RunError;
 use history::{ApplyError, Editor};
 use library::{Command, Transaction};
@@ -14,11 +15,11 @@ use mmsyntax::Database;
 use proofcheck::check_all;
 use rand_core::Rng;
 use rand_pcg::Pcg32;
-use rows::Written;
 use scripts::read_script;
 use std::alloc::Global;
 use std::hash::RandomState;
 use std::thread::Threads;
+use wordrows::Written;
 
 /// The database that all begins with: an axiom without hypotheses, one with one, one with two, and one with a variable.
 const DATABASE: &[u8] = b"$c wff $. $v x $. wx $f wff x $. we $a wff $.

@@ -1,12 +1,11 @@
-//! `sessions mutex THREADS DB SCRIPT..`: scripts by 1 to 64 threads, as `trials` does them by sessions, by the one-thread editor behind a
-//! lock.
+//! `sessions mutex THREADS DB SCRIPT..`: the same as by sessions (`session_work.rt`), by the one-thread editor behind a lock.
 
 ghost use Rattle.derivation.specs.Databases.{AllCheck};
 
 use crate::cell_work::edit_once;
-use crate::ends::Ending;
 use crate::files::SLOTS;
-use crate::timing::{Counts, count, tell, times};
+use crate::measuring::Ending;
+use crate::times::{Counts, count, tell, times};
 use history::Editor;
 use library::Script;
 use mmstatement::Database;
@@ -76,7 +75,7 @@ where
 }
 
 /// Does the scripts. None where that can't be done. It may wait.
-pub fn run<R>(
+pub(crate) fn run<R>(
     rt: &R,
     keys: RandomState,
     db: &Database,

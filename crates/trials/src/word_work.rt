@@ -9,7 +9,7 @@ ghost use Rattle.std.specs.Prelude.{false, ◌≡◌, ◌<◌, None, true, All, 
 ghost use Rattle.tlwords.specs.Callers.{AreOfOneOpening};
 ghost use Rattle.tlwords.specs.declared.mode.Mode.TheVariants.{Writing};
 
-use crate::ends::{Ending, finish};
+use crate::measuring::{Ending, finish};
 use std::sync::atomic::{AtomicUsize, Ordering};
 use std::thread;
 use std::thread::Threads;
@@ -199,7 +199,7 @@ fn run_all(
 }
 
 /// Runs the transactions of a pattern. None is what `run_all` says, or no cells for a thread.
-pub fn run(
+pub(crate) fn run(
     rt: &(impl AllocGlobal + Print + Threads + Sync),
     pattern: &str,
     cells: usize,
@@ -228,7 +228,10 @@ pub fn run(
 }
 
 /// Does what these words ask for.
-pub fn obey(rt: &(impl AllocGlobal + Print + Threads + Sync), words: &[String]) -> Option<Ending> {
+pub(crate) fn obey(
+    rt: &(impl AllocGlobal + Print + Threads + Sync),
+    words: &[String],
+) -> Option<Ending> {
     let [pattern, cells, transactions, threads] = words else {
         return Some(Ending::Misused);
     };

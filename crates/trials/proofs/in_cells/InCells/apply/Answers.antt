@@ -4,8 +4,8 @@ use Rattle.library.specs.Fitting.{CommandFits}
 use Rattle.library.specs.Library.{Setting}
 use Rattle.plaincells.specs.PlainViews.{cells_sight}
 use Rattle.commands.proofs.Allowed.{may_do_all}
-use Rattle.plaintrials.proofs.Plain.{done_shows_some, begun_shows}
-use Rattle.plaintrials.proofs.in_cells.InCells.apply.Goals as goal
+use Rattle.trials.proofs.Plain.{done_shows_some, begun_shows}
+use Rattle.trials.proofs.in_cells.InCells.apply.Goals as goal
 use Rattle.cells.proofs.Sights.{setting_kept}
 
 pub run-requires-clause-may : goal.run-requires-clause-may

@@ -1,6 +1,6 @@
 use Rattle.std.proofs.Common.{◌∙◌, sym}
-use Rattle.plaintrials.proofs.Plain.{opened_shows}
-use Rattle.plaintrials.proofs.in_cells.InCells.open.Goals as goal
+use Rattle.trials.proofs.Plain.{opened_shows}
+use Rattle.trials.proofs.in_cells.InCells.open.Goals as goal
 
 pub invariant_of-result : goal.invariant_of-result
 invariant_of-result c =

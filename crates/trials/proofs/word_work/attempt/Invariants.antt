@@ -1,5 +1,5 @@
 use Rattle.std.proofs.Common.{◌≡◌, None}
-use Rattle.plaintrials.proofs.word_work.attempt.Given as goal
+use Rattle.trials.proofs.word_work.attempt.Given as goal
 
 abbrev pub invariant-loop-i : goal.invariant-loop-i
 invariant-loop-i l =

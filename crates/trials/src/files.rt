@@ -11,13 +11,17 @@ use std::hash::RandomState;
 use std::rt::Files;
 
 /// The slots of a library.
-pub const SLOTS: usize = 4096;
+pub(crate) const SLOTS: usize = 4096;
 
 /// The most words that a store has room for.
-pub const ROOM: usize = 16_777_216;
+pub(crate) const ROOM: usize = 16_777_216;
 
 /// The database in a file. None where there is none, or no memory.
-pub fn read_db(rt: &(impl AllocGlobal + Files), keys: RandomState, path: &str) -> Option<Database> {
+pub(crate) fn read_db(
+    rt: &(impl AllocGlobal + Files),
+    keys: RandomState,
+    path: &str,
+) -> Option<Database> {
     let text = fs::read(rt, path).ok()?;
     read_database(rt.alloc(), keys, text.as_slice()).ok()
 }
@@ -54,7 +58,7 @@ fn put_scripts(
 }
 
 /// The scripts in files. None where one of them has none, or there is no memory.
-pub fn read_scripts(
+pub(crate) fn read_scripts(
     rt: &(impl AllocGlobal + Files),
     prelude: &Prelude,
     paths: &[String],

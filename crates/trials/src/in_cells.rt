@@ -5,7 +5,7 @@ ghost use Rattle.cells.specs.State.{most_words};
 ghost use Rattle.mmsyntax.specs.declared.limits.TheConstants.{MOST_ASSERTIONS};
 ghost use Rattle.std.specs.Prelude.{◌≡◌, All, IsTrue};
 ghost use Rattle.library.specs.Fitting.{CommandFits};
-ghost use Rattle.plaintrials.specs.InCells.{ShowsSomeNow};
+ghost use Rattle.trials.specs.InCells.{ShowsSomeNow};
 
 use commands::{Halt, RunError, run};
 use history::{ApplyError, Editor};

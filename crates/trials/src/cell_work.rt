@@ -6,10 +6,10 @@
 
 ghost use Rattle.derivation.specs.Databases.{AllCheck};
 
-use crate::ends::{Ending, finish};
 use crate::files::{ROOM, SLOTS};
 use crate::in_cells::{InCells, apply};
-use crate::timing::{Counts, End, count};
+use crate::measuring::{Ending, finish};
+use crate::times::{Counts, End, count};
 use cells::{Cells, entry, label};
 use commands::RunError;
 use history::{ApplyError, Editor};
@@ -133,7 +133,7 @@ fn change(
 }
 
 /// Does a task with a database and, for the last two, a script. None where that can't be done.
-pub fn run(
+pub(crate) fn run(
     rt: &(impl AllocGlobal + Print + Threads + Sync),
     keys: RandomState,
     db: &Database,

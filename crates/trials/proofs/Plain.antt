@@ -22,7 +22,7 @@ use Rattle.plaincells.specs.PlainViews.{cells_setting, cells_sight, first_state,
 use Rattle.ranges.specs.Pairs.{Pairs}
 use Rattle.cells.proofs.Sights.{matches_back, setting_kept}
 use Rattle.plaincells.proofs.Opened.{first_matches, after_first, later_views}
-use Rattle.plaintrials.specs.InCells.{ShowsSomeNow}
+use Rattle.trials.specs.InCells.{ShowsSomeNow}
 
 -- what the cells showed before a run, its state views at first
 views_before : (c d : PlainCells) (lib : List Ranked) → Onward (cells_sight c) (cells_sight d) → Shows c.slots (now_state c) lib
