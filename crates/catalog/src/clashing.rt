@@ -2,7 +2,7 @@
 
 ghost use Rattle.std.specs.Prelude.{◌≡◌};
 ghost use Rattle.std.specs.List.{list_any};
-ghost use Rattle.mmsyntax.specs.Dotted.{clash};
+ghost use Rattle.mmsyntax.specs.Dotted.{clash, is_dotted};
 ghost use Rattle.library.specs.Edits.{clashes, without};
 ghost use Rattle.catalog.specs.Entries.{living};
 ghost use Rattle.catalog.specs.Testing.{passes_there, clashes_beside};
@@ -10,15 +10,25 @@ ghost use Rattle.catalog.specs.Testing.{passes_there, clashes_beside};
 use library::Ranked;
 use mmsyntax::is_dotted;
 
-/// Whether one of two labels is `L.k` of the other: the longer one, if either is.
+/// Whether a word is `L.k`, for the label L. Of most words the byte behind a front as long as the label tells that they aren't.
+fn names_hypothesis_of(label: &[u8], word: &[u8]) -> bool
+    ensures { result ≡ is_dotted label.now word.now }
+{
+    let dot = label.len();
+    if dot >= word.len() {
+        return false;
+    }
+    if word[dot] != b'.' {
+        return false;
+    }
+    is_dotted(label, word)
+}
+
+/// Whether one of two labels is `L.k` of the other.
 fn clash(label: &[u8], other: &[u8]) -> bool
     ensures { result ≡ clash label.now other.now }
 {
-    if label.len() < other.len() {
-        is_dotted(label, other)
-    } else {
-        is_dotted(other, label)
-    }
+    names_hypothesis_of(label, other) || names_hypothesis_of(other, label)
 }
 
 /// Whether a place has an assertion, with another label than `own`, whose label clashes with one.
