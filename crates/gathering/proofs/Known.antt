@@ -19,7 +19,7 @@ use Rattle.taking.specs.Says.{both, each, symbol_at, premises, IsFloatTaken}
 use Rattle.taking.specs.Settings.{is_float}
 use Rattle.taking.specs.Reasons.{kept, kept_at}
 use Rattle.sites.specs.Sites.{Sited, IsFloatSited}
-use Rattle.naming.specs.declared.names.LibraryNames.{LibraryNames}
+use Rattle.sites.specs.declared.names.LibraryNames.{LibraryNames}
 use Rattle.gathering.specs.Placed.{map_of, tables_of, floats_from}
 
 -- ---- what flags keep

@@ -16,7 +16,7 @@ use Rattle.taking.specs.Says.{IsFloatTaken}
 use Rattle.taking.specs.Reasons.{Choice, AreFlags, kept}
 use Rattle.prooftrees.proofs.Whole.{whole_at}
 use Rattle.sites.specs.Sites.{Sited, IsFloatSited, AreSites}
-use Rattle.naming.specs.declared.names.LibraryNames.{LibraryNames}
+use Rattle.sites.specs.declared.names.LibraryNames.{LibraryNames}
 use Rattle.gathering.specs.Assembled.{HasAllPlaces}
 use Rattle.gathering.specs.Outcomes.{HasStepsFor}
 use Rattle.gathering.specs.Placed.{map_of, tables_of}

@@ -17,7 +17,7 @@ use Rattle.taking.specs.Taken.{HasProof}
 use Rattle.taking.specs.Listings.{IsListed}
 use Rattle.sites.specs.Actives.{Placed, float_at}
 use Rattle.sites.specs.Sites.{Sited}
-use Rattle.naming.specs.declared.names.LibraryNames.{LibraryNames}
+use Rattle.sites.specs.declared.names.LibraryNames.{LibraryNames}
 use Rattle.gathering.specs.Placed.{map_of, symbols_by}
 use Rattle.gathering.specs.Assembled.{HasAllPlaces, IsStatedBy, IsStated, IsMade, one_of}
 use Rattle.gathering.specs.Outcomes.{IsOutcome, HasStepsFor}

@@ -10,7 +10,7 @@ use Rattle.taking.specs.Names.{Map}
 use Rattle.taking.specs.Says.{symbol_at}
 use Rattle.sites.specs.Actives.{Placed, float_at}
 use Rattle.sites.specs.Sites.{Sited}
-use Rattle.naming.specs.declared.names.LibraryNames.{LibraryNames}
+use Rattle.sites.specs.declared.names.LibraryNames.{LibraryNames}
 
 abbrev pub map_of : Sited → LibraryNames → Map
 map_of t names = record {

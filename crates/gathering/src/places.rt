@@ -6,8 +6,7 @@ ghost use Rattle.taking.specs.Names.{label_in};
 ghost use Rattle.gathering.specs.Placed.{map_of};
 
 use mmsyntax::{Label, Step};
-use naming::LibraryNames;
-use sites::Sites;
+use sites::{LibraryNames, Sites};
 use std::alloc::{AllocError, Global};
 use taking::StepPlaces;
 

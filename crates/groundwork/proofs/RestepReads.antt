@@ -11,13 +11,13 @@ use Rattle.cells.specs.Slots.{proof_cell}
 use Rattle.cells.specs.Shows.{AreStoredAs}
 use Rattle.cells.specs.Sight.{Sight, Onward, Looks, ReadsWithin, after, Matches, Views}
 use Rattle.cells.specs.Aside.{IsCitersOf}
-use Rattle.cells.specs.Counts.{AreCitedSlots, AreOnlyIn}
 use Rattle.cells.specs.Lookups.{ForEachHeld, IsFoundAt}
 use Rattle.cells.proofs.Asking.{asks_wider}
 use Rattle.cells.proofs.Sights.{matches_back, after_looks, setting_kept}
+use Rattle.groundwork.specs.Changes.{AreExchanged}
 use Rattle.groundwork.specs.Touches.{IsOfReproof}
 use Rattle.groundwork.specs.Footprints.{ReprovesReading}
-use Rattle.groundwork.proofs.Since.{ReadsSince}
+use Rattle.groundwork.proofs.Since.{ReadsSince, since_then}
 use Rattle.groundwork.proofs.Touching.{dropped_cited, gained_cited}
 use Rattle.groundwork.proofs.Seeing.{views_later, found_later}
 
@@ -46,27 +46,35 @@ module _ {O : Type 0} (s0 : Sight O) (i : ℕ) (label : List ℕ) (kept : List S
   pub resteps_proof : (s t : Sight O) → ReadsWithin (λ c. c ≡ proof_cell i) s t → ReadsSince (OfResteps s0 i label kept) s0 s t
   resteps_proof s t reads st lib m v = asks_wider (λ c is at steps stored. inl is) reads
 
-  module _ (s1 s t : Sight O) (former : List StoredStep) (before now : List ℕ) (looks : Looks s0 s1) (on1 : Onward s1 s) (on2 : Onward s t)
+  -- the proof is read, and then its cell is written
+  pub resteps_put : (s1 s2 : Sight O) → ReadsWithin (λ c. c ≡ proof_cell i) s0 s1 → Onward s1 s2 → ReadsWithin (λ c. c ≡ proof_cell i) s1 s2
+      → ReadsSince (OfResteps s0 i label kept) s0 s0 s2
+  resteps_put s1 s2 first on more =
+      since_then (OfResteps s0 i label kept) (resteps_proof s0 s1 first) on (resteps_proof s1 s2 more)
+
+  module _ (s1 s t : Sight O) (former : List StoredStep) (dropped gained : List ℕ) (looks : Looks s0 s1) (on1 : Onward s1 s) (on2 : Onward s t)
       (read : ForEachHeld s1 i (λ st lib e. AreStoredAs s1.setting.slots st e.assertion.proof former))
-      (cited_before : AreCitedSlots former before) (cited_now : AreCitedSlots kept now) where
-    pub resteps_out : (dropped : List ℕ) → AreOnlyIn before now dropped → ReadsWithin (IsCitersOf dropped) s t
-        → ReadsSince (OfResteps s0 i label kept) s0 s t
-    resteps_out dropped drops reads st lib m v =
+      (exchange : AreExchanged former kept dropped gained) (since : ReadsSince (OfResteps s0 i label kept) s0 s0 s) where
+    -- what the former proof cites alone is counted out
+    pub resteps_out : ReadsWithin (IsCitersOf dropped) s t → ReadsSince (OfResteps s0 i label kept) s0 s0 t
+    resteps_out reads =
+        since_then (OfResteps s0 i label kept) since on2 (λ st lib m v.
         asks_wider
         (λ c is at steps stored. inr (dropped_cited s0.setting.slots
         (after s0 st) lib v.shows v.matches.store v.verifies.library.distinct at.entry
-        steps former kept before now
+        steps former kept exchange.before exchange.now
         (stored_before s0 s1 i label former looks read st lib (matches_back s1 s st on1 (matches_back s t st on2 m)) v at) stored
-        cited_before cited_now dropped drops c is))
-        reads
+        exchange.cited_before exchange.cited_now dropped exchange.drops c is))
+        reads)
 
-    pub resteps_in : (gained : List ℕ) → AreOnlyIn now before gained → ReadsWithin (IsCitersOf gained) s t
-        → ReadsSince (OfResteps s0 i label kept) s0 s t
-    resteps_in gained gains reads st lib m v =
+    -- what the other cites alone is counted in
+    pub resteps_in : ReadsWithin (IsCitersOf gained) s t → ReadsSince (OfResteps s0 i label kept) s0 s0 t
+    resteps_in reads =
+        since_then (OfResteps s0 i label kept) since on2 (λ st lib m v.
         asks_wider
         (λ c is at steps stored. inr (gained_cited s0.setting.slots
         (after s0 st) lib v.shows v.matches.store v.verifies.library.distinct at.entry
-        steps former kept before now
+        steps former kept exchange.before exchange.now
         (stored_before s0 s1 i label former looks read st lib (matches_back s1 s st on1 (matches_back s t st on2 m)) v at) stored
-        cited_before cited_now gained gains c is))
-        reads
+        exchange.cited_before exchange.cited_now gained exchange.gains c is))
+        reads)

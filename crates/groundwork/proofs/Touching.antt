@@ -23,6 +23,7 @@ use Rattle.cells.proofs.Sights.{matches_back, after_looks, setting_kept}
 use Rattle.cells.proofs.Keeping.{keeps_same, keeps_trans, keeps_wider}
 use Rattle.cells.proofs.Holding.{stored_named, named_held, stored_cites, cites_stored}
 use Rattle.cells.proofs.Found.{held_holds}
+use Rattle.groundwork.specs.Changes.{AreExchanged}
 use Rattle.groundwork.specs.Touches.{IsCitersCell, IsOfReproof, Touches, KeepsTo, ReprovesWithin}
 use Rattle.groundwork.proofs.Seeing.{views_later, found_later}
 
@@ -98,13 +99,11 @@ module _ (slots : ℕ) (st : State) (lib : List Ranked) (shows : Shows slots st 
 -- ---- another proof
 
 pub resteps_within : {O : Type 0} → (s0 s1 s2 s3 s4 : Sight O) (i : ℕ) (label : List ℕ) (former kept : List StoredStep)
-    (before now dropped gained : List ℕ) → Looks s0 s1 → Onward s1 s2 → Onward s2 s3 → Onward s3 s4
+    (dropped gained : List ℕ) → Looks s0 s1 → Onward s1 s2 → Onward s2 s3 → Onward s3 s4
     → ForEachHeld s1 i (λ st lib e. AreStoredAs s1.setting.slots st e.assertion.proof former)
-    → AreCitedSlots former before → AreCitedSlots kept now → AreOnlyIn before now dropped → AreOnlyIn now before gained
-    → KeepsAside (λ c. c ≡ proof_cell i) s1 s2 → KeepsAside (IsCitersOf dropped) s2 s3 → KeepsAside (IsCitersOf gained) s3 s4
+    → AreExchanged former kept dropped gained → KeepsAside (λ c. c ≡ proof_cell i) s1 s2 → KeepsAside (IsCitersOf dropped) s2 s3 → KeepsAside (IsCitersOf gained) s3 s4
     → ReprovesWithin s0 s4 i label kept
-resteps_within s0 s1 s2 s3 s4 i label former kept before now dropped gained looks on2 on3 on4 read cited_before cited_now drops gains
-    proven out more st lib m seen here steps stored_as =
+resteps_within s0 s1 s2 s3 s4 i label former kept dropped gained looks on2 on3 on4 read exchange proven out more st lib m seen here steps stored_as =
     keeps_trans such s0 s1 s4 (keeps_same such s0 s1 looks.writes)
     (keeps_trans such s1 s3 s4
     (keeps_trans such s1 s2 s3 (keeps_wider (λ c. c ≡ proof_cell i) such s1 s2 (λ c is. inl is) proven)
@@ -132,12 +131,12 @@ resteps_within s0 s1 s2 s3 s4 i label former kept before now dropped gained look
         → IsCitersCell s0.setting.slots (after s0 st) lib
         (λ f. cites (label_of f) here.entry ≢ cites (label_of f) (with_proof steps here.entry)) c
     was_cited =
-        dropped_cited slots (after s0 st) lib seen.shows seen.matches.store seen.verifies.library.distinct e steps former kept before now
-        stored_before stored_as cited_before cited_now dropped drops
+        dropped_cited slots (after s0 st) lib seen.shows seen.matches.store seen.verifies.library.distinct e steps former kept
+        exchange.before exchange.now stored_before stored_as exchange.cited_before exchange.cited_now dropped exchange.drops
 
     is_cited : (c : ℕ) → IsCitersOf gained c
         → IsCitersCell s0.setting.slots (after s0 st) lib
         (λ f. cites (label_of f) here.entry ≢ cites (label_of f) (with_proof steps here.entry)) c
     is_cited =
-        gained_cited slots (after s0 st) lib seen.shows seen.matches.store seen.verifies.library.distinct e steps former kept before now
-        stored_before stored_as cited_before cited_now gained gains
+        gained_cited slots (after s0 st) lib seen.shows seen.matches.store seen.verifies.library.distinct e steps former kept
+        exchange.before exchange.now stored_before stored_as exchange.cited_before exchange.cited_now gained exchange.gains

@@ -15,7 +15,7 @@ use Rattle.taking.specs.Names.{HasPlaces, KeepsNames, Naming, is_float_named_wel
 use Rattle.taking.specs.Reasons.{Choice, kept, kept_at}
 use Rattle.taking.specs.Taken.{chosen_of}
 use Rattle.choosing.specs.declared.wish.Wish.{Wish}
-use Rattle.naming.specs.declared.names.LibraryNames.{LibraryNames}
+use Rattle.sites.specs.declared.names.LibraryNames.{LibraryNames}
 use Rattle.sites.specs.Sites.{Sited}
 use Rattle.gathering.specs.declared.assembling.Gathered.{Gathered}
 use Rattle.gathering.specs.Placed.{map_of, tables_of, floats_from}

@@ -11,8 +11,8 @@ use Rattle.taking.specs.Taken.{AreTaken, told}
 use Rattle.choosing.specs.Choices.{IsChosen}
 use Rattle.choosing.specs.declared.wish.Wish.{Wish}
 use Rattle.choosing.specs.declared.wish.Selection.{Selection}
-use Rattle.naming.specs.declared.names.LibraryNames.{LibraryNames}
-use Rattle.naming.specs.Namings.{AreNamedWell}
+use Rattle.sites.specs.declared.names.LibraryNames.{LibraryNames}
+use Rattle.sites.specs.Namings.{AreNamedWell}
 use Rattle.sites.specs.Sites.{Sited, AreSites}
 use Rattle.gathering.specs.declared.assembling.Gathered.{Gathered}
 use Rattle.intake.specs.declared.taken.Taken.{Taken}

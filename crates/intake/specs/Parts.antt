@@ -10,8 +10,8 @@ use Rattle.taking.specs.Reasons.{Choice}
 use Rattle.taking.specs.Taken.{AreTaken, told, chosen_of}
 use Rattle.choosing.specs.Choices.{IsChoice, AreThere, first_unknown, StandsBehind}
 use Rattle.choosing.specs.declared.wish.Wish.{Wish}
-use Rattle.naming.specs.declared.names.LibraryNames.{LibraryNames}
-use Rattle.naming.specs.Namings.{AreNamedWell}
+use Rattle.sites.specs.declared.names.LibraryNames.{LibraryNames}
+use Rattle.sites.specs.Namings.{AreNamedWell}
 use Rattle.sites.specs.Sites.{Sited, AreTyped, AreSites}
 use Rattle.gathering.specs.declared.assembling.Gathered.{Gathered}
 use Rattle.gathering.specs.Placed.{map_of, tables_of}

@@ -4,3 +4,5 @@ mod Listing
 mod Noted
 mod Places
 mod Siting
+mod Apart
+mod Flags

@@ -3,3 +3,5 @@ pub mod Indexes
 pub mod Sites
 pub mod Used
 pub mod Given
+pub mod Changes
+pub mod Namings

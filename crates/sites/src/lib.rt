@@ -1,14 +1,18 @@
-//! What of a source has a place in a library: constants, `$f` and assertions.
+//! What of a source has a place in a library, constants, `$f` and assertions, and the names that these have there.
 #![tactic(auto)]
 
 mod active;
+mod changes;
+mod free;
 mod gathering;
 mod given;
 mod indexed;
+mod names;
 mod sites;
 mod used;
 
 pub use active::Active;
 pub use gathering::sites_of;
 pub use given::active_at;
+pub use names::{LibraryNames, Unnamed, name_all};
 pub use sites::Sites;

@@ -4,8 +4,8 @@
 
 use crate::following::Followed;
 use library::Ranked;
-use outlining::{Outline, Stretch, outline_of};
 use rewriting::Span;
+use sourcewriting::{Outline, Stretch, outline_of};
 use std::alloc::{AllocError, Global};
 use std::collections::HashMap;
 use std::hash::RandomState;

@@ -11,10 +11,12 @@ use crate::moving::{Moving, moving_of};
 use crate::planning::{ByLabel, Planned, unwritten};
 use crate::refusal::{Refusal, shown};
 use giving::Changes;
-use outlining::{Leaving, Outline, Standing, Stretch, cuts_of, outline_of};
 use rewriting::{Span, cut_out, put_in, rewrite};
 use source::{Declared, ProofWords};
-use sourcewriting::{Names, Statement, SymbolWords, assertion_text, symbol_words};
+use sourcewriting::{
+    Leaving, Names, Outline, Standing, Statement, Stretch, SymbolWords, assertion_text, cuts_of,
+    outline_of, symbol_words,
+};
 use std::alloc::{AllocError, Global};
 use std::collections::HashMap;
 use std::hash::RandomState;

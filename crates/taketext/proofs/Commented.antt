@@ -9,8 +9,8 @@ use Rattle.mmsyntax.specs.Layout.{spaced}
 use Rattle.mmsyntax.proofs.Distinct.{all_weaker}
 use Rattle.sha2.specs.Sha256.{sha256}
 use Rattle.source.specs.Views.{seen_words}
-use Rattle.textlaws.specs.Fronts.{SaysNothing}
-use Rattle.textlaws.proofs.Silent.{plain_comment}
+use Rattle.taketext.specs.Fronts.{SaysNothing}
+use Rattle.taketext.proofs.Silent.{plain_comment}
 use Rattle.taking.specs.declared.reason.Reason.{Reason}
 use Rattle.taking.specs.declared.reason.Reason.TheVariants.{Unfinished, TooLong, InFront, CitesUnchosen}
 use Rattle.taking.specs.Names.{Naming}

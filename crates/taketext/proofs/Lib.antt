@@ -4,3 +4,7 @@ pub mod Named
 pub mod Quiet
 pub mod Shown
 pub mod Whole
+pub mod Separate
+pub mod Silent
+pub mod Behind
+pub mod Worded

@@ -26,8 +26,8 @@ use Rattle.mmsyntax.proofs.Declarable.{declarable, sound_where_apart}
 use Rattle.source.specs.Scopes.{Hypothesis, typing, premise, Assertion, Scope, is_in}
 use Rattle.source.proofs.Wholes.{sources_whole}
 use Rattle.source.proofs.Passing.{three_parts}
-use Rattle.textlaws.specs.Names.{IsMathSymbol, IsLabelToken, IsHypothesisWorded, IsAssertionWorded, IsWorded}
-use Rattle.textlaws.proofs.Worded.{sources_worded}
+use Rattle.taketext.specs.Names.{IsMathSymbol, IsLabelToken, IsHypothesisWorded, IsAssertionWorded, IsWorded}
+use Rattle.taketext.proofs.Worded.{sources_worded}
 use Rattle.taking.specs.declared.reason.Reason.{Reason}
 use Rattle.taking.specs.Names.{Map, Naming, label_in, is_symbol_of, is_float_labelled, has_float_labelled}
 use Rattle.taking.specs.Names.{constant_namings, variable_namings, float_namings}

@@ -3,7 +3,7 @@ use Rattle.std.proofs.Common.{◌≡◌, ◌∙◌, ◌++◌, ◌∷◌, [], ℕ
 use Rattle.mmsyntax.specs.Grammar.{Spells}
 use Rattle.mmsyntax.specs.Layout.{text_of, HasSpelling}
 use Rattle.mmsyntax.proofs.Canonical.{spelled_again}
-use Rattle.textlaws.proofs.Behind.{spelled_behind}
+use Rattle.taketext.proofs.Behind.{spelled_behind}
 use Rattle.choosing.specs.declared.wish.Wish.{Wish}
 use Rattle.intake.specs.declared.taken.Taken.{Taken}
 use Rattle.intake.specs.Intakes.{IsTakenByWish}

@@ -1,3 +1,5 @@
 pub mod Comments
 pub mod Refusals
 pub mod Answers
+pub mod Fronts
+pub mod Names

@@ -1,5 +1,6 @@
 //! What the program prints of a library that is taken of a source: the library's text behind a comment that tells of it, or the line of a
-//! refusal.
+//! refusal. That the whole text spells the library follows from laws of texts: what may stand in front of one, and which bytes the names of
+//! a source have.
 //!
 //! All of a source is taken:
 //!
@@ -19,7 +20,12 @@
 
 mod answering;
 mod comment;
+mod laws;
 mod refusing;
 
 pub use answering::{Told, answer_take, write_taken};
 pub use intake::{Follow, Unfollowed};
+pub use laws::{
+    comments_say_nothing, declared_behind_comments, sources_are_worded, spelled_behind_comments,
+    white_space_ends_words,
+};

@@ -1,8 +1,0 @@
--- What the loop of `trunks_of` keeps: the trunks so far.
-use Rattle.std.proofs.Common.{take}
-use Rattle.source.specs.Views.{seen_words}
-use Rattle.naming.specs.Changes.{HasTrunks}
-use Rattle.naming.proofs.free.trunks_of.Given as goal
-
-abbrev pub invariant-loop-label : goal.invariant-loop-label
-invariant-loop-label l = HasTrunks l.trunks (seen_words (take l.label-index l.labels))

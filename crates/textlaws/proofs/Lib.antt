@@ -1,4 +1,0 @@
-pub mod Separate
-pub mod Silent
-pub mod Behind
-pub mod Worded

@@ -1,5 +1,0 @@
-use Rattle.textlaws.proofs.Silent.{comments_say_nothing}
-use Rattle.textlaws.proofs.laws.comments_say_nothing.Goals as goal
-
-pub returns : goal.returns
-returns c = comments_say_nothing

@@ -1,5 +1,0 @@
-use Rattle.textlaws.proofs.Worded.{sources_worded}
-use Rattle.textlaws.proofs.laws.sources_are_worded.Goals as goal
-
-pub returns : goal.returns
-returns c = sources_worded
