@@ -23,3 +23,12 @@ returns-clause-ok g c =
     (subst (λ (l : List ℕ). (other : List ℕ) → other ≢ l → frames_in c.insert.new.self other ≡ frames_in c.args.by_label.now other) key
     (found_elsewhere c.in_ok-key.key.items old new (Some f) updates))
     c.in_ok-frame.ensures.ok
+
+pub returns-in_err-frame-clause-reads : goal.returns-in_err-frame-clause-reads
+returns-in_err-frame-clause-reads g c = c.frame.ensures.reads
+
+pub returns-in_err-insert-clause-reads : goal.returns-in_err-insert-clause-reads
+returns-in_err-insert-clause-reads g c = c.frame.ensures.reads
+
+pub returns-clause-reads : goal.returns-clause-reads
+returns-clause-reads g c = c.frame.ensures.reads

@@ -39,3 +39,27 @@ returns-in-Free-clause-ok g c =
 
 pub returns-then-not-is_lawful_label-clause-reads : goal.returns-then-not-is_lawful_label-clause-reads
 returns-then-not-is_lawful_label-clause-reads g c = where_same _
+
+pub returns-in_err-standing_of-clause-looks : goal.returns-in_err-standing_of-clause-looks
+returns-in_err-standing_of-clause-looks g c = c.standing_of.ensures.looks
+
+pub returns-in_err-standing_of-clause-reads : goal.returns-in_err-standing_of-clause-reads
+returns-in_err-standing_of-clause-reads g c = c.standing_of.ensures.reads
+
+pub returns-in-Taken-clause-looks : goal.returns-in-Taken-clause-looks
+returns-in-Taken-clause-looks g c = c.standing_of.ensures.looks
+
+pub returns-in-Taken-clause-reads : goal.returns-in-Taken-clause-reads
+returns-in-Taken-clause-reads g c = c.standing_of.ensures.reads
+
+pub returns-in-Clashing-clause-looks : goal.returns-in-Clashing-clause-looks
+returns-in-Clashing-clause-looks g c = c.standing_of.ensures.looks
+
+pub returns-in-Clashing-clause-reads : goal.returns-in-Clashing-clause-reads
+returns-in-Clashing-clause-reads g c = c.standing_of.ensures.reads
+
+pub returns-in-Free-clause-looks : goal.returns-in-Free-clause-looks
+returns-in-Free-clause-looks g c = c.standing_of.ensures.looks
+
+pub returns-in-Free-clause-reads : goal.returns-in-Free-clause-reads
+returns-in-Free-clause-reads g c = c.standing_of.ensures.reads
