@@ -52,7 +52,8 @@ module _ {O : Type 0} (s0 : Sight O) (i : ℕ) (label : List ℕ) (kept : List S
   resteps_put s1 s2 first on more =
       since_then (OfResteps s0 i label kept) (resteps_proof s0 s1 first) on (resteps_proof s1 s2 more)
 
-  module _ (s1 s t : Sight O) (former : List StoredStep) (dropped gained : List ℕ) (looks : Looks s0 s1) (on1 : Onward s1 s) (on2 : Onward s t)
+  module _ (s1 s t : Sight O) (former : List StoredStep) (dropped gained : List ℕ) (looks : Looks s0 s1) (on1 : Onward s1 s)
+      (on2 : Onward s t)
       (read : ForEachHeld s1 i (λ st lib e. AreStoredAs s1.setting.slots st e.assertion.proof former))
       (exchange : AreExchanged former kept dropped gained) (since : ReadsSince (OfResteps s0 i label kept) s0 s0 s) where
     -- what the former proof cites alone is counted out

@@ -65,10 +65,12 @@ restepped s0 s1 s2 s3 s4 i label former kept dropped gained words looks on2 on3 
     let body = subst (HasBody (after s2 st) (proof_cell i)) words_are (names st m2) in
     let out = counts st m3 within exchange.drops.apart in
     let small : (j : ℕ) → Has j gained → (after s3 st).value (citers_cell j) < 2 ^ 32 = λ j h.
-    let named = stored_named slots (after s1 st) lib v.shows store steps kept j stored_now (exchange.cited_now.cited j (exchange.gains.from j h).0) in
+    let named = stored_named slots (after s1 st) lib v.shows store steps kept j stored_now
+    (exchange.cited_now.cited j (exchange.gains.from j h).0) in
     let p = named_held slots (after s1 st) lib v.shows store j named.0 named.1 in
     let few = less_few slots (after s1 st) (after s2 st) (after s3 st) (after s4 st) lib v.shows store apart label i at theorem steps
-    former kept exchange.before exchange.now stored stored_now exchange.cited_before exchange.cited_now dropped gained exchange.drops exchange.gains refl refl body (others st) out
+    former kept exchange.before exchange.now stored stored_now exchange.cited_before exchange.cited_now dropped gained
+    exchange.drops exchange.gains refl refl body (others st) out
     p.0 p.1 in
     let room = v.verifies.library.room in
     let most = v.verifies.setting.few in
@@ -76,5 +78,6 @@ restepped s0 s1 s2 s3 s4 i label former kept dropped gained words looks on2 on3 
     let more = adds st m small exchange.gains.apart in
     subst (λ (x : Setting). Shows x.slots (after s4 st) (changed label (with_proof steps) lib)) (sym setting)
     (reproved_shows slots (after s1 st) (after s2 st) (after s3 st) (after s4 st) lib v.shows store apart label i at theorem steps
-    former kept exchange.before exchange.now stored stored_now exchange.cited_before exchange.cited_now dropped gained exchange.drops exchange.gains refl refl body (others st) out
+    former kept exchange.before exchange.now stored stored_now exchange.cited_before exchange.cited_now dropped gained
+    exchange.drops exchange.gains refl refl body (others st) out
     more)

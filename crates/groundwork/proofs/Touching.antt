@@ -101,9 +101,11 @@ module _ (slots : ℕ) (st : State) (lib : List Ranked) (shows : Shows slots st 
 pub resteps_within : {O : Type 0} → (s0 s1 s2 s3 s4 : Sight O) (i : ℕ) (label : List ℕ) (former kept : List StoredStep)
     (dropped gained : List ℕ) → Looks s0 s1 → Onward s1 s2 → Onward s2 s3 → Onward s3 s4
     → ForEachHeld s1 i (λ st lib e. AreStoredAs s1.setting.slots st e.assertion.proof former)
-    → AreExchanged former kept dropped gained → KeepsAside (λ c. c ≡ proof_cell i) s1 s2 → KeepsAside (IsCitersOf dropped) s2 s3 → KeepsAside (IsCitersOf gained) s3 s4
+    → AreExchanged former kept dropped gained → KeepsAside (λ c. c ≡ proof_cell i) s1 s2
+    → KeepsAside (IsCitersOf dropped) s2 s3 → KeepsAside (IsCitersOf gained) s3 s4
     → ReprovesWithin s0 s4 i label kept
-resteps_within s0 s1 s2 s3 s4 i label former kept dropped gained looks on2 on3 on4 read exchange proven out more st lib m seen here steps stored_as =
+resteps_within s0 s1 s2 s3 s4 i label former kept dropped gained looks on2 on3 on4 read exchange proven out more st lib m seen here
+    steps stored_as =
     keeps_trans such s0 s1 s4 (keeps_same such s0 s1 looks.writes)
     (keeps_trans such s1 s3 s4
     (keeps_trans such s1 s2 s3 (keeps_wider (λ c. c ≡ proof_cell i) such s1 s2 (λ c is. inl is) proven)

@@ -100,19 +100,22 @@ pub returns-in_err-former-clause-reads : goal.returns-in_err-former-clause-reads
 returns-in_err-former-clause-reads g c label =
     let s0 = g.C.Cells.sight c.args.cells.now in
     let s1 = g.C.Cells.sight c.stored_proof.new.cells in
-    resteps_end s0 c.args.slot label c.args.kept.now s1 (resteps_proof s0 c.args.slot label c.args.kept.now s0 s1 c.stored_proof.ensures.reads)
+    resteps_end s0 c.args.slot label c.args.kept.now s1
+    (resteps_proof s0 c.args.slot label c.args.kept.now s0 s1 c.stored_proof.ensures.reads)
 
 pub returns-in_err-cited-clause-reads : goal.returns-in_err-cited-clause-reads
 returns-in_err-cited-clause-reads g c label =
     let s0 = g.C.Cells.sight c.args.cells.now in
     let s1 = g.C.Cells.sight c.stored_proof.new.cells in
-    resteps_end s0 c.args.slot label c.args.kept.now s1 (resteps_proof s0 c.args.slot label c.args.kept.now s0 s1 c.stored_proof.ensures.reads)
+    resteps_end s0 c.args.slot label c.args.kept.now s1
+    (resteps_proof s0 c.args.slot label c.args.kept.now s0 s1 c.stored_proof.ensures.reads)
 
 pub returns-in_err-body-clause-reads : goal.returns-in_err-body-clause-reads
 returns-in_err-body-clause-reads g c label =
     let s0 = g.C.Cells.sight c.args.cells.now in
     let s1 = g.C.Cells.sight c.stored_proof.new.cells in
-    resteps_end s0 c.args.slot label c.args.kept.now s1 (resteps_proof s0 c.args.slot label c.args.kept.now s0 s1 c.stored_proof.ensures.reads)
+    resteps_end s0 c.args.slot label c.args.kept.now s1
+    (resteps_proof s0 c.args.slot label c.args.kept.now s0 s1 c.stored_proof.ensures.reads)
 
 pub returns-in_err-put_body-clause-reads : goal.returns-in_err-put_body-clause-reads
 returns-in_err-put_body-clause-reads g c label =
