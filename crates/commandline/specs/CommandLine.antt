@@ -2,15 +2,24 @@
 use Rattle.std.specs.Prelude.{◌≡◌, [], ◌∷◌, Some, true, false, codes}
 use Rattle.clap.specs.declared.builder.arg.Arg.{Arg}
 use Rattle.clap.specs.declared.builder.command.Command.{Command}
+use Rattle.clap.specs.declared.builder.action.ArgAction.{ArgAction}
 use Rattle.clap.specs.declared.builder.action.ArgAction.TheVariants.{Set, Append}
 use Rattle.clap.specs.declared.builder.value_parser.ValueParser.TheVariants as parser
 use Rattle.clap.specs.declared.builder.command.Command.TheViews.{out-Command}
-use Rattle.clap.specs.Words.{App, Rule, app_of, new_app, new_rule, rule_of, with_rule, with_subcommand}
+use Rattle.clap.specs.Words.{App, Rule, Text, app_of, new_app, new_rule, rule_of, with_rule, with_subcommand}
 use Rattle.clap.specs.Lexer.{usize_max}
+
+-- `NAME`: the path of a file that a job needs
+abbrev pub file_rule : Text → Rule
+file_rule name = record (new_rule name) { required = true; action = Some Set }
+
+-- `--NAME VALUE`: an option that a job may have, once or as often as wished
+abbrev pub option_rule : Text → ArgAction → Rule
+option_rule name action = record (new_rule name) { long = Some name; value_names = 1; action = Some action }
 
 -- `DB`
 abbrev pub database_rule : Rule
-database_rule = record (new_rule (codes "DB")) { required = true; action = Some Set }
+database_rule = file_rule (codes "DB")
 
 -- `--workers N`, of 1 to 64, and 1 where it isn't given
 abbrev pub workers_rule : Rule
@@ -33,7 +42,7 @@ room_rule = record (new_rule (codes "room")) {
 
 -- `--history FILE`
 abbrev pub history_rule : Rule
-history_rule = record (new_rule (codes "history")) { long = Some (codes "history"); value_names = 1; action = Some Set }
+history_rule = option_rule (codes "history") Set
 
 -- `SCRIPT..`
 abbrev pub scripts_rule : Rule
@@ -45,27 +54,27 @@ scripts_rule = record (new_rule (codes "SCRIPT")) {
 
 -- `HISTORY`
 abbrev pub replayed_rule : Rule
-replayed_rule = record (new_rule (codes "HISTORY")) { required = true; action = Some Set }
+replayed_rule = file_rule (codes "HISTORY")
 
 -- `--for LABEL`, as often as wished
 abbrev pub for_rule : Rule
-for_rule = record (new_rule (codes "for")) { long = Some (codes "for"); value_names = 1; action = Some Append }
+for_rule = option_rule (codes "for") Append
 
 -- `--from LABEL`
 abbrev pub from_rule : Rule
-from_rule = record (new_rule (codes "from")) { long = Some (codes "from"); value_names = 1; action = Some Set }
+from_rule = option_rule (codes "from") Set
 
 -- `--to LABEL`
 abbrev pub to_rule : Rule
-to_rule = record (new_rule (codes "to")) { long = Some (codes "to"); value_names = 1; action = Some Set }
+to_rule = option_rule (codes "to") Set
 
 -- `SOURCE`
 abbrev pub source_rule : Rule
-source_rule = record (new_rule (codes "SOURCE")) { required = true; action = Some Set }
+source_rule = file_rule (codes "SOURCE")
 
 -- `LIBRARY`
 abbrev pub library_rule : Rule
-library_rule = record (new_rule (codes "LIBRARY")) { required = true; action = Some Set }
+library_rule = file_rule (codes "LIBRARY")
 
 -- `check DB`
 abbrev pub check_app : App

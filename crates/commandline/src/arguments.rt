@@ -2,8 +2,7 @@
 
 ghost use Rattle.std.specs.Prelude.{IfOk};
 ghost use Rattle.clap.specs.Words.{App, Rule, with_rule, with_subcommand};
-ghost use Rattle.commandline.specs.CommandLine.{IsArgument, IsLine, database_rule, workers_rule, room_rule, history_rule, scripts_rule, replayed_rule};
-ghost use Rattle.commandline.specs.CommandLine.{for_rule, from_rule, to_rule, source_rule, library_rule};
+ghost use Rattle.commandline.specs.CommandLine.{IsArgument, IsLine, file_rule, option_rule, workers_rule, room_rule, scripts_rule};
 ghost use Rattle.commandline.specs.CommandLine.{check_app, run_app, replay_app, take_app, give_app, program_app};
 
 use clap::builder::ValueParser;
@@ -16,14 +15,40 @@ pub(crate) const WORKERS: usize = 64;
 /// The most words that the store of a run has room for.
 pub(crate) const ROOM: usize = 16_777_216;
 
-/// The database of a job.
-fn database<'a>(alloc: Global) -> Arg<'a>
-    ensures { IsArgument database_rule result }
+/// What is said of the database of a job.
+const DATABASE: &str = "A Metamath database";
+
+/// What is said of the history of a run.
+const HISTORY: &str = "The history of a run over it";
+
+/// What is said of the source that a library is taken of.
+const SOURCE: &str = "A database in the whole language of Metamath, without $[";
+
+/// `NAME`: the path of a file that a job needs.
+fn file<'a>(alloc: Global, name: &'a str, help: &'a str) -> Arg<'a>
+    ensures { IsArgument (file_rule name.now) result }
 {
-    Arg::new(alloc, "DB")
-        .help("A Metamath database")
+    Arg::new(alloc, name)
+        .help(help)
         .required(true)
         .action(ArgAction::Set)
+}
+
+/// `--NAME VALUE`: an option that a job may have, once or as often as wished.
+fn option<'a>(
+    alloc: Global,
+    name: &'a str,
+    value: &'a str,
+    action: ArgAction,
+    help: &'a str,
+) -> Arg<'a>
+    ensures { IsArgument (option_rule name.now action) result }
+{
+    Arg::new(alloc, name)
+        .long(name)
+        .value_name(value)
+        .help(help)
+        .action(action)
 }
 
 /// `--workers N`.
@@ -59,17 +84,6 @@ fn room<'a>(alloc: Global) -> Arg<'a>
         .action(ArgAction::Set)
 }
 
-/// `--history FILE`.
-fn history<'a>(alloc: Global) -> Arg<'a>
-    ensures { IsArgument history_rule result }
-{
-    Arg::new(alloc, "history")
-        .long("history")
-        .value_name("FILE")
-        .help("Writes the history of the run to this file")
-        .action(ArgAction::Set)
-}
-
 /// The scripts of a run.
 fn scripts<'a>(alloc: Global) -> Arg<'a>
     ensures { IsArgument scripts_rule result }
@@ -79,71 +93,6 @@ fn scripts<'a>(alloc: Global) -> Arg<'a>
         .required(true)
         .num_args(1..)
         .action(ArgAction::Append)
-}
-
-/// The history of a replay.
-fn replayed<'a>(alloc: Global) -> Arg<'a>
-    ensures { IsArgument replayed_rule result }
-{
-    Arg::new(alloc, "HISTORY")
-        .help("The history of a run over it")
-        .required(true)
-        .action(ArgAction::Set)
-}
-
-/// `--for LABEL`, as often as wished.
-fn asked<'a>(alloc: Global) -> Arg<'a>
-    ensures { IsArgument for_rule result }
-{
-    Arg::new(alloc, "for")
-        .long("for")
-        .value_name("LABEL")
-        .help("Takes this assertion and all that its proof needs; several may be given")
-        .action(ArgAction::Append)
-}
-
-/// `--from LABEL`.
-fn first<'a>(alloc: Global) -> Arg<'a>
-    ensures { IsArgument from_rule result }
-{
-    Arg::new(alloc, "from")
-        .long("from")
-        .value_name("LABEL")
-        .help(
-            "Takes the assertions from this one to that of --to, and what they cite before as axioms",
-        )
-        .action(ArgAction::Set)
-}
-
-/// `--to LABEL`.
-fn last<'a>(alloc: Global) -> Arg<'a>
-    ensures { IsArgument to_rule result }
-{
-    Arg::new(alloc, "to")
-        .long("to")
-        .value_name("LABEL")
-        .help("The last of the assertions that --from begins")
-        .action(ArgAction::Set)
-}
-
-/// The source that a library is taken of.
-fn source<'a>(alloc: Global) -> Arg<'a>
-    ensures { IsArgument source_rule result }
-{
-    Arg::new(alloc, "SOURCE")
-        .help("A database in the whole language of Metamath, without $[")
-        .required(true)
-        .action(ArgAction::Set)
-}
-
-/// The library that edits were made in.
-fn library<'a>(alloc: Global) -> Arg<'a>
-    ensures { IsArgument library_rule result }
-{
-    Arg::new(alloc, "LIBRARY")
-        .help("The library that `take` printed of the source")
-        .required(true)
-        .action(ArgAction::Set)
 }
 
 /// A command line with one argument more, unless memory ran out before.
@@ -190,7 +139,7 @@ fn check_line<'a>(alloc: Global) -> Result<Command<'a>, AllocError>
 {
     Command::new(alloc, "check")
         .about("Checks the proofs of a database; prints the number of its assertions")
-        .arg(database(alloc))
+        .arg(file(alloc, "DB", DATABASE))
 }
 
 /// `mmrefactor run [--workers N] [--room W] [--history FILE] DB SCRIPT..`.
@@ -201,8 +150,15 @@ fn run_line<'a>(alloc: Global) -> Result<Command<'a>, AllocError>
         .about("Runs edit scripts over a database; prints their replies and the resulting database")
         .arg(workers(alloc));
     let line = with_argument(line, room(alloc));
-    let line = with_argument(line, history(alloc));
-    let line = with_argument(line, database(alloc));
+    let history = option(
+        alloc,
+        "history",
+        "FILE",
+        ArgAction::Set,
+        "Writes the history of the run to this file",
+    );
+    let line = with_argument(line, history);
+    let line = with_argument(line, file(alloc, "DB", DATABASE));
     with_argument(line, scripts(alloc))
 }
 
@@ -212,8 +168,8 @@ fn replay_line<'a>(alloc: Global) -> Result<Command<'a>, AllocError>
 {
     Command::new(alloc, "replay")
         .about("Does a history again and compares its replies; prints the resulting database")
-        .arg(database(alloc))?
-        .arg(replayed(alloc))
+        .arg(file(alloc, "DB", DATABASE))?
+        .arg(file(alloc, "HISTORY", HISTORY))
 }
 
 /// `mmrefactor take [--for LABEL].. [--from LABEL --to LABEL] SOURCE`.
@@ -222,11 +178,32 @@ fn take_line<'a>(alloc: Global) -> Result<Command<'a>, AllocError>
 {
     let line = Command::new(alloc, "take")
         .about("Takes a library from a database in the whole language; prints it")
-        .after_help("Example: mmrefactor take --for sqrt2irr set.mm > sqrt2irr.mm")
-        .arg(asked(alloc));
-    let line = with_argument(line, first(alloc));
-    let line = with_argument(line, last(alloc));
-    with_argument(line, source(alloc))
+        .after_help("Example: mmrefactor take --for sqrt2irr set.mm > sqrt2irr.mm");
+    let asked = option(
+        alloc,
+        "for",
+        "LABEL",
+        ArgAction::Append,
+        "Takes this assertion and all that its proof needs; several may be given",
+    );
+    let line = line.arg(asked);
+    let first = option(
+        alloc,
+        "from",
+        "LABEL",
+        ArgAction::Set,
+        "Takes the assertions from this one to that of --to, and what they cite before as axioms",
+    );
+    let line = with_argument(line, first);
+    let last = option(
+        alloc,
+        "to",
+        "LABEL",
+        ArgAction::Set,
+        "The last of the assertions that --from begins",
+    );
+    let line = with_argument(line, last);
+    with_argument(line, file(alloc, "SOURCE", SOURCE))
 }
 
 /// `mmrefactor give SOURCE LIBRARY HISTORY`.
@@ -236,9 +213,14 @@ fn give_line<'a>(alloc: Global) -> Result<Command<'a>, AllocError>
     let line = Command::new(alloc, "give")
         .about("Gives the edits of a history back into the source; prints it with them")
         .after_help("Example: mmrefactor give set.mm sqrt2irr.mm run.history > edited.mm")
-        .arg(source(alloc));
-    let line = with_argument(line, library(alloc));
-    with_argument(line, replayed(alloc))
+        .arg(file(alloc, "SOURCE", SOURCE));
+    let library = file(
+        alloc,
+        "LIBRARY",
+        "The library that `take` printed of the source",
+    );
+    let line = with_argument(line, library);
+    with_argument(line, file(alloc, "HISTORY", HISTORY))
 }
 
 /// The command lines that the program takes: `mmrefactor check DB`, `mmrefactor run [--workers N] [--room W] [--history FILE] DB SCRIPT..`,

@@ -2,6 +2,8 @@
 use Rattle.std.proofs.Common.{◌≡◌, ℕ, ltb, Bool, true, false, cond, List, [], ◌∷◌, length, Option, Some, None, Result, Ok, Err}
 use Rattle.std.proofs.Common.{refl, sym, ap, subst, ◌∙◌}
 use Rattle.std.specs.Option.{option_map}
+use denote.Enum.Bare.{sameb}
+use Rattle.mmtext.specs.contracts.mark.Mark.{the_type as mark_type}
 use Rattle.mmtext.specs.declared.fault.FaultKind.TheVariants.{BadToken, BadByte, TooLong, Unfinished}
 use Rattle.mmtext.specs.declared.fault.Stop.{Stop}
 use Rattle.mmtext.specs.declared.fault.Stop.TheVariants as stop
@@ -42,6 +44,12 @@ by_mark false p t mark.Include decided = refl
 by_mark false p t mark.Included decided = refl
 by_mark false p t mark.Uncomment decided = refl
 by_mark false p t m decided = refl
+
+-- within a comment all else than $) is part of it, where neither $( nor $) stands in it
+pub part_of_comment : (t : Token) (m : Mark) → sameb mark_type m mark.Uncomment ≡ false → has_comment_mark t.text ≡ false
+    → turn_at true t m ≡ Ok (turn.Skipped true)
+part_of_comment t mark.Uncomment n h = absurd cc
+part_of_comment t m n h = ap (λ b. cond b (fault t BadToken) (Ok (turn.Skipped true))) h
 
 step_turned : {P A : Type 0} (l : Language P A) (s : State P) (t : Token)
     → step l s t ≡ after_turn s.place (l.row s.place t) (turn_at s.in_comment t (mark_of t.text))

@@ -48,13 +48,13 @@ pub enum Mark {
 pub fn contains_dollar(word: &[u8]) -> bool
     ensures { result ≡ has_dollar word.now }
 {
-    word.iter().any(|b| *b == b'$')
+    word.contains(&b'$')
 }
 
 pub fn contains_dot(word: &[u8]) -> bool
     ensures { result ≡ has_dot word.now }
 {
-    word.iter().any(|b| *b == b'.')
+    word.contains(&b'.')
 }
 
 fn may_stand_in_label(b: u8) -> bool

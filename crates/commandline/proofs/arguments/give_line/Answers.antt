@@ -15,6 +15,6 @@ pub returns : goal.returns
 returns c =
     let bare : IsLine bare_give c.after_help.result = search rules in
     let source = IfOk-weaker c.arg-line.result _ (IsLine with_source)
-    (λ new adds. adds_argument _ _ _ _ new adds bare c.source.ensures) c.arg-line.ensures in
-    let library = c.with_argument-line.ensures with_source library_rule source c.library.ensures in
-    c.with_argument.ensures (with_rule with_source library_rule) replayed_rule library c.replayed.ensures
+    (λ new adds. adds_argument _ _ _ _ new adds bare c.file.ensures) c.arg-line.ensures in
+    let library = c.with_argument-line.ensures with_source library_rule source c.file-library.ensures in
+    c.with_argument.ensures (with_rule with_source library_rule) replayed_rule library c.file-2.ensures

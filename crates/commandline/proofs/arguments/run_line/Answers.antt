@@ -23,6 +23,6 @@ returns c =
     let workers = IfOk-weaker c.arg-line.result _ (IsLine with_workers)
     (λ new adds. adds_argument _ _ _ _ new adds bare c.workers.ensures) c.arg-line.ensures in
     let room = c.with_argument-line.ensures with_workers room_rule workers c.room.ensures in
-    let history = c.with_argument-line-2.ensures with_room history_rule room c.history.ensures in
-    let database = c.with_argument-line-3.ensures with_history database_rule history c.database.ensures in
+    let history = c.with_argument-line-2.ensures with_room history_rule room c.option-history.ensures in
+    let database = c.with_argument-line-3.ensures with_history database_rule history c.file.ensures in
     c.with_argument.ensures (with_rule with_history database_rule) scripts_rule database c.scripts.ensures

@@ -16,9 +16,9 @@ with_first = with_rule with_asked from_rule
 
 pub returns : goal.returns
 returns c =
-    let bare : IsLine bare_take c.after_help.result = search rules in
+    let bare : IsLine bare_take c.after_help-line.result = search rules in
     let asked = IfOk-weaker c.arg-line.result _ (IsLine with_asked)
-    (λ new adds. adds_argument _ _ _ _ new adds bare c.asked.ensures) c.arg-line.ensures in
-    let first = c.with_argument-line.ensures with_asked from_rule asked c.first.ensures in
-    let last = c.with_argument-line-2.ensures with_first to_rule first c.last.ensures in
-    c.with_argument.ensures (with_rule with_first to_rule) source_rule last c.source.ensures
+    (λ new adds. adds_argument _ _ _ _ new adds bare c.option-asked.ensures) c.arg-line.ensures in
+    let first = c.with_argument-line.ensures with_asked from_rule asked c.option-first.ensures in
+    let last = c.with_argument-line-2.ensures with_first to_rule first c.option-last.ensures in
+    c.with_argument.ensures (with_rule with_first to_rule) source_rule last c.file.ensures
