@@ -121,7 +121,7 @@ impl<'s, 't> Walk<'s, 't> {
             self.comment = None;
             return Ok(());
         }
-        if let CommentPlace::Label = place {
+        if matches!(place, CommentPlace::Label) {
             self.change(changes, token)?;
         }
         self.comment = Some(place.behind(token.text));
