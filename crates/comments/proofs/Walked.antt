@@ -22,7 +22,7 @@ use Rattle.comments.proofs.Skipped.{block_skip, block_begins, in_deleted}
 use Rattle.comments.proofs.KeptBy.{kept-append}
 
 -- a token that opens a comment, and another one
-pub opens : (stating : Bool) (t : Token) (ts : List Token) → bytes_eq t.text (codes "$(") ≡ true
+opens : (stating : Bool) (t : Token) (ts : List Token) → bytes_eq t.text (codes "$(") ≡ true
     → comments_from stating None (t ∷ ts) ≡ comments_from stating (Some []) ts
 opens true t ts is = ap (λ b. cond b (comments_from true (Some []) ts) (comments_from (not (stands_between t.text)) None ts)) is
 opens false t ts is = ap (λ b. cond b (comments_from false (Some []) ts) (comments_from (not (stands_between t.text)) None ts)) is

@@ -1,5 +1,5 @@
 -- What is left to show of `comment_texts`.
-use Rattle.std.proofs.Common.{◌≡◌, ◌+◌, ◌≤◌, ◌∙◌, true, false, None, length, codes, refl, ap, rules, arith}
+use Rattle.std.proofs.Common.{◌≡◌, ◌+◌, ◌≤◌, true, false, None, length, codes, refl, ap, rules, arith}
 use Rattle.std.proofs.lemmas.Result.{IfOk-from_err}
 use Rattle.std.specs.Str.{bytes_eq}
 use mathlib.Core.Bool.{not}
@@ -8,7 +8,7 @@ use Rattle.comments.specs.Outside.{tokens_at}
 use Rattle.comments.specs.Insides.{labels_in}
 use Rattle.comments.specs.Walks.{IsCommentTaken}
 use Rattle.comments.specs.Comments.{comments_from}
-use Rattle.comments.proofs.Walked.{walked_outside, walked_comment, opens, texts_walked}
+use Rattle.comments.proofs.Walked.{walked_outside, walked_comment, texts_walked}
 use Rattle.comments.proofs.walking.comment_texts.Goals as goal
 
 pub loop-token-init : goal.loop-token-init
