@@ -32,8 +32,8 @@ returns-in_err-closed c = IfOk-from_err _ _ c.from_residual.ensures.0
 pub returns : goal.returns
 returns c =
     let walk = c.loop-token.walk in
-    texts_walked c.args.changes.now (labels_in c.args.gone.now) c.args.source.now (tokens_at c.args.source.now c.loop-token.at) c.loop-token.at
-    walk c.loop-token.invariant.walked (ap (comments_from walk.stating None) c.in_default.ensures.none)
+    texts_walked c.args.changes.now (labels_in c.args.gone.now) c.args.source.now (tokens_at c.args.source.now c.loop-token.at)
+    c.loop-token.at walk c.loop-token.invariant.walked (ap (comments_from walk.stating None) c.in_default.ensures.none)
 
 pub loop-token-preserved : goal.loop-token-preserved
 loop-token-preserved c =

@@ -20,9 +20,10 @@ pub returns-in-Absent-clause-outcome : goal.returns-in-Absent-clause-outcome
 returns-in-Absent-clause-outcome g c =
     let s = g.D.Declared.scope c.args.declared.now in
     let m = g.P.StepPlaces.places c.args.places.now in
+    let earlier = take c.args.place s.assertions in
     let o = slice_get s.assertions c.args.place in
     let is : IfSome o (λ x. x.proof ≡ None) =
-    subst (λ (f : ProofForm). IfSome o (λ x. IsForm m (take c.args.place s.assertions) x f)) c.in-Absent.is c.in_ok-read_proof.ensures.form in
+    subst (λ (f : ProofForm). IfSome o (λ x. IsForm m earlier x f)) c.in-Absent.is c.in_ok-read_proof.ensures.form in
     λ choice are.
     if_then o (λ x. HasStepsFor m choice s x) (λ x. x.proof ≡ None) (λ x. x.proof ≡ None) (λ x none. none) is
 
