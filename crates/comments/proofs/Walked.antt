@@ -16,7 +16,7 @@ use Rattle.comments.specs.Deleted.{IsOfDeleted}
 use Rattle.comments.specs.Outside.{in_comment_behind, EndBy}
 use Rattle.comments.specs.Passing.{IsClosed}
 use Rattle.comments.specs.Blocks.{IsInBlockUntil}
-use Rattle.comments.specs.Walks.{seen_texts, comment_of, MayEnd, MayStay, IsWalked}
+use Rattle.comments.specs.Walks.{seen_texts, comment_of, MayEnd, MayStay, IsWalked, AreTexts}
 use Rattle.comments.proofs.Opened.{closed_then as closed_both, closed_one}
 use Rattle.comments.proofs.Skipped.{block_skip, block_begins, in_deleted}
 use Rattle.comments.proofs.KeptBy.{kept-append}
@@ -193,3 +193,14 @@ module _ (cs : List Change) (gone : List Word) (source : List ℕ) where
       walked_comment stays =
           takes (tells cs gone source words left after old.until end (seen_texts old.texts.items) (seen_texts new.texts.items)
           old.stating c block_then stays)
+
+-- where no comment is left
+pub texts_walked : (cs : List Change) (gone : List Word) (source : List ℕ) (left : List Token) (at : ℕ) (w : Walk)
+    → IsWalked cs gone source left at w → comments_from w.stating None left ≡ [] → AreTexts cs gone source (seen_texts w.texts.items)
+texts_walked cs gone source left at w h none =
+    let all : h.so_far ≡ comments source = sym (h.splits ∙ ap (λ ys. h.so_far ++ ys) none ∙ append-nil h.so_far) in record {
+      stay = h.stay;
+      many = h.many ∙ ap length all;
+      left_out = subst (λ (xs : List Comment). All (IsOfDeleted gone source) (kept (map not h.stay) xs)) all h.left_out;
+      same = h.texts ∙ ap (λ xs. map (reading_then cs) (kept h.stay xs)) all;
+    }

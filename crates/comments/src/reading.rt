@@ -22,7 +22,7 @@ fn leads_across(word: &[u8]) -> bool
 }
 
 /// Where the words of a comment stand.
-#[derive(Clone, Copy, Debug)]
+#[derive(Clone, Copy)]
 pub(crate) struct Standing {
     /// Among symbols.
     pub among_symbols: bool,

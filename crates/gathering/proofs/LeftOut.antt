@@ -107,6 +107,13 @@ module _ (xs : List Assertion) (chosen : List Word) (flags : List Bool) (are : m
 
 -- ---- what nodes name
 
+pub named_within : (many : ℕ) (nodes : List Shared) (i a : ℕ) → All (λ n. n.named < many) nodes
+    → option_map (λ n. n.named) (slice_get nodes i) ≡ Some a → a < many
+named_within many nodes i a all names =
+    let n : (n : Shared) × (slice_get nodes i ≡ Some n) × (n.named ≡ a) = mapped (λ n. n.named) (slice_get nodes i) a names in
+    subst (λ (k : ℕ). k < many) n.2
+    (all_at (λ (n : Shared). n.named < many) nodes i n.0 (recursion_from_All (λ n. n.named < many) nodes all) n.1)
+
 module _ (test : Word → Bool) (words : List (Bor (List ℕ))) (nodes : List Shared) (i a : ℕ) (label : Bor (List ℕ))
     (all : All (λ n. n.named < length words) nodes) (names : option_map (λ n. n.named) (slice_get nodes i) ≡ Some a)
     (is : label ≡ get_or words a label) where
@@ -119,9 +126,7 @@ module _ (test : Word → Bool) (words : List (Bor (List ℕ))) (nodes : List Sh
   named_label : names_such node_there.0 ≡ test label.now
   named_label =
       let n = node_there in
-      let within : a < length words =
-      subst (λ (k : ℕ). k < length words) n.2
-      (all_at (λ (n : Shared). n.named < length words) nodes i n.0 (recursion_from_All (λ n. n.named < length words) nodes all) n.1) in
+      let within : a < length words = named_within (length words) nodes i a all names in
       ap test (ap (λ k. slice_index_or (seen_words words) k []) n.2
       ∙ get_or-map (λ (w : Bor (List ℕ)). w.now) words a label [] within
       ∙ ap (λ (w : Bor (List ℕ)). w.now) (sym is))

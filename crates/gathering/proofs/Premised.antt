@@ -44,6 +44,11 @@ module _ (f : Word → Option Symbol) (hs : List HypothesisWords) (done : List (
       ∙ ap (λ o. following done (both o (each (each f) (premises (given_hypotheses (drop (i + 1) hs)))))) has
       ∙ one_more done x (each (each f) (premises (given_hypotheses (drop (i + 1) hs))))
 
+  -- a $f
+  pub passes_float : (label constant variable : Word) → seen_hypothesis (get_or hs i d) ≡ typing label constant variable
+      → left f done (drop i hs) ≡ left f done (drop (i + 1) hs)
+  passes_float label constant variable is = next ∙ ap (head f done (given_hypotheses (drop (i + 1) hs))) is
+
   -- a $e with a word that has none
   pub no_premise : (label : Word) (ws : List Word) → seen_hypothesis (get_or hs i d) ≡ premise label ws → each f ws ≡ None
       → left f done (drop i hs) ≡ None

@@ -168,10 +168,10 @@ fn put<'a>(gathered: &mut Gathered<'a>, label: Option<&'a [u8]>, one: One) -> Re
     ensures axioms { OnOk result (told_in gathered.new.axioms.items ≡ told_in gathered.old.axioms.items
         ++ told_with (option_map (λ w. w.now) label.entry) one.reason) }
 {
+    gathered.assertions.push(one.assertion)?;
     if let (Some(label), Some(reason)) = (label, one.reason) {
         gathered.axioms.push((label, reason))?;
     }
-    gathered.assertions.push(one.assertion)?;
     Ok(())
 }
 

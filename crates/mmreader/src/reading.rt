@@ -3,15 +3,13 @@
 ghost use Rattle.std.specs.Prelude.{◌≡◌, IfOk, OnOk};
 ghost use Rattle.mmtext.specs.Laws.{IsRead};
 ghost use Rattle.mmtext.specs.Text.{mark_of};
-ghost use Rattle.mmsyntax.specs.Faults.{in_place, row, database_language};
+ghost use Rattle.mmsyntax.specs.Faults.{row, database_language};
 ghost use Rattle.mmsyntax.specs.Grammar.{Spells};
-ghost use Rattle.mmsyntax.specs.Layout.{HasSpelling};
 ghost use Rattle.mmtext.specs.Views.{seen, Gives};
 ghost use Rattle.statementreader.specs.Recalls.{RecallsTrue};
 ghost use Rattle.statementreader.specs.Standing.{SuitsPlace};
 ghost use Rattle.mmunits.specs.Views.{known_of};
 ghost use Rattle.statementreader.specs.Views.{seen_place, seen_position, IsUnitPlace, Leads};
-ghost use Rattle.mmreader.specs.Readers.{contents_of};
 
 use mmsyntax::{Assertion, Database, MOST_BYTES, Prelude, Sequence, SymbolTable};
 use mmtext::{Mark, Reader, Stop, TextFault, Token, read};
@@ -33,27 +31,7 @@ struct DatabaseReader<'a> {
     place: Place<'a>,
 }
 
-/// Where a token with a mark leads that stands outside of comments.
-fn place_by_mark<'a>(
-    alloc: Global,
-    symbols: &mut SymbolTable,
-    units: &mut Units,
-    place: Place<'a>,
-    token: Token<'a>,
-    mark: Mark,
-) -> Result<Place<'a>, Stop>
-    requires { SuitsPlace (known_of symbols.old units.old) (seen_place place) }
-    ensures leads { Leads symbols.new units.new result
-        (in_place (known_of symbols.old units.old) (seen_place place.entry) (seen token.entry) mark) }
-    ensures kept { IsUnitPlace place.entry → symbols.new ≡ symbols.old }
-{
-    match place {
-        Place::Prelude(place) => next_prelude_place(alloc, symbols, units, place, token, mark),
-        Place::Unit(place) => next_unit_place(alloc, symbols, units, place, token, mark),
-    }
-}
-
-/// The same, by the language; and what stands at a place stands behind the token too.
+/// Where a token leads that stands outside of comments; and what stands at a place stands behind the token too.
 fn next_place<'a>(
     alloc: Global,
     symbols: &mut SymbolTable,
@@ -68,7 +46,10 @@ fn next_place<'a>(
     ensures stands { IfOk result (λ p. SuitsPlace (known_of symbols.new units.new) (seen_place p)) }
     ensures kept { IsUnitPlace place.entry → symbols.new ≡ symbols.old }
 {
-    place_by_mark(alloc, symbols, units, place, token, mark)
+    match place {
+        Place::Prelude(place) => next_prelude_place(alloc, symbols, units, place, token, mark),
+        Place::Unit(place) => next_unit_place(alloc, symbols, units, place, token, mark),
+    }
 }
 
 /// Goes from a place to where a token leads. Words are kept only while the symbols stay.
@@ -94,22 +75,6 @@ fn advance<'a>(
     let next = next_place(alloc, symbols, units, here, token, mark)?;
     drop(mem::replace(place, next));
     Ok(())
-}
-
-/// The symbols and the assertions that were read.
-fn into_said(reader: DatabaseReader<'_>) -> (SymbolTable, Vec<Assertion>)
-    ensures symbols { result.0 ≡ reader.entry.symbols }
-    ensures assertions { result.1.items ≡ reader.entry.units.assertions }
-{
-    let DatabaseReader {
-        symbols,
-        units,
-        recent,
-        place,
-    } = reader;
-    drop(recent);
-    drop(place);
-    (symbols, units.into_assertions())
 }
 
 impl<'a> Reader<'a> for DatabaseReader<'a> {
@@ -159,7 +124,15 @@ impl<'a> Reader<'a> for DatabaseReader<'a> {
 
     fn finish(self) -> Option<(SymbolTable, Vec<Assertion>)> {
         let is_whole = is_outermost(&self.place);
-        let said = into_said(self);
+        let DatabaseReader {
+            symbols,
+            units,
+            recent,
+            place,
+        } = self;
+        drop(recent);
+        drop(place);
+        let said = (symbols, units.into_assertions());
         if is_whole {
             return Some(said);
         }
@@ -217,15 +190,10 @@ pub fn read_database(alloc: Global, keys: RandomState, text: &[u8]) -> Result<Da
         place: Place::Unit(UnitPlace::AtStart(Scope::Outside)),
     };
     match read(alloc, reader, text) {
-        Ok((symbols, assertions)) => Ok(into_database(symbols, assertions)),
+        Ok((symbols, assertions)) => Ok(Database::new(
+            Prelude::new(symbols),
+            Sequence::from_vec(assertions),
+        )),
         Err(fault) => Err(fault),
     }
-}
-
-/// The database of what some text declares.
-fn into_database(symbols: SymbolTable, assertions: Vec<Assertion>) -> Database
-    requires { HasSpelling (contents_of symbols assertions.items) }
-    ensures { result ≡ contents_of symbols assertions.items }
-{
-    Database::new(Prelude::new(symbols), Sequence::from_vec(assertions))
 }

@@ -1,6 +1,9 @@
 -- The spans of a walk behind one more token.
 use Rattle.std.proofs.Common.{◌≡◌, ◌∙◌, ◌⊎◌, ℕ, ◌+◌, ◌≤◌, false, List, [], ◌∷◌, ◌++◌, length, All, Option, Some, None, codes}
 use Rattle.std.proofs.Common.{refl, sym, ap, subst, inl, inr, arith}
+use Rattle.std.specs.Option.{option_map}
+use Rattle.std.specs.Prelude.{find}
+use Rattle.std.specs.Str.{bytes_eq}
 use Rattle.std.proofs.lemmas.List.{append-nil}
 use Rattle.std.proofs.lemmas.List.Elements.{All-push}
 use Rattle.mmtext.specs.Text.{Token, tokens}
@@ -8,7 +11,7 @@ use Rattle.giving.specs.Staying.{Change}
 use Rattle.rewriting.specs.declared.span.Span.{Span}
 use Rattle.rewriting.specs.declared.walk.Passing.{Passing}
 use Rattle.rewriting.specs.declared.walk.Walk.{Walk}
-use Rattle.rewriting.specs.Spans.{AreInOrder, outside, IsTokenOf, IsNoLetter, IsBehindTilde, IsSpan}
+use Rattle.rewriting.specs.Spans.{AreInOrder, outside, IsTokenOf, IsNoLetter, IsBehindTilde, IsChangedTo, IsSpan}
 use Rattle.rewriting.specs.Walks.{IsPassedIf, AreBetween, free_from, IsFound, spans_to, IsWalked}
 use Rattle.rewriting.proofs.Orders.{wider, one_more, in_order}
 
@@ -96,3 +99,14 @@ ended_spans cs proofs source at t so_far after (Some p) xs le is splits h have =
 pub with_fact : {A B C : Type 0} → A ⊎ B → C → A ⊎ (B × C)
 with_fact (inl a) c = inl a
 with_fact (inr b) c = inr (b, c)
+
+-- ---- one look-up
+
+change_there : (o : Option Change) (new : List ℕ) → Some new ≡ option_map (λ c. c.1) o → (c : Change) × (o ≡ Some c) × (c.1 ≡ new)
+change_there None new e = absurd cc
+change_there (Some c) new e = (c, refl, cc)
+
+-- what a word changes to
+pub changed_to : (cs : List Change) (word new : List ℕ) → Some new ≡ option_map (λ c. c.1) (find (λ c. bytes_eq word c.0) cs)
+    → IsChangedTo cs word new
+changed_to cs word new e = change_there (find (λ c. bytes_eq word c.0) cs) new e

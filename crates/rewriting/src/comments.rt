@@ -15,7 +15,7 @@ fn leads_across(token: &[u8]) -> bool {
 }
 
 /// How far a comment was read.
-#[derive(Clone, Copy, Debug, PartialEq, Eq)]
+#[derive(Clone, Copy)]
 pub(crate) enum CommentPlace {
     /// Among words.
     Words,

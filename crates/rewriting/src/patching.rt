@@ -19,7 +19,10 @@ fn is_white(byte: u8) -> bool
 fn begins_apart(bytes: &[u8]) -> bool
     ensures { result ≡ ends_token bytes.now }
 {
-    bytes.first().is_none_or(|byte| is_white(*byte))
+    match bytes.first() {
+        Some(byte) => is_white(*byte),
+        None => true,
+    }
 }
 
 /// Whether a place of a text stands behind a token.

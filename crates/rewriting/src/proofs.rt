@@ -9,7 +9,7 @@ ghost use Rattle.rewriting.specs.Walks.{is_begun, are_letters, LeadsTo};
 use mmtext::Mark;
 
 /// How far a proof was read.
-#[derive(Clone, Copy, Debug, PartialEq, Eq)]
+#[derive(Clone, Copy)]
 pub(crate) enum ProofPlace {
     /// Outside of proofs.
     Outside,

@@ -121,7 +121,7 @@ impl<'s, 't> Walk<'s, 't> {
             self.comment = None;
             return Ok(());
         }
-        if place == CommentPlace::Label {
+        if matches!(place, CommentPlace::Label) {
             self.change(changes, token)?;
         }
         self.comment = Some(place.behind(token.text));
@@ -149,7 +149,9 @@ impl<'s, 't> Walk<'s, 't> {
             Mark::Provable => self.theorem = self.last,
             Mark::Proof => self.begin_proof(proofs, token),
             Mark::End => self.end_proof(token)?,
-            Mark::Plain if self.proof != ProofPlace::Letters => self.change(changes, token)?,
+            Mark::Plain if !matches!(self.proof, ProofPlace::Letters) => {
+                self.change(changes, token)?;
+            }
             _ => {}
         }
         self.proof = self.proof.behind(token.text, mark);

@@ -1,5 +1,5 @@
 -- What is left to show of `next_outside`.
-use Rattle.std.proofs.Common.{◌≡◌, ◌+◌, ◌≤◌, true, length, codes, rules, arith}
+use Rattle.std.proofs.Common.{◌≡◌, ◌+◌, ◌≤◌, ◌∙◌, ◌++◌, true, false, length, codes, ap, rules, arith}
 use Rattle.std.specs.Str.{bytes_eq}
 use Rattle.mmtext.specs.Views.{seen}
 use Rattle.comments.specs.Outside.{tokens_at}
@@ -12,6 +12,29 @@ loop-token-init c = record {
   later = omega arith;
   passed = none_passed (tokens_at c.args.text.now c.args.from);
 }
+
+pub next_token-requires : goal.next_token-requires
+next_token-requires c = c.loop-token.invariant.within
+
+pub end_of_comment-requires : goal.end_of_comment-requires
+end_of_comment-requires c = c.in-Some.ensures.within
+
+pub returns-then-ne-clause-next : goal.returns-then-ne-clause-next
+returns-then-ne-clause-next c =
+    let passed = c.loop-token.invariant.passed in
+    let other : bytes_eq c.in-Some.token.text.now (codes "$(") ≡ false = search rules in record {
+      skipped = passed.skipped;
+      stands = passed.stands ∙ ap (λ ts. passed.skipped ++ ts) c.in-Some.ensures.some;
+      closed = passed.closed;
+      nothing = passed.nothing;
+      opens_none = other;
+    }
+
+pub returns-then-ne-clause-later : goal.returns-then-ne-clause-later
+returns-then-ne-clause-later c = omega (arith, c.loop-token.invariant.later, c.in-Some.ensures.later)
+
+pub returns-then-ne-clause-within : goal.returns-then-ne-clause-within
+returns-then-ne-clause-within c = c.in-Some.ensures.within
 
 pub loop-token-preserved : goal.loop-token-preserved
 loop-token-preserved c =

@@ -1,13 +1,39 @@
 -- What is left to show of `comment_texts`.
-use Rattle.std.proofs.Common.{◌≡◌, ◌+◌, ◌≤◌, true, false, length, codes, refl, ap, rules, arith}
+use Rattle.std.proofs.Common.{◌≡◌, ◌+◌, ◌≤◌, true, false, None, length, codes, refl, ap, rules, arith}
+use Rattle.std.proofs.lemmas.Result.{IfOk-from_err}
 use Rattle.std.specs.Str.{bytes_eq}
 use mathlib.Core.Bool.{not}
 use Rattle.mmtext.specs.Views.{seen}
 use Rattle.comments.specs.Outside.{tokens_at}
 use Rattle.comments.specs.Insides.{labels_in}
 use Rattle.comments.specs.Walks.{IsCommentTaken}
-use Rattle.comments.proofs.Walked.{walked_outside, walked_comment}
+use Rattle.comments.specs.Comments.{comments_from}
+use Rattle.comments.proofs.Walked.{walked_outside, walked_comment, texts_walked}
 use Rattle.comments.proofs.walking.comment_texts.Goals as goal
+
+pub loop-token-init : goal.loop-token-init
+loop-token-init c = record {
+  within = omega arith;
+  walked = c.new-walk.ensures c.args.changes.now (labels_in c.args.gone.now) c.args.source.now;
+}
+
+pub next_token-requires : goal.next_token-requires
+next_token-requires c = c.loop-token.invariant.within
+
+pub take_comment-requires : goal.take_comment-requires
+take_comment-requires c = c.in-Some.ensures.within
+
+pub until_behind-requires : goal.until_behind-requires
+until_behind-requires c = c.in-Some.ensures.within
+
+pub returns-in_err-closed : goal.returns-in_err-closed
+returns-in_err-closed c = IfOk-from_err _ _ c.from_residual.ensures.0
+
+pub returns : goal.returns
+returns c =
+    let walk = c.loop-token.walk in
+    texts_walked c.args.changes.now (labels_in c.args.gone.now) c.args.source.now (tokens_at c.args.source.now c.loop-token.at)
+    c.loop-token.at walk c.loop-token.invariant.walked (ap (comments_from walk.stating None) c.in_default.ensures.none)
 
 pub loop-token-preserved : goal.loop-token-preserved
 loop-token-preserved c =

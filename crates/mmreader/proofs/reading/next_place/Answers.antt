@@ -1,19 +1,54 @@
 -- What is left to show of `next_place`.
-use Rattle.std.proofs.Common.{sym}
+use Rattle.std.proofs.Common.{sym, subst}
 use Rattle.mmtext.specs.Views.{seen}
 use Rattle.mmtext.proofs.Turns.{same_reading}
-use Rattle.statementreader.specs.Views.{seen_position}
+use Rattle.mmsyntax.specs.Faults.{in_place}
+use Rattle.mmunits.specs.Views.{known_of}
+use Rattle.statementreader.specs.declared.place.Place.{Place}
+use Rattle.statementreader.specs.Views.{seen_place, seen_position, Leads}
 use Rattle.statementreader.proofs.Runs.{row_at, stands_on}
 use Rattle.mmreader.proofs.reading.next_place.Goals as goal
 
-pub returns-clause-leads : goal.returns-clause-leads
-returns-clause-leads c =
+pub returns-in-Prelude-clause-leads : goal.returns-in-Prelude-clause-leads
+returns-in-Prelude-clause-leads c =
     let here = seen_position c.args.symbols.now c.args.units.now c.args.place in
-    same_reading _ c.place_by_mark.result _ _ (sym (row_at here (seen c.args.token) c.args.mark c.requires.mark))
-    c.place_by_mark.ensures.leads
+    let t = seen c.args.token in
+    let r = c.next_prelude_place in
+    same_reading _ r.result _ _ (sym (row_at here t c.args.mark c.requires.mark))
+    (subst
+    (λ (p : Place). Leads r.new.symbols c.args.units.now r.result
+    (in_place (known_of c.args.symbols.now c.args.units.now) (seen_place p) t c.args.mark))
+    (sym c.in-Prelude.is) r.ensures)
 
-pub returns-clause-stands : goal.returns-clause-stands
-returns-clause-stands c =
+pub returns-in-Prelude-clause-stands : goal.returns-in-Prelude-clause-stands
+returns-in-Prelude-clause-stands c =
     let here = seen_position c.args.symbols.now c.args.units.now c.args.place in
-    stands_on here (seen c.args.token) c.args.mark c.place_by_mark.new.symbols c.place_by_mark.new.units c.place_by_mark.result
-    c.requires.mark c.requires.stands c.place_by_mark.ensures.leads
+    let t = seen c.args.token in
+    let r = c.next_prelude_place in
+    stands_on here t c.args.mark r.new.symbols c.args.units.now r.result c.requires.mark c.requires.stands
+    (subst
+    (λ (p : Place). Leads r.new.symbols c.args.units.now r.result
+    (in_place (known_of c.args.symbols.now c.args.units.now) (seen_place p) t c.args.mark))
+    (sym c.in-Prelude.is) r.ensures)
+
+pub returns-in-Unit-clause-leads : goal.returns-in-Unit-clause-leads
+returns-in-Unit-clause-leads c =
+    let here = seen_position c.args.symbols.now c.args.units.now c.args.place in
+    let t = seen c.args.token in
+    let r = c.next_unit_place in
+    same_reading _ r.result _ _ (sym (row_at here t c.args.mark c.requires.mark))
+    (subst
+    (λ (p : Place). Leads c.args.symbols.now r.new.units r.result
+    (in_place (known_of c.args.symbols.now c.args.units.now) (seen_place p) t c.args.mark))
+    (sym c.in-Unit.is) r.ensures)
+
+pub returns-in-Unit-clause-stands : goal.returns-in-Unit-clause-stands
+returns-in-Unit-clause-stands c =
+    let here = seen_position c.args.symbols.now c.args.units.now c.args.place in
+    let t = seen c.args.token in
+    let r = c.next_unit_place in
+    stands_on here t c.args.mark c.args.symbols.now r.new.units r.result c.requires.mark c.requires.stands
+    (subst
+    (λ (p : Place). Leads c.args.symbols.now r.new.units r.result
+    (in_place (known_of c.args.symbols.now c.args.units.now) (seen_place p) t c.args.mark))
+    (sym c.in-Unit.is) r.ensures)

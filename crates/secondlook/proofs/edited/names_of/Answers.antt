@@ -16,3 +16,9 @@ returns c =
           ∙ sym (got_lent c.variables.result.now float.variable (Some variable) c.in_ok-variable.ensures.lookup)
           ∙ ap (λ w. Some w) (sym c.as_slice-2.ensures);
     }
+
+pub returns-in_err-type_code : goal.returns-in_err-type_code
+returns-in_err-type_code c = rw c.from_residual.ensures tt
+
+pub returns-in_err-variable : goal.returns-in_err-variable
+returns-in_err-variable c = rw c.from_residual-in_err-variable.ensures tt

@@ -1,6 +1,7 @@
 -- What is left to show of `expression`.
-use Rattle.std.proofs.Common.{◌≡◌, ◌<◌, ◌≤◌, ◌+◌, ◌++◌, ◌∷◌, ◌∙◌, [], sym, ap, subst, length, ℕ, List, drop}
+use Rattle.std.proofs.Common.{◌≡◌, ◌<◌, ◌≤◌, ◌+◌, ◌++◌, ◌∷◌, ◌∙◌, [], refl, sym, ap, subst, length, ℕ, List, drop}
 use Rattle.std.specs.Prelude.{Some}
+use Rattle.std.proofs.lemmas.Result.{IfOk-from_err}
 use Rattle.std.proofs.lemmas.List.{length-map, get_or-map}
 use Rattle.std.specs.Borrow.{Bor}
 use Rattle.mmsyntax.specs.declared.statement.Symbol.{Symbol}
@@ -13,6 +14,15 @@ pub loop-word-init : goal.loop-word-init
 loop-word-init g c =
     let whole = each (g.P.SymbolPlaces.placed c.args.places.now) (seen_words c.args.words.now) in
     none_yet whole ∙ ap (λ xs. following xs whole) (sym c.new-symbols.ensures.items)
+
+pub new-requires : goal.new-requires
+new-requires g c = c.if-not-is_small.ensures.0 refl
+
+pub returns-then-not-is_small : goal.returns-then-not-is_small
+returns-then-not-is_small g c = tt
+
+pub returns-in_err-push : goal.returns-in_err-push
+returns-in_err-push g c = IfOk-from_err _ _ c.from_residual.ensures.0
 
 pub loop-word-preserved : goal.loop-word-preserved
 loop-word-preserved g c =

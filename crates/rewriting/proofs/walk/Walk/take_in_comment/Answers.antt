@@ -10,7 +10,7 @@ use Rattle.rewriting.proofs.Labelled.{tilde_here}
 use Rattle.rewriting.proofs.Finding.{with_fact}
 use Rattle.rewriting.proofs.Walking.{in_comment}
 use Rattle.rewriting.proofs.walk.Walk.take_in_comment.Goals as goal
-use Rattle.rewriting.proofs.walk.Walk.take_in_comment.Goals.{then-eq-2+in_ok-change, else-eq-2}
+use Rattle.rewriting.proofs.walk.Walk.take_in_comment.Goals.{then-matches+in_ok-change, else-matches}
 
 pub returns-then-eq : goal.returns-then-eq
 returns-then-eq c = λ proofs.
@@ -26,17 +26,17 @@ returns c = λ proofs.
     let cs = c.args.changes.now in
     let old = c.args.self.now in
     let t = seen c.args.token in
-    let v = c.if-eq-2.self in
+    let v = c.if-matches.self in
     let place = c.behind.result in
     let tilde = tilde_here t place c.behind.ensures in
     let other : c.args.mark ≢ mark.Uncomment = search rules in
     let stays = ap not (sym (closes_none c.args.mark t.text c.requires.marked other)) in
     let was = ap is_some c.requires.in_comment in
-    elim c.if-eq-2.branch [
-      | then-eq-2+in_ok-change w ↦
+    elim c.if-matches.branch [
+      | then-matches+in_ok-change w ↦
           let changed = w.in_ok-change.ensures in
           let label : c.args.place ≡ Label = search rules in
           let found = with_fact changed.found (c.requires.in_comment ∙ ap (λ p. Some p) label) in
           in_comment cs proofs old t w.change.new.self.spans found (Some place) tilde v (w.self-is ∙ changed.same) was stays
-      | else-eq-2 w ↦ in_comment cs proofs old t old.spans (inl refl) (Some place) tilde v w.self-is was stays
+      | else-matches w ↦ in_comment cs proofs old t old.spans (inl refl) (Some place) tilde v w.self-is was stays
     ]

@@ -15,7 +15,7 @@ use Rattle.rewriting.proofs.walk.Walk.take_outside.Goals.{
   in-Proof,
   in-End+in_ok-end_proof-in-End,
   in-Plain+in_ok-change-in-Plain,
-  in-Plain+else-ne,
+  in-Plain+else-not-matches,
   in-Constants-1,
 }
 
@@ -59,7 +59,7 @@ returns c =
           let changed = w.in_ok-change-in-Plain.ensures in
           behind_other cs proofs old t q word refl was (other (search rules)) v w.change.new.self.spans (w.self-is ∙ changed.same) leads
           (goes_on (search rules)) (with_fact changed.found (no_letters old.proof (search rules)))
-      | in-Plain+else-ne w ↦ behind_other cs proofs old t q word refl was (other (search rules)) v old.spans w.self-is leads
+      | in-Plain+else-not-matches w ↦ behind_other cs proofs old t q word refl was (other (search rules)) v old.spans w.self-is leads
           (goes_on (search rules)) (inl refl)
       | in-Constants-1 w ↦ behind_other cs proofs old t q word refl was (other (search rules)) v old.spans w.self-is leads
           (goes_on (search rules)) (inl refl)

@@ -2,7 +2,7 @@
 use Rattle.std.proofs.Common.{rules, arith, ◌≡◌, ◌∙◌, ◌<◌, ◌+◌, ◌-◌, ◌++◌, ◌∷◌, [], ℕ, List, sym, ap, refl, subst, length, take, drop}
 use Rattle.std.specs.Prelude.{Some, All}
 use Rattle.std.proofs.lemmas.Option.{slice_get_read}
-use Rattle.std.proofs.lemmas.List.Elements.{recursion_from_All}
+use Rattle.std.proofs.lemmas.List.Elements.{All-drop, recursion_from_All}
 use Rattle.taking.specs.declared.named.Named.{Named}
 use Rattle.taking.specs.Nodes.{Shared, AreBelow}
 use Rattle.taking.specs.Walks.{TakesAll}
@@ -20,6 +20,13 @@ returns-then-count-arity-clause-cited c =
     λ s are.
     cites_none s c.args.named.now are c.args.place x is d.nodes d.marked.items d.entries.items
     (recursion_from_All (λ k. k < length d.nodes) d.entries.items c.requires.stands.entries) few
+
+pub push-requires : goal.push-requires
+push-requires c =
+    let d = c.args.self.now in
+    let n = c.len-count.result - length c.as_slice-arity.result.now in
+    subst (λ (ks : List ℕ). AreBelow (length d.nodes) ks) (sym (last_args c.deref.result.now d.entries.items n c.deref.ensures.value))
+    (All-drop (λ k. k < length d.nodes) n d.entries.items c.requires.stands.entries)
 
 pub returns-clause-stands : goal.returns-clause-stands
 returns-clause-stands c =
