@@ -2,7 +2,7 @@
 //!
 //! The steps are taken in order over a stack of what their trees derive. No definition knows the stack: contracts speak of trees.
 
-ghost use Rattle.std.specs.Prelude.{◌≡◌, ◌≢◌, ◌↔◌, List, ℕ, [], ◌∷◌, length, map, IsTrue, IfOk, OnOk, IfErr, MatchResult};
+ghost use Rattle.std.specs.Prelude.{◌≡◌, ◌≢◌, List, ℕ, [], ◌∷◌, length, map, IfOk, OnOk, IfErr, MatchResult};
 ghost use Rattle.std.specs.Option.{option_copied};
 ghost use Rattle.mmsyntax.specs.ProofWords.{IsWithin, step_in};
 ghost use Rattle.derivation.specs.Derivation.{Citable, Proves, Checks};
@@ -98,13 +98,6 @@ fn take_step<'a>(
     }
 }
 
-/// Whether expressions are equal.
-fn are_same(one: &[SymbolWord], other: &[SymbolWord]) -> bool
-    ensures { IsTrue result ↔ (one.now ≡ other.now) }
-{
-    one == other
-}
-
 /// Whether what is left behind the last step, which is the one with this number, is just the statement.
 fn check_end(statement: &Expr, left: &Stack, step: usize) -> Result<(), ProofFault>
     ensures yes { OnOk result (left.now ≡ statement.now ∷ []) }
@@ -116,7 +109,7 @@ fn check_end(statement: &Expr, left: &Stack, step: usize) -> Result<(), ProofFau
             kind: ProofFaultKind::NotOneLeft,
         });
     }
-    if are_same(left.last(1).at(0), statement.as_slice()) {
+    if left.last(1).at(0) == statement.as_slice() {
         return Ok(());
     }
     Err(ProofFault {

@@ -65,7 +65,8 @@ impl<'a> Args<'a> {
         ensures { result.now ≡ slice_index_or self.now place result.now }
     {
         let symbols = self.symbols;
-        match self.entries[place] {
+        let entry = self.entries[place];
+        match entry {
             Entry::Own(start, end) => &symbols[start..end],
             Entry::Lent(_, lent) => lent,
         }
