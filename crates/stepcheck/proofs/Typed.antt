@@ -1,5 +1,5 @@
 -- The types of the expressions of $f, one after another.
-use Rattle.std.proofs.Common.{◌≡◌, ◌↔◌, ℕ, ◌+◌, ◌<◌, ◌≤◌, List, length, drop, get_or, add-one, sym, subst}
+use Rattle.std.proofs.Common.{◌≡◌, ◌↔◌, ℕ, ◌+◌, ◌<◌, List, length, drop, get_or, add-one, sym, subst}
 use Rattle.std.proofs.Math.Seq.{drop-cons}
 use Rattle.mmsyntax.specs.Tables.{Tables}
 use Rattle.derivation.specs.Derivation.{Expression, HasType, HaveTypes}

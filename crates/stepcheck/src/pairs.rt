@@ -1,6 +1,6 @@
 //! Disjoint variables: whether substitutes stay apart, by the restricted pairs of the assertion being proved.
 
-ghost use Rattle.std.specs.Prelude.{◌≡◌, ◌↔◌, IsTrue, IfOk, MatchOption, All};
+ghost use Rattle.std.specs.Prelude.{◌↔◌, IsTrue, IfOk, MatchOption, All};
 ghost use Rattle.std.specs.List.{AllZip};
 ghost use Rattle.mmframes.specs.Substitution.{replacement};
 ghost use Rattle.derivation.specs.Derivation.{AreApart};

@@ -12,7 +12,7 @@ loop-symbol-preserved c =
     c.loop-symbol-test.true c.loop-symbol.invariant
     (elim c.match-symbol.branch [
       | in-Var+in_ok-push w ↦
-        noted _ _ _ w.in-Var.variable (sym here ∙ w.in-Var.is) (ap (λ v. v.items) w.found-is ∙ w.in_ok-push.ensures.items)
+          noted _ _ _ w.in-Var.variable (sym here ∙ w.in-Var.is) (ap (λ v. v.items) w.found-is ∙ w.in_ok-push.ensures.items)
       | in_default w ↦ noted_none _ _ _ (λ v is. w.in_default.not-Var v (here ∙ is)) (ap (λ v. v.items) w.found-is)
     ])
 

@@ -12,9 +12,9 @@ invariant_of-self c =
     let below : c.len-below.result ≡ length s = omega arith in
     elim c.match-push.branch [
       | in-Ok w ↦ rw w.in-Ok.ensures.items (
-        spans-push (length s) _ c.self.inside.entries.items (Lent c.len-below.result c.args.expression) c.self.invariant
-        (omega (arith, below)) (omega arith) (omega (arith, below))
-        )
+          spans-push (length s) _ c.self.inside.entries.items (Lent c.len-below.result c.args.expression) c.self.invariant
+          (omega (arith, below)) (omega arith) (omega (arith, below))
+          )
       | in-Err w ↦ rw w.in-Err.ensures.items c.self.invariant
     ]
 
@@ -24,6 +24,6 @@ returns-clause-value c =
     let ps = c.self.inside.entries.items in
     elim c.match-push.branch [
       | in-Ok w ↦ rw (w.result-is, w.in-Ok.ensures.items, ← c.self.view_is)
-        (map-append (shown s) ps (Lent c.len-below.result c.args.expression ∷ []))
+          (map-append (shown s) ps (Lent c.len-below.result c.args.expression ∷ []))
       | in-Err w ↦ rw w.result-is tt
     ]

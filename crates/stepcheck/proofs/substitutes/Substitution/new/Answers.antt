@@ -9,9 +9,9 @@ invariant_of-result c = (
   c.requires,
   elim c.if-floats-gt-FEW.branch [
     | then-floats-gt-FEW w ↦ λ ascends.
-      let told = non_decreasing_from_is_sorted c.args.floats.now w.is_sorted.result w.is_sorted.ensures.cases in
-      rw (sym w.result-is ∙ ascends) at told
+        let told = non_decreasing_from_is_sorted c.args.floats.now w.is_sorted.result w.is_sorted.ensures.cases in
+        rw (sym w.result-is ∙ ascends) at told
     | else-floats-gt-FEW w ↦ λ ascends.
-      let many = ltb-true 8 _ (sym w.result-is ∙ ascends) in absurd (omega (arith, many, w.if-floats-gt-FEW.false))
+        let many = ltb-true 8 _ (sym w.result-is ∙ ascends) in absurd (omega (arith, many, w.if-floats-gt-FEW.false))
   ],
 )
