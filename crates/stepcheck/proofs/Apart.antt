@@ -1,5 +1,5 @@
 -- Disjoint variables, from the variables found in the expressions.
-use Rattle.std.proofs.Common.{◌≡◌, ◌↔◌, ◌⊎◌, inl, inr, ℕ, ◌+◌, ◌<◌, ◌≤◌, List, All, Contains, length, take, get_or, subst}
+use Rattle.std.proofs.Common.{◌≡◌, ◌≢◌, ◌↔◌, [], ◌∷◌, ◌++◌, ◌⊎◌, inl, inr, ℕ, ◌+◌, ◌<◌, ◌≤◌, List, All, Contains, length, take, get_or, subst}
 use Rattle.std.proofs.Common.{refl, sym, ap, ◌∙◌, Bool, true, false, cond, ltb}
 use Rattle.std.proofs.Common.{⊎_elim, arith}
 use Rattle.std.proofs.Math.Seq.{take-length}
@@ -18,6 +18,19 @@ use Rattle.derivation.specs.Lookups.{PassesAbove}
 pub within_one_more : {X : Type 0} (P : X → Type 0) (xs : List X) (i : ℕ) (e : X) → i < length xs → AllWithin P xs 0 i → P (get_or xs i e)
     → AllWithin P xs 0 (i + 1)
 within_one_more P xs i e lt all here = AllWithin-more P xs 0 i all (λ d. subst P (get_or_default xs i e d lt) here)
+
+-- one number more, of the next symbol, which is a variable; or none, since it isn't
+pub noted : (found found' : List ℕ) (x : Symbol) (v : ℕ) → x ≡ Var v → found' ≡ found ++ v ∷ []
+    → (u : ℕ) → Contains found' u ↔ (Contains found u ⊎ (x ≡ Var u))
+noted found found' x v is grown u = rw grown (
+  λ h. ⊎_elim (λ old. inl old) (λ same. inr (is ∙ ap Var same)) (Contains-push_cases found v u h),
+  λ h. ⊎_elim (λ old. Contains-append_left found _ u old)
+      (λ e. let same : v ≡ u = cc in subst (λ n. Contains (found ++ v ∷ []) n) same (Contains-push found v)) h,
+)
+
+pub noted_none : (found found' : List ℕ) (x : Symbol) → ((v : ℕ) → x ≢ Var v) → found' ≡ found
+    → (u : ℕ) → Contains found' u ↔ (Contains found u ⊎ (x ≡ Var u))
+noted_none found found' x other same u = rw same (λ h. inl h, λ h. ⊎_elim (λ old. old) (λ e. absurd (other u e)) h)
 
 -- the numbers found stand for the variables so far; after one more symbol
 pub found_more : (found found' : List ℕ) (e : Expression) (i : ℕ) (d : Symbol) → i < length e
@@ -76,3 +89,15 @@ apart-both ps us vs low = (
         pick : (b : Bool) → ltb u v ≡ b → Contains ps (cond b (u, v) (v, u)) → Contains ps (v, u)
         pick true e there = absurd (let above = ltb-true u v e in omega arith)
         pick false e there = there
+
+-- so that the first list passes the second
+pub apart-low : (ps : List (ℕ × ℕ)) (us vs : List ℕ) → All (λ u. All (λ v. IsApart ps u v) vs) us
+    → All (λ u. All (λ v. PassesAbove ps u v) vs) us
+apart-low ps us vs all = λ k d lt. λ m e lt'. let h = all k d lt m e lt' in (h.differ, λ above. ordered _ _ above h.paired)
+  where
+    ordered : (u v : ℕ) → u < v → Contains ps (in_order u v) → Contains ps (u, v)
+    ordered u v above h = pick (ltb u v) refl h
+      where
+        pick : (b : Bool) → ltb u v ≡ b → Contains ps (cond b (u, v) (v, u)) → Contains ps (u, v)
+        pick true e there = there
+        pick false e there = absurd (let below = ltb-false u v e in omega (arith, above, below))

@@ -3,3 +3,4 @@ pub mod LookedUp
 pub mod Replaced
 pub mod Spans
 mod FewPlaces
+mod Typed

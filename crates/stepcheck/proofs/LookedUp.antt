@@ -1,7 +1,7 @@
 -- What was looked up of a label stands at its place, and a step that cites it takes that.
-use Rattle.std.proofs.Common.{◌≡◌, ℕ, ◌<◌, List, [], Option, None, Some, Bor, map, length, get_or, sym, ap, ◌∙◌, arith}
+use Rattle.std.proofs.Common.{◌≡◌, ℕ, ◌<◌, List, [], ◌∷◌, ◌++◌, take, drop, Option, None, Some, Bor, map, length, get_or, sym, ap, ◌∙◌, arith}
 use Rattle.std.specs.Option.{option_copied}
-use Rattle.std.proofs.lemmas.List.{get_or-map, length-map}
+use Rattle.std.proofs.lemmas.List.{get_or-map, length-map, take-append-drop}
 use Rattle.mmsyntax.specs.Tables.{Tables}
 use Rattle.mmsyntax.specs.declared.statement.Frame.{Frame}
 use Rattle.mmsyntax.specs.declared.statement.Assertion.{Assertion}
@@ -9,9 +9,9 @@ use Rattle.mmsyntax.specs.declared.statement.Step.TheVariants.{Cite}
 use Rattle.derivation.specs.declared.fault.ProofFaultKind.{ProofFaultKind}
 use Rattle.derivation.specs.declared.fault.ProofFaultKind.TheVariants.{UnknownStep, StackShort, WrongType, HypothesisDiffers}
 use Rattle.derivation.specs.declared.fault.ProofFaultKind.TheVariants.{NotDisjoint, NotOneLeft, StatementDiffers, TooLong, NoMemory}
-use Rattle.derivation.specs.Derivation.{Citable, Expression}
+use Rattle.derivation.specs.Derivation.{Citable, Expression, Gives}
 use Rattle.derivation.specs.Faults.{StepFails}
-use Rattle.derivation.specs.Moves.{FailsOnLast}
+use Rattle.derivation.specs.Moves.{GivesOnLast, FailsOnLast}
 
 pub looked_up : (lib : Citable) (labels : List (List ℕ)) (frames : List (Option (Bor Frame))) (n : ℕ) (d r : Option (Bor Frame))
     → map option_copied frames ≡ map lib labels → n < length frames → get_or frames n d ≡ r → lib (get_or labels n []) ≡ option_copied r
@@ -33,3 +33,9 @@ cite_fails lib p a es label f NotOneLeft is h = absurd h.1
 cite_fails lib p a es label f StatementDiffers is h = absurd h.1
 cite_fails lib p a es label f TooLong is h = (f, is, h.0, h.1)
 cite_fails lib p a es label f NoMemory is h = absurd h.1
+
+-- what a citation gives stands in the place of those from a place on
+pub gives_on_last : (p : Tables) (a : Assertion) (f : Frame) (st es kept after : List Expression) (e : Expression) (n : ℕ)
+    → kept ≡ take n st → es ≡ drop n st → Gives p a f es e → after ≡ kept ++ e ∷ [] → GivesOnLast p a f st after
+gives_on_last p a f st es kept after e n front end gives more =
+    (kept, es, e, rw (front, end) (sym (take-append-drop n st)), gives, more)

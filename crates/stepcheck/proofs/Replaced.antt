@@ -1,10 +1,11 @@
 -- Where a substitute stands, and which variables it has.
 use Rattle.std.proofs.Common.{◌≡◌, ◌≢◌, ℕ, zero, suc, ◌<◌, ◌≤◌, List, [], ◌∷◌, Option, None, Some, length, drop, get_or}
-use Rattle.std.proofs.Common.{map, true, false, refl, sym, ap, ◌∙◌, ⊎_elim, append-nil, eqb, ltb, arith}
+use Rattle.std.proofs.Common.{◌+◌, ◌++◌, map, true, false, refl, sym, ap, ◌∙◌, ⊎_elim, append-nil, eqb, ltb, arith}
 use Rattle.std.specs.List.{AllZip, dedup}
 use Rattle.std.specs.List.Sorted.{IsPermutation, IsNonDecreasing, IsPartitionPoint}
 use Rattle.std.proofs.lemmas.Bool.Decides.{leb_tells}
 use Rattle.std.proofs.lemmas.Bool.{ltb-true, ltb-false}
+use Rattle.std.proofs.lemmas.List.{append_assoc, length-append}
 use Rattle.std.proofs.lemmas.List.Kept.{Contains-dedup_nat, Contains-from_dedup}
 use Rattle.std.proofs.lemmas.List.Sorted.{Contains-permutation, IsPermutation-sym}
 use Rattle.mmsyntax.specs.declared.statement.Symbol.{Symbol}
@@ -14,6 +15,11 @@ use Rattle.derivation.specs.Derivation.{Expression, substitution}
 use Rattle.mmframes.specs.Places.{IsFirstPlace, IsPlaceOf}
 use Rattle.mmframes.proofs.Places.{place-of as first-place-of}
 use Rattle.derivation.specs.Lookups.{AreVariablesOf}
+use Rattle.derivation.specs.Moves.{IsTooLongOrNoMemory}
+use Rattle.derivation.specs.declared.fault.ProofFaultKind.{ProofFaultKind}
+use Rattle.derivation.specs.declared.fault.ProofFaultKind.TheVariants.{UnknownStep, StackShort, WrongType, HypothesisDiffers, NotDisjoint}
+use Rattle.derivation.specs.declared.fault.ProofFaultKind.TheVariants.{NotOneLeft, StatementDiffers, TooLong, NoMemory}
+use Rattle.derivation.proofs.Nodes.{subst-drop}
 
 -- where the numbers ascend, the first that isn't below n is where n would be
 pub halved-found : (xs : List ℕ) (n i : ℕ) → IsPartitionPoint (λ y. ltb y n ≡ true) (λ y. ltb y n ≡ false) xs i → i < length xs
@@ -75,3 +81,33 @@ zip-at R (x ∷ xs) (y ∷ ys) (suc i) d e h lt = zip-at R xs ys i d e h.1 (omeg
 -- what stands for a variable, in an expression of it alone
 pub piece-found : (s : List (ℕ × Expression)) (x : Symbol) (j : ℕ) (e : Expression) → x ≡ Var j → replacement s j ≡ e → e ≡ subst s (x ∷ [])
 piece-found s x j e is at = rw is (sym at ∙ sym (append-nil (replacement s j)))
+
+-- what is made of the symbols from a place on: of the one there, then of those behind it
+next-piece : (s : List (ℕ × Expression)) (e : Expression) (i : ℕ) (x : Symbol) → i < length e → x ≡ get_or e i x
+    → subst s (drop i e) ≡ subst s (x ∷ []) ++ subst s (drop (i + 1) e)
+next-piece s e i x lt is =
+    subst-drop s e i x lt ∙ ap (λ (y : Symbol). subst s (y ∷ []) ++ subst s (drop (i + 1) e)) (sym is)
+
+-- one more piece is made
+pub piece-made : (s : List (ℕ × Expression)) (e made more : Expression) (i : ℕ) (x : Symbol) → i < length e → x ≡ get_or e i x
+    → made ++ subst s (drop i e) ≡ subst s e → more ≡ made ++ subst s (x ∷ []) → more ++ subst s (drop (i + 1) e) ≡ subst s e
+piece-made s e made more i x lt is so_far grown =
+    ap (λ l. l ++ subst s (drop (i + 1) e)) grown ∙ append_assoc made (subst s (x ∷ [])) (subst s (drop (i + 1) e))
+    ∙ ap (λ l. made ++ l) (sym (next-piece s e i x lt is)) ∙ so_far
+
+-- where one more piece is too long, the whole is
+pub too-long-before : (s : List (ℕ × Expression)) (e made : Expression) (i n : ℕ) (x : Symbol) (kind : ProofFaultKind) → i < length e
+    → x ≡ get_or e i x → made ++ subst s (drop i e) ≡ subst s e
+    → IsTooLongOrNoMemory kind (n < length made + length (subst s (x ∷ []))) → IsTooLongOrNoMemory kind (n < length (subst s e))
+too-long-before s e made i n x TooLong lt is so_far h =
+    let whole = sym (length-append made (subst s (drop i e))) ∙ ap length so_far in
+    let rest = ap length (next-piece s e i x lt is) ∙ length-append (subst s (x ∷ [])) (subst s (drop (i + 1) e)) in
+    omega (arith, whole, rest, h)
+too-long-before s e made i n x NoMemory lt is so_far h = tt
+too-long-before s e made i n x UnknownStep lt is so_far h = absurd h
+too-long-before s e made i n x StackShort lt is so_far h = absurd h
+too-long-before s e made i n x WrongType lt is so_far h = absurd h
+too-long-before s e made i n x HypothesisDiffers lt is so_far h = absurd h
+too-long-before s e made i n x NotDisjoint lt is so_far h = absurd h
+too-long-before s e made i n x NotOneLeft lt is so_far h = absurd h
+too-long-before s e made i n x StatementDiffers lt is so_far h = absurd h

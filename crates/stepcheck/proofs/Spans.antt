@@ -3,7 +3,7 @@ use Rattle.std.proofs.Common.{◌≡◌, ℕ, zero, suc, ◌+◌, ◌-◌, ◌<�
 use Rattle.std.proofs.Common.{◌∙◌, inl, inr, arith}
 use Rattle.std.specs.Prelude.{slice_range}
 use Rattle.std.proofs.Math.Seq.{take-length, drop-append_seam}
-use Rattle.std.proofs.lemmas.List.{take-append-le, drop-append-le, length-drop, length-take-le, take-append-drop, get_or-take, map-append}
+use Rattle.std.proofs.lemmas.List.{take-append-le, drop-append-le, length-drop, length-take-le, take-append-drop, get_or-take, get_or-map, length-map, map-append}
 use Rattle.std.proofs.lemmas.Bool.{cases_lt}
 use Rattle.std.proofs.lemmas.List.{length-append, get_or_append_left, get_or-append_right}
 use Rattle.std.proofs.lemmas.List.Elements.{All-push}
@@ -31,6 +31,13 @@ cut-more s e (p ∷ ps) h =
     let first = shown-more s e p here.0 here.1 in
     let rest = cut-more s e ps (λ k d lt. h (suc k) d (omega arith)) in
     cc
+
+-- the expression at a place
+pub shown-at : (s : List Symbol) (ps : List Entry) (es : List (List Symbol)) (i : ℕ) (p d : Entry) (e : List Symbol) → cut s ps ≡ es
+    → i < length es → get_or ps i d ≡ p → shown s p ≡ e → e ≡ get_or es i e
+shown-at s ps es i p d e view lt at is =
+    let long : i < length ps = omega (arith, lt, ap length view, length-map ps (shown s)) in
+    sym is ∙ ap (shown s) (sym at) ∙ sym (get_or-map (shown s) ps i d e long) ∙ ap (λ (l : List (List Symbol)). get_or l i e) view
 
 -- one more expression on top
 pub cut-push : (s e : List Symbol) (ps : List Entry) → AreWithin (length s) ps
@@ -80,10 +87,16 @@ cut-front s ps n d h lt =
     ∙ sym (take-map (shown s) n ps)
 
 -- a list of one
-pub only-one : {X : Type 0} (xs : List X) (x : X) → length xs ≡ 1 → x ≡ get_or xs 0 x → xs ≡ x ∷ []
+only-one : {X : Type 0} (xs : List X) (x : X) → length xs ≡ 1 → x ≡ get_or xs 0 x → xs ≡ x ∷ []
 only-one [] x n is = cc
 only-one (y ∷ []) x n is = ap (λ z. z ∷ []) (sym is)
 only-one (y ∷ z ∷ zs) x n is = absurd (omega arith)
+
+-- the last of a list of one
+pub last-alone : {X : Type 0} (left last : List X) (x : X) → length left ≡ 1 → last ≡ drop (length left - 1) left → x ≡ get_or last 0 x
+    → left ≡ x ∷ []
+last-alone left last x one is at =
+    only-one left x one (at ∙ ap (λ l. get_or l 0 x) (is ∙ ap (λ n. drop (n - 1) left) one))
 
 -- as many symbols, or more
 pub spans-more : (n m : ℕ) (ps : List Entry) → n ≤ m → AreSpans n ps → AreSpans m ps

@@ -2,7 +2,7 @@
 //!
 //! The steps are taken in order over a stack of what their trees derive. No definition knows the stack: contracts speak of trees.
 
-ghost use Rattle.std.specs.Prelude.{◌≡◌, ◌≢◌, ◌↔◌, List, ℕ, [], ◌∷◌, length, map, IsTrue, IfOk, OnOk, IfErr, MatchResult};
+ghost use Rattle.std.specs.Prelude.{◌≡◌, ◌≢◌, List, ℕ, [], ◌∷◌, length, map, IfOk, OnOk, IfErr, MatchResult};
 ghost use Rattle.std.specs.Option.{option_copied};
 ghost use Rattle.mmsyntax.specs.ProofWords.{IsWithin, step_in};
 ghost use Rattle.derivation.specs.Derivation.{Citable, Proves, Checks};
@@ -39,10 +39,9 @@ fn cite<'a>(
     let conclusion = node(alloc, prelude, thesis, frame, &stack.last(count), made)?;
     stack.truncate(base);
     match conclusion {
-        Conclusion::Unchanged(statement) => stack.lend(statement)?,
-        Conclusion::Made => stack.push(made.as_slice())?,
+        Conclusion::Unchanged(statement) => stack.lend(statement),
+        Conclusion::Made => stack.push(made.as_slice()),
     }
-    Ok(())
 }
 
 /// The frame of each label, if it may be cited, in their order.
@@ -81,19 +80,16 @@ fn take_step<'a>(
         WordStep::Float(i) => match prelude.floats().get(i as usize) {
             None => Err(ProofFaultKind::UnknownStep),
             Some(float) => {
-                stack.push_two(
+                let typed = [
                     SymbolWord::new(Symbol::Const(float.type_code)),
                     SymbolWord::new(Symbol::Var(i)),
-                )?;
-                Ok(())
+                ];
+                stack.push(&typed)
             }
         },
         WordStep::Hyp(k) => match thesis.assertion().hyps.as_slice().get(k as usize) {
             None => Err(ProofFaultKind::UnknownStep),
-            Some(hyp) => {
-                stack.lend(hyp.as_slice())?;
-                Ok(())
-            }
+            Some(hyp) => stack.lend(hyp.as_slice()),
         },
         WordStep::Cite(n) => match frames[n as usize] {
             None => Err(ProofFaultKind::UnknownStep),
@@ -102,26 +98,24 @@ fn take_step<'a>(
     }
 }
 
-/// Whether expressions are equal.
-fn are_same(one: &[SymbolWord], other: &[SymbolWord]) -> bool
-    ensures { IsTrue result ↔ (one.now ≡ other.now) }
-{
-    one == other
-}
-
-/// Whether what is left is just the statement.
-fn check_end(statement: &Expr, left: &Stack) -> Result<(), ProofFaultKind>
+/// Whether what is left behind the last step, which is the one with this number, is just the statement.
+fn check_end(statement: &Expr, left: &Stack, step: usize) -> Result<(), ProofFault>
     ensures yes { OnOk result (left.now ≡ statement.now ∷ []) }
-    ensures fault { IfErr result (λ kind. EndFails statement.now left.now kind) }
+    ensures fault { IfErr result (λ fault. (fault.step ≡ step) × EndFails statement.now left.now fault.kind) }
 {
     if left.len() != 1 {
-        return Err(ProofFaultKind::NotOneLeft);
+        return Err(ProofFault {
+            step,
+            kind: ProofFaultKind::NotOneLeft,
+        });
     }
-    if are_same(left.last(1).at(0), statement.as_slice()) {
-        Ok(())
-    } else {
-        Err(ProofFaultKind::StatementDiffers)
+    if left.last(1).at(0) == statement.as_slice() {
+        return Ok(());
     }
+    Err(ProofFault {
+        step,
+        kind: ProofFaultKind::StatementDiffers,
+    })
 }
 
 /// Whether the steps are the listing of a tree that derives the statement, and if not, their fault.
@@ -135,9 +129,6 @@ fn check_steps<'a, F: Frames>(
     ensures fault { IfErr result (λ fault. fault.kind ≢ ProofFaultKind.NoMemory →
         HasFault (F.frames frames.now) prelude.now assertion.now fault) }
 {
-    let thesis = Thesis::new(assertion);
-    let mut stack = Stack::new(alloc);
-    let mut made = Vec::new(alloc);
     let steps = assertion.proof.word_steps();
     let count = steps.words.len();
     let Ok(found) = frames_of(alloc, frames, steps.cited) else {
@@ -147,6 +138,9 @@ fn check_steps<'a, F: Frames>(
         });
     };
     let cited = found.as_slice();
+    let thesis = Thesis::new(assertion);
+    let mut stack = Stack::new(alloc);
+    let mut made = Vec::new(alloc);
     for done in 0..count {
         let step = steps.step(done);
         match take_step(alloc, prelude, cited, &thesis, &mut stack, &mut made, step) {
@@ -157,10 +151,7 @@ fn check_steps<'a, F: Frames>(
             }),
         }
     }
-    match check_end(&assertion.statement, &stack) {
-        Ok(()) => Ok(()),
-        Err(kind) => Err(ProofFault { step: count, kind }),
-    }
+    check_end(&assertion.statement, &stack, count)
 }
 
 /// Checks an assertion over what its proof may cite. An axiom has nothing to check.

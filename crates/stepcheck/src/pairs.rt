@@ -1,9 +1,9 @@
 //! Disjoint variables: whether substitutes stay apart, by the restricted pairs of the assertion being proved.
 
-ghost use Rattle.std.specs.Prelude.{◌≡◌, ◌↔◌, ◌⊎◌, ℕ, IsTrue, IfOk, OnOk, MatchOption, All, Contains};
+ghost use Rattle.std.specs.Prelude.{◌↔◌, IsTrue, IfOk, MatchOption, All};
 ghost use Rattle.std.specs.List.{AllZip};
 ghost use Rattle.mmframes.specs.Substitution.{replacement};
-ghost use Rattle.derivation.specs.Derivation.{AreApart, IsApart};
+ghost use Rattle.derivation.specs.Derivation.{AreApart};
 ghost use Rattle.derivation.specs.Lookups.{AreVariablesOf, PassesAbove};
 
 use crate::substitutes::Substitution;
@@ -53,42 +53,16 @@ fn all_pass(thesis: &Thesis, us: &[u32], vs: &[u32]) -> bool
     true
 }
 
-/// Whether each two variables, one of each list, are apart: the pairs are looked for row by row of their lower variable.
-fn are_apart(thesis: &Thesis, us: &[u32], vs: &[u32]) -> bool
-    ensures { IsTrue result ↔ All (λ u. All (λ v. IsApart thesis.now.pairs u v) vs.now) us.now }
-{
-    all_pass(thesis, us, vs) && all_pass(thesis, vs, us)
-}
-
-/// Adds the symbol, if it is a variable.
-fn note(found: &mut Vec<u32>, symbol: SymbolWord) -> Result<(), AllocError>
-    ensures { OnOk result ((u : ℕ) → Contains found.new.items u ↔ Contains found.old.items u ⊎ (symbol ≡ Symbol.Var u)) }
-{
-    match symbol.symbol() {
-        Symbol::Const(_) => Ok(()),
-        Symbol::Var(v) => {
-            found.push(v)?;
-            Ok(())
-        }
-    }
-}
-
-/// The variables of an expression, in the order of their symbols.
-fn listed_variables(alloc: Global, symbols: &[SymbolWord]) -> Result<Vec<u32>, AllocError>
-    ensures { IfOk result (λ found. AreVariablesOf found.items symbols.now) }
-{
-    let mut found = Vec::new(alloc);
-    for symbol in symbols {
-        note(&mut found, *symbol)?;
-    }
-    Ok(found)
-}
-
 /// The variables of an expression, ascending, each once.
 fn variables_of(alloc: Global, symbols: &[SymbolWord]) -> Result<Vec<u32>, AllocError>
     ensures { IfOk result (λ found. AreVariablesOf found.items symbols.now) }
 {
-    let mut found = listed_variables(alloc, symbols)?;
+    let mut found = Vec::new(alloc);
+    for symbol in symbols {
+        if let Symbol::Var(variable) = symbol.symbol() {
+            found.push(variable)?;
+        }
+    }
     found.sort_unstable();
     found.dedup();
     Ok(found)
@@ -123,7 +97,7 @@ fn variables_for<'a>(
     }
 }
 
-/// Whether the substitutes of the two variables are apart.
+/// Whether the substitutes of the two variables are apart: the pairs are looked for row by row of their lower variable.
 fn pair_fits(
     thesis: &Thesis,
     substitution: &Substitution,
@@ -137,7 +111,7 @@ fn pair_fits(
 {
     let us = variables_for(substitution, found, &pair.0);
     let vs = variables_for(substitution, found, &pair.1);
-    are_apart(thesis, us, vs)
+    all_pass(thesis, us, vs) && all_pass(thesis, vs, us)
 }
 
 /// Whether the substitutes of each pair are apart. The variables of each substitute are collected once, where any pair is asked.

@@ -1,10 +1,11 @@
 //! The expressions of the trees so far: their symbols in one vector, one expression behind another, or lent from where they stand.
 
-ghost use Rattle.std.specs.Prelude.{◌≡◌, ◌-◌, ◌<◌, ◌≤◌, ◌++◌, ◌∷◌, [], OnOk, length, take, drop, slice_index_or};
+ghost use Rattle.std.specs.Prelude.{◌≡◌, ◌-◌, ◌<◌, ◌≤◌, ◌++◌, ◌∷◌, [], OnOk, IfErr, length, take, drop, slice_index_or};
 ghost use Rattle.stepcheck.specs.Spans.{start};
 
+use derivation::ProofFaultKind;
 use mmsyntax::SymbolWord;
-use std::alloc::{AllocError, Global};
+use std::alloc::Global;
 use std::marker::Model;
 
 /// How many symbols the stack of most proofs has at once, and how many expressions.
@@ -64,7 +65,8 @@ impl<'a> Args<'a> {
         ensures { result.now ≡ slice_index_or self.now place result.now }
     {
         let symbols = self.symbols;
-        match self.entries[place] {
+        let entry = self.entries[place];
+        match entry {
             Entry::Own(start, end) => &symbols[start..end],
             Entry::Lent(_, lent) => lent,
         }
@@ -135,40 +137,30 @@ impl<'a> Stack<'a> {
         }
     }
 
-    /// Puts a copy of an expression on top.
-    pub(crate) fn push(&mut self, expression: &[SymbolWord]) -> Result<(), AllocError>
-        ensures { OnOk result (self.new ≡ self.old ++ expression.now ∷ []) }
+    /// Puts a copy of an expression on top. Its only fault is want of memory.
+    pub(crate) fn push(&mut self, expression: &[SymbolWord]) -> Result<(), ProofFaultKind>
+        ensures value { OnOk result (self.new ≡ self.old ++ expression.now ∷ []) }
+        ensures kinds { IfErr result (λ kind. kind ≡ ProofFaultKind.NoMemory) }
     {
         let start = self.symbols.len();
         self.symbols.extend_from_slice(expression)?;
         let end = self.symbols.len();
-        self.entries.push(Entry::Own(start, end))?;
-        Ok(())
+        match self.entries.push(Entry::Own(start, end)) {
+            Ok(()) => Ok(()),
+            Err(_) => Err(ProofFaultKind::NoMemory),
+        }
     }
 
-    /// Puts an expression of two symbols on top, each where it is to stand.
-    pub(crate) fn push_two(
-        &mut self,
-        first: SymbolWord,
-        second: SymbolWord,
-    ) -> Result<(), AllocError>
-        ensures { OnOk result (self.new ≡ self.old ++ (first ∷ second ∷ []) ∷ []) }
-    {
-        let start = self.symbols.len();
-        self.symbols.push(first)?;
-        self.symbols.push(second)?;
-        let end = self.symbols.len();
-        self.entries.push(Entry::Own(start, end))?;
-        Ok(())
-    }
-
-    /// Puts an expression that stands elsewhere on top, without a copy.
-    pub(crate) fn lend(&mut self, expression: &'a [SymbolWord]) -> Result<(), AllocError>
-        ensures { OnOk result (self.new ≡ self.old ++ expression.now ∷ []) }
+    /// Puts an expression that stands elsewhere on top, without a copy. Its only fault is want of memory.
+    pub(crate) fn lend(&mut self, expression: &'a [SymbolWord]) -> Result<(), ProofFaultKind>
+        ensures value { OnOk result (self.new ≡ self.old ++ expression.now ∷ []) }
+        ensures kinds { IfErr result (λ kind. kind ≡ ProofFaultKind.NoMemory) }
     {
         let below = self.symbols.len();
-        self.entries.push(Entry::Lent(below, expression))?;
-        Ok(())
+        match self.entries.push(Entry::Lent(below, expression)) {
+            Ok(()) => Ok(()),
+            Err(_) => Err(ProofFaultKind::NoMemory),
+        }
     }
 
     /// Takes all but the first expressions away.

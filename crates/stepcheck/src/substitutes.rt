@@ -18,13 +18,6 @@ use std::slice;
 /// How many numbers are gone through rather than halved.
 const FEW: usize = 8;
 
-/// Whether there are more than a few numbers, and they ascend.
-fn can_be_halved(numbers: &[u32]) -> bool
-    ensures { result ≡ true → IsNonDecreasing numbers.now }
-{
-    numbers.len() > FEW && numbers.is_sorted()
-}
-
 /// The place of the first of the numbers that is n: by halving where they ascend.
 fn first_place(numbers: &[u32], ascend: bool, n: u32) -> Option<usize>
     requires { ascend ≡ true → IsNonDecreasing numbers.now }
@@ -79,7 +72,7 @@ impl<'a> Substitution<'a> {
     ghost use Rattle.derivation.specs.Derivation.{substitution};
     ghost use Rattle.mmframes.specs.Places.{IsPlaceOf};
 
-    /// The substitution of an expression for each `$f`. The `$f` are gone through once.
+    /// The substitution of an expression for each `$f`. The `$f` are gone through once, where there are more than a few.
     pub(crate) fn new(floats: &'a [u32], args: &'a Args<'a>) -> Substitution<'a>
         requires { length floats.now ≤ length args.now }
         ensures { result ≡ substitution floats.now args.now }
@@ -87,7 +80,7 @@ impl<'a> Substitution<'a> {
         Substitution {
             floats,
             args,
-            ascends: can_be_halved(floats),
+            ascends: floats.len() > FEW && floats.is_sorted(),
         }
     }
 

@@ -16,7 +16,9 @@ use Rattle.bodystore.specs.Stages.{Staged, AreStaged}
 use Rattle.cells.specs.Slots.{is_ranged}
 use Rattle.cells.specs.State.{most_words}
 use Rattle.plaincells.specs.declared.plain.PlainCells.{PlainCells}
-use Rattle.plaincells.specs.Opening.{CellsOpen}
+use Rattle.plaincells.specs.Opening.{CellsOpen, Refuses as CellsRefuse}
+use Rattle.plaincells.specs.declared.opening.OpenError.{OpenError as CellsError}
+use Rattle.plaincells.specs.declared.opening.OpenError.TheVariants as cells
 use Rattle.tlwords.specs.declared.words.Words.{Words}
 use Rattle.tlwords.specs.Terms.{AreNamed}
 use Rattle.tlwords.specs.Callers.{home_of}
@@ -31,7 +33,8 @@ use Rattle.lawful.specs.Laws.{IsPassOn}
 use Rattle.openings.proofs.Openings.{opened_cells_open_well}
 use Rattle.transaction.specs.declared.outcome.Record.{Record}
 use Rattle.transaction.specs.Members.{Home, Member, IsMember, IsRecordIn}
-use Rattle.transaction.specs.Openings.{IsNewSession, seated, AreSeated}
+use Rattle.transaction.specs.declared.shape.Shape.{Shape}
+use Rattle.transaction.specs.Openings.{IsShape, IsNewSession, Refuses, from_cells, seated, AreSeated}
 use Rattle.transaction.proofs.Standing.{stands}
 
 -- what plain cells hold that a database opened, whose proofs check, opens words well
@@ -50,6 +53,13 @@ words_open db g room made values store is spelled checks some few many opens val
     × AreNamed library_terms g (ranges_named (library_terms.ranged g) ws vs) vs in
     subst (λ (vs : List ℕ). IsWell vs store) (sym values_are)
     (subst (λ (ws : List ℕ). IsWell made.values.items ws) (sym store_is) (opened_cells_open_well g room made verifies own))
+
+-- where its cells are not opened, the library isn't either
+pub cells_refuse : (db : Contents) (shape : Shape) (error : CellsError) → IsShape shape → length db.assertions ≤ shape.slots → AllCheck db
+    → CellsRefuse db shape.slots shape.room error → Refuses db shape (from_cells error)
+cells_refuse db shape cells.TooMany is fits checks h = (is, h)
+cells_refuse db shape cells.StoreFull is fits checks h = (is, fits, checks, h.1)
+cells_refuse db shape cells.NoMemory is fits checks h = (is, fits)
 
 -- no range is staged at first
 pub none_staged : (ranges : List Range) (stage : Staged) → stage ≡ empty → AreStaged ranges stage

@@ -1,6 +1,7 @@
 -- What was told of drawn numbers stays so while more is seen.
-use Rattle.std.proofs.Common.{◌≢◌, ℕ, List, [], ◌∷◌, ◌++◌, Option, Some, None, sym, ap, ◌∙◌}
+use Rattle.std.proofs.Common.{◌≡◌, ◌≢◌, ℕ, List, [], ◌∷◌, ◌++◌, Option, Some, None, sym, ap, ◌∙◌}
 use Rattle.std.specs.Prelude.{All}
+use Rattle.std.specs.Option.{MatchOption}
 use Rattle.std.proofs.lemmas.List.{map-append}
 use Rattle.std.proofs.lemmas.List.Elements.{All-weaker, All-push}
 use Rattle.library.specs.declared.command.Command.{Command}
@@ -43,6 +44,12 @@ voids_grow old new numbers grows are = All-weaker (IsVoidNumber old) (IsVoidNumb
 abbrev pub with_record : List Record → Option Record → List Record
 with_record rs None = rs
 with_record rs (Some r) = rs ++ r ∷ []
+
+-- so it is where that record was put behind the others
+pub put_behind : (r : Option Record) (old new : List Record) → MatchOption r (new ≡ old) (λ own. new ≡ old ++ own ∷ [])
+    → new ≡ with_record old r
+put_behind None old new h = h
+put_behind (Some own) old new h = h
 
 pub still_recorded : (m : Member) (k : Pass) (s : Staged) (r : Option Record) → SeenGrows m.known.seen k.seen → IsRecorded m.known k r
     → AreRecorded m

@@ -154,10 +154,6 @@ module _ (m : Member) (is : IsMember m) (cs : List Command) (kit k : Carried) (o
       (subst (λ (z : Carried). Stores cs z k o) (λ j. record { pass = same j; staged = stage j }) stored)
       (subst (λ (z : Pass). EndsWithin z cs k.pass o) same within))
 
-pub no_record : (r : Option Record) → ((x : Record) → r ≢ Some x) → r ≡ None
-no_record None none = refl
-no_record (Some x) none = absurd (none x refl)
-
 -- ---- tries until there is no conflict
 
 pub later_trans : (a b c : Member) → IsLater a b → IsLater b c → IsLater a c

@@ -1,6 +1,6 @@
 //! Tries transactions.
 
-ghost use Rattle.std.specs.Prelude.{◌≡◌, ◌≢◌, ◌<◌, [], Some, None, true, false, is_some, All, IfOk, MatchOption, vec_len, vec_capacity};
+ghost use Rattle.std.specs.Prelude.{◌≡◌, ◌≢◌, ◌<◌, ◌++◌, ◌∷◌, [], Some, None, true, false, is_some, All, IfOk, MatchOption, vec_len, vec_capacity};
 ghost use Rattle.library.specs.Fitting.{CommandFits};
 ghost use Rattle.library.specs.Transactions.{has_edit};
 ghost use Rattle.cells.specs.Answers.{has_staging};
@@ -65,10 +65,18 @@ impl Session {
             drawn,
         } = transact(alloc, library, kit, commands, &mut self.records);
         self.kit = Some(kit);
-        if let Some(own) = drawn {
-            self.records.push_reserved(own);
-        }
+        put_drawn(&mut self.records, drawn);
         outcome
+    }
+}
+
+/// Puts the record of the number that a run drew, if it drew one, behind those of earlier numbers. There is room for it.
+fn put_drawn(records: &mut Vec<Record>, drawn: Option<Record>)
+    requires { is_some drawn ≡ true → vec_len records.old < vec_capacity records.old }
+    ensures { MatchOption drawn (records.new.items ≡ records.old.items) (λ own. records.new.items ≡ records.old.items ++ own ∷ []) }
+{
+    if let Some(own) = drawn {
+        records.push_reserved(own);
     }
 }
 

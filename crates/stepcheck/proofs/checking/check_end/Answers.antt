@@ -1,25 +1,23 @@
-use Rattle.std.proofs.Common.{◌≡◌, ◌-◌, length, drop, [], ◌∷◌, refl, sym, ap, ◌∙◌, arith}
-use Rattle.stepcheck.proofs.Spans.{only-one}
+use Rattle.std.proofs.Common.{◌≡◌, length, [], ◌∷◌, refl, sym, ap, ◌∙◌, arith}
+use Rattle.std.proofs.lemmas.Slice.Eq.{slice_eq-Decides}
+use Rattle.derivation.proofs.Nodes.{symbol_decides}
+use Rattle.stepcheck.proofs.Spans.{last-alone}
 use Rattle.stepcheck.proofs.checking.check_end.Goals as goal
 
-pub returns-then-are_same-clause-yes : goal.returns-then-are_same-clause-yes
-returns-then-are_same-clause-yes c =
-    let left = c.args.left.now in
-    let whole : length left ≡ 1 = omega arith in
-    let none : length left - 1 ≡ 0 = omega arith in
-    let all : drop (length left - 1) left ≡ left = rw none refl in
-    let top = rw (c.last.ensures, all) at c.at.ensures in
-    let same = c.are_same.ensures.0 c.if-are_same.true in
-    only-one left c.at.result.now whole top ∙ ap (λ x. x ∷ []) (same ∙ c.as_slice.ensures)
+pub returns-then-eq-clause-yes : goal.returns-then-eq-clause-yes
+returns-then-eq-clause-yes c =
+    let one : length c.args.left.now ≡ 1 = omega arith in
+    let same = (slice_eq-Decides symbol_decides _ _ _ c.eq.ensures).0 c.if-eq.true in
+    last-alone _ _ c.at.result.now one c.last.ensures c.at.ensures ∙ ap (λ x. x ∷ []) (same ∙ c.as_slice.ensures)
 
-pub returns-else-are_same-clause-fault : goal.returns-else-are_same-clause-fault
-returns-else-are_same-clause-fault c =
-    let left = c.args.left.now in
-    let whole : length left ≡ 1 = omega arith in
-    let none : length left - 1 ≡ 0 = omega arith in
-    let all : drop (length left - 1) left ≡ left = rw none refl in
-    let top = rw (c.last.ensures, all) at c.at.ensures in (
-      c.at.result.now,
-      only-one left c.at.result.now whole top,
-      λ same. let yes = c.are_same.ensures.1 (same ∙ sym c.as_slice.ensures) in cc,
+pub returns-clause-fault : goal.returns-clause-fault
+returns-clause-fault c =
+    let one : length c.args.left.now ≡ 1 = omega arith in
+    let decides = slice_eq-Decides symbol_decides _ _ _ c.eq.ensures in (
+      refl,
+      (
+        c.at.result.now,
+        last-alone _ _ c.at.result.now one c.last.ensures c.at.ensures,
+        λ same. let yes = decides.1 (same ∙ sym c.as_slice.ensures) in cc,
+      ),
     )

@@ -2,6 +2,7 @@ use Rattle.std.proofs.Common.{◌≡◌, ◌+◌, length, map, take, get_or, [],
 use Rattle.std.specs.Option.{option_copied}
 use Rattle.std.proofs.lemmas.List.{take_more, take_all, length-map}
 use Rattle.std.proofs.lemmas.Option.{slice_get_read}
+use Rattle.std.proofs.lemmas.Result.{on_ok_weaker, IfErr-weaker}
 use Rattle.mmsyntax.specs.ProofWords.{step_of, step_in}
 use Rattle.derivation.proofs.Forests.{Runs-more}
 use Rattle.derivation.proofs.Stuck.{step-fault, end-fault, proved}
@@ -38,24 +39,24 @@ loop-done-preserved g c =
     rw front (Runs-more lib c.args.prelude.now c.args.assertion.now _ (step ∷ []) [] c.loop-done.stack c.take_step.new.stack
     c.loop-done.invariant (c.take_step.new.stack, rw c.new-thesis.ensures at (c.in-Ok-take_step.ensures.ok lib labels same), refl))
 
-pub returns-in-Ok-check_end-clause-yes : goal.returns-in-Ok-check_end-clause-yes
-returns-in-Ok-check_end-clause-yes g c =
+pub returns-clause-yes : goal.returns-clause-yes
+returns-clause-yes g c =
     let labels = c.word_steps-steps.result.cited.now in
     let words = c.word_steps-steps.result.words.now in
     let xs = c.args.assertion.now.proof in
     let long : length words ≡ length xs = sym (length-map words (step_of labels)) ∙ ap length c.word_steps-steps.ensures in
     let whole = take_all c.loop-done.done xs (rw long at c.loop-done-test.false) in
-    let left = c.in-Ok-check_end.ensures.yes in
+    on_ok_weaker c.check_end.result (λ (left : c.loop-done.stack ≡ c.args.assertion.now.statement ∷ []).
     proved (g.F.Frames.frames c.args.frames.now) c.args.prelude.now c.args.assertion.now c.args.assertion.now.statement
-    (rw (whole, left) at c.loop-done.invariant)
+    (rw (whole, left) at c.loop-done.invariant)) c.check_end.ensures.yes
 
 pub returns-clause-fault : goal.returns-clause-fault
-returns-clause-fault g c = λ n.
+returns-clause-fault g c =
     let labels = c.word_steps-steps.result.cited.now in
     let words = c.word_steps-steps.result.words.now in
     let xs = c.args.assertion.now.proof in
     let long : length words ≡ length xs = sym (length-map words (step_of labels)) ∙ ap length c.word_steps-steps.ensures in
     let whole = take_all c.loop-done.done xs (rw long at c.loop-done-test.false) in
-    end-fault (g.F.Frames.frames c.args.frames.now) c.args.prelude.now c.args.assertion.now c.loop-done.stack
-    (record { step = length words; kind = c.in-Err-check_end.kind })
-    (rw whole at c.loop-done.invariant) long c.in-Err-check_end.ensures.fault
+    IfErr-weaker c.check_end.result _ _ (λ fault h n.
+    end-fault (g.F.Frames.frames c.args.frames.now) c.args.prelude.now c.args.assertion.now c.loop-done.stack fault
+    (rw whole at c.loop-done.invariant) (h.0 ∙ long) h.1) c.check_end.ensures.fault

@@ -43,18 +43,26 @@ returns-in-Some-frames-clause-err c =
     rw c.in-Cite.is (cite_fails lib c.args.prelude.now c.args.thesis.now c.args.stack.now _ c.in-Some-frames.frame.now kind is (fails n)))
     c.cite.ensures.err
 
-pub returns-in_ok-lend-in-Some-get-clause-ok : goal.returns-in_ok-lend-in-Some-get-clause-ok
-returns-in_ok-lend-in-Some-get-clause-ok c = λ lib labels same.
+pub returns-in-Some-get-clause-ok : goal.returns-in-Some-get-clause-ok
+returns-in-Some-get-clause-ok c =
+    on_ok_weaker c.lend.result (λ pushed lib labels same.
     rw c.in-Hyp.is (
       c.in-Some-get.hyp.now,
       item_at _ _ _ c.in-Some-get.hyp (c.as_slice.ensures ∙ ap (λ a. a.hyps) c.assertion.ensures) c.in-Some-get.ensures.lookup,
-      c.in_ok-lend-in-Some-get.ensures ∙ ap (λ e. c.args.stack.now ++ e ∷ []) c.as_slice-in-Some-get.ensures,
-    )
+      pushed ∙ ap (λ e. c.args.stack.now ++ e ∷ []) c.as_slice-in-Some-get.ensures,
+    )) c.lend.ensures.value
 
-pub returns-in_ok-push_two-in-Some-clause-ok : goal.returns-in_ok-push_two-in-Some-clause-ok
-returns-in_ok-push_two-in-Some-clause-ok c = λ lib labels same.
+pub returns-in-Some-get-clause-err : goal.returns-in-Some-get-clause-err
+returns-in-Some-get-clause-err c = IfErr-weaker c.lend.result _ _ (λ kind is n. absurd (n is)) c.lend.ensures.kinds
+
+pub returns-in-Some-clause-ok : goal.returns-in-Some-clause-ok
+returns-in-Some-clause-ok c =
+    on_ok_weaker c.push.result (λ pushed lib labels same.
     rw c.in-Float.is (
       c.new.result ∷ c.new-in-Some.result ∷ [],
-      (c.in-Some.float.now, item_at _ _ _ c.in-Some.float c.floats.ensures.value c.in-Some.ensures.lookup, cc),
-      c.in_ok-push_two-in-Some.ensures,
-    )
+      (c.in-Some.float.now, item_at _ _ _ c.in-Some.float c.floats.ensures.value c.in-Some.ensures.lookup, rw (c.new.ensures, c.new-in-Some.ensures) refl),
+      pushed,
+    )) c.push.ensures.value
+
+pub returns-in-Some-clause-err : goal.returns-in-Some-clause-err
+returns-in-Some-clause-err c = IfErr-weaker c.push.result _ _ (λ kind is n. absurd (n is)) c.push.ensures.kinds

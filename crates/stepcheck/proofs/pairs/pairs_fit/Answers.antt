@@ -1,4 +1,5 @@
-use Rattle.std.proofs.Common.{sym, ◌∙◌}
+use Rattle.std.proofs.Common.{refl, sym, ◌∙◌, arith}
+use Rattle.std.proofs.lemmas.Result.{IfOk-from_err}
 use Rattle.mmframes.specs.Substitution.{replacement}
 use Rattle.derivation.specs.Derivation.{AreApart}
 use Rattle.stepcheck.proofs.Apart.{within_one_more}
@@ -13,3 +14,12 @@ loop-pair-preserved c =
 pub returns-then-not-pair_fits : goal.returns-then-not-pair_fits
 returns-then-not-pair_fits c =
     (λ t. cc, λ all. sym c.if-not-pair_fits.true ∙ c.pair_fits.ensures.1 (all c.loop-pair.pair-index (0, 0) c.loop-pair-test.true))
+
+pub returns-in_err-found : goal.returns-in_err-found
+returns-in_err-found c = IfOk-from_err _ _ c.from_residual.ensures.0
+
+pub loop-pair-init : goal.loop-pair-init
+loop-pair-init c = λ k d low high. absurd (omega (arith, high))
+
+pub returns : goal.returns
+returns c = (λ t k d l. c.loop-pair.invariant k d (omega arith) (let past = c.loop-pair-test.false in omega (arith, past, l)), λ all. refl)
