@@ -1,9 +1,7 @@
-use Rattle.std.proofs.Common.{arith, subst, ap, sym, ◌∙◌, length, ◌≡◌, refl}
+use Rattle.std.proofs.Common.{arith, ap, sym, ◌∙◌, length, ◌≡◌, refl}
 use Rattle.ranges.proofs.Named.{named_of_one}
-use Rattle.ranges.specs.Ranges.{ranges_named}
 use Rattle.tlwords.specs.Layout.{store_at}
-use Rattle.tlwords.specs.Known.{Knows}
-use Rattle.tlwords.proofs.Openings.{new_pass_knows, opens_so, same_home, words_length}
+use Rattle.tlwords.proofs.Openings.{opens_so, opened_so, words_length}
 use Rattle.tlwords.proofs.opening.lay_out.Goals as goal
 
 pub of_words-made-requires : goal.of_words-made-requires
@@ -40,19 +38,12 @@ deal_all-requires-clause-store g c =
 pub returns-clause-opened : goal.returns-clause-opened
 returns-clause-opened g c =
     let key = c.in-Ok.ensures.5 in
-    let setting = ap (λ k. k.setting.value) key ∙ c.of.ensures in
-    let values = ap (λ k. k.values.value.items) key ∙ ap (λ v. v.items) c.of-2.ensures in
-    let ranges = ranges_named (g.L.Law.terms.ranged c.args.setting.now) c.args.store.now.items c.args.values.now.items in
-    let made = rw (c.as_slice-4.ensures.value, c.as_slice-5.ensures.value) at c.in_ok-passes.ensures.passes in
-    record {
-      sizes = (let cells = c.len.ensures in omega (arith, cells), refl);
-      key = (setting, values, ap (λ k. k.store.value.items) key ∙ ap (λ v. v.items) c.of-3.ensures, ap (λ k. k.sessions) key);
-      passes = λ k d l. same_home c.in-Ok.table.shared.table_id c.args.setting.now _ c.args.values.now.items _ c.args.room _ _
-          (made k d l) setting values;
-      sound = λ k d l. subst (Knows g.L.Law.terms) (sym (made k d l))
-          (new_pass_knows c.args.setting.now c.args.values.now.items c.args.room ranges c.args.sessions g.L.Law.terms
-          c.in-Ok.table.shared.table_id _ c.requires.opens
-          (named_of_one (g.L.Law.terms.ranged c.args.setting.now) c.args.store.now.items c.args.values.now.items c.args.room
-          c.requires.shape.4));
-      names = c.in_ok-passes.ensures.names;
-    }
+    opened_so g.L.Law.terms c.args.setting.now c.args.values.now.items c.args.store.now.items c.args.room c.args.sessions _ _
+    (let cells = c.len.ensures in omega (arith, cells)) refl (
+      ap (λ k. k.setting.value) key ∙ c.of.ensures,
+      ap (λ k. k.values.value.items) key ∙ ap (λ v. v.items) c.of-2.ensures,
+      ap (λ k. k.store.value.items) key ∙ ap (λ v. v.items) c.of-3.ensures,
+      ap (λ k. k.sessions) key,
+    )
+    (rw (c.as_slice-4.ensures.value, c.as_slice-5.ensures.value) at c.in_ok-passes.ensures.passes) c.in_ok-passes.ensures.names
+    c.requires.opens c.requires.shape.4
