@@ -1,6 +1,6 @@
-use Rattle.std.proofs.Common.{arith, refl, sym, ◌∙◌, subst, None, Some, ◌*◌, ◌+◌, length}
-use Rattle.tlwords.specs.Committing.{Releasing, StoresTo}
-use Rattle.tlwords.specs.Commits.{work_kept}
+use Rattle.std.proofs.Common.{arith, ap, refl, sym, ◌∙◌, subst, None, Some, ◌*◌, ◌+◌, length}
+use Rattle.tlwords.specs.Committing.{held_in, Releasing, StoresTo}
+use Rattle.tlwords.specs.Commits.{work_kept, writes_kept}
 use Rattle.tlwords.proofs.Turns.{seat_trans}
 use Rattle.tlwords.proofs.Settles.{done_ends, done_releases, failed_ends, taken_lawful, taken_place, taken_writes, void_ends}
 use Rattle.tlwords.proofs.Settles.{void_releases, planned_goes, planned_drawn, planned_stored}
@@ -67,6 +67,29 @@ release_all-requires-2-clause-planned g c =
     let checked = planned_goes g.L.Law.terms c.args.words.now d.new.seat k.new.seat _ l k.new.log drawn k.ensures.seat c.in_default-check_all.ensures.ok.goes refl
     k.ensures.log.0 k.ensures.log.1 in
     planned_stored g.L.Law.terms c.args.words.now _ k.new.seat c.store_all.new.seat _ _ _ k.new.log checked c.store_all.ensures.seat c.store_all.ensures.stores
+
+pub store_all-requires-clause-held : goal.store_all-requires-clause-held
+store_all-requires-clause-held g c =
+    let passed = c.in_default-check_all.ensures.ok.goes.is in
+    let drawn = c.draw-index.ensures.told.is c.args.note.now refl in (
+      ap (λ v. v.seat.held) passed ∙ (ap (λ v. v.seat.held) drawn ∙ (ap (λ v. v.seat.held) c.in_default.ensures.ok.is
+          ∙ sym (ap (λ s. held_in s 0 0 (length s)) c.check_all.ensures.log.0))),
+      ap (λ v. v.note) passed ∙ ap (λ v. v.note) drawn,
+    )
+
+pub store_all-requires-clause-writes : goal.store_all-requires-clause-writes
+store_all-requires-clause-writes g c = λ e. c.requires.writes (sym (ap writes_kept c.check_all.ensures.log.0) ∙ e)
+
+pub overflow_mul-number : goal.overflow_mul-number
+overflow_mul-number g c = let few = c.draw-index.ensures.told.few in omega arith
+
+pub release_all-requires-in-Err-check_all-clause-high : goal.release_all-requires-in-Err-check_all-clause-high
+release_all-requires-in-Err-check_all-clause-high g c =
+    let a = ap length c.check_all.ensures.log.0 in let b = c.requires.planned.cells in omega arith
+
+pub release_all-requires-2-clause-high : goal.release_all-requires-2-clause-high
+release_all-requires-2-clause-high g c =
+    let a = ap length c.check_all.ensures.log.0 in let b = c.requires.planned.cells in omega arith
 
 pub returns-in-Err-clause-ended : goal.returns-in-Err-clause-ended
 returns-in-Err-clause-ended g c =
