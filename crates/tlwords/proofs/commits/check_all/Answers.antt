@@ -15,8 +15,11 @@ returns-then-index-place-clause-ok g c =
     (c.if-index-place.true ∙ sym c.requires.run.1)
 
 pub loop-i-init : goal.loop-i-init
-loop-i-init g c =
-    ((refl, refl, refl), check_starts g.L.Law.terms c.args.log.now.slots c.args.index c.args.seat.now.me c.requires.planned.kept c.requires.run.0)
+loop-i-init g c = (
+  (refl, refl, refl),
+  check_starts g.L.Law.terms c.args.log.now.slots c.args.index c.args.seat.now.me c.requires.planned.kept
+      c.requires.run.0,
+)
 
 pub check-word-requires-clause-seated : goal.check-word-requires-clause-seated
 check-word-requires-clause-seated g c =
@@ -107,5 +110,5 @@ returns-clause-ok g c =
     let all : c.loop-i.i ≤ length ws = let a = c.loop-i.auto.i-end in omega arith in
     let p : IsPlan c.args.log.now.slots false ws = subst (λ x. IsPlan x false ws) c.plan_checks.ensures.same.0 c.plan_checks.ensures.plan in
     let none = plan_end c.args.log.now.slots false ws p c.loop-i.i past all in
-    check_ends g.L.Law.terms c.args.log.now.slots c.args.index c.args.seat.now.me c.requires.planned.kept c.requires.run.2 (low_of ws c.loop-i.i)
-    _ c.loop-i.invariant.1 none
+    check_ends g.L.Law.terms c.args.log.now.slots c.args.index c.args.seat.now.me c.requires.planned.kept c.requires.run.2 (low_of ws
+    c.loop-i.i) _ c.loop-i.invariant.1 none

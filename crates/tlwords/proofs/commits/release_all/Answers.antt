@@ -66,7 +66,8 @@ loop-i-preserved g c =
           c.index-kept.ensures))
           (release_goes g.L.Law.terms c.args.log.now.slots c.args.high c.args.new (low_of ws c.loop-i.i) _ _ c.loop-i.invariant.1 t.cell
           t.value s.0.0
-          c.if-kept-high.false (s.2 refl) _ (unkept_of m.0.seat c.args.log.now.slots c.requires.planned.kept _ _ s.0.3) c.release.ensures.told),
+          c.if-kept-high.false (s.2 refl) _ (unkept_of m.0.seat c.args.log.now.slots c.requires.planned.kept _ _ s.0.3)
+          c.release.ensures.told),
     )
 
 pub returns-clause-seat : goal.returns-clause-seat

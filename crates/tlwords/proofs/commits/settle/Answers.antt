@@ -7,28 +7,27 @@ use Rattle.tlwords.proofs.Settles.{void_releases, planned_goes, planned_drawn, p
 use Rattle.tlwords.proofs.commits.settle.Goals as goal
 
 pub take_all-requires-clause-planned : goal.take_all-requires-clause-planned
-take_all-requires-clause-planned g c =
-    c.requires.planned
+take_all-requires-clause-planned g c = c.requires.planned
 
 pub release_all-requires-clause-planned : goal.release_all-requires-clause-planned
 release_all-requires-clause-planned g c =
     let l = c.args.log.now in
-    planned_goes g.L.Law.terms c.args.words.now c.args.seat.now c.take_all.new.seat _ l l c.requires.planned c.take_all.ensures.seat c.in-Err.ensures.err.goes
-    refl refl refl
+    planned_goes g.L.Law.terms c.args.words.now c.args.seat.now c.take_all.new.seat _ l l c.requires.planned c.take_all.ensures.seat
+    c.in-Err.ensures.err.goes refl refl refl
 
 pub draw-index-requires-clause-seated : goal.draw-index-requires-clause-seated
 draw-index-requires-clause-seated g c =
     let l = c.args.log.now in
-    (planned_goes g.L.Law.terms c.args.words.now c.args.seat.now c.take_all.new.seat _ l l c.requires.planned c.take_all.ensures.seat c.in_default.ensures.ok
-    refl refl refl).seated
+    (planned_goes g.L.Law.terms c.args.words.now c.args.seat.now c.take_all.new.seat _ l l c.requires.planned c.take_all.ensures.seat
+    c.in_default.ensures.ok refl refl refl).seated
 
 pub check_all-requires-clause-planned : goal.check_all-requires-clause-planned
 check_all-requires-clause-planned g c =
     let l = c.args.log.now in
     let b = c.take_all in
     let d = c.draw-index in
-    let taken = planned_goes g.L.Law.terms c.args.words.now c.args.seat.now b.new.seat _ l l c.requires.planned b.ensures.seat c.in_default.ensures.ok refl refl
-    refl in
+    let taken = planned_goes g.L.Law.terms c.args.words.now c.args.seat.now b.new.seat _ l l c.requires.planned b.ensures.seat
+    c.in_default.ensures.ok refl refl refl in
     planned_drawn g.L.Law.terms c.args.words.now b.new.seat d.new.seat _ d.result l taken d.ensures.seat d.ensures.told
 
 pub release_all-requires-in-Err-check_all-clause-planned : goal.release_all-requires-in-Err-check_all-clause-planned
@@ -36,37 +35,38 @@ release_all-requires-in-Err-check_all-clause-planned g c =
     let l = c.args.log.now in
     let b = c.take_all in
     let d = c.draw-index in
-    let taken = planned_goes g.L.Law.terms c.args.words.now c.args.seat.now b.new.seat _ l l c.requires.planned b.ensures.seat c.in_default.ensures.ok refl refl
-    refl in
+    let taken = planned_goes g.L.Law.terms c.args.words.now c.args.seat.now b.new.seat _ l l c.requires.planned b.ensures.seat
+    c.in_default.ensures.ok refl refl refl in
     let drawn = planned_drawn g.L.Law.terms c.args.words.now b.new.seat d.new.seat _ d.result l taken d.ensures.seat d.ensures.told in
     let k = c.check_all in
-    planned_goes g.L.Law.terms c.args.words.now d.new.seat k.new.seat _ l k.new.log drawn k.ensures.seat c.in-Err-check_all.ensures.err.goes refl k.ensures.log.0
-    k.ensures.log.1
+    planned_goes g.L.Law.terms c.args.words.now d.new.seat k.new.seat _ l k.new.log drawn k.ensures.seat
+    c.in-Err-check_all.ensures.err.goes refl k.ensures.log.0 k.ensures.log.1
 
 pub store_all-requires-clause-planned : goal.store_all-requires-clause-planned
 store_all-requires-clause-planned g c =
     let l = c.args.log.now in
     let b = c.take_all in
     let d = c.draw-index in
-    let taken = planned_goes g.L.Law.terms c.args.words.now c.args.seat.now b.new.seat _ l l c.requires.planned b.ensures.seat c.in_default.ensures.ok refl refl
-    refl in
+    let taken = planned_goes g.L.Law.terms c.args.words.now c.args.seat.now b.new.seat _ l l c.requires.planned b.ensures.seat
+    c.in_default.ensures.ok refl refl refl in
     let drawn = planned_drawn g.L.Law.terms c.args.words.now b.new.seat d.new.seat _ d.result l taken d.ensures.seat d.ensures.told in
     let k = c.check_all in
-    planned_goes g.L.Law.terms c.args.words.now d.new.seat k.new.seat _ l k.new.log drawn k.ensures.seat c.in_default-check_all.ensures.ok.goes refl
-    k.ensures.log.0 k.ensures.log.1
+    planned_goes g.L.Law.terms c.args.words.now d.new.seat k.new.seat _ l k.new.log drawn k.ensures.seat
+    c.in_default-check_all.ensures.ok.goes refl k.ensures.log.0 k.ensures.log.1
 
 pub release_all-requires-2-clause-planned : goal.release_all-requires-2-clause-planned
 release_all-requires-2-clause-planned g c =
     let l = c.args.log.now in
     let b = c.take_all in
     let d = c.draw-index in
-    let taken = planned_goes g.L.Law.terms c.args.words.now c.args.seat.now b.new.seat _ l l c.requires.planned b.ensures.seat c.in_default.ensures.ok refl refl
-    refl in
+    let taken = planned_goes g.L.Law.terms c.args.words.now c.args.seat.now b.new.seat _ l l c.requires.planned b.ensures.seat
+    c.in_default.ensures.ok refl refl refl in
     let drawn = planned_drawn g.L.Law.terms c.args.words.now b.new.seat d.new.seat _ d.result l taken d.ensures.seat d.ensures.told in
     let k = c.check_all in
-    let checked = planned_goes g.L.Law.terms c.args.words.now d.new.seat k.new.seat _ l k.new.log drawn k.ensures.seat c.in_default-check_all.ensures.ok.goes refl
-    k.ensures.log.0 k.ensures.log.1 in
-    planned_stored g.L.Law.terms c.args.words.now _ k.new.seat c.store_all.new.seat _ _ _ k.new.log checked c.store_all.ensures.seat c.store_all.ensures.stores
+    let checked = planned_goes g.L.Law.terms c.args.words.now d.new.seat k.new.seat _ l k.new.log drawn k.ensures.seat
+    c.in_default-check_all.ensures.ok.goes refl k.ensures.log.0 k.ensures.log.1 in
+    planned_stored g.L.Law.terms c.args.words.now _ k.new.seat c.store_all.new.seat _ _ _ k.new.log checked c.store_all.ensures.seat
+    c.store_all.ensures.stores
 
 pub store_all-requires-clause-held : goal.store_all-requires-clause-held
 store_all-requires-clause-held g c =
@@ -113,8 +113,8 @@ draw-index-requires-clause-place g c =
 
 pub draw-index-requires-clause-writes : goal.draw-index-requires-clause-writes
 draw-index-requires-clause-writes g c = λ e. c.requires.writes
-    (sym (taken_writes g.L.Law.terms c.args.log.now.slots c.args.note.now c.args.seat.now _ c.args.place c.requires.run c.requires.planned.kept
-    c.requires.writes
+    (sym (taken_writes g.L.Law.terms c.args.log.now.slots c.args.note.now c.args.seat.now _ c.args.place c.requires.run
+    c.requires.planned.kept c.requires.writes
     _ c.in_default.ensures.ok) ∙ e)
 
 pub release_all-requires-in-Err-check_all-clause-run : goal.release_all-requires-in-Err-check_all-clause-run
