@@ -22,6 +22,8 @@ use Rattle.tlwords.specs.Rule.{at_opening, IsTold, Suits, Kept, Adds, Shelf, Rul
 use Rattle.tlwords.specs.Runs.{down, dealer, IsNew, KnowsStore}
 use Rattle.tlwords.specs.Plays.{Mine, newcomer}
 use Rattle.tlwords.specs.Known.{Known, Knows}
+use Rattle.tlwords.specs.declared.words.Words.{Words}
+use Rattle.tlwords.specs.Callers.{IsOpened}
 use Rattle.tlwords.specs.Calls.{new_pass, IsDealt}
 use Rattle.tlwords.proofs.Logs.{take_next}
 use Rattle.tlwords.proofs.Seens.{seen_refl}
@@ -260,7 +262,7 @@ module _ {S N : Type 0} (setting : S) (base : List ℕ) (room : ℕ) (ranges : L
       (record { at_rest = refl; alone = refl; full = refl; ranges = lie })
 
   -- a pass of a lawful opening
-  pub new_pass_knows : (terms : Terms S N) (table : TableId) (name : ℕ) → terms.opens setting ranges base → AreOfOneStore room ranges
+  new_pass_knows : (terms : Terms S N) (table : TableId) (name : ℕ) → terms.opens setting ranges base → AreOfOneStore room ranges
       → Knows terms (new_pass (record { table = table; setting = Some setting; base = base; room = room }) ranges name)
   new_pass_knows terms table name opens one =
       record {
@@ -275,9 +277,25 @@ module _ {S N : Type 0} (setting : S) (base : List ℕ) (room : ℕ) (ranges : L
         settled = λ i has. absurd has;
       }
 
--- a pass of an opening, told by equal words
-pub same_home : {S N : Type 0} (table : TableId) (x y : S) (xs ys : List ℕ) (room : ℕ) (ranges : List Range) (k : Known S N)
-    → IsDealt x xs room ranges table k → y ≡ x → ys ≡ xs
-    → k ≡ new_pass (record { table = table; setting = Some y; base = ys; room = room }) ranges k.name
-same_home table x y xs ys room ranges k e p q =
-    e ∙ (λ j. new_pass (record { table = table; setting = Some (sym p j); base = sym q j; room = room }) ranges k.name)
+-- an opening with this key, and the passes that were dealt
+pub opened_so : {L S N : Type 0} (terms : Terms S N) (setting : S) (values store : List ℕ) (room sessions : ℕ) (words : Words L S N)
+    (dealt : List (Known S N)) → words.cells ≡ length values → words.room ≡ room
+    → (words.table.shared.key.setting.value ≡ setting) × (words.table.shared.key.values.value.items ≡ values)
+    × (words.table.shared.key.store.value.items ≡ store) × (words.table.shared.key.sessions ≡ sessions)
+    → All (λ k. IsDealt setting values room (ranges_named (terms.ranged setting) store values) words.table.shared.table_id k) dealt
+    → map (λ k. k.name) dealt ≡ down sessions sessions
+    → terms.opens setting (ranges_named (terms.ranged setting) store values) values → length store ≤ room
+    → IsOpened terms setting values store room sessions words dealt
+opened_so terms setting values store room sessions words dealt cells space key each names opens fits =
+    let ranges : List Range = ranges_named (terms.ranged setting) store values in
+    let table : TableId = words.table.shared.table_id in
+    record {
+      sizes = (cells, space);
+      key = key;
+      passes = λ k d l. each k d l
+          ∙ (λ j. new_pass (record { table = table; setting = Some (sym key.0 j); base = sym key.1 j; room = sym space j }) ranges
+          (slice_index_or dealt k d).name);
+      sound = λ k d l. subst (Knows terms) (sym (each k d l)) (new_pass_knows setting values room ranges sessions terms table _ opens
+          (named_of_one (terms.ranged setting) store values room fits));
+      names = names;
+    }

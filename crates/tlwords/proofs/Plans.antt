@@ -16,7 +16,6 @@ use Rattle.tlcore.proofs.Lists.{known, both_left, both_right, get_within}
 use Rattle.tlcore.proofs.Growth.{get_exists}
 use Rattle.tlwords.specs.declared.log.Slot.{Slot}
 use Rattle.tlwords.specs.declared.log.Touched.{Touched}
-use Rattle.tlwords.specs.declared.log.Log.{Log}
 use Rattle.tlwords.specs.declared.slots.Entry.{Entry}
 use Rattle.tlwords.specs.Runs.{word_seen, value_kept, was_read}
 use Rattle.tlwords.specs.Walks.{is_wanted, NoneWanted, IsNext, low_of, behind, IsPlan}
@@ -338,10 +337,6 @@ picked_more kept [] e = append-nil (pick kept e e.kept)
 picked_more kept (d ∷ es) e =
     ap (λ ts. pick kept d d.kept ++ ts) (picked_more kept es e) ∙ sym
     (append_assoc (pick kept d d.kept) (picked kept es) (pick kept e e.kept))
-
-pub plan_same : (l k : Log) → k.slots ≡ l.slots → k.writes ≡ l.writes → IsPlan l.slots true l.writes.items → IsPlan k.slots true
-    k.writes.items
-plan_same l k e f p = subst (λ s. IsPlan s true k.writes.items) (sym e) (subst (λ w. IsPlan l.slots true w.items) (sym f) p)
 
 pub picked_next : (kept : Bool) (es : List Entry) (n : ℕ) (d : Entry) → n < length es
     → picked kept (take (n + 1) es) ≡ picked kept (take n es) ++ pick kept (slice_index_or es n d) (slice_index_or es n d).kept

@@ -12,10 +12,12 @@ use Rattle.tlcore.specs.declared.seats.Read.{Read}
 use Rattle.tlcore.specs.declared.seats.Place.{Place}
 use Rattle.tlcore.specs.declared.seats.Place.TheVariants.{Idle, Taking, Reading, Checking, Storing, Voiding}
 use Rattle.ranges.specs.Pairs.{Pairs, written}
+use Rattle.tlwords.specs.declared.log.Log.{Log}
 use Rattle.tlwords.specs.declared.log.Slot.{Slot}
 use Rattle.tlwords.specs.declared.mode.Mode.TheVariants.{Writing}
 use Rattle.tlwords.specs.declared.outcome.Conflict.{Conflict}
 use Rattle.tlwords.specs.declared.outcome.Outcome.TheVariants.{Committed as EndsDone, Conflict as EndsConflict}
+use Rattle.tlwords.specs.declared.words.Words.{Words}
 use Rattle.tlwords.specs.Terms.{Terms, Permits}
 use Rattle.tlwords.specs.Seen.{Work, Committed, IsDone}
 use Rattle.tlwords.specs.Views.{View}
@@ -25,12 +27,52 @@ use Rattle.tlwords.specs.Runs.{value_kept, IsKeptOf, IsRunOf, HasCause}
 use Rattle.tlwords.specs.Commits.{writes_kept, writes_below, cells_of, cells_locked, work_kept}
 use Rattle.tlwords.specs.Calls.{Ends, HasNoEntry, IsLawful}
 use Rattle.tlwords.specs.Committing.{held_in, holding, locking, Goes, Meets, FailsToTake, FailsTheCheck, Passes, StoresTo, Releasing}
-use Rattle.tlwords.specs.Committing.{ReleasesAll, Concludes}
+use Rattle.tlwords.specs.Walks.{IsPlan}
+use Rattle.tlwords.specs.Committing.{IsPlanned, ReleasesAll, Concludes}
 use Rattle.tlwords.proofs.Seens.{done_grows, permits_grow}
 use Rattle.tlwords.proofs.Held.{held_cell, held_find, held_writes}
 use Rattle.tlwords.proofs.Knows.{concludes, told_of}
-use Rattle.tlwords.proofs.Turns.{moves_then, moves_grow, sees_on, goes_start, goes_seat}
+use Rattle.tlwords.proofs.Logs.{kept_same}
+use Rattle.tlwords.proofs.Turns.{moves_then, moves_grow, sees_on, goes_start, goes_seat, seated_on}
 use Rattle.tlwords.proofs.Releases.{nil_not}
+
+-- ---- the plan stands as the run goes on
+
+pub plan_same : (l k : Log) → k.slots ≡ l.slots → k.writes ≡ l.writes → IsPlan l.slots true l.writes.items → IsPlan k.slots true
+    k.writes.items
+plan_same l k e f p = subst (λ s. IsPlan s true k.writes.items) (sym e) (subst (λ w. IsPlan l.slots true w.items) (sym f) p)
+
+pub planned_on : {L S N : Type 0} (words : Words L S N) (p q : TableSeat (Unit {0}) (View S N)) (a b : Log) → IsPlanned words p a
+    → IsSameSeat p q → q.me.0.setting ≡ p.me.0.setting → length q.me.0.base ≡ length p.me.0.base
+    → q.me.0.seat.reads ≡ p.me.0.seat.reads → b.slots ≡ a.slots → b.writes ≡ a.writes → IsPlanned words q b
+planned_on words p q a b planned same set size reads slots writes =
+    record {
+      seated = seated_on words p q planned.seated same set size;
+      cells = ap length slots ∙ planned.cells;
+      kept = subst (λ (s : List Slot). IsKeptOf q.me.0.seat s) (sym slots)
+          (kept_same p.me.0.seat q.me.0.seat a.slots reads planned.kept);
+      plan = plan_same a b slots writes planned.plan;
+    }
+
+module _ {L S N : Type 0} (terms : Terms S N) (words : Words L S N) where
+  pub planned_goes : (p q : TableSeat (Unit {0}) (View S N)) (t : Seat) (a b : Log) → IsPlanned words p a → IsSameSeat p q
+      → Goes terms p.me t q.me → t.reads ≡ p.me.0.seat.reads → b.slots ≡ a.slots → b.writes ≡ a.writes → IsPlanned words q b
+  planned_goes p q t a b planned same g reads =
+      planned_on words p q a b planned same (ap (λ (v : View S N). v.setting) g.is) (ap (λ (v : View S N). length v.base) g.is)
+      (ap (λ (v : View S N). v.seat.reads) g.is ∙ reads)
+
+  pub planned_drawn : (p q : TableSeat (Unit {0}) (View S N)) (x : N) (n : ℕ) (a : Log) → IsPlanned words p a → IsSameSeat p q
+      → Draws terms (Some x) p.me n q.me → IsPlanned words q a
+  planned_drawn p q x n a planned same d =
+      let e = d.is x refl in
+      planned_on words p q a a planned same (ap (λ (v : View S N). v.setting) e) (ap (λ (v : View S N). length v.base) e)
+      (ap (λ (v : View S N). v.seat.reads) e) refl refl
+
+  pub planned_stored : (slots : List Slot) (p q : TableSeat (Unit {0}) (View S N)) (i low : ℕ) (w : Work N) (a : Log) → IsPlanned words p a
+      → IsSameSeat p q → StoresTo terms slots i w low p.me q.me → IsPlanned words q a
+  planned_stored slots p q i low w a planned same s =
+      planned_on words p q a a planned same (ap (λ (v : View S N). v.setting) s.is) (ap (λ (v : View S N). length v.base) s.is)
+      (ap (λ (v : View S N). v.seat.reads) s.is) refl refl
 
 module _ (slots : List Slot) where
   pub some_writes : (c v : ℕ) → c < length slots → value_kept slots c ≡ Some v → writes_kept slots ≢ []
@@ -239,12 +281,6 @@ module _ {S N : Type 0} (terms : Terms S N) (slots : List Slot) (x : N) (p : Tab
 
         passed_reads : s.0.seat.reads ≡ m.0.seat.reads
         passed_reads = ap (λ (t : Seat). t.reads) passed_seat ∙ ap (λ (t : Seat). t.reads) drawn_seat
-
-        pub passed_same : (s.0.setting ≡ m.0.setting) × (length s.0.base ≡ length m.0.base)
-        passed_same = (
-          ap (λ (v : View S N). v.setting) b.goes.is ∙ ap (λ (v : View S N). v.setting) drawn_is,
-          ap (λ (v : View S N). length v.base) b.goes.is ∙ ap (λ (v : View S N). length v.base) drawn_is,
-        )
 
         module _ (z : Mine S N) (c : StoresTo terms slots n (work_kept s.0.seat slots x) (length slots) s z) where
           pub done_releases : (high w : ℕ) → high ≡ length slots → w ≡ 2 * suc n → Releasing terms slots high (Some w) 0 z z

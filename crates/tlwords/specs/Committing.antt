@@ -9,18 +9,28 @@ use Rattle.tlcore.specs.Machine.{placed, conflict}
 use Rattle.tlcore.specs.declared.seats.Held.{Held}
 use Rattle.tlcore.specs.declared.seats.Place.{Place}
 use Rattle.tlcore.specs.declared.seats.Place.TheVariants.{Idle, Checking, Storing, Failing, Voiding}
+use Rattle.tlwords.specs.declared.log.Log.{Log}
 use Rattle.tlwords.specs.declared.log.Slot.{Slot}
 use Rattle.tlwords.specs.declared.mode.Mode.{Mode}
 use Rattle.tlwords.specs.declared.outcome.Conflict.{Conflict as ConflictValue}
 use Rattle.tlwords.specs.declared.outcome.Outcome.{Outcome}
+use Rattle.tlwords.specs.declared.words.Words.{Words}
 use Rattle.tlwords.specs.Terms.{Terms}
 use Rattle.tlwords.specs.Seen.{Work, Committed, IsDone}
 use Rattle.tlwords.specs.Views.{View}
 use Rattle.tlwords.specs.Known.{known_of, going_of}
 use Rattle.tlwords.specs.Plays.{Mine, Sees, IsSameSeat}
-use Rattle.tlwords.specs.Runs.{word_seen, value_kept, HasCause, IsPassOf, KnowsStore}
+use Rattle.tlwords.specs.Runs.{word_seen, value_kept, HasCause, IsPassOf, IsKeptOf, IsSeated, KnowsStore}
 use Rattle.tlwords.specs.Commits.{cells_of, IsVoid}
 use Rattle.tlwords.specs.Calls.{Ends}
+use Rattle.tlwords.specs.Walks.{IsPlan}
+
+-- the log is that of a run at this seat over these words, and has the plan of what the run writes
+pub record IsPlanned {L S N : Type 0} (words : Words L S N) (seat : TableSeat (Unit {0}) (View S N)) (log : Log) : Type 0 where
+  pub seated : IsSeated words seat
+  pub cells : length log.slots ≡ words.cells
+  pub kept : IsKeptOf seat.me.0.seat log.slots
+  pub plan : IsPlan log.slots true log.writes.items
 
 abbrev pub word_or_zero : Option ℕ → ℕ
 word_or_zero None = 0

@@ -15,6 +15,7 @@ use Rattle.tlcore.specs.declared.cells.Cell.{Cell}
 use Rattle.tlcore.specs.declared.seats.Place.TheVariants.{Looked, Loaded}
 use Rattle.tlcore.specs.Invariant.{Invariant}
 use Rattle.ranges.specs.Ranges.{Range, Has, Names, IsStored, AreOfOneStore}
+use Rattle.tlwords.specs.declared.rule.Opening.{Opening}
 use Rattle.tlwords.specs.Terms.{Terms, Permits, Opened}
 use Rattle.tlwords.specs.Seen.{Seen, SeenGrows, IsSettled, Agree}
 use Rattle.tlwords.specs.Views.{Told, Gone, Staging, View, tells, fresh}
@@ -185,6 +186,11 @@ module _ {S N : Type 0} where
     pub kept : Kept terms setting base room ranges front s.views
     pub shelf : Shelf room opened.store ranges tail store s.views
     pub dealt : total_of rights_of s.views ≡ opened.sessions
+
+  -- the same of what the table is told when it is made
+  abbrev pub IsRuled : Terms S N → Opening S → State (Unit {0}) (View S N) → Type 0
+  IsRuled terms key s =
+      Ruled terms key.setting.value key.values.value.items key.room (record { store = key.store.value.items; sessions = key.sessions }) s
 
   -- the first seat has a part of the right to draw for each session, and makes the passes
   abbrev pub first_view : S → List ℕ → ℕ → List Range → ℕ → View S N

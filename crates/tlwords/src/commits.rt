@@ -2,7 +2,6 @@
 #![tactic(auto)]
 
 ghost use Rattle.std.specs.Prelude.{◌≡◌, ◌≢◌, ℕ, ◌^◌, ◌<◌, ◌≤◌, ◌||◌, Some, None, [], length, true, false, IfOk, IfErr};
-ghost use Rattle.tlwords.specs.Walks.{IsPlan};
 ghost use Rattle.tlcore.specs.Seats.{is_next, all_settled};
 ghost use Rattle.tlcore.specs.declared.seats.Place.TheVariants.{Reading as AtReading, Taking, Checking};
 ghost use Rattle.tlwords.specs.Plays.{IsSameSeat};
@@ -13,7 +12,7 @@ ghost use Rattle.tlwords.specs.Commits.{writes_kept, work_kept};
 ghost use Rattle.tlwords.specs.Known.{going_of};
 ghost use Rattle.tlwords.specs.Calls.{IsLawful};
 ghost use Rattle.tlwords.specs.Committing.{held_in, locking, Goes, FailsToTake, FailsTheCheck, Passes, StoresTo, Releasing, ReleasesAll};
-ghost use Rattle.tlwords.specs.Committing.{Concludes};
+ghost use Rattle.tlwords.specs.Committing.{Concludes, IsPlanned};
 
 use crate::law::Law;
 use crate::log::{Log, Touched};
@@ -26,11 +25,8 @@ use std::marker::Brand;
 
 // Locks the cells to be written, in ascending order. An error is the try that failed; the smaller cells are locked still.
 fn take_all<L: Law>(words: &Words<L>, seat: &mut Place<L>, log: &Log) -> Result<(), Conflict>
-    requires seated { IsSeated words.now seat.old }
-    requires cells { length log.now.slots ≡ words.now.cells }
+    requires planned { IsPlanned words.now seat.old log.now }
     requires run { (seat.old.me.0.seat.place ≡ AtReading) × (seat.old.me.0.seat.held ≡ []) × (1 ≤ seat.old.me.0.rights) }
-    requires kept { IsKeptOf seat.old.me.0.seat log.now.slots }
-    requires plan { IsPlan log.now.slots true log.now.writes.items }
     ensures seat { IsSameSeat seat.old seat.new }
     ensures ok { IfOk result (λ _. Goes L.terms seat.old.me (locking seat.old.me.0.seat Taking AtReading
         (held_in log.now.slots 0 0 (length log.now.slots))) seat.new.me) }
@@ -59,11 +55,9 @@ fn check_all<L: Law>(
     place: u64,
     index: u64,
 ) -> Result<(), Conflict>
-    requires seated { IsSeated words.now seat.old }
-    requires cells { length log.old.slots ≡ words.now.cells }
+    requires planned { IsPlanned words.now seat.old log.old }
     requires run { (seat.old.me.0.seat.place ≡ Checking index 0) × (seat.old.me.0.seat.rv ≡ place)
         × (seat.old.me.0.seat.held ≡ held_in log.old.slots 0 0 (length log.old.slots)) }
-    requires kept { IsKeptOf seat.old.me.0.seat log.old.slots }
     ensures log { (log.new.slots ≡ log.old.slots) × (log.new.writes ≡ log.old.writes) }
     ensures seat { IsSameSeat seat.old seat.new }
     ensures ok { IfOk result (λ _. Passes L.terms index seat.old.me seat.new.me) }
@@ -89,14 +83,11 @@ fn check_all<L: Law>(
 
 // Stores the values, in ascending order of their cells.
 fn store_all<L: Law>(words: &Words<L>, seat: &mut Place<L>, log: &Log, index: u64, note: &L::Note)
-    requires seated { IsSeated words.now seat.old }
-    requires cells { length log.now.slots ≡ words.now.cells }
+    requires planned { IsPlanned words.now seat.old log.now }
     requires run { (upto : ℕ) × (seat.old.me.0.seat.place ≡ Checking index upto)
         × ((is_next seat.old.me.0.seat index || all_settled seat.old.me.0.seat.held upto seat.old.me.0.seat.reads) ≡ true) }
     requires held { (seat.old.me.0.seat.held ≡ held_in log.now.slots 0 0 (length log.now.slots)) × (seat.old.me.0.note ≡ Some note.now) }
-    requires kept { IsKeptOf seat.old.me.0.seat log.now.slots }
     requires writes { writes_kept log.now.slots ≢ [] }
-    requires plan { IsPlan log.now.slots true log.now.writes.items }
     ensures seat { IsSameSeat seat.old seat.new }
     ensures stores { StoresTo L.terms log.now.slots index (work_kept seat.old.me.0.seat log.now.slots note.now) (length log.now.slots)
         seat.old.me seat.new.me }
@@ -115,11 +106,9 @@ fn release_all<L: Law>(
     high: usize,
     new: Option<u64>,
 )
-    requires seated { IsSeated words.now seat.old }
-    requires cells { (length log.now.slots ≡ words.now.cells) × (high ≤ length log.now.slots) }
+    requires planned { IsPlanned words.now seat.old log.now }
+    requires high { high ≤ length log.now.slots }
     requires run { Releasing L.terms log.now.slots high new 0 seat.old.me seat.old.me }
-    requires kept { IsKeptOf seat.old.me.0.seat log.now.slots }
-    requires plan { IsPlan log.now.slots true log.now.writes.items }
     ensures seat { IsSameSeat seat.old seat.new }
     ensures releases { ReleasesAll L.terms seat.old.me seat.new.me }
 {
@@ -144,14 +133,11 @@ fn settle<L: Law>(
     place: u64,
     note: &L::Note,
 ) -> Outcome
-    requires seated { IsSeated words.now seat.old }
-    requires cells { length log.old.slots ≡ words.now.cells }
+    requires planned { IsPlanned words.now seat.old log.old }
     requires run { IsRunOf seat.old.me count.old place false }
-    requires kept { IsKeptOf seat.old.me.0.seat log.old.slots }
     requires lawful { IsLawful L.terms (going_of seat.old.table_id seat.old.me.0 place Writing None log.old.slots) note.now }
     requires writes { writes_kept log.old.slots ≢ [] }
     requires room { count.old < 2 ^ 40 }
-    requires plan { IsPlan log.old.slots true log.old.writes.items }
     ensures log { log.new.slots ≡ log.old.slots }
     ensures ended { Concludes L.terms note.now Writing place log.old.slots count.new seat.old seat.new result }
 {

@@ -5,10 +5,10 @@ ghost use Rattle.std.specs.Prelude.{◌≡◌, ℕ, ◌+◌, ◌*◌, ◌<◌, �
 ghost use Rattle.ranges.specs.Ranges.{Range, ranges_named};
 ghost use Rattle.tlwords.specs.Layout.{opening_words, front_of, shelf_of};
 ghost use Rattle.tlwords.specs.Terms.{AreNamed};
-ghost use Rattle.tlwords.specs.Callers.{home_of, AreOfOneOpening};
+ghost use Rattle.tlwords.specs.Callers.{home_of, AreOfOneOpening, IsOpened};
 ghost use Rattle.tlwords.specs.Known.{Knows};
 ghost use Rattle.tlwords.specs.Calls.{IsDealt, new_pass};
-ghost use Rattle.tlwords.specs.declared.opening.OpenFault.TheVariants.{BadShape, StoreFull};
+ghost use Rattle.tlwords.specs.declared.opening.OpenFault.TheVariants.{BadShape, StoreFull, NoMemory};
 ghost use Rattle.ranges.specs.Ranges.{AreOfOneStore};
 ghost use Rattle.tlwords.specs.Runs.{IsBadShape, down, dealer};
 
@@ -133,11 +133,32 @@ pub fn open<L: Law>(
     if store.len() > room {
         return Err(OpenFault::StoreFull);
     }
+    lay_out::<L>(alloc, setting, &values, &store, room, sessions)
+}
+
+// The words and the passes of a memory whose shape is right.
+fn lay_out<L: Law>(
+    alloc: Global,
+    setting: &L::Setting,
+    values: &Vec<u64>,
+    store: &Vec<u64>,
+    room: usize,
+    sessions: usize,
+) -> Result<(Words<L>, Vec<Pass<L>>), OpenFault>
+    requires shape { (length values.now.items < 2 ^ 32) × (1 ≤ sessions) × (sessions ≤ 64) × (room ≤ 2 ^ 24)
+        × (length store.now.items ≤ room) }
+    requires opens { L.terms.opens setting.now (ranges_named (L.terms.ranged setting.now) store.now.items values.now.items)
+        values.now.items }
+    requires named { AreNamed L.terms setting.now (ranges_named (L.terms.ranged setting.now) store.now.items values.now.items)
+        values.now.items }
+    ensures opened { IfOk result (λ r. IsOpened L.terms setting.now values.now.items store.now.items room sessions r.0 r.1.items) }
+    ensures fault { IfErr result (λ e. e ≡ NoMemory) }
+{
     let words = first_words(alloc, values.as_slice(), store.as_slice(), room)?;
     let about = Opening {
         setting: Snapshot::of(setting),
-        values: Snapshot::of(&values),
-        store: Snapshot::of(&store),
+        values: Snapshot::of(values),
+        store: Snapshot::of(store),
         room,
         sessions,
     };

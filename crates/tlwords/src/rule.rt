@@ -38,13 +38,9 @@ pub(crate) struct Rule<L> {
 
 impl<L: Law> TableRule<(), View<L::Setting, L::Note>, Opening<L::Setting>> for Rule<L> {
     ghost use Rattle.ranges.specs.Ranges.{ranges_named};
-    ghost use Rattle.tlwords.specs.Rule.{Ruled, first_view};
+    ghost use Rattle.tlwords.specs.Rule.{IsRuled, first_view};
 
-    ghost holds = { λ key s. Ruled L.terms key.setting.value key.values.value.items key.room (record {
-      store =
-          key.store.value.items;
-      sessions = key.sessions;
-    }) s };
+    ghost holds = { IsRuled L.terms };
 
     ghost first = { λ key. first_view key.setting.value key.values.value.items key.room
         (ranges_named (L.terms.ranged key.setting.value) key.store.value.items key.values.value.items) key.sessions };

@@ -36,7 +36,7 @@ pub(crate) fn begin<L: Law>(words: &Words<L>, seat: &mut Place<L>) -> u64
     ensures seat { IsSameSeat seat.old seat.new }
     ensures told { Sampled L.terms seat.old.me result seat.new.me }
 {
-    words.table.shared.load::<Begin<L>>(seat, CLOCK)
+    words.load::<Begin<L>>(seat, CLOCK)
 }
 
 /// First look at the cell's lock word.
@@ -47,10 +47,7 @@ pub(crate) fn look<L: Law>(words: &Words<L>, seat: &mut Place<L>, cell: usize) -
     ensures seat { IsSameSeat seat.old seat.new }
     ensures told { Looks L.terms cell seat.old.me result seat.new.me }
 {
-    words
-        .table
-        .shared
-        .load::<Look<L>>(seat, 2 * cell + FIRST_LOCK)
+    words.load::<Look<L>>(seat, 2 * cell + FIRST_LOCK)
 }
 
 /// Load of the cell's value word, after a look that found this lock word.
@@ -61,10 +58,7 @@ pub(crate) fn load<L: Law>(words: &Words<L>, seat: &mut Place<L>, cell: usize, w
     ensures seat { IsSameSeat seat.old seat.new }
     ensures told { Loads L.terms seat.old.me result seat.new.me }
 {
-    words
-        .table
-        .shared
-        .load::<Load<L>>(seat, 2 * cell + FIRST_VALUE)
+    words.load::<Load<L>>(seat, 2 * cell + FIRST_VALUE)
 }
 
 /// Second look at the cell's lock word, after the load of this value.
@@ -81,10 +75,7 @@ pub(crate) fn relook<L: Law>(
     ensures seat { IsSameSeat seat.old seat.new }
     ensures told { Relooks L.terms seat.old.me result seat.new.me }
 {
-    words
-        .table
-        .shared
-        .load::<Relook<L>>(seat, 2 * cell + FIRST_LOCK)
+    words.load::<Relook<L>>(seat, 2 * cell + FIRST_LOCK)
 }
 
 /// One try to lock the cell, from the word that its read has seen. The value is the one to be stored.
@@ -105,10 +96,7 @@ pub(crate) fn take<L: Law, G: Said<L::Note>>(
     ensures seat { IsSameSeat seat.old seat.new }
     ensures told { Takes L.terms cell value word seat.old.me result seat.new.me }
 {
-    words
-        .table
-        .shared
-        .compare_exchange::<Take<L, G>>(seat, 2 * cell + FIRST_LOCK, word, word + 1)
+    words.compare_exchange::<Take<L, G>>(seat, 2 * cell + FIRST_LOCK, word, word + 1)
 }
 
 /// Advances the clock. The run's number is one more than the result.
@@ -127,7 +115,7 @@ pub(crate) fn draw<L: Law, G: Said<L::Note>>(
     ensures seat { IsSameSeat seat.old seat.new }
     ensures told { Draws L.terms (Some note.now) seat.old.me result seat.new.me }
 {
-    words.table.shared.fetch_add::<Draw<L, G>>(seat, CLOCK, 1)
+    words.fetch_add::<Draw<L, G>>(seat, CLOCK, 1)
 }
 
 /// Look at the lock word of a cell that was read and isn't held, after the draw.
@@ -140,10 +128,7 @@ pub(crate) fn check<L: Law>(words: &Words<L>, seat: &mut Place<L>, cell: usize) 
     ensures seat { IsSameSeat seat.old seat.new }
     ensures told { Checks L.terms cell seat.old.me result seat.new.me }
 {
-    words
-        .table
-        .shared
-        .load::<Check<L>>(seat, 2 * cell + FIRST_LOCK)
+    words.load::<Check<L>>(seat, 2 * cell + FIRST_LOCK)
 }
 
 /// Store of the value of a cell that the run holds.
@@ -155,10 +140,7 @@ pub(crate) fn store<L: Law>(words: &Words<L>, seat: &mut Place<L>, cell: usize, 
     ensures seat { IsSameSeat seat.old seat.new }
     ensures told { Stores L.terms cell seat.old.me seat.new.me }
 {
-    words
-        .table
-        .shared
-        .store::<Store<L>>(seat, 2 * cell + FIRST_VALUE, value);
+    words.store::<Store<L>>(seat, 2 * cell + FIRST_VALUE, value);
 }
 
 /// Store of the lock word of a cell that the run holds.
@@ -169,10 +151,7 @@ pub(crate) fn release<L: Law>(words: &Words<L>, seat: &mut Place<L>, cell: usize
     ensures seat { IsSameSeat seat.old seat.new }
     ensures told { Releases L.terms cell seat.old.me seat.new.me }
 {
-    words
-        .table
-        .shared
-        .store::<Release<L>>(seat, 2 * cell + FIRST_LOCK, word);
+    words.store::<Release<L>>(seat, 2 * cell + FIRST_LOCK, word);
 }
 
 /// Adds a call that wrote nothing to those of the pass, by a load of the spare word.
@@ -188,7 +167,7 @@ pub(crate) fn recall<L: Law, G: Said<L::Note>>(
     ensures seat { IsSameSeat seat.old seat.new }
     ensures told { Recalls L.terms (Some note.now) seat.old.me seat.new.me }
 {
-    words.table.shared.load::<Recall<L, G>>(seat, SPARE);
+    words.load::<Recall<L, G>>(seat, SPARE);
 }
 
 /// Sees the history so far, by a load of the spare word.
@@ -197,7 +176,7 @@ pub(crate) fn refresh<L: Law>(words: &Words<L>, seat: &mut Place<L>)
     ensures seat { IsSameSeat seat.old seat.new }
     ensures told { Refreshes L.terms seat.old.me seat.new.me }
 {
-    words.table.shared.load::<Refresh<L>>(seat, SPARE);
+    words.load::<Refresh<L>>(seat, SPARE);
 }
 
 /// Tells one seat what another has seen, by two loads of the spare word. It is to sample the clock next.

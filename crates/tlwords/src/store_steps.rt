@@ -28,10 +28,7 @@ pub(crate) fn advance<L: Law, G: Said<L::Note>>(
     ensures told { Advances L.terms range.now seat.old.me result seat.new.me }
 {
     let count = range.len().min(words.room + 1);
-    words
-        .table
-        .shared
-        .fetch_add::<Advance<L, G>>(seat, 2 * words.cells + TAIL, count as u64)
+    words.fetch_add::<Advance<L, G>>(seat, 2 * words.cells + TAIL, count as u64)
 }
 
 /// Stores the next word of the range that the seat has taken, at this index of the store.
@@ -43,10 +40,7 @@ pub(crate) fn fill<L: Law>(words: &Words<L>, seat: &mut Place<L>, offset: usize,
     ensures seat { IsSameSeat seat.old seat.new }
     ensures told { Fills L.terms seat.old.me seat.new.me }
 {
-    words
-        .table
-        .shared
-        .store::<Fill<L>>(seat, 2 * words.cells + STORE + offset, word);
+    words.store::<Fill<L>>(seat, 2 * words.cells + STORE + offset, word);
 }
 
 /// Loads the word of the store at this index.
@@ -56,8 +50,5 @@ pub(crate) fn fetch_word<L: Law>(words: &Words<L>, seat: &mut Place<L>, offset: 
     ensures seat { IsSameSeat seat.old seat.new }
     ensures told { Fetches L.terms offset seat.old.me result seat.new.me }
 {
-    words
-        .table
-        .shared
-        .load::<Fetch<L>>(seat, 2 * words.cells + STORE + offset)
+    words.load::<Fetch<L>>(seat, 2 * words.cells + STORE + offset)
 }

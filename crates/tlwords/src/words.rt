@@ -1,11 +1,17 @@
 //! The shared words.
 #![tactic(auto)]
 
-ghost use Rattle.std.specs.Prelude.{◌≡◌, ◌+◌, ◌*◌, ◌^◌, ◌<◌, ◌≤◌, length};
+ghost use Rattle.std.specs.Prelude.{◌≡◌, ◌+◌, ◌*◌, ◌%◌, ◌^◌, ◌<◌, ◌≤◌, length, ◌==◌};
+ghost use mathlib.Core.Option.{none};
+ghost use prog.Atomic.{either};
+ghost use Rattle.atomic_table.specs.Table.{Allows, step};
 ghost use Rattle.tlwords.specs.Layout.{store_at};
+ghost use Rattle.tlwords.specs.Rule.{IsRuled};
 
 use crate::law::Law;
-use crate::rule::Board;
+use crate::rule::{Board, Place};
+use crate::view::View;
+use atomic_table::Play;
 
 /// The shared words of a memory, in a table.
 pub struct Words<L: Law> {
@@ -44,6 +50,76 @@ impl<L: Law> Words<L> {
         ensures { result ≡ self.now.room }
     {
         self.room
+    }
+
+    /// A load of the word at this index, as a step that tells what `M` says.
+    pub(crate) fn load<M: Play<(), View<L::Setting, L::Note>>>(
+        &self,
+        seat: &mut Place<L>,
+        index: usize,
+    ) -> u64
+        requires table { seat.old.table_id ≡ self.now.table.shared.table_id }
+        requires index { index < store_at self.now.cells self.now.room }
+        requires rule { Allows (IsRuled L.terms self.now.table.shared.key) self.now.table.shared.table_id.slots seat.old.id seat.old.me
+            index (λ n. n) (M.then (step self.now.table.shared.table_id.slots index 0 0 none) seat.old.me) }
+        ensures seat { (seat.new.table_id ≡ seat.old.table_id) × (seat.new.id ≡ seat.old.id) }
+        ensures told { M.then (step self.now.table.shared.table_id.slots index 0 0 none) seat.old.me result seat.new.me }
+    {
+        self.table.shared.load::<M>(seat, index)
+    }
+
+    /// A store to the word at this index, as such a step.
+    pub(crate) fn store<M: Play<(), View<L::Setting, L::Note>>>(
+        &self,
+        seat: &mut Place<L>,
+        index: usize,
+        new: u64,
+    )
+        requires table { seat.old.table_id ≡ self.now.table.shared.table_id }
+        requires index { index < store_at self.now.cells self.now.room }
+        requires rule { Allows (IsRuled L.terms self.now.table.shared.key) self.now.table.shared.table_id.slots seat.old.id seat.old.me
+            index (λ _. new) (λ _. M.then (step self.now.table.shared.table_id.slots index new 0 none) seat.old.me new) }
+        ensures seat { (seat.new.table_id ≡ seat.old.table_id) × (seat.new.id ≡ seat.old.id) }
+        ensures told { M.then (step self.now.table.shared.table_id.slots index new 0 none) seat.old.me new seat.new.me }
+    {
+        self.table.shared.store::<M>(seat, index, new)
+    }
+
+    /// A fetch-and-add to the word at this index, as such a step.
+    pub(crate) fn fetch_add<M: Play<(), View<L::Setting, L::Note>>>(
+        &self,
+        seat: &mut Place<L>,
+        index: usize,
+        count: u64,
+    ) -> u64
+        requires table { seat.old.table_id ≡ self.now.table.shared.table_id }
+        requires index { index < store_at self.now.cells self.now.room }
+        requires rule { Allows (IsRuled L.terms self.now.table.shared.key) self.now.table.shared.table_id.slots seat.old.id seat.old.me
+            index (λ n. (n + count) % 2 ^ 64) (M.then (step self.now.table.shared.table_id.slots index count 0 none) seat.old.me) }
+        ensures seat { (seat.new.table_id ≡ seat.old.table_id) × (seat.new.id ≡ seat.old.id) }
+        ensures told { M.then (step self.now.table.shared.table_id.slots index count 0 none) seat.old.me result seat.new.me }
+    {
+        self.table.shared.fetch_add::<M>(seat, index, count)
+    }
+
+    /// One try to have `new` in place of `old` in the word at this index, as such a step.
+    pub(crate) fn compare_exchange<M: Play<(), View<L::Setting, L::Note>>>(
+        &self,
+        seat: &mut Place<L>,
+        index: usize,
+        old: u64,
+        new: u64,
+    ) -> u64
+        requires table { seat.old.table_id ≡ self.now.table.shared.table_id }
+        requires index { index < store_at self.now.cells self.now.room }
+        requires rule { Allows (IsRuled L.terms self.now.table.shared.key) self.now.table.shared.table_id.slots seat.old.id seat.old.me
+            index (λ n. either (n == old) new n) (M.then (step self.now.table.shared.table_id.slots index old new none) seat.old.me) }
+        ensures seat { (seat.new.table_id ≡ seat.old.table_id) × (seat.new.id ≡ seat.old.id) }
+        ensures told { M.then (step self.now.table.shared.table_id.slots index old new none) seat.old.me result seat.new.me }
+    {
+        self.table
+            .shared
+            .compare_exchange::<M>(seat, index, old, new)
     }
 
     pub(crate) fn into_table(self) -> Board<L>

@@ -1,4 +1,4 @@
-use Rattle.std.proofs.Common.{arith, refl, sym, subst, ◌∙◌, ◌<◌, ◌≤◌, ◌+◌, length, false}
+use Rattle.std.proofs.Common.{arith, refl, sym, subst, ◌∙◌, ◌≤◌, ◌+◌, length, false}
 use Rattle.tlcore.specs.Machine.{placed}
 use Rattle.tlcore.specs.declared.seats.Place.TheVariants.{Checking}
 use Rattle.tlwords.specs.Runs.{HasCause}
@@ -11,16 +11,19 @@ use Rattle.tlwords.proofs.commits.check_all.Goals as goal
 
 pub returns-then-index-place-clause-ok : goal.returns-then-index-place-clause-ok
 returns-then-index-place-clause-ok g c =
-    check_skips g.L.Law.terms c.args.log.now.slots c.args.index c.args.seat.now.me c.requires.kept c.requires.run.0
+    check_skips g.L.Law.terms c.args.log.now.slots c.args.index c.args.seat.now.me c.requires.planned.kept c.requires.run.0
     (c.if-index-place.true ∙ sym c.requires.run.1)
 
 pub loop-i-init : goal.loop-i-init
-loop-i-init g c =
-    ((refl, refl, refl), check_starts g.L.Law.terms c.args.log.now.slots c.args.index c.args.seat.now.me c.requires.kept c.requires.run.0)
+loop-i-init g c = (
+  (refl, refl, refl),
+  check_starts g.L.Law.terms c.args.log.now.slots c.args.index c.args.seat.now.me c.requires.planned.kept
+      c.requires.run.0,
+)
 
 pub check-word-requires-clause-seated : goal.check-word-requires-clause-seated
 check-word-requires-clause-seated g c =
-    goes_seated g.L.Law.terms _ _ _ _ c.requires.seated c.loop-i.invariant.0 c.loop-i.invariant.1
+    goes_seated g.L.Law.terms _ _ _ _ c.requires.planned.seated c.loop-i.invariant.0 c.loop-i.invariant.1
 
 pub check-word-requires-clause-cell : goal.check-word-requires-clause-cell
 check-word-requires-clause-cell g c =
@@ -31,7 +34,7 @@ check-word-requires-clause-cell g c =
     c.plan_checks.new.self.checks.ok.0
     c.index-read.ensures in
     let l = s.0.1 in
-    let p = c.requires.cells in
+    let p = c.requires.planned.cells in
     omega arith
 
 pub check-word-requires-clause-place : goal.check-word-requires-clause-place
@@ -42,7 +45,7 @@ check-word-requires-clause-place g c =
     let s = plan_at c.args.log.now.slots false ws p c.loop-i.i _ _ t c.loop-i-test.true c.len-i-end.ensures
     c.plan_checks.new.self.checks.ok.0
     c.index-read.ensures in
-    check_place g.L.Law.terms c.args.log.now.slots c.args.index c.args.seat.now.me c.requires.kept c.requires.run.2
+    check_place g.L.Law.terms c.args.log.now.slots c.args.index c.args.seat.now.me c.requires.planned.kept c.requires.run.2
     (low_of ws c.loop-i.i) _ c.loop-i.invariant.1
     t.cell s.0.0 s.0.2 s.0.3 (λ e. c.if-index-place.false (e ∙ c.requires.run.1))
 
@@ -54,7 +57,7 @@ check-word-requires-clause-read g c =
     let s = plan_at c.args.log.now.slots false ws p c.loop-i.i _ _ t c.loop-i-test.true c.len-i-end.ensures
     c.plan_checks.new.self.checks.ok.0
     c.index-read.ensures in
-    let d = read_found c.args.seat.now.me.0.seat c.args.log.now.slots c.requires.kept t.cell t.word s.1 in
+    let d = read_found c.args.seat.now.me.0.seat c.args.log.now.slots c.requires.planned.kept t.cell t.word s.1 in
     (d.0, goes_read g.L.Law.terms _ _ _ c.loop-i.invariant.1 refl t.cell d.0 d.1)
 
 pub returns-then-not-passes-clause-seat : goal.returns-then-not-passes-clause-seat
@@ -69,7 +72,7 @@ returns-then-not-passes-clause-err g c =
     let s = plan_at c.args.log.now.slots false ws p c.loop-i.i _ _ t c.loop-i-test.true c.len-i-end.ensures
     c.plan_checks.new.self.checks.ok.0
     c.index-read.ensures in
-    check_fails g.L.Law.terms c.args.log.now.slots c.args.index c.args.seat.now.me c.requires.kept c.requires.run.2
+    check_fails g.L.Law.terms c.args.log.now.slots c.args.index c.args.seat.now.me c.requires.planned.kept c.requires.run.2
     (low_of ws c.loop-i.i) _ c.loop-i.invariant.1
     t.cell c.check-word.result _ c.check-word.ensures.told t.word _ refl s.1
     (subst (λ n. HasCause n c.check-word.result) (sym c.requires.run.1) (c.passes.ensures.no c.if-not-passes.true))
@@ -89,7 +92,7 @@ loop-i-preserved g c =
           (sym (plan_next c.args.log.now.slots false ws p c.loop-i.i _ _ t c.loop-i-test.true c.len-i-end.ensures
           c.plan_checks.new.self.checks.ok.0
           c.index-read.ensures))
-          (check_goes g.L.Law.terms c.args.log.now.slots c.args.index c.args.seat.now.me c.requires.kept c.requires.run.2
+          (check_goes g.L.Law.terms c.args.log.now.slots c.args.index c.args.seat.now.me c.requires.planned.kept c.requires.run.2
           (low_of ws c.loop-i.i) _ c.loop-i.invariant.1
           t.cell c.check-word.result _ c.check-word.ensures.told (c.passes.ensures.yes c.if-not-passes.false).0
           (let a = c.requires.run.1 in let b = (c.passes.ensures.yes c.if-not-passes.false).1 in omega arith)),
@@ -107,5 +110,5 @@ returns-clause-ok g c =
     let all : c.loop-i.i ≤ length ws = let a = c.loop-i.auto.i-end in omega arith in
     let p : IsPlan c.args.log.now.slots false ws = subst (λ x. IsPlan x false ws) c.plan_checks.ensures.same.0 c.plan_checks.ensures.plan in
     let none = plan_end c.args.log.now.slots false ws p c.loop-i.i past all in
-    check_ends g.L.Law.terms c.args.log.now.slots c.args.index c.args.seat.now.me c.requires.kept c.requires.run.2 (low_of ws c.loop-i.i)
-    _ c.loop-i.invariant.1 none
+    check_ends g.L.Law.terms c.args.log.now.slots c.args.index c.args.seat.now.me c.requires.planned.kept c.requires.run.2 (low_of ws
+    c.loop-i.i) _ c.loop-i.invariant.1 none

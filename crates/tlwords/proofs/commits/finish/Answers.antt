@@ -1,4 +1,4 @@
-use Rattle.std.proofs.Common.{arith, refl, sym, subst, ◌∙◌, ◌≡◌, ◌≢◌, None, [], false, length}
+use Rattle.std.proofs.Common.{arith, ap, refl, sym, subst, ◌∙◌, ◌≡◌, ◌≢◌, None, [], false, length}
 use Rattle.tlcore.proofs.Lists.{equal_numbers, other_numbers}
 use Rattle.tlwords.specs.declared.mode.Mode.TheVariants.{Writing}
 use Rattle.tlwords.specs.Known.{going_of}
@@ -55,6 +55,16 @@ returns-then-count-ge-MOST_NUMBERS-clause-ended g c =
         omega arith,
         refl,
       );
+    }
+
+pub settle-requires-clause-planned : goal.settle-requires-clause-planned
+settle-requires-clause-planned g c =
+    let same = c.plan_writes.ensures.same in
+    record {
+      seated = c.requires.seated;
+      cells = ap length same ∙ c.requires.cells;
+      kept = subst (λ x. IsKeptOf c.args.seat.now.me.0.seat x) (sym same) c.requires.kept;
+      plan = c.plan_writes.ensures.plan;
     }
 
 pub settle-requires-clause-lawful : goal.settle-requires-clause-lawful

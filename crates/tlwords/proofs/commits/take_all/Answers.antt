@@ -1,4 +1,4 @@
-use Rattle.std.proofs.Common.{arith, refl, sym, subst, ◌<◌, ◌≤◌, ◌+◌, length, List, [], true}
+use Rattle.std.proofs.Common.{arith, refl, sym, subst, ◌≤◌, ◌+◌, length, List, [], true}
 use Rattle.tlcore.specs.Seats.{Seat}
 use Rattle.tlcore.specs.declared.seats.Held.{Held}
 use Rattle.tlcore.specs.declared.seats.Place.TheVariants.{Reading, Taking}
@@ -19,24 +19,24 @@ loop-i-init g c = (
 
 pub take-found-requires-clause-seated : goal.take-found-requires-clause-seated
 take-found-requires-clause-seated g c =
-    goes_seated g.L.Law.terms _ _ _ _ c.requires.seated c.loop-i.invariant.0 c.loop-i.invariant.1
+    goes_seated g.L.Law.terms _ _ _ _ c.requires.planned.seated c.loop-i.invariant.0 c.loop-i.invariant.1
 
 pub take-found-requires-clause-cell : goal.take-found-requires-clause-cell
 take-found-requires-clause-cell g c =
     let ws = c.args.log.now.writes.items in
     let t = c.index.result.now in
-    let s = plan_at c.args.log.now.slots true ws c.requires.plan c.loop-i.i _ _ t c.loop-i-test.true c.len-i-end.ensures
+    let s = plan_at c.args.log.now.slots true ws c.requires.planned.plan c.loop-i.i _ _ t c.loop-i-test.true c.len-i-end.ensures
     c.args.log.now.writes.ok.0
     c.index.ensures in
     let l = s.0.1 in
-    let p = c.requires.cells in
+    let p = c.requires.planned.cells in
     omega arith
 
 pub take-found-requires-clause-place : goal.take-found-requires-clause-place
 take-found-requires-clause-place g c =
     let ws = c.args.log.now.writes.items in
     let t = c.index.result.now in
-    let s = plan_at c.args.log.now.slots true ws c.requires.plan c.loop-i.i _ _ t c.loop-i-test.true c.len-i-end.ensures
+    let s = plan_at c.args.log.now.slots true ws c.requires.planned.plan c.loop-i.i _ _ t c.loop-i-test.true c.len-i-end.ensures
     c.args.log.now.writes.ok.0
     c.index.ensures in
     take_place g.L.Law.terms c.args.log.now.slots _ _ (low_of ws c.loop-i.i) c.loop-i.invariant.1 t.cell s.0.0
@@ -45,20 +45,20 @@ pub take-found-requires-clause-read : goal.take-found-requires-clause-read
 take-found-requires-clause-read g c =
     let ws = c.args.log.now.writes.items in
     let t = c.index.result.now in
-    let s = plan_at c.args.log.now.slots true ws c.requires.plan c.loop-i.i _ _ t c.loop-i-test.true c.len-i-end.ensures
+    let s = plan_at c.args.log.now.slots true ws c.requires.planned.plan c.loop-i.i _ _ t c.loop-i-test.true c.len-i-end.ensures
     c.args.log.now.writes.ok.0
     c.index.ensures in
-    let d = read_found c.args.seat.now.me.0.seat c.args.log.now.slots c.requires.kept t.cell t.word s.1 in
+    let d = read_found c.args.seat.now.me.0.seat c.args.log.now.slots c.requires.planned.kept t.cell t.word s.1 in
     (d.0, goes_read g.L.Law.terms _ _ _ c.loop-i.invariant.1 refl t.cell d.0 d.1, d.2)
 
 pub take-found-requires-clause-room : goal.take-found-requires-clause-room
 take-found-requires-clause-room g c =
     let ws = c.args.log.now.writes.items in
     let t = c.index.result.now in
-    let s = plan_at c.args.log.now.slots true ws c.requires.plan c.loop-i.i _ _ t c.loop-i-test.true c.len-i-end.ensures
+    let s = plan_at c.args.log.now.slots true ws c.requires.planned.plan c.loop-i.i _ _ t c.loop-i-test.true c.len-i-end.ensures
     c.args.log.now.writes.ok.0
     c.index.ensures in
-    let even = c.requires.kept.2 t.cell t.word s.1 in
+    let even = c.requires.planned.kept.2 t.cell t.word s.1 in
     let same = goes_rights g.L.Law.terms _ _ _ c.loop-i.invariant.1 in
     let enough = c.requires.run.2 in
     (omega arith, omega arith)
@@ -71,18 +71,18 @@ pub returns-then-found-word-clause-err : goal.returns-then-found-word-clause-err
 returns-then-found-word-clause-err g c =
     let ws = c.args.log.now.writes.items in
     let t = c.index.result.now in
-    let s = plan_at c.args.log.now.slots true ws c.requires.plan c.loop-i.i _ _ t c.loop-i-test.true c.len-i-end.ensures
+    let s = plan_at c.args.log.now.slots true ws c.requires.planned.plan c.loop-i.i _ _ t c.loop-i-test.true c.len-i-end.ensures
     c.args.log.now.writes.ok.0
     c.index.ensures in
     take_fails g.L.Law.terms c.args.log.now.slots _ _ (low_of ws c.loop-i.i) c.loop-i.invariant.1 t.cell t.value t.word
-    c.take-found.result _ s.0.0 (unkept_of c.args.seat.now.me.0.seat c.args.log.now.slots c.requires.kept _ _ s.0.3)
+    c.take-found.result _ s.0.0 (unkept_of c.args.seat.now.me.0.seat c.args.log.now.slots c.requires.planned.kept _ _ s.0.3)
     c.take-found.ensures.told _ refl s.0.1 s.1 c.if-found-word.true
 
 pub loop-i-preserved : goal.loop-i-preserved
 loop-i-preserved g c =
     let ws = c.args.log.now.writes.items in
     let t = c.index.result.now in
-    let s = plan_at c.args.log.now.slots true ws c.requires.plan c.loop-i.i _ _ t c.loop-i-test.true c.len-i-end.ensures
+    let s = plan_at c.args.log.now.slots true ws c.requires.planned.plan c.loop-i.i _ _ t c.loop-i-test.true c.len-i-end.ensures
     c.args.log.now.writes.ok.0
     c.index.ensures in
     let m = c.args.seat.now.me in (
@@ -90,11 +90,11 @@ loop-i-preserved g c =
       subst (λ k. Goes g.L.Law.terms m (locking m.0.seat Taking Reading (held_in c.args.log.now.slots 0 0 k))
           c.take-found.new.seat.me)
           {x = t.cell + 1} {y = low_of ws (c.loop-i.i + 1)}
-          (sym (plan_next c.args.log.now.slots true ws c.requires.plan c.loop-i.i _ _ t c.loop-i-test.true c.len-i-end.ensures
+          (sym (plan_next c.args.log.now.slots true ws c.requires.planned.plan c.loop-i.i _ _ t c.loop-i-test.true c.len-i-end.ensures
           c.args.log.now.writes.ok.0
           c.index.ensures))
           (take_goes g.L.Law.terms c.args.log.now.slots _ _ (low_of ws c.loop-i.i) c.loop-i.invariant.1 t.cell t.value t.word
-          c.take-found.result _ s.0.0 (unkept_of m.0.seat c.args.log.now.slots c.requires.kept _ _ s.0.3) c.take-found.ensures.told
+          c.take-found.result _ s.0.0 (unkept_of m.0.seat c.args.log.now.slots c.requires.planned.kept _ _ s.0.3) c.take-found.ensures.told
           (s.2 refl) s.1 c.if-found-word.false),
     )
 
@@ -108,11 +108,11 @@ returns-clause-ok g c =
     let b = c.len-i-end.ensures in
     let past : length ws ≤ c.loop-i.i = let a = c.loop-i-test.false in omega arith in
     let all : c.loop-i.i ≤ length ws = let a = c.loop-i.auto.i-end in omega arith in
-    let none = plan_end c.args.log.now.slots true ws c.requires.plan c.loop-i.i past all in
+    let none = plan_end c.args.log.now.slots true ws c.requires.planned.plan c.loop-i.i past all in
     let m = c.args.seat.now.me in
     subst (λ (ks : List Held). Goes g.L.Law.terms m (locking m.0.seat Taking Reading ks) c.loop-i.seat.me)
     {x = held_in c.args.log.now.slots 0 0 (low_of ws c.loop-i.i)} {y = held_in c.args.log.now.slots 0 0 (length c.args.log.now.slots)}
     (sym (held_on c.args.log.now.slots 0 0 (low_of ws c.loop-i.i) (length c.args.log.now.slots)
-    (plan_low c.args.log.now.slots true ws c.requires.plan c.loop-i.i all)
-    (unkept_of m.0.seat c.args.log.now.slots c.requires.kept _ _ none)))
+    (plan_low c.args.log.now.slots true ws c.requires.planned.plan c.loop-i.i all)
+    (unkept_of m.0.seat c.args.log.now.slots c.requires.planned.kept _ _ none)))
     c.loop-i.invariant.1

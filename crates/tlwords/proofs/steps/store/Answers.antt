@@ -1,12 +1,8 @@
-use Rattle.std.proofs.Common.{rules, arith}
+use Rattle.std.proofs.Common.{arith}
 use Rattle.tlwords.proofs.CommitSteps.{stores}
 use Rattle.tlwords.proofs.steps.store.Goals as goal
 
-pub store-requires : goal.store-requires
-store-requires g c = (
-  search rules,
-  let s = c.args.words.now.sized in let i = c.requires.cell in omega arith,
-  stores g.L.Law.terms _ _ _ _ _ _ _ _ _ _ _ _ c.requires.seated.setting.1 (let a = c.requires.cell in let b = c.requires.seated.cells in
-      omega arith) c.requires.place.1 c.requires.held.1
-      c.requires.held.2,
-)
+pub store-requires-clause-rule : goal.store-requires-clause-rule
+store-requires-clause-rule g c =
+    stores g.L.Law.terms _ _ _ _ _ _ _ _ _ _ _ _ c.requires.seated.setting.1 (let a = c.requires.cell in let b =
+    c.requires.seated.cells in omega arith) c.requires.place.1 c.requires.held.1 c.requires.held.2
