@@ -2,12 +2,11 @@ use Rattle.std.proofs.Common.{◌≡◌, ◌<◌, ℕ, sym, ap, subst, ◌∙◌
 use Rattle.cells.specs.Slots.{bucket, cell_count}
 use Rattle.cells.specs.State.{State}
 use Rattle.cells.proofs.Sights.{onward_trans, writes_onward, looks_trans, matches_back, after_looks, may_write_kept}
-use Rattle.cells.proofs.Settings.{same_slots}
 use Rattle.cells.specs.Aside.{IsOfFront}
 use Rattle.cells.proofs.Keeping.{keeps_trans, keeps_wider, keeps_put, keeps_written}
 use Rattle.cells.proofs.Asking.{nothing_trans, nothing_written, asks_cell, asks_trans, asks_still}
 use Rattle.chains.proofs.Walking.{in_front, puts_front}
-use Rattle.std.proofs.lemmas.Result.{err_from_is_err_and}
+use Rattle.cells.proofs.Settings.{same_slots}
 use Rattle.chains.proofs.chains.put_in.Goals as goal
 
 pub returns-in_err-read-clause-onward : goal.returns-in_err-read-clause-onward
@@ -98,30 +97,6 @@ returns-clause-reads g c =
     (asks_cell (inr (omega (arith, c.next_cell.ensures, slots_are))) c.read-2.ensures.reads))
     (nothing_trans (nothing_written c.write.ensures) (nothing_written c.write-2.ensures))
 
-pub returns-in_err-first-clause-ok : goal.returns-in_err-first-clause-ok
-returns-in_err-first-clause-ok g c =
-    let p = err_from_is_err_and c.from_residual.result c.from_residual.ensures.1 in rw p.1 tt
-
-pub returns-in_err-first-clause-front : goal.returns-in_err-first-clause-front
-returns-in_err-first-clause-front g c =
-    let p = err_from_is_err_and c.from_residual.result c.from_residual.ensures.1 in rw p.1 tt
-
-pub returns-in_err-first-clause-keeps : goal.returns-in_err-first-clause-keeps
-returns-in_err-first-clause-keeps g c =
-    let p = err_from_is_err_and c.from_residual.result c.from_residual.ensures.1 in rw p.1 tt
-
-pub returns-in_err-read-clause-ok : goal.returns-in_err-read-clause-ok
-returns-in_err-read-clause-ok g c =
-    let p = err_from_is_err_and c.from_residual-in_err-read.result c.from_residual-in_err-read.ensures.1 in rw p.1 tt
-
-pub returns-in_err-read-clause-front : goal.returns-in_err-read-clause-front
-returns-in_err-read-clause-front g c =
-    let p = err_from_is_err_and c.from_residual-in_err-read.result c.from_residual-in_err-read.ensures.1 in rw p.1 tt
-
-pub returns-in_err-read-clause-keeps : goal.returns-in_err-read-clause-keeps
-returns-in_err-read-clause-keeps g c =
-    let p = err_from_is_err_and c.from_residual-in_err-read.result c.from_residual-in_err-read.ensures.1 in rw p.1 tt
-
 pub bucket-requires-clause-some : goal.bucket-requires-clause-some
 bucket-requires-clause-some g c = c.slot_count-slots.ensures.some
 
@@ -147,15 +122,6 @@ pub read-requires-2 : goal.read-requires-2
 read-requires-2 g c =
     subst (λ (n : ℕ). c.next_cell.result < cell_count n) (sym (same_slots _ _ c.in_ok-first.ensures.ok.looks))
     (omega (arith, c.next_cell.ensures, c.requires.slot, c.slot_count-slots.ensures.value))
-
-pub returns-in_err-first-clause-onward : goal.returns-in_err-first-clause-onward
-returns-in_err-first-clause-onward g c = c.in_err-first.ensures.err.onward
-
-pub returns-in_err-first-clause-taken : goal.returns-in_err-first-clause-taken
-returns-in_err-first-clause-taken g c = omega (arith, c.in_err-first.ensures.err.taken)
-
-pub returns-in_err-read-clause-taken : goal.returns-in_err-read-clause-taken
-returns-in_err-read-clause-taken g c = omega (arith, c.in_ok-first.ensures.ok.looks.taken, c.in_err-read.ensures.err.taken)
 
 pub write-requires-clause-may : goal.write-requires-clause-may
 write-requires-clause-may g c =

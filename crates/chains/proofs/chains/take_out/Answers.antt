@@ -1,10 +1,9 @@
 use Rattle.std.proofs.Common.{◌≡◌, ◌<◌, ◌+◌, ℕ, List, sym, ap, subst, ◌∙◌, inl, inr, arith, refl}
 use Rattle.library.specs.Library.{label_of}
-use Rattle.cells.specs.Slots.{bucket, bucket_cell, next_cell, cell_count}
+use Rattle.cells.specs.Slots.{bucket, bucket_cell, next_cell}
 use Rattle.cells.specs.State.{State}
 use Rattle.cells.specs.Sight.{WasRead, after}
-use Rattle.cells.proofs.Sights.{onward_trans, writes_onward, looks_trans, matches_back, after_looks, may_write_kept}
-use Rattle.cells.proofs.Settings.{same_slots}
+use Rattle.cells.proofs.Sights.{onward_trans, writes_onward, looks_trans, matches_back, after_looks}
 use Rattle.cells.specs.Aside.{IsOfLeaving}
 use Rattle.cells.proofs.Keeping.{keeps_same, keeps_trans, keeps_wider, keeps_written}
 use Rattle.cells.specs.Footprints.{IsOnChain}
@@ -14,7 +13,6 @@ use Rattle.cells.proofs.AskingSteps.{member_of}
 use Rattle.cells.proofs.Linking.{bucket_within, has_bucket}
 use Rattle.chains.proofs.Unlinking.{leading}
 use Rattle.chains.proofs.Walking.{Walks, walk_begins, walk_goes, walk_found, walk_on, walk_ends, taken_out}
-use Rattle.std.proofs.lemmas.Result.{err_from_is_err_and}
 use Rattle.chains.proofs.chains.take_out.Goals as goal
 
 pub loop-init : goal.loop-init
@@ -217,101 +215,3 @@ returns-then-member-slot-clause-reads g c =
 
 pub returns-clause-reads : goal.returns-clause-reads
 returns-clause-reads g c = c.loop.invariant.reads
-
-pub returns-in_err-next-clause-ok : goal.returns-in_err-next-clause-ok
-returns-in_err-next-clause-ok g c =
-    let p = err_from_is_err_and c.from_residual.result c.from_residual.ensures.1 in rw p.1 tt
-
-pub returns-in_err-next-clause-keeps : goal.returns-in_err-next-clause-keeps
-returns-in_err-next-clause-keeps g c =
-    let p = err_from_is_err_and c.from_residual.result c.from_residual.ensures.1 in rw p.1 tt
-
-pub returns-in_err-word-clause-ok : goal.returns-in_err-word-clause-ok
-returns-in_err-word-clause-ok g c =
-    let p = err_from_is_err_and c.from_residual-in_err-word.result c.from_residual-in_err-word.ensures.1 in rw p.1 tt
-
-pub returns-in_err-word-clause-keeps : goal.returns-in_err-word-clause-keeps
-returns-in_err-word-clause-keeps g c =
-    let p = err_from_is_err_and c.from_residual-in_err-word.result c.from_residual-in_err-word.ensures.1 in rw p.1 tt
-
-pub next_cell-requires-clause-few : goal.next_cell-requires-clause-few
-next_cell-requires-clause-few g c = c.slot_count-slots.ensures.few
-
-pub next_cell-requires-clause-within : goal.next_cell-requires-clause-within
-next_cell-requires-clause-within g c = omega (arith, c.requires.slot, c.slot_count-slots.ensures.value)
-
-pub read-requires : goal.read-requires
-read-requires g c = omega (arith, c.next_cell.ensures, c.slot_count-slots.ensures.value, c.requires.slot)
-
-pub bucket-requires-clause-some : goal.bucket-requires-clause-some
-bucket-requires-clause-some g c = c.slot_count-slots.ensures.some
-
-pub bucket-requires-clause-few : goal.bucket-requires-clause-few
-bucket-requires-clause-few g c = c.slot_count-slots.ensures.few
-
-pub bucket_cell-before-requires-clause-few : goal.bucket_cell-before-requires-clause-few
-bucket_cell-before-requires-clause-few g c = c.slot_count-slots.ensures.few
-
-pub bucket_cell-before-requires-clause-within : goal.bucket_cell-before-requires-clause-within
-bucket_cell-before-requires-clause-within g c = c.bucket.ensures.within
-
-pub read-requires-in-loop : goal.read-requires-in-loop
-read-requires-in-loop g c =
-    subst (λ (n : ℕ). c.loop.before < cell_count n) (sym (same_slots _ _ c.loop.invariant.looks)) c.loop.invariant.high
-
-pub write-requires-clause-may : goal.write-requires-clause-may
-write-requires-clause-may g c =
-    may_write_kept (looks_trans _ _ _ c.loop.invariant.looks c.in_ok-word.ensures.ok.looks).onward ∙ c.requires.may
-
-pub write-requires-clause-cell : goal.write-requires-clause-cell
-write-requires-clause-cell g c =
-    let both = looks_trans _ _ _ c.loop.invariant.looks c.in_ok-word.ensures.ok.looks in
-    subst (λ (n : ℕ). c.loop.before < cell_count n) (sym (same_slots _ _ both)) c.loop.invariant.high
-
-pub write-requires-clause-read : goal.write-requires-clause-read
-write-requires-clause-read g c = c.in_ok-word.ensures.ok.read
-
-pub next_cell-requires-then-member-slot-clause-few : goal.next_cell-requires-then-member-slot-clause-few
-next_cell-requires-then-member-slot-clause-few g c = c.slot_count-slots.ensures.few
-
-pub next_cell-requires-then-member-slot-clause-within : goal.next_cell-requires-then-member-slot-clause-within
-next_cell-requires-then-member-slot-clause-within g c = omega (arith, c.requires.slot, c.slot_count-slots.ensures.value)
-
-pub write-requires-then-member-slot-clause-may : goal.write-requires-then-member-slot-clause-may
-write-requires-then-member-slot-clause-may g c =
-    let both = looks_trans _ _ _ c.loop.invariant.looks c.in_ok-word.ensures.ok.looks in
-    may_write_kept (onward_trans _ _ _ both.onward (writes_onward _ _ _ _ c.write.ensures)) ∙ c.requires.may
-
-pub next_cell-before-requires-clause-few : goal.next_cell-before-requires-clause-few
-next_cell-before-requires-clause-few g c = c.slot_count-slots.ensures.few
-
-pub next_cell-before-requires-clause-within : goal.next_cell-before-requires-clause-within
-next_cell-before-requires-clause-within g c = c.in-Some.ensures.0
-
-pub returns-in_err-next-clause-onward : goal.returns-in_err-next-clause-onward
-returns-in_err-next-clause-onward g c = c.in_err-next.ensures.err.onward
-
-pub returns-in_err-next-clause-taken : goal.returns-in_err-next-clause-taken
-returns-in_err-next-clause-taken g c = omega (arith, c.in_err-next.ensures.err.taken)
-
-pub returns-in_err-word-clause-taken : goal.returns-in_err-word-clause-taken
-returns-in_err-word-clause-taken g c = omega (arith, c.loop.invariant.looks.taken, c.in_err-word.ensures.err.taken)
-
-pub returns-in_default-clause-taken : goal.returns-in_default-clause-taken
-returns-in_default-clause-taken g c = omega (arith, c.loop.invariant.looks.taken, c.in_ok-word.ensures.ok.looks.taken)
-
-pub returns-then-member-slot-clause-taken : goal.returns-then-member-slot-clause-taken
-returns-then-member-slot-clause-taken g c =
-    omega (
-      arith,
-      c.loop.invariant.looks.taken,
-      c.in_ok-word.ensures.ok.looks.taken,
-      c.write.ensures.taken,
-      c.write-then-member-slot.ensures.taken,
-    )
-
-pub returns-clause-onward : goal.returns-clause-onward
-returns-clause-onward g c = c.loop.invariant.looks.onward
-
-pub returns-clause-taken : goal.returns-clause-taken
-returns-clause-taken g c = omega (arith, c.loop.invariant.looks.taken)

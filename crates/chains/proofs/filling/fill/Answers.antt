@@ -15,12 +15,11 @@ use Rattle.chains.specs.Filling.{IsOfFilling}
 use Rattle.cells.proofs.Keeping.{keeps_trans, keeps_wider}
 use Rattle.cells.proofs.Asking.{asks_wider, asks_more}
 use Rattle.cells.specs.Sight.{Matches, Views, after}
-use Rattle.cells.proofs.Sights.{onward_trans, matches_back, may_write_kept, setting_kept}
+use Rattle.cells.proofs.Sights.{onward_trans, matches_back, setting_kept}
 use Rattle.ranges.proofs.Members.{all_from_has}
 use Rattle.cells.proofs.Holding.{empty_free}
 use Rattle.std.proofs.lemmas.Result.{MatchResult-weaker}
 use Rattle.chains.proofs.Filled.{cited_few, still_chained, filled}
-use Rattle.std.proofs.lemmas.Result.{err_from_is_err_and}
 use Rattle.chains.proofs.filling.fill.Goals as goal
 
 pub count_in-requires-clause-slots : goal.count_in-requires-clause-slots
@@ -131,81 +130,3 @@ returns-clause-reads g c =
     (λ k is. inr (inl (subst (λ (l : List ℕ). IsOfFront s0.setting.slots c.args.slot l k) c.as_slice-2.ensures
     (subst (λ (s : Setting). IsOfFront s.slots c.args.slot c.as_slice-2.result.now k)
     ((setting_kept c.count_in.ensures.onward) ∙ (setting_kept c.lay_down.ensures.onward)) is)))) c.put_in.ensures.reads
-
-pub returns-in_err-lay_down-clause-ok : goal.returns-in_err-lay_down-clause-ok
-returns-in_err-lay_down-clause-ok g c =
-    let p = err_from_is_err_and c.from_residual.result c.from_residual.ensures.1 in rw p.1 tt
-
-pub returns-in_err-lay_down-clause-written : goal.returns-in_err-lay_down-clause-written
-returns-in_err-lay_down-clause-written g c =
-    let p = err_from_is_err_and c.from_residual.result c.from_residual.ensures.1 in rw p.1 tt
-
-pub returns-in_err-lay_down-clause-keeps : goal.returns-in_err-lay_down-clause-keeps
-returns-in_err-lay_down-clause-keeps g c =
-    let p = err_from_is_err_and c.from_residual.result c.from_residual.ensures.1 in rw p.1 tt
-
-pub returns-in_err-cited-clause-ok : goal.returns-in_err-cited-clause-ok
-returns-in_err-cited-clause-ok g c =
-    let p = err_from_is_err_and c.from_residual-in_err-cited.result c.from_residual-in_err-cited.ensures.1 in rw p.1 tt
-
-pub returns-in_err-cited-clause-written : goal.returns-in_err-cited-clause-written
-returns-in_err-cited-clause-written g c =
-    let p = err_from_is_err_and c.from_residual-in_err-cited.result c.from_residual-in_err-cited.ensures.1 in rw p.1 tt
-
-pub returns-in_err-cited-clause-keeps : goal.returns-in_err-cited-clause-keeps
-returns-in_err-cited-clause-keeps g c =
-    let p = err_from_is_err_and c.from_residual-in_err-cited.result c.from_residual-in_err-cited.ensures.1 in rw p.1 tt
-
-pub returns-in_err-count_in-clause-ok : goal.returns-in_err-count_in-clause-ok
-returns-in_err-count_in-clause-ok g c =
-    let p = err_from_is_err_and c.from_residual-in_err-count_in.result c.from_residual-in_err-count_in.ensures.1 in rw p.1 tt
-
-pub returns-in_err-count_in-clause-written : goal.returns-in_err-count_in-clause-written
-returns-in_err-count_in-clause-written g c =
-    let p = err_from_is_err_and c.from_residual-in_err-count_in.result c.from_residual-in_err-count_in.ensures.1 in rw p.1 tt
-
-pub returns-in_err-count_in-clause-keeps : goal.returns-in_err-count_in-clause-keeps
-returns-in_err-count_in-clause-keeps g c =
-    let p = err_from_is_err_and c.from_residual-in_err-count_in.result c.from_residual-in_err-count_in.ensures.1 in rw p.1 tt
-
-pub lay_down-requires-clause-may : goal.lay_down-requires-clause-may
-lay_down-requires-clause-may g c = c.requires.may
-
-pub lay_down-requires-clause-slot : goal.lay_down-requires-clause-slot
-lay_down-requires-clause-slot g c = c.requires.slot
-
-pub lay_down-requires-clause-labelled : goal.lay_down-requires-clause-labelled
-lay_down-requires-clause-labelled g c = c.requires.fillable.labelled
-
-pub lay_down-requires-clause-some : goal.lay_down-requires-clause-some
-lay_down-requires-clause-some g c = c.requires.fillable.some
-
-pub returns-in_err-lay_down-clause-onward : goal.returns-in_err-lay_down-clause-onward
-returns-in_err-lay_down-clause-onward g c = c.lay_down.ensures.onward
-
-pub returns-in_err-lay_down-clause-taken : goal.returns-in_err-lay_down-clause-taken
-returns-in_err-lay_down-clause-taken g c = c.lay_down.ensures.taken
-
-pub returns-in_err-cited-clause-onward : goal.returns-in_err-cited-clause-onward
-returns-in_err-cited-clause-onward g c = c.lay_down.ensures.onward
-
-pub returns-in_err-cited-clause-taken : goal.returns-in_err-cited-clause-taken
-returns-in_err-cited-clause-taken g c = c.lay_down.ensures.taken
-
-pub count_in-requires-clause-may : goal.count_in-requires-clause-may
-count_in-requires-clause-may g c = may_write_kept c.lay_down.ensures.onward ∙ c.requires.may.0
-
-pub put_in-requires-clause-may : goal.put_in-requires-clause-may
-put_in-requires-clause-may g c =
-    may_write_kept (onward_trans _ _ _ c.lay_down.ensures.onward c.count_in.ensures.onward) ∙ c.requires.may.0
-
-pub put_in-requires-clause-slot : goal.put_in-requires-clause-slot
-put_in-requires-clause-slot g c =
-    let on = onward_trans _ _ _ c.lay_down.ensures.onward c.count_in.ensures.onward in
-    subst (λ (s : Setting). c.args.slot < s.slots) (sym (setting_kept on)) c.requires.slot
-
-pub returns-in_err-count_in-clause-taken : goal.returns-in_err-count_in-clause-taken
-returns-in_err-count_in-clause-taken g c = omega (arith, c.lay_down.ensures.taken, c.count_in.ensures.taken)
-
-pub returns-clause-taken : goal.returns-clause-taken
-returns-clause-taken g c = omega (arith, c.lay_down.ensures.taken, c.count_in.ensures.taken, c.put_in.ensures.taken)

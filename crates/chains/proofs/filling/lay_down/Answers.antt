@@ -1,5 +1,5 @@
 -- What is left to show of `lay_down`.
-use Rattle.std.proofs.Common.{◌≡◌, ◌<◌, ◌*◌, ◌+◌, ℕ, sym, ap, subst, ◌∙◌, refl, arith}
+use Rattle.std.proofs.Common.{◌≡◌, ◌<◌, ◌*◌, ◌+◌, ℕ, ap, ◌∙◌, refl, arith}
 use Rattle.bodystore.specs.Bodies.{statement_of, statement_body}
 use Rattle.cells.specs.Slots.{name_cell}
 use Rattle.cells.specs.State.{State, with_value}
@@ -8,12 +8,11 @@ use Rattle.cells.specs.Aside.{KeepsAside, IsOfSlot}
 use Rattle.cells.proofs.Keeping.{keeps_same, keeps_trans, keeps_wider}
 use Rattle.cells.proofs.Asking.{nothing_same, asks_nothing, asks_cell, asks_trans}
 use Rattle.chains.specs.Filling.{LaysDown}
-use Rattle.cells.proofs.Sights.{onward_trans, matches_back, may_write_kept, may_stage_kept, setting_kept}
-use Rattle.library.specs.Library.{Setting}
+use Rattle.cells.proofs.Sights.{onward_trans, matches_back}
 use Rattle.std.proofs.lemmas.Result.{MatchResult-weaker}
 use Rattle.chains.proofs.Laying.{laid_down}
 use Rattle.cells.proofs.Settings.{small_slot}
-use Rattle.std.proofs.lemmas.Result.{err_from_is_err_and}
+use Rattle.std.proofs.lemmas.Result.{IfOk-from_err}
 use Rattle.chains.proofs.filling.lay_down.Goals as goal
 
 pub rank_cell-requires : goal.rank_cell-requires
@@ -145,89 +144,37 @@ returns-clause-reads g c =
     c.put.ensures.reads) c.put-2.ensures.reads
 
 pub returns-in_err-put_label-clause-ok : goal.returns-in_err-put_label-clause-ok
-returns-in_err-put_label-clause-ok g c =
-    let p = err_from_is_err_and c.from_residual.result c.from_residual.ensures.1 in rw p.1 tt
+returns-in_err-put_label-clause-ok g c = IfOk-from_err _ _ c.from_residual.ensures.0
 
 pub returns-in_err-put_label-clause-written : goal.returns-in_err-put_label-clause-written
-returns-in_err-put_label-clause-written g c =
-    let p = err_from_is_err_and c.from_residual.result c.from_residual.ensures.1 in rw p.1 tt
+returns-in_err-put_label-clause-written g c = IfOk-from_err _ _ c.from_residual.ensures.0
 
 pub returns-in_err-put_label-clause-keeps : goal.returns-in_err-put_label-clause-keeps
-returns-in_err-put_label-clause-keeps g c =
-    let p = err_from_is_err_and c.from_residual.result c.from_residual.ensures.1 in rw p.1 tt
+returns-in_err-put_label-clause-keeps g c = IfOk-from_err _ _ c.from_residual.ensures.0
 
 pub returns-in_err-put_statement-clause-ok : goal.returns-in_err-put_statement-clause-ok
-returns-in_err-put_statement-clause-ok g c =
-    let p = err_from_is_err_and c.from_residual-in_err-put_statement.result c.from_residual-in_err-put_statement.ensures.1 in rw p.1 tt
+returns-in_err-put_statement-clause-ok g c = IfOk-from_err _ _ c.from_residual-in_err-put_statement.ensures.0
 
 pub returns-in_err-put_statement-clause-written : goal.returns-in_err-put_statement-clause-written
-returns-in_err-put_statement-clause-written g c =
-    let p = err_from_is_err_and c.from_residual-in_err-put_statement.result c.from_residual-in_err-put_statement.ensures.1 in rw p.1 tt
+returns-in_err-put_statement-clause-written g c = IfOk-from_err _ _ c.from_residual-in_err-put_statement.ensures.0
 
 pub returns-in_err-put_statement-clause-keeps : goal.returns-in_err-put_statement-clause-keeps
-returns-in_err-put_statement-clause-keeps g c =
-    let p = err_from_is_err_and c.from_residual-in_err-put_statement.result c.from_residual-in_err-put_statement.ensures.1 in rw p.1 tt
+returns-in_err-put_statement-clause-keeps g c = IfOk-from_err _ _ c.from_residual-in_err-put_statement.ensures.0
 
 pub returns-in_err-put_proof-clause-ok : goal.returns-in_err-put_proof-clause-ok
-returns-in_err-put_proof-clause-ok g c =
-    let p = err_from_is_err_and c.from_residual-in_err-put_proof.result c.from_residual-in_err-put_proof.ensures.1 in rw p.1 tt
+returns-in_err-put_proof-clause-ok g c = IfOk-from_err _ _ c.from_residual-in_err-put_proof.ensures.0
 
 pub returns-in_err-put_proof-clause-written : goal.returns-in_err-put_proof-clause-written
-returns-in_err-put_proof-clause-written g c =
-    let p = err_from_is_err_and c.from_residual-in_err-put_proof.result c.from_residual-in_err-put_proof.ensures.1 in rw p.1 tt
+returns-in_err-put_proof-clause-written g c = IfOk-from_err _ _ c.from_residual-in_err-put_proof.ensures.0
 
 pub returns-in_err-put_proof-clause-keeps : goal.returns-in_err-put_proof-clause-keeps
-returns-in_err-put_proof-clause-keeps g c =
-    let p = err_from_is_err_and c.from_residual-in_err-put_proof.result c.from_residual-in_err-put_proof.ensures.1 in rw p.1 tt
+returns-in_err-put_proof-clause-keeps g c = IfOk-from_err _ _ c.from_residual-in_err-put_proof.ensures.0
 
 pub returns-in_err-put-clause-ok : goal.returns-in_err-put-clause-ok
-returns-in_err-put-clause-ok g c =
-    let p = err_from_is_err_and c.from_residual-in_err-put.result c.from_residual-in_err-put.ensures.1 in rw p.1 tt
+returns-in_err-put-clause-ok g c = IfOk-from_err _ _ c.from_residual-in_err-put.ensures.0
 
 pub returns-in_err-put-clause-written : goal.returns-in_err-put-clause-written
-returns-in_err-put-clause-written g c =
-    let p = err_from_is_err_and c.from_residual-in_err-put.result c.from_residual-in_err-put.ensures.1 in rw p.1 tt
+returns-in_err-put-clause-written g c = IfOk-from_err _ _ c.from_residual-in_err-put.ensures.0
 
 pub returns-in_err-put-clause-keeps : goal.returns-in_err-put-clause-keeps
-returns-in_err-put-clause-keeps g c =
-    let p = err_from_is_err_and c.from_residual-in_err-put.result c.from_residual-in_err-put.ensures.1 in rw p.1 tt
-
-pub put_label-requires-clause-may : goal.put_label-requires-clause-may
-put_label-requires-clause-may g c = c.requires.may
-
-pub put_label-requires-clause-slot : goal.put_label-requires-clause-slot
-put_label-requires-clause-slot g c = c.requires.slot
-
-pub put_statement-requires-clause-may : goal.put_statement-requires-clause-may
-put_statement-requires-clause-may g c =
-    let on = c.put_label.ensures.onward in
-    (may_write_kept on ∙ c.requires.may.0, may_stage_kept on ∙ c.requires.may.1)
-
-pub put_statement-requires-clause-slot : goal.put_statement-requires-clause-slot
-put_statement-requires-clause-slot g c =
-    let on = c.put_label.ensures.onward in
-    subst (λ (s : Setting). c.args.slot < s.slots) (sym (setting_kept on)) c.requires.slot
-
-pub put_proof-requires-clause-may : goal.put_proof-requires-clause-may
-put_proof-requires-clause-may g c =
-    let on = onward_trans _ _ _ c.put_label.ensures.onward c.put_statement.ensures.onward in
-    (may_write_kept on ∙ c.requires.may.0, may_stage_kept on ∙ c.requires.may.1)
-
-pub put_proof-requires-clause-slot : goal.put_proof-requires-clause-slot
-put_proof-requires-clause-slot g c =
-    let on = onward_trans _ _ _ c.put_label.ensures.onward c.put_statement.ensures.onward in
-    subst (λ (s : Setting). c.args.slot < s.slots) (sym (setting_kept on)) c.requires.slot
-
-pub put-requires-clause-may : goal.put-requires-clause-may
-put-requires-clause-may g c =
-    let on = onward_trans _ _ _ c.put_label.ensures.onward (onward_trans _ _ _ c.put_statement.ensures.onward c.put_proof.ensures.onward) in
-    may_write_kept on ∙ c.requires.may.0
-
-pub put-requires-2-clause-may : goal.put-requires-2-clause-may
-put-requires-2-clause-may g c =
-    let on = onward_trans _ _ _ c.put_label.ensures.onward (onward_trans _ _ _ c.put_statement.ensures.onward
-    (onward_trans _ _ _ c.put_proof.ensures.onward c.put.ensures.onward)) in
-    may_write_kept on ∙ c.requires.may.0
-
-pub returns-in_err-put_label-clause-onward : goal.returns-in_err-put_label-clause-onward
-returns-in_err-put_label-clause-onward g c = c.put_label.ensures.onward
+returns-in_err-put-clause-keeps g c = IfOk-from_err _ _ c.from_residual-in_err-put.ensures.0

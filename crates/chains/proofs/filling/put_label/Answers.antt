@@ -1,13 +1,11 @@
 -- What is left to show of `put_label`.
-use Rattle.std.proofs.Common.{◌≡◌, ℕ, subst, arith}
+use Rattle.std.proofs.Common.{◌≡◌, ℕ, subst}
 use Rattle.std.specs.Prelude.{IfOk}
 use Rattle.cells.specs.Slots.{name_cell}
 use Rattle.cells.specs.Sight.{WasWritten, ReadsWithin}
 use Rattle.cells.specs.Aside.{KeepsAside}
 use Rattle.cells.proofs.Settings.{small_slot}
-use Rattle.std.proofs.lemmas.Result.{err_from_is_err_and}
-use Rattle.cells.proofs.Sights.{onward_refl}
-use Rattle.cells.proofs.Asking.{nothing_same, asks_nothing}
+use Rattle.std.proofs.lemmas.Result.{IfOk-from_err}
 use Rattle.chains.proofs.filling.put_label.Goals as goal
 
 pub name_cell-requires : goal.name_cell-requires
@@ -31,35 +29,13 @@ returns-clause-reads g c =
     c.put_body.ensures.reads
 
 pub returns-in_err-words-clause-ok : goal.returns-in_err-words-clause-ok
-returns-in_err-words-clause-ok g c =
-    let p = err_from_is_err_and c.from_residual.result c.from_residual.ensures.1 in rw p.1 tt
+returns-in_err-words-clause-ok g c = IfOk-from_err _ _ c.from_residual.ensures.0
 
 pub returns-in_err-words-clause-others : goal.returns-in_err-words-clause-others
-returns-in_err-words-clause-others g c =
-    let p = err_from_is_err_and c.from_residual.result c.from_residual.ensures.1 in rw p.1 tt
+returns-in_err-words-clause-others g c = IfOk-from_err _ _ c.from_residual.ensures.0
 
 pub returns-in_err-words-clause-written : goal.returns-in_err-words-clause-written
-returns-in_err-words-clause-written g c =
-    let p = err_from_is_err_and c.from_residual.result c.from_residual.ensures.1 in rw p.1 tt
+returns-in_err-words-clause-written g c = IfOk-from_err _ _ c.from_residual.ensures.0
 
 pub returns-in_err-words-clause-keeps : goal.returns-in_err-words-clause-keeps
-returns-in_err-words-clause-keeps g c =
-    let p = err_from_is_err_and c.from_residual.result c.from_residual.ensures.1 in rw p.1 tt
-
-pub returns-in_err-words-clause-onward : goal.returns-in_err-words-clause-onward
-returns-in_err-words-clause-onward g c = onward_refl _
-
-pub returns-in_err-words-clause-taken : goal.returns-in_err-words-clause-taken
-returns-in_err-words-clause-taken g c = omega arith
-
-pub returns-in_err-words-clause-reads : goal.returns-in_err-words-clause-reads
-returns-in_err-words-clause-reads g c = asks_nothing (nothing_same _)
-
-pub put_body-requires-clause-may : goal.put_body-requires-clause-may
-put_body-requires-clause-may g c = c.requires.may
-
-pub put_body-requires-clause-cell : goal.put_body-requires-clause-cell
-put_body-requires-clause-cell g c = omega (arith, c.name_cell.ensures, c.requires.slot)
-
-pub returns-clause-onward : goal.returns-clause-onward
-returns-clause-onward g c = c.put_body.ensures.onward
+returns-in_err-words-clause-keeps g c = IfOk-from_err _ _ c.from_residual.ensures.0

@@ -10,7 +10,6 @@ use Rattle.cells.proofs.Keeping.{keeps_same, keeps_trans, keeps_wider, keeps_put
 use Rattle.cells.proofs.Asking.{nothing_same, nothing_written, asks_nothing, asks_cell, asks_trans, asks_still}
 use Rattle.cells.proofs.Values.{value_there, value_elsewhere}
 use Rattle.cells.proofs.Settings.{small_slot}
-use Rattle.std.proofs.lemmas.Result.{err_from_is_err_and}
 use Rattle.chains.proofs.filling.vacate.Goals as goal
 
 pub name_cell-requires : goal.name_cell-requires
@@ -121,15 +120,3 @@ pub overflow_add-cell : goal.overflow_add-cell
 overflow_add-cell g c =
     let small = small_slot _ (g.met.C.Cells.grounded c.args.cells.now) c.args.slot c.requires.slot in
     omega (arith, small, c.name_cell.ensures, c.loop-part-test.true)
-
-pub returns-in_err-read-clause-ok : goal.returns-in_err-read-clause-ok
-returns-in_err-read-clause-ok g c =
-    let p = err_from_is_err_and c.from_residual.result c.from_residual.ensures.1 in rw p.1 tt
-
-pub returns-in_err-read-clause-written : goal.returns-in_err-read-clause-written
-returns-in_err-read-clause-written g c =
-    let p = err_from_is_err_and c.from_residual.result c.from_residual.ensures.1 in rw p.1 tt
-
-pub returns-in_err-read-clause-keeps : goal.returns-in_err-read-clause-keeps
-returns-in_err-read-clause-keeps g c =
-    let p = err_from_is_err_and c.from_residual.result c.from_residual.ensures.1 in rw p.1 tt

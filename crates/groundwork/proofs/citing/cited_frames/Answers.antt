@@ -11,7 +11,6 @@ use Rattle.cells.proofs.Settings.{same_slots}
 use Rattle.cells.proofs.Asking.{asks_cell, asks_trans}
 use Rattle.groundwork.specs.Citing.{frames_in}
 use Rattle.groundwork.proofs.NotedFrames.{noted_more, noted_past, all_noted, no_citation}
-use Rattle.std.proofs.lemmas.Result.{err_from_is_err_and}
 use Rattle.groundwork.proofs.citing.cited_frames.Goals as goal
 
 pub note_frame-requires : goal.note_frame-requires
@@ -103,7 +102,3 @@ returns-in_err-note_frame-clause-reads g c =
           ∙ c.in-Slot.is,
     ) in
     asks_trans c.loop-i.invariant.2 (asks_cell (c.in-Slot.slot, has, refl) c.note_frame.ensures.reads)
-
-pub returns-in_err-note_frame-clause-ok : goal.returns-in_err-note_frame-clause-ok
-returns-in_err-note_frame-clause-ok g c =
-    let p = err_from_is_err_and c.from_residual.result c.from_residual.ensures.1 in rw p.1 tt

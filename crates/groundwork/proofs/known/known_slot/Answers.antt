@@ -2,7 +2,6 @@ use Rattle.std.proofs.Common.{ℕ, List, None, refl, sym, subst}
 use Rattle.cells.specs.Lookups.{Finds}
 use Rattle.groundwork.specs.Known.{TellsUnknown}
 use Rattle.cells.specs.Footprints.{ReadsWhere, IsOfLook}
-use Rattle.std.proofs.lemmas.Result.{err_from_is_err_and}
 use Rattle.groundwork.proofs.known.known_slot.Goals as goal
 
 pub returns-in_default-clause-err : goal.returns-in_default-clause-err
@@ -31,7 +30,3 @@ returns-clause-reads g c =
     let s0 = g.C.Cells.sight c.args.cells.now in
     let s1 = g.C.Cells.sight c.find.new.cells in
     subst (λ (l : List ℕ). ReadsWhere (IsOfLook s0.setting.slots l) s0 s1) c.as_slice.ensures c.find.ensures.reads
-
-pub returns-in_err-slot-clause-ok : goal.returns-in_err-slot-clause-ok
-returns-in_err-slot-clause-ok g c =
-    let p = err_from_is_err_and c.from_residual.result c.from_residual.ensures.1 in rw p.1 tt

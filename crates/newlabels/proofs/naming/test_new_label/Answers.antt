@@ -3,7 +3,6 @@ use Rattle.cells.specs.Lookups.{TellsStanding}
 use Rattle.newlabels.specs.Naming.{TellsNotNew}
 use Rattle.newlabels.proofs.NewLabels.{lawful_later, taken_refuses, clash_refuses, new_passes}
 use Rattle.cells.proofs.Along.{where_same}
-use Rattle.std.proofs.lemmas.Result.{err_from_is_err_and}
 use Rattle.newlabels.proofs.naming.test_new_label.Goals as goal
 
 pub returns-in-Taken-clause-err : goal.returns-in-Taken-clause-err
@@ -64,6 +63,3 @@ returns-in-Free-clause-looks g c = c.standing_of.ensures.looks
 
 pub returns-in-Free-clause-reads : goal.returns-in-Free-clause-reads
 returns-in-Free-clause-reads g c = c.standing_of.ensures.reads
-
-pub returns-in_err-standing_of-clause-ok : goal.returns-in_err-standing_of-clause-ok
-returns-in_err-standing_of-clause-ok g c = let p = err_from_is_err_and c.from_residual.result c.from_residual.ensures.1 in rw p.1 tt
