@@ -2,7 +2,7 @@ use Rattle.std.proofs.Common.{◌≡◌, ◌≢◌, ◌∙◌, List, ℕ, Some, 
 use Rattle.groundwork.specs.Citing.{frames_in}
 use Rattle.groundwork.proofs.NotedFrames.{notes_none, notes_one}
 use Rattle.groundwork.proofs.ByteKeys.{found_elsewhere}
-use Rattle.std.proofs.lemmas.Result.{err_from_is_err_and}
+use Rattle.std.proofs.lemmas.Result.{IfOk-from_err}
 use Rattle.groundwork.proofs.citing.note_frame.Goals as goal
 
 pub returns-then-contains_key-clause-ok : goal.returns-then-contains_key-clause-ok
@@ -35,13 +35,10 @@ pub returns-clause-reads : goal.returns-clause-reads
 returns-clause-reads g c = c.frame.ensures.reads
 
 pub returns-in_err-key-clause-ok : goal.returns-in_err-key-clause-ok
-returns-in_err-key-clause-ok g c =
-    let p = err_from_is_err_and c.from_residual.result c.from_residual.ensures.1 in rw p.1 tt
+returns-in_err-key-clause-ok g c = IfOk-from_err _ _ c.from_residual.ensures.0
 
 pub returns-in_err-frame-clause-ok : goal.returns-in_err-frame-clause-ok
-returns-in_err-frame-clause-ok g c =
-    let p = err_from_is_err_and c.from_residual-in_err-frame.result c.from_residual-in_err-frame.ensures.1 in rw p.1 tt
+returns-in_err-frame-clause-ok g c = IfOk-from_err _ _ c.from_residual-in_err-frame.ensures.0
 
 pub returns-in_err-insert-clause-ok : goal.returns-in_err-insert-clause-ok
-returns-in_err-insert-clause-ok g c =
-    let p = err_from_is_err_and c.from_residual-in_err-insert.result c.from_residual-in_err-insert.ensures.1 in rw p.1 tt
+returns-in_err-insert-clause-ok g c = IfOk-from_err _ _ c.from_residual-in_err-insert.ensures.0

@@ -19,7 +19,7 @@ use Rattle.cells.proofs.Sights.{looks_refl}
 use Rattle.groundwork.specs.Footprints.{IsRankOfSteps, IsStatementOfSteps}
 use Rattle.groundwork.proofs.Since.{ReadsSince, since_then, since_where}
 use Rattle.groundwork.proofs.TestReads.{OfTest, since_cited}
-use Rattle.std.proofs.lemmas.Result.{err_from_is_err_and}
+use Rattle.std.proofs.lemmas.Result.{IfOk-from_err}
 use Rattle.groundwork.proofs.citing.test_proof.Goals as goal
 
 -- what is resolved of the proof
@@ -281,16 +281,13 @@ returns-in-Ok-clause-reads g c =
     c.cited_frames.ensures.looks.onward resolved.2 (λ st lib k is. inr (inl is)) statements)
 
 pub returns-in_err-kept-clause-ok : goal.returns-in_err-kept-clause-ok
-returns-in_err-kept-clause-ok g c =
-    let p = err_from_is_err_and c.from_residual.result c.from_residual.ensures.1 in rw p.1 tt
+returns-in_err-kept-clause-ok g c = IfOk-from_err _ _ c.from_residual.ensures.0
 
 pub returns-in_err-cites_not_below-clause-ok : goal.returns-in_err-cites_not_below-clause-ok
-returns-in_err-cites_not_below-clause-ok g c =
-    let p = err_from_is_err_and c.from_residual-in_err-cites_not_below.result c.from_residual-in_err-cites_not_below.ensures.1 in rw p.1 tt
+returns-in_err-cites_not_below-clause-ok g c = IfOk-from_err _ _ c.from_residual-in_err-cites_not_below.ensures.0
 
 pub returns-in_err-frames-clause-ok : goal.returns-in_err-frames-clause-ok
-returns-in_err-frames-clause-ok g c =
-    let p = err_from_is_err_and c.from_residual-in_err-frames.result c.from_residual-in_err-frames.ensures.1 in rw p.1 tt
+returns-in_err-frames-clause-ok g c = IfOk-from_err _ _ c.from_residual-in_err-frames.ensures.0
 
 pub returns-in_default-clause-ok : goal.returns-in_default-clause-ok
 returns-in_default-clause-ok g c = tt

@@ -16,7 +16,7 @@ use Rattle.groundwork.specs.Touches.{ReprovesWithin}
 use Rattle.groundwork.proofs.Touching.{resteps_within}
 use Rattle.groundwork.proofs.Restepped.{CountsOutOf, CountsInOf, restepped}
 use Rattle.groundwork.proofs.RestepReads.{resteps_end, resteps_proof, resteps_put, resteps_out, resteps_in}
-use Rattle.std.proofs.lemmas.Result.{err_from_is_err_and}
+use Rattle.std.proofs.lemmas.Result.{IfOk-from_err}
 use Rattle.groundwork.proofs.restepping.put_steps.Goals as goal
 
 pub proof_cell-requires : goal.proof_cell-requires
@@ -171,64 +171,49 @@ returns-clause-reads g c label =
     r3 more)
 
 pub returns-in_err-former-clause-written : goal.returns-in_err-former-clause-written
-returns-in_err-former-clause-written g c =
-    let p = err_from_is_err_and c.from_residual.result c.from_residual.ensures.1 in rw p.1 tt
+returns-in_err-former-clause-written g c = IfOk-from_err _ _ c.from_residual.ensures.0
 
 pub returns-in_err-former-clause-ok : goal.returns-in_err-former-clause-ok
-returns-in_err-former-clause-ok g c =
-    let p = err_from_is_err_and c.from_residual.result c.from_residual.ensures.1 in rw p.1 tt
+returns-in_err-former-clause-ok g c = IfOk-from_err _ _ c.from_residual.ensures.0
 
 pub returns-in_err-former-clause-keeps : goal.returns-in_err-former-clause-keeps
-returns-in_err-former-clause-keeps g c =
-    let p = err_from_is_err_and c.from_residual.result c.from_residual.ensures.1 in rw p.1 tt
+returns-in_err-former-clause-keeps g c = IfOk-from_err _ _ c.from_residual.ensures.0
 
 pub returns-in_err-cited-clause-written : goal.returns-in_err-cited-clause-written
-returns-in_err-cited-clause-written g c =
-    let p = err_from_is_err_and c.from_residual-in_err-cited.result c.from_residual-in_err-cited.ensures.1 in rw p.1 tt
+returns-in_err-cited-clause-written g c = IfOk-from_err _ _ c.from_residual-in_err-cited.ensures.0
 
 pub returns-in_err-cited-clause-ok : goal.returns-in_err-cited-clause-ok
-returns-in_err-cited-clause-ok g c =
-    let p = err_from_is_err_and c.from_residual-in_err-cited.result c.from_residual-in_err-cited.ensures.1 in rw p.1 tt
+returns-in_err-cited-clause-ok g c = IfOk-from_err _ _ c.from_residual-in_err-cited.ensures.0
 
 pub returns-in_err-cited-clause-keeps : goal.returns-in_err-cited-clause-keeps
-returns-in_err-cited-clause-keeps g c =
-    let p = err_from_is_err_and c.from_residual-in_err-cited.result c.from_residual-in_err-cited.ensures.1 in rw p.1 tt
+returns-in_err-cited-clause-keeps g c = IfOk-from_err _ _ c.from_residual-in_err-cited.ensures.0
 
 pub returns-in_err-body-clause-written : goal.returns-in_err-body-clause-written
-returns-in_err-body-clause-written g c =
-    let p = err_from_is_err_and c.from_residual-in_err-body.result c.from_residual-in_err-body.ensures.1 in rw p.1 tt
+returns-in_err-body-clause-written g c = IfOk-from_err _ _ c.from_residual-in_err-body.ensures.0
 
 pub returns-in_err-body-clause-ok : goal.returns-in_err-body-clause-ok
-returns-in_err-body-clause-ok g c =
-    let p = err_from_is_err_and c.from_residual-in_err-body.result c.from_residual-in_err-body.ensures.1 in rw p.1 tt
+returns-in_err-body-clause-ok g c = IfOk-from_err _ _ c.from_residual-in_err-body.ensures.0
 
 pub returns-in_err-body-clause-keeps : goal.returns-in_err-body-clause-keeps
-returns-in_err-body-clause-keeps g c =
-    let p = err_from_is_err_and c.from_residual-in_err-body.result c.from_residual-in_err-body.ensures.1 in rw p.1 tt
+returns-in_err-body-clause-keeps g c = IfOk-from_err _ _ c.from_residual-in_err-body.ensures.0
 
 pub returns-in_err-put_body-clause-written : goal.returns-in_err-put_body-clause-written
-returns-in_err-put_body-clause-written g c =
-    let p = err_from_is_err_and c.from_residual-in_err-put_body.result c.from_residual-in_err-put_body.ensures.1 in rw p.1 tt
+returns-in_err-put_body-clause-written g c = IfOk-from_err _ _ c.from_residual-in_err-put_body.ensures.0
 
 pub returns-in_err-put_body-clause-ok : goal.returns-in_err-put_body-clause-ok
-returns-in_err-put_body-clause-ok g c =
-    let p = err_from_is_err_and c.from_residual-in_err-put_body.result c.from_residual-in_err-put_body.ensures.1 in rw p.1 tt
+returns-in_err-put_body-clause-ok g c = IfOk-from_err _ _ c.from_residual-in_err-put_body.ensures.0
 
 pub returns-in_err-put_body-clause-keeps : goal.returns-in_err-put_body-clause-keeps
-returns-in_err-put_body-clause-keeps g c =
-    let p = err_from_is_err_and c.from_residual-in_err-put_body.result c.from_residual-in_err-put_body.ensures.1 in rw p.1 tt
+returns-in_err-put_body-clause-keeps g c = IfOk-from_err _ _ c.from_residual-in_err-put_body.ensures.0
 
 pub returns-in_err-count_out-clause-written : goal.returns-in_err-count_out-clause-written
-returns-in_err-count_out-clause-written g c =
-    let p = err_from_is_err_and c.from_residual-in_err-count_out.result c.from_residual-in_err-count_out.ensures.1 in rw p.1 tt
+returns-in_err-count_out-clause-written g c = IfOk-from_err _ _ c.from_residual-in_err-count_out.ensures.0
 
 pub returns-in_err-count_out-clause-ok : goal.returns-in_err-count_out-clause-ok
-returns-in_err-count_out-clause-ok g c =
-    let p = err_from_is_err_and c.from_residual-in_err-count_out.result c.from_residual-in_err-count_out.ensures.1 in rw p.1 tt
+returns-in_err-count_out-clause-ok g c = IfOk-from_err _ _ c.from_residual-in_err-count_out.ensures.0
 
 pub returns-in_err-count_out-clause-keeps : goal.returns-in_err-count_out-clause-keeps
-returns-in_err-count_out-clause-keeps g c =
-    let p = err_from_is_err_and c.from_residual-in_err-count_out.result c.from_residual-in_err-count_out.ensures.1 in rw p.1 tt
+returns-in_err-count_out-clause-keeps g c = IfOk-from_err _ _ c.from_residual-in_err-count_out.ensures.0
 
 pub stored_proof-requires : goal.stored_proof-requires
 stored_proof-requires g c = c.requires.slot
