@@ -1,7 +1,7 @@
 use Rattle.std.proofs.Common.{◌≡◌, sym, ◌∙◌, inl, inr, arith}
 use Rattle.library.specs.declared.command.Command.TheVariants as command
 use Rattle.library.specs.declared.reason.Reason.TheVariants as reason
-use Rattle.cells.proofs.Sights.{onward_trans, looks_trans, may_write_kept}
+use Rattle.cells.proofs.Sights.{onward_trans, looks_trans}
 use Rattle.cells.proofs.Resolving.{finds_after}
 use Rattle.groundwork.proofs.Touching.{keeps_to_since}
 use Rattle.removals.proofs.Touching.{delete_keeps}
@@ -199,15 +199,3 @@ pub returns-in_err-remove-clause-answers : goal.returns-in_err-remove-clause-ans
 returns-in_err-remove-clause-answers g c =
     answers_ended (g.C.Cells.sight c.args.cells.now) (g.C.Cells.sight c.remove.new.cells) (command.Delete c.args.label.now)
     c.from_residual-in_err-remove.result _ c.from_residual-in_err-remove.ensures.1 tt
-
-pub returns-in_err-slot-clause-onward : goal.returns-in_err-slot-clause-onward
-returns-in_err-slot-clause-onward g c = c.known_slot.ensures.looks.onward
-
-pub citers-requires : goal.citers-requires
-citers-requires g c = c.in_ok-slot.ensures.ok.0
-
-pub remove-requires-clause-may : goal.remove-requires-clause-may
-remove-requires-clause-may g c = may_write_kept (looks_trans _ _ _ c.known_slot.ensures.looks c.citers.ensures.looks).onward ∙ c.requires
-
-pub remove-requires-clause-slot : goal.remove-requires-clause-slot
-remove-requires-clause-slot g c = (finds_after _ _ c.args.label.now c.in_ok-slot.slot c.citers.ensures.looks c.in_ok-slot.ensures.ok).0

@@ -1,8 +1,7 @@
-use Rattle.std.proofs.Common.{List, ℕ, ◌<◌, sym, subst, ◌∙◌, arith}
+use Rattle.std.proofs.Common.{List, ℕ, sym, subst, arith}
 use Rattle.bodystore.specs.declared.stored.StoredStep.{StoredStep}
 use Rattle.cells.specs.Counts.{AreCitedSlots}
-use Rattle.cells.proofs.Sights.{onward_trans, may_write_kept, setting_kept}
-use Rattle.library.specs.Library.{Setting}
+use Rattle.cells.proofs.Sights.{onward_trans}
 use Rattle.std.proofs.lemmas.Result.{MatchResult-weaker}
 use Rattle.removals.specs.Changes.{DeletesAt}
 use Rattle.removals.specs.Changes.{DeletesWithin}
@@ -230,30 +229,3 @@ returns-in_err-former-clause-onward g c = c.stored_proof.ensures.looks.onward
 
 pub returns-in_err-cited-clause-onward : goal.returns-in_err-cited-clause-onward
 returns-in_err-cited-clause-onward g c = c.stored_proof.ensures.looks.onward
-
-pub stored_proof-requires : goal.stored_proof-requires
-stored_proof-requires g c = c.requires.slot
-
-pub count_out-requires : goal.count_out-requires
-count_out-requires g c = may_write_kept c.stored_proof.ensures.looks.onward ∙ c.requires.may
-
-pub take_out-requires-clause-may : goal.take_out-requires-clause-may
-take_out-requires-clause-may g c =
-    may_write_kept (onward_trans _ _ _ c.stored_proof.ensures.looks.onward c.count_out.ensures.onward) ∙ c.requires.may
-
-pub take_out-requires-clause-slot : goal.take_out-requires-clause-slot
-take_out-requires-clause-slot g c =
-    let on = onward_trans _ _ _ c.stored_proof.ensures.looks.onward c.count_out.ensures.onward in
-    subst (λ (s : Setting). c.args.slot < s.slots) (sym (setting_kept on)) c.requires.slot
-
-pub vacate-requires-clause-may : goal.vacate-requires-clause-may
-vacate-requires-clause-may g c =
-    let on = onward_trans _ _ _ c.stored_proof.ensures.looks.onward
-    (onward_trans _ _ _ c.count_out.ensures.onward c.take_out.ensures.onward) in
-    may_write_kept on ∙ c.requires.may
-
-pub vacate-requires-clause-slot : goal.vacate-requires-clause-slot
-vacate-requires-clause-slot g c =
-    let on = onward_trans _ _ _ c.stored_proof.ensures.looks.onward
-    (onward_trans _ _ _ c.count_out.ensures.onward c.take_out.ensures.onward) in
-    subst (λ (s : Setting). c.args.slot < s.slots) (sym (setting_kept on)) c.requires.slot
