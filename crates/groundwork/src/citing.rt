@@ -6,11 +6,11 @@ ghost use Rattle.cells.specs.Sight.{Looks, ReadsWithin};
 ghost use Rattle.cells.specs.Slots.{statement_cell};
 ghost use Rattle.cells.specs.Lookups.{AreWithin};
 ghost use Rattle.groundwork.specs.Footprints.{IsRankOfSteps, IsStatementOfSteps, TestReads};
-ghost use Rattle.groundwork.specs.Citing.{TellsNotBelow, TellsFrames, NotesFrame, TellsFault, Passes, TellsRefusal, frames_in};
+ghost use Rattle.groundwork.specs.Citing.{TellsNotBelow, TellsFrames, NotesFrame, Passes, TellsRefusal, frames_in};
 
 use bodystore::StoredStep;
 use cells::{Cells, CommandError, Halt, cited_slots, frame, rank, resolve, slot_count};
-use derivation::{ProofFault, ProofFaultKind};
+use derivation::ProofFaultKind;
 use library::Reason;
 use mmsyntax::{Assertion, Frame, Label, Prelude, Proof, StepRef};
 use std::alloc::{AllocError, Global};
@@ -44,9 +44,12 @@ pub fn test_proof<C: Cells>(
         return Err(Reason::CitedNotLower.into());
     }
     let frames = cited_frames(alloc, prelude, cells, &theorem.proof, kept.as_slice())?;
-    match proof_fault(alloc, prelude, &frames, theorem)? {
-        Some(fault) => Err(Reason::ProofFails(fault).into()),
-        None => Ok(kept),
+    match check(alloc, prelude, &frames, theorem) {
+        Ok(()) => Ok(kept),
+        Err(fault) => match fault.kind {
+            ProofFaultKind::NoMemory => Err(AllocError.into()),
+            _ => Err(Reason::ProofFails(fault).into()),
+        },
     }
 }
 
@@ -138,23 +141,4 @@ fn note_frame<C: Cells>(
     let key = Vec::from_slice(alloc, label)?;
     by_label.insert(key, frame(alloc, prelude, cells, slot)?)?;
     Ok(())
-}
-
-/// The fault of a theorem's proof over frames, if it has one.
-fn proof_fault(
-    alloc: Global,
-    prelude: &Prelude,
-    frames: &CitedFrames,
-    theorem: &Assertion,
-) -> Result<Option<ProofFault>, AllocError>
-    requires { theorem.now.kind ≡ Theorem }
-    ensures { IfOk result (λ fault. TellsFault (frames_in frames.now.by_label) prelude.now theorem.now fault) }
-{
-    match check(alloc, prelude, frames, theorem) {
-        Ok(()) => Ok(None),
-        Err(fault) => match fault.kind {
-            ProofFaultKind::NoMemory => Err(AllocError),
-            _ => Ok(Some(fault)),
-        },
-    }
 }

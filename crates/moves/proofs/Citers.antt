@@ -39,7 +39,7 @@ use Rattle.cells.proofs.Holders.{held_or_empty, holds_it, listed}
 use Rattle.ranges.proofs.Members.{has_from_contains, contains_from_has, all_from_has, any_has}
 use Rattle.cells.proofs.Sights.{for_each_later}
 use Rattle.cells.proofs.Holding.{stored_cites, cites_stored}
-use Rattle.moves.specs.Citers.{TellsCites, TellsCitedUpTo}
+use Rattle.moves.specs.Citers.{TellsCitedUpTo, TellsCitesUpTo, IsUncited}
 use Rattle.groundwork.proofs.Holders.{held_here}
 
 -- ---- ranks
@@ -105,6 +105,11 @@ none_up_to lib label rank each =
 
 -- ---- stored steps
 
+-- whether the proof of the assertion in the one slot cites that of the other
+abbrev pub TellsCites : {O : Type 0} → Sight O → ℕ → ℕ → Bool → Type 0
+TellsCites s citing cited b =
+    ForEachHeld s citing (λ st lib f. (e : Ranked) → Contains lib e → Holds s.setting.slots st lib cited e → b ≡ cites (label_of e) f)
+
 -- steps that are stored cite the assertion in a slot exactly where the stored ones have the slot
 pub cites_told : {O : Type 0} → (s : Sight O) (citing cited : ℕ) (kept : List StoredStep) (b : Bool)
     → ForEachHeld s citing (λ st lib f. AreStoredAs s.setting.slots st f.assertion.proof kept)
@@ -131,15 +136,9 @@ cites_told s citing cited kept b each iff st lib v f f_in f_held e e_in e_held =
 -- ---- slot by slot
 
 module _ (slots i limit : ℕ) where
-  -- what the slot j holds doesn't cite what the slot i holds, or is above the limit
-  abbrev pub IsUncited : ℕ → State → List Ranked → Type 0
-  IsUncited j st lib =
-      (e f : Ranked) → Contains lib e → Holds slots st lib i e → Contains lib f → Holds slots st lib j f
-      → cites_up_to (label_of e) limit f ≡ false
-
-  -- so of the slots below k
+  -- what the slots below k hold doesn't cite what the slot i holds, or is above the limit
   abbrev pub AreUncited : ℕ → State → List Ranked → Type 0
-  AreUncited k st lib = (j : ℕ) → j < k → IsUncited j st lib
+  AreUncited k st lib = (j : ℕ) → j < k → IsUncited slots i limit j st lib
 
 module _ {O : Type 0} (s : Sight O) (i limit : ℕ) where
   pub all_uncited : (slots k : ℕ) → slots ≡ s.setting.slots → slots ≤ k → ForEach s (AreUncited slots i limit k)
@@ -207,6 +206,11 @@ module _ {O : Type 0} (s : Sight O) (i limit : ℕ) where
               (and_from (cites (label_of e) f) (nat_le f.rank limit) (sym cited) up))
           | inr h ↦ let none = h.rank in absurd (omega (arith, none, value, some))
         ]
+
+    -- whether one whose proof was looked at is such a citer
+    pub cites_within : 0 < rank → rank ≤ limit → j < s.setting.slots → (b : Bool) → TellsCites s j i b → TellsCitesUpTo s j i limit b
+    cites_within some low within true told = one_cites some low within told
+    cites_within some low within false told = one_other j told
 
   -- one slot more
   pub more_uncited : (r : Sight O) (slots k : ℕ) → slots ≡ s.setting.slots → Looks r s → ForEach r (AreUncited slots i limit k)

@@ -14,7 +14,7 @@ use Rattle.cells.specs.Footprints.{ReadsWhere, IsOfLook}
 use Rattle.cells.specs.Lookups.{ForEach, ForEachHeld, Finds, IsFoundAt}
 use Rattle.cells.specs.Aside.{KeepsAside}
 use Rattle.cells.proofs.Asking.{asks_wider, asks_more}
-use Rattle.cells.proofs.Along.{where_more}
+use Rattle.cells.proofs.Along.{where_more, where_trans}
 use Rattle.cells.proofs.AskingSteps.{cited_slot}
 use Rattle.cells.proofs.ReadBack.{held_later}
 use Rattle.cells.proofs.Sights.{matches_back, after_looks, for_each_later, setting_kept}
@@ -41,6 +41,12 @@ proof_read slots low high j rank r s t before looks on lt value above below read
     let there : rank ≡ (after r st).value (rank_cell j) =
     value st m ∙ ap (λ (x : State). x.value (rank_cell j)) (after_looks r s st looks) in
     (j, lt, inr (subst (λ (n : ℕ). low < n) there above, subst (λ (n : ℕ). n ≤ high) there below, is)))
+
+-- and so of another slot
+pub ranks_more : {O : Type 0} → (slots low high : ℕ) (r s t : Sight O) → ReadsWhere (IsOfRanks slots low high) r s → Looks r s
+    → Onward s t → s.setting.slots ≡ slots → ReadsWhere (IsOfRanks s.setting.slots low high) s t → ReadsWhere (IsOfRanks slots low high) r t
+ranks_more slots low high r s t before looks on same reads =
+    where_trans before looks on (subst (λ n. ReadsWhere (IsOfRanks n low high) s t) same reads) (λ st c is. is)
 
 -- the rank goes up, and something cites the assertion: ranks are read, and proofs
 pub rise_within : {O : Type 0} → (r s t : Sight O) (i limit current n : ℕ) → Looks r s → Looks s t

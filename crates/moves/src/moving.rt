@@ -4,10 +4,10 @@ ghost use Rattle.std.specs.Prelude.{◌≡◌, ◌<◌, true, IfOk};
 ghost use Rattle.library.specs.declared.command.Command.TheVariants as command;
 ghost use Rattle.cells.specs.Sight.{Onward, Looks, ReadsWithin};
 ghost use Rattle.cells.specs.Answers.{CommandAnswers};
-ghost use Rattle.moves.specs.Citers.{TellsCites, TellsCitedUpTo};
-ghost use Rattle.cells.specs.Slots.{proof_cell};
+ghost use Rattle.moves.specs.Citers.{TellsCitesUpTo, TellsCitedUpTo};
+ghost use Rattle.cells.specs.Footprints.{ReadsWhere};
 ghost use Rattle.cells.specs.Lookups.{ForEachHeld};
-ghost use Rattle.groundwork.specs.Footprints.{IsOfRise, ReadsFor};
+ghost use Rattle.groundwork.specs.Footprints.{IsOfRanks, IsOfRise, ReadsFor};
 ghost use Rattle.groundwork.specs.Takes.{TakesBodies};
 ghost use Rattle.groundwork.specs.Touches.{KeepsTo};
 
@@ -72,28 +72,36 @@ fn is_cited_up_to<C: Cells>(
         return Ok(false);
     }
     for other in 0..slot_count(cells) {
-        // That of an empty slot is 0.
-        let rank = cells.read(rank_cell(other))?;
-        if rank > current as u64 && rank <= limit as u64 && cites_slot(alloc, cells, other, slot)? {
+        if cites_up_to(alloc, cells, other, slot, current, limit)? {
             return Ok(true);
         }
     }
     Ok(false)
 }
 
-/// Whether the proof in the one slot cites the other.
-fn cites_slot<C: Cells>(
+/// Whether the assertion in the one slot cites that in the other, of the rank `low`, and isn't above the rank `high`.
+///
+/// What cites is above what it cites. So its proof is looked at only where its rank is above the one and not above the other.
+fn cites_up_to<C: Cells>(
     alloc: Global,
     cells: &mut C,
     citing: usize,
     cited: usize,
+    low: u32,
+    high: u32,
 ) -> Result<bool, Halt>
     requires citing { citing < (C.sight cells.old).setting.slots }
     requires cited { cited < (C.sight cells.old).setting.slots }
+    requires low { ForEachHeld (C.sight cells.old) cited (λ st lib e. low ≡ e.rank) }
     ensures looks { Looks (C.sight cells.old) (C.sight cells.new) }
-    ensures ok { IfOk result (λ b. TellsCites (C.sight cells.new) citing cited b) }
-    ensures reads { ReadsWithin (λ c. c ≡ proof_cell citing) (C.sight cells.old) (C.sight cells.new) }
+    ensures ok { IfOk result (λ b. TellsCitesUpTo (C.sight cells.new) citing cited high b) }
+    ensures reads { ReadsWhere (IsOfRanks (C.sight cells.old).setting.slots low high) (C.sight cells.old) (C.sight cells.new) }
 {
+    // That of an empty slot is 0.
+    let rank = cells.read(rank_cell(citing))?;
+    if rank <= low as u64 || rank > high as u64 {
+        return Ok(false);
+    }
     let kept = stored_proof(alloc, cells, citing)?;
     Ok(kept.contains(&StoredStep::Slot(cited as u32)))
 }

@@ -12,6 +12,7 @@ use Rattle.cells.proofs.Sights.{onward_trans, matches_back}
 use Rattle.std.proofs.lemmas.Result.{MatchResult-weaker}
 use Rattle.chains.proofs.Laying.{laid_down}
 use Rattle.cells.proofs.Settings.{small_slot}
+use Rattle.std.proofs.lemmas.Result.{IfOk-from_err}
 use Rattle.chains.proofs.filling.lay_down.Goals as goal
 
 pub rank_cell-requires : goal.rank_cell-requires
@@ -141,3 +142,39 @@ returns-clause-reads g c =
     (one_read c.args.slot 0 (omega arith) (omega arith) (asks_nothing (nothing_same _)) c.put_label.ensures.reads)
     c.put_statement.ensures.reads) c.put_proof.ensures.reads)
     c.put.ensures.reads) c.put-2.ensures.reads
+
+pub returns-in_err-put_label-clause-ok : goal.returns-in_err-put_label-clause-ok
+returns-in_err-put_label-clause-ok g c = IfOk-from_err _ _ c.from_residual.ensures.0
+
+pub returns-in_err-put_label-clause-written : goal.returns-in_err-put_label-clause-written
+returns-in_err-put_label-clause-written g c = IfOk-from_err _ _ c.from_residual.ensures.0
+
+pub returns-in_err-put_label-clause-keeps : goal.returns-in_err-put_label-clause-keeps
+returns-in_err-put_label-clause-keeps g c = IfOk-from_err _ _ c.from_residual.ensures.0
+
+pub returns-in_err-put_statement-clause-ok : goal.returns-in_err-put_statement-clause-ok
+returns-in_err-put_statement-clause-ok g c = IfOk-from_err _ _ c.from_residual-in_err-put_statement.ensures.0
+
+pub returns-in_err-put_statement-clause-written : goal.returns-in_err-put_statement-clause-written
+returns-in_err-put_statement-clause-written g c = IfOk-from_err _ _ c.from_residual-in_err-put_statement.ensures.0
+
+pub returns-in_err-put_statement-clause-keeps : goal.returns-in_err-put_statement-clause-keeps
+returns-in_err-put_statement-clause-keeps g c = IfOk-from_err _ _ c.from_residual-in_err-put_statement.ensures.0
+
+pub returns-in_err-put_proof-clause-ok : goal.returns-in_err-put_proof-clause-ok
+returns-in_err-put_proof-clause-ok g c = IfOk-from_err _ _ c.from_residual-in_err-put_proof.ensures.0
+
+pub returns-in_err-put_proof-clause-written : goal.returns-in_err-put_proof-clause-written
+returns-in_err-put_proof-clause-written g c = IfOk-from_err _ _ c.from_residual-in_err-put_proof.ensures.0
+
+pub returns-in_err-put_proof-clause-keeps : goal.returns-in_err-put_proof-clause-keeps
+returns-in_err-put_proof-clause-keeps g c = IfOk-from_err _ _ c.from_residual-in_err-put_proof.ensures.0
+
+pub returns-in_err-put-clause-ok : goal.returns-in_err-put-clause-ok
+returns-in_err-put-clause-ok g c = IfOk-from_err _ _ c.from_residual-in_err-put.ensures.0
+
+pub returns-in_err-put-clause-written : goal.returns-in_err-put-clause-written
+returns-in_err-put-clause-written g c = IfOk-from_err _ _ c.from_residual-in_err-put.ensures.0
+
+pub returns-in_err-put-clause-keeps : goal.returns-in_err-put-clause-keeps
+returns-in_err-put-clause-keeps g c = IfOk-from_err _ _ c.from_residual-in_err-put.ensures.0

@@ -5,6 +5,7 @@ use Rattle.cells.specs.Slots.{name_cell}
 use Rattle.cells.specs.Sight.{WasWritten, ReadsWithin}
 use Rattle.cells.specs.Aside.{KeepsAside}
 use Rattle.cells.proofs.Settings.{small_slot}
+use Rattle.std.proofs.lemmas.Result.{IfOk-from_err}
 use Rattle.chains.proofs.filling.put_label.Goals as goal
 
 pub name_cell-requires : goal.name_cell-requires
@@ -26,3 +27,15 @@ returns-clause-reads g c =
     subst (λ (n : ℕ). ReadsWithin (λ k. k ≡ n) (g.C.Cells.sight c.args.cells.now)
     (g.C.Cells.sight c.put_body.new.cells)) c.name_cell.ensures
     c.put_body.ensures.reads
+
+pub returns-in_err-words-clause-ok : goal.returns-in_err-words-clause-ok
+returns-in_err-words-clause-ok g c = IfOk-from_err _ _ c.from_residual.ensures.0
+
+pub returns-in_err-words-clause-others : goal.returns-in_err-words-clause-others
+returns-in_err-words-clause-others g c = IfOk-from_err _ _ c.from_residual.ensures.0
+
+pub returns-in_err-words-clause-written : goal.returns-in_err-words-clause-written
+returns-in_err-words-clause-written g c = IfOk-from_err _ _ c.from_residual.ensures.0
+
+pub returns-in_err-words-clause-keeps : goal.returns-in_err-words-clause-keeps
+returns-in_err-words-clause-keeps g c = IfOk-from_err _ _ c.from_residual.ensures.0

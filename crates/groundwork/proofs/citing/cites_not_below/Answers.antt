@@ -10,6 +10,7 @@ use Rattle.groundwork.specs.Footprints.{IsRankOfSteps}
 use Rattle.groundwork.proofs.TestReads.{rank_of_one}
 use Rattle.groundwork.proofs.CitedRanks.{AreBelow, past_below, ranked_below, below_none, below_one_more, tells_below, tells_not_below, is_cited}
 use Rattle.groundwork.proofs.citing.cites_not_below.Goals.{else-slot-slots-via-then-slot-slots+in_ok-rank+else-branch, else-slot-slots-via-else-slot-slots}
+use Rattle.std.proofs.lemmas.Result.{IfOk-from_err}
 use Rattle.groundwork.proofs.citing.cites_not_below.Goals as goal
 
 pub loop-slot-init : goal.loop-slot-init
@@ -105,3 +106,9 @@ returns-clause-ok g c =
 
 pub returns-clause-reads : goal.returns-clause-reads
 returns-clause-reads g c = c.loop-slot.invariant.2
+
+pub returns-in_err-cited-clause-ok : goal.returns-in_err-cited-clause-ok
+returns-in_err-cited-clause-ok g c = IfOk-from_err _ _ c.from_residual.ensures.0
+
+pub returns-in_err-rank-clause-ok : goal.returns-in_err-rank-clause-ok
+returns-in_err-rank-clause-ok g c = IfOk-from_err _ _ c.from_residual-in_err-rank.ensures.0

@@ -2,6 +2,7 @@ use Rattle.std.proofs.Common.{◌≡◌, ◌≢◌, ◌∙◌, List, ℕ, Some, 
 use Rattle.groundwork.specs.Citing.{frames_in}
 use Rattle.groundwork.proofs.NotedFrames.{notes_none, notes_one}
 use Rattle.groundwork.proofs.ByteKeys.{found_elsewhere}
+use Rattle.std.proofs.lemmas.Result.{IfOk-from_err}
 use Rattle.groundwork.proofs.citing.note_frame.Goals as goal
 
 pub returns-then-contains_key-clause-ok : goal.returns-then-contains_key-clause-ok
@@ -32,3 +33,12 @@ returns-in_err-insert-clause-reads g c = c.frame.ensures.reads
 
 pub returns-clause-reads : goal.returns-clause-reads
 returns-clause-reads g c = c.frame.ensures.reads
+
+pub returns-in_err-key-clause-ok : goal.returns-in_err-key-clause-ok
+returns-in_err-key-clause-ok g c = IfOk-from_err _ _ c.from_residual.ensures.0
+
+pub returns-in_err-frame-clause-ok : goal.returns-in_err-frame-clause-ok
+returns-in_err-frame-clause-ok g c = IfOk-from_err _ _ c.from_residual-in_err-frame.ensures.0
+
+pub returns-in_err-insert-clause-ok : goal.returns-in_err-insert-clause-ok
+returns-in_err-insert-clause-ok g c = IfOk-from_err _ _ c.from_residual-in_err-insert.ensures.0

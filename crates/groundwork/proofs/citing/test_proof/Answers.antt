@@ -2,7 +2,6 @@ use Rattle.std.proofs.Common.{◌≡◌, ◌<◌, ℕ, List, Option, Some, None,
 use Rattle.std.specs.declared.alloc.Global.{Global}
 use Rattle.std.specs.Option.{option_map}
 use Rattle.mmsyntax.specs.declared.statement.Step.{Step}
-use Rattle.derivation.specs.declared.fault.ProofFault.{ProofFault}
 use Rattle.bodystore.specs.declared.stored.StoredStep.{StoredStep}
 use Rattle.bodystore.specs.declared.stored.StoredStep.TheVariants.{Slot}
 use Rattle.ranges.specs.Ranges.{Has}
@@ -10,15 +9,17 @@ use Rattle.cells.specs.Sight.{Sight}
 use Rattle.cells.specs.Lookups.{Resolves}
 use Rattle.cells.proofs.Sights.{looks_trans}
 use Rattle.cells.proofs.Settings.{same_slots}
-use Rattle.groundwork.specs.Citing.{TellsNotBelow, TellsFault, TellsRefusal, frames_in}
+use Rattle.groundwork.specs.Citing.{TellsNotBelow, TellsRefusal, frames_in}
+use Rattle.groundwork.proofs.Outcomes.{tells-none, tells-fault}
 use Rattle.groundwork.proofs.ProofTests.{fails_unknown, fails_below, fails_fault, passes, sifted}
 use Rattle.cells.specs.Slots.{statement_cell, rank_cell}
 use Rattle.cells.specs.Sight.{ReadsWithin}
-use Rattle.cells.specs.Footprints.{ReadsWhere, IsOfResolving}
+use Rattle.cells.specs.Footprints.{IsOfResolving}
 use Rattle.cells.proofs.Sights.{looks_refl}
 use Rattle.groundwork.specs.Footprints.{IsRankOfSteps, IsStatementOfSteps}
 use Rattle.groundwork.proofs.Since.{ReadsSince, since_then, since_where}
 use Rattle.groundwork.proofs.TestReads.{OfTest, since_cited}
+use Rattle.std.proofs.lemmas.Result.{IfOk-from_err}
 use Rattle.groundwork.proofs.citing.test_proof.Goals as goal
 
 -- what is resolved of the proof
@@ -68,16 +69,16 @@ pub returns-in_err-frames-clause-looks : goal.returns-in_err-frames-clause-looks
 returns-in_err-frames-clause-looks g c =
     looks_trans _ _ _ c.resolve.ensures.looks (looks_trans _ _ _ c.cites_not_below.ensures.looks c.cited_frames.ensures.looks)
 
-pub returns-in_err-fault-clause-looks : goal.returns-in_err-fault-clause-looks
-returns-in_err-fault-clause-looks g c =
+pub returns-in-NoMemory-clause-looks : goal.returns-in-NoMemory-clause-looks
+returns-in-NoMemory-clause-looks g c =
     looks_trans _ _ _ c.resolve.ensures.looks (looks_trans _ _ _ c.cites_not_below.ensures.looks c.cited_frames.ensures.looks)
 
-pub returns-in-Some-2-clause-looks : goal.returns-in-Some-2-clause-looks
-returns-in-Some-2-clause-looks g c =
+pub returns-clause-looks : goal.returns-clause-looks
+returns-clause-looks g c =
     looks_trans _ _ _ c.resolve.ensures.looks (looks_trans _ _ _ c.cites_not_below.ensures.looks c.cited_frames.ensures.looks)
 
-pub returns-in-Some-2-clause-err : goal.returns-in-Some-2-clause-err
-returns-in-Some-2-clause-err g c =
+pub returns-clause-err : goal.returns-clause-err
+returns-clause-err g c =
     let s0 = g.C.Cells.sight c.args.cells.now in
     let s1 = g.C.Cells.sight c.resolve.new.cells in
     let s2 = g.C.Cells.sight c.cites_not_below.new.cells in
@@ -95,16 +96,16 @@ returns-in-Some-2-clause-err g c =
     c.requires.prelude c.resolve.ensures.looks c.cites_not_below.ensures.looks c.cited_frames.ensures.looks
     c.as_slice.ensures.value c.as_slice-2.ensures.value resolved
     (subst (λ b. TellsNotBelow s2 rank c.as_slice.result.now b) c.if-branch.false told) c.in_ok-frames.ensures.ok in
-    subst (TellsRefusal s3 rank a) (sym c.into-in-Some-2.ensures)
-    (fails_fault s3 t rank a kept frames c.in-Some-2.fault known
-    (subst (λ (o : Option ProofFault). TellsFault frames t a o) c.in-Some-2.is c.in_ok-fault.ensures))
+    subst (TellsRefusal s3 rank a) (sym c.into-in_default-kind.ensures)
+    (fails_fault s3 t rank a kept frames c.in-Err.fault known
+    (tells-fault frames t a c.in-Err.fault (c.in-Err.ensures.fault c.in_default-kind.not-NoMemory)))
 
-pub returns-in-None-clause-looks : goal.returns-in-None-clause-looks
-returns-in-None-clause-looks g c =
+pub returns-in-Ok-clause-looks : goal.returns-in-Ok-clause-looks
+returns-in-Ok-clause-looks g c =
     looks_trans _ _ _ c.resolve.ensures.looks (looks_trans _ _ _ c.cites_not_below.ensures.looks c.cited_frames.ensures.looks)
 
-pub returns-in-None-clause-ok : goal.returns-in-None-clause-ok
-returns-in-None-clause-ok g c =
+pub returns-in-Ok-clause-ok : goal.returns-in-Ok-clause-ok
+returns-in-Ok-clause-ok g c =
     let s0 = g.C.Cells.sight c.args.cells.now in
     let s1 = g.C.Cells.sight c.resolve.new.cells in
     let s2 = g.C.Cells.sight c.cites_not_below.new.cells in
@@ -123,7 +124,7 @@ returns-in-None-clause-ok g c =
     c.as_slice.ensures.value c.as_slice-2.ensures.value resolved
     (subst (λ b. TellsNotBelow s2 rank c.as_slice.result.now b) c.if-branch.false told) c.in_ok-frames.ensures.ok in
     passes s1 s3 t rank a kept frames (looks_trans _ _ _ c.cites_not_below.ensures.looks c.cited_frames.ensures.looks) resolved known
-    (subst (λ (o : Option ProofFault). TellsFault frames t a o) c.in-None.is c.in_ok-fault.ensures)
+    (tells-none frames t a c.requires.theorem c.in-Ok.ensures.yes)
 
 pub returns-in_err-kept-clause-reads : goal.returns-in_err-kept-clause-reads
 returns-in_err-kept-clause-reads g c =
@@ -207,8 +208,8 @@ returns-in_err-frames-clause-reads g c =
     (since_cited (OfTest s0 steps) s0 s1 s2 s3 steps kept statement_cell c.resolve.ensures.looks c.cites_not_below.ensures.looks
     c.cited_frames.ensures.looks.onward resolved.2 (λ st lib k is. inr (inl is)) statements)
 
-pub returns-in_err-fault-clause-reads : goal.returns-in_err-fault-clause-reads
-returns-in_err-fault-clause-reads g c =
+pub returns-in-NoMemory-clause-reads : goal.returns-in-NoMemory-clause-reads
+returns-in-NoMemory-clause-reads g c =
     let s0 = g.C.Cells.sight c.args.cells.now in
     let s1 = g.C.Cells.sight c.resolve.new.cells in
     let steps = c.args.theorem.now.proof in
@@ -231,8 +232,8 @@ returns-in_err-fault-clause-reads g c =
     (since_cited (OfTest s0 steps) s0 s1 s2 s3 steps kept statement_cell c.resolve.ensures.looks c.cites_not_below.ensures.looks
     c.cited_frames.ensures.looks.onward resolved.2 (λ st lib k is. inr (inl is)) statements)
 
-pub returns-in-Some-2-clause-reads : goal.returns-in-Some-2-clause-reads
-returns-in-Some-2-clause-reads g c =
+pub returns-clause-reads : goal.returns-clause-reads
+returns-clause-reads g c =
     let s0 = g.C.Cells.sight c.args.cells.now in
     let s1 = g.C.Cells.sight c.resolve.new.cells in
     let steps = c.args.theorem.now.proof in
@@ -255,8 +256,8 @@ returns-in-Some-2-clause-reads g c =
     (since_cited (OfTest s0 steps) s0 s1 s2 s3 steps kept statement_cell c.resolve.ensures.looks c.cites_not_below.ensures.looks
     c.cited_frames.ensures.looks.onward resolved.2 (λ st lib k is. inr (inl is)) statements)
 
-pub returns-in-None-clause-reads : goal.returns-in-None-clause-reads
-returns-in-None-clause-reads g c =
+pub returns-in-Ok-clause-reads : goal.returns-in-Ok-clause-reads
+returns-in-Ok-clause-reads g c =
     let s0 = g.C.Cells.sight c.args.cells.now in
     let s1 = g.C.Cells.sight c.resolve.new.cells in
     let steps = c.args.theorem.now.proof in
@@ -278,3 +279,33 @@ returns-in-None-clause-reads g c =
     since_then (OfTest s0 steps) r2 c.cited_frames.ensures.looks.onward
     (since_cited (OfTest s0 steps) s0 s1 s2 s3 steps kept statement_cell c.resolve.ensures.looks c.cites_not_below.ensures.looks
     c.cited_frames.ensures.looks.onward resolved.2 (λ st lib k is. inr (inl is)) statements)
+
+pub returns-in_err-kept-clause-ok : goal.returns-in_err-kept-clause-ok
+returns-in_err-kept-clause-ok g c = IfOk-from_err _ _ c.from_residual.ensures.0
+
+pub returns-in_err-cites_not_below-clause-ok : goal.returns-in_err-cites_not_below-clause-ok
+returns-in_err-cites_not_below-clause-ok g c = IfOk-from_err _ _ c.from_residual-in_err-cites_not_below.ensures.0
+
+pub returns-in_err-frames-clause-ok : goal.returns-in_err-frames-clause-ok
+returns-in_err-frames-clause-ok g c = IfOk-from_err _ _ c.from_residual-in_err-frames.ensures.0
+
+pub returns-in_default-clause-ok : goal.returns-in_default-clause-ok
+returns-in_default-clause-ok g c = tt
+
+pub returns-then-branch-clause-ok : goal.returns-then-branch-clause-ok
+returns-then-branch-clause-ok g c = tt
+
+pub returns-in-NoMemory-clause-ok : goal.returns-in-NoMemory-clause-ok
+returns-in-NoMemory-clause-ok g c = tt
+
+pub returns-clause-ok : goal.returns-clause-ok
+returns-clause-ok g c = tt
+
+pub returns-in-Ok-clause-err : goal.returns-in-Ok-clause-err
+returns-in-Ok-clause-err g c = tt
+
+pub returns-in_err-kept-clause-looks : goal.returns-in_err-kept-clause-looks
+returns-in_err-kept-clause-looks g c = c.resolve.ensures.looks
+
+pub returns-in_default-clause-looks : goal.returns-in_default-clause-looks
+returns-in_default-clause-looks g c = c.resolve.ensures.looks

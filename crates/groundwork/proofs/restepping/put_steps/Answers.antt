@@ -1,13 +1,13 @@
-use Rattle.std.proofs.Common.{◌≡◌, ◌≢◌, ◌<◌, List, ℕ, sym, subst, ◌∙◌}
+use Rattle.std.proofs.Common.{◌≡◌, ◌≢◌, ◌<◌, List, ℕ, length, sym, ap, subst, ◌∙◌, arith}
 use Rattle.library.specs.Library.{Setting}
 use Rattle.bodystore.specs.declared.stored.StoredStep.{StoredStep}
 use Rattle.cells.specs.State.{State, HasBody}
-use Rattle.cells.specs.Slots.{proof_cell}
+use Rattle.cells.specs.Slots.{proof_cell, cell_count}
 use Rattle.cells.specs.Sight.{Matches, ReadsWithin, after}
 use Rattle.cells.specs.Aside.{KeepsAside, IsCitersOf}
 use Rattle.cells.specs.Answers.{WritesSome}
-use Rattle.cells.proofs.Sights.{onward_trans, setting_kept}
-use Rattle.cells.proofs.Settings.{small_slot}
+use Rattle.cells.proofs.Sights.{onward_trans, setting_kept, may_write_kept, may_stage_kept}
+use Rattle.cells.proofs.Settings.{small_slot, same_slots}
 use Rattle.ranges.specs.Ranges.{Has}
 use Rattle.ranges.proofs.Members.{all_from_has}
 use Rattle.std.proofs.lemmas.Result.{MatchResult-weaker}
@@ -16,6 +16,7 @@ use Rattle.groundwork.specs.Touches.{ReprovesWithin}
 use Rattle.groundwork.proofs.Touching.{resteps_within}
 use Rattle.groundwork.proofs.Restepped.{CountsOutOf, CountsInOf, restepped}
 use Rattle.groundwork.proofs.RestepReads.{resteps_end, resteps_proof, resteps_put, resteps_out, resteps_in}
+use Rattle.std.proofs.lemmas.Result.{IfOk-from_err}
 use Rattle.groundwork.proofs.restepping.put_steps.Goals as goal
 
 pub proof_cell-requires : goal.proof_cell-requires
@@ -168,3 +169,111 @@ returns-clause-reads g c label =
     resteps_end s0 i label kept s4 (resteps_in s0 i label kept s1 s3 s4 former dropped gained c.stored_proof.ensures.looks
     (onward_trans _ _ _ c.put_body.ensures.onward c.count_out.ensures.onward) c.count_in.ensures.onward c.in_ok-former.ensures.ok exchange
     r3 more)
+
+pub returns-in_err-former-clause-written : goal.returns-in_err-former-clause-written
+returns-in_err-former-clause-written g c = IfOk-from_err _ _ c.from_residual.ensures.0
+
+pub returns-in_err-former-clause-ok : goal.returns-in_err-former-clause-ok
+returns-in_err-former-clause-ok g c = IfOk-from_err _ _ c.from_residual.ensures.0
+
+pub returns-in_err-former-clause-keeps : goal.returns-in_err-former-clause-keeps
+returns-in_err-former-clause-keeps g c = IfOk-from_err _ _ c.from_residual.ensures.0
+
+pub returns-in_err-cited-clause-written : goal.returns-in_err-cited-clause-written
+returns-in_err-cited-clause-written g c = IfOk-from_err _ _ c.from_residual-in_err-cited.ensures.0
+
+pub returns-in_err-cited-clause-ok : goal.returns-in_err-cited-clause-ok
+returns-in_err-cited-clause-ok g c = IfOk-from_err _ _ c.from_residual-in_err-cited.ensures.0
+
+pub returns-in_err-cited-clause-keeps : goal.returns-in_err-cited-clause-keeps
+returns-in_err-cited-clause-keeps g c = IfOk-from_err _ _ c.from_residual-in_err-cited.ensures.0
+
+pub returns-in_err-body-clause-written : goal.returns-in_err-body-clause-written
+returns-in_err-body-clause-written g c = IfOk-from_err _ _ c.from_residual-in_err-body.ensures.0
+
+pub returns-in_err-body-clause-ok : goal.returns-in_err-body-clause-ok
+returns-in_err-body-clause-ok g c = IfOk-from_err _ _ c.from_residual-in_err-body.ensures.0
+
+pub returns-in_err-body-clause-keeps : goal.returns-in_err-body-clause-keeps
+returns-in_err-body-clause-keeps g c = IfOk-from_err _ _ c.from_residual-in_err-body.ensures.0
+
+pub returns-in_err-put_body-clause-written : goal.returns-in_err-put_body-clause-written
+returns-in_err-put_body-clause-written g c = IfOk-from_err _ _ c.from_residual-in_err-put_body.ensures.0
+
+pub returns-in_err-put_body-clause-ok : goal.returns-in_err-put_body-clause-ok
+returns-in_err-put_body-clause-ok g c = IfOk-from_err _ _ c.from_residual-in_err-put_body.ensures.0
+
+pub returns-in_err-put_body-clause-keeps : goal.returns-in_err-put_body-clause-keeps
+returns-in_err-put_body-clause-keeps g c = IfOk-from_err _ _ c.from_residual-in_err-put_body.ensures.0
+
+pub returns-in_err-count_out-clause-written : goal.returns-in_err-count_out-clause-written
+returns-in_err-count_out-clause-written g c = IfOk-from_err _ _ c.from_residual-in_err-count_out.ensures.0
+
+pub returns-in_err-count_out-clause-ok : goal.returns-in_err-count_out-clause-ok
+returns-in_err-count_out-clause-ok g c = IfOk-from_err _ _ c.from_residual-in_err-count_out.ensures.0
+
+pub returns-in_err-count_out-clause-keeps : goal.returns-in_err-count_out-clause-keeps
+returns-in_err-count_out-clause-keeps g c = IfOk-from_err _ _ c.from_residual-in_err-count_out.ensures.0
+
+pub stored_proof-requires : goal.stored_proof-requires
+stored_proof-requires g c = c.requires.slot
+
+pub returns-in_err-former-clause-onward : goal.returns-in_err-former-clause-onward
+returns-in_err-former-clause-onward g c = c.stored_proof.ensures.looks.onward
+
+pub returns-in_err-former-clause-taken : goal.returns-in_err-former-clause-taken
+returns-in_err-former-clause-taken g c = omega (arith, c.stored_proof.ensures.looks.taken)
+
+pub returns-in_err-cited-clause-onward : goal.returns-in_err-cited-clause-onward
+returns-in_err-cited-clause-onward g c = c.stored_proof.ensures.looks.onward
+
+pub returns-in_err-cited-clause-taken : goal.returns-in_err-cited-clause-taken
+returns-in_err-cited-clause-taken g c = omega (arith, c.stored_proof.ensures.looks.taken)
+
+pub returns-in_err-body-clause-onward : goal.returns-in_err-body-clause-onward
+returns-in_err-body-clause-onward g c = c.stored_proof.ensures.looks.onward
+
+pub returns-in_err-body-clause-taken : goal.returns-in_err-body-clause-taken
+returns-in_err-body-clause-taken g c = omega (arith, c.stored_proof.ensures.looks.taken)
+
+pub put_body-requires-clause-may : goal.put_body-requires-clause-may
+put_body-requires-clause-may g c =
+    let on = c.stored_proof.ensures.looks.onward in
+    (may_write_kept on ∙ c.requires.may.0, may_stage_kept on ∙ c.requires.may.1)
+
+pub put_body-requires-clause-cell : goal.put_body-requires-clause-cell
+put_body-requires-clause-cell g c =
+    let same = same_slots _ _ c.stored_proof.ensures.looks in
+    subst (λ (n : ℕ). c.proof_cell.result < cell_count n) (sym same) (omega (arith, c.proof_cell.ensures, c.requires.slot))
+
+pub count_out-requires : goal.count_out-requires
+count_out-requires g c =
+    may_write_kept (onward_trans _ _ _ c.stored_proof.ensures.looks.onward c.put_body.ensures.onward) ∙ c.requires.may.0
+
+pub count_in-requires-clause-may : goal.count_in-requires-clause-may
+count_in-requires-clause-may g c =
+    let on = onward_trans _ _ _ c.stored_proof.ensures.looks.onward
+    (onward_trans _ _ _ c.put_body.ensures.onward c.count_out.ensures.onward) in
+    may_write_kept on ∙ c.requires.may.0
+
+pub returns-in_err-put_body-clause-taken : goal.returns-in_err-put_body-clause-taken
+returns-in_err-put_body-clause-taken g c =
+    let same = ap (λ (l : List ℕ). length l) (c.as_slice-2.ensures.value ∙ c.in_ok-body.ensures) in
+    omega (arith, same, c.stored_proof.ensures.looks.taken, c.put_body.ensures.taken)
+
+pub returns-in_err-count_out-clause-taken : goal.returns-in_err-count_out-clause-taken
+returns-in_err-count_out-clause-taken g c =
+    let same = ap (λ (l : List ℕ). length l) (c.as_slice-2.ensures.value ∙ c.in_ok-body.ensures) in
+    omega (arith, same, c.stored_proof.ensures.looks.taken, c.put_body.ensures.taken, c.count_out.ensures.taken)
+
+pub returns-clause-taken : goal.returns-clause-taken
+returns-clause-taken g c =
+    let same = ap (λ (l : List ℕ). length l) (c.as_slice-2.ensures.value ∙ c.in_ok-body.ensures) in
+    omega (
+      arith,
+      same,
+      c.stored_proof.ensures.looks.taken,
+      c.put_body.ensures.taken,
+      c.count_out.ensures.taken,
+      c.count_in.ensures.taken,
+    )

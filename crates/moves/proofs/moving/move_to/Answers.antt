@@ -1,4 +1,4 @@
-use Rattle.std.proofs.Common.{◌≡◌, ℕ, true, false, subst, ap, ◌∙◌, inl, inr}
+use Rattle.std.proofs.Common.{◌≡◌, ℕ, true, false, subst, ap, ◌∙◌, inl, inr, arith}
 use Rattle.library.specs.declared.command.Command.TheVariants.{Move}
 use Rattle.std.specs.List.{list_any}
 use Rattle.library.specs.Edits.{cites_not_below}
@@ -20,8 +20,9 @@ use Rattle.groundwork.proofs.CitedRanks.{stored_later}
 use Rattle.cells.proofs.Resolving.{finds_after}
 use Rattle.groundwork.proofs.OnlyLooks.{stored_since}
 use Rattle.moves.proofs.Ranking.{refused_unranked, refused_not_above, refused_not_below, does_move}
-use Rattle.groundwork.proofs.Refusing.{of_none, refused, answers_refused, answers_unknown}
+use Rattle.groundwork.proofs.Refusing.{of_none, refused, answers_refused, answers_ended, answers_unknown}
 use Rattle.cells.proofs.Settings.{small_slot}
+use Rattle.std.proofs.lemmas.Result.{err_from_is_err_and}
 use Rattle.moves.proofs.moving.move_to.Goals as goal
 
 pub rank_cell-requires : goal.rank_cell-requires
@@ -442,3 +443,116 @@ returns-clause-reads g c =
     move_put old label rank t (g.C.Cells.sight c.put.new.cells) i l4 c.put.ensures.onward
     (finds_after s1 t label i (looks_trans _ _ _ since c.is_cited_up_to.ensures.looks) some) m4
     (subst (λ (n : ℕ). ReadsWithin (λ k. k ≡ n) t (g.C.Cells.sight c.put.new.cells)) c.rank_cell.ensures c.put.ensures.reads)
+
+pub returns-in_err-slot-clause-keeps : goal.returns-in_err-slot-clause-keeps
+returns-in_err-slot-clause-keeps g c = let p = err_from_is_err_and c.from_residual.result c.from_residual.ensures.1 in rw p.1 tt
+
+pub returns-in_err-kept-clause-keeps : goal.returns-in_err-kept-clause-keeps
+returns-in_err-kept-clause-keeps g c =
+    let p = err_from_is_err_and c.from_residual-in_err-kept.result c.from_residual-in_err-kept.ensures.1 in rw p.1 tt
+
+pub returns-in_err-cites_not_below-clause-keeps : goal.returns-in_err-cites_not_below-clause-keeps
+returns-in_err-cites_not_below-clause-keeps g c =
+    let p = err_from_is_err_and c.from_residual-in_err-cites_not_below.result c.from_residual-in_err-cites_not_below.ensures.1 in rw p.1 tt
+
+pub returns-in_err-is_cited_up_to-clause-keeps : goal.returns-in_err-is_cited_up_to-clause-keeps
+returns-in_err-is_cited_up_to-clause-keeps g c =
+    let p = err_from_is_err_and c.from_residual-in_err-is_cited_up_to.result c.from_residual-in_err-is_cited_up_to.ensures.1 in rw p.1 tt
+
+pub returns-in_err-put-clause-keeps : goal.returns-in_err-put-clause-keeps
+returns-in_err-put-clause-keeps g c =
+    let p = err_from_is_err_and c.from_residual-in_err-put.result c.from_residual-in_err-put.ensures.1 in rw p.1 tt
+
+pub returns-then-rank-eq0-clause-keeps : goal.returns-then-rank-eq0-clause-keeps
+returns-then-rank-eq0-clause-keeps g c = tt
+
+pub returns-then-branch-clause-keeps : goal.returns-then-branch-clause-keeps
+returns-then-branch-clause-keeps g c = tt
+
+pub returns-then-branch-2-clause-keeps : goal.returns-then-branch-2-clause-keeps
+returns-then-branch-2-clause-keeps g c = tt
+
+pub returns-in_err-slot-clause-taken : goal.returns-in_err-slot-clause-taken
+returns-in_err-slot-clause-taken g c st lib m v = omega (arith, c.known_slot.ensures.looks.taken)
+
+pub returns-then-rank-eq0-clause-taken : goal.returns-then-rank-eq0-clause-taken
+returns-then-rank-eq0-clause-taken g c st lib m v = omega (arith, c.known_slot.ensures.looks.taken)
+
+pub returns-in_err-kept-clause-taken : goal.returns-in_err-kept-clause-taken
+returns-in_err-kept-clause-taken g c st lib m v = omega (arith, c.known_slot.ensures.looks.taken, c.stored_proof.ensures.looks.taken)
+
+pub returns-in_err-cites_not_below-clause-taken : goal.returns-in_err-cites_not_below-clause-taken
+returns-in_err-cites_not_below-clause-taken g c st lib m v =
+    omega (arith, c.known_slot.ensures.looks.taken, c.stored_proof.ensures.looks.taken, c.cites_not_below.ensures.looks.taken)
+
+pub returns-then-branch-clause-taken : goal.returns-then-branch-clause-taken
+returns-then-branch-clause-taken g c st lib m v =
+    omega (arith, c.known_slot.ensures.looks.taken, c.stored_proof.ensures.looks.taken, c.cites_not_below.ensures.looks.taken)
+
+pub returns-in_err-is_cited_up_to-clause-taken : goal.returns-in_err-is_cited_up_to-clause-taken
+returns-in_err-is_cited_up_to-clause-taken g c st lib m v =
+    omega (
+      arith,
+      c.known_slot.ensures.looks.taken,
+      c.stored_proof.ensures.looks.taken,
+      c.cites_not_below.ensures.looks.taken,
+      c.is_cited_up_to.ensures.looks.taken,
+    )
+
+pub returns-then-branch-2-clause-taken : goal.returns-then-branch-2-clause-taken
+returns-then-branch-2-clause-taken g c st lib m v =
+    omega (
+      arith,
+      c.known_slot.ensures.looks.taken,
+      c.stored_proof.ensures.looks.taken,
+      c.cites_not_below.ensures.looks.taken,
+      c.is_cited_up_to.ensures.looks.taken,
+    )
+
+pub returns-in_err-put-clause-taken : goal.returns-in_err-put-clause-taken
+returns-in_err-put-clause-taken g c st lib m v =
+    omega (
+      arith,
+      c.known_slot.ensures.looks.taken,
+      c.stored_proof.ensures.looks.taken,
+      c.cites_not_below.ensures.looks.taken,
+      c.is_cited_up_to.ensures.looks.taken,
+      c.put.ensures.taken,
+    )
+
+pub returns-clause-taken : goal.returns-clause-taken
+returns-clause-taken g c st lib m v =
+    omega (
+      arith,
+      c.known_slot.ensures.looks.taken,
+      c.stored_proof.ensures.looks.taken,
+      c.cites_not_below.ensures.looks.taken,
+      c.is_cited_up_to.ensures.looks.taken,
+      c.put.ensures.taken,
+    )
+
+pub returns-in_err-kept-clause-answers : goal.returns-in_err-kept-clause-answers
+returns-in_err-kept-clause-answers g c =
+    answers_ended (g.C.Cells.sight c.args.cells.now) (g.C.Cells.sight c.stored_proof.new.cells)
+    (Move c.args.label.now c.args.rank) c.from_residual-in_err-kept.result _ c.from_residual-in_err-kept.ensures.1 tt
+
+pub returns-in_err-cites_not_below-clause-answers : goal.returns-in_err-cites_not_below-clause-answers
+returns-in_err-cites_not_below-clause-answers g c =
+    answers_ended (g.C.Cells.sight c.args.cells.now) (g.C.Cells.sight c.cites_not_below.new.cells)
+    (Move c.args.label.now c.args.rank) c.from_residual-in_err-cites_not_below.result _ c.from_residual-in_err-cites_not_below.ensures.1 tt
+
+pub returns-in_err-is_cited_up_to-clause-answers : goal.returns-in_err-is_cited_up_to-clause-answers
+returns-in_err-is_cited_up_to-clause-answers g c =
+    answers_ended (g.C.Cells.sight c.args.cells.now) (g.C.Cells.sight c.is_cited_up_to.new.cells)
+    (Move c.args.label.now c.args.rank) c.from_residual-in_err-is_cited_up_to.result _ c.from_residual-in_err-is_cited_up_to.ensures.1 tt
+
+pub returns-in_err-put-clause-answers : goal.returns-in_err-put-clause-answers
+returns-in_err-put-clause-answers g c =
+    answers_ended (g.C.Cells.sight c.args.cells.now) (g.C.Cells.sight c.put.new.cells)
+    (Move c.args.label.now c.args.rank) c.from_residual-in_err-put.result _ c.from_residual-in_err-put.ensures.1 tt
+
+pub returns-in_err-slot-clause-onward : goal.returns-in_err-slot-clause-onward
+returns-in_err-slot-clause-onward g c = c.known_slot.ensures.looks.onward
+
+pub returns-then-rank-eq0-clause-onward : goal.returns-then-rank-eq0-clause-onward
+returns-then-rank-eq0-clause-onward g c = c.known_slot.ensures.looks.onward

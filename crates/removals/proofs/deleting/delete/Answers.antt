@@ -5,11 +5,12 @@ use Rattle.cells.proofs.Sights.{onward_trans, looks_trans}
 use Rattle.cells.proofs.Resolving.{finds_after}
 use Rattle.groundwork.proofs.Touching.{keeps_to_since}
 use Rattle.removals.proofs.Touching.{delete_keeps}
-use Rattle.groundwork.proofs.Refusing.{of_none, refused, answers_refused, answers_unknown}
+use Rattle.groundwork.proofs.Refusing.{of_none, refused, answers_refused, answers_ended, answers_unknown}
 use Rattle.removals.proofs.Removing.{CountsCiters, delete_cited, counted, deleted}
 use Rattle.cells.specs.Slots.{citers_cell}
 use Rattle.groundwork.specs.Footprints.{ReadsFor}
 use Rattle.groundwork.proofs.Since.{first_look, then_cells, then_found, of_slot}
+use Rattle.std.proofs.lemmas.Result.{err_from_is_err_and}
 use Rattle.removals.proofs.deleting.delete.Goals as goal
 
 pub returns-in_err-slot-clause-answers : goal.returns-in_err-slot-clause-answers
@@ -153,3 +154,48 @@ returns-clause-reads g c =
     let s3 = g.C.Cells.sight c.remove.new.cells in
     then_found s0 s2 s3 (command.Delete label) label i (looks_trans _ _ _ c.known_slot.ensures.looks c.citers.ensures.looks)
     (finds_after s1 s2 label i c.citers.ensures.looks finds) r2 c.remove.ensures.onward c.remove.ensures.reads
+
+pub returns-in_err-slot-clause-keeps : goal.returns-in_err-slot-clause-keeps
+returns-in_err-slot-clause-keeps g c =
+    let p = err_from_is_err_and c.from_residual.result c.from_residual.ensures.1 in rw p.1 tt
+
+pub returns-in_err-citers-clause-keeps : goal.returns-in_err-citers-clause-keeps
+returns-in_err-citers-clause-keeps g c =
+    let p = err_from_is_err_and c.from_residual-in_err-citers.result c.from_residual-in_err-citers.ensures.1 in rw p.1 tt
+
+pub returns-in_err-remove-clause-keeps : goal.returns-in_err-remove-clause-keeps
+returns-in_err-remove-clause-keeps g c =
+    let p = err_from_is_err_and c.from_residual-in_err-remove.result c.from_residual-in_err-remove.ensures.1 in rw p.1 tt
+
+pub returns-in_err-slot-clause-taken : goal.returns-in_err-slot-clause-taken
+returns-in_err-slot-clause-taken g c st lib m v =
+    omega (arith, c.known_slot.ensures.looks.taken)
+
+pub returns-in_err-citers-clause-taken : goal.returns-in_err-citers-clause-taken
+returns-in_err-citers-clause-taken g c st lib m v =
+    omega (arith, c.known_slot.ensures.looks.taken, c.citers.ensures.looks.taken)
+
+pub returns-then-citers-gt0-clause-taken : goal.returns-then-citers-gt0-clause-taken
+returns-then-citers-gt0-clause-taken g c st lib m v =
+    omega (arith, c.known_slot.ensures.looks.taken, c.citers.ensures.looks.taken)
+
+pub returns-in_err-remove-clause-taken : goal.returns-in_err-remove-clause-taken
+returns-in_err-remove-clause-taken g c st lib m v =
+    omega (arith, c.known_slot.ensures.looks.taken, c.citers.ensures.looks.taken, c.remove.ensures.taken)
+
+pub returns-clause-taken : goal.returns-clause-taken
+returns-clause-taken g c st lib m v =
+    omega (arith, c.known_slot.ensures.looks.taken, c.citers.ensures.looks.taken, c.remove.ensures.taken)
+
+pub returns-then-citers-gt0-clause-keeps : goal.returns-then-citers-gt0-clause-keeps
+returns-then-citers-gt0-clause-keeps g c = tt
+
+pub returns-in_err-citers-clause-answers : goal.returns-in_err-citers-clause-answers
+returns-in_err-citers-clause-answers g c =
+    answers_ended (g.C.Cells.sight c.args.cells.now) (g.C.Cells.sight c.citers.new.cells) (command.Delete c.args.label.now)
+    c.from_residual-in_err-citers.result _ c.from_residual-in_err-citers.ensures.1 tt
+
+pub returns-in_err-remove-clause-answers : goal.returns-in_err-remove-clause-answers
+returns-in_err-remove-clause-answers g c =
+    answers_ended (g.C.Cells.sight c.args.cells.now) (g.C.Cells.sight c.remove.new.cells) (command.Delete c.args.label.now)
+    c.from_residual-in_err-remove.result _ c.from_residual-in_err-remove.ensures.1 tt

@@ -1,4 +1,4 @@
-use Rattle.std.proofs.Common.{List, ℕ, sym, subst}
+use Rattle.std.proofs.Common.{List, ℕ, sym, subst, arith}
 use Rattle.bodystore.specs.declared.stored.StoredStep.{StoredStep}
 use Rattle.cells.specs.Counts.{AreCitedSlots}
 use Rattle.cells.proofs.Sights.{onward_trans}
@@ -12,6 +12,7 @@ use Rattle.cells.specs.Footprints.{ReadsWhere, IsOfTakingOut}
 use Rattle.library.specs.declared.command.Command.TheVariants.{Delete}
 use Rattle.groundwork.proofs.Since.{ReadsSince, OfCommandFound, found_end}
 use Rattle.removals.proofs.DeleteReads.{removal_proof, removal_counts, removal_chain, removal_slot}
+use Rattle.std.proofs.lemmas.Result.{err_from_is_err_and}
 use Rattle.removals.proofs.deleting.remove.Goals as goal
 
 pub returns-in_err-count_out-clause-onward : goal.returns-in_err-count_out-clause-onward
@@ -154,3 +155,77 @@ returns-clause-reads g c =
     s3 c.take_out.ensures.onward counts chain r2 in
     let s4 = g.C.Cells.sight c.vacate.new.cells in
     found_end s0 s4 i label (Delete c.args.label.now) (removal_slot s0 s3 i label s4 c.vacate.ensures.onward c.vacate.ensures.reads r3)
+
+pub returns-in_err-former-clause-written : goal.returns-in_err-former-clause-written
+returns-in_err-former-clause-written g c =
+    let p = err_from_is_err_and c.from_residual.result c.from_residual.ensures.1 in rw p.1 tt
+
+pub returns-in_err-former-clause-ok : goal.returns-in_err-former-clause-ok
+returns-in_err-former-clause-ok g c =
+    let p = err_from_is_err_and c.from_residual.result c.from_residual.ensures.1 in rw p.1 tt
+
+pub returns-in_err-former-clause-keeps : goal.returns-in_err-former-clause-keeps
+returns-in_err-former-clause-keeps g c =
+    let p = err_from_is_err_and c.from_residual.result c.from_residual.ensures.1 in rw p.1 tt
+
+pub returns-in_err-cited-clause-written : goal.returns-in_err-cited-clause-written
+returns-in_err-cited-clause-written g c =
+    let p = err_from_is_err_and c.from_residual-in_err-cited.result c.from_residual-in_err-cited.ensures.1 in rw p.1 tt
+
+pub returns-in_err-cited-clause-ok : goal.returns-in_err-cited-clause-ok
+returns-in_err-cited-clause-ok g c =
+    let p = err_from_is_err_and c.from_residual-in_err-cited.result c.from_residual-in_err-cited.ensures.1 in rw p.1 tt
+
+pub returns-in_err-cited-clause-keeps : goal.returns-in_err-cited-clause-keeps
+returns-in_err-cited-clause-keeps g c =
+    let p = err_from_is_err_and c.from_residual-in_err-cited.result c.from_residual-in_err-cited.ensures.1 in rw p.1 tt
+
+pub returns-in_err-count_out-clause-written : goal.returns-in_err-count_out-clause-written
+returns-in_err-count_out-clause-written g c =
+    let p = err_from_is_err_and c.from_residual-in_err-count_out.result c.from_residual-in_err-count_out.ensures.1 in rw p.1 tt
+
+pub returns-in_err-count_out-clause-ok : goal.returns-in_err-count_out-clause-ok
+returns-in_err-count_out-clause-ok g c =
+    let p = err_from_is_err_and c.from_residual-in_err-count_out.result c.from_residual-in_err-count_out.ensures.1 in rw p.1 tt
+
+pub returns-in_err-count_out-clause-keeps : goal.returns-in_err-count_out-clause-keeps
+returns-in_err-count_out-clause-keeps g c =
+    let p = err_from_is_err_and c.from_residual-in_err-count_out.result c.from_residual-in_err-count_out.ensures.1 in rw p.1 tt
+
+pub returns-in_err-take_out-clause-written : goal.returns-in_err-take_out-clause-written
+returns-in_err-take_out-clause-written g c =
+    let p = err_from_is_err_and c.from_residual-in_err-take_out.result c.from_residual-in_err-take_out.ensures.1 in rw p.1 tt
+
+pub returns-in_err-take_out-clause-ok : goal.returns-in_err-take_out-clause-ok
+returns-in_err-take_out-clause-ok g c =
+    let p = err_from_is_err_and c.from_residual-in_err-take_out.result c.from_residual-in_err-take_out.ensures.1 in rw p.1 tt
+
+pub returns-in_err-take_out-clause-keeps : goal.returns-in_err-take_out-clause-keeps
+returns-in_err-take_out-clause-keeps g c =
+    let p = err_from_is_err_and c.from_residual-in_err-take_out.result c.from_residual-in_err-take_out.ensures.1 in rw p.1 tt
+
+pub returns-in_err-former-clause-taken : goal.returns-in_err-former-clause-taken
+returns-in_err-former-clause-taken g c =
+    omega (arith, c.stored_proof.ensures.looks.taken)
+
+pub returns-in_err-cited-clause-taken : goal.returns-in_err-cited-clause-taken
+returns-in_err-cited-clause-taken g c =
+    omega (arith, c.stored_proof.ensures.looks.taken)
+
+pub returns-in_err-count_out-clause-taken : goal.returns-in_err-count_out-clause-taken
+returns-in_err-count_out-clause-taken g c =
+    omega (arith, c.stored_proof.ensures.looks.taken, c.count_out.ensures.taken)
+
+pub returns-in_err-take_out-clause-taken : goal.returns-in_err-take_out-clause-taken
+returns-in_err-take_out-clause-taken g c =
+    omega (arith, c.stored_proof.ensures.looks.taken, c.count_out.ensures.taken, c.take_out.ensures.taken)
+
+pub returns-clause-taken : goal.returns-clause-taken
+returns-clause-taken g c =
+    omega (arith, c.stored_proof.ensures.looks.taken, c.count_out.ensures.taken, c.take_out.ensures.taken, c.vacate.ensures.taken)
+
+pub returns-in_err-former-clause-onward : goal.returns-in_err-former-clause-onward
+returns-in_err-former-clause-onward g c = c.stored_proof.ensures.looks.onward
+
+pub returns-in_err-cited-clause-onward : goal.returns-in_err-cited-clause-onward
+returns-in_err-cited-clause-onward g c = c.stored_proof.ensures.looks.onward

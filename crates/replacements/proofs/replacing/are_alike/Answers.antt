@@ -6,6 +6,7 @@ use Rattle.cells.proofs.Sights.{looks_trans}
 use Rattle.cells.specs.Slots.{statement_cell}
 use Rattle.cells.specs.Sight.{ReadsWithin}
 use Rattle.cells.proofs.Asking.{asks_cell, asks_trans}
+use Rattle.std.proofs.lemmas.Result.{err_from_is_err_and}
 use Rattle.replacements.proofs.replacing.are_alike.Goals as goal
 
 pub returns-in_err-next-clause-looks : goal.returns-in_err-next-clause-looks
@@ -51,3 +52,11 @@ returns-clause-reads g c =
     ⊎ (k ≡ statement_cell c.args.new)) (g.C.Cells.sight c.frame.new.cells) (g.C.Cells.sight c.frame-2.new.cells) =
     asks_cell (inr refl) c.frame-2.ensures.reads in
     asks_trans first next
+
+pub returns-in_err-former-clause-ok : goal.returns-in_err-former-clause-ok
+returns-in_err-former-clause-ok g c =
+    let p = err_from_is_err_and c.from_residual.result c.from_residual.ensures.1 in rw p.1 tt
+
+pub returns-in_err-next-clause-ok : goal.returns-in_err-next-clause-ok
+returns-in_err-next-clause-ok g c =
+    let p = err_from_is_err_and c.from_residual-in_err-next.result c.from_residual-in_err-next.ensures.1 in rw p.1 tt

@@ -5,6 +5,7 @@ use Rattle.cells.proofs.Sights.{looks_trans}
 use Rattle.cells.specs.Slots.{rank_cell}
 use Rattle.cells.specs.Sight.{ReadsWithin}
 use Rattle.cells.proofs.Asking.{asks_cell, asks_trans}
+use Rattle.std.proofs.lemmas.Result.{err_from_is_err_and}
 use Rattle.replacements.proofs.replacing.is_not_lower.Goals as goal
 
 pub returns-in_err-rank-clause-looks : goal.returns-in_err-rank-clause-looks
@@ -49,3 +50,17 @@ returns-clause-reads g c =
     ⊎ (k ≡ rank_cell c.args.cited)) (g.C.Cells.sight c.rank.new.cells) (g.C.Cells.sight c.rank-2.new.cells) =
     asks_cell (inr refl) c.rank-2.ensures.reads in
     asks_trans first next
+
+pub returns-in_err-limit-clause-ok : goal.returns-in_err-limit-clause-ok
+returns-in_err-limit-clause-ok g c =
+    let p = err_from_is_err_and c.from_residual.result c.from_residual.ensures.1 in rw p.1 tt
+
+pub returns-in_err-rank-clause-ok : goal.returns-in_err-rank-clause-ok
+returns-in_err-rank-clause-ok g c =
+    let p = err_from_is_err_and c.from_residual-in_err-rank.result c.from_residual-in_err-rank.ensures.1 in rw p.1 tt
+
+pub rank-requires : goal.rank-requires
+rank-requires g c = c.requires.citing
+
+pub returns-in_err-limit-clause-looks : goal.returns-in_err-limit-clause-looks
+returns-in_err-limit-clause-looks g c = c.rank.ensures.looks
