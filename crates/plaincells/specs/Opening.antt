@@ -37,7 +37,7 @@ abbrev pub front : ℕ → Contents → Contents
 front k db = record db { assertions = take k db.assertions }
 
 -- more assertions than slots; or bodies of more words than the room
-abbrev pub Refuses : Contents → ℕ → ℕ → OpenError → Type 0
-Refuses db slots room TooMany = slots < length db.assertions
-Refuses db slots room StoreFull = (length db.assertions ≤ slots) × (room < all_bodies_length db.assertions)
-Refuses db slots room NoMemory = (length db.assertions ≤ slots) × (all_bodies_length db.assertions ≤ room)
+abbrev pub CellsRefuse : Contents → ℕ → ℕ → OpenError → Type 0
+CellsRefuse db slots room TooMany = slots < length db.assertions
+CellsRefuse db slots room StoreFull = (length db.assertions ≤ slots) × (room < all_bodies_length db.assertions)
+CellsRefuse db slots room NoMemory = (length db.assertions ≤ slots) × (all_bodies_length db.assertions ≤ room)

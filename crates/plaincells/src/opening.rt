@@ -6,7 +6,7 @@ ghost use Rattle.std.specs.Prelude.{◌≡◌, ◌≢◌, ◌≤◌, ◌<◌, �
 ghost use Rattle.derivation.specs.Databases.{AllCheck};
 ghost use Rattle.plaincells.specs.Measures.{body_length, all_bodies_length, IsLeft};
 ghost use Rattle.bodystore.specs.Bodies.{expressions_words};
-ghost use Rattle.plaincells.specs.Opening.{CellsOpen, OpensIn, front, spread, Refuses};
+ghost use Rattle.plaincells.specs.Opening.{CellsOpen, OpensIn, front, spread, CellsRefuse};
 
 use crate::plain::PlainCells;
 use cells::{resolve, slot_count};
@@ -86,7 +86,7 @@ impl PlainCells {
         requires roomy { room ≤ most_words }
         ensures within { IfOk result (λ _. (length database.now.assertions ≤ slots) × (all_bodies_length database.now.assertions ≤ room)) }
         ensures ok { IfOk result (λ made. CellsOpen database.now slots room made) }
-        ensures err { IfErr result (λ error. Refuses database.now slots room error) }
+        ensures err { IfErr result (λ error. CellsRefuse database.now slots room error) }
     {
         let assertions = database.assertions();
         if assertions.len() > slots {

@@ -16,7 +16,7 @@ use Rattle.bodystore.specs.Stages.{Staged, AreStaged}
 use Rattle.cells.specs.Slots.{is_ranged}
 use Rattle.cells.specs.State.{most_words}
 use Rattle.plaincells.specs.declared.plain.PlainCells.{PlainCells}
-use Rattle.plaincells.specs.Opening.{CellsOpen, Refuses as CellsRefuse}
+use Rattle.plaincells.specs.Opening.{CellsOpen, CellsRefuse}
 use Rattle.plaincells.specs.declared.opening.OpenError.{OpenError as CellsError}
 use Rattle.plaincells.specs.declared.opening.OpenError.TheVariants as cells
 use Rattle.tlwords.specs.declared.words.Words.{Words}

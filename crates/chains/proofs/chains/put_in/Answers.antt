@@ -1,12 +1,11 @@
-use Rattle.std.proofs.Common.{◌≡◌, ◌<◌, ℕ, sym, ap, subst, ◌∙◌, inl, inr, arith}
-use Rattle.cells.specs.Slots.{bucket, cell_count}
+use Rattle.std.proofs.Common.{◌≡◌, ◌<◌, ℕ, ap, subst, ◌∙◌, inl, inr, arith}
+use Rattle.cells.specs.Slots.{bucket}
 use Rattle.cells.specs.State.{State}
-use Rattle.cells.proofs.Sights.{onward_trans, writes_onward, looks_trans, matches_back, after_looks, may_write_kept}
+use Rattle.cells.proofs.Sights.{onward_trans, writes_onward, looks_trans, matches_back, after_looks}
 use Rattle.cells.specs.Aside.{IsOfFront}
 use Rattle.cells.proofs.Keeping.{keeps_trans, keeps_wider, keeps_put, keeps_written}
 use Rattle.cells.proofs.Asking.{nothing_trans, nothing_written, asks_cell, asks_trans, asks_still}
 use Rattle.chains.proofs.Walking.{in_front, puts_front}
-use Rattle.cells.proofs.Settings.{same_slots}
 use Rattle.chains.proofs.chains.put_in.Goals as goal
 
 pub returns-in_err-read-clause-onward : goal.returns-in_err-read-clause-onward
@@ -96,33 +95,3 @@ returns-clause-reads g c =
     asks_still (asks_trans (asks_cell (inl (omega (arith, c.bucket_cell-front.ensures, slots_are, bucket_is))) c.read.ensures.reads)
     (asks_cell (inr (omega (arith, c.next_cell.ensures, slots_are))) c.read-2.ensures.reads))
     (nothing_trans (nothing_written c.write.ensures) (nothing_written c.write-2.ensures))
-
-pub bucket-requires-clause-some : goal.bucket-requires-clause-some
-bucket-requires-clause-some g c = c.slot_count-slots.ensures.some
-
-pub bucket-requires-clause-few : goal.bucket-requires-clause-few
-bucket-requires-clause-few g c = c.slot_count-slots.ensures.few
-
-pub bucket_cell-front-requires-clause-few : goal.bucket_cell-front-requires-clause-few
-bucket_cell-front-requires-clause-few g c = c.slot_count-slots.ensures.few
-
-pub bucket_cell-front-requires-clause-within : goal.bucket_cell-front-requires-clause-within
-bucket_cell-front-requires-clause-within g c = c.bucket.ensures.within
-
-pub read-requires : goal.read-requires
-read-requires g c = omega (arith, c.bucket_cell-front.ensures, c.bucket.ensures.within, c.slot_count-slots.ensures.value)
-
-pub next_cell-requires-clause-few : goal.next_cell-requires-clause-few
-next_cell-requires-clause-few g c = c.slot_count-slots.ensures.few
-
-pub next_cell-requires-clause-within : goal.next_cell-requires-clause-within
-next_cell-requires-clause-within g c = omega (arith, c.requires.slot, c.slot_count-slots.ensures.value)
-
-pub read-requires-2 : goal.read-requires-2
-read-requires-2 g c =
-    subst (λ (n : ℕ). c.next_cell.result < cell_count n) (sym (same_slots _ _ c.in_ok-first.ensures.ok.looks))
-    (omega (arith, c.next_cell.ensures, c.requires.slot, c.slot_count-slots.ensures.value))
-
-pub write-requires-clause-may : goal.write-requires-clause-may
-write-requires-clause-may g c =
-    may_write_kept (looks_trans _ _ _ c.in_ok-first.ensures.ok.looks c.in_ok-read.ensures.ok.looks).onward ∙ c.requires.may

@@ -4,7 +4,6 @@ use Rattle.cells.specs.Slots.{proof_cell}
 use Rattle.cells.specs.Sight.{ReadsWithin}
 use Rattle.cells.specs.Aside.{KeepsAside}
 use Rattle.cells.proofs.Settings.{small_slot}
-use Rattle.std.proofs.lemmas.Result.{IfOk-from_err}
 use Rattle.chains.proofs.filling.put_proof.Goals as goal
 
 pub proof_cell-requires : goal.proof_cell-requires
@@ -21,12 +20,3 @@ returns-in_ok-proof-in-Theorem-clause-reads g c =
     subst (λ (n : ℕ). ReadsWithin (λ k. k ≡ n) (g.C.Cells.sight c.args.cells.now)
     (g.C.Cells.sight c.put_body.new.cells)) c.proof_cell.ensures
     c.put_body.ensures.reads
-
-pub returns-in_err-proof-in-Theorem-clause-ok : goal.returns-in_err-proof-in-Theorem-clause-ok
-returns-in_err-proof-in-Theorem-clause-ok g c = IfOk-from_err _ _ c.from_residual.ensures.0
-
-pub returns-in_err-proof-in-Theorem-clause-others : goal.returns-in_err-proof-in-Theorem-clause-others
-returns-in_err-proof-in-Theorem-clause-others g c = IfOk-from_err _ _ c.from_residual.ensures.0
-
-pub returns-in_err-proof-in-Theorem-clause-keeps : goal.returns-in_err-proof-in-Theorem-clause-keeps
-returns-in_err-proof-in-Theorem-clause-keeps g c = IfOk-from_err _ _ c.from_residual.ensures.0

@@ -5,7 +5,6 @@ use Rattle.cells.specs.Slots.{statement_cell}
 use Rattle.cells.specs.Sight.{ReadsWithin}
 use Rattle.cells.specs.Aside.{KeepsAside}
 use Rattle.cells.proofs.Settings.{small_slot}
-use Rattle.std.proofs.lemmas.Result.{IfOk-from_err}
 use Rattle.chains.proofs.filling.put_statement.Goals as goal
 
 pub statement_cell-requires : goal.statement_cell-requires
@@ -22,12 +21,3 @@ returns-clause-reads g c =
     subst (λ (n : ℕ). ReadsWithin (λ k. k ≡ n) (g.C.Cells.sight c.args.cells.now)
     (g.C.Cells.sight c.put_body.new.cells)) c.statement_cell.ensures
     c.put_body.ensures.reads
-
-pub returns-in_err-words-clause-ok : goal.returns-in_err-words-clause-ok
-returns-in_err-words-clause-ok g c = IfOk-from_err _ _ c.from_residual.ensures.0
-
-pub returns-in_err-words-clause-others : goal.returns-in_err-words-clause-others
-returns-in_err-words-clause-others g c = IfOk-from_err _ _ c.from_residual.ensures.0
-
-pub returns-in_err-words-clause-keeps : goal.returns-in_err-words-clause-keeps
-returns-in_err-words-clause-keeps g c = IfOk-from_err _ _ c.from_residual.ensures.0

@@ -27,7 +27,6 @@ use Rattle.cells.proofs.Sights.{looks_refl}
 use Rattle.groundwork.specs.Touches.{Touches}
 use Rattle.groundwork.specs.Footprints.{IsOfNewLabel, IsOfProofTest, ReadsFor}
 use Rattle.groundwork.proofs.Since.{OfCommand, since_then, since_where, since_before}
-use Rattle.std.proofs.lemmas.Result.{err_from_is_err_and}
 use Rattle.newlabels.proofs.adding.add.Goals as goal
 
 -- what is told of the slice is told of the label
@@ -383,63 +382,3 @@ returns-clause-reads g c =
     (λ st lib k is. inr (inr (inr is))) c.fill.ensures.onward (λ st lib m v.
     asks_wider (add_touches s3 c.bucket-from.result slot c.args.rank a kept from_is first
     (stored_on s2 s3 a.proof kept on c.in_ok-kept.ensures.ok.stored) st lib v) filled))
-
-pub returns-in_err-test_new_label-clause-keeps : goal.returns-in_err-test_new_label-clause-keeps
-returns-in_err-test_new_label-clause-keeps g c = let p = err_from_is_err_and c.from_residual.result c.from_residual.ensures.1 in rw p.1 tt
-
-pub returns-in_err-kept-clause-keeps : goal.returns-in_err-kept-clause-keeps
-returns-in_err-kept-clause-keeps g c =
-    let p = err_from_is_err_and c.from_residual-in_err-kept.result c.from_residual-in_err-kept.ensures.1 in rw p.1 tt
-
-pub returns-in_err-slot-clause-keeps : goal.returns-in_err-slot-clause-keeps
-returns-in_err-slot-clause-keeps g c =
-    let p = err_from_is_err_and c.from_residual-in_err-slot.result c.from_residual-in_err-slot.ensures.1 in rw p.1 tt
-
-pub returns-in_err-fill-clause-keeps : goal.returns-in_err-fill-clause-keeps
-returns-in_err-fill-clause-keeps g c =
-    let p = err_from_is_err_and c.from_residual-in_err-fill.result c.from_residual-in_err-fill.ensures.1 in rw p.1 tt
-
-pub returns-then-rank-eq0-clause-keeps : goal.returns-then-rank-eq0-clause-keeps
-returns-then-rank-eq0-clause-keeps g c = tt
-
-pub returns-in-Axiom-clause-keeps : goal.returns-in-Axiom-clause-keeps
-returns-in-Axiom-clause-keeps g c = tt
-
-pub returns-in_default-2-clause-keeps : goal.returns-in_default-2-clause-keeps
-returns-in_default-2-clause-keeps g c = tt
-
-pub returns-then-rank-eq0-clause-taken : goal.returns-then-rank-eq0-clause-taken
-returns-then-rank-eq0-clause-taken g c st lib m v = omega arith
-
-pub returns-in_err-test_new_label-clause-taken : goal.returns-in_err-test_new_label-clause-taken
-returns-in_err-test_new_label-clause-taken g c st lib m v = omega (arith, c.test_new_label.ensures.looks.taken)
-
-pub returns-in-Axiom-clause-taken : goal.returns-in-Axiom-clause-taken
-returns-in-Axiom-clause-taken g c st lib m v = omega (arith, c.test_new_label.ensures.looks.taken)
-
-pub returns-in_err-kept-clause-taken : goal.returns-in_err-kept-clause-taken
-returns-in_err-kept-clause-taken g c st lib m v = omega (arith, c.test_new_label.ensures.looks.taken, c.test_proof.ensures.looks.taken)
-
-pub returns-in_err-slot-clause-taken : goal.returns-in_err-slot-clause-taken
-returns-in_err-slot-clause-taken g c st lib m v =
-    omega (arith, c.test_new_label.ensures.looks.taken, c.test_proof.ensures.looks.taken, c.free_slot.ensures.looks.taken)
-
-pub returns-in_default-2-clause-taken : goal.returns-in_default-2-clause-taken
-returns-in_default-2-clause-taken g c st lib m v =
-    omega (arith, c.test_new_label.ensures.looks.taken, c.test_proof.ensures.looks.taken, c.free_slot.ensures.looks.taken)
-
-pub returns-in_err-test_new_label-clause-onward : goal.returns-in_err-test_new_label-clause-onward
-returns-in_err-test_new_label-clause-onward g c = c.test_new_label.ensures.looks.onward
-
-pub returns-in-Axiom-clause-onward : goal.returns-in-Axiom-clause-onward
-returns-in-Axiom-clause-onward g c = c.test_new_label.ensures.looks.onward
-
-pub returns-in_err-slot-clause-answers : goal.returns-in_err-slot-clause-answers
-returns-in_err-slot-clause-answers g c =
-    answers_ended (g.C.Cells.sight c.args.cells.now) (g.C.Cells.sight c.free_slot.new.cells)
-    (command.Add c.args.rank c.args.assertion.now) c.from_residual-in_err-slot.result _ c.from_residual-in_err-slot.ensures.1 tt
-
-pub returns-in_err-fill-clause-answers : goal.returns-in_err-fill-clause-answers
-returns-in_err-fill-clause-answers g c =
-    answers_ended (g.C.Cells.sight c.args.cells.now) (g.C.Cells.sight c.fill.new.cells)
-    (command.Add c.args.rank c.args.assertion.now) c.from_residual-in_err-fill.result _ c.from_residual-in_err-fill.ensures.1 tt

@@ -18,7 +18,6 @@ use Rattle.cells.specs.Footprints.{ReadsWhere, IsOfTakingOut}
 use Rattle.groundwork.proofs.Since.{ReadsSince, OfCommandFound, found_end}
 use Rattle.newlabels.proofs.RenameReads.{relabel_name, relabel_out, relabel_in}
 use Rattle.cells.proofs.Settings.{small_slot}
-use Rattle.std.proofs.lemmas.Result.{err_from_is_err_and}
 use Rattle.newlabels.proofs.renaming.relabel.Goals as goal
 
 pub name_cell-requires : goal.name_cell-requires
@@ -121,24 +120,3 @@ returns-clause-reads g c =
     found_end s0 s3 i from (Rename from to)
     (relabel_in s0 s2 i from to s3 (onward_trans _ _ _ c.put_body.ensures.onward c.take_out.ensures.onward) c.put_in.ensures.onward front
     r2)
-
-pub returns-in_err-put_body-clause-written : goal.returns-in_err-put_body-clause-written
-returns-in_err-put_body-clause-written g c = let p = err_from_is_err_and c.from_residual.result c.from_residual.ensures.1 in rw p.1 tt
-
-pub returns-in_err-put_body-clause-ok : goal.returns-in_err-put_body-clause-ok
-returns-in_err-put_body-clause-ok g c = let p = err_from_is_err_and c.from_residual.result c.from_residual.ensures.1 in rw p.1 tt
-
-pub returns-in_err-put_body-clause-keeps : goal.returns-in_err-put_body-clause-keeps
-returns-in_err-put_body-clause-keeps g c = let p = err_from_is_err_and c.from_residual.result c.from_residual.ensures.1 in rw p.1 tt
-
-pub returns-in_err-take_out-clause-written : goal.returns-in_err-take_out-clause-written
-returns-in_err-take_out-clause-written g c =
-    let p = err_from_is_err_and c.from_residual-in_err-take_out.result c.from_residual-in_err-take_out.ensures.1 in rw p.1 tt
-
-pub returns-in_err-take_out-clause-ok : goal.returns-in_err-take_out-clause-ok
-returns-in_err-take_out-clause-ok g c =
-    let p = err_from_is_err_and c.from_residual-in_err-take_out.result c.from_residual-in_err-take_out.ensures.1 in rw p.1 tt
-
-pub returns-in_err-take_out-clause-keeps : goal.returns-in_err-take_out-clause-keeps
-returns-in_err-take_out-clause-keeps g c =
-    let p = err_from_is_err_and c.from_residual-in_err-take_out.result c.from_residual-in_err-take_out.ensures.1 in rw p.1 tt

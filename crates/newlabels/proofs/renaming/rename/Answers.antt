@@ -1,4 +1,4 @@
-use Rattle.std.proofs.Common.{◌≡◌, List, ℕ, subst, inl, inr, arith}
+use Rattle.std.proofs.Common.{◌≡◌, List, ℕ, subst, inl, inr}
 use Rattle.library.specs.declared.command.Command.TheVariants as command
 use Rattle.library.specs.declared.reason.Reason.TheVariants as reason
 use Rattle.cells.specs.Sight.{Sight}
@@ -12,7 +12,6 @@ use Rattle.newlabels.proofs.Relabelling.{rename_unknown, rename_unlabelled, rena
 use Rattle.cells.specs.Footprints.{ReadsWhere}
 use Rattle.groundwork.specs.Footprints.{IsOfNewLabel, ReadsFor}
 use Rattle.groundwork.proofs.Since.{OfCommand, since_then, since_where, first_look, then_found}
-use Rattle.std.proofs.lemmas.Result.{err_from_is_err_and}
 use Rattle.newlabels.proofs.renaming.rename.Goals as goal
 
 -- what is told of the slices is told of the labels
@@ -184,35 +183,3 @@ returns-clause-reads g c =
     let finds = c.in_ok-slot.ensures.ok in
     then_found s0 s2 s3 (command.Rename from to) from i (looks_trans _ _ _ c.known_slot.ensures.looks c.test_new_label.ensures.looks)
     (finds_after s1 s2 from i c.test_new_label.ensures.looks finds) r2 c.relabel.ensures.onward c.relabel.ensures.reads
-
-pub returns-in_err-slot-clause-keeps : goal.returns-in_err-slot-clause-keeps
-returns-in_err-slot-clause-keeps g c = let p = err_from_is_err_and c.from_residual.result c.from_residual.ensures.1 in rw p.1 tt
-
-pub returns-in_err-test_new_label-clause-keeps : goal.returns-in_err-test_new_label-clause-keeps
-returns-in_err-test_new_label-clause-keeps g c =
-    let p = err_from_is_err_and c.from_residual-in_err-test_new_label.result c.from_residual-in_err-test_new_label.ensures.1 in rw p.1 tt
-
-pub returns-in_err-body-clause-keeps : goal.returns-in_err-body-clause-keeps
-returns-in_err-body-clause-keeps g c =
-    let p = err_from_is_err_and c.from_residual-in_err-body.result c.from_residual-in_err-body.ensures.1 in rw p.1 tt
-
-pub returns-in_err-relabel-clause-keeps : goal.returns-in_err-relabel-clause-keeps
-returns-in_err-relabel-clause-keeps g c =
-    let p = err_from_is_err_and c.from_residual-in_err-relabel.result c.from_residual-in_err-relabel.ensures.1 in rw p.1 tt
-
-pub returns-in_err-slot-clause-taken : goal.returns-in_err-slot-clause-taken
-returns-in_err-slot-clause-taken g c st lib m v = omega (arith, c.known_slot.ensures.looks.taken)
-
-pub returns-in_err-test_new_label-clause-taken : goal.returns-in_err-test_new_label-clause-taken
-returns-in_err-test_new_label-clause-taken g c st lib m v =
-    omega (arith, c.known_slot.ensures.looks.taken, c.test_new_label.ensures.looks.taken)
-
-pub returns-in_err-slot-clause-onward : goal.returns-in_err-slot-clause-onward
-returns-in_err-slot-clause-onward g c = c.known_slot.ensures.looks.onward
-
-pub returns-in_err-body-clause-answers : goal.returns-in_err-body-clause-answers
-returns-in_err-body-clause-answers g c = answers_ended _ _ _ c.from_residual-in_err-body.result _ c.from_residual-in_err-body.ensures.1 tt
-
-pub returns-in_err-relabel-clause-answers : goal.returns-in_err-relabel-clause-answers
-returns-in_err-relabel-clause-answers g c =
-    answers_ended _ _ _ c.from_residual-in_err-relabel.result _ c.from_residual-in_err-relabel.ensures.1 tt

@@ -60,7 +60,11 @@ returns-in-Some-clause-ok c =
     on_ok_weaker c.push.result (λ pushed lib labels same.
     rw c.in-Float.is (
       c.new.result ∷ c.new-in-Some.result ∷ [],
-      (c.in-Some.float.now, item_at _ _ _ c.in-Some.float c.floats.ensures.value c.in-Some.ensures.lookup, rw (c.new.ensures, c.new-in-Some.ensures) refl),
+      (
+        c.in-Some.float.now,
+        item_at _ _ _ c.in-Some.float c.floats.ensures.value c.in-Some.ensures.lookup,
+        rw (c.new.ensures, c.new-in-Some.ensures) refl,
+      ),
       pushed,
     )) c.push.ensures.value
 

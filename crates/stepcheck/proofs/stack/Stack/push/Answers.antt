@@ -29,8 +29,8 @@ invariant_of-self-2 c =
     let all : c.len-end.result ≡ length c.extend_from_slice.new.self.items = omega arith in
     elim c.match-push.branch [
       | in-Ok w ↦ rw w.in-Ok.ensures.items (
-          spans-push (length s) _ c.self.inside.entries.items (Own c.len-start.result c.len-end.result) c.self.invariant (omega (arith, start))
-          (omega (arith, start, end)) (omega (arith, all))
+          spans-push (length s) _ c.self.inside.entries.items (Own c.len-start.result c.len-end.result) c.self.invariant
+          (omega (arith, start)) (omega (arith, start, end)) (omega (arith, all))
           )
       | in-Err w ↦ rw w.in-Err.ensures.items (spans-more (length s) _ c.self.inside.entries.items more c.self.invariant)
     ]
