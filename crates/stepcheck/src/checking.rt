@@ -80,11 +80,11 @@ fn take_step<'a>(
         WordStep::Float(i) => match prelude.floats().get(i as usize) {
             None => Err(ProofFaultKind::UnknownStep),
             Some(float) => {
-                let typed = [
+                stack.push_two(
                     SymbolWord::new(Symbol::Const(float.type_code)),
                     SymbolWord::new(Symbol::Var(i)),
-                ];
-                stack.push(&typed)
+                )?;
+                Ok(())
             }
         },
         WordStep::Hyp(k) => match thesis.assertion().hyps.as_slice().get(k as usize) {

@@ -5,7 +5,7 @@ ghost use Rattle.stepcheck.specs.Spans.{start};
 
 use derivation::ProofFaultKind;
 use mmsyntax::SymbolWord;
-use std::alloc::Global;
+use std::alloc::{AllocError, Global};
 use std::marker::Model;
 
 /// How many symbols the stack of most proofs has at once, and how many expressions.
@@ -149,6 +149,22 @@ impl<'a> Stack<'a> {
             Ok(()) => Ok(()),
             Err(_) => Err(ProofFaultKind::NoMemory),
         }
+    }
+
+    /// Puts an expression of two symbols on top, each where it is to stand: to copy a list of two takes longer.
+    pub(crate) fn push_two(
+        &mut self,
+        first: SymbolWord,
+        second: SymbolWord,
+    ) -> Result<(), AllocError>
+        ensures { OnOk result (self.new ≡ self.old ++ (first ∷ second ∷ []) ∷ []) }
+    {
+        let start = self.symbols.len();
+        self.symbols.push(first)?;
+        self.symbols.push(second)?;
+        let end = self.symbols.len();
+        self.entries.push(Entry::Own(start, end))?;
+        Ok(())
     }
 
     /// Puts an expression that stands elsewhere on top, without a copy. Its only fault is want of memory.

@@ -55,9 +55,8 @@ returns-in-Some-get-clause-ok c =
 pub returns-in-Some-get-clause-err : goal.returns-in-Some-get-clause-err
 returns-in-Some-get-clause-err c = IfErr-weaker c.lend.result _ _ (λ kind is n. absurd (n is)) c.lend.ensures.kinds
 
-pub returns-in-Some-clause-ok : goal.returns-in-Some-clause-ok
-returns-in-Some-clause-ok c =
-    on_ok_weaker c.push.result (λ pushed lib labels same.
+pub returns-in_ok-push_two-in-Some-clause-ok : goal.returns-in_ok-push_two-in-Some-clause-ok
+returns-in_ok-push_two-in-Some-clause-ok c = λ lib labels same.
     rw c.in-Float.is (
       c.new.result ∷ c.new-in-Some.result ∷ [],
       (
@@ -65,8 +64,5 @@ returns-in-Some-clause-ok c =
         item_at _ _ _ c.in-Some.float c.floats.ensures.value c.in-Some.ensures.lookup,
         rw (c.new.ensures, c.new-in-Some.ensures) refl,
       ),
-      pushed,
-    )) c.push.ensures.value
-
-pub returns-in-Some-clause-err : goal.returns-in-Some-clause-err
-returns-in-Some-clause-err c = IfErr-weaker c.push.result _ _ (λ kind is n. absurd (n is)) c.push.ensures.kinds
+      c.in_ok-push_two-in-Some.ensures,
+    )
