@@ -63,7 +63,7 @@ fn try_often(
             break;
         }
         match session.attempt(alloc, library, transaction) {
-            Outcome::Conflict(_) => tries.conflicts = tries.conflicts.saturating_add(1),
+            Outcome::Conflict { .. } => tries.conflicts = tries.conflicts.saturating_add(1),
             Outcome::Refused { .. } => {}
             _ => tries.others = tries.others.saturating_add(1),
         }

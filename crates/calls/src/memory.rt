@@ -316,10 +316,14 @@ fn has_count(outcome: &Outcome, count: usize) -> bool {
     match outcome {
         Outcome::Committed { number: 1, replies } => replies.as_slice().len() == count,
         Outcome::Read { place: 0, replies } => match replies.as_slice() {
-            [Reply::Shown { citers: 0, shown }] => {
-                shown.rank as usize == count && shown.assertion.proof.len() == 34
-            }
-            [Reply::Listed { lines }] => lines.as_slice().len() == count,
+            [
+                Reply::Shown {
+                    rank,
+                    citers: 0,
+                    assertion,
+                },
+            ] => *rank as usize == count && assertion.proof.len() == 34,
+            [Reply::Listed(lines)] => lines.as_slice().len() == count,
             _ => false,
         },
         _ => false,

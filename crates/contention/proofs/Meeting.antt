@@ -8,7 +8,7 @@ use Rattle.tlcore.proofs.Growth.{WasWritten-kept}
 use Rattle.tlwords.specs.Seen.{Seen}
 use Rattle.lawful.specs.declared.notes.Given.{Given}
 use Rattle.lawful.specs.declared.notes.Note.{Note}
-use Rattle.transaction.specs.declared.outcome.Conflict.{Conflict as Met}
+use Rattle.transaction.specs.Meeting.{Met}
 use Rattle.transaction.specs.declared.outcome.Outcome.TheVariants.{Committed}
 use Rattle.transaction.specs.Members.{Member, IsLater}
 use Rattle.transaction.specs.Attempts.{WasMet}

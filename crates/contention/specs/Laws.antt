@@ -6,7 +6,7 @@ use Rattle.ranges.specs.Ranges.{Has}
 use Rattle.tlwords.specs.Seen.{Seen}
 use Rattle.lawful.specs.declared.notes.Given.{Given}
 use Rattle.lawful.specs.declared.notes.Note.{Note}
-use Rattle.transaction.specs.declared.outcome.Conflict.{Conflict as Met}
+use Rattle.transaction.specs.Meeting.{Met}
 use Rattle.transaction.specs.declared.outcome.Outcome.{Outcome}
 use Rattle.transaction.specs.declared.outcome.Outcome.TheVariants.{Committed, Conflict}
 use Rattle.transaction.specs.Members.{Member}

@@ -2,7 +2,7 @@
 
 ghost use Rattle.std.specs.Prelude.{◌≡◌, ◌↔◌, IsTrue};
 
-use library::{Line, Ranked, Reply};
+use library::{Line, Reply};
 use mmsyntax::{Assertion, Expr};
 
 fn same_expression(a: &Expr, b: &Expr) -> bool
@@ -34,12 +34,6 @@ fn same_assertion(a: &Assertion, b: &Assertion) -> bool
         && a.proof.has_same_steps(&b.proof)
 }
 
-fn same_ranked(a: &Ranked, b: &Ranked) -> bool
-    ensures { IsTrue result ↔ (a.now ≡ b.now) }
-{
-    a.rank == b.rank && same_assertion(&a.assertion, &b.assertion)
-}
-
 fn same_line(a: &Line, b: &Line) -> bool
     ensures { IsTrue result ↔ (a.now ≡ b.now) }
 {
@@ -58,13 +52,18 @@ fn same_reply(a: &Reply, b: &Reply) -> bool
     match (a, b) {
         (Reply::Done, Reply::Done) => true,
         (
-            Reply::Shown { citers, shown },
             Reply::Shown {
-                citers: others,
-                shown: other,
+                rank,
+                citers,
+                assertion,
             },
-        ) => citers == others && same_ranked(shown, other),
-        (Reply::Listed { lines }, Reply::Listed { lines: others }) => {
+            Reply::Shown {
+                rank: other_rank,
+                citers: others,
+                assertion: other,
+            },
+        ) => rank == other_rank && citers == others && same_assertion(assertion, other),
+        (Reply::Listed(lines), Reply::Listed(others)) => {
             same_lines(lines.as_slice(), others.as_slice())
         }
         _ => false,

@@ -77,8 +77,8 @@ history_grammar t bytes history = (λ s. (s.clean, token_spelled t bytes history
 
 reply_fits : (t : Tables) → IsSoundPrelude t → (r : Reply) (ws : List Word) → AllByRecursion IsWord ws → SpellsReply t r ws → ReplyFits t r
 reply_fits t sound Done ws words d = tt
-reply_fits t sound (Shown citers e) ws words d =
-    let all = subst (AllByRecursion IsWord) d.6 words in unit_fits t d.2 e.assertion sound all.1.1.1 d.5
+reply_fits t sound (Shown rank citers a) ws words d =
+    let all = subst (AllByRecursion IsWord) d.6 words in unit_fits t d.2 a sound all.1.1.1 d.5
 reply_fits t sound (Listed lines) ws words d = tt
 
 entry_fits : (t : Tables) → IsSoundPrelude t → (e : Entry) (ws : List Word) → AllByRecursion IsWord ws → SpellsEntry t e ws

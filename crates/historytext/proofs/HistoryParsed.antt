@@ -260,12 +260,12 @@ module _ (t : Tables) (final : Progress) (ends : final.place ≡ at_entry 0) whe
         let b = reads_count rs (at_shown_citers a.number) (λ m. going (in_shown a.number m (unit_start t))) a.rest (λ v. refl)
         (moved (place rs (at_shown_citers a.number)) a.leads.0 a.rest a.leads.1 a.leads.2) in
         let c = reads_unit (history_language t) t (λ p. place rs (in_shown a.number b.number p))
-        (λ x. behind es left cs (rs ++ Shown b.number (record { rank = a.number; assertion = x }) ∷ []))
+        (λ x. behind es left cs (rs ++ Shown a.number b.number x ∷ []))
         (has_shown t es left cs rs a.number b.number) final
         (λ p. not_inside es left (answering cs rs (in_shown a.number b.number p))) b.rest
         (moved (place rs (in_shown a.number b.number (unit_start t))) b.leads.0 b.rest b.leads.1 b.leads.2) in
         record {
-          reply = Shown b.number (record { rank = a.number; assertion = c.assertion });
+          reply = Shown a.number b.number c.assertion;
           words = codes "shown" ∷ a.token.text ∷ b.token.text ∷ spelling c.said.0;
           rest = c.rest;
           parts =

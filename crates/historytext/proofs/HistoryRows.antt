@@ -116,19 +116,19 @@ answered_is entries left cs rs u (wrong_text f) = refl
 -- the assertion that is shown
 pub has_shown : (t : Tables) (entries : List Entry) (left : ℕ) (cs : List Command) (rs : List Reply) (rank citers : ℕ)
     → HasUnits (history_language t) (λ p. progress entries (in_entry left (answering cs rs (in_shown rank citers p))))
-    (λ a. behind entries left cs (rs ++ Shown citers (record { rank = rank; assertion = a }) ∷ []))
+    (λ a. behind entries left cs (rs ++ Shown rank citers a ∷ []))
 has_shown t entries left cs rs rank citers p u =
     answered_is entries left cs rs u (shown_row rank citers (row p u)) ∙ by_row (row p u)
   where
     by_end : (q : Position) (o : Option Assertion) → next_answer entries left cs rs u (shown_led rank citers q o)
         ≡ unit_end (λ x. progress entries (in_entry left (answering cs rs (in_shown rank citers x))))
-        (λ a. behind entries left cs (rs ++ Shown citers (record { rank = rank; assertion = a }) ∷ [])) q o
+        (λ a. behind entries left cs (rs ++ Shown rank citers a ∷ [])) q o
     by_end q None = refl
     by_end q (Some a) = refl
 
     by_row : (r : Result Position TextFault) → next_answer entries left cs rs u (shown_row rank citers r)
         ≡ unit_next (λ x. progress entries (in_entry left (answering cs rs (in_shown rank citers x))))
-        (λ a. behind entries left cs (rs ++ Shown citers (record { rank = rank; assertion = a }) ∷ [])) r
+        (λ a. behind entries left cs (rs ++ Shown rank citers a ∷ [])) r
     by_row (Ok q) = by_end q (unit_at q.known q.place)
     by_row (Err f) = refl
 

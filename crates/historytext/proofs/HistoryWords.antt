@@ -68,10 +68,10 @@ line_ordinary x ws d =
 
 reply_ordinary : (t : Tables) (r : Reply) (ws : List Word) → SpellsReply t r ws → All IsOrdinary ws
 reply_ordinary t Done ws d = subst (All IsOrdinary) (sym d) (plain_cons (codes "done") [] refl (All-nil IsOrdinary))
-reply_ordinary t (Shown citers e) ws d =
+reply_ordinary t (Shown rank citers a) ws d =
     subst (All IsOrdinary) (sym d.6)
     (plain_cons (codes "shown") (d.0 ∷ d.1 ∷ spelling d.2) refl
-    (rank_cons d.0 e.rank (d.1 ∷ spelling d.2) d.3
+    (rank_cons d.0 rank (d.1 ∷ spelling d.2) d.3
     (count_cons d.1 citers (spelling d.2) d.4 (statement_ordinary (prelude_alone t) d.2 d.5.0 d.5.1))))
 reply_ordinary t (Listed lines) ws d =
     subst (All IsOrdinary) (sym d.4)
@@ -154,21 +154,21 @@ module _ (t : Tables) (es : List Entry) (left : ℕ) (cs : List Command) where
       takes (history_language t) (progress es (in_entry left (at_reply cs rs))) (behind es left cs (rs ++ Done ∷ []))
       (codes "done") ws ts final
       (h ∙ ap (λ x. x ++ ws) d) (λ u e. words rs (codes "done") _ u refl e) next_is
-  reply_leads rs (Shown citers e) us ws ts final d h next_is =
+  reply_leads rs (Shown rank citers a) us ws ts final d h next_is =
       let l = history_language t in
       takes l (progress es (in_entry left (at_reply cs rs))) (place rs at_shown_rank) (codes "shown") (d.0 ∷ d.1
       ∷ (spelling d.2 ++ ws)) ts final
       (h ∙ ap (λ x. x ++ ws) d.6) (λ u i. words rs (codes "shown") (going at_shown_rank) u refl i) (λ ts1 h1.
-      takes l (place rs at_shown_rank) (place rs (at_shown_citers e.rank)) d.0 (d.1 ∷ (spelling d.2 ++ ws)) ts1 final h1
-      (λ u i. row_of rs at_shown_rank (going (at_shown_citers e.rank)) u
-      (number_led highest_rank u d.0 e.rank (λ m. going (at_shown_citers m)) rank_low (rank_number d.0 e.rank d.3) i)) (λ ts2 h2.
-      takes l (place rs (at_shown_citers e.rank)) (place rs (in_shown e.rank citers (unit_start t))) d.1 (spelling d.2 ++ ws) ts2 final h2
-      (λ u i. row_of rs (at_shown_citers e.rank) (going (in_shown e.rank citers (unit_start t))) u
-      (number_led highest_count u d.1 citers (λ m. going (in_shown e.rank m (unit_start t))) count_low (count_number d.1 citers d.4) i))
+      takes l (place rs at_shown_rank) (place rs (at_shown_citers rank)) d.0 (d.1 ∷ (spelling d.2 ++ ws)) ts1 final h1
+      (λ u i. row_of rs at_shown_rank (going (at_shown_citers rank)) u
+      (number_led highest_rank u d.0 rank (λ m. going (at_shown_citers m)) rank_low (rank_number d.0 rank d.3) i)) (λ ts2 h2.
+      takes l (place rs (at_shown_citers rank)) (place rs (in_shown rank citers (unit_start t))) d.1 (spelling d.2 ++ ws) ts2 final h2
+      (λ u i. row_of rs (at_shown_citers rank) (going (in_shown rank citers (unit_start t))) u
+      (number_led highest_count u d.1 citers (λ m. going (in_shown rank m (unit_start t))) count_low (count_number d.1 citers d.4) i))
       (λ ts3 h3.
-      unit_words_lead l t (λ p. place rs (in_shown e.rank citers p))
-      (λ a. behind es left cs (rs ++ Shown citers (record { rank = e.rank; assertion = a }) ∷ []))
-      (has_shown t es left cs rs e.rank citers) d.2 e.assertion ws ts3 final d.5 h3 next_is)))
+      unit_words_lead l t (λ p. place rs (in_shown rank citers p))
+      (λ b. behind es left cs (rs ++ Shown rank citers b ∷ []))
+      (has_shown t es left cs rs rank citers) d.2 a ws ts3 final d.5 h3 next_is)))
   reply_leads rs (Listed lines) us ws ts final d h next_is =
       let l = history_language t in
       takes l (progress es (in_entry left (at_reply cs rs))) (place rs at_lines) (codes "listed") (d.0 ∷ (d.1 ++ ws)) ts final

@@ -74,7 +74,7 @@ IsSoundLine t l = (l.rank ≤ highest_rank) × IsLawful t l.label × (l.citers �
 
 abbrev pub IsSoundReply : Tables → Reply → Type 0
 IsSoundReply t Done = Unit {0}
-IsSoundReply t (Shown count e) = (count ≤ 4096) × IsSound t e
+IsSoundReply t (Shown rank count a) = (count ≤ 4096) × IsSound t (record { rank = rank; assertion = a })
 IsSoundReply t (Listed lines) = (length lines ≤ 4096) × All (IsSoundLine t) lines
 
 -- a command and its reply

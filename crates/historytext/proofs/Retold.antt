@@ -188,18 +188,18 @@ module _ (t : Tables) (sound : IsSoundPrelude t) where
       let words = codes "done" ∷ [] in
       let told = told_line words (subst (AllByRecursion IsWritten) s h) in
       record { words = words; spelled = refl; told = set_in_by_two (line words) words told }
-  reply_retold (reply.Shown citers e) ws h s =
+  reply_retold (reply.Shown rank citers a) ws h s =
       let all = subst (AllByRecursion IsWritten) s.6 h in
       let rank = subst IsWritten s.3.digits all.1.0 in
       let number = subst IsWritten s.4.digits all.1.1.0 in
-      let unit = unit_retold t s.2 e.assertion sound all.1.1.1 s.5 in
-      let shown = unit_statement t e.assertion in
-      let first = codes "shown" ∷ decimal e.rank ∷ decimal citers ∷ [] in
-      let lines = set_in true (assertion_text t e.assertion) in
+      let unit = unit_retold t s.2 a sound all.1.1.1 s.5 in
+      let shown = unit_statement t a in
+      let first = codes "shown" ∷ decimal rank ∷ decimal citers ∷ [] in
+      let lines = set_in true (assertion_text t a) in
       record {
         words = first ++ spelling shown;
         spelled = (
-          decimal e.rank,
+          decimal rank,
           decimal citers,
           shown,
           record { digits = refl; small = s.3.small },
@@ -209,7 +209,7 @@ module _ (t : Tables) (sound : IsSoundPrelude t) where
         );
         told = set_in_by_two (line first ++ lines) (first ++ spelling shown)
             (told_append (line first) lines first (spelling shown) (told_line first (all.0, (rank, (number, tt))))
-            (told_set_in (assertion_text t e.assertion) (spelling shown) unit.told));
+            (told_set_in (assertion_text t a) (spelling shown) unit.told));
       }
   reply_retold (reply.Listed lines) ws h s =
       let all = subst (AllByRecursion IsWritten) s.4 h in

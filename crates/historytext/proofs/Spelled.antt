@@ -179,24 +179,24 @@ module _ (t : Tables) (sound : IsSoundPrelude t) where
     spelled = refl;
     written = (name_written (codes "done") (λ e. absurd cc) refl, tt);
   }
-  reply_spelled (reply.Shown citers e) h =
+  reply_spelled (reply.Shown rank citers a) h =
       let few : citers ≤ 4096 = h.0 in
       let small : citers ≤ highest_count = omega arith in
-      let unit = unit_alone t e.assertion sound h.1.unit h.1.lawful in
+      let unit = unit_alone t a sound h.1.unit h.1.lawful in
       record {
-        words = codes "shown" ∷ decimal e.rank ∷ decimal citers ∷ spelling (unit_statement t e.assertion);
+        words = codes "shown" ∷ decimal rank ∷ decimal citers ∷ spelling (unit_statement t a);
         spelled = (
-          decimal e.rank,
+          decimal rank,
           decimal citers,
-          unit_statement t e.assertion,
-          rank_is e.rank h.1.small,
+          unit_statement t a,
+          rank_is rank h.1.small,
           count_is citers small,
           unit.declares,
           refl,
         );
         written = (
           name_written (codes "shown") (λ e. absurd cc) refl,
-          (rank_written e.rank h.1.small, (count_written citers small, unit.told.written)),
+          (rank_written rank h.1.small, (count_written citers small, unit.told.written)),
         );
       }
   reply_spelled (reply.Listed lines) h =

@@ -42,9 +42,9 @@ SpellsLine l ws =
 -- reply = done | shown RANK CITERS unit | listed COUNT line*, of so many lines
 abbrev pub SpellsReply : Tables → Reply → List Word → Type 0
 SpellsReply t Done ws = ws ≡ codes "done" ∷ []
-SpellsReply t (Shown citers e) ws =
-    (rank number : Word) × (unit : Statement) × IsRank rank e.rank × IsCount number citers × DeclaresAlone t unit e.assertion
-    × (ws ≡ codes "shown" ∷ rank ∷ number ∷ spelling unit)
+SpellsReply t (Shown rank citers a) ws =
+    (numeral number : Word) × (unit : Statement) × IsRank numeral rank × IsCount number citers × DeclaresAlone t unit a
+    × (ws ≡ codes "shown" ∷ numeral ∷ number ∷ spelling unit)
 SpellsReply t (Listed lines) ws =
     (count : Word) × (inner : List Word) × IsCount count (length lines) × SpellsEach SpellsLine lines inner
     × (ws ≡ codes "listed" ∷ count ∷ inner)

@@ -50,8 +50,8 @@ line_text l = codes "    " ++ line (decimal l.rank ∷ l.label ∷ kind_word l.k
 
 abbrev pub reply_text : Tables → Reply → List ℕ
 reply_text t Done = codes "  " ++ line (codes "done" ∷ [])
-reply_text t (Shown citers e) =
-    codes "  " ++ (line (codes "shown" ∷ decimal e.rank ∷ decimal citers ∷ []) ++ set_in true (assertion_text t e.assertion))
+reply_text t (Shown rank citers a) =
+    codes "  " ++ (line (codes "shown" ∷ decimal rank ∷ decimal citers ∷ []) ++ set_in true (assertion_text t a))
 reply_text t (Listed lines) = codes "  " ++ (line (codes "listed" ∷ decimal (length lines) ∷ []) ++ flat_map line_text lines)
 
 -- ---- histories

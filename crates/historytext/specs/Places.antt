@@ -86,7 +86,7 @@ lines_left (suc left) lines = going (at_line left lines)
 -- the assertion that is shown is whole, or not yet
 abbrev pub shown_led : ℕ → ℕ → Position → Option Assertion → Answered
 shown_led rank citers p None = going (in_shown rank citers p)
-shown_led rank citers p (Some a) = whole_reply (Shown citers (record { rank = rank; assertion = a }))
+shown_led rank citers p (Some a) = whole_reply (Shown rank citers a)
 
 -- a token of it
 abbrev pub shown_row : ℕ → ℕ → Result Position TextFault → Answered

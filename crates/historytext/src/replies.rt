@@ -7,8 +7,8 @@ ghost use Rattle.library.specs.Fitting.{ReplyFits};
 ghost use Rattle.historytext.specs.Layout.{set_in, line_text, reply_text};
 
 use crate::numbers::put_number;
-use library::{Line, Ranked, Reply};
-use mmsyntax::{Kind, Prelude};
+use library::{Line, Reply};
+use mmsyntax::{Assertion, Kind, Prelude};
 use mmwriter::{put_assertion, put_word};
 use std::alloc::{AllocError, Global};
 
@@ -65,18 +65,19 @@ fn put_shown(
     alloc: Global,
     out: &mut Vec<u8>,
     prelude: &Prelude,
+    rank: u32,
     citers: u64,
-    shown: &Ranked,
+    assertion: &Assertion,
 ) -> Result<(), AllocError>
-    requires { Fits prelude.now shown.now.assertion }
-    ensures { OnOk result (out.new.items ≡ out.old.items ++ reply_text prelude.now (Reply.Shown citers shown.now)) }
+    requires { Fits prelude.now assertion.now }
+    ensures { OnOk result (out.new.items ≡ out.old.items ++ reply_text prelude.now (Reply.Shown rank citers assertion.now)) }
 {
     out.extend_from_slice(b"  shown")?;
-    put_number(out, shown.rank as u64)?;
+    put_number(out, rank as u64)?;
     put_number(out, citers)?;
     out.push(b'\n')?;
     let mut lines = Vec::new(alloc);
-    put_assertion(&mut lines, prelude, &shown.assertion)?;
+    put_assertion(&mut lines, prelude, assertion)?;
     put_set_in(out, lines.as_slice())
 }
 
@@ -94,7 +95,11 @@ pub fn put_reply(
 {
     match reply {
         Reply::Done => out.extend_from_slice(b"  done\n"),
-        Reply::Shown { citers, shown } => put_shown(alloc, out, prelude, *citers, shown),
-        Reply::Listed { lines } => put_listed(out, prelude, lines.as_slice()),
+        Reply::Shown {
+            rank,
+            citers,
+            assertion,
+        } => put_shown(alloc, out, prelude, *rank, *citers, assertion),
+        Reply::Listed(lines) => put_listed(out, prelude, lines.as_slice()),
     }
 }

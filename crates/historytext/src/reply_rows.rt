@@ -10,7 +10,7 @@ ghost use Rattle.historytext.specs.Places.{at_citers, at_kind, at_label, at_line
 ghost use Rattle.historytext.specs.Views.{answer, count_at, kind_at, seen_answered, seen_reply_place};
 
 use crate::place::{Answered, ReplyPlace};
-use library::{Line, Ranked, Reply};
+use library::{Line, Reply};
 use mmsyntax::{Kind, Label, Prelude, Sequence};
 use mmtext::{FaultKind, Stop, Token, fault_at};
 use scripts::{count, is_numeral, read_label, read_rank};
@@ -49,7 +49,7 @@ fn lines_left<'a>(left: u64, lines: Vec<Line>) -> Answered<'a>
 {
     if left == 0 {
         let lines = Sequence::from_vec(lines);
-        return Answered::Whole(Reply::Listed { lines });
+        return Answered::Whole(Reply::Listed(lines));
     }
     Answered::Going(ReplyPlace::AtLine(left - 1, lines))
 }
@@ -80,8 +80,11 @@ fn read_in_shown<'a>(
             Ok(Answered::Going(ReplyPlace::InShown(rank, citers, reader)))
         }
         UnitProgress::Whole(assertion) => {
-            let shown = Ranked { rank, assertion };
-            Ok(Answered::Whole(Reply::Shown { citers, shown }))
+            Ok(Answered::Whole(Reply::Shown {
+                rank,
+                citers,
+                assertion,
+            }))
         }
     }
 }

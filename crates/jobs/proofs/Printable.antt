@@ -35,7 +35,7 @@ module _ (s : Setting) (lib0 : List Ranked) (h : List Entry) (v : Verifies s lib
   outcome_fits cs (Read k replies) fit a =
       let lib = after_front s lib0 h k in
       replies_fit s lib cs (record { library = lib; replies = replies }) (fronts_verify s lib0 h k v within) fit a.1
-  outcome_fits cs (Conflict met) fit a = a
+  outcome_fits cs (Conflict place cell word before) fit a = a
   outcome_fits cs _ fit a = tt
 
   script_fits : (place : ℕ) (script : List (List Command)) (os : List Outcome) → All (All (CommandFits s.prelude)) script

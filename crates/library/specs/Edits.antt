@@ -257,7 +257,7 @@ of_found (Some e) edit = edit e
 
 -- what is shown of an assertion
 abbrev pub shown : List Ranked → Ranked → Edited
-shown lib e = record { library = lib; reply = Shown (citers lib (label_of e)) e }
+shown lib e = record { library = lib; reply = Shown e.rank (citers lib (label_of e)) e.assertion }
 
 -- what is listed of an assertion
 abbrev pub listing_line : List Ranked → Ranked → Line

@@ -24,5 +24,5 @@ CommandFits t List = Unit {0}
 -- an assertion that is shown fits the prelude
 abbrev pub ReplyFits : Tables → Reply → Type 0
 ReplyFits t Done = Unit {0}
-ReplyFits t (Shown citers e) = Fits t e.assertion
+ReplyFits t (Shown rank citers a) = Fits t a
 ReplyFits t (Listed lines) = Unit {0}

@@ -1,15 +1,15 @@
 //! Commands and their replies.
 
-ghost use Rattle.std.specs.Prelude.{◌≡◌, ◌↔◌, IsTrue};
+ghost use Rattle.std.specs.Prelude.{◌≡◌, ◌↔◌, IfOk, IsTrue};
 ghost use Rattle.library.specs.Edits.{is_edit};
 ghost use Rattle.library.specs.Fitting.{CommandFits};
 ghost use Rattle.library.specs.Transactions.{has_edit, has_too_many};
 
-use crate::library::Ranked;
 use crate::shared::SharedList;
 use mmsyntax::{
     Assertion, Kind, Label, MOST_STEPS, Prelude, Proof, Sequence, are_citing_apart, fits,
 };
+use std::alloc::{AllocError, Global};
 
 /// The highest rank.
 const HIGHEST_RANK: u32 = 4_294_967_295;
@@ -89,6 +89,46 @@ impl Command {
             Command::Show { .. } | Command::List => false,
         }
     }
+
+    /// An equal command.
+    ///
+    /// # Errors
+    ///
+    /// Want of memory.
+    pub fn copy(&self, alloc: Global) -> Result<Command, AllocError>
+        ensures { IfOk result (λ made. made ≡ self.now) }
+    {
+        Ok(match self {
+            Command::Add { rank, assertion } => Command::Add {
+                rank: *rank,
+                assertion: assertion.copy(alloc)?,
+            },
+            Command::Reprove { label, steps } => Command::Reprove {
+                label: label.copy(alloc)?,
+                steps: steps.copy(alloc)?,
+            },
+            Command::Replace { label, old, new } => Command::Replace {
+                label: label.copy(alloc)?,
+                old: old.copy(alloc)?,
+                new: new.copy(alloc)?,
+            },
+            Command::Rename { old, new } => Command::Rename {
+                old: old.copy(alloc)?,
+                new: new.copy(alloc)?,
+            },
+            Command::Move { label, rank } => Command::Move {
+                label: label.copy(alloc)?,
+                rank: *rank,
+            },
+            Command::Delete { label } => Command::Delete {
+                label: label.copy(alloc)?,
+            },
+            Command::Show { label } => Command::Show {
+                label: label.copy(alloc)?,
+            },
+            Command::List => Command::List,
+        })
+    }
 }
 
 /// What `Command::List` tells of an assertion.
@@ -101,15 +141,72 @@ pub struct Line {
     pub citers: u64,
 }
 
+impl Line {
+    /// An equal line.
+    ///
+    /// # Errors
+    ///
+    /// Want of memory.
+    pub fn copy(&self, alloc: Global) -> Result<Line, AllocError>
+        ensures { IfOk result (λ made. made ≡ self.now) }
+    {
+        Ok(Line {
+            rank: self.rank,
+            label: self.label.copy(alloc)?,
+            kind: self.kind,
+            citers: self.citers,
+        })
+    }
+}
+
 /// The reply to a command that was not refused.
 #[derive(Debug, Drop)]
 pub enum Reply {
     /// The library was changed.
     Done,
-    /// The assertion, its rank, and the number of assertions whose proof cites it.
-    Shown { citers: u64, shown: Ranked },
+    /// An assertion with its rank, and the number of assertions whose proof cites it.
+    Shown {
+        rank: u32,
+        citers: u64,
+        assertion: Assertion,
+    },
     /// All assertions, in export order.
-    Listed { lines: Sequence<Line> },
+    Listed(Sequence<Line>),
+}
+
+impl Reply {
+    /// An equal reply.
+    ///
+    /// # Errors
+    ///
+    /// Want of memory.
+    pub fn copy(&self, alloc: Global) -> Result<Reply, AllocError>
+        ensures { IfOk result (λ made. made ≡ self.now) }
+    {
+        Ok(match self {
+            Reply::Done => Reply::Done,
+            Reply::Shown {
+                rank,
+                citers,
+                assertion,
+            } => Reply::Shown {
+                rank: *rank,
+                citers: *citers,
+                assertion: assertion.copy(alloc)?,
+            },
+            Reply::Listed(lines) => Reply::Listed(copy_lines(alloc, lines.as_slice())?),
+        })
+    }
+}
+
+fn copy_lines(alloc: Global, lines: &[Line]) -> Result<Sequence<Line>, AllocError>
+    ensures { IfOk result (λ made. made ≡ lines.now) }
+{
+    let mut made = Vec::new(alloc);
+    for line in lines {
+        made.push(line.copy(alloc)?)?;
+    }
+    Ok(Sequence::from_vec(made))
 }
 
 /// The replies to the commands of a transaction, one each, in their order. What became of a transaction, its session's record and its entry

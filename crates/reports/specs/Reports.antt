@@ -17,10 +17,9 @@ use Rattle.transaction.specs.declared.outcome.Outcome.TheVariants.{Committed, Re
 abbrev pub outcome_text : Tables → Outcome → List ℕ
 outcome_text t (Committed number replies) = line (codes "committed" ∷ decimal number ∷ []) ++ flat_map (reply_text t) replies
 outcome_text t (Read place replies) = line (codes "read" ∷ decimal place ∷ []) ++ flat_map (reply_text t) replies
-outcome_text t (Refused place refused) =
-    codes "refused "
-    ++ (decimal place ++ (codes " at " ++ (decimal refused.index ++ (codes ": " ++ (printed_reason refused.reason ++ 10 ∷ [])))))
-outcome_text t (Conflict met) = []
+outcome_text t (Refused place index reason) =
+    codes "refused " ++ (decimal place ++ (codes " at " ++ (decimal index ++ (codes ": " ++ (printed_reason reason ++ 10 ∷ [])))))
+outcome_text t (Conflict place cell word before) = []
 outcome_text t StoreFull = codes "store full" ++ 10 ∷ []
 outcome_text t NumbersUsed = codes "numbers used" ++ 10 ∷ []
 outcome_text t TooManyCommands = codes "too many commands" ++ 10 ∷ []
@@ -30,7 +29,7 @@ outcome_text t NoMemory = codes "no memory" ++ 10 ∷ []
 abbrev pub IsReportable : Tables → Outcome → Type 0
 IsReportable t (Committed n replies) = All (ReplyFits t) replies
 IsReportable t (Read n replies) = All (ReplyFits t) replies
-IsReportable t (Conflict met) = ⊥
+IsReportable t (Conflict place cell word before) = ⊥
 IsReportable t _ = Unit {0}
 
 abbrev pub AreReportable : Tables → List (List Outcome) → Type 0

@@ -10,7 +10,7 @@ ghost use Rattle.transaction.specs.declared.outcome.Outcome.TheVariants as outco
 ghost use Rattle.reports.specs.Reports.{IsReportable, AreReportable, outcome_text, script_text_from, report_text};
 
 use historytext::put_reply;
-use library::{Refused, Reply};
+use library::{Reason, Reply};
 use mmsyntax::Prelude;
 use std::alloc::{AllocError, Global};
 use transaction::Outcome;
@@ -37,11 +37,11 @@ fn put_refusal(
     out: &mut Vec<u8>,
     prelude: &Prelude,
     place: u64,
-    refused: Refused,
+    index: usize,
+    reason: Reason,
 ) -> Result<(), AllocError>
-    ensures { OnOk result (out.new.items ≡ out.old.items ++ outcome_text prelude.now (outcome.Refused place refused)) }
+    ensures { OnOk result (out.new.items ≡ out.old.items ++ outcome_text prelude.now (outcome.Refused place index reason)) }
 {
-    let Refused { index, reason } = refused;
     let line = format!(in alloc; "refused {place} at {index}: {reason}\n")?;
     out.extend_from_slice(line.as_bytes())
 }
@@ -88,8 +88,12 @@ fn put_outcome(
         Outcome::Read { place, replies } => {
             put_answered(alloc, out, prelude, "read", *place, replies.as_slice())
         }
-        Outcome::Refused { place, refused } => put_refusal(alloc, out, prelude, *place, *refused),
-        Outcome::Conflict(_) => unreachable!(),
+        Outcome::Refused {
+            place,
+            index,
+            reason,
+        } => put_refusal(alloc, out, prelude, *place, *index, *reason),
+        Outcome::Conflict { .. } => unreachable!(),
         Outcome::StoreFull => out.extend_from_slice(b"store full\n"),
         Outcome::NumbersUsed => out.extend_from_slice(b"numbers used\n"),
         Outcome::TooManyCommands => out.extend_from_slice(b"too many commands\n"),

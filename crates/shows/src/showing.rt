@@ -13,7 +13,7 @@ ghost use Rattle.groundwork.specs.Footprints.{IsOfLine, ReadsFor};
 
 use cells::{Cells, CommandError, Halt, citers, entry, kind, label, rank, slot_count};
 use groundwork::known_slot;
-use library::{Line, Reply};
+use library::{Line, Ranked, Reply};
 use mmsyntax::{Label, Sequence};
 use std::alloc::Global;
 use std::cmp::Ordering;
@@ -32,7 +32,12 @@ pub fn show<C: Cells>(alloc: Global, cells: &mut C, label: &Label) -> Result<Rep
     let slot = known_slot(cells, label)?;
     let shown = entry(alloc, cells, slot, label.copy(alloc)?)?;
     let citers = citers(cells, slot)?;
-    Ok(Reply::Shown { citers, shown })
+    let Ranked { rank, assertion } = shown;
+    Ok(Reply::Shown {
+        rank,
+        citers,
+        assertion,
+    })
 }
 
 /// Lists all assertions, in export order. It reads no proof.
@@ -48,9 +53,7 @@ pub fn list<C: Cells>(alloc: Global, cells: &mut C) -> Result<Reply, CommandErro
 {
     let mut lines = all_lines(alloc, cells)?;
     lines.sort_unstable_by(compare);
-    Ok(Reply::Listed {
-        lines: Sequence::from_vec(lines),
-    })
+    Ok(Reply::Listed(Sequence::from_vec(lines)))
 }
 
 /// The lines of all assertions, by slot.

@@ -138,8 +138,8 @@ module _ (g : Given) (k : Carried) (mode : Mode) (may : Bool) (old new : Lending
     pub stored : (o : Outcome) → EndsStored (carried_by new) made o → Stores cs k made o
     stored (outcome.Committed number replies) e = (e.1, few e.0)
     stored (outcome.Read place replies) e = (stays e.1, few e.0)
-    stored (outcome.Refused place refused) e = (stays e.1, few e.0)
-    stored (outcome.Conflict met) e = (stays e.1, few e.0)
+    stored (outcome.Refused place index reason) e = (stays e.1, few e.0)
+    stored (outcome.Conflict place cell word before) e = (stays e.1, few e.0)
     stored outcome.StoreFull e = (stays e.1, few e.0)
     stored outcome.NumbersUsed e = (stays e.1, few e.0)
     stored outcome.TooManyCommands e = (stays e.1, few e.0)

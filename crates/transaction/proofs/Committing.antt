@@ -31,7 +31,7 @@ use Rattle.lending.specs.Lent.{Pass, Lending, is_writing, IsLent}
 use Rattle.lending.specs.declared.live.GivenUp.{GivenUp}
 use Rattle.lending.specs.declared.live.GivenUp.TheVariants as given
 use Rattle.lending.specs.Ends.{IsLawfulWith, IsForgotten, IsGivenUp}
-use Rattle.transaction.specs.declared.outcome.Conflict.{Conflict as Met}
+use Rattle.transaction.specs.Meeting.{Met}
 use Rattle.transaction.specs.declared.outcome.Outcome.{Outcome}
 use Rattle.transaction.specs.declared.outcome.Outcome.TheVariants as outcome
 use Rattle.transaction.specs.declared.outcome.Record.{Record}
@@ -50,7 +50,7 @@ void_records (Some number) = Some (void_record number)
 
 -- what is told of a run that is given up
 abbrev pub told_of : ℕ → GivenUp → Outcome
-told_of place (given.Conflict c) = outcome.Conflict (met_at place c)
+told_of place (given.Conflict c) = conflict_of (met_at place c)
 told_of place given.StoreFull = outcome.StoreFull
 told_of place given.NoMemory = outcome.NoMemory
 
@@ -160,7 +160,7 @@ module _ (l : Lending) (stage : Staged) (over : Option Conflict) (lent : IsLent 
 
   pub refuses : (c : Snapshot (List Command)) (r : Snapshot Refusal) (refused : Refusal) (k : Pass) → c.value ≡ cs → r.value ≡ refused
       → IsAnswered library_terms l.going.place (work_done l.going (Refused c r)) l.going.known k
-      → Tries cs l.began k (outcome.Refused l.going.place refused) None
+      → Tries cs l.began k (refusal_of l.going.place refused) None
   refuses c r refused k is why w =
       let work = work_done l.going (Refused c r) in
       let drawn : k.drawn ≡ l.began.drawn = ap (λ (z : Pass). z.drawn) w.is ∙ ap (λ (z : Pass). z.drawn) lent.since in
@@ -213,7 +213,7 @@ module _ (l : Lending) (stage : Staged) (over : Option Conflict) (lent : IsLent 
       }
 
   pub rejects_undrawn : (c : Conflict) (k : Pass) → WritesEdits → has_edit cs ≡ true → IsRejected library_terms c None l.going k
-      → Tries cs l.began k (outcome.Conflict (met_of c)) None
+      → Tries cs l.began k (conflict_of (met_of c)) None
   rejects_undrawn c k writes edits w =
       let drawn : k.drawn ≡ l.began.drawn = ap (λ (z : Pass). z.drawn) w.entry ∙ ap (λ (z : Pass). z.drawn) lent.since in
       record {
@@ -233,7 +233,7 @@ module _ (l : Lending) (stage : Staged) (over : Option Conflict) (lent : IsLent 
 
   pub rejects_drawn : (c : Conflict) (number : ℕ) (k : Pass) → WritesEdits → has_edit cs ≡ true
       → IsRejected library_terms c (Some number) l.going k
-      → Tries cs l.began k (outcome.Conflict (met_of c)) (Some (void_record number))
+      → Tries cs l.began k (conflict_of (met_of c)) (Some (void_record number))
   rejects_drawn c number k writes edits w =
       let e = w.entry in
       let same = e.4 in
@@ -257,7 +257,7 @@ module _ (l : Lending) (stage : Staged) (over : Option Conflict) (lent : IsLent 
 
   -- the run had met it by a read
   pub met_before : (c : Conflict) → WritesEdits → l.going.over ≡ Some c
-      → Tries cs l.began l.going.known (outcome.Conflict (met_of c)) None
+      → Tries cs l.began l.going.known (conflict_of (met_of c)) None
   met_before c writes is =
       let has : Meets (has_edit cs) l.began l.going.known (met_of c) =
       subst (λ (b : Bool). Meets b l.began l.going.known (met_of c)) writes (meets l stage over lent c is) in
@@ -316,7 +316,7 @@ module _ (l : Lending) (stage : Staged) (over : Option Conflict) (lent : IsLent 
   -- ---- what a commit answers
 
   rejects : (c : Conflict) (drawn : Option ℕ) (k : Pass) → WritesEdits → has_edit cs ≡ true → IsRejected library_terms c drawn l.going k
-      → Tries cs l.began k (outcome.Conflict (met_of c)) (void_records drawn)
+      → Tries cs l.began k (conflict_of (met_of c)) (void_records drawn)
   rejects c None k writes edits w = rejects_undrawn c k writes edits w
   rejects c (Some number) k writes edits w = rejects_drawn c number k writes edits w
 
@@ -343,30 +343,30 @@ module _ (l : Lending) (stage : Staged) (over : Option Conflict) (lent : IsLent 
     answered place is = answered_by place is l.going.over refl
 
     met_by : (c own : Conflict) → WritesEdits → l.going.over ≡ Some own → own ≡ c
-        → Tries cs l.began k (outcome.Conflict (met_of c)) None
+        → Tries cs l.began k (conflict_of (met_of c)) None
     met_by c own reading met same =
-        subst (λ (x : Conflict). Tries cs l.began k (outcome.Conflict (met_of x)) None) same
-        (subst (λ (z : Pass). Tries cs l.began z (outcome.Conflict (met_of own)) None) (sym (stopped own met).1)
+        subst (λ (x : Conflict). Tries cs l.began k (conflict_of (met_of x)) None) same
+        (subst (λ (z : Pass). Tries cs l.began z (conflict_of (met_of own)) None) (sym (stopped own met).1)
         (met_before own reading met))
 
     conflicts_by : (c : Conflict) (drawn : Option ℕ) → WritesEdits → has_edit cs ≡ true → o ≡ EndsConflict c drawn → (v : Option Conflict)
-        → l.going.over ≡ v → Tries cs l.began k (outcome.Conflict (met_of c)) (void_records drawn)
+        → l.going.over ≡ v → Tries cs l.began k (conflict_of (met_of c)) (void_records drawn)
     conflicts_by c drawn writes edits is None none =
         rejects c drawn k writes edits (subst (Ends library_terms n l.going k) is (ended none)).1
     conflicts_by c drawn writes edits is (Some own) met =
         let e = (stopped own met).0 in
         let same : own ≡ c = cc in
         let nothing : drawn ≡ None = cc in
-        subst (λ (d : Option ℕ). Tries cs l.began k (outcome.Conflict (met_of c)) (void_records d)) (sym nothing)
+        subst (λ (d : Option ℕ). Tries cs l.began k (conflict_of (met_of c)) (void_records d)) (sym nothing)
         (met_by c own writes met same)
 
     pub conflicts : (c : Conflict) (drawn : Option ℕ) → WritesEdits → has_edit cs ≡ true → o ≡ EndsConflict c drawn
-        → Tries cs l.began k (outcome.Conflict (met_of c)) (void_records drawn)
+        → Tries cs l.began k (conflict_of (met_of c)) (void_records drawn)
     conflicts c drawn writes edits is = conflicts_by c drawn writes edits is l.going.over refl
 
     -- where a commit could not meet one, the run had met it before
     met_only_by : (c : Conflict) (drawn : Option ℕ) → WritesEdits → o ≡ EndsConflict c drawn → (l.going.over ≡ None → ⊥)
-        → (v : Option Conflict) → l.going.over ≡ v → Tries cs l.began k (outcome.Conflict (met_of c)) None
+        → (v : Option Conflict) → l.going.over ≡ v → Tries cs l.began k (conflict_of (met_of c)) None
     met_only_by c drawn reading is some None none = absurd (some none)
     met_only_by c drawn reading is some (Some own) met =
         let e = (stopped own met).0 in
@@ -374,7 +374,7 @@ module _ (l : Lending) (stage : Staged) (over : Option Conflict) (lent : IsLent 
         met_by c own reading met same
 
     pub met_only : (c : Conflict) (drawn : Option ℕ) → WritesEdits → o ≡ EndsConflict c drawn → (l.going.over ≡ None → ⊥)
-        → Tries cs l.began k (outcome.Conflict (met_of c)) None
+        → Tries cs l.began k (conflict_of (met_of c)) None
     met_only c drawn reading is some = met_only_by c drawn reading is some l.going.over refl
 
     -- as where nothing is kept aside

@@ -7,7 +7,7 @@ use Rattle.tlwords.specs.Known.{word_told}
 use Rattle.tlwords.specs.declared.outcome.Conflict.{Conflict}
 use Rattle.bodystore.specs.Stages.{Staged}
 use Rattle.lending.specs.Lent.{Pass, Lending, is_writing, IsLent}
-use Rattle.transaction.specs.declared.outcome.Conflict.{Conflict as Met}
+use Rattle.transaction.specs.Meeting.{Met}
 use Rattle.transaction.specs.Attempts.{AddsNothing, Meets, MetNone}
 use Rattle.transaction.specs.Tries.{IsLaterPass}
 

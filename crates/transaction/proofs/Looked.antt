@@ -79,7 +79,7 @@ may_be_looked old new library looks blank setting told s is =
 
 -- what is told of a look that is given up: it stages nothing, so it is memory that ran out where it met no conflict
 abbrev pub told_of : ℕ → GivenUp → Look
-told_of place (given.Conflict found) = look.Conflict (met_at place found)
+told_of place (given.Conflict found) = look_met (met_at place found)
 told_of place _ = look.NoMemory
 
 pub told_none : (place : ℕ) (why : GivenUp) → (why ≡ given.StoreFull) ⊎ (why ≡ given.NoMemory) → told_of place why ≡ look.NoMemory
@@ -89,7 +89,7 @@ told_none place why (inr is) = ap (told_of place) is
 module _ (l : Lending) (stage : Staged) (over : Option Conflict) (lent : IsLent l stage over) where
   -- a read met a conflict
   saw_conflict : (found : Conflict) → l.going.mode ≡ Reading → l.going.over ≡ Some found
-      → Sees l.began l.going.known (look.Conflict (met_at l.going.place found))
+      → Sees l.began l.going.known (look_met (met_at l.going.place found))
   saw_conflict found mode is =
       let has : Meets false l.began l.going.known (met_at l.going.place found) =
       subst (λ (b : Bool). Meets b l.began l.going.known (met_at l.going.place found)) (ap is_writing mode)
@@ -145,24 +145,24 @@ module _ (l : Lending) (stage : Staged) (over : Option Conflict) (lent : IsLent 
   sees_read place library says is = sees_read_by place library says is l.going.over refl
 
   sees_conflict_by : (found : Conflict) (drawn : Option ℕ) → l.going.mode ≡ Reading → o ≡ ends.Conflict found drawn
-      → (v : Option Conflict) → l.going.over ≡ v → Sees l.began new (look.Conflict (met_at l.going.place found))
+      → (v : Option Conflict) → l.going.over ≡ v → Sees l.began new (look_met (met_at l.going.place found))
   sees_conflict_by found drawn mode is None none = let other = read none in absurd cc
   sees_conflict_by found drawn mode is (Some k) met =
       let own = (stopped k met).0 in
       let same : k ≡ found = cc in
-      subst (λ (c : Conflict). Sees l.began new (look.Conflict (met_at l.going.place c))) same
-      (subst (λ (z : Pass). Sees l.began z (look.Conflict (met_at l.going.place k))) (sym (stopped k met).1)
+      subst (λ (c : Conflict). Sees l.began new (look_met (met_at l.going.place c))) same
+      (subst (λ (z : Pass). Sees l.began z (look_met (met_at l.going.place k))) (sym (stopped k met).1)
       (saw_conflict l stage over lent k mode met))
 
   pub sees_conflict : (found : Conflict) (drawn : Option ℕ) → l.going.mode ≡ Reading → o ≡ ends.Conflict found drawn
-      → Sees l.began new (look.Conflict (met_at l.going.place found))
+      → Sees l.began new (look_met (met_at l.going.place found))
   sees_conflict found drawn mode is = sees_conflict_by found drawn mode is l.going.over refl
 
 -- ---- the session
 
 pub draws_none : (old new : Pass) (l : Look) → Sees old new l → new.drawn ≡ old.drawn
 draws_none old new (look.Read place library) sees = sees.1
-draws_none old new (look.Conflict met) sees = sees.0.drawn
+draws_none old new (look.Conflict place cell word before) sees = sees.0.drawn
 draws_none old new look.NoMemory sees = sees.0.drawn
 
 module _ (m : Member) (k : Carried) (l : Look) (is : IsMember m) (later : IsLaterPass m.known k.pass) (sees : Sees m.known k.pass l) where

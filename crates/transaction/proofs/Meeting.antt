@@ -158,18 +158,18 @@ module _ (l : Lending) (stage : Staged) (over : Option Conflict) (lent : IsLent 
   module _ (asks : AsksWithin l cs) (k : Pass) (home : k.home ≡ l.going.known.home) (grows : SeenGrows l.going.known.seen k.seen)
       (locks : LocksWithin l.given cs l.began k) where
     -- at a cell that it asked for
-    asked_within : (c : Conflict) → WasAsked (lent_sight l) c.cell → EndsWithin l.began cs k (outcome.Conflict (met_at l.going.place c))
-    asked_within c was = for_given k (outcome.Conflict (met_at l.going.place c))
+    asked_within : (c : Conflict) → WasAsked (lent_sight l) c.cell → EndsWithin l.began cs k (conflict_of (met_at l.going.place c))
+    asked_within c was = for_given k (conflict_of (met_at l.going.place c))
         (λ new later. asks c.cell was _ _ (suits_then k home grows new later)) locks
 
     -- which a read met
-    pub read_within : (c : Conflict) → l.going.over ≡ Some c → EndsWithin l.began cs k (outcome.Conflict (met_at l.going.place c))
+    pub read_within : (c : Conflict) → l.going.over ≡ Some c → EndsWithin l.began cs k (conflict_of (met_at l.going.place c))
     read_within c is = asked_within c (inr (ap (option_map (λ (x : Conflict). x.cell)) is))
 
   -- which a commit met
   pub rejected_within : AsksWithin l cs → KeepsWithin l cs → (c : Conflict) (drawn : Option ℕ) (k : Pass) → k.home ≡ l.going.known.home
       → k.found ≡ l.going.known.found
-      → IsRejected library_terms c drawn l.going k → EndsWithin l.began cs k (outcome.Conflict (met_at l.going.place c))
+      → IsRejected library_terms c drawn l.going k → EndsWithin l.began cs k (conflict_of (met_at l.going.place c))
   rejected_within asks keeps c drawn k home same r =
       let word = ended_by l.going.mode c.cell k.found c.before r.read r.finds.told in
       let read = lent.stands.ended c.cell word.0 (ap (written c.cell) (sym same) ∙ word.1) in
@@ -198,7 +198,7 @@ module _ (l : Lending) (stage : Staged) (over : Option Conflict) (lent : IsLent 
       (stopped : (c : Conflict) → l.going.over ≡ Some c → (o ≡ EndsConflict c None) × (k ≡ l.going.known))
       (ended : l.going.over ≡ None → Ends library_terms n l.going k o) where
     rejected_by : KeepsWithin l cs → (c : Conflict) (drawn : Option ℕ) → IsRejected library_terms c drawn l.going k
-        → EndsWithin l.began cs k (outcome.Conflict (met_at l.going.place c))
+        → EndsWithin l.began cs k (conflict_of (met_at l.going.place c))
     rejected_by aside c None r =
         rejected_within asks aside c None k (ap (λ (z : Pass). z.home) r.entry) (ap (λ (z : Pass). z.found) r.entry) r
     rejected_by aside c (Some number) r =
@@ -206,7 +206,7 @@ module _ (l : Lending) (stage : Staged) (over : Option Conflict) (lent : IsLent 
         rejected_within asks aside c (Some number) k (ap (λ (z : Pass). z.home) e.4) (ap (λ (z : Pass). z.found) e.4) r
 
     conflict_by : (c : Conflict) (drawn : Option ℕ) → o ≡ EndsConflict c drawn → (v : Option Conflict) → l.going.over ≡ v
-        → EndsWithin l.began cs k (outcome.Conflict (met_at l.going.place c))
+        → EndsWithin l.began cs k (conflict_of (met_at l.going.place c))
     conflict_by c drawn is None none = rejected_by (keeps none) c drawn (subst (Ends library_terms n l.going k) is (ended none)).1
     conflict_by c drawn is (Some own) met =
         let e = stopped own met in
@@ -218,7 +218,7 @@ module _ (l : Lending) (stage : Staged) (over : Option Conflict) (lent : IsLent 
         (met ∙ ap (λ (x : Conflict). Some x) same)
 
     pub conflict_within : (c : Conflict) (drawn : Option ℕ) → o ≡ EndsConflict c drawn
-        → EndsWithin l.began cs k (outcome.Conflict (met_at l.going.place c))
+        → EndsWithin l.began cs k (conflict_of (met_at l.going.place c))
     conflict_within c drawn is = conflict_by c drawn is l.going.over refl
 
     used_by : o ≡ NumbersUsed → (v : Option Conflict) → l.going.over ≡ v → EndsWithin l.began cs k outcome.NumbersUsed

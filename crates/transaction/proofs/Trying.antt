@@ -20,7 +20,7 @@ use Rattle.lawful.specs.declared.notes.Given.{Given}
 use Rattle.lawful.specs.declared.notes.Note.{Note}
 use Rattle.lawful.specs.History.{IsHistoryOf}
 use Rattle.lending.specs.Lent.{Pass, Carried}
-use Rattle.transaction.specs.declared.outcome.Conflict.{Conflict as Met}
+use Rattle.transaction.specs.Meeting.{Met}
 use Rattle.transaction.specs.declared.outcome.Outcome.{Outcome}
 use Rattle.transaction.specs.declared.outcome.Outcome.TheVariants as outcome
 use Rattle.transaction.specs.declared.outcome.Record.{Record}
@@ -176,7 +176,7 @@ within_later g base old mid cs o grows within new later =
 -- a conflict that was met stays one
 still_met : (cs : List Command) (a b : Member) → IsLater a b → (met : Met) → WasMet cs a met → WasMet cs b met
 still_met cs a b later met was =
-    let o = outcome.Conflict met in
+    let o = conflict_of met in
     record {
       cause = was.cause;
       written = WasWritten-kept a.known.seen.history b.known.seen.history met.cell (met.word / 2) later.grows.0 was.written;
@@ -233,7 +233,7 @@ drawn_void old now next numbers drawn void (inr (number, one, is)) = (
   one ∙ (ap (λ (ns : List ℕ). ns ++ number ∷ []) drawn ∙ append_assoc old numbers (number ∷ [])),
 )
 
-few_commands : (cs : List Command) (many : Bool) (o : Outcome) (met : Met) → o ≡ outcome.Conflict met
+few_commands : (cs : List Command) (many : Bool) (o : Outcome) (met : Met) → o ≡ conflict_of met
     → (many ≡ true → o ≡ outcome.TooManyCommands) → many ≡ false
 few_commands cs true o met is counted = let no = sym is ∙ counted refl in absurd cc
 few_commands cs false o met is counted = refl
@@ -247,8 +247,8 @@ tried_nothing k =
 is_too_many : (o : Outcome) → (o ≡ outcome.TooManyCommands) ⊎ (o ≢ outcome.TooManyCommands)
 is_too_many (outcome.Committed number replies) = inr (λ e. cc)
 is_too_many (outcome.Read place replies) = inr (λ e. cc)
-is_too_many (outcome.Refused place refused) = inr (λ e. cc)
-is_too_many (outcome.Conflict met) = inr (λ e. cc)
+is_too_many (outcome.Refused place index reason) = inr (λ e. cc)
+is_too_many (outcome.Conflict place cell word before) = inr (λ e. cc)
 is_too_many outcome.StoreFull = inr (λ e. cc)
 is_too_many outcome.NumbersUsed = inr (λ e. cc)
 is_too_many outcome.TooManyCommands = inl refl
@@ -287,8 +287,8 @@ module _ (cs : List Command) (old now next : Member) (o : Outcome) (so_far : Tri
   staged_then : (v : Outcome) → LeavesStaged now.staged next.staged v → LeavesStaged old.staged next.staged v
   staged_then (outcome.Committed number replies) is = is
   staged_then (outcome.Read place replies) is = stays is
-  staged_then (outcome.Refused place refused) is = stays is
-  staged_then (outcome.Conflict met) is = stays is
+  staged_then (outcome.Refused place index reason) is = stays is
+  staged_then (outcome.Conflict place cell word before) is = stays is
   staged_then outcome.StoreFull is = stays is
   staged_then outcome.NumbersUsed is = stays is
   staged_then outcome.TooManyCommands is = stays is
@@ -302,7 +302,7 @@ module _ (cs : List Command) (old now next : Member) (o : Outcome) (so_far : Tri
   untouched_by (inr (later, few)) many = let no : true ≡ false = sym many ∙ few in absurd cc
 
   -- one more conflict
-  pub tried_more : (met : Met) → o ≡ outcome.Conflict met → Tried cs old next
+  pub tried_more : (met : Met) → o ≡ conflict_of met → Tried cs old next
   tried_more met is =
       let g = subst (Gains cs now.known next.known) is a.gains in
       let all = drawn_void old.known.drawn now.known next.known so_far.numbers so_far.drawn void_then g.1 in
@@ -354,7 +354,7 @@ module _ (cs : List Command) (old now next : Member) (o : Outcome) (so_far : Tri
         found = none.found;
       }
 
-  gains_since : (v : Outcome) → Gains cs now.known next.known v → ((met : Met) → v ≢ outcome.Conflict met) → v ≢ outcome.TooManyCommands
+  gains_since : (v : Outcome) → Gains cs now.known next.known v → ((met : Met) → v ≢ conflict_of met) → v ≢ outcome.TooManyCommands
       → Gains cs before next.known v
   gains_since (outcome.Committed number replies) g settles some = (
     g.0,
@@ -364,9 +364,9 @@ module _ (cs : List Command) (old now next : Member) (o : Outcome) (so_far : Tri
   )
   gains_since (outcome.Read place replies) g settles some =
       (g.0, not_before place g.1, g.2 ∙ so_far.drawn, calls (Answered place) (SaysDone cs replies) g.3)
-  gains_since (outcome.Refused place refused) g settles some =
+  gains_since (outcome.Refused place index reason) g settles some =
       (not_before place g.0, g.1 ∙ so_far.drawn, calls (Answered place) (SaysRefused cs refused) g.2)
-  gains_since (outcome.Conflict met) g settles some = absurd (settles met refl)
+  gains_since (outcome.Conflict place cell word before) g settles some = absurd (settles met refl)
   gains_since outcome.StoreFull g settles some = (adds g.0, g.1, g.2)
   gains_since outcome.NumbersUsed g settles some = (adds g.0, ap length (sym so_far.drawn) ∙ g.1)
   gains_since outcome.TooManyCommands g settles some = absurd (some refl)
@@ -375,14 +375,14 @@ module _ (cs : List Command) (old now next : Member) (o : Outcome) (so_far : Tri
   ran_since : (v : Outcome) → IsOneRun now.known next.known v → IsOneRun before next.known v
   ran_since (outcome.Committed number replies) one = (one.0, one_more one.0 one.1)
   ran_since (outcome.Read place replies) one = one_more place one
-  ran_since (outcome.Refused place refused) one = one_more place one
-  ran_since (outcome.Conflict met) one = one_more met.place one
+  ran_since (outcome.Refused place index reason) one = one_more place one
+  ran_since (outcome.Conflict place cell word before) one = one_more met.place one
   ran_since outcome.StoreFull one = none_since one
   ran_since outcome.NumbersUsed one = (one.0, one_more one.0 one.1)
   ran_since outcome.TooManyCommands one = one
   ran_since outcome.NoMemory one = none_since one
 
-  submits_some : ((met : Met) → o ≢ outcome.Conflict met) → o ≢ outcome.TooManyCommands → Submits cs old next o
+  submits_some : ((met : Met) → o ≢ conflict_of met) → o ≢ outcome.TooManyCommands → Submits cs old next o
   submits_some settled some =
       record {
         later = later_by so_far.since;
@@ -433,11 +433,11 @@ module _ (cs : List Command) (old now next : Member) (o : Outcome) (so_far : Tri
       let g = subst (Gains cs now.known next.known) is a.gains in
       let no : true ≡ false = sym g.1 ∙ few in absurd cc
 
-  submits_by : ((met : Met) → o ≢ outcome.Conflict met) → (o ≡ outcome.TooManyCommands) ⊎ (o ≢ outcome.TooManyCommands)
+  submits_by : ((met : Met) → o ≢ conflict_of met) → (o ≡ outcome.TooManyCommands) ⊎ (o ≢ outcome.TooManyCommands)
       → Submits cs old next o
   submits_by settled (inl is) = submits_none so_far.since is
   submits_by settled (inr some) = submits_some settled some
 
   -- what tries until there is no conflict do
-  pub submits : ((met : Met) → o ≢ outcome.Conflict met) → Submits cs old next o
+  pub submits : ((met : Met) → o ≢ conflict_of met) → Submits cs old next o
   submits settled = submits_by settled (is_too_many o)

@@ -19,9 +19,9 @@ use Rattle.lawful.specs.declared.notes.Note.{Note}
 use Rattle.lawful.specs.declared.notes.Note.TheVariants as note
 use Rattle.lawful.specs.History.{history_of}
 use Rattle.lending.specs.Lent.{Pass, FindsNone}
-use Rattle.transaction.specs.declared.outcome.Conflict.{Conflict as Met}
 use Rattle.transaction.specs.declared.outcome.Outcome.{Outcome}
 use Rattle.transaction.specs.declared.outcome.Outcome.TheVariants as outcome
+use Rattle.transaction.specs.Meeting.{Met, conflict_of}
 use Rattle.transaction.specs.Members.{Member, IsLater}
 use Rattle.transaction.specs.Footprints.{StaysWithin}
 use Rattle.transaction.specs.Locks.{LocksWithin, LocksOnlyToCommit}
@@ -90,9 +90,11 @@ Gains cs old new (outcome.Committed number replies) =
     × GainsCall old new (CommittedCall number) (SaysDone cs replies)
 Gains cs old new (outcome.Read place replies) =
     (has_edit cs ≡ false) × IsNotBefore old place × DrawsNone old new × GainsCall old new (Answered place) (SaysDone cs replies)
-Gains cs old new (outcome.Refused place refused) =
-    IsNotBefore old place × DrawsNone old new × GainsCall old new (Answered place) (SaysRefused cs refused)
-Gains cs old new (outcome.Conflict met) =
+Gains cs old new (outcome.Refused place index reason) =
+    IsNotBefore old place × DrawsNone old new
+    × GainsCall old new (Answered place) (SaysRefused cs (record { index = index; reason = reason }))
+Gains cs old new (outcome.Conflict place cell word before) =
+    let met : Met = record { place = place; cell = cell; word = word; before = before } in
     (new.mine ≡ old.mine) × DrawsVoid old new × Meets (has_edit cs) old new met × (has_edit cs ≡ false → KeptNoReads old new met)
 Gains cs old new outcome.StoreFull = AddsNothing old new × (is_some new.full ≡ true) × (has_staging cs ≡ true)
 Gains cs old new outcome.NumbersUsed = AddsNothing old new × (length old.drawn ≡ 2 ^ 40)
@@ -117,8 +119,8 @@ pub record MetNone (old new : Pass) : Type 0 where
 -- where that run met no conflict
 abbrev pub IsOneRun : Pass → Pass → Outcome → Type 0
 IsOneRun old new (outcome.Read place replies) = LoadsOnce old new place
-IsOneRun old new (outcome.Refused place refused) = LoadsOnce old new place
-IsOneRun old new (outcome.Conflict met) = LoadsOnce old new met.place
+IsOneRun old new (outcome.Refused place index reason) = LoadsOnce old new place
+IsOneRun old new (outcome.Conflict place cell word before) = LoadsOnce old new place
 IsOneRun old new outcome.StoreFull = MetNone old new
 IsOneRun old new outcome.NoMemory = MetNone old new
 IsOneRun old new outcome.TooManyCommands = Unit {0}
@@ -156,7 +158,7 @@ tried k numbers runs = record k { drawn = k.drawn ++ numbers; clocks = runs ++ k
 pub record WasMet (cs : List Command) (now : Member) (met : Met) : Type 0 where
   pub cause : HasCause met.place met.word ⊎ ((w : ℕ) × (met.before ≡ Some w) × (w ≢ met.word))
   pub written : IsVersionOf now.known.seen.history met.cell (met.word / 2)
-  pub footprint : StaysWithin now.given now.known.home.base now.known.seen cs (outcome.Conflict met)
+  pub footprint : StaysWithin now.given now.known.home.base now.known.seen cs (conflict_of met)
 
 -- what tries until there is no conflict do: as the last one, after others, each of one run that met a conflict, that drew further numbers,
 -- which are void, and took words of the store
@@ -176,7 +178,7 @@ pub record Submits (cs : List Command) (old new : Member) (o : Outcome) : Type 0
   pub footprint : StaysWithin new.given new.known.home.base new.known.seen cs o
   -- all its tries locked no cells but those that it may write, over the library at the place of one of them
   pub locks : LocksWithin new.given cs old.known new.known
-  pub settled : (met : Met) → o ≢ outcome.Conflict met
+  pub settled : (met : Met) → o ≢ conflict_of met
   pub counted : has_too_many cs ≡ true → o ≡ outcome.TooManyCommands
   pub staged : LeavesStaged old.staged new.staged o
   pub taken : new.known.taken ≤ old.known.taken + (length runs * most_words_of cs + most_words_of cs)

@@ -78,7 +78,7 @@ module _ (g : Given) (base : List ℕ) (seen : Seen Note) where
 
   -- the cell of a conflict is one that the transaction may read, over the library at its place; and a Committed wrote within what it may
   abbrev pub IsWithin : List Command → Outcome → Type 0
-  IsWithin cs (outcome.Conflict met) = MayReadAfter met.place cs met.cell
+  IsWithin cs (outcome.Conflict place cell word before) = MayReadAfter place cs cell
   IsWithin cs (outcome.Committed number replies) = WritesWithin number cs
   IsWithin cs _ = Unit {0}
 

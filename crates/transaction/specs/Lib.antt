@@ -1,6 +1,7 @@
 pub mod Members
 pub mod Openings
 pub mod ReasonNames
+pub mod Meeting
 pub mod Footprints
 pub mod Locks
 pub mod Attempts

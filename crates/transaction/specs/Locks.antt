@@ -33,5 +33,5 @@ pub record LocksWithin (g : Given) (cs : List Command) (old new : Pass) : Type 0
 -- nothing was locked but where the run committed or met a conflict
 abbrev pub LocksOnlyToCommit : Pass → Pass → Outcome → Type 0
 LocksOnlyToCommit old new (outcome.Committed number replies) = Unit {0}
-LocksOnlyToCommit old new (outcome.Conflict met) = Unit {0}
+LocksOnlyToCommit old new (outcome.Conflict place cell word before) = Unit {0}
 LocksOnlyToCommit old new _ = new.locked ≡ old.locked

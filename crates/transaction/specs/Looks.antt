@@ -21,7 +21,8 @@ SaysLooked library _ = ⊥
 abbrev pub Sees : Pass → Pass → Look → Type 0
 Sees old new (look.Read place library) =
     IsNotBefore old place × DrawsNone old new × GainsCall old new (Answered place) (SaysLooked library) × LoadsOnce old new place
-Sees old new (look.Conflict met) = AddsNothing old new × Meets false old new met × (met.before ≡ None)
+Sees old new (look.Conflict place cell word before) =
+    AddsNothing old new × Meets false old new (record { place = place; cell = cell; word = word; before = before }) × (before ≡ None)
 Sees old new look.NoMemory = AddsNothing old new × MetNone old new
 
 -- what a look does

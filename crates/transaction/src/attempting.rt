@@ -13,7 +13,7 @@ ghost use Rattle.transaction.specs.Members.{IsSessionOf};
 ghost use Rattle.transaction.specs.Attempts.{Attempts};
 ghost use Rattle.transaction.specs.Tries.{Tries, Stores, EndsStored, carried_by, MayBeDone, MayBeRefused, AsksWithin, KeepsWithin, EndsWithin};
 
-use crate::outcome::{Outcome, Record, met};
+use crate::outcome::{Outcome, Record, conflict, refusal};
 use crate::running::Library;
 use crate::session::Session;
 use commands::{RunError, has_staging, run};
@@ -174,8 +174,11 @@ fn commit(alloc: Global, live: Live<'_>, commands: &Transaction, replies: Sequen
                 done: Some(done),
             }),
         ),
-        tlwords::Outcome::Conflict { conflict, drawn } => (
-            Outcome::Conflict(met(place, conflict)),
+        tlwords::Outcome::Conflict {
+            conflict: found,
+            drawn,
+        } => (
+            conflict(place, found),
             void_record(drawn),
         ),
         tlwords::Outcome::NumbersUsed => (Outcome::NumbersUsed, None),
@@ -207,9 +210,10 @@ fn answer(live: Live<'_>, commands: &Transaction, replies: Sequence<Reply>) -> T
     drop(note);
     let outcome = match ended {
         tlwords::Outcome::Read(place) => Outcome::Read { place, replies },
-        tlwords::Outcome::Conflict { conflict, drawn: _ } => {
-            Outcome::Conflict(met(place, conflict))
-        }
+        tlwords::Outcome::Conflict {
+            conflict: found,
+            drawn: _,
+        } => conflict(place, found),
         tlwords::Outcome::Committed(_) | tlwords::Outcome::NumbersUsed => unreachable!(),
     };
     Tried {
@@ -237,10 +241,11 @@ fn refuse(mut live: Live<'_>, commands: &Transaction, refused: Refused) -> Tried
     let (kit, ended) = live.end(&note);
     drop(note);
     let outcome = match ended {
-        tlwords::Outcome::Read(place) => Outcome::Refused { place, refused },
-        tlwords::Outcome::Conflict { conflict, drawn: _ } => {
-            Outcome::Conflict(met(place, conflict))
-        }
+        tlwords::Outcome::Read(place) => refusal(place, refused),
+        tlwords::Outcome::Conflict {
+            conflict: found,
+            drawn: _,
+        } => conflict(place, found),
         tlwords::Outcome::Committed(_) | tlwords::Outcome::NumbersUsed => unreachable!(),
     };
     Tried {
@@ -263,7 +268,7 @@ fn stop(live: Live<'_>, commands: &Transaction) -> Tried
     let place = live.place();
     let (kit, why) = live.give_up();
     let outcome = match why {
-        GivenUp::Conflict(found) => Outcome::Conflict(met(place, found)),
+        GivenUp::Conflict(found) => conflict(place, found),
         GivenUp::StoreFull => Outcome::StoreFull,
         GivenUp::NoMemory => Outcome::NoMemory,
     };

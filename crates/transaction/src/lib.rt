@@ -33,7 +33,7 @@ mod shape;
 mod submitting;
 
 pub use closing::ClosedLibrary;
-pub use outcome::{Conflict, Look, Outcome, Record};
+pub use outcome::{Look, Outcome, Record};
 pub use running::Library;
 pub use session::Session;
 pub use shape::{OpenError, Shape};

@@ -13,7 +13,7 @@ ghost use Rattle.transaction.specs.Members.{IsSessionOf};
 ghost use Rattle.transaction.specs.Looks.{TakesLook, Sees};
 ghost use Rattle.transaction.specs.Tries.{IsLaterPass, StoresNothing, carried_by, MayBeLooked};
 
-use crate::outcome::{Look, met};
+use crate::outcome::{Look, look_conflict};
 use crate::running::Library;
 use crate::session::Session;
 use cells::Halt;
@@ -90,7 +90,10 @@ fn show(live: Live<'_>, library: PlainLibrary) -> (Kit, Look)
     drop(note);
     let seen = match ended {
         tlwords::Outcome::Read(place) => Look::Read { place, library },
-        tlwords::Outcome::Conflict { conflict, drawn: _ } => Look::Conflict(met(place, conflict)),
+        tlwords::Outcome::Conflict {
+            conflict: found,
+            drawn: _,
+        } => look_conflict(place, found),
         tlwords::Outcome::Committed(_) | tlwords::Outcome::NumbersUsed => unreachable!(),
     };
     (kit, seen)
@@ -106,7 +109,7 @@ fn stop(live: Live<'_>) -> (Kit, Look)
     let place = live.place();
     let (kit, why) = live.give_up();
     let seen = match why {
-        GivenUp::Conflict(found) => Look::Conflict(met(place, found)),
+        GivenUp::Conflict(found) => look_conflict(place, found),
         // It stages nothing, so it is memory that ran out.
         GivenUp::StoreFull | GivenUp::NoMemory => Look::NoMemory,
     };

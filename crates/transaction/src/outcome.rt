@@ -1,25 +1,10 @@
 //! What becomes of a transaction, and of a number that it drew.
 
 ghost use Rattle.std.specs.Prelude.{◌≡◌};
+ghost use Rattle.transaction.specs.Meeting.{conflict_of, look_met, met_at, refusal_of};
 
-use library::{PlainLibrary, Refused, Replies, Reply, Transaction};
+use library::{PlainLibrary, Reason, Refused, Replies, Reply, Transaction};
 use mmsyntax::Sequence;
-
-/// Where a try met another session.
-#[derive(Clone, Copy, Debug, PartialEq, Eq)]
-pub struct Conflict {
-    /// How many numbers were drawn before the try, as its one load of the clock found it.
-    pub place: u64,
-    /// The cell, from 0.
-    pub cell: usize,
-    /// The lock word that was found there: it is odd where the cell was locked, and half of it is the number of the last transaction that
-    /// wrote the cell, or 0.
-    pub word: u64,
-    /// The lock word that this try's newest read of the cell had found. None exactly where no read of the cell had ended, and in each try
-    /// that keeps no reads: one without an edit, and a look. Where `word` is even, and half of it at most `place`, there is one, and it is
-    /// another than `word`.
-    pub before: Option<u64>,
-}
 
 /// What becomes of a transaction.
 #[derive(Debug, Drop)]
@@ -38,10 +23,24 @@ pub enum Outcome {
     /// A command is refused over the library after the first `place` entries, and with it the transaction: it changed nothing.
     Refused {
         place: u64,
-        refused: Refused,
+        /// Which command of the transaction, from 1.
+        index: usize,
+        reason: Reason,
     },
     /// It met another session, and changed nothing.
-    Conflict(Conflict),
+    Conflict {
+        /// How many numbers were drawn before the try, as its one load of the clock found it.
+        place: u64,
+        /// The cell, from 0.
+        cell: usize,
+        /// The lock word that was found there: it is odd where the cell was locked, and half of it is the number of the last transaction
+        /// that wrote the cell, or 0.
+        word: u64,
+        /// The lock word that this try's newest read of the cell had found. None exactly where no read of the cell had ended, and in each
+        /// try that keeps no reads, as one without an edit. Where `word` is even, and half of it at most `place`, there is one, and it is
+        /// another than `word`.
+        before: Option<u64>,
+    },
     /// The store has no room for a body, or had none for one that this session staged before. The run met no conflict, and changed nothing.
     StoreFull,
     /// The session has drawn 2^40 numbers. It changed nothing.
@@ -57,8 +56,13 @@ pub enum Outcome {
 pub enum Look {
     /// The library after the first `place` entries.
     Read { place: u64, library: PlainLibrary },
-    /// It met another session.
-    Conflict(Conflict),
+    /// It met another session; its fields are those of an `Outcome::Conflict`. A look keeps no reads, so `before` is none.
+    Conflict {
+        place: u64,
+        cell: usize,
+        word: u64,
+        before: Option<u64>,
+    },
     /// Memory ran out, in a run that met no conflict.
     NoMemory,
 }
@@ -73,14 +77,38 @@ pub struct Record {
     pub done: Option<(Transaction, Replies)>,
 }
 
-/// The conflict of a run at a place.
-pub(crate) fn met(place: u64, found: tlwords::Conflict) -> Conflict
-    ensures { result ≡ record { place = place; cell = found.cell; word = found.word; before = found.before } }
+/// The outcome of a run at a place that met this conflict.
+pub(crate) fn conflict(place: u64, found: tlwords::Conflict) -> Outcome
+    ensures { result ≡ conflict_of (met_at place found) }
 {
-    Conflict {
+    Outcome::Conflict {
         place,
         cell: found.cell,
         word: found.word,
         before: found.before,
+    }
+}
+
+/// What a look at a place gives that met this conflict.
+pub(crate) fn look_conflict(place: u64, found: tlwords::Conflict) -> Look
+    ensures { result ≡ look_met (met_at place found) }
+{
+    Look::Conflict {
+        place,
+        cell: found.cell,
+        word: found.word,
+        before: found.before,
+    }
+}
+
+/// The outcome of a run at a place of which a command is refused.
+pub(crate) fn refusal(place: u64, refused: Refused) -> Outcome
+    ensures { result ≡ refusal_of place refused }
+{
+    let Refused { index, reason } = refused;
+    Outcome::Refused {
+        place,
+        index,
+        reason,
     }
 }

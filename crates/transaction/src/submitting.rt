@@ -30,7 +30,7 @@ impl Session {
         let backoff = Backoff::new();
         for _ in rt.forever() {
             let outcome = self.attempt(alloc, library, commands);
-            let Outcome::Conflict(_) = outcome else {
+            let Outcome::Conflict { .. } = outcome else {
                 return outcome;
             };
             backoff.snooze();

@@ -119,7 +119,7 @@ fn look(alloc: Global, out: &mut Written, library: &Library, session: &mut Sessi
             let done = put_library(&mut out.bytes, &library);
             out.note(done);
         }
-        Look::Conflict(_) => out.put(b"conflict\n"),
+        Look::Conflict { .. } => out.put(b"conflict\n"),
         Look::NoMemory => out.is_short = true,
     }
 }

@@ -25,8 +25,9 @@ use wordrows::Written;
 fn put_try(out: &mut Written, place: (usize, usize), outcome: &Outcome) -> bool {
     let (s, t) = place;
     match outcome {
-        Outcome::Conflict(met) => {
-            let (cell, word, place) = (met.cell, met.word, met.place);
+        Outcome::Conflict {
+            place, cell, word, ..
+        } => {
             out.show(format_args!("{s}.{t} met {cell} {word} {place}\n"));
             true
         }

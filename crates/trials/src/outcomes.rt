@@ -1,15 +1,14 @@
 //! The lines of outcomes, and of openings that fail.
 
 use historytext::put_reply;
-use library::{Refused, Reply};
+use library::{Reason, Reply};
 use mmsyntax::{Prelude, fits};
 use std::alloc::Global;
 use transaction::{OpenError, Outcome};
 use wordrows::Written;
 
 /// Writes the line of a transaction that is refused at a place.
-pub fn put_refusal(out: &mut Written, place: u64, refused: Refused) {
-    let Refused { index, reason } = refused;
+pub fn put_refusal(out: &mut Written, place: u64, index: usize, reason: Reason) {
     out.show(format_args!("refused {place} at {index}: {reason}\n"));
 }
 
@@ -17,7 +16,7 @@ pub fn put_refusal(out: &mut Written, place: u64, refused: Refused) {
 pub fn put_replies(alloc: Global, out: &mut Written, prelude: &Prelude, replies: &[Reply]) {
     for reply in replies {
         match reply {
-            Reply::Shown { shown, .. } if !fits(prelude, &shown.assertion) => out.put(b"  unfit\n"),
+            Reply::Shown { assertion, .. } if !fits(prelude, assertion) => out.put(b"  unfit\n"),
             _ => {
                 let done = put_reply(alloc, &mut out.bytes, prelude, reply);
                 out.note(done);
@@ -37,8 +36,12 @@ pub fn put_outcome(alloc: Global, out: &mut Written, prelude: &Prelude, outcome:
             out.show(format_args!("read {place}\n"));
             put_replies(alloc, out, prelude, replies.as_slice());
         }
-        Outcome::Refused { place, refused } => put_refusal(out, *place, *refused),
-        Outcome::Conflict(_) => out.put(b"conflict\n"),
+        Outcome::Refused {
+            place,
+            index,
+            reason,
+        } => put_refusal(out, *place, *index, *reason),
+        Outcome::Conflict { .. } => out.put(b"conflict\n"),
         Outcome::StoreFull => out.put(b"store full\n"),
         Outcome::NumbersUsed => out.put(b"numbers used\n"),
         Outcome::TooManyCommands => out.put(b"too many commands\n"),

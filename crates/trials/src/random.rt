@@ -104,7 +104,7 @@ fn edit(alloc: Global, out: &mut Written, editor: &mut Editor, commands: &[Comma
     match apply(editor, alloc, commands) {
         Ok(replies) => put_replies(alloc, out, editor.prelude(), replies.as_slice()),
         Err(ApplyError::Refused(refused)) => {
-            put_refusal(out, 0, refused);
+            put_refusal(out, 0, refused.index, refused.reason);
             return refused.reason.number() as usize;
         }
         Err(ApplyError::NoMemory) => out.is_short = true,
@@ -116,7 +116,9 @@ fn edit(alloc: Global, out: &mut Written, editor: &mut Editor, commands: &[Comma
 fn write(alloc: Global, out: &mut Written, cells: &mut InCells, commands: &[Command]) {
     match cells.apply(alloc, commands) {
         Ok(replies) => put_replies(alloc, out, cells.prelude(), replies.as_slice()),
-        Err(RunError::Refused(refused)) => put_refusal(out, 0, refused),
+        Err(RunError::Refused(refused)) => {
+            put_refusal(out, 0, refused.index, refused.reason)
+        }
         Err(_) => out.is_short = true,
     }
 }

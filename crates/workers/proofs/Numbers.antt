@@ -46,8 +46,8 @@ module _ (last : Member) where
       cond-true (is_done_last number) (number ∷ []) []
       (ap is_done_last is ∙ done_at (history_of last.known.seen) told.0 (done_entry cs replies) told.2)
   outcome_filtered g cs (outcome.Read place replies) told = refl
-  outcome_filtered g cs (outcome.Refused place reason) told = refl
-  outcome_filtered g cs (outcome.Conflict met) told = refl
+  outcome_filtered g cs (outcome.Refused place index reason) told = refl
+  outcome_filtered g cs (outcome.Conflict place cell word before) told = refl
   outcome_filtered g cs outcome.StoreFull told = refl
   outcome_filtered g cs outcome.NumbersUsed told = refl
   outcome_filtered g cs outcome.TooManyCommands told = refl
@@ -56,8 +56,8 @@ module _ (last : Member) where
 pub numbers_first : (o : Outcome) (os : List Outcome) → numbers_of (o ∷ os) ≡ numbers_of (o ∷ []) ++ numbers_of os
 numbers_first (outcome.Committed number replies) os = refl
 numbers_first (outcome.Read place replies) os = refl
-numbers_first (outcome.Refused place reason) os = refl
-numbers_first (outcome.Conflict met) os = refl
+numbers_first (outcome.Refused place index reason) os = refl
+numbers_first (outcome.Conflict place cell word before) os = refl
 numbers_first outcome.StoreFull os = refl
 numbers_first outcome.NumbersUsed os = refl
 numbers_first outcome.TooManyCommands os = refl

@@ -20,7 +20,7 @@ use Rattle.lawful.specs.Lawful.{setting_given, first_library}
 use Rattle.lawful.specs.History.{history_of, CommitAgrees, AnswerAgrees, NoteAgrees, AllAgree}
 use Rattle.lawful.proofs.Entries.{length-entries_of}
 use Rattle.lending.specs.Lent.{Pass, FullStays}
-use Rattle.transaction.specs.declared.outcome.Conflict.{Conflict as Met}
+use Rattle.transaction.specs.Meeting.{Met, conflict_of}
 use Rattle.transaction.specs.declared.outcome.Outcome.{Outcome}
 use Rattle.transaction.specs.declared.outcome.Outcome.TheVariants as outcome
 use Rattle.transaction.specs.Members.{Member, IsLater, IsSoundMember}
@@ -66,20 +66,20 @@ gained_calls : (cs : List Command) (old new : Pass) (o : Outcome) → Gains cs o
     → (calls : List (Call Note)) × (new.mine ≡ old.mine ++ calls) × (length calls ≡ count_by is_answer (o ∷ []))
 gained_calls cs old new (outcome.Committed number replies) g = (Committed number g.3.0 ∷ [], g.3.2, refl)
 gained_calls cs old new (outcome.Read place replies) g = (Answered place g.3.0 ∷ [], g.3.2, refl)
-gained_calls cs old new (outcome.Refused place reason) g = (Answered place g.2.0 ∷ [], g.2.2, refl)
-gained_calls cs old new (outcome.Conflict met) g = ([], g.0 ∙ sym (append-nil old.mine), refl)
+gained_calls cs old new (outcome.Refused place index reason) g = (Answered place g.2.0 ∷ [], g.2.2, refl)
+gained_calls cs old new (outcome.Conflict place cell word before) g = ([], g.0 ∙ sym (append-nil old.mine), refl)
 gained_calls cs old new outcome.StoreFull g = ([], g.0.mine ∙ sym (append-nil old.mine), refl)
 gained_calls cs old new outcome.NumbersUsed g = ([], g.0.mine ∙ sym (append-nil old.mine), refl)
 gained_calls cs old new outcome.TooManyCommands g = ([], ap (λ (p : Pass). p.mine) g.0 ∙ sym (append-nil old.mine), refl)
 gained_calls cs old new outcome.NoMemory g = ([], g.mine ∙ sym (append-nil old.mine), refl)
 
 -- one number, or none
-gained_numbers : (cs : List Command) (old new : Pass) (o : Outcome) → Gains cs old new o → ((met : Met) → o ≢ outcome.Conflict met)
+gained_numbers : (cs : List Command) (old new : Pass) (o : Outcome) → Gains cs old new o → ((met : Met) → o ≢ conflict_of met)
     → new.drawn ≡ old.drawn ++ numbers_of (o ∷ [])
 gained_numbers cs old new (outcome.Committed number replies) g settled = g.2
 gained_numbers cs old new (outcome.Read place replies) g settled = g.2 ∙ sym (append-nil old.drawn)
-gained_numbers cs old new (outcome.Refused place reason) g settled = g.1 ∙ sym (append-nil old.drawn)
-gained_numbers cs old new (outcome.Conflict met) g settled = absurd (settled met refl)
+gained_numbers cs old new (outcome.Refused place index reason) g settled = g.1 ∙ sym (append-nil old.drawn)
+gained_numbers cs old new (outcome.Conflict place cell word before) g settled = absurd (settled (record { place = place; cell = cell; word = word; before = before }) refl)
 gained_numbers cs old new outcome.StoreFull g settled = g.0.drawn ∙ sym (append-nil old.drawn)
 gained_numbers cs old new outcome.NumbersUsed g settled = g.0.drawn ∙ sym (append-nil old.drawn)
 gained_numbers cs old new outcome.TooManyCommands g settled = ap (λ (p : Pass). p.drawn) g.0 ∙ sym (append-nil old.drawn)
@@ -123,17 +123,17 @@ module _ (g : Given) (h : List Entry) where
   refusal_told cs reason place (note.Done c r) says agrees = absurd says
   refusal_told cs reason place (note.Looked library) says agrees = absurd says
 
-  outcome_told : (cs : List Command) (old new : Pass) (o : Outcome) → Gains cs old new o → ((met : Met) → o ≢ outcome.Conflict met)
+  outcome_told : (cs : List Command) (old new : Pass) (o : Outcome) → Gains cs old new o → ((met : Met) → o ≢ conflict_of met)
       → (rest : List (Call Note)) → AllAgree g h (new.mine ++ rest) → OutcomeAgrees (setting_given g) (first_library g) h cs o
   outcome_told cs old new (outcome.Committed number replies) gains settled rest all =
       commit_told cs replies number gains.3.0.note gains.3.1
       (gained_agrees old new (Committed number) (SaysDone cs replies) gains.3 rest all)
   outcome_told cs old new (outcome.Read place replies) gains settled rest all =
       read_told cs replies place gains.3.0.note gains.3.1 (gained_agrees old new (Answered place) (SaysDone cs replies) gains.3 rest all)
-  outcome_told cs old new (outcome.Refused place reason) gains settled rest all =
+  outcome_told cs old new (outcome.Refused place index reason) gains settled rest all =
       refusal_told cs reason place gains.2.0.note gains.2.1
       (gained_agrees old new (Answered place) (SaysRefused cs reason) gains.2 rest all)
-  outcome_told cs old new (outcome.Conflict met) gains settled rest all = absurd (settled met refl)
+  outcome_told cs old new (outcome.Conflict place cell word before) gains settled rest all = absurd (settled (record { place = place; cell = cell; word = word; before = before }) refl)
   outcome_told cs old new outcome.StoreFull gains settled rest all = tt
   outcome_told cs old new outcome.NumbersUsed gains settled rest all = tt
   outcome_told cs old new outcome.TooManyCommands gains settled rest all = tt
@@ -146,8 +146,8 @@ module _ (g : Given) (h : List Entry) where
   behind_within cs (outcome.Committed number replies) place told within =
       let last = slice_get_within h told.0 (done_entry cs replies) told.2 in let is = told.1 in omega arith
   behind_within cs (outcome.Read at replies) place told within = told.0
-  behind_within cs (outcome.Refused at reason) place told within = told.0
-  behind_within cs (outcome.Conflict met) place told within = within
+  behind_within cs (outcome.Refused at index reason) place told within = told.0
+  behind_within cs (outcome.Conflict place cell word before) place told within = within
   behind_within cs outcome.StoreFull place told within = within
   behind_within cs outcome.NumbersUsed place told within = within
   behind_within cs outcome.TooManyCommands place told within = within
@@ -158,8 +158,8 @@ module _ (g : Given) (h : List Entry) where
 gained_fits : (cs : List Command) (old new : Pass) (o : Outcome) → Gains cs old new o → OutcomeFits cs o
 gained_fits cs old new (outcome.Committed number replies) g = g.0
 gained_fits cs old new (outcome.Read place replies) g = g.0
-gained_fits cs old new (outcome.Refused place reason) g = tt
-gained_fits cs old new (outcome.Conflict met) g = tt
+gained_fits cs old new (outcome.Refused place index reason) g = tt
+gained_fits cs old new (outcome.Conflict place cell word before) g = tt
 gained_fits cs old new outcome.StoreFull g = g.2
 gained_fits cs old new outcome.NumbersUsed g = tt
 gained_fits cs old new outcome.TooManyCommands g = g.1
@@ -176,8 +176,8 @@ gained_told : (cs : List Command) (old new : Pass) (o : Outcome) → Gains cs ol
     → last.known.drawn ≡ new.drawn ++ more → FullStays new last.known → ToldBy last o
 gained_told cs old new (outcome.Committed number replies) g last more drawn stays = tt
 gained_told cs old new (outcome.Read place replies) g last more drawn stays = tt
-gained_told cs old new (outcome.Refused place reason) g last more drawn stays = tt
-gained_told cs old new (outcome.Conflict met) g last more drawn stays = tt
+gained_told cs old new (outcome.Refused place index reason) g last more drawn stays = tt
+gained_told cs old new (outcome.Conflict place cell word before) g last more drawn stays = tt
 gained_told cs old new outcome.StoreFull g last more drawn stays = still_full new last.known stays new.full refl g.1
 gained_told cs old new outcome.NumbersUsed g last more drawn stays =
     let all = ap length g.0.drawn in
@@ -192,8 +192,8 @@ gained_behind : (cs : List Command) (old new : Pass) (o : Outcome) (place : ℕ)
     → StandsFrom place o
 gained_behind cs old new (outcome.Committed number replies) place g seen = let further = g.1 in omega arith
 gained_behind cs old new (outcome.Read at replies) place g seen = let further = g.1 in omega arith
-gained_behind cs old new (outcome.Refused at reason) place g seen = let further = g.0 in omega arith
-gained_behind cs old new (outcome.Conflict met) place g seen = tt
+gained_behind cs old new (outcome.Refused at index reason) place g seen = let further = g.0 in omega arith
+gained_behind cs old new (outcome.Conflict place cell word before) place g seen = tt
 gained_behind cs old new outcome.StoreFull place g seen = tt
 gained_behind cs old new outcome.NumbersUsed place g seen = tt
 gained_behind cs old new outcome.TooManyCommands place g seen = tt
@@ -206,8 +206,8 @@ gained_runs : (cs : List Command) (old new : Pass) (o : Outcome) → Gains cs ol
     → (places : List ℕ) × (new.clocks ≡ places ++ old.clocks) × (count_by is_of_run (o ∷ []) ≤ length places)
 gained_runs cs old new (outcome.Committed number replies) g one = (one.0 ∷ [], one.1, omega arith)
 gained_runs cs old new (outcome.Read place replies) g one = (place ∷ [], one, omega arith)
-gained_runs cs old new (outcome.Refused place reason) g one = (place ∷ [], one, omega arith)
-gained_runs cs old new (outcome.Conflict met) g one = (met.place ∷ [], one, omega arith)
+gained_runs cs old new (outcome.Refused place index reason) g one = (place ∷ [], one, omega arith)
+gained_runs cs old new (outcome.Conflict place cell word before) g one = (place ∷ [], one, omega arith)
 gained_runs cs old new outcome.StoreFull g one = (one.place ∷ [], one.run, omega arith)
 gained_runs cs old new outcome.NumbersUsed g one = (one.0 ∷ [], one.1, omega arith)
 gained_runs cs old new outcome.TooManyCommands g one = ([], ap (λ (p : Pass). p.clocks) g.0, omega arith)

@@ -30,8 +30,8 @@ use Rattle.workers.specs.declared.error.WorkError.TheVariants.{NoMemory, NoThrea
 abbrev pub OutcomeAgrees : Setting → List Ranked → List Entry → List Command → Outcome → Type 0
 OutcomeAgrees s lib0 h cs (outcome.Committed number replies) = Agrees s lib0 h cs (committed number replies)
 OutcomeAgrees s lib0 h cs (outcome.Read place replies) = Agrees s lib0 h cs (read place replies)
-OutcomeAgrees s lib0 h cs (outcome.Refused place reason) = Agrees s lib0 h cs (refused place reason)
-OutcomeAgrees s lib0 h cs (outcome.Conflict met) = ⊥
+OutcomeAgrees s lib0 h cs (outcome.Refused place index reason) = Agrees s lib0 h cs (refused place (record { index = index; reason = reason }))
+OutcomeAgrees s lib0 h cs (outcome.Conflict place cell word before) = ⊥
 OutcomeAgrees s lib0 h cs _ = Unit {0}
 
 -- it is one that the commands may have
@@ -58,21 +58,21 @@ is_of_run _ = true
 abbrev pub is_answer : Outcome → Bool
 is_answer (outcome.Committed number replies) = true
 is_answer (outcome.Read place replies) = true
-is_answer (outcome.Refused place reason) = true
+is_answer (outcome.Refused place index reason) = true
 is_answer _ = false
 
 -- it stands at a place, or later
 abbrev pub StandsFrom : ℕ → Outcome → Type 0
 StandsFrom place (outcome.Committed number replies) = place < number
 StandsFrom place (outcome.Read at replies) = place ≤ at
-StandsFrom place (outcome.Refused at reason) = place ≤ at
+StandsFrom place (outcome.Refused at index reason) = place ≤ at
 StandsFrom place _ = Unit {0}
 
 -- the least place of what comes behind it
 abbrev pub place_behind : ℕ → Outcome → ℕ
 place_behind place (outcome.Committed number replies) = number
 place_behind place (outcome.Read at replies) = at
-place_behind place (outcome.Refused at reason) = at
+place_behind place (outcome.Refused at index reason) = at
 place_behind place _ = place
 
 -- ---- a script

@@ -388,11 +388,12 @@ impl Draft {
         let Some((place, entry)) = find_entry(entries, &self.places, label.as_slice()) else {
             return Err(refused(index, Reason::UnknownLabel));
         };
-        let shown = entry.copy(alloc)?;
+        let assertion = entry.assertion.copy(alloc)?;
         let citers = self.count_citers(place, label.as_slice());
         Ok(Reply::Shown {
+            rank: entry.rank,
             citers: citers as u64,
-            shown,
+            assertion,
         })
     }
 
@@ -400,7 +401,7 @@ impl Draft {
         ensures { (index : ℕ) → Takes index self.now command.List result self.now }
     {
         let lines = list_lines(alloc, self.entries.as_slice(), &self.places)?;
-        Ok(Reply::Listed { lines })
+        Ok(Reply::Listed(lines))
     }
 
     fn take(&mut self, alloc: Global, index: usize, command: &Command) -> Result<Reply, ApplyError>

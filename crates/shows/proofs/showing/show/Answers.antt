@@ -58,7 +58,8 @@ returns-clause-answers g c =
     let later = finds_after s1 s3 label i on some in
     let counted : ForEachHeld s3 i (λ x l e. c.in_ok-citers.citers ≡ citers l (label_of e)) = c.in_ok-citers.ensures.ok in
     let looks = looks_trans _ _ _ c.known_slot.ensures.looks on in
-    does_reading _ s3 (Show label) (Shown c.in_ok-citers.citers c.in_ok-shown.shown) looks refl (λ st lib v.
+    let told = c.in_ok-shown.shown in
+    does_reading _ s3 (Show label) (Shown told.rank c.in_ok-citers.citers told.assertion) looks refl (λ st lib v.
     let at = later.1 st lib v in
     let e = at.entry in
     let has = (found_in lib label e at.found).0 in
@@ -66,7 +67,7 @@ returns-clause-answers g c =
     let r : c.in_ok-shown.shown ≡ e =
     held_later s2 s3 i (λ x l f. c.in_ok-shown.shown ≡ f) c.citers.ensures.looks c.in_ok-shown.ensures.ok st lib v e has at.holds in
     of_some lib label (λ f. Ok (shown lib f)) e at.found
-    ∙ (λ j. Ok (record { library = lib; reply = Shown (sym n j) (sym r j) })))
+    ∙ (λ j. Ok (record { library = lib; reply = Shown (sym r j).rank (sym n j) (sym r j).assertion })))
 
 pub returns-in_err-slot-clause-reads : goal.returns-in_err-slot-clause-reads
 returns-in_err-slot-clause-reads g c =

@@ -36,7 +36,7 @@ returns-clause-tries c =
           let met = met_is l stage over lent cs w.in-Conflict.conflict c.place-place.result w.met.result w.met.ensures
           c.place-place.ensures.value in
           let never : l.going.over ≡ None → ⊥ = λ none. let a = ends.reading none c.requires.reading in let b = w.in-Conflict.is in cc in
-          subst outcomes (sym (w.outcome-is ∙ ap outcome.Conflict met))
+          subst outcomes (sym (w.outcome-is ∙ ap conflict_of met))
           (met_only l stage over lent cs _ k o ends.over ends.ended w.in-Conflict.conflict _ (ap is_writing c.requires.reading
           ∙ sym c.requires.edit)
           w.in-Conflict.is never)
@@ -73,7 +73,7 @@ returns-clause-within c =
       | in-Conflict w ↦
           let met = met_is l lending.0 lending.1 lending.2 cs w.in-Conflict.conflict c.place-place.result w.met.result w.met.ensures
           c.place-place.ensures.value in
-          subst outcomes (sym (w.outcome-is ∙ ap outcome.Conflict met))
+          subst outcomes (sym (w.outcome-is ∙ ap conflict_of met))
           (conflict_within l lending.0 lending.1 lending.2 cs c.requires.asks
           (λ none. let a = ends.reading none c.requires.reading in let b = w.in-Conflict.is in absurd cc) _ k o ends.over ends.ended
           w.in-Conflict.conflict _ w.in-Conflict.is)

@@ -40,7 +40,7 @@ returns-clause-tries c =
           let met = met_is l stage over lent cs w.in-Conflict.conflict c.place-place.result w.met.result w.met.ensures
           c.place-place.ensures.value in
           let mapped = void_mapped w.in-Conflict.drawn w.void_record.result w.void_record.ensures in
-          subst outcomes (sym (w.outcome-is ∙ (λ j. (outcome.Conflict (met j), mapped j))))
+          subst outcomes (sym (w.outcome-is ∙ (λ j. (conflict_of (met j), mapped j))))
           (conflicts l stage over lent cs _ k o ends.over ends.ended w.in-Conflict.conflict w.in-Conflict.drawn c.requires.writes
           c.requires.edit
           w.in-Conflict.is)
@@ -81,7 +81,7 @@ returns-clause-within c =
       | in-Conflict w ↦
           let met = met_is l stage over lent cs w.in-Conflict.conflict c.place-place.result w.met.result w.met.ensures
           c.place-place.ensures.value in
-          subst outcomes (sym (ap told w.outcome-is ∙ ap outcome.Conflict met))
+          subst outcomes (sym (ap told w.outcome-is ∙ ap conflict_of met))
           (conflict_within l stage over lent cs c.requires.asks (λ none. c.requires.keeps) _ k o ends.over ends.ended w.in-Conflict.conflict
           w.in-Conflict.drawn w.in-Conflict.is)
       | in-NumbersUsed w ↦ subst outcomes (sym (ap told w.outcome-is))

@@ -34,14 +34,14 @@ returns-clause-tries c =
       | in-Read w ↦
           let a = answered l stage over lent cs _ k o ends.over ends.ended w.in-Read.place w.in-Read.is in
           subst outcomes (sym w.outcome-is)
-          (subst (λ (p : ℕ). Tries cs c.args.live.run.began k (outcome.Refused p c.args.refused) None) (sym a.0)
-          (subst (λ (z : Pass). Tries cs z k (outcome.Refused l.going.place c.args.refused) None) began
+          (subst (λ (p : ℕ). Tries cs c.args.live.run.began k (refusal_of p c.args.refused) None) (sym a.0)
+          (subst (λ (z : Pass). Tries cs z k (refusal_of l.going.place c.args.refused) None) began
           (refuses l stage over lent cs c.of.result c.of-2.result c.args.refused k c.of.ensures c.of-2.ensures a.1)))
       | in-Conflict w ↦
           let met = met_is l stage over lent cs w.in-Conflict.conflict c.place-place.result w.met.result w.met.ensures
           c.place-place.ensures.value in
-          subst outcomes (sym (w.outcome-is ∙ ap outcome.Conflict met))
-          (subst (λ (z : Pass). Tries cs z k (outcome.Conflict (met_of l stage over lent cs w.in-Conflict.conflict)) None) began
+          subst outcomes (sym (w.outcome-is ∙ ap conflict_of met))
+          (subst (λ (z : Pass). Tries cs z k (conflict_of (met_of l stage over lent cs w.in-Conflict.conflict)) None) began
           (met_only l stage over lent cs _ k o ends.over ends.ended w.in-Conflict.conflict _ writes w.in-Conflict.is
           (never_rejects l stage over lent cs _ k o ends.over ends.ended c.forget.ensures.none w.in-Conflict.conflict _ w.in-Conflict.is)))
     ]
@@ -73,7 +73,7 @@ returns-clause-within c =
     elim c.match-ended.branch [
       | in-Read w ↦
           let a = answered l lending.0 lending.1 lending.2 cs _ k o ends.over ends.ended w.in-Read.place w.in-Read.is in
-          let told = outcome.Refused w.in-Read.place c.args.refused in
+          let told = refusal_of w.in-Read.place c.args.refused in
           subst outcomes (sym w.outcome-is)
           (subst (λ (z : Pass). EndsWithin z cs k told) began
           (for_given l lending.0 lending.1 lending.2 cs k told (λ new later. tt)
@@ -81,8 +81,8 @@ returns-clause-within c =
       | in-Conflict w ↦
           let met = met_is l lending.0 lending.1 lending.2 cs w.in-Conflict.conflict c.place-place.result w.met.result w.met.ensures
           c.place-place.ensures.value in
-          subst outcomes (sym (w.outcome-is ∙ ap outcome.Conflict met))
-          (subst (λ (z : Pass). EndsWithin z cs k (outcome.Conflict (met_of l lending.0 lending.1 lending.2 cs w.in-Conflict.conflict)))
+          subst outcomes (sym (w.outcome-is ∙ ap conflict_of met))
+          (subst (λ (z : Pass). EndsWithin z cs k (conflict_of (met_of l lending.0 lending.1 lending.2 cs w.in-Conflict.conflict)))
           began
           (conflict_within l lending.0 lending.1 lending.2 cs (forgotten_asks c.args.live.run l cs c.forget.ensures c.requires.asks)
           (λ none. absurd (never_rejects l lending.0 lending.1 lending.2 cs _ k o ends.over ends.ended c.forget.ensures.none

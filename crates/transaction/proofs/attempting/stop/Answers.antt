@@ -20,7 +20,7 @@ returns-clause-tries c =
     let is : c.match-why.outcome ≡ told_of l.going.place why = elim c.match-why.branch [
       | in-Conflict w ↦
           let met = w.met.ensures ∙ ap (λ (p : ℕ). met_at p w.in-Conflict.found) place in
-          w.outcome-is ∙ ap outcome.Conflict met ∙ ap (told_of l.going.place) (sym w.in-Conflict.is)
+          w.outcome-is ∙ ap conflict_of met ∙ ap (told_of l.going.place) (sym w.in-Conflict.is)
       | in-StoreFull w ↦ w.outcome-is ∙ ap (told_of l.going.place) (sym w.in-StoreFull.is)
       | in-NoMemory w ↦ w.outcome-is ∙ ap (told_of l.going.place) (sym w.in-NoMemory.is)
     ] in
@@ -50,7 +50,7 @@ returns-clause-within c =
     let is : c.match-why.outcome ≡ told_of l.going.place why = elim c.match-why.branch [
       | in-Conflict w ↦
           let met = w.met.ensures ∙ ap (λ (p : ℕ). met_at p w.in-Conflict.found) place in
-          w.outcome-is ∙ ap outcome.Conflict met ∙ ap (told_of l.going.place) (sym w.in-Conflict.is)
+          w.outcome-is ∙ ap conflict_of met ∙ ap (told_of l.going.place) (sym w.in-Conflict.is)
       | in-StoreFull w ↦ w.outcome-is ∙ ap (told_of l.going.place) (sym w.in-StoreFull.is)
       | in-NoMemory w ↦ w.outcome-is ∙ ap (told_of l.going.place) (sym w.in-NoMemory.is)
     ] in

@@ -4,7 +4,7 @@ use Rattle.tlwords.specs.declared.outcome.Outcome.{Outcome as Answer}
 use Rattle.tlwords.specs.declared.outcome.Outcome.TheVariants as ends
 use Rattle.lawful.specs.declared.notes.Note.TheVariants.{Looked}
 use Rattle.lending.specs.Ends.{IsLawfulWith, staged_after}
-use Rattle.transaction.specs.declared.outcome.Conflict.{Conflict as Met}
+use Rattle.transaction.specs.Meeting.{Met}
 use Rattle.transaction.specs.declared.outcome.Look.TheVariants as look
 use Rattle.transaction.specs.Looks.{Sees}
 use Rattle.transaction.proofs.Ended.{met_at}

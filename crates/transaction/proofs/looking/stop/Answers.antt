@@ -25,7 +25,7 @@ returns-clause-sees c =
     let is : c.match-why.seen ≡ told_of l.going.place why = elim c.match-why.branch [
       | in-Conflict w ↦
           let met = w.met.ensures ∙ ap (λ (p : ℕ). met_at p w.in-Conflict.found) place in
-          w.seen-is ∙ ap look.Conflict met ∙ ap (told_of l.going.place) (sym w.in-Conflict.is)
+          w.seen-is ∙ ap look_met met ∙ ap (told_of l.going.place) (sym w.in-Conflict.is)
       | in-StoreFull w ↦ w.seen-is ∙ sym (told_none l.going.place why w.in-StoreFull.is)
     ] in
     subst (λ (k : Pass). Sees l.began k c.match-why.seen) (sym ended.kit)

@@ -1,5 +1,6 @@
 use Rattle.std.proofs.Common.{◌≡◌, ℕ, List, Ok, refl, sym, ap, ◌∙◌}
 use Rattle.library.specs.declared.library.Ranked.{Ranked}
+use Rattle.mmsyntax.specs.declared.statement.Assertion.{Assertion}
 use Rattle.library.specs.declared.command.Reply.TheVariants.{Shown}
 use Rattle.library.specs.Edits.{citers}
 use Rattle.history.specs.Drafts.{Drafted, now_in}
@@ -33,6 +34,6 @@ returns c =
     let count : c.count_citers-citers.result ≡ citers lib w =
     c.count_citers-citers.ensures ∙ ap (citers lib) c.as_slice-2.ensures in
     known_label i.places d.entries w p e _ own
-    ∙ ap (λ (k : List ℕ). Ok (record { library = lib; reply = Shown (citers lib k) e })) own.labelled
-    ∙ ap (λ (n : ℕ). Ok (record { library = lib; reply = Shown n e })) (sym count)
-    ∙ ap (λ (x : Ranked). Ok (record { library = lib; reply = Shown c.count_citers-citers.result x })) (sym c.in_ok-shown.ensures)
+    ∙ ap (λ (k : List ℕ). Ok (record { library = lib; reply = Shown e.rank (citers lib k) e.assertion })) own.labelled
+    ∙ ap (λ (n : ℕ). Ok (record { library = lib; reply = Shown e.rank n e.assertion })) (sym count)
+    ∙ ap (λ (x : Assertion). Ok (record { library = lib; reply = Shown e.rank c.count_citers-citers.result x })) (sym c.in_ok-assertion.ensures)
