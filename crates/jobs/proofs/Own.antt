@@ -1,5 +1,5 @@
 -- What the program answers to its own texts: `ok` to an export, and its library to the history of a run.
-use Rattle.std.proofs.Common.{◌≡◌, ◌≢◌, ◌∙◌, ℕ, zero, suc, ◌≤◌, true, List, Option, Result, Ok, Err, length, map, take, refl, sym, ap, subst, arith}
+use Rattle.std.proofs.Common.{◌≡◌, ◌≢◌, ◌∙◌, ℕ, zero, suc, ◌≤◌, true, List, Result, Ok, Err, length, map, take, refl, sym, ap, subst, arith}
 use Rattle.std.specs.Prelude.{IfOk, IfErr, String, string_bytes}
 use Rattle.std.specs.declared.alloc.Global.{Global}
 use Rattle.std.proofs.lemmas.List.{take_all}
@@ -21,7 +21,8 @@ use Rattle.checking.specs.declared.fault.Fault.{Fault}
 use Rattle.checking.specs.declared.fault.Fault.TheVariants.{Text, Proof, Differs, NoMemory}
 use Rattle.checking.specs.Outcomes.{program_setting}
 use Rattle.checking.specs.Checks.{Bytes, ok_line, replayed_lines, IsChecked, IsHistory, IsDifference, PrintsReplay, IsReplay, IsReplayFault}
-use Rattle.jobs.specs.Jobs.{IsRun, DoneAsAsked}
+use Rattle.jobs.specs.declared.job.RunOptions.{RunOptions}
+use Rattle.jobs.specs.Jobs.{Room, IsRun, DoneAsAsked}
 use Rattle.jobs.specs.Jobs.{IsFaultOf, AnswersItsOwn, IsPrintedBy}
 use Rattle.checking.specs.FaultLines.{line_of}
 use Rattle.jobs.specs.Tasks.{IsToldBy}
@@ -36,7 +37,7 @@ memory_alone _ h = absurd (h (λ e. cc))
 
 -- ---- the history of a run
 
-module _ (db text out : Bytes) (texts : List Bytes) (workers : ℕ) (room : Option ℕ) (run : IsRun db texts workers room true out text) where
+module _ (db text out : Bytes) (texts : List Bytes) (workers : ℕ) (room : Room) (run : IsRun db texts workers room true out text) where
   -- the entries that the run kept
   abbrev kept : List Entry
   kept = run.printed.entries
@@ -88,22 +89,22 @@ module _ (db text out : Bytes) (texts : List Bytes) (workers : ℕ) (room : Opti
       p.prints ∙ ap (replayed_lines (length kept)) library
 
 pub runs_faultless : RunsHaveNoFaultAgain
-runs_faultless db history texts workers room out f run short h =
+runs_faultless options db history texts workers room out f run short h =
     replay_faultless db.items history.items out texts workers room run short f h
 
 -- ---- what is answered, and told
 
-pub answers_its_own : (j : Job) (answer : Result Printed Fault) → IfOk answer (DoneAsAsked j)
-    → IfErr answer (λ f. f ≢ NoMemory → IsFaultOf j f) → AnswersItsOwn j (IsPrintedBy answer)
-answers_its_own (Check db) (Ok printed) done fault =
+pub answers_its_own : (options : RunOptions) (j : Job) (answer : Result Printed Fault) → IfOk answer (DoneAsAsked options j)
+    → IfErr answer (λ f. f ≢ NoMemory → IsFaultOf options j f) → AnswersItsOwn j (IsPrintedBy answer)
+answers_its_own options (Check db) (Ok printed) done fault =
     λ a short.
     let checked = accepted_checks db.items a short in
     done.0.prints ∙ ap ok_line (one_database db.items done.0.contents a.database done.0.checked.read checked.read)
-answers_its_own (Check db) (Err f) done fault = λ a short. memory_alone f (λ ne. accepted_faultless db.items a short f (fault ne))
-answers_its_own (Run db texts workers room asked) answer done fault = tt
-answers_its_own (Replay db history) (Ok printed) done fault =
+answers_its_own options (Check db) (Err f) done fault = λ a short. memory_alone f (λ ne. accepted_faultless db.items a short f (fault ne))
+answers_its_own options (Run db texts workers room) answer done fault = tt
+answers_its_own options (Replay db history) (Ok printed) done fault =
     λ texts workers room out run short. replay_printed db.items history.items out texts workers room run printed.out.items done.0
-answers_its_own (Replay db history) (Err f) done fault =
+answers_its_own options (Replay db history) (Err f) done fault =
     λ texts workers room out run short. memory_alone f
     (λ ne. replay_faultless db.items history.items out texts workers room run short f (fault ne))
 
@@ -111,6 +112,6 @@ answers_its_own (Replay db history) (Err f) done fault =
 pub tells_its_own : (j : Job) (f : Fault) (paths : List Bytes) (line : String Global) → string_bytes line ≡ line_of paths f
     → AnswersItsOwn j (IsPrintedBy (Err f)) → AnswersItsOwn j (IsToldBy (Refused line))
 tells_its_own (Check db) f paths line told own = λ a short. told ∙ ap (line_of paths) (own a short)
-tells_its_own (Run db texts workers room asked) f paths line told own = tt
+tells_its_own (Run db texts workers room) f paths line told own = tt
 tells_its_own (Replay db history) f paths line told own =
     λ texts workers room out run short. told ∙ ap (line_of paths) (own texts workers room out run short)

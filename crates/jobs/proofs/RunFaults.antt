@@ -1,5 +1,5 @@
 -- The faults of a run: that of its database, that of a script, and bodies that its room has no place for; and which is answered.
-use Rattle.std.proofs.Common.{◌≡◌, ◌≢◌, ◌∙◌, ◌+◌, ◌<◌, ◌⊎◌, inl, inr, Bool, ℕ, zero, suc, List, Option, Some, None, Result, Ok, Err, subst, sym, ap, refl, arith}
+use Rattle.std.proofs.Common.{◌≡◌, ◌≢◌, ◌∙◌, ◌+◌, ◌<◌, ◌⊎◌, inl, inr, Bool, true, false, ℕ, zero, suc, List, Result, Ok, Err, subst, sym, ap, refl, arith}
 use Rattle.std.specs.Prelude.{IfOk, IfErr}
 use Rattle.mmtext.specs.declared.fault.TextFault.{TextFault}
 use Rattle.mmsyntax.specs.Tables.{Tables, Contents}
@@ -8,8 +8,9 @@ use Rattle.checking.specs.declared.fault.Fault.{Fault}
 use Rattle.checking.specs.declared.fault.Fault.TheVariants.{Text, Proof, StoreFull, NoMemory}
 use Rattle.jobs.specs.declared.job.Job.{Job}
 use Rattle.jobs.specs.declared.job.Printed.{Printed}
+use Rattle.jobs.specs.declared.job.RunOptions.{RunOptions}
 use Rattle.checking.specs.Checks.{Bytes, Orders, IsChecked, AreScripts, IsFirstFaultyScript, IsDatabaseFault, IsOrLacksMemory, RefusesWith}
-use Rattle.jobs.specs.Jobs.{room_of, PrintsRun, IsRun}
+use Rattle.jobs.specs.Jobs.{Room, room_of, PrintsRun, IsRun}
 use Rattle.jobs.specs.Jobs.{IsRunFault, IsRunLack, IsFaultOf, IsLackOf}
 use Rattle.checking.specs.Parts.{IsScriptFault, IsRefusedBy}
 use Rattle.jobs.specs.Parts.{IsWorkFault}
@@ -19,20 +20,20 @@ use Rattle.checking.proofs.ScriptFaults.{no_first}
 -- ---- what is answered
 
 -- the fault of the database is one of the run
-pub database_of_run : (db : Bytes) (texts : List Bytes) (room : Option ℕ) (f : Fault) → IsDatabaseFault db f → IsRunFault db texts room f
+pub database_of_run : (db : Bytes) (texts : List Bytes) (room : Room) (f : Fault) → IsDatabaseFault db f → IsRunFault db texts room f
 database_of_run db texts room (Text zero g) h = h
 database_of_run db texts room (Proof label g) h = h
 database_of_run db texts room _ h = absurd h
 
 -- so is that of a script
-pub script_of_run : (db : Bytes) (texts : List Bytes) (room : Option ℕ) (contents : Contents) (p : Tables) (f : Fault)
+pub script_of_run : (db : Bytes) (texts : List Bytes) (room : Room) (contents : Contents) (p : Tables) (f : Fault)
     → p ≡ contents.prelude → IsChecked db contents → IsScriptFault p texts f → f ≢ NoMemory → IsRunFault db texts room f
 script_of_run db texts room contents p NoMemory over checked h ne = absurd (ne refl)
 script_of_run db texts room contents p (Text (suc k) g) over checked h ne =
     ((contents, checked, subst (λ t. IsFirstFaultyScript t texts k g) over h.0), h.1)
 script_of_run db texts room contents p _ over checked h ne = absurd h
 
-module _ (db : Bytes) (texts : List Bytes) (workers : ℕ) (room : Option ℕ) (contents : Contents) (scripts : List Orders)
+module _ (db : Bytes) (texts : List Bytes) (workers : ℕ) (room : Room) (contents : Contents) (scripts : List Orders)
     (checked : IsChecked db contents)
     (ordered : AreScripts contents.prelude texts scripts) where
   -- and too small a room, where all scripts are read. Else the run came to no end
@@ -49,20 +50,25 @@ module _ (db : Bytes) (texts : List Bytes) (workers : ℕ) (room : Option ℕ) (
 
   pub run_done : (asked : Bool) (r : Result Printed Fault)
       → IfOk r (λ p. PrintsRun contents workers room asked scripts p.out.items p.history.items)
-      → IfOk r (λ p. IsRun db texts workers room asked p.out.items p.history.items)
+      → IfOk r (λ p. IsRun db texts workers room p.out.items p.history.items)
   run_done asked (Ok printed) h = record { contents = contents; checked = checked; scripts = scripts; ordered = ordered; printed = h }
   run_done asked (Err f) h = h
 
 -- ---- which is answered
 
--- a room is too small for the bodies of a database whatever the scripts are: that of a run that isn't given one only where none is larger
-too_small : (room : Option ℕ) (db : Contents) (scripts others : List Orders) → room_of room db scripts < all_bodies_length db.assertions
+-- a room is too small for the bodies of a database whatever the scripts are: one that may grow only where none is larger
+small_for_all : (grows : Bool) (words : ℕ) (db : Contents) (scripts others : List Orders)
+    → room_of (record { words = words; may_grow = grows }) db scripts < all_bodies_length db.assertions
+    → room_of (record { words = words; may_grow = grows }) db others < all_bodies_length db.assertions
+small_for_all true words db scripts others h = omega (arith, h)
+small_for_all false words db scripts others h = h
+
+too_small : (room : Room) (db : Contents) (scripts others : List Orders) → room_of room db scripts < all_bodies_length db.assertions
     → room_of room db others < all_bodies_length db.assertions
-too_small (Some words) db scripts others h = h
-too_small None db scripts others h = omega (arith, h)
+too_small room = small_for_all room.may_grow room.words
 
 -- a run whose database is refused is refused with it
-pub run_refused_by_database : (text : Bytes) (texts : List Bytes) (room : Option ℕ) (answer f : Fault)
+pub run_refused_by_database : (text : Bytes) (texts : List Bytes) (room : Room) (answer f : Fault)
     → ((g : Fault) → IsDatabaseFault text g → IsOrLacksMemory g answer)
     → ((contents : Contents) → IsChecked text contents → answer ≡ NoMemory) → IsRunFault text texts room f → IsOrLacksMemory f answer
 run_refused_by_database text texts room answer (Text zero g) database only h = database (Text zero g) h
@@ -71,7 +77,7 @@ run_refused_by_database text texts room answer (Proof label g) database only h =
 run_refused_by_database text texts room answer StoreFull database only h = inr (only h.0 h.2)
 run_refused_by_database text texts room answer _ database only h = absurd h
 
-module _ (text : Bytes) (texts : List Bytes) (room : Option ℕ) (db : Contents) (p : Tables) (over : p ≡ db.prelude)
+module _ (text : Bytes) (texts : List Bytes) (room : Room) (db : Contents) (p : Tables) (over : p ≡ db.prelude)
     (none : (g : Fault) → IsDatabaseFault text g → ⊥)
     (same : (contents : Contents) → IsChecked text contents → db ≡ contents) where
   -- the first fault of the scripts over the one database that is read
@@ -120,7 +126,7 @@ module _ (text : Bytes) (texts : List Bytes) (room : Option ℕ) (db : Contents)
 -- ---- jobs that come to an end
 
 -- a fault is one of the job's, or why it came to no end
-pub has_fault : {A : Type 0} (j : Job) (r : Result A Fault) → IfErr r (λ f. f ≢ NoMemory → IsFaultOf j f)
-    → IfErr r (λ f. f ≢ NoMemory → IsFaultOf j f ⊎ IsLackOf j f)
-has_fault j (Ok a) h = h
-has_fault j (Err f) h = λ ne. inl (h ne)
+pub has_fault : {A : Type 0} (options : RunOptions) (j : Job) (r : Result A Fault) → IfErr r (λ f. f ≢ NoMemory → IsFaultOf options j f)
+    → IfErr r (λ f. f ≢ NoMemory → IsFaultOf options j f ⊎ IsLackOf j f)
+has_fault options j (Ok a) h = h
+has_fault options j (Err f) h = λ ne. inl (h ne)

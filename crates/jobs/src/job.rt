@@ -8,20 +8,27 @@ pub enum Job {
         db: Vec<u8>,
     },
     /// Runs the scripts over the library of a database, with so many workers, 1 to 64, each of which claims the next script. The store of
-    /// the library has room for so many words, at most 16,777,216, if a room is given, and else for as many as the run can need. The
-    /// history's text is written where it is asked for.
+    /// the library has room for so many words, at most 16,777,216.
     Run {
         db: Vec<u8>,
         scripts: Vec<Vec<u8>>,
         workers: usize,
-        room: Option<usize>,
-        history: bool,
+        room: usize,
     },
     /// Does the transactions of a history again, over the library of a database, and compares their replies.
     Replay {
         db: Vec<u8>,
         history: Vec<u8>,
     },
+}
+
+/// What is asked of a run besides its job. Of other jobs nothing is.
+#[derive(Clone, Copy, Debug, PartialEq, Eq)]
+pub struct RunOptions {
+    /// Whether the store has room for as many words as the run can need, where these are more than those of the job.
+    pub may_grow: bool,
+    /// Whether the text of the history is made.
+    pub history: bool,
 }
 
 /// What a job prints.

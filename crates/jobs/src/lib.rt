@@ -9,7 +9,8 @@
 //!     db: Vec<u8>,
 //! ) -> Option<Vec<u8>> {
 //!     let job = Job::Check { db };
-//!     match perform(rt, rt.alloc(), keys, &job, &Open) {
+//!     let options = RunOptions { may_grow: false, history: false };
+//!     match perform(rt, rt.alloc(), keys, &job, options, &Open) {
 //!         Ok(printed) => Some(printed.out),
 //!         Err(_fault) => None,
 //!     }
@@ -28,9 +29,9 @@ mod watching;
 pub use answering::{Answered, answer};
 pub use checking::{Fault, Task, spelled_scripts_fit};
 pub use editing::{EditError, Edited, edit_all};
-pub use job::{Job, Printed};
+pub use job::{Job, Printed, RunOptions};
 pub use laws::{accepted_texts_check, fault_labels_are_shown, runs_are_replayed};
 pub use performing::perform;
-pub use task::job_of;
+pub use task::{job_of, options_of};
 pub use watching::Watch;
 pub use workers::{Gate, Open};

@@ -1,14 +1,14 @@
 //! A job from bytes to bytes.
 
-ghost use Rattle.std.specs.Prelude.{◌≢◌, ◌⊎◌, IfOk, IfErr, map};
+ghost use Rattle.std.specs.Prelude.{◌≢◌, ◌⊎◌, IfOk, IfErr, Some, map};
 ghost use Rattle.checking.specs.declared.fault.Fault.{Fault as FaultOfJob};
 ghost use Rattle.checking.specs.declared.fault.Fault.TheVariants.{NoMemory};
 ghost use Rattle.checking.specs.Tasks.{IsWithin};
-ghost use Rattle.jobs.specs.Jobs.{AreWithin, IsRun, DoneAsAsked};
+ghost use Rattle.jobs.specs.Jobs.{AreWithin, IsRun, DoneAsAsked, room_asked};
 ghost use Rattle.jobs.specs.Jobs.{IsRunFault, IsRunLack, IsFaultOf, IsLackOf, AnswersItsOwn, IsPrintedBy};
 ghost use Rattle.checking.specs.Checks.{RefusesWith};
 
-use crate::job::{Job, Printed};
+use crate::job::{Job, Printed, RunOptions};
 use crate::running::{Plan, print_run};
 use crate::watching::Watch;
 use checking::{Fault, check, read_and_check, read_scripts, replay};
@@ -27,20 +27,22 @@ fn run(
     plan: Plan,
     watch: &(impl Watch + Sync),
 ) -> Result<Printed, Fault>
-    requires within { IsWithin plan.workers plan.room }
-    ensures done { IfOk result (λ p. IsRun db.now
-        (map (λ t. t.items) scripts.now) plan.workers plan.room plan.history p.out.items p.history.items) }
-    ensures fault { IfErr result (λ f. f ≢ NoMemory → IsRunFault db.now (map (λ t. t.items) scripts.now) plan.room f
-        ⊎ IsRunLack plan.workers f) }
-    ensures refused { (f : FaultOfJob) → IsRunFault db.now (map (λ t. t.items) scripts.now) plan.room f → RefusesWith f result }
+    requires within { IsWithin plan.workers (Some plan.room) }
+    ensures done { IfOk result (λ p. IsRun db.now (map (λ t. t.items) scripts.now) plan.workers (room_asked plan.options plan.room)
+        plan.options.history p.out.items p.history.items) }
+    ensures fault { IfErr result (λ f. f ≢ NoMemory
+        → IsRunFault db.now (map (λ t. t.items) scripts.now) (room_asked plan.options plan.room) f ⊎ IsRunLack plan.workers f) }
+    ensures refused { (f : FaultOfJob) → IsRunFault db.now (map (λ t. t.items) scripts.now) (room_asked plan.options plan.room) f
+        → RefusesWith f result }
 {
     let db = read_and_check(rt, alloc, keys, db)?;
     let scripts = read_scripts(alloc, db.prelude(), scripts)?;
     print_run(rt, alloc, keys, &db, scripts.as_slice(), plan, watch)
 }
 
-/// Does a job on texts, without files. The workers and the room of a run are within their limits. Who watches is told of a run while its
-/// scripts are run. It may wait.
+/// Does a job on texts, without files. The workers and the room of a run are within their limits. The options say whether its store may
+/// have more room, and whether its history's text is made; without them it is as `RunOptions { may_grow: false, history: true }`. Who
+/// watches is told of a run while its scripts are run. It may wait.
 ///
 /// The faults are found in this order: the database's text, its proofs, then each script's text, or the history's text and the first of
 /// its entries that differs; then the opening of a run's library, the run, and its end. A job that has one prints nothing.
@@ -49,17 +51,18 @@ pub fn perform(
     alloc: Global,
     keys: RandomState,
     job: &Job,
+    options: RunOptions,
     watch: &(impl Watch + Sync),
 ) -> Result<Printed, Fault>
     requires { AreWithin job.now }
     // The texts are read as they are spelled. A run prints the report of what becomes of all its transactions, and then, as a replay does,
     // the exported text of the library after its history. The history tells of these outcomes, and is legal; a replayed history is legal
     // too.
-    ensures done { IfOk result (λ p. DoneAsAsked job.now p) }
+    ensures done { IfOk result (λ p. DoneAsAsked options job.now p) }
     // The fault is the first that the job has; or a run came to no end; or memory ran out.
-    ensures fault { IfErr result (λ f. f ≢ NoMemory → IsFaultOf job.now f ⊎ IsLackOf job.now f) }
+    ensures fault { IfErr result (λ f. f ≢ NoMemory → IsFaultOf options job.now f ⊎ IsLackOf job.now f) }
     // The first fault that the job has is answered, unless memory runs out.
-    ensures refused { (f : FaultOfJob) → IsFaultOf job.now f → RefusesWith f result }
+    ensures refused { (f : FaultOfJob) → IsFaultOf options job.now f → RefusesWith f result }
     // To an accepted text of at most 16,777,216 bytes, as each such export is, a check answers `ok`, unless memory runs out; and to the
     // history of a run over the same database a replay answers the library of that run.
     ensures own { AnswersItsOwn job.now (IsPrintedBy result) }
@@ -71,12 +74,11 @@ pub fn perform(
             scripts,
             workers,
             room,
-            history,
         } => {
             let plan = Plan {
                 workers: *workers,
                 room: *room,
-                history: *history,
+                options,
             };
             return run(
                 rt,

@@ -1,6 +1,6 @@
 //! Scripts run over the library of a database by workers, and what is printed of it.
 
-ghost use Rattle.std.specs.Prelude.{◌≡◌, ℕ, ◌<◌, ◌^◌, ◌++◌, [], if◌then◌else◌, All, IfOk, IfErr, Option, Some, length};
+ghost use Rattle.std.specs.Prelude.{◌≡◌, ℕ, ◌<◌, ◌^◌, ◌++◌, [], if◌then◌else◌, All, IfOk, IfErr, Some, length};
 ghost use Rattle.derivation.specs.Databases.{AllCheck};
 ghost use Rattle.library.specs.Fitting.{CommandFits};
 ghost use Rattle.plaincells.specs.Measures.{all_bodies_length};
@@ -9,12 +9,12 @@ ghost use Rattle.historytext.specs.Layout.{EntryFitsText, history_text};
 ghost use Rattle.transaction.specs.Closings.{lists_of};
 ghost use Rattle.checking.specs.declared.fault.Fault.TheVariants.{StoreFull};
 ghost use Rattle.checking.specs.Tasks.{IsWithin};
-ghost use Rattle.jobs.specs.Jobs.{IsWorked, PrintsRun, room_of};
+ghost use Rattle.jobs.specs.Jobs.{IsWorked, PrintsRun, Room, room_asked, room_of};
 ghost use Rattle.checking.specs.Checks.{RefusesWith, library_lines};
 ghost use Rattle.jobs.specs.Parts.{IsOpenFault, IsWorkFault, from_edit, shape_with};
 ghost use Rattle.reports.specs.Reports.{AreReportable, report_text};
 
-use crate::job::Printed;
+use crate::job::{Printed, RunOptions};
 use crate::watching::Watch;
 use checking::{Fault, SLOTS};
 use editing::{EditError, Edited, edit_all};
@@ -35,21 +35,22 @@ use transaction::{Library, OpenError, Outcome, Session, Shape};
 pub(crate) struct Plan {
     /// How many workers it has, 1 to 64.
     pub(crate) workers: usize,
-    /// For how many words its store has room, at most 16,777,216. None: for as many as it can need.
-    pub(crate) room: Option<usize>,
-    /// Whether the text of its history is asked for.
-    pub(crate) history: bool,
+    /// For how many words its store has room, at most 16,777,216.
+    pub(crate) room: usize,
+    /// Whether it may have room for more, and whether the text of its history is asked for.
+    pub(crate) options: RunOptions,
 }
 
-/// How the library of a run lies in words: in the room that was asked for, or in one that the run can need.
+/// How the library of a run lies in words: in the room that was asked for, or in a larger one that the run can need, where it may have it.
 fn shape(plan: Plan, db: &Database, scripts: &[Script]) -> Shape
-    requires { IsWithin plan.workers plan.room }
-    ensures is { result ≡ shape_with plan.workers (room_of plan.room db.now scripts.now) }
+    requires { IsWithin plan.workers (Some plan.room) }
+    ensures is { result ≡ shape_with plan.workers (room_of (room_asked plan.options plan.room) db.now scripts.now) }
     ensures within { IsWithin plan.workers (Some result.room) }
 {
-    let room = match plan.room {
-        Some(room) => room,
-        None => room_for(db, scripts),
+    let room = if plan.options.may_grow {
+        plan.room.max(room_for(db, scripts))
+    } else {
+        plan.room
     };
     Shape {
         slots: SLOTS,
@@ -115,12 +116,12 @@ fn edit(
     watch: &(impl Watch + Sync),
 ) -> Result<Edited, Fault>
     requires checks { AllCheck db.now }
-    requires within { IsWithin plan.workers plan.room }
+    requires within { IsWithin plan.workers (Some plan.room) }
     requires fit { All (All (All (CommandFits db.now.prelude))) scripts.now }
-    ensures done { IfOk result (λ e. IsWorked db.now plan.workers (room_of plan.room db.now scripts.now) scripts.now
+    ensures done { IfOk result (λ e. IsWorked db.now plan.workers (room_of (room_asked plan.options plan.room) db.now scripts.now) scripts.now
         (lists_of e.outcomes.items) e.history e.library) }
-    ensures fault { IfErr result (IsWorkFault db.now plan.workers (room_of plan.room db.now scripts.now)) }
-    ensures full { room_of plan.room db.now scripts.now < all_bodies_length db.now.assertions → RefusesWith StoreFull result }
+    ensures fault { IfErr result (IsWorkFault db.now plan.workers (room_of (room_asked plan.options plan.room) db.now scripts.now)) }
+    ensures full { room_of (room_asked plan.options plan.room) db.now scripts.now < all_bodies_length db.now.assertions → RefusesWith StoreFull result }
 {
     let (library, sessions) = open(alloc, keys, db, shape(plan, db, scripts))?;
     watch.begin(scripts.len(), transactions_of(scripts));
@@ -186,7 +187,7 @@ fn print_edited(
     requires fit { All (All (All (CommandFits db.now.prelude))) scripts.now }
     requires worked { (workers : ℕ) × (room : ℕ)
         × IsWorked db.now workers room scripts.now (lists_of edited.outcomes.items) edited.history edited.library }
-    ensures { (workers : ℕ) (room : Option ℕ) →
+    ensures { (workers : ℕ) (room : Room) →
         IsWorked db.now workers (room_of room db.now scripts.now) scripts.now
         (lists_of edited.outcomes.items) edited.history edited.library →
         IfOk result (λ p. PrintsRun db.now workers room asked scripts.now p.out.items p.history.items) }
@@ -220,12 +221,18 @@ pub(crate) fn print_run(
     watch: &(impl Watch + Sync),
 ) -> Result<Printed, Fault>
     requires checks { AllCheck db.now }
-    requires within { IsWithin plan.workers plan.room }
+    requires within { IsWithin plan.workers (Some plan.room) }
     requires fit { All (All (All (CommandFits db.now.prelude))) scripts.now }
-    ensures done { IfOk result (λ p. PrintsRun db.now plan.workers plan.room plan.history scripts.now p.out.items p.history.items) }
-    ensures fault { IfErr result (IsWorkFault db.now plan.workers (room_of plan.room db.now scripts.now)) }
-    ensures full { room_of plan.room db.now scripts.now < all_bodies_length db.now.assertions → RefusesWith StoreFull result }
+    ensures done { IfOk result (λ p. PrintsRun db.now plan.workers (room_asked plan.options plan.room) plan.options.history scripts.now p.out.items p.history.items) }
+    ensures fault { IfErr result (IsWorkFault db.now plan.workers (room_of (room_asked plan.options plan.room) db.now scripts.now)) }
+    ensures full { room_of (room_asked plan.options plan.room) db.now scripts.now < all_bodies_length db.now.assertions → RefusesWith StoreFull result }
 {
     let edited = edit(rt, alloc, keys, db, scripts, plan, watch)?;
-    Ok(print_edited(alloc, db, scripts, edited, plan.history)?)
+    Ok(print_edited(
+        alloc,
+        db,
+        scripts,
+        edited,
+        plan.options.history,
+    )?)
 }

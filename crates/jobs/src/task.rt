@@ -1,14 +1,18 @@
 //! The job of texts.
 
-ghost use Rattle.std.specs.Prelude.{◌↔◌, length, map, IfSome, IsNone};
+ghost use Rattle.std.specs.Prelude.{◌≡◌, ◌↔◌, length, map, IfSome, IsNone};
 ghost use Rattle.checking.specs.Tasks.{TakesTexts};
-ghost use Rattle.jobs.specs.Tasks.{IsJobOf};
+ghost use Rattle.jobs.specs.Tasks.{IsJobOf, options_asked};
 
-use crate::job::Job;
+use crate::job::{Job, RunOptions};
 use checking::Task;
 
+/// For how many words the store of a run has room at least that isn't given a room.
+const LEAST_ROOM: usize = 1_048_576;
+
 /// The job of a task on texts, the first of which is the database: a check takes no other, a run the scripts behind it, all of them and in
-/// their order, and a replay the one history behind it. None for any other number of texts.
+/// their order, and a replay the one history behind it. None for any other number of texts. A run that isn't given a room has one of
+/// 1,048,576 words.
 pub fn job_of(task: Task, mut texts: Vec<Vec<u8>>) -> Option<Job>
     ensures job { IfSome result (λ job. IsJobOf task (map (λ t. t.items) texts.items) job) }
     ensures none { IsNone result ↔ ¬ TakesTexts task (length texts.items) }
@@ -22,18 +26,33 @@ pub fn job_of(task: Task, mut texts: Vec<Vec<u8>>) -> Option<Job>
         Task::Run {
             workers,
             room,
-            history,
+            history: _,
         } => Some(Job::Run {
             db,
             scripts: texts,
             workers,
-            room,
-            history,
+            room: room.unwrap_or(LEAST_ROOM),
         }),
         Task::Replay if texts.len() == 1 => {
             let history = texts.pop()?;
             Some(Job::Replay { db, history })
         }
         Task::Check | Task::Replay => None,
+    }
+}
+
+/// What a task asks of its run besides the job: a store that isn't given a room may have more than the least.
+pub fn options_of(task: Task) -> RunOptions
+    ensures { result ≡ options_asked task }
+{
+    match task {
+        Task::Run { room, history, .. } => RunOptions {
+            may_grow: room.is_none(),
+            history,
+        },
+        Task::Check | Task::Replay => RunOptions {
+            may_grow: false,
+            history: false,
+        },
     }
 }

@@ -7,8 +7,9 @@ use Rattle.clap.specs.declared.error.kind.ErrorKind.TheVariants.{OutOfMemory}
 use Rattle.clap.specs.Words.{HasKind, Row, Text, fault_of, kind_of, subcommand_of}
 use Rattle.jobs.specs.declared.answering.Answered.{Answered}
 use Rattle.jobs.specs.declared.job.Job.{Job}
+use Rattle.jobs.specs.declared.job.RunOptions.{RunOptions}
 use Rattle.checking.specs.declared.task.Task.{Task}
-use Rattle.jobs.specs.Tasks.{IsJobOf}
+use Rattle.jobs.specs.Tasks.{IsJobOf, options_asked}
 use Rattle.program.specs.declared.conduct.Unread.{Unread}
 use Rattle.program.specs.declared.conduct.Unread.TheVariants as unread
 use Rattle.commandline.specs.CommandLine.{program_app}
@@ -17,19 +18,21 @@ use Rattle.commandline.specs.Orders.{IsOrder}
 use Rattle.program.specs.Conduct.{EndsBy, IsAnswer, IsAnswered, IsFollowed, IsJobAnswered, IsMatched, IsObeyed, IsShown, IsStopped, IsTold, IsUnread, IsUnreadTold, reads_of}
 use Rattle.program.proofs.Behind.{EndsBy-behind, EndsBy-weaker, are_quiet, quiet_nothing}
 
-pub job_answered : {E : Type 0} (paths shown : List Bytes) (history : Option Bytes) (job : Job) (told : Answered) (es : List Event)
-    (r : Result ℕ E)
-    → shown ≡ paths → IsAnswer shown job told → EndsBy (IsTold history told) es r → EndsBy (IsJobAnswered paths history job) es r
-job_answered paths shown history job told es r same answer ends =
-    EndsBy-weaker (IsTold history told) (IsJobAnswered paths history job) es r
-    (λ status is. (told, subst (λ (ps : List Bytes). IsAnswer ps job told) same answer, is)) ends
+pub job_answered : {E : Type 0} (paths shown : List Bytes) (history : Option Bytes) (options : RunOptions) (job : Job) (told : Answered)
+    (es : List Event) (r : Result ℕ E)
+    → shown ≡ paths → IsAnswer shown options job told → EndsBy (IsTold history told) es r
+    → EndsBy (IsJobAnswered paths history options job) es r
+job_answered paths shown history options job told es r same answer ends =
+    EndsBy-weaker (IsTold history told) (IsJobAnswered paths history options job) es r
+    (λ status is. (told, subst (λ (ps : List Bytes). IsAnswer ps options job told) same answer, is)) ends
 
 pub texts_answered : {E : Type 0} (keyed : Bool) (task : Task) (paths : List Bytes) (history : Option Bytes) (texts : List Bytes)
-    (job : Job) (es : List Event)
-    (r : Result ℕ E) → IsJobOf task texts job → EndsBy (IsJobAnswered paths history job) es r
+    (job : Job) (options : RunOptions) (es : List Event)
+    (r : Result ℕ E) → options ≡ options_asked task → IsJobOf task texts job → EndsBy (IsJobAnswered paths history options job) es r
     → EndsBy (IsAnswered keyed task paths history texts) es r
-texts_answered keyed task paths history texts job es r of ends =
-    EndsBy-weaker (IsJobAnswered paths history job) (IsAnswered keyed task paths history texts) es r (λ status is. inl (job, of, is)) ends
+texts_answered keyed task paths history texts job options es r asked of ends =
+    EndsBy-weaker (IsJobAnswered paths history options job) (IsAnswered keyed task paths history texts) es r
+    (λ status is. inl (job, of, subst (λ (o : RunOptions). IsJobAnswered paths history o job es status) asked is)) ends
 
 pub followed : {E : Type 0} (keyed : Bool) (task : Task) (paths shown : List Bytes) (history : Option Bytes) (texts : List Bytes)
     (es rest : List Event)

@@ -8,9 +8,10 @@ use Rattle.jobs.specs.declared.answering.Answered.{Answered}
 use Rattle.jobs.specs.declared.answering.Answered.TheVariants.{Done, Refused}
 use Rattle.checking.specs.declared.fault.Fault.{Fault}
 use Rattle.jobs.specs.declared.job.Job.{Job}
+use Rattle.jobs.specs.declared.job.RunOptions.{RunOptions}
 use Rattle.checking.specs.declared.task.Task.{Task}
 use Rattle.jobs.specs.Jobs.{IsFaultOf, AnswersItsOwn}
-use Rattle.jobs.specs.Tasks.{Answers, IsJobOf, IsLineOf, IsToldBy}
+use Rattle.jobs.specs.Tasks.{Answers, IsJobOf, IsLineOf, IsToldBy, options_asked}
 use Rattle.checking.specs.Tasks.{TakesTexts}
 use Rattle.program.specs.declared.conduct.Unread.{Unread}
 use Rattle.program.specs.declared.conduct.Unread.TheVariants as unread
@@ -84,20 +85,21 @@ AreRead paths texts es (Ok done) = (length texts ≡ length paths) × (es ≡ re
 AreRead paths texts es (Err u) = IsStopped paths texts es u
 
 -- the answer to a job of these paths
-pub record IsAnswer (paths : List Bytes) (job : Job) (told : Answered) : Type 0 where
-  pub answers : Answers paths job told
-  pub refused : (f : Fault) → IsFaultOf job f → IsLineOf paths f told
+pub record IsAnswer (paths : List Bytes) (options : RunOptions) (job : Job) (told : Answered) : Type 0 where
+  pub answers : Answers paths options job told
+  pub refused : (f : Fault) → IsFaultOf options job f → IsLineOf paths f told
   pub own : AnswersItsOwn job (IsToldBy told)
 
 -- the answer to a job is told
-abbrev pub IsJobAnswered : List Bytes → Option Bytes → Job → List Event → ℕ → Type 0
-IsJobAnswered paths history job es status = (told : Answered) × IsAnswer paths job told × IsTold history told es status
+abbrev pub IsJobAnswered : List Bytes → Option Bytes → RunOptions → Job → List Event → ℕ → Type 0
+IsJobAnswered paths history options job es status =
+    (told : Answered) × IsAnswer paths options job told × IsTold history told es status
 
 -- the texts are the job of a task, whose answer is told; or the system gives no random numbers, which is said; or so many texts aren't a
 -- job
 abbrev pub IsAnswered : Bool → Task → List Bytes → Option Bytes → List Bytes → List Event → ℕ → Type 0
 IsAnswered keyed task paths history texts es status =
-    ((job : Job) × IsJobOf task texts job × IsJobAnswered paths history job es status)
+    ((job : Job) × IsJobOf task texts job × IsJobAnswered paths history (options_asked task) job es status)
     ⊎ (IsUnkeyed keyed es status
     ⊎ ((TakesTexts task (length texts) → ⊥) × IsSaid (codes "the command line cannot be read") es status))
 

@@ -14,7 +14,7 @@ use crate::world::{Trouble, World};
 use clap::ArgMatches;
 use clap::error::ErrorKind;
 use commandline::{Order, command_line, give_of, order_of};
-use jobs::{Answered, Job, Watch, answer, job_of};
+use jobs::{Answered, Job, RunOptions, Watch, answer, job_of, options_of};
 use std::alloc::{AllocError, Global};
 use std::hash::RandomState;
 use std::sync::Wait;
@@ -149,13 +149,14 @@ fn answer_job<R: Threads + Wait + Sync, W: World, V: Watch + Sync>(
     keys: RandomState,
     order: &Order<'_>,
     job: &Job,
+    options: RunOptions,
     watch: &V,
 ) -> Result<u8, AllocError>
     requires { AreWithin job.now }
     ensures { (es : List Event) × Adds (W.done world.old) (W.done world.new) es × EndsBy (IsJobAnswered
-        (map (λ p. p.now) order.now.paths.items) (option_map (λ s. s.now) order.now.history) job.now) es result }
+        (map (λ p. p.now) order.now.paths.items) (option_map (λ s. s.now) order.now.history) options job.now) es result }
 {
-    match answer(rt, alloc, keys, job, order.paths.as_slice(), watch) {
+    match answer(rt, alloc, keys, job, options, order.paths.as_slice(), watch) {
         Ok(told) => tell(world, order.history, &told),
         Err(_) => Err(AllocError),
     }
@@ -181,7 +182,8 @@ fn answer_texts<R: Threads + Wait + Sync, W: World, V: Watch + Sync>(
     let Some(keys) = keys else {
         return Ok(refuse(world, "no random numbers"));
     };
-    answer_job(rt, alloc, world, keys, order, &job, watch)
+    let options = options_of(order.task);
+    answer_job(rt, alloc, world, keys, order, &job, options, watch)
 }
 
 /// Does what an order asks for. It may wait.

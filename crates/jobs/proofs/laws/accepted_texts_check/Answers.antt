@@ -5,4 +5,4 @@ pub returns-clause-checked : goal.returns-clause-checked
 returns-clause-checked c = accepted_checks
 
 pub returns-clause-faultless : goal.returns-clause-faultless
-returns-clause-faultless c text f a short = accepted_faultless text.items a short f
+returns-clause-faultless c options text f a short = accepted_faultless text.items a short f

@@ -10,6 +10,6 @@ returns-in-Ok g c =
     let answer = c.in-Ok.ensures in (
       told.0,
       told.1,
-      job_answered _ _ history c.args.job.now c.in-Ok.told told.0 c.tell.result same
+      job_answered _ _ history c.args.options c.args.job.now c.in-Ok.told told.0 c.tell.result same
           (record { answers = answer.answers; refused = answer.refused; own = answer.own }) told.2,
     )

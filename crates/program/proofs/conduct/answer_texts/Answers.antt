@@ -12,6 +12,6 @@ returns g c =
     let texts = map (λ (t : Vec ℕ Global). t.items) c.args.texts.items in (
       told.0,
       told.1,
-      texts_answered (is_some c.args.keys) c.args.order.now.task paths history texts c.in-Some.job told.0 c.answer_job.result
-          c.in-Some.ensures.job told.2,
+      texts_answered (is_some c.args.keys) c.args.order.now.task paths history texts c.in-Some.job c.options_of-options.result told.0
+          c.answer_job.result c.options_of-options.ensures c.in-Some.ensures.job told.2,
     )
