@@ -73,11 +73,11 @@ fn room<'a>(alloc: Global) -> Arg<'a>
         .value_name("W")
         .help(
             "How many words the store of labels, statements and proofs has, up to 16777216; \
-             without it as many as the database and the scripts can need",
+             without it 1048576, or as many as the database and the scripts can need, if these are more",
         )
         .long_help(
             "How many words the store of labels, statements and proofs has, up to 16777216; \
-             without it as many as the database and the scripts can need. \
+             without it 1048576, or as many as the database and the scripts can need, if these are more. \
              What a transaction stages stays used. Raise it where a run answers `store full`",
         )
         .value_parser(ValueParser::unsigned(0, ROOM as u64))
