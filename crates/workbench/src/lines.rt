@@ -15,6 +15,8 @@
 //! | `unkeyed WORDS` | one to which the system gives no random numbers |
 //! | `garbled WORDS` | one whose words come with bytes that aren't UTF-8 |
 //! | `file PATH`, `first PATH`, `library PATH` | prints what a file has; its first line; what stands behind its line `library` |
+//! | `sorted PATH` | prints the lines in front of a file's line `library`, sorted, without the `S.T ` of script and transaction |
+//! | `exported PATH FROM` | writes what stands behind the line `library` of FROM into a file |
 //! | `same PATH PATH` | whether behind their lines `library` two files have the same |
 //!
 //! The files `rN.*` are those of row N, as `docs/DEFINITIONS.md` counts the rows that its rules were read against; the files `sN.mm` are
@@ -107,6 +109,43 @@ fn part_of<'t>(row: &str, text: &'t [u8]) -> (&'t [u8], &'static [u8]) {
     }
 }
 
+/// Writes what stands behind a file's line `library` into another file.
+fn write_exported(rt: &(impl Files + AllocGlobal), paths: &str) -> io::Result<()> {
+    let (path, from) = paths.split_once(' ').unwrap_or((paths, ""));
+    let text = fs::read(rt, from)?;
+    fs::write(rt, path, library_of(text.as_slice()))
+}
+
+/// A line of a report without the numbers of its script and its transaction, if it begins with these.
+fn without_place(line: &str) -> &str {
+    match line.split_once(' ') {
+        Some((place, behind)) if place.contains('.') => behind,
+        _ => line,
+    }
+}
+
+/// The lines of a report in front of its library, sorted, without the numbers of their scripts and transactions.
+fn sorted_lines<'t>(alloc: Global, text: &'t str) -> Result<Vec<&'t str>, AllocError> {
+    let mut lines = Vec::new(alloc);
+    for line in text.lines() {
+        if line.as_bytes() == LIBRARY {
+            break;
+        }
+        lines.push(without_place(line))?;
+    }
+    lines.sort_unstable();
+    Ok(lines)
+}
+
+/// Prints the lines of a report in an order that the schedule doesn't change.
+fn print_sorted(rt: &(impl Files + AllocGlobal + Print), path: &str) -> io::Result<()> {
+    let text = fs::read_to_string(rt, path)?;
+    for line in sorted_lines(rt.alloc(), text.as_str())? {
+        println!(rt; "{line}")?;
+    }
+    Ok(())
+}
+
 /// Prints the part of a text that a row prints of a file.
 fn print_part(rt: &impl Print, row: &str, text: &[u8]) -> io::Result<()> {
     let (part, end) = part_of(row, text);
@@ -173,6 +212,8 @@ pub(crate) fn do_row(
         "text" => write_text(rt, behind, lines),
         "made" => write_made(rt, behind, lines),
         "same" => print_same(rt, behind),
+        "sorted" => print_sorted(rt, behind),
+        "exported" => write_exported(rt, behind),
         _ if is_silent(row) => Ok(()),
         _ => print_file(rt, word, behind),
     }
