@@ -1,8 +1,8 @@
 //! The table of schedules: what the pure machine of Transactional Locking II (`tlcore`) makes of events in a given order.
 //!
-//! The lines stand in the `stdin` of `workbench`, and what was worked out by hand from the machine's rules in its `stdout`: each line again,
-//! and behind a colon its answer. No contract of the machine says that memory is there, so that one which always answers want of it would
-//! be proved: the gate runs it by this table.
+//! The lines stand in the `stdin` of `workbench`, and what was worked out by hand from the machine's rules in its `stdout`: each line
+//! again, and behind a colon its answer. No contract of the machine says that memory is there, so that one which always answers want of
+//! it would be proved: the gate runs it by this table.
 //!
 //! | The line | It means | It is answered |
 //! |---|---|---|
