@@ -22,3 +22,4 @@ mod labels;
 
 pub use databases::check_all;
 pub use derivation::{ProofFault, ProofFaultKind, laws};
+pub use stepcheck::{Frames, check};

@@ -29,7 +29,7 @@ pub use closing::{ClosedCell, ClosedWords, close, close_taken};
 pub use law::Law;
 pub use laws::running_steps;
 pub use mode::Mode;
-pub use opening::{MOST_CELLS, MOST_ROOM, OpenFault, open};
+pub use opening::{MOST_CELLS, MOST_ROOM, OpenFault};
 pub use outcome::{Conflict, Outcome};
 pub use passes::Pass;
 pub use ranges::Range;

@@ -94,46 +94,48 @@ pub const MOST_CELLS: usize = (1 << 32) - 1;
 /// The most words that a store has.
 pub const MOST_ROOM: usize = 1 << 24;
 
-/// Opens a memory whose cells have these values, with a pass for each session, and a store of `room` words that begins with `store`. Each
-/// word of the room is written.
-///
-/// The ranges of the store that the values of range cells name are finished, but empty ones, and each pass has seen them.
-///
-/// # Errors
-///
-/// `BadShape` for more than 4,294,967,295 cells, other than 1 to 64 sessions, or a room of more than 16,777,216 words; then `StoreFull`
-/// where `store` has more words than the room; and `NoMemory`.
-pub fn open<L: Law>(
-    alloc: Global,
-    setting: &L::Setting,
-    values: Vec<u64>,
-    store: Vec<u64>,
-    room: usize,
-    sessions: usize,
-) -> Result<(Words<L>, Vec<Pass<L>>), OpenFault>
-    requires opens { L.terms.opens setting.now (ranges_named (L.terms.ranged setting.now) store.items values.items) values.items }
-    requires named { AreNamed L.terms setting.now (ranges_named (L.terms.ranged setting.now) store.items values.items) values.items }
-    ensures sizes { IfOk result (λ r. (r.0.cells ≡ length values.items) × (r.0.room ≡ room)) }
-    ensures key { IfOk result (λ r. (r.0.table.shared.key.setting.value ≡ setting.now)
-        × (r.0.table.shared.key.values.value.items ≡ values.items) × (r.0.table.shared.key.store.value.items ≡ store.items)
-        × (r.0.table.shared.key.sessions ≡ sessions)) }
-    ensures passes { IfOk result (λ r. All (λ p. p
-        ≡ new_pass (home_of r.0) (ranges_named (L.terms.ranged setting.now) store.items values.items) p.name) r.1.items) }
-    ensures opening { IfOk result (λ r. All (λ p. AreOfOneOpening r.0 p) r.1.items) }
-    ensures sound { IfOk result (λ r. All (λ p. Knows L.terms p) r.1.items) }
-    ensures names { IfOk result (λ r. map (λ p. p.name) r.1.items ≡ down sessions sessions) }
-    ensures shape { (IsBadShape (length values.items) sessions room → result ≡ Err BadShape)
-        × (result ≡ Err BadShape → IsBadShape (length values.items) sessions room) }
-    ensures full { ((IsBadShape (length values.items) sessions room → ⊥) → room < length store.items → result ≡ Err StoreFull)
-        × (result ≡ Err StoreFull → room < length store.items) }
-{
-    if values.len() > MOST_CELLS || sessions == 0 || sessions > 64 || room > MOST_ROOM {
-        return Err(OpenFault::BadShape);
+impl<L: Law> Words<L> {
+    /// Opens a memory whose cells have these values, with a pass for each session, and a store of `room` words that begins with `store`. Each
+    /// word of the room is written.
+    ///
+    /// The ranges of the store that the values of range cells name are finished, but empty ones, and each pass has seen them.
+    ///
+    /// # Errors
+    ///
+    /// `BadShape` for more than 4,294,967,295 cells, other than 1 to 64 sessions, or a room of more than 16,777,216 words; then `StoreFull`
+    /// where `store` has more words than the room; and `NoMemory`.
+    pub fn open(
+        alloc: Global,
+        setting: &L::Setting,
+        values: Vec<u64>,
+        store: Vec<u64>,
+        room: usize,
+        sessions: usize,
+    ) -> Result<(Words<L>, Vec<Pass<L>>), OpenFault>
+        requires opens { L.terms.opens setting.now (ranges_named (L.terms.ranged setting.now) store.items values.items) values.items }
+        requires named { AreNamed L.terms setting.now (ranges_named (L.terms.ranged setting.now) store.items values.items) values.items }
+        ensures sizes { IfOk result (λ r. (r.0.cells ≡ length values.items) × (r.0.room ≡ room)) }
+        ensures key { IfOk result (λ r. (r.0.table.shared.key.setting.value ≡ setting.now)
+            × (r.0.table.shared.key.values.value.items ≡ values.items) × (r.0.table.shared.key.store.value.items ≡ store.items)
+            × (r.0.table.shared.key.sessions ≡ sessions)) }
+        ensures passes { IfOk result (λ r. All (λ p. p
+            ≡ new_pass (home_of r.0) (ranges_named (L.terms.ranged setting.now) store.items values.items) p.name) r.1.items) }
+        ensures opening { IfOk result (λ r. All (λ p. AreOfOneOpening r.0 p) r.1.items) }
+        ensures sound { IfOk result (λ r. All (λ p. Knows L.terms p) r.1.items) }
+        ensures names { IfOk result (λ r. map (λ p. p.name) r.1.items ≡ down sessions sessions) }
+        ensures shape { (IsBadShape (length values.items) sessions room → result ≡ Err BadShape)
+            × (result ≡ Err BadShape → IsBadShape (length values.items) sessions room) }
+        ensures full { ((IsBadShape (length values.items) sessions room → ⊥) → room < length store.items → result ≡ Err StoreFull)
+            × (result ≡ Err StoreFull → room < length store.items) }
+    {
+        if values.len() > MOST_CELLS || sessions == 0 || sessions > 64 || room > MOST_ROOM {
+            return Err(OpenFault::BadShape);
+        }
+        if store.len() > room {
+            return Err(OpenFault::StoreFull);
+        }
+        lay_out::<L>(alloc, setting, &values, &store, room, sessions)
     }
-    if store.len() > room {
-        return Err(OpenFault::StoreFull);
-    }
-    lay_out::<L>(alloc, setting, &values, &store, room, sessions)
 }
 
 // The words and the passes of a memory whose shape is right.

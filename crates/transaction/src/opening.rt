@@ -21,7 +21,7 @@ use std::alloc::{AllocError, Global};
 use std::hash::RandomState;
 use std::snapshot::Snapshot;
 use std::thread::Threads;
-use tlwords::{Pass, open};
+use tlwords::{Pass, Words};
 
 impl Shape {
     /// Whether it is within the limits: 1 to 4,096 slots, a room of at most 16,777,216 words, and 1 to 64 sessions.
@@ -81,7 +81,14 @@ impl Library {
             slots: shape.slots,
         };
         let (values, store) = cells.into_words();
-        let opened = open::<LibraryLaw>(alloc, &given, values, store, shape.room, shape.sessions);
+        let opened = Words::<LibraryLaw>::open(
+            alloc,
+            &given,
+            values,
+            store,
+            shape.room,
+            shape.sessions,
+        );
         // The shape and the room were tested, so it is memory that ran out.
         let Ok((words, passes)) = opened else {
             return Err(OpenError::NoMemory);

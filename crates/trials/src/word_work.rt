@@ -13,7 +13,7 @@ use crate::measuring::{Ending, finish};
 use std::sync::atomic::{AtomicUsize, Ordering};
 use std::thread;
 use std::thread::Threads;
-use tlwords::{ClosedCell, Law, Mode, Outcome, Pass, Run, Words, begin, close, open};
+use tlwords::{ClosedCell, Law, Mode, Outcome, Pass, Run, Words, begin, close};
 
 /// How often a transaction is tried before it is given up.
 const MOST_TRIES: u64 = 1 << 32;
@@ -179,7 +179,7 @@ fn run_over(
     job: Job,
 ) -> Option<(u64, u64)> {
     let store = Vec::new(rt.alloc());
-    let (words, passes) = open::<Anything>(rt.alloc(), &(), values, store, 0, threads).ok()?;
+    let (words, passes) = Words::<Anything>::open(rt.alloc(), &(), values, store, 0, threads).ok()?;
     let committed = work_all(rt, &words, passes, job)?;
     let closed = close(rt.alloc(), words, Vec::new(rt.alloc())).ok()?;
     Some((committed, sum_of(closed.cells.as_slice())))

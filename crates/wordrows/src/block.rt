@@ -10,7 +10,7 @@ use crate::print::{CANNOT, put_closed};
 use crate::seat::{Anything, Resting, Stand};
 use crate::written::Written;
 use std::alloc::{AllocError, Global};
-use tlwords::{Pass, Words, close, open};
+use tlwords::{Pass, Words, close};
 
 /// One more than the greatest length that a word can tell: 2^25.
 const LENGTHS: u64 = 33_554_432;
@@ -220,7 +220,7 @@ fn open_words(
     requires { named ≡ true → All (IsNameIn (length store.items)) values.items }
 {
     let (room, passes) = (count_at(line, 2), count_at(line, 4));
-    match open::<Anything>(alloc, &named, values, store, room, passes) {
+    match Words::<Anything>::open(alloc, &named, values, store, room, passes) {
         Ok((words, passes)) => {
             let (before, closing, behind) = cut_at_close(lines);
             out.put(b"opened\n");

@@ -1,6 +1,6 @@
 use Rattle.std.proofs.lemmas.Result.{IfOk-weaker}
 use Rattle.std.proofs.Common.{ap}
-use Rattle.tlwords.proofs.opening.open.Goals as goal
+use Rattle.tlwords.proofs.words.Words.open.Goals as goal
 
 pub returns-clause-sizes : goal.returns-clause-sizes
 returns-clause-sizes g c = IfOk-weaker c.lay_out.result _ _ (λ r o. o.sizes) c.lay_out.ensures.opened
