@@ -43,8 +43,8 @@ abbrev pub with_place : Bool → List Place → Place → List Place
 with_place put places place = if put then places ++ place ∷ [] else places
 
 -- what the run has seen: it may do all; it knows all ranges; it has read the cells of its log; it keeps aside all values as they are now;
--- and the words that were taken are those of the store. It notes nothing of what is staged, and no
--- read stops it but for want of memory, which it doesn't note
+-- and the words that were taken are those of the store. It notes nothing of what is staged; no read stops it but for want of memory, which
+-- it doesn't note; and the store had room so far
 abbrev pub plain_sight : Setting → ℕ → List ℕ → Pairs → List ℕ → List Place → Sight (Unit {0})
 plain_sight setting room values log store places =
     record {
@@ -59,6 +59,7 @@ plain_sight setting room values log store places =
       room = room;
       staged = empty;
       halted = None;
+      full = false;
     }
 
 -- the state of these values and ranges

@@ -14,9 +14,10 @@ use Rattle.plaincells.specs.declared.plain.PlainCells.{PlainCells}
 abbrev pub cells_setting : PlainCells → Setting
 cells_setting c = record { prelude = c.prelude; slots = c.slots }
 
--- what the run has seen: all ranges, and the cells of its log; all values as they are now are kept aside
+-- what the run has seen: all ranges, and the cells of its log; all values as they are now are kept aside; and whether the store had no room
+-- for words that it was to stage
 abbrev pub cells_sight : PlainCells → Sight (Unit {0})
-cells_sight c = plain_sight (cells_setting c) c.room c.values.items c.log.items c.store.items c.ranges.items
+cells_sight c = record (plain_sight (cells_setting c) c.room c.values.items c.log.items c.store.items c.ranges.items) { full = c.full }
 
 -- the state that the values show
 abbrev pub now_state : PlainCells → State
