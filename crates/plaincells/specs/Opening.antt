@@ -1,5 +1,5 @@
 -- What opening a database in plain cells gives, and when it is refused.
-use Rattle.std.specs.Prelude.{◌≡◌, ◌<◌, ◌≤◌, ℕ, suc, List, [], ◌∷◌, length, take}
+use Rattle.std.specs.Prelude.{◌≡◌, ◌<◌, ◌≤◌, ℕ, suc, List, [], ◌∷◌, false, length, take}
 use Rattle.mmsyntax.specs.Tables.{Contents}
 use Rattle.library.specs.declared.library.Ranked.{Ranked}
 use Rattle.library.specs.Library.{opening}
@@ -15,12 +15,14 @@ abbrev pub held_from : ℕ → List Ranked → List Held
 held_from i [] = []
 held_from i (e ∷ es) = record { slot = i; entry = e } ∷ held_from (suc i) es
 
--- the cells show the opening library, the first assertion in the slot 0, the next in the slot 1, and so on; and nothing was written since
+-- the cells show the opening library, the first assertion in the slot 0, the next in the slot 1, and so on; a run begins, which has read
+-- nothing so far, and to which the store refused nothing
 pub record CellsOpen (db : Contents) (slots room : ℕ) (made : PlainCells) : Type 0 where
   pub prelude : made.prelude ≡ db.prelude
   pub slots_are : made.slots ≡ slots
   pub room_is : made.room ≡ room
   pub kept : made.log.items ≡ []
+  pub fresh : made.full ≡ false
   pub shows : ShowsHeld slots (now_state made) (opening db) (held_from 0 (opening db))
 
 -- the prelude, with the first so many assertions

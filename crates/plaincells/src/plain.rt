@@ -2,7 +2,7 @@
 
 ghost use Rattle.cells.specs.State.{most_words};
 ghost use Rattle.mmsyntax.specs.declared.limits.TheConstants.{MOST_ASSERTIONS};
-ghost use Rattle.std.specs.Prelude.{◌≡◌, ◌≢◌, ◌≤◌, ◌<◌, ◌*◌, ◌+◌, ◌++◌, ◌↔◌, [], ◌∷◌, length, slice_index, is_ok, true, if◌then◌else◌, IfOk, IfErr, IsErrOf, IsOkUnless};
+ghost use Rattle.std.specs.Prelude.{◌≡◌, ◌≢◌, ◌≤◌, ◌<◌, ◌*◌, ◌+◌, ◌++◌, ◌↔◌, [], ◌∷◌, length, slice_index, is_ok, true, false, if◌then◌else◌, IfOk, IfErr, IsErrOf, IsOkUnless};
 ghost use Rattle.cells.specs.Sight.{IsCaused, Looks, Reads, Stages, ReadsWithin, ReadsNothing};
 ghost use Rattle.cells.specs.Slots.{cell_count};
 ghost use Rattle.plaincells.specs.Plain.{undone, ranges_in, ShowsSome, BeganWithSome, HoldNames, LieInStore, IsLogOf, AreNamedBy, behind, with_place};
@@ -186,6 +186,7 @@ impl PlainCells {
     pub fn keep(&mut self)
         requires { ∥ ShowsSome (cells_setting self.old) self.old.values.items self.old.store.items self.old.ranges.items ∥₁ }
         ensures log { self.new.log.items ≡ [] }
+        ensures fresh { self.new.full ≡ false }
         ensures same { AreSameButLog self.old self.new }
     {
         self.log.clear();
@@ -195,6 +196,7 @@ impl PlainCells {
     /// Gives each cell the value that it had when this run began, and begins another. What was staged stays in the store.
     pub fn undo(&mut self)
         ensures log { self.new.log.items ≡ [] }
+        ensures fresh { self.new.full ≡ false }
         ensures values { self.new.values.items ≡ undone self.old.values.items self.old.log.items }
         ensures same { AreSameButValues self.old self.new }
     {
@@ -309,5 +311,5 @@ impl Cells for PlainCells {
         }
     }
 
-    ghost grounded = { λ c. ∥∥₁_map c.began (λ b. (first_state c, b.0, b.1)) };
+    ghost grounded = { λ c. ∥∥₁_map c.began (λ b. (first_state c, b.0, b.1 c.full)) };
 }
