@@ -38,7 +38,7 @@ def head(number):
 
 
 class Library:
-    """The assertions of a canonical text, spread over the slots, and the transactions of a run on them. An index stands for a slot."""
+    """The assertions of a canonical text, in the slots from 0 up, and the transactions of a run on them."""
 
     def __init__(self, text):
         self.floating = {words[0] for words in map(str.split, text.splitlines()) if words[1:2] == ["$f"]}
@@ -51,12 +51,6 @@ class Library:
         self.cited = [{place[step] for step in proof if step in place} for proof in self.proofs]
         self.citing = set().union(*self.cited)
         self.slots = {label: {slot} for label, slot in place.items()}
-
-    def cell(self, index, kind):
-        return cell(index * SLOTS // len(self.labels), kind)
-
-    def link(self, index):
-        return link(index * SLOTS // len(self.labels))
 
     def scripts(self, seed, count, transactions):
         """Random scripts, as lists of transactions, each a list of commands."""
@@ -99,39 +93,39 @@ class Library:
     def chain(self, label):
         """What a look for the label may read."""
         number = bucket(label)
-        return {head(number)}.union(*({self.cell(slot, "name"), self.link(slot)} for slot in self.members[number]))
+        return {head(number)}.union(*({cell(slot, "name"), link(slot)} for slot in self.members[number]))
 
     def reads(self, command):
         kind, label, *rest = command
         found = self.chain(label)
         for slot in self.slots.get(label, ()):
             if kind == "show":
-                found |= {self.cell(slot, part) for part in PARTS} | {self.cell(other, "name") for other in self.cited[slot]}
+                found |= {cell(slot, part) for part in PARTS} | {cell(other, "name") for other in self.cited[slot]}
             elif kind == "move":
-                found |= {self.cell(slot, part) for part in PARTS[2:]} | {self.cell(other, "rank") for other in self.cited[slot]}
+                found |= {cell(slot, part) for part in PARTS[2:]} | {cell(other, "rank") for other in self.cited[slot]}
                 if slot in self.citing:
-                    found |= {self.cell(other, part) for other in range(len(self.labels)) for part in ("rank", "proof")}
+                    found |= {cell(other, part) for other in range(len(self.labels)) for part in ("rank", "proof")}
             elif kind == "reprove":
-                found |= {self.cell(slot, "statement"), self.cell(slot, "rank"), self.cell(slot, "proof")}
+                found |= {cell(slot, "statement"), cell(slot, "rank"), cell(slot, "proof")}
             else:
-                found |= {self.cell(slot, "name"), self.link(slot)}
+                found |= {cell(slot, "name"), link(slot)}
         if kind == "rename":
             found |= self.chain(rest[0])
         for step in rest[1:-1] if kind == "reprove" else ():
             if step not in self.floating and not re.fullmatch(re.escape(label) + r"\.[1-9][0-9]*", step):
-                found |= self.chain(step) | {self.cell(slot, part) for slot in self.slots.get(step, ()) for part in ("statement", "rank")}
+                found |= self.chain(step) | {cell(slot, part) for slot in self.slots.get(step, ()) for part in ("statement", "rank")}
         return found
 
     def writes(self, command):
         kind, label, *rest = command
         slots = self.slots.get(label, set())
         if kind == "move":
-            return {self.cell(slot, "rank") for slot in slots}
+            return {cell(slot, "rank") for slot in slots}
         if kind == "reprove":
-            return {self.cell(slot, "proof") for slot in slots}
+            return {cell(slot, "proof") for slot in slots}
         if kind == "rename":
-            leading = {head(bucket(label)), head(bucket(rest[0]))} | {self.link(slot) for slot in self.members[bucket(label)]}
-            return leading | {self.cell(slot, "name") for slot in slots} | {self.link(slot) for slot in slots}
+            leading = {head(bucket(label)), head(bucket(rest[0]))} | {link(slot) for slot in self.members[bucket(label)]}
+            return leading | {cell(slot, "name") for slot in slots} | {link(slot) for slot in slots}
         return set()
 
 

@@ -15,6 +15,7 @@ pub mod Counting
 pub mod Citing
 pub mod Holding
 pub mod Staging
+pub mod Halting
 pub mod Ones
 pub mod Recounting
 pub mod Storing

@@ -11,7 +11,7 @@ use Rattle.library.specs.Edits.{edit, is_edit}
 use Rattle.library.specs.Transactions.{apply, has_edit}
 use Rattle.cells.specs.State.{State}
 use Rattle.cells.specs.Shows.{Shows}
-use Rattle.cells.specs.Sight.{Sight, WasWritten, Matches, Views, Looks, after}
+use Rattle.cells.specs.Sight.{Sight, WasWritten, Matches, Views, Looks, IsCaused, after}
 use Rattle.cells.specs.declared.ending.CommandError.{CommandError}
 use Rattle.cells.specs.declared.ending.CommandError.TheVariants as command
 use Rattle.cells.specs.declared.ending.RunError.{RunError}
@@ -72,11 +72,11 @@ pub record IsRefused {O : Type 0} (old new : Sight O) (c : Command) (reason : Re
   pub refuses : ForEachBefore old new (λ st lib. edit old.setting lib c ≡ Err reason)
   pub looks : Looks old new
 
--- that it halts may be answered of every command
+-- a command that halts has the cause of it
 abbrev pub CommandAnswers : {O : Type 0} → Sight O → Sight O → Command → Result Reply CommandError → Type 0
 CommandAnswers old new c (Ok reply) = Does old new c reply
 CommandAnswers old new c (Err (command.Refused reason)) = IsRefused old new c reason
-CommandAnswers old new c (Err _) = Unit {0}
+CommandAnswers old new c (Err (command.Halted halt)) = IsCaused new halt
 
 -- ---- a transaction
 
@@ -93,4 +93,4 @@ RefusesAll old new cs refused = ForEachBefore old new (λ st lib. apply old.sett
 abbrev pub RunAnswers : {O : Type 0} → Sight O → Sight O → List Command → Result (List Reply) RunError → Type 0
 RunAnswers old new cs (Ok replies) = DoesAll old new cs replies
 RunAnswers old new cs (Err (run.Refused refused)) = RefusesAll old new cs refused
-RunAnswers old new cs (Err _) = Unit {0}
+RunAnswers old new cs (Err (run.Halted halt)) = IsCaused new halt

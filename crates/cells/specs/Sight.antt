@@ -7,6 +7,8 @@ use Rattle.ranges.specs.Pairs.{Pairs, written}
 use Rattle.ranges.specs.Ranges.{Range, Has, Within, Names, AreOfOneStore}
 use Rattle.ranges.specs.declared.range.Range.{Range as Place}
 use Rattle.bodystore.specs.Stages.{Staged}
+use Rattle.cells.specs.declared.halt.Halt.{Halt}
+use Rattle.cells.specs.declared.halt.Halt.TheVariants.{Conflict, StoreFull, NoMemory}
 use Rattle.cells.specs.State.{State, FitsReads, with_writes, most_words}
 use Rattle.cells.specs.Slots.{is_ranged}
 use Rattle.cells.specs.Shows.{Shows}
@@ -14,7 +16,8 @@ use Rattle.cells.specs.Shows.{Shows}
 -- what the run began with, which tells it from every other; the setting of the library; whether it may keep values aside, and whether it
 -- may stage words; the finished ranges that it knows, what it has read from cells, what it keeps aside for cells, how many words of the
 -- store were taken by it and by those before it, how many words the store has room for, which words have a range that was staged since the
--- last Committed, with where it starts, and the cell whose read stopped the run, if one did
+-- last Committed, with where it starts, the cell whose read stopped the run, if one did, and whether the store had no room for words that
+-- the run was to stage
 pub record Sight (O : Type 0) : Type 0 where
   pub origin : O
   pub setting : Setting
@@ -27,6 +30,7 @@ pub record Sight (O : Type 0) : Type 0 where
   pub room : ℕ
   pub staged : Staged
   pub halted : Option ℕ
+  pub full : Bool
 
 -- what never changes in a run
 pub record Fixed (O : Type 0) : Type 0 where
@@ -158,6 +162,13 @@ pub record Stages {O : Type 0} (words : List ℕ) (range : Place) (old new : Sig
   pub len : range.len ≡ length words
   pub again : (start : ℕ) → get old.staged words ≡ Some start → TakesAgain start range old new
   pub anew : get old.staged words ≡ None → TakesAnew words range old new
+
+-- the halt has its cause in the run: a read of it met another session, or the store had no room for words that it was to stage. Memory may
+-- run out anywhere
+abbrev pub IsCaused : {O : Type 0} → Sight O → Halt → Type 0
+IsCaused s Conflict = (cell : ℕ) × (s.halted ≡ Some cell)
+IsCaused s StoreFull = s.full ≡ true
+IsCaused s NoMemory = Unit {0}
 
 -- the range is one that the run knows, with these words
 pub record KnowsRange {O : Type 0} (s : Sight O) (range : Place) (words : List ℕ) : Type 0 where

@@ -5,7 +5,7 @@ ghost use Rattle.library.specs.declared.library.Ranked.{Ranked};
 ghost use Rattle.ranges.specs.Ranges.{Names};
 ghost use Rattle.cells.specs.State.{State};
 ghost use Rattle.cells.specs.Slots.{cell_count, is_ranged};
-ghost use Rattle.cells.specs.Sight.{Sight, WasRead, Suits, Looks, Reads, Writes, Stages, KnowsRange, ReadsWithin, ReadsNothing};
+ghost use Rattle.cells.specs.Sight.{Sight, WasRead, Suits, Looks, Reads, Writes, Stages, IsCaused, KnowsRange, ReadsWithin, ReadsNothing};
 
 use crate::halt::Halt;
 use ranges::Range;
@@ -32,11 +32,12 @@ pub trait Cells {
     ///
     /// # Errors
     ///
-    /// The run halts. What was kept aside stays.
+    /// The run met another session, or memory ran out. What was kept aside stays.
     fn read(&mut self, cell: usize) -> Result<u64, Halt>
         requires { cell < cell_count (sight self.old).setting.slots }
         ensures ok { IfOk result (λ v. Reads cell v (sight self.old) (sight self.new)) }
         ensures err { IfErr result (λ _. Looks (sight self.old) (sight self.new)) }
+        ensures halts { IfErr result (IsCaused (sight self.new)) }
         ensures reads { ReadsWithin (λ c. c ≡ cell) (sight self.old) (sight self.new) };
 
     /// Keeps a value aside for a cell that was read, in a run that may. It takes no memory.
@@ -69,12 +70,13 @@ pub trait Cells {
     ///
     /// # Errors
     ///
-    /// The run halts. What was kept aside stays.
+    /// The store has no room for the words, or memory ran out. What was kept aside stays.
     fn stage(&mut self, words: &[u64]) -> Result<Range, Halt>
         requires may { (sight self.old).may_stage ≡ true }
         requires some { words.now ≢ [] }
         ensures ok { IfOk result (λ range. Stages words.now range (sight self.old) (sight self.new)) }
         ensures err { IfErr result (λ _. Looks (sight self.old) (sight self.new)) }
+        ensures halts { IfErr result (IsCaused (sight self.new)) }
         ensures reads { ReadsNothing (sight self.old) (sight self.new) };
 
     // all that was read agrees with some state that shows a library that verifies

@@ -1,7 +1,7 @@
 //! Counts the citers of the assertions that a proof cites.
 
-ghost use Rattle.std.specs.Prelude.{◌≡◌, ◌<◌, true, All, IfOk};
-ghost use Rattle.cells.specs.Sight.{Sight, Onward, TakesAtMost, ReadsWithin};
+ghost use Rattle.std.specs.Prelude.{◌≡◌, ◌<◌, true, All, IfOk, IfErr};
+ghost use Rattle.cells.specs.Sight.{Sight, IsCaused, Onward, TakesAtMost, ReadsWithin};
 ghost use Rattle.cells.specs.Counts.{CountsAnyIn, CountsAnyOut, AreOnlyIn};
 ghost use Rattle.std.specs.List.Sorted.{IsStrictlyIncreasing};
 ghost use Rattle.cells.specs.Aside.{KeepsAside, IsCitersOf};
@@ -40,6 +40,7 @@ pub fn count_in<C: Cells>(cells: &mut C, cited: &[usize]) -> Result<(), Halt>
     requires slots { All (λ i. i < (C.sight cells.old).setting.slots) cited.now }
     ensures onward { Onward (C.sight cells.old) (C.sight cells.new) }
     ensures ok { IfOk result (λ _. CountsAnyIn cited.now (C.sight cells.old) (C.sight cells.new)) }
+    ensures halts { IfErr result (IsCaused (C.sight cells.new)) }
     ensures taken { TakesAtMost 0 (C.sight cells.old) (C.sight cells.new) }
     ensures keeps { IfOk result (λ _. KeepsAside (IsCitersOf cited.now) (C.sight cells.old) (C.sight cells.new)) }
     ensures reads { ReadsWithin (IsCitersOf cited.now) (C.sight cells.old) (C.sight cells.new) }
@@ -60,6 +61,7 @@ pub fn count_out<C: Cells>(cells: &mut C, cited: &[usize]) -> Result<(), Halt>
     requires { (C.sight cells.old).may_write ≡ true }
     ensures onward { Onward (C.sight cells.old) (C.sight cells.new) }
     ensures ok { IfOk result (λ _. CountsAnyOut cited.now (C.sight cells.old) (C.sight cells.new)) }
+    ensures halts { IfErr result (IsCaused (C.sight cells.new)) }
     ensures taken { TakesAtMost 0 (C.sight cells.old) (C.sight cells.new) }
     ensures keeps { IfOk result (λ _. KeepsAside (IsCitersOf cited.now) (C.sight cells.old) (C.sight cells.new)) }
     ensures reads { ReadsWithin (IsCitersOf cited.now) (C.sight cells.old) (C.sight cells.new) }

@@ -1,7 +1,7 @@
 //! Looks for labels, and for empty slots.
 
-ghost use Rattle.std.specs.Prelude.{◌≡◌, ◌<◌, IfOk};
-ghost use Rattle.cells.specs.Sight.{Sight, Looks, ReadsWithin};
+ghost use Rattle.std.specs.Prelude.{◌≡◌, ◌<◌, IfOk, IfErr};
+ghost use Rattle.cells.specs.Sight.{Sight, IsCaused, Looks, ReadsWithin};
 ghost use Rattle.cells.specs.Slots.{name_cell};
 ghost use Rattle.cells.specs.Footprints.{ReadsWhere, IsOfLook, IsOfRound};
 ghost use Rattle.cells.specs.Lookups.{Finds, FindsFree, TellsLabel};
@@ -16,6 +16,7 @@ pub(crate) fn has_label<C: Cells>(cells: &mut C, slot: usize, label: &[u8]) -> R
     requires { slot < (C.sight cells.old).setting.slots }
     ensures looks { Looks (C.sight cells.old) (C.sight cells.new) }
     ensures ok { IfOk result (λ b. TellsLabel (C.sight cells.new) slot label.now b) }
+    ensures halts { IfErr result (IsCaused (C.sight cells.new)) }
     ensures reads { ReadsWithin (λ c. c ≡ name_cell slot) (C.sight cells.old) (C.sight cells.new) }
 {
     let word = cells.read(name_cell(slot))?;
@@ -37,6 +38,7 @@ pub(crate) fn has_label<C: Cells>(cells: &mut C, slot: usize, label: &[u8]) -> R
 pub fn find<C: Cells>(cells: &mut C, label: &[u8]) -> Result<Option<usize>, Halt>
     ensures looks { Looks (C.sight cells.old) (C.sight cells.new) }
     ensures ok { IfOk result (λ slot. Finds (C.sight cells.new) label.now slot) }
+    ensures halts { IfErr result (IsCaused (C.sight cells.new)) }
     ensures reads { ReadsWhere (IsOfLook (C.sight cells.old).setting.slots label.now) (C.sight cells.old) (C.sight cells.new) }
 {
     let slots = slot_count(cells);
@@ -64,6 +66,7 @@ pub fn free_slot<C: Cells>(cells: &mut C, from: usize) -> Result<Option<usize>, 
     requires { from < (C.sight cells.old).setting.slots }
     ensures looks { Looks (C.sight cells.old) (C.sight cells.new) }
     ensures ok { IfOk result (λ slot. FindsFree (C.sight cells.new) from slot) }
+    ensures halts { IfErr result (IsCaused (C.sight cells.new)) }
     ensures reads { ReadsWhere (IsOfRound (C.sight cells.old).setting.slots from) (C.sight cells.old) (C.sight cells.new) }
 {
     let slots = slot_count(cells);

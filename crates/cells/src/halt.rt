@@ -3,16 +3,17 @@
 use std::alloc::{AllocError, AllocFailed};
 use thiserror::Error;
 
-/// Why a call over cells ends early. What was kept aside by then is the caller's to throw away.
+/// Why a call over cells ends early: each but want of memory has its cause in the run, and none is answered without it. What was kept
+/// aside by then is the caller's to throw away.
 #[derive(Clone, Copy, Debug, PartialEq, Eq, Error)]
 pub enum Halt {
-    /// A read met another session's run. The run knows with whom.
+    /// A read of the run met another session. The run knows with whom.
     #[error("the run met another session")]
     Conflict,
-    /// The store has no room for words that were to be staged.
+    /// The store had no room for words that the run was to stage.
     #[error("the store has no room for the words")]
     StoreFull,
-    /// Memory ran out.
+    /// Memory ran out, in a call on the cells or beside them.
     #[error("out of memory")]
     NoMemory,
 }

@@ -1,8 +1,8 @@
 //! How a label stands to those that a library has.
 
-ghost use Rattle.std.specs.Prelude.{◌≡◌, ◌<◌, ◌⊎◌, ℕ, List, IfOk};
+ghost use Rattle.std.specs.Prelude.{◌≡◌, ◌<◌, ◌⊎◌, ℕ, List, IfOk, IfErr};
 ghost use Rattle.mmsyntax.specs.Dotted.{clash};
-ghost use Rattle.cells.specs.Sight.{Sight, Looks, KnowsRange, ReadsWithin, ReadsNothing};
+ghost use Rattle.cells.specs.Sight.{Sight, IsCaused, Looks, KnowsRange, ReadsWithin, ReadsNothing};
 ghost use Rattle.cells.specs.Slots.{name_cell};
 ghost use Rattle.cells.specs.Footprints.{ReadsWhere, IsAlong, IsOfLook, IsOfClash};
 ghost use Rattle.cells.specs.Lookups.{TellsStanding};
@@ -38,6 +38,7 @@ pub enum Standing {
 pub fn standing_of<C: Cells>(cells: &mut C, own: &[u8], label: &[u8]) -> Result<Standing, Halt>
     ensures looks { Looks (C.sight cells.old) (C.sight cells.new) }
     ensures ok { IfOk result (λ standing. TellsStanding (C.sight cells.new) own.now label.now standing) }
+    ensures halts { IfErr result (IsCaused (C.sight cells.new)) }
     ensures reads { ReadsWhere (λ st c. IsOfLook (C.sight cells.old).setting.slots label.now st c
         ⊎ IsOfClash (C.sight cells.old).setting.slots own.now label.now st c) (C.sight cells.old) (C.sight cells.new) }
 {
@@ -73,6 +74,7 @@ fn standing_in<C: Cells>(
     requires { chain < (C.sight cells.old).setting.slots }
     ensures looks { Looks (C.sight cells.old) (C.sight cells.new) }
     ensures ok { IfOk result (λ standing. TellsStandingIn (C.sight cells.new) chain own.now label.now standing) }
+    ensures halts { IfErr result (IsCaused (C.sight cells.new)) }
     ensures reads { ReadsWhere (IsAlong (C.sight cells.old).setting.slots chain) (C.sight cells.old) (C.sight cells.new) }
 {
     let slots = slot_count(cells);
@@ -100,6 +102,7 @@ fn standing_at<C: Cells>(
     requires { slot < (C.sight cells.old).setting.slots }
     ensures looks { Looks (C.sight cells.old) (C.sight cells.new) }
     ensures ok { IfOk result (λ standing. TellsStandingAt (C.sight cells.new) slot own.now label.now standing) }
+    ensures halts { IfErr result (IsCaused (C.sight cells.new)) }
     ensures reads { ReadsWithin (λ c. c ≡ name_cell slot) (C.sight cells.old) (C.sight cells.new) }
 {
     let word = cells.read(name_cell(slot))?;

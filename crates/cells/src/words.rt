@@ -1,10 +1,10 @@
 //! The words of bodies that cells name.
 
-ghost use Rattle.std.specs.Prelude.{◌≡◌, ◌≢◌, ◌<◌, ◌+◌, ◌*◌, ◌^◌, ◌↔◌, ◌≤◌, ℕ, List, [], true, IsTrue, IfOk, is_some, length, take, drop};
+ghost use Rattle.std.specs.Prelude.{◌≡◌, ◌≢◌, ◌<◌, ◌+◌, ◌*◌, ◌^◌, ◌↔◌, ◌≤◌, ℕ, List, [], true, IsTrue, IfOk, IfErr, is_some, length, take, drop};
 ghost use Rattle.mmsyntax.specs.Dotted.{hypothesis_numbered, is_dotted};
 ghost use Rattle.ranges.specs.Ranges.{Names};
 ghost use Rattle.cells.specs.Slots.{cell_count, is_ranged};
-ghost use Rattle.cells.specs.Sight.{Sight, Looks, KnowsRange, ForEachState, ReadsWithin, ReadsNothing};
+ghost use Rattle.cells.specs.Sight.{Sight, IsCaused, Looks, KnowsRange, ForEachState, ReadsWithin, ReadsNothing};
 ghost use Rattle.cells.specs.Lookups.{AreWordsOf, IsFirstWordOf};
 
 use crate::cells::Cells;
@@ -107,6 +107,7 @@ pub(crate) fn words_of<C: Cells>(
     requires ranged { is_ranged (C.sight cells.old).setting.slots cell ≡ true }
     ensures looks { Looks (C.sight cells.old) (C.sight cells.new) }
     ensures ok { IfOk result (λ made. ForEachState (C.sight cells.new) (λ st. AreWordsOf st cell made.items)) }
+    ensures halts { IfErr result (IsCaused (C.sight cells.new)) }
     ensures reads { ReadsWithin (λ c. c ≡ cell) (C.sight cells.old) (C.sight cells.new) }
 {
     let word = cells.read(cell)?;
@@ -125,6 +126,7 @@ pub(crate) fn first_word<C: Cells>(cells: &mut C, cell: usize) -> Result<u64, Ha
     requires ranged { is_ranged (C.sight cells.old).setting.slots cell ≡ true }
     ensures looks { Looks (C.sight cells.old) (C.sight cells.new) }
     ensures ok { IfOk result (λ first. IsFirstWordOf (C.sight cells.new) cell first) }
+    ensures halts { IfErr result (IsCaused (C.sight cells.new)) }
     ensures reads { ReadsWithin (λ c. c ≡ cell) (C.sight cells.old) (C.sight cells.new) }
 {
     let word = cells.read(cell)?;

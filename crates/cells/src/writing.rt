@@ -1,9 +1,9 @@
 //! Writes cells: values, and the ranges of bodies.
 
-ghost use Rattle.std.specs.Prelude.{◌≡◌, ◌≢◌, ◌<◌, [], length, true, false, IfOk};
+ghost use Rattle.std.specs.Prelude.{◌≡◌, ◌≢◌, ◌<◌, [], length, true, false, IfOk, IfErr};
 ghost use Rattle.cells.specs.State.{State, HasBody, with_value};
 ghost use Rattle.cells.specs.Slots.{cell_count, is_ranged};
-ghost use Rattle.cells.specs.Sight.{Sight, WasWritten, ForEachState, KeepsOthers, Onward, TakesAtMost, ReadsWithin, after};
+ghost use Rattle.cells.specs.Sight.{Sight, WasWritten, ForEachState, KeepsOthers, IsCaused, Onward, TakesAtMost, ReadsWithin, after};
 ghost use Rattle.cells.specs.Aside.{KeepsAside};
 
 use crate::cells::Cells;
@@ -16,6 +16,7 @@ pub fn put<C: Cells>(cells: &mut C, cell: usize, value: u64) -> Result<(), Halt>
     requires plain { is_ranged (C.sight cells.old).setting.slots cell ≡ false }
     ensures onward { Onward (C.sight cells.old) (C.sight cells.new) }
     ensures ok { IfOk result (λ _. (st : State) → after (C.sight cells.new) st ≡ with_value cell value (after (C.sight cells.old) st)) }
+    ensures halts { IfErr result (IsCaused (C.sight cells.new)) }
     ensures written { IfOk result (λ _. WasWritten (C.sight cells.new) cell) }
     ensures taken { TakesAtMost 0 (C.sight cells.old) (C.sight cells.new) }
     ensures keeps { IfOk result (λ _. KeepsAside (λ c. c ≡ cell) (C.sight cells.old) (C.sight cells.new)) }
@@ -33,6 +34,7 @@ pub fn put_body<C: Cells>(cells: &mut C, cell: usize, words: &[u64]) -> Result<(
     requires some { words.now ≢ [] }
     ensures onward { Onward (C.sight cells.old) (C.sight cells.new) }
     ensures ok { IfOk result (λ _. ForEachState (C.sight cells.new) (λ st. HasBody st cell words.now)) }
+    ensures halts { IfErr result (IsCaused (C.sight cells.new)) }
     ensures others { IfOk result (λ _. KeepsOthers cell (C.sight cells.old) (C.sight cells.new)) }
     ensures written { IfOk result (λ _. WasWritten (C.sight cells.new) cell) }
     ensures taken { TakesAtMost (length words.now) (C.sight cells.old) (C.sight cells.new) }

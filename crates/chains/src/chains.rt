@@ -1,7 +1,7 @@
 //! Puts slots into the chains of label buckets, and takes them out.
 
-ghost use Rattle.std.specs.Prelude.{◌≡◌, ◌<◌, true, IfOk};
-ghost use Rattle.cells.specs.Sight.{Sight, Onward, TakesAtMost, ReadsWithin};
+ghost use Rattle.std.specs.Prelude.{◌≡◌, ◌<◌, true, IfOk, IfErr};
+ghost use Rattle.cells.specs.Sight.{Sight, IsCaused, Onward, TakesAtMost, ReadsWithin};
 ghost use Rattle.cells.specs.Footprints.{ReadsWhere, IsOfTakingOut};
 ghost use Rattle.cells.specs.Aside.{KeepsAside, IsOfFront};
 ghost use Rattle.chains.specs.Chains.{PutsIn, TakesOut, GoesToFront, KeepsLeaving};
@@ -18,6 +18,7 @@ pub fn put_in<C: Cells>(cells: &mut C, slot: usize, label: &[u8]) -> Result<(), 
     requires slot { slot < (C.sight cells.old).setting.slots }
     ensures onward { Onward (C.sight cells.old) (C.sight cells.new) }
     ensures ok { IfOk result (λ _. PutsIn slot label.now (C.sight cells.old) (C.sight cells.new)) }
+    ensures halts { IfErr result (IsCaused (C.sight cells.new)) }
     ensures taken { TakesAtMost 0 (C.sight cells.old) (C.sight cells.new) }
     ensures front { IfOk result (λ _. GoesToFront slot label.now (C.sight cells.old) (C.sight cells.new)) }
     ensures keeps { IfOk result (λ _. KeepsAside (IsOfFront (C.sight cells.old).setting.slots slot label.now) (C.sight cells.old)
@@ -43,6 +44,7 @@ pub fn take_out<C: Cells>(cells: &mut C, slot: usize, label: &[u8]) -> Result<()
     requires slot { slot < (C.sight cells.old).setting.slots }
     ensures onward { Onward (C.sight cells.old) (C.sight cells.new) }
     ensures ok { IfOk result (λ _. TakesOut slot label.now (C.sight cells.old) (C.sight cells.new)) }
+    ensures halts { IfErr result (IsCaused (C.sight cells.new)) }
     ensures taken { TakesAtMost 0 (C.sight cells.old) (C.sight cells.new) }
     ensures keeps { IfOk result (λ _. KeepsLeaving slot (C.sight cells.old) (C.sight cells.new)) }
     ensures reads { ReadsWhere (IsOfTakingOut (C.sight cells.old).setting.slots slot label.now) (C.sight cells.old) (C.sight cells.new) }

@@ -1,11 +1,11 @@
 //! Puts an assertion into an empty slot, and empties a slot.
 
-ghost use Rattle.std.specs.Prelude.{◌≡◌, ◌≢◌, ◌<◌, [], length, true, IfOk};
+ghost use Rattle.std.specs.Prelude.{◌≡◌, ◌≢◌, ◌<◌, [], length, true, IfOk, IfErr};
 ghost use Rattle.mmsyntax.specs.declared.statement.Kind.TheVariants.{Theorem};
 ghost use Rattle.bodystore.specs.Bodies.{label_body, proof_body, statement_body, statement_of};
 ghost use Rattle.cells.specs.State.{State, HasBody};
 ghost use Rattle.cells.specs.Slots.{name_cell, proof_cell, statement_cell};
-ghost use Rattle.cells.specs.Sight.{Sight, WasWritten, ForEachState, Turns, KeepsOthers, Onward, TakesAtMost, ReadsWithin, after};
+ghost use Rattle.cells.specs.Sight.{Sight, WasWritten, ForEachState, Turns, KeepsOthers, IsCaused, Onward, TakesAtMost, ReadsWithin, after};
 ghost use Rattle.cells.specs.Aside.{KeepsAside, IsOfSlot};
 ghost use Rattle.chains.specs.Filling.{bodies_length, FillsAny, IsFillable, LaysAnyDown, LaysProof, Empties, IsOfFilling};
 
@@ -39,6 +39,7 @@ pub fn fill<C: Cells>(
     requires fillable { IsFillable (C.sight cells.old).setting.slots assertion.now steps.now }
     ensures onward { Onward (C.sight cells.old) (C.sight cells.new) }
     ensures ok { IfOk result (λ _. FillsAny slot rank assertion.now steps.now (C.sight cells.old) (C.sight cells.new)) }
+    ensures halts { IfErr result (IsCaused (C.sight cells.new)) }
     ensures written { IfOk result (λ _. WasWritten (C.sight cells.new) (name_cell slot)) }
     ensures taken { TakesAtMost (bodies_length assertion.now steps.now) (C.sight cells.old) (C.sight cells.new) }
     ensures keeps { IfOk result (λ _. KeepsAside (IsOfFilling (C.sight cells.old).setting.slots slot assertion.now.label steps.now)
@@ -67,6 +68,7 @@ fn lay_down<C: Cells>(
     requires some { assertion.now.kind ≡ Theorem → steps.now ≢ [] }
     ensures onward { Onward (C.sight cells.old) (C.sight cells.new) }
     ensures ok { IfOk result (λ _. LaysAnyDown slot rank assertion.now steps.now (C.sight cells.old) (C.sight cells.new)) }
+    ensures halts { IfErr result (IsCaused (C.sight cells.new)) }
     ensures written { IfOk result (λ _. WasWritten (C.sight cells.new) (name_cell slot)) }
     ensures taken { TakesAtMost (bodies_length assertion.now steps.now) (C.sight cells.old) (C.sight cells.new) }
     ensures keeps { IfOk result (λ _. KeepsAside (IsOfSlot slot) (C.sight cells.old) (C.sight cells.new)) }
@@ -86,6 +88,7 @@ fn put_label<C: Cells>(alloc: Global, cells: &mut C, slot: usize, label: &[u8]) 
     requires some { label.now ≢ [] }
     ensures onward { Onward (C.sight cells.old) (C.sight cells.new) }
     ensures ok { IfOk result (λ _. ForEachState (C.sight cells.new) (λ st. HasBody st (name_cell slot) (label_body label.now))) }
+    ensures halts { IfErr result (IsCaused (C.sight cells.new)) }
     ensures others { IfOk result (λ _. KeepsOthers (name_cell slot) (C.sight cells.old) (C.sight cells.new)) }
     ensures written { IfOk result (λ _. WasWritten (C.sight cells.new) (name_cell slot)) }
     ensures taken { TakesAtMost (length (label_body label.now)) (C.sight cells.old) (C.sight cells.new) }
@@ -108,6 +111,7 @@ fn put_statement<C: Cells>(
     ensures onward { Onward (C.sight cells.old) (C.sight cells.new) }
     ensures ok { IfOk result (λ _. ForEachState (C.sight cells.new)
         (λ st. HasBody st (statement_cell slot) (statement_body (statement_of assertion.now)))) }
+    ensures halts { IfErr result (IsCaused (C.sight cells.new)) }
     ensures others { IfOk result (λ _. KeepsOthers (statement_cell slot) (C.sight cells.old) (C.sight cells.new)) }
     ensures taken { TakesAtMost (length (statement_body (statement_of assertion.now))) (C.sight cells.old) (C.sight cells.new) }
     ensures keeps { IfOk result (λ _. KeepsAside (λ c. c ≡ statement_cell slot) (C.sight cells.old) (C.sight cells.new)) }
@@ -130,6 +134,7 @@ fn put_proof<C: Cells>(
     requires some { kind ≡ Theorem → steps.now ≢ [] }
     ensures onward { Onward (C.sight cells.old) (C.sight cells.new) }
     ensures ok { IfOk result (λ _. Turns (C.sight cells.old) (C.sight cells.new) (λ st next. LaysProof st next slot kind steps.now)) }
+    ensures halts { IfErr result (IsCaused (C.sight cells.new)) }
     ensures others { IfOk result (λ _. KeepsOthers (proof_cell slot) (C.sight cells.old) (C.sight cells.new)) }
     ensures taken { TakesAtMost (length (proof_body steps.now)) (C.sight cells.old) (C.sight cells.new) }
     ensures keeps { IfOk result (λ _. KeepsAside (λ c. c ≡ proof_cell slot) (C.sight cells.old) (C.sight cells.new)) }
@@ -154,6 +159,7 @@ pub fn vacate<C: Cells>(cells: &mut C, slot: usize) -> Result<(), Halt>
     requires slot { slot < (C.sight cells.old).setting.slots }
     ensures onward { Onward (C.sight cells.old) (C.sight cells.new) }
     ensures ok { IfOk result (λ _. (st : State) → Empties slot (after (C.sight cells.old) st) (after (C.sight cells.new) st)) }
+    ensures halts { IfErr result (IsCaused (C.sight cells.new)) }
     ensures written { IfOk result (λ _. WasWritten (C.sight cells.new) (name_cell slot)) }
     ensures taken { TakesAtMost 0 (C.sight cells.old) (C.sight cells.new) }
     ensures keeps { IfOk result (λ _. KeepsAside (IsOfSlot slot) (C.sight cells.old) (C.sight cells.new)) }

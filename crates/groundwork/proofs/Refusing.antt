@@ -74,7 +74,7 @@ answers_tested s t c rank a result error is tells refuses = answers_ended s t c 
   where
     of_error : (error : CommandError) → TellsRefusal t rank a error → CommandAnswers s t c (Err error)
     of_error (command.Refused r) fails = refuses r fails
-    of_error (command.Halted halt) fails = tt
+    of_error (command.Halted halt) caused = caused
 
 -- a label that was looked for in vain ends the command
 pub answers_unknown : {O : Type 0} → (s t : Sight O) (c : Command) (label : List ℕ) (result : Result Reply CommandError)
@@ -84,4 +84,4 @@ answers_unknown s t c label result error is tells refuses = answers_ended s t c 
   where
     of_error : (error : CommandError) → TellsUnknown t label error → CommandAnswers s t c (Err error)
     of_error (command.Refused r) tells = subst (λ x. IsRefused s t c x) (sym tells.0) (refuses tells.1)
-    of_error (command.Halted halt) tells = tt
+    of_error (command.Halted halt) caused = caused

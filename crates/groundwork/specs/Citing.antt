@@ -22,10 +22,10 @@ use Rattle.library.specs.Edits.{Tests, Edited, found, cites_not_below, fault_of,
 use Rattle.ranges.specs.Ranges.{Has}
 use Rattle.bodystore.specs.declared.stored.StoredStep.{StoredStep}
 use Rattle.cells.specs.Shows.{AreStoredAs}
-use Rattle.cells.specs.Sight.{Sight}
+use Rattle.cells.specs.Sight.{Sight, IsCaused}
 use Rattle.cells.specs.Lookups.{ForEach, ForEachHeld, AreWithin}
 use Rattle.cells.specs.declared.ending.CommandError.{CommandError}
-use Rattle.cells.specs.declared.ending.CommandError.TheVariants.{Refused}
+use Rattle.cells.specs.declared.ending.CommandError.TheVariants.{Halted, Refused}
 
 -- what is so of every library and of all steps that are stored as these
 abbrev pub ForEachStored : {O : Type 0} → Sight O → List StoredStep → (List Ranked → List Step → Type 0) → Type 0
@@ -72,7 +72,7 @@ Fails s rank a reason = ForEach s
 -- why the test of a proof ends early: it was refused, or the run halts
 abbrev pub TellsRefusal : {O : Type 0} → Sight O → ℕ → Assertion → CommandError → Type 0
 TellsRefusal s rank a (Refused reason) = Fails s rank a reason
-TellsRefusal s rank a _ = Unit {0}
+TellsRefusal s rank a (Halted halt) = IsCaused s halt
 
 -- the frame that a map has for a label
 abbrev pub frames_in : BTreeMap (Vec ℕ Global) Frame → Citable

@@ -2,7 +2,7 @@
 
 ghost use Rattle.std.specs.Prelude.{◌≡◌, ◌<◌, IfOk, IfErr, OnOk};
 ghost use Rattle.mmsyntax.specs.declared.statement.Kind.TheVariants.{Theorem};
-ghost use Rattle.cells.specs.Sight.{Looks, ReadsWithin};
+ghost use Rattle.cells.specs.Sight.{IsCaused, Looks, ReadsWithin};
 ghost use Rattle.cells.specs.Slots.{statement_cell};
 ghost use Rattle.cells.specs.Lookups.{AreWithin};
 ghost use Rattle.groundwork.specs.Footprints.{IsRankOfSteps, IsStatementOfSteps, TestReads};
@@ -67,6 +67,7 @@ pub fn cites_not_below<C: Cells>(
 ) -> Result<bool, Halt>
     ensures looks { Looks (C.sight cells.old) (C.sight cells.new) }
     ensures ok { IfOk result (λ b. TellsNotBelow (C.sight cells.new) limit steps.now b) }
+    ensures halts { IfErr result (IsCaused (C.sight cells.new)) }
     ensures reads { ReadsWithin (IsRankOfSteps steps.now) (C.sight cells.old) (C.sight cells.new) }
 {
     let slots = slot_count(cells);
@@ -106,6 +107,7 @@ fn cited_frames<C: Cells>(
     requires { AreWithin (C.sight cells.old).setting.slots kept.now }
     ensures looks { Looks (C.sight cells.old) (C.sight cells.new) }
     ensures ok { IfOk result (λ made. TellsFrames (C.sight cells.new) prelude.now steps.now kept.now (frames_in made.by_label)) }
+    ensures halts { IfErr result (IsCaused (C.sight cells.new)) }
     ensures reads { ReadsWithin (IsStatementOfSteps kept.now) (C.sight cells.old) (C.sight cells.new) }
 {
     let mut by_label = BTreeMap::new(alloc);
@@ -133,6 +135,7 @@ fn note_frame<C: Cells>(
     requires { slot < (C.sight cells.old).setting.slots }
     ensures looks { Looks (C.sight cells.old) (C.sight cells.new) }
     ensures ok { OnOk result (NotesFrame (C.sight cells.new) prelude.now slot label.now (frames_in by_label.old) (frames_in by_label.new)) }
+    ensures halts { IfErr result (IsCaused (C.sight cells.new)) }
     ensures reads { ReadsWithin (λ c. c ≡ statement_cell slot) (C.sight cells.old) (C.sight cells.new) }
 {
     if by_label.contains_key(label) {

@@ -1,8 +1,8 @@
 //! Gives the theorem in a slot other steps.
 
-ghost use Rattle.std.specs.Prelude.{◌≡◌, ◌≢◌, ◌<◌, [], true, List, length, IfOk};
+ghost use Rattle.std.specs.Prelude.{◌≡◌, ◌≢◌, ◌<◌, [], true, List, length, IfOk, IfErr};
 ghost use Rattle.bodystore.specs.Bodies.{proof_body};
-ghost use Rattle.cells.specs.Sight.{Onward, TakesAtMost};
+ghost use Rattle.cells.specs.Sight.{IsCaused, Onward, TakesAtMost};
 ghost use Rattle.cells.specs.Lookups.{AreWithin};
 ghost use Rattle.cells.specs.Answers.{WritesSome};
 ghost use Rattle.groundwork.specs.Changes.{AreExchanged, ReprovesAt};
@@ -58,6 +58,7 @@ pub fn put_steps<C: Cells>(
     ensures onward { Onward (C.sight cells.old) (C.sight cells.new) }
     ensures written { IfOk result (λ _. WritesSome (C.sight cells.new)) }
     ensures ok { IfOk result (λ _. (label : List _) → ReprovesAt (C.sight cells.old) (C.sight cells.new) slot label kept.now) }
+    ensures halts { IfErr result (IsCaused (C.sight cells.new)) }
     ensures taken { TakesAtMost (length (proof_body kept.now)) (C.sight cells.old) (C.sight cells.new) }
     ensures keeps { IfOk result (λ _. (label : List _) → ReprovesWithin (C.sight cells.old) (C.sight cells.new) slot label kept.now) }
     ensures reads { (label : List _) → ReprovesReading (C.sight cells.old) (C.sight cells.new) slot label kept.now }

@@ -80,6 +80,7 @@ sight_over g ranges reads writes =
       room = most_words;
       staged = empty;
       halted = None;
+      full = false;
     }
 
 -- the transaction with these reads, writes and note is lawful for these ranges

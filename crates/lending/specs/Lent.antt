@@ -69,6 +69,7 @@ lent_sight l =
       room = l.going.known.home.room;
       staged = l.staged;
       halted = option_map (λ (k : Conflict). k.cell) l.going.over;
+      full = l.full;
     }
 
 -- some state that shows a library that verifies agrees with all that the run has seen

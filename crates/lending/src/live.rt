@@ -198,7 +198,7 @@ impl<'w> Live<'w> {
 
 impl<'w> Cells for Live<'w> {
     ghost use Rattle.std.specs.Prelude.{IsOkUnless};
-    ghost use Rattle.cells.specs.Sight.{Looks, Reads, Stages, ReadsWithin, ReadsNothing};
+    ghost use Rattle.cells.specs.Sight.{IsCaused, Looks, Reads, Stages, ReadsWithin, ReadsNothing};
     ghost use Rattle.cells.specs.Slots.{cell_count};
     ghost use Rattle.lending.specs.Lent.{lent_sight};
 
@@ -215,6 +215,7 @@ impl<'w> Cells for Live<'w> {
         requires { cell < cell_count (lent_sight self.old.run).setting.slots }
         ensures ok { IfOk result (λ v. Reads cell v (lent_sight self.old.run) (lent_sight self.new.run)) }
         ensures err { IfErr result (λ _. Looks (lent_sight self.old.run) (lent_sight self.new.run)) }
+        ensures halts { IfErr result (IsCaused (lent_sight self.new.run)) }
         ensures reads { ReadsWithin (λ c. c ≡ cell) (lent_sight self.old.run) (lent_sight self.new.run) }
         ensures conflict { IsOkUnless result Halt.Conflict }
     {
@@ -245,6 +246,7 @@ impl<'w> Cells for Live<'w> {
         requires some { words.now ≢ [] }
         ensures ok { IfOk result (λ range. Stages words.now range (lent_sight self.old.run) (lent_sight self.new.run)) }
         ensures err { IfErr result (λ _. Looks (lent_sight self.old.run) (lent_sight self.new.run)) }
+        ensures halts { IfErr result (IsCaused (lent_sight self.new.run)) }
         ensures reads { ReadsNothing (lent_sight self.old.run) (lent_sight self.new.run) }
         ensures full { IsOkUnless result Halt.StoreFull }
     {

@@ -1,7 +1,5 @@
 -- The fronts of a database: they verify, and what the next assertion adds.
 use Rattle.std.proofs.Common.{◌≡◌, ◌≢◌, ℕ, zero, suc, ◌+◌, ◌*◌, ◌<◌, ◌≤◌, List, [], ◌∷◌, ◌++◌, Some, length, get_or, take, drop, map, inl, inr, refl, sym, ap, subst, ◌∙◌, arith, true, false}
-use Rattle.std.specs.Prelude.{◌/◌}
-use Rattle.std.proofs.Math.Nat.{mul-le-mul_right, mul_comm, div-lt_iff_lt-mul, lt-mul-div-succ}
 use Rattle.std.specs.Prelude.{◌||◌, IsTrue, All, Contains, slice_get}
 use mathlib.Core.Bool.{not}
 use Rattle.std.specs.List.{list_any}
@@ -34,7 +32,7 @@ use Rattle.library.proofs.Frames.{frame_found}
 use Rattle.librarylaws.proofs.Opening.{length-ranked_from, opening_verifies}
 use Rattle.ranges.specs.Ranges.{Has}
 use Rattle.cells.specs.Shows.{slots_of}
-use Rattle.plaincells.specs.Opening.{front, held_by, spread}
+use Rattle.plaincells.specs.Opening.{front, held_from}
 
 -- ---- they verify
 
@@ -94,36 +92,19 @@ ranked_from-push n (x ∷ xs) a =
     ∙ ap (λ m. record { rank = 100 * n; assertion = x } ∷ (ranked_from (n + 1) xs ++ record { rank = 100 * m; assertion = a } ∷ []))
     (let e : n + 1 + length xs ≡ n + suc (length xs) = omega arith in e)
 
-held_by-push : (f : ℕ → ℕ) (i : ℕ) (es : List Ranked) (e : Ranked)
-    → held_by f i (es ++ e ∷ []) ≡ held_by f i es ++ record { slot = f (i + length es); entry = e } ∷ []
-held_by-push f i [] e = ap (λ j. record { slot = f j; entry = e } ∷ []) (let n : i ≡ i + 0 = omega arith in n)
-held_by-push f i (x ∷ es) e =
-    ap (λ ps. record { slot = f i; entry = x } ∷ ps) (held_by-push f (suc i) es e)
-    ∙ ap (λ j. record { slot = f i; entry = x } ∷ (held_by f (suc i) es ++ record { slot = f j; entry = e } ∷ []))
+held_from-push : (i : ℕ) (es : List Ranked) (e : Ranked)
+    → held_from i (es ++ e ∷ []) ≡ held_from i es ++ record { slot = i + length es; entry = e } ∷ []
+held_from-push i [] e = ap (λ j. record { slot = j; entry = e } ∷ []) (let n : i ≡ i + 0 = omega arith in n)
+held_from-push i (x ∷ es) e =
+    ap (λ ps. record { slot = i; entry = x } ∷ ps) (held_from-push (suc i) es e)
+    ∙ ap (λ j. record { slot = i; entry = x } ∷ (held_from (suc i) es ++ record { slot = j; entry = e } ∷ []))
     (let n : suc i + length es ≡ i + suc (length es) = omega arith in n)
 
--- the slots of those are those of the first so many places
-pub slots_by : (f : ℕ → ℕ) (i j : ℕ) (es : List Ranked) → Has j (slots_of (held_by f i es)) → (m : ℕ) × (m < i + length es) × (f m ≡ j)
-slots_by f i j [] h = absurd h
-slots_by f i j (e ∷ es) (inl same) = (i, omega arith, sym same)
-slots_by f i j (e ∷ es) (inr h) = let later = slots_by f (suc i) j es h in (later.0, omega (arith, later.1), later.2)
-
--- ---- assertions that are spread
-
-module _ (slots count k : ℕ) (lt : k < count) (fit : count ≤ slots) where
-  pub spread_within : spread slots count k < slots
-  spread_within =
-      let most : suc k * slots ≤ count * slots = mul-le-mul_right slots lt in
-      let less : k * slots < slots * count = omega (arith, most, mul_comm count slots) in
-      (div-lt_iff_lt-mul (omega (arith, lt))).1 less
-
-  -- no two in one slot
-  pub spread_before : (m : ℕ) → m < k → spread slots count m < spread slots count k
-  spread_before m before =
-      let more : suc m * slots ≤ k * slots = mul-le-mul_right slots before in
-      let up : k * slots < count * (k * slots / count + 1) = lt-mul-div-succ (k * slots) (omega (arith, lt)) in
-      let less : m * slots < k * slots / count * count = omega (arith, more, up, fit, mul_comm count (k * slots / count)) in
-      (div-lt_iff_lt-mul (omega (arith, lt))).1 less
+-- the slots of those are the first so many
+pub slots_from : (i j : ℕ) (es : List Ranked) → Has j (slots_of (held_from i es)) → j < i + length es
+slots_from i j [] h = absurd h
+slots_from i j (e ∷ es) (inl same) = omega (arith, same)
+slots_from i j (e ∷ es) (inr h) = let later = slots_from (suc i) j es h in omega (arith, later)
 
 module _ (db : Contents) (k : ℕ) (a : Assertion) (lt : k < length db.assertions) (is : a ≡ get_or db.assertions k a) where
   next_front : take (k + 1) db.assertions ≡ take k db.assertions ++ a ∷ []
@@ -142,12 +123,12 @@ module _ (db : Contents) (k : ℕ) (a : Assertion) (lt : k < length db.assertion
   pub length_opening : length (opening (front k db)) ≡ k
   length_opening = length-ranked_from 1 (take k db.assertions) ∙ length_front
 
-  -- in the slot of the next place
-  pub held_next : (f : ℕ → ℕ) → held_by f 0 (opening (front (k + 1) db))
-      ≡ held_by f 0 (opening (front k db)) ++ record { slot = f k; entry = record { rank = 100 * (k + 1); assertion = a } } ∷ []
-  held_next f =
-      ap (held_by f 0) opening_next ∙ held_by-push f 0 (opening (front k db)) _
-      ∙ ap (λ n. held_by f 0 (opening (front k db)) ++ record { slot = f n; entry = record { rank = 100 * (k + 1); assertion = a } } ∷ [])
+  -- in the next slot
+  pub held_next : held_from 0 (opening (front (k + 1) db))
+      ≡ held_from 0 (opening (front k db)) ++ record { slot = k; entry = record { rank = 100 * (k + 1); assertion = a } } ∷ []
+  held_next =
+      ap (held_from 0) opening_next ∙ held_from-push 0 (opening (front k db)) _
+      ∙ ap (λ n. held_from 0 (opening (front k db)) ++ record { slot = n; entry = record { rank = 100 * (k + 1); assertion = a } } ∷ [])
       (let e : 0 + length (opening (front k db)) ≡ k = omega (arith, length_opening) in e)
 
 -- ---- its label is new, and what it cites is known

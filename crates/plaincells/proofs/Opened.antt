@@ -1,5 +1,5 @@
 -- Plain cells over the states that they leave possible, and what one more assertion makes of them.
-use Rattle.std.proofs.Common.{◌≡◌, ◌≢◌, ℕ, ◌+◌, ◌*◌, ◌<◌, ◌≤◌, List, [], ◌∷◌, ◌++◌, length, get_or, inl, inr, refl, sym, ap, subst, ◌∙◌, arith}
+use Rattle.std.proofs.Common.{◌≡◌, ◌≢◌, ℕ, ◌+◌, ◌*◌, ◌<◌, ◌≤◌, List, [], ◌∷◌, ◌++◌, length, get_or, inl, inr, false, refl, sym, ap, subst, ◌∙◌, arith}
 use Rattle.std.specs.Prelude.{◌⊎◌, Some, None, take}
 use Rattle.mmsyntax.specs.declared.statement.Assertion.{Assertion}
 use Rattle.mmsyntax.specs.declared.statement.Step.{Step}
@@ -24,20 +24,20 @@ use Rattle.cells.specs.Lookups.{Resolves}
 use Rattle.chains.specs.Filling.{MayFill, Fills, IsFillable}
 use Rattle.plaincells.specs.Plain.{undone, ShowsSome}
 pub use Rattle.plaincells.specs.PlainViews.{cells_setting, cells_sight, now_state, first_state}
-use Rattle.plaincells.specs.Opening.{OpensIn, front, held_by, spread}
+use Rattle.plaincells.specs.Opening.{CellsOpen, front, held_from}
 use Rattle.std.proofs.Math.Seq.{take-length}
 use Rattle.plaincells.proofs.Empty.{shows_none}
 use Rattle.plaincells.proofs.Logs.{length-undone}
 use Rattle.plaincells.proofs.Numbered.{over_all}
 use Rattle.plaincells.proofs.Widened.{shows_widened}
 use Rattle.plaincells.proofs.PlainSights.{plain_matches}
-use Rattle.plaincells.proofs.Fronts.{front_verifies, slots_by, spread_within, spread_before, opening_next, length_opening, held_next, label_new, label_some, unit_of, all_known}
+use Rattle.plaincells.proofs.Fronts.{front_verifies, slots_from, opening_next, length_opening, held_next, label_new, label_some, unit_of, all_known}
 use Rattle.cells.proofs.Sights.{onward_refl, matches_back, setting_kept}
 
 -- ---- plain cells
 
 pub first_matches : (c : PlainCells) → Matches (cells_sight c) (first_state c)
-first_matches c = plain_matches (cells_setting c) c.room c.values.items c.log.items c.store.items c.ranges.items
+first_matches c = plain_matches (cells_setting c) c.room c.values.items c.log.items c.store.items c.ranges.items c.full
     (omega (arith, c.stored, c.roomy))
 
 -- with what is kept aside, the state with which the run began is that of the values
@@ -72,25 +72,29 @@ later_views c d t lib held slots setting writes within matches verifies h =
 
 -- ---- openings
 
-pub opens_at : (count : ℕ) (db : Contents) (slots room n m : ℕ) (made : PlainCells) → slots ≡ n → room ≡ m
-    → OpensIn (spread slots count) db slots room made → OpensIn (spread n count) db n m made
-opens_at count db slots room n m made e g o =
-    subst (λ x. OpensIn (spread x count) db x m made) e (subst (λ x. OpensIn (spread slots count) db slots x made) g o)
+pub opens_at : (db : Contents) (slots room n m : ℕ) (made : PlainCells) → slots ≡ n → room ≡ m → CellsOpen db slots room made
+    → CellsOpen db n m made
+opens_at db slots room n m made e f o = subst (λ x. CellsOpen db x m made) e (subst (λ x. CellsOpen db slots x made) f o)
 
 -- empty cells open the front with no assertion
-pub opens_none : (f : ℕ → ℕ) (db : Contents) (slots room : ℕ) (made : PlainCells) → made.prelude ≡ db.prelude → made.slots ≡ slots
-    → made.room ≡ room
-    → made.log.items ≡ [] → ((c : ℕ) → get_or made.values.items c 0 ≡ 0) → OpensIn f (front 0 db) slots room made
-opens_none f db slots room made prelude slots_are room_is kept zeros =
-    record { prelude = prelude; slots_are = slots_are; room_is = room_is; kept = kept; shows = shows_none slots (now_state made) zeros }
+pub opens_none : (db : Contents) (slots room : ℕ) (made : PlainCells) → made.prelude ≡ db.prelude → made.slots ≡ slots → made.room ≡ room
+    → made.log.items ≡ [] → made.full ≡ false → ((c : ℕ) → get_or made.values.items c 0 ≡ 0) → CellsOpen (front 0 db) slots room made
+opens_none db slots room made prelude slots_are room_is kept fresh zeros =
+    record {
+      prelude = prelude;
+      slots_are = slots_are;
+      room_is = room_is;
+      kept = kept;
+      fresh = fresh;
+      shows = shows_none slots (now_state made) zeros;
+    }
 
 -- all assertions are the front of them all
-pub opens_all : (f : ℕ → ℕ) (db : Contents) (slots room k : ℕ) (made : PlainCells) → length db.assertions ≡ k
-    → OpensIn f (front k db) slots room made
-    → OpensIn f db slots room made
-opens_all f db slots room k made whole o =
+pub opens_all : (db : Contents) (slots room k : ℕ) (made : PlainCells) → length db.assertions ≡ k → CellsOpen (front k db) slots room made
+    → CellsOpen db slots room made
+opens_all db slots room k made whole o =
     let xs : take k db.assertions ≡ db.assertions = ap (λ n. take n db.assertions) (sym whole) ∙ take-length db.assertions in
-    subst (λ (d : Contents). OpensIn f d slots room made) (λ i. record { prelude = db.prelude; assertions = xs i }) o
+    subst (λ (d : Contents). CellsOpen d slots room made) (λ i. record { prelude = db.prelude; assertions = xs i }) o
 
 -- ---- stored steps
 
@@ -134,36 +138,25 @@ module _ (db : Contents) (k : ℕ) (a : Assertion) (lt : k < length db.assertion
         within = stored_within slots st a.proof kept h;
       }
 
-  -- its slot is empty where the front of the database is shown in slots that are spread
+  -- its slot is empty where the front of the database is shown in its slots
   pub next_may_fill : (slots : ℕ) (st : State) (kept : List StoredStep) (shown : Shows slots st (opening (front k db)))
-      → shown.held ≡ held_by (spread slots (length db.assertions)) 0 (opening (front k db)) → length db.assertions ≤ slots
-      → AreStoredAs slots st a.proof kept
-      → MayFill slots st (opening (front k db)) (spread slots (length db.assertions) k) a kept
-  next_may_fill slots st kept shown held fit h =
-      record { empty = go (shown.others at (spread_within slots n k lt fit)); new = label_new db k a lt is d; stored = h }
+      → shown.held ≡ held_from 0 (opening (front k db)) → k < slots → AreStoredAs slots st a.proof kept
+      → MayFill slots st (opening (front k db)) k a kept
+  next_may_fill slots st kept shown held room h =
+      record { empty = go (shown.others k room); new = label_new db k a lt is d; stored = h }
     where
-      n : ℕ
-      n = length db.assertions
-
-      at : ℕ
-      at = spread slots n k
-
-      go : Has at (slots_of shown.held) ⊎ IsEmpty slots st at → IsEmpty slots st at
+      go : Has k (slots_of shown.held) ⊎ IsEmpty slots st k → IsEmpty slots st k
       go (inl has) =
-          let taken = slots_by (spread slots n) 0 at (opening (front k db)) (subst (λ (ps : List Held). Has at (slots_of ps)) held has) in
-          let before = spread_before slots n k lt fit taken.0 (omega (arith, taken.1, length_opening db k a lt is)) in
-          absurd (omega (arith, before, taken.2))
+          let below = slots_from 0 k (opening (front k db)) (subst (λ (ps : List Held). Has k (slots_of ps)) held has) in
+          absurd (omega (arith, below, length_opening db k a lt is))
       go (inr empty) = empty
 
 -- cells in which the front of a database stands, and what becomes of them
 module _ (db : Contents) (k : ℕ) (a : Assertion) (lt : k < length db.assertions) (is : a ≡ get_or db.assertions k a)
     (spelled : HasSpelling db) (all : AllCheck db) (p : PlainCells) (room : length db.assertions ≤ p.slots)
-    (opened : OpensIn (spread p.slots (length db.assertions)) (front k db) p.slots p.room p) where
-  abbrev slot_of : ℕ → ℕ
-  slot_of = spread p.slots (length db.assertions)
-
+    (opened : CellsOpen (front k db) p.slots p.room p) where
   abbrev first_held : List Held
-  first_held = held_by slot_of 0 (opening (front k db))
+  first_held = held_from 0 (opening (front k db))
 
   verifies : (n : ℕ) (c : PlainCells) → cells_setting c ≡ cells_setting p → Verifies (cells_setting c) (opening (front n db))
   verifies n c same =
@@ -199,33 +192,29 @@ module _ (db : Contents) (k : ℕ) (a : Assertion) (lt : k < length db.assertion
       → Onward (cells_sight q) (cells_sight r)
       → Resolves (cells_sight q) a.proof (Some kept)
       → ((st : State) (lib : List Ranked) → Matches (cells_sight r) st → (shown : Views (cells_sight q) st lib)
-      → MayFill q.slots (after (cells_sight q) st) lib (slot_of k) a kept
-      → Fills q.slots (after (cells_sight r) st) lib shown.shows.held (slot_of k) (100 * (k + 1)) a)
-      → ShowsHeld p.slots (now_state r) (opening (front (k + 1) db)) (held_by slot_of 0 (opening (front (k + 1) db)))
+      → MayFill q.slots (after (cells_sight q) st) lib k a kept
+      → Fills q.slots (after (cells_sight r) st) lib shown.shows.held k (100 * (k + 1)) a)
+      → ShowsHeld p.slots (now_state r) (opening (front (k + 1) db)) (held_from 0 (opening (front (k + 1) db)))
   filled_held q r kept looks onward resolved fills =
       let v = opened_views r (cells_sight q) looks onward in
       let slots : q.slots ≡ p.slots = ap (λ (s : Setting). s.slots) (setting_kept looks.onward) in
       let st = first_state r in
-      let spread_so : v.0.shows.held ≡ held_by (spread q.slots (length db.assertions)) 0 (opening (front k db)) =
-      v.1 ∙ ap (λ n. held_by (spread n (length db.assertions)) 0 (opening (front k db))) (sym slots) in
-      let may : MayFill q.slots (after (cells_sight q) st) (opening (front k db)) (slot_of k) a kept =
-      subst (λ n. MayFill q.slots (after (cells_sight q) st) (opening (front k db)) (spread n (length db.assertions) k) a kept) slots
-      (next_may_fill db k a lt is (declarable db spelled) q.slots (after (cells_sight q) st) kept v.0.shows spread_so
-      (omega (arith, slots, room))
-      (resolved.2 st (opening (front k db)) v.0)) in
+      let may = next_may_fill db k a lt is (declarable db spelled) q.slots (after (cells_sight q) st) kept v.0.shows v.1
+      (omega (arith, slots, lt, room))
+      (resolved.2 st (opening (front k db)) v.0) in
       let made = fills st (opening (front k db)) (first_matches r) v.0 may in
-      let entry : Held = record { slot = slot_of k; entry = record { rank = 100 * (k + 1); assertion = a } } in
+      let entry : Held = record { slot = k; entry = record { rank = 100 * (k + 1); assertion = a } } in
       let one : ShowsHeld q.slots (after (cells_sight r) st) (added (opening (front k db)) (100 * (k + 1)) a) (first_held ++ entry ∷ []) =
       (made.0, made.1 ∙ ap (λ (ps : List Held). ps ++ entry ∷ []) v.1) in
       let two : ShowsHeld p.slots (now_state r) (added (opening (front k db)) (100 * (k + 1)) a) (first_held ++ entry ∷ []) =
       subst (λ n. ShowsHeld n (now_state r) (added (opening (front k db)) (100 * (k + 1)) a) (first_held ++ entry ∷ [])) slots
       (subst (λ (x : State). ShowsHeld q.slots x (added (opening (front k db)) (100 * (k + 1)) a) (first_held ++ entry ∷ []))
       (after_first r) one) in
-      subst (λ (ps : List Held). ShowsHeld p.slots (now_state r) (opening (front (k + 1) db)) ps) (sym (held_next db k a lt is slot_of))
+      subst (λ (ps : List Held). ShowsHeld p.slots (now_state r) (opening (front (k + 1) db)) ps) (sym (held_next db k a lt is))
       (subst (λ (lib : List Ranked). ShowsHeld p.slots (now_state r) lib (first_held ++ entry ∷ [])) (sym (opening_next db k a lt is)) two)
 
   pub shows_some : (r : PlainCells) → cells_setting r ≡ cells_setting p
-      → ShowsHeld p.slots (now_state r) (opening (front (k + 1) db)) (held_by slot_of 0 (opening (front (k + 1) db)))
+      → ShowsHeld p.slots (now_state r) (opening (front (k + 1) db)) (held_from 0 (opening (front (k + 1) db)))
       → ShowsSome (cells_setting r) r.values.items r.store.items r.ranges.items
   shows_some r same h = (
     opening (front (k + 1) db),

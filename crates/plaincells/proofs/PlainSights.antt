@@ -24,10 +24,10 @@ use Rattle.plaincells.proofs.Stores.{of_one_store, within_staged, has_staged, ho
 use Rattle.plaincells.proofs.Widened.{shows_widened}
 
 -- a state of these values may be the one under the run, where the run began with them
-pub plain_matches : (s : Setting) (room : ℕ) (values : List ℕ) (log : Pairs) (store : List ℕ) (places : List Place)
+pub plain_matches : (s : Setting) (room : ℕ) (values : List ℕ) (log : Pairs) (store : List ℕ) (places : List Place) (full : Bool)
     → length store ≤ most_words
-    → Matches (plain_sight s room values log store places) (plain_state (undone values log) store places)
-plain_matches s room values log store places short =
+    → Matches (plain_sight s room values log store places full) (plain_state (undone values log) store places)
+plain_matches s room values log store places full short =
     record {
       store = of_one_store most_words store places short;
       has = within_refl (ranges_in store places);
@@ -39,7 +39,7 @@ pub plain_began : (s : Setting) (room : ℕ) (values : List ℕ) (log : Pairs) (
     → length store ≤ most_words
     → ShowsSome s (undone values log) store places → BeganWithSome s room values log store places
 plain_began s room values log store places short b =
-    (b.0, record { matches = plain_matches s room values log store places short; shows = b.1; verifies = b.2 })
+    (b.0, λ full. record { matches = plain_matches s room values log store places full short; shows = b.1; verifies = b.2 })
 
 -- what the run began with stays as it was
 pub began_on : (s : Setting) (room : ℕ) (values values' : List ℕ) (log log' : Pairs) (store store' : List ℕ) (places places' : List Place)
@@ -47,7 +47,7 @@ pub began_on : (s : Setting) (room : ℕ) (values values' : List ℕ) (log log' 
     → (ShowsSome s (undone values log) store places → ShowsSome s (undone values' log') store' places')
     → ∥ BeganWithSome s room values log store places ∥₁ → ∥ BeganWithSome s room values' log' store' places' ∥₁
 began_on s room values values' log log' store store' places places' short on began =
-    ∥∥₁_map began (λ b. plain_began s room values' log' store' places' short (on (b.0, b.1.shows, b.1.verifies)))
+    ∥∥₁_map began (λ b. plain_began s room values' log' store' places' short (on (b.0, (b.1 false).shows, (b.1 false).verifies)))
 
 pub began_same : (s : Setting) (room : ℕ) (values values' : List ℕ) (log log' : Pairs) (store : List ℕ) (places : List Place)
     → length store ≤ most_words → undone values' log' ≡ undone values log
@@ -86,10 +86,10 @@ read_logged values log cell v e =
     ap (λ xs. read_at_first xs (log ++ (cell, v) ∷ [])) (undone_logged values log (log ++ (cell, v) ∷ []) cell v true e refl)
     ∙ read_at_first-push (undone values log) log (cell, v)
 
-pub plain_reads : (s : Setting) (room : ℕ) (values : List ℕ) (log : Pairs) (store : List ℕ) (places : List Place) (cell v : ℕ)
+pub plain_reads : (s : Setting) (room : ℕ) (values : List ℕ) (log : Pairs) (store : List ℕ) (places : List Place) (full : Bool) (cell v : ℕ)
     → cell < length values → v ≡ get_or values cell 0 → HoldNames s.slots values (ranges_in store places)
-    → Reads cell v (plain_sight s room values log store places) (plain_sight s room values (log ++ (cell, v) ∷ []) store places)
-plain_reads s room values log store places cell v lt e hold =
+    → Reads cell v (plain_sight s room values log store places full) (plain_sight s room values (log ++ (cell, v) ∷ []) store places full)
+plain_reads s room values log store places full cell v lt e hold =
     record {
       looks = record {
         onward = record {
@@ -123,17 +123,17 @@ plain_reads s room values log store places cell v lt e hold =
     more = read_logged values log cell v e
 
 -- and no other
-pub plain_asks : (s : Setting) (room : ℕ) (values : List ℕ) (log : Pairs) (store : List ℕ) (places : List Place) (cell v : ℕ)
+pub plain_asks : (s : Setting) (room : ℕ) (values : List ℕ) (log : Pairs) (store : List ℕ) (places : List Place) (full : Bool) (cell v : ℕ)
     → v ≡ get_or values cell 0
-    → ReadsWithin (λ c. c ≡ cell) (plain_sight s room values log store places)
-    (plain_sight s room values (log ++ (cell, v) ∷ []) store places)
-plain_asks s room values log store places cell v e = record { asked = either }
+    → ReadsWithin (λ c. c ≡ cell) (plain_sight s room values log store places full)
+    (plain_sight s room values (log ++ (cell, v) ∷ []) store places full)
+plain_asks s room values log store places full cell v e = record { asked = either }
   where
     base : List ℕ
     base = undone values log
 
-    either : (c : ℕ) → WasAsked (plain_sight s room values (log ++ (cell, v) ∷ []) store places) c
-        → WasAsked (plain_sight s room values log store places) c ⊎ (c ≡ cell)
+    either : (c : ℕ) → WasAsked (plain_sight s room values (log ++ (cell, v) ∷ []) store places full) c
+        → WasAsked (plain_sight s room values log store places full) c ⊎ (c ≡ cell)
     either c (inl read) =
         elim (has_append_cases (read_at_first base log) ((cell, get_or base cell 0) ∷ []) (c, read.0)
         (subst (Has (c, read.0)) (read_logged values log cell v e) read.1)) [
@@ -145,19 +145,19 @@ plain_asks s room values log store places cell v e = record { asked = either }
 -- ---- a cell is written
 
 -- a cell that was read is one of the log
-pub plain_undone : (s : Setting) (room : ℕ) (values : List ℕ) (log : Pairs) (store : List ℕ) (places : List Place) (cell v : ℕ)
-    → WasRead (plain_sight s room values log store places) cell → undone (set values cell v) log ≡ undone values log
-plain_undone s room values log store places cell v read = undone_write values (undone values log) log cell v read.0 read.1
+pub plain_undone : (s : Setting) (room : ℕ) (values : List ℕ) (log : Pairs) (store : List ℕ) (places : List Place) (full : Bool)
+    (cell v : ℕ) → WasRead (plain_sight s room values log store places full) cell → undone (set values cell v) log ≡ undone values log
+plain_undone s room values log store places full cell v read = undone_write values (undone values log) log cell v read.0 read.1
 
-pub plain_writes : (s : Setting) (room : ℕ) (values : List ℕ) (log : Pairs) (store : List ℕ) (places : List Place) (cell v : ℕ)
-    → cell < length values
-    → WasRead (plain_sight s room values log store places) cell
-    → Writes cell v (plain_sight s room values log store places) (plain_sight s room (set values cell v) log store places)
-plain_writes s room values log store places cell v lt read =
+pub plain_writes : (s : Setting) (room : ℕ) (values : List ℕ) (log : Pairs) (store : List ℕ) (places : List Place) (full : Bool)
+    (cell v : ℕ) → cell < length values
+    → WasRead (plain_sight s room values log store places full) cell
+    → Writes cell v (plain_sight s room values log store places full) (plain_sight s room (set values cell v) log store places full)
+plain_writes s room values log store places full cell v lt read =
     record {
       fixed = refl;
       ranges = refl;
-      reads = ap (λ xs. read_at_first xs log) (plain_undone s room values log store places cell v read);
+      reads = ap (λ xs. read_at_first xs log) (plain_undone s room values log store places full cell v read);
       taken = refl;
       writes = λ c. written_set values cell v c lt;
       staged = refl;
@@ -178,11 +178,11 @@ hold_set slots values ranges cell v lt hold named c w at ranged = go (cases_eq c
 
 -- ---- words are staged
 
-pub plain_stages : (s : Setting) (room : ℕ) (values : List ℕ) (log : Pairs) (store words : List ℕ) (places : List Place)
+pub plain_stages : (s : Setting) (room : ℕ) (values : List ℕ) (log : Pairs) (store words : List ℕ) (places : List Place) (full : Bool)
     → LieInStore store places
-    → Stages words (behind store words) (plain_sight s room values log store places)
-    (plain_sight s room values log (store ++ words) (places ++ behind store words ∷ []))
-plain_stages s room values log store words places lie =
+    → Stages words (behind store words) (plain_sight s room values log store places full)
+    (plain_sight s room values log (store ++ words) (places ++ behind store words ∷ []) full)
+plain_stages s room values log store words places full lie =
     record {
       onward = record {
         fixed = refl;

@@ -43,10 +43,10 @@ abbrev pub with_place : Bool → List Place → Place → List Place
 with_place put places place = if put then places ++ place ∷ [] else places
 
 -- what the run has seen: it may do all; it knows all ranges; it has read the cells of its log; it keeps aside all values as they are now;
--- and the words that were taken are those of the store. It notes nothing of what is staged, and no
+-- and the words that were taken are those of the store, which may have had no room for others. It notes nothing of what is staged, and no
 -- read stops it but for want of memory, which it doesn't note
-abbrev pub plain_sight : Setting → ℕ → List ℕ → Pairs → List ℕ → List Place → Sight (Unit {0})
-plain_sight setting room values log store places =
+abbrev pub plain_sight : Setting → ℕ → List ℕ → Pairs → List ℕ → List Place → Bool → Sight (Unit {0})
+plain_sight setting room values log store places full =
     record {
       origin = tt;
       setting = setting;
@@ -59,6 +59,7 @@ plain_sight setting room values log store places =
       room = room;
       staged = empty;
       halted = None;
+      full = full;
     }
 
 -- the state of these values and ranges
@@ -73,7 +74,8 @@ ShowsSome setting values store places =
 -- the state with which the run began may be the one under the run, and shows a library that verifies
 abbrev pub BeganWithSome : Setting → ℕ → List ℕ → Pairs → List ℕ → List Place → Type 0
 BeganWithSome setting room values log store places =
-    (lib : List Ranked) × Suits (plain_sight setting room values log store places) (plain_state (undone values log) store places) lib
+    (lib : List Ranked)
+    × ((full : Bool) → Suits (plain_sight setting room values log store places full) (plain_state (undone values log) store places) lib)
 
 -- the word is 0 or names one of the ranges
 abbrev pub names : List Range → ℕ → Bool

@@ -1,5 +1,5 @@
 -- Cells on plain vectors as callers see them: their library's setting, what their run has seen, and the states that they show.
-use Rattle.std.specs.Prelude.{◌≡◌, ℕ, List, [], length, slice_index}
+use Rattle.std.specs.Prelude.{◌≡◌, ℕ, List, [], false, length, slice_index}
 use Rattle.mmsyntax.specs.Tables.{Tables}
 use Rattle.library.specs.declared.library.Ranked.{Ranked}
 use Rattle.library.specs.Library.{Setting, Verifies}
@@ -16,7 +16,7 @@ cells_setting c = record { prelude = c.prelude; slots = c.slots }
 
 -- what the run has seen: all ranges, and the cells of its log; all values as they are now are kept aside
 abbrev pub cells_sight : PlainCells → Sight (Unit {0})
-cells_sight c = plain_sight (cells_setting c) c.room c.values.items c.log.items c.store.items c.ranges.items
+cells_sight c = plain_sight (cells_setting c) c.room c.values.items c.log.items c.store.items c.ranges.items c.full
 
 -- the state that the values show
 abbrev pub now_state : PlainCells → State
@@ -26,11 +26,11 @@ now_state c = plain_state c.values.items c.store.items c.ranges.items
 abbrev pub first_state : PlainCells → State
 first_state c = plain_state (undone c.values.items c.log.items) c.store.items c.ranges.items
 
--- of a library without assertions, so far: each cell holds 0, and the store has no word
+-- of a library without assertions, so far: each cell holds 0, and the store has no word and refused none
 abbrev pub AreBlank : Tables → ℕ → ℕ → PlainCells → Type 0
 AreBlank prelude slots room made =
     (made.prelude ≡ prelude) × (made.slots ≡ slots) × (made.room ≡ room) × (made.log.items ≡ []) × (made.store.items ≡ [])
-    × ((c : ℕ) → slice_index made.values.items c ≡ 0)
+    × ((c : ℕ) → slice_index made.values.items c ≡ 0) × (made.full ≡ false)
 
 -- the state of these values, with the ranges of the store that their range cells name
 abbrev pub named_state : ℕ → List ℕ → List ℕ → State
@@ -41,7 +41,7 @@ abbrev pub ShowNamed : Setting → List ℕ → List ℕ → Type 0
 ShowNamed setting values store =
     (lib : List Ranked) × Shows setting.slots (named_state setting.slots values store) lib × Verifies setting lib
 
--- of these values and this store, with nothing read so far: the ranges that the range cells name are known
+-- of these values and this store, which refused none so far, with nothing read: the ranges that the range cells name are known
 pub record AreOfWords (prelude : Tables) (slots : ℕ) (values store : List ℕ) (made : PlainCells) : Type 0 where
   pub prelude_is : made.prelude ≡ prelude
   pub slots_are : made.slots ≡ slots
@@ -49,15 +49,16 @@ pub record AreOfWords (prelude : Tables) (slots : ℕ) (values store : List ℕ)
   pub values_are : made.values.items ≡ values
   pub store_is : made.store.items ≡ store
   pub log : made.log.items ≡ []
+  pub fresh : made.full ≡ false
   pub known : Within (ranges_named (is_ranged slots) store values) (ranges_in store made.ranges.items)
 
--- all but the log is as it was
+-- all is as it was, but the log, and whether the store refused words
 abbrev pub AreSameButLog : PlainCells → PlainCells → Type 0
 AreSameButLog old new =
     (new.values ≡ old.values) × (new.store ≡ old.store) × (new.ranges ≡ old.ranges) × (new.prelude ≡ old.prelude) × (new.slots ≡ old.slots)
     × (new.room ≡ old.room)
 
--- all but the log and the values is as it was
+-- all is as it was, but the log, the values, and whether the store refused words
 abbrev pub AreSameButValues : PlainCells → PlainCells → Type 0
 AreSameButValues old new =
     (new.store ≡ old.store) × (new.ranges ≡ old.ranges) × (new.prelude ≡ old.prelude) × (new.slots ≡ old.slots) × (new.room ≡ old.room)

@@ -6,10 +6,10 @@ ghost use Rattle.std.specs.Prelude.{◌≡◌, ◌≢◌, ◌≤◌, ◌<◌, �
 ghost use Rattle.derivation.specs.Databases.{AllCheck};
 ghost use Rattle.plaincells.specs.Measures.{body_length, all_bodies_length, IsLeft};
 ghost use Rattle.bodystore.specs.Bodies.{expressions_words};
-ghost use Rattle.plaincells.specs.Opening.{CellsOpen, OpensIn, front, spread, CellsRefuse};
+ghost use Rattle.plaincells.specs.Opening.{CellsOpen, front, CellsRefuse};
 
 use crate::plain::PlainCells;
-use cells::{resolve, slot_count};
+use cells::resolve;
 use chains::fill;
 use mmsyntax::{Assertion, Database, Expr};
 use std::alloc::{AllocError, Global};
@@ -68,7 +68,7 @@ impl From<AllocError> for OpenError {
 
 impl PlainCells {
     /// The opening library of a database whose proofs check, in so many slots, with a store that has room for so many words. The
-    /// assertions are put in in their order, spread evenly over the slots: the assertion k of n, from 0, in the slot `k * slots / n`.
+    /// assertions are put in in their order, into the slots from 0 up.
     ///
     /// # Errors
     ///
@@ -103,7 +103,7 @@ impl PlainCells {
     }
 }
 
-/// Puts the next assertion of a database into its slot: that many before it stand in theirs.
+/// Puts the next assertion of a database into the next slot: that many before it stand in those below.
 fn put_next(
     alloc: Global,
     cells: &mut PlainCells,
@@ -113,21 +113,18 @@ fn put_next(
     requires next { index < length database.now.assertions }
     requires fits { length database.now.assertions ≤ cells.old.slots }
     requires checks { AllCheck database.now }
-    requires opened { OpensIn (spread cells.old.slots (length database.now.assertions)) (front index database.now) cells.old.slots
-        cells.old.room cells.old }
-    ensures { IfOk result (λ _. OpensIn (spread cells.old.slots (length database.now.assertions)) (front (index + 1) database.now)
-        cells.old.slots cells.old.room cells.new) }
+    requires opened { CellsOpen (front index database.now) cells.old.slots cells.old.room cells.old }
+    ensures { IfOk result (λ _. CellsOpen (front (index + 1) database.now) cells.old.slots cells.old.room cells.new) }
 {
     let assertions = database.assertions();
     let assertion = &assertions[index];
-    let slot = spread(slot_count(cells), assertions.len(), index);
     let rank = 100 * (index as u32 + 1);
     let steps = match resolve(alloc, cells, &assertion.proof) {
         Ok(Some(steps)) => steps,
         Ok(None) => unreachable!(),
         Err(_) => return Err(AllocError),
     };
-    match fill(alloc, cells, slot, rank, assertion, steps.as_slice()) {
+    match fill(alloc, cells, index, rank, assertion, steps.as_slice()) {
         Ok(()) => {
             cells.keep();
             Ok(())
@@ -135,16 +132,6 @@ fn put_next(
         // the room was tested, so it is memory that ran out
         Err(_) => Err(AllocError),
     }
-}
-
-/// The slot of an assertion, by its index among so many.
-fn spread(slots: usize, count: usize, index: usize) -> usize
-    requires next { index < count }
-    requires few { (count ≤ slots) × (slots ≤ MOST_ASSERTIONS) }
-    ensures value { result ≡ spread slots count index }
-    ensures within { result < slots }
-{
-    index * slots / count
 }
 
 /// Whether the bodies of the assertions have at most as many words as the room.

@@ -2,8 +2,8 @@
 
 ghost use Rattle.cells.specs.State.{most_words};
 ghost use Rattle.mmsyntax.specs.declared.limits.TheConstants.{MOST_ASSERTIONS};
-ghost use Rattle.std.specs.Prelude.{◌≡◌, ◌≢◌, ◌≤◌, ◌<◌, ◌*◌, ◌+◌, ◌++◌, ◌↔◌, [], ◌∷◌, length, slice_index, is_ok, true, if◌then◌else◌, IfOk, IfErr, IsErrOf, IsOkUnless};
-ghost use Rattle.cells.specs.Sight.{Looks, Reads, Stages, ReadsWithin, ReadsNothing};
+ghost use Rattle.std.specs.Prelude.{◌≡◌, ◌≢◌, ◌≤◌, ◌<◌, ◌*◌, ◌+◌, ◌++◌, ◌↔◌, [], ◌∷◌, length, slice_index, is_ok, true, false, if◌then◌else◌, IfOk, IfErr, IsErrOf, IsOkUnless};
+ghost use Rattle.cells.specs.Sight.{IsCaused, Looks, Reads, Stages, ReadsWithin, ReadsNothing};
 ghost use Rattle.cells.specs.Slots.{cell_count};
 ghost use Rattle.plaincells.specs.Plain.{undone, ranges_in, ShowsSome, BeganWithSome, HoldNames, LieInStore, IsLogOf, AreNamedBy, behind, with_place};
 
@@ -24,6 +24,8 @@ pub struct PlainCells {
     log: Vec<(usize, u64)>,
     store: Vec<u64>,
     ranges: Vec<Range>,
+    // whether the store had no room for words that this run was to stage
+    full: bool,
     ghost some: { 1 ≤ slots },
     ghost few: { slots ≤ MOST_ASSERTIONS },
     ghost long: { length values.items ≡ 7 * slots },
@@ -47,6 +49,7 @@ impl Drop for PlainCells {
             log: _,
             store: _,
             ranges: _,
+            full: _,
         } = self;
     }
 }
@@ -80,6 +83,7 @@ impl PlainCells {
             log: Vec::new(alloc),
             store: Vec::new(alloc),
             ranges: Vec::new(alloc),
+            full: false,
         })
     }
 
@@ -111,6 +115,7 @@ impl PlainCells {
             log: Vec::new(alloc),
             store,
             ranges,
+            full: false,
         })
     }
 
@@ -133,6 +138,7 @@ impl PlainCells {
             log: _,
             store: _,
             ranges: _,
+            full: _,
         } = self;
         prelude
     }
@@ -149,6 +155,7 @@ impl PlainCells {
             log: _,
             store,
             ranges: _,
+            full: _,
         } = self;
         (values, store)
     }
@@ -179,18 +186,22 @@ impl PlainCells {
     pub fn keep(&mut self)
         requires { ∥ ShowsSome (cells_setting self.old) self.old.values.items self.old.store.items self.old.ranges.items ∥₁ }
         ensures log { self.new.log.items ≡ [] }
+        ensures fresh { self.new.full ≡ false }
         ensures same { AreSameButLog self.old self.new }
     {
         self.log.clear();
+        self.full = false;
     }
 
     /// Gives each cell the value that it had when this run began, and begins another. What was staged stays in the store.
     pub fn undo(&mut self)
         ensures log { self.new.log.items ≡ [] }
+        ensures fresh { self.new.full ≡ false }
         ensures values { self.new.values.items ≡ undone self.old.values.items self.old.log.items }
         ensures same { AreSameButValues self.old self.new }
     {
         give_back(self.values.as_mut_slice(), &mut self.log);
+        self.full = false;
     }
 }
 
@@ -256,6 +267,7 @@ impl Cells for PlainCells {
         requires { cell < cell_count (cells_sight self.old).setting.slots }
         ensures ok { IfOk result (λ v. Reads cell v (cells_sight self.old) (cells_sight self.new)) }
         ensures err { IfErr result (λ _. Looks (cells_sight self.old) (cells_sight self.new)) }
+        ensures halts { IfErr result (IsCaused (cells_sight self.new)) }
         ensures reads { ReadsWithin (λ c. c ≡ cell) (cells_sight self.old) (cells_sight self.new) }
         ensures memory { IsOkUnless result Halt.NoMemory }
     {
@@ -285,10 +297,12 @@ impl Cells for PlainCells {
         requires some { words.now ≢ [] }
         ensures ok { IfOk result (λ range. Stages words.now range (cells_sight self.old) (cells_sight self.new)) }
         ensures err { IfErr result (λ _. Looks (cells_sight self.old) (cells_sight self.new)) }
+        ensures halts { IfErr result (IsCaused (cells_sight self.new)) }
         ensures reads { ReadsNothing (cells_sight self.old) (cells_sight self.new) }
         ensures full { IsErrOf result Halt.StoreFull ↔ (self.old.room < length self.old.store.items + length words.now) }
     {
         if words.len() > self.room - self.store.len() {
+            self.full = true;
             return Err(Halt::StoreFull);
         }
         match put_behind(&mut self.store, &mut self.ranges, words) {
@@ -297,5 +311,5 @@ impl Cells for PlainCells {
         }
     }
 
-    ghost grounded = { λ c. ∥∥₁_map c.began (λ b. (first_state c, b.0, b.1)) };
+    ghost grounded = { λ c. ∥∥₁_map c.began (λ b. (first_state c, b.0, b.1 c.full)) };
 }

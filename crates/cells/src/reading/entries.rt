@@ -1,9 +1,9 @@
 //! Reads whole assertions back from slots, and what is counted of them.
 
-ghost use Rattle.std.specs.Prelude.{◌≡◌, ◌<◌, ◌⊎◌, IfOk};
+ghost use Rattle.std.specs.Prelude.{◌≡◌, ◌<◌, ◌⊎◌, IfOk, IfErr};
 ghost use Rattle.library.specs.Library.{label_of};
 ghost use Rattle.library.specs.Edits.{citers};
-ghost use Rattle.cells.specs.Sight.{Looks, ReadsWithin};
+ghost use Rattle.cells.specs.Sight.{IsCaused, Looks, ReadsWithin};
 ghost use Rattle.cells.specs.Slots.{rank_cell, citers_cell};
 ghost use Rattle.cells.specs.Footprints.{IsOfAssertion};
 ghost use Rattle.cells.specs.Lookups.{ForEachHeld};
@@ -26,6 +26,7 @@ pub fn citers<C: Cells>(cells: &mut C, slot: usize) -> Result<u64, Halt>
     requires { slot < (C.sight cells.old).setting.slots }
     ensures looks { Looks (C.sight cells.old) (C.sight cells.new) }
     ensures ok { IfOk result (λ n. ForEachHeld (C.sight cells.new) slot (λ st lib e. n ≡ citers lib (label_of e))) }
+    ensures halts { IfErr result (IsCaused (C.sight cells.new)) }
     ensures reads { ReadsWithin (λ c. c ≡ citers_cell slot) (C.sight cells.old) (C.sight cells.new) }
 {
     cells.read(citers_cell(slot))
@@ -40,6 +41,7 @@ pub fn rank<C: Cells>(cells: &mut C, slot: usize) -> Result<u32, Halt>
     requires { slot < (C.sight cells.old).setting.slots }
     ensures looks { Looks (C.sight cells.old) (C.sight cells.new) }
     ensures ok { IfOk result (λ n. ForEachHeld (C.sight cells.new) slot (λ st lib e. n ≡ e.rank)) }
+    ensures halts { IfErr result (IsCaused (C.sight cells.new)) }
     ensures reads { ReadsWithin (λ c. c ≡ rank_cell slot) (C.sight cells.old) (C.sight cells.new) }
 {
     Ok((cells.read(rank_cell(slot))? & 0xffff_ffff) as u32)
@@ -56,6 +58,7 @@ fn assertion<C: Cells>(
     requires label { ForEachHeld (C.sight cells.old) slot (λ st lib e. label ≡ label_of e) }
     ensures looks { Looks (C.sight cells.old) (C.sight cells.new) }
     ensures ok { IfOk result (λ made. ForEachHeld (C.sight cells.new) slot (λ st lib e. made ≡ e.assertion)) }
+    ensures halts { IfErr result (IsCaused (C.sight cells.new)) }
     ensures reads { ForEachHeld (C.sight cells.new) slot (λ st lib e.
         ReadsWithin (IsOfAssertion (C.sight cells.old).setting.slots slot e.assertion.proof st) (C.sight cells.old) (C.sight cells.new)) }
 {
@@ -75,6 +78,7 @@ pub fn entry<C: Cells>(
     requires label { ForEachHeld (C.sight cells.old) slot (λ st lib e. label ≡ label_of e) }
     ensures looks { Looks (C.sight cells.old) (C.sight cells.new) }
     ensures ok { IfOk result (λ made. ForEachHeld (C.sight cells.new) slot (λ st lib e. made ≡ e)) }
+    ensures halts { IfErr result (IsCaused (C.sight cells.new)) }
     ensures reads { ForEachHeld (C.sight cells.new) slot (λ st lib e.
         ReadsWithin (λ c. (c ≡ rank_cell slot) ⊎ IsOfAssertion (C.sight cells.old).setting.slots slot e.assertion.proof st c)
         (C.sight cells.old) (C.sight cells.new)) }

@@ -1,7 +1,7 @@
 //! Reads labels back from slots.
 
-ghost use Rattle.std.specs.Prelude.{◌≡◌, ◌<◌, IfOk};
-ghost use Rattle.cells.specs.Sight.{Looks, ReadsWithin};
+ghost use Rattle.std.specs.Prelude.{◌≡◌, ◌<◌, IfOk, IfErr};
+ghost use Rattle.cells.specs.Sight.{IsCaused, Looks, ReadsWithin};
 ghost use Rattle.cells.specs.Slots.{name_cell};
 ghost use Rattle.cells.specs.Lookups.{TellsLabelOf, IsNameAt};
 
@@ -22,6 +22,7 @@ pub fn label<C: Cells>(alloc: Global, cells: &mut C, slot: usize) -> Result<Opti
     requires { slot < (C.sight cells.old).setting.slots }
     ensures looks { Looks (C.sight cells.old) (C.sight cells.new) }
     ensures ok { IfOk result (λ made. TellsLabelOf (C.sight cells.new) slot made) }
+    ensures halts { IfErr result (IsCaused (C.sight cells.new)) }
     ensures reads { ReadsWithin (λ c. c ≡ name_cell slot) (C.sight cells.old) (C.sight cells.new) }
 {
     let words = words_of(alloc, cells, name_cell(slot))?;
@@ -36,6 +37,7 @@ pub(crate) fn name_of<C: Cells>(alloc: Global, cells: &mut C, slot: usize) -> Re
     requires { slot < (C.sight cells.old).setting.slots }
     ensures looks { Looks (C.sight cells.old) (C.sight cells.new) }
     ensures ok { IfOk result (λ made. IsNameAt (C.sight cells.new) slot made) }
+    ensures halts { IfErr result (IsCaused (C.sight cells.new)) }
     ensures reads { ReadsWithin (λ c. c ≡ name_cell slot) (C.sight cells.old) (C.sight cells.new) }
 {
     let words = words_of(alloc, cells, name_cell(slot))?;

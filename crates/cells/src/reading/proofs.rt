@@ -1,11 +1,11 @@
 //! Reads proofs back from slots.
 
-ghost use Rattle.std.specs.Prelude.{◌≡◌, ◌<◌, ◌≤◌, ◌+◌, ◌^◌, ◌↔◌, IfOk, IsTrue, length, take, map};
+ghost use Rattle.std.specs.Prelude.{◌≡◌, ◌<◌, ◌≤◌, ◌+◌, ◌^◌, ◌↔◌, IfOk, IfErr, IsTrue, length, take, map};
 ghost use Rattle.mmsyntax.specs.declared.statement.Step.TheVariants.{Cite};
 ghost use Rattle.mmsyntax.specs.ProofWords.{IsWord, AreWords, step_of, steps_of};
 ghost use Rattle.bodystore.specs.declared.stored.StoredStep.TheVariants.{Slot};
 ghost use Rattle.bodystore.specs.Bodies.{stored_step};
-ghost use Rattle.cells.specs.Sight.{Looks, ReadsWithin};
+ghost use Rattle.cells.specs.Sight.{IsCaused, Looks, ReadsWithin};
 ghost use Rattle.cells.specs.Slots.{proof_cell};
 ghost use Rattle.cells.specs.Footprints.{IsOfProof, IsNameCited};
 ghost use Rattle.cells.specs.Lookups.{ForEachHeld, AreStepsAt, IsStepOf, AreStepsOf};
@@ -30,6 +30,7 @@ pub fn stored_proof<C: Cells>(
     requires { slot < (C.sight cells.old).setting.slots }
     ensures looks { Looks (C.sight cells.old) (C.sight cells.new) }
     ensures ok { IfOk result (λ made. AreStepsAt (C.sight cells.new) slot made.items) }
+    ensures halts { IfErr result (IsCaused (C.sight cells.new)) }
     ensures reads { ReadsWithin (λ c. c ≡ proof_cell slot) (C.sight cells.old) (C.sight cells.new) }
 {
     let words = words_of(alloc, cells, proof_cell(slot))?;
@@ -41,6 +42,7 @@ pub fn proof<C: Cells>(alloc: Global, cells: &mut C, slot: usize) -> Result<Proo
     requires { slot < (C.sight cells.old).setting.slots }
     ensures looks { Looks (C.sight cells.old) (C.sight cells.new) }
     ensures ok { IfOk result (λ made. ForEachHeld (C.sight cells.new) slot (λ st lib e. made ≡ e.assertion.proof)) }
+    ensures halts { IfErr result (IsCaused (C.sight cells.new)) }
     ensures reads { ForEachHeld (C.sight cells.new) slot (λ st lib e.
         ReadsWithin (IsOfProof (C.sight cells.old).setting.slots slot e.assertion.proof st) (C.sight cells.old) (C.sight cells.new)) }
 {
@@ -99,6 +101,7 @@ fn word_again<C: Cells>(
     ensures few { length cited.new.items ≤ length cited.old.items + 1 }
     ensures word { IfOk result (λ w. IsWord (length cited.new.items) w) }
     ensures ok { IfOk result (λ w. IsStepOf slots (C.sight cells.new) (stored_step word) (step_of cited.new.items w)) }
+    ensures halts { IfErr result (IsCaused (C.sight cells.new)) }
     ensures reads { ReadsWithin (IsNameCited (stored_step word)) (C.sight cells.old) (C.sight cells.new) }
 {
     if hint < words.len() && hint < stored.len() && stored[hint] == word {
@@ -123,6 +126,7 @@ fn word_of<C: Cells>(
     ensures few { length cited.new.items ≤ length cited.old.items + 1 }
     ensures word { IfOk result (λ w. IsWord (length cited.new.items) w) }
     ensures ok { IfOk result (λ w. IsStepOf slots (C.sight cells.new) step (step_of cited.new.items w)) }
+    ensures halts { IfErr result (IsCaused (C.sight cells.new)) }
     ensures reads { ReadsWithin (IsNameCited step) (C.sight cells.old) (C.sight cells.new) }
 {
     match step {
@@ -147,6 +151,7 @@ fn cited_label<C: Cells>(
     requires { slots ≡ (C.sight cells.old).setting.slots }
     ensures looks { Looks (C.sight cells.old) (C.sight cells.new) }
     ensures ok { IfOk result (λ made. IsStepOf slots (C.sight cells.new) (Slot slot) (Cite made)) }
+    ensures halts { IfErr result (IsCaused (C.sight cells.new)) }
     ensures reads { ReadsWithin (IsNameCited (Slot slot)) (C.sight cells.old) (C.sight cells.new) }
 {
     if (slot as usize) < slots {

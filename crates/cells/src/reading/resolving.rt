@@ -1,9 +1,9 @@
 //! From the labels that a proof cites to their slots.
 
-ghost use Rattle.std.specs.Prelude.{◌<◌, IfOk, [], length, slice_index_or};
+ghost use Rattle.std.specs.Prelude.{◌<◌, IfOk, IfErr, [], length, slice_index_or};
 ghost use Rattle.mmsyntax.specs.ProofWords.{IsWithin, step_in};
 ghost use Rattle.std.specs.Option.{option_map};
-ghost use Rattle.cells.specs.Sight.{Looks};
+ghost use Rattle.cells.specs.Sight.{IsCaused, Looks};
 ghost use Rattle.cells.specs.Footprints.{ReadsWhere, IsOfLook, IsOfStep, IsOfResolving};
 ghost use Rattle.cells.specs.Lookups.{Finds, StoresStep, Resolves};
 ghost use Rattle.cells.specs.Words.{AreFound};
@@ -24,6 +24,7 @@ pub fn resolve<C: Cells>(
 ) -> Result<Option<Vec<StoredStep>>, Halt>
     ensures looks { Looks (C.sight cells.old) (C.sight cells.new) }
     ensures ok { IfOk result (λ kept. Resolves (C.sight cells.new) steps.now (option_map (λ v. v.items) kept)) }
+    ensures halts { IfErr result (IsCaused (C.sight cells.new)) }
     ensures reads { ReadsWhere (IsOfResolving (C.sight cells.old).setting.slots steps.now) (C.sight cells.old) (C.sight cells.new) }
 {
     let over = steps.word_steps();
@@ -54,6 +55,7 @@ fn stored_step<C: Cells>(
     ensures looks { Looks (C.sight cells.old) (C.sight cells.new) }
     ensures found { AreFound (C.sight cells.new) labels.now found.new }
     ensures ok { IfOk result (λ kept. StoresStep (C.sight cells.new) (step_in labels.now step) kept) }
+    ensures halts { IfErr result (IsCaused (C.sight cells.new)) }
     ensures reads { ReadsWhere (IsOfStep (C.sight cells.old).setting.slots (step_in labels.now step))
         (C.sight cells.old) (C.sight cells.new) }
 {
@@ -80,6 +82,7 @@ fn slot_of<C: Cells>(
     ensures looks { Looks (C.sight cells.old) (C.sight cells.new) }
     ensures found { AreFound (C.sight cells.new) labels.now found.new }
     ensures ok { IfOk result (λ slot. Finds (C.sight cells.new) (slice_index_or labels.now n []) slot) }
+    ensures halts { IfErr result (IsCaused (C.sight cells.new)) }
     ensures reads { ReadsWhere (IsOfLook (C.sight cells.old).setting.slots (slice_index_or labels.now n []))
         (C.sight cells.old) (C.sight cells.new) }
 {

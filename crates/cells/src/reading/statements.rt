@@ -1,9 +1,9 @@
 //! Reads statements back from slots, and frames.
 
-ghost use Rattle.std.specs.Prelude.{◌≡◌, ◌<◌, IfOk};
+ghost use Rattle.std.specs.Prelude.{◌≡◌, ◌<◌, IfOk, IfErr};
 ghost use Rattle.mmframes.specs.Frames.{frame};
 ghost use Rattle.bodystore.specs.Bodies.{kind_word, statement_of};
-ghost use Rattle.cells.specs.Sight.{Looks, ReadsWithin};
+ghost use Rattle.cells.specs.Sight.{IsCaused, Looks, ReadsWithin};
 ghost use Rattle.cells.specs.Slots.{statement_cell};
 ghost use Rattle.cells.specs.Lookups.{ForEachHeld};
 
@@ -25,6 +25,7 @@ pub fn kind<C: Cells>(cells: &mut C, slot: usize) -> Result<Kind, Halt>
     requires { slot < (C.sight cells.old).setting.slots }
     ensures looks { Looks (C.sight cells.old) (C.sight cells.new) }
     ensures ok { IfOk result (λ made. ForEachHeld (C.sight cells.new) slot (λ st lib e. made ≡ e.assertion.kind)) }
+    ensures halts { IfErr result (IsCaused (C.sight cells.new)) }
     ensures reads { ReadsWithin (λ c. c ≡ statement_cell slot) (C.sight cells.old) (C.sight cells.new) }
 {
     Ok(kind_of(first_word(cells, statement_cell(slot))?))
@@ -45,6 +46,7 @@ pub fn statement<C: Cells>(alloc: Global, cells: &mut C, slot: usize) -> Result<
     requires { slot < (C.sight cells.old).setting.slots }
     ensures looks { Looks (C.sight cells.old) (C.sight cells.new) }
     ensures ok { IfOk result (λ made. ForEachHeld (C.sight cells.new) slot (λ st lib e. made ≡ statement_of e.assertion)) }
+    ensures halts { IfErr result (IsCaused (C.sight cells.new)) }
     ensures reads { ReadsWithin (λ c. c ≡ statement_cell slot) (C.sight cells.old) (C.sight cells.new) }
 {
     let words = words_of(alloc, cells, statement_cell(slot))?;
@@ -61,6 +63,7 @@ pub fn frame<C: Cells>(
     requires { slot < (C.sight cells.old).setting.slots }
     ensures looks { Looks (C.sight cells.old) (C.sight cells.new) }
     ensures ok { IfOk result (λ made. ForEachHeld (C.sight cells.new) slot (λ st lib e. made ≡ frame prelude.now e.assertion)) }
+    ensures halts { IfErr result (IsCaused (C.sight cells.new)) }
     ensures reads { ReadsWithin (λ c. c ≡ statement_cell slot) (C.sight cells.old) (C.sight cells.new) }
 {
     let statement = statement(alloc, cells, slot)?;

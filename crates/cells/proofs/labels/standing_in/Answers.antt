@@ -51,6 +51,7 @@ returns-in_default-met g c =
       looks = looks_trans _ _ _ c.loop.invariant.0 c.standing_at.ensures.looks;
       ok = told_at s c.args.own.now c.args.label.now c.args.chain c.in-Some.slot c.in_ok-met.met c.in_default-met.not-Free
           c.in_ok-met.ensures.ok;
+      halts = tt;
       reads = subst (λ (n : ℕ). ReadsWhere (IsAlong n c.args.chain) (g.C.Cells.sight c.args.cells.now)
           (g.C.Cells.sight c.standing_at.new.cells))
           c.slot_count-slots.ensures.value

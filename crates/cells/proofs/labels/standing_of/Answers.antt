@@ -29,6 +29,7 @@ returns-in_default g c =
     record {
       looks = c.standing_in.ensures.looks;
       ok = told_in s own label c.bucket-first.result c.in_ok-met.met c.in_default.not-Free c.in_ok-met.ensures.ok;
+      halts = tt;
       reads = first_walked old own label s c.bucket-first.result c.standing_in.ensures.looks
           (c.bucket-first.ensures.value ∙ ap (λ (n : ℕ). bucket n label) c.slot_count-slots.ensures.value) c.standing_in.ensures.reads;
     }
@@ -87,6 +88,7 @@ returns-in_default-met g c =
     record {
       looks = looks_trans _ _ _ c.standing_in.ensures.looks c.standing_in-2.ensures.looks;
       ok = told_in s own label c.hash.result c.in_ok-met-2.met c.in_default-met.not-Free c.in_ok-met-2.ensures.ok;
+      halts = tt;
       reads = below_walked old own label r s c.hash.result c.standing_in.ensures.looks c.standing_in-2.ensures.looks first
           c.standing_in-2.ensures.reads (c.hash.ensures.value ∙ ap (λ (n : ℕ). hash n label) slots);
     }

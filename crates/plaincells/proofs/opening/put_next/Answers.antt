@@ -1,4 +1,4 @@
-use Rattle.std.proofs.Common.{◌≡◌, ◌+◌, ◌*◌, List, length, get_or, Option, Some, None, Vec, Global, sym, ap, subst, ◌∙◌}
+use Rattle.std.proofs.Common.{◌≡◌, ◌+◌, List, get_or, Option, Some, None, Vec, Global, sym, ap, subst, ◌∙◌}
 use Rattle.std.specs.Prelude.{option_map}
 use Rattle.mmsyntax.specs.declared.statement.Assertion.{Assertion}
 use Rattle.bodystore.specs.declared.stored.StoredStep.{StoredStep}
@@ -6,9 +6,8 @@ use Rattle.library.specs.Library.{Setting, opening}
 use Rattle.cells.specs.State.{State}
 use Rattle.cells.specs.Shows.{ShowsHeld}
 use Rattle.plaincells.specs.Plain.{plain_state}
-use Rattle.plaincells.specs.Opening.{front, held_by, spread}
+use Rattle.plaincells.specs.Opening.{front, held_from}
 use Rattle.cells.specs.Lookups.{Resolves}
-use Rattle.chains.specs.Filling.{FillsAny}
 use Rattle.cells.proofs.Sights.{room_kept, setting_kept}
 use Rattle.plaincells.proofs.Opened.{cells_setting, cells_sight, now_state, none_unknown, resolved_fillable, filled_held, shows_some}
 use Rattle.plaincells.proofs.opening.put_next.Goals as goal
@@ -25,8 +24,7 @@ unreachable-requires c =
     subst (λ (o : Option (Vec StoredStep Global)). Resolves (cells_sight q) a.proof (option_map (λ (v : Vec StoredStep Global). v.items) o))
     c.in-Ok-None.field-0-is c.in-Ok-None.ensures.ok in
     none_unknown db c.args.index a c.requires.next at c.assertions-assertions.ensures.sound c.requires.checks p c.requires.fits
-    c.requires.opened q
-    c.in-Ok-None.ensures.looks unknown
+    c.requires.opened q c.in-Ok-None.ensures.looks unknown
 
 pub fill-requires-clause-fillable : goal.fill-requires-clause-fillable
 fill-requires-clause-fillable c =
@@ -43,9 +41,7 @@ fill-requires-clause-fillable c =
     (option_map (λ (v : Vec StoredStep Global). v.items) o))
     c.in-Ok-Some.field-0-is c.in-Ok-Some.ensures.ok) in
     resolved_fillable db c.args.index a c.requires.next at c.assertions-assertions.ensures.sound c.requires.checks p c.requires.fits
-    c.requires.opened q
-    kept
-    c.in-Ok-Some.ensures.looks resolved
+    c.requires.opened q kept c.in-Ok-Some.ensures.looks resolved
 
 pub keep-requires : goal.keep-requires
 keep-requires c =
@@ -65,20 +61,12 @@ keep-requires c =
     (subst (λ (o : Option (Vec StoredStep Global)). Resolves (cells_sight q) a.proof
     (option_map (λ (v : Vec StoredStep Global). v.items) o))
     c.in-Ok-Some.field-0-is c.in-Ok-Some.ensures.ok) in
-    let setting : cells_setting r ≡ cells_setting p = setting_kept onward ∙ setting_kept looks.onward in
-    let slot : c.spread-slot.result ≡ spread p.slots (length db.assertions) k =
-    c.spread-slot.ensures.value
-    ∙ (λ i. spread (c.slot_count.ensures.value i) (length (c.assertions-assertions.ensures.value i)) k) in
-    let fills = subst (λ n. FillsAny n (100 * (k + 1)) a kept (cells_sight q) (cells_sight r)) slot c.in-Ok.ensures.ok in
-    let held : ShowsHeld p.slots (now_state r) (opening (front (k + 1) db))
-    (held_by (spread p.slots (length db.assertions)) 0 (opening (front (k + 1) db))) =
+    let setting : cells_setting r ≡ cells_setting p = (setting_kept onward) ∙ (setting_kept looks.onward) in
+    let held : ShowsHeld p.slots (now_state r) (opening (front (k + 1) db)) (held_from 0 (opening (front (k + 1) db))) =
     filled_held db k a c.requires.next at c.assertions-assertions.ensures.sound c.requires.checks p c.requires.fits c.requires.opened q r
-    kept looks
-    onward
-    resolved fills in
+    kept looks onward resolved c.in-Ok.ensures.ok in
     ∣ shows_some db k a c.requires.next at c.assertions-assertions.ensures.sound c.requires.checks p c.requires.fits c.requires.opened r
-    setting held
-    ∣₁
+    setting held ∣₁
 
 pub returns-in-Ok : goal.returns-in-Ok
 returns-in-Ok c =
@@ -98,17 +86,10 @@ returns-in-Ok c =
     (subst (λ (o : Option (Vec StoredStep Global)). Resolves (cells_sight q) a.proof
     (option_map (λ (v : Vec StoredStep Global). v.items) o))
     c.in-Ok-Some.field-0-is c.in-Ok-Some.ensures.ok) in
-    let setting : cells_setting r ≡ cells_setting p = setting_kept onward ∙ setting_kept looks.onward in
-    let slot : c.spread-slot.result ≡ spread p.slots (length db.assertions) k =
-    c.spread-slot.ensures.value
-    ∙ (λ i. spread (c.slot_count.ensures.value i) (length (c.assertions-assertions.ensures.value i)) k) in
-    let fills = subst (λ n. FillsAny n (100 * (k + 1)) a kept (cells_sight q) (cells_sight r)) slot c.in-Ok.ensures.ok in
-    let held : ShowsHeld p.slots (now_state r) (opening (front (k + 1) db))
-    (held_by (spread p.slots (length db.assertions)) 0 (opening (front (k + 1) db))) =
+    let setting : cells_setting r ≡ cells_setting p = (setting_kept onward) ∙ (setting_kept looks.onward) in
+    let held : ShowsHeld p.slots (now_state r) (opening (front (k + 1) db)) (held_from 0 (opening (front (k + 1) db))) =
     filled_held db k a c.requires.next at c.assertions-assertions.ensures.sound c.requires.checks p c.requires.fits c.requires.opened q r
-    kept looks
-    onward
-    resolved fills in
+    kept looks onward resolved c.in-Ok.ensures.ok in
     let made = c.keep.new.self in
     let same = c.keep.ensures.same in
     let e : now_state made ≡ now_state r = λ i. plain_state (same.0 i).items (same.1 i).items (same.2 i).items in
@@ -117,7 +98,7 @@ returns-in-Ok c =
       slots_are = same.4 ∙ ap (λ (s : Setting). s.slots) setting;
       room_is = same.5 ∙ room_kept onward ∙ room_kept looks.onward;
       kept = c.keep.ensures.log;
-      shows = subst (λ (x : State). ShowsHeld p.slots x (opening (front (k + 1) db))
-          (held_by (spread p.slots (length db.assertions)) 0 (opening (front (k + 1) db))))
+      fresh = c.keep.ensures.fresh;
+      shows = subst (λ (x : State). ShowsHeld p.slots x (opening (front (k + 1) db)) (held_from 0 (opening (front (k + 1) db))))
           (sym e) held;
     }

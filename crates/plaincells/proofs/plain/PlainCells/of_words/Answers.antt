@@ -48,6 +48,7 @@ returns c =
       values_are = refl;
       store_is = refl;
       log = c.new.ensures.items;
+      fresh = refl;
       known = known_of_words c.args.slots values store c.requires.roomy places
           (subst (λ vs. AreNamedBy c.args.slots vs (length vs) places) c.as_slice.ensures.value c.in_ok-ranges.ensures);
     }

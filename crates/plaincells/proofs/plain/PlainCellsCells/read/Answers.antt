@@ -38,15 +38,16 @@ returns-in-Ok-clause-ok c =
     let s : Setting = cells_setting p in
     let lt : c.args.cell < length p.values.items = omega (arith, p.long, c.requires) in
     let at = read_at p.values.items c.args.cell v lt c.index-value.ensures in
-    subst (λ l. Reads c.args.cell v (cells_sight p) (plain_sight s p.room p.values.items l p.store.items p.ranges.items))
-    (sym c.in-Ok.ensures.items) (plain_reads s p.room p.values.items p.log.items p.store.items p.ranges.items c.args.cell v lt at p.names)
+    subst (λ l. Reads c.args.cell v (cells_sight p) (plain_sight s p.room p.values.items l p.store.items p.ranges.items p.full))
+    (sym c.in-Ok.ensures.items)
+    (plain_reads s p.room p.values.items p.log.items p.store.items p.ranges.items p.full c.args.cell v lt at p.names)
 
 pub returns-in-Err-clause-err : goal.returns-in-Err-clause-err
 returns-in-Err-clause-err c =
     let p = c.args.self.now in
     let s : Setting = cells_setting p in
     let before = cells_sight p in
-    subst (λ l. Looks before (plain_sight s p.room p.values.items l p.store.items p.ranges.items)) (sym c.in-Err.ensures.items)
+    subst (λ l. Looks before (plain_sight s p.room p.values.items l p.store.items p.ranges.items p.full)) (sym c.in-Err.ensures.items)
     (looks_refl before)
 
 pub returns-in-Ok-clause-reads : goal.returns-in-Ok-clause-reads
@@ -56,13 +57,14 @@ returns-in-Ok-clause-reads c =
     let s : Setting = cells_setting p in
     let lt : c.args.cell < length p.values.items = omega (arith, p.long, c.requires) in
     let at = read_at p.values.items c.args.cell v lt c.index-value.ensures in
-    subst (λ l. ReadsWithin (λ k. k ≡ c.args.cell) (cells_sight p) (plain_sight s p.room p.values.items l p.store.items p.ranges.items))
-    (sym c.in-Ok.ensures.items) (plain_asks s p.room p.values.items p.log.items p.store.items p.ranges.items c.args.cell v at)
+    subst (λ l. ReadsWithin (λ k. k ≡ c.args.cell) (cells_sight p)
+    (plain_sight s p.room p.values.items l p.store.items p.ranges.items p.full))
+    (sym c.in-Ok.ensures.items) (plain_asks s p.room p.values.items p.log.items p.store.items p.ranges.items p.full c.args.cell v at)
 
 pub returns-in-Err-clause-reads : goal.returns-in-Err-clause-reads
 returns-in-Err-clause-reads c =
     let p = c.args.self.now in
     let s : Setting = cells_setting p in
     let before = cells_sight p in
-    subst (λ l. ReadsWithin (λ k. k ≡ c.args.cell) before (plain_sight s p.room p.values.items l p.store.items p.ranges.items))
+    subst (λ l. ReadsWithin (λ k. k ≡ c.args.cell) before (plain_sight s p.room p.values.items l p.store.items p.ranges.items p.full))
     (sym c.in-Err.ensures.items) (asks_nothing (nothing_same before))

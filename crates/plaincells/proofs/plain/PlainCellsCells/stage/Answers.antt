@@ -1,16 +1,33 @@
-use Rattle.std.proofs.Common.{◌≡◌, ◌≤◌, ℕ, List, [], ◌∷◌, ◌++◌, length, is_ok, sym, subst, arith, length-append}
+use Rattle.std.proofs.Common.{◌≡◌, ◌≤◌, ℕ, List, [], ◌∷◌, ◌++◌, length, is_ok, true, sym, subst, arith, length-append}
 use Rattle.std.proofs.lemmas.Grind.{common_steps}
 use Rattle.ranges.specs.declared.range.Range.{Range as Place}
 use Rattle.cells.specs.Sight.{Stages}
+use Rattle.cells.proofs.Halting.{looks_full, nothing_full}
 use Rattle.library.specs.Library.{Setting}
 use Rattle.plaincells.specs.Plain.{HoldNames, LieInStore, BeganWithSome, ranges_in, undone, behind, plain_sight}
-use Rattle.plaincells.specs.PlainViews.{cells_setting}
+use Rattle.plaincells.specs.PlainViews.{cells_setting, cells_sight}
 use Rattle.plaincells.proofs.Stores.{has_some, lie_staged}
 use Rattle.plaincells.proofs.PlainSights.{staged_or_not, hold_staged, began_staged, plain_stages}
 use Rattle.plaincells.proofs.plain.PlainCellsCells.stage.Goals as goal
 
 pub invariant_of-self : goal.invariant_of-self
 invariant_of-self c =
+    let p = c.args.self.now in
+    record {
+      some = p.some;
+      few = p.few;
+      long = p.long;
+      roomy = p.roomy;
+      stored = p.stored;
+      logged = p.logged;
+      lie = p.lie;
+      names = p.names;
+      began_with_names = p.began_with_names;
+      began = p.began;
+    }
+
+pub invariant_of-self-2 : goal.invariant_of-self-2
+invariant_of-self-2 c =
     let p = c.args.self.now in
     let s : Setting = cells_setting p in
     let old = p.store.items in
@@ -44,11 +61,18 @@ returns-in-Ok-clause-ok c =
     let old = p.store.items in
     let places = p.ranges.items in
     let words = c.args.words.now in
-    let before = plain_sight s p.room p.values.items p.log.items old places in
-    let made = plain_stages s p.room p.values.items p.log.items old words places p.lie in
+    let before = plain_sight s p.room p.values.items p.log.items old places p.full in
+    let made = plain_stages s p.room p.values.items p.log.items old words places p.full p.lie in
     subst (λ r. Stages words r before (plain_sight s p.room p.values.items p.log.items c.put_behind.new.store.items
-    c.put_behind.new.ranges.items)) (sym c.in-Ok.ensures.range)
-    (subst (λ st. Stages words (behind old words) before (plain_sight s p.room p.values.items p.log.items st c.put_behind.new.ranges.items))
+    c.put_behind.new.ranges.items p.full)) (sym c.in-Ok.ensures.range)
+    (subst (λ st. Stages words (behind old words) before
+    (plain_sight s p.room p.values.items p.log.items st c.put_behind.new.ranges.items p.full))
     (sym c.in-Ok.ensures.store)
-    (subst (λ pl. Stages words (behind old words) before (plain_sight s p.room p.values.items p.log.items (old ++ words) pl))
+    (subst (λ pl. Stages words (behind old words) before (plain_sight s p.room p.values.items p.log.items (old ++ words) pl p.full))
     (sym c.in-Ok.ensures.ranges) made))
+
+pub returns-then-words-self-clause-err : goal.returns-then-words-self-clause-err
+returns-then-words-self-clause-err c = looks_full (cells_sight c.args.self.now) true
+
+pub returns-then-words-self-clause-reads : goal.returns-then-words-self-clause-reads
+returns-then-words-self-clause-reads c = nothing_full (cells_sight c.args.self.now) true

@@ -11,7 +11,8 @@ invariant_of-self c =
     let p = c.args.self.now in
     let s : Setting = cells_setting p in
     let lt : c.args.cell < length p.values.items = omega (arith, p.long, c.requires.cell) in
-    let same = plain_undone s p.room p.values.items p.log.items p.store.items p.ranges.items c.args.cell c.args.value c.requires.read in
+    let same = plain_undone s p.room p.values.items p.log.items p.store.items p.ranges.items p.full c.args.cell c.args.value
+    c.requires.read in
     record {
       some = p.some;
       few = p.few;
@@ -30,5 +31,5 @@ pub returns : goal.returns
 returns c =
     let p = c.args.self.now in
     let s : Setting = cells_setting p in
-    plain_writes s p.room p.values.items p.log.items p.store.items p.ranges.items c.args.cell c.args.value
+    plain_writes s p.room p.values.items p.log.items p.store.items p.ranges.items p.full c.args.cell c.args.value
     (omega (arith, p.long, c.requires.cell)) c.requires.read
