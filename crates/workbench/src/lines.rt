@@ -18,6 +18,7 @@
 //! | `sorted PATH` | prints the lines in front of a file's line `library`, sorted, without the `S.T ` of script and transaction |
 //! | `exported PATH FROM` | writes what stands behind the line `library` of FROM into a file |
 //! | `same PATH PATH` | whether behind their lines `library` two files have the same |
+//! | `among PATH PATH ..` | whether the first of these files has just what one of the others has |
 //!
 //! The files `rN.*` are those of row N, as `docs/DEFINITIONS.md` counts the rows that its rules were read against; the files `sN.mm` are
 //! sources in the whole language. What is to be printed was worked out by hand from the README's tables, and stands in `stdout`, of clap's
@@ -179,6 +180,32 @@ fn print_same(rt: &(impl Files + AllocGlobal + Print), paths: &str) -> io::Resul
     print_same_as(rt, one.as_slice(), other)
 }
 
+/// Whether a file has just these bytes.
+fn has_bytes(rt: &(impl Files + AllocGlobal), path: &str, bytes: &[u8]) -> io::Result<bool> {
+    let text = fs::read(rt, path)?;
+    Ok(text.as_slice() == bytes)
+}
+
+/// Prints whether one of the files has just these bytes.
+fn print_found(
+    rt: &(impl Files + AllocGlobal + Print),
+    bytes: &[u8],
+    paths: &str,
+) -> io::Result<()> {
+    let mut is_found = false;
+    for path in paths.split(' ') {
+        is_found = is_found || has_bytes(rt, path, bytes)?;
+    }
+    println!(rt; "{is_found}")
+}
+
+/// Prints whether the first of these files has just what one of the others has.
+fn print_among(rt: &(impl Files + AllocGlobal + Print), paths: &str) -> io::Result<()> {
+    let (one, others) = paths.split_once(' ').unwrap_or((paths, ""));
+    let one = fs::read(rt, one)?;
+    print_found(rt, one.as_slice(), others)
+}
+
 /// How the streams of a row's command line are. None of a row that is none.
 pub(crate) fn mode_of(row: &str) -> Option<Mode> {
     match row.split_once(' ').unwrap_or((row, "")).0 {
@@ -214,6 +241,7 @@ pub(crate) fn do_row(
         "same" => print_same(rt, behind),
         "sorted" => print_sorted(rt, behind),
         "exported" => write_exported(rt, behind),
+        "among" => print_among(rt, behind),
         _ if is_silent(row) => Ok(()),
         _ => print_file(rt, word, behind),
     }
