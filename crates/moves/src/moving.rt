@@ -1,8 +1,8 @@
 //! Gives an assertion another rank.
 
-ghost use Rattle.std.specs.Prelude.{◌≡◌, ◌<◌, true, IfOk};
+ghost use Rattle.std.specs.Prelude.{◌≡◌, ◌<◌, true, IfOk, IfErr};
 ghost use Rattle.library.specs.declared.command.Command.TheVariants as command;
-ghost use Rattle.cells.specs.Sight.{Onward, Looks, ReadsWithin};
+ghost use Rattle.cells.specs.Sight.{IsCaused, Onward, Looks, ReadsWithin};
 ghost use Rattle.cells.specs.Answers.{CommandAnswers};
 ghost use Rattle.moves.specs.Citers.{TellsCitesUpTo, TellsCitedUpTo};
 ghost use Rattle.cells.specs.Footprints.{ReadsWhere};
@@ -64,6 +64,7 @@ fn is_cited_up_to<C: Cells>(
     requires { slot < (C.sight cells.old).setting.slots }
     ensures looks { Looks (C.sight cells.old) (C.sight cells.new) }
     ensures ok { IfOk result (λ b. TellsCitedUpTo (C.sight cells.new) slot limit b) }
+    ensures halts { IfErr result (IsCaused (C.sight cells.new)) }
     ensures reads { ForEachHeld (C.sight cells.new) slot
         (λ st lib e. ReadsWithin (IsOfRise (C.sight cells.old).setting.slots st lib slot e limit) (C.sight cells.old) (C.sight cells.new)) }
 {
@@ -95,6 +96,7 @@ fn cites_up_to<C: Cells>(
     requires low { ForEachHeld (C.sight cells.old) cited (λ st lib e. low ≡ e.rank) }
     ensures looks { Looks (C.sight cells.old) (C.sight cells.new) }
     ensures ok { IfOk result (λ b. TellsCitesUpTo (C.sight cells.new) citing cited high b) }
+    ensures halts { IfErr result (IsCaused (C.sight cells.new)) }
     ensures reads { ReadsWhere (IsOfRanks (C.sight cells.old).setting.slots low high) (C.sight cells.old) (C.sight cells.new) }
 {
     // That of an empty slot is 0.

@@ -109,7 +109,7 @@ module _ {O : Type 0} (s t : Sight O) (rank : ℕ) (a : Assertion) (ranked : (ra
   -- a label that is refused is why it is not added
   pub add_unlabelled : (error : CommandError) → TellsNotNew t a.label a.label error
       → CommandAnswers s t (command.Add rank a) (Err error)
-  add_unlabelled (Halted halt) tells = tt
+  add_unlabelled (Halted halt) caused = caused
   add_unlabelled (Refused r) fails =
       refused s t (command.Add rank a) r looks (λ st lib v.
       by_label lib ∙ fails st lib v (of_kind t.setting lib rank a) (done (added lib rank a)))
@@ -154,7 +154,7 @@ module _ {O : Type 0} (s t u : Sight O) (rank : ℕ) (a : Assertion) (may : MayT
   -- a proof that is refused is why it is not added
   pub add_refused : (error : CommandError) → TellsRefusal u rank a error
       → CommandAnswers s u (command.Add rank a) (Err error)
-  add_refused (Halted halt) tells = tt
+  add_refused (Halted halt) caused = caused
   add_refused (Refused r) tells =
       refused s u (command.Add rank a) r all_looks (λ st lib v.
       to_proof st lib v ∙ tells st lib v (of_room u.setting lib) (done (added lib rank a)))

@@ -76,7 +76,7 @@ module _ {O : Type 0} (s t u : Sight O) (i : ℕ) (from to : List ℕ) (found : 
   -- a label that is refused is why it is not renamed
   pub rename_unlabelled : (error : CommandError) → TellsNotNew u from to error
       → CommandAnswers s u (command.Rename from to) (Err error)
-  rename_unlabelled (Halted halt) tells = tt
+  rename_unlabelled (Halted halt) caused = caused
   rename_unlabelled (Refused r) fails =
       refused s u (command.Rename from to) r all_looks (λ st lib v.
       by_label st lib v ∙ fails st lib v [] (done (rename from to lib)))

@@ -4,10 +4,10 @@ use Rattle.library.specs.declared.library.Ranked.{Ranked}
 use Rattle.library.specs.declared.reason.Reason.{Reason}
 use Rattle.library.specs.Library.{Setting}
 use Rattle.library.specs.Edits.{Tests, Edited, tested, has, label_tests}
-use Rattle.cells.specs.Sight.{Sight}
+use Rattle.cells.specs.Sight.{Sight, IsCaused}
 use Rattle.cells.specs.Lookups.{ForEach}
 use Rattle.cells.specs.declared.ending.CommandError.{CommandError}
-use Rattle.cells.specs.declared.ending.CommandError.TheVariants.{Refused}
+use Rattle.cells.specs.declared.ending.CommandError.TheVariants.{Halted, Refused}
 
 -- a label, which has a byte, passes its tests
 pub record PassesAsNew {O : Type 0} (s : Sight O) (own label : List ℕ) : Type 0 where
@@ -24,4 +24,4 @@ FailsAsNew s own label reason = ForEach s (λ st lib. (more : Tests) (edited : E
 -- why the test of a new label ends early: it was refused, or the run halts
 abbrev pub TellsNotNew : {O : Type 0} → Sight O → List ℕ → List ℕ → CommandError → Type 0
 TellsNotNew s own label (Refused reason) = FailsAsNew s own label reason
-TellsNotNew s own label _ = Unit {0}
+TellsNotNew s own label (Halted halt) = IsCaused s halt

@@ -1,8 +1,8 @@
 //! Gives an assertion another label.
 
-ghost use Rattle.std.specs.Prelude.{◌≡◌, ◌≢◌, ◌<◌, [], length, true, IfOk};
+ghost use Rattle.std.specs.Prelude.{◌≡◌, ◌≢◌, ◌<◌, [], length, true, IfOk, IfErr};
 ghost use Rattle.library.specs.declared.command.Command.TheVariants as command;
-ghost use Rattle.cells.specs.Sight.{Onward, TakesAtMost};
+ghost use Rattle.cells.specs.Sight.{IsCaused, Onward, TakesAtMost};
 ghost use Rattle.bodystore.specs.Bodies.{label_body};
 ghost use Rattle.cells.specs.Answers.{CommandAnswers, WritesSome};
 ghost use Rattle.newlabels.specs.Changes.{RenamesAt};
@@ -63,6 +63,7 @@ fn relabel<C: Cells>(
     ensures onward { Onward (C.sight cells.old) (C.sight cells.new) }
     ensures written { IfOk result (λ _. WritesSome (C.sight cells.new)) }
     ensures ok { IfOk result (λ _. RenamesAt (C.sight cells.old) (C.sight cells.new) slot old.now new.now) }
+    ensures halts { IfErr result (IsCaused (C.sight cells.new)) }
     ensures taken { TakesAtMost (length body.now) (C.sight cells.old) (C.sight cells.new) }
     ensures keeps { IfOk result (λ _. RenamesWithin (C.sight cells.old) (C.sight cells.new) slot new.now) }
     ensures reads { ReadsForFound (C.sight cells.old) (C.sight cells.new) slot old.now (command.Rename old.now new.now) }

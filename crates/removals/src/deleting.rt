@@ -1,8 +1,8 @@
 //! Removes an assertion.
 
-ghost use Rattle.std.specs.Prelude.{◌≡◌, ◌<◌, true, IfOk};
+ghost use Rattle.std.specs.Prelude.{◌≡◌, ◌<◌, true, IfOk, IfErr};
 ghost use Rattle.library.specs.declared.command.Command.TheVariants as command;
-ghost use Rattle.cells.specs.Sight.{Onward, TakesAtMost};
+ghost use Rattle.cells.specs.Sight.{IsCaused, Onward, TakesAtMost};
 ghost use Rattle.cells.specs.Answers.{CommandAnswers, WritesSome};
 ghost use Rattle.removals.specs.Changes.{DeletesAt};
 ghost use Rattle.groundwork.specs.Takes.{TakesBodies};
@@ -46,6 +46,7 @@ fn remove<C: Cells>(alloc: Global, cells: &mut C, slot: usize, label: &Label) ->
     ensures onward { Onward (C.sight cells.old) (C.sight cells.new) }
     ensures written { IfOk result (λ _. WritesSome (C.sight cells.new)) }
     ensures ok { IfOk result (λ _. DeletesAt (C.sight cells.old) (C.sight cells.new) slot label.now) }
+    ensures halts { IfErr result (IsCaused (C.sight cells.new)) }
     ensures taken { TakesAtMost 0 (C.sight cells.old) (C.sight cells.new) }
     ensures keeps { IfOk result (λ _. DeletesWithin (C.sight cells.old) (C.sight cells.new) slot label.now) }
     ensures reads { ReadsForFound (C.sight cells.old) (C.sight cells.new) slot label.now (command.Delete label.now) }

@@ -1,8 +1,8 @@
 //! Has the proof of a theorem cite one assertion in place of another.
 
-ghost use Rattle.std.specs.Prelude.{◌≡◌, ◌<◌, ◌⊎◌, true, IfOk, map};
+ghost use Rattle.std.specs.Prelude.{◌≡◌, ◌<◌, ◌⊎◌, true, IfOk, IfErr, map};
 ghost use Rattle.library.specs.declared.command.Command.TheVariants as command;
-ghost use Rattle.cells.specs.Sight.{Onward, Looks, ReadsWithin};
+ghost use Rattle.cells.specs.Sight.{IsCaused, Onward, Looks, ReadsWithin};
 ghost use Rattle.cells.specs.Answers.{CommandAnswers};
 ghost use Rattle.cells.specs.Slots.{statement_cell, rank_cell};
 ghost use Rattle.groundwork.specs.Touches.{KeepsTo};
@@ -76,6 +76,7 @@ fn are_alike<C: Cells>(
     requires new { new < (C.sight cells.old).setting.slots }
     ensures looks { Looks (C.sight cells.old) (C.sight cells.new) }
     ensures ok { IfOk result (λ b. TellsAlike (C.sight cells.new) prelude.now old new b) }
+    ensures halts { IfErr result (IsCaused (C.sight cells.new)) }
     ensures reads { ReadsWithin (λ c. (c ≡ statement_cell old) ⊎ (c ≡ statement_cell new)) (C.sight cells.old) (C.sight cells.new) }
 {
     let former = frame(alloc, prelude, cells, old)?;
@@ -89,6 +90,7 @@ fn is_not_lower<C: Cells>(cells: &mut C, citing: usize, cited: usize) -> Result<
     requires cited { cited < (C.sight cells.old).setting.slots }
     ensures looks { Looks (C.sight cells.old) (C.sight cells.new) }
     ensures ok { IfOk result (λ b. TellsNotLower (C.sight cells.new) citing cited b) }
+    ensures halts { IfErr result (IsCaused (C.sight cells.new)) }
     ensures reads { ReadsWithin (λ c. (c ≡ rank_cell citing) ⊎ (c ≡ rank_cell cited)) (C.sight cells.old) (C.sight cells.new) }
 {
     let limit = rank(cells, citing)?;

@@ -534,22 +534,26 @@ returns-clause-taken g c st lib m v =
 pub returns-in_err-kept-clause-answers : goal.returns-in_err-kept-clause-answers
 returns-in_err-kept-clause-answers g c =
     answers_ended (g.C.Cells.sight c.args.cells.now) (g.C.Cells.sight c.stored_proof.new.cells)
-    (Move c.args.label.now c.args.rank) c.from_residual-in_err-kept.result _ c.from_residual-in_err-kept.ensures.1 tt
+    (Move c.args.label.now c.args.rank) c.from_residual-in_err-kept.result _ c.from_residual-in_err-kept.ensures.1
+    c.in_err-kept.ensures.halts
 
 pub returns-in_err-cites_not_below-clause-answers : goal.returns-in_err-cites_not_below-clause-answers
 returns-in_err-cites_not_below-clause-answers g c =
     answers_ended (g.C.Cells.sight c.args.cells.now) (g.C.Cells.sight c.cites_not_below.new.cells)
-    (Move c.args.label.now c.args.rank) c.from_residual-in_err-cites_not_below.result _ c.from_residual-in_err-cites_not_below.ensures.1 tt
+    (Move c.args.label.now c.args.rank) c.from_residual-in_err-cites_not_below.result _ c.from_residual-in_err-cites_not_below.ensures.1
+    c.in_err-cites_not_below.ensures.halts
 
 pub returns-in_err-is_cited_up_to-clause-answers : goal.returns-in_err-is_cited_up_to-clause-answers
 returns-in_err-is_cited_up_to-clause-answers g c =
     answers_ended (g.C.Cells.sight c.args.cells.now) (g.C.Cells.sight c.is_cited_up_to.new.cells)
-    (Move c.args.label.now c.args.rank) c.from_residual-in_err-is_cited_up_to.result _ c.from_residual-in_err-is_cited_up_to.ensures.1 tt
+    (Move c.args.label.now c.args.rank) c.from_residual-in_err-is_cited_up_to.result _ c.from_residual-in_err-is_cited_up_to.ensures.1
+    c.in_err-is_cited_up_to.ensures.halts
 
 pub returns-in_err-put-clause-answers : goal.returns-in_err-put-clause-answers
 returns-in_err-put-clause-answers g c =
     answers_ended (g.C.Cells.sight c.args.cells.now) (g.C.Cells.sight c.put.new.cells)
-    (Move c.args.label.now c.args.rank) c.from_residual-in_err-put.result _ c.from_residual-in_err-put.ensures.1 tt
+    (Move c.args.label.now c.args.rank) c.from_residual-in_err-put.result _ c.from_residual-in_err-put.ensures.1
+    c.in_err-put.ensures.halts
 
 pub returns-in_err-slot-clause-onward : goal.returns-in_err-slot-clause-onward
 returns-in_err-slot-clause-onward g c = c.known_slot.ensures.looks.onward

@@ -193,9 +193,9 @@ returns-then-citers-gt0-clause-keeps g c = tt
 pub returns-in_err-citers-clause-answers : goal.returns-in_err-citers-clause-answers
 returns-in_err-citers-clause-answers g c =
     answers_ended (g.C.Cells.sight c.args.cells.now) (g.C.Cells.sight c.citers.new.cells) (command.Delete c.args.label.now)
-    c.from_residual-in_err-citers.result _ c.from_residual-in_err-citers.ensures.1 tt
+    c.from_residual-in_err-citers.result _ c.from_residual-in_err-citers.ensures.1 c.in_err-citers.ensures.halts
 
 pub returns-in_err-remove-clause-answers : goal.returns-in_err-remove-clause-answers
 returns-in_err-remove-clause-answers g c =
     answers_ended (g.C.Cells.sight c.args.cells.now) (g.C.Cells.sight c.remove.new.cells) (command.Delete c.args.label.now)
-    c.from_residual-in_err-remove.result _ c.from_residual-in_err-remove.ensures.1 tt
+    c.from_residual-in_err-remove.result _ c.from_residual-in_err-remove.ensures.1 c.in_err-remove.ensures.halts

@@ -695,25 +695,25 @@ pub returns-in_err-kept-clause-answers : goal.returns-in_err-kept-clause-answers
 returns-in_err-kept-clause-answers g c =
     let command = Replace c.args.label.now c.args.old.now c.args.new.now in
     answers_ended (g.C.Cells.sight c.args.cells.now) (g.C.Cells.sight c.stored_proof.new.cells) command
-    c.from_residual-in_err-kept.result _ c.from_residual-in_err-kept.ensures.1 tt
+    c.from_residual-in_err-kept.result _ c.from_residual-in_err-kept.ensures.1 c.in_err-kept.ensures.halts
 
 pub returns-in_err-are_alike-clause-answers : goal.returns-in_err-are_alike-clause-answers
 returns-in_err-are_alike-clause-answers g c =
     let command = Replace c.args.label.now c.args.old.now c.args.new.now in
     answers_ended (g.C.Cells.sight c.args.cells.now) (g.C.Cells.sight c.are_alike.new.cells) command
-    c.from_residual-in_err-are_alike.result _ c.from_residual-in_err-are_alike.ensures.1 tt
+    c.from_residual-in_err-are_alike.result _ c.from_residual-in_err-are_alike.ensures.1 c.in_err-are_alike.ensures.halts
 
 pub returns-in_err-is_not_lower-clause-answers : goal.returns-in_err-is_not_lower-clause-answers
 returns-in_err-is_not_lower-clause-answers g c =
     let command = Replace c.args.label.now c.args.old.now c.args.new.now in
     answers_ended (g.C.Cells.sight c.args.cells.now) (g.C.Cells.sight c.is_not_lower.new.cells) command
-    c.from_residual-in_err-is_not_lower.result _ c.from_residual-in_err-is_not_lower.ensures.1 tt
+    c.from_residual-in_err-is_not_lower.result _ c.from_residual-in_err-is_not_lower.ensures.1 c.in_err-is_not_lower.ensures.halts
 
 pub returns-in_err-put_steps-clause-answers : goal.returns-in_err-put_steps-clause-answers
 returns-in_err-put_steps-clause-answers g c =
     let command = Replace c.args.label.now c.args.old.now c.args.new.now in
     answers_ended (g.C.Cells.sight c.args.cells.now) (g.C.Cells.sight c.put_steps.new.cells) command
-    c.from_residual-in_err-put_steps.result _ c.from_residual-in_err-put_steps.ensures.1 tt
+    c.from_residual-in_err-put_steps.result _ c.from_residual-in_err-put_steps.ensures.1 c.in_err-put_steps.ensures.halts
 
 pub returns-in_err-slot-clause-onward : goal.returns-in_err-slot-clause-onward
 returns-in_err-slot-clause-onward g c = c.known_slot.ensures.looks.onward
