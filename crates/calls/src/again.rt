@@ -7,7 +7,7 @@ ghost use Rattle.derivation.specs.Databases.{AllCheck};
 ghost use Rattle.historytext.specs.Layout.{EntryFitsText};
 
 use crate::exporting::library;
-use crate::samples::{DEMO, checked, database, theorem_line};
+use crate::samples::{DEMO, checked, database, is_demo_renamed};
 use derivation::{ProofFault, ProofFaultKind};
 use export::{ExportError, export, write_library};
 use history::{ReplayError, replay};
@@ -30,13 +30,13 @@ done
 begin
 add 900
 th2 $p |- 0 = 0 $= tze th1 $.
-reprove th2 $= tze tze tpl tze weq tze tze weq tze a2 tze tze tpl tze weq tze tze tpl tze weq tze tze weq wim tze a2 tze tze tpl tze tze a1 mp mp $.
-replace th2 a2 a2
-rename th2 zero
-move zero 901
-show zero
+reprove th2 $= tze th1 $.
+replace th2 th1 th1
+rename th1 refl
+move th2 901
+show th2
 list
-delete th1
+delete th2
 commit
   done
   done
@@ -44,24 +44,19 @@ commit
   done
   done
   shown 901 0
-    zero $p |- 0 = 0 $= tze tze tpl tze weq tze tze weq tze a2 tze tze tpl tze weq tze tze tpl tze weq tze tze weq wim tze a2 tze tze tpl tze tze a1 mp mp $.
+    th2 $p |- 0 = 0 $= tze refl $.
   listed 9
     100 tze a 2
-    200 tpl a 2
-    300 weq a 2
-    400 wim a 2
-    500 a1 a 2
-    600 a2 a 2
-    700 mp a 2
-    800 th1 p 0
-    901 zero p 0
+    200 tpl a 1
+    300 weq a 1
+    400 wim a 1
+    500 a1 a 1
+    600 a2 a 1
+    700 mp a 1
+    800 refl p 1
+    901 th2 p 0
   done
 void
-";
-
-/// The last line of the library behind it, in the place of `DEMO`'s.
-const LAST_LINE: &[u8] =
-    b"zero $p |- 0 = 0 $= tze tze tpl tze weq tze tze weq tze a2 tze tze tpl tze weq tze tze tpl tze weq tze tze weq wim tze a2 tze tze tpl tze tze a1 mp mp $.
 ";
 
 /// Whether a text is read, and written as it was; none where memory was refused to the reading.
@@ -115,13 +110,6 @@ fn is_checked(rt: &(impl AllocGlobal + RandomSource + Threads + Sync)) -> Result
     Ok(is_so == Some(true))
 }
 
-/// Whether a library is that behind the history.
-fn is_behind(alloc: Global, library: &PlainLibrary) -> Result<bool, AllocError> {
-    let text = write_library(alloc, library)?;
-    let kept = DEMO.len().saturating_sub(theorem_line().len());
-    Ok(text.get(..kept) == DEMO.as_bytes().get(..kept) && text.get(kept..) == Some(LAST_LINE))
-}
-
 /// Whether a history is done again over a database; none where memory was refused to that.
 fn replays(
     alloc: Global,
@@ -133,7 +121,7 @@ fn replays(
     requires fit { All (EntryFitsText db.now.prelude) history.now }
 {
     match replay(alloc, keys, db, SLOTS, history) {
-        Ok(library) => Ok(Some(is_behind(alloc, &library)?)),
+        Ok(library) => Ok(Some(is_demo_renamed(write_library(alloc, &library)?.as_slice()))),
         Err(ReplayError::NoMemory) => Ok(None),
         Err(_) => Ok(Some(false)),
     }

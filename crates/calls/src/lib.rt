@@ -1,11 +1,11 @@
 //! Calls that no row makes: the crate has nothing else.
 //!
-//! What a contract says holds of every call, so few calls are left: frames, substitution, lines of assertions and copies; bodies in words and
-//! libraries in cells, by their layout, and which cells a command reads and writes; an export to a writer that fails; workers on threads,
-//! and gates that wait; and each call whose only error is want of memory, once with ample memory, since no clause says that memory is there.
-//! Texts, runs of scripts and replays are command lines of `workbench`, runs that meet on one thread rows of `wordrows`, and what sessions do
-//! on one thread is in rows of `trials`, all of which cost no proof. What calls answer where memory is refused is in `memory` and `again`,
-//! for `tools/refuse-memory`.
+//! What a contract says holds of every call, so few calls are left: frames, substitution, lines of assertions and copies; bodies in words
+//! and libraries in cells, by their layout, and which cells a command reads and writes; an export to a writer that fails; workers on
+//! threads, and gates that wait; and each call whose only error is want of memory, once with ample memory, since no clause says that memory
+//! is there. Texts, runs of scripts and replays are command lines of `workbench`, runs that meet on one thread rows of `wordrows`, and what
+//! sessions do on one thread is in rows of `trials`, all of which cost no proof. What calls answer where memory is refused is in `memory`
+//! and `again`, for `tools/refuse-memory`.
 #![tactic(auto)]
 
 // for all
@@ -90,10 +90,10 @@ pub fn make(
     subject: &[u8],
     name: &str,
 ) -> Result<(), Fail> {
-    let is_so = if subject == b"calls on cells".as_slice() {
-        make_on_cells(rt, name)
-    } else if subject == b"calls on values".as_slice() {
+    let is_so = if subject == b"calls on values".as_slice() {
         make_on_values(rt, name)
+    } else if subject == b"calls on cells".as_slice() {
+        make_on_cells(rt, name)
     } else if subject == b"calls with memory refused".as_slice() {
         memory::make(rt, name)
     } else {

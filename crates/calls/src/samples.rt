@@ -86,3 +86,12 @@ pub(crate) fn theorem_line() -> &'static [u8] {
         None => b"",
     }
 }
+
+/// Whether a text is that of `DEMO` with the theorem called `refl`.
+pub(crate) fn is_demo_renamed(text: &[u8]) -> bool {
+    let front = DEMO.len().saturating_sub(theorem_line().len());
+    let behind = front.saturating_add(4);
+    text.get(..front) == DEMO.as_bytes().get(..front)
+        && text.get(front..behind) == Some(b"refl".as_slice())
+        && text.get(behind..) == theorem_line().get(3..)
+}
