@@ -1,12 +1,13 @@
 //! Bodies made by hand: the words come from the layout, worked out by hand.
 
+use crate::same::are_same;
 use crate::samples::database;
 use bodystore::{
     Statement, StoredStep, decode_label, decode_proof, decode_statement, encode_label,
     encode_proof, encode_statement,
 };
 use mmstatement::Database;
-use mmsyntax::{Assertion, Expr};
+use mmsyntax::Assertion;
 use std::alloc::{AllocError, AllocGlobal, Global};
 use std::random::RandomSource;
 use std::test::Fail;
@@ -58,16 +59,6 @@ const AXIOM_WORDS: &[u64] = &[0, 0, 0, 1, 0];
 
 /// The theorem's kind, how many pairs and hypotheses it has, each pair, and each expression behind its length.
 const THEOREM_WORDS: &[u64] = &[1, 2, 2, 1, 4_294_967_298, 2, 2, 1, 2, 2, 5, 3, 2, 1, 3];
-
-/// Whether two lists have the same expressions.
-fn are_same(some: &[Expr], others: &[Expr]) -> bool {
-    for (one, other) in some.iter().zip(others) {
-        if one.as_slice() != other.as_slice() {
-            return false;
-        }
-    }
-    some.len() == others.len()
-}
 
 /// Whether a statement is that of an assertion.
 fn is_of(made: &Statement, assertion: &Assertion) -> bool {

@@ -1,6 +1,6 @@
 //! A library exported to writers that take few bytes at a call, fail, or take none.
 
-use crate::samples::{checked, mini};
+use crate::samples::{DEMO, checked, mini};
 use export::{ExportError, export};
 use history::Editor;
 use library::PlainLibrary;
@@ -41,7 +41,7 @@ impl Write for Slow {
 }
 
 /// The opening library of a database whose proofs check, with room for eight assertions.
-fn library(
+pub(crate) fn library(
     rt: &(impl AllocGlobal + RandomSource + Threads + Sync),
     text: &[u8],
 ) -> Result<PlainLibrary, Fail> {
@@ -81,6 +81,27 @@ fn ends_behind(
         && Some(writer.held.as_slice()) == text.get(..written)
         && writer.calls == calls
         && writer.flushes == 0
+}
+
+/// Exports to a writer that takes a byte at a call and fails at one call, at each of them in turn.
+pub(crate) fn fails_at_each_call(
+    rt: &(impl AllocGlobal + RandomSource + Threads + Sync),
+) -> Result<bool, Fail> {
+    let text = DEMO.as_bytes();
+    let library = library(rt, text)?;
+    for written in 0..text.len() {
+        if !ends_behind(
+            (&library, text),
+            rt.alloc(),
+            1,
+            written + 1,
+            written,
+            written + 1,
+        ) {
+            return Ok(false);
+        }
+    }
+    Ok(true)
 }
 
 /// Exports to a writer that fails at its third call, to one that takes nothing, and to one that takes a byte at a call.

@@ -378,26 +378,19 @@ fn is_answered<R: AllocGlobal + RandomSource + Threads + Wait + Sync>(
     is_done(rt, row, &gate)
 }
 
-/// Whether there are calls of this name.
-pub(crate) fn has_rows(name: &str) -> bool {
-    for row in &ROWS {
-        if row.name == name {
-            return true;
-        }
-    }
-    false
-}
-
 /// Makes the calls of this name, and says whether the answers are the wanted ones.
 pub(crate) fn make(
     rt: &(impl AllocGlobal + RandomSource + Threads + Wait + Sync),
     name: &str,
 ) -> Result<bool, Fail> {
-    let mut are_so = true;
+    let mut made = 0_usize;
     for row in &ROWS {
         if row.name == name {
-            are_so = are_so && is_answered(rt, row)?;
+            if !is_answered(rt, row)? {
+                return Ok(false);
+            }
+            made = made.saturating_add(1);
         }
     }
-    Ok(are_so)
+    Ok(made > 0)
 }

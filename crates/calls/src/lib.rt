@@ -1,31 +1,57 @@
 //! Calls that no row makes: the crate has nothing else.
 //!
-//! What a contract says holds of every call, so few calls are left: bodies in words and libraries in cells, by their layout; an export to a
-//! writer that fails; workers on threads, and gates that wait; and each call on a session whose only error is want of memory, once with
-//! ample memory, since no clause says that memory is there. Texts, runs of scripts and replays are command lines of `workbench`, runs that
-//! meet on one thread rows of `wordrows`, and what sessions do on one thread is in rows of `trials`, all of which cost no proof. What calls
-//! answer where memory is refused is in `memory`, for `tools/refuse-memory`.
+//! What a contract says holds of every call, so few calls are left: frames, substitution, lines of assertions and copies; bodies in words
+//! and libraries in cells, by their layout, and which cells a command reads and writes; an export to a writer that fails; workers on
+//! threads, and gates that wait; and each call whose only error is want of memory, once with ample memory, since no clause says that memory
+//! is there. Texts, runs of scripts and replays are command lines of `workbench`, runs that meet on one thread rows of `wordrows`, and what
+//! sessions do on one thread is in rows of `trials`, all of which cost no proof. What calls answer where memory is refused is in `memory`
+//! and `again`, for `tools/refuse-memory`.
 #![tactic(auto)]
 
 // for all
+mod same;
 mod samples;
+mod sessions;
+
+// on values
+mod copies;
+mod values;
 
 // on cells
 mod bodies;
 mod exporting;
+mod noting;
 mod running;
 
 // on sessions
 mod gates;
 mod meeting;
+
+// with memory refused
+mod again;
 mod memory;
-mod sessions;
 
 use std::alloc::AllocGlobal;
 use std::random::RandomSource;
 use std::sync::Wait;
 use std::test::Fail;
 use std::thread::Threads;
+
+/// The calls on frames, substitution, lines of assertions, and copies.
+fn make_on_values(
+    rt: &(impl AllocGlobal + RandomSource + Threads + Sync),
+    name: &str,
+) -> Result<bool, Fail> {
+    match name {
+        "a_rule_has_its_frame" => values::has_frame(rt),
+        "a_line_is_read_and_written" => values::is_read_and_written(rt),
+        "a_variable_is_replaced" => values::is_replaced(rt.alloc()),
+        "a_prelude_and_a_theorem_are_copied" => values::are_copied(rt),
+        "each_command_is_copied" => copies::are_commands_copied(rt),
+        "each_reply_and_the_library_behind_it_are_copied" => copies::are_replies_copied(rt),
+        _ => Err(Fail::from("there are no calls of this name")),
+    }
+}
 
 /// The calls on bodies, cells and commands over them, and on an export.
 fn make_on_cells(
@@ -36,19 +62,20 @@ fn make_on_cells(
         "labels_and_proofs_are_words" => bodies::are_words(rt.alloc()).map_err(Fail::from),
         "statements_are_words" => bodies::are_statements_words(rt),
         "nothing_is_called_behind_an_error" => exporting::calls_nothing_behind(rt),
+        "a_writer_fails_at_each_of_its_calls" => exporting::fails_at_each_call(rt),
+        "two_renamings_have_no_cell_in_common" => noting::are_renamings_apart(rt),
         _ => running::make(rt, name),
     }
 }
 
-/// The calls on sessions: on threads, with gates, and with memory refused. It may wait.
+/// The calls on sessions: on threads and with gates. It may wait.
 fn make_on_sessions(
     rt: &(impl AllocGlobal + RandomSource + Threads + Wait + Sync),
     name: &str,
 ) -> Result<bool, Fail> {
     match name {
         "conflicted_tries_take_no_further_word" => meeting::took_no_further_word(rt),
-        _ if gates::has_rows(name) => gates::make(rt, name),
-        _ => memory::make(rt, name),
+        _ => gates::make(rt, name),
     }
 }
 
@@ -63,8 +90,12 @@ pub fn make(
     subject: &[u8],
     name: &str,
 ) -> Result<(), Fail> {
-    let is_so = if subject == b"calls on cells".as_slice() {
+    let is_so = if subject == b"calls on values".as_slice() {
+        make_on_values(rt, name)
+    } else if subject == b"calls on cells".as_slice() {
         make_on_cells(rt, name)
+    } else if subject == b"calls with memory refused".as_slice() {
+        memory::make(rt, name)
     } else {
         make_on_sessions(rt, name)
     };

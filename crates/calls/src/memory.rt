@@ -7,8 +7,9 @@
 ghost use Rattle.std.specs.Prelude.{All};
 ghost use Rattle.transaction.specs.Members.{IsSessionOf};
 
+use crate::again;
 use crate::samples::{DEMO, database};
-use crate::sessions::{end_of, opened, tried};
+use crate::sessions::{end_of, opened, tried_first};
 use export::write_library;
 use finishing::FinishError;
 use mmstatement::Database;
@@ -19,6 +20,9 @@ use std::random::RandomSource;
 use std::test::Fail;
 use std::thread::Threads;
 use transaction::{Library, Look, OpenError, Outcome, Session, Shape};
+
+/// The room of each library: words enough that no try lacks any.
+const ROOM: usize = 1_048_576;
 
 /// Calls by name. A row of texts and numbers alone costs the check little.
 struct Row {
@@ -31,7 +35,7 @@ struct Row {
     count: usize,
 }
 
-/// The calls. `tools/refuse-memory` finds their names here.
+/// The calls.
 const ROWS: [Row; 16] = [
     Row {
         name: "an_addition_is_tried_again",
@@ -167,7 +171,7 @@ pub(crate) fn make(
             return is_answered(rt, row, text.as_bytes());
         }
     }
-    Err(Fail::from("there are no calls of this name"))
+    again::make(rt, name)
 }
 
 /// Whether the call of a row over the library of a text has its answer.
@@ -195,7 +199,7 @@ fn sessions_of(
 ) -> Option<usize> {
     let shape = Shape {
         slots: 4096,
-        room: 1000,
+        room: ROOM,
         sessions: count,
     };
     match Library::open(rt, rt.alloc(), keys, db, shape) {
@@ -262,7 +266,7 @@ fn is_seen(
     rt: &(impl AllocGlobal + RandomSource + Threads + Sync),
     text: &[u8],
 ) -> Result<bool, Fail> {
-    let (library, mut sessions) = opened(rt, text, 1000, 1)?;
+    let (library, mut sessions) = opened(rt, text, ROOM, 1)?;
     sees_at_last(rt.alloc(), &library, &mut sessions, text).map_err(Fail::from)
 }
 
@@ -277,13 +281,8 @@ fn has_answer(
     requires { All (IsSessionOf library.now) sessions.old.items }
     ensures { All (IsSessionOf library.now) sessions.new.items }
 {
-    match sessions.get_mut(0) {
-        Some(session) => {
-            let outcome = tried(alloc, library, session, script.as_bytes())?;
-            Ok(has_count(&outcome, count))
-        }
-        None => Ok(false),
-    }
+    let outcome = tried_first(alloc, library, sessions, script.as_bytes())?;
+    Ok(has_count(&outcome, count))
 }
 
 /// Whether the library of a text has one entry and so many assertions at its end, behind one transaction, or memory was refused to that.
@@ -293,7 +292,7 @@ fn is_ended(
     script: &str,
     assertions: usize,
 ) -> Result<bool, Fail> {
-    let (library, mut sessions) = opened(rt, text, 1000, 1)?;
+    let (library, mut sessions) = opened(rt, text, ROOM, 1)?;
     // What the transaction is answered is asked of other rows.
     has_answer(rt.alloc(), &library, &mut sessions, script, 0)?;
     let end = end_of(rt.alloc(), library, sessions);
@@ -307,7 +306,7 @@ fn is_done(
     script: &str,
     count: usize,
 ) -> Result<bool, Fail> {
-    let (library, mut sessions) = opened(rt, text, 1000, 1)?;
+    let (library, mut sessions) = opened(rt, text, ROOM, 1)?;
     has_answer(rt.alloc(), &library, &mut sessions, script, count)
 }
 

@@ -3,9 +3,10 @@
 ghost use Rattle.std.specs.Prelude.{IfOk};
 ghost use Rattle.derivation.specs.Databases.{AllCheck};
 
+use derivation::ProofFaultKind;
 use mmstatement::{Database, read_database};
 use proofcheck::check_all;
-use std::alloc::AllocGlobal;
+use std::alloc::{AllocError, AllocGlobal};
 use std::hash::RandomState;
 use std::random::RandomSource;
 use std::test::Fail;
@@ -35,6 +36,7 @@ pub(crate) fn checked(
     let db = database(rt, text)?;
     match check_all(rt, rt.alloc(), &db) {
         Ok(()) => Ok(db),
+        Err((_, fault)) if fault.kind == ProofFaultKind::NoMemory => Err(Fail::from(AllocError)),
         Err(_) => Err(Fail::from("the proofs of the database check")),
     }
 }
@@ -76,3 +78,20 @@ ${
 $}
 th1 $p |- t = t $= tt tze tpl tt weq tt tt weq tt a2 tt tze tpl tt weq tt tze tpl tt weq tt tt weq wim tt a2 tt tze tpl tt tt a1 mp mp $.
 ";
+
+/// The last line of `DEMO`, which has its theorem.
+pub(crate) fn theorem_line() -> &'static [u8] {
+    match DEMO.find("th1 ") {
+        Some(at) => DEMO.as_bytes().get(at..).unwrap_or_default(),
+        None => b"",
+    }
+}
+
+/// Whether a text is that of `DEMO` with the theorem called `refl`.
+pub(crate) fn is_demo_renamed(text: &[u8]) -> bool {
+    let front = DEMO.len().saturating_sub(theorem_line().len());
+    let behind = front.saturating_add(4);
+    text.get(..front) == DEMO.as_bytes().get(..front)
+        && text.get(front..behind) == Some(b"refl".as_slice())
+        && text.get(behind..) == theorem_line().get(3..)
+}

@@ -7,7 +7,7 @@ ghost use Rattle.transaction.specs.Members.{IsSessionOf};
 
 use crate::samples::database;
 use finishing::{FinishError, finish};
-use library::Transaction;
+use library::{PlainLibrary, Transaction};
 use scripts::read_script;
 use std::alloc::{AllocGlobal, Global};
 use std::hash::RandomState;
@@ -67,6 +67,34 @@ pub(crate) fn tried(
         [transaction] => Ok(try_twice(alloc, library, session, transaction)),
         _ => Err(Fail::from("one transaction")),
     }
+}
+
+/// The same of the first of the sessions.
+pub(crate) fn tried_first(
+    alloc: Global,
+    library: &Library,
+    sessions: &mut Vec<Session>,
+    script: &[u8],
+) -> Result<Outcome, Fail>
+    requires { All (IsSessionOf library.now) sessions.old.items }
+    ensures { All (IsSessionOf library.now) sessions.new.items }
+{
+    match sessions.get_mut(0) {
+        Some(session) => tried(alloc, library, session, script),
+        None => Err(Fail::from("a session")),
+    }
+}
+
+/// The library at its end.
+pub(crate) fn library_of(
+    alloc: Global,
+    library: Library,
+    sessions: Vec<Session>,
+) -> Result<PlainLibrary, FinishError>
+    requires { All (IsSessionOf library) sessions.items }
+{
+    let (_history, after) = finish(alloc, library, sessions)?;
+    Ok(after)
 }
 
 /// How many entries and assertions a library has at its end, or why it has no end.
