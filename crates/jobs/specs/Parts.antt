@@ -3,12 +3,17 @@ use Rattle.std.specs.Prelude.{◌<◌, ℕ}
 use Rattle.mmsyntax.specs.Tables.{Contents}
 use Rattle.checking.specs.declared.fault.Fault.{Fault}
 use Rattle.checking.specs.declared.fault.Fault.TheVariants.{StoreFull, Missing, Held, NoThread, NoMemory}
-use Rattle.jobs.specs.Jobs.{IsRunLack}
+use Rattle.jobs.specs.declared.running.Plan.{Plan}
+use Rattle.jobs.specs.Jobs.{Room, IsRunLack, room_asked}
 use Rattle.plaincells.specs.Measures.{all_bodies_length}
 use Rattle.transaction.specs.declared.shape.Shape.{Shape}
 use Rattle.editing.specs.declared.error.EditError.{EditError}
 use Rattle.editing.specs.declared.error.EditError.TheVariants as edit
 use Rattle.mmsyntax.specs.declared.limits.TheConstants.{MOST_ASSERTIONS}
+
+-- the room of a run as it is to be done
+abbrev pub planned_room : Plan → Room
+planned_room plan = room_asked plan.options plan.room
 
 -- how the library of a run lies in words
 abbrev pub shape_with : ℕ → ℕ → Shape

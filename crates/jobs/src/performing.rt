@@ -4,7 +4,8 @@ ghost use Rattle.std.specs.Prelude.{◌≢◌, ◌⊎◌, IfOk, IfErr, Some, map
 ghost use Rattle.checking.specs.declared.fault.Fault.{Fault as FaultOfJob};
 ghost use Rattle.checking.specs.declared.fault.Fault.TheVariants.{NoMemory};
 ghost use Rattle.checking.specs.Tasks.{IsWithin};
-ghost use Rattle.jobs.specs.Jobs.{AreWithin, IsRun, DoneAsAsked, room_asked};
+ghost use Rattle.jobs.specs.Jobs.{AreWithin, IsRun, DoneAsAsked};
+ghost use Rattle.jobs.specs.Parts.{planned_room};
 ghost use Rattle.jobs.specs.Jobs.{IsRunFault, IsRunLack, IsFaultOf, IsLackOf, AnswersItsOwn, IsPrintedBy};
 ghost use Rattle.checking.specs.Checks.{RefusesWith};
 
@@ -28,11 +29,11 @@ fn run(
     watch: &(impl Watch + Sync),
 ) -> Result<Printed, Fault>
     requires within { IsWithin plan.workers (Some plan.room) }
-    ensures done { IfOk result (λ p. IsRun db.now (map (λ t. t.items) scripts.now) plan.workers (room_asked plan.options plan.room)
+    ensures done { IfOk result (λ p. IsRun db.now (map (λ t. t.items) scripts.now) plan.workers (planned_room plan)
         plan.options.history p.out.items p.history.items) }
     ensures fault { IfErr result (λ f. f ≢ NoMemory
-        → IsRunFault db.now (map (λ t. t.items) scripts.now) (room_asked plan.options plan.room) f ⊎ IsRunLack plan.workers f) }
-    ensures refused { (f : FaultOfJob) → IsRunFault db.now (map (λ t. t.items) scripts.now) (room_asked plan.options plan.room) f
+        → IsRunFault db.now (map (λ t. t.items) scripts.now) (planned_room plan) f ⊎ IsRunLack plan.workers f) }
+    ensures refused { (f : FaultOfJob) → IsRunFault db.now (map (λ t. t.items) scripts.now) (planned_room plan) f
         → RefusesWith f result }
 {
     let db = read_and_check(rt, alloc, keys, db)?;

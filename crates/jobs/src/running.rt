@@ -9,9 +9,9 @@ ghost use Rattle.historytext.specs.Layout.{EntryFitsText, history_text};
 ghost use Rattle.transaction.specs.Closings.{lists_of};
 ghost use Rattle.checking.specs.declared.fault.Fault.TheVariants.{StoreFull};
 ghost use Rattle.checking.specs.Tasks.{IsWithin};
-ghost use Rattle.jobs.specs.Jobs.{IsWorked, PrintsRun, Room, room_asked, room_of};
+ghost use Rattle.jobs.specs.Jobs.{IsWorked, PrintsRun, Room, room_of};
 ghost use Rattle.checking.specs.Checks.{RefusesWith, library_lines};
-ghost use Rattle.jobs.specs.Parts.{IsOpenFault, IsWorkFault, from_edit, shape_with};
+ghost use Rattle.jobs.specs.Parts.{IsOpenFault, IsWorkFault, from_edit, planned_room, shape_with};
 ghost use Rattle.reports.specs.Reports.{AreReportable, report_text};
 
 use crate::job::{Printed, RunOptions};
@@ -44,7 +44,7 @@ pub(crate) struct Plan {
 /// How the library of a run lies in words: in the room that was asked for, or in a larger one that the run can need, where it may have it.
 fn shape(plan: Plan, db: &Database, scripts: &[Script]) -> Shape
     requires { IsWithin plan.workers (Some plan.room) }
-    ensures is { result ≡ shape_with plan.workers (room_of (room_asked plan.options plan.room) db.now scripts.now) }
+    ensures is { result ≡ shape_with plan.workers (room_of (planned_room plan) db.now scripts.now) }
     ensures within { IsWithin plan.workers (Some result.room) }
 {
     let room = if plan.options.may_grow {
@@ -118,10 +118,10 @@ fn edit(
     requires checks { AllCheck db.now }
     requires within { IsWithin plan.workers (Some plan.room) }
     requires fit { All (All (All (CommandFits db.now.prelude))) scripts.now }
-    ensures done { IfOk result (λ e. IsWorked db.now plan.workers (room_of (room_asked plan.options plan.room) db.now scripts.now) scripts.now
+    ensures done { IfOk result (λ e. IsWorked db.now plan.workers (room_of (planned_room plan) db.now scripts.now) scripts.now
         (lists_of e.outcomes.items) e.history e.library) }
-    ensures fault { IfErr result (IsWorkFault db.now plan.workers (room_of (room_asked plan.options plan.room) db.now scripts.now)) }
-    ensures full { room_of (room_asked plan.options plan.room) db.now scripts.now < all_bodies_length db.now.assertions → RefusesWith StoreFull result }
+    ensures fault { IfErr result (IsWorkFault db.now plan.workers (room_of (planned_room plan) db.now scripts.now)) }
+    ensures full { room_of (planned_room plan) db.now scripts.now < all_bodies_length db.now.assertions → RefusesWith StoreFull result }
 {
     let (library, sessions) = open(alloc, keys, db, shape(plan, db, scripts))?;
     watch.begin(scripts.len(), transactions_of(scripts));
@@ -223,16 +223,10 @@ pub(crate) fn print_run(
     requires checks { AllCheck db.now }
     requires within { IsWithin plan.workers (Some plan.room) }
     requires fit { All (All (All (CommandFits db.now.prelude))) scripts.now }
-    ensures done { IfOk result (λ p. PrintsRun db.now plan.workers (room_asked plan.options plan.room) plan.options.history scripts.now p.out.items p.history.items) }
-    ensures fault { IfErr result (IsWorkFault db.now plan.workers (room_of (room_asked plan.options plan.room) db.now scripts.now)) }
-    ensures full { room_of (room_asked plan.options plan.room) db.now scripts.now < all_bodies_length db.now.assertions → RefusesWith StoreFull result }
+    ensures done { IfOk result (λ p. PrintsRun db.now plan.workers (planned_room plan) plan.options.history scripts.now p.out.items p.history.items) }
+    ensures fault { IfErr result (IsWorkFault db.now plan.workers (room_of (planned_room plan) db.now scripts.now)) }
+    ensures full { room_of (planned_room plan) db.now scripts.now < all_bodies_length db.now.assertions → RefusesWith StoreFull result }
 {
     let edited = edit(rt, alloc, keys, db, scripts, plan, watch)?;
-    Ok(print_edited(
-        alloc,
-        db,
-        scripts,
-        edited,
-        plan.options.history,
-    )?)
+    Ok(print_edited(alloc, db, scripts, edited, plan.options.history)?)
 }

@@ -95,8 +95,8 @@ pub const MOST_CELLS: usize = (1 << 32) - 1;
 pub const MOST_ROOM: usize = 1 << 24;
 
 impl<L: Law> Words<L> {
-    /// Opens a memory whose cells have these values, with a pass for each session, and a store of `room` words that begins with `store`. Each
-    /// word of the room is written.
+    /// Opens a memory whose cells have these values, with a pass for each session, and a store of `room` words that begins with
+    /// `store`. Each word of the room is written.
     ///
     /// The ranges of the store that the values of range cells name are finished, but empty ones, and each pass has seen them.
     ///

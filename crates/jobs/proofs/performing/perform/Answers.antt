@@ -4,7 +4,8 @@ use Rattle.jobs.proofs.RunFaults.{has_fault}
 use Rattle.jobs.proofs.performing.perform.Goals as goal
 
 pub returns-in_err-out-in-Check-clause-own : goal.returns-in_err-out-in-Check-clause-own
-returns-in_err-out-in-Check-clause-own g c = answers_its_own c.args.options c.args.job.now c.from_residual.result (search rules) (search rules)
+returns-in_err-out-in-Check-clause-own g c =
+    answers_its_own c.args.options c.args.job.now c.from_residual.result (search rules) (search rules)
 
 pub returns-clause-own : goal.returns-clause-own
 returns-clause-own g c =
@@ -18,4 +19,5 @@ pub returns-in_err-out-in-Check-clause-fault : goal.returns-in_err-out-in-Check-
 returns-in_err-out-in-Check-clause-fault g c = has_fault c.args.options c.args.job.now c.from_residual.result (search rules)
 
 pub returns-in_err-out-in-Replay-clause-fault : goal.returns-in_err-out-in-Replay-clause-fault
-returns-in_err-out-in-Replay-clause-fault g c = has_fault c.args.options c.args.job.now c.from_residual-in_err-out-in-Replay.result (search rules)
+returns-in_err-out-in-Replay-clause-fault g c =
+    has_fault c.args.options c.args.job.now c.from_residual-in_err-out-in-Replay.result (search rules)
