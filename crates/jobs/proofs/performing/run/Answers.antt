@@ -35,7 +35,8 @@ returns-clause-done g c =
     let scripts = c.in_ok-scripts.scripts.items in
     let texts = map (λ t. t.items) c.args.scripts.now in
     let ordered = subst (λ t. AreScripts t texts scripts) c.prelude.ensures c.in_ok-scripts.ensures.ok in
-    run_done c.args.db.now texts c.args.plan.workers (planned_room c.args.plan) db scripts c.in_ok-db.ensures.done ordered c.args.plan.options.history
+    run_done c.args.db.now texts c.args.plan.workers (planned_room c.args.plan) db scripts c.in_ok-db.ensures.done ordered
+    c.args.plan.options.history
     c.print_run.result (rw c.as_slice.ensures.value at c.print_run.ensures.done)
 
 pub returns-clause-fault : goal.returns-clause-fault
