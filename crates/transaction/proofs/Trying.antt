@@ -366,7 +366,7 @@ module _ (cs : List Command) (old now next : Member) (o : Outcome) (so_far : Tri
       (g.0, not_before place g.1, g.2 ∙ so_far.drawn, calls (Answered place) (SaysDone cs replies) g.3)
   gains_since (outcome.Refused place index reason) g settles some =
       (not_before place g.0, g.1 ∙ so_far.drawn, calls (Answered place) (SaysRefused cs (record { index = index; reason = reason })) g.2)
-  gains_since (outcome.Conflict place cell word before) g settles some = 
+  gains_since (outcome.Conflict place cell word before) g settles some =
       absurd (settles (record { place = place; cell = cell; word = word; before = before }) refl)
   gains_since outcome.StoreFull g settles some = (adds g.0, g.1, g.2)
   gains_since outcome.NumbersUsed g settles some = (adds g.0, ap length (sym so_far.drawn) ∙ g.1)
