@@ -18,7 +18,7 @@ returns-clause-tries c =
     let ended = c.give_up-kit.ensures in
     let is : c.match-why.outcome ≡ told_of l.going.place why = elim c.match-why.branch [
       | in-Conflict w ↦
-          let met = w.conflict.ensures ∙ ap (λ (p : ℕ). conflict_of (met_at p w.in-Conflict.found)) place in
+          let met = w.conflict-outcome.ensures ∙ ap (λ (p : ℕ). conflict_of (met_at p w.in-Conflict.found)) place in
           w.outcome-is ∙ met ∙ ap (told_of l.going.place) (sym w.in-Conflict.is)
       | in-StoreFull w ↦ w.outcome-is ∙ ap (told_of l.going.place) (sym w.in-StoreFull.is)
       | in-NoMemory w ↦ w.outcome-is ∙ ap (told_of l.going.place) (sym w.in-NoMemory.is)
@@ -33,7 +33,7 @@ returns-clause-stored c =
     (ap (λ (k : Pass). k.taken) c.give_up-kit.ensures.kit, c.give_up-kit.ensures.staged) in
     let outcomes = EndsStored (carried_by c.args.live.run) c.give_up-kit.result.0 in
     elim c.match-why.branch [
-      | in-Conflict w ↦ subst outcomes (sym (w.outcome-is ∙ w.conflict.ensures)) kept
+      | in-Conflict w ↦ subst outcomes (sym (w.outcome-is ∙ w.conflict-outcome.ensures)) kept
       | in-StoreFull w ↦ subst outcomes (sym w.outcome-is) kept
       | in-NoMemory w ↦ subst outcomes (sym w.outcome-is) kept
     ]
@@ -48,7 +48,7 @@ returns-clause-within c =
     let ended = c.give_up-kit.ensures in
     let is : c.match-why.outcome ≡ told_of l.going.place why = elim c.match-why.branch [
       | in-Conflict w ↦
-          let met = w.conflict.ensures ∙ ap (λ (p : ℕ). conflict_of (met_at p w.in-Conflict.found)) place in
+          let met = w.conflict-outcome.ensures ∙ ap (λ (p : ℕ). conflict_of (met_at p w.in-Conflict.found)) place in
           w.outcome-is ∙ met ∙ ap (told_of l.going.place) (sym w.in-Conflict.is)
       | in-StoreFull w ↦ w.outcome-is ∙ ap (told_of l.going.place) (sym w.in-StoreFull.is)
       | in-NoMemory w ↦ w.outcome-is ∙ ap (told_of l.going.place) (sym w.in-NoMemory.is)

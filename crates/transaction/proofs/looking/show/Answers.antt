@@ -33,8 +33,8 @@ returns-clause-sees c =
     elim c.match-ended.branch [
       | in-Read w ↦ subst (Sees run.began new) (sym w.seen-is) (is_read w.in-Read.place w.in-Read.is)
       | in-Conflict w ↦
-          let found = w.in-Conflict.conflict in
-          let met = w.look_conflict.ensures ∙ ap (λ (p : ℕ). look_met (met_at p found)) c.place-place.ensures.value in
+          let found = w.in-Conflict.found in
+          let met = w.look_conflict-seen.ensures ∙ ap (λ (p : ℕ). look_met (met_at p found)) c.place-place.ensures.value in
           subst (Sees run.began new) (sym (w.seen-is ∙ met))
           (sees_conflict run lending.0 lending.1 lending.2 (Looked c.of.result) new c.end-kit.result.1
           c.end-kit.ensures.over (λ none. c.end-kit.ensures.reading none c.requires.reading) c.end-kit.ensures.ended

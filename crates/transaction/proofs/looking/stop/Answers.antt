@@ -24,7 +24,7 @@ returns-clause-sees c =
     let ended = c.give_up-kit.ensures in
     let is : c.match-why.seen ≡ told_of l.going.place why = elim c.match-why.branch [
       | in-Conflict w ↦
-          let met = w.look_conflict.ensures ∙ ap (λ (p : ℕ). look_met (met_at p w.in-Conflict.found)) place in
+          let met = w.look_conflict-seen.ensures ∙ ap (λ (p : ℕ). look_met (met_at p w.in-Conflict.found)) place in
           w.seen-is ∙ met ∙ ap (told_of l.going.place) (sym w.in-Conflict.is)
       | in-StoreFull w ↦ w.seen-is ∙ sym (told_none l.going.place why w.in-StoreFull.is)
     ] in
