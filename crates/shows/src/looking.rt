@@ -1,7 +1,7 @@
 //! Looks at a whole library.
 
-ghost use Rattle.std.specs.Prelude.{IfOk};
-ghost use Rattle.cells.specs.Sight.{Looks};
+ghost use Rattle.std.specs.Prelude.{IfOk, IfErr};
+ghost use Rattle.cells.specs.Sight.{IsCaused, Looks};
 ghost use Rattle.shows.specs.Looking.{AreEntries};
 
 use cells::{Cells, Halt, entry, label, slot_count};
@@ -16,6 +16,7 @@ use std::alloc::Global;
 pub fn entries<C: Cells>(alloc: Global, cells: &mut C) -> Result<Vec<Ranked>, Halt>
     ensures looks { Looks (C.sight cells.old) (C.sight cells.new) }
     ensures ok { IfOk result (λ made. AreEntries (C.sight cells.new) made.items) }
+    ensures halts { IfErr result (IsCaused (C.sight cells.new)) }
 {
     let mut entries = Vec::new(alloc);
     for slot in 0..slot_count(cells) {

@@ -1,11 +1,11 @@
 //! Shows an assertion, and lists all of them.
 
-ghost use Rattle.std.specs.Prelude.{◌≡◌, ◌<◌, IfOk};
+ghost use Rattle.std.specs.Prelude.{◌≡◌, ◌<◌, IfOk, IfErr};
 ghost use Rattle.library.specs.Library.{label_of};
 ghost use Rattle.library.specs.Edits.{line_cmp};
 ghost use Rattle.cells.specs.Lookups.{ForEachHeld};
 ghost use Rattle.library.specs.declared.command.Command.TheVariants as command;
-ghost use Rattle.cells.specs.Sight.{Onward, Looks, ReadsWithin};
+ghost use Rattle.cells.specs.Sight.{IsCaused, Onward, Looks, ReadsWithin};
 ghost use Rattle.cells.specs.Answers.{CommandAnswers};
 ghost use Rattle.shows.specs.Listing.{TellsLine, AreAllLines};
 ghost use Rattle.groundwork.specs.Takes.{TakesBodies};
@@ -60,6 +60,7 @@ pub fn list<C: Cells>(alloc: Global, cells: &mut C) -> Result<Reply, CommandErro
 fn all_lines<C: Cells>(alloc: Global, cells: &mut C) -> Result<Vec<Line>, Halt>
     ensures looks { Looks (C.sight cells.old) (C.sight cells.new) }
     ensures ok { IfOk result (λ made. AreAllLines (C.sight cells.new) made.items) }
+    ensures halts { IfErr result (IsCaused (C.sight cells.new)) }
     ensures reads { ReadsFor (C.sight cells.old) (C.sight cells.new) command.List }
 {
     let mut lines = Vec::new(alloc);
@@ -77,6 +78,7 @@ fn line<C: Cells>(cells: &mut C, slot: usize, label: Label) -> Result<Line, Halt
     requires label { ForEachHeld (C.sight cells.old) slot (λ st lib e. label ≡ label_of e) }
     ensures looks { Looks (C.sight cells.old) (C.sight cells.new) }
     ensures ok { IfOk result (λ made. TellsLine (C.sight cells.new) slot made) }
+    ensures halts { IfErr result (IsCaused (C.sight cells.new)) }
     ensures reads { ReadsWithin (IsOfLine slot) (C.sight cells.old) (C.sight cells.new) }
 {
     Ok(Line {
