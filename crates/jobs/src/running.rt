@@ -223,7 +223,8 @@ pub(crate) fn print_run(
     requires checks { AllCheck db.now }
     requires within { IsWithin plan.workers (Some plan.room) }
     requires fit { All (All (All (CommandFits db.now.prelude))) scripts.now }
-    ensures done { IfOk result (λ p. PrintsRun db.now plan.workers (planned_room plan) plan.options.history scripts.now p.out.items p.history.items) }
+    ensures done { IfOk result (λ p. PrintsRun db.now plan.workers (planned_room plan) plan.options.history scripts.now p.out.items
+        p.history.items) }
     ensures fault { IfErr result (IsWorkFault db.now plan.workers (room_of (planned_room plan) db.now scripts.now)) }
     ensures full { room_of (planned_room plan) db.now scripts.now < all_bodies_length db.now.assertions → RefusesWith StoreFull result }
 {

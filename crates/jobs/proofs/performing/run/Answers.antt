@@ -9,7 +9,8 @@ use Rattle.jobs.proofs.performing.run.Goals as goal
 pub returns-in_err-db-clause-fault : goal.returns-in_err-db-clause-fault
 returns-in_err-db-clause-fault g c =
     let p = err_from_is_err_and c.from_residual.result c.from_residual.ensures.1 in
-    rw (p.1, p.2) (λ ne. inl (database_of_run c.args.db.now _ (planned_room c.args.plan) c.in_err-db.field-0.0 (c.in_err-db.ensures.fault ne)))
+    rw (p.1, p.2) (λ ne. inl (database_of_run c.args.db.now _ (planned_room c.args.plan) c.in_err-db.field-0.0
+    (c.in_err-db.ensures.fault ne)))
 
 pub returns-in_err-db-clause-refused : goal.returns-in_err-db-clause-refused
 returns-in_err-db-clause-refused g c f h =
@@ -20,13 +21,15 @@ returns-in_err-db-clause-refused g c f h =
 pub returns-in_err-scripts-clause-fault : goal.returns-in_err-scripts-clause-fault
 returns-in_err-scripts-clause-fault g c =
     let p = err_from_is_err_and c.from_residual-in_err-scripts.result c.from_residual-in_err-scripts.ensures.1 in
-    rw (p.1, p.2) (λ ne. inl (script_of_run c.args.db.now _ (planned_room c.args.plan) c.in_ok-db.db _ c.in_err-scripts.field-0.0 c.prelude.ensures
+    rw (p.1, p.2) (λ ne. inl (script_of_run c.args.db.now _ (planned_room c.args.plan) c.in_ok-db.db _ c.in_err-scripts.field-0.0
+    c.prelude.ensures
     c.in_ok-db.ensures.done c.in_err-scripts.ensures.err ne))
 
 pub returns-in_err-scripts-clause-refused : goal.returns-in_err-scripts-clause-refused
 returns-in_err-scripts-clause-refused g c f h =
     let p = err_from_is_err_and c.from_residual-in_err-scripts.result c.from_residual-in_err-scripts.ensures.1 in
-    rw (p.1, p.2) (run_refused_by_script c.args.db.now _ (planned_room c.args.plan) c.in_ok-db.db _ c.prelude.ensures c.in_ok-db.ensures.refused
+    rw (p.1, p.2) (run_refused_by_script c.args.db.now _ (planned_room c.args.plan) c.in_ok-db.db _ c.prelude.ensures
+    c.in_ok-db.ensures.refused
     c.in_ok-db.ensures.only c.in_err-scripts.field-0.0 f c.in_err-scripts.ensures.refused c.in_err-scripts.ensures.err h)
 
 pub returns-clause-done : goal.returns-clause-done
@@ -45,7 +48,8 @@ returns-clause-fault g c =
     let scripts = c.in_ok-scripts.scripts.items in
     let texts = map (λ t. t.items) c.args.scripts.now in
     let ordered = subst (λ t. AreScripts t texts scripts) c.prelude.ensures c.in_ok-scripts.ensures.ok in
-    run_faulted c.args.db.now texts c.args.plan.workers (planned_room c.args.plan) db scripts c.in_ok-db.ensures.done ordered c.print_run.result
+    run_faulted c.args.db.now texts c.args.plan.workers (planned_room c.args.plan) db scripts c.in_ok-db.ensures.done ordered
+    c.print_run.result
     (rw c.as_slice.ensures.value at c.print_run.ensures.fault)
 
 pub returns-clause-refused : goal.returns-clause-refused

@@ -33,7 +33,8 @@ returns-clause-tries c =
     elim c.match-ended.branch [
       | in-Read w ↦ subst outcomes (sym w.outcome-is) (done w.in-Read.place w.in-Read.is)
       | in-Conflict w ↦
-          let met = met_is l stage over lent cs w.in-Conflict.found c.place-place.result w.conflict-outcome.result w.conflict-outcome.ensures
+          let met = met_is l stage over lent cs w.in-Conflict.found c.place-place.result w.conflict-outcome.result
+          w.conflict-outcome.ensures
           c.place-place.ensures.value in
           let never : l.going.over ≡ None → ⊥ = λ none. let a = ends.reading none c.requires.reading in let b = w.in-Conflict.is in cc in
           subst outcomes (sym (w.outcome-is ∙ met))
@@ -71,7 +72,8 @@ returns-clause-within c =
           (for_given l lending.0 lending.1 lending.2 cs k told (λ new later. tt)
           (locks_answered l lending.0 lending.1 lending.2 cs k _ _ a.1))
       | in-Conflict w ↦
-          let met = met_is l lending.0 lending.1 lending.2 cs w.in-Conflict.found c.place-place.result w.conflict-outcome.result w.conflict-outcome.ensures
+          let met = met_is l lending.0 lending.1 lending.2 cs w.in-Conflict.found c.place-place.result w.conflict-outcome.result
+          w.conflict-outcome.ensures
           c.place-place.ensures.value in
           subst outcomes (sym (w.outcome-is ∙ met))
           (conflict_within l lending.0 lending.1 lending.2 cs c.requires.asks

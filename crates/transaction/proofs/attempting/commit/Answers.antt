@@ -56,7 +56,11 @@ returns-clause-stored c =
     let outcomes = λ (x : Outcome × Option Record). EndsStored (carried_by l) c.end-kit.result.0 x.0 in
     elim c.match-ended.branch [
       | in-Committed w ↦ subst outcomes (sym w.outcome-is) (e.taken, left _ w.in-Committed.is)
-      | in-Conflict w ↦ subst outcomes (sym (w.outcome-is ∙ (λ j. (w.conflict.ensures j, w.void_record.result)))) (e.taken, left _ w.in-Conflict.is)
+      | in-Conflict w ↦ subst outcomes (sym (w.outcome-is ∙ (λ j. (w.conflict.ensures j, w.void_record.result)))) (
+        e.taken,
+        left _
+            w.in-Conflict.is,
+      )
       | in-NumbersUsed w ↦ subst outcomes (sym w.outcome-is) (e.taken, left _ w.in-NumbersUsed.is)
     ]
 

@@ -38,7 +38,8 @@ returns-clause-tries c =
           (subst (λ (z : Pass). Tries cs z k (refusal_of l.going.place c.args.refused) None) began
           (refuses l stage over lent cs c.of.result c.of-2.result c.args.refused k c.of.ensures c.of-2.ensures a.1)))
       | in-Conflict w ↦
-          let met = met_is l stage over lent cs w.in-Conflict.found c.place-place.result w.conflict-outcome.result w.conflict-outcome.ensures
+          let met = met_is l stage over lent cs w.in-Conflict.found c.place-place.result w.conflict-outcome.result
+          w.conflict-outcome.ensures
           c.place-place.ensures.value in
           subst outcomes (sym (w.outcome-is ∙ met))
           (subst (λ (z : Pass). Tries cs z k (conflict_of (met_of l stage over lent cs w.in-Conflict.found)) None) began
@@ -56,8 +57,16 @@ returns-clause-stored c =
     e.staged ∙ ap (λ (x : Answer). staged_after x l.staged) is in
     let same = ap (λ (x : Lending). x.staged) c.forget.ensures.is in
     elim c.match-ended.branch [
-      | in-Read w ↦ subst (EndsStored old c.end-kit.result.0) (sym (w.outcome-is ∙ w.refusal-outcome.ensures)) (taken, left _ w.in-Read.is ∙ same)
-      | in-Conflict w ↦ subst (EndsStored old c.end-kit.result.0) (sym (w.outcome-is ∙ w.conflict-outcome.ensures)) (taken, left _ w.in-Conflict.is ∙ same)
+      | in-Read w ↦ subst (EndsStored old c.end-kit.result.0) (sym (w.outcome-is ∙ w.refusal-outcome.ensures)) (
+        taken,
+        left _
+            w.in-Read.is ∙ same,
+      )
+      | in-Conflict w ↦ subst (EndsStored old c.end-kit.result.0) (sym (w.outcome-is ∙ w.conflict-outcome.ensures)) (
+        taken,
+        left _
+            w.in-Conflict.is ∙ same,
+      )
     ]
 
 pub returns-clause-within : goal.returns-clause-within
@@ -79,7 +88,8 @@ returns-clause-within c =
           (for_given l lending.0 lending.1 lending.2 cs k told (λ new later. tt)
           (locks_answered l lending.0 lending.1 lending.2 cs k _ _ a.1)))
       | in-Conflict w ↦
-          let met = met_is l lending.0 lending.1 lending.2 cs w.in-Conflict.found c.place-place.result w.conflict-outcome.result w.conflict-outcome.ensures
+          let met = met_is l lending.0 lending.1 lending.2 cs w.in-Conflict.found c.place-place.result w.conflict-outcome.result
+          w.conflict-outcome.ensures
           c.place-place.ensures.value in
           subst outcomes (sym (w.outcome-is ∙ met))
           (subst (λ (z : Pass). EndsWithin z cs k (conflict_of (met_of l lending.0 lending.1 lending.2 cs w.in-Conflict.found)))
