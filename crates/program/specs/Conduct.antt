@@ -46,13 +46,14 @@ abbrev pub IsPrinted : Bytes → List Event → ℕ → Type 0
 IsPrinted out es status =
     ((es ≡ prints out true ∷ []) × (status ≡ 0)) ⊎ ((es ≡ prints out false ∷ says (codes "cannot write") ∷ []) × (status ≡ 1))
 
--- a history is written to its file, and then the text is printed; or that file can't be written, which is said, the status is 1, and
--- nothing is printed
+-- a history is written to its file, and then the text is printed; or that file can't be written, or memory runs out as it is, which is said,
+-- the status is 1, and nothing is printed
 abbrev pub IsWritten : Option Bytes → Bytes → Bytes → List Event → ℕ → Type 0
 IsWritten None history out es status = IsPrinted out es status
 IsWritten (Some path) history out es status =
     ((rest : List Event) × (es ≡ writes path history true ∷ rest) × IsPrinted out rest status)
-    ⊎ ((es ≡ writes path history false ∷ says (path ++ codes ": cannot write") ∷ []) × (status ≡ 1))
+    ⊎ (((es ≡ writes path history false ∷ says (path ++ codes ": cannot write") ∷ []) × (status ≡ 1))
+    ⊎ ((es ≡ writes path history false ∷ says (codes "no memory") ∷ []) × (status ≡ 1)))
 
 -- what a job prints, or the line of its fault
 abbrev pub IsTold : Option Bytes → Answered → List Event → ℕ → Type 0
@@ -227,7 +228,7 @@ abbrev pub EndsBy : {E : Type 0} → (List Event → ℕ → Type 0) → List Ev
 EndsBy P es (Ok status) = P es status
 EndsBy P es (Err e) = All IsQuiet es
 
--- memory ran out before anything was printed or said: that is said, and the status is 1
+-- memory ran out before anything was written, printed or said: that is said, and the status is 1
 abbrev pub IsOutOfMemory : List Event → ℕ → Type 0
 IsOutOfMemory es status = (front : List Event) × (es ≡ front ++ says (codes "no memory") ∷ []) × All IsQuiet front × (status ≡ 1)
 

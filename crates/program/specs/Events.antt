@@ -26,10 +26,10 @@ abbrev pub bytes_of : {E : Type 0} → Result (Vec ℕ Global) E → Option Byte
 bytes_of (Ok text) = Some text.items
 bytes_of (Err e) = None
 
--- nothing was printed or said: files were read, and at most one was written
+-- nothing was written, printed or said: a file was read
 abbrev pub IsQuiet : Event → Type 0
 IsQuiet (reads path got) = Unit {0}
-IsQuiet (writes path text whole) = Unit {0}
+IsQuiet (writes path text whole) = ⊥
 IsQuiet (prints text whole) = ⊥
 IsQuiet (says line) = ⊥
 IsQuiet (shows error whole) = ⊥

@@ -41,32 +41,27 @@ pub(crate) fn print_out<W: World>(world: &mut W, out: &[u8]) -> u8
 }
 
 /// Writes the history of a run to its file, and then prints what the run prints.
-fn save_and_print<W: World>(
-    world: &mut W,
-    path: &str,
-    history: &[u8],
-    out: &[u8],
-) -> Result<u8, AllocError>
+fn save_and_print<W: World>(world: &mut W, path: &str, history: &[u8], out: &[u8]) -> u8
     ensures { (es : List Event) × Adds (W.done world.old) (W.done world.new) es
-        × EndsBy (IsWritten (Some path.now) history.now out.now) es result }
+        × IsWritten (Some path.now) history.now out.now es result }
 {
     match world.write(path, history) {
-        Ok(()) => Ok(print_out(world, out)),
-        Err(Trouble::NoMemory) => Err(AllocError),
+        Ok(()) => print_out(world, out),
+        Err(Trouble::NoMemory) => refuse(world, "no memory"),
         Err(Trouble::Refused) => {
             world.say_of(path, "cannot write");
-            Ok(1)
+            1
         }
     }
 }
 
 /// Tells an answer: what is printed, behind the history where a file is named for it, or the line of the fault.
-fn tell<W: World>(world: &mut W, history: Option<&str>, told: &Answered) -> Result<u8, AllocError>
+fn tell<W: World>(world: &mut W, history: Option<&str>, told: &Answered) -> u8
     ensures { (es : List Event) × Adds (W.done world.old) (W.done world.new) es
-        × EndsBy (IsTold (option_map (λ s. s.now) history.entry) told.now) es result }
+        × IsTold (option_map (λ s. s.now) history.entry) told.now es result }
 {
     match told {
-        Answered::Refused(line) => Ok(refuse(world, line.as_str())),
+        Answered::Refused(line) => refuse(world, line.as_str()),
         Answered::Done(printed) => match history {
             Some(path) => save_and_print(
                 world,
@@ -74,7 +69,7 @@ fn tell<W: World>(world: &mut W, history: Option<&str>, told: &Answered) -> Resu
                 printed.history.as_slice(),
                 printed.out.as_slice(),
             ),
-            None => Ok(print_out(world, printed.out.as_slice())),
+            None => print_out(world, printed.out.as_slice()),
         },
     }
 }
@@ -157,7 +152,7 @@ fn answer_job<R: Threads + Wait + Sync, W: World, V: Watch + Sync>(
         (map (λ p. p.now) order.now.paths.items) (option_map (λ s. s.now) order.now.history) options job.now) es result }
 {
     match answer(rt, alloc, keys, job, options, order.paths.as_slice(), watch) {
-        Ok(told) => tell(world, order.history, &told),
+        Ok(told) => Ok(tell(world, order.history, &told)),
         Err(_) => Err(AllocError),
     }
 }
