@@ -185,5 +185,5 @@ module _ {O : Type 0} (s t u : Sight O) (cs : List Command) (replies : List Repl
   -- a command that has no reply ends the transaction
   pub ends : (c : Command) (more : List Command) (error : CommandError) → CommandAnswers t u c (Err error)
       → RunAnswers s u (cs ++ c ∷ more) (Err (error_at (1 + length cs) error))
-  ends c more (command.Halted halt) h = tt
+  ends c more (command.Halted halt) caused = caused
   ends c more (command.Refused reason) h = refuses_more c more reason h

@@ -24,6 +24,7 @@ use Rattle.bodystore.proofs.Staging.{found_is_staged}
 use Rattle.cells.specs.State.{value_or}
 use Rattle.cells.specs.Sight.{StaysStaged, Onward, Looks, Reads, Writes, Stages, WasAsked, ReadsWithin, ReadsNothing}
 use Rattle.cells.proofs.Asking.{nothing_same}
+use Rattle.cells.proofs.Halting.{looks_full}
 use Rattle.cells.proofs.Sights.{onward_refl, looks_refl}
 use Rattle.lawful.specs.declared.notes.Given.{Given}
 use Rattle.lawful.specs.declared.notes.Note.{Note}
@@ -112,7 +113,7 @@ pub refused_look : (l : Lending) (count : ℕ) (r : Going Given Note) → IsRefu
     → Looks (lent_sight l) (lent_sight (record l { going = r; full = true }))
 refused_look l count r (inl (p, e, same)) =
     subst (λ (x : Going Given Note). Looks (lent_sight l) (lent_sight (record l { going = x; full = true }))) (sym same)
-    (looks_refl (lent_sight l))
+    (looks_full (lent_sight l) true)
 refused_look l count r (inr (tail, h)) =
     let k = l.going.known in
     subst (λ (x : Going Given Note). Looks (lent_sight l) (lent_sight (record l { going = x; full = true }))) (sym h.is)

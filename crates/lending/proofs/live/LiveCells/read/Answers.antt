@@ -1,6 +1,8 @@
-use Rattle.std.proofs.Common.{◌<◌, ◌≡◌, ℕ, Some, sym, subst}
+use Rattle.std.proofs.Common.{◌<◌, ◌≡◌, ℕ, Some, sym, ap, subst}
+use Rattle.std.specs.Option.{option_map}
 use Rattle.cells.specs.Slots.{cell_count}
 use Rattle.cells.specs.Sight.{Looks, Reads, ReadsWithin}
+use Rattle.tlwords.specs.declared.outcome.Conflict.{Conflict}
 use Rattle.lending.specs.Lent.{lent_sight}
 use Rattle.lending.proofs.Lending.{lending_in, agrees_of, base_count}
 use Rattle.lending.proofs.Reading.{read_ends, stop_ends}
@@ -62,6 +64,14 @@ returns-in-Err-clause-err c =
     let r = c.read.new.self in
     subst (λ x. Looks (lent_sight x.run) (lent_sight (record l { going = r }))) c.self.view_is
     (stop_ends l s.stage s.over c.self.invariant.1 c.args.cell r c.in-Err.conflict e.over e.err).1
+
+pub returns-in-Err-clause-halts : goal.returns-in-Err-clause-halts
+returns-in-Err-clause-halts c =
+    let s = c.self.inside in
+    let e = c.in-Err.ensures in
+    let met = c.in-Err.conflict in
+    let ends = stop_ends (lending_in s) s.stage s.over c.self.invariant.1 c.args.cell c.read.new.self met e.over e.err in
+    (met.cell, ap (option_map (λ (k : Conflict). k.cell)) ends.0.over_is)
 
 pub returns-in-Ok-clause-reads : goal.returns-in-Ok-clause-reads
 returns-in-Ok-clause-reads c =
