@@ -15,6 +15,7 @@
 //! | `unkeyed WORDS` | one to which the system gives no random numbers |
 //! | `garbled WORDS` | one whose words come with bytes that aren't UTF-8 |
 //! | `file PATH`, `first PATH`, `library PATH` | prints what a file has; its first line; what stands behind its line `library` |
+//! | `length PATH` | prints how many bytes a file has |
 //! | `same PATH PATH` | whether behind their lines `library` two files have the same |
 //!
 //! The files `rN.*` are those of row N, as `docs/DEFINITIONS.md` counts the rows that its rules were read against; the files `sN.mm` are
@@ -122,6 +123,12 @@ fn print_file(rt: &(impl Files + AllocGlobal + Print), row: &str, path: &str) ->
     }
 }
 
+/// Prints how many bytes a file has.
+fn print_length(rt: &(impl Files + AllocGlobal + Print), path: &str) -> io::Result<()> {
+    let text = fs::read(rt, path)?;
+    println!(rt; "{} bytes", text.len())
+}
+
 /// Prints whether a text and a file have the same behind their lines `library`.
 fn print_same_as(
     rt: &(impl Files + AllocGlobal + Print),
@@ -172,6 +179,7 @@ pub(crate) fn do_row(
     match word {
         "text" => write_text(rt, behind, lines),
         "made" => write_made(rt, behind, lines),
+        "length" => print_length(rt, behind),
         "same" => print_same(rt, behind),
         _ if is_silent(row) => Ok(()),
         _ => print_file(rt, word, behind),
