@@ -57,7 +57,7 @@ const RENAMES: &str = "begin rename we u commit|begin rename we v commit";
 /// Three scripts, with two transactions, with none, and with one, which is refused.
 const UNEVEN: &str = "begin show we commit begin show we commit||begin show none commit";
 
-const ROWS: [Row; 9] = [
+const ROWS: [Row; 13] = [
     // So many scripts are run at once, as one of them waits for another one's end.
     Row {
         name: "two_scripts_are_run_at_once",
@@ -77,6 +77,54 @@ const ROWS: [Row; 9] = [
         scripts: 2,
         workers: 2,
         waiting: 1,
+        awaited: 0,
+        entries: 0,
+        wanted: "r",
+        or: "r",
+        calls: 0,
+    },
+    Row {
+        name: "three_scripts_are_run_at_once",
+        texts: SHOW,
+        scripts: 3,
+        workers: 3,
+        waiting: 0,
+        awaited: 2,
+        entries: 0,
+        wanted: "r",
+        or: "r",
+        calls: 0,
+    },
+    Row {
+        name: "three_scripts_are_run_at_once",
+        texts: SHOW,
+        scripts: 3,
+        workers: 3,
+        waiting: 2,
+        awaited: 0,
+        entries: 0,
+        wanted: "r",
+        or: "r",
+        calls: 0,
+    },
+    Row {
+        name: "four_scripts_are_run_at_once",
+        texts: SHOW,
+        scripts: 4,
+        workers: 4,
+        waiting: 0,
+        awaited: 3,
+        entries: 0,
+        wanted: "r",
+        or: "r",
+        calls: 0,
+    },
+    Row {
+        name: "four_scripts_are_run_at_once",
+        texts: SHOW,
+        scripts: 4,
+        workers: 4,
+        waiting: 3,
         awaited: 0,
         entries: 0,
         wanted: "r",

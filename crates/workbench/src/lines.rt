@@ -17,6 +17,7 @@
 //! | `file PATH`, `first PATH`, `library PATH` | prints what a file has; its first line; what stands behind its line `library` |
 //! | `sorted PATH` | prints the lines in front of a file's line `library`, sorted, without the `S.T ` of script and transaction |
 //! | `exported PATH FROM` | writes what stands behind the line `library` of FROM into a file |
+//! | `length PATH` | prints how many bytes a file has |
 //! | `same PATH PATH` | whether behind their lines `library` two files have the same |
 //! | `among PATH PATH ..` | whether the first of these files has just what one of the others has |
 //!
@@ -162,6 +163,12 @@ fn print_file(rt: &(impl Files + AllocGlobal + Print), row: &str, path: &str) ->
     }
 }
 
+/// Prints how many bytes a file has.
+fn print_length(rt: &(impl Files + AllocGlobal + Print), path: &str) -> io::Result<()> {
+    let text = fs::read(rt, path)?;
+    println!(rt; "{} bytes", text.len())
+}
+
 /// Prints whether a text and a file have the same behind their lines `library`.
 fn print_same_as(
     rt: &(impl Files + AllocGlobal + Print),
@@ -238,6 +245,7 @@ pub(crate) fn do_row(
     match word {
         "text" => write_text(rt, behind, lines),
         "made" => write_made(rt, behind, lines),
+        "length" => print_length(rt, behind),
         "same" => print_same(rt, behind),
         "sorted" => print_sorted(rt, behind),
         "exported" => write_exported(rt, behind),
