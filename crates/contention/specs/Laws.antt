@@ -6,9 +6,9 @@ use Rattle.ranges.specs.Ranges.{Has}
 use Rattle.tlwords.specs.Seen.{Seen}
 use Rattle.lawful.specs.declared.notes.Given.{Given}
 use Rattle.lawful.specs.declared.notes.Note.{Note}
-use Rattle.transaction.specs.Meeting.{Met}
+use Rattle.transaction.specs.Meeting.{Met, conflict_of}
 use Rattle.transaction.specs.declared.outcome.Outcome.{Outcome}
-use Rattle.transaction.specs.declared.outcome.Outcome.TheVariants.{Committed, Conflict}
+use Rattle.transaction.specs.declared.outcome.Outcome.TheVariants.{Committed}
 use Rattle.transaction.specs.Members.{Member}
 use Rattle.transaction.specs.Attempts.{Attempts, Submits}
 use Rattle.transaction.specs.Footprints.{MayReadAfter, MayWriteAfter, IsLaterHistory}
@@ -23,7 +23,7 @@ HasTried cs old new o = Attempts cs old new o ⊎ Submits cs old new o
 
 -- a session met this conflict in the transaction: in its one try, or in one of those before the last
 abbrev pub RunsInto : List Command → Member → Member → Met → Type 0
-RunsInto cs old new met = Attempts cs old new (Conflict met) ⊎ ((o : Outcome) × (tries : Submits cs old new o) × Has met tries.met)
+RunsInto cs old new met = Attempts cs old new (conflict_of met) ⊎ ((o : Outcome) × (tries : Submits cs old new o) × Has met tries.met)
 
 -- ---- versions
 

@@ -37,7 +37,7 @@ pub struct Edited {
 ///
 /// `NoThread` where there are two sessions or more and a thread can't be had, and want of memory. The library is gone then. `Missing` is
 /// never told of sessions that each have a name of their own, as `Library::open` gives them, and `Held` of none.
-pub fn edit_all<R: Threads + Wait + Sync, G: Gate + Sync>(
+pub fn run_to_end<R: Threads + Wait + Sync, G: Gate + Sync>(
     rt: &R,
     alloc: Global,
     library: Library,

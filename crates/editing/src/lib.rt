@@ -12,7 +12,7 @@
 //!     let shape = Shape { slots: 4096, room: 1_048_576, sessions: 4 };
 //!     let (library, sessions) = Library::open(rt, rt.alloc(), keys, database, shape)?;
 //!     let script = read_script(rt.alloc(), library.prelude(), text)?;
-//!     let edited = edit_all(rt, rt.alloc(), library, sessions, &[script], &Open)?;
+//!     let edited = run_to_end(rt, rt.alloc(), library, sessions, &[script], &Open)?;
 //!     Ok(write_library(rt.alloc(), &edited.library)?)
 //! }
 //! ```
@@ -21,5 +21,5 @@
 mod editing;
 mod error;
 
-pub use editing::{Edited, edit_all};
+pub use editing::{Edited, run_to_end};
 pub use error::EditError;

@@ -59,7 +59,7 @@ module _ (home : Home) (members : List Member) (closed : ClosedLibrary) (is : Is
   -- ---- the history
 
   small : length words.store.items ≤ most_words
-  small = let taken = is.words.closes.taken in let room = is.room in let few = is.small in omega (arith, taken, room, few)
+  small = let within = is.words.closes.within in let room = is.room in let few = is.small in omega (arith, within, room, few)
 
   stands : IsHistoryOf home.given home.words.base seen
   stands = (closed_histories_stand home.given home.words.base home.store words is.words.closes small).0

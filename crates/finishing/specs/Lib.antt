@@ -1,3 +1,4 @@
 pub mod Finishes
 pub mod Ordering
 pub mod Shown
+pub mod Names

@@ -36,7 +36,7 @@ pub fn finish(
     requires { All (IsSessionOf library) sessions.items }
     ensures { Finishes library sessions.items result }
 {
-    let closed = library.close(alloc, sessions)?;
+    let closed = library.close_taken(alloc, sessions)?;
     conclude(alloc, closed)
 }
 

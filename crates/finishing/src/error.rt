@@ -27,3 +27,30 @@ impl From<AllocError> for FinishError {
         FinishError::NoMemory
     }
 }
+
+impl FinishError {
+    ghost use Rattle.std.specs.Prelude.{◌≡◌};
+    ghost use Rattle.finishing.specs.Names.{number_of, name_of};
+
+    /// The number of the reason, from 1 to 3.
+    pub fn number(self) -> u32
+        ensures { result ≡ number_of self }
+    {
+        match self {
+            FinishError::Missing(_) => 1,
+            FinishError::Held(_) => 2,
+            FinishError::NoMemory => 3,
+        }
+    }
+
+    /// The name of the reason, without the number or the cell.
+    pub fn name(self) -> &'static str
+        ensures { result.now ≡ name_of self }
+    {
+        match self {
+            FinishError::Missing(_) => "Missing",
+            FinishError::Held(_) => "Held",
+            FinishError::NoMemory => "NoMemory",
+        }
+    }
+}

@@ -27,7 +27,7 @@ mod watching;
 
 pub use answering::{Answered, answer};
 pub use checking::{Fault, Task, spelled_scripts_fit};
-pub use editing::{EditError, Edited, edit_all};
+pub use editing::{EditError, Edited, run_to_end};
 pub use job::{Job, Printed};
 pub use laws::{accepted_texts_check, fault_labels_are_shown, runs_are_replayed};
 pub use performing::perform;

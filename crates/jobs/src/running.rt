@@ -17,7 +17,7 @@ ghost use Rattle.reports.specs.Reports.{AreReportable, report_text};
 use crate::job::Printed;
 use crate::watching::Watch;
 use checking::{Fault, SLOTS};
-use editing::{EditError, Edited, edit_all};
+use editing::{EditError, Edited, run_to_end};
 use export::put_library;
 use historytext::write_history;
 use library::{Entry, PlainLibrary, Script};
@@ -124,7 +124,7 @@ fn edit(
 {
     let (library, sessions) = open(alloc, keys, db, shape(plan, db, scripts))?;
     watch.begin(scripts.len(), transactions_of(scripts));
-    let edited = edit_all(rt, alloc, library, sessions, scripts, watch);
+    let edited = run_to_end(rt, alloc, library, sessions, scripts, watch);
     watch.end();
     match edited {
         Ok(edited) => Ok(edited),

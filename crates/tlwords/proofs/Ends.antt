@@ -205,7 +205,7 @@ module _ {S N : Type 0} (terms : Terms S N) (setting : S) (base : List ℕ) (roo
   store_same o y below f =
       let l : o < length r.store = get_within r.store o y f in
       let c : length r.store ≡ room = (r.shelf).long in
-      let d : length closed.store.items ≡ min closed.tail room = gathered.store_count in
+      let d : min closed.tail room ≤ length closed.store.items = gathered.reaches in
       let x : (x : ℕ) × (slice_get closed.store.items o ≡ Some x) = get_exists closed.store.items o (omega (arith, l, c, d, below)) in
       x.1 ∙ ap (λ (v : ℕ). Some v) (store_word o x.0 y x.1 f)
 
@@ -317,6 +317,13 @@ module _ {S N : Type 0} (terms : Terms S N) (setting : S) (base : List ℕ) (roo
       let l : o < length opened.store = get_within opened.store o x e in
       store_same o x (omega (arith, l, behind)) ((r.shelf).left.opening o x e)
 
+  blank : (o x : ℕ) → closed.tail ≤ o → slice_get closed.store.items o ≡ Some x → x ≡ 0
+  blank o x past e =
+      let l : o < length closed.store.items = get_within closed.store.items o x e in
+      let m : length closed.store.items ≤ room = gathered.within in
+      let t : closed.tail ≡ r.tail = tail_same in
+      store_word o x 0 e ((r.shelf).left.blank o (omega (arith, t, past)) (omega (arith, l, m)))
+
   pub closes : Closes terms setting base opened.store closed
   closes = record {
     seen = last;
@@ -327,7 +334,9 @@ module _ {S N : Type 0} (terms : Terms S N) (setting : S) (base : List ℕ) (roo
     shows = shown;
     stored = stored;
     ranges = one_store;
-    taken = gathered.store_count ∙ ap (min closed.tail) (sym gathered.room_is);
+    reaches = subst (λ (m : ℕ). min closed.tail m ≤ length closed.store.items) (sym gathered.room_is) gathered.reaches;
+    within = subst (λ (m : ℕ). length closed.store.items ≤ m) (sym gathered.room_is) gathered.within;
+    blank = blank;
     left = left;
     behind = behind;
     refused = refused;

@@ -27,7 +27,7 @@ AreCellsOf words cells =
 abbrev pub IsStoreOf : List ℕ → ℕ → List ℕ → Type 0
 IsStoreOf words cells store = (o w : ℕ) → slice_get store o ≡ Some w → get_elem? words (store_at cells o) ≡ some w
 
--- these are the words of a closed table with so many cells and such a room: of its store, those up to the tail
+-- these are the words of a closed table with so many cells and such a room: of its store a front, in which is each word that is taken
 pub record AreGathered (words : List ℕ) (cells room : ℕ) (closed : ClosedWords) : Type 0 where
   pub clock_is : get_elem? words clock_at ≡ some closed.clock
   pub tail_is : get_elem? words (tail_at cells) ≡ some closed.tail
@@ -35,7 +35,8 @@ pub record AreGathered (words : List ℕ) (cells room : ℕ) (closed : ClosedWor
   pub cells_count : length closed.cells.items ≡ cells
   pub store_is : IsStoreOf words cells closed.store.items
   pub room_is : closed.room ≡ room
-  pub store_count : length closed.store.items ≡ min closed.tail room
+  pub reaches : min closed.tail room ≤ length closed.store.items
+  pub within : length closed.store.items ≤ room
 
 -- the words after the history h, over the opening values: a free cell shows its last Done writer, and no Open entry writes it
 pub record Shows (base : List ℕ) (h : List WordsEntry) (clock : ℕ) (cells : List ClosedCell) : Type 0 where
@@ -69,9 +70,9 @@ pub record IsHeldIn (w : World) (c : ℕ) : Type 0 where
 abbrev pub holders_in : World → ℕ
 holders_in w = total_of (λ (t : Seat). if is_nil t.held then 0 else 1) w.seats
 
--- there is one lawful history, of a lawful opening, which the words show; the store's words up to the tail have the finished ranges and
--- begin with the opening's words; what a range cell holds at the end, locked or free, is 0 or names one of these ranges; and a lock that is
--- held is a seat's
+-- there is one lawful history, of a lawful opening, which the words show; a front of the store, in which is each word that is taken, has
+-- the finished ranges, begins with the opening's words, and is 0 behind the tail; what a range cell holds at the end, locked or free, is 0
+-- or names one of these ranges; and a lock that is held is a seat's
 pub record Closes {S N : Type 0} (terms : Terms S N) (setting : S) (base opened : List ℕ) (words : ClosedWords) : Type 0 where
   pub seen : Seen N
   pub world : World
@@ -83,7 +84,9 @@ pub record Closes {S N : Type 0} (terms : Terms S N) (setting : S) (base opened 
   pub stored : (r : Range) → Has r seen.ranges → IsStored words.tail words.store.items r
   -- so they are of one store, of these words alone
   pub ranges : AreOfOneStore (length words.store.items) seen.ranges
-  pub taken : length words.store.items ≡ min words.tail words.room
+  pub reaches : min words.tail words.room ≤ length words.store.items
+  pub within : length words.store.items ≤ words.room
+  pub blank : (o w : ℕ) → words.tail ≤ o → slice_get words.store.items o ≡ Some w → w ≡ 0
   pub left : (o w : ℕ) → slice_get opened o ≡ Some w → slice_get words.store.items o ≡ Some w
   pub behind : length opened ≤ words.tail
   -- each of 64 sessions was refused at most once by a step, which adds the room and one at most

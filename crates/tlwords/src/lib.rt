@@ -25,7 +25,7 @@ mod store_steps;
 mod view;
 mod words;
 
-pub use closing::{ClosedCell, ClosedWords, close};
+pub use closing::{ClosedCell, ClosedWords, close, close_taken};
 pub use law::Law;
 pub use laws::running_steps;
 pub use mode::Mode;

@@ -31,14 +31,14 @@ use Rattle.lending.specs.Lent.{Pass, Lending, is_writing, IsLent}
 use Rattle.lending.specs.declared.live.GivenUp.{GivenUp}
 use Rattle.lending.specs.declared.live.GivenUp.TheVariants as given
 use Rattle.lending.specs.Ends.{IsLawfulWith, IsForgotten, IsGivenUp}
-use Rattle.transaction.specs.Meeting.{Met}
+use Rattle.transaction.specs.Meeting.{Met, met_at, conflict_of, refusal_of}
 use Rattle.transaction.specs.declared.outcome.Outcome.{Outcome}
 use Rattle.transaction.specs.declared.outcome.Outcome.TheVariants as outcome
 use Rattle.transaction.specs.declared.outcome.Record.{Record}
 use Rattle.transaction.specs.Members.{IsRecordIn}
 use Rattle.transaction.specs.Attempts.{AddsNothing, Meets, LoadsOnce}
 use Rattle.transaction.specs.Tries.{IsLaterPass, Tries}
-use Rattle.transaction.proofs.Ended.{met_at, is_later, adds_nothing, runs_once, met_none, meets, told_by}
+use Rattle.transaction.proofs.Ended.{is_later, adds_nothing, runs_once, met_none, meets, told_by}
 
 -- the record of a number that a conflict left void
 abbrev pub void_record : ℕ → Record
@@ -192,12 +192,11 @@ module _ (l : Lending) (stage : Staged) (over : Option Conflict) (lent : IsLent 
   edits_not edits none = let a : true ≡ false = sym edits ∙ none in cc
 
   abbrev pub met_of : Conflict → Met
-  met_of c = record { place = l.going.place; cell = c.cell; word = c.word; before = c.before }
+  met_of c = met_at l.going.place c
 
-  pub met_is : (c : Conflict) (place : ℕ) (met : Met) → met ≡ record { place = place; cell = c.cell; word = c.word; before = c.before }
-      → place ≡ l.going.place → met ≡ met_of c
-  met_is c place met is at =
-      is ∙ ap (λ (p : ℕ). let z : Met = record { place = p; cell = c.cell; word = c.word; before = c.before } in z) at
+  pub met_is : (c : Conflict) (place : ℕ) (o : Outcome) → o ≡ conflict_of (met_at place c) → place ≡ l.going.place
+      → o ≡ conflict_of (met_of c)
+  met_is c place o is at = is ∙ ap (λ (p : ℕ). conflict_of (met_at p c)) at
 
   rejected_meets : (c : Conflict) (drawn : Option ℕ) (k : Pass) → WritesEdits → k.clocks ≡ l.going.known.clocks
       → IsRejected library_terms c drawn l.going k → Meets (has_edit cs) l.began k (met_of c)

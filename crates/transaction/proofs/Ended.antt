@@ -7,13 +7,9 @@ use Rattle.tlwords.specs.Known.{word_told}
 use Rattle.tlwords.specs.declared.outcome.Conflict.{Conflict}
 use Rattle.bodystore.specs.Stages.{Staged}
 use Rattle.lending.specs.Lent.{Pass, Lending, is_writing, IsLent}
-use Rattle.transaction.specs.Meeting.{Met}
+use Rattle.transaction.specs.Meeting.{met_at}
 use Rattle.transaction.specs.Attempts.{AddsNothing, Meets, MetNone}
 use Rattle.transaction.specs.Tries.{IsLaterPass}
-
--- the conflict of a run at a place
-abbrev pub met_at : ℕ → Conflict → Met
-met_at place c = record { place = place; cell = c.cell; word = c.word; before = c.before }
 
 -- a run that writes keeps its reads
 pub told_by : (mode : Mode) (c : ℕ) (found : Pairs) → word_told mode c found ≡ (if is_writing mode then written c found else None)

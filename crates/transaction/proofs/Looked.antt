@@ -32,11 +32,12 @@ use Rattle.lending.specs.Lent.{Pass, Carried, Lending, IsLent, is_writing, lent_
 use Rattle.lending.specs.Ends.{IsGivenUp}
 use Rattle.transaction.specs.declared.outcome.Look.{Look}
 use Rattle.transaction.specs.declared.outcome.Look.TheVariants as look
+use Rattle.transaction.specs.Meeting.{met_at, look_met}
 use Rattle.transaction.specs.Members.{Member, IsMember}
 use Rattle.transaction.specs.Attempts.{Meets}
 use Rattle.transaction.specs.Looks.{TakesLook, Sees, SaysLooked}
 use Rattle.transaction.specs.Tries.{IsLaterPass, StoresNothing, MayBeLooked}
-use Rattle.transaction.proofs.Ended.{met_at, is_later, adds_nothing, runs_once, met_none, meets}
+use Rattle.transaction.proofs.Ended.{is_later, adds_nothing, runs_once, met_none, meets}
 use Rattle.transaction.proofs.Staying.{pass_on, still_member, goes_on}
 
 -- ---- the library that was read

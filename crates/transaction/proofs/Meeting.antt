@@ -35,10 +35,11 @@ use Rattle.lending.proofs.Lending.{pass_on}
 use Rattle.lending.proofs.Kept.{cell_written}
 use Rattle.transaction.specs.declared.outcome.Outcome.{Outcome}
 use Rattle.transaction.specs.declared.outcome.Outcome.TheVariants as outcome
+use Rattle.transaction.specs.Meeting.{met_at, conflict_of}
 use Rattle.transaction.specs.Footprints.{IsLaterHistory, StaysWithin}
 use Rattle.transaction.specs.Locks.{LocksWithin}
 use Rattle.transaction.specs.Tries.{AsksWithin, KeepsWithin, EndsWithin}
-use Rattle.transaction.proofs.Ended.{met_at, runs_once}
+use Rattle.transaction.proofs.Ended.{runs_once}
 use Rattle.transaction.proofs.Committing.{told_of}
 
 -- ---- a cell whose read has ended

@@ -20,7 +20,7 @@ use Rattle.lawful.specs.declared.notes.Given.{Given}
 use Rattle.lawful.specs.declared.notes.Note.{Note}
 use Rattle.lawful.specs.History.{IsHistoryOf}
 use Rattle.lending.specs.Lent.{Pass, Carried}
-use Rattle.transaction.specs.Meeting.{Met}
+use Rattle.transaction.specs.Meeting.{Met, conflict_of}
 use Rattle.transaction.specs.declared.outcome.Outcome.{Outcome}
 use Rattle.transaction.specs.declared.outcome.Outcome.TheVariants as outcome
 use Rattle.transaction.specs.declared.outcome.Record.{Record}
@@ -365,8 +365,9 @@ module _ (cs : List Command) (old now next : Member) (o : Outcome) (so_far : Tri
   gains_since (outcome.Read place replies) g settles some =
       (g.0, not_before place g.1, g.2 ∙ so_far.drawn, calls (Answered place) (SaysDone cs replies) g.3)
   gains_since (outcome.Refused place index reason) g settles some =
-      (not_before place g.0, g.1 ∙ so_far.drawn, calls (Answered place) (SaysRefused cs refused) g.2)
-  gains_since (outcome.Conflict place cell word before) g settles some = absurd (settles met refl)
+      (not_before place g.0, g.1 ∙ so_far.drawn, calls (Answered place) (SaysRefused cs (record { index = index; reason = reason })) g.2)
+  gains_since (outcome.Conflict place cell word before) g settles some =
+      absurd (settles (record { place = place; cell = cell; word = word; before = before }) refl)
   gains_since outcome.StoreFull g settles some = (adds g.0, g.1, g.2)
   gains_since outcome.NumbersUsed g settles some = (adds g.0, ap length (sym so_far.drawn) ∙ g.1)
   gains_since outcome.TooManyCommands g settles some = absurd (some refl)
@@ -376,7 +377,7 @@ module _ (cs : List Command) (old now next : Member) (o : Outcome) (so_far : Tri
   ran_since (outcome.Committed number replies) one = (one.0, one_more one.0 one.1)
   ran_since (outcome.Read place replies) one = one_more place one
   ran_since (outcome.Refused place index reason) one = one_more place one
-  ran_since (outcome.Conflict place cell word before) one = one_more met.place one
+  ran_since (outcome.Conflict place cell word before) one = one_more place one
   ran_since outcome.StoreFull one = none_since one
   ran_since outcome.NumbersUsed one = (one.0, one_more one.0 one.1)
   ran_since outcome.TooManyCommands one = one

@@ -177,10 +177,7 @@ fn commit(alloc: Global, live: Live<'_>, commands: &Transaction, replies: Sequen
         tlwords::Outcome::Conflict {
             conflict: found,
             drawn,
-        } => (
-            conflict(place, found),
-            void_record(drawn),
-        ),
+        } => (conflict(place, found), void_record(drawn)),
         tlwords::Outcome::NumbersUsed => (Outcome::NumbersUsed, None),
         tlwords::Outcome::Read(_) => unreachable!(),
     };

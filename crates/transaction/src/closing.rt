@@ -1,6 +1,6 @@
 //! Ends libraries.
 
-ghost use Rattle.std.specs.Prelude.{All, IfOk};
+ghost use Rattle.std.specs.Prelude.{◌≡◌, All, IfOk, length, min};
 ghost use Rattle.transaction.specs.Members.{IsSessionOf};
 ghost use Rattle.transaction.specs.Closings.{IsClosed, AreTaken};
 
@@ -10,7 +10,7 @@ use crate::session::Session;
 use lawful::{Given, LibraryLaw};
 use mmsyntax::Prelude;
 use std::alloc::{AllocError, Global};
-use tlwords::{ClosedWords, Pass, close};
+use tlwords::{ClosedWords, Pass, close, close_taken};
 
 /// A library at its end: no session can change it any more.
 #[derive(Drop)]
@@ -19,23 +19,24 @@ pub struct ClosedLibrary {
     pub prelude: Prelude,
     /// How many slots it has; and, for contracts alone, the database that it was opened from.
     pub given: Given,
-    /// Its words.
+    /// Its words: of the store all of them (`Library::close`), or those up to the tail (`Library::close_taken`).
     pub words: ClosedWords,
     /// The records of each session that was handed in, in order.
     pub records: Vec<Vec<Record>>,
 }
 
 impl Library {
-    /// Ends the library, and the sessions of it that are handed in, none too. What each of them has seen grows into the one history that
-    /// the words show. A lock that is held is that of a session that is not handed in, in the middle of a run: so where all sessions are
-    /// handed in, none is; and then the clock is how many numbers they drew.
+    /// Ends the library, and the sessions of it that are handed in, none too, and gives all its words. What each of them has seen grows
+    /// into the one history that the words show. A lock that is held is that of a session that is not handed in, in the middle of a run:
+    /// so where all sessions are handed in, none is; and then the clock is how many numbers they drew.
     ///
     /// # Errors
     ///
     /// Want of memory. The library and the sessions are gone then.
     pub fn close(self, alloc: Global, sessions: Vec<Session>) -> Result<ClosedLibrary, AllocError>
         requires { All (IsSessionOf self) sessions.items }
-        ensures { IfOk result (λ made. IsClosed self sessions.items made) }
+        ensures closed { IfOk result (λ made. IsClosed self sessions.items made) }
+        ensures store { IfOk result (λ made. length made.words.store.items ≡ self.words.room) }
     {
         let (passes, records) = take_all(alloc, sessions)?;
         let (prelude, given, words) = self.into_parts();
@@ -43,6 +44,31 @@ impl Library {
             prelude,
             given,
             words: close(alloc, words, passes)?,
+            records,
+        })
+    }
+
+    /// Ends the library as `close` does, and gives of its store the words up to the tail alone, so that what it costs doesn't go by the
+    /// room.
+    ///
+    /// # Errors
+    ///
+    /// Want of memory. The library and the sessions are gone then.
+    pub fn close_taken(
+        self,
+        alloc: Global,
+        sessions: Vec<Session>,
+    ) -> Result<ClosedLibrary, AllocError>
+        requires { All (IsSessionOf self) sessions.items }
+        ensures closed { IfOk result (λ made. IsClosed self sessions.items made) }
+        ensures store { IfOk result (λ made. length made.words.store.items ≡ min made.words.tail self.words.room) }
+    {
+        let (passes, records) = take_all(alloc, sessions)?;
+        let (prelude, given, words) = self.into_parts();
+        Ok(ClosedLibrary {
+            prelude,
+            given,
+            words: close_taken(alloc, words, passes)?,
             records,
         })
     }

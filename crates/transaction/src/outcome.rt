@@ -55,7 +55,10 @@ pub enum Outcome {
 #[derive(Drop)]
 pub enum Look {
     /// The library after the first `place` entries.
-    Read { place: u64, library: PlainLibrary },
+    Read {
+        place: u64,
+        library: PlainLibrary,
+    },
     /// It met another session; its fields are those of an `Outcome::Conflict`. A look keeps no reads, so `before` is none.
     Conflict {
         place: u64,

@@ -49,15 +49,11 @@ fn put_words(out: &mut Written, words: &[u64]) {
     }
 }
 
-/// The clock, the tail of the store, lock word and value of each cell, and the store: its words up to the tail, and 0 for each behind,
-/// which was never written.
+/// The clock, the tail of the store, lock word and value of each cell, and the words that are given of the store.
 pub fn put_closed(out: &mut Written, closed: &ClosedWords) {
     let (clock, tail) = (closed.clock, closed.tail);
     out.show(format_args!("clock {clock} tail {tail} cells"));
     put_cells(out, closed.cells.as_slice());
     out.put(b" store");
     put_words(out, closed.store.as_slice());
-    for _ in closed.store.len()..closed.room {
-        out.put(b" 0");
-    }
 }

@@ -79,7 +79,8 @@ gained_numbers : (cs : List Command) (old new : Pass) (o : Outcome) → Gains cs
 gained_numbers cs old new (outcome.Committed number replies) g settled = g.2
 gained_numbers cs old new (outcome.Read place replies) g settled = g.2 ∙ sym (append-nil old.drawn)
 gained_numbers cs old new (outcome.Refused place index reason) g settled = g.1 ∙ sym (append-nil old.drawn)
-gained_numbers cs old new (outcome.Conflict place cell word before) g settled = absurd (settled (record { place = place; cell = cell; word = word; before = before }) refl)
+gained_numbers cs old new (outcome.Conflict place cell word before) g settled =
+    absurd (settled (record { place = place; cell = cell; word = word; before = before }) refl)
 gained_numbers cs old new outcome.StoreFull g settled = g.0.drawn ∙ sym (append-nil old.drawn)
 gained_numbers cs old new outcome.NumbersUsed g settled = g.0.drawn ∙ sym (append-nil old.drawn)
 gained_numbers cs old new outcome.TooManyCommands g settled = ap (λ (p : Pass). p.drawn) g.0 ∙ sym (append-nil old.drawn)
@@ -131,9 +132,10 @@ module _ (g : Given) (h : List Entry) where
   outcome_told cs old new (outcome.Read place replies) gains settled rest all =
       read_told cs replies place gains.3.0.note gains.3.1 (gained_agrees old new (Answered place) (SaysDone cs replies) gains.3 rest all)
   outcome_told cs old new (outcome.Refused place index reason) gains settled rest all =
-      refusal_told cs reason place gains.2.0.note gains.2.1
-      (gained_agrees old new (Answered place) (SaysRefused cs reason) gains.2 rest all)
-  outcome_told cs old new (outcome.Conflict place cell word before) gains settled rest all = absurd (settled (record { place = place; cell = cell; word = word; before = before }) refl)
+      refusal_told cs (record { index = index; reason = reason }) place gains.2.0.note gains.2.1
+      (gained_agrees old new (Answered place) (SaysRefused cs (record { index = index; reason = reason })) gains.2 rest all)
+  outcome_told cs old new (outcome.Conflict place cell word before) gains settled rest all =
+      absurd (settled (record { place = place; cell = cell; word = word; before = before }) refl)
   outcome_told cs old new outcome.StoreFull gains settled rest all = tt
   outcome_told cs old new outcome.NumbersUsed gains settled rest all = tt
   outcome_told cs old new outcome.TooManyCommands gains settled rest all = tt

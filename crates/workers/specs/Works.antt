@@ -30,7 +30,8 @@ use Rattle.workers.specs.declared.error.WorkError.TheVariants.{NoMemory, NoThrea
 abbrev pub OutcomeAgrees : Setting → List Ranked → List Entry → List Command → Outcome → Type 0
 OutcomeAgrees s lib0 h cs (outcome.Committed number replies) = Agrees s lib0 h cs (committed number replies)
 OutcomeAgrees s lib0 h cs (outcome.Read place replies) = Agrees s lib0 h cs (read place replies)
-OutcomeAgrees s lib0 h cs (outcome.Refused place index reason) = Agrees s lib0 h cs (refused place (record { index = index; reason = reason }))
+OutcomeAgrees s lib0 h cs (outcome.Refused place index reason) =
+    Agrees s lib0 h cs (refused place (record { index = index; reason = reason }))
 OutcomeAgrees s lib0 h cs (outcome.Conflict place cell word before) = ⊥
 OutcomeAgrees s lib0 h cs _ = Unit {0}
 

@@ -6,14 +6,14 @@ use Rattle.transaction.specs.Closings.{lists_of}
 use Rattle.jobs.proofs.Worked.{some_session, all_sessions, worked, unworked}
 use Rattle.jobs.proofs.running.edit.Goals as goal
 
-pub edit_all-edited-requires-clause-some : goal.edit_all-edited-requires-clause-some
-edit_all-edited-requires-clause-some g c κs outlives =
+pub run_to_end-edited-requires-clause-some : goal.run_to_end-edited-requires-clause-some
+run_to_end-edited-requires-clause-some g c κs outlives =
     let room = room_of c.args.plan.room c.args.db.now c.args.scripts.now in
     let opened = rw c.shape.ensures.is at c.in_ok-library.ensures.done in
     some_session c.args.db.now c.args.plan.workers room c.in_ok-library.library c.in_ok-library.sessions.items opened c.requires.within.0
 
-pub edit_all-edited-requires-clause-all : goal.edit_all-edited-requires-clause-all
-edit_all-edited-requires-clause-all g c κs outlives =
+pub run_to_end-edited-requires-clause-all : goal.run_to_end-edited-requires-clause-all
+run_to_end-edited-requires-clause-all g c κs outlives =
     let room = room_of c.args.plan.room c.args.db.now c.args.scripts.now in
     let opened = rw c.shape.ensures.is at c.in_ok-library.ensures.done in
     all_sessions c.args.db.now c.args.plan.workers room c.in_ok-library.library c.in_ok-library.sessions.items opened

@@ -33,11 +33,11 @@ returns-clause-tries c =
     elim c.match-ended.branch [
       | in-Read w ↦ subst outcomes (sym w.outcome-is) (done w.in-Read.place w.in-Read.is)
       | in-Conflict w ↦
-          let met = met_is l stage over lent cs w.in-Conflict.conflict c.place-place.result w.met.result w.met.ensures
+          let met = met_is l stage over lent cs w.in-Conflict.found c.place-place.result w.conflict-outcome.result w.conflict-outcome.ensures
           c.place-place.ensures.value in
           let never : l.going.over ≡ None → ⊥ = λ none. let a = ends.reading none c.requires.reading in let b = w.in-Conflict.is in cc in
-          subst outcomes (sym (w.outcome-is ∙ ap conflict_of met))
-          (met_only l stage over lent cs _ k o ends.over ends.ended w.in-Conflict.conflict _ (ap is_writing c.requires.reading
+          subst outcomes (sym (w.outcome-is ∙ met))
+          (met_only l stage over lent cs _ k o ends.over ends.ended w.in-Conflict.found _ (ap is_writing c.requires.reading
           ∙ sym c.requires.edit)
           w.in-Conflict.is never)
     ]
@@ -51,7 +51,7 @@ returns-clause-stored c =
     let outcomes = EndsStored (carried_by l) c.end-kit.result.0 in
     elim c.match-ended.branch [
       | in-Read w ↦ subst outcomes (sym w.outcome-is) (e.taken, left _ w.in-Read.is)
-      | in-Conflict w ↦ subst outcomes (sym w.outcome-is) (e.taken, left _ w.in-Conflict.is)
+      | in-Conflict w ↦ subst outcomes (sym (w.outcome-is ∙ w.conflict-outcome.ensures)) (e.taken, left _ w.in-Conflict.is)
     ]
 
 pub returns-clause-within : goal.returns-clause-within
@@ -71,10 +71,10 @@ returns-clause-within c =
           (for_given l lending.0 lending.1 lending.2 cs k told (λ new later. tt)
           (locks_answered l lending.0 lending.1 lending.2 cs k _ _ a.1))
       | in-Conflict w ↦
-          let met = met_is l lending.0 lending.1 lending.2 cs w.in-Conflict.conflict c.place-place.result w.met.result w.met.ensures
+          let met = met_is l lending.0 lending.1 lending.2 cs w.in-Conflict.found c.place-place.result w.conflict-outcome.result w.conflict-outcome.ensures
           c.place-place.ensures.value in
-          subst outcomes (sym (w.outcome-is ∙ ap conflict_of met))
+          subst outcomes (sym (w.outcome-is ∙ met))
           (conflict_within l lending.0 lending.1 lending.2 cs c.requires.asks
           (λ none. let a = ends.reading none c.requires.reading in let b = w.in-Conflict.is in absurd cc) _ k o ends.over ends.ended
-          w.in-Conflict.conflict _ w.in-Conflict.is)
+          w.in-Conflict.found _ w.in-Conflict.is)
     ]

@@ -37,11 +37,11 @@ returns-clause-tries c =
     elim c.match-ended.branch [
       | in-Committed w ↦ subst outcomes (sym w.outcome-is) (done w.in-Committed.number w.in-Committed.is)
       | in-Conflict w ↦
-          let met = met_is l stage over lent cs w.in-Conflict.conflict c.place-place.result w.met.result w.met.ensures
+          let met = met_is l stage over lent cs w.in-Conflict.found c.place-place.result w.conflict.result w.conflict.ensures
           c.place-place.ensures.value in
           let mapped = void_mapped w.in-Conflict.drawn w.void_record.result w.void_record.ensures in
-          subst outcomes (sym (w.outcome-is ∙ (λ j. (conflict_of (met j), mapped j))))
-          (conflicts l stage over lent cs _ k o ends.over ends.ended w.in-Conflict.conflict w.in-Conflict.drawn c.requires.writes
+          subst outcomes (sym (w.outcome-is ∙ (λ j. (met j, mapped j))))
+          (conflicts l stage over lent cs _ k o ends.over ends.ended w.in-Conflict.found w.in-Conflict.drawn c.requires.writes
           c.requires.edit
           w.in-Conflict.is)
       | in-NumbersUsed w ↦ subst outcomes (sym w.outcome-is) (used l stage over lent cs _ k o ends.over ends.ended w.in-NumbersUsed.is)
@@ -56,7 +56,7 @@ returns-clause-stored c =
     let outcomes = λ (x : Outcome × Option Record). EndsStored (carried_by l) c.end-kit.result.0 x.0 in
     elim c.match-ended.branch [
       | in-Committed w ↦ subst outcomes (sym w.outcome-is) (e.taken, left _ w.in-Committed.is)
-      | in-Conflict w ↦ subst outcomes (sym w.outcome-is) (e.taken, left _ w.in-Conflict.is)
+      | in-Conflict w ↦ subst outcomes (sym (w.outcome-is ∙ (λ j. (w.conflict.ensures j, w.void_record.result)))) (e.taken, left _ w.in-Conflict.is)
       | in-NumbersUsed w ↦ subst outcomes (sym w.outcome-is) (e.taken, left _ w.in-NumbersUsed.is)
     ]
 
@@ -79,10 +79,10 @@ returns-clause-within c =
     elim c.match-ended.branch [
       | in-Committed w ↦ subst outcomes (sym (ap told w.outcome-is)) (done w.in-Committed.number w.in-Committed.is)
       | in-Conflict w ↦
-          let met = met_is l stage over lent cs w.in-Conflict.conflict c.place-place.result w.met.result w.met.ensures
+          let met = met_is l stage over lent cs w.in-Conflict.found c.place-place.result w.conflict.result w.conflict.ensures
           c.place-place.ensures.value in
-          subst outcomes (sym (ap told w.outcome-is ∙ ap conflict_of met))
-          (conflict_within l stage over lent cs c.requires.asks (λ none. c.requires.keeps) _ k o ends.over ends.ended w.in-Conflict.conflict
+          subst outcomes (sym (ap told w.outcome-is ∙ met))
+          (conflict_within l stage over lent cs c.requires.asks (λ none. c.requires.keeps) _ k o ends.over ends.ended w.in-Conflict.found
           w.in-Conflict.drawn w.in-Conflict.is)
       | in-NumbersUsed w ↦ subst outcomes (sym (ap told w.outcome-is))
           (used_within l stage over lent cs c.requires.asks (λ none. c.requires.keeps) _ k o ends.over ends.ended w.in-NumbersUsed.is)

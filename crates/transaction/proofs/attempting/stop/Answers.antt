@@ -1,9 +1,8 @@
 use Rattle.std.proofs.Common.{◌≡◌, ℕ, None, sym, ap, subst, ◌∙◌}
 use Rattle.lending.specs.Lent.{Pass}
 use Rattle.transaction.specs.declared.outcome.Outcome.{Outcome}
-use Rattle.transaction.specs.declared.outcome.Outcome.TheVariants as outcome
 use Rattle.transaction.specs.Tries.{Tries, StoresNothing, EndsStored, EndsWithin, carried_by}
-use Rattle.transaction.proofs.Ended.{met_at}
+use Rattle.transaction.specs.Meeting.{met_at, conflict_of}
 use Rattle.transaction.proofs.Committing.{told_of, gives_up}
 use Rattle.transaction.proofs.Meeting.{given_up_within}
 use Rattle.transaction.proofs.attempting.stop.Goals as goal
@@ -19,8 +18,8 @@ returns-clause-tries c =
     let ended = c.give_up-kit.ensures in
     let is : c.match-why.outcome ≡ told_of l.going.place why = elim c.match-why.branch [
       | in-Conflict w ↦
-          let met = w.met.ensures ∙ ap (λ (p : ℕ). met_at p w.in-Conflict.found) place in
-          w.outcome-is ∙ ap conflict_of met ∙ ap (told_of l.going.place) (sym w.in-Conflict.is)
+          let met = w.conflict-outcome.ensures ∙ ap (λ (p : ℕ). conflict_of (met_at p w.in-Conflict.found)) place in
+          w.outcome-is ∙ met ∙ ap (told_of l.going.place) (sym w.in-Conflict.is)
       | in-StoreFull w ↦ w.outcome-is ∙ ap (told_of l.going.place) (sym w.in-StoreFull.is)
       | in-NoMemory w ↦ w.outcome-is ∙ ap (told_of l.going.place) (sym w.in-NoMemory.is)
     ] in
@@ -34,7 +33,7 @@ returns-clause-stored c =
     (ap (λ (k : Pass). k.taken) c.give_up-kit.ensures.kit, c.give_up-kit.ensures.staged) in
     let outcomes = EndsStored (carried_by c.args.live.run) c.give_up-kit.result.0 in
     elim c.match-why.branch [
-      | in-Conflict w ↦ subst outcomes (sym w.outcome-is) kept
+      | in-Conflict w ↦ subst outcomes (sym (w.outcome-is ∙ w.conflict-outcome.ensures)) kept
       | in-StoreFull w ↦ subst outcomes (sym w.outcome-is) kept
       | in-NoMemory w ↦ subst outcomes (sym w.outcome-is) kept
     ]
@@ -49,8 +48,8 @@ returns-clause-within c =
     let ended = c.give_up-kit.ensures in
     let is : c.match-why.outcome ≡ told_of l.going.place why = elim c.match-why.branch [
       | in-Conflict w ↦
-          let met = w.met.ensures ∙ ap (λ (p : ℕ). met_at p w.in-Conflict.found) place in
-          w.outcome-is ∙ ap conflict_of met ∙ ap (told_of l.going.place) (sym w.in-Conflict.is)
+          let met = w.conflict-outcome.ensures ∙ ap (λ (p : ℕ). conflict_of (met_at p w.in-Conflict.found)) place in
+          w.outcome-is ∙ met ∙ ap (told_of l.going.place) (sym w.in-Conflict.is)
       | in-StoreFull w ↦ w.outcome-is ∙ ap (told_of l.going.place) (sym w.in-StoreFull.is)
       | in-NoMemory w ↦ w.outcome-is ∙ ap (told_of l.going.place) (sym w.in-NoMemory.is)
     ] in

@@ -4,10 +4,8 @@ use Rattle.tlwords.specs.declared.outcome.Outcome.{Outcome as Answer}
 use Rattle.tlwords.specs.declared.outcome.Outcome.TheVariants as ends
 use Rattle.lawful.specs.declared.notes.Note.TheVariants.{Looked}
 use Rattle.lending.specs.Ends.{IsLawfulWith, staged_after}
-use Rattle.transaction.specs.Meeting.{Met}
-use Rattle.transaction.specs.declared.outcome.Look.TheVariants as look
+use Rattle.transaction.specs.Meeting.{met_at, look_met}
 use Rattle.transaction.specs.Looks.{Sees}
-use Rattle.transaction.proofs.Ended.{met_at}
 use Rattle.transaction.proofs.Looked.{look_later, sees_read, sees_conflict}
 use Rattle.transaction.proofs.looking.show.Goals as goal
 use Rattle.transaction.proofs.looking.show.Goals.{in-Read, in-Conflict}
@@ -35,9 +33,9 @@ returns-clause-sees c =
     elim c.match-ended.branch [
       | in-Read w ↦ subst (Sees run.began new) (sym w.seen-is) (is_read w.in-Read.place w.in-Read.is)
       | in-Conflict w ↦
-          let found = w.in-Conflict.conflict in
-          let met = w.met.ensures ∙ ap (λ (p : ℕ). met_at p found) c.place-place.ensures.value in
-          subst (Sees run.began new) (sym (w.seen-is ∙ ap (λ (m : Met). look.Conflict m) met))
+          let found = w.in-Conflict.found in
+          let met = w.look_conflict-seen.ensures ∙ ap (λ (p : ℕ). look_met (met_at p found)) c.place-place.ensures.value in
+          subst (Sees run.began new) (sym (w.seen-is ∙ met))
           (sees_conflict run lending.0 lending.1 lending.2 (Looked c.of.result) new c.end-kit.result.1
           c.end-kit.ensures.over (λ none. c.end-kit.ensures.reading none c.requires.reading) c.end-kit.ensures.ended
           found _ c.requires.reading w.in-Conflict.is)

@@ -1,10 +1,10 @@
 use Rattle.std.proofs.Common.{◌≡◌, ℕ, sym, ap, subst, ◌∙◌}
 use Rattle.lending.specs.Lent.{Pass}
 use Rattle.transaction.specs.declared.outcome.Look.{Look}
-use Rattle.transaction.specs.declared.outcome.Look.TheVariants as look
+use Rattle.transaction.specs.Meeting.{met_at, look_met}
 use Rattle.transaction.specs.Looks.{Sees}
 use Rattle.transaction.specs.Tries.{IsLaterPass}
-use Rattle.transaction.proofs.Ended.{met_at, is_later}
+use Rattle.transaction.proofs.Ended.{is_later}
 use Rattle.transaction.proofs.Looked.{told_of, told_none, sees_stopped}
 use Rattle.transaction.proofs.looking.stop.Goals as goal
 use Rattle.transaction.proofs.looking.stop.Goals.{in-Conflict, in-StoreFull}
@@ -24,8 +24,8 @@ returns-clause-sees c =
     let ended = c.give_up-kit.ensures in
     let is : c.match-why.seen ≡ told_of l.going.place why = elim c.match-why.branch [
       | in-Conflict w ↦
-          let met = w.met.ensures ∙ ap (λ (p : ℕ). met_at p w.in-Conflict.found) place in
-          w.seen-is ∙ ap look_met met ∙ ap (told_of l.going.place) (sym w.in-Conflict.is)
+          let met = w.look_conflict-seen.ensures ∙ ap (λ (p : ℕ). look_met (met_at p w.in-Conflict.found)) place in
+          w.seen-is ∙ met ∙ ap (told_of l.going.place) (sym w.in-Conflict.is)
       | in-StoreFull w ↦ w.seen-is ∙ sym (told_none l.going.place why w.in-StoreFull.is)
     ] in
     subst (λ (k : Pass). Sees l.began k c.match-why.seen) (sym ended.kit)

@@ -1,7 +1,7 @@
 use Rattle.std.proofs.lemmas.Result.{err_from_is_err_and}
 use Rattle.transaction.specs.Closings.{lists_of}
 use Rattle.editing.proofs.Leaving.{handed_on, leaves, lacks, unrun}
-use Rattle.editing.proofs.editing.edit_all.Goals as goal
+use Rattle.editing.proofs.editing.run_to_end.Goals as goal
 
 pub finish-requires : goal.finish-requires
 finish-requires g c =
