@@ -71,7 +71,8 @@ module _ (setting : Setting) (values store : List ℕ) (old new : PlainCells)
         let roomy = new.roomy in
         let short : length new.store.items ≤ most_words = omega (arith, stored, roomy) in
         record {
-          matches = plain_matches (cells_setting new) new.room new.values.items new.log.items new.store.items new.ranges.items short;
+          matches = plain_matches (cells_setting new) new.room new.values.items new.log.items new.store.items new.ranges.items new.full
+              short;
           shows = subst (λ (st : State). Shows new.slots st lib) (sym after_is)
               (subst (λ (s : Setting). Shows s.slots (now_state new) lib) (sym setting_is) now_shows);
           verifies = subst (λ (s : Setting). Verifies s lib) (sym setting_is) verifies;

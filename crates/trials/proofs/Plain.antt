@@ -48,8 +48,9 @@ pub begun_shows : (c : PlainCells) → c.log.items ≡ [] → ShowsSomeNow c
 begun_shows c none =
     ∥∥₁_map c.began (λ b. (
       b.0,
-      subst (λ (log : Pairs). Shows c.slots (plain_state (undone c.values.items log) c.store.items c.ranges.items) b.0) none b.1.shows,
-      b.1.verifies,
+      subst (λ (log : Pairs). Shows c.slots (plain_state (undone c.values.items log) c.store.items c.ranges.items) b.0) none
+          (b.1 c.full).shows,
+      (b.1 c.full).verifies,
     ))
 
 -- a database that opened in cells is shown as its opening library
