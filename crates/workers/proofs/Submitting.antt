@@ -149,7 +149,7 @@ module _ (g : Given) (h : List Entry) where
       let last = slice_get_within h told.0 (done_entry cs replies) told.2 in let is = told.1 in omega arith
   behind_within cs (outcome.Read at replies) place told within = told.0
   behind_within cs (outcome.Refused at index reason) place told within = told.0
-  behind_within cs (outcome.Conflict place cell word before) place told within = within
+  behind_within cs (outcome.Conflict at cell word before) place told within = within
   behind_within cs outcome.StoreFull place told within = within
   behind_within cs outcome.NumbersUsed place told within = within
   behind_within cs outcome.TooManyCommands place told within = within
@@ -195,7 +195,7 @@ gained_behind : (cs : List Command) (old new : Pass) (o : Outcome) (place : ℕ)
 gained_behind cs old new (outcome.Committed number replies) place g seen = let further = g.1 in omega arith
 gained_behind cs old new (outcome.Read at replies) place g seen = let further = g.1 in omega arith
 gained_behind cs old new (outcome.Refused at index reason) place g seen = let further = g.0 in omega arith
-gained_behind cs old new (outcome.Conflict place cell word before) place g seen = tt
+gained_behind cs old new (outcome.Conflict at cell word before) place g seen = tt
 gained_behind cs old new outcome.StoreFull place g seen = tt
 gained_behind cs old new outcome.NumbersUsed place g seen = tt
 gained_behind cs old new outcome.TooManyCommands place g seen = tt
