@@ -166,7 +166,8 @@ edit_verifies s lib (Delete label) e v fits h =
     found_kept s (found lib label) (λ f. tested ts next) e
     (λ f here. edit_kept s ts next e (λ t. delete_kept s lib label v t.0)) h
 edit_verifies s lib (Show label) e v fits h =
-    found_kept s (found lib label) (λ f. Ok (shown lib f)) e (λ f here. shown_kept s lib (Shown f.rank (citers lib (label_of f)) f.assertion) e v) h
+    found_kept s (found lib label) (λ f. Ok (shown lib f)) e
+    (λ f here. shown_kept s lib (Shown f.rank (citers lib (label_of f)) f.assertion) e v) h
 edit_verifies s lib ListAll e v fits h = shown_kept s lib (Listed (map (listing_line lib) (in_export_order lib))) e v h
 
 -- ---- transactions

@@ -36,4 +36,5 @@ returns c =
     known_label i.places d.entries w p e _ own
     ∙ ap (λ (k : List ℕ). Ok (record { library = lib; reply = Shown e.rank (citers lib k) e.assertion })) own.labelled
     ∙ ap (λ (n : ℕ). Ok (record { library = lib; reply = Shown e.rank n e.assertion })) (sym count)
-    ∙ ap (λ (x : Assertion). Ok (record { library = lib; reply = Shown e.rank c.count_citers-citers.result x })) (sym c.in_ok-assertion.ensures)
+    ∙ ap (λ (x : Assertion). Ok (record { library = lib; reply = Shown e.rank c.count_citers-citers.result x }))
+    (sym c.in_ok-assertion.ensures)
