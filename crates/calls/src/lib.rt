@@ -1,11 +1,11 @@
 //! Calls that no row makes: the crate has nothing else.
 //!
-//! What a contract says holds of every call, so few calls are left: frames, substitution, lines of assertions and copies; bodies in words
-//! and libraries in cells, by their layout, and which cells a command reads and writes; an export to a writer that fails; workers on
-//! threads, and gates that wait; and each call whose only error is want of memory, once with ample memory, since no clause says that memory
-//! is there. Texts, runs of scripts and replays are command lines of `workbench`, runs that meet on one thread rows of `wordrows`, and what
-//! sessions do on one thread is in rows of `trials`, all of which cost no proof. What calls answer where memory is refused is in `memory`
-//! and `again`, for `tools/refuse-memory`.
+//! What a contract says holds of every call, so few calls are left: frames, substitution, lines of assertions, copies, and scripts of one
+//! editor; bodies in words and libraries in cells, by their layout, and which cells a command reads and writes; an export to a writer that
+//! fails; workers on threads, and gates that wait; and each call whose only error is want of memory, once with ample memory, since no clause
+//! says that memory is there. Texts, runs of scripts and replays are command lines of `workbench`, runs that meet on one thread rows of
+//! `wordrows`, and what sessions do on one thread is in rows of `trials`, all of which cost no proof. What calls answer where memory is
+//! refused is in `memory` and `again`, for `tools/refuse-memory`.
 #![tactic(auto)]
 
 // for all
@@ -15,6 +15,7 @@ mod sessions;
 
 // on values
 mod copies;
+mod editing;
 mod values;
 
 // on cells
@@ -37,7 +38,7 @@ use std::sync::Wait;
 use std::test::Fail;
 use std::thread::Threads;
 
-/// The calls on frames, substitution, lines of assertions, and copies.
+/// The calls on frames, substitution, lines of assertions, copies, and scripts of one editor.
 fn make_on_values(
     rt: &(impl AllocGlobal + RandomSource + Threads + Sync),
     name: &str,
@@ -47,6 +48,7 @@ fn make_on_values(
         "a_line_is_read_and_written" => values::is_read_and_written(rt),
         "a_variable_is_replaced" => values::is_replaced(rt.alloc()),
         "a_prelude_and_a_theorem_are_copied" => values::are_copied(rt),
+        "one_editor_runs_scripts" => editing::are_scripts_run(rt),
         "each_command_is_copied" => copies::are_commands_copied(rt),
         "each_reply_and_the_library_behind_it_are_copied" => copies::are_replies_copied(rt),
         _ => Err(Fail::from("there are no calls of this name")),
