@@ -1,11 +1,11 @@
 //! Calls that no row makes: the crate has nothing else.
 //!
 //! What a contract says holds of every call, so few calls are left: frames, substitution, lines of assertions, copies, and scripts of one
-//! editor; bodies in words and libraries in cells, by their layout, and which cells a command reads and writes; an export to a writer that
-//! fails; workers on threads, and gates that wait; and each call whose only error is want of memory, once with ample memory, since no clause
-//! says that memory is there. Texts, runs of scripts and replays are command lines of `workbench`, runs that meet on one thread rows of
-//! `wordrows`, and what sessions do on one thread is in rows of `trials`, all of which cost no proof. What calls answer where memory is
-//! refused is in `memory` and `again`, for `tools/refuse-memory`.
+//! editor; bodies in words and libraries in cells, by their layout, and which cells a command reads and writes; an export to a writer
+//! that fails; workers on threads, and gates that wait; and each call whose only error is want of memory, once with ample memory, since
+//! no clause says that memory is there. Texts, runs of scripts and replays are command lines of `workbench`, runs that meet on one thread
+//! rows of `wordrows`, and what sessions do on one thread is in rows of `trials`, all of which cost no proof. What calls answer where
+//! memory is refused is in `memory` and `again`, for `tools/refuse-memory`.
 #![tactic(auto)]
 
 // for all

@@ -18,7 +18,8 @@ use Rattle.plainediting.proofs.Histories.{after_all-append, legal_append}
 
 -- what is committed was not refused, and has these replies
 committed_has : (too_many edits : Bool) (n : ℕ) (r : Result Applied Refusal) (number : ℕ) (replies : List Reply)
-    → outcome.Committed number replies ≡ outcome_of too_many edits n r → (next : List Ranked) × (r ≡ Ok (record { library = next; replies = replies }))
+    → outcome.Committed number replies ≡ outcome_of too_many edits n r
+    → (next : List Ranked) × (r ≡ Ok (record { library = next; replies = replies }))
 committed_has true edits n r number replies h = let no : ⊥ = cc in absurd no
 committed_has false true n (Err refused) number replies h = let no : ⊥ = cc in absurd no
 committed_has false false n (Err refused) number replies h = let no : ⊥ = cc in absurd no
@@ -75,8 +76,8 @@ module _ (s : Setting) where
   -- each has its outcome over the library after the history of those before it
   pub in_order : (lib : List Ranked) (n : ℕ) (xs : List (List Command)) (os : List Outcome) → HaveOutcomes s lib n xs os
       → (i : ℕ) (cs : List Command) → slice_get xs i ≡ Some cs
-      → slice_get os i
-      ≡ Some (outcome_over s (after_all s lib (history_after (take i xs) (take i os))) (n + length (history_after (take i xs) (take i os))) cs)
+      → let own = history_after (take i xs) (take i os) in
+      slice_get os i ≡ Some (outcome_over s (after_all s lib own) (n + length own) cs)
   in_order lib n [] [] h i cs is = cc
   in_order lib n [] (o ∷ os) h i cs is = absurd h
   in_order lib n (x ∷ xs) [] h i cs is = absurd h

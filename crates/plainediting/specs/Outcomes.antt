@@ -57,8 +57,8 @@ HasAsMany script outcomes = length outcomes ≡ length script
 abbrev pub joined : {A : Type 0} → List (List A) → List A
 joined rows = flat_map (λ row. row) rows
 
--- scripts were done by one editor from the opening of a database: each has one outcome for each of its transactions; the transactions of all
--- scripts, one after another, have their outcomes in order; and the library is the one after their history, in export order
+-- scripts were done by one editor from the opening of a database: each has one outcome for each of its transactions; the transactions of
+-- all scripts, one after another, have their outcomes in order; and the library is the one after their history, in export order
 pub record IsEditedInOrder (db : Contents) (scripts : List (List (List Command))) (rows : List (List Outcome)) (library : Listed)
     : Type 0 where
   pub each : AllZip HasAsMany scripts rows

@@ -1,5 +1,5 @@
-//! Scripts done by one editor, one after another: what becomes of each transaction, and the library after all of them. No session, no thread
-//! and no shared words take part.
+//! Scripts done by one editor, one after another: what becomes of each transaction, and the library after all of them. No session, no
+//! thread and no shared words take part.
 //!
 //! The library after a script is written as a text:
 //!

@@ -46,8 +46,8 @@ abbrev pub IsPrinted : Bytes → List Event → ℕ → Type 0
 IsPrinted out es status =
     ((es ≡ prints out true ∷ []) × (status ≡ 0)) ⊎ ((es ≡ prints out false ∷ says (codes "cannot write") ∷ []) × (status ≡ 1))
 
--- a history is written to its file, and then the text is printed; or that file can't be written, or memory runs out as it is, which is said,
--- the status is 1, and nothing is printed
+-- a history is written to its file, and then the text is printed; or that file can't be written, or memory runs out as it is, which is
+-- said, the status is 1, and nothing is printed
 abbrev pub IsWritten : Option Bytes → Bytes → Bytes → List Event → ℕ → Type 0
 IsWritten None history out es status = IsPrinted out es status
 IsWritten (Some path) history out es status =
