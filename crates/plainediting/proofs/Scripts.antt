@@ -21,7 +21,8 @@ joined_push xs x = flat_map_more (λ row. row) [] xs x
 -- the next script, behind the first ones
 pub script_next : (db : Contents) (scripts : List (List (List Command))) (i : ℕ) (rows more : List (List Outcome))
     (x script : List (List Command)) (row : List Outcome) (b c : Desk) → i < length scripts → x ≡ get_or scripts i x → script ≡ x
-    → more ≡ rows ++ row ∷ [] → AllZip HasAsMany (take i scripts) rows → DoesAll (first_desk db) (joined (take i scripts)) (joined rows) b → DoesAll b script row c
+    → more ≡ rows ++ row ∷ [] → AllZip HasAsMany (take i scripts) rows
+    → DoesAll (first_desk db) (joined (take i scripts)) (joined rows) b → DoesAll b script row c
     → AllZip HasAsMany (take (i + 1) scripts) more × DoesAll (first_desk db) (joined (take (i + 1) scripts)) (joined more) c
 script_next db scripts i rows more x script row b c lt at same pushed each all next =
     let first = first_desk db in
