@@ -190,7 +190,7 @@ module _ (t : Tables) (sound : IsSoundPrelude t) where
       record { words = words; spelled = refl; told = set_in_by_two (line words) words told }
   reply_retold (reply.Shown rank citers a) ws h s =
       let all = subst (AllByRecursion IsWritten) s.6 h in
-      let rank = subst IsWritten s.3.digits all.1.0 in
+      let numeral = subst IsWritten s.3.digits all.1.0 in
       let number = subst IsWritten s.4.digits all.1.1.0 in
       let unit = unit_retold t s.2 a sound all.1.1.1 s.5 in
       let shown = unit_statement t a in
@@ -208,7 +208,7 @@ module _ (t : Tables) (sound : IsSoundPrelude t) where
           refl,
         );
         told = set_in_by_two (line first ++ lines) (first ++ spelling shown)
-            (told_append (line first) lines first (spelling shown) (told_line first (all.0, (rank, (number, tt))))
+            (told_append (line first) lines first (spelling shown) (told_line first (all.0, (numeral, (number, tt))))
             (told_set_in (assertion_text t a) (spelling shown) unit.told));
       }
   reply_retold (reply.Listed lines) ws h s =

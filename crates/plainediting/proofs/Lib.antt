@@ -1,0 +1,5 @@
+mod Histories
+mod Outcomes
+mod Taking
+mod Doing
+mod Scripts
