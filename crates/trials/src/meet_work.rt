@@ -26,7 +26,10 @@ fn put_try(out: &mut Written, place: (usize, usize), outcome: &Outcome) -> bool 
     let (s, t) = place;
     match outcome {
         Outcome::Conflict {
-            place, cell, word, ..
+            place,
+            cell,
+            word,
+            ..
         } => {
             out.show(format_args!("{s}.{t} met {cell} {word} {place}\n"));
             true

@@ -116,9 +116,7 @@ fn edit(alloc: Global, out: &mut Written, editor: &mut Editor, commands: &[Comma
 fn write(alloc: Global, out: &mut Written, cells: &mut InCells, commands: &[Command]) {
     match cells.apply(alloc, commands) {
         Ok(replies) => put_replies(alloc, out, cells.prelude(), replies.as_slice()),
-        Err(RunError::Refused(refused)) => {
-            put_refusal(out, 0, refused.index, refused.reason)
-        }
+        Err(RunError::Refused(refused)) => { put_refusal(out, 0, refused.index, refused.reason) }
         Err(_) => out.is_short = true,
     }
 }
