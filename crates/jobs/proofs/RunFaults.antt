@@ -50,7 +50,7 @@ module _ (db : Bytes) (texts : List Bytes) (workers : ℕ) (room : Room) (conten
 
   pub run_done : (asked : Bool) (r : Result Printed Fault)
       → IfOk r (λ p. PrintsRun contents workers room asked scripts p.out.items p.history.items)
-      → IfOk r (λ p. IsRun db texts workers room p.out.items p.history.items)
+      → IfOk r (λ p. IsRun db texts workers room asked p.out.items p.history.items)
   run_done asked (Ok printed) h = record { contents = contents; checked = checked; scripts = scripts; ordered = ordered; printed = h }
   run_done asked (Err f) h = h
 
