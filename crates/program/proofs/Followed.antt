@@ -18,13 +18,11 @@ use Rattle.commandline.specs.Orders.{IsOrder}
 use Rattle.program.specs.Conduct.{EndsBy, IsAnswer, IsAnswered, IsFollowed, IsJobAnswered, IsMatched, IsObeyed, IsShown, IsStopped, IsTold, IsUnread, IsUnreadTold, reads_of}
 use Rattle.program.proofs.Behind.{EndsBy-behind, EndsBy-weaker, are_quiet, quiet_nothing}
 
-pub job_answered : {E : Type 0} (paths shown : List Bytes) (history : Option Bytes) (options : RunOptions) (job : Job) (told : Answered)
-    (es : List Event) (r : Result ℕ E)
-    → shown ≡ paths → IsAnswer shown options job told → EndsBy (IsTold history told) es r
-    → EndsBy (IsJobAnswered paths history options job) es r
-job_answered paths shown history options job told es r same answer ends =
-    EndsBy-weaker (IsTold history told) (IsJobAnswered paths history options job) es r
-    (λ status is. (told, subst (λ (ps : List Bytes). IsAnswer ps options job told) same answer, is)) ends
+pub job_answered : (paths shown : List Bytes) (history : Option Bytes) (options : RunOptions) (job : Job) (told : Answered)
+    (es : List Event) (status : ℕ)
+    → shown ≡ paths → IsAnswer shown options job told → IsTold history told es status → IsJobAnswered paths history options job es status
+job_answered paths shown history options job told es status same answer is =
+    (told, subst (λ (ps : List Bytes). IsAnswer ps options job told) same answer, is)
 
 pub texts_answered : {E : Type 0} (keyed : Bool) (task : Task) (paths : List Bytes) (history : Option Bytes) (texts : List Bytes)
     (job : Job) (options : RunOptions) (es : List Event)

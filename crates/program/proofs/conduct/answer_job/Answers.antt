@@ -1,4 +1,4 @@
-use Rattle.std.proofs.Common.{ap, ℕ, List, Bor, Ok, map, option_map}
+use Rattle.std.proofs.Common.{ap, ℕ, List, Bor, map, option_map}
 use Rattle.program.proofs.Followed.{job_answered}
 use Rattle.program.proofs.conduct.answer_job.Goals as goal
 
@@ -10,6 +10,6 @@ returns-in-Ok g c =
     let answer = c.in-Ok.ensures in (
       told.0,
       told.1,
-      job_answered _ _ history c.args.options c.args.job.now c.in-Ok.told told.0 (Ok c.tell.result) same
+      job_answered _ _ history c.args.options c.args.job.now c.in-Ok.told told.0 c.tell.result same
           (record { answers = answer.answers; refused = answer.refused; own = answer.own }) told.2,
     )
