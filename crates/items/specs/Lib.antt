@@ -1,0 +1,6 @@
+pub mod Items
+pub mod Renaming
+pub mod Layout
+pub mod Reading
+pub mod Machine
+pub mod Rewriting

@@ -1,0 +1,9 @@
+//! A source as its items, in order: comments, marks of blocks and statements, each with its bytes; and these with changed labels.
+#![tactic(auto)]
+
+mod comments;
+mod part;
+mod place;
+mod reading;
+
+pub use reading::{Item, Kind, read_item};

@@ -1,0 +1,76 @@
+//! A place among the words of an item, in a comment or outside of them, and how the next word reads with changed labels.
+
+ghost use Rattle.std.specs.Prelude.{◌≡◌, None, Some};
+ghost use Rattle.items.specs.Machine.{TakesWord};
+
+use crate::comments::Standing;
+use crate::part::Part;
+use giving::Changes;
+
+/// Before a word of an item.
+#[derive(Clone, Copy)]
+pub(crate) struct Place {
+    /// Where the words of the comment stand that is open, if one is.
+    pub comment: Option<Standing>,
+    /// The part of the statement that is next outside of comments.
+    pub part: Part,
+}
+
+impl Place {
+    /// At the beginning of an item, of which this part is next.
+    pub(crate) fn at(part: Part) -> Place
+        ensures comment { result.comment ≡ None }
+        ensures part { result.part ≡ part }
+    {
+        Place {
+            comment: None,
+            part,
+        }
+    }
+
+    /// A word of a comment as it reads then, and the place behind it.
+    fn take_in<'w>(
+        self,
+        changes: &'w Changes<'_>,
+        standing: Standing,
+        word: &'w [u8],
+    ) -> (&'w [u8], Place)
+        requires { self.comment ≡ Some standing }
+        ensures { TakesWord changes.now self word.now result.0.now result.1 }
+    {
+        if word == b"$)".as_slice() {
+            return (word, Place::at(self.part));
+        }
+        let place = Place {
+            comment: Some(standing.behind(word)),
+            part: self.part,
+        };
+        (standing.word_then(changes, word), place)
+    }
+
+    /// A word outside of comments as it reads then, and the place behind it.
+    fn take_outside<'w>(self, changes: &'w Changes<'_>, word: &'w [u8]) -> (&'w [u8], Place)
+        requires { self.comment ≡ None }
+        ensures { TakesWord changes.now self word.now result.0.now result.1 }
+    {
+        if word == b"$(".as_slice() {
+            let place = Place {
+                comment: Some(Standing::at_first()),
+                part: self.part,
+            };
+            return (word, place);
+        }
+        let (now, part) = self.part.take(changes, word);
+        (now, Place::at(part))
+    }
+
+    /// The next word as it reads then, and the place behind it.
+    pub(crate) fn take<'w>(self, changes: &'w Changes<'_>, word: &'w [u8]) -> (&'w [u8], Place)
+        ensures { TakesWord changes.now self word.now result.0.now result.1 }
+    {
+        match self.comment {
+            Some(standing) => self.take_in(changes, standing, word),
+            None => self.take_outside(changes, word),
+        }
+    }
+}
