@@ -1,2 +1,9 @@
 mod Across
 mod Placed
+mod Standing
+mod Commented
+mod Passed
+mod Kinded
+mod Reworded
+mod Places
+mod Stated

@@ -1,5 +1,5 @@
 -- A source as its items, in order: comments, marks of blocks, and statements, each with its bytes (Metamath book, sections 4.1.1, 4.1.2, 4.2).
-use Rattle.std.specs.Prelude.{◌≡◌, ◌⊎◌, ℕ, Bool, true, false, List, [], ◌∷◌, ◌++◌, map, All, IsFalse, if◌then◌else◌, codes, take, ◌||◌}
+use Rattle.std.specs.Prelude.{◌≡◌, ◌⊎◌, ℕ, Bool, true, false, List, [], ◌∷◌, ◌++◌, map, All, if◌then◌else◌, codes, take, ◌||◌}
 use Rattle.std.specs.List.{flat_map, list_any}
 use mathlib.Core.Bool.{not}
 use Rattle.std.specs.Str.{bytes_eq}
@@ -50,7 +50,7 @@ said x = outside false (words x)
 pub record IsComment (x : Item) : Type 0 where
   pub body : List Word
   pub whole : words x ≡ codes "$(" ∷ (body ++ codes "$)" ∷ [])
-  pub inside : IsFalse (list_any (bytes_eq (codes "$)")) body)
+  pub inside : list_any (λ w. bytes_eq w (codes "$)")) body ≡ false
 
 -- ${ or $} (section 4.2.8)
 abbrev pub IsMark : Item → Type 0
@@ -64,9 +64,9 @@ ends_statement w = list_any (bytes_eq w) (codes "$." ∷ codes "${" ∷ codes "$
 pub record IsStatement (x : Item) : Type 0 where
   pub front : List Word
   pub whole : words x ≡ front ++ codes "$." ∷ []
-  pub begins : IsFalse (list_any (bytes_eq (codes "$(")) (take 1 front))
-  pub closed : IsFalse (is_open_behind false front)
-  pub inside : IsFalse (list_any ends_statement (outside false front))
+  pub begins : list_any (λ w. bytes_eq w (codes "$(")) (take 1 front) ≡ false
+  pub closed : is_open_behind false front ≡ false
+  pub inside : list_any ends_statement (outside false front) ≡ false
 
 abbrev pub IsItem : Item → Type 0
 IsItem x = IsComment x ⊎ (IsMark x ⊎ IsStatement x)

@@ -1,6 +1,6 @@
 -- Of the code's inside, apart from the rules: items at places of a text.
 use Rattle.std.specs.Prelude.{◌≡◌, ◌≢◌, ◌<◌, ◌≤◌, ◌+◌, ℕ, Bool, false, List, [], ◌∷◌, ◌++◌, length, drop, slice_range, Option, Some, None}
-use Rattle.std.specs.Prelude.{IsFalse, codes}
+use Rattle.std.specs.Prelude.{codes}
 use Rattle.std.specs.List.{list_any}
 use Rattle.std.specs.Str.{bytes_eq}
 use Rattle.mmtext.specs.Words.{Word}
@@ -9,6 +9,7 @@ use Rattle.items.specs.declared.reading.Kind.{Kind}
 use Rattle.items.specs.declared.reading.Kind.TheVariants.{Comment, Opening, Closing, Assertion, Other}
 use Rattle.items.specs.declared.reading.Item.{Item as Found}
 use Rattle.items.specs.Items.{Piece, Item, words, outside, is_open_behind, ends_statement, asserts, label_of, IsComment, IsStatement}
+use Rattle.items.specs.Rewriting.{IsUpToProof}
 
 -- the tokens from a place of a text on
 abbrev pub tokens_at : List ℕ → ℕ → List Token
@@ -37,7 +38,7 @@ pub record IsCommentTo (text : List ℕ) (from end : ℕ) : Type 0 where
   pub stands : Stands text from left end
   pub body : List Word
   pub whole : words left ≡ body ++ codes "$)" ∷ []
-  pub inside : IsFalse (list_any (bytes_eq (codes "$)")) body)
+  pub inside : list_any (λ w. bytes_eq w (codes "$)")) body ≡ false
 
 -- the first of some words is $a or $p
 abbrev pub first_asserts : List Word → Bool
@@ -50,8 +51,8 @@ pub record IsStatementTo (text : List ℕ) (from end : ℕ) (is_assertion : Bool
   pub stands : Stands text from left end
   pub front : List Word
   pub whole : words left ≡ front ++ codes "$." ∷ []
-  pub closed : IsFalse (is_open_behind false front)
-  pub inside : IsFalse (list_any ends_statement (outside false front))
+  pub closed : is_open_behind false front ≡ false
+  pub inside : list_any ends_statement (outside false front) ≡ false
   pub asserts : first_asserts (outside false front) ≡ is_assertion
 
 -- an item is of a kind
@@ -59,7 +60,7 @@ abbrev pub IsOfKind : Kind → Item → Type 0
 IsOfKind Comment x = IsComment x
 IsOfKind Opening x = words x ≡ codes "${" ∷ []
 IsOfKind Closing x = words x ≡ codes "$}" ∷ []
-IsOfKind (Assertion label) x = IsStatement x × (label_of x ≡ label.now ∷ [])
+IsOfKind (Assertion label) x = IsStatement x × (label_of x ≡ label.now ∷ []) × (bytes_eq label.now (codes "$=") ≡ false)
 IsOfKind Other x = IsStatement x × (label_of x ≡ [])
 
 -- an item stands at a place
@@ -67,3 +68,22 @@ pub record IsItemAt (text : List ℕ) (from : ℕ) (i : Found) : Type 0 where
   pub item : Item
   pub stands : Stands text from item i.end
   pub kind : IsOfKind i.kind item
+
+-- words of a statement were passed over, of which the last stands outside of comments, and none of those there passes a test
+pub record IsPassed (test : Word → Bool) (text : List ℕ) (from at : ℕ) : Type 0 where
+  pub left : Item
+  pub stands : Stands text from left at
+  pub closed : is_open_behind false (words left) ≡ false
+  pub inside : list_any test (outside false (words left)) ≡ false
+
+-- whether the first of some words is $a or $p, if there is one
+abbrev pub IsAssertingIf : List Word → Option Bool → Type 0
+IsAssertingIf ws None = ws ≡ []
+IsAssertingIf [] (Some b) = ⊥
+IsAssertingIf (w ∷ ws) (Some b) = asserts w ≡ b
+
+-- an item up to its first $= outside of comments
+pub record IsFrontTo (text : List ℕ) (from end : ℕ) : Type 0 where
+  pub front : Item
+  pub stands : Stands text from front end
+  pub is_front : IsUpToProof front

@@ -1,5 +1,5 @@
 -- The text of a source with changed labels and other proofs: what each of its items reads then.
-use Rattle.std.specs.Prelude.{◌≡◌, ◌⊎◌, ℕ, false, List, [], ◌∷◌, ◌++◌, IsFalse, IsTrue, Option, Some, None, codes, find}
+use Rattle.std.specs.Prelude.{◌≡◌, ◌⊎◌, ℕ, false, List, [], ◌∷◌, ◌++◌, Option, Some, None, codes, find}
 use Rattle.std.specs.List.{list_any, flat_map, AllZip}
 use Rattle.std.specs.Str.{bytes_eq}
 use Rattle.mmtext.specs.Words.{Word, has_dollar}
@@ -11,8 +11,8 @@ use Rattle.items.specs.Renaming.{renamed}
 pub record IsUpToProof (front : Item) : Type 0 where
   pub says : List Word
   pub whole : said front ≡ says ++ codes "$=" ∷ []
-  pub first : IsFalse (list_any (bytes_eq (codes "$=")) says)
-  pub closed : IsFalse (is_open_behind false (words front))
+  pub first : list_any (λ w. bytes_eq w (codes "$=")) says ≡ false
+  pub closed : is_open_behind false (words front) ≡ false
 
 -- a theorem with changed labels, and with this text for what stands between $= and $.
 pub record HasProofText (cs : List Change) (text : List ℕ) (x : Item) (now : List ℕ) : Type 0 where

@@ -5,5 +5,6 @@ mod comments;
 mod part;
 mod place;
 mod reading;
+mod writing;
 
 pub use reading::{Item, Kind, read_item};

@@ -3,7 +3,7 @@
 ghost use Rattle.std.specs.Prelude.{◌≡◌, ◌≢◌, ◌≤◌, ◌<◌, ℕ, length, IfSome};
 ghost use Rattle.mmtext.specs.Text.{mark_of};
 ghost use Rattle.mmtext.specs.Views.{seen};
-ghost use Rattle.mmtext.specs.declared.mark.Mark.TheVariants.{Comment, Opening, Closing, End};
+ghost use Rattle.mmtext.specs.declared.mark.Mark.TheVariants.{Comment, Opening, Closing, End, Proof};
 ghost use Rattle.items.specs.Items.{asserts};
 ghost use Rattle.items.specs.Reading.{IsItemAt, IsCommentTo, IsStatementTo, IsFirst, end_of};
 
@@ -99,7 +99,7 @@ fn read_statement<'s>(text: &[u8], first: Token<'s>, behind: usize) -> Option<It
     requires { behind ≤ length text.now }
     ensures read { (from : ℕ) → IsFirst text.now from (seen first.entry) → behind ≡ end_of (seen first.entry)
         → mark_of first.entry.text.now ≢ Comment → mark_of first.entry.text.now ≢ Opening → mark_of first.entry.text.now ≢ Closing
-        → mark_of first.entry.text.now ≢ End → IfSome result (IsItemAt text.now from) }
+        → mark_of first.entry.text.now ≢ End → mark_of first.entry.text.now ≢ Proof → IfSome result (IsItemAt text.now from) }
     ensures later { IfSome result (λ i. behind < i.end) }
     ensures within { IfSome result (λ i. i.end ≤ length text.now) }
 {
@@ -138,7 +138,7 @@ pub fn read_item(text: &[u8], from: usize) -> Option<Item<'_>>
             kind: Kind::Closing,
             end: behind,
         }),
-        Mark::End => None,
+        Mark::End | Mark::Proof => None,
         _ => read_statement(text, first, behind),
     }
 }

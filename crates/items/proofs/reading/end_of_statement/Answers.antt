@@ -1,0 +1,63 @@
+-- What is left to show of `end_of_statement`.
+use Rattle.std.proofs.Common.{◌≡◌, ◌∙◌, ◌+◌, ◌++◌, ◌∷◌, [], false, Some, length, codes, refl, sym, ap, subst, rules, arith}
+use Rattle.std.specs.Option.{unwrap_or}
+use Rattle.std.specs.Str.{bytes_eq}
+use Rattle.mmtext.specs.Views.{seen}
+use Rattle.items.specs.Items.{words, outside, ends_statement}
+use Rattle.items.specs.Reading.{IsFirst, IsStatementTo, IsAssertingIf}
+use Rattle.items.proofs.Kinded.{none_of}
+use Rattle.items.proofs.Passed.{nothing_begun, comment_begun, word_begun, statement_ends}
+use Rattle.items.proofs.reading.end_of_statement.Goals as goal
+
+pub loop-token-init : goal.loop-token-init
+loop-token-init c = record {
+  within = c.requires;
+  so_far = omega arith;
+  passed = nothing_begun c.args.text.now c.args.from;
+}
+
+pub loop-token-preserved-then-eq : goal.loop-token-preserved-then-eq
+loop-token-preserved-then-eq c =
+    let text = c.args.text.now in
+    let next = c.in-Some.ensures in
+    let t = seen c.in-Some.token in
+    let is : IsFirst text c.loop-token.at t = record { next = next.some; later = next.later; within = next.within } in
+    let opens : t.text ≡ codes "$(" = search rules in
+    let so_far = c.loop-token.invariant.so_far in
+    let end = c.in_ok-at.ensures in
+    record {
+      within = end.within;
+      so_far = omega (arith, next.later, so_far, end.later);
+      passed =
+          comment_begun text c.args.from c.loop-token.at c.loop-token.first t c.loop-token.invariant.passed is c.in_ok-at.at opens end.comment;
+    }
+
+pub returns-then-eq-2-clause-statement : goal.returns-then-eq-2-clause-statement
+returns-then-eq-2-clause-statement c =
+    let next = c.in-Some.ensures in
+    let is : c.in-Some.token.text.now ≡ codes "$." = search rules in
+    subst (IsStatementTo c.args.text.now c.args.from (c.in-Some.token.place + length c.in-Some.token.text.now))
+    (sym c.unwrap_or-asserts.ensures)
+    (statement_ends c.args.text.now c.args.from c.loop-token.at c.loop-token.first (seen c.in-Some.token) c.loop-token.invariant.passed
+    (record { next = next.some; later = next.later; within = next.within }) is)
+
+pub loop-token-preserved : goal.loop-token-preserved
+loop-token-preserved c =
+    let text = c.args.text.now in
+    let next = c.in-Some.ensures in
+    let t = seen c.in-Some.token in
+    let is : IsFirst text c.loop-token.at t = record { next = next.some; later = next.later; within = next.within } in
+    let opens : bytes_eq t.text (codes "$(") ≡ false = search rules in
+    let ends : bytes_eq t.text (codes "$.") ≡ false = search rules in
+    let opens_block : bytes_eq t.text (codes "${") ≡ false = search rules in
+    let closes_block : bytes_eq t.text (codes "$}") ≡ false = search rules in
+    let other : ends_statement t.text ≡ false =
+    none_of (bytes_eq t.text (codes "$.")) (bytes_eq t.text (codes "${")) (bytes_eq t.text (codes "$}")) ends opens_block closes_block in
+    let so_far = c.loop-token.invariant.so_far in
+    let first = c.unwrap_or.ensures ∙ ap (unwrap_or c.loop-token.first) c.asserts.ensures in
+    record {
+      within = next.within;
+      so_far = omega (arith, next.later, so_far);
+      passed =
+          word_begun text c.args.from c.loop-token.at c.loop-token.first t c.loop-token.invariant.passed is c.unwrap_or.result first opens other;
+    }

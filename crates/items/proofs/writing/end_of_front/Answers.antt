@@ -1,0 +1,56 @@
+-- What is left to show of `end_of_front`.
+use Rattle.std.proofs.Common.{◌≡◌, ◌<◌, ◌≤◌, false, length, codes, rules, arith}
+use Rattle.std.specs.Str.{bytes_eq}
+use Rattle.mmtext.specs.Views.{seen}
+use Rattle.items.specs.Reading.{IsFirst}
+use Rattle.items.proofs.Passed.{nothing_passed, comment_passed, word_passed, front_ends}
+use Rattle.items.proofs.writing.end_of_front.Goals as goal
+
+pub loop-token-init : goal.loop-token-init
+loop-token-init c = record {
+  within = c.requires;
+  so_far = omega arith;
+  passed = nothing_passed (λ w. bytes_eq w (codes "$=")) c.args.text.now c.args.from;
+}
+
+pub loop-token-preserved-then-eq : goal.loop-token-preserved-then-eq
+loop-token-preserved-then-eq c =
+    let text = c.args.text.now in
+    let next = c.in-Some.ensures in
+    let t = seen c.in-Some.token in
+    let is : IsFirst text c.loop-token.at t = record { next = next.some; later = next.later; within = next.within } in
+    let opens : t.text ≡ codes "$(" = search rules in
+    let so_far = c.loop-token.invariant.so_far in
+    let end = c.in_ok-at.ensures in
+    record {
+      within = end.within;
+      so_far = omega (arith, next.later, so_far, end.later);
+      passed =
+          comment_passed (λ w. bytes_eq w (codes "$=")) text c.args.from c.loop-token.at t c.loop-token.invariant.passed is c.in_ok-at.at opens
+          end.comment;
+    }
+
+pub returns-then-eq-2-clause-front : goal.returns-then-eq-2-clause-front
+returns-then-eq-2-clause-front c =
+    let text = c.args.text.now in
+    let next = c.in-Some.ensures in
+    let t = seen c.in-Some.token in
+    let is : IsFirst text c.loop-token.at t = record { next = next.some; later = next.later; within = next.within } in
+    let opens : bytes_eq t.text (codes "$(") ≡ false = search rules in
+    let ends : t.text ≡ codes "$=" = search rules in
+    front_ends text c.args.from c.loop-token.at t c.loop-token.invariant.passed is opens ends
+
+pub loop-token-preserved : goal.loop-token-preserved
+loop-token-preserved c =
+    let text = c.args.text.now in
+    let next = c.in-Some.ensures in
+    let t = seen c.in-Some.token in
+    let is : IsFirst text c.loop-token.at t = record { next = next.some; later = next.later; within = next.within } in
+    let opens : bytes_eq t.text (codes "$(") ≡ false = search rules in
+    let other : bytes_eq t.text (codes "$=") ≡ false = search rules in
+    let so_far = c.loop-token.invariant.so_far in
+    record {
+      within = next.within;
+      so_far = omega (arith, next.later, so_far);
+      passed = word_passed (λ w. bytes_eq w (codes "$=")) text c.args.from c.loop-token.at t c.loop-token.invariant.passed is opens other;
+    }
