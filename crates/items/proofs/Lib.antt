@@ -7,3 +7,4 @@ mod Kinded
 mod Reworded
 mod Places
 mod Stated
+mod Spelled

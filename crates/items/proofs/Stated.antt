@@ -10,7 +10,7 @@ use Rattle.giving.specs.Staying.{Change, changed}
 use Rattle.items.specs.declared.part.Part.TheVariants.{Label, Fixed}
 use Rattle.items.specs.declared.place.Place.{Place}
 use Rattle.items.specs.Items.{Item, words, said, asserts, label_among, label_of, IsComment, outside}
-use Rattle.items.specs.Renaming.{said_then, symbols_then, renamed, with_words, reworded}
+use Rattle.items.specs.Renaming.{said_then, proof_then, symbols_then, renamed, with_words, reworded}
 use Rattle.items.specs.Machine.{label_then, part_then, place_then, rest_then}
 use Rattle.items.proofs.Commented.{comment_says_nothing}
 
@@ -26,7 +26,7 @@ labelled : (cs : List Change) (label mark l : Word) (ws : List Word) (b : Bool) 
     → changed cs label ∷ symbols_then cs (mark ∷ ws)
     ≡ cond b (changed cs label ∷ mark ∷ symbols_then cs ws) (label ∷ mark ∷ ws)
 labelled cs label mark l ws true is has =
-    ap (λ b. changed cs label ∷ cond b _ (mark ∷ symbols_then cs ws)) (no_proof_yet mark is)
+    ap (λ b. changed cs label ∷ cond b (mark ∷ proof_then cs ws) (mark ∷ symbols_then cs ws)) (no_proof_yet mark is)
 labelled cs label mark l ws false is has = absurd cc
 
 pub as_assertion : (cs : List Change) (ws : List Word) (l : Word) → label_among ws ≡ l ∷ [] → label_then cs ws ≡ said_then cs ws

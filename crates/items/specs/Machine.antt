@@ -1,5 +1,5 @@
 -- Of the code's inside, apart from the rules: words with changed labels, one by one.
-use Rattle.std.specs.Prelude.{◌≡◌, List, [], ◌∷◌, map, is_some}
+use Rattle.std.specs.Prelude.{◌≡◌, ℕ, List, [], ◌∷◌, ◌++◌, map, is_some}
 use Rattle.mmtext.specs.Words.{Word}
 use Rattle.giving.specs.Staying.{Change, changed}
 use Rattle.items.specs.declared.part.Part.{Part}
@@ -35,3 +35,7 @@ TakesWord cs old w v new = (ws : List Word) → place_then cs old (w ∷ ws) ≡
 
 abbrev pub TakesSaid : List Change → Part → Word → Word → Part → Type 0
 TakesSaid cs old w v new = (ws : List Word) → part_then cs old (w ∷ ws) ≡ v ∷ part_then cs new ws
+
+-- something is put behind bytes
+abbrev pub IsPut : List ℕ → List ℕ → (List ℕ → Type 0) → Type 0
+IsPut old new says = (now : List ℕ) × (new ≡ old ++ now) × says now

@@ -1,10 +1,12 @@
 //! A source as its items, in order: comments, marks of blocks and statements, each with its bytes; and these with changed labels.
 #![tactic(auto)]
 
+mod call;
 mod comments;
 mod part;
 mod place;
 mod reading;
 mod writing;
 
+pub use call::rewrite;
 pub use reading::{Item, Kind, read_item};

@@ -1,15 +1,17 @@
 //! Items as they read then.
 
-ghost use Rattle.std.specs.Prelude.{◌≡◌, ◌≤◌, ◌++◌, ℕ, length, IfOk, IfSome, OnOk};
-ghost use Rattle.std.specs.Prelude.{None};
+ghost use Rattle.std.specs.Prelude.{◌≡◌, ◌≤◌, ◌∷◌, ◌++◌, ℕ, [], length, false, None, IfOk, IfSome, IsTrue, OnOk, codes};
+ghost use Rattle.std.specs.Str.{bytes_eq};
+ghost use Rattle.mmtext.specs.Words.{Word};
 ghost use Rattle.items.specs.declared.place.Place.{Place};
-ghost use Rattle.items.specs.Items.{Item, bytes_of};
-ghost use Rattle.items.specs.Reading.{Stands, IsFrontTo};
-ghost use Rattle.items.specs.Machine.{rest_then};
+ghost use Rattle.items.specs.Items.{Item as Pieces, bytes_of, label_of, IsStatement};
+ghost use Rattle.items.specs.Reading.{Stands, IsFrontTo, IsItemAt};
+ghost use Rattle.items.specs.Machine.{rest_then, IsPut};
+ghost use Rattle.items.specs.Rewriting.{HasProofText, ReadsThen};
 
 use crate::part::Part;
 use crate::place::Place;
-use crate::reading::end_of_comment;
+use crate::reading::{Item, Kind, end_of_comment};
 use giving::Changes;
 use mmtext::next_token;
 use std::alloc::AllocError;
@@ -25,7 +27,7 @@ pub(crate) fn put_reworded<'w>(
 ) -> Result<(), AllocError>
     requires order { from ≤ end }
     requires within { end ≤ length text.now }
-    ensures { OnOk result ((x : Item) → Stands text.now from x end → (place : Place) → place.comment ≡ None → place.part ≡ part
+    ensures { OnOk result ((x : Pieces) → Stands text.now from x end → (place : Place) → place.comment ≡ None → place.part ≡ part
         → out.new.items ≡ out.old.items ++ bytes_of (rest_then changes.now place x)) }
 {
     let mut place = Place::at(part);
@@ -62,4 +64,58 @@ fn end_of_front(text: &[u8], from: usize) -> Option<usize>
         at = end;
     }
     None
+}
+
+/// Puts a theorem that begins behind a byte of a text and ends at another, with changed labels, and with this text for what stands between
+/// `$=` and `$.`. Whether it has a `$=`.
+fn put_reproved(
+    out: &mut Vec<u8>,
+    changes: &Changes<'_>,
+    proof: &[u8],
+    text: &[u8],
+    from: usize,
+    end: usize,
+) -> Result<bool, AllocError>
+    requires order { from ≤ end }
+    requires within { end ≤ length text.now }
+    ensures { (x : Pieces) (label : Word) → Stands text.now from x end → IsStatement x → label_of x ≡ label ∷ []
+        → bytes_eq label (codes "$=") ≡ false → IfOk result (λ is. IsTrue is → IsPut out.old.items out.new.items
+        (HasProofText changes.now proof.now x)) }
+{
+    let Some(front) = end_of_front(text, from) else {
+        return Ok(false);
+    };
+    if front >= end {
+        return Ok(false);
+    }
+    put_reworded(out, changes, text, from, front, Part::Label)?;
+    out.extend_from_slice(proof)?;
+    out.extend_from_slice(b"$.")?;
+    Ok(true)
+}
+
+/// Puts an item that begins behind a byte of a text: with another proof, if there is a text for the label of its assertion, and else with
+/// changed labels. Whether it could be put: no text is for an axiom.
+pub(crate) fn put_item(
+    out: &mut Vec<u8>,
+    changes: &Changes<'_>,
+    proofs: &Changes<'_>,
+    text: &[u8],
+    from: usize,
+    item: Item<'_>,
+) -> Result<bool, AllocError>
+    requires order { from ≤ item.end }
+    requires within { item.end ≤ length text.now }
+    ensures { (is : IsItemAt text.now from item.entry) → IfOk result (λ put. IsTrue put → IsPut out.old.items out.new.items
+        (ReadsThen changes.now proofs.now is.item)) }
+{
+    let Kind::Assertion(label) = item.kind else {
+        put_reworded(out, changes, text, from, item.end, Part::Fixed)?;
+        return Ok(true);
+    };
+    if let Some(proof) = proofs.text_for(label) {
+        return put_reproved(out, changes, proof, text, from, item.end);
+    }
+    put_reworded(out, changes, text, from, item.end, Part::Label)?;
+    Ok(true)
 }
