@@ -8,3 +8,5 @@ mod Reworded
 mod Places
 mod Stated
 mod Spelled
+mod Fronts
+mod PutThen

@@ -1,5 +1,6 @@
 -- Where the first token from a place on begins.
 use Rattle.std.proofs.Common.{◌≡◌, ◌∙◌, ℕ, suc, ◌≤◌, Bool, true, false, cond, List, [], ◌∷◌, ◌++◌, length, Some, refl, sym, ap, arith}
+use Rattle.std.proofs.lemmas.Bool.{cond-false}
 use Rattle.mmtext.specs.Text.{Token, is_white, ends_token, with_byte, tokens_from}
 
 pub with_place : (p b : ℕ) (e : Bool) (us ts : List Token) (t : Token) → with_byte p b e us ≡ t ∷ ts → t.place ≡ p
@@ -19,3 +20,11 @@ unfolding tokens_from
 first_place p [] t ts h = absurd cc
 first_place p (b ∷ bs) t ts h =
     first_at p b (is_white b) (ends_token bs) (tokens_from (suc p) bs) ts t (first_place (suc p) bs t ts) h
+
+-- where no token ends before bytes, one begins there
+pub begins_there : (p : ℕ) (bs : List ℕ) → ends_token bs ≡ false → (u : Token) (us : List Token) → tokens_from p bs ≡ u ∷ us → u.place ≡ p
+unfolding tokens_from
+begins_there p [] goes_on u us h = absurd cc
+begins_there p (b ∷ bs) goes_on u us h =
+    with_place p b (ends_token bs) (tokens_from (suc p) bs) us u
+    (sym (cond-false (is_white b) (tokens_from (suc p) bs) (with_byte p b (ends_token bs) (tokens_from (suc p) bs)) goes_on) ∙ h)

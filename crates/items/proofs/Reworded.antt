@@ -17,7 +17,7 @@ same_first text at t u one other =
     let both : t ∷ tokens_at text (end_of t) ≡ u ∷ tokens_at text (end_of u) = sym one.next ∙ other.next in cc
 
 -- what stands in a text to its end stands there from the end of its first token
-stands_later : (text : List ℕ) (at end : ℕ) (x : Item) → Stands text at x end → at ≤ end
+pub stands_later : (text : List ℕ) (at end : ℕ) (x : Item) → Stands text at x end → at ≤ end
 stands_later text at end [] h = subst (λ e. at ≤ e) h (omega arith)
 stands_later text at end (p ∷ ps) h =
     let later = h.1.later in

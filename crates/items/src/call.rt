@@ -34,9 +34,11 @@ pub fn rewrite(
         }
         at = item.end;
     }
-    if next_token(source, at).is_some() {
-        return Ok(None);
+    match next_token(source, at) {
+        Some(_) => Ok(None),
+        None => {
+            out.extend_from_slice(&source[at..])?;
+            Ok(Some(out))
+        }
     }
-    out.extend_from_slice(&source[at..])?;
-    Ok(Some(out))
 }
