@@ -5,10 +5,9 @@ use Rattle.std.proofs.lemmas.List.{append_assoc, append-nil}
 use Rattle.mmtext.specs.Words.{Word}
 use Rattle.mmtext.specs.Text.{Token}
 use Rattle.source.specs.Scopes.{is_in}
-use Rattle.rewriting.specs.Spans.{outside}
 use Rattle.comments.specs.declared.inside.Inside.{Inside}
 use Rattle.comments.specs.Deleted.{open_behind, asserted}
-use Rattle.comments.specs.Outside.{IsNext}
+use Rattle.comments.specs.Outside.{outside, IsNext}
 use Rattle.comments.specs.Insides.{IsReadInside, LeadsInside}
 use Rattle.comments.specs.Blocks.{IsInside, IsBlockEnd}
 use Rattle.comments.proofs.Opened.{outside_then, closed_then, closed_one, outside_one}

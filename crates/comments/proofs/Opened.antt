@@ -4,8 +4,7 @@ use mathlib.Core.Bool.{not}
 use Rattle.std.specs.Str.{bytes_eq}
 use Rattle.std.proofs.lemmas.List.{append_assoc}
 use Rattle.mmtext.specs.Text.{Token}
-use Rattle.rewriting.specs.Spans.{outside}
-use Rattle.comments.specs.Outside.{in_comment_behind, IsNext, IsPassedOver}
+use Rattle.comments.specs.Outside.{outside, in_comment_behind, IsNext, IsPassedOver}
 use Rattle.comments.specs.Passing.{IsClosed}
 
 behind_none : (c : Bool) → in_comment_behind c [] ≡ c

@@ -7,9 +7,8 @@ use Rattle.std.proofs.lemmas.List.{append_assoc}
 use Rattle.std.proofs.lemmas.List.Elements.{All-nil, All-push, All-weaker}
 use Rattle.mmtext.specs.Words.{Word}
 use Rattle.mmtext.specs.Text.{Token}
-use Rattle.rewriting.specs.Spans.{outside}
 use Rattle.comments.specs.Comments.{comments_from}
-use Rattle.comments.specs.Outside.{in_comment_behind, EndBy}
+use Rattle.comments.specs.Outside.{outside, in_comment_behind, EndBy}
 use Rattle.comments.specs.Passing.{IsPassing, closed_then, IsClosed}
 use Rattle.comments.specs.Walks.{comment_of}
 use Rattle.comments.proofs.Opened.{outside_none, behind-append, outside-append}

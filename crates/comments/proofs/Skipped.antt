@@ -7,9 +7,8 @@ use Rattle.std.proofs.lemmas.List.Elements.{All-head, All-tail}
 use Rattle.mmtext.specs.Words.{Word}
 use Rattle.mmtext.specs.Text.{Token, tokens}
 use Rattle.source.specs.Scopes.{is_in}
-use Rattle.rewriting.specs.Spans.{outside}
 use Rattle.comments.specs.Deleted.{open_behind, asserted, IsDeletedBlock, IsInDeletedBlock}
-use Rattle.comments.specs.Outside.{in_comment_behind, EndBy}
+use Rattle.comments.specs.Outside.{outside, in_comment_behind, EndBy}
 use Rattle.comments.specs.Blocks.{IsBlockEnd, IsInBlock, IsInBlockUntil}
 use Rattle.comments.specs.Walks.{comment_of}
 use Rattle.comments.proofs.Opened.{outside_one}

@@ -3,10 +3,9 @@ use Rattle.std.specs.Prelude.{◌≡◌, ◌≢◌, ◌≤◌, ◌+◌, ◌⊎�
 use Rattle.mmtext.specs.Words.{Word}
 use Rattle.mmtext.specs.Text.{Token}
 use Rattle.source.specs.Scopes.{is_in}
-use Rattle.rewriting.specs.Spans.{outside}
 use Rattle.comments.specs.declared.inside.Inside.{Inside}
 use Rattle.comments.specs.Deleted.{open_behind, asserted, IsDeletedBlock}
-use Rattle.comments.specs.Outside.{in_comment_behind}
+use Rattle.comments.specs.Outside.{outside, in_comment_behind}
 use Rattle.comments.specs.Insides.{IsReadInside}
 
 -- the inside of a block was read up to some tokens

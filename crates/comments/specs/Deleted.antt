@@ -5,7 +5,7 @@ use Rattle.std.specs.Str.{bytes_eq}
 use Rattle.mmtext.specs.Words.{Word}
 use Rattle.mmtext.specs.Text.{Token, tokens}
 use Rattle.source.specs.Scopes.{is_in}
-use Rattle.rewriting.specs.Spans.{outside}
+use Rattle.comments.specs.Outside.{outside}
 use Rattle.comments.specs.Comments.{Comment}
 
 -- $a or $p

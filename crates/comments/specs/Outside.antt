@@ -1,13 +1,18 @@
 -- Of the code's inside, apart from the rules: tokens in and outside of comments.
-use Rattle.std.specs.Prelude.{◌≡◌, ◌≤◌, ◌+◌, ℕ, Bool, true, false, List, [], ◌∷◌, ◌++◌, length, drop, All, codes}
+use Rattle.std.specs.Prelude.{◌≡◌, ◌≤◌, ◌+◌, ℕ, Bool, true, false, List, [], ◌∷◌, ◌++◌, length, drop, All, if◌then◌else◌, codes}
 use mathlib.Core.Bool.{not}
 use Rattle.std.specs.Str.{bytes_eq}
 use Rattle.mmtext.specs.Text.{Token, tokens_from}
-use Rattle.rewriting.specs.Spans.{outside}
 
 -- the tokens from a place of a text on
 abbrev pub tokens_at : List ℕ → ℕ → List Token
 tokens_at text at = tokens_from at (drop at text)
+
+-- the tokens outside of comments, of which one may be open before them: $( opens one, and $) closes it (section 4.1.2)
+abbrev pub outside : Bool → List Token → List Token
+outside in_comment [] = []
+outside true (t ∷ ts) = outside (not (bytes_eq t.text (codes "$)"))) ts
+outside false (t ∷ ts) = if bytes_eq t.text (codes "$(") then outside true ts else t ∷ outside false ts
 
 -- whether a comment is open behind tokens, where one was open before them or wasn't
 abbrev pub in_comment_behind : Bool → List Token → Bool

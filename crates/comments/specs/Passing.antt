@@ -2,9 +2,8 @@
 use Rattle.std.specs.Prelude.{◌≡◌, ℕ, Bool, true, false, List, [], ◌∷◌, ◌++◌, Some, None}
 use Rattle.mmtext.specs.Words.{Word}
 use Rattle.mmtext.specs.Text.{Token}
-use Rattle.rewriting.specs.Spans.{outside}
 use Rattle.comments.specs.Comments.{Comment, comments_from}
-use Rattle.comments.specs.Outside.{in_comment_behind, EndBy}
+use Rattle.comments.specs.Outside.{outside, in_comment_behind, EndBy}
 
 -- tokens of a comment were read up to a place, and its $) isn't among them; these words of it count, if it stands in no statement
 pub record IsPassing (stating : Bool) (words : List Word) (ts left : List Token) (at : ℕ) : Type 0 where

@@ -1,11 +1,5 @@
 mod Places
 mod TokenEnds
 mod Orders
-mod Marked
-mod Lettered
-mod Labelled
-mod Statements
-mod Finding
-mod Walking
 mod Spliced
 mod Appended

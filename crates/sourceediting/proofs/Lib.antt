@@ -4,3 +4,4 @@ pub mod Marks
 pub mod Histories
 pub mod Others
 pub mod Rewritten
+mod Labelled

@@ -2,3 +2,4 @@ pub mod Following
 pub mod Views
 pub mod Marked
 pub mod Written
+pub mod Reproved

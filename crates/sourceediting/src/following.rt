@@ -9,6 +9,7 @@ ghost use Rattle.source.specs.Views.{seen_words, seen_pairs};
 ghost use Rattle.taking.specs.Reasons.{Choice};
 ghost use Rattle.sourceediting.specs.Following.{renamed, ranked, source_of, added, behind, behind_all, all_commands, opening, label_then};
 ghost use Rattle.sourceediting.specs.Following.{change_of, changes_of};
+ghost use Rattle.sourceediting.specs.Reproved.{now_of};
 ghost use Rattle.sourceediting.specs.Views.{seen_followed, seen_living, seen_following};
 
 use library::{Command, Entry};
@@ -75,6 +76,19 @@ impl<'h> Followed<'h> {
         match self.source {
             Some(label) if self.is_renamed() => Some((label, self.now)),
             _ => None,
+        }
+    }
+}
+
+impl<'h> Followed<'h> {
+    /// The label that it had in the library at the opening, with its label now: none of one that was added.
+    pub(crate) fn change_in_library(&self) -> Option<(&'h [u8], &'h [u8])>
+        ensures { option_map (λ p. (p.0.now, p.1.now)) result
+            ≡ now_of (seen_followed self.entry.now) (seen_followed self.entry.now).source }
+    {
+        match self.source {
+            Some(_) => Some((self.first, self.now)),
+            None => None,
         }
     }
 }

@@ -6,6 +6,7 @@
 
 mod citing;
 mod commands;
+mod declaring;
 mod filling;
 mod following;
 mod moving;

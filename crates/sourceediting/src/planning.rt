@@ -1,5 +1,11 @@
 //! Which theorems have another proof behind the edits of a history, and the texts of these proofs.
 
+ghost use Rattle.std.specs.Prelude.{◌≡◌, ◌↔◌, List, Contains, IfOk, IfSome, IsTrue, map};
+ghost use Rattle.mmsyntax.specs.declared.statement.Assertion.{Assertion};
+ghost use Rattle.mmsyntax.specs.ProofWords.{seen_step};
+ghost use Rattle.sourceediting.specs.Reproved.{changes_in_library, step_then, HaveOtherListings};
+ghost use Rattle.sourceediting.specs.Views.{seen_living, seen_proofs, AreLabelled};
+
 use crate::following::Followed;
 use crate::refusal::{Refusal, shown};
 use giving::Changes;
@@ -39,7 +45,9 @@ fn opened_by_label<'x>(
     alloc: Global,
     keys: RandomState,
     assertions: &'x [Assertion],
-) -> Result<ByLabel<'x>, AllocError> {
+) -> Result<ByLabel<'x>, AllocError>
+    ensures { IfOk result (λ made. AreLabelled made assertions.now) }
+{
     let mut found = HashMap::with_hasher(alloc, keys);
     for assertion in assertions {
         found.insert(assertion.label.as_slice(), assertion)?;
@@ -52,7 +60,9 @@ pub(crate) fn edited_by_label<'x>(
     alloc: Global,
     keys: RandomState,
     entries: &'x [Ranked],
-) -> Result<ByLabel<'x>, AllocError> {
+) -> Result<ByLabel<'x>, AllocError>
+    ensures { IfOk result (λ made. AreLabelled made (map (λ r. r.assertion) entries.now)) }
+{
     let mut found = HashMap::with_hasher(alloc, keys);
     for entry in entries {
         found.insert(entry.assertion.label.as_slice(), &entry.assertion)?;
@@ -133,8 +143,10 @@ pub(crate) fn names_of<'x, D: Declared<'x>>(
     })
 }
 
-/// Whether a step is another one but for a changed label.
-fn is_step(changes: &Changes<'_>, old: StepRef<'_>, new: StepRef<'_>) -> bool {
+/// Whether a step is another one with a changed label.
+fn is_step(changes: &Changes<'_>, old: StepRef<'_>, new: StepRef<'_>) -> bool
+    ensures { IsTrue result ↔ (step_then changes.now (seen_step old.entry) ≡ seen_step new.entry) }
+{
     match (old, new) {
         (StepRef::Float(place), StepRef::Float(other)) => place == other,
         (StepRef::Hyp(place), StepRef::Hyp(other)) => place == other,
@@ -145,8 +157,10 @@ fn is_step(changes: &Changes<'_>, old: StepRef<'_>, new: StepRef<'_>) -> bool {
     }
 }
 
-/// Whether a proof is another one but for changed labels.
-fn is_proof(changes: &Changes<'_>, old: &Proof, new: &Proof) -> bool {
+/// Whether a proof is another one with changed labels.
+fn is_proof(changes: &Changes<'_>, old: &Proof, new: &Proof) -> bool
+    ensures { IsTrue result ↔ (map (step_then changes.now) old.now ≡ new.now) }
+{
     if old.len() != new.len() {
         return false;
     }
@@ -163,11 +177,13 @@ fn changes_in_library<'x>(
     alloc: Global,
     keys: RandomState,
     living: &[Followed<'x>],
-) -> Result<Changes<'x>, AllocError> {
+) -> Result<Changes<'x>, AllocError>
+    ensures { IfOk result (λ made. made ≡ changes_in_library (seen_living living.now)) }
+{
     let mut pairs = Vec::new(alloc);
     for followed in living {
-        if followed.source.is_some() {
-            pairs.push((followed.first, followed.now))?;
+        if let Some(change) = followed.change_in_library() {
+            pairs.push(change)?;
         }
     }
     Changes::new(alloc, keys, pairs)
@@ -197,6 +213,13 @@ fn other_proof<'x, D: Declared<'x>>(
     }
 }
 
+/// The assertion with a label.
+fn labelled<'x>(map: &ByLabel<'x>, label: &[u8]) -> Option<&'x Assertion>
+    ensures { IfSome result (λ a. (xs : List Assertion) → AreLabelled map.now xs → Contains xs a.now × (a.now.label ≡ label.now)) }
+{
+    map.get(&label).copied()
+}
+
 /// The theorems that have another proof, by their labels in the source, with the texts of these proofs.
 pub(crate) fn other_proofs<'x, D: Declared<'x>>(
     alloc: Global,
@@ -205,15 +228,19 @@ pub(crate) fn other_proofs<'x, D: Declared<'x>>(
     edited: &ByLabel<'x>,
     names: &Names<'x>,
     planned: &Planned<'x>,
-) -> Result<Vec<(&'x [u8], Vec<u8>)>, Refusal> {
+) -> Result<Vec<(&'x [u8], Vec<u8>)>, Refusal>
+    requires { AreLabelled edited.now (map (λ r. r.assertion) planned.now.edited.now.entries) }
+    ensures { IfOk result (λ made. HaveOtherListings planned.now.database.now.assertions
+        (map (λ r. r.assertion) planned.now.edited.now.entries) (seen_living planned.now.living.now) (seen_proofs made.items)) }
+{
     let opened = opened_by_label(alloc, keys, planned.database.assertions())?;
     let changes = changes_in_library(alloc, keys, planned.living)?;
     let mut proofs = Vec::new(alloc);
     for followed in planned.living {
         let (Some(source), Some(old), Some(new)) = (
             followed.source,
-            opened.get(&followed.first),
-            edited.get(&followed.now),
+            labelled(&opened, followed.first),
+            labelled(edited, followed.now),
         ) else {
             continue;
         };

@@ -2,8 +2,9 @@
 //! put in.
 
 ghost use Rattle.std.specs.Prelude.{IfOk};
+ghost use Rattle.items.specs.Rewriting.{IsRewritten};
 ghost use Rattle.rewriting.specs.Spans.{IsCut, IsPutIn, IsPatched};
-ghost use Rattle.sourceediting.specs.Written.{IsRearranged, IsCutAndRewritten};
+ghost use Rattle.sourceediting.specs.Written.{IsRearranged, IsCutAndRewritten, AreJust};
 
 use crate::citing::marked;
 use crate::filling::{Piece, Texts, fills_of};
@@ -11,7 +12,8 @@ use crate::moving::{Moving, moving_of};
 use crate::planning::{ByLabel, Planned, unwritten};
 use crate::refusal::{Refusal, shown};
 use giving::Changes;
-use rewriting::{Span, cut_out, put_in, rewrite};
+use items::rewrite;
+use rewriting::{Span, cut_out, put_in};
 use source::{Declared, ProofWords};
 use sourcewriting::{
     Leaving, Names, Outline, Standing, Statement, Stretch, SymbolWords, assertion_text, cuts_of,
@@ -71,7 +73,7 @@ fn moved_text(
     let Some(text) = source.get(stretch.begin..stretch.end) else {
         return Err(refused(alloc, label, "can't be moved"));
     };
-    Ok(rewrite(alloc, edits.changes, edits.proofs, text)?)
+    rewritten(alloc, edits, text)
 }
 
 /// Whether the proof of an assertion of a source is compressed.
@@ -236,6 +238,24 @@ fn unfit(alloc: Global) -> Refusal {
     Refusal::of_history(format!(in alloc; "the edits can't be written"))
 }
 
+/// A text with the labels that change and with other proofs.
+///
+/// # Errors
+///
+/// A text that isn't items, one behind the other; want of memory.
+pub(crate) fn rewritten(
+    alloc: Global,
+    edits: &Rearranged<'_>,
+    text: &[u8],
+) -> Result<Vec<u8>, Refusal>
+    ensures { IfOk result (λ out. IsRewritten edits.now.changes.now edits.now.proofs.now text.now out.items) }
+{
+    match rewrite(alloc, edits.changes, edits.proofs, text)? {
+        Some(out) => Ok(out),
+        None => Err(unfit(alloc)),
+    }
+}
+
 /// The stretches to cut out of a source: those of what was deleted, and of what moves.
 fn cuts_for(
     alloc: Global,
@@ -279,7 +299,7 @@ fn changed_without(
     ensures { IfOk result (λ changed. IsCutAndRewritten edits.now.changes.now edits.now.proofs.now source.now changed.items) }
 {
     let kept = without(alloc, keys, source, outline, edits.planned.gone, moving)?;
-    Ok(rewrite(alloc, edits.changes, edits.proofs, kept.as_slice())?)
+    rewritten(alloc, edits, kept.as_slice())
 }
 
 /// The text with the texts of those that are put in.
@@ -310,7 +330,7 @@ fn put_anew(
     texts: &Texts<'_>,
     edits: &Rearranged<'_>,
 ) -> Result<Vec<u8>, Refusal>
-    ensures { IfOk result (λ out. IsRearranged edits.now.changes.now source.now out.items) }
+    ensures { IfOk result (λ out. IsRearranged (AreJust edits.now.proofs.now) edits.now.changes.now source.now out.items) }
 {
     let changed = changed_without(alloc, keys, source, outline, moving, edits)?;
     filled(alloc, keys, changed.as_slice(), &edits.planned, texts)
@@ -324,7 +344,7 @@ pub(crate) fn rearrange<'x, 'a, D: Declared<'a>>(
     source: &'x [u8],
     edits: &Rearranged<'x>,
 ) -> Result<Vec<u8>, Refusal>
-    ensures { IfOk result (λ out. IsRearranged edits.now.changes.now source.now out.items) }
+    ensures { IfOk result (λ out. IsRearranged (AreJust edits.now.proofs.now) edits.now.changes.now source.now out.items) }
 {
     let outline = outline_of(alloc, source)?;
     let moving = moving_of(alloc, keys, declared, &outline, edits)?;

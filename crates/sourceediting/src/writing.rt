@@ -1,16 +1,17 @@
 //! A source is written anew with the edits of a history.
 
-ghost use Rattle.std.specs.Prelude.{IfOk};
+ghost use Rattle.std.specs.Prelude.{◌≡◌, IfOk, map};
 ghost use Rattle.sourceediting.specs.Following.{all_commands};
-ghost use Rattle.sourceediting.specs.Written.{IsWrittenAnew};
+ghost use Rattle.sourceediting.specs.Reproved.{HaveOtherListings};
+ghost use Rattle.sourceediting.specs.Views.{seen_living, seen_proofs, AreLabelled};
+ghost use Rattle.sourceediting.specs.Written.{IsWrittenAnew, AreJust};
 
 use crate::commands::keep_places;
 use crate::planning::{ByLabel, Planned, edited_by_label, names_of, other_proofs};
-use crate::rearranging::{Rearranged, rearrange};
+use crate::rearranging::{Rearranged, rearrange, rewritten};
 use crate::refusal::Refusal;
 use giving::Changes;
 use library::Entry;
-use rewriting::rewrite;
 use source::Declared;
 use sourcewriting::Names;
 use std::alloc::{AllocError, Global};
@@ -21,7 +22,9 @@ fn by_label<'x>(
     alloc: Global,
     keys: RandomState,
     proofs: &'x [(&'x [u8], Vec<u8>)],
-) -> Result<Changes<'x>, AllocError> {
+) -> Result<Changes<'x>, AllocError>
+    ensures { IfOk result (λ made. made ≡ seen_proofs proofs.now) }
+{
     let mut pairs = Vec::new(alloc);
     for (label, text) in proofs {
         pairs.push((*label, text.as_slice()))?;
@@ -38,10 +41,11 @@ fn written<'x, 'a, D: Declared<'a>>(
     entries: &[Entry],
     edits: &Rearranged<'x>,
 ) -> Result<Vec<u8>, Refusal>
-    ensures { IfOk result (λ out. IsWrittenAnew (all_commands entries.now) edits.now.changes.now source.now out.items) }
+    ensures { IfOk result (λ out. IsWrittenAnew (all_commands entries.now) (AreJust edits.now.proofs.now) edits.now.changes.now
+        source.now out.items) }
 {
     if keep_places(entries) {
-        return Ok(rewrite(alloc, edits.changes, edits.proofs, source)?);
+        return rewritten(alloc, edits, source);
     }
     rearrange(alloc, keys, declared, source, edits)
 }
@@ -58,7 +62,9 @@ fn write_over<'e, D: Declared<'e>>(
     edited: &ByLabel<'e>,
     names: &Names<'e>,
 ) -> Result<Vec<u8>, Refusal>
-    ensures { IfOk result (λ out. IsWrittenAnew (all_commands entries.now) changes.now source.now out.items) }
+    requires { AreLabelled edited.now (map (λ r. r.assertion) planned.now.edited.now.entries) }
+    ensures { IfOk result (λ out. IsWrittenAnew (all_commands entries.now) (HaveOtherListings planned.now.database.now.assertions
+        (map (λ r. r.assertion) planned.now.edited.now.entries) (seen_living planned.now.living.now)) changes.now source.now out.items) }
 {
     let proofs = other_proofs(alloc, keys, declared, edited, names, planned)?;
     let proofs = by_label(alloc, keys, proofs.as_slice())?;
@@ -86,7 +92,8 @@ pub fn write_edits<'e, D: Declared<'e>>(
     entries: &[Entry],
     changes: &'e Changes<'e>,
 ) -> Result<Vec<u8>, Refusal>
-    ensures { IfOk result (λ out. IsWrittenAnew (all_commands entries.now) changes.now source.now out.items) }
+    ensures { IfOk result (λ out. IsWrittenAnew (all_commands entries.now) (HaveOtherListings planned.now.database.now.assertions
+        (map (λ r. r.assertion) planned.now.edited.now.entries) (seen_living planned.now.living.now)) changes.now source.now out.items) }
 {
     let edited = edited_by_label(alloc, keys, planned.edited.entries())?;
     let names = names_of(alloc, keys, declared, &edited, planned)?;

@@ -1,8 +1,7 @@
 -- What is left to show of `is_in_front`.
 use Rattle.std.proofs.Common.{◌∙◌, ◌+◌, length, sym, false, rules}
 use Rattle.mmtext.specs.Views.{seen}
-use Rattle.rewriting.specs.Spans.{outside}
-use Rattle.comments.specs.Outside.{tokens_at}
+use Rattle.comments.specs.Outside.{outside, tokens_at}
 use Rattle.comments.proofs.Opened.{next_is}
 use Rattle.comments.proofs.deleted.is_in_front.Goals as goal
 

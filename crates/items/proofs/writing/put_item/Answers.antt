@@ -14,8 +14,7 @@ use Rattle.items.proofs.writing.put_item.Goals as goal
 pub returns-in_default : goal.returns-in_default
 returns-in_default c = λ is _.
     let cs = c.args.changes.now in
-    let none = unlabelled c.args.item.kind c.in_default.not-Assertion is.item is.kind in
-    (
+    let none = unlabelled c.args.item.kind c.in_default.not-Assertion is.item is.kind in (
       bytes_of (renamed cs is.item),
       c.in_ok-put_reworded.ensures is.item is.stands at_fixed refl refl
           ∙ ap (λ y. c.args.out.now.items ++ bytes_of y) (other_reads cs is.item none),
@@ -38,8 +37,7 @@ returns-in-Some c = λ is.
 pub returns : goal.returns
 returns c = λ is _.
     let cs = c.args.changes.now in
-    let kind = subst (λ k. IsOfKind k is.item) c.in-Assertion.is is.kind in
-    (
+    let kind = subst (λ k. IsOfKind k is.item) c.in-Assertion.is is.kind in (
       bytes_of (renamed cs is.item),
       c.in_ok-put_reworded-2.ensures is.item is.stands at_label refl refl
           ∙ ap (λ y. c.args.out.now.items ++ bytes_of y) (assertion_reads cs is.item c.in-Assertion.label.now kind.1),

@@ -13,8 +13,7 @@ returns c = λ x label stands is has other _.
     let f = c.in-Some.ensures.front in
     let out = c.args.out.now.items in
     let front = bytes_of (rest_then cs at_label f.front) in
-    let less = c.if-front-end.false in
-    (
+    let less = c.if-front-end.false in (
       front ++ (proof ++ codes "$."),
       c.in_ok-extend_from_slice-2.ensures.items ∙ ap (λ o. o ++ codes "$.") c.in_ok-extend_from_slice.ensures.items
           ∙ ap (λ o. (o ++ proof) ++ codes "$.") (c.in_ok-put_reworded.ensures f.front f.stands at_label refl refl)

@@ -16,9 +16,12 @@ loop-at-init c =
     record {
       within = omega (arith, order, within);
       inside = c.requires.within;
-      put = λ x h start comment part.
-        (x, h, ap (λ r. c.args.out.now.items ++ bytes_of r)
-        (from_start c.args.changes.now start c.at-place.result x (comment ∙ sym c.at-place.ensures.comment) (part ∙ sym c.at-place.ensures.part)));
+      put = λ x h start comment part. (
+        x,
+        h,
+        ap (λ r. c.args.out.now.items ++ bytes_of r)
+            (from_start c.args.changes.now start c.at-place.result x (comment ∙ sym c.at-place.ensures.comment) (part ∙ sym c.at-place.ensures.part)),
+      );
     }
 
 pub returns-in_default : goal.returns-in_default
@@ -49,14 +52,15 @@ loop-at-preserved c =
       within = next.within;
       inside = c.requires.within;
       put = λ x h start comment part.
-        let put = c.loop-at.invariant.put x h start comment part in
-        let one = one_left text c.loop-at.at c.args.end put.0 t put.1 c.loop-at-test.true is in
-        (
-          one.0, one.2, put.2 ∙ ap (λ y. c.loop-at.out.items ++ bytes_of (rest_then cs c.loop-at.place y)) one.1
-          ∙ word_put cs c.loop-at.place c.take.result.1 c.loop-at.out.items _ t.text c.take.result.0.now one.0 c.take.ensures
-          ∙ ap (λ out. out ++ bytes_of (rest_then cs c.take.result.1 one.0))
-          (sym (c.in_ok-extend_from_slice-2.ensures.items ∙ ap (λ o. o ++ c.take.result.0.now) c.in_ok-extend_from_slice.ensures.items))
-        );
+          let put = c.loop-at.invariant.put x h start comment part in
+          let one = one_left text c.loop-at.at c.args.end put.0 t put.1 c.loop-at-test.true is in (
+            one.0,
+            one.2,
+            put.2 ∙ ap (λ y. c.loop-at.out.items ++ bytes_of (rest_then cs c.loop-at.place y)) one.1
+                ∙ word_put cs c.loop-at.place c.take.result.1 c.loop-at.out.items _ t.text c.take.result.0.now one.0 c.take.ensures
+                ∙ ap (λ out. out ++ bytes_of (rest_then cs c.take.result.1 one.0))
+                (sym (c.in_ok-extend_from_slice-2.ensures.items ∙ ap (λ o. o ++ c.take.result.0.now) c.in_ok-extend_from_slice.ensures.items)),
+          );
     }
 
 pub returns : goal.returns

@@ -1,0 +1,49 @@
+-- What is left to show of `other_proofs`.
+use Rattle.std.proofs.Common.{◌≡◌, ◌≢◌, ◌∙◌, ◌++◌, ◌∷◌, [], map, Some, None, false, true, List, ℕ, refl, sym, ap, subst, rules, get_or}
+use Rattle.std.specs.Borrow.{Bor}
+use Rattle.std.specs.Option.{option_map}
+use Rattle.std.proofs.lemmas.List.{map-append, get_or_default}
+use Rattle.sourceediting.specs.declared.following.Followed.{Followed as KeptAssertion}
+use Rattle.sourceediting.specs.Views.{seen_living, seen_proofs, seen_followed, AreLabelled}
+use Rattle.sourceediting.specs.Reproved.{step_then}
+use Rattle.library.proofs.Filtered.{contains_mapped}
+use Rattle.sourceediting.proofs.Labelled.{listed_more}
+use Rattle.sourceediting.proofs.planning.other_proofs.Goals as goal
+use Rattle.sourceediting.proofs.planning.other_proofs.Goals.{then-not-is_proof+in_ok-text+in_ok-push, else-not-is_proof}
+
+differ : false ≡ true → ⊥
+differ e = cc
+
+pub loop-followed-preserved : goal.loop-followed-preserved
+loop-followed-preserved g c =
+    let opened = c.args.planned.now.database.now.assertions in
+    let edited = map (λ r. r.assertion) c.args.planned.now.edited.now.entries in
+    let living = seen_living c.args.planned.now.living.now in
+    let some = c.in-Some-Some-Some in
+    let e : Bor (List ℕ) = record { ref_ptr = (0, 0); now = [] } in
+    let d : KeptAssertion = record { source = None; first = e; now = e; moved = false } in
+    let x : KeptAssertion = get_or c.args.planned.now.living.now c.loop-followed.followed-index d in
+    let old = some.ensures opened (subst (AreLabelled c.in_ok-opened.opened) c.assertions.ensures.value c.in_ok-opened.ensures) in
+    let new = some.ensures' edited c.requires in
+    elim c.if-not-is_proof.branch [
+      | then-not-is_proof+in_ok-text+in_ok-push w ↦
+          rw w.proofs-is
+          (listed_more opened edited living (seen_proofs c.loop-followed.proofs.items) _ (some.source.now, w.in_ok-text.text.items)
+          c.loop-followed.invariant
+          (record {
+            followed = seen_followed x;
+            lives = contains_mapped seen_followed c.args.planned.now.living.now x (c.loop-followed.followed-index, c.loop-followed-test.true, get_or_default c.args.planned.now.living.now c.loop-followed.followed-index x d c.loop-followed-test.true);
+            source = ap (option_map (λ (w : Bor (List ℕ)). w.now)) some.is-0;
+            old = some.old.now;
+            was = old.0;
+            first = old.1;
+            new = some.new.now;
+            is = new.0;
+            now = new.1;
+            differs = λ e.
+              differ (sym w.if-not-is_proof.true ∙ c.is_proof.ensures.1
+              (ap (λ cs. map (step_then cs) some.old.now.proof) c.in_ok-changes.ensures ∙ e));
+          })
+          (ap seen_proofs w.in_ok-push.ensures.items ∙ map-append _ c.loop-followed.proofs.items _))
+      | else-not-is_proof w ↦ rw w.proofs-is c.loop-followed.invariant
+    ]

@@ -1,0 +1,39 @@
+-- Which theorems have another proof behind a history: those whose listing isn't the old one with changed labels.
+use Rattle.std.specs.Prelude.{◌≡◌, ◌≢◌, List, map, filter_map, Contains, All, Option, Some, None}
+use Rattle.mmtext.specs.Words.{Word}
+use Rattle.mmsyntax.specs.declared.statement.Assertion.{Assertion}
+use Rattle.mmsyntax.specs.declared.statement.Step.{Step}
+use Rattle.mmsyntax.specs.declared.statement.Step.TheVariants.{Float, Hyp, Cite}
+use Rattle.giving.specs.Staying.{Change, changed}
+use Rattle.sourceediting.specs.Following.{Followed}
+
+-- the labels that those of the opening had in the library, with those that they have now
+abbrev pub now_of : Followed → Option Word → Option Change
+now_of x None = None
+now_of x (Some w) = Some (x.first, x.now)
+
+abbrev pub changes_in_library : List Followed → List Change
+changes_in_library fs = filter_map (λ f. now_of f f.source) fs
+
+-- a step names the same under its label now
+abbrev pub step_then : List Change → Step → Step
+step_then cs (Cite w) = Cite (changed cs w)
+step_then cs (Float i) = Float i
+step_then cs (Hyp k) = Hyp k
+
+-- a theorem of the source, by its label there: its listing isn't the old one with changed labels
+pub record HasAnotherListing (opened edited : List Assertion) (living : List Followed) (label : Word) : Type 0 where
+  pub followed : Followed
+  pub lives : Contains living followed
+  pub source : followed.source ≡ Some label
+  pub old : Assertion
+  pub was : Contains opened old
+  pub first : old.label ≡ followed.first
+  pub new : Assertion
+  pub is : Contains edited new
+  pub now : new.label ≡ followed.now
+  pub differs : map (step_then (changes_in_library living)) old.proof ≢ new.proof
+
+-- each of these theorems has
+abbrev pub HaveOtherListings : List Assertion → List Assertion → List Followed → List Change → Type 0
+HaveOtherListings opened edited living proofs = All (λ p. HasAnotherListing opened edited living p.0) proofs
