@@ -1,11 +1,9 @@
 -- What was read and what stands on the standard output, behind one thing more.
 use Rattle.std.proofs.Common.{◌≡◌, ◌∙◌, ◌++◌, ◌∷◌, [], ℕ, Bool, true, false, List, Option, Some, None, Result, Ok, Err, ap, append_assoc, append-nil, refl, subst, sym, take}
-use Rattle.std.specs.Prelude.{◌≢◌, ◌↔◌, IsTrue, IfOk, IfSome, OnErr, OnOk, Vec, is_ok}
+use Rattle.std.specs.Prelude.{IfOk, IfSome, OnErr, OnOk, Vec, is_ok}
 use Rattle.std.specs.declared.alloc.Global.{Global}
 use Rattle.std.specs.Io.KnownBytes.{Appends}
 use Rattle.clap.specs.declared.error.Error.{Error}
-use Rattle.clap.specs.declared.error.kind.ErrorKind.TheVariants.{DisplayHelp, DisplayVersion}
-use Rattle.clap.specs.Words.{kind_of}
 use Rattle.program.specs.Events.{Adds, Bytes, Event, bytes_of, prints, reads, says, shows, writes}
 use Rattle.program.specs.Output.{AreDone, AreHeld, AreOwn, IsPut, Puts, Stands}
 
@@ -26,7 +24,7 @@ own_front (reads path got ∷ front) es own = own_front front es own
 own_front (writes path text whole ∷ front) es own = own_front front es own
 own_front (prints text whole ∷ front) es own = own_front front es own
 own_front (says line ∷ front) es own = own_front front es own
-own_front (shows error whole ∷ front) es own = (own.0, own.1, own_front front es own.2)
+own_front (shows error whole ∷ front) es own = absurd own
 
 own_last : (front es : List Event) → AreOwn (front ++ es) → AreOwn es
 own_last [] es own = own
@@ -34,7 +32,7 @@ own_last (reads path got ∷ front) es own = own_last front es own
 own_last (writes path text whole ∷ front) es own = own_last front es own
 own_last (prints text whole ∷ front) es own = own_last front es own
 own_last (says line ∷ front) es own = own_last front es own
-own_last (shows error whole ∷ front) es own = own_last front es own.2
+own_last (shows error whole ∷ front) es own = absurd own
 
 held_behind : (holds : Bytes → Option Bytes) (front es : List Event) → AreHeld holds front → AreHeld holds es → AreHeld holds (front ++ es)
 held_behind holds [] es held more = more
@@ -72,25 +70,15 @@ pub adds_line : (holds : Bytes → Option Bytes) (out : Option Bytes) (line : By
     → Adds (AreDone holds out) (AreDone holds out) (says line ∷ [])
 adds_line holds out line = adds_none holds out (says line) refl tt
 
--- the parser is shown elsewhere
-pub adds_shown_aside : (holds : Bytes → Option Bytes) (out : Option Bytes) (error : Error) (whole : Bool)
-    → Adds (AreDone holds out) (AreDone holds out) (shows error whole ∷ [])
-adds_shown_aside holds out error whole = adds_none holds out (shows error whole) refl tt
-
--- help or the version is shown there
-pub adds_shown : (holds : Bytes → Option Bytes) (old new : Option Bytes) (error : Error) (whole aside : Bool)
-    → (IsTrue aside ↔ ((kind_of error ≢ DisplayHelp) × (kind_of error ≢ DisplayVersion))) → aside ≡ false
+-- the parser is shown
+pub adds_shown : (holds : Bytes → Option Bytes) (old new : Option Bytes) (error : Error) (whole : Bool)
     → Adds (AreDone holds old) (AreDone holds new) (shows error whole ∷ [])
-adds_shown holds old new error whole aside told is = record {
+adds_shown holds old new error whole = record {
   behind = λ front before. (
     held_behind holds front (shows error whole ∷ []) before.0 tt,
-    λ own. let (help, version, rest) = own_last front (shows error whole ∷ []) own in
-        absurd (never (subst IsTrue is (told.1 (help, version)))),
+    λ own. absurd (own_last front (shows error whole ∷ []) own),
   );
 }
-  where
-    never : IsTrue false → ⊥
-    never is = cc
 
 -- a text is printed, or a front of it
 adds_text : (holds : Bytes → Option Bytes) (old new : Option Bytes) (text here : Bytes) (whole : Bool) → Appends old new here

@@ -25,18 +25,18 @@ use std::time::Clock;
 use std::{env, io};
 use taketext::Follow;
 
-/// Files, a standard output, and the standard error of a runtime.
+/// Files, a standard output, and a runtime for the standard error, and for what the parser of command lines shows.
 #[derive(Drop)]
 pub struct Host<'r, D, O, R> {
     /// Where the files lie.
     pub disk: D,
     /// The standard output.
     pub out: O,
-    /// What has the standard error.
+    /// What has the standard error, and shows what the parser says.
     pub rt: &'r R,
 }
 
-impl<D: Disk + Drop, O: Write + Drop, R: Eprint> World for Host<'_, D, O, R> {
+impl<D: Disk + Drop, O: Write + Drop, R: Print + Eprint> World for Host<'_, D, O, R> {
     ghost use Rattle.std.specs.Prelude.{◌∷◌, [], OnOk, is_ok};
     ghost use Rattle.std.specs.Io.KnownBytes.{Appends};
     ghost use Rattle.program.specs.Events.{Adds, writes};
@@ -76,10 +76,7 @@ impl<D: Disk + Drop, O: Write + Drop, R: Eprint> World for Host<'_, D, O, R> {
     }
 
     fn show(&mut self, error: &clap::Error) -> bool {
-        if error.use_stderr() {
-            return self.rt.eprint(error).is_ok();
-        }
-        self.out.write_fmt(error).is_ok()
+        error.print(self.rt).is_ok()
     }
 }
 
@@ -106,12 +103,13 @@ fn words_of<R: Env + AllocGlobal>(rt: &R) -> Result<Vec<String>, Trouble> {
 /// may wait.
 ///
 /// On a standard output that tells what it holds, and holds nothing before, stands then just what was printed: each text whole, or a front
-/// of it where it is told that it isn't. Each text that was read is all that its file holds, where that is known.
+/// of it where it is told that it isn't; unless the parser's text was shown, of which nothing is known. Each text that was read is all that
+/// its file holds, where that is known.
 pub fn run_on<
     R: Threads + Wait + Sync,
     D: Disk + Drop,
     O: Write + Drop,
-    E: Eprint,
+    E: Print + Eprint,
     V: Watch + Follow + Sync,
 >(
     rt: &R,
