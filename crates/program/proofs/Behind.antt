@@ -1,17 +1,17 @@
 -- What is done behind what was done before.
-use Rattle.std.proofs.Common.{◌≡◌, ◌∙◌, ◌++◌, ◌∷◌, ◌<◌, ◌+◌, [], ℕ, List, Option, Some, None, All, ap, append_assoc, append-nil, length, length-append, refl, sym, subst, arith, map, option_map, slice_index_or, Bor, Result, Ok, Err}
+use Rattle.std.proofs.Common.{◌≡◌, ◌∙◌, ◌++◌, ◌∷◌, ◌<◌, ◌+◌, [], ℕ, List, Some, None, All, ap, append_assoc, append-nil, length, length-append, refl, sym, subst, arith, map, option_map, slice_index_or, Bor, Result, Ok, Err}
 use Rattle.std.specs.Prelude.{slice_get}
 use Rattle.std.proofs.lemmas.Option.{slice_get-get_or, slice_get-map}
 use Rattle.std.proofs.lemmas.List.Elements.{All-append, All-cons, All-nil}
 use Rattle.program.specs.Events.{Adds, Bytes, Event, IsQuiet, reads}
 use Rattle.program.specs.Conduct.{EndsBy, IsReadBehind, reads_of}
 
-pub adds_more : {a b c : Option (List Event)} {es fs : List Event} → Adds a b es → Adds b c fs → Adds a c (es ++ fs)
+pub adds_more : {a b c : List Event → Type 0} {es fs : List Event} → Adds a b es → Adds b c fs → Adds a c (es ++ fs)
 adds_more {a} {b} {c} {es} {fs} first next =
-    record { behind = λ front is. next.behind (front ++ es) (first.behind front is) ∙ ap Some (append_assoc front es fs) }
+    record { behind = λ front told. subst c (append_assoc front es fs) (next.behind (front ++ es) (first.behind front told)) }
 
-pub adds_nothing : (a : Option (List Event)) → Adds a a []
-adds_nothing a = record { behind = λ front is. is ∙ ap Some (sym (append-nil front)) }
+pub adds_nothing : (a : List Event → Type 0) → Adds a a []
+adds_nothing a = record { behind = λ front told. subst a (sym (append-nil front)) told }
 
 pub quiet_nothing : All IsQuiet []
 quiet_nothing = All-nil IsQuiet
@@ -36,15 +36,15 @@ reads_of-behind (p ∷ ps) (t ∷ ts) path text is =
     ap (λ (rest : List Event). reads p (Some t) ∷ rest) (reads_of-behind ps ts path text is)
 
 -- so many files are read
-pub record IsReading (old new : Option (List Event)) (paths texts : List Bytes) (k : ℕ) : Type 0 where
+pub record IsReading (old new : List Event → Type 0) (paths texts : List Bytes) (k : ℕ) : Type 0 where
   pub many : length texts ≡ k
   pub done : Adds old new (reads_of paths texts)
 
-pub begins : (now : Option (List Event)) (paths texts : List Bytes) → texts ≡ [] → IsReading now now paths texts 0
+pub begins : (now : List Event → Type 0) (paths texts : List Bytes) → texts ≡ [] → IsReading now now paths texts 0
 begins now paths texts none =
     subst (λ (ts : List Bytes). IsReading now now paths ts 0) (sym none) (record { many = refl; done = adds_nothing now })
 
-pub goes_on : {A : Type 0} {old mid new : Option (List Event)} (paths texts more : List Bytes) (k : ℕ) (path : Bytes) (es : List Event)
+pub goes_on : {A : Type 0} {old mid new : List Event → Type 0} (paths texts more : List Bytes) (k : ℕ) (path : Bytes) (es : List Event)
     (done : A)
     → slice_get paths k ≡ Some path → IsReading old mid paths texts k → Adds mid new es → IsReadBehind path texts more es (Ok done)
     → IsReading old new paths more (k + 1)
@@ -64,7 +64,7 @@ goes_on {A} {old} {mid} {new} paths texts more k path es done here before adds r
     }
 
 -- memory runs out for the next
-pub stops : {old mid new : Option (List Event)} (paths texts : List Bytes) (k : ℕ) (es : List Event) → IsReading old mid paths texts k
+pub stops : {old mid new : List Event → Type 0} (paths texts : List Bytes) (k : ℕ) (es : List Event) → IsReading old mid paths texts k
     → Adds mid new es → All IsQuiet es → (all : List Event) × Adds old new all × All IsQuiet all
 stops paths texts k es before adds quiet = (
   reads_of paths texts ++ es,
@@ -73,7 +73,7 @@ stops paths texts k es before adds quiet = (
 )
 
 -- the next can't be read
-pub cannot : {old mid new : Option (List Event)} (paths texts more : List Bytes) (k : ℕ) (path : Bytes) (es : List Event)
+pub cannot : {old mid new : List Event → Type 0} (paths texts more : List Bytes) (k : ℕ) (path : Bytes) (es : List Event)
     → slice_get paths k ≡ Some path → IsReading old mid paths texts k → Adds mid new es → more ≡ texts → es ≡ reads path None ∷ []
     → (all : List Event) × Adds old new all
     × ((slice_get paths (length more) ≡ Some path) × (all ≡ reads_of paths more ++ reads path None ∷ []))
@@ -92,10 +92,6 @@ pub path_here : (paths : List (Bor (List ℕ))) (k : ℕ) (d : Bor (List ℕ)) �
     → slice_get (map (λ (p : Bor (List ℕ)). p.now) paths) k ≡ Some (slice_index_or paths k d).now
 path_here paths k d within =
     slice_get-map (λ (p : Bor (List ℕ)). p.now) paths k ∙ ap (option_map (λ (p : Bor (List ℕ)). p.now)) (slice_get-get_or paths k d within)
-
--- where nothing is known of what was done
-pub adds_unknown : (es : List Event) → Adds None None es
-adds_unknown es = record { behind = λ front is. cc }
 
 -- an ending that is another one too
 pub EndsBy-weaker : {E : Type 0} (P Q : List Event → ℕ → Type 0) (es : List Event) (r : Result ℕ E)

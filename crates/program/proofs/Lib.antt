@@ -2,3 +2,6 @@ pub mod Behind
 pub mod Followed
 pub mod Taken
 pub mod GivenBack
+pub mod Written
+pub mod Standing
+pub mod Runs

@@ -235,3 +235,13 @@ IsOutOfMemory es status = (front : List Event) × (es ≡ front ++ says (codes "
 -- what the program does for the words of a command line, with keys or without, and its status
 abbrev pub Obeys : Bool → List Text → List Event → ℕ → Type 0
 Obeys keyed words es status = IsObeyed keyed words es status ⊎ IsOutOfMemory es status
+
+-- why there are no words
+abbrev pub no_words : Trouble → Bytes
+no_words trouble.Refused = codes "the command line cannot be read"
+no_words trouble.NoMemory = codes "no memory"
+
+-- what the program does for the words of its command line; or where it has none, which is said, and the status is 1
+abbrev pub IsRun : Bool → Result (List Text) Trouble → List Event → ℕ → Type 0
+IsRun keyed (Ok words) es status = Obeys keyed words es status
+IsRun keyed (Err why) es status = IsSaid (no_words why) es status

@@ -1,5 +1,5 @@
 -- What a program does on the outside, one thing after another.
-use Rattle.std.specs.Prelude.{◌≡◌, ℕ, Bool, List, ◌++◌, Option, Some, None, Result, Ok, Err}
+use Rattle.std.specs.Prelude.{ℕ, Bool, List, ◌++◌, Option, Some, None, Result, Ok, Err}
 use Rattle.std.specs.Prelude.{Vec}
 use Rattle.std.specs.declared.alloc.Global.{Global}
 use Rattle.clap.specs.declared.error.Error.{Error}
@@ -17,9 +17,9 @@ pub data Event : Type 0 where
   says : Bytes → Event
   shows : Error → Bool → Event
 
--- these were done behind those before, where it is known which those were
-pub record Adds (before after : Option (List Event)) (es : List Event) : Type 0 where
-  pub behind : (front : List Event) → before ≡ Some front → after ≡ Some (front ++ es)
+-- these were done behind what was done before: where it told of a front that it was done, it tells so of the front with these behind it
+pub record Adds (before after : List Event → Type 0) (es : List Event) : Type 0 where
+  pub behind : (front : List Event) → before front → after (front ++ es)
 
 -- the bytes that were read
 abbrev pub bytes_of : {E : Type 0} → Result (Vec ℕ Global) E → Option Bytes

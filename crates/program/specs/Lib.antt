@@ -1,2 +1,3 @@
 pub mod Events
+pub mod Output
 pub mod Conduct

@@ -1,50 +1,70 @@
-//! The program on the files and streams of the system.
+//! The program on files and streams, and on those of the system.
+
+ghost use Rattle.std.specs.Prelude.{◌≡◌, Bool, List, [], Some, Result, is_some, map, string_bytes};
+ghost use Rattle.std.specs.Result.{result_map_both};
+ghost use Rattle.clap.specs.Words.{Text};
+ghost use Rattle.program.specs.Conduct.{IsRun, no_words};
+ghost use Rattle.program.specs.Events.{Event};
+ghost use Rattle.program.specs.Output.{AreDone};
+ghost use Rattle.program.specs.declared.world.Trouble.{Trouble as TroubleOfWords};
 
 use crate::conduct::{obey, refuse};
+use crate::disk::{Disk, SystemFiles};
 use crate::progress::Progress;
+use crate::whole::{read_whole, trouble_of, write_whole};
 use crate::world::{Trouble, World};
+use jobs::Watch;
 use std::alloc::Global;
 use std::hash::RandomState;
+use std::io::Write;
 use std::random::RandomSource;
 use std::rt::{Env, Files};
 use std::sync::Wait;
 use std::thread::Threads;
 use std::time::Clock;
-use std::{env, fs, io};
+use std::{env, io};
+use taketext::Follow;
 
-/// Want of memory, or any other trouble.
-fn trouble_of(error: &io::Error) -> Trouble {
-    match error.kind() {
-        io::ErrorKind::OutOfMemory => Trouble::NoMemory,
-        _ => Trouble::Refused,
-    }
-}
-
-/// The files of one runtime and the streams of another one. Of what they did nothing is known.
+/// Files, a standard output, and a runtime for the standard error, and for what the parser of command lines shows.
 #[derive(Drop)]
-struct Host<'r, F, R> {
-    files: &'r F,
-    rt: &'r R,
+pub struct Host<'r, D, O, R> {
+    /// Where the files lie.
+    pub disk: D,
+    /// The standard output.
+    pub out: O,
+    /// What has the standard error, and shows what the parser says.
+    pub rt: &'r R,
 }
 
-#[tactic(auto, using(crate::proofs::Behind::adds_unknown))]
-impl<F: Files + AllocGlobal, R: AllocGlobal + Print + Eprint> World for Host<'_, F, R> {
-    fn read(&mut self, _alloc: Global, path: &str) -> Result<Vec<u8>, Trouble> {
-        match fs::read(self.files, path) {
-            Ok(text) => Ok(text),
+impl<D: Disk + Drop, O: Write + Drop, R: Print + Eprint> World for Host<'_, D, O, R> {
+    ghost use Rattle.std.specs.Prelude.{◌∷◌, [], OnOk, is_ok};
+    ghost use Rattle.std.specs.Io.KnownBytes.{Appends};
+    ghost use Rattle.program.specs.Events.{Adds, writes};
+    ghost use Rattle.program.specs.Output.{AreDone};
+
+    ghost done = { λ h es. AreDone (D.holds h.disk) (O.contents h.out) es };
+
+    fn read(&mut self, alloc: Global, path: &str) -> Result<Vec<u8>, Trouble> {
+        match self.disk.open(path) {
+            Ok(mut file) => read_whole(alloc, &mut file),
             Err(error) => Err(trouble_of(&error)),
         }
     }
 
-    fn write(&mut self, path: &str, text: &[u8]) -> Result<(), Trouble> {
-        match fs::write(self.files, path, text) {
-            Ok(()) => Ok(()),
+    fn write(&mut self, path: &str, text: &[u8]) -> Result<(), Trouble>
+        ensures done { Adds (AreDone (D.holds self.old.disk) (O.contents self.old.out))
+            (AreDone (D.holds self.new.disk) (O.contents self.new.out)) (writes path.now text.now (is_ok result) ∷ []) }
+        ensures whole { OnOk result ((made written : D.File) × D.is_at made path.now
+            × Appends (D.File.contents made) (D.File.contents written) text.now) }
+    {
+        match self.disk.create(path) {
+            Ok(mut file) => write_whole(&mut file, text),
             Err(error) => Err(trouble_of(&error)),
         }
     }
 
     fn print(&mut self, text: &[u8]) -> bool {
-        self.rt.write_all(text).is_ok()
+        write_whole(&mut self.out, text).is_ok()
     }
 
     fn say(&mut self, line: &str) {
@@ -61,7 +81,9 @@ impl<F: Files + AllocGlobal, R: AllocGlobal + Print + Eprint> World for Host<'_,
 }
 
 /// Why nothing was done: the words of the command line are not read.
-fn unread_line(trouble: Trouble) -> &'static str {
+fn unread_line(trouble: Trouble) -> &'static str
+    ensures { result.now ≡ no_words trouble }
+{
     match trouble {
         Trouble::NoMemory => "no memory",
         Trouble::Refused => "the command line cannot be read",
@@ -76,11 +98,43 @@ fn words_of<R: Env + AllocGlobal>(rt: &R) -> Result<Vec<String>, Trouble> {
     }
 }
 
+/// Does on files and streams what the words of a command line ask for, of which the first is the program's name, and answers the status
+/// that the program ends with; where there are no words, it says why. Who watches is told of a run, and how far a library is taken. It
+/// may wait.
+///
+/// On a standard output that tells what it holds, and holds nothing before, stands then just what was printed: each text whole, or a front
+/// of it where it is told that it isn't; unless the parser's text was shown, of which nothing is known. Each text that was read is all that
+/// its file holds, where that is known.
+pub fn run_on<
+    R: Threads + Wait + Sync,
+    D: Disk + Drop,
+    O: Write + Drop,
+    E: Print + Eprint,
+    V: Watch + Follow + Sync,
+>(
+    rt: &R,
+    alloc: Global,
+    host: &mut Host<'_, D, O, E>,
+    keys: Option<RandomState>,
+    words: Result<Vec<String>, Trouble>,
+    watch: &V,
+) -> u8
+    ensures { (es : List Event)
+        × (O.contents host.old.out ≡ Some [] → AreDone (D.holds host.new.disk) (O.contents host.new.out) es)
+        × IsRun (is_some keys) (result_map_both (λ ws. map string_bytes ws.items) (λ why. why) words) es result }
+{
+    match words {
+        Ok(words) => obey(rt, alloc, host, keys, words.as_slice(), watch),
+        Err(trouble) => refuse(host, unread_line(trouble)),
+    }
+}
+
 /// Does what the command line asks for, on the files and streams of the system, and answers the status that the program ends with. Where
 /// the standard error is a terminal, a line there says how far a run is. It may wait.
 pub fn run<R>(rt: &R, is_terminal: bool) -> u8
 where
     R: Files + AllocGlobal + Print + Eprint + RandomSource + Env + Clock + Threads + Wait + Sync,
+    ensures { (keyed : Bool) × (words : Result (List Text) TroubleOfWords) × (es : List Event) × IsRun keyed words es result }
 {
     run_over(rt, rt, is_terminal)
 }
@@ -88,15 +142,17 @@ where
 /// The same, where the files are those of one runtime, and all else is that of another one. It may wait.
 pub fn run_over<F, R>(files: &F, rt: &R, is_terminal: bool) -> u8
 where
-    F: Files + AllocGlobal,
+    F: Files,
     R: AllocGlobal + Print + Eprint + RandomSource + Env + Clock + Threads + Wait + Sync,
+    ensures { (keyed : Bool) × (words : Result (List Text) TroubleOfWords) × (es : List Event) × IsRun keyed words es result }
 {
-    let mut host = Host { files, rt };
-    let words = match words_of(rt) {
-        Ok(words) => words,
-        Err(trouble) => return refuse(&mut host, unread_line(trouble)),
+    let mut host = Host {
+        disk: SystemFiles { files },
+        out: io::writer(rt),
+        rt,
     };
+    let words = words_of(rt);
     let progress = Progress::new(rt, is_terminal);
     let keys = RandomState::new(rt).ok();
-    obey(rt, rt.alloc(), &mut host, keys, words.as_slice(), &progress)
+    run_on(rt, rt.alloc(), &mut host, keys, words, &progress)
 }

@@ -2,13 +2,16 @@
 #![tactic(auto)]
 
 mod conduct;
+mod disk;
 mod give;
 mod host;
 mod progress;
 mod take;
+mod whole;
 mod world;
 
 pub use commandline::{GiveOrder, Order, TakeOrder, give_of, order_of, take_of};
 pub use conduct::obey;
-pub use host::{run, run_over};
+pub use disk::{Disk, SystemFiles};
+pub use host::{Host, run, run_on, run_over};
 pub use world::{Trouble, World};

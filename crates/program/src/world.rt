@@ -16,8 +16,8 @@ pub trait World {
     ghost use Rattle.std.specs.Prelude.{◌≡◌, ◌++◌, ◌∷◌, [], List, Option, None, codes, is_ok};
     ghost use Rattle.program.specs.Events.{Event, Adds, bytes_of, reads, writes, prints, says, shows};
 
-    /// What was done so far, where it is known.
-    ghost done: { Self → Option (List Event) } = { λ _. None };
+    /// Whether just this was done so far, as far as what lies outside tells.
+    ghost done: { Self → List Event → Type 0 };
 
     /// Reads the file at a path.
     ///
