@@ -59,7 +59,8 @@ module _ (words : List (Bor (List ℕ))) (left place : ℕ) (d : Bor (List ℕ))
   variable_more flags so b is =
       reverse-append flags (b ∷ [])
       ∙ ap (λ c. c ∷ reverse flags) is
-      ∙ ap (λ bs. (has_hypothesis_form (get_or words left d).now || is_in (seen_words (drop place words)) (get_or words left d).now) ∷ bs) so
+      ∙ ap
+      (λ bs. (has_hypothesis_form (get_or words left d).now || is_in (seen_words (drop place words)) (get_or words left d).now) ∷ bs) so
       ∙ ap variables_changing (sym front_is)
 
   -- one more word of a set of those behind

@@ -130,6 +130,7 @@ module _ (s : Scope) (cs vs fs ls : List Word) (f0 : Word → Bool) (same : (w :
         pub fourth : (flags : List Bool) → flags ≡ map (λ p. list_any (λ l. is_dotted l p) ls) ls → (why : Unnamed)
             → AreRefused f3 flags ls why → AreUnnamed s cs vs fs ls why
         fourth flags is (NoFreshName w) r =
+            let free : Word → Bool = beside (beside (beside (may_be_given s ls) cns) vns) fns in
             inr (
               cns,
               given_0,
@@ -139,7 +140,7 @@ module _ (s : Scope) (cs vs fs ls : List Word) (f0 : Word → Bool) (same : (w :
                 inr (
                   fns,
                   given_2,
-                  refused_alike f3 (beside (beside (beside (may_be_given s ls) cns) vns) fns) same_3 (map (λ p. list_any (λ l. is_dotted l p) ls) ls)
+                  refused_alike f3 free same_3 (map (λ p. list_any (λ l. is_dotted l p) ls) ls)
                       ls w.now (subst (λ (bs : List Bool). IsRefused f3 bs ls w.now) is r),
                 ),
               ),

@@ -10,7 +10,8 @@ loop-place-init g c =
     record {
       frames = c.requires.frames;
       long = c.requires.long;
-      stands = λ ws are. start c.args.most xs ws c.len-place.result c.args.asked.items (c.len-place.ensures ∙ c.args.asked.ok.0 ∙ c.requires.long) are;
+      stands = λ ws are.
+          start c.args.most xs ws c.len-place.result c.args.asked.items (c.len-place.ensures ∙ c.args.asked.ok.0 ∙ c.requires.long) are;
     }
 
 pub loop-place-preserved : goal.loop-place-preserved
@@ -39,8 +40,8 @@ loop-place-preserved-then-index g c =
       frames = c.in_ok-wanted.ensures.frames;
       long = c.in_ok-wanted.ensures.long ∙ c.loop-place.invariant.long;
       stands = λ ws are.
-          turned_wanted c.args.most xs ws c.loop-place.place left c.loop-place.wanted.items c.index.result.now c.index.result.now within next
-          c.index.ensures (c.loop-place.invariant.stands ws are) c.if-index.true _ c.in_ok-wanted.ensures.widened;
+          turned_wanted c.args.most xs ws c.loop-place.place left c.loop-place.wanted.items c.index.result.now c.index.result.now within
+          next c.index.ensures (c.loop-place.invariant.stands ws are) c.if-index.true _ c.in_ok-wanted.ensures.widened;
     }
 
 pub returns-clause-chosen : goal.returns-clause-chosen
