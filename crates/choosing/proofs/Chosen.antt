@@ -19,16 +19,16 @@ use Rattle.choosing.specs.declared.wish.Wish.TheVariants as wish
 use Rattle.choosing.specs.declared.wish.Selection.{Selection}
 use Rattle.choosing.specs.declared.wish.Unchosen.{Unchosen}
 use Rattle.choosing.specs.declared.wish.Unchosen.TheVariants as unchosen
-use Rattle.choosing.specs.Choices.{first_unknown, labels_of, nearest, all_chosen, chosen_for, chosen_between, place_in, needed_by_all}
-use Rattle.choosing.specs.Choices.{asked_of, between}
+use Rattle.choosing.specs.Choices.{first_unknown, labels_of, labelled, have_room, nearest, all_chosen, chosen_for, chosen_between, place_in, needed_by_all}
+use Rattle.choosing.specs.Choices.{between}
 use Rattle.choosing.specs.Choices.{IsChosen, IsUnchosen}
 use Rattle.choosing.specs.Marks.{AreMarked, unknown_among, IsUnknownAmong}
-use Rattle.choosing.proofs.Apart.{map_alike, there, labels_pass, all_pass, count_flags}
+use Rattle.choosing.proofs.Apart.{map_alike, map_same, own_flags, there, labels_pass, filter_hold, count_flags}
 use Rattle.choosing.proofs.Marked.{found_at}
 use Rattle.choosing.proofs.Going.{unmarked_all}
 use Rattle.choosing.proofs.Known.{is_unknown, known_of_both, unknown_of_first, unknown_of_second, first_is_unknown, second_is_unknown}
 use Rattle.choosing.proofs.Known.{known_both, in_order}
-use Rattle.choosing.proofs.Turns.{few, filter_reverse, all_there, all_reverse}
+use Rattle.choosing.proofs.Turns.{few}
 use Rattle.choosing.proofs.Parts.{parts_first, parts_flags, parts_count, parts_there}
 
 -- ---- all
@@ -55,37 +55,37 @@ all_too_many s n h many = (all_chosen s, refl, length-map s.assertions (λ (x : 
 
 -- as many are asked for as flags are set
 pub asked_count : (s : Scope) (ws : List Word) (flags : List Bool) (n : ℕ) → AreMarked s.assertions (is_in ws) flags
-    → n ≡ length (filter (λ b. b) flags) → length (asked_of ws s) ≡ n
+    → n ≡ length (filter (λ b. b) flags) → length (labelled ws s.assertions) ≡ n
 asked_count s ws flags n are count =
     sym (count ∙ ap (λ bs. length (filter (λ b. b) bs)) (sym are) ∙ count_flags (λ (x : Assertion). is_in ws x.label) s.assertions)
 
 pub for_is_chosen : (s : Scope) (asked : Bor (List (Bor (List ℕ)))) (sel : Selection) (flags : List Bool) (n m : ℕ)
-    → AreMarked s.assertions (is_in (seen_words asked.now)) flags → n ≡ length (filter (λ b. b) flags) → n ≤ 4096
-    → AreMarked s.assertions (is_in (nearest (seen_words asked.now) (4096 - n) [] (reverse s.assertions))) sel.chosen.items
+    → Distinct bytes_eq (labels_of s.assertions) → AreMarked s.assertions (is_in (seen_words asked.now)) flags
+    → n ≡ length (filter (λ b. b) flags) → n ≤ 4096
+    → AreMarked s.assertions (is_in (nearest (have_room 4096 s.assertions) (seen_words asked.now) (reverse s.assertions))) sel.chosen.items
     → m ≡ length flags → sel.front.items ≡ replicate m false
     → first_unknown s (wish.For asked) ≡ None → IsChosen s (wish.For asked) sel
-for_is_chosen s asked sel flags n m are count small chosen long front known =
+for_is_chosen s asked sel flags n m d are count small chosen long front known =
     let ws = seen_words asked.now in
-    let q = is_in (labels_of s.assertions) in
-    let k : length (asked_of ws s) ≡ n = asked_count s ws flags n are count in
-    let made : nearest ws (4096 - n) [] (reverse s.assertions) ≡ (chosen_for ws s).chosen =
-    ap (λ j. nearest ws (4096 - j) [] (reverse s.assertions)) (sym k) in
-    let size : m ≡ length s.assertions =
-    long ∙ ap length (sym are) ∙ length-map s.assertions (λ (x : Assertion). is_in ws x.label) in
+    let xs = s.assertions in
+    let wanted = nearest (have_room 4096 xs) ws (reverse xs) in
+    let test : Assertion → Bool = λ x. is_in wanted x.label in
+    let k : length (labelled ws xs) ≡ n = asked_count s ws flags n are count in
+    let size : m ≡ length xs = long ∙ ap length (sym are) ∙ length-map xs (λ (x : Assertion). is_in ws x.label) in
     record {
       choice = chosen_for ws s;
       is_choice = refl;
       flags = record {
-        chosen_are = subst (λ (vs : List Word). map (λ x. is_in vs x.label) s.assertions ≡ sel.chosen.items) made chosen;
-        front_are = unmarked_all s.assertions m size ∙ sym front;
+        chosen_are = map_same (λ x. is_in (labels_of (labelled wanted xs)) x.label) test xs (own_flags test xs d) ∙ chosen;
+        front_are = unmarked_all xs m size ∙ sym front;
       };
-      there = subst (λ (vs : List Word). list_all q vs ≡ true) made
-          (all_there q ws (4096 - n) [] (reverse s.assertions)
-          (all_reverse (λ x. q x.label) s.assertions (all_pass (λ x. q x.label) s.assertions (there s.assertions))));
-      few = subst (λ (vs : List Word). length vs ≤ 4096) made
-          (let f = few ws (4096 - n) [] (reverse s.assertions) in
-          let r = filter_reverse (λ x. is_in ws x.label) s.assertions in
-          omega arith);
+      there =
+          labels_pass (is_in (labels_of xs)) (labelled wanted xs)
+          (filter_hold (λ x. is_in (labels_of xs) x.label ≡ true) test xs (there xs));
+      few =
+          let f : length (labelled wanted xs) ≤ 4096 = few 4096 xs ws (reverse xs) (omega arith) in
+          let e = length-map (labelled wanted xs) (λ (x : Assertion). x.label) in
+          omega arith;
       known = known;
       in_order = λ h. h;
     }

@@ -1,6 +1,6 @@
 -- Which assertions of a source a wish chooses.
-use Rattle.std.specs.Prelude.{◌≡◌, ◌<◌, ◌≤◌, ◌+◌, ℕ, pred, List, [], ◌∷◌, ◌++◌, map, filter, find, length, reverse, take, drop}
-use Rattle.std.specs.Prelude.{Option, Some, None, IsTrue, if◌then◌else◌, ◌&&◌, nat_lt, ◌-◌}
+use Rattle.std.specs.Prelude.{◌≡◌, ◌<◌, ◌≤◌, ◌+◌, ℕ, Bool, List, [], ◌∷◌, ◌++◌, map, filter, find, length, reverse, take, drop}
+use Rattle.std.specs.Prelude.{Option, Some, None, IsTrue, if◌then◌else◌, nat_lt}
 use mathlib.Core.Bool.{not}
 use Rattle.std.specs.List.{list_all}
 use Rattle.std.specs.Str.{bytes_eq}
@@ -31,20 +31,30 @@ all_chosen s = record { chosen = labels_of s.assertions; front = [] }
 
 -- ---- some assertions, and what their proofs need: the nearest first, as long as there is room
 
--- of assertions, the last first: those that are asked for, and those that a later chosen one needs, as long as there is room
-abbrev pub nearest : List Word → ℕ → List Word → List Assertion → List Word
-nearest asked room wanted [] = []
-nearest asked room wanted (x ∷ before) =
-    if is_in asked x.label then x.label ∷ nearest asked room (needed (reverse before) x ++ wanted) before else (
-    if is_in wanted x.label && nat_lt 0 room then x.label ∷ nearest asked (pred room) (needed (reverse before) x ++ wanted) before else
-    nearest asked room wanted before)
+-- the assertions with these labels
+abbrev pub labelled : List Word → List Assertion → List Assertion
+labelled labels xs = filter (λ x. is_in labels x.label) xs
 
--- those that are asked for
-abbrev pub asked_of : List Word → Scope → List Assertion
-asked_of asked s = filter (λ x. is_in asked x.label) s.assertions
+-- of some assertions, so many have these labels at most
+abbrev pub have_room : ℕ → List Assertion → List Word → Bool
+have_room most xs labels = not (nat_lt most (length (labelled labels xs)))
 
+-- what is wanted with what an assertion needs, where all of it has room. Else the assertion is taken as an axiom, and wants nothing
+abbrev pub with_needs : (List Word → Bool) → List Word → List Word → List Word
+with_needs has_room needs wanted = if has_room (needs ++ wanted) then needs ++ wanted else wanted
+
+-- of assertions, the last first, each that is wanted wants what it needs
+abbrev pub nearest : (List Word → Bool) → List Word → List Assertion → List Word
+nearest has_room wanted [] = wanted
+nearest has_room wanted (x ∷ before) =
+    nearest has_room (if is_in wanted x.label then with_needs has_room (needed (reverse before) x) wanted else wanted) before
+
+-- those that are asked for, and the nearest of those that they need
 abbrev pub chosen_for : List Word → Scope → Choice
-chosen_for asked s = record { chosen = nearest asked (MOST_ASSERTIONS - length (asked_of asked s)) [] (reverse s.assertions); front = [] }
+chosen_for asked s = record {
+  chosen = labels_of (labelled (nearest (have_room MOST_ASSERTIONS s.assertions) asked (reverse s.assertions)) s.assertions);
+  front = [];
+}
 
 -- ---- those between two, and in front of them what their proofs cite
 
@@ -111,7 +121,7 @@ pub record IsChosen (s : Scope) (w : Wish) (sel : Selection) : Type 0 where
 -- a wish for so many, whose labels are known and stand the right way round: more than 4,096
 abbrev pub IsWishForMany : Scope → Wish → ℕ → Type 0
 IsWishForMany s (wish.For asked) n =
-    (length (asked_of (seen_words asked.now) s) ≡ n) × (MOST_ASSERTIONS < n) × (first_unknown s (wish.For asked) ≡ None)
+    (length (labelled (seen_words asked.now) s.assertions) ≡ n) × (MOST_ASSERTIONS < n) × (first_unknown s (wish.For asked) ≡ None)
 IsWishForMany s (wish.These labels axioms) n =
     (length (seen_words labels.now) ≡ n) × (MOST_ASSERTIONS < n) × (first_unknown s (wish.These labels axioms) ≡ None)
 IsWishForMany s w n = (choice : Choice) × IsChoice s w choice × (length choice.chosen ≡ n) × (MOST_ASSERTIONS < n) × (StandsBehind s w → ⊥)

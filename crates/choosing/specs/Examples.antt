@@ -1,15 +1,15 @@
 -- Examples of choices, that compute: the definitions are neither empty nor too strong.
-use Rattle.std.specs.Prelude.{◌≡◌, List, [], ◌∷◌, codes, reverse, Some, None}
+use Rattle.std.specs.Prelude.{◌≡◌, ℕ, List, [], ◌∷◌, ◌++◌, codes, reverse, Some, None}
 use Rattle.mmtext.specs.Words.{Word}
 use Rattle.source.specs.Scopes.{Assertion}
 use Rattle.source.specs.Statements.{normal}
 use Rattle.source.specs.Examples.{wff, ax, fx, fy}
 use Rattle.taking.specs.Examples.{whole}
-use Rattle.choosing.specs.Choices.{chosen_for, chosen_between, nearest}
+use Rattle.choosing.specs.Choices.{labels_of, chosen_for, chosen_between, labelled, have_room, nearest}
 
 -- of m, n and t, of which t cites m, t alone is asked for: n isn't chosen, and nothing stands in front
 abbrev pub ForTakesWhatIsNeeded : Type 0
-ForTakesWhatIsNeeded = chosen_for (codes "t" ∷ []) whole ≡ record { chosen = codes "t" ∷ codes "m" ∷ []; front = [] }
+ForTakesWhatIsNeeded = chosen_for (codes "t" ∷ []) whole ≡ record { chosen = codes "m" ∷ codes "t" ∷ []; front = [] }
 
 -- from n to t, t cites m before them, which stands in front; from m to t it is one of them
 abbrev pub BetweenTakesTheFront : Type 0
@@ -34,9 +34,20 @@ three = record {
 abbrev pub four : List Assertion
 four = alone (codes "zero") (codes "0") ∷ alone (codes "one") (codes "1") ∷ ax ∷ three ∷ []
 
--- with room for all, for two, and for none: the nearest are chosen, the last first
+-- and a theorem that cites three: $p wff ( 0 1 ) $= three $.
+abbrev pub again : Assertion
+again = record three { label = codes "again"; proof = Some (normal (codes "three" ∷ [])) }
+
+abbrev pub five : List Assertion
+five = four ++ again ∷ []
+
+abbrev pub nearest_of : ℕ → List Word → List Word
+nearest_of most asked = labels_of (labelled (nearest (have_room most five) asked (reverse five)) five)
+
+-- with room for all; with room for all but one, three is an axiom, and nothing that it needs takes room: another one has it; with none
 abbrev pub NearestComesFirst : Type 0
 NearestComesFirst =
-    (nearest (codes "three" ∷ []) 3 [] (reverse four) ≡ codes "three" ∷ codes "ax" ∷ codes "one" ∷ codes "zero" ∷ [])
-    × (nearest (codes "three" ∷ []) 2 [] (reverse four) ≡ codes "three" ∷ codes "ax" ∷ codes "one" ∷ [])
-    × (nearest (codes "three" ∷ []) 0 [] (reverse four) ≡ codes "three" ∷ [])
+    (nearest_of 5 (codes "again" ∷ []) ≡ codes "zero" ∷ codes "one" ∷ codes "ax" ∷ codes "three" ∷ codes "again" ∷ [])
+    × (nearest_of 4 (codes "again" ∷ []) ≡ codes "three" ∷ codes "again" ∷ [])
+    × (nearest_of 4 (codes "again" ∷ codes "one" ∷ []) ≡ codes "one" ∷ codes "three" ∷ codes "again" ∷ [])
+    × (nearest_of 1 (codes "again" ∷ []) ≡ codes "again" ∷ [])

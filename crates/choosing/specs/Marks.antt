@@ -7,7 +7,7 @@ use Rattle.mmtext.specs.Words.{Word}
 use Rattle.source.specs.Scopes.{Assertion, Scope, is_in}
 use Rattle.taking.specs.Nodes.{Shared}
 use Rattle.taking.specs.Reasons.{needed}
-use Rattle.choosing.specs.Choices.{labels_of, place_in}
+use Rattle.choosing.specs.Choices.{labels_of, have_room, with_needs, place_in}
 use Rattle.choosing.specs.declared.wish.Unchosen.{Unchosen}
 use Rattle.choosing.specs.declared.wish.Unchosen.TheVariants as unchosen
 
@@ -33,6 +33,12 @@ is_named labels nodes w = list_any (λ n. bytes_eq w (slice_index_or labels n.na
 abbrev pub AreMarkedToo : List Assertion → ℕ → (Word → Bool) → List Bool → Option Assertion → Type 0
 AreMarkedToo xs place test marks None = Unit {0}
 AreMarkedToo xs place test marks (Some x) = AreMarked xs (λ w. is_in (needed (take place xs) x) w || test w) marks
+
+-- of marks that are set where a label is wanted: what is wanted with the assertion at a place is marked
+abbrev pub AreWidened : ℕ → List Assertion → ℕ → List Word → List Bool → Option Assertion → Type 0
+AreWidened most xs place wanted marks None = Unit {0}
+AreWidened most xs place wanted marks (Some x) =
+    AreMarked xs (is_in (with_needs (have_room most xs) (needed (take place xs) x) wanted)) marks
 
 -- those from a place up to another
 abbrev pub from_to : ℕ → ℕ → List Assertion → List Assertion

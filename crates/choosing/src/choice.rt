@@ -1,6 +1,6 @@
 //! Choosing: from a wish to what is chosen.
 
-ghost use Rattle.std.specs.Prelude.{◌≡◌, ◌≢◌, None, Some, IfOk, IfErr, length, filter};
+ghost use Rattle.std.specs.Prelude.{◌≡◌, ◌≢◌, None, Some, IfOk, IfErr};
 ghost use Rattle.source.specs.Whole.{IsWhole};
 ghost use Rattle.prooftrees.specs.Frames.{Holds};
 ghost use Rattle.choosing.specs.Choices.{place_in, IsChosen, IsUnchosen};
@@ -8,7 +8,7 @@ ghost use Rattle.choosing.specs.declared.wish.Unchosen.TheVariants.{NoMemory, Un
 ghost use Rattle.choosing.specs.declared.wish.Wish.TheVariants.{All, For, Between, These};
 
 use crate::between::{needed_between, selected};
-use crate::marks::marks_of;
+use crate::marks::{count_marked, marks_of};
 use crate::nearest::choose_nearest;
 use crate::wish::{Selection, Unchosen, Wish};
 use mmsyntax::MOST_ASSERTIONS;
@@ -16,13 +16,6 @@ use prooftrees::Frames;
 use source::Declared;
 use std::alloc::Global;
 use std::hash::RandomState;
-
-/// How many are marked.
-fn count_marked(marks: &[bool]) -> usize
-    ensures { result ≡ length (filter (λ b. b) marks.now) }
-{
-    marks.iter().filter(|is_marked| **is_marked).count()
-}
 
 /// All are chosen.
 fn choose_all<'a, 'w, D: Declared<'a>>(
@@ -62,15 +55,8 @@ fn choose_for<'a, 'w, D: Declared<'a>>(
     if count > MOST_ASSERTIONS {
         return Err(Unchosen::TooMany(count));
     }
-    let chosen = choose_nearest(
-        alloc,
-        keys,
-        declared,
-        frames,
-        &asked,
-        MOST_ASSERTIONS - count,
-    )?;
     let front = vec![in alloc; false; asked.len()]?;
+    let chosen = choose_nearest(alloc, keys, declared, frames, asked, MOST_ASSERTIONS)?;
     Ok(Selection { chosen, front })
 }
 

@@ -12,7 +12,7 @@ pub fn between_takes_the_front()
     ensures { BetweenTakesTheFront }
 {}
 
-/// As long as there is room, the nearest are chosen.
+/// As long as there is room, the nearest are chosen, and what an axiom needs takes none of it.
 pub fn nearest_comes_first()
     ensures { NearestComesFirst }
 {}

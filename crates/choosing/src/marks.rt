@@ -1,6 +1,6 @@
 //! Marks on assertions, by their places.
 
-ghost use Rattle.std.specs.Prelude.{◌≡◌, ◌≢◌, ◌<◌, ◌||◌, Bool, length, map, slice_get, All, IfOk, IfErr, None, is_some};
+ghost use Rattle.std.specs.Prelude.{◌≡◌, ◌≢◌, ◌<◌, ◌||◌, Bool, length, filter, map, slice_get, All, IfOk, IfErr, None, is_some};
 ghost use Rattle.std.specs.Str.{bytes_eq};
 ghost use Rattle.mmtext.specs.Words.{Word};
 ghost use Rattle.mmsyntax.specs.Assertions.{Distinct};
@@ -20,6 +20,13 @@ use source::Declared;
 use std::alloc::{AllocError, Global};
 use std::hash::RandomState;
 use taking::Nodes;
+
+/// How many are marked.
+pub(crate) fn count_marked(marks: &[bool]) -> usize
+    ensures { result ≡ length (filter (λ b. b) marks.now) }
+{
+    marks.iter().filter(|is_marked| **is_marked).count()
+}
 
 /// The assertion with a label is marked, if there is one, and this says whether there is.
 fn mark<'a, D: Declared<'a>>(declared: &D, label: &[u8], marks: &mut [bool]) -> bool

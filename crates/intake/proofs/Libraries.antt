@@ -20,7 +20,7 @@ use Rattle.sites.specs.Sites.{Sited}
 use Rattle.gathering.specs.declared.assembling.Gathered.{Gathered}
 use Rattle.gathering.specs.Placed.{map_of, tables_of, floats_from}
 use Rattle.gathering.specs.Gatherings.{told_in}
-use Rattle.intake.specs.Parts.{AreTakenBy, IsGathered, AreAsMany, lists_of, changed_of}
+use Rattle.intake.specs.Parts.{AreDrafted, IsGathered, AreAsMany, lists_of, changed_of}
 
 -- ---- flags
 
@@ -130,22 +130,26 @@ module _ (s : Scope) (w : Wish) (t : Sited) (names : LibraryNames) (g : Gathered
     labels = subst (λ ls. IsTrue (list_all (is_label_named_well s ls) (zip t.labels names.labels))) (sym labels_are) is.names_are.labels;
   }
 
-  pub taken_of : AreTakenBy s w (lists_of t names g.assertions.items) (told_in g.axioms.items) (changed_of t names) flags
-  taken_of = record {
-    taken = record {
-      choice = is.choice;
-      is_choice = is.is_choice;
-      known = is.known;
-      in_order = is.in_order;
-      takes = record {
-        there = is.there;
-        places = map_of t names;
-        has_places = has_places;
-        keeps_names = keeps_names;
-        taken = is.taken;
-        axioms_told = is.told_are;
-        names_told = refl;
+  pub drafted_of : AreDrafted s w t (lists_of t names g.assertions.items) (told_in g.axioms.items) (changed_of t names) flags
+  drafted_of = record {
+    taken_by = record {
+      taken = record {
+        choice = is.choice;
+        is_choice = is.is_choice;
+        known = is.known;
+        in_order = is.in_order;
+        few = is.few;
+        takes = record {
+          there = is.there;
+          places = map_of t names;
+          has_places = has_places;
+          keeps_names = keeps_names;
+          taken = is.taken;
+          axioms_told = is.told_are;
+          names_told = refl;
+        };
       };
+      flags_are = is.flags_are;
     };
-    flags_are = is.flags_are;
+    placed = record { constants = refl; variables = refl; floats = refl; labels = labels_are };
   }

@@ -1,11 +1,11 @@
 -- Of the code's inside, apart from the rules: what is known of a source between the steps of the call.
-use Rattle.std.specs.Prelude.{◌≡◌, ◌≤◌, Bool, List, [], map, length, None}
+use Rattle.std.specs.Prelude.{◌≡◌, ◌≤◌, Bool, List, [], map, length, Option, None}
 use Rattle.mmtext.specs.Words.{Word}
 use Rattle.mmsyntax.specs.declared.statement.Assertion.{Assertion as Unit'}
 use Rattle.mmsyntax.specs.Tables.{Contents}
 use Rattle.source.specs.Scopes.{Scope, is_in}
 use Rattle.taking.specs.declared.reason.Reason.{Reason}
-use Rattle.taking.specs.Names.{Naming, renamed}
+use Rattle.taking.specs.Names.{Map, Naming, renamed}
 use Rattle.taking.specs.Reasons.{Choice}
 use Rattle.taking.specs.Taken.{AreTaken, told, chosen_of}
 use Rattle.choosing.specs.Choices.{IsChoice, AreThere, first_unknown, StandsBehind}
@@ -16,8 +16,9 @@ use Rattle.sites.specs.Sites.{Sited, AreTyped, AreSites}
 use Rattle.gathering.specs.declared.assembling.Gathered.{Gathered}
 use Rattle.gathering.specs.Placed.{map_of, tables_of}
 use Rattle.gathering.specs.Gatherings.{told_in}
-use Rattle.intake.specs.Intakes.{IsTakenOf}
-use Rattle.mmsyntax.specs.declared.limits.TheConstants.{MOST_DECLARED}
+use Rattle.drafts.specs.declared.limits.Limit.{Limit}
+use Rattle.intake.specs.Intakes.{IsTakenOf, Chooses, name_at}
+use Rattle.mmsyntax.specs.declared.limits.TheConstants.{MOST_ASSERTIONS, MOST_DECLARED}
 
 -- lists that are taken of a source, with what is told of them, and flags that say of each assertion whether it was taken
 pub record AreTakenBy (s : Scope) (w : Wish) (db : Contents) (axioms : List (Word × Reason)) (names : List Naming) (flags : List Bool)
@@ -34,6 +35,7 @@ pub record IsGathered (s : Scope) (w : Wish) (t : Sited) (names : LibraryNames) 
   pub is_choice : IsChoice s w choice
   pub known : first_unknown s w ≡ None
   pub in_order : StandsBehind s w → ⊥
+  pub few : length choice.chosen ≤ MOST_ASSERTIONS
   pub there : AreThere s choice.chosen
   pub sites : AreSites s (chosen_of choice s) t
   pub names_are : AreNamedWell s t.constants t.variables t.floats t.labels names
@@ -48,8 +50,31 @@ changed_of t names = renamed (map_of t names) (tables_of t names)
 -- these flags say what a wish chooses
 pub record IsChoiceByFlags (s : Scope) (w : Wish) (flags : List Bool) : Type 0 where
   pub choice : Choice
-  pub is_choice : IsChoice s w choice
+  pub chooses : Chooses s w choice
   pub flags_are : map (λ x. is_in choice.chosen x.label) s.assertions ≡ flags
+
+-- what a wish chooses has these sites
+pub record HasSites (s : Scope) (w : Wish) (t : Sited) : Type 0 where
+  pub choice : Choice
+  pub chooses : Chooses s w choice
+  pub sites : AreSites s (chosen_of choice s) t
+
+-- what has places in the library has these sites
+pub record IsPlacedBy (t : Sited) (m : Map) : Type 0 where
+  pub constants : m.constants ≡ t.constants
+  pub variables : m.variables ≡ t.variables
+  pub floats : m.floats ≡ t.floats
+  pub labels : map (λ p. p.0) m.labels ≡ t.labels
+
+-- lists that are taken of a source, by these sites
+pub record AreDrafted (s : Scope) (w : Wish) (t : Sited) (db : Contents) (axioms : List (Word × Reason)) (names : List Naming)
+    (flags : List Bool) : Type 0 where
+  pub taken_by : AreTakenBy s w db axioms names flags
+  pub placed : IsPlacedBy t taken_by.taken.takes.places
+
+-- the name in the source of what stands at the place of a limit
+abbrev pub name_by : Sited → Limit → Option Word
+name_by t = name_at t.constants t.variables t.floats t.labels
 
 -- sites have as many names, and few $f
 pub record AreAsMany (sites : Sited) (names : LibraryNames) : Type 0 where

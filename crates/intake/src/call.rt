@@ -9,7 +9,7 @@ ghost use Rattle.sites.specs.Namings.{AreNamedWell};
 ghost use Rattle.choosing.specs.Choices.{IsChosen};
 ghost use Rattle.choosing.specs.declared.wish.Wish.{Wish as WishOf};
 ghost use Rattle.intake.specs.Intakes.{IsTakenByWish, IsLibraryOf, IsRefused, IsRefusedOf};
-ghost use Rattle.intake.specs.Parts.{IsChoiceByFlags};
+ghost use Rattle.intake.specs.Parts.{IsChoiceByFlags, HasSites};
 ghost use Rattle.intake.specs.declared.refusal.Refusal.TheVariants.{NoMemory};
 ghost use Rattle.mmsyntax.specs.declared.limits.TheConstants.{MOST_DECLARED};
 
@@ -20,13 +20,14 @@ use choosing::{Selection, Unchosen, Wish, choose};
 use gathering::{Follow, Placed, gather};
 use prooftrees::Frames;
 use scopes::Scopes;
-use sites::{LibraryNames, Sites, Unnamed, name_all, sites_of};
+use sites::{LibraryNames, Sites, name_all, sites_of};
 use source::Declared;
 use source::laws::sources_are_whole;
 use sourcereader::read_source;
 use std::alloc::Global;
 use std::hash::RandomState;
 use std::thread::Threads;
+use taking::Unnamed;
 
 /// What is chosen of a source. After an error nothing is said of the frames.
 fn select<'a, 'w, D: Declared<'a>>(
@@ -80,7 +81,7 @@ fn names_for<'a, 'w, D: Declared<'a>>(
     ensures names { IfOk result (AreNamedWell (D.scope declared.now) sites.now.constants sites.now.variables sites.now.floats
         sites.now.labels) }
     ensures few { IfOk result (λ _. length sites.now.floats ≤ MOST_DECLARED) }
-    ensures refused { (w : WishOf) → IfErr result (IsRefusedOf (D.scope declared.now) w) }
+    ensures refused { (w : WishOf) → HasSites (D.scope declared.now) w sites.now → IfErr result (IsRefusedOf (D.scope declared.now) w) }
 {
     match name_all(
         alloc,
@@ -92,11 +93,8 @@ fn names_for<'a, 'w, D: Declared<'a>>(
         sites.labels(),
     ) {
         Ok(names) => Ok(names),
-        Err(Unnamed::NoFreshName(word)) if declared.has_name(word) => Err(Refusal::NoFreshName(
-            word,
-        )),
-        // Each of these names is one of the source.
-        Err(_) => Err(Refusal::NoMemory),
+        Err(Unnamed::NoFreshName(word)) => Err(Refusal::NoFreshName(word)),
+        Err(Unnamed::NoMemory) => Err(Refusal::NoMemory),
     }
 }
 

@@ -1,8 +1,10 @@
 //! The library of what was gathered: its draft is declared, and its proofs are checked.
 
-ghost use Rattle.std.specs.Prelude.{◌≡◌, ◌≢◌, List, map, IfOk, IfErr, MatchOption};
+ghost use Rattle.std.specs.Prelude.{◌≡◌, ◌≢◌, Bool, List, map, slice_get, IfOk, IfErr, MatchOption};
+ghost use Rattle.std.specs.Option.{option_map};
 ghost use Rattle.mmtext.specs.Words.{Word};
 ghost use Rattle.source.specs.Scopes.{Scope};
+ghost use Rattle.source.specs.Views.{seen_words};
 ghost use Rattle.taking.specs.declared.reason.Reason.{Reason};
 ghost use Rattle.taking.specs.Names.{Naming};
 ghost use Rattle.choosing.specs.declared.wish.Wish.{Wish};
@@ -13,8 +15,8 @@ ghost use Rattle.drafts.specs.declared.draft.Undeclared.TheVariants.{NoMemory as
 ghost use Rattle.mmsyntax.specs.Layout.{HasSpelling};
 ghost use Rattle.mmsyntax.specs.Tables.{Contents};
 ghost use Rattle.gathering.specs.Gatherings.{told_in, told_names};
-ghost use Rattle.intake.specs.Intakes.{IsTakenOf, IsLibraryOf, IsRefusedOf, IsProofFault};
-ghost use Rattle.intake.specs.Parts.{AreAsMany, AreTakenBy, IsGathered, lists_of, changed_of};
+ghost use Rattle.intake.specs.Intakes.{IsLibraryOf, IsRefusedOf, IsProofFault};
+ghost use Rattle.intake.specs.Parts.{AreAsMany, AreDrafted, AreTakenBy, IsGathered, lists_of, changed_of, name_by};
 
 use crate::drafting::{floats, put_changed};
 use crate::refusal::Refusal;
@@ -76,28 +78,41 @@ fn draft_of(
     })
 }
 
+/// The word at a place, if there is one.
+fn word_at<'a>(words: &[&'a [u8]], place: usize) -> Option<&'a [u8]>
+    ensures { option_map (λ w. w.now) result ≡ slice_get (seen_words words.now) place }
+{
+    match words.get(place) {
+        Some(word) => Some(*word),
+        None => None,
+    }
+}
+
 /// The name in the source of what passes a limit by itself.
-fn name_at<'a>(sites: &Sites<'a>, limit: Limit) -> Option<&'a [u8]> {
+fn name_at<'a>(sites: &Sites<'a>, limit: Limit) -> Option<&'a [u8]>
+    ensures { option_map (λ w. w.now) result ≡ name_by sites.now limit }
+{
     match limit {
         Limit::ManyConstants(_)
         | Limit::ManyVariables(_)
         | Limit::ManyFloats(_)
         | Limit::ManyAssertions(_) => None,
-        Limit::LongConstant(place) => sites.constants().get(place).copied(),
-        Limit::LongVariable(place) => sites.variables().get(place).copied(),
-        Limit::LongFloat(place) => sites.floats().get(place).copied(),
+        Limit::LongConstant(place) => word_at(sites.constants(), place),
+        Limit::LongVariable(place) => word_at(sites.variables(), place),
+        Limit::LongFloat(place) => word_at(sites.floats(), place),
         Limit::LongLabel(place)
         | Limit::ManyHypotheses(place)
         | Limit::ManySymbols(place)
         | Limit::ManyPairs(place)
-        | Limit::ManySteps(place) => sites.labels().get(place).copied(),
+        | Limit::ManySteps(place) => word_at(sites.labels(), place),
     }
 }
 
 /// Why a draft makes no library.
 fn undeclared<'a, 'w>(sites: &Sites<'a>, why: Undeclared) -> Refusal<'a, 'w>
-    ensures { (s : Scope) (w : Wish) (db : Contents) (axioms : List (Word × Reason)) (names : List Naming)
-        → IsTakenOf s w db axioms names → (why ≢ OutOfMemory → HasSpelling db → ⊥) → IsTold db why → IsRefusedOf s w result }
+    ensures { (s : Scope) (w : Wish) (db : Contents) (axioms : List (Word × Reason)) (names : List Naming) (flags : List Bool)
+        → AreDrafted s w sites.now db axioms names flags → (why ≢ OutOfMemory → HasSpelling db → ⊥) → IsTold db why
+        → IsRefusedOf s w result }
 {
     match why {
         Undeclared::Passes(limit) => Refusal::Passes(limit, name_at(sites, limit)),

@@ -1,11 +1,10 @@
 -- An item cut behind its $=.
-use Rattle.std.proofs.Common.{◌≡◌, ◌≢◌, ◌∙◌, ℕ, ◌<◌, ◌≤◌, Bool, true, false, cond, List, [], ◌∷◌, ◌++◌, codes, refl, sym, ap, subst, arith}
-use Rattle.std.proofs.Common.{append_assoc}
+use Rattle.std.proofs.Common.{◌≡◌, ◌≢◌, ◌∙◌, ℕ, ◌<◌, Bool, true, false, cond, List, [], ◌∷◌, ◌++◌, codes, refl, sym, ap, subst, arith}
 use Rattle.std.specs.Str.{bytes_eq}
 use Rattle.mmtext.specs.Words.{Word}
 use Rattle.items.specs.Items.{Piece, Item, words, said, outside, is_open_behind, asserts, label_among, label_of}
 use Rattle.items.specs.Rewriting.{IsUpToProof}
-use Rattle.items.specs.Reading.{IsFirst, end_of, Stands}
+use Rattle.items.specs.Reading.{end_of, Stands}
 use Rattle.items.proofs.Standing.{words_both}
 use Rattle.items.proofs.Commented.{outside_both}
 use Rattle.items.proofs.Reworded.{one_left, stands_later}

@@ -1,5 +1,5 @@
 -- What an item is, by its first words.
-use Rattle.std.proofs.Common.{◌≡◌, ◌≢◌, ◌∙◌, ℕ, Bool, true, false, cond, List, [], ◌∷◌, ◌++◌, codes, refl, sym, ap, subst, inl, inr}
+use Rattle.std.proofs.Common.{◌≡◌, ◌≢◌, ◌∙◌, ℕ, Bool, true, false, cond, List, [], ◌∷◌, ◌++◌, codes, refl, ap, inl, inr}
 use Rattle.std.specs.Prelude.{◌||◌}
 use Rattle.std.specs.List.{list_any}
 use Rattle.std.specs.Str.{bytes_eq}
@@ -9,8 +9,8 @@ use Rattle.mmtext.specs.declared.mark.Mark.TheVariants as mark
 use Rattle.mmtext.specs.Words.{Word}
 use Rattle.mmtext.specs.Text.{Token, mark_of}
 use Rattle.mmtext.proofs.Marks.{same_word}
-use Rattle.items.specs.Items.{Item, words, outside, is_open_behind, ends_statement, asserts, label_among, label_of, IsComment, IsStatement}
-use Rattle.items.specs.Reading.{IsFirst, piece_at, end_of, Stands, IsCommentTo, IsStatementTo, first_asserts}
+use Rattle.items.specs.Items.{words, outside, is_open_behind, ends_statement, label_among, label_of, IsComment, IsStatement}
+use Rattle.items.specs.Reading.{piece_at, end_of, IsCommentTo, IsStatementTo, first_asserts}
 use Rattle.items.proofs.Commented.{outside_both}
 
 -- a word with another mark is another word

@@ -1,14 +1,14 @@
 -- Items behind one more token.
-use Rattle.std.proofs.Common.{◌≡◌, ◌≢◌, ◌∙◌, ℕ, Bool, true, false, cond, List, [], ◌∷◌, ◌++◌, length, Option, Some, None, codes, refl, sym, ap, subst}
+use Rattle.std.proofs.Common.{◌≡◌, ◌∙◌, ℕ, Bool, false, List, [], ◌∷◌, ◌++◌, Option, Some, None, codes, refl, sym, ap, subst}
 use Rattle.std.proofs.Common.{append_assoc}
 use Rattle.std.specs.Option.{unwrap_or}
-use Rattle.std.specs.Prelude.{◌||◌, take}
+use Rattle.std.specs.Prelude.{◌||◌}
 use Rattle.std.specs.List.{list_any}
 use Rattle.std.specs.Str.{bytes_eq}
 use Rattle.std.proofs.lemmas.List.Folds.{list_any-append}
 use Rattle.mmtext.specs.Words.{Word}
 use Rattle.mmtext.specs.Text.{Token}
-use Rattle.items.specs.Items.{Piece, Item, words, outside, is_open_behind, ends_statement, asserts, label_of, IsComment, IsStatement}
+use Rattle.items.specs.Items.{Item, words, outside, is_open_behind, ends_statement, asserts}
 use Rattle.items.specs.Reading.{IsFirst, piece_at, end_of, Stands, IsCommentTo, IsStatementTo, IsFrontTo, IsPassed, IsAssertingIf, first_asserts}
 use Rattle.items.proofs.Standing.{stands_more, stands_both, words_both}
 use Rattle.items.proofs.Commented.{comment_leaves, comment_adds_nothing, word_leaves, word_is_said}

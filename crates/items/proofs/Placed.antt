@@ -1,5 +1,5 @@
 -- Words with changed labels, in a comment and outside of them.
-use Rattle.std.proofs.Common.{◌≡◌, ◌∙◌, Bool, true, false, cond, List, [], ◌∷◌, Option, Some, None, codes, refl, sym, ap, subst}
+use Rattle.std.proofs.Common.{◌≡◌, ◌∙◌, Bool, true, false, cond, List, ◌∷◌, Option, Some, None, codes, sym, ap}
 use Rattle.std.specs.Prelude.{drop, is_some}
 use mathlib.Core.Bool.{not}
 use Rattle.std.specs.Str.{bytes_eq}

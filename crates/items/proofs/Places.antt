@@ -1,5 +1,5 @@
 -- Where the first token from a place on begins.
-use Rattle.std.proofs.Common.{◌≡◌, ◌∙◌, ℕ, suc, ◌≤◌, Bool, true, false, cond, List, [], ◌∷◌, ◌++◌, length, Some, refl, sym, ap, arith}
+use Rattle.std.proofs.Common.{◌≡◌, ◌∙◌, ℕ, suc, ◌≤◌, Bool, true, false, cond, List, [], ◌∷◌, sym, ap, arith}
 use Rattle.std.proofs.lemmas.Bool.{cond-false}
 use Rattle.mmtext.specs.Text.{Token, is_white, ends_token, with_byte, tokens_from}
 

@@ -1,6 +1,6 @@
 -- Items that were put as they read then.
-use Rattle.std.proofs.Common.{◌≡◌, ◌≢◌, ◌∙◌, ℕ, ◌<◌, ◌≤◌, false, List, [], ◌∷◌, ◌++◌, Option, Some, None, codes, refl, sym, ap, subst, arith, All, length}
-use Rattle.std.proofs.Common.{append_assoc, append-nil, inl, inr}
+use Rattle.std.proofs.Common.{◌≡◌, ◌≢◌, ◌∙◌, ℕ, ◌<◌, false, List, [], ◌∷◌, ◌++◌, Option, Some, None, codes, refl, sym, ap, subst, arith, All}
+use Rattle.std.proofs.Common.{append-nil, inl, inr}
 use Rattle.std.specs.Prelude.{find, drop}
 use Rattle.std.specs.Borrow.{Bor}
 use Rattle.std.specs.Option.{option_map}
@@ -9,13 +9,12 @@ use Rattle.std.specs.Str.{bytes_eq}
 use Rattle.std.proofs.lemmas.Grind.{flat_map-append}
 use Rattle.std.proofs.lemmas.List.Elements.{All-push}
 use Rattle.mmtext.specs.Words.{Word}
-use Rattle.mmtext.specs.Text.{tokens}
 use Rattle.mmtext.specs.Comments.{words_of}
 use Rattle.giving.specs.Staying.{Change}
 use Rattle.items.specs.declared.reading.Kind.{Kind}
 use Rattle.items.specs.declared.reading.Kind.TheVariants.{Comment, Opening, Closing, Assertion, Other}
 use Rattle.items.specs.declared.reading.Item.{Item as Found}
-use Rattle.items.specs.Items.{Item, bytes_of, words, pieces_of, label_of, IsItem, IsStatement, Spells}
+use Rattle.items.specs.Items.{Item, bytes_of, words, pieces_of, label_of, IsItem, IsStatement}
 use Rattle.items.specs.Renaming.{renamed}
 use Rattle.items.specs.Reading.{tokens_at, Stands, IsFrontTo, IsOfKind, IsItemAt}
 use Rattle.items.specs.Machine.{rest_then}

@@ -1,15 +1,12 @@
 -- What is left of an item behind one more word of it.
-use Rattle.std.proofs.Common.{◌≡◌, ◌∙◌, ℕ, ◌<◌, ◌≤◌, ◌+◌, List, [], ◌∷◌, ◌++◌, length, Option, None, refl, sym, ap, ap₂, subst, arith, append_assoc}
-use Rattle.std.specs.Prelude.{slice_range}
-use Rattle.mmtext.specs.Words.{Word}
+use Rattle.std.proofs.Common.{◌≡◌, ◌∙◌, ℕ, ◌<◌, ◌≤◌, List, [], ◌∷◌, ◌++◌, refl, sym, ap, ap₂, subst, arith, append_assoc}
 use Rattle.mmtext.specs.Text.{Token}
 use Rattle.giving.specs.Staying.{Change}
-use Rattle.items.specs.declared.part.Part.{Part}
 use Rattle.items.specs.declared.place.Place.{Place}
-use Rattle.items.specs.Items.{Piece, Item, bytes_of, words}
+use Rattle.items.specs.Items.{Item, bytes_of, words}
 use Rattle.items.specs.Renaming.{with_words}
 use Rattle.items.specs.Reading.{tokens_at, IsFirst, piece_at, end_of, Stands}
-use Rattle.items.specs.Machine.{place_then, rest_then, TakesWord}
+use Rattle.items.specs.Machine.{rest_then, TakesWord}
 
 -- two tokens that are first at a place are one
 same_first : (text : List ℕ) (at : ℕ) (t u : Token) → IsFirst text at t → IsFirst text at u → t ≡ u

@@ -1,12 +1,12 @@
 -- The bytes and tokens of items that stand in a text.
-use Rattle.std.proofs.Common.{◌≡◌, ◌∙◌, ℕ, zero, suc, ◌+◌, ◌-◌, ◌<◌, ◌≤◌, Bool, true, false, cond, List, [], ◌∷◌, ◌++◌, length, drop, take}
+use Rattle.std.proofs.Common.{◌≡◌, ◌∙◌, ℕ, suc, ◌+◌, ◌-◌, Bool, true, false, cond, List, [], ◌∷◌, ◌++◌, length, drop, take}
 use Rattle.std.proofs.Common.{refl, sym, ap, subst, arith, append_assoc}
 use Rattle.std.specs.Prelude.{slice_range}
 use Rattle.std.proofs.lemmas.List.{drop-drop}
 use Rattle.mmtext.specs.Text.{Token, is_white, ends_token, with_byte, tokens_from}
 use Rattle.mmtext.specs.Comments.{words_of}
 use Rattle.items.specs.Items.{Piece, Item, bytes_of, words}
-use Rattle.items.specs.Reading.{tokens_at, IsFirst, piece_at, end_of, Stands}
+use Rattle.items.specs.Reading.{tokens_at, IsFirst, end_of, Stands}
 use Rattle.items.proofs.Places.{begins_there}
 
 -- ---- the bytes up to the first token, its own, and those behind it

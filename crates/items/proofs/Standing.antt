@@ -1,7 +1,7 @@
 -- Items at places of a text, one behind the other.
-use Rattle.std.proofs.Common.{◌≡◌, ◌∙◌, ℕ, List, [], ◌∷◌, ◌++◌, length, refl, sym, ap, subst}
+use Rattle.std.proofs.Common.{◌≡◌, ℕ, List, [], ◌∷◌, ◌++◌, refl, sym, ap, subst}
 use Rattle.mmtext.specs.Text.{Token}
-use Rattle.items.specs.Items.{Piece, Item, words}
+use Rattle.items.specs.Items.{Item, words}
 use Rattle.items.specs.Reading.{IsFirst, piece_at, end_of, Stands}
 
 -- one token

@@ -1,9 +1,7 @@
 -- How a statement reads then, by what it is.
-use Rattle.std.proofs.Common.{◌≡◌, ◌≢◌, ◌∙◌, ℕ, Bool, true, false, cond, List, [], ◌∷◌, ◌++◌, None, codes, refl, sym, ap, subst, inl, inr}
-use Rattle.std.specs.Prelude.{◌||◌, map}
+use Rattle.std.proofs.Common.{◌≡◌, ◌∙◌, Bool, true, false, cond, List, [], ◌∷◌, None, codes, refl, sym, ap, inl, inr}
 use Rattle.std.specs.Str.{bytes_eq}
 use Rattle.std.proofs.lemmas.Bool.{cases_Bool}
-use Rattle.std.proofs.lemmas.Slice.Eq.{bytes_eq-Decides}
 use Rattle.mmtext.specs.Words.{Word}
 use Rattle.mmtext.proofs.Marks.{same_word}
 use Rattle.giving.specs.Staying.{Change, changed}
@@ -11,7 +9,7 @@ use Rattle.items.specs.declared.part.Part.TheVariants.{Label, Fixed}
 use Rattle.items.specs.declared.place.Place.{Place}
 use Rattle.items.specs.Items.{Item, words, said, asserts, label_among, label_of, IsComment, outside}
 use Rattle.items.specs.Renaming.{said_then, proof_then, symbols_then, renamed, with_words, reworded}
-use Rattle.items.specs.Machine.{label_then, part_then, place_then, rest_then}
+use Rattle.items.specs.Machine.{label_then, rest_then}
 use Rattle.items.proofs.Commented.{comment_says_nothing}
 
 -- $a and $p aren't $=

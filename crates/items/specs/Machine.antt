@@ -5,7 +5,7 @@ use Rattle.giving.specs.Staying.{Change, changed}
 use Rattle.items.specs.declared.part.Part.{Part}
 use Rattle.items.specs.declared.part.Part.TheVariants.{Label, Symbols, Proof, Labels, Steps, Fixed}
 use Rattle.items.specs.declared.place.Place.{Place}
-use Rattle.items.specs.Items.{Item, outside, words, said}
+use Rattle.items.specs.Items.{Item, outside, words}
 use Rattle.items.specs.Renaming.{labels_then, proof_then, symbols_then, reworded, with_words}
 
 -- the words of a statement from a part of it on

@@ -1,11 +1,11 @@
 -- Items with changed labels: labels of assertions, where these are stated, where proofs name them, and behind ~ in comments; all else stays.
-use Rattle.std.specs.Prelude.{ℕ, Bool, true, false, ◌&&◌, ◌==◌, List, [], ◌∷◌, map, zip, drop, Option, Some, None, if◌then◌else◌, codes}
+use Rattle.std.specs.Prelude.{Bool, false, ◌&&◌, ◌==◌, List, [], ◌∷◌, map, zip, drop, Option, Some, None, if◌then◌else◌, codes}
 use mathlib.Core.Bool.{not}
 use Rattle.std.specs.Str.{bytes_eq}
 use Rattle.mmtext.specs.Words.{Word}
 use Rattle.giving.specs.Staying.{Change, changed}
 use Rattle.items.specs.declared.comments.Standing.{Standing}
-use Rattle.items.specs.Items.{Piece, Item, words, said, asserts}
+use Rattle.items.specs.Items.{Item, words, said, asserts}
 
 -- ---- in statements, of the words outside of comments
 

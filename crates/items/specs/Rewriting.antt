@@ -1,10 +1,10 @@
 -- The text of a source with changed labels and other proofs: what each of its items reads then.
-use Rattle.std.specs.Prelude.{◌≡◌, ◌⊎◌, ℕ, false, List, [], ◌∷◌, ◌++◌, Option, Some, None, codes, find}
+use Rattle.std.specs.Prelude.{◌≡◌, ℕ, false, List, [], ◌∷◌, ◌++◌, Option, Some, None, codes, find}
 use Rattle.std.specs.List.{list_any, flat_map, AllZip}
 use Rattle.std.specs.Str.{bytes_eq}
-use Rattle.mmtext.specs.Words.{Word, has_dollar}
+use Rattle.mmtext.specs.Words.{Word}
 use Rattle.giving.specs.Staying.{Change}
-use Rattle.items.specs.Items.{Piece, Item, bytes_of, pieces_of, words, said, label_of, is_open_behind, Spells}
+use Rattle.items.specs.Items.{Piece, Item, bytes_of, words, said, label_of, is_open_behind, Spells}
 use Rattle.items.specs.Renaming.{renamed}
 
 -- an item up to the $= of a theorem (section 4.2.8)

@@ -1,7 +1,7 @@
 -- Flags of words, one after the other.
-use Rattle.std.proofs.Common.{◌≡◌, ◌∙◌, ℕ, suc, ◌+◌, ◌<◌, Bool, true, false, cond, List, [], ◌∷◌, ◌++◌, length, take, map, get_or}
+use Rattle.std.proofs.Common.{◌≡◌, ◌∙◌, ℕ, suc, ◌+◌, ◌<◌, Bool, true, false, cond, List, [], ◌∷◌, ◌++◌, length, take, drop, map, get_or}
 use Rattle.std.proofs.Common.{refl, sym, ap, subst, inl, inr, arith}
-use Rattle.std.specs.Prelude.{◌||◌, ◌&&◌, IsTrue}
+use Rattle.std.specs.Prelude.{◌||◌, ◌&&◌, IsTrue, reverse}
 use Rattle.std.specs.List.{list_any, list_all, zip}
 use Rattle.std.specs.Str.{bytes_eq}
 use Rattle.std.specs.Borrow.{Bor}
@@ -10,7 +10,8 @@ use Rattle.std.specs.HashSet.{HashSet}
 use Rattle.std.specs.declared.random_state.RandomState.{RandomState}
 use Rattle.std.proofs.lemmas.Bool.{cases_Bool, cond-true, cond-false, and_from, and_parts, or_left, or_right}
 use Rattle.std.proofs.lemmas.Bool.Decides.{same_from_decides}
-use Rattle.std.proofs.lemmas.List.{map_more, map-append, append-nil, append_assoc}
+use Rattle.std.proofs.lemmas.List.{map_more, map-append, reverse-append}
+use Rattle.std.proofs.Math.Seq.{drop-cons}
 use Rattle.std.proofs.lemmas.List.Folds.{list_any-append}
 use Rattle.mmtext.specs.Words.{Word, has_hypothesis_form}
 use Rattle.mmsyntax.specs.Dotted.{is_dotted, trunk}
@@ -36,17 +37,42 @@ flags_more P words i d h =
     ap (map P) (map_more (λ (w : Bor (List ℕ)). w.now) words i d h)
     ∙ map-append P (seen_words (take i words)) ((get_or words i d).now ∷ [])
 
--- and a variable's
-pub variable_more : (front ws : List Word) (w : Word)
-    → variables_changing front (ws ++ w ∷ [])
-    ≡ variables_changing front ws ++ (has_hypothesis_form w || is_in (front ++ ws) w) ∷ []
-variable_more front [] w =
-    ap (λ us. (has_hypothesis_form w || is_in us w) ∷ []) (sym (append-nil front))
-variable_more front (v ∷ ws) w =
-    ap (λ bs. (has_hypothesis_form v || is_in front v) ∷ bs) (variable_more (front ++ v ∷ []) ws w)
-    ∙ ap (λ us. (has_hypothesis_form v || is_in front v)
-    ∷ (variables_changing (front ++ v ∷ []) ws ++ (has_hypothesis_form w || is_in us w) ∷ []))
-    (append_assoc front (v ∷ []) ws)
+-- ---- variables, from the last to the first
+
+or_swap : (a b : Bool) → (a || b) ≡ (b || a)
+or_swap true true = refl
+or_swap true false = refl
+or_swap false true = refl
+or_swap false false = refl
+
+module _ (words : List (Bor (List ℕ))) (left place : ℕ) (d : Bor (List ℕ)) (within : left < length words) (next : place ≡ suc left) where
+  -- the words from a place on
+  front_is : seen_words (drop left words) ≡ (get_or words left d).now ∷ seen_words (drop place words)
+  front_is =
+      ap (λ ws. seen_words ws) (drop-cons words left d within)
+      ∙ ap (λ n. (get_or words left d).now ∷ seen_words (drop n words)) (sym next)
+
+  -- one more variable's flag
+  pub variable_more : (flags : List Bool) → reverse flags ≡ variables_changing (seen_words (drop place words)) → (b : Bool)
+      → b ≡ (has_hypothesis_form (get_or words left d).now || is_in (seen_words (drop place words)) (get_or words left d).now)
+      → reverse (flags ++ b ∷ []) ≡ variables_changing (seen_words (drop left words))
+  variable_more flags so b is =
+      reverse-append flags (b ∷ [])
+      ∙ ap (λ c. c ∷ reverse flags) is
+      ∙ ap
+      (λ bs. (has_hypothesis_form (get_or words left d).now || is_in (seen_words (drop place words)) (get_or words left d).now) ∷ bs) so
+      ∙ ap variables_changing (sym front_is)
+
+  -- one more word of a set of those behind
+  pub later_more : (s n : HashSet (Bor (List ℕ)) RandomState) (x : Word) → x ≡ (get_or words left d).now
+      → bag.UpdatesBy (λ x y. bytes_eq x.now y.now) (λ k. bytes_eq x k.now) s n true
+      → ((w : Word) → has s w ≡ is_in (seen_words (drop place words)) w) → (w : Word) → has n w ≡ is_in (seen_words (drop left words)) w
+  later_more s n x is h so w =
+      has_more s n x h w
+      ∙ ap (λ b. b || bytes_eq w x) (so w)
+      ∙ or_swap (is_in (seen_words (drop place words)) w) (bytes_eq w x)
+      ∙ ap (λ v. bytes_eq w v || is_in (seen_words (drop place words)) w) is
+      ∙ ap (λ us. is_in us w) (sym front_is)
 
 -- ---- sets of words
 
@@ -120,18 +146,28 @@ all_named free s fresh test (w ∷ ws) (n ∷ ns) many h =
     (named_one free s fresh (test w) w n (h 0 (omega arith)))
     (all_named free s fresh test ws ns (omega arith) (λ k lt. h (suc k) (omega arith)))
 
+-- the words of words with their names
+firsts : (words names : List Word) → length names ≡ length words → map (λ p. p.0) (zip words names) ≡ words
+firsts [] [] many = refl
+firsts [] (n ∷ ns) many = refl
+firsts (w ∷ ws) [] many = absurd (omega arith)
+firsts (w ∷ ws) (n ∷ ns) many = ap (λ vs. w ∷ vs) (firsts ws ns (omega arith))
+
 pub variables_named : (free : Word → Bool) (s : Scope) → ((w : Word) → free w ≡ true → is_fresh s w ≡ true)
-    → (front words names : List Word) → length names ≡ length words
+    → (words names : List Word) → length names ≡ length words
     → ((k : ℕ) → k < length words
-    → IsTrue (is_named_by free (get_or (variables_changing front words) k false) (get_or words k []) (get_or names k [])))
-    → are_variables_named_well s front (zip words names) ≡ true
-variables_named free s fresh front [] [] many h = refl
-variables_named free s fresh front [] (n ∷ ns) many h = refl
-variables_named free s fresh front (w ∷ ws) [] many h = refl
-variables_named free s fresh front (w ∷ ws) (n ∷ ns) many h =
-    and_from (is_named_well s (has_hypothesis_form w || is_in front w) (w, n)) (are_variables_named_well s (front ++ w ∷ []) (zip ws ns))
-    (named_one free s fresh (has_hypothesis_form w || is_in front w) w n (h 0 (omega arith)))
-    (variables_named free s fresh (front ++ w ∷ []) ws ns (omega arith) (λ k lt. h (suc k) (omega arith)))
+    → IsTrue (is_named_by free (get_or (variables_changing words) k false) (get_or words k []) (get_or names k [])))
+    → are_variables_named_well s (zip words names) ≡ true
+variables_named free s fresh [] [] many h = refl
+variables_named free s fresh [] (n ∷ ns) many h = refl
+variables_named free s fresh (w ∷ ws) [] many h = absurd (omega arith)
+variables_named free s fresh (w ∷ ws) (n ∷ ns) many h =
+    let behind : List Word = map (λ p. p.0) (zip ws ns) in
+    let one : is_named_well s (has_hypothesis_form w || is_in ws w) (w, n) ≡ true =
+    named_one free s fresh (has_hypothesis_form w || is_in ws w) w n (h 0 (omega arith)) in
+    and_from (is_named_well s (has_hypothesis_form w || is_in behind w) (w, n)) (are_variables_named_well s (zip ws ns))
+    (ap (λ us. is_named_well s (has_hypothesis_form w || is_in us w) (w, n)) (firsts ws ns (omega arith)) ∙ one)
+    (variables_named free s fresh ws ns (omega arith) (λ k lt. h (suc k) (omega arith)))
 
 -- ---- what is free
 
@@ -170,17 +206,31 @@ given_has bs s n h cs =
 -- one more trunk
 pub trunks_more : (s n : HashSet (Bor (List ℕ)) RandomState) (ws : List Word) (x t : Word) → t ≡ trunk x
     → bag.UpdatesBy (λ x y. bytes_eq x.now y.now) (λ k. bytes_eq t k.now) s n true → HasTrunks s ws → HasTrunks n (ws ++ x ∷ [])
-trunks_more s n ws x t is h all l w in' dotted =
-    let one = has_more s n t h l in
-    elim (cases_Bool (is_in ws w)) [
-      | inl y ↦ one ∙ or_left (has s l) (bytes_eq l t) (all l w y dotted)
-      | inr none ↦
-          let last : bytes_eq w x ≡ true =
-          sym (ap (λ b. b || bytes_eq w x) none) ∙ sym (or_last (is_in ws w) (bytes_eq w x))
-          ∙ sym (list_any-append (bytes_eq w) ws (x ∷ [])) ∙ in' in
-          let same : t ≡ l = is ∙ ap trunk (sym (same_bytes w x last)) ∙ dotted_trunk l w dotted in
-          one ∙ or_right (has s l) (bytes_eq l t) (ap (bytes_eq l) same ∙ bytes_eq-same l)
-    ]
+trunks_more s n ws x t is h all l =
+    has_more s n t h l
+    ∙ ap (λ b. b || bytes_eq l t) (all l)
+    ∙ ap (λ u. is_in (map trunk ws) l || bytes_eq l u) is
+    ∙ sym (or_last (is_in (map trunk ws) l) (bytes_eq l (trunk x)))
+    ∙ sym (list_any-append (bytes_eq l) (map trunk ws) (trunk x ∷ []))
+    ∙ ap (λ us. is_in us l) (sym (map-append trunk ws (x ∷ [])))
+
+-- the trunk of a label is there
+trunk_in : (ws : List Word) (w : Word) → is_in ws w ≡ true → is_in (map trunk ws) (trunk w) ≡ true
+trunk_in [] w h = absurd cc
+trunk_in (v ∷ vs) w h = elim (cases_Bool (bytes_eq w v)) [
+  | inl y ↦
+      or_left (bytes_eq (trunk w) (trunk v)) (is_in (map trunk vs) (trunk w))
+      (ap (λ u. bytes_eq (trunk w) (trunk u)) (sym (same_bytes w v y)) ∙ bytes_eq-same (trunk w))
+  | inr n ↦
+      or_right (bytes_eq (trunk w) (trunk v)) (is_in (map trunk vs) (trunk w))
+      (trunk_in vs w (ap (λ b. b || is_in vs w) (sym n) ∙ h))
+]
+
+-- so a set of trunks has the L of a label L.k
+pub has_trunk : (set : HashSet (Bor (List ℕ)) RandomState) (labels : List Word) → HasTrunks set labels → (l w : Word)
+    → is_in labels w ≡ true → is_dotted l w ≡ true → has set l ≡ true
+has_trunk set labels all l w in' dotted =
+    all l ∙ ap (is_in (map trunk labels)) (sym (dotted_trunk l w dotted)) ∙ trunk_in labels w in'
 
 -- what is free is fresh, has no dot, and is no trunk
 pub free_parts : (f t g d : Bool) → (f && (not t && (not g && not d))) ≡ true → (f ≡ true) × (t ≡ false) × (d ≡ false)
@@ -190,9 +240,9 @@ free_parts true false true d h = absurd cc
 free_parts true true g d h = absurd cc
 free_parts false t g d h = absurd cc
 
-pub length-variables_changing : (front ws : List Word) → length (variables_changing front ws) ≡ length ws
-length-variables_changing front [] = refl
-length-variables_changing front (w ∷ ws) = ap (λ n. suc n) (length-variables_changing (front ++ w ∷ []) ws)
+pub length-variables_changing : (ws : List Word) → length (variables_changing ws) ≡ length ws
+length-variables_changing [] = refl
+length-variables_changing (w ∷ ws) = ap (λ n. suc n) (length-variables_changing ws)
 
 -- so are names that were given
 pub given_named : (s : Scope) {free : Word → Bool} {changes : List Bool} {words names : List Word} → AreGiven free changes words names
@@ -204,9 +254,9 @@ given_named s {free} {changes} {words} {names} given test are fresh =
     (given.named k lt))
 
 pub given_variables : (s : Scope) {free : Word → Bool} {changes : List Bool} {words names : List Word} → AreGiven free changes words names
-    → changes ≡ variables_changing [] words → ((w : Word) → free w ≡ true → is_fresh s w ≡ true)
-    → are_variables_named_well s [] (zip words names) ≡ true
+    → changes ≡ variables_changing words → ((w : Word) → free w ≡ true → is_fresh s w ≡ true)
+    → are_variables_named_well s (zip words names) ≡ true
 given_variables s {free} {changes} {words} {names} given are fresh =
-    variables_named free s fresh [] words names given.as_many
+    variables_named free s fresh words names given.as_many
     (λ k lt. subst (λ (bs : List Bool). IsTrue (is_named_by free (get_or bs k false) (get_or words k []) (get_or names k []))) are
     (given.named k lt))

@@ -6,3 +6,4 @@ mod Places
 mod Siting
 mod Apart
 mod Flags
+pub mod Refusing

@@ -1,6 +1,6 @@
 //! Which names change: those that the profile doesn't allow.
 
-ghost use Rattle.std.specs.Prelude.{◌≡◌, ◌||◌, map, IfOk, List, []};
+ghost use Rattle.std.specs.Prelude.{◌≡◌, ◌||◌, map, IfOk, List};
 ghost use Rattle.std.specs.List.{list_any};
 ghost use Rattle.mmtext.specs.Words.{Word, has_dot, has_hypothesis_form};
 ghost use Rattle.mmsyntax.specs.Dotted.{is_dotted};
@@ -36,27 +36,28 @@ pub(crate) fn floats_changing(alloc: Global, labels: &[&[u8]]) -> Result<Vec<boo
     Ok(changes)
 }
 
-/// Whether a variable changes behind earlier ones.
-fn is_variable_changing(earlier: &HashSet<&[u8], RandomState>, word: &[u8]) -> bool
-    ensures { result ≡ (has_hypothesis_form word.now || has earlier.now word.now) }
+/// Whether a variable changes before later ones.
+fn is_variable_changing(later: &HashSet<&[u8], RandomState>, word: &[u8]) -> bool
+    ensures { result ≡ (has_hypothesis_form word.now || has later.now word.now) }
 {
-    names_hypothesis(word) || earlier.contains(&word)
+    names_hypothesis(word) || later.contains(&word)
 }
 
-/// Which variables of `$f` change: those of the form of a hypothesis' label, and those that are that of an earlier `$f` too.
+/// Which variables of `$f` change: those of the form of a hypothesis' label, and those that are that of a later `$f` too.
 pub(crate) fn variables_changing(
     alloc: Global,
     keys: RandomState,
     words: &[&[u8]],
 ) -> Result<Vec<bool>, AllocError>
-    ensures { IfOk result (λ made. made.items ≡ variables_changing [] (seen_words words.now)) }
+    ensures { IfOk result (λ made. made.items ≡ variables_changing (seen_words words.now)) }
 {
-    let mut earlier = HashSet::with_hasher(alloc, keys);
+    let mut later = HashSet::with_hasher(alloc, keys);
     let mut changes = Vec::new(alloc);
-    for word in words {
-        changes.push(is_variable_changing(&earlier, word))?;
-        earlier.insert(*word)?;
+    for place in (0..words.len()).rev() {
+        changes.push(is_variable_changing(&later, words[place]))?;
+        later.insert(words[place])?;
     }
+    changes.reverse();
     Ok(changes)
 }
 

@@ -8,7 +8,7 @@ ghost use Rattle.source.specs.Scopes.{is_in};
 ghost use Rattle.source.specs.Views.{seen_words};
 ghost use Rattle.taking.specs.Names.{is_fresh};
 ghost use Rattle.source.specs.Views.{has};
-ghost use Rattle.sites.specs.Changes.{has_given, HasTrunks};
+ghost use Rattle.sites.specs.Changes.{has_given, HasNothing, HasTrunks};
 
 use mmsyntax::trunk;
 use mmtext::contains_dot;
@@ -67,6 +67,7 @@ impl<'d, 'a, D: Declared<'a>> Free<'d, 'a, D> {
     ) -> Result<Free<'d, 'a, D>, AllocError>
         ensures declared { IfOk result (λ made. made.declared.now ≡ declared.now) }
         ensures trunks { IfOk result (λ made. HasTrunks made.trunks (seen_words labels.now)) }
+        ensures given { IfOk result (λ made. HasNothing made.given) }
     {
         Ok(Free {
             alloc,

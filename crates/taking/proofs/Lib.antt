@@ -15,4 +15,5 @@ pub mod Cited
 pub mod Found
 pub mod Symbols
 pub mod Given
+pub mod Candidates
 pub mod Lent

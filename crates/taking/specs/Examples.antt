@@ -25,8 +25,8 @@ whole = behind_all nothing scopes
 
 -- ---- two assertions are taken
 
--- $c wff |- $. $v p r s x $. wp $f wff p $. wr $f wff r $. ws $f wff s $. xr $f wff x $.
--- ${ $d p s $. m.1 $e |- p $. m $a |- r $. $} ${ t.1 $e |- x $. t $p |- p $= xr wp t.1 m $. $}
+-- $c wff |- $. $v p x s r $. wp $f wff p $. wr $f wff x $. ws $f wff s $. xr $f wff r $.
+-- ${ $d p s $. m.1 $e |- p $. m $a |- x $. $} ${ t.1 $e |- r $. t $p |- p $= xr wp t.1 m $. $}
 abbrev pub wp : FloatOf
 wp = record { label = codes "wp"; type_code = 0; variable = 0 }
 
@@ -42,7 +42,7 @@ xr = record { label = codes "xr"; type_code = 0; variable = 3 }
 abbrev pub library : Tables
 library = record {
   constants = wff ∷ yes ∷ [];
-  variables = p ∷ r ∷ s ∷ codes "x" ∷ [];
+  variables = p ∷ codes "x" ∷ s ∷ r ∷ [];
   floats = wp ∷ wr ∷ ws ∷ xr ∷ [];
 }
 

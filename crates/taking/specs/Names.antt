@@ -88,11 +88,12 @@ is_symbol_named_well s p = is_named_well s (has_hypothesis_form p.0) p
 abbrev pub is_float_named_well : Scope → Naming → Bool
 is_float_named_well s p = is_named_well s (has_dot p.0) p
 
--- the variables of $f behind those of others: each has a name of its own, and of two local $f of one variable the first keeps it
-abbrev pub are_variables_named_well : Scope → List Word → List Naming → Bool
-are_variables_named_well s front [] = true
-are_variables_named_well s front (p ∷ ps) =
-    is_named_well s (has_hypothesis_form p.0 || is_in front p.0) p && are_variables_named_well s (front ++ p.0 ∷ []) ps
+-- the variables of $f: each has a name of its own, and of several $f of one variable the last keeps it. That is the outermost: no $f of a
+-- variable stands behind another one that is active
+abbrev pub are_variables_named_well : Scope → List Naming → Bool
+are_variables_named_well s [] = true
+are_variables_named_well s (p ∷ ps) =
+    is_named_well s (has_hypothesis_form p.0 || is_in (map (λ q. q.0) ps) p.0) p && are_variables_named_well s ps
 
 -- where L is taken too, L.k is changed (a rule of the profile)
 abbrev pub is_label_named_well : Scope → List Word → Naming → Bool
@@ -111,7 +112,7 @@ float_namings m t = zip m.floats (float_labels t.floats)
 -- all names are kept that the profile allows
 pub record KeepsNames (m : Map) (t : Tables) (s : Scope) : Type 0 where
   pub constants : IsTrue (list_all (is_symbol_named_well s) (constant_namings m t))
-  pub variables : IsTrue (are_variables_named_well s [] (variable_namings m t))
+  pub variables : IsTrue (are_variables_named_well s (variable_namings m t))
   pub floats : IsTrue (list_all (is_float_named_well s) (float_namings m t))
   pub labels : IsTrue (list_all (is_label_named_well s (map (λ p. p.0) m.labels)) m.labels)
 

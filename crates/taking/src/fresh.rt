@@ -1,15 +1,35 @@
 //! Fresh names: what a name is changed to where the profile doesn't allow it.
 
-ghost use Rattle.std.specs.Prelude.{◌≡◌, ◌++◌, ◌∷◌, ◌&&◌, Bool, length, IfOk, OnOk, MatchOption};
+ghost use Rattle.std.specs.Prelude.{◌≡◌, ◌++◌, ◌∷◌, ◌&&◌, [], Bool, length, take, IfOk, IfErr, OnOk};
 ghost use Rattle.std.specs.Str.{bytes_eq};
 ghost use mathlib.Core.Bool.{not};
 ghost use Rattle.mmtext.specs.Words.{Word};
 ghost use Rattle.source.specs.Views.{seen_words};
-ghost use Rattle.taking.specs.Fresh.{undotted, candidate, fresh, renamed_by, AreGiven, AreLeft, IsRefused};
+ghost use Rattle.taking.specs.Fresh.{undotted, tail, candidate, fresh, renamed_by, AreGiven, AreLeft, AreRefused};
 
 use itoa::Buffer;
-use mmsyntax::{Label, Sequence};
+use mmsyntax::{Label, MOST_NAME_BYTES, Sequence};
 use std::alloc::{AllocError, Global};
+
+/// Why words have no names.
+#[derive(Clone, Copy, Debug)]
+pub enum Unnamed<'a> {
+    /// The profile doesn't allow this word, and none of a thousand candidates for it is free.
+    NoFreshName(&'a [u8]),
+    /// Memory ran out.
+    NoMemory,
+}
+
+impl<'a> From<AllocError> for Unnamed<'a> {
+    ghost use Rattle.std.specs.Prelude.{◌≡◌};
+    ghost use Rattle.taking.specs.declared.fresh.Unnamed.TheVariants.{NoMemory};
+
+    ghost from_gives = { λ _ e. e ≡ NoMemory };
+
+    fn from(_e: AllocError) -> Unnamed<'a> {
+        Unnamed::NoMemory
+    }
+}
 
 /// Which names may be given: none that a symbol or a label has already.
 pub trait FreeNames {
@@ -46,16 +66,37 @@ fn push_all(name: &mut Label, bytes: &[u8]) -> Result<(), AllocError>
     Ok(())
 }
 
-/// The candidate with a number, from 0: the word with `_` at each dot, and then the same with `_1`, `_2` and so on behind.
+/// What stands behind a word in the candidate with a number, from 0: nothing, and then `_1`, `_2` and so on.
+fn tail(alloc: Global, number: u32) -> Result<Label, AllocError>
+    ensures { IfOk result (λ made. made ≡ tail number) }
+{
+    let mut made = Label::new(alloc);
+    if number > 0 {
+        made.push(b'_')?;
+        let mut buffer = Buffer::new();
+        push_all(&mut made, buffer.format(number).as_bytes())?;
+    }
+    Ok(made)
+}
+
+/// The front of a word, of so many bytes at most.
+fn cut(word: &[u8], most: usize) -> &[u8]
+    ensures { result.now ≡ take most word.now }
+{
+    if word.len() <= most {
+        return word;
+    }
+    &word[..most]
+}
+
+/// The candidate with a number, from 0: the word with `_` at each dot, cut so that there is room for what stands behind it, and that.
 fn candidate(alloc: Global, word: &[u8], number: u32) -> Result<Label, AllocError>
     ensures { IfOk result (λ made. made ≡ candidate word.now number) }
 {
-    let mut name = undotted(alloc, word)?;
-    if number > 0 {
-        name.push(b'_')?;
-        let mut buffer = Buffer::new();
-        push_all(&mut name, buffer.format(number).as_bytes())?;
-    }
+    let behind = tail(alloc, number)?;
+    let room = MOST_NAME_BYTES.saturating_sub(behind.as_slice().len());
+    let mut name = undotted(alloc, cut(word, room))?;
+    push_all(&mut name, behind.as_slice())?;
     Ok(name)
 }
 
@@ -92,26 +133,39 @@ pub fn library_name<N: FreeNames>(
     }
 }
 
-/// The names of words in the library, each other than the earlier ones where it changes: nothing where no candidate of a word is free. They
-/// are given then. After an error nothing is said of the names.
-pub fn library_names<N: FreeNames>(
+/// One more name that is given: it may not be given again, and goes to the end. After an error nothing is said of the names.
+fn give<N: FreeNames>(names: &mut N, given: &mut Vec<Label>, name: Label) -> Result<(), AllocError>
+    ensures noted { OnOk result ((w : Word) → N.is_free names.new w ≡ (N.is_free names.old w && not (bytes_eq w name))) }
+    ensures given { OnOk result (given.new.items ≡ given.old.items ++ name ∷ []) }
+{
+    names.note(name.as_slice())?;
+    given.push(name)?;
+    Ok(())
+}
+
+/// The names of words in the library, each other than the earlier ones where it changes. They are given then. After an error nothing is
+/// said of the names.
+///
+/// # Errors
+///
+/// The first word that changes and of which no candidate is free, or want of memory.
+pub fn library_names<'a, N: FreeNames>(
     alloc: Global,
     names: &mut N,
     changes: &[bool],
-    words: &[&[u8]],
-) -> Result<Option<Sequence<Label>>, AllocError>
+    words: &[&'a [u8]],
+) -> Result<Sequence<Label>, Unnamed<'a>>
     requires { length changes.now ≡ length words.now }
-    ensures given { IfOk result (λ made. MatchOption made (IsRefused (N.is_free names.new) changes.now (seen_words words.now))
-        (λ given. AreGiven (N.is_free names.old) changes.now (seen_words words.now) given)) }
-    ensures left { IfOk result (λ made. MatchOption made (Unit {0}) (λ given. AreLeft (N.is_free names.old) (N.is_free names.new) given)) }
+    ensures given { IfOk result (AreGiven (N.is_free names.old) changes.now (seen_words words.now)) }
+    ensures left { IfOk result (AreLeft (N.is_free names.old) (N.is_free names.new)) }
+    ensures refused { IfErr result (AreRefused (N.is_free names.old) changes.now (seen_words words.now)) }
 {
     let mut given = Vec::new(alloc);
     for i in 0..words.len() {
         let Some(name) = library_name(alloc, names, changes[i], words[i])? else {
-            return Ok(None);
+            return Err(Unnamed::NoFreshName(words[i]));
         };
-        names.note(name.as_slice())?;
-        given.push(name)?;
+        give(names, &mut given, name)?;
     }
-    Ok(Some(Sequence::from_vec(given)))
+    Ok(Sequence::from_vec(given))
 }

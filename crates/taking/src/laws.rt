@@ -2,7 +2,7 @@
 
 ghost use Rattle.taking.specs.Examples.{NamesHavePlaces, TakenSaySame, TakenIsListed, TakesTwo, TakesOne, ReasonsAreInOrder};
 
-/// Constants and `$f` have places in the order of the source, and of two local `$f` of one variable the second's is renamed.
+/// Constants and `$f` have places in the order of the source, and of two local `$f` of one variable the first's is renamed.
 pub fn names_have_places()
     ensures { NamesHavePlaces }
 {}

@@ -1,5 +1,6 @@
-//! How long listings are: functions without a body, whose contracts are laws.
+//! How long listings and fresh names are: functions without a body, whose contracts are laws.
 
+ghost use Rattle.taking.specs.Fresh.{CandidatesFit};
 ghost use Rattle.taking.specs.Lengths.{ListingsAreAsLong, ProofsAreAsLong, TakenAreShort};
 
 /// A listing has as many steps as the size of its tree says, where each label stands over as many trees as it takes.
@@ -15,4 +16,9 @@ pub fn proofs_are_as_long()
 /// So what is taken with its proof has at most 16,384 steps.
 pub fn taken_are_short()
     ensures { TakenAreShort }
+{}
+
+/// No candidate for a fresh name is longer than 255 bytes, however long the word is.
+pub fn candidates_fit()
+    ensures { CandidatesFit }
 {}

@@ -14,7 +14,7 @@ mod says;
 
 pub use decoded::DecodedProof;
 pub use decoder::decode;
-pub use fresh::{FreeNames, fresh_name, library_name, library_names};
+pub use fresh::{FreeNames, Unnamed, fresh_name, library_name, library_names};
 pub use listing::list;
 pub use named::{Named, StepPlaces};
 pub use nodes::Nodes;

@@ -14,7 +14,7 @@ pub returns-clause-chosen : goal.returns-clause-chosen
 returns-clause-chosen g c =
     let are = c.in_ok-asked.ensures.marked in
     for_is_chosen (g.D.Declared.scope c.args.declared.now) c.args.labels _ c.deref.result.now c.count_marked-count.result c.len.result
-    (are ∙ sym c.deref.ensures.value) c.count_marked-count.ensures c.if-count-gt-MOST_ASSERTIONS.false
-    (c.in_ok-chosen.ensures.chosen (seen_words c.args.labels.now) (are ∙ sym c.deref-2.ensures.value))
+    c.requires.whole.distinct (are ∙ sym c.deref.ensures.value) c.count_marked-count.ensures c.if-count-gt-MOST_ASSERTIONS.false
+    (c.in_ok-chosen.ensures.chosen (seen_words c.args.labels.now) are)
     (c.len.ensures ∙ sym c.deref.ensures.len) (c.in_ok-front.ensures.items_if_clones_equal (λ y e. e))
     c.in_ok-asked.ensures.known

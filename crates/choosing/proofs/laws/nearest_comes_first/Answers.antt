@@ -5,4 +5,4 @@ use Rattle.choosing.proofs.laws.nearest_comes_first.Goals as goal
 
 pub returns : goal.returns
 unfolding decoded
-returns c = (refl, refl, refl)
+returns c = (refl, refl, refl, refl)

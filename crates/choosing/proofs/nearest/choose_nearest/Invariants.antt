@@ -1,4 +1,4 @@
--- What the loop of `choose_nearest` keeps: what is still to be chosen, behind what was.
+-- What the loop of `choose_nearest` keeps: what is wanted, behind what was gone through.
 use Rattle.std.proofs.Common.{◌≡◌, List, length}
 use Rattle.mmtext.specs.Words.{Word}
 use Rattle.source.specs.Scopes.{is_in}
@@ -10,8 +10,7 @@ use Rattle.choosing.proofs.nearest.choose_nearest.Given as goal
 abbrev pub invariant-loop-place : goal.invariant-loop-place
 invariant-loop-place g l = record {
   frames : Holds (g.D.Declared.scope l.declared).assertions l.frames;
-  wanted : length l.wanted.items ≡ length (g.D.Declared.scope l.declared).assertions;
-  chosen : length l.chosen.items ≡ length (g.D.Declared.scope l.declared).assertions;
-  stands : (ws : List Word) → AreMarked (g.D.Declared.scope l.declared).assertions (is_in ws) l.asked
-      → Stands (g.D.Declared.scope l.declared).assertions ws l.fn.room l.place l.room l.wanted.items l.chosen.items;
+  long : length l.wanted.items ≡ length (g.D.Declared.scope l.declared).assertions;
+  stands : (ws : List Word) → AreMarked (g.D.Declared.scope l.declared).assertions (is_in ws) l.fn.asked.items
+      → Stands l.most (g.D.Declared.scope l.declared).assertions ws l.place l.wanted.items;
 }

@@ -1,5 +1,5 @@
 -- What is left to show of `rewrite`.
-use Rattle.std.proofs.Common.{◌≡◌, ◌≤◌, ◌∙◌, ◌++◌, length, sym, ap, subst, arith}
+use Rattle.std.proofs.Common.{◌∙◌, ◌++◌, sym, ap, subst, arith}
 use Rattle.std.proofs.lemmas.List.{take_rest}
 use Rattle.items.proofs.PutThen.{ArePut, none_put, one_put, all_put}
 use Rattle.items.proofs.call.rewrite.Goals as goal

@@ -1,5 +1,5 @@
 -- What is left to show of `end_of_comment`.
-use Rattle.std.proofs.Common.{◌≡◌, ◌≢◌, ◌≤◌, ◌+◌, true, false, codes, refl, sym, ap, rules, arith}
+use Rattle.std.proofs.Common.{◌≡◌, false, codes, rules, arith}
 use Rattle.std.specs.Str.{bytes_eq}
 use Rattle.mmtext.specs.Views.{seen}
 use Rattle.items.proofs.Passed.{comment_ends, comment_goes_on}

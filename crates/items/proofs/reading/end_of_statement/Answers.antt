@@ -1,10 +1,10 @@
 -- What is left to show of `end_of_statement`.
-use Rattle.std.proofs.Common.{◌≡◌, ◌∙◌, ◌+◌, ◌++◌, ◌∷◌, [], false, Some, length, codes, refl, sym, ap, subst, rules, arith}
+use Rattle.std.proofs.Common.{◌≡◌, ◌∙◌, ◌+◌, false, length, codes, sym, ap, subst, rules, arith}
 use Rattle.std.specs.Option.{unwrap_or}
 use Rattle.std.specs.Str.{bytes_eq}
 use Rattle.mmtext.specs.Views.{seen}
-use Rattle.items.specs.Items.{words, outside, ends_statement}
-use Rattle.items.specs.Reading.{IsFirst, IsStatementTo, IsAssertingIf}
+use Rattle.items.specs.Items.{ends_statement}
+use Rattle.items.specs.Reading.{IsFirst, IsStatementTo}
 use Rattle.items.proofs.Kinded.{none_of}
 use Rattle.items.proofs.Passed.{nothing_begun, comment_begun, word_begun, statement_ends}
 use Rattle.items.proofs.reading.end_of_statement.Goals as goal

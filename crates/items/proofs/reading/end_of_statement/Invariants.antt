@@ -1,5 +1,5 @@
 -- What the loop of `end_of_statement` keeps.
-use Rattle.std.proofs.Common.{◌-◌, ◌≤◌, false, length}
+use Rattle.std.proofs.Common.{◌-◌, ◌≤◌, length}
 use Rattle.items.proofs.Passed.{IsBegun}
 use Rattle.items.proofs.reading.end_of_statement.Given as goal
 

@@ -1,6 +1,5 @@
 -- What is left to show of `read_item`.
 use Rattle.std.proofs.Common.{◌≡◌, ◌∷◌, ◌∙◌, [], codes, refl, sym, ap, subst}
-use Rattle.mmtext.specs.declared.mark.Mark.TheVariants as mark
 use Rattle.mmtext.specs.Views.{seen}
 use Rattle.mmtext.proofs.Marks.{Says, says}
 use Rattle.items.specs.Reading.{piece_at}

@@ -1,10 +1,8 @@
 -- What is left to show of `read_statement`.
-use Rattle.std.proofs.Common.{◌≡◌, ◌∙◌, ◌∷◌, true, false, cond, refl, sym, ap, subst, length, ◌+◌}
-use Rattle.std.specs.Prelude.{List, []}
-use Rattle.mmtext.specs.Words.{Word}
+use Rattle.std.proofs.Common.{◌∙◌, ◌∷◌, cond, refl, sym, ap, subst, length, ◌+◌}
+use Rattle.std.specs.Prelude.{[]}
 use Rattle.mmtext.specs.Views.{seen}
-use Rattle.items.specs.Items.{Item}
-use Rattle.items.specs.Reading.{piece_at, Stands, IsStatementTo, IsOfKind}
+use Rattle.items.specs.Reading.{piece_at, IsStatementTo, IsOfKind}
 use Rattle.items.proofs.Kinded.{is_statement, has_label, begins_no_proof}
 use Rattle.items.proofs.reading.read_statement.Goals as goal
 use Rattle.items.proofs.reading.read_statement.Goals.{then-statement, else-statement}

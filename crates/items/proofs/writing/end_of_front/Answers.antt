@@ -1,5 +1,5 @@
 -- What is left to show of `end_of_front`.
-use Rattle.std.proofs.Common.{◌≡◌, ◌<◌, ◌≤◌, false, length, codes, rules, arith}
+use Rattle.std.proofs.Common.{◌≡◌, false, codes, rules, arith}
 use Rattle.std.specs.Str.{bytes_eq}
 use Rattle.mmtext.specs.Views.{seen}
 use Rattle.items.specs.Reading.{IsFirst}

@@ -1,5 +1,5 @@
 -- What is left to show of `put_reproved`.
-use Rattle.std.proofs.Common.{◌≡◌, ◌∙◌, ◌++◌, codes, refl, sym, ap, append_assoc, arith}
+use Rattle.std.proofs.Common.{◌∙◌, ◌++◌, codes, refl, ap, append_assoc, arith}
 use Rattle.items.specs.Items.{bytes_of}
 use Rattle.items.specs.Machine.{rest_then}
 use Rattle.items.proofs.Stated.{at_label}

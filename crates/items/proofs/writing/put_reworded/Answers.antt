@@ -1,5 +1,5 @@
 -- What is left to show of `put_reworded`.
-use Rattle.std.proofs.Common.{◌≡◌, ◌∙◌, ◌≤◌, ◌<◌, ◌++◌, [], refl, sym, ap, append-nil, rules, arith, drop, length}
+use Rattle.std.proofs.Common.{◌∙◌, ◌++◌, sym, ap, append-nil, arith, drop}
 use Rattle.mmtext.specs.Text.{tokens_from}
 use Rattle.mmtext.specs.Views.{seen}
 use Rattle.items.specs.Items.{bytes_of}
