@@ -276,7 +276,8 @@ module _ (l : Lending) (stage : Staged) (over : Option Conflict) (i : IsLent l s
       let seen = r.known.seen in
       subst (λ (x : Going Given Note). IsLent (record l { going = x }) stage over) (sym h.is)
       (later_lent seen k.looked k.full k.taken k.added l.going.over l.full stage over h.grows (subst (Stands library_terms) h.is h.stands)
-      (staged_on seen h.grows) i.over_is (met_on seen k.full k.taken k.added l.full h.grows) i.clear i.full i.unrefused (λ p e. e) (λ was. was))
+      (staged_on seen h.grows) i.over_is (met_on seen k.full k.taken k.added l.full h.grows) i.clear i.full i.unrefused (λ p e. e)
+      (λ was. was))
 
   -- words were loaded, or none
   pub loads_some_lent : (r : Going Given Note) → HasLoadedSome library_terms l.going r → IsLent (record l { going = r }) stage over
