@@ -13,20 +13,20 @@ use Rattle.lending.specs.Lent.{Pass}
 use Rattle.transaction.specs.declared.outcome.Outcome.{Outcome}
 use Rattle.transaction.specs.Members.{Home, Member, IsSessionOf}
 use Rattle.transaction.specs.Openings.{IsNewSession}
-use Rattle.transaction.specs.Closings.{passes_of}
+use Rattle.transaction.specs.Closings.{HasOutcomes, passes_of}
 use Rattle.ranges.specs.Ranges.{Has}
 use Rattle.ranges.proofs.Members.{mapped_has}
 use Rattle.workers.specs.declared.error.WorkError.{WorkError}
 use Rattle.workers.specs.declared.error.WorkError.TheVariants as work
-use Rattle.workers.specs.Works.{Works, HasOutcomes, IsHandedBack, IsWorkLack}
+use Rattle.workers.specs.Works.{Works, IsHandedBack, IsWorkLack}
 use Rattle.workers.proofs.Whole.{still_of}
 use Rattle.finishing.specs.declared.error.FinishError.{FinishError}
 use Rattle.finishing.specs.declared.error.FinishError.TheVariants.{Missing, Held, NoMemory}
 use Rattle.finishing.specs.Finishes.{IsFinished, Finishes}
-use Rattle.editing.specs.Edits.{IsEdited, IsEditLack, ToldIn, from_work, from_finish}
+use Rattle.editing.specs.Edits.{IsEdited, IsEditLack, ToldIn, FullIn, from_work, from_finish}
 use Rattle.editing.proofs.DoneNumbers.{done_are, few_drawn}
 use Rattle.editing.proofs.Shares.{of_each}
-use Rattle.editing.proofs.Told.{as_many_shares, shares_told, share_told, shares_end}
+use Rattle.editing.proofs.Told.{as_many_shares, shares_told, share_told, share_full, shares_end}
 
 -- sessions that are handed back have the names that they had
 names_kept : (before after : List Member) → AllZip IsHandedBack before after
@@ -54,9 +54,6 @@ module _ (home : Home) (before : List Member) (new : All (IsNewSession home) bef
       All-weaker (IsNewSession home) (λ (m : Member). m.known.seen.history ≡ [])
       (λ m n. ap (λ (k : Pass). k.seen.history) n.known) before new
 
-  none_called : All (λ (m : Member). m.known.mine ≡ []) before
-  none_called = All-weaker (IsNewSession home) (λ (m : Member). m.known.mine ≡ []) (λ m n. ap (λ (k : Pass). k.mine) n.known) before new
-
   module _ (scripts : List (List (List Command))) (rows : List (List Outcome)) (after : List Member)
       (works : Works home.given before scripts rows after) (many : length before ≡ home.sessions) where
     pub handed_on : All (IsSessionOf home) after
@@ -69,6 +66,14 @@ module _ (home : Home) (before : List Member) (new : All (IsNewSession home) bef
         of_each (ToldIn (map told history)) rows (length scripts) works.shares (AllZip-long HasOutcomes scripts rows works.each) works.parts
         (share_told home.given (map told history) scripts rows before after works.shares
         (few_drawn home before after history library finished many none_drawn works.back) works.run)
+
+    -- that the store is full, by the words at the end
+    all_full : (history : List CodeEntry) (library : Listed) (finished : IsFinished home after history library)
+        → All (All (FullIn finished.words)) rows
+    all_full history library finished =
+        of_each (FullIn finished.words) rows (length scripts) works.shares (AllZip-long HasOutcomes scripts rows works.each) works.parts
+        (share_full home.given (map told history) scripts rows home finished.words before after works.shares finished.its finished.room
+        handed_on works.back works.run)
 
     pub leaves : (history : List CodeEntry) (library : Listed) → IsFinished home after history library
         → IsEdited home scripts rows history library
@@ -86,9 +91,11 @@ module _ (home : Home) (before : List Member) (new : All (IsNewSession home) bef
       after = finished.after;
       ended = record {
         sessions = after;
-        tell = shares_end home.given scripts rows before after works.shares none_called works.run;
+        tell = shares_end home home.given scripts rows before after works.shares new works.run;
         words = finished.words;
         its = finished.its;
+        room = finished.room;
+        full = all_full history library finished;
       };
     }
 

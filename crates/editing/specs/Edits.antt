@@ -1,5 +1,5 @@
 -- What becomes of scripts that all the sessions of a library run to its end, told by the library's whole history.
-use Rattle.std.specs.Prelude.{◌≡◌, ◌≤◌, ◌^◌, ℕ, suc, eqb, List, All, IsPermutation, count_by, filter, flat_map, length, map}
+use Rattle.std.specs.Prelude.{◌≡◌, ◌<◌, ◌≤◌, ◌^◌, ℕ, suc, eqb, List, All, IsPermutation, count_by, filter, flat_map, length, map}
 use Rattle.std.specs.List.{AllZip, IsDistinct}
 use Rattle.std.specs.List.Sorted.{IsStrictlyIncreasing}
 use Rattle.library.specs.declared.command.Command.{Command}
@@ -12,9 +12,11 @@ use Rattle.claims.specs.Claims.{up_to}
 use Rattle.transaction.specs.declared.outcome.Outcome.{Outcome}
 use Rattle.transaction.specs.declared.outcome.Outcome.TheVariants as outcome
 use Rattle.transaction.specs.Members.{Home, Member}
+use Rattle.transaction.specs.Openings.{IsNewSession}
+use Rattle.transaction.specs.Closings.{HasOutcomes}
 use Rattle.workers.specs.declared.error.WorkError.{WorkError}
 use Rattle.workers.specs.declared.error.WorkError.TheVariants as work
-use Rattle.workers.specs.Works.{ScriptAgrees, AreSharedOut, HasOutcomes, ToldBy, all_of, is_answer, is_done, is_of_run, numbers_of}
+use Rattle.workers.specs.Works.{ScriptAgrees, SubmitsAll, AreSharedOut, ToldBy, all_of, is_answer, is_done, is_of_run, numbers_of}
 use Rattle.tlwords.specs.declared.closing.ClosedWords.{ClosedWords}
 use Rattle.finishing.specs.Finishes.{AreItsWords}
 use Rattle.finishing.specs.declared.error.FinishError.{FinishError}
@@ -30,6 +32,11 @@ done_numbers h = filter (is_done h) (map suc (up_to (length h)))
 abbrev pub ToldIn : List Entry → Outcome → Type 0
 ToldIn h outcome.NumbersUsed = 2 ^ 40 ≤ length h
 ToldIn h _ = Unit {0}
+
+-- a full store is told only where the tail of these words is past their room: no more fits
+abbrev pub FullIn : ClosedWords → Outcome → Type 0
+FullIn words outcome.StoreFull = words.room < words.tail
+FullIn words _ = Unit {0}
 
 -- a worker ran the scripts with these indexes, from 0, in their order, one after another: as one script of all their transactions, each
 -- outcome is so of the history, and stands no earlier than those before it
@@ -51,20 +58,28 @@ pub record AreToldBy (s : Setting) (lib0 : List Ranked) (h : List Entry) (worker
   pub told : All (All (ToldIn h)) rows
   pub numbers : IsPermutation (flat_map numbers_of rows) (done_numbers h)
 
--- the session at its end tells why it gave up what it gave up of the scripts with these indexes; it made a run for each of their outcomes,
--- but where nothing was looked at; and each of its calls is told as an answer
-pub record TellsOf (rows : List (List Outcome)) (share : List ℕ) (m : Member) : Type 0 where
-  pub told : All (ToldBy m) (all_of rows share)
-  pub ran : count_by is_of_run (all_of rows share) ≤ length m.known.clocks
-  pub answers : length m.known.mine ≡ count_by is_answer (all_of rows share)
+-- the session, from when it was dealt, submitted the transactions of the scripts with these indexes: each outcome is that of the
+-- transaction's last try, by what the session was when that try began and when it ended. At its end it tells still why it gave up what it
+-- gave up; it made a run for each of the outcomes, but where nothing was looked at; and each of its calls is told as an answer
+pub record TellsOf (home : Home) (scripts : List (List (List Command))) (rows : List (List Outcome)) (share : List ℕ) (m : Member) : Type 0
+  where
+    pub began : Member
+    pub new : IsNewSession home began
+    pub submitted : SubmitsAll (all_of scripts share) began m (all_of rows share)
+    pub told : All (ToldBy m) (all_of rows share)
+    pub ran : count_by is_of_run (all_of rows share) ≤ length m.known.clocks
+    pub answers : length m.known.mine ≡ count_by is_answer (all_of rows share)
 
 -- these are the sessions of the library at its end, one for each share, each of which tells of its own; and the words at the end, in which
--- they ended. So a full store is told only where a staging of that session was refused, and the tail of the words is behind it
-pub record AreEnded (home : Home) (rows : List (List Outcome)) (shares : List (List ℕ)) : Type 0 where
+-- they ended. So a full store is told only of a try of which a staging was refused, and where the tail of the words is past their room
+pub record AreEnded (home : Home) (scripts : List (List (List Command))) (rows : List (List Outcome)) (shares : List (List ℕ))
+    : Type 0 where
   pub sessions : List Member
-  pub tell : AllZip (TellsOf rows) shares sessions
+  pub tell : AllZip (TellsOf home scripts rows) shares sessions
   pub words : ClosedWords
   pub its : AreItsWords home sessions words
+  pub room : words.room ≡ home.words.room
+  pub full : All (All (FullIn words)) rows
 
 -- the scripts were run: the history tells of these outcomes, and is legal from an opening library, with commands within the limits; the
 -- library is the one after all of it; and the sessions that ran them tell why they gave up what they gave up
@@ -73,7 +88,7 @@ pub record IsEditedFrom (s : Setting) (lib0 : List Ranked) (home : Home) (script
   pub told_by : AreToldBy s lib0 (map told history) home.sessions scripts rows
   pub fit : EntriesFit s.prelude (map told history)
   pub after : IsAfterHistory s lib0 (map told history) library
-  pub ended : AreEnded home rows told_by.shares
+  pub ended : AreEnded home scripts rows told_by.shares
 
 -- from the library at the opening
 abbrev pub IsEdited : Home → List (List (List Command)) → List (List Outcome) → List CodeEntry → Listed → Type 0

@@ -241,6 +241,7 @@ module _ (home : Home) (members : List Member) (closed : ClosedLibrary) (is : Is
             record {
               words = words;
               its = is.words;
+              room = is.room;
               long = long;
               is = is_history;
               grow = grows;

@@ -54,6 +54,7 @@ AreRecordedBy members history =
 pub record IsFinished (home : Home) (members : List Member) (history : List CodeEntry) (library : Listed) : Type 0 where
   pub words : ClosedWords
   pub its : AreItsWords home members words
+  pub room : words.room ≡ home.words.room
   pub long : length history ≡ words.clock
   pub is : history_of its.closes.seen ≡ map told history
   pub grow : All (λ m. Grows (history_of m.known.seen) (map told history)) members

@@ -18,7 +18,8 @@ use Rattle.transaction.specs.declared.outcome.Outcome.{Outcome}
 use Rattle.transaction.specs.declared.outcome.Outcome.TheVariants.{Committed, Read, Conflict}
 use Rattle.std.proofs.lemmas.Slice.Zip.{AllZip-long}
 use Rattle.ranges.proofs.Members.{all_has}
-use Rattle.workers.specs.Works.{OutcomeAgrees, ScriptAgrees, HasOutcomes, all_of, place_behind}
+use Rattle.transaction.specs.Closings.{HasOutcomes}
+use Rattle.workers.specs.Works.{OutcomeAgrees, ScriptAgrees, all_of, place_behind}
 use Rattle.reports.specs.Reports.{IsReportable, AreReportable}
 use Rattle.editing.specs.Edits.{AreToldBy, IsShareIn}
 use Rattle.checking.specs.Outcomes.{program_setting}

@@ -1,5 +1,5 @@
 -- A run of a session goes on: what is so of it at all times stays so, and it agrees with some state of its library.
-use Rattle.std.proofs.Common.{◌≡◌, ℕ, ◌+◌, ◌/◌, ◌%◌, ◌≤◌, arith, inl, inr, Bool, true, false, is_some, Option, Some, None, List, ◌∷◌, length}
+use Rattle.std.proofs.Common.{◌≡◌, ℕ, ◌+◌, ◌/◌, ◌%◌, ◌<◌, ◌≤◌, arith, inl, inr, Bool, true, false, is_some, Option, Some, None, List, ◌∷◌, length}
 use Rattle.std.proofs.Common.{refl, sym, ap, ◌∙◌, ⊎_elim, subst, min, eq-eqb}
 use Rattle.std.specs.Prelude.{Result, Ok, Err, OnOk, OnErr}
 use Rattle.std.specs.FinMap.{insert}
@@ -32,7 +32,7 @@ use Rattle.lawful.specs.History.{library_after, state_after}
 use Rattle.lawful.specs.Laws.{IsPassOn}
 use Rattle.lawful.proofs.Standing.{runs_suit}
 use Rattle.lending.specs.declared.live.Live.TheInside.{Inside}
-use Rattle.lending.specs.Lent.{Pass, Lending, lent_sight, AgreesWithSome, HasMet, IsLent, FindsNone}
+use Rattle.lending.specs.Lent.{Pass, Lending, lent_sight, AgreesWithSome, ExceedsRoom, HasMet, IsLent, FindsNone}
 use Rattle.lending.proofs.Kept.{has_kept, kept_has, blank_writes, same_writes}
 
 -- ---- it agrees with some state
@@ -116,6 +116,7 @@ module _ (g : Given) (k : Pass) (stage : Staged) (mode : Mode) (may : Bool) (r :
         full = λ e. absurd cc;
         unrefused = λ e. ap (λ (x : Going Given Note). x.known.full) b.is;
         full_stays = λ p e. ap (λ (x : Going Given Note). x.known.full) b.is ∙ e;
+        exceeds = subst (λ (x : Going Given Note). ExceedsRoom k → ExceedsRoom x.known) (sym b.is) (λ was. was);
       }
 
 -- where the pass and what was given are known by other names
@@ -216,6 +217,7 @@ restaged l next over i =
       full = i.full;
       unrefused = i.unrefused;
       full_stays = i.full_stays;
+      exceeds = i.exceeds;
     }
 
 module _ (l : Lending) (stage : Staged) (over : Option Conflict) (i : IsLent l stage over) where
@@ -227,8 +229,9 @@ module _ (l : Lending) (stage : Staged) (over : Option Conflict) (i : IsLent l s
       → (ended ≡ None → FindsNone l.going.place looked l.going.known.found)
       → (no_room ≡ true → (is_some full ≡ true) × (l.may_stage ≡ true))
       → (no_room ≡ false → full ≡ l.began.full) → ((found : ℕ × ℕ) → l.going.known.full ≡ Some found → full ≡ Some found)
+      → (ExceedsRoom l.going.known → ExceedsRoom (later l seen looked full taken added now no_room).going.known)
       → IsLent (later l seen looked full taken added now no_room) next ended
-  later_lent seen looked full taken added now no_room next ended grows stands staged over_is met clear full_is unrefused stays =
+  later_lent seen looked full taken added now no_room next ended grows stands staged over_is met clear full_is unrefused stays exceeds =
       record {
         on = i.on;
         since = ap (λ (k : Pass). let z : Pass =
@@ -247,6 +250,7 @@ module _ (l : Lending) (stage : Staged) (over : Option Conflict) (i : IsLent l s
         full = full_is;
         unrefused = unrefused;
         full_stays = λ p e. stays p (i.full_stays p e);
+        exceeds = λ was. exceeds (i.exceeds was);
       }
 
   -- what it met it has met, while it looks no more
@@ -272,7 +276,8 @@ module _ (l : Lending) (stage : Staged) (over : Option Conflict) (i : IsLent l s
       let seen = r.known.seen in
       subst (λ (x : Going Given Note). IsLent (record l { going = x }) stage over) (sym h.is)
       (later_lent seen k.looked k.full k.taken k.added l.going.over l.full stage over h.grows (subst (Stands library_terms) h.is h.stands)
-      (staged_on seen h.grows) i.over_is (met_on seen k.full k.taken k.added l.full h.grows) i.clear i.full i.unrefused (λ p e. e))
+      (staged_on seen h.grows) i.over_is (met_on seen k.full k.taken k.added l.full h.grows) i.clear i.full i.unrefused (λ p e. e)
+      (λ was. was))
 
   -- words were loaded, or none
   pub loads_some_lent : (r : Going Given Note) → HasLoadedSome library_terms l.going r → IsLent (record l { going = r }) stage over
@@ -288,7 +293,7 @@ module _ (l : Lending) (stage : Staged) (over : Option Conflict) (i : IsLent l s
       let taken = k.taken + length words in
       subst (λ (x : Going Given Note). IsLent (record l { going = x }) next over) (sym h.is)
       (later_lent seen k.looked k.full taken k.added l.going.over l.full next over h.grows (subst (Stands library_terms) h.is h.stands)
-      staged i.over_is (met_on seen k.full taken k.added l.full h.grows) i.clear i.full i.unrefused (λ p e. e))
+      staged i.over_is (met_on seen k.full taken k.added l.full h.grows) i.clear i.full i.unrefused (λ p e. e) (λ was. was))
 
   noted_staged : (words : List ℕ) (start : ℕ) (r : Going Given Note) → HasStaged library_terms words start l.going r
       → AreStaged r.known.seen.ranges (insert stage words start)
@@ -331,6 +336,7 @@ module _ (l : Lending) (stage : Staged) (over : Option Conflict) (i : IsLent l s
         full = λ t. (ap is_some e, may);
         unrefused = λ t. absurd cc;
         full_stays = i.full_stays;
+        exceeds = i.exceeds;
       })
   refused_lent count r may (inr (tail, h)) =
       let k = l.going.known in
@@ -340,7 +346,9 @@ module _ (l : Lending) (stage : Staged) (over : Option Conflict) (i : IsLent l s
       (later_lent seen k.looked (Some (tail, count)) k.taken added l.going.over true stage over h.grows
       (subst (Stands library_terms) h.is h.stands) (staged_on seen h.grows) i.over_is
       (met_on seen (Some (tail, count)) k.taken added true h.grows) i.clear (λ t. (refl, may)) (λ t. absurd cc) (λ p e. let none =
-      h.unrefused in absurd cc))
+      h.unrefused in absurd cc)
+      (λ was at n is. let same : (tail, count) ≡ (at, n) = cc in
+      subst (λ (p : ℕ × ℕ). k.home.room < p.0 + p.1) same h.above))
 
   -- a read met a conflict
   pub stops_lent : (cell : ℕ) (met : Conflict) (r : Going Given Note) → HasStopped library_terms cell met l.going r
@@ -360,7 +368,7 @@ module _ (l : Lending) (stage : Staged) (over : Option Conflict) (i : IsLent l s
       (subst (Stands library_terms) h.is h.stands) (staged_on seen h.grows) refl
       (λ c e. let same : met ≡ c = cc in
       subst (λ (x : Conflict). HasMet x (later l seen looked k.full k.taken k.added (Some met) l.full).going) same has)
-      (λ e. absurd cc) i.full i.unrefused (λ p e. e))
+      (λ e. absurd cc) i.full i.unrefused (λ p e. e) (λ was. was))
 
   -- a cell was read
   module _ (cell value : ℕ) (r : Going Given Note) (h : HasRead library_terms cell value l.going r) where
@@ -396,6 +404,7 @@ module _ (l : Lending) (stage : Staged) (over : Option Conflict) (i : IsLent l s
           full = i.full;
           unrefused = i.unrefused;
           full_stays = i.full_stays;
+          exceeds = i.exceeds;
         }
 
     pub reads_lent : l.going.over ≡ None → (l.going.mode ≡ Writing → was_read r.slots cell ≡ true)
@@ -429,6 +438,7 @@ module _ (l : Lending) (stage : Staged) (over : Option Conflict) (i : IsLent l s
         full = i.full;
         unrefused = i.unrefused;
         full_stays = i.full_stays;
+        exceeds = i.exceeds;
       }
 
   pub writes_lent : (cell value : ℕ) (r : Going Given Note) → HasKept l.going.slots r.slots cell value
@@ -457,6 +467,7 @@ module _ (l : Lending) (stage : Staged) (over : Option Conflict) (i : IsLent l s
         full = i.full;
         unrefused = i.unrefused;
         full_stays = i.full_stays;
+        exceeds = i.exceeds;
       }
 
   pub forgets_lent : (r : Going Given Note) → HasForgotten l.going.slots r.slots → r ≡ record l.going { slots = r.slots }

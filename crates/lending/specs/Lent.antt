@@ -1,5 +1,5 @@
 -- Of the code's inside, apart from the rules: a run on a library's words as commands see it, and what is so of it at all times.
-use Rattle.std.specs.Prelude.{◌≡◌, ℕ, ◌/◌, ◌≤◌, Bool, true, false, is_some, Option, Some, None, List, [], ◌∷◌, length}
+use Rattle.std.specs.Prelude.{◌≡◌, ℕ, ◌+◌, ◌/◌, ◌<◌, ◌≤◌, Bool, true, false, is_some, Option, Some, None, List, [], ◌∷◌, length}
 use Rattle.std.specs.Coded.{Coded, coded_ℕ, coded_list}
 use Rattle.std.specs.FinMap as map
 use Rattle.std.specs.Option.{option_map}
@@ -31,10 +31,16 @@ Pass = Known Given Note
 abbrev pub FullStays : Pass → Pass → Type 0
 FullStays old new = (found : ℕ × ℕ) → old.full ≡ Some found → new.full ≡ Some found
 
--- what a run takes along, and gives back at its end: what its pass knows, and what was staged for it since its last Committed
+-- where a staging of the pass was refused, the tail that the first of these found and the number of its words exceed the room
+abbrev pub ExceedsRoom : Pass → Type 0
+ExceedsRoom k = (tail count : ℕ) → k.full ≡ Some (tail, count) → k.home.room < tail + count
+
+-- what a run takes along, and gives back at its end: what its pass knows, what was staged for it since its last Committed, and whether the
+-- store had no room for words that the run was to stage
 pub record Carried : Type 0 where
   pub pass : Pass
   pub staged : Staged
+  pub lacked_room : Bool
 
 -- the values of what is staged are told apart as maps of lists of numbers
 abbrev pub staged_code : Coded Staged
@@ -124,6 +130,7 @@ pub record IsLent (l : Lending) (stage : Staged) (over : Option Conflict) : Type
   pub full : l.full ≡ true → (is_some l.going.known.full ≡ true) × (l.may_stage ≡ true)
   pub unrefused : l.full ≡ false → l.going.known.full ≡ l.began.full
   pub full_stays : FullStays l.began l.going.known
+  pub exceeds : ExceedsRoom l.began → ExceedsRoom l.going.known
 
 -- so with some stage, and with the conflict that ended the run, if one did
 abbrev pub IsLending : Lending → Type 0
@@ -139,5 +146,7 @@ pub record Lends (g : Given) (k : Carried) (mode : Mode) (may_stage : Bool) (l :
   -- it has read nothing, and met no conflict
   pub unread : l.going.reads ≡ []
   pub unmet : l.going.over ≡ None
+  -- and no staging of it was refused
+  pub unrefused : l.full ≡ false
   pub taken : l.going.known.taken ≡ k.pass.taken
   pub staged : l.staged ≡ k.staged

@@ -3,14 +3,17 @@
 use bodystore::Stage;
 use lawful::LibraryLaw;
 use std::marker::Model;
+use std::snapshot::Snapshot;
 use tlwords::Pass;
 
 /// What a run takes along: a pass of the words, and the ranges that were staged for it since its last commit. Contracts see what the pass
-/// knows, and what is staged.
+/// knows, what is staged, and whether the store had no room for words that the last run was to stage.
 #[derive(Drop)]
 pub struct Kit {
     pub pass: Pass<LibraryLaw>,
     pub stage: Stage,
+    /// Of the last run.
+    pub lacked_room: Snapshot<bool>,
 }
 
 impl Model for Kit {
@@ -22,7 +25,7 @@ impl Model for Kit {
 
     ghost coded = { Prim.hlevel (codes, staged_code) };
 
-    ghost view = { λ k. record { pass = k.pass; staged = k.stage } };
+    ghost view = { λ k. record { pass = k.pass; staged = k.stage; lacked_room = k.lacked_room.value } };
 
     ghost invariant = { λ k. AreStaged k.pass.seen.ranges k.stage };
 }
@@ -34,7 +37,11 @@ impl Kit {
     pub fn into_pass(self) -> Pass<LibraryLaw>
         ensures { result ≡ self.pass }
     {
-        let Kit { pass, stage: _ } = self;
+        let Kit {
+            pass,
+            stage: _,
+            lacked_room: _,
+        } = self;
         pass
     }
 }

@@ -109,7 +109,11 @@ impl<'w> Live<'w> {
         requires on { IsPassOn given.now kit.pass }
         ensures { Lends given.now kit mode may_stage result.run }
     {
-        let Kit { pass, stage } = kit;
+        let Kit {
+            pass,
+            stage,
+            lacked_room: _,
+        } = kit;
         let began = Snapshot::of(&pass);
         Live {
             alloc,
@@ -150,14 +154,15 @@ impl<'w> Live<'w> {
         ensures ended { self.entry.run.going.over ≡ None → Ends library_terms note.now self.entry.run.going result.0.pass result.1 }
         ensures staged { result.0.staged ≡ staged_after result.1 self.entry.run.staged }
         ensures taken { result.0.pass.taken ≡ self.entry.run.going.known.taken }
+        ensures lacked { result.0.lacked_room ≡ self.entry.run.full }
     {
         let Live {
             run,
             mut stage,
+            full,
             alloc: _,
             slots: _,
             over: _,
-            full: _,
             may_stage: _,
             given: _,
             began: _,
@@ -166,7 +171,13 @@ impl<'w> Live<'w> {
         if let Outcome::Committed(_) = outcome {
             stage.clear();
         }
-        (Kit { pass, stage }, outcome)
+        let lacked_room = Snapshot::of(&full);
+        let kit = Kit {
+            pass,
+            stage,
+            lacked_room,
+        };
+        (kit, outcome)
     }
 
     /// Ends a run that was stopped, or that is given up for want of memory, with nothing written: why. What was staged stays.
@@ -174,6 +185,7 @@ impl<'w> Live<'w> {
         ensures kit { result.0.pass ≡ self.entry.run.going.known }
         ensures why { IsGivenUp self.entry.run result.1 }
         ensures staged { result.0.staged ≡ self.entry.run.staged }
+        ensures lacked { result.0.lacked_room ≡ self.entry.run.full }
     {
         let Live {
             run,
@@ -192,7 +204,13 @@ impl<'w> Live<'w> {
             None => GivenUp::NoMemory,
         };
         let pass = run.leave();
-        (Kit { pass, stage }, why)
+        let lacked_room = Snapshot::of(&full);
+        let kit = Kit {
+            pass,
+            stage,
+            lacked_room,
+        };
+        (kit, why)
     }
 }
 

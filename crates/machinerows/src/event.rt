@@ -4,7 +4,7 @@ use std::alloc::{AllocError, Global};
 use tlcore::Action;
 
 /// What stands in front of the first blank of a text, and behind it.
-pub fn cut(text: &str) -> (&str, &str) {
+pub(crate) fn cut(text: &str) -> (&str, &str) {
     text.split_once(' ').unwrap_or((text, ""))
 }
 
@@ -25,7 +25,7 @@ fn action_of(verb: &str, cell: Option<usize>, value: Option<u64>) -> Option<Acti
 }
 
 /// The event that a text says: a seat and its action. None of a text that says none.
-pub fn event_of(text: &str) -> Option<(usize, Action)> {
+pub(crate) fn event_of(text: &str) -> Option<(usize, Action)> {
     let (seat, behind) = cut(text);
     let (verb, operands) = cut(behind);
     let (cell, value) = cut(operands);
@@ -35,7 +35,10 @@ pub fn event_of(text: &str) -> Option<(usize, Action)> {
 }
 
 /// The events that a text says, with `; ` between each two. None where one of them says none.
-pub fn read_events(alloc: Global, text: &str) -> Result<Option<Vec<(usize, Action)>>, AllocError> {
+pub(crate) fn read_events(
+    alloc: Global,
+    text: &str,
+) -> Result<Option<Vec<(usize, Action)>>, AllocError> {
     let mut events = Vec::new(alloc);
     for text in text.split("; ") {
         let Some(event) = event_of(text) else {

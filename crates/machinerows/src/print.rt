@@ -7,22 +7,22 @@ use tlcore::World;
 
 /// A world, with how many cells and seats it has.
 #[derive(Drop)]
-pub struct Opened {
+pub(crate) struct Opened {
     /// The world.
-    pub world: World,
+    pub(crate) world: World,
     /// How many cells it has.
-    pub cells: usize,
+    pub(crate) cells: usize,
     /// How many seats it has.
-    pub seats: usize,
+    pub(crate) seats: usize,
 }
 
 /// Writes these words. Writing into a vector fails only for want of memory.
-pub fn show(out: &mut Vec<u8>, words: impl Display + Drop) -> Result<(), AllocError> {
+pub(crate) fn show(out: &mut Vec<u8>, words: impl Display + Drop) -> Result<(), AllocError> {
     write!(out, "{words}").map_err(|_| AllocError)
 }
 
 /// A number, or `none`.
-pub fn show_or_none(out: &mut Vec<u8>, number: Option<u64>) -> Result<(), AllocError> {
+pub(crate) fn show_or_none(out: &mut Vec<u8>, number: Option<u64>) -> Result<(), AllocError> {
     match number {
         Some(number) => show(out, number),
         None => show(out, "none"),
@@ -76,7 +76,7 @@ fn show_conflicted(out: &mut Vec<u8>, opened: &Opened) -> Result<(), AllocError>
 }
 
 /// All that a world shows.
-pub fn show_world(out: &mut Vec<u8>, opened: &Opened) -> Result<(), AllocError> {
+pub(crate) fn show_world(out: &mut Vec<u8>, opened: &Opened) -> Result<(), AllocError> {
     let clock = opened.world.clock();
     show(out, format_args!("clock {clock}"))?;
     show_cells(out, opened)?;

@@ -63,6 +63,8 @@ module _ (l : Lending) (stage : Staged) (over : Option Conflict) (lent : IsLent 
         name = name ∙ ap (λ (z : Pass). z.name) lent.since;
         grows = seen_trans l.began.seen l.going.known.seen k.seen lent.grows grows;
         full = λ p e. full ∙ lent.full_stays p e;
+        exceeds = λ was tail count is.
+            subst (λ (h : WordsHome Given). h.room < tail + count) (sym home) (lent.exceeds was tail count (sym full ∙ is));
         knows = knows;
       }
 

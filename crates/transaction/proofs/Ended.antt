@@ -24,6 +24,7 @@ module _ (l : Lending) (stage : Staged) (over : Option Conflict) (lent : IsLent 
         name = ap (λ (k : Pass). k.name) lent.since;
         grows = lent.grows;
         full = lent.full_stays;
+        exceeds = lent.exceeds;
         knows = lent.stands.knows;
       }
 

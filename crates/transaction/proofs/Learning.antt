@@ -4,7 +4,7 @@ use Rattle.tlwords.specs.Seen.{Agree}
 use Rattle.tlwords.specs.Calls.{Learns as WordsLearn}
 use Rattle.lawful.specs.Lawful.{library_terms}
 use Rattle.lawful.proofs.Standing.{other_calls_agree}
-use Rattle.lending.specs.Lent.{Pass}
+use Rattle.lending.specs.Lent.{Pass, ExceedsRoom}
 use Rattle.transaction.specs.Members.{Member, IsMember}
 use Rattle.transaction.specs.Looks.{SessionsLearn}
 use Rattle.transaction.specs.Tries.{IsLaterPass}
@@ -17,6 +17,7 @@ module _ (m o : Member) (k j : Pass) (is : IsMember m) (other : IsMember o) (lea
     name = ap (λ (z : Pass). z.name) learnt.is;
     grows = learnt.own;
     full = λ p e. ap (λ (z : Pass). z.full) learnt.is ∙ e;
+    exceeds = λ was. subst ExceedsRoom (sym learnt.is) was;
     knows = learnt.knows;
   }
 
@@ -26,6 +27,7 @@ module _ (m o : Member) (k j : Pass) (is : IsMember m) (other : IsMember o) (lea
     name = ap (λ (z : Pass). z.name) learnt.other_is;
     grows = learnt.other;
     full = λ p e. ap (λ (z : Pass). z.full) learnt.other_is ∙ e;
+    exceeds = λ was. subst ExceedsRoom (sym learnt.other_is) was;
     knows = learnt.other_knows;
   }
 
@@ -39,15 +41,15 @@ module _ (m o : Member) (k j : Pass) (is : IsMember m) (other : IsMember o) (lea
   base = ap (λ (z : Pass). z.home.base) learnt.is
 
   pub own_stays : IsMember (record m { known = k })
-  own_stays = still_member m k m.staged is own_later own_none
+  own_stays = still_member m k m.staged m.lacked_room is own_later own_none
 
   pub other_stays : IsMember (record o { known = j })
-  other_stays = still_member o j o.staged other other_later other_none
+  other_stays = still_member o j o.staged o.lacked_room other other_later other_none
 
   pub session_learns : SessionsLearn m o (record m { known = k }) (record o { known = j })
   session_learns = record {
-    own = goes_on m k m.staged is own_later own_none;
-    other_own = goes_on o j o.staged other other_later other_none;
+    own = goes_on m k m.staged m.lacked_room is own_later own_none;
+    other_own = goes_on o j o.staged o.lacked_room other other_later other_none;
     told = learnt.told;
     kept = record { mine = ap (λ (z : Pass). z.mine) learnt.is; drawn = own_none };
     other_kept = record { mine = ap (λ (z : Pass). z.mine) learnt.other_is; drawn = other_none };

@@ -28,7 +28,7 @@ use Rattle.lawful.proofs.Standing.{runs_suit}
 use Rattle.lawful.proofs.Running.{looks_are_lawful}
 use Rattle.lending.specs.declared.live.GivenUp.{GivenUp}
 use Rattle.lending.specs.declared.live.GivenUp.TheVariants as given
-use Rattle.lending.specs.Lent.{Pass, Carried, Lending, IsLent, is_writing, lent_sight}
+use Rattle.lending.specs.Lent.{Pass, Carried, Lending, IsLent, ExceedsRoom, is_writing, lent_sight}
 use Rattle.lending.specs.Ends.{IsGivenUp}
 use Rattle.transaction.specs.declared.outcome.Look.{Look}
 use Rattle.transaction.specs.declared.outcome.Look.TheVariants as look
@@ -117,6 +117,7 @@ module _ (l : Lending) (stage : Staged) (over : Option Conflict) (lent : IsLent 
         name = ap (λ (z : Pass). z.name) a.is ∙ ap (λ (z : Pass). z.name) lent.since;
         grows = seen_trans l.began.seen l.going.known.seen new.seen lent.grows a.grows;
         full = λ p e. ap (λ (z : Pass). z.full) a.is ∙ lent.full_stays p e;
+        exceeds = λ was. subst ExceedsRoom (sym a.is) (lent.exceeds was);
         knows = a.knows;
       }
   later_by (Some k) met = subst (IsLaterPass l.began) (sym (stopped k met).1) (is_later l stage over lent)
@@ -167,14 +168,14 @@ draws_none old new (look.Conflict place cell word before) sees = sees.0.drawn
 draws_none old new look.NoMemory sees = sees.0.drawn
 
 module _ (m : Member) (k : Carried) (l : Look) (is : IsMember m) (later : IsLaterPass m.known k.pass) (sees : Sees m.known k.pass l) where
-  pub looker_stays : IsMember (record m { known = k.pass; staged = k.staged })
-  looker_stays = still_member m k.pass k.staged is later (draws_none m.known k.pass l sees)
+  pub looker_stays : IsMember (record m { known = k.pass; staged = k.staged; lacked_room = k.lacked_room })
+  looker_stays = still_member m k.pass k.staged k.lacked_room is later (draws_none m.known k.pass l sees)
 
-  pub session_looks : StoresNothing (record { pass = m.known; staged = m.staged }) k
-      → TakesLook m (record m { known = k.pass; staged = k.staged }) l
+  pub session_looks : StoresNothing (record { pass = m.known; staged = m.staged; lacked_room = m.lacked_room }) k
+      → TakesLook m (record m { known = k.pass; staged = k.staged; lacked_room = k.lacked_room }) l
   session_looks stored =
       record {
-        later = goes_on m k.pass k.staged is later (draws_none m.known k.pass l sees);
+        later = goes_on m k.pass k.staged k.lacked_room is later (draws_none m.known k.pass l sees);
         sees = sees;
         staged = stored.1;
         taken = stored.0;

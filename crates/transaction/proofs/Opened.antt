@@ -1,5 +1,5 @@
 -- A library that is opened, and its new sessions.
-use Rattle.std.proofs.Common.{◌≡◌, ℕ, ◌≤◌, List, [], ◌∷◌, ◌++◌, length, map, All, Some, refl, sym, ap, subst, ◌∙◌}
+use Rattle.std.proofs.Common.{◌≡◌, ℕ, ◌≤◌, List, [], ◌∷◌, ◌++◌, length, map, All, Bool, false, Some, None, refl, sym, ap, subst, ◌∙◌}
 use Rattle.std.specs.Ordering.{nat_cmp}
 use Rattle.std.specs.Cmp.Lexicographic.{slice_cmp}
 use Rattle.std.specs.FinMap.{empty, get-empty}
@@ -68,25 +68,31 @@ none_staged ranges stage is =
     (record { among = λ words start at. let none = sym (get-empty (slice_cmp nat_cmp) words) ∙ at in cc none })
 
 -- one more session is made, of the next pass
-pub seat_next : (g s : Given) (k : Known Given Note) (records : List Record) (stage : Staged) (made new : List Member)
+pub seat_next : (g s : Given) (k : Known Given Note) (records : List Record) (stage : Staged) (lacked : Bool) (made new : List Member)
     → (rest left all : List (Known Given Note))
-    → new ≡ made ++ record { given = s; known = k; records = records; staged = stage } ∷ []
-    → s ≡ g → records ≡ [] → stage ≡ empty
+    → new ≡ made ++ record { given = s; known = k; records = records; staged = stage; lacked_room = lacked } ∷ []
+    → s ≡ g → records ≡ [] → stage ≡ empty → lacked ≡ false
     → rest ≡ k ∷ left
     → made ++ map (seated g) rest ≡ map (seated g) all
     → new ++ map (seated g) left ≡ map (seated g) all
-seat_next g s k records stage made new rest left all new_is given none clear next so_far =
-    let one : record { given = s; known = k; records = records; staged = stage } ≡ seated g k =
-    λ j. record { given = given j; known = k; records = none j; staged = clear j } in
+seat_next g s k records stage lacked made new rest left all new_is given none clear not next so_far =
+    let one : record { given = s; known = k; records = records; staged = stage; lacked_room = lacked } ≡ seated g k =
+    λ j. record { given = given j; known = k; records = none j; staged = clear j; lacked_room = not j } in
     ap (λ (ms : List Member). ms ++ map (seated g) left) (new_is ∙ ap (λ (m : Member). made ++ m ∷ []) one)
     ∙ append_assoc made (seated g k ∷ []) (map (seated g) left)
     ∙ (ap (λ ks. made ++ map (seated g) ks) (sym next) ∙ so_far)
 
--- the session of a pass that drew nothing keeps what it is to keep
-pub member_of : (g : Given) (k : Known Given Note) → IsPassOn g k → Knows library_terms k → k.drawn ≡ [] → IsMember (seated g k)
-member_of g k on knows new =
+-- the session of a pass that drew nothing, and of which no staging was refused, keeps what it is to keep
+pub member_of : (g : Given) (k : Known Given Note) → IsPassOn g k → Knows library_terms k → k.drawn ≡ [] → k.full ≡ None
+    → IsMember (seated g k)
+member_of g k on knows new unrefused =
     let none = All-nil (IsRecordIn (history_of k.seen)) in
-    record { on = on; knows = knows; recorded = record { numbers = sym new; entries = none } }
+    record {
+      on = on;
+      knows = knows;
+      recorded = record { numbers = sym new; entries = none };
+      exceeds = λ tail count is. let no = sym unrefused ∙ is in absurd cc;
+    }
 
 -- the library of these words
 abbrev pub home_at : {L : Type 0} → Given → Words L Given Note → Home
@@ -132,6 +138,9 @@ module _ (home : Home) (sessions : ℕ) (passes : List (Known Given Note)) (sett
   pub undrawn : All (λ k. k.drawn ≡ []) passes
   undrawn i d lt = ap (λ (k : Known Given Note). k.drawn) (are.new i d lt)
 
+  pub unrefused : All (λ k. k.full ≡ None) passes
+  unrefused i d lt = ap (λ (k : Known Given Note). k.full) (are.new i d lt)
+
   -- the sessions of the passes are new ones, with the passes' names
   pub new_sessions : (members : List Member) → AreSeated home.given passes members → All (IsNewSession home) members
   new_sessions members seats =
@@ -142,7 +151,7 @@ module _ (home : Home) (sessions : ℕ) (passes : List (Known Given Note)) (sett
         given = refl;
         known = are.new i d lt;
         records = refl;
-        stands = stands _ (member_of home.given _ (on_words i d lt) (are.knows i d lt) (undrawn i d lt));
+        stands = stands _ (member_of home.given _ (on_words i d lt) (are.knows i d lt) (undrawn i d lt) (unrefused i d lt));
       }))
 
   pub named_sessions : (members : List Member) → AreSeated home.given passes members

@@ -1,5 +1,5 @@
 -- What was told of drawn numbers stays so while more is seen.
-use Rattle.std.proofs.Common.{◌≡◌, ◌≢◌, ℕ, List, [], ◌∷◌, ◌++◌, Option, Some, None, sym, ap, ◌∙◌}
+use Rattle.std.proofs.Common.{◌≡◌, ◌≢◌, ℕ, Bool, List, [], ◌∷◌, ◌++◌, Option, Some, None, sym, ap, ◌∙◌}
 use Rattle.std.specs.Prelude.{All}
 use Rattle.std.specs.Option.{MatchOption}
 use Rattle.std.proofs.lemmas.List.{map-append}
@@ -51,12 +51,12 @@ pub put_behind : (r : Option Record) (old new : List Record) → MatchOption r (
 put_behind None old new h = h
 put_behind (Some own) old new h = h
 
-pub still_recorded : (m : Member) (k : Pass) (s : Staged) (r : Option Record) → SeenGrows m.known.seen k.seen → IsRecorded m.known k r
-    → AreRecorded m
-    → AreRecorded (record m { known = k; records = with_record m.records r; staged = s })
-still_recorded m k s None grows none are =
+pub still_recorded : (m : Member) (k : Pass) (s : Staged) (lacked : Bool) (r : Option Record) → SeenGrows m.known.seen k.seen
+    → IsRecorded m.known k r → AreRecorded m
+    → AreRecorded (record m { known = k; records = with_record m.records r; staged = s; lacked_room = lacked })
+still_recorded m k s lacked None grows none are =
     record { numbers = are.numbers ∙ sym none; entries = records_grow m.known.seen k.seen m.records grows are.entries }
-still_recorded m k s (Some r) grows (drawn, is) are =
+still_recorded m k s lacked (Some r) grows (drawn, is) are =
     record {
       numbers =
           map-append (λ (x : Record). x.number) m.records (r ∷ []) ∙ (ap (λ (ns : List ℕ). ns ++ r.number ∷ []) are.numbers ∙ sym drawn);

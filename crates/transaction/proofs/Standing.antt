@@ -11,4 +11,5 @@ stands m is =
       store = small_store m.known.seen.ranges is.on.1 (is.knows.ranges m.given is.on.0);
       agree = seen.1;
       recorded = is.recorded;
+      exceeds = is.exceeds;
     }

@@ -27,7 +27,7 @@ use Rattle.transaction.specs.declared.outcome.Record.{Record}
 use Rattle.transaction.specs.Members.{Member, IsLater, IsMember, IsSoundMember}
 use Rattle.transaction.specs.Locks.{LocksWithin}
 use Rattle.transaction.specs.Attempts.{Gains, LeavesStaged, Attempts, Submits, IsVoidNumber, DrawsVoid, AddsNothing, GainsCall, SaysDone, SaysRefused}
-use Rattle.transaction.specs.Attempts.{tried, IsOneRun, LoadsOnce, MetNone, WasMet}
+use Rattle.transaction.specs.Attempts.{tried, IsOneRun, LoadsOnce, MetNone, MeetsAll, WasMet}
 use Rattle.transaction.specs.Footprints.{MayWriteAfter, IsLaterHistory, StaysWithin}
 use Rattle.transaction.specs.Tries.{IsLaterPass, IsRecorded, Stores, Tries, EndsWithin}
 use Rattle.transaction.proofs.Standing.{stands}
@@ -77,7 +77,8 @@ locks_then g cs a b c home grows p q =
 
 -- the session after a run
 abbrev pub after_run : Member → Carried → Option Record → Member
-after_run m k r = record m { known = k.pass; records = with_record m.records r; staged = k.staged }
+after_run m k r =
+    record m { known = k.pass; records = with_record m.records r; staged = k.staged; lacked_room = k.lacked_room }
 
 -- a session is no earlier than itself
 pub later_refl : (m : Member) → IsSoundMember m → IsLater m m
@@ -93,6 +94,7 @@ module _ (m : Member) (is : IsMember m) where
         gains = (refl, many);
         run = tt;
         unrefused = λ e. absurd cc;
+        room = tt;
         footprint = λ new later. tt;
         locks = locks_nothing m.given cs m.known;
         unlocked = refl;
@@ -108,12 +110,14 @@ module _ (m : Member) (is : IsMember m) where
       record {
         on = subst (λ (h : WordsHome Given). (h.setting ≡ Some m.given) × (h.room ≤ most_words)) (sym later.home) is.on;
         knows = later.knows;
-        recorded = still_recorded m k.pass k.staged r later.grows recorded is.recorded;
+        recorded = still_recorded m k.pass k.staged k.lacked_room r later.grows recorded is.recorded;
+        exceeds = later.exceeds is.exceeds;
       }
 
   pub attempts_run : (cs : List Command) (k : Carried) (o : Outcome) (r : Option Record) → has_too_many cs ≡ false
       → Tries cs m.known k.pass o r
-      → Stores cs (record { pass = m.known; staged = m.staged }) k o → EndsWithin m.known cs k.pass o → Attempts cs m (after_run m k r) o
+      → Stores cs (record { pass = m.known; staged = m.staged; lacked_room = m.lacked_room }) k o → EndsWithin m.known cs k.pass o
+      → Attempts cs m (after_run m k r) o
   attempts_run cs k o r few t stored within =
       record {
         later = record {
@@ -127,6 +131,7 @@ module _ (m : Member) (is : IsMember m) where
         gains = t.gains;
         run = t.run;
         unrefused = t.unrefused;
+        room = stored.2;
         footprint = (within m.given is.on.0).0;
         locks = (within m.given is.on.0).1;
         unlocked = t.unlocked;
@@ -142,16 +147,19 @@ module _ (m : Member) (is : IsMember m) (cs : List Command) (kit k : Carried) (o
   tries_here : Tries cs m.known k.pass o r
   tries_here = subst (λ (z : Pass). Tries cs z k.pass o r) same tries
 
-  pub run_member : IsMember (record m { known = k.pass; records = records; staged = k.staged })
-  run_member = subst (λ (rs : List Record). IsMember (record m { known = k.pass; records = rs; staged = k.staged })) (sym are)
+  pub run_member : IsMember (record m { known = k.pass; records = records; staged = k.staged; lacked_room = k.lacked_room })
+  run_member =
+      subst (λ (rs : List Record). IsMember
+      (record m { known = k.pass; records = rs; staged = k.staged; lacked_room = k.lacked_room })) (sym are)
       (member_after m is k r tries_here.later tries_here.recorded)
 
   pub run_attempts : kit.staged ≡ m.staged → Stores cs kit k o → EndsWithin kit.pass cs k.pass o → has_too_many cs ≡ false
-      → Attempts cs m (record m { known = k.pass; records = records; staged = k.staged }) o
+      → Attempts cs m (record m { known = k.pass; records = records; staged = k.staged; lacked_room = k.lacked_room }) o
   run_attempts stage stored within few =
-      subst (λ (rs : List Record). Attempts cs m (record m { known = k.pass; records = rs; staged = k.staged }) o) (sym are)
+      subst (λ (rs : List Record). Attempts cs m
+      (record m { known = k.pass; records = rs; staged = k.staged; lacked_room = k.lacked_room }) o) (sym are)
       (attempts_run m is cs k o r few tries_here
-      (subst (λ (z : Carried). Stores cs z k o) (λ j. record { pass = same j; staged = stage j }) stored)
+      (subst (λ (z : Carried). Stores cs z k o) (λ j. record { pass = same j; staged = stage j; lacked_room = m.lacked_room }) stored)
       (subst (λ (z : Pass). EndsWithin z cs k.pass o) same within))
 
 -- ---- tries until there is no conflict
@@ -200,7 +208,7 @@ pub record Tried (cs : List Command) (old now : Member) : Type 0 where
   pub counted : now.known.clocks ≡ runs ++ old.known.clocks
   pub locks : LocksWithin now.given cs old.known now.known
   pub mine : now.known.mine ≡ old.known.mine
-  pub unrefused : runs ≡ [] → now.known.full ≡ old.known.full
+  pub before : MeetsAll cs old now met
   pub staged : StaysStaged old.staged now.staged
   pub taken : now.known.taken ≤ old.known.taken + length runs * most_words_of cs
 
@@ -218,7 +226,7 @@ tried_none cs m =
       counted = refl;
       locks = locks_nothing m.given cs m.known;
       mine = refl;
-      unrefused = λ none. refl;
+      before = refl;
       staged = λ words start h. h;
       taken = omega arith;
     }
@@ -322,30 +330,30 @@ module _ (cs : List Command) (old now next : Member) (o : Outcome) (so_far : Tri
         counted = g.2.run ∙ ap (λ (ps : List ℕ). met.place ∷ ps) so_far.counted;
         locks = locks_since;
         mine = g.0 ∙ so_far.mine;
-        unrefused = λ none. absurd cc;
+        before = (now, so_far.before, subst (Attempts cs now next) is a);
         staged = stays (subst (LeavesStaged now.staged next.staged) is a.staged);
         taken = (let e = more_words met.place in let p = a.taken in let q = so_far.taken in omega (arith, e, p, q));
       }
 
   -- ---- the last try
 
-  abbrev pub before : Pass
-  before = tried old.known so_far.numbers so_far.runs
+  abbrev pub pass_before : Pass
+  pass_before = tried old.known so_far.numbers so_far.runs
 
   not_before : (place : ℕ) → length now.known.seen.history ≤ place → length old.known.seen.history ≤ place
   not_before place is = let l = longer_by so_far.since in omega arith
 
-  adds : AddsNothing now.known next.known → AddsNothing before next.known
+  adds : AddsNothing now.known next.known → AddsNothing pass_before next.known
   adds is = record { mine = is.mine ∙ so_far.mine; drawn = is.drawn ∙ so_far.drawn }
 
   calls : (call : Work Note → Call Note) (Says : Note → Type 0) → GainsCall now.known next.known call Says
-      → GainsCall before next.known call Says
+      → GainsCall pass_before next.known call Says
   calls call Says g = (g.0, g.1, g.2 ∙ ap (λ (z : List (Call Note)). z ++ call g.0 ∷ []) so_far.mine)
 
-  one_more : (place : ℕ) → LoadsOnce now.known next.known place → LoadsOnce before next.known place
+  one_more : (place : ℕ) → LoadsOnce now.known next.known place → LoadsOnce pass_before next.known place
   one_more place one = one ∙ ap (λ (ps : List ℕ). place ∷ ps) so_far.counted
 
-  none_since : MetNone now.known next.known → MetNone before next.known
+  none_since : MetNone now.known next.known → MetNone pass_before next.known
   none_since none =
       record {
         place = none.place;
@@ -355,7 +363,7 @@ module _ (cs : List Command) (old now next : Member) (o : Outcome) (so_far : Tri
       }
 
   gains_since : (v : Outcome) → Gains cs now.known next.known v → ((met : Met) → v ≢ conflict_of met) → v ≢ outcome.TooManyCommands
-      → Gains cs before next.known v
+      → Gains cs pass_before next.known v
   gains_since (outcome.Committed number replies) g settles some = (
     g.0,
     (let l = longer_by so_far.since in let m = g.1 in omega arith),
@@ -373,7 +381,7 @@ module _ (cs : List Command) (old now next : Member) (o : Outcome) (so_far : Tri
   gains_since outcome.TooManyCommands g settles some = absurd (some refl)
   gains_since outcome.NoMemory g settles some = adds g
 
-  ran_since : (v : Outcome) → IsOneRun now.known next.known v → IsOneRun before next.known v
+  ran_since : (v : Outcome) → IsOneRun now.known next.known v → IsOneRun pass_before next.known v
   ran_since (outcome.Committed number replies) one = (one.0, one_more one.0 one.1)
   ran_since (outcome.Read place replies) one = one_more place one
   ran_since (outcome.Refused place index reason) one = one_more place one
@@ -386,20 +394,20 @@ module _ (cs : List Command) (old now next : Member) (o : Outcome) (so_far : Tri
   submits_some : ((met : Met) → o ≢ conflict_of met) → o ≢ outcome.TooManyCommands → Submits cs old next o
   submits_some settled some =
       record {
+        last = now;
+        ends = a;
         later = later_by so_far.since;
         numbers = so_far.numbers;
         void = void_then;
         runs = so_far.runs;
         met = so_far.met;
         places = so_far.places;
+        before = so_far.before;
         conflicts = met_then;
         gains = gains_since o a.gains settled some;
         run = ran_since o a.run;
-        unrefused = λ is none. a.unrefused is ∙ so_far.unrefused none;
-        footprint = a.footprint;
         locks = locks_since;
         settled = settled;
-        counted = a.counted;
         staged = staged_then o a.staged;
         taken = words_then;
         untouched = untouched_by so_far.since;
@@ -412,20 +420,20 @@ module _ (cs : List Command) (old now next : Member) (o : Outcome) (so_far : Tri
       let all : next.known ≡ tried old.known [] [] = g.0 ∙ (ap (λ (m : Member). m.known) same
       ∙ tried_nothing old.known) in
       record {
+        last = now;
+        ends = a;
         later = later_by so_far.since;
         numbers = [];
         void = All-nil (IsVoidNumber next.known);
         runs = [];
         met = [];
         places = refl;
+        before = same;
         conflicts = All-nil (WasMet cs next);
         gains = subst (Gains cs (tried old.known [] []) next.known) (sym is) (all, g.1);
         run = subst (IsOneRun (tried old.known [] []) next.known) (sym is) tt;
-        unrefused = λ memory none. let no = sym is ∙ memory in absurd cc;
-        footprint = a.footprint;
         locks = locks_since;
         settled = λ met e. let no = sym is ∙ e in cc;
-        counted = a.counted;
         staged = staged_then o a.staged;
         taken = (let p = ap (λ (k : Pass). k.taken) all in omega (arith, p));
         untouched = untouched_by (inl same);

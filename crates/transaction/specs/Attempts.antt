@@ -131,13 +131,20 @@ abbrev pub LeavesStaged : Staged → Staged → Outcome → Type 0
 LeavesStaged old new (outcome.Committed number replies) = new ≡ empty
 LeavesStaged old new _ = StaysStaged old new
 
+-- a full store is told only where the store had no room for words that the try was to stage, want of memory only where it didn't lack room
+abbrev pub TellsRoom : (lacked : Bool) → Outcome → Type 0
+TellsRoom lacked outcome.StoreFull = lacked ≡ true
+TellsRoom lacked outcome.NoMemory = lacked ≡ false
+TellsRoom lacked _ = Unit {0}
+
 -- what one try does. It takes at most the words of the bodies of its commands, each once
 pub record Attempts (cs : List Command) (old new : Member) (o : Outcome) : Type 0 where
   pub later : IsLater old new
   pub gains : Gains cs old.known new.known o
   pub run : IsOneRun old.known new.known o
-  -- where memory ran out, no staging was refused for the first time
+  -- where memory ran out, no staging of it was refused
   pub unrefused : o ≡ outcome.NoMemory → new.known.full ≡ old.known.full
+  pub room : TellsRoom new.lacked_room o
   -- the cell of a conflict is one that it may read, at the conflict's place; and a Committed wrote only what it may write, over the
   -- library before it
   pub footprint : StaysWithin new.given new.known.home.base new.known.seen cs o
@@ -148,6 +155,11 @@ pub record Attempts (cs : List Command) (old new : Member) (o : Outcome) : Type 
   pub staged : LeavesStaged old.staged new.staged o
   pub taken : new.known.taken ≤ old.known.taken + most_words_of cs
   pub untouched : has_too_many cs ≡ true → new.staged ≡ old.staged
+
+-- tries, one after another, each of which met one of these conflicts, the newest first
+abbrev pub MeetsAll : List Command → Member → Member → List Met → Type 0
+MeetsAll cs old new [] = new ≡ old
+MeetsAll cs old new (met ∷ mets) = (mid : Member) × MeetsAll cs old mid mets × Attempts cs mid new (conflict_of met)
 
 -- what the pass knew, with further numbers, and after further runs, at these places, the newest first
 abbrev pub tried : Pass → List ℕ → List ℕ → Pass
@@ -160,9 +172,12 @@ pub record WasMet (cs : List Command) (now : Member) (met : Met) : Type 0 where
   pub written : IsVersionOf now.known.seen.history met.cell (met.word / 2)
   pub footprint : StaysWithin now.given now.known.home.base now.known.seen cs (conflict_of met)
 
--- what tries until there is no conflict do: as the last one, after others, each of one run that met a conflict, that drew further numbers,
--- which are void, and took words of the store
+-- what tries until there is no conflict do: tries that each met one, and a last one that met none, of which all is so that is so of a try.
+-- So of all of them together: those before the last drew further numbers, which are void, and took words of the store
 pub record Submits (cs : List Command) (old new : Member) (o : Outcome) : Type 0 where
+  -- the session as the last try found it
+  pub last : Member
+  pub ends : Attempts cs last new o
   pub later : IsLater old new
   pub numbers : List ℕ
   pub void : All (IsVoidNumber new.known) numbers
@@ -170,16 +185,14 @@ pub record Submits (cs : List Command) (old new : Member) (o : Outcome) : Type 0
   -- the conflicts, the newest first, each at the place of its run
   pub met : List Met
   pub places : map (λ m. m.place) met ≡ runs
+  -- which the tries before the last one met
+  pub before : MeetsAll cs old last met
   pub conflicts : All (WasMet cs new) met
   pub gains : Gains cs (tried old.known numbers runs) new.known o
   pub run : IsOneRun (tried old.known numbers runs) new.known o
-  -- where memory ran out at the first try, no staging was refused for the first time
-  pub unrefused : o ≡ outcome.NoMemory → runs ≡ [] → new.known.full ≡ old.known.full
-  pub footprint : StaysWithin new.given new.known.home.base new.known.seen cs o
   -- all its tries locked no cells but those that it may write, over the library at the place of one of them
   pub locks : LocksWithin new.given cs old.known new.known
   pub settled : (met : Met) → o ≢ conflict_of met
-  pub counted : has_too_many cs ≡ true → o ≡ outcome.TooManyCommands
   pub staged : LeavesStaged old.staged new.staged o
   pub taken : new.known.taken ≤ old.known.taken + (length runs * most_words_of cs + most_words_of cs)
   pub untouched : has_too_many cs ≡ true → new.staged ≡ old.staged

@@ -1,5 +1,5 @@
 -- Of the code's inside, apart from the rules: what the pass of a session knows, which a run may have for a time.
-use Rattle.std.specs.Prelude.{Option, Some, None}
+use Rattle.std.specs.Prelude.{Option, Some, None, Bool, false}
 use Rattle.std.specs.FinMap.{empty}
 use Rattle.bodystore.specs.Stages.{Staged}
 use Rattle.lending.specs.Lent.{Pass, Carried}
@@ -14,3 +14,8 @@ known_in (Some k) = k.pass
 abbrev pub staged_in : Option Carried → Staged
 staged_in None = empty
 staged_in (Some k) = k.staged
+
+-- whether the last run lacked room; not so then
+abbrev pub lacked_in : Option Carried → Bool
+lacked_in None = false
+lacked_in (Some k) = k.lacked_room

@@ -1,5 +1,5 @@
 -- What opening a library in running words gives, and when it is refused.
-use Rattle.std.specs.Prelude.{◌≡◌, ◌≢◌, ◌<◌, ◌≤◌, ◌^◌, Some, List, [], length, All, Result, Ok, Err, map, Vec}
+use Rattle.std.specs.Prelude.{◌≡◌, ◌≢◌, ◌<◌, ◌≤◌, ◌^◌, Some, false, List, [], length, All, Result, Ok, Err, map, Vec}
 use Rattle.std.specs.declared.alloc.Global.{Global}
 use Rattle.std.specs.FinMap.{empty}
 use Rattle.mmsyntax.specs.Tables.{Tables, Contents}
@@ -85,7 +85,7 @@ Faults db _ = ⊥
 
 -- the session of a pass
 abbrev pub seated : Given → Known Given Note → Member
-seated g k = record { given = g; known = k; records = []; staged = empty }
+seated g k = record { given = g; known = k; records = []; staged = empty; lacked_room = false }
 
 -- a session of each pass, in order
 abbrev pub AreSeated : Given → List (Known Given Note) → List Member → Type 0

@@ -15,7 +15,7 @@ use Rattle.lawful.specs.declared.notes.Note.TheVariants.{Done, Refused, Looked}
 use Rattle.lawful.specs.declared.notes.Given.{Given}
 use Rattle.lawful.specs.Lawful.{setting_given, ForEachUnder, library_terms}
 use Rattle.lawful.specs.History.{history_of}
-use Rattle.lending.specs.Lent.{Pass, Carried, Lending, lent_sight, FullStays}
+use Rattle.lending.specs.Lent.{Pass, Carried, Lending, lent_sight, FullStays, ExceedsRoom}
 use Rattle.lending.specs.Ends.{IsLawfulWith}
 use Rattle.transaction.specs.declared.outcome.Record.{Record}
 use Rattle.transaction.specs.declared.outcome.Outcome.{Outcome}
@@ -23,7 +23,7 @@ use Rattle.transaction.specs.declared.outcome.Outcome.TheVariants as outcome
 use Rattle.transaction.specs.Members.{IsRecordIn}
 use Rattle.transaction.specs.Footprints.{MayRead, MayWrite, StaysWithin}
 use Rattle.transaction.specs.Locks.{LocksWithin, LocksOnlyToCommit}
-use Rattle.transaction.specs.Attempts.{Gains, IsOneRun, LeavesStaged}
+use Rattle.transaction.specs.Attempts.{Gains, IsOneRun, LeavesStaged, TellsRoom}
 
 -- the pass later: of the same words, with the same name, having seen more
 pub record IsLaterPass (old new : Pass) : Type 0 where
@@ -31,6 +31,7 @@ pub record IsLaterPass (old new : Pass) : Type 0 where
   pub name : new.name ≡ old.name
   pub grows : SeenGrows old.seen new.seen
   pub full : FullStays old new
+  pub exceeds : ExceedsRoom old → ExceedsRoom new
   pub knows : Knows library_terms new
 
 -- the number that was drawn, if one was, has this record
@@ -49,20 +50,23 @@ pub record Tries (cs : List Command) (old new : Pass) (o : Outcome) (r : Option 
 
 -- what a run would give back, were it ended now
 abbrev pub carried_by : Lending → Carried
-carried_by l = record { pass = l.going.known; staged = l.staged }
+carried_by l = record { pass = l.going.known; staged = l.staged; lacked_room = l.full }
 
 -- nothing is taken of the store, and what was staged stays
 abbrev pub StoresNothing : Carried → Carried → Type 0
 StoresNothing old new = (new.pass.taken ≡ old.pass.taken) × (new.staged ≡ old.staged)
 
--- so where a run ends, but that a Committed forgets what was staged
+-- so where a run ends, but that a Committed forgets what was staged; and a run that is given up tells whether it lacked room
 abbrev pub EndsStored : Carried → Carried → Outcome → Type 0
 EndsStored old new (outcome.Committed number replies) = (new.pass.taken ≡ old.pass.taken) × (new.staged ≡ empty)
+EndsStored old new outcome.StoreFull = StoresNothing old new × TellsRoom new.lacked_room outcome.StoreFull
+EndsStored old new outcome.NoMemory = StoresNothing old new × TellsRoom new.lacked_room outcome.NoMemory
 EndsStored old new _ = StoresNothing old new
 
--- what one run takes of the store and leaves staged
+-- what one run takes of the store and leaves staged, and that it tells whether it lacked room
 abbrev pub Stores : List Command → Carried → Carried → Outcome → Type 0
-Stores cs old new o = LeavesStaged old.staged new.staged o × (new.pass.taken ≤ old.pass.taken + most_words_of cs)
+Stores cs old new o =
+    LeavesStaged old.staged new.staged o × (new.pass.taken ≤ old.pass.taken + most_words_of cs) × TellsRoom new.lacked_room o
 
 -- the run is lawful with a note that the commands are done
 abbrev pub MayBeDone : Lending → List Command → List Reply → Type 0

@@ -42,9 +42,10 @@ impl Session {
     /// Every other outcome changes nothing, and the session can be used again; only words of the store that were staged stay used: at most
     /// those of its bodies, each once, and none for a body that was staged since the last Committed, unless memory ran out for the note of
     /// it. All memory is taken before the first lock. Each try but one of too many commands is one run, which loads the clock once: it is
-    /// never tried again inside. Where a run met a conflict, that is the outcome, and neither `StoreFull` nor `NoMemory`. The cell of a
-    /// conflict is one that some command may read, and a commit writes no cells but those that its commands may write. The same cells alone
-    /// are locked by a try, whatever comes of it, and none but where it committed or met a conflict.
+    /// never tried again inside. Where a run met a conflict, that is the outcome, and neither `StoreFull` nor `NoMemory`. Of these the one
+    /// is told only where the store had no room for words that this try was to stage, the other only where it didn't lack room. The cell of
+    /// a conflict is one that some command may read, and a commit writes no cells but those that its commands may write. The same cells
+    /// alone are locked by a try, whatever comes of it, and none but where it committed or met a conflict.
     pub fn attempt(&mut self, alloc: Global, library: &Library, commands: &Transaction) -> Outcome
         requires own { IsSessionOf library.now self.old }
         requires fit { All (CommandFits (setting_given library.now.given).prelude) commands.now }

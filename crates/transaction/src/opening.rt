@@ -1,6 +1,6 @@
 //! Opens libraries in running words.
 
-ghost use Rattle.std.specs.Prelude.{◌≡◌, ◌≢◌, ◌↔◌, ◌≤◌, [], length, IsTrue, IfOk, IfErr, OnOk, All};
+ghost use Rattle.std.specs.Prelude.{◌≡◌, ◌≢◌, ◌↔◌, ◌≤◌, None, [], length, IsTrue, IfOk, IfErr, OnOk, All};
 ghost use Rattle.derivation.specs.Databases.{AllCheck};
 ghost use Rattle.tlwords.specs.Known.{Knows};
 ghost use Rattle.lawful.specs.Lawful.{library_terms};
@@ -139,13 +139,17 @@ fn seat_all(
     requires on { All (IsPassOn given.now) passes.items }
     requires knows { All (Knows library_terms) passes.items }
     requires new { All (λ k. k.drawn ≡ []) passes.items }
+    requires unrefused { All (λ k. k.full ≡ None) passes.items }
     ensures { IfOk result (λ made. AreSeated given.now passes.items made.items) }
 {
     let mut sessions = Vec::with_capacity(alloc, passes.len())?;
     for pass in passes {
+        // Nothing was to be staged yet.
+        let lacked_room = Snapshot::of(&false);
         let kit = Kit {
             pass,
             stage: Stage::new(alloc, keys),
+            lacked_room,
         };
         sessions.push_reserved(Session {
             kit: Some(kit),

@@ -41,13 +41,14 @@ pub enum Outcome {
         /// another than `word`.
         before: Option<u64>,
     },
-    /// The store has no room for a body, or had none for one that this session staged before. The run met no conflict, and changed nothing.
+    /// The store had no room for a body that this try was to stage: it was too small behind its tail, or had been so for a body that this
+    /// session was to stage before. The run met no conflict, and changed nothing.
     StoreFull,
-    /// The session has drawn 2^40 numbers. It changed nothing.
+    /// The session had drawn 2^40 numbers before this try. It changed nothing.
     NumbersUsed,
     /// It has more than 16 commands. Nothing was done.
     TooManyCommands,
-    /// Memory ran out, in a run that met no conflict. It changed nothing.
+    /// Memory ran out, in a run that met no conflict and lacked no room. It changed nothing.
     NoMemory,
 }
 

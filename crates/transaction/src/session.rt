@@ -13,7 +13,8 @@ use std::snapshot::Snapshot;
 use tlwords::{Pass, learn};
 
 /// A session of a library: one transaction after another, on one thread at a time. Contracts see what it knows: what it has seen of the
-/// history, its calls, the numbers that it drew, their records, and what is staged since its last Committed.
+/// history, its calls, the numbers that it drew, their records, what is staged since its last Committed, and whether the store had no room
+/// for words that its last run was to stage.
 pub struct Session {
     // none only while a run has it
     pub(crate) kit: Option<Kit>,
@@ -37,16 +38,28 @@ impl Model for Session {
     ghost use Rattle.std.specs.Coded.{codes};
     ghost use Rattle.lending.specs.Lent.{staged_code};
     ghost use Rattle.transaction.specs.Members.{Member, IsMember};
-    ghost use Rattle.transaction.specs.Kits.{known_in, staged_in};
+    ghost use Rattle.transaction.specs.Kits.{known_in, staged_in, lacked_in};
 
     ghost Value = { Member };
 
     ghost coded = { Prim.hlevel (codes, staged_code) };
 
-    ghost view = { λ s. record { given = s.given.value; known = known_in s.kit; records = s.records.items; staged = staged_in s.kit } };
+    ghost view = { λ s. record {
+      given = s.given.value;
+      known = known_in s.kit;
+      records = s.records.items;
+      staged = staged_in s.kit;
+      lacked_room = lacked_in s.kit;
+    } };
 
     ghost invariant = { λ s. (is_some s.kit ≡ true)
-        × IsMember (record { given = s.given.value; known = known_in s.kit; records = s.records.items; staged = staged_in s.kit }) };
+        × IsMember (record {
+          given = s.given.value;
+          known = known_in s.kit;
+          records = s.records.items;
+          staged = staged_in s.kit;
+          lacked_room = lacked_in s.kit;
+        }) };
 }
 
 impl Session {

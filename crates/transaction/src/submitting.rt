@@ -15,7 +15,8 @@ use std::alloc::Global;
 use std::sync::Wait;
 
 impl Session {
-    /// Tries a transaction, as `attempt` does, until the outcome is no conflict. It may wait forever.
+    /// Tries a transaction, as `attempt` does, until the outcome is no conflict: it is that of the last try, by what the session was when
+    /// that one began. It may wait forever.
     pub fn submit<R: Wait>(
         &mut self,
         rt: &R,

@@ -12,9 +12,10 @@ use Rattle.lawful.specs.History.{AllAgree}
 use Rattle.transaction.specs.declared.outcome.Outcome.{Outcome}
 use Rattle.transaction.specs.Members.{Member, IsSoundMember}
 use Rattle.workers.specs.declared.shift.Row.{Row}
-use Rattle.workers.specs.Works.{ScriptAgrees, HasOutcomes, ToldBy, MakesRuns, IsRunBy, IsHandedBack, all_of, newly_done, numbers_of}
+use Rattle.transaction.specs.Closings.{HasOutcomes}
+use Rattle.workers.specs.Works.{ScriptAgrees, SubmitsAll, ToldBy, MakesRuns, IsRunBy, IsHandedBack, all_of, newly_done, numbers_of}
 use Rattle.workers.specs.Works.{place_behind}
-use Rattle.workers.specs.Shifts.{SubmitsAll, RunsAll}
+use Rattle.workers.specs.Shifts.{RunsAll}
 use Rattle.workers.proofs.Submitting.{Goes, goes_nowhere, goes_on, submitted_goes, submitted_agrees, submitted_fits, submitted_told}
 use Rattle.workers.proofs.Submitting.{submitted_runs, submitted_stands, submitted_within, runs_none, runs_both}
 use Rattle.workers.proofs.Numbers.{Draws, drawn_newly, draws_none, draws_more, submitted_draws, numbers_first}
@@ -46,7 +47,7 @@ module _ (new : Member) (stands : IsSoundMember new) where
   script_agrees g h agree place (cs ∷ rest) old (o ∷ os) (mid, first, others) seen = (
     submitted_agrees cs old mid o first new (script_goes rest mid os others) g h agree,
     submitted_fits cs old mid o first,
-    first.counted,
+    first.ends.counted,
     submitted_stands cs old mid o first place seen,
     script_agrees g h agree (place_behind place o) rest mid os others (submitted_within cs old mid o first place seen),
   )
@@ -127,6 +128,7 @@ module _ (scripts : List (List (List Command))) (old new : Member) (rows : List 
       → IsRunBy g old new (all_of scripts (map (λ row. row.script) rows)) (told_in rows)
   runs_share stands g same = record {
     given = same;
+    submitted = all_submitted;
     agrees = λ h agree.
         script_agrees new stands g h agree (length old.known.seen.history) _ old (told_in rows) all_submitted (omega arith);
     told = script_told new stands _ old (told_in rows) all_submitted;

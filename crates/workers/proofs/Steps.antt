@@ -15,7 +15,8 @@ use Rattle.transaction.specs.Members.{Member, IsSoundMember}
 use Rattle.transaction.specs.Attempts.{Submits}
 use Rattle.claims.specs.Claims.{Counting, Claimant, IsClaimantOf, Claims, Ends}
 use Rattle.workers.specs.declared.shift.Row.{Row}
-use Rattle.workers.specs.Shifts.{SubmitsAll, RunsAll, IsShift}
+use Rattle.workers.specs.Works.{SubmitsAll}
+use Rattle.workers.specs.Shifts.{RunsAll, IsShift}
 
 submits_more : (script : List (List Command)) (old mid new : Member) (os : List Outcome) (cs : List Command) (o : Outcome)
     → SubmitsAll script old mid os → Submits cs mid new o → SubmitsAll (script ++ cs ∷ []) old new (os ++ o ∷ [])

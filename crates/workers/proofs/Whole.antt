@@ -18,7 +18,8 @@ use Rattle.transaction.specs.declared.outcome.Outcome.{Outcome}
 use Rattle.transaction.specs.Members.{Home, Member, IsSessionOf, IsLater}
 use Rattle.workers.specs.declared.shift.Row.{Row}
 use Rattle.workers.specs.declared.shift.Shift.{Shift}
-use Rattle.workers.specs.Works.{Works, HasOutcomes, IsRunBy, IsShareOf, AreSharesOf, IsHandedBack, all_of, all_newly_done, numbers_of}
+use Rattle.transaction.specs.Closings.{HasOutcomes}
+use Rattle.workers.specs.Works.{Works, IsRunBy, IsShareOf, AreSharesOf, IsHandedBack, all_of, all_newly_done, numbers_of}
 use Rattle.workers.specs.Shifts.{IsShift, AreShifts, AreWhole, AreCollected}
 use Rattle.workers.proofs.Collected.{length-up_to, at_up_to, rows_of}
 use Rattle.workers.proofs.Numbers.{numbers_all}

@@ -5,17 +5,10 @@ use Rattle.library.specs.declared.command.Command.{Command}
 use Rattle.claims.specs.Claims.{Counting, Claimant, IsClaimantOf, up_to}
 use Rattle.transaction.specs.declared.outcome.Outcome.{Outcome}
 use Rattle.transaction.specs.Members.{Member, IsSoundMember}
-use Rattle.transaction.specs.Attempts.{Submits}
 use Rattle.workers.specs.declared.shift.Row.{Row}
 use Rattle.workers.specs.declared.shift.Shift.{Shift}
 use Rattle.workers.specs.declared.team.ShiftOf.{ShiftOf}
-
--- the session submits the transactions, one after another, with these outcomes
-abbrev pub SubmitsAll : List (List Command) → Member → Member → List Outcome → Type 0
-SubmitsAll [] old new [] = new ≡ old
-SubmitsAll [] old new (o ∷ os) = ⊥
-SubmitsAll (cs ∷ rest) old new [] = ⊥
-SubmitsAll (cs ∷ rest) old new (o ∷ os) = (mid : Member) × Submits cs old mid o × SubmitsAll rest mid new os
+use Rattle.workers.specs.Works.{SubmitsAll}
 
 -- the session runs the scripts with these indexes, from 0, one after another
 abbrev pub RunsAll : List (List (List Command)) → Member → Member → List Row → Type 0

@@ -20,6 +20,8 @@ use Rattle.lawful.specs.History.{history_of, AllAgree}
 use Rattle.transaction.specs.declared.outcome.Outcome.{Outcome}
 use Rattle.transaction.specs.declared.outcome.Outcome.TheVariants as outcome
 use Rattle.transaction.specs.Members.{Member, IsLater}
+use Rattle.transaction.specs.Attempts.{Submits}
+use Rattle.transaction.specs.Closings.{HasOutcomes}
 use Rattle.workers.specs.declared.error.WorkError.{WorkError}
 use Rattle.workers.specs.declared.error.WorkError.TheVariants.{NoMemory, NoThread}
 
@@ -43,7 +45,7 @@ OutcomeFits cs outcome.StoreFull = has_staging cs ≡ true
 OutcomeFits cs outcome.TooManyCommands = has_too_many cs ≡ true
 OutcomeFits cs _ = Unit {0}
 
--- why it was given up is told by the session, which is this at the end: that no number is left, by the 2^40 numbers that it drew, and it
+-- why it was given up the session tells still, which is this at the end: that no number is left, by the 2^40 numbers that it drew, and it
 -- draws no more; that the store is full, by what a staging of it found, which was refused
 abbrev pub ToldBy : Member → Outcome → Type 0
 ToldBy m outcome.NumbersUsed = 2 ^ 40 ≤ length m.known.drawn
@@ -78,6 +80,13 @@ place_behind place _ = place
 
 -- ---- a script
 
+-- the session submits the transactions, one after another, with these outcomes
+abbrev pub SubmitsAll : List (List Command) → Member → Member → List Outcome → Type 0
+SubmitsAll [] old new [] = new ≡ old
+SubmitsAll [] old new (o ∷ os) = ⊥
+SubmitsAll (cs ∷ rest) old new [] = ⊥
+SubmitsAll (cs ∷ rest) old new (o ∷ os) = (mid : Member) × Submits cs old mid o × SubmitsAll rest mid new os
+
 -- one outcome for each transaction, in order: each agrees with the history, and stands no earlier than those before it, nor than the place
 abbrev pub ScriptAgrees : Setting → List Ranked → List Entry → ℕ → List (List Command) → List Outcome → Type 0
 ScriptAgrees s lib0 h place [] [] = Unit {0}
@@ -97,11 +106,14 @@ pub record MakesRuns (old new : Member) (outcomes : List Outcome) : Type 0 where
   pub made : new.known.mine ≡ old.known.mine ++ calls
   pub answers : length calls ≡ count_by is_answer outcomes
 
--- the session ran it, behind all that it had seen: as each history has it with which the session's calls agree. They agree with the one
--- that it has seen by now, and with the whole one at the library's end. What was given up, the session tells why; and it made its runs for
--- them
+-- the session ran it, behind all that it had seen: it submitted the transactions, and each outcome is that of the transaction's last try,
+-- by what the session was when that try began and when it ended. So no outcome is lost or told of another transaction, and a full store, a
+-- want of numbers and one of memory are told of the very try that met them. And so all is as each history has it with which the session's
+-- calls agree. They agree with the one that it has seen by now, and with the whole one at the library's end. What was given up, the session
+-- tells why; and it made its runs for them
 pub record IsRunBy (g : Given) (old new : Member) (script : List (List Command)) (outcomes : List Outcome) : Type 0 where
   pub given : new.given ≡ g
+  pub submitted : SubmitsAll script old new outcomes
   pub agrees : (h : List Entry) → AllAgree g h new.known.mine
       → ScriptAgrees (setting_given g) (first_library g) h (length old.known.seen.history) script outcomes
   pub told : All (ToldBy new) outcomes
@@ -164,10 +176,6 @@ AreSharedOut scripts shares = IsPermutation (up_to (length scripts)) (flat_map (
 -- the session is handed back: later, and with the numbers that it had drawn and new ones behind them
 abbrev pub IsHandedBack : Member → Member → Type 0
 IsHandedBack old new = IsLater old new × (numbers : List ℕ) × (new.known.drawn ≡ old.known.drawn ++ numbers)
-
--- one outcome for each transaction
-abbrev pub HasOutcomes : List (List Command) → List Outcome → Type 0
-HasOutcomes script outcomes = length outcomes ≡ length script
 
 -- each script has its outcomes; the sessions are those handed in, in this order, and each ran its share of the scripts, each script by one;
 -- and the numbers newly drawn by them that are done are those of the committed transactions, each of one

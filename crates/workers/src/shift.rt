@@ -5,7 +5,8 @@ ghost use Rattle.library.specs.Fitting.{CommandFits};
 ghost use Rattle.claims.specs.Claims.{IsClaimantOf};
 ghost use Rattle.lawful.specs.Lawful.{setting_given};
 ghost use Rattle.transaction.specs.Members.{IsSessionOf};
-ghost use Rattle.workers.specs.Shifts.{SubmitsAll, IsShift};
+ghost use Rattle.workers.specs.Works.{SubmitsAll};
+ghost use Rattle.workers.specs.Shifts.{IsShift};
 
 use crate::gate::Gate;
 use claims::{Claimant, Numbers};

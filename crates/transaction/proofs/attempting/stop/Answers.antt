@@ -1,5 +1,6 @@
 use Rattle.std.proofs.Common.{◌≡◌, ℕ, None, sym, ap, subst, ◌∙◌}
 use Rattle.lending.specs.Lent.{Pass}
+use Rattle.lending.specs.Ends.{IsGivenUp}
 use Rattle.transaction.specs.declared.outcome.Outcome.{Outcome}
 use Rattle.transaction.specs.Tries.{Tries, StoresNothing, EndsStored, EndsWithin, carried_by}
 use Rattle.transaction.specs.Meeting.{met_at, conflict_of}
@@ -31,11 +32,13 @@ pub returns-clause-stored : goal.returns-clause-stored
 returns-clause-stored c =
     let kept : StoresNothing (carried_by c.args.live.run) c.give_up-kit.result.0 =
     (ap (λ (k : Pass). k.taken) c.give_up-kit.ensures.kit, c.give_up-kit.ensures.staged) in
-    let outcomes = EndsStored (carried_by c.args.live.run) c.give_up-kit.result.0 in
+    let l = c.args.live.run in
+    let made = c.give_up-kit.ensures in
+    let outcomes = EndsStored (carried_by l) c.give_up-kit.result.0 in
     elim c.match-why.branch [
       | in-Conflict w ↦ subst outcomes (sym (w.outcome-is ∙ w.conflict-outcome.ensures)) kept
-      | in-StoreFull w ↦ subst outcomes (sym w.outcome-is) kept
-      | in-NoMemory w ↦ subst outcomes (sym w.outcome-is) kept
+      | in-StoreFull w ↦ subst outcomes (sym w.outcome-is) (kept, made.lacked ∙ (subst (IsGivenUp l) w.in-StoreFull.is made.why).1)
+      | in-NoMemory w ↦ subst outcomes (sym w.outcome-is) (kept, made.lacked ∙ (subst (IsGivenUp l) w.in-NoMemory.is made.why).1)
     ]
 
 pub returns-clause-within : goal.returns-clause-within

@@ -1,4 +1,4 @@
-use Rattle.std.proofs.Common.{◌≡◌, List, [], ◌++◌, length, map, refl, sym, ap, ◌∙◌, append-nil, arith}
+use Rattle.std.proofs.Common.{◌≡◌, None, List, [], ◌++◌, length, map, refl, sym, ap, ◌∙◌, append-nil, arith}
 use Rattle.std.specs.Vec.Iter.{into_iter_items}
 use Rattle.std.proofs.lemmas.List.{nil_from_length}
 use Rattle.std.proofs.lemmas.List.Elements.{All-rest}
@@ -22,14 +22,17 @@ loop-pass-preserved c =
     let n = ap length next.0 in
     record {
       all = seat_next c.args.given.now c.of.result.value c.in-Some.pass c.new-in-loop-pass.result.items c.new.result
+          c.of-lacked_room.result.value
           c.loop-pass.sessions.items
           c.push_reserved.new.self.items _ _ c.args.passes.items pushed.items c.of.ensures c.new-in-loop-pass.ensures.items c.new.ensures
+          c.of-lacked_room.ensures
           next.0 i.all;
       left = let l = i.left in omega (arith, n, l, next.1);
       room = let r = i.room in omega (arith, n, r, pushed.len, pushed.capacity);
       on = All-rest (IsPassOn c.args.given.now) c.in-Some.pass _ _ next.0 i.on;
       knows = All-rest (Knows library_terms) c.in-Some.pass _ _ next.0 i.knows;
       new = All-rest (λ (k : Known Given Note). k.drawn ≡ []) c.in-Some.pass _ _ next.0 i.new;
+      unrefused = All-rest (λ (k : Known Given Note). k.full ≡ None) c.in-Some.pass _ _ next.0 i.unrefused;
     }
 
 pub loop-pass-init : goal.loop-pass-init
@@ -48,6 +51,7 @@ loop-pass-init c =
       on = rw given.0 c.requires.on;
       knows = rw given.0 c.requires.knows;
       new = rw given.0 c.requires.new;
+      unrefused = rw given.0 c.requires.unrefused;
     }
 
 pub returns : goal.returns

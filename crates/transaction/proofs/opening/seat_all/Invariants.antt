@@ -1,4 +1,4 @@
-use Rattle.std.proofs.Common.{◌≡◌, ◌≤◌, ◌+◌, ◌++◌, [], length, map, All}
+use Rattle.std.proofs.Common.{◌≡◌, ◌≤◌, ◌+◌, ◌++◌, None, [], length, map, All}
 use Rattle.std.specs.Prelude.{vec_len, vec_capacity}
 use Rattle.std.specs.Vec.Iter.{into_iter_items, into_iter_len}
 use Rattle.tlwords.specs.Known.{Knows}
@@ -17,4 +17,5 @@ invariant-loop-pass l =
       on : All (IsPassOn l.given) (into_iter_items l.pass-iterator);
       knows : All (Knows library_terms) (into_iter_items l.pass-iterator);
       new : All (λ k. k.drawn ≡ []) (into_iter_items l.pass-iterator);
+      unrefused : All (λ k. k.full ≡ None) (into_iter_items l.pass-iterator);
     }

@@ -1,6 +1,6 @@
 use Rattle.std.proofs.Common.{◌≡◌, take, vec_len}
 use Rattle.transaction.specs.Members.{IsSessionOf}
-use Rattle.workers.specs.Shifts.{SubmitsAll}
+use Rattle.workers.specs.Works.{SubmitsAll}
 use Rattle.workers.proofs.shift.submit_all.Given as goal
 
 abbrev pub invariant-loop-transaction : goal.invariant-loop-transaction

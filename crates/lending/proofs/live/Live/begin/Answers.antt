@@ -31,6 +31,7 @@ returns c =
       blank = blank_writes c.begin.result.slots c.begin.ensures.begins.blank;
       unread = ap (λ x. x.reads) c.begin.ensures.begins.is;
       unmet = ap (λ x. x.over) c.begin.ensures.begins.is;
+      unrefused = refl;
       taken = ap (λ x. x.known.taken) c.begin.ensures.begins.is ∙ ap (λ k. k.pass.taken) c.kit.view_is;
       staged = ap (λ k. k.staged) c.kit.view_is;
     }

@@ -16,8 +16,8 @@ commit-pass-requires c =
     → IsLawfulWith x.run (writes_kept x.run.going.slots) note) (sym c.self.view_is) c.requires in
     record { lawful = λ none. may_end (lending_in s) s.stage s.over c.self.invariant.1 note (may none) }
 
-pub invariant_of-result : goal.invariant_of-result
-invariant_of-result c =
+pub invariant_of-kit : goal.invariant_of-kit
+invariant_of-kit c =
     let s = c.self.inside in
     let e = c.commit-pass.ensures in
     let k = c.commit-pass.result.0 in

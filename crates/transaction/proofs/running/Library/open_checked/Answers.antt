@@ -3,7 +3,7 @@ use Rattle.std.proofs.lemmas.Result.{err_from_is_err_and}
 use Rattle.lawful.specs.declared.notes.Given.{Given}
 use Rattle.transaction.specs.Openings.{IsShape}
 use Rattle.transaction.specs.Members.{Home}
-use Rattle.transaction.proofs.Opened.{words_open, cells_refuse, home_at, ArePasses, passes_of, on_words, undrawn, new_sessions, named_sessions}
+use Rattle.transaction.proofs.Opened.{words_open, cells_refuse, home_at, ArePasses, passes_of, on_words, undrawn, unrefused, new_sessions, named_sessions}
 use Rattle.transaction.proofs.running.Library.open_checked.Goals as goal
 
 pub open-opened-requires-clause-opens : goal.open-opened-requires-clause-opens
@@ -48,6 +48,17 @@ seat_all-requires-clause-new c =
     passes_of home c.args.shape.sessions c.in-Ok.passes.items words.0.items words.1.items key.1 key.2 c.in-Ok.ensures.passes
     c.in-Ok.ensures.sound c.in-Ok.ensures.names in
     undrawn home c.args.shape.sessions c.in-Ok.passes.items (ap Some key.0) c.in-Ok.words.small.1 passes
+
+pub seat_all-requires-clause-unrefused : goal.seat_all-requires-clause-unrefused
+seat_all-requires-clause-unrefused c =
+    let words = c.into_words-values.result in
+    let given : Given = record { database = c.of.result; slots = c.args.shape.slots } in
+    let home : Home = home_at given c.in-Ok.words in
+    let key = c.in-Ok.ensures.key in
+    let passes : ArePasses home c.args.shape.sessions c.in-Ok.passes.items =
+    passes_of home c.args.shape.sessions c.in-Ok.passes.items words.0.items words.1.items key.1 key.2 c.in-Ok.ensures.passes
+    c.in-Ok.ensures.sound c.in-Ok.ensures.names in
+    unrefused home c.args.shape.sessions c.in-Ok.passes.items (ap Some key.0) c.in-Ok.words.small.1 passes
 
 pub returns-in_err-fits : goal.returns-in_err-fits
 returns-in_err-fits c =

@@ -3,7 +3,7 @@ use Rattle.library.specs.Transactions.{has_too_many}
 use Rattle.transaction.specs.declared.outcome.Outcome.TheVariants as outcome
 use Rattle.transaction.specs.declared.outcome.Record.{Record}
 use Rattle.transaction.specs.Members.{Member}
-use Rattle.transaction.specs.Kits.{known_in, staged_in}
+use Rattle.transaction.specs.Kits.{known_in, staged_in, lacked_in}
 use Rattle.transaction.specs.Attempts.{Attempts}
 use Rattle.transaction.proofs.Recorded.{with_record, put_behind}
 use Rattle.transaction.proofs.Trying.{attempts_none, run_member, run_attempts}
@@ -25,6 +25,7 @@ invariant_of-self c =
       records =
           c.self.inside.records.items;
       staged = staged_in c.self.inside.kit;
+      lacked_room = lacked_in c.self.inside.kit;
     } in
     let r = c.transact-kit.result.drawn in
     let records : c.put_drawn.new.records.items ≡ with_record m.records r =
@@ -44,6 +45,7 @@ returns c =
       records =
           c.self.inside.records.items;
       staged = staged_in c.self.inside.kit;
+      lacked_room = lacked_in c.self.inside.kit;
     } in
     let few = sym (c.has_too_many.ensures ∙ ap has_too_many c.as_slice.ensures) ∙ c.if-has_too_many.false in
     let r = c.transact-kit.result.drawn in
@@ -55,6 +57,7 @@ returns c =
       records = c.put_drawn.new.records.items;
       staged =
           c.transact-kit.result.kit.staged;
+      lacked_room = c.transact-kit.result.kit.lacked_room;
     } in
     subst (λ (x : Member). Attempts cs x next c.transact-kit.result.outcome) c.self.view_is
     (run_attempts m c.self.invariant.1 cs c.in-Some.kit c.transact-kit.result.kit c.transact-kit.result.outcome r _

@@ -1,4 +1,4 @@
-use Rattle.std.proofs.Common.{◌≡◌, Option, Some, refl, sym, ap, subst, ◌∙◌}
+use Rattle.std.proofs.Common.{◌≡◌, Bool, Option, Some, refl, sym, ap, subst, ◌∙◌}
 use Rattle.bodystore.proofs.Staging.{staged_go_on}
 use Rattle.bodystore.specs.Stages.{Staged}
 use Rattle.lending.specs.Lent.{Pass, Carried}
@@ -9,8 +9,8 @@ use Rattle.transaction.proofs.Learning.{own_stays, other_stays, session_learns}
 use Rattle.transaction.proofs.session.Session.learn.Goals as goal
 
 -- what a run would take along
-abbrev carried : Pass → Staged → Carried
-carried pass stage = record { pass = pass; staged = stage }
+abbrev carried : Pass → Staged → Bool → Carried
+carried pass stage lacked = record { pass = pass; staged = stage; lacked_room = lacked }
 
 pub invariant_of-kit : goal.invariant_of-kit
 invariant_of-kit c =
@@ -25,13 +25,15 @@ pub invariant_of-self : goal.invariant_of-self
 invariant_of-self c =
     let own : Option Carried → Member = session_with c.self.inside.given.value c.self.inside.records.items in
     let others : Option Carried → Member = session_with c.other.inside.given.value c.other.inside.records.items in
-    let kit : c.self.inside.kit ≡ Some (carried c.kit.inside.pass c.kit.inside.stage) =
+    let first = carried c.kit.inside.pass c.kit.inside.stage c.kit.inside.lacked_room.value in
+    let second = carried c.others.inside.pass c.others.inside.stage c.others.inside.lacked_room.value in
+    let kit : c.self.inside.kit ≡ Some first =
     sym c.take.ensures.value ∙ c.in-Some.is ∙ ap (λ (k : Carried). Some k) (sym c.kit.view_is) in
-    let other : c.other.inside.kit ≡ Some (carried c.others.inside.pass c.others.inside.stage) =
+    let other : c.other.inside.kit ≡ Some second =
     sym c.take-2.ensures.value ∙ c.in-Some-take.is ∙ ap (λ (k : Carried). Some k) (sym c.others.view_is) in (
       refl,
-      own_stays (own (Some (carried c.kit.inside.pass c.kit.inside.stage)))
-          (others (Some (carried c.others.inside.pass c.others.inside.stage))) c.learn.new.pass c.learn.new.other
+      own_stays (own (Some first))
+          (others (Some second)) c.learn.new.pass c.learn.new.other
           (subst (λ (o : Option Carried). IsMember (own o)) kit c.self.invariant.1)
           (subst (λ (o : Option Carried). IsMember (others o)) other c.other.invariant.1) c.learn.ensures,
     )
@@ -40,13 +42,15 @@ pub invariant_of-other : goal.invariant_of-other
 invariant_of-other c =
     let own : Option Carried → Member = session_with c.self.inside.given.value c.self.inside.records.items in
     let others : Option Carried → Member = session_with c.other.inside.given.value c.other.inside.records.items in
-    let kit : c.self.inside.kit ≡ Some (carried c.kit.inside.pass c.kit.inside.stage) =
+    let first = carried c.kit.inside.pass c.kit.inside.stage c.kit.inside.lacked_room.value in
+    let second = carried c.others.inside.pass c.others.inside.stage c.others.inside.lacked_room.value in
+    let kit : c.self.inside.kit ≡ Some first =
     sym c.take.ensures.value ∙ c.in-Some.is ∙ ap (λ (k : Carried). Some k) (sym c.kit.view_is) in
-    let other : c.other.inside.kit ≡ Some (carried c.others.inside.pass c.others.inside.stage) =
+    let other : c.other.inside.kit ≡ Some second =
     sym c.take-2.ensures.value ∙ c.in-Some-take.is ∙ ap (λ (k : Carried). Some k) (sym c.others.view_is) in (
       refl,
-      other_stays (own (Some (carried c.kit.inside.pass c.kit.inside.stage)))
-          (others (Some (carried c.others.inside.pass c.others.inside.stage))) c.learn.new.pass c.learn.new.other
+      other_stays (own (Some first))
+          (others (Some second)) c.learn.new.pass c.learn.new.other
           (subst (λ (o : Option Carried). IsMember (own o)) kit c.self.invariant.1)
           (subst (λ (o : Option Carried). IsMember (others o)) other c.other.invariant.1) c.learn.ensures,
     )
@@ -55,17 +59,19 @@ pub returns : goal.returns
 returns c =
     let own : Option Carried → Member = session_with c.self.inside.given.value c.self.inside.records.items in
     let others : Option Carried → Member = session_with c.other.inside.given.value c.other.inside.records.items in
-    let kit : c.self.inside.kit ≡ Some (carried c.kit.inside.pass c.kit.inside.stage) =
+    let first = carried c.kit.inside.pass c.kit.inside.stage c.kit.inside.lacked_room.value in
+    let second = carried c.others.inside.pass c.others.inside.stage c.others.inside.lacked_room.value in
+    let kit : c.self.inside.kit ≡ Some first =
     sym c.take.ensures.value ∙ c.in-Some.is ∙ ap (λ (k : Carried). Some k) (sym c.kit.view_is) in
-    let other : c.other.inside.kit ≡ Some (carried c.others.inside.pass c.others.inside.stage) =
+    let other : c.other.inside.kit ≡ Some second =
     sym c.take-2.ensures.value ∙ c.in-Some-take.is ∙ ap (λ (k : Carried). Some k) (sym c.others.view_is) in
-    let own_new = own (Some (carried c.learn.new.pass c.kit.inside.stage)) in
-    let others_new = others (Some (carried c.learn.new.other c.others.inside.stage)) in
+    let own_new = own (Some (carried c.learn.new.pass c.kit.inside.stage c.kit.inside.lacked_room.value)) in
+    let others_new = others (Some (carried c.learn.new.other c.others.inside.stage c.others.inside.lacked_room.value)) in
     subst (λ (m : Member). SessionsLearn m c.args.other.now own_new others_new) (ap own (sym kit) ∙ c.self.view_is)
-    (subst (λ (o : Member). SessionsLearn (own (Some (carried c.kit.inside.pass c.kit.inside.stage))) o own_new others_new)
+    (subst (λ (o : Member). SessionsLearn (own (Some first)) o own_new others_new)
     (ap others (sym other)
     ∙ c.other.view_is)
-    (session_learns (own (Some (carried c.kit.inside.pass c.kit.inside.stage)))
-    (others (Some (carried c.others.inside.pass c.others.inside.stage))) c.learn.new.pass c.learn.new.other
+    (session_learns (own (Some first))
+    (others (Some second)) c.learn.new.pass c.learn.new.other
     (subst (λ (o : Option Carried). IsMember (own o)) kit c.self.invariant.1)
     (subst (λ (o : Option Carried). IsMember (others o)) other c.other.invariant.1) c.learn.ensures))
