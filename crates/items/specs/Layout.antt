@@ -6,6 +6,7 @@ use Rattle.std.specs.Option.{option_map, unwrap_or, is_some}
 use mathlib.Core.Bool.{not}
 use Rattle.std.specs.Str.{bytes_eq}
 use Rattle.mmtext.specs.Words.{Word}
+use Rattle.mmtext.specs.Text.{is_printable}
 use Rattle.items.specs.Items.{Piece, Item, bytes_of, words}
 
 -- the spaces behind the line feed that white space begins with, if nothing else stands there
@@ -33,6 +34,10 @@ is_laid_out at letters (p ∷ ps) =
 abbrev pub indents : Item → List (List ℕ)
 indents ps = filter_map (λ p. indent p.space) ps
 
+-- printable characters, of which there is one at least (section 4.1.1)
+abbrev pub is_word : Word → Bool
+is_word w = not (length w == 0) && list_all is_printable w
+
 -- the first word is (: the proof is compressed (appendix B)
 abbrev pub is_compressed : List Word → Bool
 is_compressed [] = false
@@ -43,6 +48,7 @@ pub record IsLaidOut (indentation : List ℕ) (compressed : Bool) (text : List �
   pub proof : Item
   pub space : List ℕ
   pub bytes : text ≡ bytes_of proof ++ space
+  pub spelled : IsTrue (list_all is_word (words proof))
   pub form : is_compressed (words proof) ≡ compressed
   pub layout : IsTrue (is_laid_out 79 false (proof ++ record { space = space; word = codes "$." } ∷ []))
   pub indented : All (λ i. i ≡ indentation) (indents (proof ++ record { space = space; word = codes "$." } ∷ []))

@@ -13,7 +13,7 @@ use library::{PlainLibrary, Ranked};
 use mmframes::frame_of;
 use mmsyntax::{Assertion, Database, Float, Kind, Label, Prelude, Proof, StepRef};
 use source::Declared;
-use sourcewriting::{Cited, Kinds, Names, names_in_source, proof_text};
+use sourcewriting::{Cited, Kinds, Names, names_in_source, proof_indentation, proof_text};
 use std::alloc::{AllocError, Global};
 use std::collections::HashMap;
 use std::hash::RandomState;
@@ -207,7 +207,8 @@ fn other_proof<'x, D: Declared<'x>>(
     let Some(place) = declared.place_of(source) else {
         return Err(unwritten(alloc, source));
     };
-    match proof_text(alloc, keys, declared, names, place, &new.proof)? {
+    let indentation = proof_indentation(!new.hyps.as_slice().is_empty());
+    match proof_text(alloc, keys, declared, names, place, indentation, &new.proof)? {
         Some(text) => Ok(text),
         None => Err(unwritten(alloc, source)),
     }

@@ -1,1 +1,3 @@
+pub mod Labels
+pub mod Laying
 pub mod Orders

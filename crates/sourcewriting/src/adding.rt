@@ -1,8 +1,8 @@
 //! The text of an assertion that is put into a source: a block of its own where it has pairs or `$e`.
 
-ghost use Rattle.std.specs.Prelude.{◌≤◌};
+ghost use Rattle.sourcewriting.specs.Indentations.{IsIndentation};
 
-use crate::layout::Layout;
+use crate::layout::{Layout, proof_indentation};
 use crate::listing::{Names, put_nodes};
 use crate::shared::Shared;
 use crate::wording::{put_compressed, put_normal};
@@ -13,11 +13,11 @@ use source::Declared;
 use std::alloc::{AllocError, Global};
 use std::hash::RandomState;
 
-/// How far the statements of an assertion are indented that stands in a block.
-const IN_BLOCK: usize = 4;
+/// What the lines of a statement begin with that stands in a block.
+const IN_BLOCK: &[u8] = b"    ";
 
-/// How far they are indented otherwise.
-const OUTSIDE: usize = 2;
+/// What they begin with otherwise.
+const OUTSIDE: &[u8] = b"  ";
 
 /// An assertion of a library, and how it is to stand in the source.
 #[derive(Clone, Copy)]
@@ -38,9 +38,9 @@ impl Statement<'_> {
         !(self.assertion.hyps.as_slice().is_empty() && self.assertion.pairs.as_slice().is_empty())
     }
 
-    /// How far its statement is indented.
-    fn indent(&self) -> usize
-        ensures { result ≤ IN_BLOCK }
+    /// What the lines of its statement begin with.
+    fn indentation(&self) -> &'static [u8]
+        ensures { IsIndentation result.now }
     {
         if self.is_block() { IN_BLOCK } else { OUTSIDE }
     }
@@ -139,24 +139,30 @@ impl<'x> SymbolWords<'x> {
     }
 }
 
-/// Puts a statement in lines of its own: its label, if it has one, its keyword, its symbols, and what ends it.
+/// Puts a statement in lines of its own: its label, if it has one, its keyword, its symbols, and what ends it. Whether it could be written.
 fn put_statement(
     alloc: Global,
     out: &mut Vec<u8>,
-    indent: usize,
+    indentation: &[u8],
     label: &[u8],
     keyword: &[u8],
     symbols: &[&[u8]],
     end: &[u8],
-) -> Result<(), AllocError> {
-    let mut layout = Layout::new(alloc, indent);
+) -> Result<bool, AllocError>
+    requires { IsIndentation indentation.now }
+{
+    let mut layout = Layout::new(alloc, indentation);
     if !label.is_empty() {
         layout.put_word(label);
     }
     layout.put_word(keyword);
     layout.put_words(symbols);
     layout.put_word(end);
-    out.extend_from_slice(layout.into_text()?.as_slice())
+    let Some(text) = layout.into_text()? else {
+        return Ok(false);
+    };
+    out.extend_from_slice(text.as_slice())?;
+    Ok(true)
 }
 
 /// The words of symbols.
@@ -172,21 +178,23 @@ fn words_of<'x>(
     Ok(made)
 }
 
-/// Puts the `$d` of pairs.
+/// Puts the `$d` of pairs. Whether they could be written.
 fn put_pairs(
     alloc: Global,
     out: &mut Vec<u8>,
     words: &SymbolWords<'_>,
     pairs: &[(u32, u32)],
-) -> Result<(), AllocError> {
+) -> Result<bool, AllocError> {
     for (one, other) in pairs {
         let both = [
             words.word(Symbol::Var(*one)),
             words.word(Symbol::Var(*other)),
         ];
-        put_statement(alloc, out, IN_BLOCK, b"", b"$d", both.as_slice(), b"$.")?;
+        if !put_statement(alloc, out, IN_BLOCK, b"", b"$d", both.as_slice(), b"$.")? {
+            return Ok(false);
+        }
     }
-    Ok(())
+    Ok(true)
 }
 
 /// The label L.k.
@@ -218,54 +226,64 @@ fn premise_labels<'a, D: Declared<'a>>(
     Ok(labels)
 }
 
-/// Puts the `$e`, of which these are the labels.
+/// Puts the `$e`, of which these are the labels. Whether they could be written.
 fn put_premises(
     alloc: Global,
     out: &mut Vec<u8>,
     words: &SymbolWords<'_>,
     premises: &[Expr],
     labels: &[Vec<u8>],
-) -> Result<(), AllocError> {
+) -> Result<bool, AllocError> {
     for (expression, label) in premises.iter().zip(labels) {
         let symbols = words_of(alloc, words, expression.as_slice())?;
-        put_statement(
-            alloc,
-            out,
-            IN_BLOCK,
-            label.as_slice(),
-            b"$e",
-            symbols.as_slice(),
-            b"$.",
-        )?;
+        let (symbols, label) = (symbols.as_slice(), label.as_slice());
+        if !put_statement(alloc, out, IN_BLOCK, label, b"$e", symbols, b"$.")? {
+            return Ok(false);
+        }
     }
-    Ok(())
+    Ok(true)
+}
+
+/// Puts the statement of an assertion, up to its proof. Whether it could be written.
+fn put_said(
+    alloc: Global,
+    out: &mut Vec<u8>,
+    words: &SymbolWords<'_>,
+    statement: &Statement<'_>,
+) -> Result<bool, AllocError> {
+    let symbols = words_of(alloc, words, statement.assertion.statement.as_slice())?;
+    let symbols = symbols.as_slice();
+    let (keyword, end) = statement.keywords();
+    let indentation = statement.indentation();
+    put_statement(
+        alloc,
+        out,
+        indentation,
+        statement.label,
+        keyword,
+        symbols,
+        end,
+    )
 }
 
 /// Puts an assertion up to its proof behind an empty line: the beginning of its block, the pairs, the `$e`, of which these are the labels,
-/// and behind its comment the statement.
+/// and behind its comment the statement. Whether it could be written.
 fn put_front(
     alloc: Global,
     out: &mut Vec<u8>,
     words: &SymbolWords<'_>,
     statement: &Statement<'_>,
     labels: &[Vec<u8>],
-) -> Result<(), AllocError> {
+) -> Result<bool, AllocError> {
     let assertion = statement.assertion;
     out.extend_from_slice(statement.beginning())?;
-    put_pairs(alloc, out, words, assertion.pairs.as_slice())?;
-    put_premises(alloc, out, words, assertion.hyps.as_slice(), labels)?;
+    if !put_pairs(alloc, out, words, assertion.pairs.as_slice())?
+        || !put_premises(alloc, out, words, assertion.hyps.as_slice(), labels)?
+    {
+        return Ok(false);
+    }
     out.extend_from_slice(statement.comment)?;
-    let symbols = words_of(alloc, words, assertion.statement.as_slice())?;
-    let (keyword, end) = statement.keywords();
-    put_statement(
-        alloc,
-        out,
-        statement.indent(),
-        statement.label,
-        keyword,
-        symbols.as_slice(),
-        end,
-    )
+    put_said(alloc, out, words, statement)
 }
 
 /// The slices of texts.
@@ -308,7 +326,7 @@ fn mandatory_labels<'p>(
 /// Puts the words of a proof in its form. Whether it has at most 16,384 steps.
 fn put_words_of_proof<'p>(
     alloc: Global,
-    layout: &mut Layout,
+    layout: &mut Layout<'_>,
     prelude: &Prelude,
     names: &Names<'p>,
     statement: &Statement<'_>,
@@ -323,14 +341,17 @@ fn put_words_of_proof<'p>(
     put_compressed(alloc, layout, shared, mandatory.as_slice(), root)
 }
 
-/// Puts what was laid out, and the end of the statement.
-fn put_end(out: &mut Vec<u8>, layout: Layout) -> Result<(), AllocError> {
-    let text = layout.finish()?;
+/// Puts what was laid out, and the end of the statement. Whether it could be written.
+fn put_end(out: &mut Vec<u8>, layout: Layout<'_>) -> Result<bool, AllocError> {
+    let Some(text) = layout.finish()? else {
+        return Ok(false);
+    };
     out.extend_from_slice(text.as_slice())?;
-    out.extend_from_slice(b"$.")
+    out.extend_from_slice(b"$.")?;
+    Ok(true)
 }
 
-/// Puts a proof by its nodes, up to the end of its statement. Whether it has at most 16,384 steps.
+/// Puts a proof by its nodes, up to the end of its statement. Whether it could be written: it has at most 16,384 steps.
 fn put_tree<'p>(
     alloc: Global,
     out: &mut Vec<u8>,
@@ -341,7 +362,7 @@ fn put_tree<'p>(
     shared: &Shared<'_>,
     root: usize,
 ) -> Result<bool, AllocError> {
-    let mut layout = Layout::new(alloc, statement.indent() + 2);
+    let mut layout = Layout::new(alloc, proof_indentation(statement.is_block()));
     let is_whole = put_words_of_proof(
         alloc,
         &mut layout,
@@ -352,8 +373,7 @@ fn put_tree<'p>(
         shared,
         root,
     )?;
-    put_end(out, layout)?;
-    Ok(is_whole)
+    Ok(put_end(out, layout)? && is_whole)
 }
 
 /// Puts the proof of a theorem whose `$e` have these labels. Whether it could be written.
@@ -406,7 +426,7 @@ fn ended(mut out: Vec<u8>, statement: &Statement<'_>) -> Result<Vec<u8>, AllocEr
     Ok(out)
 }
 
-/// The text of an assertion behind an empty line, in a block of its own where it has pairs or `$e`. None where its proof can't be written.
+/// The text of an assertion behind an empty line, in a block of its own where it has pairs or `$e`. None where it can't be written.
 pub fn assertion_text<'x, 'a, D: Declared<'a>>(
     alloc: Global,
     keys: RandomState,
@@ -420,10 +440,11 @@ pub fn assertion_text<'x, 'a, D: Declared<'a>>(
     let labels = premise_labels(alloc, declared, names, statement.label, premises)?;
     let labels = labels.as_slice();
     let mut out = Vec::new(alloc);
-    put_front(alloc, &mut out, words, statement, labels)?;
-    if !put_rest(
-        alloc, keys, &mut out, declared, prelude, names, statement, labels,
-    )? {
+    if !put_front(alloc, &mut out, words, statement, labels)?
+        || !put_rest(
+            alloc, keys, &mut out, declared, prelude, names, statement, labels,
+        )?
+    {
         return Ok(None);
     }
     Ok(Some(ended(out, statement)?))

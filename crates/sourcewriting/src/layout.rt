@@ -1,65 +1,154 @@
 //! Words and letters in lines of at most 79 columns.
 
+ghost use Rattle.std.specs.Prelude.{◌||◌, ◌≡◌, ◌≤◌, ◌<◌, ◌+◌, ◌⊎◌, ℕ, Bool, suc, min, nat_le, List, [], ◌∷◌, ◌++◌, length, IsTrue, IsFalse, IfOk, IfSome, if◌then◌else◌, codes};
+ghost use Rattle.std.specs.List.{list_all, flat_map};
+ghost use Rattle.std.specs.Bool.{then_some};
+ghost use mathlib.Core.Bool.{not};
+ghost use Rattle.mmtext.specs.Text.{is_printable};
+ghost use Rattle.mmtext.specs.Words.{Word, is_label};
+ghost use Rattle.source.specs.Views.{seen_words};
+ghost use Rattle.items.specs.Layout.{IsLaidOut, is_word};
+ghost use Rattle.sourcewriting.specs.Indentations.{IsIndentation};
+ghost use Rattle.sourcewriting.specs.Laid.{IsLaid, HasLabels, IsInForm, IsShort, has_closing};
+
+use mmtext::is_label_token;
 use std::alloc::{AllocError, Global};
 
 /// A line has so many columns at most.
 const COLUMNS: usize = 79;
 
-/// A text in lines, each indented. Want of memory is told at its end.
-#[derive(Drop)]
-pub(crate) struct Layout {
-    text: Vec<u8>,
-    /// How many bytes the last line has.
-    column: usize,
-    indent: usize,
-    /// Whether memory ran out.
-    is_cut_off: bool,
+/// What the lines of a proof in a block begin with.
+const IN_BLOCK: &[u8] = b"      ";
+
+/// What those of another begin with.
+const OUTSIDE: &[u8] = b"    ";
+
+/// The white space that each line of a proof begins with if nothing else is known: six spaces in a block, as where the theorem has `$e`,
+/// and else four.
+pub fn proof_indentation(in_block: bool) -> &'static [u8]
+    ensures { IsIndentation result.now }
+{
+    if in_block { IN_BLOCK } else { OUTSIDE }
 }
 
-impl Layout {
-    /// A new line, for words that are indented so far.
-    pub(crate) fn new(alloc: Global, indent: usize) -> Layout {
-        let mut layout = Layout {
-            text: Vec::new(alloc),
-            column: 0,
-            indent,
-            is_cut_off: false,
-        };
-        layout.begin_line();
-        layout
-    }
+/// Words in lines, each of which has the same indentation. Want of memory, and a word that can't stand there, are told at its end.
+#[derive(Drop)]
+pub(crate) struct Layout<'i> {
+    text: Vec<u8>,
+    /// The column behind the last word, counted from 0. There is no room on the first line.
+    column: usize,
+    /// The spaces that a line begins with.
+    indentation: &'i [u8],
+    /// Whether memory ran out.
+    is_cut_off: bool,
+    /// Whether a word was put that is none, or that isn't a label where a label is to stand.
+    is_refused: bool,
+}
 
-    /// Begins a line.
-    fn begin_line(&mut self) {
-        self.put(b"\n");
-        for _ in 0..self.indent {
-            self.put(b" ");
+/// Whether bytes are printable characters.
+fn are_printable(bytes: &[u8]) -> bool
+    ensures { result ≡ list_all is_printable bytes.now }
+{
+    bytes.iter().all(|b| b' ' < *b && *b < 127)
+}
+
+/// Whether a word consists of printable characters, of which there is one at least.
+fn is_printable_word(word: &[u8]) -> bool
+    ensures { result ≡ is_word word.now }
+{
+    !word.is_empty() && are_printable(word)
+}
+
+impl<'i> Layout<'i> {
+    /// No word yet.
+    pub(crate) fn new(alloc: Global, indentation: &'i [u8]) -> Layout<'i>
+        requires { IsIndentation indentation.now }
+        ensures { IsLaid indentation.now result [] }
+    {
+        Layout {
+            text: Vec::new(alloc),
+            column: COLUMNS,
+            indentation,
+            is_cut_off: false,
+            is_refused: false,
         }
-        self.column = self.indent;
     }
 
     /// Puts bytes on the line.
-    fn put(&mut self, bytes: &[u8]) {
+    fn put(&mut self, bytes: &[u8])
+        ensures whole { IsFalse self.new.is_cut_off → IsFalse self.old.is_cut_off × (self.new.text.items ≡ self.old.text.items ++ bytes.now) }
+        ensures column { min self.new.column 79 ≡ min (self.old.column + length bytes.now) 79 }
+        ensures refused { self.new.is_refused ≡ self.old.is_refused }
+        ensures same { self.new.indentation ≡ self.old.indentation }
+    {
         self.is_cut_off = self.text.extend_from_slice(bytes).is_err() || self.is_cut_off;
         self.column = self.column.saturating_add(bytes.len());
     }
 
-    /// Makes room for a word of so many bytes: a space in front of it, or a new line.
-    fn make_room(&mut self, length: usize) {
-        if self.column <= self.indent {
-            return;
-        }
-        if self.column.saturating_add(length).saturating_add(1) > COLUMNS {
-            self.begin_line();
+    /// Whether a word of so many bytes has room on the line behind a space.
+    fn has_room(&self, length: usize) -> bool
+        ensures { result ≡ nat_le (self.now.column + suc length) 79 }
+    {
+        self.column.saturating_add(length).saturating_add(1) <= COLUMNS
+    }
+
+    /// Puts white space: a space, or what begins a line.
+    fn put_space(&mut self, begins_line: bool)
+        ensures whole { IsFalse self.new.is_cut_off → IsFalse self.old.is_cut_off × (self.new.text.items
+            ≡ self.old.text.items ++ (if begins_line then 10 ∷ self.old.indentation.now else codes " ")) }
+        ensures column { min self.new.column 79
+            ≡ min (if begins_line then length self.old.indentation.now else suc self.old.column) 79 }
+        ensures refused { self.new.is_refused ≡ self.old.is_refused }
+        ensures same { self.new.indentation ≡ self.old.indentation }
+    {
+        if begins_line {
+            self.put(b"\n");
+            self.column = 0;
+            self.put(self.indentation);
         } else {
             self.put(b" ");
         }
     }
 
+    /// What was put is right there, or isn't.
+    fn expect(&mut self, is_right: bool)
+        ensures { self.new ≡ record self.old { is_refused = self.old.is_refused || not is_right } }
+    {
+        if !is_right {
+            self.is_refused = true;
+        }
+    }
+
     /// Puts a word.
-    pub(crate) fn put_word(&mut self, word: &[u8]) {
-        self.make_room(word.len());
+    pub(crate) fn put_word(&mut self, word: &[u8])
+        ensures whole { IsFalse self.new.is_cut_off → IsFalse self.old.is_cut_off }
+        ensures right { IsFalse self.new.is_refused → IsFalse self.old.is_refused }
+        ensures laid { (i : List ℕ) (ws : List Word) → IsFalse (has_closing ws) ⊎ IsShort self.old (length word.now)
+            → IsLaid i self.old ws → IsLaid i self.new (ws ++ word.now ∷ []) }
+    {
+        self.expect(is_printable_word(word));
+        let begins_line = !self.has_room(word.len());
+        self.put_space(begins_line);
         self.put(word);
+    }
+
+    /// Puts a label: no other word can stand there.
+    pub(crate) fn put_label(&mut self, label: &[u8])
+        ensures { (i : List ℕ) (front labels : List Word) → IsFalse (has_closing front)
+            → HasLabels i self.old front labels → HasLabels i self.new front (labels ++ label.now ∷ []) }
+    {
+        self.expect(is_label_token(label));
+        self.put_word(label);
+    }
+
+    /// Puts labels.
+    pub(crate) fn put_labels(&mut self, labels: &[&[u8]])
+        ensures { (i : List ℕ) (front : List Word) → IsFalse (has_closing front)
+            → HasLabels i self.old front [] → HasLabels i self.new front (seen_words labels.now) }
+    {
+        for label in labels {
+            self.put_label(label);
+        }
     }
 
     /// Puts words.
@@ -69,28 +158,48 @@ impl Layout {
         }
     }
 
-    /// Puts letters, which may be cut anywhere.
-    pub(crate) fn put_letters(&mut self, letters: &[u8]) {
-        self.make_room(1);
-        for letter in letters {
-            if self.column >= COLUMNS {
-                self.begin_line();
-            }
-            self.put(&[*letter]);
+    /// How many letters have room on the line, or else on a new one: at least one.
+    fn room(&self) -> usize
+        ensures some { 0 < result }
+        ensures short { (n : ℕ) → n ≤ result → IsIndentation self.now.indentation.now → IsShort self.now n }
+    {
+        let here = COLUMNS.saturating_sub(self.column.saturating_add(1));
+        if here > 0 {
+            return here;
+        }
+        COLUMNS.saturating_sub(self.indentation.len()).max(1)
+    }
+
+    /// Puts letters, which can be cut anywhere.
+    pub(crate) fn put_letters(&mut self, letters: &[u8])
+        ensures { (i : List ℕ) (ws : List Word) → IsLaid i self.old ws
+            → (cut : List Word) × (flat_map (λ w. w) cut ≡ letters.now) × IsLaid i self.new (ws ++ cut) }
+    {
+        let mut rest = letters;
+        while !rest.is_empty() {
+            let (word, others) = rest.split_at(self.room().min(rest.len()));
+            self.put_word(word);
+            rest = others;
         }
     }
 
-    /// The text.
-    pub(crate) fn into_text(self) -> Result<Vec<u8>, AllocError> {
+    /// The text. None where a word can't stand there.
+    pub(crate) fn into_text(self) -> Result<Option<Vec<u8>>, AllocError>
+        ensures { IfOk result (λ made. IsFalse self.entry.is_cut_off × (made ≡ then_some (not self.entry.is_refused) self.entry.text)) }
+    {
         if self.is_cut_off {
             return Err(AllocError);
         }
-        Ok(self.text)
+        Ok((!self.is_refused).then_some(self.text))
     }
 
-    /// The text, with room for `$.` behind it.
-    pub(crate) fn finish(mut self) -> Result<Vec<u8>, AllocError> {
-        self.make_room(2);
+    /// The text, with room for `$.` behind it. None where a word can't stand there.
+    pub(crate) fn finish(mut self) -> Result<Option<Vec<u8>>, AllocError>
+        ensures { (i : List ℕ) (form : Bool) → IsInForm i form self.entry
+            → IfOk result (λ made. IfSome made (λ text. IsLaidOut i form text.items)) }
+    {
+        let begins_line = !self.has_room(2);
+        self.put_space(begins_line);
         self.into_text()
     }
 }

@@ -16,6 +16,7 @@ mod wording;
 
 pub use adding::{Statement, SymbolWords, assertion_text, names_in_source, symbol_words};
 pub use cutting::{Leaving, cuts_of};
+pub use layout::proof_indentation;
 pub use listing::{Cited, Kinds, Names};
 pub use outline::{Auxiliary, Block, Outline, Standing, Stretch, outline_of};
 pub use proving::proof_text;

@@ -1,6 +1,11 @@
 //! The text of another proof of a theorem, in the form that the old one has in the source.
 
-ghost use Rattle.std.specs.Prelude.{◌<◌, length};
+ghost use Rattle.std.specs.Prelude.{◌≡◌, ◌<◌, ℕ, Bool, List, [], length, option_and_then, option_map, slice_get, IfOk, IfSome};
+ghost use Rattle.source.specs.Views.{seen_proof};
+ghost use Rattle.items.specs.Layout.{IsLaidOut};
+ghost use Rattle.sourcewriting.specs.Indentations.{IsIndentation};
+ghost use Rattle.sourcewriting.specs.Forms.{is_compressed_form};
+ghost use Rattle.sourcewriting.specs.Laid.{IsLaid, IsInForm};
 
 use crate::layout::Layout;
 use crate::listing::{Names, put_nodes};
@@ -10,12 +15,6 @@ use mmsyntax::Proof;
 use source::{Declared, HypothesisWords, ProofWords};
 use std::alloc::{AllocError, Global};
 use std::hash::RandomState;
-
-/// How far the lines of a proof are indented where the theorem has `$e`, and so stands in a block.
-const IN_BLOCK: usize = 6;
-
-/// How far they are indented otherwise.
-const OUTSIDE: usize = 4;
 
 /// The labels of the mandatory hypotheses of a theorem, and those of its `$e`, in order of appearance.
 struct Hypotheses<'x> {
@@ -71,73 +70,107 @@ fn hypotheses_of<'x, D: Declared<'x>>(
     Ok(hypotheses)
 }
 
-/// Puts the words of a proof in the form of another. Whether it has at most 16,384 steps.
+/// Whether a proof is compressed that is to have the form of another.
+fn is_compressed_like(old: Option<&ProofWords<'_>>) -> bool
+    ensures { result ≡ is_compressed_form (option_map (λ p. seen_proof p.now) old.entry) }
+{
+    !matches!(old, Some(ProofWords::Normal(_)))
+}
+
+/// Puts the words of a proof in one of its forms. Whether it has at most 16,384 steps.
 fn put_in_form(
     alloc: Global,
-    layout: &mut Layout,
-    old: Option<&ProofWords<'_>>,
+    layout: &mut Layout<'_>,
+    is_compressed: bool,
     shared: &Shared<'_>,
     mandatory: &[&[u8]],
     root: usize,
-) -> Result<bool, AllocError> {
-    match old {
-        Some(ProofWords::Normal(_)) => put_normal(alloc, layout, shared, root),
-        _ => put_compressed(alloc, layout, shared, mandatory, root),
+) -> Result<bool, AllocError>
+    ensures { (i : List ℕ) → IsLaid i layout.old [] → IfOk result (λ _. IsInForm i is_compressed layout.new) }
+{
+    if is_compressed {
+        put_compressed(alloc, layout, shared, mandatory, root)
+    } else {
+        put_normal(alloc, layout, shared, root)
     }
 }
 
-/// The text of a proof by its nodes, in the form of another, of a theorem with these hypotheses. None where it has over 16,384 steps.
+/// The text of a proof by its nodes, in one of its forms, of a theorem with these mandatory hypotheses. None where it has over 16,384
+/// steps, or names what is no label.
 fn text_in_form(
     alloc: Global,
-    old: Option<&ProofWords<'_>>,
+    is_compressed: bool,
     shared: &Shared<'_>,
-    hypotheses: &Hypotheses<'_>,
+    mandatory: &[&[u8]],
+    indentation: &[u8],
     root: usize,
-) -> Result<Option<Vec<u8>>, AllocError> {
-    let indent = if hypotheses.premises.is_empty() {
-        OUTSIDE
+) -> Result<Option<Vec<u8>>, AllocError>
+    requires { IsIndentation indentation.now }
+    ensures { IfOk result (λ made. IfSome made (λ text. IsLaidOut indentation.now is_compressed text.items)) }
+{
+    let mut layout = Layout::new(alloc, indentation);
+    if put_in_form(alloc, &mut layout, is_compressed, shared, mandatory, root)? {
+        layout.finish()
     } else {
-        IN_BLOCK
-    };
-    let mut layout = Layout::new(alloc, indent);
-    let mandatory = hypotheses.mandatory.as_slice();
-    let is_whole = put_in_form(alloc, &mut layout, old, shared, mandatory, root)?;
-    let text = layout.finish()?;
-    Ok(is_whole.then_some(text))
+        Ok(None)
+    }
 }
 
-/// The text of a proof, by its steps in the library, in the form of another, of a theorem with these hypotheses. None where they denote no
-/// tree, or one of over 16,384 steps.
+/// The text of a proof, by its steps in the library, in one of its forms, of a theorem with these hypotheses. None where they denote no
+/// tree, or one of over 16,384 steps, or name what is no label.
 fn text_of<'p, 'a, D: Declared<'a>>(
     alloc: Global,
     keys: RandomState,
     declared: &D,
     names: &Names<'p>,
-    old: Option<&ProofWords<'_>>,
+    is_compressed: bool,
     hypotheses: &Hypotheses<'p>,
+    indentation: &[u8],
     steps: &Proof,
-) -> Result<Option<Vec<u8>>, AllocError> {
+) -> Result<Option<Vec<u8>>, AllocError>
+    requires { IsIndentation indentation.now }
+    ensures { IfOk result (λ made. IfSome made (λ text. IsLaidOut indentation.now is_compressed text.items)) }
+{
     let premises = hypotheses.premises.as_slice();
+    let mandatory = hypotheses.mandatory.as_slice();
     let mut shared = Shared::new(alloc, keys);
     match put_nodes(alloc, &mut shared, declared, names, premises, steps)? {
-        Some(root) => text_in_form(alloc, old, &shared, hypotheses, root),
+        Some(root) => text_in_form(alloc, is_compressed, &shared, mandatory, indentation, root),
         None => Ok(None),
     }
 }
 
-/// The text of a proof of the theorem at a place of the source, by its steps in the library. None where they denote no tree, or one of over
-/// 16,384 steps.
+/// The text of a proof of the theorem at a place of the source, by its steps in the library, in the form that the old one has, with white
+/// space for the `$.` behind it: laid out in lines that begin with this indentation. None where the steps denote no tree, or one of over
+/// 16,384 steps, or name what is no label.
+///
+/// # Errors
+///
+/// Want of memory.
 pub fn proof_text<'x, D: Declared<'x>>(
     alloc: Global,
     keys: RandomState,
     declared: &D,
     names: &Names<'x>,
     place: usize,
+    indentation: &[u8],
     steps: &Proof,
 ) -> Result<Option<Vec<u8>>, AllocError>
-    requires { place < length (D.scope declared.now).assertions }
+    requires place { place < length (D.scope declared.now).assertions }
+    requires indentation { IsIndentation indentation.now }
+    ensures { let old = option_and_then (λ a. a.proof) (slice_get (D.scope declared.now).assertions place) in
+        IfOk result (λ made. IfSome made (λ text. IsLaidOut indentation.now (is_compressed_form old) text.items)) }
 {
     let hypotheses = hypotheses_of(alloc, declared, place)?;
-    let old = declared.proof(place);
-    text_of(alloc, keys, declared, names, old, &hypotheses, steps)
+    let is_compressed = is_compressed_like(declared.proof(place));
+    text_of(
+        alloc,
+        keys,
+        declared,
+        names,
+        is_compressed,
+        &hypotheses,
+        indentation,
+        steps,
+    )
 }

@@ -1,5 +1,8 @@
 //! The words of a proof: normal, or compressed with each subproof once that stands there more than once.
 
+ghost use Rattle.std.specs.Prelude.{ℕ, List, [], IfOk, IsTrue};
+ghost use Rattle.sourcewriting.specs.Laid.{IsLaid, IsNormal, IsCompressed};
+
 use crate::layout::Layout;
 use crate::shared::Shared;
 use mmsyntax::MOST_STEPS;
@@ -35,13 +38,31 @@ fn word_at<'x>(shared: &Shared<'x>, node: usize) -> &'x [u8] {
         .unwrap_or(b"?")
 }
 
+/// A turn at a node of a normal proof: its next argument is walked through, or else it puts its label.
+fn take_turn(
+    layout: &mut Layout<'_>,
+    stack: &mut Vec<Turn>,
+    shared: &Shared<'_>,
+    turn: Turn,
+) -> Result<(), AllocError>
+    ensures { (i : List ℕ) → IsNormal i layout.old → IfOk result (λ _. IsNormal i layout.new) }
+{
+    match shared.arguments(turn.node).get(turn.argument) {
+        Some(node) => push_both(stack, turn, *node)?,
+        None => layout.put_label(word_at(shared, turn.node)),
+    }
+    Ok(())
+}
+
 /// Puts the labels of a normal proof. Whether there are at most 16,384.
 pub(crate) fn put_normal(
     alloc: Global,
-    layout: &mut Layout,
+    layout: &mut Layout<'_>,
     shared: &Shared<'_>,
     root: usize,
-) -> Result<bool, AllocError> {
+) -> Result<bool, AllocError>
+    ensures { (i : List ℕ) → IsNormal i layout.old → IfOk result (λ _. IsNormal i layout.new) }
+{
     let mut stack = Vec::new(alloc);
     stack.push(Turn {
         node: root,
@@ -51,10 +72,7 @@ pub(crate) fn put_normal(
         let Some(turn) = stack.pop() else {
             return Ok(true);
         };
-        match shared.arguments(turn.node).get(turn.argument) {
-            Some(node) => push_both(&mut stack, turn, *node)?,
-            None => layout.put_word(word_at(shared, turn.node)),
-        }
+        take_turn(layout, &mut stack, shared, turn)?;
     }
     Ok(stack.is_empty())
 }
@@ -159,21 +177,25 @@ fn numbers_of<'x>(
 }
 
 /// Puts labels in parentheses.
-fn put_in_parentheses(layout: &mut Layout, labels: &[&[u8]]) {
+fn put_in_parentheses(layout: &mut Layout<'_>, labels: &[&[u8]])
+    ensures { (i : List ℕ) → IsLaid i layout.old [] → IsCompressed i layout.new }
+{
     layout.put_word(b"(");
-    layout.put_words(labels);
+    layout.put_labels(labels);
     layout.put_word(b")");
 }
 
 /// Puts the letters of a tree whose labels have these numbers, which are below `labels`. Whether it has at most 16,384 steps.
 fn put_letters(
     alloc: Global,
-    layout: &mut Layout,
+    layout: &mut Layout<'_>,
     shared: &Shared<'_>,
     numbers: &[usize],
     labels: usize,
     root: usize,
-) -> Result<bool, AllocError> {
+) -> Result<bool, AllocError>
+    ensures { (i : List ℕ) → IsCompressed i layout.old → IfOk result (λ _. IsCompressed i layout.new) }
+{
     let mut letters = Letters {
         numbers,
         labels,
@@ -190,11 +212,13 @@ fn put_letters(
 /// stands there again counts as one.
 pub(crate) fn put_compressed(
     alloc: Global,
-    layout: &mut Layout,
+    layout: &mut Layout<'_>,
     shared: &Shared<'_>,
     mandatory: &[&[u8]],
     root: usize,
-) -> Result<bool, AllocError> {
+) -> Result<bool, AllocError>
+    ensures { (i : List ℕ) → IsLaid i layout.old [] → IfOk result (λ _. IsCompressed i layout.new) }
+{
     let mut others = Vec::new(alloc);
     let numbers = numbers_of(alloc, shared.words(), mandatory, &mut others)?;
     put_in_parentheses(layout, others.as_slice());

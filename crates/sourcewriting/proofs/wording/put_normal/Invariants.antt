@@ -1,0 +1,6 @@
+use Rattle.std.proofs.Common.{ℕ, List}
+use Rattle.sourcewriting.specs.Laid.{IsNormal}
+use Rattle.sourcewriting.proofs.wording.put_normal.Given as goal
+
+abbrev pub invariant-loop : goal.invariant-loop
+invariant-loop l = (i : List ℕ) → IsNormal i l.fn.layout → IsNormal i l.layout
