@@ -14,6 +14,8 @@ use Rattle.library.specs.Library.{Listed}
 use Rattle.comments.specs.Kept.{AreKept}
 use Rattle.sourceediting.specs.Following.{Following, all_commands, behind_all, opening, changes_of, label_then, own_flags}
 use Rattle.sourceediting.specs.Following.{names_none}
+use Rattle.library.specs.declared.library.Ranked.{Ranked}
+use Rattle.sourceediting.specs.Reproved.{AreOtherProofs}
 use Rattle.sourceediting.specs.Written.{IsWrittenAnew}
 use Rattle.secondlook.specs.Looked.{IsLookedAt}
 use Rattle.givetext.specs.Parts.{IsEdited}
@@ -25,7 +27,8 @@ module _ (source out : List ℕ) (old : Scope) (choice : Choice) (taken : Taken)
     (changed : changes ≡ changes_of followed) (flags : own ≡ own_flags choice (axioms_of taken) old) where
   pub edited_by : (then : List Word) → then ≡ map label_then followed.living
       → All (λ x. IsTrue (names_none followed.gone x.proof)) (others own old.assertions)
-      → IsWrittenAnew (all_commands entries) changes source out
+      → IsWrittenAnew (all_commands entries)
+      (AreOtherProofs old taken.database.assertions (map (λ (r : Ranked). r.assertion) edited.entries) followed.living) changes source out
       → AreKept changes followed.gone source out → IsLookedAt old out changes own then edited
       → IsEdited source old choice taken entries edited out
   edited_by then labels uncited written kept looked =
@@ -35,7 +38,10 @@ module _ (source out : List ℕ) (old : Scope) (choice : Choice) (taken : Taken)
         follows = follows;
         uncited =
             subst (λ (fs : List Bool). All (λ x. IsTrue (names_none followed.gone x.proof)) (others fs old.assertions)) flags uncited;
-        written = subst (λ (cs : List Change). IsWrittenAnew (all_commands entries) cs source out) changed written;
+        written =
+            subst (λ (cs : List Change). IsWrittenAnew (all_commands entries)
+            (AreOtherProofs old taken.database.assertions (map (λ (r : Ranked). r.assertion) edited.entries) followed.living) cs source out) changed
+            written;
         comments = subst (λ (cs : List Change). AreKept cs followed.gone source out) changed kept;
         looked =
             subst (λ (ws : List Word). IsLookedAt old out (changes_of followed) theirs ws edited) labels

@@ -17,6 +17,7 @@ use Rattle.comments.specs.Kept.{AreKept}
 use Rattle.sourceediting.specs.Following.{Following, all_commands, behind_all, opening, changes_of, label_then, own_flags}
 use Rattle.sourceediting.specs.Following.{names_none}
 use Rattle.secondlook.specs.Again.{IsTakenAgain}
+use Rattle.sourceediting.specs.Reproved.{AreOtherProofs}
 use Rattle.sourceediting.specs.Written.{IsWrittenAnew}
 
 -- the text is what is printed where a library is taken of the source, by some wish
@@ -50,7 +51,9 @@ pub record IsGiven (source library history out : List ℕ) : Type 0 where
       (others (own_flags choice axioms new) new.assertions)
   pub uncited : All (λ x. IsTrue (names_none followed.gone x.proof))
       (others (own_flags was_taken.taken.taken.choice (axioms_of taken) old) old.assertions)
-  -- and so is every byte, but for these edits
-  pub written : IsWrittenAnew (all_commands entries) (changes_of followed) source out
+  -- and so is every byte, but for these edits: just theorems whose listing the history changes have another proof, in the form of the old
+  -- one
+  pub written : IsWrittenAnew (all_commands entries)
+      (AreOtherProofs old taken.database.assertions (map (λ r. r.assertion) edited.entries) followed.living) (changes_of followed) source out
   -- no comment between statements is lost or made, but some that go with what was deleted, and in each just the labels change
   pub comments : AreKept (changes_of followed) followed.gone source out

@@ -11,6 +11,7 @@ ghost use Rattle.comments.specs.Kept.{AreKept};
 ghost use Rattle.checking.specs.Checks.{LeadsTo};
 ghost use Rattle.sourceediting.specs.Following.{all_commands, behind_all, label_then, opening};
 ghost use Rattle.sourceediting.specs.Views.{seen_following};
+ghost use Rattle.sourceediting.specs.Reproved.{AreOtherProofs};
 ghost use Rattle.sourceediting.specs.Written.{IsWrittenAnew};
 ghost use Rattle.secondlook.specs.Looked.{IsLookedAt};
 ghost use Rattle.givetext.specs.Parts.{IsEdited};
@@ -202,7 +203,9 @@ fn write_anew(
     changes: &Changes<'_>,
     own: &[bool],
 ) -> Result<Vec<u8>, Refusal>
-    ensures { IfOk result (λ out. IsWrittenAnew (all_commands replayed.now.entries) changes.now source.now out.items) }
+    ensures { IfOk result (λ out. IsWrittenAnew (all_commands replayed.now.entries) (AreOtherProofs old.now.stand.scope
+        taken.now.database.assertions (map (λ r. r.assertion) replayed.now.edited.entries) (seen_following following.now).living)
+        changes.now source.now out.items) }
 {
     let told = told_of(alloc, keys, taken.axioms.as_slice())?;
     let planned = Planned {
@@ -263,7 +266,9 @@ fn write_and_look<'x>(
     own: &[bool],
 ) -> Result<Vec<u8>, Refusal>
     requires { length own.now ≡ length old.now.stand.scope.assertions }
-    ensures written { IfOk result (λ out. IsWrittenAnew (all_commands replayed.now.entries) changes.now source.now out.items) }
+    ensures written { IfOk result (λ out. IsWrittenAnew (all_commands replayed.now.entries) (AreOtherProofs old.now.stand.scope
+        taken.now.database.assertions (map (λ r. r.assertion) replayed.now.edited.entries) (seen_following following.now).living)
+        changes.now source.now out.items) }
     ensures comments { IfOk result (λ out. AreKept changes.now (seen_words following.now.gone.items) source.now out.items) }
     ensures looked { IfOk result (λ out. IsLookedAt old.now.stand.scope out.items changes.now own.now
         (map label_then (seen_following following.now).living) replayed.now.edited) }

@@ -11,9 +11,10 @@ use Rattle.mmtext.specs.Words.{Word}
 use Rattle.mmsyntax.proofs.Names.{same_bytes}
 use Rattle.mmsyntax.specs.declared.statement.Assertion.{Assertion}
 use Rattle.std.proofs.lemmas.List.Elements.{All-push}
+use Rattle.source.specs.Scopes.{Scope}
 use Rattle.giving.specs.Staying.{Change}
 use Rattle.sourceediting.specs.Following.{Followed}
-use Rattle.sourceediting.specs.Reproved.{HasAnotherListing, HaveOtherListings}
+use Rattle.sourceediting.specs.Reproved.{HasAnotherListing, IsWrittenFor, AreOtherProofs}
 use Rattle.sourceediting.specs.Views.{AreLabelled}
 
 module _ (m n : HashMap (Bor (List ℕ)) (Bor Assertion) RandomState) (xs : List Assertion) (x : Word) (v : Bor Assertion)
@@ -29,12 +30,13 @@ module _ (m n : HashMap (Bor (List ℕ)) (Bor Assertion) RandomState) (xs : List
   pub labelled_more : hash.UpdatesBy (λ x y. bytes_eq x.now y.now) (λ k. bytes_eq x k.now) m n (Some v) → AreLabelled n xs
   labelled_more updates w a e = at w a (bytes_eq x w) refl (sym (hash_map_updates_str x m n (Some v) updates w) ∙ e)
 
--- one more theorem has another listing
-pub listed_more : (opened edited : List Assertion) (living : List Followed) (ps qs : List Change) (p : Change)
-    → HaveOtherListings opened edited living ps → HasAnotherListing opened edited living p.0 → qs ≡ ps ++ p ∷ []
-    → HaveOtherListings opened edited living qs
-listed_more opened edited living ps qs p all one e =
-    subst (HaveOtherListings opened edited living) (sym e) (All-push (λ q. HasAnotherListing opened edited living q.0) ps p all one)
+-- one more theorem has another proof
+pub proofs_more : (s : Scope) (opened edited : List Assertion) (living : List Followed) (ps qs : List Change) (p : Change)
+    → AreOtherProofs s opened edited living ps → HasAnotherListing opened edited living p.0 → IsWrittenFor s p.0 p.1 → qs ≡ ps ++ p ∷ []
+    → AreOtherProofs s opened edited living qs
+proofs_more s opened edited living ps qs p all one text e =
+    subst (AreOtherProofs s opened edited living) (sym e)
+    (All-push (λ (q : Change). HasAnotherListing opened edited living q.0 × IsWrittenFor s q.0 q.1) ps p all (one, text))
 
 -- what is found under a label
 pub found_labelled : (m : HashMap (Bor (List ℕ)) (Bor Assertion) RandomState) (w : Word) (o : Option (Bor Assertion))

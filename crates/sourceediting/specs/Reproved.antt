@@ -1,10 +1,16 @@
 -- Which theorems have another proof behind a history: those whose listing isn't the old one with changed labels.
-use Rattle.std.specs.Prelude.{◌≡◌, ◌≢◌, List, map, filter_map, Contains, All, Option, Some, None}
+use Rattle.std.specs.Prelude.{◌≡◌, ◌≢◌, ℕ, List, map, filter_map, Contains, All, Option, Some, None, slice_get}
+use Rattle.std.specs.Option.{option_and_then}
+use Rattle.std.specs.Str.{bytes_eq}
 use Rattle.mmtext.specs.Words.{Word}
 use Rattle.mmsyntax.specs.declared.statement.Assertion.{Assertion}
 use Rattle.mmsyntax.specs.declared.statement.Step.{Step}
 use Rattle.mmsyntax.specs.declared.statement.Step.TheVariants.{Float, Hyp, Cite}
+use Rattle.mmsyntax.specs.Tables.{place_of}
+use Rattle.source.specs.Scopes.{Scope}
 use Rattle.giving.specs.Staying.{Change, changed}
+use Rattle.items.specs.Layout.{IsLaidOut}
+use Rattle.sourcewriting.specs.Forms.{is_compressed_form}
 use Rattle.sourceediting.specs.Following.{Followed}
 
 -- the labels that those of the opening had in the library, with those that they have now
@@ -34,6 +40,13 @@ pub record HasAnotherListing (opened edited : List Assertion) (living : List Fol
   pub now : new.label ≡ followed.now
   pub differs : map (step_then (changes_in_library living)) old.proof ≢ new.proof
 
--- each of these theorems has
-abbrev pub HaveOtherListings : List Assertion → List Assertion → List Followed → List Change → Type 0
-HaveOtherListings opened edited living proofs = All (λ p. HasAnotherListing opened edited living p.0) proofs
+-- the text of another proof of a theorem of the source: in the form of the old one, laid out with some indentation (section 4.2.8)
+pub record IsWrittenFor (s : Scope) (label : Word) (text : List ℕ) : Type 0 where
+  pub place : ℕ
+  pub stands : place_of (λ x. bytes_eq label x.label) s.assertions ≡ Some place
+  pub indentation : List ℕ
+  pub laid_out : IsLaidOut indentation (is_compressed_form (option_and_then (λ x. x.proof) (slice_get s.assertions place))) text
+
+-- each of these theorems has, with such a text
+abbrev pub AreOtherProofs : Scope → List Assertion → List Assertion → List Followed → List Change → Type 0
+AreOtherProofs s opened edited living proofs = All (λ p. HasAnotherListing opened edited living p.0 × IsWrittenFor s p.0 p.1) proofs

@@ -1,5 +1,7 @@
 //! Where the symbols of a source are declared, and from where on a text that is put in has all that it mentions.
 
+ghost use Rattle.std.specs.Prelude.{◌≤◌, length};
+
 use items::{Kind, read_item};
 use mmtext::next_token;
 use std::alloc::{AllocError, Global};
@@ -52,7 +54,9 @@ fn note<'t>(
     text: &'t [u8],
     from: usize,
     end: usize,
-) -> Result<(), AllocError> {
+) -> Result<(), AllocError>
+    requires { from ≤ length text.now }
+{
     let mut words = Words {
         count: 0,
         is_list: false,
@@ -65,7 +69,7 @@ fn note<'t>(
         let Some(token) = next_token(text, at) else {
             break;
         };
-        at = token.place.saturating_add(token.text.len());
+        at = token.place + token.text.len();
         if words.take(token.text) {
             declarations.insert(token.text, end)?;
         }
@@ -148,7 +152,7 @@ pub(crate) fn needed_by<'p>(
     let mut needed: Option<Needed<'p>> = None;
     let mut at = 0;
     while let Some(token) = next_token(text, at) {
-        at = token.place.saturating_add(token.text.len());
+        at = token.place + token.text.len();
         if reading != Reading::Comment
             && reading != Reading::Letters
             && let Some(from) = declarations.get(&token.text)

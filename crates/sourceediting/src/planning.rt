@@ -3,7 +3,7 @@
 ghost use Rattle.std.specs.Prelude.{◌≡◌, ◌↔◌, List, Contains, IfOk, IfSome, IsTrue, map};
 ghost use Rattle.mmsyntax.specs.declared.statement.Assertion.{Assertion};
 ghost use Rattle.mmsyntax.specs.ProofWords.{seen_step};
-ghost use Rattle.sourceediting.specs.Reproved.{changes_in_library, step_then, HaveOtherListings};
+ghost use Rattle.sourceediting.specs.Reproved.{changes_in_library, step_then, IsWrittenFor, AreOtherProofs};
 ghost use Rattle.sourceediting.specs.Views.{seen_living, seen_proofs, AreLabelled};
 
 use crate::following::Followed;
@@ -203,7 +203,9 @@ fn other_proof<'x, D: Declared<'x>>(
     names: &Names<'x>,
     source: &'x [u8],
     new: &Assertion,
-) -> Result<Vec<u8>, Refusal> {
+) -> Result<Vec<u8>, Refusal>
+    ensures { IfOk result (λ text. IsWrittenFor (D.scope declared.now) source.now text.items) }
+{
     let Some(place) = declared.place_of(source) else {
         return Err(unwritten(alloc, source));
     };
@@ -231,7 +233,7 @@ pub(crate) fn other_proofs<'x, D: Declared<'x>>(
     planned: &Planned<'x>,
 ) -> Result<Vec<(&'x [u8], Vec<u8>)>, Refusal>
     requires { AreLabelled edited.now (map (λ r. r.assertion) planned.now.edited.now.entries) }
-    ensures { IfOk result (λ made. HaveOtherListings planned.now.database.now.assertions
+    ensures { IfOk result (λ made. AreOtherProofs (D.scope declared.now) planned.now.database.now.assertions
         (map (λ r. r.assertion) planned.now.edited.now.entries) (seen_living planned.now.living.now) (seen_proofs made.items)) }
 {
     let opened = opened_by_label(alloc, keys, planned.database.assertions())?;

@@ -2,7 +2,7 @@
 
 ghost use Rattle.std.specs.Prelude.{◌≡◌, IfOk, map};
 ghost use Rattle.sourceediting.specs.Following.{all_commands};
-ghost use Rattle.sourceediting.specs.Reproved.{HaveOtherListings};
+ghost use Rattle.sourceediting.specs.Reproved.{AreOtherProofs};
 ghost use Rattle.sourceediting.specs.Views.{seen_living, seen_proofs, AreLabelled};
 ghost use Rattle.sourceediting.specs.Written.{IsWrittenAnew, AreJust};
 
@@ -63,7 +63,8 @@ fn write_over<'e, D: Declared<'e>>(
     names: &Names<'e>,
 ) -> Result<Vec<u8>, Refusal>
     requires { AreLabelled edited.now (map (λ r. r.assertion) planned.now.edited.now.entries) }
-    ensures { IfOk result (λ out. IsWrittenAnew (all_commands entries.now) (HaveOtherListings planned.now.database.now.assertions
+    ensures { IfOk result (λ out. IsWrittenAnew (all_commands entries.now) (AreOtherProofs (D.scope declared.now)
+        planned.now.database.now.assertions
         (map (λ r. r.assertion) planned.now.edited.now.entries) (seen_living planned.now.living.now)) changes.now source.now out.items) }
 {
     let proofs = other_proofs(alloc, keys, declared, edited, names, planned)?;
@@ -92,7 +93,8 @@ pub fn write_edits<'e, D: Declared<'e>>(
     entries: &[Entry],
     changes: &'e Changes<'e>,
 ) -> Result<Vec<u8>, Refusal>
-    ensures { IfOk result (λ out. IsWrittenAnew (all_commands entries.now) (HaveOtherListings planned.now.database.now.assertions
+    ensures { IfOk result (λ out. IsWrittenAnew (all_commands entries.now) (AreOtherProofs (D.scope declared.now)
+        planned.now.database.now.assertions
         (map (λ r. r.assertion) planned.now.edited.now.entries) (seen_living planned.now.living.now)) changes.now source.now out.items) }
 {
     let edited = edited_by_label(alloc, keys, planned.edited.entries())?;

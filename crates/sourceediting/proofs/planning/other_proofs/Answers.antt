@@ -7,7 +7,7 @@ use Rattle.sourceediting.specs.declared.following.Followed.{Followed as KeptAsse
 use Rattle.sourceediting.specs.Views.{seen_living, seen_proofs, seen_followed, AreLabelled}
 use Rattle.sourceediting.specs.Reproved.{step_then}
 use Rattle.library.proofs.Filtered.{contains_mapped}
-use Rattle.sourceediting.proofs.Labelled.{listed_more}
+use Rattle.sourceediting.proofs.Labelled.{proofs_more}
 use Rattle.sourceediting.proofs.planning.other_proofs.Goals as goal
 use Rattle.sourceediting.proofs.planning.other_proofs.Goals.{then-not-is_proof+in_ok-text+in_ok-push, else-not-is_proof}
 
@@ -28,7 +28,7 @@ loop-followed-preserved g c =
     elim c.if-not-is_proof.branch [
       | then-not-is_proof+in_ok-text+in_ok-push w ↦
           rw w.proofs-is
-          (listed_more opened edited living (seen_proofs c.loop-followed.proofs.items) _ (some.source.now, w.in_ok-text.text.items)
+          (proofs_more (g.D.Declared.scope c.args.declared.now) opened edited living (seen_proofs c.loop-followed.proofs.items) _ (some.source.now, w.in_ok-text.text.items)
           c.loop-followed.invariant
           (record {
             followed = seen_followed x;
@@ -44,6 +44,7 @@ loop-followed-preserved g c =
               differ (sym w.if-not-is_proof.true ∙ c.is_proof.ensures.1
               (ap (λ cs. map (step_then cs) some.old.now.proof) c.in_ok-changes.ensures ∙ e));
           })
+          w.in_ok-text.ensures
           (ap seen_proofs w.in_ok-push.ensures.items ∙ map-append _ c.loop-followed.proofs.items _))
       | else-not-is_proof w ↦ rw w.proofs-is c.loop-followed.invariant
     ]

@@ -1,11 +1,11 @@
 -- What the loop of `other_proofs` keeps.
 use Rattle.std.proofs.Common.{map}
 use Rattle.sourceediting.specs.Views.{seen_living, seen_proofs}
-use Rattle.sourceediting.specs.Reproved.{HaveOtherListings}
+use Rattle.sourceediting.specs.Reproved.{AreOtherProofs}
 use Rattle.sourceediting.proofs.planning.other_proofs.Given as goal
 
 -- each theorem so far has another listing
 abbrev pub invariant-loop-followed : goal.invariant-loop-followed
 invariant-loop-followed g l =
-    HaveOtherListings l.planned.database.now.assertions (map (λ r. r.assertion) l.planned.edited.now.entries)
+    AreOtherProofs (g.D.Declared.scope l.declared) l.planned.database.now.assertions (map (λ r. r.assertion) l.planned.edited.now.entries)
     (seen_living l.planned.living.now) (seen_proofs l.proofs.items)
