@@ -40,7 +40,8 @@ module _ (source out : List ℕ) (old : Scope) (choice : Choice) (taken : Taken)
             subst (λ (fs : List Bool). All (λ x. IsTrue (names_none followed.gone x.proof)) (others fs old.assertions)) flags uncited;
         written =
             subst (λ (cs : List Change). IsWrittenAnew (all_commands entries)
-            (AreOtherProofs old taken.database.assertions (map (λ (r : Ranked). r.assertion) edited.entries) followed.living) cs source out) changed
+            (AreOtherProofs old taken.database.assertions (map (λ (r : Ranked). r.assertion) edited.entries) followed.living) cs source
+            out) changed
             written;
         comments = subst (λ (cs : List Change). AreKept cs followed.gone source out) changed kept;
         looked =

@@ -65,4 +65,5 @@ front_label front rest label up has other =
     ap (outside false) (words_both front rest) ∙ outside_both false (words front) (words rest) in
     ap label_among up.whole
     ∙ label_front up.says (outside (is_open_behind false (words front)) (words rest)) label
-    (ap (λ ws. label_among (ws ++ outside (is_open_behind false (words front)) (words rest))) (sym up.whole) ∙ (ap label_among (sym all) ∙ has)) other
+    (ap (λ ws. label_among (ws ++ outside (is_open_behind false (words front)) (words rest))) (sym up.whole) ∙ (ap label_among (sym all) ∙
+    has)) other

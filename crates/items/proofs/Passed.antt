@@ -18,7 +18,8 @@ use Rattle.items.proofs.Commented.{comment_leaves, comment_adds_nothing, word_le
 abbrev closing : Word → Bool
 closing w = bytes_eq w (codes "$)")
 
-pub comment_ends : (text : List ℕ) (from at : ℕ) (left : Item) (t : Token) → Stands text from left at → list_any closing (words left) ≡ false
+pub comment_ends : (text : List ℕ) (from at : ℕ) (left : Item) (t : Token) → Stands text from left at → list_any closing (words left) ≡
+    false
     → IsFirst text at t → t.text ≡ codes "$)" → IsCommentTo text from (end_of t)
 comment_ends text from at left t stands none first is = record {
   left = left ++ piece_at text at t ∷ [];
@@ -28,7 +29,8 @@ comment_ends text from at left t stands none first is = record {
   inside = none;
 }
 
-none_more : (test : Word → Bool) (ws : List Word) (w : Word) → list_any test ws ≡ false → test w ≡ false → list_any test (ws ++ w ∷ []) ≡ false
+none_more : (test : Word → Bool) (ws : List Word) (w : Word) → list_any test ws ≡ false → test w ≡ false → list_any test (ws ++ w ∷ []) ≡
+    false
 none_more test ws w none not_it =
     list_any-append test ws (w ∷ []) ∙ ap (λ b. b || (test w || false)) none ∙ ap (λ b. b || false) not_it
 
@@ -58,7 +60,8 @@ module _ (test : Word → Bool) (text : List ℕ) (from at : ℕ) (t : Token) (p
     pub comment_passed : IsPassed test text from end
     comment_passed = record {
       left = (p.left ++ piece_at text at t ∷ []) ++ c.left;
-      stands = stands_both text from (end_of t) end (p.left ++ piece_at text at t ∷ []) c.left (stands_more text from at p.left t p.stands is) c.stands;
+      stands = stands_both text from (end_of t) end (p.left ++ piece_at text at t ∷ []) c.left (stands_more text from at p.left t p.stands
+          is) c.stands;
       closed = ap (is_open_behind false) with_comment ∙ comment_leaves (words p.left) c.body p.closed c.inside;
       inside = ap (list_any test) comment_said ∙ p.inside;
     }
@@ -143,7 +146,8 @@ front_ends text from at t p is opens ends =
       stands = stands_more text from at p.left t p.stands is;
       is_front = record {
         says = outside false (words p.left);
-        whole = ap (outside false) all ∙ (word_is_said (words p.left) t.text p.closed opens ∙ ap (λ w. outside false (words p.left) ++ w ∷ []) ends);
+        whole = ap (outside false) all ∙ (word_is_said (words p.left) t.text p.closed opens ∙ ap (λ w. outside false (words p.left) ++ w ∷
+            []) ends);
         first = p.inside;
         closed = ap (is_open_behind false) all ∙ word_leaves (words p.left) t.text p.closed opens;
       };

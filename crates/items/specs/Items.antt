@@ -1,4 +1,5 @@
--- A source as its items, in order: comments, marks of blocks, and statements, each with its bytes (Metamath book, sections 4.1.1, 4.1.2, 4.2).
+-- A source as its items, in order: comments, marks of blocks, and statements, each with its bytes (Metamath book, sections 4.1.1, 4.1.2,
+-- 4.2).
 use Rattle.std.specs.Prelude.{◌≡◌, ◌⊎◌, ℕ, Bool, true, false, List, [], ◌∷◌, ◌++◌, map, All, if◌then◌else◌, codes, take, ◌||◌}
 use Rattle.std.specs.List.{flat_map, list_any}
 use mathlib.Core.Bool.{not}

@@ -1,4 +1,5 @@
--- Items with changed labels: labels of assertions, where these are stated, where proofs name them, and behind ~ in comments; all else stays.
+-- Items with changed labels: labels of assertions, where these are stated, where proofs name them, and behind ~ in comments; all else
+-- stays.
 use Rattle.std.specs.Prelude.{Bool, false, ◌&&◌, ◌==◌, List, [], ◌∷◌, map, zip, drop, Option, Some, None, if◌then◌else◌, codes}
 use mathlib.Core.Bool.{not}
 use Rattle.std.specs.Str.{bytes_eq}

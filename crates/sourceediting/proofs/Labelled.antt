@@ -22,8 +22,11 @@ module _ (m n : HashMap (Bor (List ℕ)) (Bor Assertion) RandomState) (xs : List
   at : (w : Word) (a : Bor Assertion) (b : Bool) → bytes_eq x w ≡ b → cond b (Some v) (hash.get_by (λ k. bytes_eq w k.now) m) ≡ Some a
       → Contains xs a.now × (a.now.label ≡ w)
   at w a true e h =
-      let same : v ≡ a = cc in
-      (subst (λ (y : Bor Assertion). Contains xs y.now) same is, ap (λ (y : Bor Assertion). y.now.label) (sym same) ∙ (label ∙ same_bytes x w e))
+      let same : v ≡ a = cc in (
+        subst (λ (y : Bor Assertion). Contains xs y.now) same is,
+        ap (λ (y : Bor Assertion). y.now.label) (sym same) ∙ (label ∙ same_bytes
+            x w e),
+      )
   at w a false e h = found w a h
 
   -- one more is found

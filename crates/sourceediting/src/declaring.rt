@@ -32,6 +32,9 @@ impl Words {
             self.in_comment = word != b"$)".as_slice();
             return false;
         }
+        if word == b"$.".as_slice() {
+            return false;
+        }
         let count = self.count;
         self.count = count.saturating_add(1);
         match count {
@@ -144,10 +147,7 @@ pub(crate) struct Needed<'p> {
 }
 
 /// Of the names that a text mentions, the one that is declared last: none where it mentions none that is declared outermost.
-pub(crate) fn needed_by<'p>(
-    declarations: &Declarations<'p>,
-    text: &'p [u8],
-) -> Option<Needed<'p>> {
+pub(crate) fn needed_by<'p>(declarations: &Declarations<'p>, text: &'p [u8]) -> Option<Needed<'p>> {
     let mut reading = Reading::Names;
     let mut needed: Option<Needed<'p>> = None;
     let mut at = 0;

@@ -150,9 +150,9 @@ impl<'t> Filling<'t> {
 /// One that was put in can't stand in front of one that stays.
 fn held_behind(alloc: Global, held: Held<'_>, next: &[u8]) -> Refusal {
     let (label, name, next) = (shown(held.label), shown(held.needed.name), shown(next));
-    Refusal::of_history(
-        format!(in alloc; "{label} can't stand in front of {next}: {name} is declared behind that"),
-    )
+    Refusal::of_history(format!(in alloc;
+        "{label} can't stand in front of {next}: {name} is declared behind that"
+    ))
 }
 
 /// The next assertion of the library: it is put in, or stays, or isn't there.

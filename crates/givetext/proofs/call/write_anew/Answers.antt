@@ -18,8 +18,10 @@ returns c =
     let opened = c.args.taken.now.database.assertions in
     let edited = map (λ (r : Ranked). r.assertion) c.args.replayed.now.edited.entries in
     subst (λ (fs : List KeptAssertion). IfOk c.write_edits.result
-    (λ out. IsWrittenAnew (all_commands c.args.replayed.now.entries) (AreOtherProofs old opened edited (seen_living fs)) cs source out.items))
+    (λ out. IsWrittenAnew (all_commands c.args.replayed.now.entries) (AreOtherProofs old opened edited (seen_living fs)) cs source
+    out.items))
     c.as_slice-living.ensures.value
     (subst (λ (es : List Entry). IfOk c.write_edits.result
-    (λ out. IsWrittenAnew (all_commands es) (AreOtherProofs old opened edited (seen_living c.as_slice-living.result.now)) cs source out.items))
+    (λ out. IsWrittenAnew (all_commands es) (AreOtherProofs old opened edited (seen_living c.as_slice-living.result.now)) cs source
+    out.items))
     c.as_slice-entries.ensures c.write_edits.ensures)

@@ -29,7 +29,8 @@ loop-token-preserved-then-eq c =
       within = end.within;
       so_far = omega (arith, next.later, so_far, end.later);
       passed =
-          comment_begun text c.args.from c.loop-token.at c.loop-token.first t c.loop-token.invariant.passed is c.in_ok-at.at opens end.comment;
+          comment_begun text c.args.from c.loop-token.at c.loop-token.first t c.loop-token.invariant.passed is c.in_ok-at.at opens
+          end.comment;
     }
 
 pub returns-then-eq-2-clause-statement : goal.returns-then-eq-2-clause-statement
@@ -59,5 +60,6 @@ loop-token-preserved c =
       within = next.within;
       so_far = omega (arith, next.later, so_far);
       passed =
-          word_begun text c.args.from c.loop-token.at c.loop-token.first t c.loop-token.invariant.passed is c.unwrap_or.result first opens other;
+          word_begun text c.args.from c.loop-token.at c.loop-token.first t c.loop-token.invariant.passed is c.unwrap_or.result first opens
+          other;
     }

@@ -23,7 +23,15 @@ returns-clause-read c = λ from first behind not_comment not_opening not_closing
       stands = (t, first, refl, s.stands);
       kind = elim c.if-statement.branch [
         | then-statement w ↦
-            subst (λ k. IsOfKind k item) (sym w.kind-is) (is, label ∙ ap (λ b. cond b (t.text ∷ []) []) w.if-statement.true, begins_no_proof t.text not_proof)
-        | else-statement w ↦ subst (λ k. IsOfKind k item) (sym w.kind-is) (is, label ∙ ap (λ b. cond b (t.text ∷ []) []) w.if-statement.false)
+            subst (λ k. IsOfKind k item) (sym w.kind-is) (
+              is,
+              label ∙ ap (λ b. cond b (t.text ∷ []) []) w.if-statement.true,
+              begins_no_proof t.text not_proof,
+            )
+        | else-statement w ↦ subst (λ k. IsOfKind k item) (sym w.kind-is) (
+          is,
+          label ∙ ap (λ b. cond b (t.text ∷ []) [])
+              w.if-statement.false,
+        )
       ];
     }

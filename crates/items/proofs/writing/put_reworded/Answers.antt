@@ -20,7 +20,8 @@ loop-at-init c =
         x,
         h,
         ap (λ r. c.args.out.now.items ++ bytes_of r)
-            (from_start c.args.changes.now start c.at-place.result x (comment ∙ sym c.at-place.ensures.comment) (part ∙ sym c.at-place.ensures.part)),
+            (from_start c.args.changes.now start c.at-place.result x (comment ∙ sym c.at-place.ensures.comment) (part ∙ sym
+            c.at-place.ensures.part)),
       );
     }
 
@@ -59,7 +60,8 @@ loop-at-preserved c =
             put.2 ∙ ap (λ y. c.loop-at.out.items ++ bytes_of (rest_then cs c.loop-at.place y)) one.1
                 ∙ word_put cs c.loop-at.place c.take.result.1 c.loop-at.out.items _ t.text c.take.result.0.now one.0 c.take.ensures
                 ∙ ap (λ out. out ++ bytes_of (rest_then cs c.take.result.1 one.0))
-                (sym (c.in_ok-extend_from_slice-2.ensures.items ∙ ap (λ o. o ++ c.take.result.0.now) c.in_ok-extend_from_slice.ensures.items)),
+                (sym (c.in_ok-extend_from_slice-2.ensures.items ∙ ap (λ o. o ++ c.take.result.0.now)
+                c.in_ok-extend_from_slice.ensures.items)),
           );
     }
 

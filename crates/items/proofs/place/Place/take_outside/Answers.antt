@@ -12,5 +12,6 @@ returns-then-eq c =
 pub returns : goal.returns
 returns c =
     let opening : bytes_eq c.args.word.now (codes "$(") ≡ false = search rules in
-    stands_outside c.args.changes.now c.args.self c.at.result c.args.word.now c.take-part.result.0.now c.take-part.result.1 c.requires opening
+    stands_outside c.args.changes.now c.args.self c.at.result c.args.word.now c.take-part.result.0.now c.take-part.result.1 c.requires
+    opening
     c.take-part.ensures c.at.ensures.comment c.at.ensures.part

@@ -27,4 +27,5 @@ returns c = λ i form has.
     let said : m.text.items ≡ l.text.items ++ (if not fits then 10 ∷ i else codes " ") = cc (spaced.1, was.0) in
     let begins : min m.column 79 ≡ min (if not fits then length i else suc l.column) 79 = cc (c.put_space.ensures.column, was.0) in
     subst (λ form. IsLaidOut i form m.text.items) (has.2 sound)
-    (finished i has.0 l.text.items m.text.items l.column m.column fits was.1 c.has_room-begins_line.ensures said begins)))) c.into_text.ensures
+    (finished i has.0 l.text.items m.text.items l.column m.column fits was.1 c.has_room-begins_line.ensures said begins))))
+    c.into_text.ensures
