@@ -88,7 +88,7 @@ quiet_axiom p h = quiet_joined (codes "     " ∷ p.0 ∷ reason_line p.1 ∷ []
 quiet_axioms : (ps : List (Word × Reason)) → AllByRecursion IsQuietAxiom ps → AreQuiet (axioms_lines ps)
 quiet_axioms ps h =
     let lines = quiet_flat axiom_line ps (all_weaker IsQuietAxiom (λ p. AreQuiet (axiom_line p)) ps quiet_axiom h) in
-    quiet_joined (codes "   Theorems taken as axioms: " ∷ decimal (length ps) ∷ (10 ∷ []) ∷ flat_map axiom_line ps ∷ [])
+    quiet_joined (codes "   Theorems taken as axioms, their proofs unchecked: " ∷ decimal (length ps) ∷ (10 ∷ []) ∷ flat_map axiom_line ps ∷ [])
     (refl, (quiet_decimal (length ps), (refl, (lines, tt))))
 
 -- ---- the last line ends in front of $)
@@ -123,7 +123,7 @@ lines_end (p ∷ ps) =
 axioms_end : (ps : List (Word × Reason)) → EndsLine (axioms_lines ps)
 axioms_end ps =
     let lines = 10 ∷ flat_map axiom_line ps in
-    line_behind (codes "   Theorems taken as axioms: ") (decimal (length ps) ++ lines)
+    line_behind (codes "   Theorems taken as axioms, their proofs unchecked: ") (decimal (length ps) ++ lines)
     (line_behind (decimal (length ps)) lines (lines_end ps))
 
 -- ---- the comment

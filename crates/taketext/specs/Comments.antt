@@ -59,7 +59,7 @@ abbrev pub names_lines : List Naming → List ℕ
 names_lines ns = codes "   Changed names: " ++ (decimal (length ns) ++ (10 ∷ flat_map name_line ns))
 
 abbrev pub axioms_lines : List (Word × Reason) → List ℕ
-axioms_lines ps = codes "   Theorems taken as axioms: " ++ (decimal (length ps) ++ (10 ∷ flat_map axiom_line ps))
+axioms_lines ps = codes "   Theorems taken as axioms, their proofs unchecked: " ++ (decimal (length ps) ++ (10 ∷ flat_map axiom_line ps))
 
 abbrev pub comment_of : List ℕ → List ℕ → Wish → Taken → List ℕ
 comment_of path source w t =

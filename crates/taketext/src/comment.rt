@@ -180,9 +180,10 @@ fn put_axiom(out: &mut Vec<u8>, label: &[u8], reason: Reason) -> Result<(), Allo
 
 /// Puts the line of the number of theorems that are taken as axioms.
 fn put_axioms_count(alloc: Global, out: &mut Vec<u8>, count: usize) -> Result<(), AllocError>
-    ensures { OnOk result (out.new.items ≡ out.old.items ++ (codes "   Theorems taken as axioms: " ++ (decimal count ++ 10 ∷ []))) }
+    ensures { OnOk result (out.new.items
+        ≡ out.old.items ++ (codes "   Theorems taken as axioms, their proofs unchecked: " ++ (decimal count ++ 10 ∷ []))) }
 {
-    let line = format!(in alloc; "   Theorems taken as axioms: {count}\n")?;
+    let line = format!(in alloc; "   Theorems taken as axioms, their proofs unchecked: {count}\n")?;
     out.extend_from_slice(line.as_bytes())
 }
 

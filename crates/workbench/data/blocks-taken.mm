@@ -2,7 +2,7 @@ $( Taken by mmrefactor from blocks.mm
    425 bytes, SHA-256 f2092d322ec107e8cbacbc152c2b8d928c44cc234a9072a5d7aab5540a875e3e
    Chosen: all assertions
    Changed names: 0
-   Theorems taken as axioms: 0
+   Theorems taken as axioms, their proofs unchecked: 0
 $)
 $c wff |- $.
 $v p q $.

@@ -2,7 +2,7 @@ $( Taken by mmrefactor from give.mm
    1105 bytes, SHA-256 c65dd276e3dcee26ed5979dd30cc5d5d4978fadef2e876f51012afd2c342d559
    Chosen: all assertions
    Changed names: 0
-   Theorems taken as axioms: 1
+   Theorems taken as axioms, their proofs unchecked: 1
      last: its proof is unfinished
 $)
 $c ( ) -> wff |- $.

@@ -2,7 +2,7 @@ $( Taken by mmrefactor from notes.mm
    389 bytes, SHA-256 a7024ce6ee53b1ef5de6b0a194467f432fae5dbaf649ad4938a47f43a45c2567
    Chosen: all assertions
    Changed names: 0
-   Theorems taken as axioms: 0
+   Theorems taken as axioms, their proofs unchecked: 0
 $)
 $c wff |- $.
 $v p q $.

@@ -2,7 +2,7 @@ $( Taken by mmrefactor from shared.mm
    320 bytes, SHA-256 1bb8e4e213b412092b10967054399d063bc033f8e51bb675b0f075cc45cfc9b6
    Chosen: for four three
    Changed names: 0
-   Theorems taken as axioms: 0
+   Theorems taken as axioms, their proofs unchecked: 0
 $)
 $c wff |- $.
 $v p q $.

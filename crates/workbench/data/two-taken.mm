@@ -5,23 +5,23 @@ $( Taken by mmrefactor from two.mm
      r is r_1
      r is r_2
      w.p is w_p
-   Theorems taken as axioms: 0
+   Theorems taken as axioms, their proofs unchecked: 0
 $)
 $c wff |- $.
-$v p r r_1 r_2 $.
+$v p r_1 r_2 r $.
 w_p $f wff p $.
-wr $f wff r $.
-xr $f wff r_1 $.
-yr $f wff r_2 $.
+wr $f wff r_1 $.
+xr $f wff r_2 $.
+yr $f wff r $.
 ${
   m.1 $e |- p $.
-  m $a |- r $.
+  m $a |- r_1 $.
 $}
 ${
-  t.1 $e |- r_1 $.
+  t.1 $e |- r_2 $.
   t $p |- p $= xr w_p t.1 m $.
 $}
 ${
-  u.1 $e |- r_2 $.
+  u.1 $e |- r $.
   u $p |- p $= yr w_p u.1 m $.
 $}
