@@ -30,7 +30,7 @@ module _ (cs : List Command) (old new : Member) (number : ℕ) (replies : List R
       → IsLaterHistory new.given new.known.home.base new.known.seen seen
       → WritesWithin new.given new.known.home.base seen number cs
   wrote (inl a) seen later = a.footprint seen later
-  wrote (inr s) seen later = s.footprint seen later
+  wrote (inr s) seen later = s.ends.footprint seen later
 
 -- a conflict that was met on the way
 module _ (cs : List Command) (old new : Member) (met : Met) where
