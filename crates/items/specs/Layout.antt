@@ -22,8 +22,7 @@ abbrev pub column : ℕ → Piece → ℕ
 column at p = length p.word + unwrap_or (option_map length (indent p.space)) (suc at)
 
 -- behind words up to a column: each word begins a line or stands behind one space, and no line is longer than 79 columns, but for a label
--- that
--- stands in a line alone. Letters, which stand behind the ) of a compressed proof, can be cut anywhere
+-- that stands in a line alone. Letters, which stand behind the ) of a compressed proof, can be cut anywhere
 abbrev pub is_laid_out : ℕ → Bool → Item → Bool
 is_laid_out at letters [] = true
 is_laid_out at letters (p ∷ ps) =

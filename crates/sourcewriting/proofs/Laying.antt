@@ -83,8 +83,8 @@ indents-one : (i : List ℕ) (p : Piece) → HasSpace i p → All (λ x. x ≡ i
 indents-one i p (inl e) = rw e (λ k d h. absurd (omega (arith, h)))
 indents-one i p (inr e) = rw e (single i)
 
-indents-more : (i : List ℕ) (ps : Item) (p : Piece) → All (λ x. x ≡ i) (indents ps) → HasSpace i p → All (λ x. x ≡ i) (indents (ps ++ p ∷
-    []))
+indents-more : (i : List ℕ) (ps : Item) (p : Piece) → All (λ x. x ≡ i) (indents ps) → HasSpace i p
+    → All (λ x. x ≡ i) (indents (ps ++ p ∷ []))
 indents-more i ps p all has = rw filter_map-append (All-append (λ x. x ≡ i) _ _ all (indents-one i p has))
 
 spelled-more : (ws : List Word) (w : Word) → IsTrue (list_all is_word ws) → IsTrue (is_word w) → IsTrue (list_all is_word (ws ++ w ∷ []))
@@ -93,8 +93,8 @@ spelled-more ws w h g = rw (list_all-append is_word ws (w ∷ []), h, g) refl
 bytes-more : (text : List ℕ) (ps : Item) (p : Piece) → text ≡ bytes_of ps → (text ++ p.space) ++ p.word ≡ bytes_of (ps ++ p ∷ [])
 bytes-more text ps p h =
     let own : (p.space ++ p.word) ++ [] ≡ p.space ++ p.word = append-nil (p.space ++ p.word) in
-    let e : bytes_of (ps ++ p ∷ []) ≡ bytes_of ps ++ ((p.space ++ p.word) ++ []) = flat_map-append (λ (p : Piece). p.space ++ p.word) ps
-    (p ∷ []) in
+    let e : bytes_of (ps ++ p ∷ []) ≡ bytes_of ps ++ ((p.space ++ p.word) ++ []) =
+    flat_map-append (λ (p : Piece). p.space ++ p.word) ps (p ∷ []) in
     append_assoc text p.space p.word ∙ ap (λ t. t ++ (p.space ++ p.word)) h ∙ ap (λ t. bytes_of ps ++ t) (sym own) ∙ sym e
 
 -- a line begins so
@@ -142,8 +142,7 @@ placed_below i letters behind after word begins short ends =
     let width : IsTrue (widens n true letters) =
     elim short as (λ _. IsTrue (widens n true letters)) [
       | inl e ↦ wide n letters (inl e)
-      | inr h ↦ wide n letters (inr (subst (λ m. m ≤
-          79) order h))
+      | inr h ↦ wide n letters (inr (subst (λ m. m ≤ 79) order h))
     ] in
     let on_line : IsTrue (widens n (begins_line p) letters) = subst (λ b. IsTrue (widens n b letters)) (sym begun) width in
     record {
@@ -203,8 +202,8 @@ word_more i ws text at after p was word now = record {
 }
 
 -- one more word, on the line or on a new one
-pub word_put : (i : List ℕ) (ws : List Word) (text between after : List ℕ) (at begin end : ℕ) (word : Word) (fits : Bool) → AreLaid i ws
-    text at
+pub word_put : (i : List ℕ) (ws : List Word) (text between after : List ℕ) (at begin end : ℕ) (word : Word) (fits : Bool)
+    → AreLaid i ws text at
     → IsTrue (is_word word) → fits ≡ nat_le (at + suc (length word)) 79
     → (has_closing ws ≡ false) ⊎ ((at + suc (length word) ≤ 79) ⊎ (length i + length word ≤ 79))
     → between ≡ text ++ (if not fits then 10 ∷ i else codes " ") → min begin 79 ≡ min (if not fits then length i else suc at) 79

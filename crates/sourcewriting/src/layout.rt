@@ -76,8 +76,8 @@ impl<'i> Layout<'i> {
 
     /// Puts bytes on the line.
     fn put(&mut self, bytes: &[u8])
-        ensures whole { IsFalse self.new.is_cut_off → IsFalse self.old.is_cut_off × (self.new.text.items ≡ self.old.text.items ++
-            bytes.now) }
+        ensures whole { IsFalse self.new.is_cut_off
+            → IsFalse self.old.is_cut_off × (self.new.text.items ≡ self.old.text.items ++ bytes.now) }
         ensures column { min self.new.column 79 ≡ min (self.old.column + length bytes.now) 79 }
         ensures refused { self.new.is_refused ≡ self.old.is_refused }
         ensures same { self.new.indentation ≡ self.old.indentation }

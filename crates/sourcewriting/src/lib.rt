@@ -1,8 +1,8 @@
 //! Proofs and theorems of a library, written in the words of the source that it was taken of; and where assertions and blocks stand in its
 //! text, and what is cut out with an assertion.
 //!
-//! What is written and found here is looked at again by whoever prints a text (`givetext`): so but for the order of arguments, and the
-//! letters of a compressed proof (`rewriting`), no contract says what it is.
+//! What is written and found here is looked at again by whoever prints a text (`givetext`): so but for the order of arguments, the
+//! letters of a compressed proof (`rewriting`), and the layout and form of the text of another proof, no contract says what it is.
 #![tactic(auto)]
 
 mod adding;

@@ -9,10 +9,5 @@ place_within test [] i h = absurd cc
 place_within test (x ∷ xs) i h = (place_of-at test (x ∷ xs) i x h).0
 
 pub proof_text-requires : goal.proof_text-requires
-proof_text-requires g c κs = (
-  (refl, tt),
-  (
-    place_within _ _ c.in-Some.place (sym c.in-Some.ensures),
-    c.proof_indentation-indentation.ensures,
-  ),
-)
+proof_text-requires g c κs =
+    let within = place_within _ _ c.in-Some.place (sym c.in-Some.ensures) in ((refl, tt), (within, c.proof_indentation-indentation.ensures))

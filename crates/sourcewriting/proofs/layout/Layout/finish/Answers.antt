@@ -14,18 +14,18 @@ pub returns : goal.returns
 returns c = λ i form has.
     let l = c.args.self in
     let m = c.put_space.new.self in
+    let fits = c.has_room-begins_line.result in
+    let told : IsFalse m.is_cut_off → IsFalse m.is_refused → IsLaidOut i form m.text.items = λ whole right.
+    let spaced = c.put_space.ensures.whole whole in
+    let sound = sym c.put_space.ensures.refused ∙ right in
+    let was = has.1 spaced.0 sound in
+    let said : m.text.items ≡ l.text.items ++ (if not fits then 10 ∷ i else codes " ") = cc (spaced.1, was.0) in
+    let begins : min m.column 79 ≡ min (if not fits then length i else suc l.column) 79 = cc (c.put_space.ensures.column, was.0) in
+    let laid = finished i has.0 l.text.items m.text.items l.column m.column fits was.1 c.has_room-begins_line.ensures said begins in
+    subst (λ form. IsLaidOut i form m.text.items) (has.2 sound) laid in
     IfOk-weaker
     c.into_text.result
     (λ made. IsFalse m.is_cut_off × (made ≡ then_some (not m.is_refused) m.text))
     (λ made. IfSome made (λ text. IsLaidOut i form text.items))
-    (λ made is.
-    let spaced = c.put_space.ensures.whole is.0 in
-    rw is.1 (at_some m.is_refused m.text (λ text. IsLaidOut i form text.items) (λ right.
-    let sound = sym c.put_space.ensures.refused ∙ right in
-    let was = has.1 spaced.0 sound in
-    let fits = c.has_room-begins_line.result in
-    let said : m.text.items ≡ l.text.items ++ (if not fits then 10 ∷ i else codes " ") = cc (spaced.1, was.0) in
-    let begins : min m.column 79 ≡ min (if not fits then length i else suc l.column) 79 = cc (c.put_space.ensures.column, was.0) in
-    subst (λ form. IsLaidOut i form m.text.items) (has.2 sound)
-    (finished i has.0 l.text.items m.text.items l.column m.column fits was.1 c.has_room-begins_line.ensures said begins))))
+    (λ made is. rw is.1 (at_some m.is_refused m.text (λ text. IsLaidOut i form text.items) (told is.0)))
     c.into_text.ensures

@@ -10,8 +10,8 @@ use Rattle.sourcewriting.proofs.layout.Layout.put_letters.Goals as goal
 abbrev joined : List Word → List ℕ
 joined ws = flat_map (λ w. w) ws
 
-cut_more : (cut : List Word) (word others rest letters : List ℕ) (n : ℕ) → joined cut ++ rest ≡ letters → word ≡ take n rest → others ≡
-    drop n rest
+cut_more : (cut : List Word) (word others rest letters : List ℕ) (n : ℕ) → joined cut ++ rest ≡ letters → word ≡ take n rest
+    → others ≡ drop n rest
     → joined (cut ++ word ∷ []) ++ others ≡ letters
 cut_more cut word others rest letters n e front back =
     let one : joined (cut ++ word ∷ []) ≡ joined cut ++ word =

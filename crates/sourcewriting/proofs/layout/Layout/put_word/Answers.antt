@@ -14,6 +14,7 @@ returns-clause-laid c = λ i ws short laid whole right.
     let was = laid (sym (ap (λ l. l.is_cut_off) e) ∙ spaced.0) (first_no l.is_refused c.is_printable_word.result refused) in
     let is = sym c.is_printable_word.ensures ∙ second_yes l.is_refused c.is_printable_word.result refused in
     let m = c.put_space.new.self in
+    let n = c.put.new.self in
     let word = c.args.word.now in
     let fits = c.has_room-begins_line.result in
     let column = ap (λ l. l.column) e in
@@ -21,18 +22,13 @@ returns-clause-laid c = λ i ws short laid whole right.
     let indentation = ap (λ l. l.indentation.now) e in
     let fit = c.has_room-begins_line.ensures ∙ ap (λ n. nat_le (n + suc (length word)) 79) column in
     let between : m.text.items ≡ l.text.items ++ (if not fits then 10 ∷ i else codes " ") = cc (spaced.1, texts, indentation, was.0) in
-    let begins : min m.column 79 ≡ min (if not fits then length i else suc l.column) 79 = cc (
-      c.put_space.ensures.column,
-      column,
-      indentation,
-      was.0,
-    ) in
+    let begins : min m.column 79 ≡ min (if not fits then length i else suc l.column) 79 =
+    cc (c.put_space.ensures.column, column, indentation, was.0) in
     let enough : (has_closing ws ≡ false) ⊎ ((l.column + suc (length word) ≤ 79) ⊎ (length i + length word ≤ 79)) =
     subst (λ j. (has_closing ws ≡ false) ⊎ ((l.column + suc (length word) ≤ 79) ⊎ (length j + length word ≤ 79))) was.0 short in
-    let same : c.put.new.self.indentation.now ≡ i =
+    let same : n.indentation.now ≡ i =
     ap (λ r. r.now) c.put.ensures.same ∙ (ap (λ r. r.now) c.put_space.ensures.same ∙ (indentation ∙ was.0)) in (
       same,
-      word_put i ws l.text.items m.text.items c.put.new.self.text.items l.column m.column c.put.new.self.column word fits was.1 is fit
-          enough between
-          begins said.1 c.put.ensures.column,
+      word_put i ws l.text.items m.text.items n.text.items l.column m.column n.column word fits was.1 is fit enough between begins said.1
+          c.put.ensures.column,
     )
