@@ -68,7 +68,7 @@ pub record IsLibraryOf (s : Scope) (w : Wish) (t : Taken) : Type 0 where
   -- its flags say which assertions were taken
   pub chosen_are : map (λ x. is_in taken.choice.chosen x.label) s.assertions ≡ t.chosen.items
 
--- ---- refusals, of which the first that holds is told: so each of them says that no earlier one does
+-- ---- refusals: what is behind the choice is told only of a wish that chooses
 
 -- the wish chooses this: its labels are labels of the source and stand the right way round, and it chooses 4,096 assertions at most
 pub record Chooses (s : Scope) (w : Wish) (choice : Choice) : Type 0 where
