@@ -1,5 +1,5 @@
 -- Chosen assertions beside those of a library, one more at a time.
-use Rattle.std.proofs.Common.{◌≡◌, ◌∙◌, ℕ, ◌+◌, ◌<◌, ◌≤◌, Bool, true, false, List, [], ◌∷◌, ◌++◌, map, filter, take, drop, get_or, length, Option, Some, refl, sym, ap, arith, cond, subst}
+use Rattle.std.proofs.Common.{◌≡◌, ◌∙◌, ℕ, ◌+◌, ◌≤◌, Bool, true, false, List, [], ◌∷◌, ◌++◌, map, filter, take, drop, get_or, length, Option, Some, refl, sym, ap, arith, cond, subst}
 use Rattle.std.specs.Prelude.{slice_get}
 use Rattle.std.specs.Borrow.{Bor}
 use Rattle.std.specs.List.{zip}

@@ -1,5 +1,5 @@
 -- Assertions that flags don't choose, one more at a time.
-use Rattle.std.proofs.Common.{◌≡◌, ◌∙◌, ℕ, ◌+◌, ◌<◌, Bool, true, false, List, [], ◌∷◌, ◌++◌, length, map, take, get_or, Some, refl, sym, ap, add-one}
+use Rattle.std.proofs.Common.{◌≡◌, ◌∙◌, ℕ, ◌+◌, ◌<◌, Bool, true, false, List, [], ◌∷◌, ◌++◌, length, map, take, get_or, Some, sym, ap, add-one}
 use Rattle.std.specs.Prelude.{All, slice_get, ◌&&◌}
 use mathlib.Core.Bool.{not}
 use Rattle.std.proofs.lemmas.List.{append-nil, map_more}

@@ -1,5 +1,5 @@
 -- Of the code's inside, apart from the rules: how contracts see what becomes of the assertions of a library.
-use Rattle.std.specs.Prelude.{◌≡◌, ℕ, List, map, Contains, Option, Some, Vec}
+use Rattle.std.specs.Prelude.{◌≡◌, ℕ, List, map, Contains, Some, Vec}
 use Rattle.std.specs.Borrow.{Bor}
 use Rattle.std.specs.Str.{bytes_eq}
 use Rattle.std.specs.HashMap.{HashMap, get_by}

@@ -1,5 +1,5 @@
 -- What is left to show of `edited_by_label`.
-use Rattle.std.proofs.Common.{◌≡◌, get_or, map, refl, sym, ap, rules}
+use Rattle.std.proofs.Common.{◌≡◌, get_or, map, sym, rules}
 use Rattle.library.proofs.Filtered.{contains_mapped}
 use Rattle.library.specs.declared.library.Ranked.{Ranked}
 use Rattle.sourceediting.proofs.Labelled.{labelled_more}

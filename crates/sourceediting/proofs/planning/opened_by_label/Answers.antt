@@ -1,5 +1,5 @@
 -- What is left to show of `opened_by_label`.
-use Rattle.std.proofs.Common.{◌≡◌, get_or, refl, sym, ap, rules}
+use Rattle.std.proofs.Common.{◌≡◌, get_or, sym, rules}
 use Rattle.sourceediting.proofs.Labelled.{labelled_more}
 use Rattle.sourceediting.proofs.planning.opened_by_label.Goals as goal
 

@@ -1,5 +1,5 @@
 -- What is left to show of `other_proofs`.
-use Rattle.std.proofs.Common.{◌≡◌, ◌≢◌, ◌∙◌, ◌++◌, ◌∷◌, [], map, Some, None, false, true, List, ℕ, refl, sym, ap, subst, rules, get_or}
+use Rattle.std.proofs.Common.{◌≡◌, ◌∙◌, [], map, None, false, true, List, ℕ, sym, ap, subst, get_or}
 use Rattle.std.specs.Borrow.{Bor}
 use Rattle.std.specs.Option.{option_map}
 use Rattle.std.proofs.lemmas.List.{map-append, get_or_default}

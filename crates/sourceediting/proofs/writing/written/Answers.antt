@@ -1,8 +1,7 @@
 -- What is left to show of `written`.
-use Rattle.std.proofs.Common.{◌≡◌, ◌∙◌, List, false, true, sym, subst}
+use Rattle.std.proofs.Common.{◌≡◌, ◌∙◌, false, true, sym}
 use Rattle.std.specs.Prelude.{All}
 use Rattle.std.proofs.lemmas.Result.{IfOk-weaker}
-use Rattle.library.specs.declared.history.Entry.{Entry}
 use Rattle.sourceediting.specs.Following.{KeepsPlaces, all_commands}
 use Rattle.items.specs.Rewriting.{IsRewritten}
 use Rattle.sourceediting.specs.Written.{IsRearranged, IsWrittenAnew, AreJust}

@@ -1,0 +1,12 @@
+-- What is left to show of `write_edits`.
+use Rattle.std.proofs.Common.{List, map, refl, subst}
+use Rattle.library.specs.declared.library.Ranked.{Ranked}
+use Rattle.sourceediting.specs.Views.{AreLabelled}
+use Rattle.sourceediting.proofs.writing.write_edits.Goals as goal
+
+pub write_over-requires : goal.write_over-requires
+write_over-requires g c κs = (
+  (refl, tt),
+  subst (λ (es : List Ranked). AreLabelled c.in_ok-edited.edited (map (λ (r : Ranked). r.assertion) es)) c.entries.ensures.value
+      c.in_ok-edited.ensures,
+)

@@ -1,0 +1,24 @@
+-- What is left to show of `write_over`.
+use Rattle.std.proofs.Common.{◌∙◌, map, sym, ap, subst}
+use Rattle.std.proofs.lemmas.Result.{IfOk-weaker}
+use Rattle.library.specs.declared.library.Ranked.{Ranked}
+use Rattle.sourceediting.specs.Following.{all_commands}
+use Rattle.sourceediting.specs.Reproved.{AreOtherProofs}
+use Rattle.sourceediting.specs.Views.{seen_living, seen_proofs}
+use Rattle.sourceediting.specs.Written.{IsWrittenAnew, AreJust}
+use Rattle.sourceediting.proofs.Rewritten.{by_others}
+use Rattle.sourceediting.proofs.writing.write_over.Goals as goal
+
+pub returns : goal.returns
+returns g c =
+    let commands = all_commands c.args.entries.now in
+    let cs = c.args.changes.now in
+    let source = c.args.source.now in
+    let proofs = c.in_ok-proofs-2.proofs in
+    let planned = c.args.planned.now in
+    let are_others = AreOtherProofs (g.D.Declared.scope c.args.declared.now) planned.database.now.assertions
+    (map (λ (r : Ranked). r.assertion) planned.edited.now.entries) (seen_living planned.living.now) in
+    let are = subst are_others (sym (c.in_ok-proofs-2.ensures ∙ ap seen_proofs c.as_slice.ensures.value)) c.in_ok-proofs.ensures in
+    IfOk-weaker c.written.result (λ out. IsWrittenAnew commands (AreJust proofs) cs source out.items)
+    (λ out. IsWrittenAnew commands are_others cs source out.items)
+    (λ out. by_others commands are_others cs proofs source out.items are) c.written.ensures
