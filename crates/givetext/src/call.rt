@@ -208,11 +208,12 @@ fn write_anew(
         changes.now source.now out.items) }
 {
     let told = told_of(alloc, keys, taken.axioms.as_slice())?;
+    let living = following.living.as_slice();
     let planned = Planned {
         database: &taken.database,
         names: taken.names.as_slice(),
         edited: &replayed.edited,
-        living: following.living.as_slice(),
+        living,
         gone: following.gone.as_slice(),
         own,
         told: &told,
