@@ -69,6 +69,17 @@ pub record IsItemAt (text : List ℕ) (from : ℕ) (i : Found) : Type 0 where
   pub stands : Stands text from item i.end
   pub kind : IsOfKind i.kind item
 
+-- items stand one behind the other from a place on, up to the last token of a text
+abbrev pub AreFound : List ℕ → ℕ → List Found → List Item → Type 0
+AreFound text at [] [] = tokens_at text at ≡ []
+AreFound text at (f ∷ fs) (x ∷ xs) =
+    Stands text at x f.end × IsOfKind f.kind x × (at < f.end) × (f.end ≤ length text) × AreFound text f.end fs xs
+AreFound text at _ _ = ⊥
+
+-- a text is these items, and white space at its end
+abbrev pub AreItems : List ℕ → List Found → Type 0
+AreItems text fs = (items : List Item) × AreFound text 0 fs items
+
 -- words of a statement were passed over, of which the last stands outside of comments, and none of those there passes a test
 pub record IsPassed (test : Word → Bool) (text : List ℕ) (from at : ℕ) : Type 0 where
   pub left : Item

@@ -9,4 +9,5 @@ mod reading;
 mod writing;
 
 pub use call::rewrite;
-pub use reading::{Item, Kind, read_item};
+pub use reading::{Item, Kind, read_item, read_items};
+pub use writing::put_item;

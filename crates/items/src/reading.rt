@@ -1,13 +1,14 @@
 //! The items of a text, one behind the other.
 
-ghost use Rattle.std.specs.Prelude.{◌≡◌, ◌≢◌, ◌≤◌, ◌<◌, ℕ, length, IfSome};
+ghost use Rattle.std.specs.Prelude.{◌≡◌, ◌≢◌, ◌≤◌, ◌<◌, ℕ, length, IfOk, IfSome};
 ghost use Rattle.mmtext.specs.Text.{mark_of};
 ghost use Rattle.mmtext.specs.Views.{seen};
 ghost use Rattle.mmtext.specs.declared.mark.Mark.TheVariants.{Comment, Opening, Closing, End, Proof};
 ghost use Rattle.items.specs.Items.{asserts};
-ghost use Rattle.items.specs.Reading.{IsItemAt, IsCommentTo, IsStatementTo, IsFirst, end_of};
+ghost use Rattle.items.specs.Reading.{AreItems, IsItemAt, IsCommentTo, IsStatementTo, IsFirst, end_of};
 
 use mmtext::{Mark, Token, mark_word, next_token};
+use std::alloc::{AllocError, Global};
 
 /// What an item is.
 #[derive(Clone, Copy, Debug)]
@@ -141,4 +142,21 @@ pub fn read_item(text: &[u8], from: usize) -> Option<Item<'_>>
         Mark::End | Mark::Proof => None,
         _ => read_statement(text, first, behind),
     }
+}
+
+/// The items of a text, in order. None where it isn't items, one behind the other, and white space at its end.
+///
+/// # Errors
+///
+/// Want of memory.
+pub fn read_items<'s>(alloc: Global, text: &'s [u8]) -> Result<Option<Vec<Item<'s>>>, AllocError>
+    ensures { IfOk result (λ made. IfSome made (λ found. AreItems text.now found.items)) }
+{
+    let mut items = Vec::new(alloc);
+    let mut at = 0;
+    while let Some(item) = read_item(text, at) {
+        items.push(item)?;
+        at = item.end;
+    }
+    Ok(next_token(text, at).is_none().then_some(items))
 }

@@ -96,7 +96,7 @@ fn put_reproved(
 
 /// Puts an item that begins behind a byte of a text: with another proof, if there is a text for the label of its assertion, and else with
 /// changed labels. Whether it could be put: no text is for an axiom.
-pub(crate) fn put_item(
+pub fn put_item(
     out: &mut Vec<u8>,
     changes: &Changes<'_>,
     proofs: &Changes<'_>,

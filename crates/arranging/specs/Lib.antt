@@ -1,0 +1,3 @@
+pub mod Parts
+pub mod Arranged
+pub mod Places

@@ -1,0 +1,81 @@
+//! The call `arrange`.
+
+ghost use Rattle.std.specs.Prelude.{IfOk, IfSome};
+ghost use Rattle.items.specs.Reading.{AreItems};
+ghost use Rattle.arranging.specs.Arranged.{Edited, IsArranged};
+ghost use Rattle.arranging.specs.Parts.{labels_in};
+
+use crate::checking::Checker;
+use crate::coming::{Coming, Placed};
+use crate::describing::parts_of;
+use crate::layout::layout_of;
+use crate::printing::Source;
+use giving::Changes;
+use items::Item;
+use leaving::{Part, goes_of};
+use std::alloc::{AllocError, Global};
+
+/// The edits of a source.
+#[derive(Clone, Copy)]
+pub struct Edits<'e> {
+    /// The labels that change, with their new ones.
+    pub changes: &'e Changes<'e>,
+    /// The proofs that change, by the labels of their theorems.
+    pub proofs: &'e Changes<'e>,
+    /// The labels of the assertions that are deleted.
+    pub gone: &'e Changes<'e>,
+    /// Those of the assertions that stand elsewhere then.
+    pub moving: &'e Changes<'e>,
+    /// Those of the assertions that were moved.
+    pub moved: &'e Changes<'e>,
+}
+
+/// The layout of a source whose items play these parts.
+fn laid_out<'t>(
+    alloc: Global,
+    edits: Edits<'_>,
+    items: &[Item<'_>],
+    parts: &[Part],
+    comings: &[Coming<'t>],
+) -> Result<Option<Vec<Placed<'t>>>, AllocError> {
+    let checker = Checker::new(alloc, edits.moving, edits.moved, items, parts)?;
+    if !checker.may_all_come(comings) {
+        return Ok(None);
+    }
+    let goes = goes_of(alloc, parts)?;
+    layout_of(alloc, goes.as_slice(), comings)
+}
+
+/// The text of a source with edits, of which these are the items, and this is put in, in the order of its places: labels change, theorems
+/// have other proofs, and assertions leave their places, with what describes them and with the blocks that have nothing left. None where
+/// what is put in can't stand at its place, or a proof is for an axiom.
+///
+/// It costs about as much as the source and what is put in have bytes.
+///
+/// # Errors
+///
+/// Want of memory.
+pub fn arrange(
+    alloc: Global,
+    edits: Edits<'_>,
+    source: &[u8],
+    items: &[Item<'_>],
+    comings: &[Coming<'_>],
+) -> Result<Option<Vec<u8>>, AllocError>
+    requires { AreItems source.now items.now }
+    ensures { IfOk result (λ made. IfSome made (λ out. IsArranged edits.entry.changes.now edits.entry.proofs.now
+        (record { gone = labels_in edits.entry.gone.now; moving = labels_in edits.entry.moving.now; moved = labels_in edits.entry.moved.now })
+        source.now out.items)) }
+{
+    let parts = parts_of(alloc, edits.gone, edits.moving, source, items)?;
+    let Some(layout) = laid_out(alloc, edits, items, parts.as_slice(), comings)? else {
+        return Ok(None);
+    };
+    let source = Source {
+        text: source,
+        items,
+        changes: edits.changes,
+        proofs: edits.proofs,
+    };
+    source.print(alloc, layout.as_slice())
+}

@@ -1,0 +1,29 @@
+//! What is put into a source.
+
+/// What is put into a source at a place: a text, then items of the source, as they read then, and a text behind them.
+#[derive(Clone, Copy)]
+pub struct Coming<'t> {
+    /// Its label in the source: none of one that is added.
+    pub source: Option<&'t [u8]>,
+    /// So many items of the source stand in front of the place.
+    pub place: usize,
+    /// The text in front of its items.
+    pub front: &'t [u8],
+    /// So many items of the source stand in front of those that go along.
+    pub first: usize,
+    /// So many stand up to the last of them.
+    pub end: usize,
+    /// The text behind them.
+    pub back: &'t [u8],
+}
+
+/// What stands next in a source then.
+#[derive(Clone, Copy)]
+pub enum Placed<'t> {
+    /// The next item of the source.
+    Stays,
+    /// No item: the next of the source leaves its place.
+    Goes,
+    /// What is put in.
+    Comes(Coming<'t>),
+}

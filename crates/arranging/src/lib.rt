@@ -1,0 +1,13 @@
+//! A source with items that leave their places, and with what is put in: where each item stands then, and how it reads.
+#![tactic(auto)]
+
+mod call;
+mod checking;
+mod coming;
+mod describing;
+mod layout;
+mod printing;
+
+pub use call::{Edits, arrange};
+pub use coming::Coming;
+pub use describing::parts_of;

@@ -1,0 +1,103 @@
+//! The text of what stands in a source then.
+
+ghost use Rattle.std.specs.Prelude.{◌≡◌, ◌≤◌, ◌<◌, ◌++◌, List, ℕ, IfOk, IfSome, IsTrue, drop, length, slice_range};
+ghost use Rattle.items.specs.Items.{Item as Pieces, Spells};
+ghost use Rattle.items.specs.Reading.{AreFound, AreItems};
+ghost use Rattle.items.specs.Machine.{IsPut};
+ghost use Rattle.arranging.specs.Arranged.{Says, ReadThen, IsTextOf};
+
+use crate::coming::{Coming, Placed};
+use giving::Changes;
+use items::{Item, put_item};
+use std::alloc::{AllocError, Global};
+
+/// A source, and how its items read then.
+#[derive(Clone, Copy)]
+pub(crate) struct Source<'s> {
+    pub text: &'s [u8],
+    /// Its items.
+    pub items: &'s [Item<'s>],
+    /// The labels that change.
+    pub changes: &'s Changes<'s>,
+    /// The proofs that change, by the labels of their theorems.
+    pub proofs: &'s Changes<'s>,
+}
+
+impl Source<'_> {
+    /// Behind so many items: a byte of the text.
+    fn behind(self, count: usize) -> usize {
+        match count.checked_sub(1) {
+            Some(last) => self.items.get(last).map_or(0, |item| item.end),
+            None => 0,
+        }
+    }
+
+    /// Puts the items from a place up to another. Whether they could be put: no proof is for an axiom.
+    fn put_items(self, out: &mut Vec<u8>, first: usize, end: usize) -> Result<bool, AllocError>
+        requires { AreItems self.entry.text.now self.entry.items.now }
+        ensures { (old : List Pieces) → AreFound self.entry.text.now 0 self.entry.items.now old
+            → IfOk result (λ put. IsTrue put → IsPut out.old.items out.new.items
+            (ReadThen self.entry.changes.now self.entry.proofs.now (slice_range old first end))) }
+    {
+        let Some(items) = self.items.get(first..end) else {
+            return Ok(false);
+        };
+        let mut at = self.behind(first);
+        for item in items {
+            if !put_item(out, self.changes, self.proofs, self.text, at, *item)? {
+                return Ok(false);
+            }
+            at = item.end;
+        }
+        Ok(true)
+    }
+
+    /// Puts what comes. Whether it could be put.
+    fn put_coming(self, out: &mut Vec<u8>, coming: Coming<'_>) -> Result<bool, AllocError>
+        requires { AreItems self.entry.text.now self.entry.items.now }
+        ensures { (old : List Pieces) → AreFound self.entry.text.now 0 self.entry.items.now old
+            → IfOk result (λ put. IsTrue put → IsPut out.old.items out.new.items
+            (IsTextOf self.entry.changes.now self.entry.proofs.now old coming.entry)) }
+    {
+        out.extend_from_slice(coming.front)?;
+        let is_put = self.put_items(out, coming.first, coming.end)?;
+        out.extend_from_slice(coming.back)?;
+        Ok(is_put)
+    }
+
+    /// Puts what stands next, in front of which so many items of the source stand. Whether it could be put.
+    fn put(self, out: &mut Vec<u8>, place: usize, placed: Placed<'_>) -> Result<bool, AllocError>
+        requires { AreItems self.entry.text.now self.entry.items.now }
+    {
+        match placed {
+            Placed::Stays => self.put_items(out, place, place.saturating_add(1)),
+            Placed::Goes => Ok(true),
+            Placed::Comes(coming) => self.put_coming(out, coming),
+        }
+    }
+
+    /// The text of what stands then. None where a proof is for an axiom.
+    pub(crate) fn print(
+        self,
+        alloc: Global,
+        layout: &[Placed<'_>],
+    ) -> Result<Option<Vec<u8>>, AllocError>
+        requires { AreItems self.entry.text.now self.entry.items.now }
+        ensures { (old : List Pieces) → AreFound self.entry.text.now 0 self.entry.items.now old
+            → IfOk result (λ made. IfSome made (λ out. (rest : List ℕ) × Spells old rest self.entry.text.now
+            × Says self.entry.changes.now self.entry.proofs.now old rest old layout.now out.items)) }
+    {
+        let mut out = Vec::with_capacity(alloc, self.text.len())?;
+        let mut place = 0;
+        for placed in layout {
+            if !self.put(&mut out, place, *placed)? {
+                return Ok(None);
+            }
+            if !matches!(placed, Placed::Comes(_)) {
+                place += 1;
+            }
+        }
+        out.extend_from_slice(&self.text[self.behind(self.items.len())..])?;
+        Ok(Some(out))
+    }
+}
