@@ -1,1 +1,6 @@
-
+mod Counted
+mod Closed
+mod Splits
+mod Reaching
+mod Walked
+mod Stepping

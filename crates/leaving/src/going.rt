@@ -1,7 +1,8 @@
 //! Who leaves.
 
-ghost use Rattle.std.specs.Prelude.{◌≡◌, [], IfOk};
-ghost use Rattle.leaving.specs.Leaving.{AreGoing, goes_alone, leaves, first_leaves};
+ghost use Rattle.std.specs.Prelude.{◌≡◌, ◌+◌, ◌^◌, ◌<◌, cond, nat_lt, [], IfOk, IfSome};
+ghost use Rattle.leaving.specs.Leaving.{AreGoing, goes_alone, is_comment, leaves, first_leaves};
+ghost use Rattle.leaving.specs.Ends.{open_after, takes_comments, reach_at};
 
 use crate::blocks::{Left, lefts_of};
 use crate::part::{Fate, Part};
@@ -37,26 +38,49 @@ fn goes_alone(part: Part, after: &[Part]) -> bool
 
 /// How far items were walked over, and how far the blocks reach that have nothing left.
 #[derive(Clone, Copy)]
-struct Reach {
+pub(crate) struct Reach {
     /// How many blocks are open: none where one was closed that wasn't opened.
-    depth: Option<usize>,
+    pub depth: Option<usize>,
     /// So many items stand up to the end of the farthest such block.
-    any: usize,
+    pub any: usize,
     /// The same of those that take their comments along.
-    commented: usize,
+    pub commented: usize,
+}
+
+/// How many blocks are open behind an item, from how many are in front of it.
+fn open_after(depth: Option<usize>, part: Part) -> Option<usize>
+    requires { IfSome depth (λ n. n + 1 < 2 ^ 64) }
+    ensures { result ≡ open_after depth part }
+{
+    let open = depth?;
+    match part {
+        Part::Opening => Some(open + 1),
+        Part::Closing => open.checked_sub(1),
+        _ => depth,
+    }
+}
+
+impl Left {
+    /// Whether it takes its comments along, where so many blocks are open in front of it.
+    fn takes_comments(self, depth: Option<usize>) -> bool
+        ensures { result ≡ takes_comments depth self }
+    {
+        self.is_deleted || (depth == Some(0) && self.is_single)
+    }
 }
 
 impl Reach {
     /// At an item, where such a block may begin.
-    fn at(self, left: Option<Left>) -> Reach {
+    fn at(self, left: Option<Left>) -> Reach
+        ensures { result ≡ reach_at self left }
+    {
         let Some(left) = left else {
             return self;
         };
-        let takes = left.is_deleted || (self.depth == Some(0) && left.is_single);
         Reach {
             depth: self.depth,
             any: self.any.max(left.end),
-            commented: if takes {
+            commented: if left.takes_comments(self.depth) {
                 self.commented.max(left.end)
             } else {
                 self.commented
@@ -64,18 +88,10 @@ impl Reach {
         }
     }
 
-    /// Behind an item.
-    fn behind(self, part: Part) -> Reach {
-        let depth = match part {
-            Part::Opening => self.depth.map(|depth| depth.saturating_add(1)),
-            Part::Closing => self.depth.and_then(|depth| depth.checked_sub(1)),
-            _ => self.depth,
-        };
-        Reach { depth, ..self }
-    }
-
     /// Whether the item at a place stands in a block that takes it along.
-    fn takes(self, place: usize, part: Part) -> bool {
+    fn takes(self, place: usize, part: Part) -> bool
+        ensures { result ≡ nat_lt place (cond (is_comment part) self.commented self.any) }
+    {
         match part {
             Part::Description | Part::Heading => place < self.commented,
             _ => place < self.any,
@@ -101,7 +117,7 @@ pub fn goes_of(alloc: Global, parts: &[Part]) -> Result<Vec<bool>, AllocError>
     for (k, part) in parts.iter().enumerate() {
         reach = reach.at(lefts[k]);
         goes.push(goes_alone(*part, &parts[k + 1..]) || reach.takes(k, *part))?;
-        reach = reach.behind(*part);
+        reach.depth = open_after(reach.depth, *part);
     }
     Ok(goes)
 }
