@@ -27,7 +27,7 @@ module _ (source out : List ℕ) (old : Scope) (choice : Choice) (taken : Taken)
     (changed : changes ≡ changes_of followed) (flags : own ≡ own_flags choice (axioms_of taken) old) where
   pub edited_by : (then : List Word) → then ≡ map label_then followed.living
       → All (λ x. IsTrue (names_none followed.gone x.proof)) (others own old.assertions)
-      → IsWrittenAnew (all_commands entries)
+      → IsWrittenAnew (all_commands entries) followed.living followed.gone
       (AreOtherProofs old taken.database.assertions (map (λ (r : Ranked). r.assertion) edited.entries) followed.living) changes source out
       → AreKept changes followed.gone source out → IsLookedAt old out changes own then edited
       → IsEdited source old choice taken entries edited out
@@ -39,7 +39,7 @@ module _ (source out : List ℕ) (old : Scope) (choice : Choice) (taken : Taken)
         uncited =
             subst (λ (fs : List Bool). All (λ x. IsTrue (names_none followed.gone x.proof)) (others fs old.assertions)) flags uncited;
         written =
-            subst (λ (cs : List Change). IsWrittenAnew (all_commands entries)
+            subst (λ (cs : List Change). IsWrittenAnew (all_commands entries) followed.living followed.gone
             (AreOtherProofs old taken.database.assertions (map (λ (r : Ranked). r.assertion) edited.entries) followed.living) cs source
             out) changed
             written;

@@ -203,18 +203,20 @@ fn write_anew(
     changes: &Changes<'_>,
     own: &[bool],
 ) -> Result<Vec<u8>, Refusal>
-    ensures { IfOk result (λ out. IsWrittenAnew (all_commands replayed.now.entries) (AreOtherProofs old.now.stand.scope
+    ensures { IfOk result (λ out. IsWrittenAnew (all_commands replayed.now.entries) (seen_following following.now).living
+        (seen_following following.now).gone (AreOtherProofs old.now.stand.scope
         taken.now.database.assertions (map (λ r. r.assertion) replayed.now.edited.entries) (seen_following following.now).living)
         changes.now source.now out.items) }
 {
     let told = told_of(alloc, keys, taken.axioms.as_slice())?;
     let living = following.living.as_slice();
+    let gone = following.gone.as_slice();
     let planned = Planned {
         database: &taken.database,
         names: taken.names.as_slice(),
         edited: &replayed.edited,
         living,
-        gone: following.gone.as_slice(),
+        gone,
         own,
         told: &told,
     };
@@ -267,7 +269,8 @@ fn write_and_look<'x>(
     own: &[bool],
 ) -> Result<Vec<u8>, Refusal>
     requires { length own.now ≡ length old.now.stand.scope.assertions }
-    ensures written { IfOk result (λ out. IsWrittenAnew (all_commands replayed.now.entries) (AreOtherProofs old.now.stand.scope
+    ensures written { IfOk result (λ out. IsWrittenAnew (all_commands replayed.now.entries) (seen_following following.now).living
+        (seen_following following.now).gone (AreOtherProofs old.now.stand.scope
         taken.now.database.assertions (map (λ r. r.assertion) replayed.now.edited.entries) (seen_following following.now).living)
         changes.now source.now out.items) }
     ensures comments { IfOk result (λ out. AreKept changes.now (seen_words following.now.gone.items) source.now out.items) }

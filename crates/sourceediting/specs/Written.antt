@@ -1,33 +1,28 @@
 -- How the text of a source is written anew with the edits of a history.
-use Rattle.std.specs.Prelude.{◌≡◌, ℕ, List, All}
+use Rattle.std.specs.Prelude.{◌≡◌, ℕ, List, All, filter_map, Option, Some, None, if◌then◌else◌}
+use Rattle.mmtext.specs.Words.{Word}
 use Rattle.giving.specs.Staying.{Change}
 use Rattle.items.specs.Rewriting.{IsRewritten}
-use Rattle.rewriting.specs.Spans.{IsCut, IsPutIn, IsPatched}
+use Rattle.arranging.specs.Arranged.{Edited, IsArranged}
 use Rattle.library.specs.declared.command.Command.{Command}
-use Rattle.sourceediting.specs.Following.{KeepsPlaces}
+use Rattle.sourceediting.specs.Following.{Followed, KeepsPlaces}
 
--- tokens are cut out of the text, then labels change and proofs are exchanged
-pub record IsCutAndRewritten (cs proofs : List Change) (source out : List ℕ) : Type 0 where
-  pub kept : List ℕ
-  pub cut : IsPatched IsCut source kept
-  pub rewritten : IsRewritten cs proofs kept out
+-- the labels in the source of those that were moved
+abbrev pub moved_in : List Followed → List Word
+moved_in living = filter_map (λ x. if x.moved then x.source else None) living
 
--- tokens are cut out of the text, then labels change and proofs are exchanged, which are as they should be, then something is put in
-pub record IsRearranged (are_others : List Change → Type 0) (cs : List Change) (source out : List ℕ) : Type 0 where
-  pub kept : List ℕ
-  pub cut : IsPatched IsCut source kept
+-- labels change, proofs are exchanged, and assertions that were deleted leave their places; just those that were moved, and some that leave
+-- a block in which others stand, are put in elsewhere; and those that were added are put in
+pub record IsRearranged (living : List Followed) (gone : List Word) (cs proofs : List Change) (source out : List ℕ) : Type 0 where
+  pub edited : Edited
+  pub deleted : edited.gone ≡ gone
+  pub moved : edited.moved ≡ moved_in living
+  pub arranged : IsArranged cs proofs edited source out
+
+-- the proofs that are exchanged are as they should be. Where no command adds, moves or deletes, nothing else changes but labels
+pub record IsWrittenAnew (commands : List Command) (living : List Followed) (gone : List Word) (are_others : List Change → Type 0)
+    (cs : List Change) (source out : List ℕ) : Type 0 where
   pub proofs : List Change
   pub others : are_others proofs
-  pub changed : List ℕ
-  pub rewritten : IsRewritten cs proofs kept changed
-  pub filled : IsPatched IsPutIn changed out
-
--- and only the second where no command adds, moves or deletes
-pub record IsWrittenAnew (commands : List Command) (are_others : List Change → Type 0) (cs : List Change) (source out : List ℕ)
-    : Type 0 where
-  pub rearranged : IsRearranged are_others cs source out
-  pub places : All KeepsPlaces commands → (rearranged.kept ≡ source) × (out ≡ rearranged.changed)
-
--- just these proofs
-abbrev pub AreJust : List Change → List Change → Type 0
-AreJust proofs others = others ≡ proofs
+  pub in_place : All KeepsPlaces commands → IsRewritten cs proofs source out
+  pub rearranged : (All KeepsPlaces commands → ⊥) → IsRearranged living gone cs proofs source out

@@ -1,16 +1,30 @@
 //! Where the symbols of a source are declared, and from where on a text that is put in has all that it mentions.
 
-ghost use Rattle.std.specs.Prelude.{◌≤◌, length};
-
-use items::{Kind, read_item};
+use items::{Item, Kind};
 use mmtext::next_token;
 use std::alloc::{AllocError, Global};
 use std::collections::HashMap;
 use std::hash::RandomState;
 
-/// Behind which byte of a text a name is declared outermost: a constant, a variable, or a `$f` by its label. A variable is declared
-/// behind its `$f`.
-pub(crate) type Declarations<'t> = HashMap<&'t [u8], usize, RandomState>;
+/// A name, and how many items of a source stand up to its declaration.
+#[derive(Clone, Copy)]
+pub(crate) struct Declared<'s> {
+    pub name: &'s [u8],
+    pub from: usize,
+}
+
+/// Where names are declared outermost: a constant, a variable, or a `$f` by its label. A variable is declared behind its `$f`.
+pub(crate) type Declarations<'s> = HashMap<&'s [u8], Declared<'s>, RandomState>;
+
+/// Notes that a name is declared, up to which declaration so many items stand.
+fn declare<'s>(
+    declarations: &mut Declarations<'s>,
+    name: &'s [u8],
+    from: usize,
+) -> Result<(), AllocError> {
+    declarations.insert(name, Declared { name, from })?;
+    Ok(())
+}
 
 /// How far a statement was read, outside of comments.
 #[derive(Clone, Copy)]
@@ -51,30 +65,24 @@ impl Words {
     }
 }
 
-/// Notes what the statement between two bytes of a text declares.
+/// Notes what a statement declares, up to which so many items stand.
 fn note<'t>(
     declarations: &mut Declarations<'t>,
-    text: &'t [u8],
-    from: usize,
-    end: usize,
-) -> Result<(), AllocError>
-    requires { from ≤ length text.now }
-{
+    statement: &'t [u8],
+    count: usize,
+) -> Result<(), AllocError> {
     let mut words = Words {
         count: 0,
         is_list: false,
         is_float: false,
         in_comment: false,
     };
-    let mut at = from;
+    let mut at = 0;
     let mut label = None;
-    while at < end {
-        let Some(token) = next_token(text, at) else {
-            break;
-        };
+    while let Some(token) = next_token(statement, at) {
         at = token.place + token.text.len();
         if words.take(token.text) {
-            declarations.insert(token.text, end)?;
+            declare(declarations, token.text, count)?;
         }
         if words.count == 1 && label.is_none() {
             label = Some(token.text);
@@ -83,25 +91,29 @@ fn note<'t>(
     if words.is_float
         && let Some(label) = label
     {
-        declarations.insert(label, end)?;
+        declare(declarations, label, count)?;
     }
     Ok(())
 }
 
-/// Where the names of a text are declared outermost.
+/// Where the names of a source are declared outermost, of which these are the items.
 pub(crate) fn declarations_of<'t>(
     alloc: Global,
     keys: RandomState,
     text: &'t [u8],
+    items: &[Item<'_>],
 ) -> Result<Declarations<'t>, AllocError> {
     let mut declarations = HashMap::with_hasher(alloc, keys);
     let mut depth: usize = 0;
     let mut at = 0;
-    while let Some(item) = read_item(text, at) {
+    for (place, item) in items.iter().enumerate() {
         match item.kind {
             Kind::Opening => depth = depth.saturating_add(1),
             Kind::Closing => depth = depth.saturating_sub(1),
-            Kind::Other if depth == 0 => note(&mut declarations, text, at, item.end)?,
+            Kind::Other if depth == 0 => {
+                let statement = text.get(at..item.end).unwrap_or(b"");
+                note(&mut declarations, statement, place.saturating_add(1))?;
+            }
             _ => {}
         }
         at = item.end;
@@ -139,31 +151,32 @@ impl Reading {
     }
 }
 
-/// A name that a text mentions, and the byte behind which it is declared.
-#[derive(Clone, Copy)]
-pub(crate) struct Needed<'p> {
-    pub name: &'p [u8],
-    pub from: usize,
-}
-
 /// Of the names that a text mentions, the one that is declared last: none where it mentions none that is declared outermost.
-pub(crate) fn needed_by<'p>(declarations: &Declarations<'p>, text: &'p [u8]) -> Option<Needed<'p>> {
+pub(crate) fn needed_by<'s>(
+    declarations: &Declarations<'s>,
+    text: &[u8],
+) -> Option<Declared<'s>> {
     let mut reading = Reading::Names;
-    let mut needed: Option<Needed<'p>> = None;
+    let mut needed = None;
     let mut at = 0;
     while let Some(token) = next_token(text, at) {
         at = token.place + token.text.len();
-        if reading != Reading::Comment
-            && reading != Reading::Letters
-            && let Some(from) = declarations.get(&token.text)
-            && needed.is_none_or(|needed| needed.from < *from)
-        {
-            needed = Some(Needed {
-                name: token.text,
-                from: *from,
-            });
+        if reading != Reading::Comment && reading != Reading::Letters {
+            needed = later(needed, declarations.get(token.text).copied());
         }
         reading = reading.behind(token.text);
     }
     needed
+}
+
+/// Of two names, the one that is declared later.
+pub(crate) fn later<'s>(
+    one: Option<Declared<'s>>,
+    other: Option<Declared<'s>>,
+) -> Option<Declared<'s>> {
+    match (one, other) {
+        (Some(one), Some(other)) if one.from < other.from => Some(other),
+        (Some(one), _) => Some(one),
+        (None, other) => other,
+    }
 }

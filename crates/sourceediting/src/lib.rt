@@ -10,6 +10,7 @@ mod declaring;
 mod filling;
 mod following;
 mod moving;
+mod outline;
 mod planning;
 mod rearranging;
 mod refusal;

@@ -3,11 +3,11 @@
 
 use crate::citing::labels_of;
 use crate::following::Followed;
+use crate::outline::Outline;
 use crate::rearranging::Rearranged;
 use giving::Changes;
 use library::Ranked;
 use source::Declared;
-use sourcewriting::Outline;
 use std::alloc::{AllocError, Global};
 use std::collections::HashMap;
 use std::hash::RandomState;
@@ -304,7 +304,7 @@ fn are_parted(
     outline: &Outline<'_>,
     parted: &[Row<'_>],
 ) -> Result<Vec<bool>, AllocError> {
-    let mut flags = vec![in alloc; false; outline.blocks.len()]?;
+    let mut flags = vec![in alloc; false; outline.blocks()]?;
     for row in parted {
         if let Some(block) = row.block
             && let Some(flag) = flags.get_mut(block)

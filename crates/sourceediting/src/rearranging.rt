@@ -1,24 +1,24 @@
-//! A source with the edits of a history that adds, moves or deletes: assertions are cut out, labels and proofs change, and assertions are
-//! put in.
+//! A source with the edits of a history that adds, moves or deletes: what is put in, and how it is put there.
 
-ghost use Rattle.std.specs.Prelude.{IfOk};
+ghost use Rattle.std.specs.Prelude.{◌≡◌, IfOk};
+ghost use Rattle.source.specs.Views.{seen_words};
+ghost use Rattle.items.specs.Reading.{AreItems};
 ghost use Rattle.items.specs.Rewriting.{IsRewritten};
-ghost use Rattle.rewriting.specs.Spans.{IsCut, IsPutIn, IsPatched};
-ghost use Rattle.sourceediting.specs.Written.{IsRearranged, IsCutAndRewritten, AreJust};
+ghost use Rattle.sourceediting.specs.Views.{seen_living};
+ghost use Rattle.sourceediting.specs.Written.{IsRearranged, moved_in};
 
 use crate::citing::marked;
-use crate::filling::{Piece, Texts, fills_of};
+use crate::filling::{Known, Piece, Texts, comings_of};
+use crate::following::Followed;
 use crate::moving::{Moving, moving_of};
+use crate::outline::{Standing, Stretch, outline_of};
 use crate::planning::{ByLabel, Planned, unwritten};
 use crate::refusal::{Refusal, shown};
+use arranging::{Coming, Edits, arrange, parts_of};
 use giving::Changes;
-use items::rewrite;
-use rewriting::{Span, cut_out, put_in};
+use items::{Item, read_items, rewrite};
 use source::{Declared, ProofWords};
-use sourcewriting::{
-    Leaving, Names, Outline, Standing, Statement, Stretch, SymbolWords, assertion_text, cuts_of,
-    outline_of, symbol_words,
-};
+use sourcewriting::{Names, Statement, SymbolWords, Written, assertion_text, symbol_words};
 use std::alloc::{AllocError, Global};
 use std::collections::HashMap;
 use std::hash::RandomState;
@@ -38,44 +38,6 @@ pub(crate) struct Rearranged<'x> {
     pub proofs: &'x Changes<'x>,
 }
 
-/// An assertion that can't be given back, and why.
-fn refused(alloc: Global, label: &[u8], why: &str) -> Refusal {
-    let label = shown(label);
-    Refusal::of_history(format!(in alloc; "{label} {why}"))
-}
-
-/// Those that leave their places, in order. What moves is written anew, unless it stands alone, and then its block goes along.
-fn leaving_of(
-    alloc: Global,
-    outline: &Outline<'_>,
-    gone: &Changes<'_>,
-    moving: &Changes<'_>,
-) -> Result<Vec<Leaving>, AllocError> {
-    let mut leaving = Vec::new(alloc);
-    for (place, standing) in outline.assertions.as_slice().iter().enumerate() {
-        let moves = moving.text_for(standing.label).is_some();
-        if moves || gone.text_for(standing.label).is_some() {
-            let is_parted = moves && !outline.is_alone(standing);
-            leaving.push(Leaving { place, is_parted })?;
-        }
-    }
-    Ok(leaving)
-}
-
-/// The text of an assertion that stands alone, with its comment or its block, and with the changes.
-fn moved_text(
-    alloc: Global,
-    source: &[u8],
-    stretch: Stretch,
-    label: &[u8],
-    edits: &Rearranged<'_>,
-) -> Result<Vec<u8>, Refusal> {
-    let Some(text) = source.get(stretch.begin..stretch.end) else {
-        return Err(refused(alloc, label, "can't be moved"));
-    };
-    rewritten(alloc, edits, text)
-}
-
 /// Whether the proof of an assertion of a source is compressed.
 fn is_compressed<'a, D: Declared<'a>>(declared: &D, label: &[u8]) -> bool {
     let Some(place) = declared.place_of(label) else {
@@ -93,7 +55,7 @@ fn text_of<'x, 'a, D: Declared<'a>>(
     edits: &Rearranged<'x>,
     now: &[u8],
     statement: &Statement<'_>,
-) -> Result<Vec<u8>, Refusal> {
+) -> Result<Written, Refusal> {
     let prelude = edits.planned.edited.prelude();
     let names = edits.names;
     match assertion_text(alloc, keys, declared, prelude, names, words, statement)? {
@@ -102,75 +64,72 @@ fn text_of<'x, 'a, D: Declared<'a>>(
     }
 }
 
-/// The text of an assertion that leaves a block in which others stand: with its comment, and its `$e` with labels of their own.
-fn parted_text<'x, 'a, D: Declared<'a>>(
+/// One that stands alone: it goes as it stands, with what describes it or with its block.
+fn as_it_stands<'x>(alloc: Global, source: &'x [u8], unit: Stretch) -> Piece<'x> {
+    Piece {
+        source: Some(source),
+        front: Vec::new(alloc),
+        unit,
+        back: Vec::new(alloc),
+        is_in_front: false,
+    }
+}
+
+/// One that leaves a block in which others stand: it is written anew, with `$e` of its own, behind what describes it.
+fn parted<'x, 'a, D: Declared<'a>>(
     alloc: Global,
     keys: RandomState,
     declared: &D,
-    source: &[u8],
-    standing: &Standing<'_>,
+    standing: &Standing<'x>,
     now: &'x [u8],
+    is_in_front: bool,
     words: &SymbolWords<'x>,
     edits: &Rearranged<'x>,
-) -> Result<Vec<u8>, Refusal> {
+) -> Result<Piece<'x>, Refusal> {
     let Some(assertion) = edits.edited.get(&now) else {
         return Err(unwritten(alloc, now));
     };
-    let comment = Stretch {
-        begin: standing.stretch.begin,
-        end: standing.comment_end,
-    };
-    let comment = moved_text(alloc, source, comment, standing.label, edits)?;
+    let source = standing.label;
     let statement = Statement {
         assertion,
-        label: edits
-            .changes
-            .text_for(standing.label)
-            .unwrap_or(standing.label),
-        comment: comment.as_slice(),
-        is_compressed: is_compressed(declared, standing.label),
+        label: edits.changes.text_for(source).unwrap_or(source),
+        is_compressed: is_compressed(declared, source),
     };
-    text_of(alloc, keys, declared, words, edits, now, &statement)
+    let Written { front, back } = text_of(alloc, keys, declared, words, edits, now, &statement)?;
+    let unit = Stretch {
+        first: standing.first,
+        end: standing.place,
+    };
+    Ok(Piece {
+        source: Some(source),
+        front,
+        unit,
+        back,
+        is_in_front,
+    })
 }
 
-/// One more text that is put in.
-fn put_text<'x>(
-    texts: &mut Texts<'x>,
-    now: &'x [u8],
-    text: Vec<u8>,
-    is_in_front: bool,
-) -> Result<(), AllocError> {
-    texts.insert(now, Piece { text, is_in_front })?;
-    Ok(())
-}
-
-/// The texts of those that stand elsewhere then.
+/// Those that stand elsewhere then.
 fn put_moved<'x, 'a, D: Declared<'a>>(
     alloc: Global,
     keys: RandomState,
     declared: &D,
-    source: &[u8],
-    outline: &Outline<'_>,
+    known: &Known<'x>,
     moving: &Moving<'x>,
     words: &SymbolWords<'x>,
     edits: &Rearranged<'x>,
     texts: &mut Texts<'x>,
 ) -> Result<(), Refusal> {
-    for standing in outline.assertions.as_slice() {
-        if let Some(now) = moving.labels.text_for(standing.label) {
-            let text = if outline.is_alone(standing) {
-                moved_text(
-                    alloc,
-                    source,
-                    outline.whole(standing),
-                    standing.label,
-                    edits,
-                )
+    for standing in known.outline.assertions.as_slice() {
+        let source = standing.label;
+        if let Some(now) = moving.labels.text_for(source) {
+            let piece = if known.outline.is_alone(standing) {
+                as_it_stands(alloc, source, known.outline.whole(standing))
             } else {
-                parted_text(alloc, keys, declared, source, standing, now, words, edits)
+                let is_in_front = moving.in_front.text_for(source).is_some();
+                parted(alloc, keys, declared, standing, now, is_in_front, words, edits)?
             };
-            let is_in_front = moving.in_front.text_for(standing.label).is_some();
-            put_text(texts, now, text?, is_in_front)?;
+            texts.insert(now, piece)?;
         }
     }
     Ok(())
@@ -186,7 +145,7 @@ fn has_compressed<'a, D: Declared<'a>>(declared: &D) -> bool {
     false
 }
 
-/// The texts of those that were added.
+/// Those that were added.
 fn put_added<'x, 'a, D: Declared<'a>>(
     alloc: Global,
     keys: RandomState,
@@ -200,26 +159,32 @@ fn put_added<'x, 'a, D: Declared<'a>>(
         let (None, Some(assertion)) = (followed.source, edits.edited.get(&followed.now)) else {
             continue;
         };
+        let now = followed.now;
         let statement = Statement {
             assertion,
-            label: followed.now,
-            comment: b"",
+            label: now,
             is_compressed,
         };
-        let now = followed.now;
-        let text = text_of(alloc, keys, declared, words, edits, now, &statement)?;
-        put_text(texts, now, text, false)?;
+        let Written { front, back } =
+            text_of(alloc, keys, declared, words, edits, now, &statement)?;
+        let piece = Piece {
+            source: None,
+            front,
+            unit: Stretch { first: 0, end: 0 },
+            back,
+            is_in_front: false,
+        };
+        texts.insert(now, piece)?;
     }
     Ok(())
 }
 
-/// The texts of those that are put in: those that stand elsewhere then, and those that were added.
+/// Those that are put in: those that stand elsewhere then, and those that were added.
 fn texts_of<'x, 'a, D: Declared<'a>>(
     alloc: Global,
     keys: RandomState,
     declared: &D,
-    source: &[u8],
-    outline: &Outline<'_>,
+    known: &Known<'x>,
     moving: &Moving<'x>,
     edits: &Rearranged<'x>,
 ) -> Result<Texts<'x>, Refusal> {
@@ -227,13 +192,13 @@ fn texts_of<'x, 'a, D: Declared<'a>>(
     let prelude = edits.planned.database.prelude();
     let words = symbol_words(alloc, keys, prelude, edits.planned.names)?;
     put_moved(
-        alloc, keys, declared, source, outline, moving, &words, edits, &mut texts,
+        alloc, keys, declared, known, moving, &words, edits, &mut texts,
     )?;
     put_added(alloc, keys, declared, &words, edits, &mut texts)?;
     Ok(texts)
 }
 
-/// Stretches that can't be cut out of a text, or put into it.
+/// Edits that can't be written into a text.
 fn unfit(alloc: Global) -> Refusal {
     Refusal::of_history(format!(in alloc; "the edits can't be written"))
 }
@@ -256,84 +221,90 @@ pub(crate) fn rewritten(
     }
 }
 
-/// The stretches to cut out of a source: those of what was deleted, and of what moves.
-fn cuts_for(
-    alloc: Global,
-    keys: RandomState,
-    outline: &Outline<'_>,
-    gone: &[&[u8]],
-    moving: &Changes<'_>,
-) -> Result<Vec<Span<'static>>, AllocError> {
-    let gone = marked(alloc, keys, gone)?;
-    let leaving = leaving_of(alloc, outline, &gone, moving)?;
-    cuts_of(alloc, outline, leaving.as_slice())
-}
-
-/// The source without those that leave their places.
-fn without(
-    alloc: Global,
-    keys: RandomState,
-    source: &[u8],
-    outline: &Outline<'_>,
-    gone: &[&[u8]],
-    moving: &Changes<'_>,
-) -> Result<Vec<u8>, Refusal>
-    ensures { IfOk result (λ kept. IsPatched IsCut source.now kept.items) }
+/// The labels in the source of those that were moved.
+fn moved_in<'x>(alloc: Global, living: &[Followed<'x>]) -> Result<Vec<&'x [u8]>, AllocError>
+    ensures { IfOk result (λ made. seen_words made.items ≡ moved_in (seen_living living.now)) }
 {
-    let cuts = cuts_for(alloc, keys, outline, gone, moving)?;
-    match cut_out(alloc, source, cuts.as_slice())? {
-        Some(kept) => Ok(kept),
-        None => Err(unfit(alloc)),
+    let mut moved = Vec::new(alloc);
+    for followed in living {
+        if let Some(source) = followed.source
+            && followed.moved
+        {
+            moved.push(source)?;
+        }
     }
+    Ok(moved)
 }
 
-/// That text, with the labels that change and with other proofs.
-fn changed_without(
+/// The source with the edits, of which these are the items, and this is put in.
+fn arranged(
     alloc: Global,
     keys: RandomState,
     source: &[u8],
-    outline: &Outline<'_>,
+    items: &[Item<'_>],
     moving: &Changes<'_>,
+    comings: &[Coming<'_>],
     edits: &Rearranged<'_>,
 ) -> Result<Vec<u8>, Refusal>
-    ensures { IfOk result (λ changed. IsCutAndRewritten edits.now.changes.now edits.now.proofs.now source.now changed.items) }
+    requires { AreItems source.now items.now }
+    ensures { IfOk result (λ out. IsRearranged (seen_living edits.now.planned.living.now) (seen_words edits.now.planned.gone.now)
+        edits.now.changes.now edits.now.proofs.now source.now out.items) }
 {
-    let kept = without(alloc, keys, source, outline, edits.planned.gone, moving)?;
-    rewritten(alloc, edits, kept.as_slice())
-}
-
-/// The text with the texts of those that are put in.
-fn filled(
-    alloc: Global,
-    keys: RandomState,
-    text: &[u8],
-    planned: &Planned<'_>,
-    texts: &Texts<'_>,
-) -> Result<Vec<u8>, Refusal>
-    ensures { IfOk result (λ out. IsPatched IsPutIn text.now out.items) }
-{
-    let entries = planned.edited.entries();
-    let fills = fills_of(alloc, keys, text, planned.living, entries, texts)?;
-    match put_in(alloc, text, fills.as_slice())? {
+    let gone = marked(alloc, keys, edits.planned.gone)?;
+    let moved = moved_in(alloc, edits.planned.living)?;
+    let moved = marked(alloc, keys, moved.as_slice())?;
+    let edits = Edits {
+        changes: edits.changes,
+        proofs: edits.proofs,
+        gone: &gone,
+        moving,
+        moved: &moved,
+    };
+    match arrange(alloc, edits, source, items, comings)? {
         Some(out) => Ok(out),
         None => Err(unfit(alloc)),
     }
 }
 
-/// The source without those that leave their places, with changed labels and other proofs, and with the texts of those that are put in.
-fn put_anew(
+/// The source with the edits, by its items.
+fn rearrange_known<'x, 'a, D: Declared<'a>>(
     alloc: Global,
     keys: RandomState,
-    source: &[u8],
-    outline: &Outline<'_>,
-    moving: &Changes<'_>,
-    texts: &Texts<'_>,
-    edits: &Rearranged<'_>,
+    declared: &D,
+    known: &Known<'x>,
+    edits: &Rearranged<'x>,
 ) -> Result<Vec<u8>, Refusal>
-    ensures { IfOk result (λ out. IsRearranged (AreJust edits.now.proofs.now) edits.now.changes.now source.now out.items) }
+    requires { AreItems known.now.text.now known.now.items.items }
+    ensures { IfOk result (λ out. IsRearranged (seen_living edits.now.planned.living.now) (seen_words edits.now.planned.gone.now)
+        edits.now.changes.now edits.now.proofs.now known.now.text.now out.items) }
 {
-    let changed = changed_without(alloc, keys, source, outline, moving, edits)?;
-    filled(alloc, keys, changed.as_slice(), &edits.planned, texts)
+    let moving = moving_of(alloc, keys, declared, &known.outline, edits)?;
+    let texts = texts_of(alloc, keys, declared, known, &moving, edits)?;
+    let moving = &moving.labels;
+    let living = edits.planned.living;
+    let entries = edits.planned.edited.entries();
+    let comings = comings_of(alloc, keys, known, living, moving, entries, &texts)?;
+    let comings = comings.as_slice();
+    let items = known.items.as_slice();
+    arranged(alloc, keys, known.text, items, moving, comings, edits)
+}
+
+/// A source by its items.
+fn known_of<'x>(alloc: Global, keys: RandomState, source: &'x [u8]) -> Result<Known<'x>, Refusal>
+    ensures { IfOk result (λ known. AreItems source.now known.items.items × (known.text.now ≡ source.now)) }
+{
+    let Some(items) = read_items(alloc, source)? else {
+        return Err(unfit(alloc));
+    };
+    let none = marked(alloc, keys, &[])?;
+    let parts = parts_of(alloc, &none, &none, source, items.as_slice())?;
+    let outline = outline_of(alloc, items.as_slice(), parts.as_slice())?;
+    Ok(Known {
+        text: source,
+        items,
+        parts,
+        outline,
+    })
 }
 
 /// The source with the edits of a history that adds, moves or deletes.
@@ -344,11 +315,9 @@ pub(crate) fn rearrange<'x, 'a, D: Declared<'a>>(
     source: &'x [u8],
     edits: &Rearranged<'x>,
 ) -> Result<Vec<u8>, Refusal>
-    ensures { IfOk result (λ out. IsRearranged (AreJust edits.now.proofs.now) edits.now.changes.now source.now out.items) }
+    ensures { IfOk result (λ out. IsRearranged (seen_living edits.now.planned.living.now) (seen_words edits.now.planned.gone.now)
+        edits.now.changes.now edits.now.proofs.now source.now out.items) }
 {
-    let outline = outline_of(alloc, source)?;
-    let moving = moving_of(alloc, keys, declared, &outline, edits)?;
-    let texts = texts_of(alloc, keys, declared, source, &outline, &moving, edits)?;
-    let moving = &moving.labels;
-    put_anew(alloc, keys, source, &outline, moving, &texts, edits)
+    let known = known_of(alloc, keys, source)?;
+    rearrange_known(alloc, keys, declared, &known, edits)
 }

@@ -1,10 +1,11 @@
 //! A source is written anew with the edits of a history.
 
 ghost use Rattle.std.specs.Prelude.{◌≡◌, IfOk, map};
+ghost use Rattle.source.specs.Views.{seen_words};
 ghost use Rattle.sourceediting.specs.Following.{all_commands};
 ghost use Rattle.sourceediting.specs.Reproved.{AreOtherProofs};
 ghost use Rattle.sourceediting.specs.Views.{seen_living, seen_proofs, AreLabelled};
-ghost use Rattle.sourceediting.specs.Written.{IsWrittenAnew, AreJust};
+ghost use Rattle.sourceediting.specs.Written.{IsWrittenAnew};
 
 use crate::commands::keep_places;
 use crate::planning::{ByLabel, Planned, edited_by_label, names_of, other_proofs};
@@ -41,8 +42,8 @@ fn written<'x, 'a, D: Declared<'a>>(
     entries: &[Entry],
     edits: &Rearranged<'x>,
 ) -> Result<Vec<u8>, Refusal>
-    ensures { IfOk result (λ out. IsWrittenAnew (all_commands entries.now) (AreJust edits.now.proofs.now) edits.now.changes.now
-        source.now out.items) }
+    ensures { IfOk result (λ out. IsWrittenAnew (all_commands entries.now) (seen_living edits.now.planned.living.now)
+        (seen_words edits.now.planned.gone.now) (λ proofs. proofs ≡ edits.now.proofs.now) edits.now.changes.now source.now out.items) }
 {
     if keep_places(entries) {
         return rewritten(alloc, edits, source);
@@ -63,8 +64,8 @@ fn write_over<'e, D: Declared<'e>>(
     names: &Names<'e>,
 ) -> Result<Vec<u8>, Refusal>
     requires { AreLabelled edited.now (map (λ r. r.assertion) planned.now.edited.now.entries) }
-    ensures { IfOk result (λ out. IsWrittenAnew (all_commands entries.now) (AreOtherProofs (D.scope declared.now)
-        planned.now.database.now.assertions
+    ensures { IfOk result (λ out. IsWrittenAnew (all_commands entries.now) (seen_living planned.now.living.now)
+        (seen_words planned.now.gone.now) (AreOtherProofs (D.scope declared.now) planned.now.database.now.assertions
         (map (λ r. r.assertion) planned.now.edited.now.entries) (seen_living planned.now.living.now)) changes.now source.now out.items) }
 {
     let proofs = other_proofs(alloc, keys, declared, edited, names, planned)?;
@@ -93,8 +94,8 @@ pub fn write_edits<'e, D: Declared<'e>>(
     entries: &[Entry],
     changes: &'e Changes<'e>,
 ) -> Result<Vec<u8>, Refusal>
-    ensures { IfOk result (λ out. IsWrittenAnew (all_commands entries.now) (AreOtherProofs (D.scope declared.now)
-        planned.now.database.now.assertions
+    ensures { IfOk result (λ out. IsWrittenAnew (all_commands entries.now) (seen_living planned.now.living.now)
+        (seen_words planned.now.gone.now) (AreOtherProofs (D.scope declared.now) planned.now.database.now.assertions
         (map (λ r. r.assertion) planned.now.edited.now.entries) (seen_living planned.now.living.now)) changes.now source.now out.items) }
 {
     let edited = edited_by_label(alloc, keys, planned.edited.entries())?;

@@ -1,3 +1,4 @@
 pub mod Labels
 pub mod Laying
 pub mod Orders
+mod Appended

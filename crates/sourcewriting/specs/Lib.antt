@@ -1,3 +1,4 @@
 pub mod Forms
 pub mod Indentations
 pub mod Laid
+pub mod Letters

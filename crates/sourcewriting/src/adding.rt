@@ -26,8 +26,6 @@ pub struct Statement<'t> {
     pub assertion: &'t Assertion,
     /// Its label in the source.
     pub label: &'t [u8],
-    /// The comment in front of it, with the white space before that; nothing where it has none.
-    pub comment: &'t [u8],
     /// Whether its proof is compressed.
     pub is_compressed: bool,
 }
@@ -266,24 +264,19 @@ fn put_said(
     )
 }
 
-/// Puts an assertion up to its proof behind an empty line: the beginning of its block, the pairs, the `$e`, of which these are the labels,
-/// and behind its comment the statement. Whether it could be written.
-fn put_front(
+/// The text in front of an assertion, behind an empty line: the beginning of its block, the pairs, and the `$e`, of which these are the
+/// labels. None where it can't be written.
+fn front_of(
     alloc: Global,
-    out: &mut Vec<u8>,
     words: &SymbolWords<'_>,
     statement: &Statement<'_>,
     labels: &[Vec<u8>],
-) -> Result<bool, AllocError> {
+) -> Result<Option<Vec<u8>>, AllocError> {
     let assertion = statement.assertion;
-    out.extend_from_slice(statement.beginning())?;
-    if !put_pairs(alloc, out, words, assertion.pairs.as_slice())?
-        || !put_premises(alloc, out, words, assertion.hyps.as_slice(), labels)?
-    {
-        return Ok(false);
-    }
-    out.extend_from_slice(statement.comment)?;
-    put_said(alloc, out, words, statement)
+    let mut out = Vec::from_slice(alloc, statement.beginning())?;
+    let is_whole = put_pairs(alloc, &mut out, words, assertion.pairs.as_slice())?
+        && put_premises(alloc, &mut out, words, assertion.hyps.as_slice(), labels)?;
+    Ok(is_whole.then_some(out))
 }
 
 /// The slices of texts.
@@ -418,12 +411,35 @@ fn put_rest<'p, 'a, D: Declared<'a>>(
     )
 }
 
-/// The text of an assertion with the end of its block, by what stands in front of that.
-fn ended(mut out: Vec<u8>, statement: &Statement<'_>) -> Result<Vec<u8>, AllocError> {
-    if statement.is_block() {
+/// The text of an assertion whose `$e` have these labels, from its label up to the end of its block. None where it can't be written.
+fn back_of<'x, 'a, D: Declared<'a>>(
+    alloc: Global,
+    keys: RandomState,
+    declared: &D,
+    prelude: &Prelude,
+    names: &Names<'x>,
+    words: &SymbolWords<'x>,
+    statement: &Statement<'_>,
+    labels: &[Vec<u8>],
+) -> Result<Option<Vec<u8>>, AllocError> {
+    let mut out = Vec::new(alloc);
+    let is_whole = put_said(alloc, &mut out, words, statement)?
+        && put_rest(
+            alloc, keys, &mut out, declared, prelude, names, statement, labels,
+        )?;
+    if is_whole && statement.is_block() {
         out.extend_from_slice(b"\n  $}")?;
     }
-    Ok(out)
+    Ok(is_whole.then_some(out))
+}
+
+/// The text of an assertion, in two parts: between them stands what describes it.
+#[derive(Drop)]
+pub struct Written {
+    /// An empty line, and the beginning of its block, where it has one: the pairs and the `$e`.
+    pub front: Vec<u8>,
+    /// The assertion, and the end of its block.
+    pub back: Vec<u8>,
 }
 
 /// The text of an assertion behind an empty line, in a block of its own where it has pairs or `$e`. None where it can't be written.
@@ -435,17 +451,15 @@ pub fn assertion_text<'x, 'a, D: Declared<'a>>(
     names: &Names<'x>,
     words: &SymbolWords<'x>,
     statement: &Statement<'_>,
-) -> Result<Option<Vec<u8>>, AllocError> {
+) -> Result<Option<Written>, AllocError> {
     let premises = statement.assertion.hyps.as_slice().len();
     let labels = premise_labels(alloc, declared, names, statement.label, premises)?;
     let labels = labels.as_slice();
-    let mut out = Vec::new(alloc);
-    if !put_front(alloc, &mut out, words, statement, labels)?
-        || !put_rest(
-            alloc, keys, &mut out, declared, prelude, names, statement, labels,
-        )?
-    {
+    let Some(front) = front_of(alloc, words, statement, labels)? else {
         return Ok(None);
-    }
-    Ok(Some(ended(out, statement)?))
+    };
+    let back = back_of(
+        alloc, keys, declared, prelude, names, words, statement, labels,
+    )?;
+    Ok(back.map(|back| Written { front, back }))
 }

@@ -4,9 +4,9 @@ ghost use Rattle.std.specs.Prelude.{ℕ, List, [], IfOk, IsTrue};
 ghost use Rattle.sourcewriting.specs.Laid.{IsLaid, IsNormal, IsCompressed};
 
 use crate::layout::Layout;
+use crate::letters::put_number;
 use crate::shared::Shared;
 use mmsyntax::MOST_STEPS;
-use rewriting::put_number;
 use std::alloc::{AllocError, Global};
 
 /// A walk through the tree of so many steps takes a turn at each of them, and one more at each that is an argument.

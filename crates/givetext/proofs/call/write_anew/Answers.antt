@@ -1,6 +1,10 @@
 -- What is left to show of `write_anew`.
 use Rattle.std.proofs.Common.{List, map, subst}
-use Rattle.std.specs.Prelude.{IfOk}
+use Rattle.std.specs.Prelude.{ℕ, IfOk, Vec}
+use Rattle.std.specs.Borrow.{Bor}
+use Rattle.std.specs.declared.alloc.Global.{Global}
+use Rattle.mmtext.specs.Words.{Word}
+use Rattle.source.specs.Views.{seen_words}
 use Rattle.library.specs.declared.history.Entry.{Entry}
 use Rattle.library.specs.declared.library.Ranked.{Ranked}
 use Rattle.sourceediting.specs.declared.following.Followed.{Followed as KeptAssertion}
@@ -17,11 +21,12 @@ returns c =
     let old = c.args.old.now.stand.scope in
     let opened = c.args.taken.now.database.assertions in
     let edited = map (λ (r : Ranked). r.assertion) c.args.replayed.now.edited.entries in
-    subst (λ (fs : List KeptAssertion). IfOk c.write_edits.result
-    (λ out. IsWrittenAnew (all_commands c.args.replayed.now.entries) (AreOtherProofs old opened edited (seen_living fs)) cs source
-    out.items))
+    let gone = seen_words c.args.following.now.gone.items in
+    let says = λ (es : List Entry) (fs : List KeptAssertion) (ws : List Word) (out : Vec ℕ Global).
+    IsWrittenAnew (all_commands es) (seen_living fs) ws (AreOtherProofs old opened edited (seen_living fs)) cs source out.items in
+    subst (λ (fs : List KeptAssertion). IfOk c.write_edits.result (says c.args.replayed.now.entries fs gone))
     c.as_slice-living.ensures.value
-    (subst (λ (es : List Entry). IfOk c.write_edits.result
-    (λ out. IsWrittenAnew (all_commands es) (AreOtherProofs old opened edited (seen_living c.as_slice-living.result.now)) cs source
-    out.items))
-    c.as_slice-entries.ensures c.write_edits.ensures)
+    (subst (λ (es : List Entry). IfOk c.write_edits.result (says es c.as_slice-living.result.now gone))
+    c.as_slice-entries.ensures
+    (subst (λ (ws : List (Bor (List ℕ))). IfOk c.write_edits.result
+    (says c.as_slice-entries.result.now c.as_slice-living.result.now (seen_words ws))) c.as_slice-gone.ensures.value c.write_edits.ensures))

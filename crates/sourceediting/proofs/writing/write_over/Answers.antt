@@ -1,11 +1,12 @@
 -- What is left to show of `write_over`.
-use Rattle.std.proofs.Common.{◌∙◌, map, sym, ap, subst}
+use Rattle.std.proofs.Common.{◌≡◌, ◌∙◌, map, sym, ap, subst}
 use Rattle.std.proofs.lemmas.Result.{IfOk-weaker}
 use Rattle.library.specs.declared.library.Ranked.{Ranked}
+use Rattle.source.specs.Views.{seen_words}
 use Rattle.sourceediting.specs.Following.{all_commands}
 use Rattle.sourceediting.specs.Reproved.{AreOtherProofs}
 use Rattle.sourceediting.specs.Views.{seen_living, seen_proofs}
-use Rattle.sourceediting.specs.Written.{IsWrittenAnew, AreJust}
+use Rattle.sourceediting.specs.Written.{IsWrittenAnew}
 use Rattle.sourceediting.proofs.Rewritten.{by_others}
 use Rattle.sourceediting.proofs.writing.write_over.Goals as goal
 
@@ -19,6 +20,8 @@ returns g c =
     let are_others = AreOtherProofs (g.D.Declared.scope c.args.declared.now) planned.database.now.assertions
     (map (λ (r : Ranked). r.assertion) planned.edited.now.entries) (seen_living planned.living.now) in
     let are = subst are_others (sym (c.in_ok-proofs-2.ensures ∙ ap seen_proofs c.as_slice.ensures.value)) c.in_ok-proofs.ensures in
-    IfOk-weaker c.written.result (λ out. IsWrittenAnew commands (AreJust proofs) cs source out.items)
-    (λ out. IsWrittenAnew commands are_others cs source out.items)
-    (λ out. by_others commands are_others cs proofs source out.items are) c.written.ensures
+    let living = seen_living planned.living.now in
+    let gone = seen_words planned.gone.now in
+    IfOk-weaker c.written.result (λ out. IsWrittenAnew commands living gone (λ ps. ps ≡ proofs) cs source out.items)
+    (λ out. IsWrittenAnew commands living gone are_others cs source out.items)
+    (λ out. by_others commands living gone cs source out.items are_others proofs are) c.written.ensures

@@ -2,9 +2,11 @@
 use Rattle.std.proofs.Common.{◌≡◌, ◌∙◌, false, true, sym}
 use Rattle.std.specs.Prelude.{All}
 use Rattle.std.proofs.lemmas.Result.{IfOk-weaker}
+use Rattle.source.specs.Views.{seen_words}
 use Rattle.sourceediting.specs.Following.{KeepsPlaces, all_commands}
+use Rattle.sourceediting.specs.Views.{seen_living}
 use Rattle.items.specs.Rewriting.{IsRewritten}
-use Rattle.sourceediting.specs.Written.{IsRearranged, IsWrittenAnew, AreJust}
+use Rattle.sourceediting.specs.Written.{IsRearranged, IsWrittenAnew}
 use Rattle.sourceediting.proofs.Rewritten.{only_rewritten, all_rearranged}
 use Rattle.sourceediting.proofs.writing.written.Goals as goal
 
@@ -13,21 +15,27 @@ clash e = cc
 
 pub returns-then-keep_places : goal.returns-then-keep_places
 returns-then-keep_places g c =
+    let commands = all_commands c.args.entries.now in
+    let living = seen_living c.args.edits.now.planned.living.now in
+    let gone = seen_words c.args.edits.now.planned.gone.now in
     let cs = c.args.edits.now.changes.now in
     let proofs = c.args.edits.now.proofs.now in
     let source = c.args.source.now in
+    let all : All KeepsPlaces commands = c.keep_places.ensures.0 c.if-keep_places.true in
     IfOk-weaker c.rewritten.result (λ out. IsRewritten cs proofs source out.items)
-    (λ out. IsWrittenAnew (all_commands c.args.entries.now) (AreJust proofs) cs source out.items)
-    (λ out. only_rewritten (all_commands c.args.entries.now) cs source out.items proofs) c.rewritten.ensures
+    (λ out. IsWrittenAnew commands living gone (λ ps. ps ≡ proofs) cs source out.items)
+    (λ out. only_rewritten commands living gone cs source out.items proofs all) c.rewritten.ensures
 
 pub returns : goal.returns
 returns g c =
     let commands = all_commands c.args.entries.now in
+    let living = seen_living c.args.edits.now.planned.living.now in
+    let gone = seen_words c.args.edits.now.planned.gone.now in
     let cs = c.args.edits.now.changes.now in
     let source = c.args.source.now in
     let proofs = c.args.edits.now.proofs.now in
     let some : All KeepsPlaces commands → ⊥ = λ all.
     clash (sym c.if-keep_places.false ∙ c.keep_places.ensures.1 all) in
-    IfOk-weaker c.rearrange.result (λ out. IsRearranged (AreJust proofs) cs source out.items)
-    (λ out. IsWrittenAnew commands (AreJust proofs) cs source out.items)
-    (λ out. all_rearranged commands cs source out.items proofs some) c.rearrange.ensures
+    IfOk-weaker c.rearrange.result (λ out. IsRearranged living gone cs proofs source out.items)
+    (λ out. IsWrittenAnew commands living gone (λ ps. ps ≡ proofs) cs source out.items)
+    (λ out. all_rearranged commands living gone cs source out.items proofs some) c.rearrange.ensures

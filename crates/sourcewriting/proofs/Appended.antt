@@ -6,7 +6,7 @@ use Rattle.source.specs.Letters.{is_last, is_front, is_too_large, turn_at, Decod
 use Rattle.source.specs.declared.letters.Turn.{Turn}
 use Rattle.source.specs.declared.letters.Code.{Code}
 use Rattle.source.specs.declared.letters.Code.TheVariants.{Number}
-use Rattle.rewriting.specs.Letters.{ArePut}
+use Rattle.sourcewriting.specs.Letters.{ArePut}
 
 -- ---- one letter behind others that end no code
 

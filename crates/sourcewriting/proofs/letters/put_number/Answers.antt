@@ -1,7 +1,7 @@
 -- What is left to show of `put_number`.
 use Rattle.std.proofs.Common.{arith}
-use Rattle.rewriting.proofs.Appended.{last_put}
-use Rattle.rewriting.proofs.letters.put_number.Goals as goal
+use Rattle.sourcewriting.proofs.Appended.{last_put}
+use Rattle.sourcewriting.proofs.letters.put_number.Goals as goal
 
 pub returns : goal.returns
 returns c = λ small.

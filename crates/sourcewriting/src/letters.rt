@@ -2,7 +2,7 @@
 
 ghost use Rattle.std.specs.Prelude.{◌+◌, ◌<◌, ◌≤◌, [], ◌∷◌, IfOk};
 ghost use Rattle.source.specs.declared.letters.Code.TheVariants.{Number};
-ghost use Rattle.rewriting.specs.Letters.{ArePut};
+ghost use Rattle.sourcewriting.specs.Letters.{ArePut};
 
 use std::alloc::AllocError;
 

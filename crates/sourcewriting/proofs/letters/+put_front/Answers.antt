@@ -1,7 +1,7 @@
 -- What is left to show of `put_front`.
 use Rattle.std.proofs.Common.{arith}
-use Rattle.rewriting.proofs.Appended.{none_put, front_put}
-use Rattle.rewriting.proofs.letters.+put_front.Goals as goal
+use Rattle.sourcewriting.proofs.Appended.{none_put, front_put}
+use Rattle.sourcewriting.proofs.letters.+put_front.Goals as goal
 
 pub returns-then-front-eq0 : goal.returns-then-front-eq0
 returns-then-front-eq0 t c = λ _.

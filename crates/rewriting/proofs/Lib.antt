@@ -1,5 +1,0 @@
-mod Places
-mod TokenEnds
-mod Orders
-mod Spliced
-mod Appended
