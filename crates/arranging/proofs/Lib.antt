@@ -1,1 +1,3 @@
-
+mod LookedUp
+mod FirstWords
+mod Printed

@@ -1,3 +1,4 @@
 pub mod Parts
 pub mod Arranged
 pub mod Places
+pub mod Printing

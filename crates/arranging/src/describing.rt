@@ -2,7 +2,7 @@
 
 ghost use Rattle.std.specs.Prelude.{◌≡◌, ◌≤◌, IfOk, List, ℕ, length, map};
 ghost use Rattle.std.specs.Borrow.{Bor};
-ghost use Rattle.items.specs.Items.{Item as Pieces};
+ghost use Rattle.items.specs.Items.{Item as Pieces, IsComment};
 ghost use Rattle.items.specs.Reading.{AreFound, AreItems, IsOfKind, Stands};
 ghost use Rattle.arranging.specs.Parts.{fate_of, is_heading, is_rule, part_of, labels_in};
 
@@ -43,7 +43,7 @@ fn is_rule(word: &[u8]) -> bool
 /// Whether the comment behind a byte of a text is a heading: its first word behind the `$(` begins a line of one of these forms.
 fn is_heading(text: &[u8], from: usize) -> bool
     requires { from ≤ length text.now }
-    ensures { (x : Pieces) (end : ℕ) → Stands text.now from x end → result ≡ is_heading x }
+    ensures { (x : Pieces) (end : ℕ) → Stands text.now from x end → IsComment x → result ≡ is_heading x }
 {
     let Some(opening) = next_token(text, from) else {
         return false;

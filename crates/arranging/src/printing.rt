@@ -2,9 +2,10 @@
 
 ghost use Rattle.std.specs.Prelude.{◌≡◌, ◌≤◌, ◌<◌, ◌++◌, List, ℕ, IfOk, IfSome, IsTrue, drop, length, slice_range};
 ghost use Rattle.items.specs.Items.{Item as Pieces, Spells};
-ghost use Rattle.items.specs.Reading.{AreFound, AreItems};
+ghost use Rattle.items.specs.Reading.{AreFound, AreItems, IsBehind};
 ghost use Rattle.items.specs.Machine.{IsPut};
 ghost use Rattle.arranging.specs.Arranged.{Says, ReadThen, IsTextOf};
+ghost use Rattle.arranging.specs.Printing.{SaysNext};
 
 use crate::coming::{Coming, Placed};
 use giving::Changes;
@@ -25,16 +26,23 @@ pub(crate) struct Source<'s> {
 
 impl Source<'_> {
     /// Behind so many items: a byte of the text.
-    fn behind(self, count: usize) -> usize {
-        match count.checked_sub(1) {
-            Some(last) => self.items.get(last).map_or(0, |item| item.end),
-            None => 0,
+    fn behind(self, count: usize) -> usize
+        requires items { AreItems self.text.now self.items.now }
+        requires count { count ≤ length self.items.now }
+        ensures behind { (old : List Pieces) → AreFound self.entry.text.now 0 self.entry.items.now old
+            → IsBehind self.entry.text.now 0 self.entry.items.now old count result }
+        ensures within { result ≤ length self.entry.text.now }
+    {
+        if count == 0 {
+            0
+        } else {
+            self.items[count - 1].end
         }
     }
 
     /// Puts the items from a place up to another. Whether they could be put: no proof is for an axiom.
     fn put_items(self, out: &mut Vec<u8>, first: usize, end: usize) -> Result<bool, AllocError>
-        requires { AreItems self.entry.text.now self.entry.items.now }
+        requires { AreItems self.text.now self.items.now }
         ensures { (old : List Pieces) → AreFound self.entry.text.now 0 self.entry.items.now old
             → IfOk result (λ put. IsTrue put → IsPut out.old.items out.new.items
             (ReadThen self.entry.changes.now self.entry.proofs.now (slice_range old first end))) }
@@ -54,7 +62,7 @@ impl Source<'_> {
 
     /// Puts what comes. Whether it could be put.
     fn put_coming(self, out: &mut Vec<u8>, coming: Coming<'_>) -> Result<bool, AllocError>
-        requires { AreItems self.entry.text.now self.entry.items.now }
+        requires { AreItems self.text.now self.items.now }
         ensures { (old : List Pieces) → AreFound self.entry.text.now 0 self.entry.items.now old
             → IfOk result (λ put. IsTrue put → IsPut out.old.items out.new.items
             (IsTextOf self.entry.changes.now self.entry.proofs.now old coming.entry)) }
@@ -65,24 +73,36 @@ impl Source<'_> {
         Ok(is_put)
     }
 
-    /// Puts what stands next, in front of which so many items of the source stand. Whether it could be put.
-    fn put(self, out: &mut Vec<u8>, place: usize, placed: Placed<'_>) -> Result<bool, AllocError>
-        requires { AreItems self.entry.text.now self.entry.items.now }
+    /// Puts what stands next, in front of which so many items of the source stand. So many stand in front of what follows then: none where
+    /// it couldn't be put.
+    fn put(
+        self,
+        out: &mut Vec<u8>,
+        place: usize,
+        placed: Placed<'_>,
+    ) -> Result<Option<usize>, AllocError>
+        requires { AreItems self.text.now self.items.now }
+        ensures { (old : List Pieces) → AreFound self.entry.text.now 0 self.entry.items.now old
+            → IfOk result (λ put. IfSome put (λ next. IsPut out.old.items out.new.items
+            (SaysNext self.entry.changes.now self.entry.proofs.now old placed.entry place next))) }
     {
         match placed {
-            Placed::Stays => self.put_items(out, place, place.saturating_add(1)),
-            Placed::Goes => Ok(true),
-            Placed::Comes(coming) => self.put_coming(out, coming),
+            Placed::Comes(coming) => Ok(self.put_coming(out, coming)?.then_some(place)),
+            Placed::Stays if place < self.items.len() => {
+                Ok(self.put_items(out, place, place + 1)?.then_some(place + 1))
+            }
+            Placed::Goes if place < self.items.len() => Ok(Some(place + 1)),
+            _ => Ok(None),
         }
     }
 
-    /// The text of what stands then. None where a proof is for an axiom.
+    /// The text of what stands then. None where a proof is for an axiom, and where this isn't a layout of the items.
     pub(crate) fn print(
         self,
         alloc: Global,
         layout: &[Placed<'_>],
     ) -> Result<Option<Vec<u8>>, AllocError>
-        requires { AreItems self.entry.text.now self.entry.items.now }
+        requires { AreItems self.text.now self.items.now }
         ensures { (old : List Pieces) → AreFound self.entry.text.now 0 self.entry.items.now old
             → IfOk result (λ made. IfSome made (λ out. (rest : List ℕ) × Spells old rest self.entry.text.now
             × Says self.entry.changes.now self.entry.proofs.now old rest old layout.now out.items)) }
@@ -90,12 +110,13 @@ impl Source<'_> {
         let mut out = Vec::with_capacity(alloc, self.text.len())?;
         let mut place = 0;
         for placed in layout {
-            if !self.put(&mut out, place, *placed)? {
+            let Some(next) = self.put(&mut out, place, *placed)? else {
                 return Ok(None);
-            }
-            if !matches!(placed, Placed::Comes(_)) {
-                place += 1;
-            }
+            };
+            place = next;
+        }
+        if place != self.items.len() {
+            return Ok(None);
         }
         out.extend_from_slice(&self.text[self.behind(self.items.len())..])?;
         Ok(Some(out))

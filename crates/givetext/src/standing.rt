@@ -1,9 +1,9 @@
 //! Which assertion would stand behind one that cites it.
 
 use giving::Changes;
+use items::{Item, Kind, read_items};
 use source::Declared;
 use sourceediting::{File, Refusal, labels_of, shown};
-use sourcewriting::outline_of;
 use std::alloc::{AllocError, Global};
 use std::collections::HashMap;
 use std::hash::RandomState;
@@ -48,6 +48,21 @@ fn would_stand_behind<'c>(
     Ok(Refusal::Text(File::History, why))
 }
 
+/// The numbers of the assertions among items, by their labels.
+fn numbers_of<'s>(
+    alloc: Global,
+    keys: RandomState,
+    items: &[Item<'s>],
+) -> Result<HashMap<&'s [u8], usize, RandomState>, AllocError> {
+    let mut numbers = HashMap::with_hasher(alloc, keys);
+    for (number, item) in items.iter().enumerate() {
+        if let Kind::Assertion(label) = item.kind {
+            numbers.insert(label, number)?;
+        }
+    }
+    Ok(numbers)
+}
+
 /// The first assertion that isn't the library's, and cites one that stands behind it in the text with the edits: the line that says so.
 pub(crate) fn first_behind<'a, D: Declared<'a>>(
     alloc: Global,
@@ -57,8 +72,10 @@ pub(crate) fn first_behind<'a, D: Declared<'a>>(
     own: &[bool],
     out: &[u8],
 ) -> Result<Option<Refusal>, AllocError> {
-    let outline = outline_of(alloc, out)?;
-    let places = outline.by_label(alloc, keys)?;
+    let Some(items) = read_items(alloc, out)? else {
+        return Ok(None);
+    };
+    let places = numbers_of(alloc, keys, items.as_slice())?;
     for (place, is_own) in own.iter().enumerate() {
         if *is_own {
             continue;

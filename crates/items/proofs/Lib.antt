@@ -9,4 +9,5 @@ mod Places
 mod Stated
 mod Spelled
 mod Fronts
-mod PutThen
+pub mod PutThen
+pub mod Found

@@ -92,7 +92,7 @@ is_item Other x is = inr (inr is.0)
 
 -- ---- a whole text
 
-zip_more : {A B : Type 0} (r : A → B → Type 0) (xs : List A) (ys : List B) (x : A) (y : B) → AllZip r xs ys → r x y
+pub zip_more : {A B : Type 0} (r : A → B → Type 0) (xs : List A) (ys : List B) (x : A) (y : B) → AllZip r xs ys → r x y
     → AllZip r (xs ++ x ∷ []) (ys ++ y ∷ [])
 zip_more r [] [] x y all one = (one, tt)
 zip_more r [] (v ∷ ys) x y all one = absurd all

@@ -1,6 +1,6 @@
 -- Of the code's inside, apart from the rules: items at places of a text.
 use Rattle.std.specs.Prelude.{◌≡◌, ◌<◌, ◌≤◌, ◌+◌, ℕ, Bool, false, List, [], ◌∷◌, ◌++◌, length, drop, slice_range, Option, Some, None}
-use Rattle.std.specs.Prelude.{codes}
+use Rattle.std.specs.Prelude.{codes, take}
 use Rattle.std.specs.List.{list_any}
 use Rattle.std.specs.Str.{bytes_eq}
 use Rattle.mmtext.specs.Words.{Word}
@@ -8,7 +8,8 @@ use Rattle.mmtext.specs.Text.{Token, tokens_from}
 use Rattle.items.specs.declared.reading.Kind.{Kind}
 use Rattle.items.specs.declared.reading.Kind.TheVariants.{Comment, Opening, Closing, Assertion, Other}
 use Rattle.items.specs.declared.reading.Item.{Item as Found}
-use Rattle.items.specs.Items.{Piece, Item, words, outside, is_open_behind, ends_statement, asserts, label_of, IsComment, IsStatement}
+use Rattle.items.specs.Items.{Piece, Item, words, pieces_of, outside, is_open_behind, ends_statement, asserts, label_of}
+use Rattle.items.specs.Items.{IsComment, IsStatement}
 use Rattle.items.specs.Rewriting.{IsUpToProof}
 
 -- the tokens from a place of a text on
@@ -79,6 +80,12 @@ AreFound text at _ _ = ⊥
 -- a text is these items, and white space at its end
 abbrev pub AreItems : List ℕ → List Found → Type 0
 AreItems text fs = (items : List Item) × AreFound text 0 fs items
+
+-- so many of these items stand up to a place, and the others behind it
+pub record IsBehind (text : List ℕ) (at : ℕ) (fs : List Found) (xs : List Item) (count end : ℕ) : Type 0 where
+  pub stands : Stands text at (pieces_of (take count xs)) end
+  pub left : AreFound text end (drop count fs) (drop count xs)
+  pub within : end ≤ length text
 
 -- words of a statement were passed over, of which the last stands outside of comments, and none of those there passes a test
 pub record IsPassed (test : Word → Bool) (text : List ℕ) (from at : ℕ) : Type 0 where
