@@ -1,3 +1,5 @@
-mod LookedUp
 mod FirstWords
 mod Printed
+mod Depths
+mod Known
+mod Laid

@@ -1,38 +1,26 @@
 -- A source with items that leave their places, and with what is put in.
-use Rattle.std.specs.Prelude.{◌≡◌, ◌⊎◌, ◌<◌, ℕ, suc, Bool, true, false, List, [], ◌∷◌, ◌++◌, map, take, drop, length, Option, Some, None, IsTrue}
-use Rattle.std.specs.Prelude.{slice_get, slice_range}
+use Rattle.std.specs.Prelude.{◌≡◌, ◌⊎◌, ℕ, Bool, true, false, List, [], ◌∷◌, ◌++◌, take, Option, Some, None, IsTrue, slice_get}
 use Rattle.std.specs.List.{flat_map, AllZip}
 use Rattle.std.specs.Option.{option_map}
 use Rattle.mmtext.specs.Words.{Word}
 use Rattle.source.specs.Scopes.{is_in}
 use Rattle.giving.specs.Staying.{Change}
 use Rattle.leaving.specs.declared.part.Part.{Part}
-use Rattle.leaving.specs.declared.part.Part.TheVariants.{Description, Assertion}
+use Rattle.leaving.specs.declared.part.Part.TheVariants.{Description}
 use Rattle.leaving.specs.Leaving.{open_behind, IsBlock, Goes}
 use Rattle.items.specs.Items.{Item, label_of, Spells}
 use Rattle.items.specs.Rewriting.{ReadsThen}
 use Rattle.arranging.specs.declared.coming.Coming.{Coming}
 use Rattle.arranging.specs.declared.coming.Placed.{Placed}
 use Rattle.arranging.specs.declared.coming.Placed.TheVariants.{Stays, Goes as Leaves, Comes}
-use Rattle.arranging.specs.Parts.{part_of}
-
--- the labels of assertions that are deleted, and of those that stand elsewhere then: some of these were moved
-pub record Edited : Type 0 where
-  pub gone : List Word
-  pub moving : List Word
-  pub moved : List Word
-
-abbrev pub parts : Edited → List Item → List Part
-parts e xs = map (part_of e.gone e.moving) xs
+use Rattle.arranging.specs.Parts.{Edited, part_of, parts, unit_of}
+use Rattle.arranging.specs.Groups.{IsWritten}
+use Rattle.arranging.specs.Sections.{IsUnder}
 
 abbrev pub labels_of : List Item → List Word
 labels_of xs = flat_map label_of xs
 
 -- ---- what is put in
-
--- items of the source that go along
-abbrev pub unit_of : List Item → Coming → List Item
-unit_of old c = slice_range old c.first c.end
 
 -- a description ends these
 abbrev pub ends_described : List Part → Bool
@@ -60,20 +48,22 @@ pub record IsParted (e : Edited) (old : List Item) (label : Word) (c : Coming) :
   pub labelled : label_of item ≡ label ∷ []
   pub described : IsDescription (parts e (take c.first old)) (parts e (unit_of old c))
   pub why : IsTrue (is_in e.moved label) ⊎ ((open_behind 0 (parts e (take c.end old)) ≡ Some 0) → ⊥)
+  pub written : IsWritten c
 
 -- one of the source that stands elsewhere then, or one that is added, with no item of the source
 abbrev pub IsFrom : Edited → List Item → Option Word → Coming → Type 0
-IsFrom e old None c = unit_of old c ≡ []
+IsFrom e old None c = (unit_of old c ≡ []) × IsWritten c
 IsFrom e old (Some label) c = IsTrue (is_in e.moving label) × (AsItStood e old label c ⊎ IsParted e old label c)
 
 abbrev pub source_of : Coming → Option Word
 source_of c = option_map (λ w. w.now) c.source
 
--- it is put in outside of blocks, and not between a description and what that describes
+-- it is put in outside of blocks, not between a description and what that describes, and under the heading of what it follows
 pub record IsPutIn (e : Edited) (before : List Item) (c : Coming) (after : List Item) : Type 0 where
   pub outermost : open_behind 0 (parts e before) ≡ Some 0
   pub apart : ends_described (parts e before) ≡ false
   pub from : IsFrom e (before ++ after) (source_of c) c
+  pub under : IsUnder e before c after
 
 -- ---- the whole
 

@@ -1,4 +1,6 @@
 pub mod Parts
+pub mod Groups
+pub mod Sections
 pub mod Arranged
 pub mod Places
 pub mod Printing

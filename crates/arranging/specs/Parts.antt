@@ -1,5 +1,5 @@
 -- Which part each item of a source plays where some leave their places (Metamath book, sections 4.2.8, 4.4.1).
-use Rattle.std.specs.Prelude.{Bool, true, false, List, [], ◌∷◌, map, take, drop, if◌then◌else◌, codes, ◌&&◌}
+use Rattle.std.specs.Prelude.{Bool, true, false, List, [], ◌∷◌, map, take, drop, slice_range, if◌then◌else◌, codes}
 use Rattle.std.specs.List.{list_any}
 use Rattle.std.specs.Str.{bytes_eq}
 use Rattle.mmtext.specs.Words.{Word}
@@ -10,6 +10,7 @@ use Rattle.leaving.specs.declared.part.Fate.TheVariants.{Stays, Deleted, Moves}
 use Rattle.leaving.specs.declared.part.Part.{Part}
 use Rattle.leaving.specs.declared.part.Part.TheVariants.{Description, Heading, Opening, Closing, Assertion, Other}
 use Rattle.items.specs.Items.{Item, words, label_of}
+use Rattle.arranging.specs.declared.coming.Coming.{Coming}
 
 -- labels with a fast look-up
 abbrev pub labels_in : List Change → List Word
@@ -49,3 +50,20 @@ part_of_words (w ∷ ws) comment statement =
 abbrev pub part_of : List Word → List Word → Item → Part
 part_of gone moving x =
     part_of_words (words x) (if is_heading x then Heading else Description) (part_labelled gone moving (label_of x))
+
+-- ---- edits
+
+-- the labels of assertions that are deleted, and of those that stand elsewhere then, of which some were moved; and those in the source of
+-- all that live in the library
+pub record Edited : Type 0 where
+  pub gone : List Word
+  pub moving : List Word
+  pub moved : List Word
+  pub library : List Word
+
+abbrev pub parts : Edited → List Item → List Part
+parts e xs = map (part_of e.gone e.moving) xs
+
+-- items of the source that go along with what is put in
+abbrev pub unit_of : List Item → Coming → List Item
+unit_of old c = slice_range old c.first c.end

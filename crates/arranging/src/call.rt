@@ -1,9 +1,11 @@
 //! The call `arrange`.
 
-ghost use Rattle.std.specs.Prelude.{IfOk, IfSome};
+ghost use Rattle.std.specs.Prelude.{ℕ, List, [], IfOk, IfSome};
+ghost use Rattle.items.specs.Items.{Item as Pieces};
 ghost use Rattle.items.specs.Reading.{AreItems};
-ghost use Rattle.arranging.specs.Arranged.{Edited, IsArranged};
-ghost use Rattle.arranging.specs.Parts.{labels_in};
+ghost use Rattle.arranging.specs.Arranged.{IsLayout, IsArranged};
+ghost use Rattle.arranging.specs.Places.{IsKnownOf};
+ghost use Rattle.arranging.specs.Parts.{Edited, labels_in};
 
 use crate::checking::Checker;
 use crate::coming::{Coming, Placed};
@@ -28,17 +30,26 @@ pub struct Edits<'e> {
     pub moving: &'e Changes<'e>,
     /// Those of the assertions that were moved.
     pub moved: &'e Changes<'e>,
+    /// Those in the source of all that live in the library.
+    pub library: &'e Changes<'e>,
 }
 
 /// The layout of a source whose items play these parts.
 fn laid_out<'t>(
     alloc: Global,
     edits: Edits<'_>,
+    text: &[u8],
     items: &[Item<'_>],
     parts: &[Part],
     comings: &[Coming<'t>],
-) -> Result<Option<Vec<Placed<'t>>>, AllocError> {
-    let checker = Checker::new(alloc, edits.moving, edits.moved, items, parts)?;
+) -> Result<Option<Vec<Placed<'t>>>, AllocError>
+    ensures { (e : Edited) (old : List Pieces)
+        → IsKnownOf e text.now old edits.entry.moving.now edits.entry.moved.now edits.entry.library.now items.now parts.now
+        → IfOk result (λ made. IfSome made (λ layout. IsLayout e [] old layout.items)) }
+{
+    let checker = Checker::new(
+        alloc, edits.moving, edits.moved, edits.library, text, items, parts,
+    )?;
     if !checker.may_all_come(comings) {
         return Ok(None);
     }
@@ -64,11 +75,16 @@ pub fn arrange(
 ) -> Result<Option<Vec<u8>>, AllocError>
     requires { AreItems source.now items.now }
     ensures { IfOk result (λ made. IfSome made (λ out. IsArranged edits.entry.changes.now edits.entry.proofs.now
-        (record { gone = labels_in edits.entry.gone.now; moving = labels_in edits.entry.moving.now; moved = labels_in edits.entry.moved.now })
+        (record {
+          gone = labels_in edits.entry.gone.now;
+          moving = labels_in edits.entry.moving.now;
+          moved = labels_in edits.entry.moved.now;
+          library = labels_in edits.entry.library.now;
+        })
         source.now out.items)) }
 {
     let parts = parts_of(alloc, edits.gone, edits.moving, source, items)?;
-    let Some(layout) = laid_out(alloc, edits, items, parts.as_slice(), comings)? else {
+    let Some(layout) = laid_out(alloc, edits, source, items, parts.as_slice(), comings)? else {
         return Ok(None);
     };
     let source = Source {

@@ -1,12 +1,15 @@
 //! Whether what is put into a source may stand at its place, and is what it is said to be.
 
-ghost use Rattle.std.specs.Prelude.{◌≡◌, ◌≤◌, [], ◌∷◌, ◌++◌, All, List, ℕ, Some, IfOk, IfSome, IsTrue, length, slice_range, take};
+ghost use Rattle.std.specs.Prelude.{◌≡◌, ◌⊎◌, ◌≤◌, [], ◌∷◌, ◌++◌, All, List, ℕ, Some, IfOk, IfSome, IsTrue, length, slice_range, take};
+ghost use Rattle.source.specs.Scopes.{is_in};
 ghost use Rattle.leaving.specs.Leaving.{open_behind, IsBlock};
 ghost use Rattle.items.specs.Items.{Item as Pieces};
-ghost use Rattle.arranging.specs.Arranged.{Edited, AsItStood, IsParted, IsFrom, IsDescription, ends_described, labels_of, source_of};
-ghost use Rattle.arranging.specs.Places.{AreDepths, IsFree, IsKnown, IsKnownOf, MayCome};
+ghost use Rattle.arranging.specs.Parts.{Edited};
+ghost use Rattle.arranging.specs.Arranged.{AsItStood, IsParted, IsFrom, IsDescription, ends_described, labels_of, source_of};
+ghost use Rattle.arranging.specs.Places.{AreDepths, IsFree, IsKnown, IsKnownOf, IsWhole, MayCome};
 
 use crate::coming::Coming;
+use crate::group::is_written;
 use giving::Changes;
 use items::{Item, Kind};
 use leaving::Part;
@@ -21,6 +24,13 @@ fn depth_behind(depth: usize, part: Part) -> Option<usize>
         Part::Closing => depth.checked_sub(1),
         _ => Some(depth),
     }
+}
+
+/// The same, where it may be unknown how many are open in front of the item: then none is known behind it either.
+fn depth_then(depth: Option<usize>, part: Part) -> Option<usize>
+    ensures { IfSome result (λ now. (before : ℕ) × (depth ≡ Some before) × (open_behind before (part ∷ []) ≡ Some now)) }
+{
+    depth_behind(depth?, part)
 }
 
 /// How many blocks are open behind items.
@@ -48,7 +58,10 @@ fn is_block(parts: &[Part]) -> bool
 fn ends_described(parts: &[Part]) -> bool
     ensures { result ≡ ends_described parts.now }
 {
-    parts.last() == Some(&Part::Description)
+    match parts.last() {
+        Some(last) => matches!(last, Part::Description),
+        None => false,
+    }
 }
 
 /// Whether items are what describes the one behind them, or nothing, and others in front of them.
@@ -72,6 +85,13 @@ fn is_described(before: &[Part], parts: &[Part]) -> bool
     }
 }
 
+/// Whether items are a block, or one item with what describes it, behind others.
+fn is_whole(before: &[Part], parts: &[Part]) -> bool
+    ensures { IsTrue result → IsWhole before.now parts.now }
+{
+    is_block(parts) || is_described(before, parts)
+}
+
 /// How many blocks are open in front of each item, and behind the last; none from where one is closed that wasn't opened.
 fn depths_of(alloc: Global, parts: &[Part]) -> Result<Vec<Option<usize>>, AllocError>
     ensures { IfOk result (λ made. AreDepths parts.now made.items) }
@@ -80,7 +100,7 @@ fn depths_of(alloc: Global, parts: &[Part]) -> Result<Vec<Option<usize>>, AllocE
     let mut depth = Some(0);
     depths.push(depth)?;
     for part in parts {
-        depth = depth.and_then(|depth| depth_behind(depth, *part));
+        depth = depth_then(depth, *part);
         depths.push(depth)?;
     }
     Ok(depths)
@@ -89,11 +109,14 @@ fn depths_of(alloc: Global, parts: &[Part]) -> Result<Vec<Option<usize>>, AllocE
 /// What is known of the items of a source.
 pub(crate) struct Checker<'c> {
     /// The labels of those that stand elsewhere then.
-    moving: &'c Changes<'c>,
+    pub moving: &'c Changes<'c>,
     /// Those that were moved.
-    moved: &'c Changes<'c>,
-    items: &'c [Item<'c>],
-    parts: &'c [Part],
+    pub moved: &'c Changes<'c>,
+    /// Those of all that live in the library.
+    pub library: &'c Changes<'c>,
+    pub text: &'c [u8],
+    pub items: &'c [Item<'c>],
+    pub parts: &'c [Part],
     /// How many blocks are open in front of each, and behind the last.
     depths: Vec<Option<usize>>,
 }
@@ -104,6 +127,8 @@ impl<'c> Drop for Checker<'c> {
         let Checker {
             moving: _,
             moved: _,
+            library: _,
+            text: _,
             items: _,
             parts: _,
             depths: _,
@@ -117,16 +142,20 @@ impl<'c> Checker<'c> {
         alloc: Global,
         moving: &'c Changes<'c>,
         moved: &'c Changes<'c>,
+        library: &'c Changes<'c>,
+        text: &'c [u8],
         items: &'c [Item<'c>],
         parts: &'c [Part],
     ) -> Result<Checker<'c>, AllocError>
-        ensures { (e : Edited) (source : List ℕ) (old : List Pieces) → IsKnownOf e source old moving.now moved.now items.now parts.now
-            → IfOk result (IsKnown e source old) }
+        ensures { (e : Edited) (old : List Pieces) → IsKnownOf e text.now old moving.now moved.now library.now items.now parts.now
+            → IfOk result (IsKnown e text.now old) }
     {
         let depths = depths_of(alloc, parts)?;
         Ok(Checker {
             moving,
             moved,
+            library,
+            text,
             items,
             parts,
             depths,
@@ -161,6 +190,14 @@ impl<'c> Checker<'c> {
         is_found
     }
 
+    /// Whether an assertion was moved.
+    fn was_moved(&self, label: &[u8]) -> bool
+        ensures { (e : Edited) (source : List ℕ) (old : List Pieces) → IsKnown e source old self.now
+            → IsTrue result → IsTrue (is_in e.moved label.now) }
+    {
+        self.moved.text_for(label).is_some()
+    }
+
     /// Whether an assertion goes as it stood.
     fn is_as_it_stood(&self, coming: Coming<'_>, label: &[u8]) -> bool
         ensures { (e : Edited) (source : List ℕ) (old : List Pieces) → IsKnown e source old self.now
@@ -172,12 +209,34 @@ impl<'c> Checker<'c> {
         ) else {
             return false;
         };
-        self.moved.text_for(label).is_some()
-            && coming.front.is_empty()
-            && coming.back.is_empty()
-            && self.is_outermost(coming.first)
-            && self.is_alone(coming.first, coming.end, label)
-            && (is_block(unit) || is_described(before, unit))
+        if !self.was_moved(label)
+            || !coming.front.is_empty()
+            || !coming.back.is_empty()
+            || !self.is_outermost(coming.first)
+            || !self.is_alone(coming.first, coming.end, label)
+        {
+            return false;
+        }
+        is_whole(before, unit)
+    }
+
+    /// Whether a block is open in front of an item.
+    fn is_inside(&self, place: usize) -> bool
+        ensures { (e : Edited) (source : List ℕ) (old : List Pieces) → IsKnown e source old self.now
+            → IsTrue result → open_behind 0 (take place self.now.parts.now) ≡ Some 0 → ⊥ }
+    {
+        match self.depths.get(place) {
+            Some(Some(depth)) => *depth > 0,
+            _ => false,
+        }
+    }
+
+    /// Whether an assertion was moved, or leaves a block.
+    fn may_part(&self, place: usize, label: &[u8]) -> bool
+        ensures { (e : Edited) (source : List ℕ) (old : List Pieces) → IsKnown e source old self.now
+            → IsTrue result → IsTrue (is_in e.moved label.now) ⊎ (open_behind 0 (take place self.now.parts.now) ≡ Some 0 → ⊥) }
+    {
+        self.was_moved(label) || self.is_inside(place)
     }
 
     /// Whether an assertion is written anew that leaves its block, or was moved.
@@ -195,20 +254,10 @@ impl<'c> Checker<'c> {
         let Kind::Assertion(other) = item.kind else {
             return false;
         };
-        other == label
-            && is_description(before, unit)
-            && (self.moved.text_for(label).is_some() || self.is_inside(coming.end))
-    }
-
-    /// Whether a block is open in front of an item.
-    fn is_inside(&self, place: usize) -> bool
-        ensures { (e : Edited) (source : List ℕ) (old : List Pieces) → IsKnown e source old self.now
-            → IsTrue result → open_behind 0 (take place self.now.parts.now) ≡ Some 0 → ⊥ }
-    {
-        match self.depths.get(place) {
-            Some(Some(depth)) => *depth > 0,
-            _ => false,
+        if other != label || !is_description(before, unit) || !is_written(coming) {
+            return false;
         }
+        self.may_part(coming.end, label)
     }
 
     /// Whether what comes is what it is said to be.
@@ -217,7 +266,7 @@ impl<'c> Checker<'c> {
             → IsTrue result → IsFrom e old (source_of coming.entry) coming.entry }
     {
         match coming.source {
-            None => coming.first == coming.end,
+            None => coming.first == coming.end && is_written(coming),
             Some(label) => {
                 self.moving.text_for(label).is_some()
                     && (self.is_as_it_stood(coming, label) || self.is_parted(coming, label))
@@ -242,7 +291,7 @@ impl<'c> Checker<'c> {
             → IsTrue result → All (MayCome e old) comings.now }
     {
         for coming in comings {
-            if !self.is_free(coming.place) || !self.is_from(*coming) {
+            if !self.is_free(coming.place) || !self.is_from(*coming) || !self.is_under(*coming) {
                 return false;
             }
         }

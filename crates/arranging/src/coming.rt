@@ -1,5 +1,20 @@
 //! What is put into a source.
 
+/// Why something is put in where it is.
+#[derive(Clone, Copy)]
+pub enum Why<'t> {
+    /// Behind an assertion of the library that keeps its place: so many items of the source stand in front of that.
+    Behind(usize),
+    /// Behind the declaration of a name that it mentions: so many items stand in front of that.
+    Declared(usize, &'t [u8]),
+    /// In front of the first of the library's that keeps its place: so many items stand in front of that.
+    First(usize),
+    /// In front of a block which an assertion leaves: so many items stand in front of the block, and up to its end.
+    Block(usize, usize),
+    /// None of the library's keeps its place.
+    Alone,
+}
+
 /// What is put into a source at a place: a text, then items of the source, as they read then, and a text behind them.
 #[derive(Clone, Copy)]
 pub struct Coming<'t> {
@@ -7,6 +22,8 @@ pub struct Coming<'t> {
     pub source: Option<&'t [u8]>,
     /// So many items of the source stand in front of the place.
     pub place: usize,
+    /// Why it is put in there.
+    pub why: Why<'t>,
     /// The text in front of its items.
     pub front: &'t [u8],
     /// So many items of the source stand in front of those that go along.

@@ -3,8 +3,9 @@
 ghost use Rattle.std.specs.Prelude.{◌≡◌, ◌≤◌, [], All, List, IfOk, IfSome, length};
 ghost use Rattle.leaving.specs.Leaving.{AreGoing};
 ghost use Rattle.items.specs.Items.{Item as Pieces};
-ghost use Rattle.arranging.specs.Arranged.{Edited, parts, IsLayout};
-ghost use Rattle.arranging.specs.Places.{MayCome};
+ghost use Rattle.arranging.specs.Parts.{Edited, parts};
+ghost use Rattle.arranging.specs.Arranged.{IsLayout};
+ghost use Rattle.arranging.specs.Places.{MayCome, GoesOn, item_placed};
 
 use crate::coming::{Coming, Placed};
 use std::alloc::{AllocError, Global};
@@ -17,6 +18,9 @@ fn put_at<'t>(
     place: usize,
 ) -> Result<usize, AllocError>
     requires { from ≤ length comings.now }
+    ensures next { IfOk result (λ next. next ≤ length comings.now) }
+    ensures layout { (e : Edited) (old : List Pieces) → All (MayCome e old) comings.now → GoesOn e old layout.old.items place
+        → IfOk result (λ _. GoesOn e old layout.new.items place) }
 {
     let mut next = from;
     while next < comings.len() && comings[next].place == place {
@@ -24,6 +28,13 @@ fn put_at<'t>(
         next += 1;
     }
     Ok(next)
+}
+
+/// What stands where the next item stood.
+fn item_placed<'t>(leaves: bool) -> Placed<'t>
+    ensures { result ≡ item_placed leaves }
+{
+    if leaves { Placed::Goes } else { Placed::Stays }
 }
 
 /// Where items stand, of which those leave their places which these flags say, and what is put in between: it is given in the order of
@@ -38,13 +49,9 @@ pub(crate) fn layout_of<'t>(
 {
     let mut layout = Vec::with_capacity(alloc, goes.len())?;
     let mut next = 0;
-    for (place, goes) in goes.iter().enumerate() {
+    for (place, leaves) in goes.iter().enumerate() {
         next = put_at(&mut layout, comings, next, place)?;
-        layout.push(if *goes {
-            Placed::Goes
-        } else {
-            Placed::Stays
-        })?;
+        layout.push(item_placed(*leaves))?;
     }
     next = put_at(&mut layout, comings, next, goes.len())?;
     Ok((next == comings.len()).then_some(layout))

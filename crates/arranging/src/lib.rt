@@ -5,9 +5,11 @@ mod call;
 mod checking;
 mod coming;
 mod describing;
+mod group;
 mod layout;
 mod printing;
+mod sections;
 
 pub use call::{Edits, arrange};
-pub use coming::Coming;
+pub use coming::{Coming, Why};
 pub use describing::parts_of;

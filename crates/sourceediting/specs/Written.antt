@@ -8,8 +8,11 @@ use Rattle.library.specs.declared.command.Command.{Command}
 use Rattle.sourceediting.specs.Following.{Followed, KeepsPlaces}
 
 -- the labels in the source of those that were moved
+abbrev pub moved_from : Followed → Option Word
+moved_from x = if x.moved then x.source else None
+
 abbrev pub moved_in : List Followed → List Word
-moved_in living = filter_map (λ x. if x.moved then x.source else None) living
+moved_in living = filter_map moved_from living
 
 -- labels change, proofs are exchanged, and assertions that were deleted leave their places; just those that were moved, and some that leave
 -- a block in which others stand, are put in elsewhere; and those that were added are put in

@@ -10,6 +10,7 @@ ghost use Rattle.taking.specs.Reasons.{Choice};
 ghost use Rattle.sourceediting.specs.Following.{renamed, ranked, source_of, added, behind, behind_all, all_commands, opening, label_then};
 ghost use Rattle.sourceediting.specs.Following.{change_of, changes_of};
 ghost use Rattle.sourceediting.specs.Reproved.{now_of};
+ghost use Rattle.sourceediting.specs.Written.{moved_from};
 ghost use Rattle.sourceediting.specs.Views.{seen_followed, seen_living, seen_following};
 
 use library::{Command, Entry};
@@ -81,6 +82,13 @@ impl<'h> Followed<'h> {
 }
 
 impl<'h> Followed<'h> {
+    /// Its label in the source, if it was moved.
+    pub(crate) fn moved_from(&self) -> Option<&'h [u8]>
+        ensures { option_map (λ w. w.now) result ≡ moved_from (seen_followed self.entry.now) }
+    {
+        if self.moved { self.source } else { None }
+    }
+
     /// The label that it had in the library at the opening, with its label now: none of one that was added.
     pub(crate) fn change_in_library(&self) -> Option<(&'h [u8], &'h [u8])>
         ensures { option_map (λ p. (p.0.now, p.1.now)) result

@@ -227,9 +227,7 @@ fn moved_in<'x>(alloc: Global, living: &[Followed<'x>]) -> Result<Vec<&'x [u8]>,
 {
     let mut moved = Vec::new(alloc);
     for followed in living {
-        if let Some(source) = followed.source
-            && followed.moved
-        {
+        if let Some(source) = followed.moved_from() {
             moved.push(source)?;
         }
     }
