@@ -10,13 +10,46 @@ use giving::Changes;
 use mmtext::{FaultKind, TextFault};
 use scopes::Scopes;
 use secondlook::{Edits, Unlike};
-use sourceediting::{File, Refusal, marked};
+use source::Declared;
+use sourceediting::{File, Refusal, marked, shown};
 use std::alloc::{AllocError, Global};
 use std::hash::RandomState;
 
 /// Why the source with the edits is not as it should be.
 fn unfit(alloc: Global, why: &str) -> Result<Refusal, AllocError> {
     Ok(Refusal::Text(File::History, format!(in alloc; "with these edits {why}")?))
+}
+
+/// The label of the assertion with a number among those that aren't the library's.
+fn other_at<'a>(old: &Scopes<'a>, own: &[bool], number: usize) -> Option<&'a [u8]> {
+    let mut left = number;
+    for (place, is_own) in own.iter().enumerate() {
+        if *is_own {
+            continue;
+        }
+        if left == 0 {
+            return old.label(place);
+        }
+        left -= 1;
+    }
+    None
+}
+
+/// Another assertion than the library's isn't as it was: that with a number among these.
+fn changed(
+    alloc: Global,
+    old: &Scopes<'_>,
+    own: &[bool],
+    number: usize,
+) -> Result<Refusal, AllocError> {
+    let why = match other_at(old, own, number) {
+        Some(label) => {
+            let label = shown(label);
+            format!(in alloc; "with these edits {label} changes, which was not taken")?
+        }
+        None => format!(in alloc; "with these edits another assertion is there")?,
+    };
+    Ok(Refusal::Text(File::History, why))
 }
 
 /// Why the source with the edits can't be read.
@@ -55,7 +88,7 @@ pub(crate) fn unprinted(
         Unlike::Unread(fault) => return unread(alloc, keys, old, out, edits, fault),
         Unlike::Untaken => "the library can't be taken again",
         Unlike::AnotherLibrary => "another library is taken",
-        Unlike::AnotherAssertion => "another assertion changes",
+        Unlike::AnotherAssertion(number) => return changed(alloc, old, edits.own, number),
         Unlike::NoMemory => return Err(AllocError),
     };
     unfit(alloc, why)

@@ -77,7 +77,7 @@ fn stay<'a, D: Declared<'a>, E: Declared<'a>>(
 {
     match first_not_staying(alloc, changes, old, new, chosen, taken)? {
         None => Ok(()),
-        Some(_) => Err(Unlike::AnotherAssertion),
+        Some(number) => Err(Unlike::AnotherAssertion(number)),
     }
 }
 

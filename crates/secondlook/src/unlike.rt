@@ -12,8 +12,9 @@ pub enum Unlike {
     Untaken,
     /// Another library than the edited one is taken.
     AnotherLibrary,
-    /// An assertion that isn't the library's doesn't stay.
-    AnotherAssertion,
+    /// An assertion that isn't the library's doesn't stay: its number among these in the source, counted from 0. None has this number
+    /// where there are more of them in the text.
+    AnotherAssertion(usize),
     /// Memory ran out.
     NoMemory,
 }

@@ -6,7 +6,7 @@ use std::alloc::{AllocError, Global};
 use std::collections::HashMap;
 use std::hash::RandomState;
 
-/// A name, and how many items of a source stand up to its declaration.
+/// A name, and how many items of a source stand up to its declaration: at least one.
 #[derive(Clone, Copy)]
 pub(crate) struct Declared<'s> {
     pub name: &'s [u8],

@@ -3,15 +3,16 @@
 //! there, and so does what is put behind it. None stands in front of what declares a symbol that it mentions, nor between a description
 //! and what that describes.
 
-use crate::declaring::{Declarations, Declared, declarations_of, later, needed_by};
+use crate::declaring::{Declarations, Declared, later, needed_by};
 use crate::following::Followed;
 use crate::outline::{Outline, Stretch};
 use crate::refusal::{Refusal, shown};
-use arranging::Coming;
+use arranging::{Coming, Why};
 use giving::Changes;
 use items::Item;
 use leaving::Part;
 use library::Ranked;
+use sourcewriting::Written;
 use std::alloc::{AllocError, Global};
 use std::collections::HashMap;
 use std::hash::RandomState;
@@ -23,6 +24,7 @@ pub(crate) struct Known<'s> {
     /// The part that each plays, where nothing leaves.
     pub parts: Vec<Part>,
     pub outline: Outline<'s>,
+    pub declarations: Declarations<'s>,
 }
 
 // Proved once: a derived drop is written out at each exit of a function that holds such a value.
@@ -33,6 +35,7 @@ impl<'s> Drop for Known<'s> {
             items: _,
             parts: _,
             outline: _,
+            declarations: _,
         } = self;
     }
 }
@@ -70,14 +73,37 @@ impl<'s> Known<'s> {
 pub(crate) struct Piece<'x> {
     /// Its label in the source: none of one that is added.
     pub source: Option<&'x [u8]>,
-    /// The text in front of the items that go along.
-    pub front: Vec<u8>,
-    /// These.
+    /// The text in front of the items that go along, and that behind them.
+    pub text: Written,
+    /// The items that go along.
     pub unit: Stretch,
-    /// The text behind them.
-    pub back: Vec<u8>,
     /// Whether it goes in front of the block which it leaves.
     pub is_in_front: bool,
+    /// Of the names that it mentions, the one that is declared last.
+    needed: Option<Declared<'x>>,
+}
+
+impl<'x> Piece<'x> {
+    /// One with this label in the source, if it has one, and with these items of the source between its text.
+    pub(crate) fn new(
+        known: &Known<'x>,
+        source: Option<&'x [u8]>,
+        text: Written,
+        unit: Stretch,
+        is_in_front: bool,
+    ) -> Piece<'x> {
+        let declarations = &known.declarations;
+        let front = needed_by(declarations, text.front.as_slice());
+        let inside = needed_by(declarations, known.text_of(unit));
+        let back = needed_by(declarations, text.back.as_slice());
+        Piece {
+            source,
+            text,
+            unit,
+            is_in_front,
+            needed: later(later(front, inside), back),
+        }
+    }
 }
 
 /// Those that are put in, by their labels in the library now.
@@ -101,92 +127,120 @@ fn staying_by_now<'x>(
     Ok(labels)
 }
 
-/// Where the assertion with a label stands: the outermost block around it, or else itself with what describes it. None where it isn't
-/// there.
-fn stretch_of(
+/// An assertion of the library that stays.
+#[derive(Clone, Copy)]
+struct Staying {
+    /// So many items stand in front of it.
+    place: usize,
+    /// The outermost block around it, or else itself with what describes it.
+    whole: Stretch,
+}
+
+/// Where the assertion with a label stands. None where it isn't there.
+fn staying_at(
     outline: &Outline<'_>,
     numbers: &HashMap<&[u8], usize, RandomState>,
     label: &[u8],
-) -> Option<Stretch> {
+) -> Option<Staying> {
     let number = numbers.get(label)?;
     let standing = outline.assertions.get(*number)?;
-    Some(outline.whole(standing))
+    Some(Staying {
+        place: standing.place,
+        whole: outline.whole(standing),
+    })
 }
 
-/// Where the assertions of a library stand that stay, in the library's order: the outermost block around each, or else itself with what
-/// describes it. None for the others.
-fn stretches_of(
+/// Where the assertions of a library stand that stay, in the library's order. None for the others.
+fn staying_of(
     alloc: Global,
     keys: RandomState,
     known: &Known<'_>,
     living: &[Followed<'_>],
     moving: &Changes<'_>,
     entries: &[Ranked],
-) -> Result<Vec<Option<Stretch>>, AllocError> {
+) -> Result<Vec<Option<Staying>>, AllocError> {
     let labels = staying_by_now(alloc, keys, living, moving)?;
     let numbers = known.outline.by_label(alloc, keys)?;
-    let mut stretches = Vec::new(alloc);
+    let mut places = Vec::new(alloc);
     for entry in entries {
-        let stretch = match labels.get(entry.assertion.label.as_slice()) {
-            Some(label) => stretch_of(&known.outline, &numbers, label),
+        let staying = match labels.get(entry.assertion.label.as_slice()) {
+            Some(label) => staying_at(&known.outline, &numbers, label),
             None => None,
         };
-        stretches.push(stretch)?;
+        places.push(staying)?;
     }
-    Ok(stretches)
+    Ok(places)
 }
 
-/// Where the first of these begins that stands there, or else behind the last item.
-fn first_begin(known: &Known<'_>, stretches: &[Option<Stretch>]) -> usize {
-    for stretch in stretches {
-        if let Some(stretch) = stretch {
-            return stretch.first;
+/// The first of these that stays.
+fn first_of(places: &[Option<Staying>]) -> Option<Staying> {
+    for staying in places {
+        if staying.is_some() {
+            return *staying;
         }
     }
-    known.items.len()
+    None
 }
 
-/// Puts those that come behind so many others at another place.
-fn put_at(comings: &mut [Coming<'_>], first: usize, place: usize) {
+/// Puts those that come behind so many others in front of a block which the first of them leaves.
+fn put_in_front(comings: &mut [Coming<'_>], first: usize, place: usize, block: Stretch) {
     for coming in comings.iter_mut().skip(first) {
         coming.place = place;
+        coming.why = Why::Block(block.first, block.end);
     }
 }
 
 /// One that was put behind the declaration of a name which it mentions.
 #[derive(Clone, Copy)]
-struct Held<'s> {
+struct Held<'t> {
     /// Its number among the library's assertions, counted from 0.
     number: usize,
-    needed: Declared<'s>,
+    needed: Declared<'t>,
 }
 
 /// How far the library's assertions were walked over, in its order.
 #[derive(Drop)]
-struct Filling<'k, 's, 't> {
-    known: &'k Known<'s>,
+struct Filling<'t> {
     comings: Vec<Coming<'t>>,
-    /// Where the last of those ends that stay, or what declares a name that one mentions which was put in.
+    /// Where the last of those ends that stay, or the declaration of a name that one mentions which was put in.
     at: usize,
+    /// Which of these it is.
+    why: Why<'t>,
     /// How many come before those that wait for the next that stays.
     waiting: Option<usize>,
     /// The last one that was put in farther behind, for what it mentions.
-    held: Option<Held<'s>>,
+    held: Option<Held<'t>>,
 }
 
-impl<'s, 't> Filling<'_, 's, 't> {
-    /// One that is put in, which mentions this.
-    fn put(
-        &mut self,
-        number: usize,
-        piece: &'t Piece<'_>,
-        needed: Option<Declared<'s>>,
-    ) -> Result<(), AllocError> {
-        if let Some(needed) = needed
-            && self.at < needed.from
-        {
+impl<'t> Filling<'t> {
+    /// Before any of them.
+    fn new(alloc: Global, known: &Known<'_>, first: Option<Staying>) -> Filling<'t> {
+        let (at, why) = match first {
+            Some(first) => (known.apart(first.whole.first), Why::First(first.place)),
+            None => (known.items.len(), Why::Alone),
+        };
+        Filling {
+            comings: Vec::new(alloc),
+            at,
+            why,
+            waiting: None,
+            held: None,
+        }
+    }
+
+    /// Goes behind the declaration of what one mentions that is put in, and has this number.
+    fn go_behind(&mut self, number: usize, needed: Declared<'t>) {
+        if self.at < needed.from {
             self.at = needed.from;
+            self.why = Why::Declared(needed.from.saturating_sub(1), needed.name);
             self.held = Some(Held { number, needed });
+        }
+    }
+
+    /// One that is put in, which has this number.
+    fn put(&mut self, number: usize, piece: &'t Piece<'_>) -> Result<(), AllocError> {
+        if let Some(needed) = piece.needed {
+            self.go_behind(number, needed);
         }
         if piece.is_in_front && self.waiting.is_none() {
             self.waiting = Some(self.comings.len());
@@ -194,28 +248,33 @@ impl<'s, 't> Filling<'_, 's, 't> {
         self.comings.push(Coming {
             source: piece.source,
             place: self.at,
-            front: piece.front.as_slice(),
+            why: self.why,
+            front: piece.text.front.as_slice(),
             first: piece.unit.first,
             end: piece.unit.end,
-            back: piece.back.as_slice(),
+            back: piece.text.back.as_slice(),
         })?;
         Ok(())
     }
 
-    /// One that stays. The one that can't stand in front of it, if one can't.
-    fn pass(&mut self, stretch: Stretch) -> Option<Held<'s>> {
+    /// One that stays, in front of which something may be put in at this place. The one that can't stand in front of it, if one can't.
+    fn pass(&mut self, staying: Staying, apart: usize) -> Option<Held<'t>> {
+        let whole = staying.whole;
         if let Some(held) = self.held
-            && stretch.first < held.needed.from
+            && whole.first < held.needed.from
         {
             return Some(held);
         }
         if let Some(first) = self.waiting {
-            let place = self.at.max(self.known.apart(stretch.first));
-            put_at(self.comings.as_mut_slice(), first, place);
+            let place = self.at.max(apart);
+            put_in_front(self.comings.as_mut_slice(), first, place, whole);
         }
         self.waiting = None;
         self.held = None;
-        self.at = self.at.max(stretch.end);
+        if self.at <= whole.end {
+            self.at = whole.end;
+            self.why = Why::Behind(staying.place);
+        }
         None
     }
 }
@@ -232,36 +291,6 @@ fn held_behind(alloc: Global, entries: &[Ranked], held: Held<'_>, next: &[u8]) -
     ))
 }
 
-/// What one that is put in mentions: of this, what is declared last.
-fn needed_of<'s>(
-    known: &Known<'s>,
-    declarations: &Declarations<'s>,
-    piece: &Piece<'_>,
-) -> Option<Declared<'s>> {
-    let front = needed_by(declarations, piece.front.as_slice());
-    let unit = needed_by(declarations, known.text_of(piece.unit));
-    let back = needed_by(declarations, piece.back.as_slice());
-    later(later(front, unit), back)
-}
-
-/// The next assertion of the library, which has this number: it is put in, or stays, or isn't there. The one that can't stand in front of
-/// it, if one can't.
-fn fill_next<'s, 't>(
-    filling: &mut Filling<'_, 's, 't>,
-    declarations: &Declarations<'s>,
-    number: usize,
-    piece: Option<&'t Piece<'_>>,
-    stretch: Option<Stretch>,
-) -> Result<Option<Held<'s>>, AllocError> {
-    if let Some(piece) = piece {
-        let needed = needed_of(filling.known, declarations, piece);
-        filling.put(number, piece, needed)?;
-    } else if let Some(stretch) = stretch {
-        return Ok(filling.pass(stretch));
-    }
-    Ok(None)
-}
-
 /// What is put in, in the order of its places.
 ///
 /// # Errors
@@ -276,20 +305,17 @@ pub(crate) fn comings_of<'t>(
     entries: &[Ranked],
     texts: &'t Texts<'_>,
 ) -> Result<Vec<Coming<'t>>, Refusal> {
-    let stretches = stretches_of(alloc, keys, known, living, moving, entries)?;
-    let declarations = declarations_of(alloc, keys, known.text, known.items.as_slice())?;
-    let mut filling = Filling {
-        known,
-        comings: Vec::new(alloc),
-        at: known.apart(first_begin(known, stretches.as_slice())),
-        waiting: None,
-        held: None,
-    };
-    for (number, (entry, stretch)) in entries.iter().zip(stretches.as_slice()).enumerate() {
+    let places = staying_of(alloc, keys, known, living, moving, entries)?;
+    let mut filling = Filling::new(alloc, known, first_of(places.as_slice()));
+    for (number, (entry, staying)) in entries.iter().zip(places.as_slice()).enumerate() {
         let label = entry.assertion.label.as_slice();
-        let piece = texts.get(label);
-        if let Some(held) = fill_next(&mut filling, &declarations, number, piece, *stretch)? {
-            return Err(held_behind(alloc, entries, held, label));
+        if let Some(piece) = texts.get(label) {
+            filling.put(number, piece)?;
+        } else if let Some(staying) = staying {
+            let apart = known.apart(staying.whole.first);
+            if let Some(held) = filling.pass(*staying, apart) {
+                return Err(held_behind(alloc, entries, held, label));
+            }
         }
     }
     let Filling { comings, .. } = filling;

@@ -89,6 +89,13 @@ impl<'h> Followed<'h> {
         if self.moved { self.source } else { None }
     }
 
+    /// Its label in the source: none of one that was added.
+    pub(crate) fn source_label(&self) -> Option<&'h [u8]>
+        ensures { option_map (λ w. w.now) result ≡ (seen_followed self.entry.now).source }
+    {
+        self.source
+    }
+
     /// The label that it had in the library at the opening, with its label now: none of one that was added.
     pub(crate) fn change_in_library(&self) -> Option<(&'h [u8], &'h [u8])>
         ensures { option_map (λ p. (p.0.now, p.1.now)) result

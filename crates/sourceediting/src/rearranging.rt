@@ -5,9 +5,10 @@ ghost use Rattle.source.specs.Views.{seen_words};
 ghost use Rattle.items.specs.Reading.{AreItems};
 ghost use Rattle.items.specs.Rewriting.{IsRewritten};
 ghost use Rattle.sourceediting.specs.Views.{seen_living};
-ghost use Rattle.sourceediting.specs.Written.{IsRearranged, moved_in};
+ghost use Rattle.sourceediting.specs.Written.{IsRearranged, moved_in, sources_of};
 
 use crate::citing::marked;
+use crate::declaring::declarations_of;
 use crate::filling::{Known, Piece, Texts, comings_of};
 use crate::following::Followed;
 use crate::moving::{Moving, moving_of};
@@ -65,14 +66,17 @@ fn text_of<'x, 'a, D: Declared<'a>>(
 }
 
 /// One that stands alone: it goes as it stands, with what describes it or with its block.
-fn as_it_stands<'x>(alloc: Global, source: &'x [u8], unit: Stretch) -> Piece<'x> {
-    Piece {
-        source: Some(source),
+fn as_it_stands<'x>(
+    alloc: Global,
+    known: &Known<'x>,
+    source: &'x [u8],
+    unit: Stretch,
+) -> Piece<'x> {
+    let text = Written {
         front: Vec::new(alloc),
-        unit,
         back: Vec::new(alloc),
-        is_in_front: false,
-    }
+    };
+    Piece::new(known, Some(source), text, unit, false)
 }
 
 /// One that leaves a block in which others stand: it is written anew, with `$e` of its own, behind what describes it.
@@ -80,6 +84,7 @@ fn parted<'x, 'a, D: Declared<'a>>(
     alloc: Global,
     keys: RandomState,
     declared: &D,
+    known: &Known<'x>,
     standing: &Standing<'x>,
     now: &'x [u8],
     is_in_front: bool,
@@ -95,18 +100,12 @@ fn parted<'x, 'a, D: Declared<'a>>(
         label: edits.changes.text_for(source).unwrap_or(source),
         is_compressed: is_compressed(declared, source),
     };
-    let Written { front, back } = text_of(alloc, keys, declared, words, edits, now, &statement)?;
+    let text = text_of(alloc, keys, declared, words, edits, now, &statement)?;
     let unit = Stretch {
         first: standing.first,
         end: standing.place,
     };
-    Ok(Piece {
-        source: Some(source),
-        front,
-        unit,
-        back,
-        is_in_front,
-    })
+    Ok(Piece::new(known, Some(source), text, unit, is_in_front))
 }
 
 /// Those that stand elsewhere then.
@@ -124,10 +123,12 @@ fn put_moved<'x, 'a, D: Declared<'a>>(
         let source = standing.label;
         if let Some(now) = moving.labels.text_for(source) {
             let piece = if known.outline.is_alone(standing) {
-                as_it_stands(alloc, source, known.outline.whole(standing))
+                as_it_stands(alloc, known, source, known.outline.whole(standing))
             } else {
                 let is_in_front = moving.in_front.text_for(source).is_some();
-                parted(alloc, keys, declared, standing, now, is_in_front, words, edits)?
+                parted(
+                    alloc, keys, declared, known, standing, now, is_in_front, words, edits,
+                )?
             };
             texts.insert(now, piece)?;
         }
@@ -150,6 +151,7 @@ fn put_added<'x, 'a, D: Declared<'a>>(
     alloc: Global,
     keys: RandomState,
     declared: &D,
+    known: &Known<'x>,
     words: &SymbolWords<'x>,
     edits: &Rearranged<'x>,
     texts: &mut Texts<'x>,
@@ -165,16 +167,9 @@ fn put_added<'x, 'a, D: Declared<'a>>(
             label: now,
             is_compressed,
         };
-        let Written { front, back } =
-            text_of(alloc, keys, declared, words, edits, now, &statement)?;
-        let piece = Piece {
-            source: None,
-            front,
-            unit: Stretch { first: 0, end: 0 },
-            back,
-            is_in_front: false,
-        };
-        texts.insert(now, piece)?;
+        let text = text_of(alloc, keys, declared, words, edits, now, &statement)?;
+        let unit = Stretch { first: 0, end: 0 };
+        texts.insert(now, Piece::new(known, None, text, unit, false))?;
     }
     Ok(())
 }
@@ -194,7 +189,7 @@ fn texts_of<'x, 'a, D: Declared<'a>>(
     put_moved(
         alloc, keys, declared, known, moving, &words, edits, &mut texts,
     )?;
-    put_added(alloc, keys, declared, &words, edits, &mut texts)?;
+    put_added(alloc, keys, declared, known, &words, edits, &mut texts)?;
     Ok(texts)
 }
 
@@ -234,6 +229,19 @@ fn moved_in<'x>(alloc: Global, living: &[Followed<'x>]) -> Result<Vec<&'x [u8]>,
     Ok(moved)
 }
 
+/// The labels in the source of those that live.
+fn sources_of<'x>(alloc: Global, living: &[Followed<'x>]) -> Result<Vec<&'x [u8]>, AllocError>
+    ensures { IfOk result (λ made. seen_words made.items ≡ sources_of (seen_living living.now)) }
+{
+    let mut sources = Vec::new(alloc);
+    for followed in living {
+        if let Some(source) = followed.source_label() {
+            sources.push(source)?;
+        }
+    }
+    Ok(sources)
+}
+
 /// The source with the edits, of which these are the items, and this is put in.
 fn arranged(
     alloc: Global,
@@ -251,12 +259,15 @@ fn arranged(
     let gone = marked(alloc, keys, edits.planned.gone)?;
     let moved = moved_in(alloc, edits.planned.living)?;
     let moved = marked(alloc, keys, moved.as_slice())?;
+    let library = sources_of(alloc, edits.planned.living)?;
+    let library = marked(alloc, keys, library.as_slice())?;
     let edits = Edits {
         changes: edits.changes,
         proofs: edits.proofs,
         gone: &gone,
         moving,
         moved: &moved,
+        library: &library,
     };
     match arrange(alloc, edits, source, items, comings)? {
         Some(out) => Ok(out),
@@ -297,11 +308,13 @@ fn known_of<'x>(alloc: Global, keys: RandomState, source: &'x [u8]) -> Result<Kn
     let none = marked(alloc, keys, &[])?;
     let parts = parts_of(alloc, &none, &none, source, items.as_slice())?;
     let outline = outline_of(alloc, items.as_slice(), parts.as_slice())?;
+    let declarations = declarations_of(alloc, keys, source, items.as_slice())?;
     Ok(Known {
         text: source,
         items,
         parts,
         outline,
+        declarations,
     })
 }
 
