@@ -26,6 +26,7 @@ use Rattle.leaving.specs.declared.part.Part.{Part}
 use Rattle.leaving.specs.Leaving.{open_behind}
 use Rattle.arranging.specs.declared.coming.Coming.{Coming}
 use Rattle.arranging.specs.Parts.{Edited, parts, unit_of, part_of, labels_in}
+use Rattle.arranging.specs.Groups.{IsWritten}
 use Rattle.arranging.specs.Arranged.{labels_of, AsItStood, IsParted, IsFrom, source_of}
 use Rattle.arranging.specs.Arranged.{ends_described, IsDescription}
 use Rattle.arranging.specs.Places.{IsFree, IsWhole, MayCome}
@@ -148,8 +149,8 @@ module _ (e : Edited) (old : List Item) (ps : List Part) (are : ps ≡ parts e o
 
     pub parted : (text : List ℕ) (items : List Found) (f : Found) (other : Bor (List ℕ)) → AreFound text 0 items old
         → slice_get items c.end ≡ Some f → f.kind ≡ Assertion other → other.now ≡ label → IsDescription before unit
-        → IsTrue (is_in e.moved label) ⊎ (open_behind 0 (take c.end ps) ≡ Some 0 → ⊥) → IsParted e old label c
-    parted text items f other found at is same described why =
+        → IsTrue (is_in e.moved label) ⊎ (open_behind 0 (take c.end ps) ≡ Some 0 → ⊥) → IsWritten c → IsParted e old label c
+    parted text items f other found at is same described why anew =
         let here = found_at text 0 items old c.end f found at in
         let kind : IsOfKind (Assertion other) here.0 = subst (λ k. IsOfKind k here.0) is here.2 in record {
           item = here.0;
@@ -157,6 +158,7 @@ module _ (e : Edited) (old : List Item) (ps : List Part) (are : ps ≡ parts e o
           labelled = kind.1 ∙ ap (λ w. w ∷ []) same;
           described = both_there IsDescription described;
           why = subst (λ qs. IsTrue (is_in e.moved label) ⊎ (open_behind 0 qs ≡ Some 0 → ⊥)) (parts_up_to c.end) why;
+          written = anew;
         }
 
 pub comes_free : (e : Edited) (old : List Item) (c : Coming) → IsFree e old c.place → IsFrom e old (source_of c) c → MayCome e old c

@@ -3,3 +3,4 @@ mod Printed
 mod Depths
 mod Known
 mod Laid
+mod Anew

@@ -1,5 +1,6 @@
 pub mod Parts
 pub mod Groups
+pub mod Written
 pub mod Sections
 pub mod Arranged
 pub mod Places

@@ -4,12 +4,11 @@ use Rattle.std.proofs.Common.{append-nil, append_assoc, get_or, All}
 use Rattle.std.proofs.Math.Seq.{take-length, drop-length}
 use Rattle.std.proofs.lemmas.List.{drop_more}
 use Rattle.std.proofs.lemmas.List.Elements.{All-nil, All-cons}
-use Rattle.mmtext.specs.Comments.{words_of}
 use Rattle.items.specs.declared.reading.Item.{Item as Found}
-use Rattle.items.specs.Items.{Item, words, pieces_of, IsItem, Spells}
+use Rattle.items.specs.Items.{Item, pieces_of, IsItem, Spells}
 use Rattle.items.specs.Reading.{tokens_at, Stands, IsOfKind, IsItemAt, AreFound, AreItems, IsBehind}
 use Rattle.items.proofs.Standing.{stands_both}
-use Rattle.items.proofs.Spelled.{bytes_stand, words_stand}
+use Rattle.items.proofs.Spelled.{spells_stand}
 use Rattle.items.proofs.PutThen.{is_item}
 
 -- ---- so far
@@ -119,10 +118,5 @@ module _ (text : List ℕ) where
       let stands =
       subst (λ ys. Stands text 0 (pieces_of ys) end) (ap (λ n. take n xs) many ∙ take-length xs) b.stands in
       let no_more = ap (λ n. drop n xs) many ∙ drop-length xs in
-      let none = none_left end (drop (length fs) fs) (drop (length fs) xs) (drop-length fs) no_more b.left in record {
-        bytes = bytes_stand text 0 end (pieces_of xs) stands;
-        tokens_are =
-            words_stand text 0 end (pieces_of xs) stands
-            ∙ (ap (λ ts. words (pieces_of xs) ++ words_of ts) none ∙ append-nil (words (pieces_of xs)));
-        each = each_found 0 fs xs h;
-      }
+      let none = none_left end (drop (length fs) fs) (drop (length fs) xs) (drop-length fs) no_more b.left in
+      spells_stand text xs end stands none (each_found 0 fs xs h)

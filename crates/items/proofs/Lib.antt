@@ -1,13 +1,13 @@
 mod Across
 mod Placed
-mod Standing
+pub mod Standing
 mod Commented
 mod Passed
 mod Kinded
 mod Reworded
 mod Places
 mod Stated
-mod Spelled
+pub mod Spelled
 mod Fronts
 pub mod PutThen
 pub mod Found

@@ -9,7 +9,6 @@ use Rattle.std.specs.Str.{bytes_eq}
 use Rattle.std.proofs.lemmas.Grind.{flat_map-append}
 use Rattle.std.proofs.lemmas.List.Elements.{All-push}
 use Rattle.mmtext.specs.Words.{Word}
-use Rattle.mmtext.specs.Comments.{words_of}
 use Rattle.giving.specs.Staying.{Change}
 use Rattle.items.specs.declared.reading.Kind.{Kind}
 use Rattle.items.specs.declared.reading.Kind.TheVariants.{Comment, Opening, Closing, Assertion, Other}
@@ -20,7 +19,7 @@ use Rattle.items.specs.Reading.{tokens_at, Stands, IsFrontTo, IsOfKind, IsItemAt
 use Rattle.items.specs.Machine.{rest_then}
 use Rattle.items.specs.Rewriting.{HasProofText, Reads, ReadsThen, text_for, IsRewritten}
 use Rattle.items.proofs.Standing.{stands_both}
-use Rattle.items.proofs.Spelled.{bytes_stand, words_stand}
+use Rattle.items.proofs.Spelled.{spells_stand}
 use Rattle.items.proofs.Fronts.{behind_front, last_behind, front_label}
 use Rattle.items.proofs.Stated.{at_label, assertion_reads, comment_unlabelled, mark_unlabelled}
 
@@ -127,13 +126,7 @@ module _ (cs proofs : List Change) (source : List ℕ) where
   all_put at old out p none e = record {
     items = p.0;
     rest = drop at source;
-    spells = record {
-      bytes = bytes_stand source 0 at (pieces_of p.0) p.2;
-      tokens_are =
-          words_stand source 0 at (pieces_of p.0) p.2
-          ∙ (ap (λ ts. words (pieces_of p.0) ++ words_of ts) none ∙ append-nil (words (pieces_of p.0)));
-      each = p.3;
-    };
+    spells = spells_stand source p.0 at p.2 none p.3;
     parts = p.1;
     each = p.4;
     text = e ∙ ap (λ o. o ++ drop at source) p.5;

@@ -1,11 +1,11 @@
 -- The bytes and tokens of items that stand in a text.
 use Rattle.std.proofs.Common.{◌≡◌, ◌∙◌, ℕ, suc, ◌+◌, ◌-◌, Bool, true, false, cond, List, [], ◌∷◌, ◌++◌, length, drop, take}
-use Rattle.std.proofs.Common.{refl, sym, ap, subst, arith, append_assoc}
+use Rattle.std.proofs.Common.{refl, sym, ap, subst, arith, append_assoc, append-nil, All}
 use Rattle.std.specs.Prelude.{slice_range}
 use Rattle.std.proofs.lemmas.List.{drop-drop}
 use Rattle.mmtext.specs.Text.{Token, is_white, ends_token, with_byte, tokens_from}
 use Rattle.mmtext.specs.Comments.{words_of}
-use Rattle.items.specs.Items.{Piece, Item, bytes_of, words}
+use Rattle.items.specs.Items.{Piece, Item, bytes_of, words, pieces_of, IsItem, Spells}
 use Rattle.items.specs.Reading.{tokens_at, IsFirst, end_of, Stands}
 use Rattle.items.proofs.Places.{begins_there}
 
@@ -76,7 +76,7 @@ first_bytes text at t first =
 -- ---- items
 
 -- the bytes of a text from a place on are those of an item that stands there, and those behind it
-pub bytes_stand : (text : List ℕ) (at end : ℕ) (x : Item) → Stands text at x end → drop at text ≡ bytes_of x ++ drop end text
+bytes_stand : (text : List ℕ) (at end : ℕ) (x : Item) → Stands text at x end → drop at text ≡ bytes_of x ++ drop end text
 bytes_stand text at end [] h = ap (λ k. drop k text) h
 bytes_stand text at end (p ∷ ps) h =
     first_bytes text at h.0 h.1
@@ -85,10 +85,21 @@ bytes_stand text at end (p ∷ ps) h =
     ∙ ap (λ (q : Piece). ((q.space ++ q.word) ++ bytes_of ps) ++ drop end text) (sym h.2)))
 
 -- so are its words
-pub words_stand : (text : List ℕ) (at end : ℕ) (x : Item) → Stands text at x end
+words_stand : (text : List ℕ) (at end : ℕ) (x : Item) → Stands text at x end
     → words_of (tokens_at text at) ≡ words x ++ words_of (tokens_at text end)
 words_stand text at end [] h = ap (λ k. words_of (tokens_at text k)) h
 words_stand text at end (p ∷ ps) h =
     ap words_of h.1.next
     ∙ (ap (λ ws. h.0.text ∷ ws) (words_stand text (end_of h.0) end ps h.3)
     ∙ ap (λ (q : Piece). q.word ∷ (words ps ++ words_of (tokens_at text end))) (sym h.2))
+
+-- a text is the items that stand in it up to its last token
+pub spells_stand : (text : List ℕ) (xs : List Item) (end : ℕ) → Stands text 0 (pieces_of xs) end → tokens_at text end ≡ []
+    → All IsItem xs → Spells xs (drop end text) text
+spells_stand text xs end stands none each = record {
+  bytes = bytes_stand text 0 end (pieces_of xs) stands;
+  tokens_are =
+      words_stand text 0 end (pieces_of xs) stands
+      ∙ (ap (λ ts. words (pieces_of xs) ++ words_of ts) none ∙ append-nil (words (pieces_of xs)));
+  each = each;
+}

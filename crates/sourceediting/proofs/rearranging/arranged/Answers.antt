@@ -1,10 +1,12 @@
 -- What is left to show of `arranged`.
-use Rattle.std.proofs.Common.{◌≡◌, ◌∙◌, List, ℕ, ap}
-use Rattle.std.specs.Borrow.{Bor}
+use Rattle.std.proofs.Common.{◌≡◌, ◌∙◌, List, ℕ, ap, subst}
+use Rattle.std.specs.Prelude.{IfSome, Option, Vec}
+use Rattle.std.specs.declared.alloc.Global.{Global}
 use Rattle.mmtext.specs.Words.{Word}
 use Rattle.source.specs.Views.{seen_words}
 use Rattle.giving.specs.Staying.{Change}
 use Rattle.arranging.specs.Parts.{Edited, labels_in}
+use Rattle.arranging.specs.Arranged.{IsArranged}
 use Rattle.sourceediting.specs.Marked.{marked}
 use Rattle.sourceediting.proofs.Marks.{firsts_marked}
 use Rattle.sourceediting.proofs.rearranging.arranged.Goals as goal
@@ -27,10 +29,13 @@ returns-in-Some c =
       edited = edited;
       deleted = looked_up gone (seen_words c.args.edits.now.planned.gone.now) c.in_ok-gone.ensures;
       moved =
-          looked_up moved (seen_words c.as_slice-moved.result.now) c.in_ok-moved-2.ensures
-          ∙ (ap seen_words c.as_slice-moved.ensures.value ∙ c.in_ok-moved.ensures);
+          looked_up moved (seen_words c.as_slice.result.now) c.in_ok-moved-2.ensures
+          ∙ (ap seen_words c.as_slice.ensures.value ∙ c.in_ok-moved.ensures);
       library =
-          looked_up library (seen_words c.as_slice-library.result.now) c.in_ok-library-2.ensures
-          ∙ (ap seen_words c.as_slice-library.ensures.value ∙ c.in_ok-library.ensures);
-      arranged = c.in-Some.ensures;
+          looked_up library (seen_words c.as_slice-2.result.now) c.in_ok-library-2.ensures
+          ∙ (ap seen_words c.as_slice-2.ensures.value ∙ c.in_ok-library.ensures);
+      arranged =
+          subst (λ (made : Option (Vec ℕ Global)). IfSome made
+          (λ out. IsArranged c.args.edits.now.changes.now c.args.edits.now.proofs.now edited c.args.source.now out.items)) c.in-Some.is
+          c.in_ok-out.ensures;
     }
