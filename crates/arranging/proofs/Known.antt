@@ -25,10 +25,11 @@ use Rattle.items.proofs.PutThen.{unlabelled}
 use Rattle.leaving.specs.declared.part.Part.{Part}
 use Rattle.leaving.specs.Leaving.{open_behind}
 use Rattle.arranging.specs.declared.coming.Coming.{Coming}
-use Rattle.arranging.specs.Parts.{Edited, parts, unit_of, part_of, labels_in}
+use Rattle.arranging.specs.Parts.{Edited, parts, unit_of, part_of, known_labels}
 use Rattle.arranging.specs.Groups.{IsWritten}
 use Rattle.arranging.specs.Arranged.{labels_of, AsItStood, IsParted, IsFrom, source_of}
 use Rattle.arranging.specs.Arranged.{ends_described, IsDescription}
+use Rattle.arranging.specs.Sections.{IsUnder}
 use Rattle.arranging.specs.Places.{IsFree, IsWhole, MayCome}
 
 -- ---- parts of lists
@@ -45,7 +46,7 @@ label_by _ = []
 abbrev pub label_in : Found → List Word
 label_in f = label_by f.kind
 
-has_label : (k : Kind) (x : Item) → IsOfKind k x → label_of x ≡ label_by k
+pub has_label : (k : Kind) (x : Item) → IsOfKind k x → label_of x ≡ label_by k
 has_label Comment x is = unlabelled Comment (λ label e. cc) x is
 has_label Opening x is = unlabelled Opening (λ label e. cc) x is
 has_label Closing x is = unlabelled Closing (λ label e. cc) x is
@@ -71,7 +72,7 @@ labels_between text at fs xs a b h =
     ∙ (ap (λ ls. slice_range ls a b) (same_labels text at fs xs h) ∙ sym (range_map label_in fs a b)))
     ∙ sym (flat label_in (slice_range fs a b)))
 
-unlabelled_kind : (k : Kind) → ((label : Bor (List ℕ)) → k ≡ Assertion label → ⊥) → label_by k ≡ []
+pub unlabelled_kind : (k : Kind) → ((label : Bor (List ℕ)) → k ≡ Assertion label → ⊥) → label_by k ≡ []
 unlabelled_kind Comment not_one = refl
 unlabelled_kind Opening not_one = refl
 unlabelled_kind Closing not_one = refl
@@ -161,19 +162,21 @@ module _ (e : Edited) (old : List Item) (ps : List Part) (are : ps ≡ parts e o
           written = anew;
         }
 
-pub comes_free : (e : Edited) (old : List Item) (c : Coming) → IsFree e old c.place → IsFrom e old (source_of c) c → MayCome e old c
-comes_free e old c free from = (
+pub comes_free : (e : Edited) (old : List Item) (c : Coming) → IsFree e old c.place → IsFrom e old (source_of c) c
+    → IsUnder e (take c.place old) c (drop c.place old) → MayCome e old c
+comes_free e old c free from under = (
   free.within,
   record {
     outermost = free.outermost;
     apart = free.apart;
     from = subst (λ xs. IsFrom e xs (source_of c) c) (sym (take-append-drop c.place old)) from;
+    under = under;
   },
 )
 
 -- ---- look-ups
 
-pub is_listed : (ws : List Word) (cs : List Change) (w : Word) (r : Option (Bor (List ℕ))) (b : Bool) → ws ≡ labels_in cs
+pub is_listed : (ws : List Word) (cs : List Change) (w : Word) (r : Option (Bor (List ℕ))) (b : Bool) → ws ≡ known_labels cs
     → option_map (λ (w : Bor (List ℕ)). w.now) r ≡ option_map (λ (c : Change). c.1) (find (λ (c : Change). bytes_eq w c.0) cs)
     → b ≡ is_some r → IsTrue b → IsTrue (is_in ws w)
 is_listed ws cs w r b are found is holds = ap (λ ls. is_in ls w) are ∙ (sym (text_found cs w r found) ∙ (sym is ∙ holds))

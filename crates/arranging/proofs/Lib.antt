@@ -4,3 +4,5 @@ mod Depths
 mod Known
 mod Laid
 mod Anew
+mod Said
+mod Under

@@ -13,8 +13,8 @@ use Rattle.items.specs.Items.{Item, words, label_of}
 use Rattle.arranging.specs.declared.coming.Coming.{Coming}
 
 -- labels with a fast look-up
-abbrev pub labels_in : List Change → List Word
-labels_in cs = map (λ c. c.0) cs
+abbrev pub known_labels : List Change → List Word
+known_labels cs = map (λ c. c.0) cs
 
 -- ---- headings
 

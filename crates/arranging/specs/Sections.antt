@@ -31,7 +31,7 @@ NoHeading e xs = list_any heads (parts e xs) ≡ false
 abbrev pub keeps : Edited → Item → Bool
 keeps e x = list_any (λ l. is_in e.library l && not (is_in e.moving l)) (label_of x)
 
--- the words that a statement declares: constants, variables, a $f and its variable (sections 4.2.1, 4.2.2, 4.2.4)
+-- the words that a statement declares, and its end: constants, variables, a $f and its variable (sections 4.2.1, 4.2.2, 4.2.4)
 abbrev pub is_list : Word → Bool
 is_list w = bytes_eq w (codes "$c") || bytes_eq w (codes "$v")
 
@@ -44,12 +44,13 @@ abbrev pub mentioned : List Item → Coming → List Word
 mentioned old c = words_of (tokens c.front.now) ++ (words (pieces_of (unit_of old c)) ++ words_of (tokens c.back.now))
 
 abbrev pub DeclaresFor : List Item → Coming → Item → Type 0
-DeclaresFor old c x = (w : Word) × IsTrue (is_in (declared (said x)) w) × IsTrue (is_in (mentioned old c) w)
+DeclaresFor old c x =
+    (w : Word) × (bytes_eq w (codes "$.") ≡ false) × IsTrue (is_in (declared (said x)) w) × IsTrue (is_in (mentioned old c) w)
 
 -- ---- where it stands
 
 -- behind an assertion of the library, or behind what declares a word of it, without a heading between them
-pub record IsBehind (e : Edited) (before : List Item) (c : Coming) (after : List Item) : Type 0 where
+pub record IsAfter (e : Edited) (before : List Item) (c : Coming) (after : List Item) : Type 0 where
   pub front : List Item
   pub item : Item
   pub section : List Item
@@ -58,7 +59,7 @@ pub record IsBehind (e : Edited) (before : List Item) (c : Coming) (after : List
   pub why : IsTrue (keeps e item) ⊎ DeclaresFor (before ++ after) c item
 
 -- none of the library's stands in front of it, and it stands in front of the first that does, without a heading between them
-pub record IsFirst (e : Edited) (before after : List Item) : Type 0 where
+pub record IsBeforeFirst (e : Edited) (before after : List Item) : Type 0 where
   pub none : list_any (keeps e) before ≡ false
   pub section : List Item
   pub item : Item
@@ -86,4 +87,4 @@ abbrev pub IsAlone : Edited → List Item → Type 0
 IsAlone e xs = list_any (keeps e) xs ≡ false
 
 abbrev pub IsUnder : Edited → List Item → Coming → List Item → Type 0
-IsUnder e before c after = IsBehind e before c after ⊎ (IsFirst e before after ⊎ (IsInFront e after ⊎ IsAlone e (before ++ after)))
+IsUnder e before c after = IsAfter e before c after ⊎ (IsBeforeFirst e before after ⊎ (IsInFront e after ⊎ IsAlone e (before ++ after)))

@@ -5,7 +5,7 @@ ghost use Rattle.items.specs.Items.{Item as Pieces};
 ghost use Rattle.items.specs.Reading.{AreItems};
 ghost use Rattle.arranging.specs.Arranged.{IsLayout, IsArranged};
 ghost use Rattle.arranging.specs.Places.{IsKnownOf};
-ghost use Rattle.arranging.specs.Parts.{Edited, labels_in};
+ghost use Rattle.arranging.specs.Parts.{Edited, known_labels};
 
 use crate::checking::Checker;
 use crate::coming::{Coming, Placed};
@@ -48,7 +48,13 @@ fn laid_out<'t>(
         → IfOk result (λ made. IfSome made (λ layout. IsLayout e [] old layout.items)) }
 {
     let checker = Checker::new(
-        alloc, edits.moving, edits.moved, edits.library, text, items, parts,
+        alloc,
+        edits.moving,
+        edits.moved,
+        edits.library,
+        text,
+        items,
+        parts,
     )?;
     if !checker.may_all_come(comings) {
         return Ok(None);
@@ -76,10 +82,10 @@ pub fn arrange(
     requires { AreItems source.now items.now }
     ensures { IfOk result (λ made. IfSome made (λ out. IsArranged edits.entry.changes.now edits.entry.proofs.now
         (record {
-          gone = labels_in edits.entry.gone.now;
-          moving = labels_in edits.entry.moving.now;
-          moved = labels_in edits.entry.moved.now;
-          library = labels_in edits.entry.library.now;
+          gone = known_labels edits.entry.gone.now;
+          moving = known_labels edits.entry.moving.now;
+          moved = known_labels edits.entry.moved.now;
+          library = known_labels edits.entry.library.now;
         })
         source.now out.items)) }
 {

@@ -10,6 +10,7 @@ ghost use Rattle.arranging.specs.Places.{AreDepths, IsFree, IsKnown, IsKnownOf, 
 
 use crate::coming::Coming;
 use crate::group::is_written;
+use crate::sections::first_kept;
 use giving::Changes;
 use items::{Item, Kind};
 use leaving::Part;
@@ -45,7 +46,7 @@ fn open_behind(parts: &[Part]) -> Option<usize>
 }
 
 /// Whether items are a block.
-fn is_block(parts: &[Part]) -> bool
+pub(crate) fn is_block(parts: &[Part]) -> bool
     ensures { IsTrue result → IsBlock parts.now }
 {
     match parts {
@@ -117,6 +118,8 @@ pub(crate) struct Checker<'c> {
     pub text: &'c [u8],
     pub items: &'c [Item<'c>],
     pub parts: &'c [Part],
+    /// How many stand in front of the first of the library's that keeps its place, if one does.
+    pub first_kept: Option<usize>,
     /// How many blocks are open in front of each, and behind the last.
     depths: Vec<Option<usize>>,
 }
@@ -131,6 +134,7 @@ impl<'c> Drop for Checker<'c> {
             text: _,
             items: _,
             parts: _,
+            first_kept: _,
             depths: _,
         } = self;
     }
@@ -158,6 +162,7 @@ impl<'c> Checker<'c> {
             text,
             items,
             parts,
+            first_kept: first_kept(library, moving, items),
             depths,
         })
     }

@@ -4,7 +4,7 @@ ghost use Rattle.std.specs.Prelude.{◌≡◌, ◌≤◌, IfOk, List, ℕ, lengt
 ghost use Rattle.std.specs.Borrow.{Bor};
 ghost use Rattle.items.specs.Items.{Item as Pieces, IsComment};
 ghost use Rattle.items.specs.Reading.{AreFound, AreItems, IsOfKind, Stands};
-ghost use Rattle.arranging.specs.Parts.{fate_of, is_heading, is_rule, part_of, labels_in};
+ghost use Rattle.arranging.specs.Parts.{fate_of, is_heading, is_rule, part_of, known_labels};
 
 use giving::Changes;
 use items::{Item, Kind};
@@ -14,7 +14,7 @@ use std::alloc::{AllocError, Global};
 
 /// What becomes of the assertion with a label.
 fn fate_of(gone: &Changes<'_>, moving: &Changes<'_>, label: &[u8]) -> Fate
-    ensures { result ≡ fate_of (labels_in gone.now) (labels_in moving.now) label.now }
+    ensures { result ≡ fate_of (known_labels gone.now) (known_labels moving.now) label.now }
 {
     if gone.text_for(label).is_some() {
         Fate::Deleted
@@ -64,7 +64,7 @@ fn part_of(
 ) -> Part
     requires { from ≤ length text.now }
     ensures { (x : Pieces) (end : ℕ) → Stands text.now from x end → IsOfKind kind.entry x
-        → result ≡ part_of (labels_in gone.now) (labels_in moving.now) x }
+        → result ≡ part_of (known_labels gone.now) (known_labels moving.now) x }
 {
     match kind {
         Kind::Comment if is_heading(text, from) => Part::Heading,
@@ -90,7 +90,7 @@ pub fn parts_of(
 ) -> Result<Vec<Part>, AllocError>
     requires { AreItems source.now items.now }
     ensures { (old : List Pieces) → AreFound source.now 0 items.now old
-        → IfOk result (λ parts. parts.items ≡ map (part_of (labels_in gone.now) (labels_in moving.now)) old) }
+        → IfOk result (λ parts. parts.items ≡ map (part_of (known_labels gone.now) (known_labels moving.now)) old) }
 {
     let mut parts = Vec::with_capacity(alloc, items.len())?;
     let mut at = 0;

@@ -1,7 +1,7 @@
 use Rattle.std.proofs.Common.{◌∙◌, ℕ, List, [], Option, Some, None, IfSome, refl, subst}
 use Rattle.std.proofs.lemmas.Result.{IfOk-weaker}
 use Rattle.items.specs.Items.{Spells}
-use Rattle.arranging.specs.Parts.{Edited, labels_in}
+use Rattle.arranging.specs.Parts.{Edited, known_labels}
 use Rattle.arranging.specs.Arranged.{IsLayout, IsArranged, Says}
 use Rattle.arranging.specs.Places.{IsKnownOf}
 use Rattle.arranging.proofs.call.arrange.Goals as goal
@@ -16,22 +16,25 @@ returns c =
     let cs = edits.changes.now in
     let proofs = edits.proofs.now in
     let e : Edited = record {
-      gone = labels_in edits.gone.now;
-      moving = labels_in edits.moving.now;
-      moved = labels_in edits.moved.now;
+      gone = known_labels edits.gone.now;
+      moving = known_labels edits.moving.now;
+      moved = known_labels edits.moved.now;
+      library = known_labels edits.library.now;
     } in
     let source = c.args.source.now in
     let old = c.requires.0 in
     let found = c.requires.1 in
     let layout = c.in-Some.layout.items in
-    let known : IsKnownOf e source old edits.moving.now edits.moved.now c.args.items.now c.as_slice.result.now = record {
+    let known :
+    IsKnownOf e source old edits.moving.now edits.moved.now edits.library.now c.args.items.now c.as_slice.result.now = record {
       found = found;
       parts_are = c.as_slice.ensures.value ∙ c.in_ok-parts.ensures old found;
       moving_are = refl;
       moved_are = refl;
+      library_are = refl;
     } in
     let is_layout : IsLayout e [] old layout =
-    subst (λ o. IfSome o (λ made. IsLayout e [] old made.items)) c.in-Some.is (c.in_ok-layout.ensures e source old known) in
+    subst (λ o. IfSome o (λ made. IsLayout e [] old made.items)) c.in-Some.is (c.in_ok-layout.ensures e old known) in
     let said = λ (out : List ℕ). (rest : List ℕ) × Spells old rest source × Says cs proofs old rest old c.as_slice-2.result.now out in
     IfOk-weaker c.print.result (λ made. IfSome made (λ out. said out.items))
     (λ made. IfSome made (λ out. IsArranged cs proofs e source out.items))

@@ -6,7 +6,7 @@ use Rattle.items.specs.declared.reading.Item.{Item as Found}
 use Rattle.items.specs.declared.reading.Kind.TheVariants.{Comment}
 use Rattle.items.specs.Items.{Item}
 use Rattle.items.specs.Reading.{AreFound}
-use Rattle.arranging.specs.Parts.{part_of, labels_in}
+use Rattle.arranging.specs.Parts.{part_of, known_labels}
 use Rattle.items.proofs.Found.{found_next, many_found}
 use Rattle.arranging.proofs.describing.parts_of.Goals as goal
 
@@ -15,7 +15,7 @@ loop-item-preserved c =
     let text = c.args.source.now in
     let fs = c.args.items.now in
     let k = c.loop-item.item-index in
-    let part = part_of (labels_in c.args.gone.now) (labels_in c.args.moving.now) in
+    let part = part_of (known_labels c.args.gone.now) (known_labels c.args.moving.now) in
     let none : Found = record { kind = Comment; end = 0 } in
     let lt : k < length fs = omega arith in
     let so_far = c.loop-item.invariant.so_far in
@@ -35,7 +35,7 @@ loop-item-preserved c =
 pub returns : goal.returns
 returns c = λ old h.
     let fs = c.args.items.now in
-    let part = part_of (labels_in c.args.gone.now) (labels_in c.args.moving.now) in
+    let part = part_of (known_labels c.args.gone.now) (known_labels c.args.moving.now) in
     let many = many_found c.args.source.now 0 fs old h in
     let all : c.loop-item.item-index ≡ length old = omega (arith, many) in
     (c.loop-item.invariant.so_far old h).1 ∙ ap (map part) (ap (λ n. take n old) all ∙ take-length old)

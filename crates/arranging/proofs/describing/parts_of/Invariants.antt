@@ -2,7 +2,7 @@
 use Rattle.std.proofs.Common.{◌≡◌, ◌≤◌, List, length, map, drop, take}
 use Rattle.items.specs.Items.{Item}
 use Rattle.items.specs.Reading.{AreFound}
-use Rattle.arranging.specs.Parts.{part_of, labels_in}
+use Rattle.arranging.specs.Parts.{part_of, known_labels}
 use Rattle.arranging.proofs.describing.parts_of.Given as goal
 
 -- the parts so far are those of the items so far
@@ -12,5 +12,5 @@ invariant-loop-item l = record {
   so_far :
       (old : List Item) → AreFound l.source 0 l.items old
       → AreFound l.source l.at (drop l.item-index l.items) (drop l.item-index old)
-      × (l.parts.items ≡ map (part_of (labels_in l.gone) (labels_in l.moving)) (take l.item-index old));
+      × (l.parts.items ≡ map (part_of (known_labels l.gone) (known_labels l.moving)) (take l.item-index old));
 }

@@ -5,15 +5,15 @@ use Rattle.std.specs.declared.alloc.Global.{Global}
 use Rattle.mmtext.specs.Words.{Word}
 use Rattle.source.specs.Views.{seen_words}
 use Rattle.giving.specs.Staying.{Change}
-use Rattle.arranging.specs.Parts.{Edited, labels_in}
+use Rattle.arranging.specs.Parts.{Edited, known_labels}
 use Rattle.arranging.specs.Arranged.{IsArranged}
 use Rattle.sourceediting.specs.Marked.{marked}
 use Rattle.sourceediting.proofs.Marks.{firsts_marked}
 use Rattle.sourceediting.proofs.rearranging.arranged.Goals as goal
 
 -- the labels that are looked up
-looked_up : (cs : List Change) (ws : List Word) → cs ≡ marked ws → labels_in cs ≡ ws
-looked_up cs ws e = ap labels_in e ∙ firsts_marked ws
+looked_up : (cs : List Change) (ws : List Word) → cs ≡ marked ws → known_labels cs ≡ ws
+looked_up cs ws e = ap known_labels e ∙ firsts_marked ws
 
 pub returns-in-Some : goal.returns-in-Some
 returns-in-Some c =
@@ -21,10 +21,10 @@ returns-in-Some c =
     let moved = c.in_ok-moved-2.moved in
     let library = c.in_ok-library-2.library in
     let edited : Edited = record {
-      gone = labels_in gone;
-      moving = labels_in c.args.moving.now;
-      moved = labels_in moved;
-      library = labels_in library;
+      gone = known_labels gone;
+      moving = known_labels c.args.moving.now;
+      moved = known_labels moved;
+      library = known_labels library;
     } in record {
       edited = edited;
       deleted = looked_up gone (seen_words c.args.edits.now.planned.gone.now) c.in_ok-gone.ensures;

@@ -14,7 +14,7 @@ loop-coming-preserved c = λ e source old known.
     all_more (MayCome e old) c.args.comings.now c.loop-coming.coming-index _ c.loop-coming-test.true
     (c.loop-coming.invariant e source old known)
     (comes_free e old _ (c.is_free.ensures e source old known c.if-not-is_free.false)
-    (c.is_from.ensures e source old known c.if-not-is_from.false))
+    (c.is_from.ensures e source old known c.if-not-is_from.false) (c.is_under.ensures e source old known c.if-not-is_under.false))
 
 pub returns : goal.returns
 returns c = λ e source old known _.
