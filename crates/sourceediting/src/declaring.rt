@@ -152,10 +152,7 @@ impl Reading {
 }
 
 /// Of the names that a text mentions, the one that is declared last: none where it mentions none that is declared outermost.
-pub(crate) fn needed_by<'s>(
-    declarations: &Declarations<'s>,
-    text: &[u8],
-) -> Option<Declared<'s>> {
+pub(crate) fn needed_by<'s>(declarations: &Declarations<'s>, text: &[u8]) -> Option<Declared<'s>> {
     let mut reading = Reading::Names;
     let mut needed = None;
     let mut at = 0;

@@ -127,7 +127,15 @@ fn put_moved<'x, 'a, D: Declared<'a>>(
             } else {
                 let is_in_front = moving.in_front.text_for(source).is_some();
                 parted(
-                    alloc, keys, declared, known, standing, now, is_in_front, words, edits,
+                    alloc,
+                    keys,
+                    declared,
+                    known,
+                    standing,
+                    now,
+                    is_in_front,
+                    words,
+                    edits,
                 )?
             };
             texts.insert(now, piece)?;

@@ -12,9 +12,7 @@ mod proving;
 mod shared;
 mod wording;
 
-pub use adding::{
-    Statement, SymbolWords, Written, assertion_text, names_in_source, symbol_words,
-};
+pub use adding::{Statement, SymbolWords, Written, assertion_text, names_in_source, symbol_words};
 pub use layout::proof_indentation;
 pub use listing::{Cited, Kinds, Names};
 pub use proving::proof_text;

@@ -30,7 +30,8 @@ loop-at-preserved c =
       within = next.within;
       of_text = λ is.
           c.loop-at.invariant.of_text
-          (subst (λ ts. IsTrue (is_in (words_of ts) word)) (sym next.some) (is_in_later t.text (words_of (tokens_at text (end_of t))) word is));
+          (subst (λ ts. IsTrue (is_in (words_of ts) word)) (sym next.some)
+          (is_in_later t.text (words_of (tokens_at text (end_of t))) word is));
       of_item = λ x h.
           let l = c.loop-at.invariant.of_item x h in
           let f = first_word text c.loop-at.at c.args.end l.0 t _ l.1 c.loop-at-test.true next.some in (
