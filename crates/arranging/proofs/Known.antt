@@ -150,15 +150,15 @@ module _ (e : Edited) (old : List Item) (ps : List Part) (are : ps ≡ parts e o
 
     pub parted : (text : List ℕ) (items : List Found) (f : Found) (other : Bor (List ℕ)) → AreFound text 0 items old
         → slice_get items c.end ≡ Some f → f.kind ≡ Assertion other → other.now ≡ label → IsDescription before unit
-        → IsTrue (is_in e.moved label) ⊎ (open_behind 0 (take c.end ps) ≡ Some 0 → ⊥) → IsWritten c → IsParted e old label c
-    parted text items f other found at is same described why anew =
+        → (open_behind 0 (take c.end ps) ≡ Some 0 → ⊥) → IsWritten c → IsParted e old label c
+    parted text items f other found at is same described inside anew =
         let here = found_at text 0 items old c.end f found at in
         let kind : IsOfKind (Assertion other) here.0 = subst (λ k. IsOfKind k here.0) is here.2 in record {
           item = here.0;
           stands = here.1;
           labelled = kind.1 ∙ ap (λ w. w ∷ []) same;
           described = both_there IsDescription described;
-          why = subst (λ qs. IsTrue (is_in e.moved label) ⊎ (open_behind 0 qs ≡ Some 0 → ⊥)) (parts_up_to c.end) why;
+          inside = subst (λ qs. open_behind 0 qs ≡ Some 0 → ⊥) (parts_up_to c.end) inside;
           written = anew;
         }
 

@@ -41,13 +41,13 @@ pub record AsItStood (e : Edited) (old : List Item) (label : Word) (c : Coming) 
       × IsDescription (parts e (take c.first old)) ps)
   pub plain : (c.front.now ≡ []) × (c.back.now ≡ [])
 
--- one that leaves a block is written anew, behind what describes it. It was moved, or others stand in the block
+-- one that leaves a block is written anew, behind what describes it
 pub record IsParted (e : Edited) (old : List Item) (label : Word) (c : Coming) : Type 0 where
   pub item : Item
   pub stands : slice_get old c.end ≡ Some item
   pub labelled : label_of item ≡ label ∷ []
   pub described : IsDescription (parts e (take c.first old)) (parts e (unit_of old c))
-  pub why : IsTrue (is_in e.moved label) ⊎ ((open_behind 0 (parts e (take c.end old)) ≡ Some 0) → ⊥)
+  pub inside : (open_behind 0 (parts e (take c.end old)) ≡ Some 0) → ⊥
   pub written : IsWritten c
 
 -- one of the source that stands elsewhere then, or one that is added, with no item of the source

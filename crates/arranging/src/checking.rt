@@ -236,15 +236,7 @@ impl<'c> Checker<'c> {
         }
     }
 
-    /// Whether an assertion was moved, or leaves a block.
-    fn may_part(&self, place: usize, label: &[u8]) -> bool
-        ensures { (e : Edited) (source : List ℕ) (old : List Pieces) → IsKnown e source old self.now
-            → IsTrue result → IsTrue (is_in e.moved label.now) ⊎ (open_behind 0 (take place self.now.parts.now) ≡ Some 0 → ⊥) }
-    {
-        self.was_moved(label) || self.is_inside(place)
-    }
-
-    /// Whether an assertion is written anew that leaves its block, or was moved.
+    /// Whether an assertion is written anew that leaves its block.
     fn is_parted(&self, coming: Coming<'_>, label: &[u8]) -> bool
         ensures { (e : Edited) (source : List ℕ) (old : List Pieces) → IsKnown e source old self.now
             → IsTrue result → IsParted e old label.now coming.entry }
@@ -262,7 +254,7 @@ impl<'c> Checker<'c> {
         if other != label || !is_description(before, unit) || !is_written(coming) {
             return false;
         }
-        self.may_part(coming.end, label)
+        self.is_inside(coming.end)
     }
 
     /// Whether what comes is what it is said to be.

@@ -15,4 +15,4 @@ returns c = λ e source old known holds.
     cut.ensures'.lookup.0.2 source items cut.item.now c.in-Assertion.other known.known.found
     (slice_get_read items (length items) coming.end cut.item.now refl at.0 (at.1 cut.item.now)) c.in-Assertion.is
     (not_other c.in-Assertion.other.now label c.if-ne.ensures) (c.is_description.ensures c.if-not-is_description.false)
-    (c.may_part.ensures e source old known holds) (c.is_written.ensures c.if-not-is_written.false)
+    (c.is_inside.ensures e source old known holds) (c.is_written.ensures c.if-not-is_written.false)
