@@ -54,12 +54,13 @@ part_of gone moving x =
 -- ---- edits
 
 -- the labels of assertions that are deleted, and of those that stand elsewhere then, of which some were moved; and those in the source of
--- all that live in the library
+-- all that live in the library; and what is put in
 pub record Edited : Type 0 where
   pub gone : List Word
   pub moving : List Word
   pub moved : List Word
   pub library : List Word
+  pub comings : List Coming
 
 abbrev pub parts : Edited → List Item → List Part
 parts e xs = map (part_of e.gone e.moving) xs

@@ -1,5 +1,5 @@
 -- Under which heading something is put in.
-use Rattle.std.specs.Prelude.{◌≡◌, ◌⊎◌, ℕ, Bool, true, false, List, [], ◌∷◌, ◌++◌, map, drop, IsTrue, codes, if◌then◌else◌, ◌||◌, ◌&&◌}
+use Rattle.std.specs.Prelude.{◌≡◌, ◌⊎◌, ℕ, Bool, true, false, List, [], ◌∷◌, ◌++◌, map, drop, IsTrue, Contains, codes, if◌then◌else◌, ◌||◌, ◌&&◌}
 use Rattle.std.specs.List.{list_any}
 use Rattle.std.specs.Str.{bytes_eq}
 use mathlib.Core.Bool.{not}
@@ -43,9 +43,15 @@ declared _ = []
 abbrev pub mentioned : List Item → Coming → List Word
 mentioned old c = words_of (tokens c.front.now) ++ (words (pieces_of (unit_of old c)) ++ words_of (tokens c.back.now))
 
-abbrev pub DeclaresFor : List Item → Coming → Item → Type 0
-DeclaresFor old c x =
-    (w : Word) × (bytes_eq w (codes "$.") ≡ false) × IsTrue (is_in (declared (said x)) w) × IsTrue (is_in (mentioned old c) w)
+-- a statement declares a word of what is put in, or of something that is put in at the same place
+pub record DeclaresFor (e : Edited) (old : List Item) (c : Coming) (x : Item) : Type 0 where
+  pub word : Word
+  pub declares : IsTrue (is_in (declared (said x)) word)
+  pub no_end : bytes_eq word (codes "$.") ≡ false
+  pub beside : Coming
+  pub comes : Contains e.comings beside
+  pub same : beside.place ≡ c.place
+  pub mentions : IsTrue (is_in (mentioned old beside) word)
 
 -- ---- where it stands
 
@@ -56,7 +62,7 @@ pub record IsAfter (e : Edited) (before : List Item) (c : Coming) (after : List 
   pub section : List Item
   pub whole : before ≡ front ++ item ∷ section
   pub same : NoHeading e section
-  pub why : IsTrue (keeps e item) ⊎ DeclaresFor (before ++ after) c item
+  pub why : IsTrue (keeps e item) ⊎ DeclaresFor e (before ++ after) c item
 
 -- none of the library's stands in front of it, and it stands in front of the first that does, without a heading between them
 pub record IsBeforeFirst (e : Edited) (before after : List Item) : Type 0 where

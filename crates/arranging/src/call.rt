@@ -1,6 +1,6 @@
 //! The call `arrange`.
 
-ghost use Rattle.std.specs.Prelude.{ℕ, List, [], IfOk, IfSome};
+ghost use Rattle.std.specs.Prelude.{◌≡◌, ℕ, List, [], IfOk, IfSome};
 ghost use Rattle.items.specs.Items.{Item as Pieces};
 ghost use Rattle.items.specs.Reading.{AreItems};
 ghost use Rattle.arranging.specs.Arranged.{IsLayout, IsArranged};
@@ -45,7 +45,7 @@ fn laid_out<'t>(
 ) -> Result<Option<Vec<Placed<'t>>>, AllocError>
     ensures { (e : Edited) (old : List Pieces)
         → IsKnownOf e text.now old edits.entry.moving.now edits.entry.moved.now edits.entry.library.now items.now parts.now
-        → IfOk result (λ made. IfSome made (λ layout. IsLayout e [] old layout.items)) }
+        → e.comings ≡ comings.now → IfOk result (λ made. IfSome made (λ layout. IsLayout e [] old layout.items)) }
 {
     let checker = Checker::new(
         alloc,
@@ -86,6 +86,7 @@ pub fn arrange(
           moving = known_labels edits.entry.moving.now;
           moved = known_labels edits.entry.moved.now;
           library = known_labels edits.entry.library.now;
+          comings = comings.now;
         })
         source.now out.items)) }
 {

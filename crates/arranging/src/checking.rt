@@ -284,11 +284,14 @@ impl<'c> Checker<'c> {
 
     /// Whether all this may be put in.
     pub(crate) fn may_all_come(&self, comings: &[Coming<'_>]) -> bool
-        ensures { (e : Edited) (source : List ℕ) (old : List Pieces) → IsKnown e source old self.now
+        ensures { (e : Edited) (source : List ℕ) (old : List Pieces) → IsKnown e source old self.now → e.comings ≡ comings.now
             → IsTrue result → All (MayCome e old) comings.now }
     {
         for coming in comings {
-            if !self.is_free(coming.place) || !self.is_from(*coming) || !self.is_under(*coming) {
+            if !self.is_free(coming.place)
+                || !self.is_from(*coming)
+                || !self.is_under(*coming, comings)
+            {
                 return false;
             }
         }

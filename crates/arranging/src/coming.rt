@@ -5,8 +5,9 @@
 pub enum Why<'t> {
     /// Behind an assertion of the library that keeps its place: so many items of the source stand in front of that.
     Behind(usize),
-    /// Behind the declaration of a name that it mentions: so many items stand in front of that.
-    Declared(usize, &'t [u8]),
+    /// Behind the declaration of a name: so many items stand in front of that. What mentions the name is put in at the same place, and so
+    /// many come in front of it.
+    Declared(usize, &'t [u8], usize),
     /// In front of the first of the library's that keeps its place: so many items stand in front of that.
     First(usize),
     /// In front of a block which an assertion leaves: so many items stand in front of the block, and up to its end.

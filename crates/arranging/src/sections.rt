@@ -262,18 +262,30 @@ impl Checker<'_> {
             || self.has_word(coming.first, coming.end, word)
     }
 
-    /// Whether something is put in behind what declares a word of it, without a heading between them.
-    fn is_behind_declared(&self, item: usize, word: &[u8], coming: Coming<'_>) -> bool
-        ensures { (e : Edited) (source : List ℕ) (old : List Pieces) → IsKnown e source old self.now → IsTrue result
-            → IsAfter e (take coming.entry.place old) coming.entry (drop coming.entry.place old) }
+    /// Whether something is put in behind what declares a word of it, or of what comes with a number and is put in at the same place, without
+    /// a heading between them.
+    fn is_behind_declared(
+        &self,
+        item: usize,
+        word: &[u8],
+        number: usize,
+        coming: Coming<'_>,
+        comings: &[Coming<'_>],
+    ) -> bool
+        ensures { (e : Edited) (source : List ℕ) (old : List Pieces) → IsKnown e source old self.now → e.comings ≡ comings.now
+            → IsTrue result → IsAfter e (take coming.entry.place old) coming.entry (drop coming.entry.place old) }
     {
-        if !self.is_section_behind(item, coming.place)
+        let Some(beside) = comings.get(number) else {
+            return false;
+        };
+        if beside.place != coming.place
+            || !self.is_section_behind(item, coming.place)
             || word == b"$.".as_slice()
             || !self.declares(item, word)
         {
             return false;
         }
-        self.mentions(coming, word)
+        self.mentions(*beside, word)
     }
 
     /// Whether no assertion of the library that keeps its place stands in front of a place.
@@ -327,13 +339,15 @@ impl Checker<'_> {
     }
 
     /// Whether something is put in under the heading of what it follows.
-    pub(crate) fn is_under(&self, coming: Coming<'_>) -> bool
-        ensures { (e : Edited) (source : List ℕ) (old : List Pieces) → IsKnown e source old self.now
+    pub(crate) fn is_under(&self, coming: Coming<'_>, comings: &[Coming<'_>]) -> bool
+        ensures { (e : Edited) (source : List ℕ) (old : List Pieces) → IsKnown e source old self.now → e.comings ≡ comings.now
             → IsTrue result → IsUnder e (take coming.entry.place old) coming.entry (drop coming.entry.place old) }
     {
         match coming.why {
             Why::Behind(item) => self.is_behind_kept(item, coming),
-            Why::Declared(item, word) => self.is_behind_declared(item, word, coming),
+            Why::Declared(item, word, number) => {
+                self.is_behind_declared(item, word, number, coming, comings)
+            }
             Why::First(item) => self.is_first(coming.place, item),
             Why::Block(first, end) => self.is_in_front(coming.place, first, end),
             Why::Alone => self.keeps_none(),

@@ -232,7 +232,8 @@ impl<'t> Filling<'t> {
     fn go_behind(&mut self, number: usize, needed: Declared<'t>) {
         if self.at < needed.from {
             self.at = needed.from;
-            self.why = Why::Declared(needed.from.saturating_sub(1), needed.name);
+            let item = needed.from.saturating_sub(1);
+            self.why = Why::Declared(item, needed.name, self.comings.len());
             self.held = Some(Held { number, needed });
         }
     }

@@ -20,6 +20,7 @@ returns c =
       moving = known_labels edits.moving.now;
       moved = known_labels edits.moved.now;
       library = known_labels edits.library.now;
+      comings = c.args.comings.now;
     } in
     let source = c.args.source.now in
     let old = c.requires.0 in
@@ -34,7 +35,7 @@ returns c =
       library_are = refl;
     } in
     let is_layout : IsLayout e [] old layout =
-    subst (λ o. IfSome o (λ made. IsLayout e [] old made.items)) c.in-Some.is (c.in_ok-layout.ensures e old known) in
+    subst (λ o. IfSome o (λ made. IsLayout e [] old made.items)) c.in-Some.is (c.in_ok-layout.ensures e old known refl) in
     let said = λ (out : List ℕ). (rest : List ℕ) × Spells old rest source × Says cs proofs old rest old c.as_slice-2.result.now out in
     IfOk-weaker c.print.result (λ made. IfSome made (λ out. said out.items))
     (λ made. IfSome made (λ out. IsArranged cs proofs e source out.items))

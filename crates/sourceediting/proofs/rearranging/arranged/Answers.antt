@@ -25,6 +25,7 @@ returns-in-Some c =
       moving = known_labels c.args.moving.now;
       moved = known_labels moved;
       library = known_labels library;
+      comings = c.args.comings.now;
     } in record {
       edited = edited;
       deleted = looked_up gone (seen_words c.args.edits.now.planned.gone.now) c.in_ok-gone.ensures;

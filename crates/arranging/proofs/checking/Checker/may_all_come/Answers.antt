@@ -10,13 +10,13 @@ all_more : {A : Type 0} (P : A → Type 0) (xs : List A) (i : ℕ) (x : A) → i
 all_more P xs i x lt all one = subst (All P) (sym (take_more xs i x lt)) (All-push P (take i xs) (get_or xs i x) all one)
 
 pub loop-coming-preserved : goal.loop-coming-preserved
-loop-coming-preserved c = λ e source old known.
+loop-coming-preserved c = λ e source old known all.
     all_more (MayCome e old) c.args.comings.now c.loop-coming.coming-index _ c.loop-coming-test.true
-    (c.loop-coming.invariant e source old known)
+    (c.loop-coming.invariant e source old known all)
     (comes_free e old _ (c.is_free.ensures e source old known c.if-not-is_free.false)
-    (c.is_from.ensures e source old known c.if-not-is_from.false) (c.is_under.ensures e source old known c.if-not-is_under.false))
+    (c.is_from.ensures e source old known c.if-not-is_from.false) (c.is_under.ensures e source old known all c.if-not-is_under.false))
 
 pub returns : goal.returns
-returns c = λ e source old known _.
+returns c = λ e source old known all _.
     subst (All (MayCome e old)) (take_all c.loop-coming.coming-index c.args.comings.now c.loop-coming-test.false)
-    (c.loop-coming.invariant e source old known)
+    (c.loop-coming.invariant e source old known all)
