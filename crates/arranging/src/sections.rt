@@ -262,8 +262,8 @@ impl Checker<'_> {
             || self.has_word(coming.first, coming.end, word)
     }
 
-    /// Whether something is put in behind what declares a word of it, or of what comes with a number and is put in at the same place, without
-    /// a heading between them.
+    /// Whether something is put in behind what declares a word of it, or of what comes with a number and is put in at the same place,
+    /// without a heading between them.
     fn is_behind_declared(
         &self,
         item: usize,
