@@ -6,3 +6,4 @@ mod Laid
 mod Anew
 mod Said
 mod Under
+mod Spelled

@@ -5,3 +5,4 @@ pub mod Sections
 pub mod Arranged
 pub mod Places
 pub mod Printing
+pub mod Held

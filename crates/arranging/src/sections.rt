@@ -225,7 +225,7 @@ impl Checker<'_> {
     }
 
     /// Whether an item declares a word.
-    fn declares(&self, item: usize, word: &[u8]) -> bool
+    pub(crate) fn declares(&self, item: usize, word: &[u8]) -> bool
         ensures { (e : Edited) (source : List ℕ) (old : List Pieces) → IsKnown e source old self.now → IsTrue result
             → (x : Pieces) → slice_get old item ≡ Some x → IsTrue (is_in (declared (said x)) word.now) }
     {
@@ -253,7 +253,7 @@ impl Checker<'_> {
     }
 
     /// Whether a word is one of those of what is put in.
-    fn mentions(&self, coming: Coming<'_>, word: &[u8]) -> bool
+    pub(crate) fn mentions(&self, coming: Coming<'_>, word: &[u8]) -> bool
         ensures { (e : Edited) (source : List ℕ) (old : List Pieces) → IsKnown e source old self.now → IsTrue result
             → IsTrue (is_in (mentioned old coming.entry) word.now) }
     {

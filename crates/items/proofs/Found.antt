@@ -94,7 +94,7 @@ module _ (text : List ℕ) where
 
   -- ---- the whole text
 
-  each_found : (at : ℕ) (fs : List Found) (xs : List Item) → AreFound text at fs xs → All IsItem xs
+  pub each_found : (at : ℕ) (fs : List Found) (xs : List Item) → AreFound text at fs xs → All IsItem xs
   each_found at [] [] h = All-nil IsItem
   each_found at [] (x ∷ xs) h = absurd h
   each_found at (f ∷ fs) [] h = absurd h

@@ -1,6 +1,6 @@
 -- Assertions that flags don't choose, one more at a time.
-use Rattle.std.proofs.Common.{◌≡◌, ◌∙◌, ℕ, ◌+◌, ◌<◌, Bool, true, false, List, [], ◌∷◌, ◌++◌, length, map, take, get_or, Some, sym, ap, add-one}
-use Rattle.std.specs.Prelude.{All, slice_get, ◌&&◌}
+use Rattle.std.proofs.Common.{◌≡◌, ◌∙◌, ℕ, zero, suc, ◌+◌, ◌<◌, Bool, true, false, List, [], ◌∷◌, ◌++◌, length, map, take, get_or, Some, sym, ap, add-one, arith}
+use Rattle.std.specs.Prelude.{All, Contains, slice_get, ◌&&◌}
 use mathlib.Core.Bool.{not}
 use Rattle.std.proofs.lemmas.List.{append-nil, map_more}
 use Rattle.std.proofs.lemmas.List.Elements.{All-push, All-same}
@@ -33,6 +33,28 @@ module _ (P : Assertion → Type 0) (flags : List Bool) (xs : List Assertion) (i
       (others_more flags xs i x within at
       ∙ ap (λ (b : Bool). others (take i flags) (take i xs) ++ kept_at (not b) x []) flag)
       (All-push P (others (take i flags) (take i xs)) x before so))
+
+-- ---- one that isn't chosen
+
+later_there : (y : Assertion) (zs : List Assertion) (x : Assertion) → Contains zs x → Contains (y ∷ zs) x
+later_there y zs x h = (suc h.0, omega (arith, h.1), h.2)
+
+there_behind : (b : Bool) (y : Assertion) (zs : List Assertion) (x : Assertion) → Contains zs x → Contains (kept_at b y zs) x
+there_behind true y zs x h = later_there y zs x h
+there_behind false y zs x h = h
+
+first_there : (b : Bool) (y : Assertion) (zs : List Assertion) (x : Assertion) → b ≡ true → y ≡ x → Contains (kept_at b y zs) x
+first_there true y zs x e same = (0, omega arith, same)
+first_there false y zs x e same = absurd cc
+
+pub other_there : (flags : List Bool) (xs : List Assertion) (i : ℕ) (x : Assertion) → i < length flags → slice_get xs i ≡ Some x
+    → get_or flags i false ≡ false → Contains (others flags xs) x
+other_there [] xs i x within at flag = absurd (omega arith)
+other_there (f ∷ fs) [] i x within at flag = absurd cc
+other_there (f ∷ fs) (y ∷ ys) zero x within at flag =
+    let same : y ≡ x = cc in first_there (not f) y (others fs ys) x (ap not flag) same
+other_there (f ∷ fs) (y ∷ ys) (suc i) x within at flag =
+    there_behind (not f) y (others fs ys) x (other_there fs ys i x (omega arith) at flag)
 
 -- ---- which assertions are the library's
 

@@ -3,3 +3,4 @@ pub mod Views
 pub mod Marked
 pub mod Written
 pub mod Reproved
+pub mod Refusals

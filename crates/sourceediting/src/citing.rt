@@ -1,6 +1,6 @@
 //! Whether a proof that isn't the library's cites an assertion that was deleted.
 
-ghost use Rattle.std.specs.Prelude.{◌≡◌, All, IfOk, IsTrue, OnOk, IfSome, length, map, is_some, slice_get};
+ghost use Rattle.std.specs.Prelude.{◌≡◌, All, IfOk, IfErr, IsTrue, OnOk, IfSome, length, map, is_some, slice_get};
 ghost use Rattle.std.specs.List.{list_any};
 ghost use mathlib.Core.Bool.{not};
 ghost use Rattle.source.specs.Scopes.{is_in};
@@ -9,9 +9,12 @@ ghost use Rattle.source.specs.Whole.{labels_in};
 ghost use Rattle.giving.specs.Staying.{others};
 ghost use Rattle.sourceediting.specs.Following.{names_none};
 ghost use Rattle.sourceediting.specs.Marked.{marked};
+ghost use Rattle.sourceediting.specs.Refusals.{names, IsCitedCause};
+ghost use Rattle.sourceediting.specs.declared.refusal.Refusal.TheVariants.{StillCited};
 
-use crate::refusal::{Refusal, shown};
+use crate::refusal::Refusal;
 use giving::Changes;
+use mmsyntax::Label;
 use source::{Declared, ProofWords};
 use std::alloc::{AllocError, Global};
 use std::hash::RandomState;
@@ -47,7 +50,9 @@ pub fn labels_of<'p, 'a>(proof: &'p ProofWords<'a>) -> &'p [&'a [u8]]
 
 /// The first of these labels that is one of those that are gone.
 fn first_gone<'a>(gone: &Changes<'_>, labels: &[&'a [u8]]) -> Option<&'a [u8]>
-    ensures { is_some result ≡ list_any (is_in (map (λ c. c.0) gone.now)) (seen_words labels.now) }
+    ensures some { is_some result ≡ list_any (is_in (map (λ c. c.0) gone.now)) (seen_words labels.now) }
+    ensures gone { IfSome result (λ w. IsTrue (is_in (map (λ c. c.0) gone.now) w.now)) }
+    ensures among { IfSome result (λ w. IsTrue (is_in (seen_words labels.now) w.now)) }
 {
     for label in labels {
         if gone.text_for(label).is_some() {
@@ -58,9 +63,13 @@ fn first_gone<'a>(gone: &Changes<'_>, labels: &[&'a [u8]]) -> Option<&'a [u8]>
 }
 
 /// An assertion is still cited.
-fn still_cited(alloc: Global, label: &[u8], by: Option<&[u8]>) -> Refusal {
-    let (label, by) = (shown(label), shown(by.unwrap_or(b"?")));
-    Refusal::of_history(format!(in alloc; "{label} is still cited by {by}, which was not taken"))
+fn still_cited(alloc: Global, label: &[u8], by: &[u8]) -> Result<Refusal, AllocError>
+    ensures { IfOk result (λ why. why ≡ StillCited label.now by.now) }
+{
+    Ok(Refusal::StillCited {
+        label: Label::from_slice(alloc, label)?,
+        by: Label::from_slice(alloc, by)?,
+    })
 }
 
 /// The first label of one that is gone which the proof of the assertion at a place names.
@@ -69,8 +78,10 @@ fn first_gone_at<'a, D: Declared<'a>>(
     gone: &Changes<'_>,
     place: usize,
 ) -> Option<&'a [u8]>
-    ensures { IfSome (slice_get (D.scope declared.now).assertions place) (λ x. is_some result
+    ensures some { IfSome (slice_get (D.scope declared.now).assertions place) (λ x. is_some result
         ≡ not (names_none (map (λ c. c.0) gone.now) x.proof)) }
+    ensures gone { IfSome result (λ w. IsTrue (is_in (map (λ c. c.0) gone.now) w.now)) }
+    ensures named { IfSome (slice_get (D.scope declared.now).assertions place) (λ x. IfSome result (λ w. IsTrue (names w.now x.proof))) }
 {
     match declared.proof(place) {
         Some(proof) => first_gone(gone, labels_of(proof)),
@@ -82,7 +93,7 @@ fn first_gone_at<'a, D: Declared<'a>>(
 ///
 /// # Errors
 ///
-/// The line that names the first such assertion; want of memory.
+/// The first that does, with the label that it names; want of memory.
 pub fn are_uncited<'a, D: Declared<'a>>(
     alloc: Global,
     keys: RandomState,
@@ -91,8 +102,9 @@ pub fn are_uncited<'a, D: Declared<'a>>(
     gone: &[&[u8]],
 ) -> Result<(), Refusal>
     requires { length own.now ≡ length (D.scope declared.now).assertions }
-    ensures { OnOk result (All (λ x. IsTrue (names_none (seen_words gone.now) x.proof))
+    ensures uncited { OnOk result (All (λ x. IsTrue (names_none (seen_words gone.now) x.proof))
         (others own.now (D.scope declared.now).assertions)) }
+    ensures cited { IfErr result (IsCitedCause (seen_words gone.now) (others own.now (D.scope declared.now).assertions)) }
 {
     let gone = marked(alloc, keys, gone)?;
     for (place, is_own) in own.iter().enumerate() {
@@ -100,7 +112,10 @@ pub fn are_uncited<'a, D: Declared<'a>>(
             continue;
         }
         if let Some(label) = first_gone_at(declared, &gone, place) {
-            return Err(still_cited(alloc, label, declared.label(place)));
+            let Some(by) = declared.label(place) else {
+                unreachable!()
+            };
+            return Err(still_cited(alloc, label, by)?);
         }
     }
     Ok(())

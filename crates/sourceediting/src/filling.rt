@@ -3,10 +3,16 @@
 //! there, and so does what is put behind it. None stands in front of what declares a symbol that it mentions, nor between a description
 //! and what that describes.
 
+ghost use Rattle.std.specs.Prelude.{IfErr, map};
+ghost use Rattle.items.specs.Reading.{AreItems};
+ghost use Rattle.sourceediting.specs.Refusals.{HasCause};
+ghost use Rattle.sourceediting.specs.Views.{seen_living};
+
 use crate::declaring::{Declarations, Declared, later, needed_by};
 use crate::following::Followed;
+use crate::holding::{Held, held_behind};
 use crate::outline::{Outline, Stretch};
-use crate::refusal::{Refusal, shown};
+use crate::refusal::Refusal;
 use arranging::{Coming, Why};
 use giving::Changes;
 use items::Item;
@@ -190,14 +196,6 @@ fn put_in_front(comings: &mut [Coming<'_>], first: usize, place: usize, block: S
     }
 }
 
-/// One that was put behind the declaration of a name which it mentions.
-#[derive(Clone, Copy)]
-struct Held<'t> {
-    /// Its number among the library's assertions, counted from 0.
-    number: usize,
-    needed: Declared<'t>,
-}
-
 /// How far the library's assertions were walked over, in its order.
 #[derive(Drop)]
 struct Filling<'t> {
@@ -234,7 +232,12 @@ impl<'t> Filling<'t> {
             self.at = needed.from;
             let item = needed.from.saturating_sub(1);
             self.why = Why::Declared(item, needed.name, self.comings.len());
-            self.held = Some(Held { number, needed });
+            let coming = self.comings.len();
+            self.held = Some(Held {
+                number,
+                coming,
+                needed,
+            });
         }
     }
 
@@ -280,23 +283,11 @@ impl<'t> Filling<'t> {
     }
 }
 
-/// One that was put in can't stand in front of one that stays.
-fn held_behind(alloc: Global, entries: &[Ranked], held: Held<'_>, next: &[u8]) -> Refusal {
-    let label = match entries.get(held.number) {
-        Some(entry) => entry.assertion.label.as_slice(),
-        None => b"?",
-    };
-    let (label, name, next) = (shown(label), shown(held.needed.name), shown(next));
-    Refusal::of_history(format!(in alloc;
-        "{label} can't stand in front of {next}: {name} is declared behind that"
-    ))
-}
-
 /// What is put in, in the order of its places.
 ///
 /// # Errors
 ///
-/// One that would have to stand in front of what declares a symbol which it mentions, with the one behind it; want of memory.
+/// One that would have to stand in front of what declares a name which it mentions, with its neighbour; want of memory.
 pub(crate) fn comings_of<'t>(
     alloc: Global,
     keys: RandomState,
@@ -305,7 +296,10 @@ pub(crate) fn comings_of<'t>(
     moving: &Changes<'_>,
     entries: &[Ranked],
     texts: &'t Texts<'_>,
-) -> Result<Vec<Coming<'t>>, Refusal> {
+) -> Result<Vec<Coming<'t>>, Refusal>
+    requires { AreItems known.now.text.now known.now.items.items }
+    ensures { IfErr result (HasCause (seen_living living.now) (map (λ r. r.assertion) entries.now) known.now.text.now) }
+{
     let places = staying_of(alloc, keys, known, living, moving, entries)?;
     let mut filling = Filling::new(alloc, known, first_of(places.as_slice()));
     for (number, (entry, staying)) in entries.iter().zip(places.as_slice()).enumerate() {
@@ -315,7 +309,9 @@ pub(crate) fn comings_of<'t>(
         } else if let Some(staying) = staying {
             let apart = known.apart(staying.whole.first);
             if let Some(held) = filling.pass(*staying, apart) {
-                return Err(held_behind(alloc, entries, held, label));
+                let comings = filling.comings.as_slice();
+                let next = (number, staying.place);
+                return Err(held_behind(alloc, keys, known, living, entries, comings, held, next)?);
             }
         }
     }

@@ -1,13 +1,16 @@
 //! Which theorems have another proof behind the edits of a history, and the texts of these proofs.
 
-ghost use Rattle.std.specs.Prelude.{◌≡◌, ◌↔◌, List, Contains, IfOk, IfSome, IsTrue, map};
-ghost use Rattle.mmsyntax.specs.declared.statement.Assertion.{Assertion};
+ghost use Rattle.std.specs.Prelude.{◌≡◌, ◌↔◌, ℕ, List, Contains, IfOk, IfErr, IfSome, IsTrue, map};
+ghost use Rattle.mmsyntax.specs.declared.statement.Assertion.{Assertion as AssertionOf};
 ghost use Rattle.mmsyntax.specs.ProofWords.{seen_step};
 ghost use Rattle.sourceediting.specs.Reproved.{changes_in_library, step_then, IsWrittenFor, AreOtherProofs};
+ghost use Rattle.sourceediting.specs.Following.{Followed as FollowedOf};
+ghost use Rattle.sourceediting.specs.Refusals.{HasCause};
 ghost use Rattle.sourceediting.specs.Views.{seen_living, seen_proofs, AreLabelled};
+ghost use Rattle.sourceediting.specs.declared.refusal.Refusal.TheVariants.{Unwritten};
 
 use crate::following::Followed;
-use crate::refusal::{Refusal, shown};
+use crate::refusal::Refusal;
 use giving::Changes;
 use library::{PlainLibrary, Ranked};
 use mmframes::frame_of;
@@ -189,10 +192,11 @@ fn changes_in_library<'x>(
     Changes::new(alloc, keys, pairs)
 }
 
-/// A proof that can't be written.
-pub(crate) fn unwritten(alloc: Global, label: &[u8]) -> Refusal {
-    let label = shown(label);
-    Refusal::of_history(format!(in alloc; "the proof of {label} can't be written"))
+/// A proof of an assertion of the edited library that can't be written.
+pub(crate) fn unwritten(alloc: Global, assertion: &Assertion) -> Result<Refusal, AllocError>
+    ensures { IfOk result (λ why. why ≡ Unwritten assertion.now.label) }
+{
+    Ok(Refusal::Unwritten(assertion.label.copy(alloc)?))
 }
 
 /// The text of another proof of an assertion that stands in the source.
@@ -204,21 +208,23 @@ fn other_proof<'x, D: Declared<'x>>(
     source: &'x [u8],
     new: &Assertion,
 ) -> Result<Vec<u8>, Refusal>
-    ensures { IfOk result (λ text. IsWrittenFor (D.scope declared.now) source.now text.items) }
+    ensures written { IfOk result (λ text. IsWrittenFor (D.scope declared.now) source.now text.items) }
+    ensures refused { (living : List FollowedOf) (edited : List AssertionOf) (text : List ℕ) → Contains edited new.now
+        → IfErr result (HasCause living edited text) }
 {
     let Some(place) = declared.place_of(source) else {
-        return Err(unwritten(alloc, source));
+        return Err(unwritten(alloc, new)?);
     };
     let indentation = proof_indentation(!new.hyps.as_slice().is_empty());
     match proof_text(alloc, keys, declared, names, place, indentation, &new.proof)? {
         Some(text) => Ok(text),
-        None => Err(unwritten(alloc, source)),
+        None => Err(unwritten(alloc, new)?),
     }
 }
 
 /// The assertion with a label.
-fn labelled<'x>(map: &ByLabel<'x>, label: &[u8]) -> Option<&'x Assertion>
-    ensures { IfSome result (λ a. (xs : List Assertion) → AreLabelled map.now xs → Contains xs a.now × (a.now.label ≡ label.now)) }
+pub(crate) fn labelled<'x>(map: &ByLabel<'x>, label: &[u8]) -> Option<&'x Assertion>
+    ensures { IfSome result (λ a. (xs : List AssertionOf) → AreLabelled map.now xs → Contains xs a.now × (a.now.label ≡ label.now)) }
 {
     map.get(&label).copied()
 }
@@ -233,8 +239,10 @@ pub(crate) fn other_proofs<'x, D: Declared<'x>>(
     planned: &Planned<'x>,
 ) -> Result<Vec<(&'x [u8], Vec<u8>)>, Refusal>
     requires { AreLabelled edited.now (map (λ r. r.assertion) planned.now.edited.now.entries) }
-    ensures { IfOk result (λ made. AreOtherProofs (D.scope declared.now) planned.now.database.now.assertions
+    ensures made { IfOk result (λ made. AreOtherProofs (D.scope declared.now) planned.now.database.now.assertions
         (map (λ r. r.assertion) planned.now.edited.now.entries) (seen_living planned.now.living.now) (seen_proofs made.items)) }
+    ensures refused { (text : List ℕ) → IfErr result (HasCause (seen_living planned.now.living.now)
+        (map (λ r. r.assertion) planned.now.edited.now.entries) text) }
 {
     let opened = opened_by_label(alloc, keys, planned.database.assertions())?;
     let changes = changes_in_library(alloc, keys, planned.living)?;

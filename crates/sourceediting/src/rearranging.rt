@@ -1,10 +1,13 @@
 //! A source with the edits of a history that adds, moves or deletes: what is put in, and how it is put there.
 
-ghost use Rattle.std.specs.Prelude.{◌≡◌, IfOk};
+ghost use Rattle.std.specs.Prelude.{◌≡◌, ℕ, List, Contains, IfOk, IfErr, map};
 ghost use Rattle.source.specs.Views.{seen_words};
 ghost use Rattle.items.specs.Reading.{AreItems};
 ghost use Rattle.items.specs.Rewriting.{IsRewritten};
-ghost use Rattle.sourceediting.specs.Views.{seen_living};
+ghost use Rattle.mmsyntax.specs.declared.statement.Assertion.{Assertion};
+ghost use Rattle.sourceediting.specs.Following.{Followed as FollowedOf};
+ghost use Rattle.sourceediting.specs.Refusals.{HasCause};
+ghost use Rattle.sourceediting.specs.Views.{seen_living, AreLabelled};
 ghost use Rattle.sourceediting.specs.Written.{IsRearranged, moved_in, sources_of};
 
 use crate::citing::marked;
@@ -13,8 +16,8 @@ use crate::filling::{Known, Piece, Texts, comings_of};
 use crate::following::Followed;
 use crate::moving::{Moving, moving_of};
 use crate::outline::{Standing, Stretch, outline_of};
-use crate::planning::{ByLabel, Planned, unwritten};
-use crate::refusal::{Refusal, shown};
+use crate::planning::{ByLabel, Planned, labelled, unwritten};
+use crate::refusal::Refusal;
 use arranging::{Coming, Edits, arrange, parts_of};
 use giving::Changes;
 use items::{Item, read_items, rewrite};
@@ -47,21 +50,23 @@ fn is_compressed<'a, D: Declared<'a>>(declared: &D, label: &[u8]) -> bool {
     matches!(declared.proof(place), Some(ProofWords::Compressed(..)))
 }
 
-/// The text of an assertion with its proof, which has this label in the library now.
+/// The text of an assertion with its proof.
 fn text_of<'x, 'a, D: Declared<'a>>(
     alloc: Global,
     keys: RandomState,
     declared: &D,
     words: &SymbolWords<'x>,
     edits: &Rearranged<'x>,
-    now: &[u8],
     statement: &Statement<'_>,
-) -> Result<Written, Refusal> {
+) -> Result<Written, Refusal>
+    ensures { (living : List FollowedOf) (edited : List Assertion) (text : List ℕ) → Contains edited statement.now.assertion.now
+        → IfErr result (HasCause living edited text) }
+{
     let prelude = edits.planned.edited.prelude();
     let names = edits.names;
     match assertion_text(alloc, keys, declared, prelude, names, words, statement)? {
         Some(text) => Ok(text),
-        None => Err(unwritten(alloc, now)),
+        None => Err(unwritten(alloc, statement.assertion)?),
     }
 }
 
@@ -90,9 +95,13 @@ fn parted<'x, 'a, D: Declared<'a>>(
     is_in_front: bool,
     words: &SymbolWords<'x>,
     edits: &Rearranged<'x>,
-) -> Result<Piece<'x>, Refusal> {
-    let Some(assertion) = edits.edited.get(&now) else {
-        return Err(unwritten(alloc, now));
+) -> Result<Piece<'x>, Refusal>
+    requires { AreLabelled edits.now.edited.now (map (λ r. r.assertion) edits.now.planned.edited.now.entries) }
+    ensures { (living : List FollowedOf) (text : List ℕ)
+        → IfErr result (HasCause living (map (λ r. r.assertion) edits.now.planned.edited.now.entries) text) }
+{
+    let Some(assertion) = labelled(edits.edited, now) else {
+        return Err(Refusal::Unfit);
     };
     let source = standing.label;
     let statement = Statement {
@@ -100,7 +109,7 @@ fn parted<'x, 'a, D: Declared<'a>>(
         label: edits.changes.text_for(source).unwrap_or(source),
         is_compressed: is_compressed(declared, source),
     };
-    let text = text_of(alloc, keys, declared, words, edits, now, &statement)?;
+    let text = text_of(alloc, keys, declared, words, edits, &statement)?;
     let unit = Stretch {
         first: standing.first,
         end: standing.place,
@@ -118,7 +127,11 @@ fn put_moved<'x, 'a, D: Declared<'a>>(
     words: &SymbolWords<'x>,
     edits: &Rearranged<'x>,
     texts: &mut Texts<'x>,
-) -> Result<(), Refusal> {
+) -> Result<(), Refusal>
+    requires { AreLabelled edits.now.edited.now (map (λ r. r.assertion) edits.now.planned.edited.now.entries) }
+    ensures { (living : List FollowedOf) (text : List ℕ)
+        → IfErr result (HasCause living (map (λ r. r.assertion) edits.now.planned.edited.now.entries) text) }
+{
     for standing in known.outline.assertions.as_slice() {
         let source = standing.label;
         if let Some(now) = moving.labels.text_for(source) {
@@ -163,10 +176,14 @@ fn put_added<'x, 'a, D: Declared<'a>>(
     words: &SymbolWords<'x>,
     edits: &Rearranged<'x>,
     texts: &mut Texts<'x>,
-) -> Result<(), Refusal> {
+) -> Result<(), Refusal>
+    requires { AreLabelled edits.now.edited.now (map (λ r. r.assertion) edits.now.planned.edited.now.entries) }
+    ensures { (living : List FollowedOf) (text : List ℕ)
+        → IfErr result (HasCause living (map (λ r. r.assertion) edits.now.planned.edited.now.entries) text) }
+{
     let is_compressed = has_compressed(declared);
     for followed in edits.planned.living {
-        let (None, Some(assertion)) = (followed.source, edits.edited.get(&followed.now)) else {
+        let (None, Some(assertion)) = (followed.source, labelled(edits.edited, followed.now)) else {
             continue;
         };
         let now = followed.now;
@@ -175,7 +192,7 @@ fn put_added<'x, 'a, D: Declared<'a>>(
             label: now,
             is_compressed,
         };
-        let text = text_of(alloc, keys, declared, words, edits, now, &statement)?;
+        let text = text_of(alloc, keys, declared, words, edits, &statement)?;
         let unit = Stretch { first: 0, end: 0 };
         texts.insert(now, Piece::new(known, None, text, unit, false))?;
     }
@@ -190,7 +207,11 @@ fn texts_of<'x, 'a, D: Declared<'a>>(
     known: &Known<'x>,
     moving: &Moving<'x>,
     edits: &Rearranged<'x>,
-) -> Result<Texts<'x>, Refusal> {
+) -> Result<Texts<'x>, Refusal>
+    requires { AreLabelled edits.now.edited.now (map (λ r. r.assertion) edits.now.planned.edited.now.entries) }
+    ensures { (living : List FollowedOf) (text : List ℕ)
+        → IfErr result (HasCause living (map (λ r. r.assertion) edits.now.planned.edited.now.entries) text) }
+{
     let mut texts = HashMap::with_hasher(alloc, keys);
     let prelude = edits.planned.database.prelude();
     let words = symbol_words(alloc, keys, prelude, edits.planned.names)?;
@@ -199,11 +220,6 @@ fn texts_of<'x, 'a, D: Declared<'a>>(
     )?;
     put_added(alloc, keys, declared, known, &words, edits, &mut texts)?;
     Ok(texts)
-}
-
-/// Edits that can't be written into a text.
-fn unfit(alloc: Global) -> Refusal {
-    Refusal::of_history(format!(in alloc; "the edits can't be written"))
 }
 
 /// A text with the labels that change and with other proofs.
@@ -216,11 +232,13 @@ pub(crate) fn rewritten(
     edits: &Rearranged<'_>,
     text: &[u8],
 ) -> Result<Vec<u8>, Refusal>
-    ensures { IfOk result (λ out. IsRewritten edits.now.changes.now edits.now.proofs.now text.now out.items) }
+    ensures rewritten { IfOk result (λ out. IsRewritten edits.now.changes.now edits.now.proofs.now text.now out.items) }
+    ensures refused { (living : List FollowedOf) (edited : List Assertion) (source : List ℕ)
+        → IfErr result (HasCause living edited source) }
 {
     match rewrite(alloc, edits.changes, edits.proofs, text)? {
         Some(out) => Ok(out),
-        None => Err(unfit(alloc)),
+        None => Err(Refusal::Unfit),
     }
 }
 
@@ -261,8 +279,9 @@ fn arranged(
     edits: &Rearranged<'_>,
 ) -> Result<Vec<u8>, Refusal>
     requires { AreItems source.now items.now }
-    ensures { IfOk result (λ out. IsRearranged (seen_living edits.now.planned.living.now) (seen_words edits.now.planned.gone.now)
-        edits.now.changes.now edits.now.proofs.now source.now out.items) }
+    ensures arranged { IfOk result (λ out. IsRearranged (seen_living edits.now.planned.living.now)
+        (seen_words edits.now.planned.gone.now) edits.now.changes.now edits.now.proofs.now source.now out.items) }
+    ensures refused { (living : List FollowedOf) (edited : List Assertion) (text : List ℕ) → IfErr result (HasCause living edited text) }
 {
     let gone = marked(alloc, keys, edits.planned.gone)?;
     let moved = moved_in(alloc, edits.planned.living)?;
@@ -279,7 +298,7 @@ fn arranged(
     };
     match arrange(alloc, edits, source, items, comings)? {
         Some(out) => Ok(out),
-        None => Err(unfit(alloc)),
+        None => Err(Refusal::Unfit),
     }
 }
 
@@ -291,9 +310,12 @@ fn rearrange_known<'x, 'a, D: Declared<'a>>(
     known: &Known<'x>,
     edits: &Rearranged<'x>,
 ) -> Result<Vec<u8>, Refusal>
-    requires { AreItems known.now.text.now known.now.items.items }
-    ensures { IfOk result (λ out. IsRearranged (seen_living edits.now.planned.living.now) (seen_words edits.now.planned.gone.now)
-        edits.now.changes.now edits.now.proofs.now known.now.text.now out.items) }
+    requires items { AreItems known.now.text.now known.now.items.items }
+    requires labelled { AreLabelled edits.now.edited.now (map (λ r. r.assertion) edits.now.planned.edited.now.entries) }
+    ensures arranged { IfOk result (λ out. IsRearranged (seen_living edits.now.planned.living.now)
+        (seen_words edits.now.planned.gone.now) edits.now.changes.now edits.now.proofs.now known.now.text.now out.items) }
+    ensures refused { IfErr result (HasCause (seen_living edits.now.planned.living.now)
+        (map (λ r. r.assertion) edits.now.planned.edited.now.entries) known.now.text.now) }
 {
     let moving = moving_of(alloc, keys, declared, &known.outline, edits)?;
     let texts = texts_of(alloc, keys, declared, known, &moving, edits)?;
@@ -308,10 +330,11 @@ fn rearrange_known<'x, 'a, D: Declared<'a>>(
 
 /// A source by its items.
 fn known_of<'x>(alloc: Global, keys: RandomState, source: &'x [u8]) -> Result<Known<'x>, Refusal>
-    ensures { IfOk result (λ known. AreItems source.now known.items.items × (known.text.now ≡ source.now)) }
+    ensures items { IfOk result (λ known. AreItems source.now known.items.items × (known.text.now ≡ source.now)) }
+    ensures refused { (living : List FollowedOf) (edited : List Assertion) (text : List ℕ) → IfErr result (HasCause living edited text) }
 {
     let Some(items) = read_items(alloc, source)? else {
-        return Err(unfit(alloc));
+        return Err(Refusal::Unfit);
     };
     let none = marked(alloc, keys, &[])?;
     let parts = parts_of(alloc, &none, &none, source, items.as_slice())?;
@@ -334,8 +357,11 @@ pub(crate) fn rearrange<'x, 'a, D: Declared<'a>>(
     source: &'x [u8],
     edits: &Rearranged<'x>,
 ) -> Result<Vec<u8>, Refusal>
-    ensures { IfOk result (λ out. IsRearranged (seen_living edits.now.planned.living.now) (seen_words edits.now.planned.gone.now)
-        edits.now.changes.now edits.now.proofs.now source.now out.items) }
+    requires { AreLabelled edits.now.edited.now (map (λ r. r.assertion) edits.now.planned.edited.now.entries) }
+    ensures arranged { IfOk result (λ out. IsRearranged (seen_living edits.now.planned.living.now)
+        (seen_words edits.now.planned.gone.now) edits.now.changes.now edits.now.proofs.now source.now out.items) }
+    ensures refused { IfErr result (HasCause (seen_living edits.now.planned.living.now)
+        (map (λ r. r.assertion) edits.now.planned.edited.now.entries) source.now) }
 {
     let known = known_of(alloc, keys, source)?;
     rearrange_known(alloc, keys, declared, &known, edits)

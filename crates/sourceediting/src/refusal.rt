@@ -1,50 +1,54 @@
-//! Why edits are not given back.
+//! Why the edits of a history are not written into a source.
 
+use mmsyntax::Label;
 use std::alloc::{AllocError, AllocFailed};
 
-/// The text at fault.
-#[derive(Clone, Copy, Debug, PartialEq, Eq)]
-pub enum File {
-    /// The source.
-    Source,
-    /// The library that was taken of it.
-    Library,
-    /// The history over the library.
-    History,
-}
-
-/// Why edits are not given back.
+/// Why the edits of a history are not written into a source.
 #[derive(Debug, Drop)]
 pub enum Refusal {
-    /// For what is said of a text.
-    Text(File, String),
+    /// An assertion was deleted, by its label in the source, and the proof of one that isn't the library's own still cites it.
+    StillCited {
+        /// That of the deleted one.
+        label: Label,
+        /// That of the one that cites it.
+        by: Label,
+    },
+    /// An assertion that is put in stands in front of a neighbour in the library, which keeps its place in the source, and what declares a
+    /// name of it stands behind that.
+    InFront {
+        /// The label in the library of what is put in.
+        label: Label,
+        /// That of its neighbour.
+        next: Label,
+        /// The name: a constant, a variable, or the label of a `$f`.
+        name: Label,
+    },
+    /// The proof of a theorem of the edited library, by its label there, can't be written.
+    Unwritten(Label),
+    /// The edits can't be written.
+    Unfit,
     /// Memory ran out.
     NoMemory,
 }
 
-impl Refusal {
-    /// What is said of the history, if there was memory for it.
-    pub(crate) fn of_history(why: Result<String, AllocError>) -> Refusal {
-        match why {
-            Ok(why) => Refusal::Text(File::History, why),
-            Err(_) => Refusal::NoMemory,
-        }
-    }
-}
-
 impl From<AllocError> for Refusal {
+    ghost use Rattle.std.specs.Prelude.{◌≡◌};
+    ghost use Rattle.sourceediting.specs.declared.refusal.Refusal.TheVariants.{NoMemory};
+
+    ghost from_gives = { λ _ e. e ≡ NoMemory };
+
     fn from(_error: AllocError) -> Refusal {
         Refusal::NoMemory
     }
 }
 
 impl<T: Drop> From<AllocFailed<T>> for Refusal {
+    ghost use Rattle.std.specs.Prelude.{◌≡◌};
+    ghost use Rattle.sourceediting.specs.declared.refusal.Refusal.TheVariants.{NoMemory};
+
+    ghost from_gives = { λ _ e. e ≡ NoMemory };
+
     fn from(_error: AllocFailed<T>) -> Refusal {
         Refusal::NoMemory
     }
-}
-
-/// A name as it is printed.
-pub fn shown(name: &[u8]) -> &str {
-    str::from_utf8(name).unwrap_or("?")
 }

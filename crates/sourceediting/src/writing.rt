@@ -1,8 +1,9 @@
 //! A source is written anew with the edits of a history.
 
-ghost use Rattle.std.specs.Prelude.{◌≡◌, IfOk, map};
+ghost use Rattle.std.specs.Prelude.{◌≡◌, IfOk, IfErr, map};
 ghost use Rattle.source.specs.Views.{seen_words};
 ghost use Rattle.sourceediting.specs.Following.{all_commands};
+ghost use Rattle.sourceediting.specs.Refusals.{HasCause};
 ghost use Rattle.sourceediting.specs.Reproved.{AreOtherProofs};
 ghost use Rattle.sourceediting.specs.Views.{seen_living, seen_proofs, AreLabelled};
 ghost use Rattle.sourceediting.specs.Written.{IsWrittenAnew};
@@ -42,8 +43,11 @@ fn written<'x, 'a, D: Declared<'a>>(
     entries: &[Entry],
     edits: &Rearranged<'x>,
 ) -> Result<Vec<u8>, Refusal>
-    ensures { IfOk result (λ out. IsWrittenAnew (all_commands entries.now) (seen_living edits.now.planned.living.now)
+    requires { AreLabelled edits.now.edited.now (map (λ r. r.assertion) edits.now.planned.edited.now.entries) }
+    ensures written { IfOk result (λ out. IsWrittenAnew (all_commands entries.now) (seen_living edits.now.planned.living.now)
         (seen_words edits.now.planned.gone.now) (λ proofs. proofs ≡ edits.now.proofs.now) edits.now.changes.now source.now out.items) }
+    ensures refused { IfErr result (HasCause (seen_living edits.now.planned.living.now)
+        (map (λ r. r.assertion) edits.now.planned.edited.now.entries) source.now) }
 {
     if keep_places(entries) {
         return rewritten(alloc, edits, source);
@@ -64,9 +68,11 @@ fn write_over<'e, D: Declared<'e>>(
     names: &Names<'e>,
 ) -> Result<Vec<u8>, Refusal>
     requires { AreLabelled edited.now (map (λ r. r.assertion) planned.now.edited.now.entries) }
-    ensures { IfOk result (λ out. IsWrittenAnew (all_commands entries.now) (seen_living planned.now.living.now)
+    ensures written { IfOk result (λ out. IsWrittenAnew (all_commands entries.now) (seen_living planned.now.living.now)
         (seen_words planned.now.gone.now) (AreOtherProofs (D.scope declared.now) planned.now.database.now.assertions
         (map (λ r. r.assertion) planned.now.edited.now.entries) (seen_living planned.now.living.now)) changes.now source.now out.items) }
+    ensures refused { IfErr result (HasCause (seen_living planned.now.living.now)
+        (map (λ r. r.assertion) planned.now.edited.now.entries) source.now) }
 {
     let proofs = other_proofs(alloc, keys, declared, edited, names, planned)?;
     let proofs = by_label(alloc, keys, proofs.as_slice())?;
@@ -84,7 +90,7 @@ fn write_over<'e, D: Declared<'e>>(
 ///
 /// # Errors
 ///
-/// A proof or a place that can't be written, with the label; want of memory.
+/// What can't be written, or can't stand in its place; want of memory.
 pub fn write_edits<'e, D: Declared<'e>>(
     alloc: Global,
     keys: RandomState,
@@ -94,9 +100,11 @@ pub fn write_edits<'e, D: Declared<'e>>(
     entries: &[Entry],
     changes: &'e Changes<'e>,
 ) -> Result<Vec<u8>, Refusal>
-    ensures { IfOk result (λ out. IsWrittenAnew (all_commands entries.now) (seen_living planned.now.living.now)
+    ensures written { IfOk result (λ out. IsWrittenAnew (all_commands entries.now) (seen_living planned.now.living.now)
         (seen_words planned.now.gone.now) (AreOtherProofs (D.scope declared.now) planned.now.database.now.assertions
         (map (λ r. r.assertion) planned.now.edited.now.entries) (seen_living planned.now.living.now)) changes.now source.now out.items) }
+    ensures refused { IfErr result (HasCause (seen_living planned.now.living.now)
+        (map (λ r. r.assertion) planned.now.edited.now.entries) source.now) }
 {
     let edited = edited_by_label(alloc, keys, planned.edited.entries())?;
     let names = names_of(alloc, keys, declared, &edited, planned)?;

@@ -6,12 +6,14 @@ use Rattle.std.specs.Borrow.{Bor}
 use Rattle.std.proofs.lemmas.List.{take_all}
 use Rattle.std.proofs.lemmas.Option.{MatchOption-at_some, slice_get_cases}
 use Rattle.mmtext.specs.Words.{Word}
-use Rattle.source.specs.Scopes.{Assertion}
+use Rattle.source.specs.Scopes.{Assertion, is_in}
 use Rattle.source.specs.Views.{seen_words}
 use Rattle.giving.specs.Staying.{others}
 use Rattle.sourceediting.specs.Following.{names_none}
 use Rattle.sourceediting.proofs.Marks.{firsts, firsts_marked}
-use Rattle.sourceediting.proofs.Others.{own_passes, other_passes}
+use Rattle.sourceediting.specs.Refusals.{names, IsCitedCause}
+use Rattle.sourceediting.proofs.Origins.{label_is}
+use Rattle.sourceediting.proofs.Others.{own_passes, other_passes, other_there}
 use Rattle.sourceediting.proofs.citing.are_uncited.Goals as goal
 
 abbrev IsUncited : List Word → Assertion → Type 0
@@ -43,7 +45,7 @@ loop-place-preserved g c =
       | inl x ↦
           let said : is_some c.first_gone_at.result ≡ not (names_none firsts_gone x.0.proof) =
           MatchOption-at_some _ (λ (x : Assertion). is_some c.first_gone_at.result ≡ not (names_none firsts_gone x.proof)) x.0 x.2
-          c.first_gone_at.ensures in
+          c.first_gone_at.ensures.some in
           let none : IsUncited gone x.0 =
           ap (λ (ws : List Word). names_none ws x.0.proof) (sym among)
           ∙ opposite (names_none firsts_gone x.0.proof) (ap (λ (o : Option (Bor (List ℕ))). is_some o) (sym c.in_default.is) ∙ said) in
@@ -51,8 +53,30 @@ loop-place-preserved g c =
       | inr m ↦ absurd (let past : length xs ≤ i = m.0 in omega (arith, c.requires))
     ]
 
-pub returns : goal.returns
-returns g c =
+pub returns-in-Some-clause-cited : goal.returns-in-Some-clause-cited
+returns-in-Some-clause-cited g c =
+    let xs : List Assertion = (g.D.Declared.scope c.args.declared.now).assertions in
+    let own = c.args.own.now in
+    let gone = seen_words c.args.gone.now in
+    let i = c.loop-place.place in
+    let label = c.in-Some.label.now in
+    let by = c.in-Some-label.by in
+    let among : firsts c.in_ok-gone.gone ≡ gone = ap firsts c.in_ok-gone.ensures ∙ firsts_marked gone in
+    elim (slice_get_cases xs i).1 [
+      | inl x ↦
+          subst (IsCitedCause gone (others own xs)) (sym c.in_ok-still_cited.ensures) (record {
+            citing = x.0;
+            there = other_there own xs i x.0 c.loop-place-test.true x.2 c.if-is_own.false;
+            labelled = sym (label_is by c.label.result x.0 _ c.in-Some-label.is c.label.ensures x.2);
+            cites =
+                MatchOption-at_some _ (λ (y : Assertion). IsTrue (names label y.proof)) x.0 x.2 c.in-Some.ensures.named;
+            deleted = subst (λ (ws : List Word). IsTrue (is_in ws label)) among c.in-Some.ensures.gone;
+          })
+      | inr m ↦ absurd (let past : length xs ≤ i = m.0 in omega (arith, c.requires))
+    ]
+
+pub returns-clause-uncited : goal.returns-clause-uncited
+returns-clause-uncited g c =
     let xs : List Assertion = (g.D.Declared.scope c.args.declared.now).assertions in
     let i = c.loop-place.place in
     let flags : take i c.args.own.now ≡ c.args.own.now = take_all i c.args.own.now c.loop-place-test.false in

@@ -2,6 +2,8 @@
 use Rattle.std.proofs.Common.{◌≡◌, ◌∙◌, [], map, None, false, true, List, ℕ, sym, ap, subst, get_or}
 use Rattle.std.specs.Borrow.{Bor}
 use Rattle.std.specs.Option.{option_map}
+use Rattle.std.proofs.lemmas.Result.{err_from_is_err_and}
+use Rattle.library.specs.declared.library.Ranked.{Ranked}
 use Rattle.std.proofs.lemmas.List.{map-append, get_or_default}
 use Rattle.sourceediting.specs.declared.following.Followed.{Followed as KeptAssertion}
 use Rattle.sourceediting.specs.Views.{seen_living, seen_proofs, seen_followed, AreLabelled}
@@ -49,7 +51,15 @@ loop-followed-preserved g c =
                 differ (sym w.if-not-is_proof.true ∙ c.is_proof.ensures.1
                 (ap (λ cs. map (step_then cs) some.old.now.proof) c.in_ok-changes.ensures ∙ e));
           })
-          w.in_ok-text.ensures
+          w.in_ok-text.ensures.written
           (ap seen_proofs w.in_ok-push.ensures.items ∙ map-append _ c.loop-followed.proofs.items _))
       | else-not-is_proof w ↦ rw w.proofs-is c.loop-followed.invariant
     ]
+
+pub returns-in_err-text-clause-refused : goal.returns-in_err-text-clause-refused
+returns-in_err-text-clause-refused g c = λ text.
+    let planned = c.args.planned.now in
+    let edited = map (λ (r : Ranked). r.assertion) planned.edited.now.entries in
+    let p = err_from_is_err_and c.from_residual-in_err-text.result c.from_residual-in_err-text.ensures.1 in
+    rw (p.1, p.2) (c.in_err-text.ensures.refused (seen_living planned.living.now) edited text
+    (c.in-Some-Some-Some.ensures' edited c.requires).0)

@@ -27,16 +27,19 @@ returns-in-Some c =
       library = known_labels library;
       comings = c.args.comings.now;
     } in record {
-      edited = edited;
-      deleted = looked_up gone (seen_words c.args.edits.now.planned.gone.now) c.in_ok-gone.ensures;
-      moved =
-          looked_up moved (seen_words c.as_slice.result.now) c.in_ok-moved-2.ensures
-          ∙ (ap seen_words c.as_slice.ensures.value ∙ c.in_ok-moved.ensures);
-      library =
-          looked_up library (seen_words c.as_slice-2.result.now) c.in_ok-library-2.ensures
-          ∙ (ap seen_words c.as_slice-2.ensures.value ∙ c.in_ok-library.ensures);
-      arranged =
-          subst (λ (made : Option (Vec ℕ Global)). IfSome made
-          (λ out. IsArranged c.args.edits.now.changes.now c.args.edits.now.proofs.now edited c.args.source.now out.items)) c.in-Some.is
-          c.in_ok-out.ensures;
+      refused = λ living edited text. tt;
+      arranged = record {
+        edited = edited;
+        deleted = looked_up gone (seen_words c.args.edits.now.planned.gone.now) c.in_ok-gone.ensures;
+        moved =
+            looked_up moved (seen_words c.as_slice.result.now) c.in_ok-moved-2.ensures
+            ∙ (ap seen_words c.as_slice.ensures.value ∙ c.in_ok-moved.ensures);
+        library =
+            looked_up library (seen_words c.as_slice-2.result.now) c.in_ok-library-2.ensures
+            ∙ (ap seen_words c.as_slice-2.ensures.value ∙ c.in_ok-library.ensures);
+        arranged =
+            subst (λ (made : Option (Vec ℕ Global)). IfSome made
+            (λ out. IsArranged c.args.edits.now.changes.now c.args.edits.now.proofs.now edited c.args.source.now out.items)) c.in-Some.is
+            c.in_ok-out.ensures;
+      };
     }

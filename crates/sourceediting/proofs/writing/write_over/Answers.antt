@@ -1,6 +1,6 @@
 -- What is left to show of `write_over`.
 use Rattle.std.proofs.Common.{◌≡◌, ◌∙◌, map, sym, ap, subst}
-use Rattle.std.proofs.lemmas.Result.{IfOk-weaker}
+use Rattle.std.proofs.lemmas.Result.{IfOk-weaker, err_from_is_err_and}
 use Rattle.library.specs.declared.library.Ranked.{Ranked}
 use Rattle.source.specs.Views.{seen_words}
 use Rattle.sourceediting.specs.Following.{all_commands}
@@ -10,8 +10,8 @@ use Rattle.sourceediting.specs.Written.{IsWrittenAnew}
 use Rattle.sourceediting.proofs.Rewritten.{by_others}
 use Rattle.sourceediting.proofs.writing.write_over.Goals as goal
 
-pub returns : goal.returns
-returns g c =
+pub returns-clause-written : goal.returns-clause-written
+returns-clause-written g c =
     let commands = all_commands c.args.entries.now in
     let cs = c.args.changes.now in
     let source = c.args.source.now in
@@ -19,9 +19,17 @@ returns g c =
     let planned = c.args.planned.now in
     let are_others = AreOtherProofs (g.D.Declared.scope c.args.declared.now) planned.database.now.assertions
     (map (λ (r : Ranked). r.assertion) planned.edited.now.entries) (seen_living planned.living.now) in
-    let are = subst are_others (sym (c.in_ok-proofs-2.ensures ∙ ap seen_proofs c.as_slice.ensures.value)) c.in_ok-proofs.ensures in
+    let are = subst are_others (sym (c.in_ok-proofs-2.ensures ∙ ap seen_proofs c.as_slice.ensures.value)) c.in_ok-proofs.ensures.made in
     let living = seen_living planned.living.now in
     let gone = seen_words planned.gone.now in
     IfOk-weaker c.written.result (λ out. IsWrittenAnew commands living gone (λ ps. ps ≡ proofs) cs source out.items)
     (λ out. IsWrittenAnew commands living gone are_others cs source out.items)
-    (λ out. by_others commands living gone cs source out.items are_others proofs are) c.written.ensures
+    (λ out. by_others commands living gone cs source out.items are_others proofs are) c.written.ensures.written
+
+pub returns-clause-refused : goal.returns-clause-refused
+returns-clause-refused g c = c.written.ensures.refused
+
+pub returns-in_err-proofs-clause-refused : goal.returns-in_err-proofs-clause-refused
+returns-in_err-proofs-clause-refused g c =
+    let p = err_from_is_err_and c.from_residual.result c.from_residual.ensures.1 in
+    rw (p.1, p.2) (c.in_err-proofs.ensures.refused c.args.source.now)

@@ -1,7 +1,8 @@
 -- What is left to show of `written`.
-use Rattle.std.proofs.Common.{◌≡◌, ◌∙◌, false, true, sym}
+use Rattle.std.proofs.Common.{◌≡◌, ◌∙◌, false, true, map, sym}
 use Rattle.std.specs.Prelude.{All}
 use Rattle.std.proofs.lemmas.Result.{IfOk-weaker}
+use Rattle.library.specs.declared.library.Ranked.{Ranked}
 use Rattle.source.specs.Views.{seen_words}
 use Rattle.sourceediting.specs.Following.{KeepsPlaces, all_commands}
 use Rattle.sourceediting.specs.Views.{seen_living}
@@ -13,8 +14,8 @@ use Rattle.sourceediting.proofs.writing.written.Goals as goal
 clash : false ≡ true → ⊥
 clash e = cc
 
-pub returns-then-keep_places : goal.returns-then-keep_places
-returns-then-keep_places g c =
+pub returns-then-keep_places-clause-written : goal.returns-then-keep_places-clause-written
+returns-then-keep_places-clause-written g c =
     let commands = all_commands c.args.entries.now in
     let living = seen_living c.args.edits.now.planned.living.now in
     let gone = seen_words c.args.edits.now.planned.gone.now in
@@ -24,10 +25,19 @@ returns-then-keep_places g c =
     let all : All KeepsPlaces commands = c.keep_places.ensures.0 c.if-keep_places.true in
     IfOk-weaker c.rewritten.result (λ out. IsRewritten cs proofs source out.items)
     (λ out. IsWrittenAnew commands living gone (λ ps. ps ≡ proofs) cs source out.items)
-    (λ out. only_rewritten commands living gone cs source out.items proofs all) c.rewritten.ensures
+    (λ out. only_rewritten commands living gone cs source out.items proofs all) c.rewritten.ensures.rewritten
 
-pub returns : goal.returns
-returns g c =
+pub returns-then-keep_places-clause-refused : goal.returns-then-keep_places-clause-refused
+returns-then-keep_places-clause-refused g c =
+    let planned = c.args.edits.now.planned in
+    c.rewritten.ensures.refused (seen_living planned.living.now)
+    (map (λ (r : Ranked). r.assertion) planned.edited.now.entries) c.args.source.now
+
+pub returns-clause-refused : goal.returns-clause-refused
+returns-clause-refused g c = c.rearrange.ensures.refused
+
+pub returns-clause-written : goal.returns-clause-written
+returns-clause-written g c =
     let commands = all_commands c.args.entries.now in
     let living = seen_living c.args.edits.now.planned.living.now in
     let gone = seen_words c.args.edits.now.planned.gone.now in
@@ -38,4 +48,4 @@ returns g c =
     clash (sym c.if-keep_places.false ∙ c.keep_places.ensures.1 all) in
     IfOk-weaker c.rearrange.result (λ out. IsRearranged living gone cs proofs source out.items)
     (λ out. IsWrittenAnew commands living gone (λ ps. ps ≡ proofs) cs source out.items)
-    (λ out. all_rearranged commands living gone cs source out.items proofs some) c.rearrange.ensures
+    (λ out. all_rearranged commands living gone cs source out.items proofs some) c.rearrange.ensures.arranged

@@ -1,0 +1,73 @@
+-- Why the edits of a history are not written into a source.
+use Rattle.std.specs.Prelude.{◌≡◌, ◌<◌, ℕ, Bool, false, List, Contains, Option, Some, None, IsTrue, slice_get}
+use Rattle.mmtext.specs.Words.{Word}
+use Rattle.mmsyntax.specs.declared.statement.Assertion.{Assertion as Unit'}
+use Rattle.source.specs.Statements.{Proof}
+use Rattle.source.specs.Scopes.{Assertion, is_in}
+use Rattle.source.specs.Whole.{labels_in}
+use Rattle.arranging.specs.declared.coming.Coming.{Coming}
+use Rattle.arranging.specs.Arranged.{source_of}
+use Rattle.arranging.specs.Held.{IsHeldBehind}
+use Rattle.sourceediting.specs.declared.refusal.Refusal.{Refusal}
+use Rattle.sourceediting.specs.declared.refusal.Refusal.TheVariants as refusal
+use Rattle.sourceediting.specs.Following.{Followed}
+
+-- ---- what was deleted is still cited
+
+-- a proof, if there is one, names a label
+abbrev pub names : Word → Option Proof → Bool
+names w None = false
+names w (Some p) = is_in (labels_in p) w
+
+-- an assertion has a label that is gone in its proof
+pub record IsStillCited (gone : List Word) (others : List Assertion) (label by : Word) : Type 0 where
+  pub citing : Assertion
+  pub there : Contains others citing
+  pub labelled : citing.label ≡ by
+  pub cites : IsTrue (names label citing.proof)
+  pub deleted : IsTrue (is_in gone label)
+
+-- ---- what is put in can't stand in front of its neighbour
+
+-- an assertion of the edited library has this number and this label
+pub record IsNumbered (edited : List Unit') (number : ℕ) (label : Word) : Type 0 where
+  pub assertion : Unit'
+  pub stands : slice_get edited number ≡ Some assertion
+  pub labelled : assertion.label ≡ label
+
+-- an assertion with this label now lives, and has this label in the source, if it has one
+pub record IsKnownAs (living : List Followed) (label : Word) (source : Option Word) : Type 0 where
+  pub followed : Followed
+  pub lives : Contains living followed
+  pub now : followed.now ≡ label
+  pub in_source : followed.source ≡ source
+
+-- it stands in front of its neighbour in the library, and mentions a name that is declared behind that in the source
+pub record IsInFront (living : List Followed) (edited : List Unit') (source : List ℕ) (label next name : Word) : Type 0 where
+  pub first : ℕ
+  pub second : ℕ
+  pub in_front : first < second
+  pub is_first : IsNumbered edited first label
+  pub is_second : IsNumbered edited second next
+  pub coming : Coming
+  pub comes : IsKnownAs living label (source_of coming)
+  pub neighbour : Word
+  pub stays : IsKnownAs living next (Some neighbour)
+  pub held : IsHeldBehind source coming neighbour name
+
+-- ---- while a source is written anew
+
+-- why it isn't: of an assertion that is still cited it was told before; of edits that can't be written, and of want of memory, nothing is
+-- known
+abbrev pub HasCause : List Followed → List Unit' → List ℕ → Refusal → Type 0
+HasCause living edited source (refusal.StillCited label by) = ⊥
+HasCause living edited source (refusal.InFront label next name) = IsInFront living edited source label next name
+HasCause living edited source (refusal.Unwritten label) = (a : Unit') × Contains edited a × (a.label ≡ label)
+HasCause living edited source refusal.Unfit = Unit {0}
+HasCause living edited source refusal.NoMemory = Unit {0}
+
+-- why a history is refused that deletes: one of the others still cites what is gone
+abbrev pub IsCitedCause : List Word → List Assertion → Refusal → Type 0
+IsCitedCause gone others (refusal.StillCited label by) = IsStillCited gone others label by
+IsCitedCause gone others refusal.NoMemory = Unit {0}
+IsCitedCause gone others _ = ⊥
