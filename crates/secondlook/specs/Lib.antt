@@ -1,2 +1,4 @@
 pub mod Again
 pub mod Looked
+pub mod Differing
+pub mod Compared

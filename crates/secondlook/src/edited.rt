@@ -1,7 +1,8 @@
 //! Whether a library that was taken again is the edited one.
 
-ghost use Rattle.std.specs.Prelude.{◌≡◌, ℕ, All, IfOk, IfSome, IsTrue, OnOk, Some, slice_get};
+ghost use Rattle.std.specs.Prelude.{◌≡◌, ℕ, All, IfOk, IfErr, IfSome, IsTrue, OnOk, Some, slice_get};
 ghost use Rattle.secondlook.specs.Again.{IsFloatNamed, IsFloatOf, database_lines, edited_lines};
+ghost use Rattle.secondlook.specs.Compared.{IsOther};
 
 use crate::unlike::Unlike;
 use library::PlainLibrary;
@@ -87,13 +88,15 @@ pub(crate) fn is_edited(
 ) -> Result<(), Unlike>
     ensures floats { OnOk result (All (IsFloatOf database.now.prelude edited.now.setting.prelude) database.now.prelude.floats) }
     ensures same { OnOk result (database_lines database.now ≡ edited_lines edited.now) }
+    ensures other { IfErr result (IsOther database.now edited.now) }
 {
     let lines = database_lines(alloc, database)?;
     let wanted = edited_lines(alloc, edited)?;
-    if lines.as_slice() != wanted.as_slice()
-        || !are_floats_of(database.prelude(), edited.prelude())
-    {
+    if lines.as_slice() != wanted.as_slice() {
         return Err(Unlike::AnotherLibrary);
+    }
+    if !are_floats_of(database.prelude(), edited.prelude()) {
+        return Err(Unlike::AnotherPrelude);
     }
     Ok(())
 }

@@ -1,12 +1,17 @@
 //! Looking again at what is about to be printed.
 
-ghost use Rattle.std.specs.Prelude.{◌≡◌, ℕ, List, IfOk, OnOk, length};
+ghost use Rattle.std.specs.Prelude.{◌≡◌, ℕ, Bool, List, IfOk, IfErr, OnOk, length};
 ghost use Rattle.source.specs.Sources.{DeclaresText};
 ghost use Rattle.source.specs.Views.{seen_words};
 ghost use Rattle.source.specs.Whole.{IsWhole};
+ghost use Rattle.source.specs.Scopes.{Scope};
+ghost use Rattle.choosing.specs.declared.wish.Wish.{Wish as WishOf};
 ghost use Rattle.choosing.specs.declared.wish.Wish.TheVariants.{These};
-ghost use Rattle.intake.specs.Intakes.{IsLibraryOf};
-ghost use Rattle.giving.specs.Staying.{StayAll, others};
+ghost use Rattle.intake.specs.Intakes.{IsLibraryOf, IsRefusedOf};
+ghost use Rattle.library.specs.Library.{Listed};
+ghost use Rattle.giving.specs.Staying.{Change, StayAll, others};
+ghost use Rattle.secondlook.specs.Compared.{IsNotStaying};
+ghost use Rattle.secondlook.specs.Differing.{IsFaulty, IsUnlike, IsUnlikeOf};
 ghost use Rattle.secondlook.specs.Looked.{IsLookedAt};
 
 use crate::edited::is_edited;
@@ -26,16 +31,17 @@ use std::thread::Threads;
 
 /// The source with the edits, as it declares.
 fn read_again<'o>(alloc: Global, keys: RandomState, out: &'o [u8]) -> Result<Scopes<'o>, Unlike>
-    ensures { IfOk result (λ s. DeclaresText out.now s.stand.scope) }
+    ensures declares { IfOk result (λ s. DeclaresText out.now s.stand.scope) }
+    ensures faulty { IfErr result (IsFaulty out.now) }
 {
-    match read_source(alloc, Scopes::new(alloc, keys), out) {
-        Ok(scopes) => Ok(scopes),
-        Err(fault) => Err(Unlike::Unread(fault)),
-    }
+    Ok(read_source(alloc, Scopes::new(alloc, keys), out)?)
 }
 
 /// Why no library is taken again.
-fn untaken(refusal: Refusal<'_, '_>) -> Unlike {
+fn untaken(refusal: Refusal<'_, '_>) -> Unlike
+    ensures { (s : Scope) (w : WishOf) (old : Scope) (changes : List Change) (own : List Bool) (edited : Listed)
+        → IsRefusedOf s w refusal.entry → IsUnlikeOf old s w changes own edited result }
+{
     match refusal {
         Refusal::NoMemory => Unlike::NoMemory,
         _ => Unlike::Untaken,
@@ -52,7 +58,9 @@ fn take_again<'o, D: Declared<'o>>(
     axioms: &[&[u8]],
 ) -> Result<Taken<'o>, Unlike>
     requires { IsWhole (D.scope scopes.now) }
-    ensures { IfOk result (IsLibraryOf (D.scope scopes.now) (These then.entry axioms.entry)) }
+    ensures taken { IfOk result (IsLibraryOf (D.scope scopes.now) (These then.entry axioms.entry)) }
+    ensures untaken { (old : Scope) (changes : List Change) (own : List Bool) (edited : Listed)
+        → IfErr result (IsUnlikeOf old (D.scope scopes.now) (These then.entry axioms.entry) changes own edited) }
 {
     let wish = Wish::These(then, axioms);
     match take_declared(rt, alloc, keys, scopes, wish, &Unfollowed) {
@@ -72,7 +80,9 @@ fn stay<'a, D: Declared<'a>, E: Declared<'a>>(
 ) -> Result<(), Unlike>
     requires chosen { length chosen.now ≡ length (D.scope old.now).assertions }
     requires taken { length taken.now ≡ length (E.scope new.now).assertions }
-    ensures { OnOk result (StayAll changes.now (others chosen.now (D.scope old.now).assertions)
+    ensures stay { OnOk result (StayAll changes.now (others chosen.now (D.scope old.now).assertions)
+        (others taken.now (E.scope new.now).assertions)) }
+    ensures other { IfErr result (IsNotStaying changes.now (others chosen.now (D.scope old.now).assertions)
         (others taken.now (E.scope new.now).assertions)) }
 {
     match first_not_staying(alloc, changes, old, new, chosen, taken)? {
@@ -107,9 +117,12 @@ fn compare<'o, D: Declared<'o>, E: Declared<'o>>(
 ) -> Result<(), Unlike>
     requires own { length edits.own.now ≡ length (D.scope old.now).assertions }
     requires chosen { length taken.now.chosen.items ≡ length (E.scope new.now).assertions }
-    ensures { IsLibraryOf (E.scope new.now) (These edits.entry.then edits.entry.axioms) taken.now → (out : List ℕ)
+    ensures looked { IsLibraryOf (E.scope new.now) (These edits.entry.then edits.entry.axioms) taken.now → (out : List ℕ)
         → DeclaresText out (E.scope new.now) → OnOk result (IsLookedAt (D.scope old.now) out edits.entry.changes.now edits.entry.own.now
         (seen_words edits.entry.then.now) edits.entry.edited.now) }
+    ensures unlike { IsLibraryOf (E.scope new.now) (These edits.entry.then edits.entry.axioms) taken.now
+        → IfErr result (IsUnlikeOf (D.scope old.now) (E.scope new.now) (These edits.entry.then edits.entry.axioms)
+        edits.entry.changes.now edits.entry.own.now edits.entry.edited.now) }
 {
     is_edited(alloc, &taken.database, edits.edited)?;
     let own = own_of(alloc, keys, new, taken)?;
@@ -127,8 +140,10 @@ fn look_over<'o, D: Declared<'o>, E: Declared<'o>>(
 ) -> Result<(), Unlike>
     requires own { length edits.own.now ≡ length (D.scope old.now).assertions }
     requires whole { IsWhole (E.scope new.now) }
-    ensures { (out : List ℕ) → DeclaresText out (E.scope new.now) → OnOk result (IsLookedAt (D.scope old.now) out
+    ensures looked { (out : List ℕ) → DeclaresText out (E.scope new.now) → OnOk result (IsLookedAt (D.scope old.now) out
         edits.entry.changes.now edits.entry.own.now (seen_words edits.entry.then.now) edits.entry.edited.now) }
+    ensures unlike { IfErr result (IsUnlikeOf (D.scope old.now) (E.scope new.now) (These edits.entry.then edits.entry.axioms)
+        edits.entry.changes.now edits.entry.own.now edits.entry.edited.now) }
 {
     let taken = take_again(rt, alloc, keys, new, edits.then, edits.axioms)?;
     compare(alloc, keys, old, new, &taken, edits)
@@ -148,8 +163,10 @@ pub fn look_again(
     edits: Edits<'_, '_>,
 ) -> Result<(), Unlike>
     requires { length edits.own.now ≡ length old.now.stand.scope.assertions }
-    ensures { OnOk result (IsLookedAt old.now.stand.scope out.now edits.entry.changes.now edits.entry.own.now
+    ensures looked { OnOk result (IsLookedAt old.now.stand.scope out.now edits.entry.changes.now edits.entry.own.now
         (seen_words edits.entry.then.now) edits.entry.edited.now) }
+    ensures unlike { IfErr result (IsUnlike old.now.stand.scope out.now (These edits.entry.then edits.entry.axioms)
+        edits.entry.changes.now edits.entry.own.now edits.entry.edited.now) }
 {
     let new = read_again(alloc, keys, out)?;
     // For the proof: what is read is whole.

@@ -8,8 +8,8 @@ use Rattle.secondlook.proofs.looking.compare.Goals as goal
 pub stay-requires : goal.stay-requires
 stay-requires g c κs = ((refl, tt), (c.requires.own, ap length c.as_slice.ensures.value ∙ c.in_ok-own.ensures.many))
 
-pub returns : goal.returns
-returns g c l out declares =
+pub returns-clause-looked : goal.returns-clause-looked
+returns-clause-looked g c l out declares =
     let old = g.D.Declared.scope c.args.old.now in
     let new = g.E.Declared.scope c.args.new.now in
     let taken = c.args.taken.now in
@@ -19,4 +19,4 @@ returns g c l out declares =
     on_ok_weaker c.stay.result
     (λ (stay : StayAll edits.changes.now (others edits.own.now old.assertions) (others flags new.assertions)).
     looked_at new edits.then edits.axioms taken l flags are old out edits.changes.now edits.own.now edits.edited.now declares
-    c.in_ok-is_edited.ensures.floats c.in_ok-is_edited.ensures.same stay) c.stay.ensures
+    c.in_ok-is_edited.ensures.floats c.in_ok-is_edited.ensures.same stay) c.stay.ensures.stay
