@@ -32,7 +32,7 @@ use Rattle.intake.specs.declared.refusal.Refusal.TheVariants as refusal
 use Rattle.gathering.specs.Placed.{map_of, tables_of}
 use Rattle.gathering.specs.Gatherings.{told_in}
 use Rattle.intake.specs.Intakes.{IsTakenByWish, IsLibraryOf, IsRefused, IsRefusedOf, IsWide, IsDraft, name_at, name_in}
-use Rattle.intake.specs.Parts.{AreDrafted, IsGathered, IsChoiceByFlags, HasSites, AreAsMany, lists_of, changed_of, name_by}
+use Rattle.intake.specs.Parts.{AreDrafted, IsGathered, AreChosen, IsChoiceByFlags, HasSites, AreAsMany, lists_of, changed_of, name_by}
 use Rattle.intake.proofs.Libraries.{chosen_kept, drafted_of}
 
 -- ---- refusals
@@ -100,6 +100,7 @@ module _ (s : Scope) (w : Wish) (t : Sited) (db : Contents) (axioms : List (Word
         axioms = axioms;
         names = names;
         takes = taken.takes;
+        long = taken.long;
       }
 
   named : (limit : Limit) → name_by t limit ≡ name_in drafted.taken_by.taken.takes.places limit
@@ -137,6 +138,7 @@ is_taken s w t l text d = record {
   in_order = l.taken.in_order;
   few = l.taken.few;
   takes = l.taken.takes;
+  long = l.taken.long;
   checks = l.checks;
   chosen_are = l.chosen_are;
 }
@@ -145,28 +147,23 @@ is_taken s w t l text d = record {
 
 module _ (s : Scope) (t : Sited) (names : LibraryNames)
     (named : AreNamedWell s t.constants t.variables t.floats t.labels names) where
-  pub is_gathered : (w : Wish) (sel : Selection) (g : Gathered) (chosen front : List Bool) → chosen ≡ sel.chosen.items
-      → front ≡ sel.front.items → IsChosen s w sel → AreSites s (kept chosen s.assertions) t
-      → ((choice : Choice) → AreFlags s choice chosen front
+  pub is_gathered : (w : Wish) (g : Gathered) (chosen front long : List Bool)
+      → AreChosen s w (map_of t names) (tables_of t names) chosen front long → AreSites s (kept chosen s.assertions) t
+      → ((choice : Choice) → AreFlags s choice chosen front long
       → AreTaken (map_of t names) (tables_of t names) choice [] s.assertions g.assertions.items)
-      → ((choice : Choice) → AreFlags s choice chosen front → told choice [] s.assertions ≡ told_in g.axioms.items)
-      → IsGathered s w t names g sel.chosen.items
-  is_gathered w sel g chosen front e f c sites taken telling =
-      let flags : AreFlags s c.choice chosen front =
-      record { chosen_are = c.flags.chosen_are ∙ sym e; front_are = c.flags.front_are ∙ sym f } in
-      record {
-        choice = c.choice;
-        is_choice = c.is_choice;
-        known = c.known;
-        in_order = c.in_order;
-        few = c.few;
-        there = c.there;
-        sites = subst (λ xs. AreSites s xs t) (chosen_kept s c.choice chosen flags.chosen_are) sites;
-        names_are = named;
-        taken = taken c.choice flags;
-        told_are = telling c.choice flags;
-        flags_are = c.flags.chosen_are;
-      }
+      → ((choice : Choice) → AreFlags s choice chosen front long → told choice [] s.assertions ≡ told_in g.axioms.items)
+      → IsGathered s w t names g chosen
+  is_gathered w g chosen front long c sites taken telling = record {
+    choice = c.choice;
+    chooses = c.chooses;
+    there = c.there;
+    long = c.are_long c.choice.long g.assertions.items (taken c.choice c.flags);
+    sites = subst (λ xs. AreSites s xs t) (chosen_kept s c.choice chosen c.flags.chosen_are) sites;
+    names_are = named;
+    taken = taken c.choice c.flags;
+    told_are = telling c.choice c.flags;
+    flags_are = c.flags.chosen_are;
+  }
 
 -- what was gathered is taken, where lists and names are those
 pub taken_as : (s : Scope) (w : Wish) (t : Sited) (names : LibraryNames) (g : Gathered) (flags : List Bool) (many : AreAsMany t names)
