@@ -97,6 +97,7 @@ module _ (m : Map) (choice : Choice) (s : Scope) (place : ℕ) (x : Assertion) (
 
         module _ (none : cites ≡ false) where
           not_citing : reason choice earlier x ≡ (cond (is_in choice.long x.label) (Some LongExpression) None)
+          unfolding earlier
           not_citing =
               not_long
               ∙ cond-false (is_in choice.front x.label) (Some InFront) _ chosen

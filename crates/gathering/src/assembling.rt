@@ -206,6 +206,7 @@ pub fn gather<'a, D: Declared<'a>>(
     requires sites { AreSites (D.scope declared.now) (kept chosen.now (D.scope declared.now).assertions) placed.now.sites.now }
     requires labels { length placed.now.names.now.labels ≡ length placed.now.sites.now.labels }
     requires floats { length placed.now.names.now.floats ≡ length placed.now.sites.now.floats }
+    ensures frames { IfOk result (λ _. Holds (D.scope declared.now).assertions frames.new) }
     ensures taken { (choice : Choice) → AreFlags (D.scope declared.now) choice chosen.now front.now long.now → IfOk result (λ g.
         AreTaken (map_of placed.now.sites.now placed.now.names.now) (tables_of placed.now.sites.now placed.now.names.now) choice []
         (D.scope declared.now).assertions g.assertions.items) }

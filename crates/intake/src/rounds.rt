@@ -101,12 +101,7 @@ fn take_round<'a, 'w, D: Declared<'a>>(
 }
 
 /// The flag is set of the assertion that has a place in the library.
-fn set_flag<'a, D: Declared<'a>>(
-    declared: &D,
-    sites: &Sites<'a>,
-    place: usize,
-    flags: &mut [bool],
-)
+fn set_flag<'a, D: Declared<'a>>(declared: &D, sites: &Sites<'a>, place: usize, flags: &mut [bool])
     requires many { length flags.old ≡ length (D.scope declared.now).assertions }
     requires there { (label : Word) × (slice_get sites.now.labels place ≡ Some label)
         × IsTrue (is_in (labels_of (D.scope declared.now).assertions) label) }
