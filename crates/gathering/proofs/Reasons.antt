@@ -112,7 +112,8 @@ module _ (m : Map) (choice : Choice) (s : Scope) (place : ℕ) (x : Assertion) (
           unfolding earlier
           without short = not_citing ∙ cond-false (is_in choice.long x.label) (Some LongExpression) None short
 
-          pub listed_steps : is_in choice.long x.label ≡ false → (steps : List Step) → IsListing t.named.items t.proof.nodes t.proof.root (Some steps)
+          pub listed_steps : is_in choice.long x.label ≡ false → (steps : List Step)
+              → IsListing t.named.items t.proof.nodes t.proof.root (Some steps)
               → AreSteps m choice (take place s.assertions) x steps
           listed_steps short steps lists = record {
             proof = f.0;

@@ -121,8 +121,8 @@ fn with_outcome(mut assertion: Assertion, outcome: Outcome) -> One
 
 /// What is taken of the chosen assertion at a place.
 ///
-/// Flags say of each assertion whether it is chosen, whether it stands in front of the choice, and whether an expression of its proof is too
-/// long. After an error nothing is said of the frames.
+/// Flags say of each assertion whether it is chosen, whether it stands in front of the choice, and whether its proof has too long an
+/// expression. After an error nothing is said of the frames.
 fn taken_at<'a, D: Declared<'a>>(
     alloc: Global,
     keys: RandomState,
@@ -181,8 +181,8 @@ fn put<'a>(gathered: &mut Gathered<'a>, label: Option<&'a [u8]>, one: One) -> Re
 
 /// What is taken of the chosen assertions of a source, in their order.
 ///
-/// Flags say of each assertion whether it is chosen, whether it stands in front of the choice, and whether an expression of its proof is too
-/// long. Who follows is told of each that was taken. After an error nothing is said of the frames.
+/// Flags say of each assertion whether it is chosen, whether it stands in front of the choice, and whether its proof has too long an
+/// expression. Who follows is told of each that was taken. After an error nothing is said of the frames.
 ///
 /// # Errors
 ///

@@ -113,8 +113,8 @@ fn outcome_of_tree<'a, D: Declared<'a>>(
 
 /// What becomes of the proof of the assertion at a place, where the steps of what is chosen are known.
 ///
-/// Flags say of each assertion whether it is chosen, whether it stands in front of the choice, and whether an expression of its proof is too
-/// long. After an error nothing is said of the frames.
+/// Flags say of each assertion whether it is chosen, whether it stands in front of the choice, and whether its proof has too long an
+/// expression. After an error nothing is said of the frames.
 pub(crate) fn outcome_at<'a, D: Declared<'a>, P: StepPlaces>(
     alloc: Global,
     keys: RandomState,

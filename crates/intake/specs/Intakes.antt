@@ -80,8 +80,8 @@ pub record IsTakenByWish (text : List ℕ) (w : Wish) (t : Taken) : Type 0 where
   -- its flags say which assertions were taken
   pub chosen_are : map (λ x. is_in choice.chosen x.label) source.assertions ≡ t.chosen.items
 
--- lists that are taken of a source by the choice of a wish that chooses, but for the theorems whose proofs are too long, and what is told of
--- them
+-- lists that are taken of a source by the choice of a wish that chooses, but for the theorems whose proofs are too long, and what is told
+-- of them
 pub record IsTakenOf (s : Scope) (w : Wish) (db : Contents) (axioms : List (Word × Reason)) (names : List Naming) : Type 0 where
   pub choice : Choice
   pub is_choice : IsChoice s w (record choice { long = [] })

@@ -115,8 +115,8 @@ fn set_flag<'a, D: Declared<'a>>(declared: &D, sites: &Sites<'a>, place: usize, 
     flags[number] = true;
 }
 
-/// Takes the library of what was chosen of a source, by the places that it has: a theorem whose proof has too long an expression is taken as
-/// an axiom, and all is taken again. Who follows is told of each assertion once.
+/// Takes the library of what was chosen of a source, by the places that it has: a theorem whose proof has too long an expression is taken
+/// as an axiom, and all is taken again. Who follows is told of each assertion once.
 ///
 /// After an error nothing is said of the frames.
 pub(crate) fn take_placed<'a, 'w, D: Declared<'a>>(

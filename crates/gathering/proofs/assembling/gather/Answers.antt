@@ -28,7 +28,8 @@ taken_at-requires g c κs =
     let known : IfSome (slice_get s.assertions k) (HasAllPlaces (map_of t names) (tables_of t names)) =
     if_there (slice_get s.assertions k) (HasAllPlaces (map_of t names) (tables_of t names))
     (λ x at. all_placed s t names fs c.requires.sites c.requires.labels c.requires.floats c.requires.whole k x at yes) in
-    ((refl, tt), (c.requires.whole, (within, (c.loop-place.invariant.frames, (c.requires.chosen, (c.requires.front, (c.requires.long, known)))))))
+    let r = c.requires in
+    ((refl, tt), (r.whole, (within, (c.loop-place.invariant.frames, (r.chosen, (r.front, (r.long, known)))))))
 
 pub loop-place-preserved : goal.loop-place-preserved
 loop-place-preserved g c =
@@ -81,11 +82,13 @@ loop-place-preserved g c =
             taken =
                 λ choice are.
                 taken_passed m tables choice xs k x there.1 before.assertions.items before.assertions.items
-                (c.loop-place.invariant.taken choice are) refl (flag_at s choice fs c.args.front.now c.args.long.now are k x there.1 false no);
+                (c.loop-place.invariant.taken choice are) refl
+                (flag_at s choice fs c.args.front.now c.args.long.now are k x there.1 false no);
             told =
                 λ choice are.
                 told_passed m tables choice xs k x there.1 (told_in before.axioms.items) (told_in before.axioms.items)
-                (c.loop-place.invariant.told choice are) refl (flag_at s choice fs c.args.front.now c.args.long.now are k x there.1 false no);
+                (c.loop-place.invariant.told choice are) refl
+                (flag_at s choice fs c.args.front.now c.args.long.now are k x there.1 false no);
           }
     ]
 
