@@ -1,25 +1,27 @@
 -- Theorems whose proofs are too long: what is taken of a source says the same whatever is taken as an axiom, and so has the same faults.
-use Rattle.std.proofs.Common.{◌≡◌, ◌<◌, ℕ, suc, zero, Bool, true, false, List, [], ◌∷◌, ◌++◌, length, map, take, get_or, set, refl, sym, ap}
+use Rattle.std.proofs.Common.{◌≡◌, ◌<◌, ℕ, suc, zero, Bool, true, false, List, [], ◌∷◌, ◌++◌, ◌-◌, length, map, take, set, refl, sym, ap}
 use Rattle.std.proofs.Common.{subst, ◌∙◌, arith, inl, inr, append_assoc, append-nil}
 use mathlib.Core.Path.{ap₂, fun_ext}
 use mathlib.Core.Bool.{not}
-use Rattle.std.specs.Prelude.{Option, Some, None, slice_get, filter, replicate, All, if◌then◌else◌}
+use Rattle.std.specs.Prelude.{Option, Some, None, slice_get, filter, replicate, if◌then◌else◌, is_some}
+use Rattle.std.specs.List.{list_any}
 use Rattle.std.specs.Option.{option_map}
 use Rattle.std.specs.Str.{bytes_eq}
 use Rattle.std.proofs.lemmas.Bool.{cases_Bool, cond-true, cond-false}
-use Rattle.std.proofs.lemmas.List.{take-map}
+use Rattle.std.proofs.lemmas.List.{take-map, length-map}
 use Rattle.std.proofs.lemmas.List.Elements.{recursion_from_All, All-from_recursion}
 use Rattle.std.proofs.lemmas.Map.Keys.{any_passes_from_place}
-use Rattle.std.proofs.lemmas.Option.{same_Some, slice_get-map, slice_get_within}
+use Rattle.std.proofs.lemmas.Option.{same_Some, slice_get-map}
 use Rattle.mmtext.specs.Words.{Word}
 use Rattle.mmsyntax.specs.declared.statement.Kind.TheVariants.{Axiom, Theorem}
 use Rattle.mmsyntax.specs.declared.statement.Assertion.{Assertion as Unit'}
-use Rattle.mmsyntax.specs.Tables.{Tables, place_of}
+use Rattle.mmsyntax.specs.Tables.{Tables, Contents, place_of}
 use Rattle.mmsyntax.proofs.Names.{bytes_eq-same}
-use Rattle.mmframes.specs.Frames.{frame}
+use Rattle.mmsyntax.proofs.Distinct.{any-map, is_some-place_of}
 use Rattle.derivation.specs.declared.fault.ProofFaultKind.TheVariants as kind
 use Rattle.derivation.specs.Derivation.{Citable}
-use Rattle.derivation.specs.Databases.{frame_in}
+use Rattle.derivation.specs.declared.fault.ProofFault.{ProofFault}
+use Rattle.derivation.specs.Databases.{frame_in, HasFaultAt, IsFirstFault}
 use Rattle.derivation.specs.Faults.{HasProofFault}
 use Rattle.source.specs.Statements.{Proof}
 use Rattle.source.specs.Scopes.{Assertion, Scope, is_in}
@@ -39,8 +41,7 @@ use Rattle.choosing.specs.declared.wish.Selection.{Selection}
 use Rattle.choosing.proofs.Going.{unmarked_all}
 use Rattle.choosing.proofs.Marked.{found_at, marked_found}
 use Rattle.sites.specs.Sites.{Sited, AreSites}
-use Rattle.sites.specs.declared.names.LibraryNames.{LibraryNames}
-use Rattle.gathering.specs.Placed.{map_of, tables_of}
+use Rattle.intake.specs.declared.rounds.Round.{Round}
 use Rattle.intake.specs.declared.rounds.Round.TheVariants as round
 use Rattle.intake.specs.Intakes.{HasLongProof, unproved}
 use Rattle.intake.specs.Parts.{AreChosen, IsLongAt, IsLongRoundOf}
@@ -76,10 +77,12 @@ all_say_same m t c ls ks earlier (x ∷ xs) as' bs h k =
 
 -- ---- what may be cited is the same
 
+same_else : {A : Type 0} (b : Bool) (x y z : A) → y ≡ z → (if b then x else y) ≡ (if b then x else z)
+same_else b x y z e = ap (λ w. if b then x else w) e
+
 said_frames : (t : Tables) (as' : List Unit') (label : Word) → frame_in t (map unproved as') label ≡ frame_in t as' label
 said_frames t [] label = refl
-said_frames t (a ∷ as') label =
-    ap (λ f. if bytes_eq a.label label then Some (frame t a) else f) (said_frames t as' label)
+said_frames t (a ∷ as') label = same_else (bytes_eq a.label label) _ _ _ (said_frames t as' label)
 
 pub citable_same : (t : Tables) (as' bs : List Unit') (k : ℕ) → map unproved as' ≡ map unproved bs
     → frame_in t (take k as') ≡ frame_in t (take k bs)
@@ -112,23 +115,23 @@ module _ (m : Map) (t : Tables) (c : Choice) (earlier : List Assertion) (x : Ass
 
   labels_kept : is_in c.chosen x.label ≡ true → kept_labels (x ∷ xs) ≡ x.label ∷ kept_labels xs
   unfolding kept_labels
-  labels_kept yes =
-      ap (map (λ (y : Assertion). y.label)) (cond-true (is_in c.chosen x.label) (x ∷ filter (λ y. is_in c.chosen y.label) xs) _ yes)
+  labels_kept takes =
+      ap (map (λ (y : Assertion). y.label)) (cond-true (is_in c.chosen x.label) (x ∷ filter (λ y. is_in c.chosen y.label) xs) _ takes)
 
   labels_left : is_in c.chosen x.label ≡ false → kept_labels (x ∷ xs) ≡ kept_labels xs
   unfolding kept_labels
-  labels_left no =
-      ap (map (λ (y : Assertion). y.label)) (cond-false (is_in c.chosen x.label) (x ∷ filter (λ y. is_in c.chosen y.label) xs) _ no)
+  labels_left leaves =
+      ap (map (λ (y : Assertion). y.label)) (cond-false (is_in c.chosen x.label) (x ∷ filter (λ y. is_in c.chosen y.label) xs) _ leaves)
 
   here : is_in c.chosen x.label ≡ true → IsTaken m t c earlier x a → Origin m t c earlier (x ∷ xs) 0 a
   unfolding kept_labels
-  here yes taken = record {
+  here takes taken = record {
     place = 0;
     x = x;
     stands = refl;
-    is_chosen = yes;
+    is_chosen = takes;
     taken = subst (λ (es : List Assertion). IsTaken m t c es x a) (sym (append-nil earlier)) taken;
-    labelled = ap (λ ls. slice_get ls 0) (labels_kept yes);
+    labelled = ap (λ ls. slice_get ls 0) (labels_kept takes);
   }
 
   module _ (k : ℕ) (o : Origin m t c (earlier ++ x ∷ []) xs k a) where
@@ -137,24 +140,24 @@ module _ (m : Map) (t : Tables) (c : Choice) (earlier : List Assertion) (x : Ass
 
     behind_kept : is_in c.chosen x.label ≡ true → Origin m t c earlier (x ∷ xs) (suc k) a
     unfolding kept_labels
-    behind_kept yes = record {
+    behind_kept takes = record {
       place = suc o.place;
       x = o.x;
       stands = o.stands;
       is_chosen = o.is_chosen;
       taken = moved;
-      labelled = ap (λ ls. slice_get ls (suc k)) (labels_kept yes) ∙ o.labelled;
+      labelled = ap (λ ls. slice_get ls (suc k)) (labels_kept takes) ∙ o.labelled;
     }
 
     behind_left : is_in c.chosen x.label ≡ false → Origin m t c earlier (x ∷ xs) k a
     unfolding kept_labels
-    behind_left no = record {
+    behind_left leaves = record {
       place = suc o.place;
       x = o.x;
       stands = o.stands;
       is_chosen = o.is_chosen;
       taken = moved;
-      labelled = ap (λ ls. slice_get ls k) (labels_left no) ∙ o.labelled;
+      labelled = ap (λ ls. slice_get ls k) (labels_left leaves) ∙ o.labelled;
     }
 
 pub origin_of : (m : Map) (t : Tables) (c : Choice) (earlier xs : List Assertion) (as' : List Unit') (k : ℕ) (a : Unit')
@@ -162,23 +165,23 @@ pub origin_of : (m : Map) (t : Tables) (c : Choice) (earlier xs : List Assertion
 origin_of m t c earlier [] as' k a h at = absurd (let none : None ≡ Some a = ap (λ bs. slice_get bs k) (sym h) ∙ at in cc)
 origin_of m t c earlier (x ∷ xs) as' zero a h at =
     elim (cases_Bool (is_in c.chosen x.label)) [
-      | inl yes ↦
-          let own = subst (λ (b : Bool). AreTakenFrom b (IsTaken m t c earlier x) (AreTaken m t c (earlier ++ x ∷ []) xs) as') yes h in
+      | inl takes ↦
+          let own = subst (λ (b : Bool). AreTakenFrom b (IsTaken m t c earlier x) (AreTaken m t c (earlier ++ x ∷ []) xs) as') takes h in
           let same : own.0 ≡ a = same_Some own.0 a (ap (λ bs. slice_get bs 0) (sym own.2) ∙ at) in
-          here m t c earlier x xs a yes (subst (IsTaken m t c earlier x) same own.3)
-      | inr no ↦
-          let later = subst (λ (b : Bool). AreTakenFrom b (IsTaken m t c earlier x) (AreTaken m t c (earlier ++ x ∷ []) xs) as') no h in
-          behind_left m t c earlier x xs a 0 (origin_of m t c (earlier ++ x ∷ []) xs as' 0 a later at) no
+          here m t c earlier x xs a takes (subst (IsTaken m t c earlier x) same own.3)
+      | inr leaves ↦
+          let later = subst (λ (b : Bool). AreTakenFrom b (IsTaken m t c earlier x) (AreTaken m t c (earlier ++ x ∷ []) xs) as') leaves h in
+          behind_left m t c earlier x xs a 0 (origin_of m t c (earlier ++ x ∷ []) xs as' 0 a later at) leaves
     ]
 origin_of m t c earlier (x ∷ xs) as' (suc k) a h at =
     elim (cases_Bool (is_in c.chosen x.label)) [
-      | inl yes ↦
-          let own = subst (λ (b : Bool). AreTakenFrom b (IsTaken m t c earlier x) (AreTaken m t c (earlier ++ x ∷ []) xs) as') yes h in
+      | inl takes ↦
+          let own = subst (λ (b : Bool). AreTakenFrom b (IsTaken m t c earlier x) (AreTaken m t c (earlier ++ x ∷ []) xs) as') takes h in
           let there : slice_get own.1 k ≡ Some a = ap (λ bs. slice_get bs (suc k)) (sym own.2) ∙ at in
-          behind_kept m t c earlier x xs a k (origin_of m t c (earlier ++ x ∷ []) xs own.1 k a own.4 there) yes
-      | inr no ↦
-          let later = subst (λ (b : Bool). AreTakenFrom b (IsTaken m t c earlier x) (AreTaken m t c (earlier ++ x ∷ []) xs) as') no h in
-          behind_left m t c earlier x xs a (suc k) (origin_of m t c (earlier ++ x ∷ []) xs as' (suc k) a later at) no
+          behind_kept m t c earlier x xs a k (origin_of m t c (earlier ++ x ∷ []) xs own.1 k a own.4 there) takes
+      | inr leaves ↦
+          let later = subst (λ (b : Bool). AreTakenFrom b (IsTaken m t c earlier x) (AreTaken m t c (earlier ++ x ∷ []) xs) as') leaves h in
+          behind_left m t c earlier x xs a (suc k) (origin_of m t c (earlier ++ x ∷ []) xs as' (suc k) a later at) leaves
     ]
 
 -- ---- a theorem of what is taken: its proof is listed, and it isn't known yet to be too long
@@ -274,6 +277,18 @@ found_long s c m t as' k taken long =
           (ap (reason_of c (take o.place s.assertions) o.x) (sym p.has_proof) ∙ p.no_reason);
     }
 
+-- the first fault of a library may be of this kind
+pub long_first : (db : Contents) (number : ℕ) (fault : ProofFault) → IsFirstFault db number fault → fault.kind ≡ kind.TooLong
+    → IsLongAt db (number - 1)
+long_first db number fault first is =
+    let e = first.1 in
+    let same : number - 1 ≡ first.0 = omega (arith, e) in
+    let own : fault ≡ record { step = fault.step; kind = kind.TooLong } = λ i. record { step = fault.step; kind = is i } in (
+      fault.step,
+      subst (λ (k : ℕ). HasFaultAt db k (record { step = fault.step; kind = kind.TooLong })) (sym same)
+          (subst (HasFaultAt db first.0) own first.2),
+    )
+
 -- ---- rounds
 
 -- a wish chooses the same, whatever is known of proofs
@@ -285,7 +300,7 @@ wished_again s (wish.These labels axioms) c e = ap (λ (d : Choice). record d { 
 
 -- before the first round no proof is known to be too long
 pub chosen_first : (s : Scope) (w : Wish) (sel : Selection) (m : Map) (t : Tables) (chosen front long : List Bool) (n : ℕ)
-    → IsChosen s w sel → chosen ≡ sel.chosen.items → front ≡ sel.front.items → long ≡ replicate n false → n ≡ length s.assertions
+    → IsChosen s w sel → chosen ≡ sel.chosen.items → front ≡ sel.front.items → long ≡ replicate n false → n ≡ length chosen
     → AreChosen s w m t chosen front long
 chosen_first s w sel m t chosen front long n c e f g many = record {
   choice = record c.choice { long = [] };
@@ -294,10 +309,22 @@ chosen_first s w sel m t chosen front long n c e f g many = record {
   flags = record {
     chosen_are = c.flags.chosen_are ∙ sym e;
     front_are = c.flags.front_are ∙ sym f;
-    long_are = unmarked_all s.assertions n many ∙ sym g;
+    long_are =
+        unmarked_all s.assertions n
+        (many ∙ ap length (e ∙ sym c.flags.chosen_are) ∙ length-map s.assertions (λ (x : Assertion). is_in c.choice.chosen x.label))
+        ∙ sym g;
   };
   are_long = λ ls as' taken. All-from_recursion (HasLongProof s c.choice.chosen m (record { prelude = t; assertions = as' })) [] tt;
 }
+
+-- a flag for each assertion
+pub as_many : (s : Scope) (w : Wish) (m : Map) (t : Tables) (chosen front long : List Bool) → AreChosen s w m t chosen front long
+    → (length chosen ≡ length s.assertions) × (length front ≡ length s.assertions) × (length long ≡ length s.assertions)
+as_many s w m t chosen front long c = (
+  ap length (sym c.flags.chosen_are) ∙ length-map s.assertions (λ (x : Assertion). is_in c.choice.chosen x.label),
+  ap length (sym c.flags.front_are) ∙ length-map s.assertions (λ (x : Assertion). is_in c.choice.front x.label),
+  ap length (sym c.flags.long_are) ∙ length-map s.assertions (λ (x : Assertion). is_in c.choice.long x.label),
+)
 
 -- a label that is there
 all_in : (ls : List Word) (k : ℕ) (l : Word) → slice_get ls k ≡ Some l → is_in ls l ≡ true
@@ -323,72 +350,88 @@ fewer_left (f ∷ fs) zero e =
 fewer_left (true ∷ fs) (suc n) e = fewer_left fs n e
 fewer_left (false ∷ fs) (suc n) e = let less = fewer_left fs n e in omega arith
 
-module _ (s : Scope) (whole : IsWhole s) (w : Wish) (t : Sited) (names : LibraryNames) (chosen front long : List Bool)
-    (sites : AreSites s (kept chosen s.assertions) t) where
-  m : Map
-  m = map_of t names
+-- ---- flags by labels
 
-  tables : Tables
-  tables = tables_of t names
+pub none_there : (ls : List Word) (k : ℕ) (l : Word) → None ≡ slice_get ls k → slice_get ls k ≡ Some l → ⊥
+none_there ls k l none at = let not-so : None ≡ Some l = none ∙ at in absurd cc
 
-  module _ (c : AreChosen s w (map_of t names) (tables_of t names) chosen front long) (place : ℕ)
-      (found : IsLongRoundOf s (map_of t names) (tables_of t names) chosen front long (round.Long place)) where
-    as' : List Unit'
-    as' = (found c.choice c.flags).0
+pub same_item : (ls : List Word) (k : ℕ) (l other : Word) → slice_get ls k ≡ Some l → slice_get ls k ≡ Some other → l ≡ other
+same_item ls k l other at there = same_Some l other (sym at ∙ there)
 
-    is_found : IsFoundLong s c.choice m tables as' place
-    unfolding m tables as'
-    is_found =
-        let there = found c.choice c.flags in
-        found_long s c.choice (map_of t names) (tables_of t names) there.0 place there.1 there.2
+-- a label that is there has a place
+pub unplaced : (xs : List Assertion) (l : Word) → is_in (labels_of xs) l ≡ true → place_of (λ x. bytes_eq l x.label) xs ≡ None → ⊥
+unplaced xs l there none =
+    let any : list_any (λ x. bytes_eq l x.label) xs ≡ true = sym (any-map (bytes_eq l) (λ (x : Assertion). x.label) xs) ∙ there in
+    let not-so : is_some (place_of (λ x. bytes_eq l x.label) xs) ≡ true =
+    is_some-place_of (λ (x : Assertion). bytes_eq l x.label) xs ∙ any in
+    let false-so : false ≡ true = ap is_some (sym none) ∙ not-so in
+    absurd cc
 
-    -- its label has the place
-    pub label_at : slice_get t.labels place ≡ Some is_found.label
-    label_at =
-        ap (λ ls. slice_get ls place) (sites.labels
-        ∙ ap (map (λ (x : Assertion). x.label)) (chosen_kept s c.choice chosen c.flags.chosen_are))
-        ∙ is_found.labelled
+-- ---- from round to round
 
-    -- and is that of an assertion of the source
-    pub label_there : is_in (labels_of s.assertions) is_found.label ≡ true
-    label_there =
-        let h = is_found.has in
-        subst (λ (l : Word). is_in (labels_of s.assertions) l ≡ true) h.labelled
-        (all_in (labels_of s.assertions) h.place h.x.label
-        (slice_get-map (λ (x : Assertion). x.label) s.assertions h.place ∙ ap (option_map (λ (x : Assertion). x.label)) h.stands))
+module _ (s : Scope) (w : Wish) (t : Sited) (m : Map) (tables : Tables) (chosen front long : List Bool)
+    (sites : AreSites s (kept chosen s.assertions) t) (c : AreChosen s w m tables chosen front long) (place : ℕ)
+    (found : IsLongRoundOf s m tables chosen front long (round.Long place)) where
+  lists : List Unit'
+  lists = (found c.choice c.flags).0
 
-    module _ (label : Word) (n : ℕ) (at : slice_get t.labels place ≡ Some label)
-        (stands : place_of (λ x. bytes_eq label x.label) s.assertions ≡ Some n) where
-      same_label : is_found.label ≡ label
-      same_label = same_Some is_found.label label (sym label_at ∙ at)
+  lists_taken : AreTaken m tables c.choice [] s.assertions lists
+  unfolding lists
+  lists_taken = (found c.choice c.flags).1
 
-      -- its flag wasn't set
-      pub not_flagged : slice_get long n ≡ Some false
-      not_flagged =
-          flag_of s.assertions c.choice.long long label n c.flags.long_are stands
-          ∙ ap (λ l. Some (is_in c.choice.long l)) (sym same_label)
-          ∙ ap (λ b. Some b) is_found.new
+  is_found : IsFoundLong s c.choice m tables lists place
+  unfolding lists
+  is_found = found_long s c.choice m tables lists place lists_taken (found c.choice c.flags).2
 
-      -- and now it is
-      pub chosen_next : AreChosen s w (map_of t names) (tables_of t names) chosen front (set long n true)
-      unfolding m tables as'
-      chosen_next = record {
-        choice = record c.choice { long = label ∷ c.choice.long };
-        chooses = c.chooses;
-        there = c.there;
-        flags = record {
-          chosen_are = c.flags.chosen_are;
-          front_are = c.flags.front_are;
-          long_are = marked_found s.assertions label n (is_in c.choice.long) long whole.distinct stands c.flags.long_are;
-        };
-        are_long =
-            λ ls bs taken.
-            let Has = HasLongProof s c.choice.chosen (map_of t names) (record { prelude = tables_of t names; assertions = bs }) in
-            let same = all_say_same (map_of t names) (tables_of t names) c.choice c.choice.long ls [] s.assertions as' bs
-            (found c.choice c.flags).1 taken in
-            let new : Has label =
-            subst Has same_label
-            (long_still s c.choice.chosen (map_of t names) (tables_of t names) as' bs is_found.label same is_found.has) in
-            All-from_recursion Has (label ∷ c.choice.long)
-            (new, recursion_from_All Has c.choice.long (c.are_long ls bs taken));
-      }
+  -- its label has the place
+  pub label_at : (l : Word) × (slice_get t.labels place ≡ Some l) × (is_in (labels_of s.assertions) l ≡ true)
+  label_at =
+      let h = is_found.has in
+      let there = subst (λ (l : Word). is_in (labels_of s.assertions) l ≡ true) h.labelled
+      (all_in (labels_of s.assertions) h.place h.x.label
+      (slice_get-map (λ (x : Assertion). x.label) s.assertions h.place ∙ ap (option_map (λ (x : Assertion). x.label)) h.stands)) in
+      let at : slice_get t.labels place ≡ Some is_found.label =
+      ap (λ ls. slice_get ls place) (sites.labels
+      ∙ ap (map (λ (x : Assertion). x.label)) (chosen_kept s c.choice chosen c.flags.chosen_are))
+      ∙ is_found.labelled in
+      (is_found.label, at, there)
+
+  module _ (label : Word) (n : ℕ) (at : slice_get t.labels place ≡ Some label)
+      (stands : place_of (λ x. bytes_eq label x.label) s.assertions ≡ Some n) where
+    same_label : is_found.label ≡ label
+    unfolding label_at
+    same_label = same_Some is_found.label label (sym label_at.1 ∙ at)
+
+    -- its flag wasn't set
+    pub not_flagged : slice_get long n ≡ Some false
+    not_flagged =
+        flag_of s.assertions c.choice.long long label n c.flags.long_are stands
+        ∙ ap (λ l. Some (is_in c.choice.long l)) (sym same_label)
+        ∙ ap (λ b. Some b) is_found.new
+
+    -- and now it is
+    pub chosen_next : IsWhole s → AreChosen s w m tables chosen front (set long n true)
+    chosen_next whole = record {
+      choice = record c.choice { long = label ∷ c.choice.long };
+      chooses = c.chooses;
+      there = c.there;
+      flags = record {
+        chosen_are = c.flags.chosen_are;
+        front_are = c.flags.front_are;
+        long_are = marked_found s.assertions label n (is_in c.choice.long) long whole.distinct stands c.flags.long_are;
+      };
+      are_long =
+          λ ls bs taken.
+          let has : Word → Type 0 = HasLongProof s c.choice.chosen m (record { prelude = tables; assertions = bs }) in
+          let same = all_say_same m tables c.choice c.choice.long ls [] s.assertions lists bs lists_taken taken in
+          let new : has label =
+          subst has same_label (long_still s c.choice.chosen m tables lists bs is_found.label same is_found.has) in
+          All-from_recursion has (label ∷ c.choice.long) (new, recursion_from_All has c.choice.long (c.are_long ls bs taken));
+    }
+
+-- what a round tells, by what its flags and its end are
+pub found_in : (s : Scope) (m : Map) (t : Tables) (chosen front flags long : List Bool) (r : Round) (place : ℕ) → flags ≡ long
+    → r ≡ round.Long place → IsLongRoundOf s m t chosen front flags r → IsLongRoundOf s m t chosen front long (round.Long place)
+found_in s m t chosen front flags long r place same is found =
+    subst (λ (fs : List Bool). IsLongRoundOf s m t chosen front fs (round.Long place)) same
+    (subst (IsLongRoundOf s m t chosen front flags) is found)

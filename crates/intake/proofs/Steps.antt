@@ -3,6 +3,7 @@ use Rattle.std.proofs.Common.{◌≡◌, ◌≢◌, ℕ, Bool, List, [], Option,
 use Rattle.std.specs.Prelude.{Result, Ok, Err, IfOk, IfErr}
 use Rattle.std.specs.Option.{option_map}
 use Rattle.mmtext.specs.Words.{Word}
+use Rattle.mmsyntax.specs.declared.label.Label.{Label}
 use Rattle.mmsyntax.specs.Layout.{HasSpelling}
 use Rattle.mmsyntax.specs.Tables.{Contents}
 use Rattle.source.specs.Scopes.{Assertion, Scope}
@@ -21,6 +22,7 @@ use Rattle.sites.specs.declared.names.LibraryNames.{LibraryNames}
 use Rattle.sites.specs.Indexes.{HasRoom}
 use Rattle.sites.specs.Namings.{AreNamedWell, IsUnnamed, AreUnnamed}
 use Rattle.sites.specs.Sites.{Sited, AreSites}
+use Rattle.derivation.specs.declared.fault.ProofFault.{ProofFault}
 use Rattle.drafts.specs.Limits.{IsPassed, IsTold}
 use Rattle.drafts.specs.declared.limits.Limit.{Limit}
 use Rattle.drafts.specs.declared.draft.Undeclared.{Undeclared}
@@ -31,8 +33,8 @@ use Rattle.intake.specs.declared.refusal.Refusal.{Refusal}
 use Rattle.intake.specs.declared.refusal.Refusal.TheVariants as refusal
 use Rattle.gathering.specs.Placed.{map_of, tables_of}
 use Rattle.gathering.specs.Gatherings.{told_in}
-use Rattle.intake.specs.Intakes.{IsTakenByWish, IsLibraryOf, IsRefused, IsRefusedOf, IsWide, IsDraft, name_at, name_in}
-use Rattle.intake.specs.Parts.{AreDrafted, IsGathered, AreChosen, IsChoiceByFlags, HasSites, AreAsMany, lists_of, changed_of, name_by}
+use Rattle.intake.specs.Intakes.{IsTakenByWish, IsLibraryOf, IsRefused, IsRefusedOf, IsProofFault, IsWide, IsDraft, name_at, name_in}
+use Rattle.intake.specs.Parts.{AreTakenBy, AreDrafted, IsGathered, AreChosen, IsChoiceByFlags, HasSites, AreAsMany, lists_of, changed_of, name_by}
 use Rattle.intake.proofs.Libraries.{chosen_kept, drafted_of}
 
 -- ---- refusals
@@ -125,6 +127,35 @@ module _ (s : Scope) (w : Wish) (t : Sited) (db : Contents) (axioms : List (Word
   refused_as_passing limit name why is named none told =
       let other : why ≢ undeclared.NoMemory = λ e. absurd (let same : undeclared.Passes limit ≡ undeclared.NoMemory = sym is ∙ e in cc) in
       passes limit name named (none other) (subst (IsTold db) is told)
+
+  -- or another rule is broken
+  pub refused_as_unlawful : (why : Undeclared) → why ≡ undeclared.Unlawful → (why ≢ undeclared.NoMemory → HasSpelling db → ⊥)
+      → IsTold db why → IsRefusedOf s w refusal.Unlawful
+  unfolding draft
+  refused_as_unlawful why is none passes-none =
+      let other : why ≢ undeclared.NoMemory = λ e. absurd (let same : undeclared.Unlawful ≡ undeclared.NoMemory = sym is ∙ e in cc) in
+      is_refused s w refusal.Unlawful (λ text d. (db, draft text d, subst (IsTold db) is passes-none, none other))
+
+-- a proof has a fault
+pub refused_for_proof : (s : Scope) (w : Wish) (db : Contents) (axioms : List (Word × Reason)) (names : List Naming) (flags : List Bool)
+    → AreTakenBy s w db axioms names flags → (label : Label) (fault : ProofFault) → IsProofFault db label fault
+    → IsRefusedOf s w (refusal.Proof label fault)
+refused_for_proof s w db axioms names flags by label fault found =
+    let taken = by.taken in
+    is_refused s w (refusal.Proof label fault)
+    (λ text d.
+    let draft : IsDraft text w db =
+    record {
+      source = s;
+      declares = d;
+      choice = taken.choice;
+      chooses = record { is_choice = taken.is_choice; known = taken.known; in_order = taken.in_order; few = taken.few };
+      axioms = axioms;
+      names = names;
+      takes = taken.takes;
+      long = taken.long;
+    } in
+    (db, draft, found))
 
 -- ---- what is taken
 

@@ -82,7 +82,7 @@ fn draft_of(
 }
 
 /// The word at a place, if there is one.
-fn word_at<'a>(words: &[&'a [u8]], place: usize) -> Option<&'a [u8]>
+pub(crate) fn word_at<'a>(words: &[&'a [u8]], place: usize) -> Option<&'a [u8]>
     ensures { option_map (λ w. w.now) result ≡ slice_get (seen_words words.now) place }
 {
     match words.get(place) {
@@ -173,12 +173,14 @@ fn with_proofs<'a, 'w>(
         → AreTakenBy s w database (told_in axioms.entry.items) (told_names names.entry.items) chosen.now
         → IfErr result (IsRefusedOf s w) }
 {
-    let Some((number, fault)) = first_faulty(rt, alloc, &database)? else {
+    let found = first_faulty(rt, alloc, &database)?;
+    let Some((number, fault)) = found else {
+        let chosen = Vec::from_slice(alloc, chosen)?;
         return Ok(Round::Library(Taken {
             database,
             axioms,
             names,
-            chosen: Vec::from_slice(alloc, chosen)?,
+            chosen,
         }));
     };
     if fault.kind == ProofFaultKind::TooLong {

@@ -1,6 +1,6 @@
 //! The rounds of taking a library: a theorem whose proof has too long an expression is taken as an axiom in the next one.
 
-ghost use Rattle.std.specs.Prelude.{◌≡◌, ◌<◌, true, length, set, slice_get, Some, IsTrue, IfOk, IfErr};
+ghost use Rattle.std.specs.Prelude.{◌≡◌, ℕ, true, length, set, slice_get, Some, IsTrue, IfOk, IfErr};
 ghost use Rattle.std.specs.Str.{bytes_eq};
 ghost use Rattle.mmtext.specs.Words.{Word};
 ghost use Rattle.mmsyntax.specs.Tables.{place_of};
@@ -16,7 +16,7 @@ ghost use Rattle.gathering.specs.Placed.{map_of, tables_of};
 ghost use Rattle.intake.specs.Intakes.{IsLibraryOf, IsRefusedOf};
 ghost use Rattle.intake.specs.Parts.{AreAsMany, AreChosen, IsLibraryRound, IsLongRoundOf};
 
-use crate::declaring::library_of;
+use crate::declaring::{library_of, word_at};
 use crate::refusal::Refusal;
 use crate::taken::Taken;
 use choosing::Selection;
@@ -108,7 +108,9 @@ fn set_flag<'a, D: Declared<'a>>(declared: &D, sites: &Sites<'a>, place: usize, 
     ensures { (label : Word) × (n : ℕ) × (slice_get sites.now.labels place ≡ Some label)
         × (place_of (λ x. bytes_eq label x.label) (D.scope declared.now).assertions ≡ Some n) × (flags.new ≡ set flags.old n true) }
 {
-    let label = sites.labels()[place];
+    let Some(label) = word_at(sites.labels(), place) else {
+        unreachable!()
+    };
     let Some(number) = declared.place_of(label) else {
         unreachable!()
     };
