@@ -41,6 +41,7 @@ all_is_chosen s sel n h small chosen front = record {
   flags = record {
     chosen_are = map_alike (λ x. is_in (labels_of s.assertions) x.label) true s.assertions n (sym h) (there s.assertions) ∙ sym chosen;
     front_are = unmarked_all s.assertions n h ∙ sym front;
+    long_are = refl;
   };
   there = labels_pass (is_in (labels_of s.assertions)) s.assertions (there s.assertions);
   few = let e = length-map s.assertions (λ (x : Assertion). x.label) in omega arith;
@@ -78,6 +79,7 @@ for_is_chosen s asked sel flags n m d are count small chosen long front known =
       flags = record {
         chosen_are = map_same (λ x. is_in (labels_of (labelled wanted xs)) x.label) test xs (own_flags test xs d) ∙ chosen;
         front_are = unmarked_all xs m size ∙ sym front;
+        long_are = refl;
       };
       there =
           labels_pass (is_in (labels_of xs)) (labelled wanted xs)
@@ -142,9 +144,9 @@ pub these_are_chosen : (s : Scope) (labels axioms : Bor (List (Bor (List ℕ))))
     → unknown_among s (seen_words labels.now) ≡ None → unknown_among s (seen_words axioms.now) ≡ None
     → n ≡ length labels.now → n ≤ 4096 → IsChosen s (wish.These labels axioms) sel
 these_are_chosen s labels axioms sel n chosen front labels-known axioms-known count small = record {
-  choice = record { chosen = seen_words labels.now; front = seen_words axioms.now };
+  choice = record { chosen = seen_words labels.now; front = seen_words axioms.now; long = [] };
   is_choice = refl;
-  flags = record { chosen_are = chosen; front_are = front };
+  flags = record { chosen_are = chosen; front_are = front; long_are = refl };
   there = all_known (is_in (labels_of s.assertions)) (seen_words labels.now) labels-known;
   few = let e = length-map labels.now (λ (w : Bor (List ℕ)). w.now) in omega arith;
   known = known_of_both (is_unknown s.assertions) (seen_words labels.now) (seen_words axioms.now) labels-known axioms-known;
@@ -204,6 +206,7 @@ module _ (s : Scope) (from to : Bor (List ℕ)) (i j : ℕ) (begins : place_in s
     flags = record {
       chosen_are = parts_flags s.assertions i (j + 1) needs (omega arith) (omega arith) d ∙ ap all_flags marks ∙ sym chosen;
       front_are = parts_first s.assertions i needs d ∙ ap first_flags marks ∙ sym front;
+      long_are = refl;
     };
     there = parts_there s.assertions i (j + 1) needs (omega arith) (omega arith);
     few = let k = count_is sel.chosen.items n chosen count in omega arith;

@@ -1,5 +1,5 @@
 -- Which assertions of a source a wish chooses.
-use Rattle.std.specs.Prelude.{◌≡◌, ◌<◌, ◌≤◌, ◌+◌, ℕ, Bool, List, [], ◌∷◌, ◌++◌, map, filter, find, length, reverse, take, drop}
+use Rattle.std.specs.Prelude.{◌≡◌, ◌<◌, ◌≤◌, ◌+◌, ℕ, Bool, false, List, [], ◌∷◌, ◌++◌, map, filter, find, length, reverse, take, drop}
 use Rattle.std.specs.Prelude.{Option, Some, None, IsTrue, if◌then◌else◌, nat_lt}
 use mathlib.Core.Bool.{not}
 use Rattle.std.specs.List.{list_all}
@@ -27,7 +27,7 @@ AreThere s labels = IsTrue (list_all (is_in (labels_of s.assertions)) labels)
 -- ---- all
 
 abbrev pub all_chosen : Scope → Choice
-all_chosen s = record { chosen = labels_of s.assertions; front = [] }
+all_chosen s = record { chosen = labels_of s.assertions; front = []; long = [] }
 
 -- ---- some assertions, and what their proofs need: the nearest first, as long as there is room
 
@@ -54,6 +54,7 @@ abbrev pub chosen_for : List Word → Scope → Choice
 chosen_for asked s = record {
   chosen = labels_of (labelled (nearest (have_room MOST_ASSERTIONS s.assertions) asked (reverse s.assertions)) s.assertions);
   front = [];
+  long = [];
 }
 
 -- ---- those between two, and in front of them what their proofs cite
@@ -74,6 +75,7 @@ abbrev pub chosen_between : ℕ → ℕ → Scope → Choice
 chosen_between i j s = record {
   chosen = labels_of (front_of i j s.assertions) ++ labels_of (between i j s.assertions);
   front = labels_of (front_of i j s.assertions);
+  long = [];
 }
 
 -- ---- wishes
@@ -98,19 +100,19 @@ abbrev pub StandsBehind : Scope → Wish → Type 0
 StandsBehind s (wish.Between from to) = (i j : ℕ) × (place_in s from.now ≡ Some i) × (place_in s to.now ≡ Some j) × (j < i)
 StandsBehind s _ = ⊥
 
--- what a wish chooses
+-- what a wish chooses: before a proof is checked, none has too long an expression
 abbrev pub IsChoice : Scope → Wish → Choice → Type 0
 IsChoice s wish.All choice = choice ≡ all_chosen s
 IsChoice s (wish.For asked) choice = choice ≡ chosen_for (seen_words asked.now) s
 IsChoice s (wish.Between from to) choice =
     (i j : ℕ) × (place_in s from.now ≡ Some i) × (place_in s to.now ≡ Some j) × (choice ≡ chosen_between i j s)
-IsChoice s (wish.These labels axioms) choice = choice ≡ record { chosen = seen_words labels.now; front = seen_words axioms.now }
+IsChoice s (wish.These labels axioms) choice = choice ≡ record { chosen = seen_words labels.now; front = seen_words axioms.now; long = [] }
 
 -- a selection by flags: at most 4,096 assertions; each label of the wish is one of an assertion, and they stand the right way round
 pub record IsChosen (s : Scope) (w : Wish) (sel : Selection) : Type 0 where
   pub choice : Choice
   pub is_choice : IsChoice s w choice
-  pub flags : AreFlags s choice sel.chosen.items sel.front.items
+  pub flags : AreFlags s choice sel.chosen.items sel.front.items (map (λ x. false) s.assertions)
   pub there : AreThere s choice.chosen
   pub few : length choice.chosen ≤ MOST_ASSERTIONS
   pub known : first_unknown s w ≡ None

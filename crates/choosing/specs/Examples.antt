@@ -9,13 +9,13 @@ use Rattle.choosing.specs.Choices.{labels_of, chosen_for, chosen_between, labell
 
 -- of m, n and t, of which t cites m, t alone is asked for: n isn't chosen, and nothing stands in front
 abbrev pub ForTakesWhatIsNeeded : Type 0
-ForTakesWhatIsNeeded = chosen_for (codes "t" ∷ []) whole ≡ record { chosen = codes "m" ∷ codes "t" ∷ []; front = [] }
+ForTakesWhatIsNeeded = chosen_for (codes "t" ∷ []) whole ≡ record { chosen = codes "m" ∷ codes "t" ∷ []; front = []; long = [] }
 
 -- from n to t, t cites m before them, which stands in front; from m to t it is one of them
 abbrev pub BetweenTakesTheFront : Type 0
 BetweenTakesTheFront =
-    (chosen_between 1 2 whole ≡ record { chosen = codes "m" ∷ codes "n" ∷ codes "t" ∷ []; front = codes "m" ∷ [] })
-    × (chosen_between 0 2 whole ≡ record { chosen = codes "m" ∷ codes "n" ∷ codes "t" ∷ []; front = [] })
+    (chosen_between 1 2 whole ≡ record { chosen = codes "m" ∷ codes "n" ∷ codes "t" ∷ []; front = codes "m" ∷ []; long = [] })
+    × (chosen_between 0 2 whole ≡ record { chosen = codes "m" ∷ codes "n" ∷ codes "t" ∷ []; front = []; long = [] })
 
 -- two axioms without hypotheses, ax over two, and a theorem that cites all three: $p wff ( 0 1 ) $= zero one ax $.
 abbrev pub alone : Word → Word → Assertion

@@ -64,9 +64,9 @@ module _ (s : Scope) (t : Sited) (names : LibraryNames) (chosen : List Bool) (ar
       }
 
   -- and the steps of what is chosen are known
-  pub all_known : (choice : Choice) (front : List Bool) → AreFlags s choice chosen front → (k : ℕ) (x : Assertion)
+  pub all_known : (choice : Choice) (front long : List Bool) → AreFlags s choice chosen front long → (k : ℕ) (x : Assertion)
       → slice_get s.assertions k ≡ Some x → get_or chosen k false ≡ true → HasStepsFor (map_of t names) choice s x
-  all_known choice front flags k x at flag = record {
+  all_known choice front long flags k x at flag = record {
     floats =
         All-from_recursion (λ h. IsTrue (is_float h) → IsTrue (is_some (float_in (map_of t names) (label_of h)))) x.active
         (floats_known t x.active (sited_at k x at flag));
@@ -79,9 +79,9 @@ module _ (s : Scope) (t : Sited) (names : LibraryNames) (chosen : List Bool) (ar
   }
 
 -- a flag says whether an assertion is chosen
-pub flag_at : (s : Scope) (choice : Choice) (chosen front : List Bool) → AreFlags s choice chosen front → (k : ℕ) (x : Assertion)
+pub flag_at : (s : Scope) (choice : Choice) (chosen front long : List Bool) → AreFlags s choice chosen front long → (k : ℕ) (x : Assertion)
     → slice_get s.assertions k ≡ Some x → (b : Bool) → get_or chosen k false ≡ b → is_in choice.chosen x.label ≡ b
-flag_at s choice chosen front flags k x at b e =
+flag_at s choice chosen front long flags k x at b e =
     ap (λ (y : Assertion). is_in choice.chosen y.label) (sym (get_or_from_slice_get s.assertions k x x at))
     ∙ sym (get_or-map (λ (y : Assertion). is_in choice.chosen y.label) s.assertions k x false (slice_get_within s.assertions k x at))
     ∙ ap (λ (fs : List Bool). get_or fs k false) flags.chosen_are

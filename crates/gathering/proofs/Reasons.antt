@@ -11,7 +11,7 @@ use Rattle.source.specs.Scopes.{Assertion, Scope, is_in}
 use Rattle.source.specs.Proofs.{Tree, size, is_unfinished}
 use Rattle.source.specs.Proofs as tree
 use Rattle.source.specs.Views.{seen_words}
-use Rattle.taking.specs.declared.reason.Reason.TheVariants.{Unfinished, TooLong, InFront, CitesUnchosen}
+use Rattle.taking.specs.declared.reason.Reason.TheVariants.{Unfinished, TooLong, InFront, CitesUnchosen, LongExpression}
 use Rattle.taking.specs.Names.{Map}
 use Rattle.taking.specs.Nodes.{Shared, sizes, counted}
 use Rattle.taking.specs.Reasons.{Choice, is_left_out, cites_left_out, reason_of_tree, reason_of_finished, reason_of, reason}
@@ -77,7 +77,7 @@ module _ (m : Map) (choice : Choice) (s : Scope) (place : ℕ) (x : Assertion) (
 
     module _ (small : n ≤ 16384) where
       not_long : reason choice earlier x ≡ (cond (is_in choice.front x.label) (Some InFront) (cond (cites_left_out earlier choice.chosen
-          denoted) (Some CitesUnchosen) None))
+          denoted) (Some CitesUnchosen) (cond (is_in choice.long x.label) (Some LongExpression) None)))
       not_long =
           let is = root_is in
           by_tree ∙ cond-false (nat_lt 16384 (size denoted)) (Some TooLong) _ (le-ltb 16384 (size denoted) (omega arith))
@@ -93,22 +93,32 @@ module _ (m : Map) (choice : Choice) (s : Scope) (place : ℕ) (x : Assertion) (
         reason_of_citing is =
             not_long
             ∙ cond-false (is_in choice.front x.label) (Some InFront) _ chosen
-            ∙ cond-true (cites_left_out earlier choice.chosen denoted) (Some CitesUnchosen) None (cited cites are ∙ is)
+            ∙ cond-true (cites_left_out earlier choice.chosen denoted) (Some CitesUnchosen) _ (cited cites are ∙ is)
 
         module _ (none : cites ≡ false) where
-          without : reason choice (take place s.assertions) x ≡ None
+          not_citing : reason choice earlier x ≡ (cond (is_in choice.long x.label) (Some LongExpression) None)
           unfolding earlier
-          without =
+          not_citing =
               not_long
               ∙ cond-false (is_in choice.front x.label) (Some InFront) _ chosen
-              ∙ cond-false (cites_left_out earlier choice.chosen denoted) (Some CitesUnchosen) None (cited cites are ∙ none)
+              ∙ cond-false (cites_left_out earlier choice.chosen denoted) (Some CitesUnchosen) _ (cited cites are ∙ none)
 
-          pub listed_steps : (steps : List Step) → IsListing t.named.items t.proof.nodes t.proof.root (Some steps)
+          pub reason_of_long_expression : is_in choice.long x.label ≡ true
+              → reason choice (take place s.assertions) x ≡ Some LongExpression
+          unfolding earlier
+          reason_of_long_expression is = not_citing ∙ cond-true (is_in choice.long x.label) (Some LongExpression) None is
+
+          without : is_in choice.long x.label ≡ false → reason choice (take place s.assertions) x ≡ None
+          unfolding earlier
+          without short = not_citing ∙ cond-false (is_in choice.long x.label) (Some LongExpression) None short
+
+          pub listed_steps : is_in choice.long x.label ≡ false → (steps : List Step)
+              → IsListing t.named.items t.proof.nodes t.proof.root (Some steps)
               → AreSteps m choice (take place s.assertions) x steps
-          listed_steps steps lists = record {
+          listed_steps short steps lists = record {
             proof = f.0;
             has_proof = f.1;
-            no_reason = without;
+            no_reason = without short;
             tree = f.3.tree;
             denotes = f.3.denotes;
             lists = lists _ f.3.tree f.3.named f.3.stands;

@@ -76,6 +76,7 @@ fn outcome_of_tree<'a, D: Declared<'a>>(
     declared: &D,
     chosen: &[bool],
     front: &[bool],
+    long: &[bool],
     place: usize,
     tree: &ProofTree<'a>,
 ) -> Result<Outcome, AllocError>
@@ -84,7 +85,8 @@ fn outcome_of_tree<'a, D: Declared<'a>>(
     requires within { place < length (D.scope declared.now).assertions }
     requires chosen { length chosen.now ≡ length (D.scope declared.now).assertions }
     requires front { length front.now ≡ length (D.scope declared.now).assertions }
-    ensures { (m : Map) (choice : Choice) → AreFlags (D.scope declared.now) choice chosen.now front.now
+    requires long { length long.now ≡ length (D.scope declared.now).assertions }
+    ensures { (m : Map) (choice : Choice) → AreFlags (D.scope declared.now) choice chosen.now front.now long.now
         → IfSome (slice_get (D.scope declared.now).assertions place) (λ x. HasStepsFor m choice (D.scope declared.now) x
         → IsForm m (take place (D.scope declared.now).assertions) x (Tree tree.now)
         → IfOk result (IsOutcome m choice (take place (D.scope declared.now).assertions) x)) }
@@ -99,6 +101,9 @@ fn outcome_of_tree<'a, D: Declared<'a>>(
     if cites_left_out(declared, chosen, place, tree) {
         return Ok(Outcome::AsAxiom(Reason::CitesUnchosen));
     }
+    if long[place] {
+        return Ok(Outcome::AsAxiom(Reason::LongExpression));
+    }
     match list(alloc, tree.named.as_slice(), &tree.proof.nodes, root)? {
         Some(steps) => Ok(Outcome::Theorem(steps)),
         // A label without a step isn't chosen either: where the steps of what is chosen are known, this was told above.
@@ -108,8 +113,8 @@ fn outcome_of_tree<'a, D: Declared<'a>>(
 
 /// What becomes of the proof of the assertion at a place, where the steps of what is chosen are known.
 ///
-/// Flags say of each assertion whether it is chosen, and whether it stands in front of the choice. After an error nothing is said of the
-/// frames.
+/// Flags say of each assertion whether it is chosen, whether it stands in front of the choice, and whether its proof has too long an
+/// expression. After an error nothing is said of the frames.
 pub(crate) fn outcome_at<'a, D: Declared<'a>, P: StepPlaces>(
     alloc: Global,
     keys: RandomState,
@@ -118,6 +123,7 @@ pub(crate) fn outcome_at<'a, D: Declared<'a>, P: StepPlaces>(
     places: &P,
     chosen: &[bool],
     front: &[bool],
+    long: &[bool],
     place: usize,
 ) -> Result<Outcome, AllocError>
     requires whole { IsWhole (D.scope declared.now) }
@@ -125,8 +131,9 @@ pub(crate) fn outcome_at<'a, D: Declared<'a>, P: StepPlaces>(
     requires frames { Holds (D.scope declared.now).assertions frames.old }
     requires chosen { length chosen.now ≡ length (D.scope declared.now).assertions }
     requires front { length front.now ≡ length (D.scope declared.now).assertions }
+    requires long { length long.now ≡ length (D.scope declared.now).assertions }
     ensures frames { IfOk result (λ _. Holds (D.scope declared.now).assertions frames.new) }
-    ensures outcome { (choice : Choice) → AreFlags (D.scope declared.now) choice chosen.now front.now
+    ensures outcome { (choice : Choice) → AreFlags (D.scope declared.now) choice chosen.now front.now long.now
         → IfSome (slice_get (D.scope declared.now).assertions place) (λ x.
         HasStepsFor (P.places places.now) choice (D.scope declared.now) x
         → IfOk result (IsOutcome (P.places places.now) choice (take place (D.scope declared.now).assertions) x)) }
@@ -134,6 +141,8 @@ pub(crate) fn outcome_at<'a, D: Declared<'a>, P: StepPlaces>(
     match read_proof(alloc, keys, declared, frames, places, place)? {
         ProofForm::Absent => Ok(Outcome::Axiom),
         ProofForm::Unfinished => Ok(Outcome::AsAxiom(Reason::Unfinished)),
-        ProofForm::Tree(tree) => outcome_of_tree(alloc, declared, chosen, front, place, &tree),
+        ProofForm::Tree(tree) => outcome_of_tree(
+            alloc, declared, chosen, front, long, place, &tree,
+        ),
     }
 }

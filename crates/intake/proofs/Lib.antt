@@ -1,2 +1,3 @@
 mod Libraries
+mod Long
 mod Steps

@@ -135,10 +135,10 @@ module _ (s : Scope) (w : Wish) (t : Sited) (names : LibraryNames) (g : Gathered
     taken_by = record {
       taken = record {
         choice = is.choice;
-        is_choice = is.is_choice;
-        known = is.known;
-        in_order = is.in_order;
-        few = is.few;
+        is_choice = is.chooses.is_choice;
+        known = is.chooses.known;
+        in_order = is.chooses.in_order;
+        few = is.chooses.few;
         takes = record {
           there = is.there;
           places = map_of t names;
@@ -148,6 +148,7 @@ module _ (s : Scope) (w : Wish) (t : Sited) (names : LibraryNames) (g : Gathered
           axioms_told = is.told_are;
           names_told = refl;
         };
+        long = is.long;
       };
       flags_are = is.flags_are;
     };

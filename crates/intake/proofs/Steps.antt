@@ -3,6 +3,7 @@ use Rattle.std.proofs.Common.{◌≡◌, ◌≢◌, ℕ, Bool, List, [], Option,
 use Rattle.std.specs.Prelude.{Result, Ok, Err, IfOk, IfErr}
 use Rattle.std.specs.Option.{option_map}
 use Rattle.mmtext.specs.Words.{Word}
+use Rattle.mmsyntax.specs.declared.label.Label.{Label}
 use Rattle.mmsyntax.specs.Layout.{HasSpelling}
 use Rattle.mmsyntax.specs.Tables.{Contents}
 use Rattle.source.specs.Scopes.{Assertion, Scope}
@@ -21,6 +22,7 @@ use Rattle.sites.specs.declared.names.LibraryNames.{LibraryNames}
 use Rattle.sites.specs.Indexes.{HasRoom}
 use Rattle.sites.specs.Namings.{AreNamedWell, IsUnnamed, AreUnnamed}
 use Rattle.sites.specs.Sites.{Sited, AreSites}
+use Rattle.derivation.specs.declared.fault.ProofFault.{ProofFault}
 use Rattle.drafts.specs.Limits.{IsPassed, IsTold}
 use Rattle.drafts.specs.declared.limits.Limit.{Limit}
 use Rattle.drafts.specs.declared.draft.Undeclared.{Undeclared}
@@ -31,8 +33,8 @@ use Rattle.intake.specs.declared.refusal.Refusal.{Refusal}
 use Rattle.intake.specs.declared.refusal.Refusal.TheVariants as refusal
 use Rattle.gathering.specs.Placed.{map_of, tables_of}
 use Rattle.gathering.specs.Gatherings.{told_in}
-use Rattle.intake.specs.Intakes.{IsTakenByWish, IsLibraryOf, IsRefused, IsRefusedOf, IsWide, IsDraft, name_at, name_in}
-use Rattle.intake.specs.Parts.{AreDrafted, IsGathered, IsChoiceByFlags, HasSites, AreAsMany, lists_of, changed_of, name_by}
+use Rattle.intake.specs.Intakes.{IsTakenByWish, IsLibraryOf, IsRefused, IsRefusedOf, IsProofFault, IsWide, IsDraft, name_at, name_in}
+use Rattle.intake.specs.Parts.{AreTakenBy, AreDrafted, IsGathered, AreChosen, IsChoiceByFlags, HasSites, AreAsMany, lists_of, changed_of, name_by}
 use Rattle.intake.proofs.Libraries.{chosen_kept, drafted_of}
 
 -- ---- refusals
@@ -100,6 +102,7 @@ module _ (s : Scope) (w : Wish) (t : Sited) (db : Contents) (axioms : List (Word
         axioms = axioms;
         names = names;
         takes = taken.takes;
+        long = taken.long;
       }
 
   named : (limit : Limit) → name_by t limit ≡ name_in drafted.taken_by.taken.takes.places limit
@@ -125,6 +128,35 @@ module _ (s : Scope) (w : Wish) (t : Sited) (db : Contents) (axioms : List (Word
       let other : why ≢ undeclared.NoMemory = λ e. absurd (let same : undeclared.Passes limit ≡ undeclared.NoMemory = sym is ∙ e in cc) in
       passes limit name named (none other) (subst (IsTold db) is told)
 
+  -- or another rule is broken
+  pub refused_as_unlawful : (why : Undeclared) → why ≡ undeclared.Unlawful → (why ≢ undeclared.NoMemory → HasSpelling db → ⊥)
+      → IsTold db why → IsRefusedOf s w refusal.Unlawful
+  unfolding draft
+  refused_as_unlawful why is none passes-none =
+      let other : why ≢ undeclared.NoMemory = λ e. absurd (let same : undeclared.Unlawful ≡ undeclared.NoMemory = sym is ∙ e in cc) in
+      is_refused s w refusal.Unlawful (λ text d. (db, draft text d, subst (IsTold db) is passes-none, none other))
+
+-- a proof has a fault
+pub refused_for_proof : (s : Scope) (w : Wish) (db : Contents) (axioms : List (Word × Reason)) (names : List Naming) (flags : List Bool)
+    → AreTakenBy s w db axioms names flags → (label : Label) (fault : ProofFault) → IsProofFault db label fault
+    → IsRefusedOf s w (refusal.Proof label fault)
+refused_for_proof s w db axioms names flags by label fault found =
+    let taken = by.taken in
+    is_refused s w (refusal.Proof label fault)
+    (λ text d.
+    let draft : IsDraft text w db =
+    record {
+      source = s;
+      declares = d;
+      choice = taken.choice;
+      chooses = record { is_choice = taken.is_choice; known = taken.known; in_order = taken.in_order; few = taken.few };
+      axioms = axioms;
+      names = names;
+      takes = taken.takes;
+      long = taken.long;
+    } in
+    (db, draft, found))
+
 -- ---- what is taken
 
 pub is_taken : (s : Scope) (w : Wish) (t : Taken) → IsLibraryOf s w t → (text : List ℕ) → DeclaresText text s → IsTakenByWish text w t
@@ -137,6 +169,7 @@ is_taken s w t l text d = record {
   in_order = l.taken.in_order;
   few = l.taken.few;
   takes = l.taken.takes;
+  long = l.taken.long;
   checks = l.checks;
   chosen_are = l.chosen_are;
 }
@@ -145,28 +178,23 @@ is_taken s w t l text d = record {
 
 module _ (s : Scope) (t : Sited) (names : LibraryNames)
     (named : AreNamedWell s t.constants t.variables t.floats t.labels names) where
-  pub is_gathered : (w : Wish) (sel : Selection) (g : Gathered) (chosen front : List Bool) → chosen ≡ sel.chosen.items
-      → front ≡ sel.front.items → IsChosen s w sel → AreSites s (kept chosen s.assertions) t
-      → ((choice : Choice) → AreFlags s choice chosen front
+  pub is_gathered : (w : Wish) (g : Gathered) (chosen front long : List Bool)
+      → AreChosen s w (map_of t names) (tables_of t names) chosen front long → AreSites s (kept chosen s.assertions) t
+      → ((choice : Choice) → AreFlags s choice chosen front long
       → AreTaken (map_of t names) (tables_of t names) choice [] s.assertions g.assertions.items)
-      → ((choice : Choice) → AreFlags s choice chosen front → told choice [] s.assertions ≡ told_in g.axioms.items)
-      → IsGathered s w t names g sel.chosen.items
-  is_gathered w sel g chosen front e f c sites taken telling =
-      let flags : AreFlags s c.choice chosen front =
-      record { chosen_are = c.flags.chosen_are ∙ sym e; front_are = c.flags.front_are ∙ sym f } in
-      record {
-        choice = c.choice;
-        is_choice = c.is_choice;
-        known = c.known;
-        in_order = c.in_order;
-        few = c.few;
-        there = c.there;
-        sites = subst (λ xs. AreSites s xs t) (chosen_kept s c.choice chosen flags.chosen_are) sites;
-        names_are = named;
-        taken = taken c.choice flags;
-        told_are = telling c.choice flags;
-        flags_are = c.flags.chosen_are;
-      }
+      → ((choice : Choice) → AreFlags s choice chosen front long → told choice [] s.assertions ≡ told_in g.axioms.items)
+      → IsGathered s w t names g chosen
+  is_gathered w g chosen front long c sites taken telling = record {
+    choice = c.choice;
+    chooses = c.chooses;
+    there = c.there;
+    long = c.are_long c.choice.long g.assertions.items (taken c.choice c.flags);
+    sites = subst (λ xs. AreSites s xs t) (chosen_kept s c.choice chosen c.flags.chosen_are) sites;
+    names_are = named;
+    taken = taken c.choice c.flags;
+    told_are = telling c.choice c.flags;
+    flags_are = c.flags.chosen_are;
+  }
 
 -- what was gathered is taken, where lists and names are those
 pub taken_as : (s : Scope) (w : Wish) (t : Sited) (names : LibraryNames) (g : Gathered) (flags : List Bool) (many : AreAsMany t names)

@@ -13,11 +13,11 @@ ghost use Rattle.intake.specs.Parts.{IsChoiceByFlags, HasSites};
 ghost use Rattle.intake.specs.declared.refusal.Refusal.TheVariants.{NoMemory};
 ghost use Rattle.mmsyntax.specs.declared.limits.TheConstants.{MOST_DECLARED};
 
-use crate::declaring::library_of;
 use crate::refusal::Refusal;
+use crate::rounds::take_placed;
 use crate::taken::Taken;
 use choosing::{Selection, Unchosen, Wish, choose};
-use gathering::{Follow, Placed, gather};
+use gathering::{Follow, Placed};
 use prooftrees::Frames;
 use scopes::Scopes;
 use sites::{LibraryNames, Sites, name_all, sites_of};
@@ -131,18 +131,16 @@ pub fn take_declared<'a, 'w, D: Declared<'a>>(
         sites: &sites,
         names: &names,
     };
-    let front = selection.front.as_slice();
-    let gathered = gather(
+    take_placed(
+        rt,
         alloc,
         keys,
         declared,
         &mut frames,
         &placed,
-        chosen,
-        front,
+        &selection,
         follow,
-    )?;
-    library_of(rt, alloc, keys, &sites, names, gathered, selection.chosen)
+    )
 }
 
 /// Takes a library from a text. Who follows is told how far it is, but not that it is at its end.
@@ -168,8 +166,8 @@ fn take_text<'a, 'w>(
 ///
 /// The library says what the chosen assertions of the source say, by a map of names that keeps each name that the profile allows; a
 /// theorem's proof is the listing of its tree, or the theorem is taken as an axiom and told with the reason; and its proofs check. It costs
-/// about as much as the source has bytes and as what is taken has symbols and steps. Who follows is told how far it is, on the thread of
-/// the caller.
+/// about as much as the source has bytes and as what is taken has symbols and steps, the latter once more for each theorem that is taken as
+/// an axiom because an expression of its proof is too long. Who follows is told how far it is, on the thread of the caller.
 ///
 /// # Errors
 ///

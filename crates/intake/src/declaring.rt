@@ -9,17 +9,20 @@ ghost use Rattle.taking.specs.declared.reason.Reason.{Reason};
 ghost use Rattle.taking.specs.Names.{Naming};
 ghost use Rattle.choosing.specs.declared.wish.Wish.{Wish};
 ghost use Rattle.derivation.specs.Databases.{AllCheck, IsFirstFault};
+ghost use Rattle.derivation.specs.declared.fault.ProofFaultKind.TheVariants.{TooLong};
 ghost use Rattle.drafts.specs.Drafts.{contents_of};
 ghost use Rattle.drafts.specs.Limits.{IsTold};
 ghost use Rattle.drafts.specs.declared.draft.Undeclared.TheVariants.{NoMemory as OutOfMemory};
 ghost use Rattle.mmsyntax.specs.Layout.{HasSpelling};
 ghost use Rattle.mmsyntax.specs.Tables.{Contents};
 ghost use Rattle.gathering.specs.Gatherings.{told_in, told_names};
-ghost use Rattle.intake.specs.Intakes.{IsLibraryOf, IsRefusedOf, IsProofFault};
+ghost use Rattle.intake.specs.Intakes.{IsRefusedOf, IsProofFault};
 ghost use Rattle.intake.specs.Parts.{AreAsMany, AreDrafted, AreTakenBy, IsGathered, lists_of, changed_of, name_by};
+ghost use Rattle.intake.specs.Parts.{IsLibraryRound, IsLongRound};
 
-use crate::drafting::{floats, put_changed};
+use crate::drafting::{copied, floats, put_changed};
 use crate::refusal::Refusal;
+use crate::rounds::Round;
 use crate::taken::Taken;
 use derivation::{ProofFault, ProofFaultKind};
 use drafts::{Draft, Limit, Undeclared, declare};
@@ -63,23 +66,23 @@ fn changed_names<'a>(
 fn draft_of(
     alloc: Global,
     sites: &Sites<'_>,
-    names: LibraryNames,
+    names: &LibraryNames,
     assertions: Vec<Assertion>,
 ) -> Result<Draft, AllocError>
-    requires { AreAsMany sites.now names }
-    ensures { IfOk result (λ made. contents_of made ≡ lists_of sites.now names assertions.items) }
+    requires { AreAsMany sites.now names.now }
+    ensures { IfOk result (λ made. contents_of made ≡ lists_of sites.now names.now assertions.items) }
 {
     let floats = floats(alloc, names.floats.as_slice(), sites.types())?;
     Ok(Draft {
-        constants: names.constants,
-        variables: names.variables,
+        constants: copied(alloc, names.constants.as_slice())?,
+        variables: copied(alloc, names.variables.as_slice())?,
         floats,
         assertions: Sequence::from_vec(assertions),
     })
 }
 
 /// The word at a place, if there is one.
-fn word_at<'a>(words: &[&'a [u8]], place: usize) -> Option<&'a [u8]>
+pub(crate) fn word_at<'a>(words: &[&'a [u8]], place: usize) -> Option<&'a [u8]>
     ensures { option_map (λ w. w.now) result ≡ slice_get (seen_words words.now) place }
 {
     match words.get(place) {
@@ -128,19 +131,20 @@ fn label_of_faulty(
     number: usize,
     fault: ProofFault,
 ) -> Result<Label, AllocError>
-    requires { IsFirstFault database.now number fault }
+    requires first { IsFirstFault database.now number fault }
+    requires other { fault.kind ≢ TooLong }
     ensures { IfOk result (λ label. IsProofFault database.now label fault) }
 {
     database.assertions()[number - 1].label.copy(alloc)
 }
 
-/// The first theorem of a library whose proof doesn't check, with its fault.
+/// The number of the first theorem of a library whose proof doesn't check, counted from 1, with its fault.
 fn first_faulty(
     rt: &(impl Threads + Sync),
     alloc: Global,
     database: &Database,
-) -> Result<Option<(Label, ProofFault)>, AllocError>
-    ensures { IfOk result (λ found. MatchOption found (AllCheck database.now) (λ p. IsProofFault database.now p.0 p.1)) }
+) -> Result<Option<(usize, ProofFault)>, AllocError>
+    ensures { IfOk result (λ found. MatchOption found (AllCheck database.now) (λ p. IsFirstFault database.now p.0 p.1)) }
 {
     let Err((number, fault)) = check_all(rt, alloc, database) else {
         return Ok(None);
@@ -148,54 +152,63 @@ fn first_faulty(
     if fault.kind == ProofFaultKind::NoMemory {
         return Err(AllocError);
     }
-    let label = label_of_faulty(alloc, database, number, fault)?;
-    Ok(Some((label, fault)))
+    Ok(Some((number, fault)))
 }
 
-/// The library whose proofs check, with what is told of it.
+/// The library whose proofs check, with what is told of it; or the place of the first theorem whose proof doesn't, where it has too long an
+/// expression.
 fn with_proofs<'a, 'w>(
     rt: &(impl Threads + Sync),
     alloc: Global,
     database: Database,
     axioms: Vec<(&'a [u8], Reason)>,
     names: Vec<(&'a [u8], Label)>,
-    chosen: Vec<bool>,
-) -> Result<Taken<'a>, Refusal<'a, 'w>>
+    chosen: &[bool],
+) -> Result<Round<'a>, Refusal<'a, 'w>>
     ensures taken { (s : Scope) (w : Wish)
-        → AreTakenBy s w database (told_in axioms.entry.items) (told_names names.entry.items) chosen.items
-        → IfOk result (IsLibraryOf s w) }
+        → AreTakenBy s w database (told_in axioms.entry.items) (told_names names.entry.items) chosen.now
+        → IfOk result (IsLibraryRound s w) }
+    ensures long { IfOk result (IsLongRound database) }
     ensures refused { (s : Scope) (w : Wish)
-        → AreTakenBy s w database (told_in axioms.entry.items) (told_names names.entry.items) chosen.items
+        → AreTakenBy s w database (told_in axioms.entry.items) (told_names names.entry.items) chosen.now
         → IfErr result (IsRefusedOf s w) }
 {
-    match first_faulty(rt, alloc, &database)? {
-        Some((label, fault)) => Err(Refusal::Proof(label, fault)),
-        None => Ok(Taken {
+    let found = first_faulty(rt, alloc, &database)?;
+    let Some((number, fault)) = found else {
+        let chosen = Vec::from_slice(alloc, chosen)?;
+        return Ok(Round::Library(Taken {
             database,
             axioms,
             names,
             chosen,
-        }),
+        }));
+    };
+    if fault.kind == ProofFaultKind::TooLong {
+        return Ok(Round::Long(number - 1));
     }
+    let label = label_of_faulty(alloc, &database, number, fault)?;
+    Err(Refusal::Proof(label, fault))
 }
 
-/// The library of what was gathered of a source by sites and names, where flags say which assertions were chosen.
+/// The library of what was gathered of a source by sites and names, where flags say which assertions were chosen; or the place of the first
+/// theorem whose proof has too long an expression.
 pub(crate) fn library_of<'a, 'w>(
     rt: &(impl Threads + Sync),
     alloc: Global,
     keys: RandomState,
     sites: &Sites<'a>,
-    names: LibraryNames,
+    names: &LibraryNames,
     gathered: Gathered<'a>,
-    chosen: Vec<bool>,
-) -> Result<Taken<'a>, Refusal<'a, 'w>>
-    requires { AreAsMany sites.now names }
-    ensures taken { (s : Scope) (w : Wish) → IsGathered s w sites.now names gathered.entry chosen.items
-        → IfOk result (IsLibraryOf s w) }
-    ensures refused { (s : Scope) (w : Wish) → IsGathered s w sites.now names gathered.entry chosen.items
+    chosen: &[bool],
+) -> Result<Round<'a>, Refusal<'a, 'w>>
+    requires { AreAsMany sites.now names.now }
+    ensures taken { (s : Scope) (w : Wish) → IsGathered s w sites.now names.now gathered.entry chosen.now
+        → IfOk result (IsLibraryRound s w) }
+    ensures long { IfOk result (IsLongRound (lists_of sites.now names.now gathered.entry.assertions.items)) }
+    ensures refused { (s : Scope) (w : Wish) → IsGathered s w sites.now names.now gathered.entry chosen.now
         → IfErr result (IsRefusedOf s w) }
 {
-    let changed = changed_names(alloc, sites, &names)?;
+    let changed = changed_names(alloc, sites, names)?;
     let draft = draft_of(alloc, sites, names, gathered.assertions)?;
     match declare(alloc, keys, draft) {
         Ok(database) => with_proofs(rt, alloc, database, gathered.axioms, changed, chosen),

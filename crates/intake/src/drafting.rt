@@ -11,6 +11,17 @@ ghost use Rattle.mmsyntax.specs.declared.limits.TheConstants.{MOST_DECLARED};
 use mmsyntax::{Float, Label, Sequence};
 use std::alloc::{AllocError, Global};
 
+/// Copies of names.
+pub(crate) fn copied(alloc: Global, names: &[Label]) -> Result<Sequence<Label>, AllocError>
+    ensures { IfOk result (λ copies. copies ≡ names.now) }
+{
+    let mut copies = Vec::new(alloc);
+    for name in names {
+        copies.push(name.copy(alloc)?)?;
+    }
+    Ok(Sequence::from_vec(copies))
+}
+
 /// The `$f` of the library: the variable at a place is that of the `$f` there.
 pub(crate) fn floats(
     alloc: Global,

@@ -5,6 +5,7 @@ mod call;
 mod declaring;
 mod drafting;
 mod refusal;
+mod rounds;
 mod taken;
 
 pub use call::{take, take_declared};

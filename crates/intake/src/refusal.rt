@@ -25,7 +25,8 @@ pub enum Refusal<'a, 'w> {
     Passes(Limit, Option<&'a [u8]>),
     /// What is taken breaks another rule of the profile.
     Unlawful,
-    /// The listing of the proof of this theorem of the library doesn't check: so does its proof in the source not.
+    /// The listing of the proof of this theorem of the library doesn't check: so does its proof in the source not. Its fault isn't that an
+    /// expression is too long: such a theorem is taken as an axiom.
     Proof(Label, ProofFault),
     /// Memory ran out.
     NoMemory,

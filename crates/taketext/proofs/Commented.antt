@@ -12,7 +12,7 @@ use Rattle.source.specs.Views.{seen_words}
 use Rattle.taketext.specs.Fronts.{SaysNothing}
 use Rattle.taketext.proofs.Silent.{plain_comment}
 use Rattle.taking.specs.declared.reason.Reason.{Reason}
-use Rattle.taking.specs.declared.reason.Reason.TheVariants.{Unfinished, TooLong, InFront, CitesUnchosen}
+use Rattle.taking.specs.declared.reason.Reason.TheVariants.{Unfinished, TooLong, InFront, CitesUnchosen, LongExpression}
 use Rattle.taking.specs.Names.{Naming}
 use Rattle.choosing.specs.declared.wish.Wish.{Wish}
 use Rattle.choosing.specs.declared.wish.Wish.TheVariants as wish
@@ -81,6 +81,7 @@ quiet_reason Unfinished = refl
 quiet_reason TooLong = refl
 quiet_reason InFront = refl
 quiet_reason CitesUnchosen = refl
+quiet_reason LongExpression = refl
 
 quiet_axiom : (p : Word × Reason) → IsQuietAxiom p → AreQuiet (axiom_line p)
 quiet_axiom p h = quiet_joined (codes "     " ∷ p.0 ∷ reason_line p.1 ∷ []) (refl, (h, (quiet_reason p.1, tt)))
@@ -106,6 +107,7 @@ reason_ends Unfinished = record { before = codes ": its proof is unfinished"; is
 reason_ends TooLong = record { before = codes ": its proof has over 16384 steps"; is = refl }
 reason_ends InFront = record { before = codes ": it stands in front of the choice"; is = refl }
 reason_ends CitesUnchosen = record { before = codes ": it cites what is not chosen"; is = refl }
+reason_ends LongExpression = record { before = codes ": an expression of its proof has over 65535 symbols"; is = refl }
 
 axiom_ends : (p : Word × Reason) → EndsLine (axiom_line p)
 axiom_ends p = line_behind (codes "     ") (p.0 ++ reason_line p.1) (line_behind p.0 (reason_line p.1) (reason_ends p.1))

@@ -9,7 +9,7 @@ use Rattle.mmsyntax.specs.Layout.{spaced}
 use Rattle.sha2.specs.Sha256.{sha256}
 use Rattle.source.specs.Views.{seen_words}
 use Rattle.taking.specs.declared.reason.Reason.{Reason}
-use Rattle.taking.specs.declared.reason.Reason.TheVariants.{Unfinished, TooLong, InFront, CitesUnchosen}
+use Rattle.taking.specs.declared.reason.Reason.TheVariants.{Unfinished, TooLong, InFront, CitesUnchosen, LongExpression}
 use Rattle.taking.specs.Names.{Naming}
 use Rattle.choosing.specs.declared.wish.Wish.{Wish}
 use Rattle.choosing.specs.declared.wish.Wish.TheVariants as wish
@@ -44,6 +44,7 @@ reason_line Unfinished = codes ": its proof is unfinished" ++ 10 ∷ []
 reason_line TooLong = codes ": its proof has over 16384 steps" ++ 10 ∷ []
 reason_line InFront = codes ": it stands in front of the choice" ++ 10 ∷ []
 reason_line CitesUnchosen = codes ": it cites what is not chosen" ++ 10 ∷ []
+reason_line LongExpression = codes ": an expression of its proof has over 65535 symbols" ++ 10 ∷ []
 
 abbrev pub axiom_line : Word × Reason → List ℕ
 axiom_line p = codes "     " ++ (p.0 ++ reason_line p.1)

@@ -165,6 +165,9 @@ fn put_reason(out: &mut Vec<u8>, reason: Reason) -> Result<(), AllocError>
         Reason::TooLong => b": its proof has over 16384 steps\n".as_slice(),
         Reason::InFront => b": it stands in front of the choice\n".as_slice(),
         Reason::CitesUnchosen => b": it cites what is not chosen\n".as_slice(),
+        Reason::LongExpression => {
+            b": an expression of its proof has over 65535 symbols\n".as_slice()
+        }
     };
     out.extend_from_slice(text)
 }

@@ -9,7 +9,7 @@ use Rattle.mmsyntax.specs.Tables.{Tables}
 use Rattle.source.specs.Scopes.{Scope, nothing, behind_all}
 use Rattle.source.specs.Statements.{normal}
 use Rattle.source.specs.Examples.{scopes, wff, yes, p, r, s, m, n, t}
-use Rattle.taking.specs.declared.reason.Reason.TheVariants.{Unfinished, InFront, CitesUnchosen}
+use Rattle.taking.specs.declared.reason.Reason.TheVariants.{Unfinished, InFront, CitesUnchosen, LongExpression}
 use Rattle.taking.specs.Names.{Map, HasPlaces, KeepsNames}
 use Rattle.taking.specs.Says.{SaysSame}
 use Rattle.taking.specs.Listings.{IsListed}
@@ -78,7 +78,7 @@ taken_t = record {
 }
 
 abbrev pub both_chosen : Choice
-both_chosen = record { chosen = codes "m" ∷ codes "t" ∷ []; front = [] }
+both_chosen = record { chosen = codes "m" ∷ codes "t" ∷ []; front = []; long = [] }
 
 abbrev pub NamesHavePlaces : Type 0
 NamesHavePlaces = HasPlaces places library whole (chosen_of both_chosen whole) × KeepsNames places library whole
@@ -122,20 +122,21 @@ taken_alone = record {
 
 abbrev pub TakesOne : Type 0
 TakesOne =
-    Takes whole (record { chosen = codes "t" ∷ []; front = [] }) (record { prelude = library_alone; assertions = taken_alone ∷ [] })
-    ((codes "t", CitesUnchosen) ∷ []) []
+    Takes whole (record { chosen = codes "t" ∷ []; front = []; long = [] })
+    (record { prelude = library_alone; assertions = taken_alone ∷ [] }) ((codes "t", CitesUnchosen) ∷ []) []
 
 -- ---- reasons: the first that holds
 
 abbrev pub standing_in_front : Choice
-standing_in_front = record { chosen = codes "t" ∷ []; front = codes "t" ∷ [] }
+standing_in_front = record { chosen = codes "t" ∷ []; front = codes "t" ∷ []; long = codes "t" ∷ [] }
 
--- with ? behind, t is unfinished, whatever else holds; with m chosen there is no reason, and without it t cites what isn't chosen, in front
--- of the choice or not
+-- with ? behind, t is unfinished, whatever else holds; with m chosen there is no reason but too long an expression, and without it t cites
+-- what isn't chosen, in front of the choice or not
 abbrev pub ReasonsAreInOrder : Type 0
 ReasonsAreInOrder =
     (reason standing_in_front (m ∷ n ∷ []) (record t { proof = Some (normal (codes "xr" ∷ codes "?" ∷ [])) }) ≡ Some Unfinished)
     × (reason standing_in_front (m ∷ n ∷ []) t ≡ Some InFront)
     × (reason (record standing_in_front { front = [] }) (m ∷ n ∷ []) t ≡ Some CitesUnchosen)
     × (reason both_chosen (m ∷ n ∷ []) t ≡ None)
+    × (reason (record both_chosen { long = codes "t" ∷ [] }) (m ∷ n ∷ []) t ≡ Some LongExpression)
     × (reason standing_in_front (m ∷ n ∷ []) m ≡ None)

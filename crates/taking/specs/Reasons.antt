@@ -8,13 +8,15 @@ use Rattle.source.specs.Statements.{Proof}
 use Rattle.source.specs.Scopes.{Assertion, Scope, is_in}
 use Rattle.source.specs.Proofs.{Tree, Trees, node, none, some, denoted, size, is_unfinished}
 use Rattle.taking.specs.declared.reason.Reason.{Reason}
-use Rattle.taking.specs.declared.reason.Reason.TheVariants.{Unfinished, TooLong, InFront, CitesUnchosen}
+use Rattle.taking.specs.declared.reason.Reason.TheVariants.{Unfinished, TooLong, InFront, CitesUnchosen, LongExpression}
 use Rattle.mmsyntax.specs.declared.limits.TheConstants.{MOST_STEPS}
 
--- what is taken of a source: the labels of its assertions, and those of them that stand in front of the choice
+-- what is taken of a source: the labels of its assertions, those of them that stand in front of the choice, and those in whose proofs an
+-- expression is too long
 pub record Choice : Type 0 where
   pub chosen : List Word
   pub front : List Word
+  pub long : List Word
 
 -- ---- what a tree cites
 
@@ -34,14 +36,15 @@ is_left_out earlier chosen w = list_any (λ a. bytes_eq w a.label) earlier && no
 abbrev pub cites_left_out : List Assertion → List Word → Tree → Bool
 cites_left_out earlier chosen tree = list_any (is_left_out earlier chosen) (labels_of tree)
 
--- ---- reasons, the first that holds: unfinished, too long, in front of the choice, citing what isn't chosen
+-- ---- reasons, the first that holds: unfinished, too long, in front of the choice, citing what isn't chosen, with too long an expression
 
 -- a listing has 16,384 steps at most (a rule of the profile)
 abbrev pub reason_of_tree : Choice → List Assertion → Word → Tree → Option Reason
 reason_of_tree choice earlier label tree =
     if nat_lt MOST_STEPS (size tree) then Some TooLong else (
     if is_in choice.front label then Some InFront else (
-    if cites_left_out earlier choice.chosen tree then Some CitesUnchosen else None))
+    if cites_left_out earlier choice.chosen tree then Some CitesUnchosen else (
+    if is_in choice.long label then Some LongExpression else None)))
 
 -- a finished proof denotes a tree in each source
 abbrev pub reason_of_finished : Choice → List Assertion → Word → Option Tree → Option Reason
@@ -69,10 +72,12 @@ needed_by earlier x (Some proof) = if is_unfinished proof then [] else needed_by
 abbrev pub needed : List Assertion → Assertion → List Word
 needed earlier x = needed_by earlier x x.proof
 
--- flags say of each assertion whether it is chosen, and whether it stands in front of the choice
-pub record AreFlags (s : Scope) (choice : Choice) (chosen front : List Bool) : Type 0 where
+-- flags say of each assertion whether it is chosen, whether it stands in front of the choice, and whether an expression of its proof is
+-- too long
+pub record AreFlags (s : Scope) (choice : Choice) (chosen front long : List Bool) : Type 0 where
   pub chosen_are : map (λ x. is_in choice.chosen x.label) s.assertions ≡ chosen
   pub front_are : map (λ x. is_in choice.front x.label) s.assertions ≡ front
+  pub long_are : map (λ x. is_in choice.long x.label) s.assertions ≡ long
 
 -- what flags keep
 abbrev pub kept_at : {A : Type 0} → Bool → A → List A → List A

@@ -11,4 +11,6 @@ pub enum Reason {
     InFront,
     /// It cites an assertion that isn't chosen.
     CitesUnchosen,
+    /// An expression of its proof has over 65,535 symbols.
+    LongExpression,
 }

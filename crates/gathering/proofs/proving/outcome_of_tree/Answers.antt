@@ -5,7 +5,8 @@ use Rattle.taking.specs.Walks.{IsListing}
 use Rattle.prooftrees.proofs.Trees.{nodes_are_labelled}
 use Rattle.gathering.proofs.Forms.{if_there}
 use Rattle.gathering.proofs.LeftOut.{flag_is}
-use Rattle.gathering.proofs.Reasons.{few_at, reason_of_long, reason_in_front, reason_of_citing, listed_steps, unlisted}
+use Rattle.gathering.proofs.Reasons.{few_at, reason_of_long, reason_in_front, reason_of_citing, reason_of_long_expression}
+use Rattle.gathering.proofs.Reasons.{listed_steps, unlisted}
 use Rattle.gathering.proofs.proving.outcome_of_tree.Goals as goal
 
 pub returns-then-size-gt-MOST_STEPS : goal.returns-then-size-gt-MOST_STEPS
@@ -41,6 +42,18 @@ returns-then-cites_left_out g c =
     (sym flag ∙ c.if-front-place.false) c.cites_left_out.result (c.cites_left_out.ensures choice are.chosen_are)
     c.if-cites_left_out.true)
 
+pub returns-then-long-place : goal.returns-then-long-place
+returns-then-long-place g c =
+    let s = g.D.Declared.scope c.args.declared.now in
+    λ m choice are.
+    if_there (slice_get s.assertions c.args.place) _
+    (λ x at known f.
+    let flag = flag_is s.assertions choice.front c.args.front.now are.front_are c.args.place x at in
+    let long = flag_is s.assertions choice.long c.args.long.now are.long_are c.args.place x at in
+    reason_of_long_expression m choice s c.args.place x c.args.tree.now f c.size.result c.size.ensures c.if-size-gt-MOST_STEPS.false
+    (sym flag ∙ c.if-front-place.false) c.cites_left_out.result (c.cites_left_out.ensures choice are.chosen_are)
+    c.if-cites_left_out.false (sym long ∙ c.if-long-place.true))
+
 pub list-requires-clause-few : goal.list-requires-clause-few
 list-requires-clause-few g c =
     few_at c.args.tree.now.proof.nodes c.args.tree.now.proof.root c.size.result c.size.ensures c.if-size-gt-MOST_STEPS.false
@@ -54,9 +67,10 @@ returns-in-Some g c =
     if_there (slice_get s.assertions c.args.place) _
     (λ x at known f.
     let flag = flag_is s.assertions choice.front c.args.front.now are.front_are c.args.place x at in
+    let long = flag_is s.assertions choice.long c.args.long.now are.long_are c.args.place x at in
     listed_steps m choice s c.args.place x t f c.size.result c.size.ensures c.if-size-gt-MOST_STEPS.false
     (sym flag ∙ c.if-front-place.false) c.cites_left_out.result (c.cites_left_out.ensures choice are.chosen_are)
-    c.if-cites_left_out.false c.in-Some.steps lists)
+    c.if-cites_left_out.false (sym long ∙ c.if-long-place.false) c.in-Some.steps lists)
 
 pub returns-in-None : goal.returns-in-None
 returns-in-None g c =

@@ -1,30 +1,38 @@
--- What is left to show of `take_declared`: what was gathered is what the wish chose.
-use Rattle.std.proofs.Common.{rules, ◌≡◌}
+-- What is left to show of `take_declared`: what has sites is what the wish chose.
+use Rattle.std.proofs.Common.{rules, ◌≡◌, List, Bool, refl, subst}
 use Rattle.std.proofs.lemmas.Result.{err_from_is_err_and}
-use Rattle.intake.proofs.Steps.{is_gathered, by_flags, has_sites}
+use Rattle.taking.specs.Reasons.{kept}
+use Rattle.sites.specs.Sites.{AreSites}
+use Rattle.intake.specs.Parts.{AreAsMany}
+use Rattle.intake.proofs.Steps.{by_flags, has_sites}
 use Rattle.intake.proofs.call.take_declared.Goals as goal
 
-pub returns-clause-taken : goal.returns-clause-taken
-returns-clause-taken g c =
+pub take_placed-requires-sync-typeof-rt : goal.take_placed-requires-sync-typeof-rt
+take_placed-requires-sync-typeof-rt g c κs within =
     let s = g.D.Declared.scope c.args.declared.now in
     let sel = c.in_ok-selection.selection in
-    let same : c.as_slice-chosen.result.now ≡ sel.chosen.items = search rules in
-    let alike : c.as_slice-front.result.now ≡ sel.front.items = search rules in
-    c.library_of.ensures.taken s c.args.wish
-    (is_gathered s c.in_ok-sites.sites c.in_ok-names.names c.in_ok-names.ensures.names c.args.wish sel c.in_ok-gathered.gathered
-    c.as_slice-chosen.result.now c.as_slice-front.result.now same alike c.in_ok-selection.ensures.chosen c.in_ok-sites.ensures.sites
-    c.in_ok-gathered.ensures.taken c.in_ok-gathered.ensures.told)
-
-pub returns-clause-refused : goal.returns-clause-refused
-returns-clause-refused g c =
-    let s = g.D.Declared.scope c.args.declared.now in
-    let sel = c.in_ok-selection.selection in
-    let same : c.as_slice-chosen.result.now ≡ sel.chosen.items = search rules in
-    let alike : c.as_slice-front.result.now ≡ sel.front.items = search rules in
-    c.library_of.ensures.refused s c.args.wish
-    (is_gathered s c.in_ok-sites.sites c.in_ok-names.names c.in_ok-names.ensures.names c.args.wish sel c.in_ok-gathered.gathered
-    c.as_slice-chosen.result.now c.as_slice-front.result.now same alike c.in_ok-selection.ensures.chosen c.in_ok-sites.ensures.sites
-    c.in_ok-gathered.ensures.taken c.in_ok-gathered.ensures.told)
+    let t = c.in_ok-sites.sites in
+    let n = c.in_ok-names.ensures.names in
+    let sites : AreSites s (kept sel.chosen.items s.assertions) t =
+    subst (λ (fs : List Bool). AreSites s (kept fs s.assertions) t) c.as_slice-chosen.ensures.value c.in_ok-sites.ensures.sites in
+    let many : AreAsMany t c.in_ok-names.names =
+    record {
+      constants = n.as_many_constants;
+      variables = n.as_many_variables;
+      floats = n.as_many_floats;
+      labels = n.as_many_labels;
+      types = c.in_ok-sites.ensures.sites.types;
+      few = c.in_ok-names.ensures.few;
+    } in (
+      search rules,
+      (
+        (refl, tt),
+        (
+          c.requires.whole,
+          (c.in_ok-selection.ensures.frames, (sites, (many, (n, (c.args.wish, c.in_ok-selection.ensures.chosen))))),
+        ),
+      ),
+    )
 
 pub returns-in_err-names-clause-refused : goal.returns-in_err-names-clause-refused
 returns-in_err-names-clause-refused g c =

@@ -5,4 +5,4 @@ use Rattle.taking.proofs.laws.reasons_are_in_order.Goals as goal
 
 pub returns : goal.returns
 unfolding decoded
-returns c = (refl, refl, refl, refl, refl)
+returns c = (refl, refl, refl, refl, refl, refl)
