@@ -5,3 +5,5 @@ pub mod Sections
 pub mod Arranged
 pub mod Places
 pub mod Printing
+pub mod Lines
+pub mod LinesInside

@@ -7,6 +7,7 @@ mod coming;
 mod describing;
 mod group;
 mod layout;
+mod lines;
 mod printing;
 mod sections;
 
