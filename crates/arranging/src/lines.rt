@@ -1,14 +1,13 @@
 //! Whether a statement that is written anew is laid out in lines of at most 79 columns.
 
-ghost use Rattle.std.specs.Prelude.{◌≡◌, ◌≤◌, ◌+◌, ◌==◌, suc, IfSome, IsTrue, length};
-ghost use Rattle.std.specs.List.{list_all};
-ghost use Rattle.std.specs.Option.{option_map, unwrap_or};
+ghost use Rattle.std.specs.Prelude.{◌≡◌, ◌≤◌, IfSome, IsTrue, length};
 ghost use Rattle.items.specs.Items.{Item as Pieces};
-ghost use Rattle.items.specs.Layout.{indent};
+ghost use Rattle.items.specs.Layout.{column};
 ghost use Rattle.items.specs.Reading.{Stands};
 ghost use Rattle.arranging.specs.Lines.{is_in_lines};
-ghost use Rattle.arranging.specs.LinesInside.{are_letters, part_behind, IsPlaced, LaysWord};
+ghost use Rattle.arranging.specs.LinesInside.{are_letters, part_behind, piece, IsPlaced, LaysWord};
 
+use items::indent;
 use mmtext::next_token;
 
 /// A line has so many columns at most.
@@ -25,27 +24,12 @@ pub(crate) enum Part {
     Letters,
 }
 
-/// Whether bytes are spaces.
-fn are_spaces(bytes: &[u8]) -> bool
-    ensures { result ≡ list_all (λ c. c == 32) bytes.now }
+/// The column behind a word, which stands behind another column, or begins a line.
+fn column(at: usize, space: &[u8], word: &[u8]) -> Option<usize>
+    ensures { IfSome result (λ behind. behind ≡ column at (piece space.now word.now)) }
 {
-    bytes.iter().all(|b| *b == b' ')
-}
-
-/// How many spaces stand behind the line feed that white space begins with. None where something else does.
-fn indent(space: &[u8]) -> Option<usize>
-    ensures { result ≡ option_map length (indent space.now) }
-{
-    let (first, spaces) = space.split_first()?;
-    (*first == b'\n' && are_spaces(spaces)).then_some(spaces.len())
-}
-
-/// The column behind a word, which stands behind another column, or begins a line where it has an indentation.
-fn column(at: usize, indentation: Option<usize>, word: &[u8]) -> Option<usize>
-    ensures { IfSome result (λ behind. behind ≡ length word.now + unwrap_or indentation (suc at)) }
-{
-    match indentation {
-        Some(spaces) => spaces.checked_add(word.len()),
+    match indent(space) {
+        Some(spaces) => spaces.len().checked_add(word.len()),
         None => at.checked_add(1)?.checked_add(word.len()),
     }
 }
@@ -54,9 +38,8 @@ fn column(at: usize, indentation: Option<usize>, word: &[u8]) -> Option<usize>
 fn placed(at: usize, are_letters: bool, space: &[u8], word: &[u8]) -> Option<usize>
     ensures { IfSome result (IsPlaced at are_letters space.now word.now) }
 {
-    let indentation = indent(space);
-    let behind = column(at, indentation, word)?;
-    let begins_line = indentation.is_some();
+    let begins_line = indent(space).is_some();
+    let behind = column(at, space, word)?;
     if !begins_line && space != b" ".as_slice() {
         return None;
     }

@@ -11,3 +11,4 @@ pub mod Spelled
 mod Fronts
 pub mod PutThen
 pub mod Found
+mod Indented

@@ -202,7 +202,7 @@ fn texts_of<'x, 'a, D: Declared<'a>>(
 }
 
 /// Edits that can't be written into a text.
-fn unfit(alloc: Global) -> Refusal {
+pub(crate) fn unfit(alloc: Global) -> Refusal {
     Refusal::of_history(format!(in alloc; "the edits can't be written"))
 }
 

@@ -10,4 +10,7 @@ place_within test (x ∷ xs) i h = (place_of-at test (x ∷ xs) i x h).0
 
 pub proof_text-requires : goal.proof_text-requires
 proof_text-requires g c κs =
-    let within = place_within _ _ c.in-Some.place (sym c.in-Some.ensures) in ((refl, tt), (within, c.proof_indentation-indentation.ensures))
+    let within = place_within _ _ c.in-Some.place (sym c.in-Some.ensures) in ((refl, tt), (within, c.indentation_like-indentation.ensures.room))
+
+pub returns-in_ok-proof_text-in-Some : goal.returns-in_ok-proof_text-in-Some
+returns-in_ok-proof_text-in-Some g c = ?

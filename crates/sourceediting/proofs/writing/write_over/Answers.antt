@@ -17,9 +17,9 @@ returns g c =
     let source = c.args.source.now in
     let proofs = c.in_ok-proofs-2.proofs in
     let planned = c.args.planned.now in
-    let are_others = AreOtherProofs (g.D.Declared.scope c.args.declared.now) planned.database.now.assertions
+    let are_others = AreOtherProofs source (g.D.Declared.scope c.args.declared.now) planned.database.now.assertions
     (map (λ (r : Ranked). r.assertion) planned.edited.now.entries) (seen_living planned.living.now) in
-    let are = subst are_others (sym (c.in_ok-proofs-2.ensures ∙ ap seen_proofs c.as_slice.ensures.value)) c.in_ok-proofs.ensures in
+    let are = subst are_others (sym (c.in_ok-proofs-2.ensures ∙ ap seen_proofs c.as_slice.ensures.value)) (c.in_ok-proofs.ensures source c.in-Some.ensures) in
     let living = seen_living planned.living.now in
     let gone = seen_words planned.gone.now in
     IfOk-weaker c.written.result (λ out. IsWrittenAnew commands living gone (λ ps. ps ≡ proofs) cs source out.items)
