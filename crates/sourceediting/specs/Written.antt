@@ -1,5 +1,5 @@
 -- How the text of a source is written anew with the edits of a history.
-use Rattle.std.specs.Prelude.{◌≡◌, ℕ, List, All, filter_map, Option, Some, None, if◌then◌else◌}
+use Rattle.std.specs.Prelude.{◌≡◌, ℕ, List, All, filter_map, Option, None, if◌then◌else◌}
 use Rattle.mmtext.specs.Words.{Word}
 use Rattle.giving.specs.Staying.{Change}
 use Rattle.items.specs.Rewriting.{IsRewritten}
