@@ -1,10 +1,9 @@
 -- Items of a text, one behind the other, and how far their proofs are indented.
-use Rattle.std.proofs.Common.{◌≡◌, ◌∙◌, ℕ, List, [], ◌∷◌, ◌++◌, All, Option, Some, None, refl, sym, ap, ap₂, subst, append-nil, arith, drop}
+use Rattle.std.proofs.Common.{◌≡◌, ◌∙◌, ℕ, List, [], ◌∷◌, ◌++◌, All, Some, None, refl, sym, ap, ap₂, subst, append-nil, arith, drop}
 use Rattle.std.specs.Option.{option_and_then}
 use Rattle.std.proofs.lemmas.Grind.{flat_map-append}
 use Rattle.std.proofs.lemmas.List.Elements.{All-push, filter_map-append}
 use Rattle.giving.specs.Staying.{Change}
-use Rattle.mmtext.specs.Words.{Word}
 use Rattle.items.specs.declared.reading.Item.{Item as Found}
 use Rattle.items.specs.Items.{Item, pieces_of, label_of, IsItem}
 use Rattle.items.specs.Reading.{tokens_at, Stands, IsItemAt}

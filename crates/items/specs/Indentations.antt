@@ -1,6 +1,6 @@
 -- How far the proofs of a source are indented: as the first line of each is.
 use Rattle.std.specs.Prelude.{ℕ, Bool, true, false, List, [], ◌∷◌, Option, Some, None, filter_map, if◌then◌else◌, codes}
-use Rattle.std.specs.Option.{option_map, option_and_then}
+use Rattle.std.specs.Option.{option_and_then}
 use mathlib.Core.Bool.{not}
 use Rattle.std.specs.Str.{bytes_eq}
 use Rattle.mmtext.specs.Words.{Word}

@@ -1,12 +1,12 @@
 -- Of the code's inside, apart from the rules: the way through a statement to the first line of its proof.
-use Rattle.std.specs.Prelude.{◌≡◌, ℕ, Bool, true, false, List, ◌∷◌, Option, if◌then◌else◌, codes}
+use Rattle.std.specs.Prelude.{◌≡◌, ℕ, Bool, true, false, List, ◌∷◌, Option, codes}
 use Rattle.std.specs.Option.{option_map}
 use Rattle.mmtext.specs.Words.{Word}
 use Rattle.giving.specs.Staying.{Change}
 use Rattle.items.specs.declared.indentation.Walk.{Walk}
 use Rattle.items.specs.declared.indentation.Next.{Next}
 use Rattle.items.specs.declared.indentation.Next.TheVariants.{Goes, Ends}
-use Rattle.items.specs.Items.{Item, Piece, Spells}
+use Rattle.items.specs.Items.{Item, Spells}
 use Rattle.items.specs.Layout.{indents}
 use Rattle.items.specs.Indentations.{plain, behind, up_to, first_of, indentations}
 

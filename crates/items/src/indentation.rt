@@ -79,8 +79,8 @@ impl Walk {
     }
 }
 
-/// The spaces with which the first line of a proof begins that isn't the one of its `$=`: the proof of the item from a place of a text up to
-/// another. None where there is no such line, and where something else stands in front of it.
+/// The spaces with which the first line of a proof begins that isn't the one of its `$=`: that of the item from a place of a text up to
+/// another. None where there is no such line, and where something else stands in front of each.
 fn indentation(text: &[u8], from: usize, end: usize) -> Option<&[u8]>
     requires order { from ≤ end }
     requires within { end ≤ length text.now }

@@ -1,9 +1,9 @@
 -- What is left to show of `indentations`.
-use Rattle.std.proofs.Common.{◌≡◌, ◌∙◌, ◌∷◌, [], Bool, true, false, Option, Some, None, refl, sym, ap, subst, arith}
+use Rattle.std.proofs.Common.{◌≡◌, ◌∙◌, Bool, false, Option, Some, None, sym, ap, subst}
 use Rattle.std.specs.Prelude.{IfNone, is_some}
 use Rattle.std.proofs.lemmas.List.{map_push}
 use Rattle.source.specs.Views.{seen_pairs}
-use Rattle.items.proofs.Indented.{AreIndented, none_indented, one_with, one_without, all_indented}
+use Rattle.items.proofs.Indented.{AreIndented, one_with, one_without, all_indented}
 use Rattle.items.proofs.indentation.indentations.Goals as goal
 
 none_if : {A : Type 0} {Q : Type 0} (left : Option A) (some : Bool) → some ≡ is_some left → some ≡ false → IfNone left Q → Q

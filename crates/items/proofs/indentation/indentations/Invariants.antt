@@ -1,5 +1,5 @@
 -- What the loop of `indentations` keeps.
-use Rattle.std.proofs.Common.{◌≡◌, ◌-◌, ◌≤◌, length}
+use Rattle.std.proofs.Common.{◌-◌, ◌≤◌, length}
 use Rattle.source.specs.Views.{seen_pairs}
 use Rattle.items.proofs.Indented.{AreIndented}
 use Rattle.items.proofs.indentation.indentations.Given as goal

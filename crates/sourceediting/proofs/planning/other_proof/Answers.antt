@@ -18,7 +18,8 @@ place_within test (x ∷ xs) i h = (place_of-at test (x ∷ xs) i x h).0
 
 pub proof_text-requires : goal.proof_text-requires
 proof_text-requires g c κs =
-    let within = place_within _ _ c.in-Some.place (sym c.in-Some.ensures) in ((refl, tt), (within, c.indentation_like-indentation.ensures.room))
+    let within = place_within _ _ c.in-Some.place (sym c.in-Some.ensures) in
+    ((refl, tt), (within, c.indentation_like-indentation.ensures.room))
 
 pub returns-in-Some-2 : goal.returns-in-Some-2
 returns-in-Some-2 g c κs = λ indented.

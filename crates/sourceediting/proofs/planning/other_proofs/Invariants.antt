@@ -8,5 +8,5 @@ use Rattle.sourceediting.proofs.planning.other_proofs.Given as goal
 -- each theorem so far has another listing
 abbrev pub invariant-loop-followed : goal.invariant-loop-followed
 invariant-loop-followed g l = (source : List ℕ) → AreIndentations source l.indentations
-    → AreOtherProofs source (g.D.Declared.scope l.declared) l.planned.database.now.assertions (map (λ r. r.assertion) l.planned.edited.now.entries)
-    (seen_living l.planned.living.now) (seen_proofs l.proofs.items)
+    → AreOtherProofs source (g.D.Declared.scope l.declared) l.planned.database.now.assertions
+    (map (λ r. r.assertion) l.planned.edited.now.entries) (seen_living l.planned.living.now) (seen_proofs l.proofs.items)

@@ -22,7 +22,8 @@ returns g c =
     let are_others = AreOtherProofs source (g.D.Declared.scope c.args.declared.now) planned.database.now.assertions
     (map (λ (r : Ranked). r.assertion) planned.edited.now.entries) (seen_living planned.living.now) in
     let indented = subst (λ o. IfSome o (AreIndentations source)) c.in-Some.is c.in_ok-indented.ensures in
-    let are = subst are_others (sym (c.in_ok-proofs-2.ensures ∙ ap seen_proofs c.as_slice.ensures.value)) (c.in_ok-proofs.ensures source indented) in
+    let are = subst are_others (sym (c.in_ok-proofs-2.ensures ∙ ap seen_proofs c.as_slice.ensures.value))
+    (c.in_ok-proofs.ensures source indented) in
     let living = seen_living planned.living.now in
     let gone = seen_words planned.gone.now in
     IfOk-weaker c.written.result (λ out. IsWrittenAnew commands living gone (λ ps. ps ≡ proofs) cs source out.items)
