@@ -1,9 +1,8 @@
 -- What stands in the texts of an assertion that is written anew.
-use Rattle.std.proofs.Common.{◌≡◌, ◌∙◌, ℕ, ◌≤◌, Bool, true, false, List, [], ◌∷◌, ◌++◌, length, drop, codes, refl, sym, ap, subst, arith}
-use Rattle.std.proofs.Common.{append-nil, inl, inr, Option, Some, None}
-use Rattle.std.specs.Prelude.{◌⊎◌, ◌||◌, IfSome, IfNone, IsTrue, is_some}
+use Rattle.std.proofs.Common.{◌≡◌, ◌∙◌, ℕ, ◌≤◌, Bool, true, false, List, [], ◌∷◌, ◌++◌, length, codes, refl, sym, ap, subst, arith}
+use Rattle.std.proofs.Common.{append-nil, inl, inr, Option}
+use Rattle.std.specs.Prelude.{◌⊎◌, ◌||◌, IfSome, IsTrue}
 use Rattle.std.specs.Bool.{then_some}
-use mathlib.Core.Bool.{not}
 use Rattle.std.specs.Str.{bytes_eq}
 use Rattle.std.proofs.Math.Seq.{drop-length}
 use Rattle.std.proofs.lemmas.Grind.{flat_map-append}
@@ -16,9 +15,13 @@ use Rattle.items.specs.Reading.{tokens_at, IsFirst, end_of, Stands}
 use Rattle.items.proofs.Standing.{stands_both, words_both}
 use Rattle.items.proofs.Spelled.{spells_stand}
 use Rattle.arranging.specs.declared.coming.Coming.{Coming}
+use Rattle.arranging.specs.Lines.{is_in_lines}
 use Rattle.arranging.specs.Groups.{gives_frame, IsOwnBlock, IsWritten}
 use Rattle.arranging.specs.Written.{AreBetween, opens_comment, IsPlain, IsFrame, IsOpened, IsFront, IsEnd, IsClosed, IsBack}
 use Rattle.arranging.proofs.FirstWords.{same_first}
+
+abbrev InLines : Item → Type 0
+InLines x = IsTrue (is_in_lines 79 x)
 
 -- ---- comments
 
@@ -78,32 +81,26 @@ module _ (text : List ℕ) where
       subst (λ rest. Spells xs rest text) (drop-length text)
       (spells_stand text xs (length text) h.stand none_at_end h.each)
 
--- what follows where nothing is left
-pub holds_if_none : {A : Type 0} {Q : Type 0} (left : Option A) (is_none : Bool) → is_some left ≡ not is_none → IfNone left Q
-    → IsTrue is_none → Q
-holds_if_none None is_none e q holds = q
-holds_if_none (Some t) true e q holds = absurd cc
-holds_if_none (Some t) false e q holds = absurd cc
-
 -- ---- the text in front
 
 pub front_opens : (text : List ℕ) (end : ℕ) (x : Item) (is_frame : Bool) (r : Option Bool) → r ≡ then_some is_frame true
-    → Stands text 0 x end → words x ≡ codes "${" ∷ [] → (IsTrue is_frame → IsFrame text end) → IfSome r (IsFront text)
-front_opens text end x false r e stands opens frame = subst (λ o. IfSome o (IsFront text)) (sym e) tt
-front_opens text end x true r e stands opens frame =
+    → Stands text 0 x end → words x ≡ codes "${" ∷ [] → IsTrue (is_in_lines 79 x) → (IsTrue is_frame → IsFrame text end)
+    → IfSome r (IsFront text)
+front_opens text end x false r e stands opens laid frame = subst (λ o. IfSome o (IsFront text)) (sym e) tt
+front_opens text end x true r e stands opens laid frame =
     let f = frame refl in
     subst (λ o. IfSome o (IsFront text)) (sym e) (record {
       opening = x ∷ f.frame;
-      end = f.end;
-      are = both_between text 0 end f.end (x ∷ []) f.frame (one_between text 0 end x stands (inr (inl (inl opens)))) f.are;
-      none = f.none;
+      are =
+          both_between text 0 end (length text) (x ∷ []) f.frame (one_between text 0 end x stands (inr (inl (inl opens)))) f.are;
       opened = (x, f.frame, refl, opens, f.each);
+      laid_out = All-cons InLines x f.frame laid f.laid_out;
     })
 
 -- ---- the text behind
 
 module _ (text label : List ℕ) (end : ℕ) (x : Item) (stands : Stands text 0 x end) (is : IsStatement x)
-    (has : label_of x ≡ label ∷ []) where
+    (has : label_of x ≡ label ∷ []) (laid : IsTrue (is_in_lines 79 x)) where
   pub back_alone : end ≡ length text → IsBack text false
   back_alone all = record {
     assertion = x;
@@ -112,6 +109,7 @@ module _ (text label : List ℕ) (end : ℕ) (x : Item) (stands : Stands text 0 
     label = label;
     asserts = has;
     closed = refl;
+    laid_out = All-cons InLines x [] laid (All-nil InLines);
   }
 
   pub back_closes : IsEnd text end → IsBack text true
@@ -124,6 +122,7 @@ module _ (text label : List ℕ) (end : ℕ) (x : Item) (stands : Stands text 0 
     label = label;
     asserts = has;
     closed = (h.0, refl, h.2);
+    laid_out = All-cons InLines x (h.0 ∷ []) laid (All-cons InLines h.0 [] h.3 (All-nil InLines));
   }
 
 -- ---- both texts
@@ -142,14 +141,15 @@ block_of true opening closing opens closes = inr (record {
   closes = closes.2;
 })
 
-pub written : (c : Coming) (opened : Bool) → IsPlain c.front.now → IsPlain c.back.now → IsFront c.front.now opened
-    → IsBack c.back.now opened → IsWritten c
-written c opened plain_front plain_back f b =
+pub written : (c : Coming) (lines : List ℕ) (opened : Bool) → c.front.now ≡ 10 ∷ lines → IsPlain lines → IsPlain c.back.now
+    → IsFront lines opened → IsBack c.back.now opened → IsWritten c
+written c lines opened begins plain_front plain_back f b =
     let now = b.assertion ∷ b.closing in
-    let front = spells_stand c.front.now f.opening f.end f.are.stand f.none f.are.each in
+    let front = spells_all lines f.opening f.are in
     let back = spells_all c.back.now now b.are in record {
+      lines = lines;
+      begins = begins;
       opening = f.opening;
-      space = drop f.end c.front.now;
       front = front;
       assertion = b.assertion;
       closing = b.closing;
@@ -163,4 +163,5 @@ written c opened plain_front plain_back f b =
           ∙ (list_any-append (λ w. bytes_eq w (codes "$(")) (words (pieces_of f.opening)) (words (pieces_of now))
           ∙ (ap (λ a. a || opens_comment (words (pieces_of now))) (ap opens_comment (sym front.tokens_are) ∙ plain_front)
           ∙ (ap opens_comment (sym back.tokens_are) ∙ plain_back))));
+      laid_out = All-append InLines f.opening now f.laid_out b.laid_out;
     }

@@ -1,5 +1,5 @@
 -- The words of an item that stands in a text, one behind the other.
-use Rattle.std.proofs.Common.{◌≡◌, ◌∙◌, ℕ, ◌<◌, Bool, true, false, cond, List, [], ◌∷◌, codes, drop, refl, sym, ap, subst, arith}
+use Rattle.std.proofs.Common.{◌≡◌, ◌∙◌, ℕ, ◌<◌, Bool, true, false, cond, List, [], ◌∷◌, codes, drop, sym, ap, subst, arith}
 use Rattle.std.specs.Prelude.{◌||◌, IsTrue}
 use mathlib.Core.Bool.{not}
 use Rattle.std.specs.Str.{bytes_eq}

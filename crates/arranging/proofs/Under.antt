@@ -1,5 +1,5 @@
 -- Where an item stands, from a place on or in front of one, and which of them keep their places.
-use Rattle.std.proofs.Common.{◌≡◌, ◌∙◌, ℕ, zero, suc, ◌<◌, ◌≤◌, List, [], ◌∷◌, ◌++◌, Option, Some, length, take, drop}
+use Rattle.std.proofs.Common.{◌≡◌, ◌∙◌, ℕ, zero, suc, ◌<◌, ◌≤◌, List, [], ◌∷◌, ◌++◌, Some, length, take, drop}
 use Rattle.std.proofs.Common.{Bool, false, true, refl, sym, ap, subst, arith, ◌+◌, ◌-◌, get_or, append-nil}
 use Rattle.std.specs.Prelude.{◌||◌, ◌&&◌, slice_get, slice_range}
 use mathlib.Core.Bool.{not}

@@ -5,6 +5,7 @@ use Rattle.std.specs.Str.{bytes_eq}
 use Rattle.mmtext.specs.Words.{Word}
 use Rattle.items.specs.Items.{Item, words, pieces_of, label_of, Spells}
 use Rattle.arranging.specs.declared.coming.Coming.{Coming}
+use Rattle.arranging.specs.Lines.{AreInLines}
 
 -- $d, or $e behind its label: these give an assertion its frame (sections 4.2.5, 4.2.6)
 abbrev pub gives_frame : List Word → Bool
@@ -22,11 +23,13 @@ pub record IsOwnBlock (opening closing : List Item) : Type 0 where
   pub end : closing ≡ last ∷ []
   pub closes : words last ≡ codes "$}" ∷ []
 
--- outermost, or in a block of its own: nothing else stands in its text, and no comment
+-- outermost, or in a block of its own: nothing else stands in its text, and no comment. An empty line is in front, and each item is laid
+-- out in lines
 pub record IsWritten (c : Coming) : Type 0 where
+  pub lines : List ℕ
+  pub begins : c.front.now ≡ 10 ∷ lines
   pub opening : List Item
-  pub space : List ℕ
-  pub front : Spells opening space c.front.now
+  pub front : Spells opening [] lines
   pub assertion : Item
   pub closing : List Item
   pub back : Spells (assertion ∷ closing) [] c.back.now
@@ -34,3 +37,4 @@ pub record IsWritten (c : Coming) : Type 0 where
   pub asserts : label_of assertion ≡ label ∷ []
   pub block : ((opening ≡ []) × (closing ≡ [])) ⊎ IsOwnBlock opening closing
   pub plain : list_any (λ w. bytes_eq w (codes "$(")) (words (pieces_of (opening ++ assertion ∷ closing))) ≡ false
+  pub laid_out : AreInLines (opening ++ assertion ∷ closing)

@@ -6,3 +6,5 @@ pub mod Arranged
 pub mod Places
 pub mod Printing
 pub mod Held
+pub mod Lines
+pub mod LinesInside

@@ -1,5 +1,5 @@
 -- Which part each item of a source plays where some leave their places (Metamath book, sections 4.2.8, 4.4.1).
-use Rattle.std.specs.Prelude.{Bool, true, false, List, [], ◌∷◌, map, take, drop, slice_range, if◌then◌else◌, codes}
+use Rattle.std.specs.Prelude.{Bool, false, List, [], ◌∷◌, map, take, drop, slice_range, if◌then◌else◌, codes}
 use Rattle.std.specs.List.{list_any}
 use Rattle.std.specs.Str.{bytes_eq}
 use Rattle.mmtext.specs.Words.{Word}

@@ -1,5 +1,5 @@
 -- Under which heading something is put in.
-use Rattle.std.specs.Prelude.{◌≡◌, ◌⊎◌, ℕ, Bool, true, false, List, [], ◌∷◌, ◌++◌, map, drop, IsTrue, Contains, codes, if◌then◌else◌, ◌||◌, ◌&&◌}
+use Rattle.std.specs.Prelude.{◌≡◌, ◌⊎◌, Bool, true, false, List, [], ◌∷◌, ◌++◌, drop, IsTrue, Contains, codes, if◌then◌else◌, ◌||◌, ◌&&◌}
 use Rattle.std.specs.List.{list_any}
 use Rattle.std.specs.Str.{bytes_eq}
 use mathlib.Core.Bool.{not}
@@ -9,11 +9,11 @@ use Rattle.mmtext.specs.Comments.{words_of}
 use Rattle.source.specs.Scopes.{is_in}
 use Rattle.leaving.specs.declared.part.Fate.TheVariants.{Moves}
 use Rattle.leaving.specs.declared.part.Part.{Part}
-use Rattle.leaving.specs.declared.part.Part.TheVariants.{Description, Heading, Assertion}
+use Rattle.leaving.specs.declared.part.Part.TheVariants.{Heading, Assertion}
 use Rattle.leaving.specs.Leaving.{IsBlock}
 use Rattle.items.specs.Items.{Item, words, said, label_of, pieces_of}
 use Rattle.arranging.specs.declared.coming.Coming.{Coming}
-use Rattle.arranging.specs.Parts.{Edited, parts, part_of, unit_of}
+use Rattle.arranging.specs.Parts.{Edited, parts, unit_of}
 
 -- ---- headings
 

@@ -1,11 +1,12 @@
 -- Of the code's inside, apart from the rules: what the texts in front of an assertion and behind it read as, where it is written anew.
-use Rattle.std.specs.Prelude.{◌≡◌, ℕ, Bool, true, false, List, [], ◌∷◌, All, codes, length}
+use Rattle.std.specs.Prelude.{◌≡◌, ℕ, Bool, true, false, List, [], ◌∷◌, All, IsTrue, codes, length}
 use Rattle.std.specs.List.{list_any}
 use Rattle.std.specs.Str.{bytes_eq}
 use Rattle.mmtext.specs.Words.{Word}
 use Rattle.mmtext.specs.Comments.{words_of}
 use Rattle.items.specs.Items.{Item, words, pieces_of, label_of, IsItem}
 use Rattle.items.specs.Reading.{tokens_at, Stands}
+use Rattle.arranging.specs.Lines.{is_in_lines, AreInLines}
 use Rattle.arranging.specs.Groups.{gives_frame}
 
 -- items stand in a text from a place up to another
@@ -26,10 +27,9 @@ AllGive xs = All (λ x. gives_frame (words x) ≡ true) xs
 -- from a place on, a text has just items that give an assertion its frame
 pub record IsFrame (text : List ℕ) (from : ℕ) : Type 0 where
   pub frame : List Item
-  pub end : ℕ
-  pub are : AreBetween text from frame end
-  pub none : tokens_at text end ≡ []
+  pub are : AreBetween text from frame (length text)
   pub each : AllGive frame
+  pub laid_out : AreInLines frame
 
 -- a block is opened by the first of these, and the others give the frame; or there are none
 abbrev pub IsOpened : Bool → List Item → Type 0
@@ -39,14 +39,13 @@ IsOpened true xs = (first : Item) × (frame : List Item) × (xs ≡ first ∷ fr
 -- what stands in front, where a block is opened or isn't
 pub record IsFront (text : List ℕ) (opens : Bool) : Type 0 where
   pub opening : List Item
-  pub end : ℕ
-  pub are : AreBetween text 0 opening end
-  pub none : tokens_at text end ≡ []
+  pub are : AreBetween text 0 opening (length text)
   pub opened : IsOpened opens opening
+  pub laid_out : AreInLines opening
 
 -- a block is closed by the last bytes of a text, from a place on
 abbrev pub IsEnd : List ℕ → ℕ → Type 0
-IsEnd text from = (last : Item) × Stands text from last (length text) × (words last ≡ codes "$}" ∷ [])
+IsEnd text from = (last : Item) × Stands text from last (length text) × (words last ≡ codes "$}" ∷ []) × IsTrue (is_in_lines 79 last)
 
 -- a block is closed by the only one of these; or there are none
 abbrev pub IsClosed : Bool → List Item → Type 0
@@ -61,3 +60,4 @@ pub record IsBack (text : List ℕ) (closes : Bool) : Type 0 where
   pub label : Word
   pub asserts : label_of assertion ≡ label ∷ []
   pub closed : IsClosed closes closing
+  pub laid_out : AreInLines (assertion ∷ closing)

@@ -8,6 +8,7 @@ mod describing;
 mod group;
 mod held;
 mod layout;
+mod lines;
 mod printing;
 mod sections;
 

@@ -28,7 +28,8 @@ module _ (source out : List ℕ) (old : Scope) (choice : Choice) (taken : Taken)
   pub edited_by : (then : List Word) → then ≡ map label_then followed.living
       → All (λ x. IsTrue (names_none followed.gone x.proof)) (others own old.assertions)
       → IsWrittenAnew (all_commands entries) followed.living followed.gone
-      (AreOtherProofs old taken.database.assertions (map (λ (r : Ranked). r.assertion) edited.entries) followed.living) changes source out
+      (AreOtherProofs source old taken.database.assertions (map (λ (r : Ranked). r.assertion) edited.entries) followed.living)
+      changes source out
       → AreKept changes followed.gone source out → IsLookedAt old out changes own then edited
       → IsEdited source old choice taken entries edited out
   edited_by then labels uncited written kept looked =
@@ -40,8 +41,8 @@ module _ (source out : List ℕ) (old : Scope) (choice : Choice) (taken : Taken)
             subst (λ (fs : List Bool). All (λ x. IsTrue (names_none followed.gone x.proof)) (others fs old.assertions)) flags uncited;
         written =
             subst (λ (cs : List Change). IsWrittenAnew (all_commands entries) followed.living followed.gone
-            (AreOtherProofs old taken.database.assertions (map (λ (r : Ranked). r.assertion) edited.entries) followed.living) cs source
-            out) changed
+            (AreOtherProofs source old taken.database.assertions (map (λ (r : Ranked). r.assertion) edited.entries) followed.living)
+            cs source out) changed
             written;
         comments = subst (λ (cs : List Change). AreKept cs followed.gone source out) changed kept;
         looked =

@@ -54,7 +54,7 @@ pub record IsGiven (source library history out : List ℕ) : Type 0 where
   -- and so is every byte, but for these edits: just theorems whose listing the history changes have another proof, in the form of the old
   -- one
   pub written : IsWrittenAnew (all_commands entries) followed.living followed.gone
-      (AreOtherProofs old taken.database.assertions (map (λ r. r.assertion) edited.entries) followed.living) (changes_of followed) source
-      out
+      (AreOtherProofs source old taken.database.assertions (map (λ r. r.assertion) edited.entries) followed.living)
+      (changes_of followed) source out
   -- no comment between statements is lost or made, but some that go with what was deleted, and in each just the labels change
   pub comments : AreKept (changes_of followed) followed.gone source out

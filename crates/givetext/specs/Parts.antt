@@ -22,7 +22,7 @@ pub record IsEdited (source : List ℕ) (old : Scope) (choice : Choice) (taken :
   pub follows : followed ≡ behind_all (all_commands entries) (opening old choice taken.database)
   pub uncited : All (λ x. IsTrue (names_none followed.gone x.proof)) (others (own_flags choice (axioms_of taken) old) old.assertions)
   pub written : IsWrittenAnew (all_commands entries) followed.living followed.gone
-      (AreOtherProofs old taken.database.assertions (map (λ r. r.assertion) edited.entries) followed.living) (changes_of followed) source
-      out
+      (AreOtherProofs source old taken.database.assertions (map (λ r. r.assertion) edited.entries) followed.living)
+      (changes_of followed) source out
   pub comments : AreKept (changes_of followed) followed.gone source out
   pub looked : IsLookedAt old out (changes_of followed) (own_flags choice (axioms_of taken) old) (map label_then followed.living) edited

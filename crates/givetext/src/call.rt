@@ -204,7 +204,7 @@ fn write_anew(
     own: &[bool],
 ) -> Result<Vec<u8>, Refusal>
     ensures { IfOk result (λ out. IsWrittenAnew (all_commands replayed.now.entries) (seen_following following.now).living
-        (seen_following following.now).gone (AreOtherProofs old.now.stand.scope
+        (seen_following following.now).gone (AreOtherProofs source.now old.now.stand.scope
         taken.now.database.assertions (map (λ r. r.assertion) replayed.now.edited.entries) (seen_following following.now).living)
         changes.now source.now out.items) }
 {
@@ -270,7 +270,7 @@ fn write_and_look<'x>(
 ) -> Result<Vec<u8>, Refusal>
     requires { length own.now ≡ length old.now.stand.scope.assertions }
     ensures written { IfOk result (λ out. IsWrittenAnew (all_commands replayed.now.entries) (seen_following following.now).living
-        (seen_following following.now).gone (AreOtherProofs old.now.stand.scope
+        (seen_following following.now).gone (AreOtherProofs source.now old.now.stand.scope
         taken.now.database.assertions (map (λ r. r.assertion) replayed.now.edited.entries) (seen_following following.now).living)
         changes.now source.now out.items) }
     ensures comments { IfOk result (λ out. AreKept changes.now (seen_words following.now.gone.items) source.now out.items) }

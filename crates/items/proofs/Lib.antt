@@ -4,10 +4,11 @@ pub mod Standing
 mod Commented
 mod Passed
 mod Kinded
-mod Reworded
-mod Places
+pub mod Reworded
+pub mod Places
 mod Stated
 pub mod Spelled
 mod Fronts
 pub mod PutThen
 pub mod Found
+mod Indented

@@ -4,3 +4,5 @@ pub mod Layout
 pub mod Reading
 pub mod Machine
 pub mod Rewriting
+pub mod Indentations
+pub mod Walking

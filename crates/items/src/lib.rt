@@ -3,11 +3,13 @@
 
 mod call;
 mod comments;
+mod indentation;
 mod part;
 mod place;
 mod reading;
 mod writing;
 
 pub use call::rewrite;
+pub use indentation::{are_spaces, indent, indentations};
 pub use reading::{Item, Kind, read_item, read_items};
 pub use writing::put_item;

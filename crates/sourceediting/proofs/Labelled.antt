@@ -14,7 +14,7 @@ use Rattle.std.proofs.lemmas.List.Elements.{All-push}
 use Rattle.source.specs.Scopes.{Scope}
 use Rattle.giving.specs.Staying.{Change}
 use Rattle.sourceediting.specs.Following.{Followed}
-use Rattle.sourceediting.specs.Reproved.{HasAnotherListing, IsWrittenFor, AreOtherProofs}
+use Rattle.sourceediting.specs.Reproved.{HasAnotherProof, AreOtherProofs}
 use Rattle.sourceediting.specs.Views.{AreLabelled}
 
 module _ (m n : HashMap (Bor (List ℕ)) (Bor Assertion) RandomState) (xs : List Assertion) (x : Word) (v : Bor Assertion)
@@ -34,12 +34,12 @@ module _ (m n : HashMap (Bor (List ℕ)) (Bor Assertion) RandomState) (xs : List
   labelled_more updates w a e = at w a (bytes_eq x w) refl (sym (hash_map_updates_str x m n (Some v) updates w) ∙ e)
 
 -- one more theorem has another proof
-pub proofs_more : (s : Scope) (opened edited : List Assertion) (living : List Followed) (ps qs : List Change) (p : Change)
-    → AreOtherProofs s opened edited living ps → HasAnotherListing opened edited living p.0 → IsWrittenFor s p.0 p.1 → qs ≡ ps ++ p ∷ []
-    → AreOtherProofs s opened edited living qs
-proofs_more s opened edited living ps qs p all one text e =
-    subst (AreOtherProofs s opened edited living) (sym e)
-    (All-push (λ (q : Change). HasAnotherListing opened edited living q.0 × IsWrittenFor s q.0 q.1) ps p all (one, text))
+pub proofs_more : (source : List ℕ) (s : Scope) (opened edited : List Assertion) (living : List Followed) (ps qs : List Change) (p : Change)
+    → AreOtherProofs source s opened edited living ps → HasAnotherProof source s opened edited living p → qs ≡ ps ++ p ∷ []
+    → AreOtherProofs source s opened edited living qs
+proofs_more source s opened edited living ps qs p all one e =
+    subst (AreOtherProofs source s opened edited living) (sym e)
+    (All-push (HasAnotherProof source s opened edited living) ps p all one)
 
 -- what is found under a label
 pub found_labelled : (m : HashMap (Bor (List ℕ)) (Bor Assertion) RandomState) (w : Word) (o : Option (Bor Assertion))

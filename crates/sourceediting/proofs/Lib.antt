@@ -5,3 +5,4 @@ pub mod Histories
 pub mod Others
 pub mod Rewritten
 mod Labelled
+mod Indented

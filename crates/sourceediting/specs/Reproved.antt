@@ -1,6 +1,7 @@
 -- Which theorems have another proof behind a history: those whose listing isn't the old one with changed labels.
-use Rattle.std.specs.Prelude.{◌≡◌, ◌≢◌, ℕ, List, map, filter_map, Contains, All, Option, Some, None, slice_get}
-use Rattle.std.specs.Option.{option_and_then}
+use Rattle.std.specs.Prelude.{◌≡◌, ◌≢◌, ℕ, Bool, List, map, filter_map, find, length, Contains, All, Option, Some, None, slice_get, nat_eq}
+use mathlib.Core.Bool.{not}
+use Rattle.std.specs.Option.{option_map, option_and_then}
 use Rattle.std.specs.Str.{bytes_eq}
 use Rattle.mmtext.specs.Words.{Word}
 use Rattle.mmsyntax.specs.declared.statement.Assertion.{Assertion}
@@ -9,7 +10,10 @@ use Rattle.mmsyntax.specs.declared.statement.Step.TheVariants.{Float, Hyp, Cite}
 use Rattle.mmsyntax.specs.Tables.{place_of}
 use Rattle.source.specs.Scopes.{Scope}
 use Rattle.giving.specs.Staying.{Change, changed}
+use Rattle.items.specs.Items.{Item, Spells}
 use Rattle.items.specs.Layout.{IsLaidOut}
+use Rattle.items.specs.Indentations.{indentations}
+use Rattle.sourcewriting.specs.Indentations.{indentation_like}
 use Rattle.sourcewriting.specs.Forms.{is_compressed_form}
 use Rattle.sourceediting.specs.Following.{Followed}
 
@@ -40,13 +44,28 @@ pub record HasAnotherListing (opened edited : List Assertion) (living : List Fol
   pub now : new.label ≡ followed.now
   pub differs : map (step_then (changes_in_library living)) old.proof ≢ new.proof
 
--- the text of another proof of a theorem of the source: in the form of the old one, laid out with some indentation (section 4.2.8)
-pub record IsWrittenFor (s : Scope) (label : Word) (text : List ℕ) : Type 0 where
+-- the spaces with which the first line of a theorem's proof begins in a source of these items
+abbrev pub old_indentation : List Item → Word → Option (List ℕ)
+old_indentation items label = option_map (λ c. c.1) (find (λ c. bytes_eq label c.0) (indentations items))
+
+abbrev pub has_premises : Assertion → Bool
+has_premises a = not (nat_eq (length a.hyps) 0)
+
+-- the text of another proof of a theorem of the source: in the form of the old one, and laid out with its indentation, if it has one, or
+-- else with six spaces where the theorem has $e, and with four elsewhere (section 4.2.8)
+pub record IsWrittenFor (source : List ℕ) (s : Scope) (label : Word) (new : Assertion) (text : List ℕ) : Type 0 where
   pub place : ℕ
   pub stands : place_of (λ x. bytes_eq label x.label) s.assertions ≡ Some place
-  pub indentation : List ℕ
-  pub laid_out : IsLaidOut indentation (is_compressed_form (option_and_then (λ x. x.proof) (slice_get s.assertions place))) text
+  pub items : List Item
+  pub rest : List ℕ
+  pub spells : Spells items rest source
+  pub laid_out : IsLaidOut (indentation_like (old_indentation items label) (has_premises new))
+      (is_compressed_form (option_and_then (λ x. x.proof) (slice_get s.assertions place))) text
 
--- each of these theorems has, with such a text
-abbrev pub AreOtherProofs : Scope → List Assertion → List Assertion → List Followed → List Change → Type 0
-AreOtherProofs s opened edited living proofs = All (λ p. HasAnotherListing opened edited living p.0 × IsWrittenFor s p.0 p.1) proofs
+-- a theorem has another proof, with such a text
+abbrev pub HasAnotherProof : List ℕ → Scope → List Assertion → List Assertion → List Followed → Change → Type 0
+HasAnotherProof source s opened edited living p =
+    (is : HasAnotherListing opened edited living p.0) × IsWrittenFor source s p.0 is.new p.1
+
+abbrev pub AreOtherProofs : List ℕ → Scope → List Assertion → List Assertion → List Followed → List Change → Type 0
+AreOtherProofs source s opened edited living proofs = All (HasAnotherProof source s opened edited living) proofs

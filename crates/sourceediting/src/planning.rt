@@ -3,6 +3,7 @@
 ghost use Rattle.std.specs.Prelude.{◌≡◌, ◌↔◌, ℕ, List, Contains, IfOk, IfErr, IfSome, IsTrue, map};
 ghost use Rattle.mmsyntax.specs.declared.statement.Assertion.{Assertion as AssertionOf};
 ghost use Rattle.mmsyntax.specs.ProofWords.{seen_step};
+ghost use Rattle.items.specs.Walking.{AreIndentations};
 ghost use Rattle.sourceediting.specs.Reproved.{changes_in_library, step_then, IsWrittenFor, AreOtherProofs};
 ghost use Rattle.sourceediting.specs.Following.{Followed as FollowedOf};
 ghost use Rattle.sourceediting.specs.Refusals.{HasCause};
@@ -16,7 +17,7 @@ use library::{PlainLibrary, Ranked};
 use mmframes::frame_of;
 use mmsyntax::{Assertion, Database, Float, Kind, Label, Prelude, Proof, StepRef};
 use source::Declared;
-use sourcewriting::{Cited, Kinds, Names, names_in_source, proof_indentation, proof_text};
+use sourcewriting::{Cited, Kinds, Names, indentation_like, names_in_source, proof_text};
 use std::alloc::{AllocError, Global};
 use std::collections::HashMap;
 use std::hash::RandomState;
@@ -199,23 +200,26 @@ pub(crate) fn unwritten(alloc: Global, assertion: &Assertion) -> Result<Refusal,
     Ok(Refusal::Unwritten(assertion.label.copy(alloc)?))
 }
 
-/// The text of another proof of an assertion that stands in the source.
+/// The text of another proof of an assertion that stands in the source, where the old proofs are indented so.
 fn other_proof<'x, D: Declared<'x>>(
     alloc: Global,
     keys: RandomState,
     declared: &D,
     names: &Names<'x>,
+    indentations: &Changes<'_>,
     source: &'x [u8],
     new: &Assertion,
 ) -> Result<Vec<u8>, Refusal>
-    ensures written { IfOk result (λ text. IsWrittenFor (D.scope declared.now) source.now text.items) }
+    ensures written { (bytes : List ℕ) → AreIndentations bytes indentations.now
+        → IfOk result (λ text. IsWrittenFor bytes (D.scope declared.now) source.now new.now text.items) }
     ensures refused { (living : List FollowedOf) (edited : List AssertionOf) (text : List ℕ) → Contains edited new.now
         → IfErr result (HasCause living edited text) }
 {
     let Some(place) = declared.place_of(source) else {
         return Err(unwritten(alloc, new)?);
     };
-    let indentation = proof_indentation(!new.hyps.as_slice().is_empty());
+    let has_premises = !new.hyps.as_slice().is_empty();
+    let indentation = indentation_like(indentations.text_for(source), has_premises);
     match proof_text(alloc, keys, declared, names, place, indentation, &new.proof)? {
         Some(text) => Ok(text),
         None => Err(unwritten(alloc, new)?),
@@ -229,17 +233,19 @@ pub(crate) fn labelled<'x>(map: &ByLabel<'x>, label: &[u8]) -> Option<&'x Assert
     map.get(&label).copied()
 }
 
-/// The theorems that have another proof, by their labels in the source, with the texts of these proofs.
+/// The theorems that have another proof, by their labels in the source, with the texts of these proofs, where the old ones are indented so.
 pub(crate) fn other_proofs<'x, D: Declared<'x>>(
     alloc: Global,
     keys: RandomState,
     declared: &D,
     edited: &ByLabel<'x>,
     names: &Names<'x>,
+    indentations: &Changes<'_>,
     planned: &Planned<'x>,
 ) -> Result<Vec<(&'x [u8], Vec<u8>)>, Refusal>
     requires { AreLabelled edited.now (map (λ r. r.assertion) planned.now.edited.now.entries) }
-    ensures made { IfOk result (λ made. AreOtherProofs (D.scope declared.now) planned.now.database.now.assertions
+    ensures made { (source : List ℕ) → AreIndentations source indentations.now
+        → IfOk result (λ made. AreOtherProofs source (D.scope declared.now) planned.now.database.now.assertions
         (map (λ r. r.assertion) planned.now.edited.now.entries) (seen_living planned.now.living.now) (seen_proofs made.items)) }
     ensures refused { (text : List ℕ) → IfErr result (HasCause (seen_living planned.now.living.now)
         (map (λ r. r.assertion) planned.now.edited.now.entries) text) }
@@ -256,7 +262,7 @@ pub(crate) fn other_proofs<'x, D: Declared<'x>>(
             continue;
         };
         if !is_proof(&changes, &old.proof, &new.proof) {
-            let text = other_proof(alloc, keys, declared, names, source, new)?;
+            let text = other_proof(alloc, keys, declared, names, indentations, source, new)?;
             proofs.push((source, text))?;
         }
     }

@@ -13,6 +13,7 @@ use crate::planning::{ByLabel, Planned, edited_by_label, names_of, other_proofs}
 use crate::rearranging::{Rearranged, rearrange, rewritten};
 use crate::refusal::Refusal;
 use giving::Changes;
+use items::indentations;
 use library::Entry;
 use source::Declared;
 use sourcewriting::Names;
@@ -69,12 +70,15 @@ fn write_over<'e, D: Declared<'e>>(
 ) -> Result<Vec<u8>, Refusal>
     requires { AreLabelled edited.now (map (λ r. r.assertion) planned.now.edited.now.entries) }
     ensures written { IfOk result (λ out. IsWrittenAnew (all_commands entries.now) (seen_living planned.now.living.now)
-        (seen_words planned.now.gone.now) (AreOtherProofs (D.scope declared.now) planned.now.database.now.assertions
+        (seen_words planned.now.gone.now) (AreOtherProofs source.now (D.scope declared.now) planned.now.database.now.assertions
         (map (λ r. r.assertion) planned.now.edited.now.entries) (seen_living planned.now.living.now)) changes.now source.now out.items) }
     ensures refused { IfErr result (HasCause (seen_living planned.now.living.now)
         (map (λ r. r.assertion) planned.now.edited.now.entries) source.now) }
 {
-    let proofs = other_proofs(alloc, keys, declared, edited, names, planned)?;
+    let Some(indented) = indentations(alloc, keys, source)? else {
+        return Err(Refusal::Unfit);
+    };
+    let proofs = other_proofs(alloc, keys, declared, edited, names, &indented, planned)?;
     let proofs = by_label(alloc, keys, proofs.as_slice())?;
     let edits = Rearranged {
         planned: *planned,
@@ -101,7 +105,7 @@ pub fn write_edits<'e, D: Declared<'e>>(
     changes: &'e Changes<'e>,
 ) -> Result<Vec<u8>, Refusal>
     ensures written { IfOk result (λ out. IsWrittenAnew (all_commands entries.now) (seen_living planned.now.living.now)
-        (seen_words planned.now.gone.now) (AreOtherProofs (D.scope declared.now) planned.now.database.now.assertions
+        (seen_words planned.now.gone.now) (AreOtherProofs source.now (D.scope declared.now) planned.now.database.now.assertions
         (map (λ r. r.assertion) planned.now.edited.now.entries) (seen_living planned.now.living.now)) changes.now source.now out.items) }
     ensures refused { IfErr result (HasCause (seen_living planned.now.living.now)
         (map (λ r. r.assertion) planned.now.edited.now.entries) source.now) }

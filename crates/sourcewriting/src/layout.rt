@@ -3,14 +3,16 @@
 ghost use Rattle.std.specs.Prelude.{◌||◌, ◌≡◌, ◌≤◌, ◌<◌, ◌+◌, ◌⊎◌, ℕ, Bool, suc, min, nat_le, List, [], ◌∷◌, ◌++◌, length, IsTrue, IsFalse, IfOk, IfSome, if◌then◌else◌, codes};
 ghost use Rattle.std.specs.List.{list_all, flat_map};
 ghost use Rattle.std.specs.Bool.{then_some};
+ghost use Rattle.std.specs.Option.{option_map};
 ghost use mathlib.Core.Bool.{not};
 ghost use Rattle.mmtext.specs.Text.{is_printable};
 ghost use Rattle.mmtext.specs.Words.{Word, is_label};
 ghost use Rattle.source.specs.Views.{seen_words};
 ghost use Rattle.items.specs.Layout.{IsLaidOut, is_word};
-ghost use Rattle.sourcewriting.specs.Indentations.{IsIndentation};
+ghost use Rattle.sourcewriting.specs.Indentations.{is_indentation, usual_indentation, indentation_like, IsIndentation};
 ghost use Rattle.sourcewriting.specs.Laid.{IsLaid, HasLabels, IsInForm, IsShort, has_closing};
 
+use items::are_spaces;
 use mmtext::is_label_token;
 use std::alloc::{AllocError, Global};
 
@@ -26,9 +28,30 @@ const OUTSIDE: &[u8] = b"    ";
 /// The white space that each line of a proof begins with if nothing else is known: six spaces in a block, as where the theorem has `$e`,
 /// and else four.
 pub fn proof_indentation(in_block: bool) -> &'static [u8]
-    ensures { IsIndentation result.now }
+    ensures is { result.now ≡ usual_indentation in_block }
+    ensures room { IsIndentation result.now }
 {
     if in_block { IN_BLOCK } else { OUTSIDE }
+}
+
+/// Whether bytes are spaces that leave room for `$.`.
+fn is_indentation(bytes: &[u8]) -> bool
+    ensures is { result ≡ is_indentation bytes.now }
+    ensures room { IsTrue result → IsIndentation bytes.now }
+{
+    are_spaces(bytes) && bytes.len() <= COLUMNS - 2
+}
+
+/// The white space that each line of another proof begins with: that of the old one, if it is spaces that leave room for `$.`, and else six
+/// spaces in a block and four outside.
+pub fn indentation_like(old: Option<&[u8]>, in_block: bool) -> &[u8]
+    ensures is { result.now ≡ indentation_like (option_map (λ i. i.now) old.entry) in_block }
+    ensures room { IsIndentation result.now }
+{
+    match old {
+        Some(spaces) if is_indentation(spaces) => spaces,
+        _ => proof_indentation(in_block),
+    }
 }
 
 /// Words in lines, each of which has the same indentation. Want of memory, and a word that can't stand there, are told at its end.

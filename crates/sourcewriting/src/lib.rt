@@ -13,6 +13,6 @@ mod shared;
 mod wording;
 
 pub use adding::{Statement, SymbolWords, Written, assertion_text, names_in_source, symbol_words};
-pub use layout::proof_indentation;
+pub use layout::indentation_like;
 pub use listing::{Cited, Kinds, Names};
 pub use proving::proof_text;

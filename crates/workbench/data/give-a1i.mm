@@ -1,5 +1,5 @@
 $( Taken by mmrefactor from give.mm
-   1105 bytes, SHA-256 c65dd276e3dcee26ed5979dd30cc5d5d4978fadef2e876f51012afd2c342d559
+   1108 bytes, SHA-256 27d948ce2af5780703313a732c24d115157f077864d974d20187be10ce599040
    Chosen: for a1i
    Changed names: 0
    Theorems taken as axioms, their proofs unchecked: 0

@@ -37,5 +37,5 @@ $( Each place where a label may stand. See ~ id and ~ a1i , not ` ~ id ` nor idd
   $( Again, by ~
      id . $)
   idd $p |- ( ps -> ( ph -> ph ) ) $= ( wi id
-    a1i ) AA CBADE $.
+       a1i ) AA CBADE $.
   last $p |- ( ph -> ph ) $= ? $.

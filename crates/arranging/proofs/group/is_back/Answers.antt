@@ -13,7 +13,8 @@ returns-then-opened c = λ holds.
     let label = c.in-Assertion.field-0 in
     let kind : IsOfKind (Assertion label) is.item = subst (λ k. IsOfKind k is.item) c.in-Assertion.is is.kind in
     subst (IsBack c.args.text.now) (sym c.if-opened.true)
-    (back_closes c.args.text.now label.now c.in-Some.assertion.end is.item is.stands kind.0 kind.1 (c.is_end.ensures holds))
+    (back_closes c.args.text.now label.now c.in-Some.assertion.end is.item is.stands kind.0 kind.1
+    (c.is_in_lines.ensures is.item is.stands c.if-not-is_in_lines.false) (c.is_end.ensures holds))
 
 pub returns-else-opened : goal.returns-else-opened
 returns-else-opened c = λ holds.
@@ -22,4 +23,5 @@ returns-else-opened c = λ holds.
     let kind : IsOfKind (Assertion label) is.item = subst (λ k. IsOfKind k is.item) c.in-Assertion.is is.kind in
     let all : c.in-Some.assertion.end ≡ length c.args.text.now = grind (arith, nat_tests) in
     subst (IsBack c.args.text.now) (sym c.if-opened.false)
-    (back_alone c.args.text.now label.now c.in-Some.assertion.end is.item is.stands kind.0 kind.1 all)
+    (back_alone c.args.text.now label.now c.in-Some.assertion.end is.item is.stands kind.0 kind.1
+    (c.is_in_lines.ensures is.item is.stands c.if-not-is_in_lines.false) all)

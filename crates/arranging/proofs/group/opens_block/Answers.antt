@@ -10,4 +10,4 @@ returns-in-Opening c =
     let is = c.in-Some.ensures.item in
     let opens : IsOfKind Opening is.item = subst (λ k. IsOfKind k is.item) c.in-Opening.is is.kind in
     front_opens c.args.text.now c.in-Some.first.end is.item c.is_frame.result c.then_some-in-Opening.result
-    c.then_some-in-Opening.ensures is.stands opens c.is_frame.ensures
+    c.then_some-in-Opening.ensures is.stands opens (c.is_in_lines.ensures is.item is.stands c.if-is_in_lines.true) c.is_frame.ensures

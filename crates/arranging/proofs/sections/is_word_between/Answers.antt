@@ -1,5 +1,5 @@
 -- What is left to show of `is_word_between`.
-use Rattle.std.proofs.Common.{◌≡◌, ◌∙◌, sym, ap, subst}
+use Rattle.std.proofs.Common.{◌∙◌, sym, subst}
 use Rattle.std.specs.Prelude.{IsTrue}
 use Rattle.mmtext.specs.Views.{seen}
 use Rattle.mmtext.specs.Comments.{words_of}

@@ -23,7 +23,7 @@ returns c =
     let edited = map (λ (r : Ranked). r.assertion) c.args.replayed.now.edited.entries in
     let gone = seen_words c.args.following.now.gone.items in
     let says = λ (es : List Entry) (fs : List KeptAssertion) (ws : List Word) (out : Vec ℕ Global).
-    IsWrittenAnew (all_commands es) (seen_living fs) ws (AreOtherProofs old opened edited (seen_living fs)) cs source out.items in
+    IsWrittenAnew (all_commands es) (seen_living fs) ws (AreOtherProofs source old opened edited (seen_living fs)) cs source out.items in
     subst (λ (fs : List KeptAssertion). IfOk c.write_edits.result (says c.args.replayed.now.entries fs gone))
     c.as_slice-living.ensures.value
     (subst (λ (es : List Entry). IfOk c.write_edits.result (says es c.as_slice-living.result.now gone))

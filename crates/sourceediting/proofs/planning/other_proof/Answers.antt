@@ -1,5 +1,13 @@
 -- What is left to show of `other_proof`: the place of the assertion is one of the source.
-use Rattle.std.proofs.Common.{◌≡◌, ℕ, ◌<◌, Bool, List, [], ◌∷◌, length, Some, refl, sym}
+use Rattle.std.proofs.Common.{◌≡◌, ◌∙◌, ℕ, ◌<◌, Bool, List, [], ◌∷◌, length, Some, refl, sym, ap₂, subst, rules}
+use Rattle.std.specs.Prelude.{IfSome, slice_get}
+use Rattle.std.specs.Option.{option_and_then}
+use mathlib.Core.Bool.{not}
+use Rattle.items.specs.Layout.{IsLaidOut}
+use Rattle.sourcewriting.specs.Forms.{is_compressed_form}
+use Rattle.sourcewriting.specs.Indentations.{indentation_like}
+use Rattle.sourceediting.specs.Reproved.{has_premises}
+use Rattle.sourceediting.proofs.Indented.{found_in, written_for}
 use Rattle.mmsyntax.specs.Tables.{place_of}
 use Rattle.mmsyntax.proofs.Names.{place_of-at}
 use Rattle.sourceediting.proofs.planning.other_proof.Goals as goal
@@ -10,4 +18,18 @@ place_within test (x ∷ xs) i h = (place_of-at test (x ∷ xs) i x h).0
 
 pub proof_text-requires : goal.proof_text-requires
 proof_text-requires g c κs =
-    let within = place_within _ _ c.in-Some.place (sym c.in-Some.ensures) in ((refl, tt), (within, c.proof_indentation-indentation.ensures))
+    let within = place_within _ _ c.in-Some.place (sym c.in-Some.ensures) in
+    ((refl, tt), (within, c.indentation_like-indentation.ensures.room))
+
+pub returns-in-Some-2-clause-written : goal.returns-in-Some-2-clause-written
+returns-in-Some-2-clause-written g c κs = λ indented.
+    let s = g.D.Declared.scope c.args.declared.now in
+    let form = is_compressed_form (option_and_then (λ x. x.proof) (slice_get s.assertions c.in-Some.place)) in
+    let i = c.indentation_like-indentation.result.now in
+    let has : not c.is_empty-has_premises.result ≡ has_premises c.args.new.now = search rules in
+    let is : i ≡ found_in c.args.indentations.now c.args.source.now c.args.new.now =
+    c.indentation_like-indentation.ensures.is ∙ ap₂ indentation_like c.text_for.ensures has in
+    let laid : IsLaidOut i form c.in-Some-2.text.items =
+    subst (λ o. IfSome o (λ text. IsLaidOut i form text.items)) c.in-Some-2.is c.in_ok-text.ensures in
+    written_for κs s c.args.source.now c.args.new.now c.in-Some-2.text.items i c.args.indentations.now c.in-Some.place indented
+    (sym c.in-Some.ensures) is laid

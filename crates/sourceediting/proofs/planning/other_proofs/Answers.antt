@@ -17,7 +17,7 @@ differ : false ≡ true → ⊥
 differ e = cc
 
 pub loop-followed-preserved : goal.loop-followed-preserved
-loop-followed-preserved g c =
+loop-followed-preserved g c = λ source indented.
     let opened = c.args.planned.now.database.now.assertions in
     let edited = map (λ r. r.assertion) c.args.planned.now.edited.now.entries in
     let living = seen_living c.args.planned.now.living.now in
@@ -30,30 +30,31 @@ loop-followed-preserved g c =
     elim c.if-not-is_proof.branch [
       | then-not-is_proof+in_ok-text+in_ok-push w ↦
           rw w.proofs-is
-          (proofs_more (g.D.Declared.scope c.args.declared.now) opened edited living (seen_proofs c.loop-followed.proofs.items) _
+          (proofs_more source (g.D.Declared.scope c.args.declared.now) opened edited living (seen_proofs c.loop-followed.proofs.items) _
           (some.source.now, w.in_ok-text.text.items)
-          c.loop-followed.invariant
-          (record {
-            followed = seen_followed x;
-            lives = contains_mapped seen_followed c.args.planned.now.living.now x (
-              c.loop-followed.followed-index,
-              c.loop-followed-test.true,
-              get_or_default c.args.planned.now.living.now c.loop-followed.followed-index x d c.loop-followed-test.true,
-            );
-            source = ap (option_map (λ (w : Bor (List ℕ)). w.now)) some.is-0;
-            old = some.old.now;
-            was = old.0;
-            first = old.1;
-            new = some.new.now;
-            is = new.0;
-            now = new.1;
-            differs = λ e.
-                differ (sym w.if-not-is_proof.true ∙ c.is_proof.ensures.1
-                (ap (λ cs. map (step_then cs) some.old.now.proof) c.in_ok-changes.ensures ∙ e));
-          })
-          w.in_ok-text.ensures.written
+          (c.loop-followed.invariant source indented) (
+            record {
+              followed = seen_followed x;
+              lives = contains_mapped seen_followed c.args.planned.now.living.now x (
+                c.loop-followed.followed-index,
+                c.loop-followed-test.true,
+                get_or_default c.args.planned.now.living.now c.loop-followed.followed-index x d c.loop-followed-test.true,
+              );
+              source = ap (option_map (λ (w : Bor (List ℕ)). w.now)) some.is-0;
+              old = some.old.now;
+              was = old.0;
+              first = old.1;
+              new = some.new.now;
+              is = new.0;
+              now = new.1;
+              differs = λ e.
+                  differ (sym w.if-not-is_proof.true ∙ c.is_proof.ensures.1
+                  (ap (λ cs. map (step_then cs) some.old.now.proof) c.in_ok-changes.ensures ∙ e));
+            },
+            w.in_ok-text.ensures.written source indented,
+          )
           (ap seen_proofs w.in_ok-push.ensures.items ∙ map-append _ c.loop-followed.proofs.items _))
-      | else-not-is_proof w ↦ rw w.proofs-is c.loop-followed.invariant
+      | else-not-is_proof w ↦ rw w.proofs-is (c.loop-followed.invariant source indented)
     ]
 
 pub returns-in_err-text-clause-refused : goal.returns-in_err-text-clause-refused

@@ -1,5 +1,7 @@
 -- What is left to show of `write_over`.
 use Rattle.std.proofs.Common.{◌≡◌, ◌∙◌, map, sym, ap, subst}
+use Rattle.std.specs.Prelude.{IfSome}
+use Rattle.items.specs.Walking.{AreIndentations}
 use Rattle.std.proofs.lemmas.Result.{IfOk-weaker, err_from_is_err_and}
 use Rattle.library.specs.declared.library.Ranked.{Ranked}
 use Rattle.source.specs.Views.{seen_words}
@@ -17,9 +19,11 @@ returns-clause-written g c =
     let source = c.args.source.now in
     let proofs = c.in_ok-proofs-2.proofs in
     let planned = c.args.planned.now in
-    let are_others = AreOtherProofs (g.D.Declared.scope c.args.declared.now) planned.database.now.assertions
+    let are_others = AreOtherProofs source (g.D.Declared.scope c.args.declared.now) planned.database.now.assertions
     (map (λ (r : Ranked). r.assertion) planned.edited.now.entries) (seen_living planned.living.now) in
-    let are = subst are_others (sym (c.in_ok-proofs-2.ensures ∙ ap seen_proofs c.as_slice.ensures.value)) c.in_ok-proofs.ensures.made in
+    let indented = subst (λ o. IfSome o (AreIndentations source)) c.in-Some.is c.in_ok-indented.ensures in
+    let are = subst are_others (sym (c.in_ok-proofs-2.ensures ∙ ap seen_proofs c.as_slice.ensures.value))
+    (c.in_ok-proofs.ensures.made source indented) in
     let living = seen_living planned.living.now in
     let gone = seen_words planned.gone.now in
     IfOk-weaker c.written.result (λ out. IsWrittenAnew commands living gone (λ ps. ps ≡ proofs) cs source out.items)
@@ -31,5 +35,5 @@ returns-clause-refused g c = c.written.ensures.refused
 
 pub returns-in_err-proofs-clause-refused : goal.returns-in_err-proofs-clause-refused
 returns-in_err-proofs-clause-refused g c =
-    let p = err_from_is_err_and c.from_residual.result c.from_residual.ensures.1 in
+    let p = err_from_is_err_and c.from_residual-in_err-proofs.result c.from_residual-in_err-proofs.ensures.1 in
     rw (p.1, p.2) (c.in_err-proofs.ensures.refused c.args.source.now)
