@@ -1,0 +1,3 @@
+pub mod Verified
+pub mod Failing
+pub mod Faulty
