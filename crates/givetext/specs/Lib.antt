@@ -1,3 +1,5 @@
 pub mod Given
+pub mod Causes
+pub mod Refusals
 pub mod Answers
 pub mod Parts

@@ -1,34 +1,39 @@
 //! What is told of what is about to be printed, where the second look finds it not as it should be; and its comments.
 
-ghost use Rattle.std.specs.Prelude.{OnOk};
+ghost use Rattle.std.specs.Prelude.{◌≡◌, ℕ, List, IfErr, IfOk, OnOk, length, slice_get};
+ghost use Rattle.std.specs.Option.{option_map};
 ghost use Rattle.source.specs.Views.{seen_words};
+ghost use Rattle.giving.specs.Staying.{others};
 ghost use Rattle.comments.specs.Kept.{AreKept};
+ghost use Rattle.secondlook.specs.declared.unlike.Unlike.TheVariants.{AnotherAssertion, Unread};
+ghost use Rattle.givetext.specs.Causes.{Known, IsTextThen, IsUnfit, HasCause};
+ghost use Rattle.givetext.specs.Parts.{IsLoss};
 
+use crate::refusal::Refusal;
 use crate::standing::first_behind;
 use comments::are_kept;
 use giving::Changes;
+use mmsyntax::Label;
 use mmtext::{FaultKind, TextFault};
-use scopes::Scopes;
 use secondlook::{Edits, Unlike};
 use source::Declared;
-use sourceediting::{File, Refusal, marked, shown};
+use sourceediting::marked;
 use std::alloc::{AllocError, Global};
 use std::hash::RandomState;
 
-/// Why the source with the edits is not as it should be.
-fn unfit(alloc: Global, why: &str) -> Result<Refusal, AllocError> {
-    Ok(Refusal::Text(File::History, format!(in alloc; "with these edits {why}")?))
-}
-
 /// The label of the assertion with a number among those that aren't the library's.
-fn other_at<'a>(old: &Scopes<'a>, own: &[bool], number: usize) -> Option<&'a [u8]> {
+fn other_at<'a, D: Declared<'a>>(declared: &D, own: &[bool], number: usize) -> Option<&'a [u8]>
+    requires { length own.now ≡ length (D.scope declared.now).assertions }
+    ensures { option_map (λ w. w.now) result
+        ≡ option_map (λ x. x.label) (slice_get (others own.now (D.scope declared.now).assertions) number) }
+{
     let mut left = number;
     for (place, is_own) in own.iter().enumerate() {
         if *is_own {
             continue;
         }
         if left == 0 {
-            return old.label(place);
+            return declared.label(place);
         }
         left -= 1;
     }
@@ -36,62 +41,71 @@ fn other_at<'a>(old: &Scopes<'a>, own: &[bool], number: usize) -> Option<&'a [u8
 }
 
 /// Another assertion than the library's isn't as it was: that with a number among these.
-fn changed(
+fn changed<'a, D: Declared<'a>>(
     alloc: Global,
-    old: &Scopes<'_>,
+    declared: &D,
     own: &[bool],
     number: usize,
-) -> Result<Refusal, AllocError> {
-    let why = match other_at(old, own, number) {
-        Some(label) => {
-            let label = shown(label);
-            format!(in alloc; "with these edits {label} changes, which was not taken")?
-        }
-        None => format!(in alloc; "with these edits another assertion is there")?,
-    };
-    Ok(Refusal::Text(File::History, why))
+) -> Result<Refusal, AllocError>
+    requires { length own.now ≡ length (D.scope declared.now).assertions }
+    ensures { (k : Known) (source : List ℕ) → k.old ≡ D.scope declared.now → k.own ≡ own.now
+        → IsUnfit k source (AnotherAssertion number) → IfOk result (HasCause k source) }
+{
+    match other_at(declared, own, number) {
+        Some(label) => Ok(Refusal::Changes(Label::from_slice(alloc, label)?)),
+        None => Ok(Refusal::AnotherAssertion),
+    }
 }
 
 /// Why the source with the edits can't be read.
-fn unread(
+fn unread<'a, D: Declared<'a>>(
     alloc: Global,
     keys: RandomState,
-    old: &Scopes<'_>,
+    declared: &D,
     out: &[u8],
-    edits: Edits<'_, '_>,
+    changes: &Changes<'_>,
+    own: &[bool],
     fault: TextFault,
-) -> Result<Refusal, AllocError> {
-    if fault.kind == FaultKind::NoMemory {
-        return Err(AllocError);
+) -> Result<Refusal, AllocError>
+    requires { length own.now ≡ length (D.scope declared.now).assertions }
+    ensures { (k : Known) (source : List ℕ) → k.old ≡ D.scope declared.now → k.changes ≡ changes.now → k.own ≡ own.now
+        → IsTextThen k source out.now → IsUnfit k source (Unread fault) → IfOk result (HasCause k source) }
+{
+    if fault.kind != FaultKind::UnknownLabel {
+        return Ok(Refusal::Unread(fault));
     }
-    if fault.kind == FaultKind::UnknownLabel
-        && let Some(refusal) = first_behind(alloc, keys, old, edits.changes, edits.own, out)?
-    {
-        return Ok(refusal);
+    match first_behind(alloc, keys, declared, changes, own, out)? {
+        Some((label, by)) => Ok(Refusal::StandsBehind {
+            label: Label::from_slice(alloc, label)?,
+            by: Label::from_slice(alloc, by)?,
+        }),
+        None => Ok(Refusal::Unread(fault)),
     }
-    Ok(Refusal::Text(
-        File::History,
-        format!(in alloc; "the source with these edits: text {fault}")?,
-    ))
 }
 
 /// Why the source with the edits isn't printed.
-pub(crate) fn unprinted(
+pub(crate) fn unprinted<'a, D: Declared<'a>>(
     alloc: Global,
     keys: RandomState,
-    old: &Scopes<'_>,
+    declared: &D,
     out: &[u8],
     edits: Edits<'_, '_>,
     why: Unlike,
-) -> Result<Refusal, AllocError> {
-    let why = match why {
-        Unlike::Unread(fault) => return unread(alloc, keys, old, out, edits, fault),
-        Unlike::Untaken => "the library can't be taken again",
-        Unlike::AnotherLibrary => "another library is taken",
-        Unlike::AnotherAssertion(number) => return changed(alloc, old, edits.own, number),
-        Unlike::NoMemory => return Err(AllocError),
-    };
-    unfit(alloc, why)
+) -> Result<Refusal, AllocError>
+    requires { length edits.own.now ≡ length (D.scope declared.now).assertions }
+    ensures { (k : Known) (source : List ℕ) → k.old ≡ D.scope declared.now → k.changes ≡ edits.entry.changes.now
+        → k.own ≡ edits.entry.own.now → IsTextThen k source out.now → IsUnfit k source why → IfOk result (HasCause k source) }
+{
+    match why {
+        Unlike::Unread(fault) => {
+            unread(alloc, keys, declared, out, edits.changes, edits.own, fault)
+        }
+        Unlike::Untaken => Ok(Refusal::Untaken),
+        Unlike::AnotherLibrary => Ok(Refusal::AnotherLibrary),
+        Unlike::AnotherPrelude => Ok(Refusal::AnotherLibrary),
+        Unlike::AnotherAssertion(number) => changed(alloc, declared, edits.own, number),
+        Unlike::NoMemory => Err(AllocError),
+    }
 }
 
 /// No comment between the statements of the source is lost, and none is made, but for the labels that change. Those of deleted assertions,
@@ -104,11 +118,12 @@ pub(crate) fn keep_comments(
     source: &[u8],
     out: &[u8],
 ) -> Result<(), Refusal>
-    ensures { OnOk result (AreKept changes.now (seen_words gone.now) source.now out.now) }
+    ensures kept { OnOk result (AreKept changes.now (seen_words gone.now) source.now out.now) }
+    ensures refused { IfErr result IsLoss }
 {
     let gone = marked(alloc, keys, gone)?;
     if !are_kept(alloc, keys, changes, &gone, source, out)? {
-        return Err(unfit(alloc, "a comment would be lost")?);
+        return Err(Refusal::CommentLost);
     }
     Ok(())
 }

@@ -2,10 +2,12 @@
 
 ghost use Rattle.std.specs.Prelude.{IfOk};
 ghost use Rattle.givetext.specs.Answers.{IsGiveAnswer};
+ghost use Rattle.givetext.specs.Refusals.{seen_paths};
 
 use crate::call::give;
+use crate::refusal::Refusal;
+use crate::refusing::line_of;
 use intake::Follow;
-use sourceediting::{File, Refusal};
 use std::alloc::{AllocError, Global};
 use std::hash::RandomState;
 use std::thread::Threads;
@@ -30,15 +32,6 @@ pub struct Paths<'p> {
     pub history: &'p str,
 }
 
-/// The path of a text.
-fn path_of<'p>(paths: Paths<'p>, file: File) -> &'p str {
-    match file {
-        File::Source => paths.source,
-        File::Library => paths.library,
-        File::History => paths.history,
-    }
-}
-
 /// Gives the edits of a history back into the source that its library was taken of, and gives what the program answers.
 ///
 /// What is printed is the source, in which labels are changed and proofs exchanged, and each other byte is as it was: from it the edited
@@ -58,16 +51,13 @@ pub fn answer_give(
     history: &[u8],
     follow: &impl Follow,
 ) -> Result<Returned, AllocError>
-    ensures { IfOk result (IsGiveAnswer source.now library.now history.now) }
+    ensures { IfOk result (IsGiveAnswer (seen_paths paths.entry) source.now library.now history.now) }
 {
     let given = give(rt, alloc, keys, source, library, history, follow);
     follow.end_taking();
     match given {
         Ok(out) => Ok(Returned::Printed(out)),
-        Err(Refusal::Text(file, why)) => {
-            let path = path_of(paths, file);
-            Ok(Returned::Refused(format!(in alloc; "{path}: {why}")?))
-        }
         Err(Refusal::NoMemory) => Err(AllocError),
+        Err(why) => Ok(Returned::Refused(line_of(alloc, paths, &why)?)),
     }
 }

@@ -1,7 +1,7 @@
 //! The call `give`: a library is taken of a source again, a history is done over it, and the source is written anew with its edits, and
 //! looked at again.
 
-ghost use Rattle.std.specs.Prelude.{◌≡◌, IfOk, OnOk, length, map};
+ghost use Rattle.std.specs.Prelude.{◌≡◌, ◌≢◌, ℕ, Bool, List, IfOk, IfErr, IsTrue, OnOk, length, map};
 ghost use Rattle.source.specs.Scopes.{Assertion, is_in};
 ghost use Rattle.source.specs.Sources.{DeclaresText};
 ghost use Rattle.source.specs.Views.{seen_words};
@@ -10,40 +10,38 @@ ghost use Rattle.taking.specs.Reasons.{Choice};
 ghost use Rattle.comments.specs.Kept.{AreKept};
 ghost use Rattle.checking.specs.Checks.{LeadsTo};
 ghost use Rattle.sourceediting.specs.Following.{all_commands, behind_all, label_then, opening};
-ghost use Rattle.sourceediting.specs.Views.{seen_following};
+ghost use Rattle.sourceediting.specs.Views.{seen_followed, seen_following};
+ghost use Rattle.library.specs.declared.history.Entry.{Entry};
+ghost use Rattle.library.specs.Library.{Listed};
+ghost use Rattle.intake.specs.declared.taken.Taken.{Taken};
 ghost use Rattle.sourceediting.specs.Reproved.{AreOtherProofs};
 ghost use Rattle.sourceediting.specs.Written.{IsWrittenAnew};
 ghost use Rattle.secondlook.specs.Looked.{IsLookedAt};
-ghost use Rattle.givetext.specs.Parts.{IsEdited};
+ghost use Rattle.givetext.specs.Causes.{known_of, HasCause, IsRefused, IsTextThen};
 ghost use Rattle.givetext.specs.Given.{IsTakenText, IsGiven};
+ghost use Rattle.givetext.specs.Parts.{IsEdited, IsReplayRefusal, IsSourceRefusal, IsStopped, IsTakingRefusal, TakesName};
+ghost use Rattle.givetext.specs.declared.refusal.Refusal.TheVariants.{NoMemory};
 
 use crate::again::{keep_comments, unprinted};
 use crate::origin::origin_of;
+use crate::refusal::Refusal;
 use checking::{Fault, replay_library};
 use giving::Changes;
 use intake::{Follow, Taken, take_declared};
 use library::{Entry, History, PlainLibrary};
-use mmtext::{FaultKind, TextFault};
+use mmsyntax::Label;
 use scopes::Scopes;
 use secondlook::{Edits, look_again, own_of, told_of};
 use source::Declared;
 use source::laws::sources_are_whole;
 use sourceediting::{
-    File, Following, Planned, Refusal, are_uncited, axioms_then, opening_of, shown, write_edits,
+    Followed, Following, Planned, are_uncited, axioms_then, marked, opening_of, write_edits,
 };
 use sourcereader::read_source;
 use std::alloc::{AllocError, Global};
 use std::hash::RandomState;
 use std::thread::Threads;
 use taketext::write_taken;
-
-/// Why the source can't be read.
-fn unread_source(alloc: Global, fault: TextFault) -> Result<Refusal, AllocError> {
-    if fault.kind == FaultKind::NoMemory {
-        return Err(AllocError);
-    }
-    Ok(Refusal::Text(File::Source, format!(in alloc; "text {fault}")?))
-}
 
 /// What the source declares.
 fn read_old<'a>(
@@ -52,28 +50,20 @@ fn read_old<'a>(
     source: &'a [u8],
     follow: &impl Follow,
 ) -> Result<Scopes<'a>, Refusal>
-    ensures { IfOk result (λ s. DeclaresText source.now s.stand.scope) }
+    ensures declares { IfOk result (λ s. DeclaresText source.now s.stand.scope) }
+    ensures refused { IfErr result (IsSourceRefusal source.now) }
 {
     follow.begin_reading();
-    match read_source(alloc, Scopes::new(alloc, keys), source) {
-        Ok(scopes) => Ok(scopes),
-        Err(fault) => Err(unread_source(alloc, fault)?),
-    }
-}
-
-/// A library that `take` doesn't print of the source.
-fn another(alloc: Global) -> Refusal {
-    match format!(in alloc; "not what `take` prints of the source") {
-        Ok(why) => Refusal::Text(File::Library, why),
-        Err(_) => Refusal::NoMemory,
-    }
+    Ok(read_source(alloc, Scopes::new(alloc, keys), source)?)
 }
 
 /// Why no library is taken of the source.
-fn untaken(alloc: Global, refusal: intake::Refusal<'_, '_>) -> Refusal {
+fn untaken(refusal: intake::Refusal<'_, '_>) -> Refusal
+    ensures { IsTakingRefusal result }
+{
     match refusal {
         intake::Refusal::NoMemory => Refusal::NoMemory,
-        _ => another(alloc),
+        _ => Refusal::NotTaken,
     }
 }
 
@@ -88,19 +78,20 @@ fn take_old<'a, D: Declared<'a>>(
     follow: &impl Follow,
 ) -> Result<Taken<'a>, Refusal>
     requires { IsWhole (D.scope declared.now) }
-    ensures { IfOk result (IsTakenText source.now (D.scope declared.now) library.now) }
+    ensures taken { IfOk result (IsTakenText source.now (D.scope declared.now) library.now) }
+    ensures refused { IfErr result IsTakingRefusal }
 {
     let Some(origin) = origin_of(alloc, library)? else {
-        return Err(another(alloc));
+        return Err(Refusal::NotTaken);
     };
     let wish = origin.wished.wish();
     let taken = match take_declared(rt, alloc, keys, declared, wish, follow) {
         Ok(taken) => taken,
-        Err(refusal) => return Err(untaken(alloc, refusal)),
+        Err(refusal) => return Err(untaken(refusal)),
     };
     let text = write_taken(alloc, origin.path, source, wish, &taken)?;
     if text.as_slice() != library {
-        return Err(another(alloc));
+        return Err(Refusal::NotTaken);
     }
     Ok(taken)
 }
@@ -121,53 +112,50 @@ fn replay_over(
     library: &[u8],
     history: &[u8],
 ) -> Result<Replayed, Refusal>
-    ensures { IfOk result (λ r. LeadsTo library.now history.now r.entries r.edited) }
+    ensures leads { IfOk result (λ r. LeadsTo library.now history.now r.entries r.edited) }
+    ensures refused { IfErr result (IsReplayRefusal library.now history.now) }
 {
     match replay_library(rt, alloc, keys, library, history) {
         Ok((entries, edited)) => Ok(Replayed { entries, edited }),
         Err(Fault::NoMemory) => Err(Refusal::NoMemory),
-        Err(fault) => {
-            let file = if fault.file() == Some(0) {
-                File::Library
-            } else {
-                File::History
-            };
-            Err(Refusal::Text(file, format!(in alloc; "{fault}")?))
-        }
+        Err(fault) => Err(Refusal::Replay(fault)),
     }
 }
 
-/// Whether the edits leave a name of the source: its assertion gets another label, or is deleted.
-fn is_left(changes: &Changes<'_>, gone: &[&[u8]], name: &[u8]) -> bool {
-    if changes.text_for(name).is_some() {
-        return true;
+/// Whether an assertion gets a label that it doesn't have in the source, and that is a name there, of something that keeps it.
+fn takes_name<'a, D: Declared<'a>>(
+    declared: &D,
+    followed: &Followed<'_>,
+    changes: &Changes<'_>,
+    gone: &Changes<'_>,
+) -> bool
+    ensures { IsTrue result → TakesName (D.scope declared.now) (seen_followed followed.now) changes.now gone.now }
+{
+    let then = followed.label_then();
+    if let Some(source) = followed.source
+        && source == then
+    {
+        return false;
     }
-    for label in gone {
-        if *label == name {
-            return true;
-        }
-    }
-    false
+    declared.has_name(then) && changes.text_for(then).is_none() && gone.text_for(then).is_none()
 }
 
-/// No label changes to another name of the source that stays.
+/// No assertion gets a label that is a name of the source already.
 fn are_free<'a, D: Declared<'a>>(
     alloc: Global,
+    keys: RandomState,
     declared: &D,
     following: &Following<'_>,
     changes: &Changes<'_>,
-) -> Result<(), Refusal> {
-    let gone = following.gone.as_slice();
+) -> Result<(), Refusal>
+    ensures { (taken : Taken) (entries : List Entry) (edited : Listed) (own : List Bool) (source : List ℕ) → IfErr result (HasCause
+        (known_of (D.scope declared.now) taken entries edited (seen_following following.now) changes.now own) source) }
+{
+    let gone = marked(alloc, keys, following.gone.as_slice())?;
     for followed in following.living.as_slice() {
-        let new = followed.now;
-        if followed.source.is_some()
-            && followed.is_renamed()
-            && declared.has_name(new)
-            && !is_left(changes, gone, new)
-        {
-            let name = shown(new);
-            let why = format!(in alloc; "{name} is a name of the source already")?;
-            return Err(Refusal::Text(File::History, why));
+        if takes_name(declared, followed, changes, &gone) {
+            let label = followed.label_then();
+            return Err(Refusal::NameTaken(Label::from_slice(alloc, label)?));
         }
     }
     Ok(())
@@ -203,10 +191,12 @@ fn write_anew(
     changes: &Changes<'_>,
     own: &[bool],
 ) -> Result<Vec<u8>, Refusal>
-    ensures { IfOk result (λ out. IsWrittenAnew (all_commands replayed.now.entries) (seen_following following.now).living
+    ensures written { IfOk result (λ out. IsWrittenAnew (all_commands replayed.now.entries) (seen_following following.now).living
         (seen_following following.now).gone (AreOtherProofs source.now old.now.stand.scope
         taken.now.database.assertions (map (λ r. r.assertion) replayed.now.edited.entries) (seen_following following.now).living)
         changes.now source.now out.items) }
+    ensures refused { IfErr result (HasCause (known_of old.now.stand.scope taken.now replayed.now.entries replayed.now.edited
+        (seen_following following.now) changes.now own.now) source.now) }
 {
     let told = told_of(alloc, keys, taken.axioms.as_slice())?;
     let living = following.living.as_slice();
@@ -221,7 +211,7 @@ fn write_anew(
         told: &told,
     };
     let entries = replayed.entries.as_slice();
-    write_edits(alloc, keys, old, source, &planned, entries, changes)
+    Ok(write_edits(alloc, keys, old, source, &planned, entries, changes)?)
 }
 
 /// The second look at the source with the edits, by the labels of the library's assertions then.
@@ -237,8 +227,11 @@ fn look_at<'x>(
     own: &[bool],
 ) -> Result<(), Refusal>
     requires { length own.now ≡ length old.now.stand.scope.assertions }
-    ensures { OnOk result (IsLookedAt old.now.stand.scope out.now changes.now own.now (map label_then (seen_following following.now).living)
-        edited.now) }
+    ensures looked { OnOk result (IsLookedAt old.now.stand.scope out.now changes.now own.now
+        (map label_then (seen_following following.now).living) edited.now) }
+    ensures refused { (taken : Taken) (entries : List Entry) (source : List ℕ) → IsTextThen (known_of old.now.stand.scope taken entries
+        edited.now (seen_following following.now) changes.now own.now) source out.now → IfErr result (HasCause
+        (known_of old.now.stand.scope taken entries edited.now (seen_following following.now) changes.now own.now) source) }
 {
     let then = following.labels_then(alloc)?;
     let axioms = axioms_then(alloc, keys, edited, following.living.as_slice())?;
@@ -276,6 +269,8 @@ fn write_and_look<'x>(
     ensures comments { IfOk result (λ out. AreKept changes.now (seen_words following.now.gone.items) source.now out.items) }
     ensures looked { IfOk result (λ out. IsLookedAt old.now.stand.scope out.items changes.now own.now
         (map label_then (seen_following following.now).living) replayed.now.edited) }
+    ensures refused { IfErr result (HasCause (known_of old.now.stand.scope taken.now replayed.now.entries replayed.now.edited
+        (seen_following following.now) changes.now own.now) source.now) }
 {
     let out = write_anew(
         alloc, keys, old, source, taken, replayed, following, changes, own,
@@ -299,13 +294,17 @@ fn give_edits<'x, 'a: 'x>(
     replayed: &'x Replayed,
 ) -> Result<Vec<u8>, Refusal>
     requires { length taken.now.chosen.items ≡ length old.now.stand.scope.assertions }
-    ensures { (choice : Choice) → map (λ (x : Assertion). is_in choice.chosen x.label) old.now.stand.scope.assertions
+    ensures edited { (choice : Choice) → map (λ (x : Assertion). is_in choice.chosen x.label) old.now.stand.scope.assertions
         ≡ taken.now.chosen.items
         → IfOk result (λ out. IsEdited source.now old.now.stand.scope choice taken.now replayed.now.entries replayed.now.edited out.items) }
+    ensures refused { (choice : Choice) → map (λ (x : Assertion). is_in choice.chosen x.label) old.now.stand.scope.assertions
+        ≡ taken.now.chosen.items
+        → IfErr result (λ why. why ≢ NoMemory
+        → IsStopped source.now old.now.stand.scope choice taken.now replayed.now.entries replayed.now.edited why) }
 {
     let following = follow_edits(alloc, old, taken, replayed.entries.as_slice())?;
     let changes = Changes::new(alloc, keys, following.changes(alloc)?)?;
-    are_free(alloc, old, &following, &changes)?;
+    are_free(alloc, keys, old, &following, &changes)?;
     let own = own_of(alloc, keys, old, taken)?;
     let own = own.as_slice();
     are_uncited(alloc, keys, old, own, following.gone.as_slice())?;
@@ -325,7 +324,8 @@ pub(crate) fn give(
     history: &[u8],
     follow: &impl Follow,
 ) -> Result<Vec<u8>, Refusal>
-    ensures { IfOk result (λ out. IsGiven source.now library.now history.now out.items) }
+    ensures given { IfOk result (λ out. IsGiven source.now library.now history.now out.items) }
+    ensures refused { IfErr result (IsRefused source.now library.now history.now) }
 {
     let old = read_old(alloc, keys, source, follow)?;
     // For the proof: what is read is whole.

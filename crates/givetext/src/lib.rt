@@ -6,6 +6,8 @@ mod again;
 mod answering;
 mod call;
 mod origin;
+mod refusal;
+mod refusing;
 mod standing;
 
 pub use answering::{Paths, Returned, answer_give};

@@ -1,16 +1,38 @@
 //! Which assertion would stand behind one that cites it.
 
+ghost use Rattle.std.specs.Prelude.{◌≡◌, List, Some, IfOk, IfSome, IsTrue, length, slice_get};
+ghost use Rattle.giving.specs.Staying.{changed, others};
+ghost use Rattle.items.specs.declared.reading.Item.{Item as Found};
+ghost use Rattle.source.specs.Scopes.{Assertion};
+ghost use Rattle.givetext.specs.Causes.{Cites, StandInOrder};
+ghost use Rattle.givetext.specs.Parts.{AreInOrder, AreNumbers, NamesLater};
+
 use giving::Changes;
 use items::{Item, Kind, read_items};
 use source::Declared;
-use sourceediting::{File, Refusal, labels_of, shown};
+use sourceediting::labels_of;
 use std::alloc::{AllocError, Global};
 use std::collections::HashMap;
 use std::hash::RandomState;
 
 /// The label that an assertion of the source has then.
-fn label_then<'c>(changes: &'c Changes<'_>, label: &'c [u8]) -> &'c [u8] {
-    changes.text_for(label).unwrap_or(label)
+fn label_then<'c>(changes: &'c Changes<'_>, label: &'c [u8]) -> &'c [u8]
+    ensures { result.now ≡ changed changes.now label.now }
+{
+    match changes.text_for(label) {
+        Some(other) => other,
+        None => label,
+    }
+}
+
+/// Whether of two assertions of a text, by their labels there, the first stands in front of the second.
+fn are_in_order(places: &HashMap<&[u8], usize, RandomState>, first: &[u8], second: &[u8]) -> bool
+    ensures { (fs : List Found) → AreNumbers fs places.now → IsTrue result → AreInOrder fs first.now second.now }
+{
+    match (places.get(first), places.get(second)) {
+        (Some(place), Some(behind)) => place < behind,
+        _ => false,
+    }
 }
 
 /// The first label in the proof of the assertion at a place whose assertion stands behind it, by the places of assertions in the text with
@@ -20,32 +42,17 @@ fn first_behind_at<'a, D: Declared<'a>>(
     changes: &Changes<'_>,
     places: &HashMap<&[u8], usize, RandomState>,
     place: usize,
-) -> Option<&'a [u8]> {
-    let citing = places.get(label_then(changes, declared.label(place)?))?;
+) -> Option<&'a [u8]>
+    ensures { (fs : List Found) (x : Assertion) → AreNumbers fs places.now
+        → slice_get (D.scope declared.now).assertions place ≡ Some x → IfSome result (λ w. NamesLater changes.now fs w.now x) }
+{
+    let citing = label_then(changes, declared.label(place)?);
     for label in labels_of(declared.proof(place)?) {
-        if let Some(cited) = places.get(label_then(changes, label))
-            && cited > citing
-        {
+        if are_in_order(places, citing, label_then(changes, label)) {
             return Some(*label);
         }
     }
     None
-}
-
-/// An assertion would stand behind one that cites it.
-fn would_stand_behind<'c>(
-    alloc: Global,
-    changes: &'c Changes<'_>,
-    label: &'c [u8],
-    by: Option<&'c [u8]>,
-) -> Result<Refusal, AllocError> {
-    let by = by.unwrap_or(b"?");
-    let (label, by) = (
-        shown(label_then(changes, label)),
-        shown(label_then(changes, by)),
-    );
-    let why = format!(in alloc; "{label} would stand behind {by}, which cites it")?;
-    Ok(Refusal::Text(File::History, why))
 }
 
 /// The numbers of the assertions among items, by their labels.
@@ -53,7 +60,9 @@ fn numbers_of<'s>(
     alloc: Global,
     keys: RandomState,
     items: &[Item<'s>],
-) -> Result<HashMap<&'s [u8], usize, RandomState>, AllocError> {
+) -> Result<HashMap<&'s [u8], usize, RandomState>, AllocError>
+    ensures { IfOk result (AreNumbers items.now) }
+{
     let mut numbers = HashMap::with_hasher(alloc, keys);
     for (number, item) in items.iter().enumerate() {
         if let Kind::Assertion(label) = item.kind {
@@ -63,15 +72,20 @@ fn numbers_of<'s>(
     Ok(numbers)
 }
 
-/// The first assertion that isn't the library's, and cites one that stands behind it in the text with the edits: the line that says so.
-pub(crate) fn first_behind<'a, D: Declared<'a>>(
+/// The first assertion that isn't the library's, and cites one that stands behind it in the text with the edits: the label of the cited one
+/// then, and its own.
+pub(crate) fn first_behind<'c, 'a: 'c, D: Declared<'a>>(
     alloc: Global,
     keys: RandomState,
     declared: &D,
-    changes: &Changes<'_>,
+    changes: &'c Changes<'_>,
     own: &[bool],
     out: &[u8],
-) -> Result<Option<Refusal>, AllocError> {
+) -> Result<Option<(&'c [u8], &'c [u8])>, AllocError>
+    requires { length own.now ≡ length (D.scope declared.now).assertions }
+    ensures { IfOk result (λ found. IfSome found (λ p. StandInOrder out.now p.1.now p.0.now
+        × Cites changes.now (others own.now (D.scope declared.now).assertions) p.1.now p.0.now)) }
+{
     let Some(items) = read_items(alloc, out)? else {
         return Ok(None);
     };
@@ -81,8 +95,10 @@ pub(crate) fn first_behind<'a, D: Declared<'a>>(
             continue;
         }
         if let Some(label) = first_behind_at(declared, changes, &places, place) {
-            let by = declared.label(place);
-            return Ok(Some(would_stand_behind(alloc, changes, label, by)?));
+            let Some(by) = declared.label(place) else {
+                unreachable!()
+            };
+            return Ok(Some((label_then(changes, label), label_then(changes, by))));
         }
     }
     Ok(None)

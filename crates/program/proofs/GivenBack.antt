@@ -19,11 +19,11 @@ only_three (a ∷ b ∷ []) x y z n first second third = absurd (omega arith)
 only_three (a ∷ b ∷ c ∷ []) x y z n first second third = cc
 only_three (a ∷ b ∷ c ∷ d ∷ more) x y z n first second third = absurd (omega arith)
 
-pub given_told : (keyed : Bool) (texts : List Bytes) (source library history : Bytes) (told : Returned) (es : List Event) (status : ℕ)
-    → texts ≡ source ∷ library ∷ history ∷ [] → IsGiveAnswer source library history told → IsGiveTold told es status
-    → IsAnsweredGive keyed texts es status
-given_told keyed texts source library history told es status are answer is =
-    subst (λ (ts : List Bytes). IsAnsweredGive keyed ts es status) (sym are) (inl (told, answer, is))
+pub given_told : (keyed : Bool) (paths texts : List Bytes) (source library history : Bytes) (told : Returned) (es : List Event) (status : ℕ)
+    → texts ≡ source ∷ library ∷ history ∷ [] → IsGiveAnswer paths source library history told → IsGiveTold told es status
+    → IsAnsweredGive keyed paths texts es status
+given_told keyed paths texts source library history told es status are answer is =
+    subst (λ (ts : List Bytes). IsAnsweredGive keyed paths ts es status) (sym are) (inl (told, answer, is))
 
 pub unread_given : {E : Type 0} (keyed : Bool) (source library history : Bytes) (texts : List Bytes) (u : Unread) (es fs : List Event)
     (r : Result ℕ E)
@@ -35,10 +35,10 @@ unread_given keyed source library history texts u es fs r read told =
     (unread_told paths paths texts u es fs r refl read told)
 
 pub given_done : {E : Type 0} (keyed : Bool) (source library history : Bytes) (texts : List Bytes) (es rest : List Event) (r : Result ℕ E)
-    → es ≡ reads_of (source ∷ library ∷ history ∷ []) texts → EndsBy (IsAnsweredGive keyed texts) rest r
+    → es ≡ reads_of (source ∷ library ∷ history ∷ []) texts → EndsBy (IsAnsweredGive keyed (source ∷ library ∷ history ∷ []) texts) rest r
     → EndsBy (IsGiveDone keyed source library history) (es ++ rest) r
 given_done keyed source library history texts es rest r is ends =
-    EndsBy-behind (IsAnsweredGive keyed texts) (IsGiveDone keyed source library history) es rest r
+    EndsBy-behind (IsAnsweredGive keyed (source ∷ library ∷ history ∷ []) texts) (IsGiveDone keyed source library history) es rest r
     (are_quiet (source ∷ library ∷ history ∷ []) texts es is)
     (λ status answered. inr (texts, rest, ap (λ (f : List Event). f ++ rest) is, answered)) ends
 

@@ -164,18 +164,18 @@ abbrev pub IsGiveTold : Returned → List Event → ℕ → Type 0
 IsGiveTold (returned.Printed out) es status = IsPrinted out.items es status
 IsGiveTold (returned.Refused line) es status = IsSaid (string_bytes line) es status
 
--- what is answered for a source, a library and a history is told; or the system gives no random numbers, which is said
-abbrev pub IsAnsweredGive : Bool → List Bytes → List Event → ℕ → Type 0
-IsAnsweredGive keyed (source ∷ library ∷ history ∷ []) es status =
-    ((told : Returned) × IsGiveAnswer source library history told × IsGiveTold told es status) ⊎ IsUnkeyed keyed es status
-IsAnsweredGive keyed _ es status = ⊥
+-- what is answered for a source, a library and a history in files is told; or the system gives no random numbers, which is said
+abbrev pub IsAnsweredGive : Bool → List Bytes → List Bytes → List Event → ℕ → Type 0
+IsAnsweredGive keyed paths (source ∷ library ∷ history ∷ []) es status =
+    ((told : Returned) × IsGiveAnswer paths source library history told × IsGiveTold told es status) ⊎ IsUnkeyed keyed es status
+IsAnsweredGive keyed paths _ es status = ⊥
 
 -- a file can't be read; or all are read, in their order, before anything else is done, and then the edits are given back
 abbrev pub IsGiveDone : Bool → Bytes → Bytes → Bytes → List Event → ℕ → Type 0
 IsGiveDone keyed source library history es status =
     IsUnread (source ∷ library ∷ history ∷ []) es status
     ⊎ ((texts : List Bytes) × (rest : List Event) × (es ≡ reads_of (source ∷ library ∷ history ∷ []) texts ++ rest)
-    × IsAnsweredGive keyed texts rest status)
+    × IsAnsweredGive keyed (source ∷ library ∷ history ∷ []) texts rest status)
 
 -- ---- a command line
 

@@ -1,6 +1,6 @@
 //! How edits are given back: three files are read, and what is answered is told.
 
-ghost use Rattle.std.specs.Prelude.{is_some, ◌≡◌, List, length, map};
+ghost use Rattle.std.specs.Prelude.{is_some, ◌≡◌, ◌∷◌, [], List, length, map};
 ghost use Rattle.program.specs.Events.{Event, Adds};
 ghost use Rattle.program.specs.Conduct.{EndsBy, IsGiveTold, IsAnsweredGive, IsGiveDone};
 
@@ -35,7 +35,8 @@ fn answer_given<R: Threads + Sync, W: World, F: Follow>(
 ) -> Result<u8, AllocError>
     requires { length texts.now ≡ 3 }
     ensures { (es : List Event) × Adds (W.done world.old) (W.done world.new) es
-        × EndsBy (IsAnsweredGive (is_some keys) (map (λ t. t.items) texts.now)) es result }
+        × EndsBy (IsAnsweredGive (is_some keys) (order.entry.source.now ∷ order.entry.library.now ∷ order.entry.history.now ∷ [])
+        (map (λ t. t.items) texts.now)) es result }
 {
     let Some(keys) = keys else {
         return Ok(refuse(world, "no random numbers"));

@@ -12,4 +12,4 @@ returns-in-Ok g c =
     c.index-texts-0.is c.index-texts-1.is c.index-texts-2.is) in
     let answer = rw c.as_slice-history.ensures.value at
     (rw c.as_slice-library.ensures.value at (rw c.as_slice-source.ensures.value at c.in-Ok.ensures)) in
-    (told.0, told.1, given_told (is_some c.args.keys) _ _ _ _ c.in-Ok.told told.0 c.tell_given.result texts answer told.2)
+    (told.0, told.1, given_told (is_some c.args.keys) _ _ _ _ _ c.in-Ok.told told.0 c.tell_given.result texts answer told.2)

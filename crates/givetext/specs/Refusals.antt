@@ -1,0 +1,63 @@
+-- The line of a refusal.
+use Rattle.std.specs.Prelude.{ℕ, zero, suc, List, [], ◌∷◌, ◌++◌, Option, Some, None, codes, slice_index_or}
+use Rattle.mmtext.specs.FaultNames.{printed_fault}
+use Rattle.checking.specs.FaultLines.{fault_text, file_of as file_of_fault}
+use Rattle.taketext.specs.Refusals.{shown}
+use Rattle.sourceediting.specs.declared.refusal.Refusal.{Refusal as Unwritten}
+use Rattle.sourceediting.specs.declared.refusal.Refusal.TheVariants as edits
+use Rattle.givetext.specs.declared.answering.Paths.{Paths}
+use Rattle.givetext.specs.declared.refusing.File.{File}
+use Rattle.givetext.specs.declared.refusing.File.TheVariants.{Source, Library, History}
+use Rattle.givetext.specs.declared.refusal.Refusal.{Refusal}
+use Rattle.givetext.specs.declared.refusal.Refusal.TheVariants as refusal
+
+-- the text that a fault of a replay is of: the library is the first
+abbrev pub replayed_file : Option ℕ → File
+replayed_file (Some zero) = Library
+replayed_file _ = History
+
+-- the text at fault
+abbrev pub file_of : Refusal → File
+file_of (refusal.Source fault) = Source
+file_of refusal.NotTaken = Library
+file_of (refusal.Replay fault) = replayed_file (file_of_fault fault)
+file_of _ = History
+
+-- its path, among those of the source, the library and the history
+abbrev pub path_of : List (List ℕ) → File → List ℕ
+path_of paths Source = slice_index_or paths 0 []
+path_of paths Library = slice_index_or paths 1 []
+path_of paths History = slice_index_or paths 2 []
+
+abbrev pub seen_paths : Paths → List (List ℕ)
+seen_paths p = p.source.now ∷ p.library.now ∷ p.history.now ∷ []
+
+-- why edits can't be written
+abbrev pub edits_text : Unwritten → List ℕ
+edits_text (edits.StillCited label by) =
+    shown label ++ (codes " is still cited by " ++ (shown by ++ codes ", which was not taken"))
+edits_text (edits.InFront label next name) =
+    shown label ++ (codes " can't stand in front of " ++ (shown next ++ (codes ": " ++ (shown name ++ codes " is declared behind that"))))
+edits_text (edits.Unwritten label) = codes "the proof of " ++ (shown label ++ codes " can't be written")
+edits_text edits.Unfit = codes "the edits can't be written"
+edits_text edits.NoMemory = codes "no memory"
+
+abbrev pub refusal_text : Refusal → List ℕ
+refusal_text (refusal.Source fault) = codes "text " ++ printed_fault fault
+refusal_text refusal.NotTaken = codes "not what `take` prints of the source"
+refusal_text (refusal.Replay fault) = fault_text fault
+refusal_text (refusal.NameTaken label) = shown label ++ codes " is a name of the source already"
+refusal_text (refusal.Edits why) = edits_text why
+refusal_text (refusal.StandsBehind label by) =
+    shown label ++ (codes " would stand behind " ++ (shown by ++ codes ", which cites it"))
+refusal_text (refusal.Unread fault) = codes "the source with these edits: text " ++ printed_fault fault
+refusal_text (refusal.Changes label) = codes "with these edits " ++ (shown label ++ codes " changes, which was not taken")
+refusal_text refusal.AnotherAssertion = codes "with these edits another assertion is there"
+refusal_text refusal.Untaken = codes "with these edits the library can't be taken again"
+refusal_text refusal.AnotherLibrary = codes "with these edits another library is taken"
+refusal_text refusal.CommentLost = codes "with these edits a comment would be lost"
+refusal_text refusal.NoMemory = codes "no memory"
+
+-- behind the path of the text at fault
+abbrev pub refusal_line : List (List ℕ) → Refusal → List ℕ
+refusal_line paths why = path_of paths (file_of why) ++ (codes ": " ++ refusal_text why)
