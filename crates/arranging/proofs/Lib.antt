@@ -1,9 +1,9 @@
 mod FirstWords
 mod Printed
 mod Depths
-mod Known
+pub mod Known
 mod Laid
 mod Anew
 mod Said
 mod Under
-mod Spelled
+pub mod Spelled

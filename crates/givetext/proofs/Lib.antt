@@ -1,1 +1,4 @@
 pub mod Looked
+mod Numbers
+mod Orders
+mod Stopped
