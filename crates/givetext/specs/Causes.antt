@@ -18,7 +18,7 @@ use Rattle.checking.specs.Checks.{LeadsTo, IsReplayFault}
 use Rattle.intake.specs.declared.taken.Taken.{Taken}
 use Rattle.intake.specs.Intakes.{axioms_of}
 use Rattle.sourceediting.specs.Following.{Followed, Following, all_commands, behind_all, opening, changes_of, label_then, own_flags}
-use Rattle.sourceediting.specs.Refusals.{names, IsStillCited, HasCause as HasCauseOfEdits}
+use Rattle.sourceediting.specs.Refusals.{names, IsStillCited, HasCause}
 use Rattle.sourceediting.specs.Reproved.{AreOtherProofs}
 use Rattle.sourceediting.specs.Written.{IsWrittenAnew}
 use Rattle.sourceediting.specs.declared.refusal.Refusal.TheVariants as edits
@@ -136,19 +136,19 @@ WouldStandBehind k source label by = (out : List ℕ) × IsTextThen k source out
 -- ---- each refusal, once the history was done again; of want of memory, of edits that can't be written, and of another prelude nothing is
 -- known, and of a lost comment just that there was a text
 
-abbrev pub HasCause : Known → List ℕ → Refusal → Type 0
-HasCause k source (refusal.NameTaken label) = IsNameTaken k label
-HasCause k source (refusal.Edits (edits.StillCited label by)) = IsStillCited k.followed.gone (others_of k) label by
-HasCause k source (refusal.Edits why) = HasCauseOfEdits k.followed.living (edited_assertions k) source why
-HasCause k source (refusal.StandsBehind label by) = WouldStandBehind k source label by
-HasCause k source (refusal.Unread fault) = IsUnfit k source (unlike.Unread fault)
-HasCause k source (refusal.Changes label) = (x : Assertion) × IsFirstOther k source (Some x) × (x.label ≡ label)
-HasCause k source refusal.AnotherAssertion = IsFirstOther k source None
-HasCause k source refusal.Untaken = IsUnfit k source unlike.Untaken
-HasCause k source refusal.AnotherLibrary = IsUnfit k source unlike.AnotherLibrary ⊎ IsUnfit k source unlike.AnotherPrelude
-HasCause k source refusal.CommentLost = (out : List ℕ) × IsTextThen k source out
-HasCause k source refusal.NoMemory = Unit {0}
-HasCause k source _ = ⊥
+abbrev pub IsJustified : Known → List ℕ → Refusal → Type 0
+IsJustified k source (refusal.NameTaken label) = IsNameTaken k label
+IsJustified k source (refusal.Edits (edits.StillCited label by)) = IsStillCited k.followed.gone (others_of k) label by
+IsJustified k source (refusal.Edits why) = HasCause k.followed.living (edited_assertions k) source why
+IsJustified k source (refusal.StandsBehind label by) = WouldStandBehind k source label by
+IsJustified k source (refusal.Unread fault) = IsUnfit k source (unlike.Unread fault)
+IsJustified k source (refusal.Changes label) = (x : Assertion) × IsFirstOther k source (Some x) × (x.label ≡ label)
+IsJustified k source refusal.AnotherAssertion = IsFirstOther k source None
+IsJustified k source refusal.Untaken = IsUnfit k source unlike.Untaken
+IsJustified k source refusal.AnotherLibrary = IsUnfit k source unlike.AnotherLibrary ⊎ IsUnfit k source unlike.AnotherPrelude
+IsJustified k source refusal.CommentLost = (out : List ℕ) × IsTextThen k source out
+IsJustified k source refusal.NoMemory = Unit {0}
+IsJustified k source _ = ⊥
 
 -- ---- each refusal
 
@@ -158,4 +158,4 @@ IsRefused source library history refusal.NotTaken = (s : Scope) × DeclaresText 
 IsRefused source library history (refusal.Replay fault) =
     (s : Scope) × (t : Taken) × DeclaresText source s × IsTakenText source s library t × IsReplayFault library history fault
 IsRefused source library history refusal.NoMemory = Unit {0}
-IsRefused source library history why = (k : Known) × IsKnown source library history k × HasCause k source why
+IsRefused source library history why = (k : Known) × IsKnown source library history k × IsJustified k source why

@@ -14,7 +14,7 @@ use Rattle.items.specs.declared.reading.Kind.TheVariants.{Assertion as IsAsserti
 use Rattle.checking.specs.Checks.{IsReplayFault}
 use Rattle.sourceediting.specs.Refusals.{names}
 use Rattle.sourceediting.specs.declared.refusal.Refusal.{Refusal as Unwritten}
-use Rattle.givetext.specs.Causes.{known_of, IsFollowed, HasCause}
+use Rattle.givetext.specs.Causes.{known_of, IsFollowed, IsJustified}
 use Rattle.givetext.specs.declared.refusal.Refusal.{Refusal}
 use Rattle.givetext.specs.declared.refusal.Refusal.TheVariants as refusal
 use Rattle.library.specs.declared.history.Entry.{Entry}
@@ -79,7 +79,7 @@ pub record IsStopped (source : List ℕ) (old : Scope) (choice : Choice) (taken 
   pub changes : List Change
   pub own : List Bool
   pub is_followed : IsFollowed choice (known_of old taken entries edited followed changes own)
-  pub cause : HasCause (known_of old taken entries edited followed changes own) source why
+  pub cause : IsJustified (known_of old taken entries edited followed changes own) source why
 
 -- ---- numbers of assertions
 

@@ -1,7 +1,7 @@
 -- The line of a refusal.
 use Rattle.std.specs.Prelude.{ℕ, zero, suc, List, [], ◌∷◌, ◌++◌, Option, Some, None, codes, slice_index_or}
 use Rattle.mmtext.specs.FaultNames.{printed_fault}
-use Rattle.checking.specs.FaultLines.{fault_text, file_of as file_of_fault}
+use Rattle.checking.specs.FaultLines.{fault_text, file_of}
 use Rattle.taketext.specs.Refusals.{shown}
 use Rattle.sourceediting.specs.declared.refusal.Refusal.{Refusal as Unwritten}
 use Rattle.sourceediting.specs.declared.refusal.Refusal.TheVariants as edits
@@ -17,11 +17,11 @@ replayed_file (Some zero) = Library
 replayed_file _ = History
 
 -- the text at fault
-abbrev pub file_of : Refusal → File
-file_of (refusal.Source fault) = Source
-file_of refusal.NotTaken = Library
-file_of (refusal.Replay fault) = replayed_file (file_of_fault fault)
-file_of _ = History
+abbrev pub text_at_fault : Refusal → File
+text_at_fault (refusal.Source fault) = Source
+text_at_fault refusal.NotTaken = Library
+text_at_fault (refusal.Replay fault) = replayed_file (file_of fault)
+text_at_fault _ = History
 
 -- its path, among those of the source, the library and the history
 abbrev pub path_of : List (List ℕ) → File → List ℕ
@@ -60,4 +60,4 @@ refusal_text refusal.NoMemory = codes "no memory"
 
 -- behind the path of the text at fault
 abbrev pub refusal_line : List (List ℕ) → Refusal → List ℕ
-refusal_line paths why = path_of paths (file_of why) ++ (codes ": " ++ refusal_text why)
+refusal_line paths why = path_of paths (text_at_fault why) ++ (codes ": " ++ refusal_text why)

@@ -6,7 +6,7 @@ ghost use Rattle.source.specs.Views.{seen_words};
 ghost use Rattle.giving.specs.Staying.{others};
 ghost use Rattle.comments.specs.Kept.{AreKept};
 ghost use Rattle.secondlook.specs.declared.unlike.Unlike.TheVariants.{AnotherAssertion, Unread};
-ghost use Rattle.givetext.specs.Causes.{Known, IsTextThen, IsUnfit, HasCause};
+ghost use Rattle.givetext.specs.Causes.{Known, IsTextThen, IsUnfit, IsJustified};
 ghost use Rattle.givetext.specs.Parts.{IsLoss};
 
 use crate::refusal::Refusal;
@@ -49,7 +49,7 @@ fn changed<'a, D: Declared<'a>>(
 ) -> Result<Refusal, AllocError>
     requires { length own.now ≡ length (D.scope declared.now).assertions }
     ensures { (k : Known) (source : List ℕ) → k.old ≡ D.scope declared.now → k.own ≡ own.now
-        → IsUnfit k source (AnotherAssertion number) → IfOk result (HasCause k source) }
+        → IsUnfit k source (AnotherAssertion number) → IfOk result (IsJustified k source) }
 {
     match other_at(declared, own, number) {
         Some(label) => Ok(Refusal::Changes(Label::from_slice(alloc, label)?)),
@@ -69,7 +69,7 @@ fn unread<'a, D: Declared<'a>>(
 ) -> Result<Refusal, AllocError>
     requires { length own.now ≡ length (D.scope declared.now).assertions }
     ensures { (k : Known) (source : List ℕ) → k.old ≡ D.scope declared.now → k.changes ≡ changes.now → k.own ≡ own.now
-        → IsTextThen k source out.now → IsUnfit k source (Unread fault) → IfOk result (HasCause k source) }
+        → IsTextThen k source out.now → IsUnfit k source (Unread fault) → IfOk result (IsJustified k source) }
 {
     if fault.kind != FaultKind::UnknownLabel {
         return Ok(Refusal::Unread(fault));
@@ -94,7 +94,7 @@ pub(crate) fn unprinted<'a, D: Declared<'a>>(
 ) -> Result<Refusal, AllocError>
     requires { length edits.own.now ≡ length (D.scope declared.now).assertions }
     ensures { (k : Known) (source : List ℕ) → k.old ≡ D.scope declared.now → k.changes ≡ edits.entry.changes.now
-        → k.own ≡ edits.entry.own.now → IsTextThen k source out.now → IsUnfit k source why → IfOk result (HasCause k source) }
+        → k.own ≡ edits.entry.own.now → IsTextThen k source out.now → IsUnfit k source why → IfOk result (IsJustified k source) }
 {
     match why {
         Unlike::Unread(fault) => {

@@ -17,7 +17,7 @@ ghost use Rattle.intake.specs.declared.taken.Taken.{Taken};
 ghost use Rattle.sourceediting.specs.Reproved.{AreOtherProofs};
 ghost use Rattle.sourceediting.specs.Written.{IsWrittenAnew};
 ghost use Rattle.secondlook.specs.Looked.{IsLookedAt};
-ghost use Rattle.givetext.specs.Causes.{known_of, HasCause, IsRefused, IsTextThen};
+ghost use Rattle.givetext.specs.Causes.{known_of, IsJustified, IsRefused, IsTextThen};
 ghost use Rattle.givetext.specs.Given.{IsTakenText, IsGiven};
 ghost use Rattle.givetext.specs.Parts.{IsEdited, IsReplayRefusal, IsSourceRefusal, IsStopped, IsTakingRefusal, TakesName};
 ghost use Rattle.givetext.specs.declared.refusal.Refusal.TheVariants.{NoMemory};
@@ -148,7 +148,7 @@ fn are_free<'a, D: Declared<'a>>(
     following: &Following<'_>,
     changes: &Changes<'_>,
 ) -> Result<(), Refusal>
-    ensures { (taken : Taken) (entries : List Entry) (edited : Listed) (own : List Bool) (source : List ℕ) → IfErr result (HasCause
+    ensures { (taken : Taken) (entries : List Entry) (edited : Listed) (own : List Bool) (source : List ℕ) → IfErr result (IsJustified
         (known_of (D.scope declared.now) taken entries edited (seen_following following.now) changes.now own) source) }
 {
     let gone = marked(alloc, keys, following.gone.as_slice())?;
@@ -195,7 +195,7 @@ fn write_anew(
         (seen_following following.now).gone (AreOtherProofs source.now old.now.stand.scope
         taken.now.database.assertions (map (λ r. r.assertion) replayed.now.edited.entries) (seen_following following.now).living)
         changes.now source.now out.items) }
-    ensures refused { IfErr result (HasCause (known_of old.now.stand.scope taken.now replayed.now.entries replayed.now.edited
+    ensures refused { IfErr result (IsJustified (known_of old.now.stand.scope taken.now replayed.now.entries replayed.now.edited
         (seen_following following.now) changes.now own.now) source.now) }
 {
     let told = told_of(alloc, keys, taken.axioms.as_slice())?;
@@ -230,7 +230,7 @@ fn look_at<'x>(
     ensures looked { OnOk result (IsLookedAt old.now.stand.scope out.now changes.now own.now
         (map label_then (seen_following following.now).living) edited.now) }
     ensures refused { (taken : Taken) (entries : List Entry) (source : List ℕ) → IsTextThen (known_of old.now.stand.scope taken entries
-        edited.now (seen_following following.now) changes.now own.now) source out.now → IfErr result (HasCause
+        edited.now (seen_following following.now) changes.now own.now) source out.now → IfErr result (IsJustified
         (known_of old.now.stand.scope taken entries edited.now (seen_following following.now) changes.now own.now) source) }
 {
     let then = following.labels_then(alloc)?;
@@ -269,7 +269,7 @@ fn write_and_look<'x>(
     ensures comments { IfOk result (λ out. AreKept changes.now (seen_words following.now.gone.items) source.now out.items) }
     ensures looked { IfOk result (λ out. IsLookedAt old.now.stand.scope out.items changes.now own.now
         (map label_then (seen_following following.now).living) replayed.now.edited) }
-    ensures refused { IfErr result (HasCause (known_of old.now.stand.scope taken.now replayed.now.entries replayed.now.edited
+    ensures refused { IfErr result (IsJustified (known_of old.now.stand.scope taken.now replayed.now.entries replayed.now.edited
         (seen_following following.now) changes.now own.now) source.now) }
 {
     let out = write_anew(

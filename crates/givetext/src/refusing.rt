@@ -1,15 +1,25 @@
 //! The line of a refusal.
 
 ghost use Rattle.std.specs.Prelude.{◌≡◌, IfOk, string_bytes};
-ghost use Rattle.checking.specs.FaultLines.{file_of as file_of_fault};
-ghost use Rattle.givetext.specs.Refusals.{edits_text, file_of, path_of, refusal_line, refusal_text, replayed_file, seen_paths};
+ghost use Rattle.checking.specs.FaultLines.{file_of};
+ghost use Rattle.taketext.specs.Refusals.{shown};
+ghost use Rattle.givetext.specs.Refusals.{edits_text, text_at_fault, path_of, refusal_line, refusal_text, replayed_file, seen_paths};
 
 use crate::answering::Paths;
 use crate::refusal::Refusal;
 use checking::Fault;
 use sourceediting::Refusal as Unwritten;
 use std::alloc::{AllocError, Global};
-use taketext::shown;
+
+/// A name as it is printed: itself, where it is text, as each name of a source is.
+fn shown(name: &[u8]) -> &str
+    ensures { result.now ≡ shown name.now }
+{
+    match str::from_utf8(name) {
+        Ok(text) => text,
+        Err(_) => "?",
+    }
+}
 
 /// The text at fault.
 #[derive(Clone, Copy, Debug, PartialEq, Eq)]
@@ -24,7 +34,7 @@ pub(crate) enum File {
 
 /// The text that a fault of a replay is of.
 fn replayed_file(fault: &Fault) -> File
-    ensures { result ≡ replayed_file (file_of_fault fault.now) }
+    ensures { result ≡ replayed_file (file_of fault.now) }
 {
     match fault.file() {
         Some(0) => File::Library,
@@ -33,8 +43,8 @@ fn replayed_file(fault: &Fault) -> File
 }
 
 /// The text at fault.
-fn file_of(why: &Refusal) -> File
-    ensures { result ≡ file_of why.now }
+fn text_at_fault(why: &Refusal) -> File
+    ensures { result ≡ text_at_fault why.now }
 {
     match why {
         Refusal::Source(_) => File::Source,
@@ -118,7 +128,7 @@ fn refusal_text(alloc: Global, why: &Refusal) -> Result<String, AllocError>
 pub(crate) fn line_of(alloc: Global, paths: Paths<'_>, why: &Refusal) -> Result<String, AllocError>
     ensures { IfOk result (λ line. string_bytes line ≡ refusal_line (seen_paths paths.entry) why.now) }
 {
-    let path = path_of(paths, file_of(why));
+    let path = path_of(paths, text_at_fault(why));
     let text = refusal_text(alloc, why)?;
     format!(in alloc; "{path}: {text}")
 }

@@ -1,5 +1,5 @@
 -- The $f with a label.
-use Rattle.std.proofs.Common.{◌≡◌, ◌∙◌, ℕ, get_or, length, List, Option, Some, None, refl, sym, ap}
+use Rattle.std.proofs.Common.{◌≡◌, ◌∙◌, ℕ, get_or, length, Option, Some, None, refl, sym, ap}
 use Rattle.std.specs.Prelude.{IfSome, slice_get}
 use Rattle.std.specs.Borrow.{Bor}
 use Rattle.std.specs.Str.{bytes_eq}
@@ -7,7 +7,7 @@ use Rattle.std.proofs.lemmas.Option.{slice_get_read}
 use Rattle.mmtext.specs.Words.{Word}
 use Rattle.mmsyntax.specs.declared.statement.Float.{Float}
 use Rattle.mmsyntax.specs.declared.symbols.Name.TheVariants.{Label}
-use Rattle.mmsyntax.specs.Tables.{Tables, place_of, named, meaning}
+use Rattle.mmsyntax.specs.Tables.{Tables, place_of, meaning}
 use Rattle.mmsyntax.proofs.Names.{place_of-at, same_bytes}
 use Rattle.mmsyntax.proofs.Found.{label_place}
 

@@ -1,2 +1,3 @@
 pub mod Floats
 pub mod Looked
+pub mod Differing

@@ -1,8 +1,8 @@
 -- Of the code's inside, apart from the rules: what single functions tell of a library that was taken again.
-use Rattle.std.specs.Prelude.{◌≡◌, ℕ, Some}
-use Rattle.std.specs.Prelude.{Bool, List}
+use Rattle.std.specs.Prelude.{◌≡◌, Some}
+use Rattle.std.specs.Prelude.{List}
 use Rattle.mmsyntax.specs.Tables.{Contents}
-use Rattle.source.specs.Scopes.{Scope, Assertion}
+use Rattle.source.specs.Scopes.{Assertion}
 use Rattle.library.specs.Library.{Listed}
 use Rattle.giving.specs.Staying.{Change, IsFirstNotStaying}
 use Rattle.secondlook.specs.Again.{database_lines, edited_lines}

@@ -8,8 +8,8 @@ use drafts::Limit;
 use intake::Refusal;
 use std::alloc::{AllocError, Global};
 
-/// A name as it is printed: itself, where it is text, as each name of a source is.
-pub fn shown(name: &[u8]) -> &str
+/// A name as it is printed.
+fn shown(name: &[u8]) -> &str
     ensures { result.now ≡ shown name.now }
 {
     match str::from_utf8(name) {

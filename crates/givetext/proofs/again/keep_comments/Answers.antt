@@ -6,8 +6,8 @@ use Rattle.comments.specs.Kept.{AreKept}
 use Rattle.sourceediting.proofs.Marks.{firsts, firsts_marked}
 use Rattle.givetext.proofs.again.keep_comments.Goals as goal
 
-pub returns : goal.returns
-returns c =
+pub returns-clause-kept : goal.returns-clause-kept
+returns-clause-kept c =
     let yes : c.in_ok-are_kept.field-0 ≡ true = search rules in
     subst (λ (ws : List Word). AreKept c.args.changes.now ws c.args.source.now c.args.out.now)
     (ap firsts c.in_ok-gone.ensures ∙ firsts_marked (seen_words c.args.gone.now)) (c.in_ok-are_kept.ensures yes)

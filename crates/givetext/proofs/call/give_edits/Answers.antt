@@ -17,8 +17,8 @@ are_uncited-requires g c κs = ((refl, tt), ap length c.as_slice-own.ensures.val
 pub write_and_look-requires-after_bounds : goal.write_and_look-requires-after_bounds
 write_and_look-requires-after_bounds g c κs within = ap length c.as_slice-own.ensures.value ∙ c.in_ok-own.ensures.many
 
-pub returns : goal.returns
-returns g c choice are =
+pub returns-clause-edited : goal.returns-clause-edited
+returns-clause-edited g c choice are =
     let old = c.args.old.now.stand.scope in
     let taken = c.args.taken.now in
     let replayed = c.args.replayed.now in
@@ -37,7 +37,7 @@ returns g c choice are =
     (subst (λ (ws : List Word). All (λ x. IsTrue (names_none ws x.proof)) (others own old.assertions))
     (ap seen_words c.as_slice-2.ensures.value)
     (subst (λ (fs : List Bool). All (λ x. IsTrue (names_none (seen_words c.as_slice-2.result.now) x.proof)) (others fs old.assertions))
-    c.as_slice-own.ensures.value c.in_ok-are_uncited.ensures))
+    c.as_slice-own.ensures.value c.in_ok-are_uncited.ensures.uncited))
     c.in_ok-out.ensures.written
     c.in_ok-out.ensures.comments
     (subst (λ (fs : List Bool). IsLookedAt old out changes fs then edited) c.as_slice-own.ensures.value c.in_ok-out.ensures.looked)

@@ -2,8 +2,8 @@
 use Rattle.std.proofs.Common.{◌≡◌, ◌∙◌, sym, rules}
 use Rattle.givetext.proofs.call.take_old.Goals as goal
 
-pub returns : goal.returns
-returns g c =
+pub returns-clause-taken : goal.returns-clause-taken
+returns-clause-taken g c =
     let same : c.as_slice.result.now ≡ c.args.library.now = search rules in
     record {
       path = c.in-Some.origin.path.now;

@@ -15,7 +15,7 @@ returns-clause-comments g c =
     let source = c.args.source.now in
     subst (λ (text : List ℕ). AreKept changes (seen_words c.args.following.now.gone.items) source text) c.as_slice-text.ensures.value
     (subst (λ (ws : List Word). AreKept changes ws source c.as_slice-text.result.now) (ap seen_words c.as_slice-gone.ensures.value)
-    c.in_ok-keep_comments.ensures)
+    c.in_ok-keep_comments.ensures.kept)
 
 pub returns-clause-looked : goal.returns-clause-looked
 returns-clause-looked g c =
@@ -23,4 +23,4 @@ returns-clause-looked g c =
     let then = map label_then (seen_following c.args.following.now).living in
     subst (λ (text : List ℕ). IsLookedAt old text c.args.changes.now c.args.own.now then c.args.replayed.now.edited)
     c.as_slice-text.ensures.value
-    c.in_ok-look_at.ensures
+    c.in_ok-look_at.ensures.looked

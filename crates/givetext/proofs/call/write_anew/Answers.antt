@@ -14,8 +14,8 @@ use Rattle.sourceediting.specs.Views.{seen_living}
 use Rattle.sourceediting.specs.Written.{IsWrittenAnew}
 use Rattle.givetext.proofs.call.write_anew.Goals as goal
 
-pub returns : goal.returns
-returns c =
+pub returns-clause-written : goal.returns-clause-written
+returns-clause-written c =
     let cs = c.args.changes.now in
     let source = c.args.source.now in
     let old = c.args.old.now.stand.scope in
@@ -29,4 +29,4 @@ returns c =
     (subst (λ (es : List Entry). IfOk c.write_edits.result (says es c.as_slice-living.result.now gone))
     c.as_slice-entries.ensures
     (subst (λ (ws : List (Bor (List ℕ))). IfOk c.write_edits.result
-    (says c.as_slice-entries.result.now c.as_slice-living.result.now (seen_words ws))) c.as_slice-gone.ensures.value c.write_edits.ensures))
+    (says c.as_slice-entries.result.now c.as_slice-living.result.now (seen_words ws))) c.as_slice-gone.ensures.value c.write_edits.ensures.written))
