@@ -156,11 +156,11 @@ fn put_names(alloc: Global, out: &mut Vec<u8>, names: &[(&[u8], Label)]) -> Resu
     Ok(())
 }
 
-/// Puts a reason, to the end of its line.
-fn put_reason(out: &mut Vec<u8>, reason: Reason) -> Result<(), AllocError>
-    ensures { OnOk result (out.new.items ≡ out.old.items ++ reason_line reason) }
+/// A reason as a comment tells it, to the end of its line.
+fn reason_text(reason: Reason) -> &'static [u8]
+    ensures { result.now ≡ reason_line reason }
 {
-    let text = match reason {
+    match reason {
         Reason::Unfinished => b": its proof is unfinished\n".as_slice(),
         Reason::TooLong => b": its proof has over 16384 steps\n".as_slice(),
         Reason::InFront => b": it stands in front of the choice\n".as_slice(),
@@ -168,8 +168,14 @@ fn put_reason(out: &mut Vec<u8>, reason: Reason) -> Result<(), AllocError>
         Reason::LongExpression => {
             b": an expression of its proof has over 65535 symbols\n".as_slice()
         }
-    };
-    out.extend_from_slice(text)
+    }
+}
+
+/// Puts a reason, to the end of its line.
+fn put_reason(out: &mut Vec<u8>, reason: Reason) -> Result<(), AllocError>
+    ensures { OnOk result (out.new.items ≡ out.old.items ++ reason_line reason) }
+{
+    out.extend_from_slice(reason_text(reason))
 }
 
 /// Puts the line of a theorem that is taken as an axiom.
