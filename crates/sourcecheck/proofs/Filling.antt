@@ -24,8 +24,8 @@ use Rattle.sourcecheck.specs.declared.frame.Demand.{Demand}
 use Rattle.sourcecheck.specs.declared.frame.Demand.TheVariants.{Typed, Equal}
 use Rattle.sourcecheck.specs.declared.frame.Frame.{Frame}
 use Rattle.sourcecheck.specs.declared.thesis.Thesis.{Thesis}
-use Rattle.sourcecheck.specs.Coded.{piece_value, filled, begins_with, is_typed, types_met, is_equal, equals_met, is_variable_of, is_pair_of}
-use Rattle.sourcecheck.specs.Coded.{symbols_apart, is_apart, are_apart, pairs_met, coded}
+use Rattle.sourcecheck.specs.Coded.{piece_value, filled, begins_with_number, is_typed, types_met, is_equal, equals_met, is_variable_of, is_pair_of_numbers}
+use Rattle.sourcecheck.specs.Coded.{numbers_apart, is_apart, are_numbers_apart, pairs_met, coded}
 use Rattle.sourcecheck.specs.Frames.{Part, found, part_in, part_of, asked_in, asked_of, variable_of, IsFrameOf}
 use Rattle.sourcecheck.specs.Shown.{IsThesisOf}
 
@@ -168,7 +168,7 @@ module _ (name : ℕ → Word) (injective : (m n : ℕ) → name m ≡ name n �
 
     -- ---- types
 
-    begins_named : (n : ℕ) (c : Word) (e : List ℕ) → name n ≡ c → starts_with c (map name e) ≡ begins_with n e
+    begins_named : (n : ℕ) (c : Word) (e : List ℕ) → name n ≡ c → starts_with c (map name e) ≡ begins_with_number n e
     begins_named n c [] h = refl
     begins_named n c (m ∷ e) h = ap (λ d. bytes_eq d (name m)) (sym h) ∙ same_number-sym n m
 
@@ -223,19 +223,19 @@ module _ (name : ℕ → Word) (injective : (m n : ℕ) → name m ≡ name n �
         ∙ any_mapped (bytes_eq (name n)) name t.floats.items
         ∙ any_alike (λ v. bytes_eq (name n) (name v)) (λ v. v == n) t.floats.items (same_number n)
 
-    pair_named : (u v : ℕ) (p : ℕ × ℕ) → is_pair (name u) (name v) (name p.0, name p.1) ≡ is_pair_of u v p
+    pair_named : (u v : ℕ) (p : ℕ × ℕ) → is_pair (name u) (name v) (name p.0, name p.1) ≡ is_pair_of_numbers u v p
     pair_named u v p =
         ap (λ b. (b && bytes_eq (name v) (name p.1)) || (bytes_eq (name u) (name p.1) && bytes_eq (name v) (name p.0))) (same_number u p.0)
         ∙ ap (λ b. ((p.0 == u) && b) || (bytes_eq (name u) (name p.1) && bytes_eq (name v) (name p.0))) (same_number v p.1)
         ∙ ap (λ b. ((p.0 == u) && (p.1 == v)) || (b && bytes_eq (name v) (name p.0))) (same_number u p.1)
         ∙ ap (λ b. ((p.0 == u) && (p.1 == v)) || ((p.1 == u) && b)) (same_number v p.0)
 
-    symbols_named : (u v : ℕ) → words_apart x (name u) (name v) ≡ symbols_apart t u v
+    symbols_named : (u v : ℕ) → words_apart x (name u) (name v) ≡ numbers_apart t u v
     symbols_named u v =
         ap (λ b. not b && list_any (is_pair (name u) (name v)) x.pairs) (same_number-sym u v)
         ∙ ap (λ ps. not (u == v) && list_any (is_pair (name u) (name v)) ps) (sym of.pairs)
         ∙ ap (λ b. not (u == v) && b) (any_mapped (is_pair (name u) (name v)) (λ p. (name p.0, name p.1)) t.pairs.items
-        ∙ any_alike (λ p. is_pair (name u) (name v) (name p.0, name p.1)) (is_pair_of u v) t.pairs.items (pair_named u v))
+        ∙ any_alike (λ p. is_pair (name u) (name v) (name p.0, name p.1)) (is_pair_of_numbers u v) t.pairs.items (pair_named u v))
 
     of_variables : (q : Word → Bool) (e : List ℕ)
         → list_all q (variables_in x (map name e)) ≡ list_all (λ n. not (is_variable_of t n) || q (name n)) e
@@ -245,14 +245,14 @@ module _ (name : ℕ → Word) (injective : (m n : ℕ) → name m ≡ name n �
         ∙ all_alike (λ n. not (list_any (is_float_of (name n)) x.active) || q (name n)) (λ n. not (is_variable_of t n) || q (name n)) e
         (λ n. ap (λ b. not b || q (name n)) (variable_named n))
 
-    apart_named : (d e : List ℕ) → expressions_apart x (map name d) (map name e) ≡ are_apart t d e
+    apart_named : (d e : List ℕ) → expressions_apart x (map name d) (map name e) ≡ are_numbers_apart t d e
     apart_named d e =
         of_variables (λ u. list_all (words_apart x u) (variables_in x (map name e))) d
         ∙ all_alike (λ n. not (is_variable_of t n) || list_all (words_apart x (name n)) (variables_in x (map name e)))
         (λ n. not (is_variable_of t n) || is_apart t n e) d
         (λ n. ap (λ b. not (is_variable_of t n) || b) (of_variables (words_apart x (name n)) e
         ∙ all_alike (λ m. not (is_variable_of t m) || words_apart x (name n) (name m))
-        (λ m. not (is_variable_of t m) || symbols_apart t n m) e
+        (λ m. not (is_variable_of t m) || numbers_apart t n m) e
         (λ m. ap (λ b. not (is_variable_of t m) || b) (symbols_named n m))))
 
     pairs_named : (c : Assertion) (ps : List (Piece × Piece)) (es : List (List ℕ)) → length c.hypotheses ≡ length (map (map name) es)
@@ -272,7 +272,7 @@ module _ (name : ℕ → Word) (injective : (m n : ℕ) → name m ≡ name n �
         ∙ ap (list_all (λ q. expressions_apart x (part_value vs q.0) (part_value vs q.1))) (sym h)
         ∙ all_mapped (λ q. expressions_apart x (part_value vs q.0) (part_value vs q.1)) (λ p. (part_of name p.0, part_of name p.1)) ps
         ∙ all_alike (λ p. expressions_apart x (part_value vs (part_of name p.0)) (part_value vs (part_of name p.1)))
-        (λ p. are_apart t (piece_value es p.0) (piece_value es p.1)) ps
+        (λ p. are_numbers_apart t (piece_value es p.0) (piece_value es p.1)) ps
         (λ p. ap (λ d. expressions_apart x d (part_value vs (part_of name p.1))) (sym (value_named es p.0))
         ∙ ap (λ e. expressions_apart x (map name (piece_value es p.0)) e) (sym (value_named es p.1))
         ∙ apart_named (piece_value es p.0) (piece_value es p.1))
@@ -285,10 +285,12 @@ module _ (name : ℕ → Word) (injective : (m n : ℕ) → name m ≡ name n �
     cited_named c f es is long =
         let vs = map (map name) es in
         let e = subst (filter_map (λ p. substitute p.0 p.1) (zip c.hypotheses vs)) c.statement in
-        ap (λ b. pick b (hypotheses_fit c vs) (pairs_fit x c vs) e) (types_named c.hypotheses es long f.demands.items c.hypotheses es is.demands)
+        ap (λ b. pick b (hypotheses_fit c vs) (pairs_fit x c vs) e) (types_named c.hypotheses es long f.demands.items c.hypotheses es
+        is.demands)
         ∙ ap (λ b. pick (types_met f.demands.items es) b (pairs_fit x c vs) e)
         (equals_named c.hypotheses es long f.demands.items c.hypotheses es is.demands)
         ∙ ap (λ b. pick (types_met f.demands.items es) (equals_met f.demands.items es) b e) (pairs_named c f.pairs.items es long is.pairs)
         ∙ ap (pick (types_met f.demands.items es) (equals_met f.demands.items es) (pairs_met t f.pairs.items es))
         (sym (filled_named c.hypotheses es long f.statement.items c.statement is.statement))
-        ∙ picked name (types_met f.demands.items es) (equals_met f.demands.items es) (pairs_met t f.pairs.items es) (filled es f.statement.items)
+        ∙ picked name (types_met f.demands.items es) (equals_met f.demands.items es) (pairs_met t f.pairs.items es)
+        (filled es f.statement.items)

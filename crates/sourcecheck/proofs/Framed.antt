@@ -158,7 +158,8 @@ kept_premises : (p : Hypothesis → Bool) → ((l : Word) (ws : List Word) → p
 kept_premises p keeps w [] = refl
 kept_premises p keeps w (typing l c v ∷ hs) =
     let rest = kept_premises p keeps w hs in
-    elim (p (typing l c v)) as (λ b. list_any (stands_in w) (cond b (typing l c v ∷ filter p hs) (filter p hs)) ≡ list_any (stands_in w) hs) [
+    elim (p (typing l c v)) as (λ b. list_any (stands_in w) (cond b (typing l c v ∷ filter p hs) (filter p hs)) ≡ list_any (stands_in w)
+    hs) [
       | true ↦ rest
       | false ↦ rest
     ]

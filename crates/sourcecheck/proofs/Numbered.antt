@@ -18,7 +18,8 @@ pub grows_on : (a b c : List Word) → Grows a b → Grows b c → Grows a c
 grows_on a b c g h = (g.0 ++ h.0, h.1 ∙ ap (λ l. l ++ h.0) g.1 ∙ append_assoc a g.0 h.0)
 
 pub lasts_on : (a b : List Word) (P : (ℕ → Word) → Type 0) → Grows a b → Lasts a P → Lasts b P
-lasts_on a b P g l = λ more. transport (λ ws. P (name_in ws)) (sym (append_assoc a g.0 more) ∙ ap (λ ws. ws ++ more) (sym g.1)) (l (g.0 ++ more))
+lasts_on a b P g l = λ more. transport (λ ws. P (name_in ws)) (sym (append_assoc a g.0 more) ∙ ap (λ ws. ws ++ more) (sym g.1))
+    (l (g.0 ++ more))
 
 pub lasts_now : (a : List Word) (P : (ℕ → Word) → Type 0) → Lasts a P → P (name_in a)
 lasts_now a P l = transport (λ ws. P (name_in ws)) (append-nil a) (l [])
@@ -145,5 +146,6 @@ table_more look look' ws w is none new v n = (to (bytes_eq w v) refl, of)
     of h = elim (got_of ws w v n h) [
       | inl g ↦ other g (bytes_eq w v) refl
       | inr p ↦
-          new v ∙ ap (λ b. if b then Some (length ws) else look v) (ap (bytes_eq w) (sym p.1) ∙ bytes_eq-same w) ∙ ap (λ k. Some k) (sym p.0)
+          new v ∙ ap (λ b. if b then Some (length ws) else look v) (ap (bytes_eq w) (sym p.1) ∙ bytes_eq-same w) ∙ ap (λ k. Some k)
+          (sym p.0)
     ]

@@ -96,7 +96,8 @@ refused_in s k unverified.NoMemory whole lt v h = tt
 
 -- ---- how many pass a test
 
-filter_more : {A : Type 0} (p : A → Bool) (xs : List A) (x : A) → length (filter p (xs ++ x ∷ [])) ≡ length (filter p xs) + length (filter p (x ∷ []))
+filter_more : {A : Type 0} (p : A → Bool) (xs : List A) (x : A) → length (filter p (xs ++ x ∷ [])) ≡ length (filter p xs) + length
+    (filter p (x ∷ []))
 filter_more p [] x = omega arith
 filter_more {A} p (y ∷ ys) x =
     let rest = filter_more p ys x in

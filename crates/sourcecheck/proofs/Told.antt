@@ -112,7 +112,8 @@ module _ (earlier : List Assertion) (x : Assertion) where
     fault_told count StatementDiffers h = inr (fault_of_is ∙ h)
 
     pub assertion_told : (r : Result (Unit {0}) ProofFault) → TellsProof earlier x proof r → TellsAssertion earlier x r
-    assertion_told (Ok u) h = transport (λ (o : Option Proof). IfSome o (λ p. is_unfinished p ≡ false → Derives earlier x p)) (sym is) (λ f. h)
+    assertion_told (Ok u) h = transport (λ (o : Option Proof). IfSome o (λ p. is_unfinished p ≡ false → Derives earlier x p)) (sym is)
+        (λ f. h)
     assertion_told (Err f) h = fault_told f.step f.kind h
 
   pub no_proof : x.proof ≡ None → IsVerified earlier x

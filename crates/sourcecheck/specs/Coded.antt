@@ -33,12 +33,12 @@ filled es ps = flat_map (piece_value es) ps
 
 -- ---- tests
 
-abbrev pub begins_with : ℕ → List ℕ → Bool
-begins_with c [] = false
-begins_with c (d ∷ e) = c == d
+abbrev pub begins_with_number : ℕ → List ℕ → Bool
+begins_with_number c [] = false
+begins_with_number c (d ∷ e) = c == d
 
 abbrev pub is_typed : Demand → List ℕ → Bool
-is_typed (Typed c) e = begins_with c e
+is_typed (Typed c) e = begins_with_number c e
 is_typed (Equal ps) e = true
 
 abbrev pub types_met : List Demand → List (List ℕ) → Bool
@@ -54,20 +54,20 @@ equals_met ds es = list_all (λ p. is_equal es p.0 p.1) (zip ds es)
 abbrev pub is_variable_of : Thesis → ℕ → Bool
 is_variable_of t n = list_any (λ v. v == n) t.floats.items
 
-abbrev pub is_pair_of : ℕ → ℕ → ℕ × ℕ → Bool
-is_pair_of u v p = ((p.0 == u) && (p.1 == v)) || ((p.1 == u) && (p.0 == v))
+abbrev pub is_pair_of_numbers : ℕ → ℕ → ℕ × ℕ → Bool
+is_pair_of_numbers u v p = ((p.0 == u) && (p.1 == v)) || ((p.1 == u) && (p.0 == v))
 
-abbrev pub symbols_apart : Thesis → ℕ → ℕ → Bool
-symbols_apart t u v = not (u == v) && list_any (is_pair_of u v) t.pairs.items
+abbrev pub numbers_apart : Thesis → ℕ → ℕ → Bool
+numbers_apart t u v = not (u == v) && list_any (is_pair_of_numbers u v) t.pairs.items
 
 abbrev pub is_apart : Thesis → ℕ → List ℕ → Bool
-is_apart t u e = list_all (λ v. not (is_variable_of t v) || symbols_apart t u v) e
+is_apart t u e = list_all (λ v. not (is_variable_of t v) || numbers_apart t u v) e
 
-abbrev pub are_apart : Thesis → List ℕ → List ℕ → Bool
-are_apart t d e = list_all (λ u. not (is_variable_of t u) || is_apart t u e) d
+abbrev pub are_numbers_apart : Thesis → List ℕ → List ℕ → Bool
+are_numbers_apart t d e = list_all (λ u. not (is_variable_of t u) || is_apart t u e) d
 
 abbrev pub pairs_met : Thesis → List (Piece × Piece) → List (List ℕ) → Bool
-pairs_met t ps es = list_all (λ p. are_apart t (piece_value es p.0) (piece_value es p.1)) ps
+pairs_met t ps es = list_all (λ p. are_numbers_apart t (piece_value es p.0) (piece_value es p.1)) ps
 
 -- ---- citations
 

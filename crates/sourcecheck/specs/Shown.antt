@@ -82,7 +82,8 @@ FailsBy o NotOneLeft = ⊥
 FailsBy o kind = option_and_then (λ s. last_failure s.entries) o ≡ Some kind
 
 -- a step leads from a stack to another, or fails
-abbrev pub Leads : (ℕ → Word) → List Assertion → Assertion → Step → Stack (List ℕ) → Stack (List ℕ) → Result (Unit {0}) ProofFaultKind → Type 0
+abbrev pub Leads : (ℕ → Word) → List Assertion → Assertion → Step → Stack (List ℕ) → Stack (List ℕ) → Result (Unit {0}) ProofFaultKind →
+    Type 0
 Leads name earlier x step old new result =
     MatchResult result (λ _. stepped (entry earlier x) earlier x.active (shown name old) step ≡ Some (shown name new))
     (FailsBy (stepped (entry earlier x) earlier x.active (shown name old) step))

@@ -2,7 +2,7 @@
 
 ghost use Rattle.std.specs.Prelude.{◌≡◌, ◌↔◌, ◌&&◌, ◌||◌, IsTrue, length, drop};
 ghost use mathlib.Core.Bool.{not};
-ghost use Rattle.sourcecheck.specs.Coded.{piece_value, filled, begins_with, is_typed, types_met, is_equal, equals_met, pairs_met, is_variable_of, symbols_apart, is_apart, are_apart};
+ghost use Rattle.sourcecheck.specs.Coded.{piece_value, filled, begins_with_number, is_typed, types_met, is_equal, equals_met, pairs_met, is_variable_of, numbers_apart, is_apart, are_numbers_apart};
 
 use crate::frame::{Demand, Piece};
 use crate::stack::Arguments;
@@ -11,7 +11,7 @@ use std::slice;
 
 /// Whether an expression begins with a symbol.
 fn begins_with(expression: &[u32], number: u32) -> bool
-    ensures { result ≡ begins_with number expression.now }
+    ensures { result ≡ begins_with_number number expression.now }
 {
     match expression.first() {
         None => false,
@@ -101,7 +101,7 @@ pub(crate) fn equals_met(demands: &[Demand], arguments: &Arguments) -> bool
 
 /// Whether a symbol is no variable, or is apart from a variable.
 fn lets(thesis: &Thesis, variable: u32, other: u32) -> bool
-    ensures { result ≡ (not (is_variable_of thesis.now other) || symbols_apart thesis.now variable other) }
+    ensures { result ≡ (not (is_variable_of thesis.now other) || numbers_apart thesis.now variable other) }
 {
     !thesis.is_variable(other) || thesis.are_apart(variable, other)
 }
@@ -124,7 +124,7 @@ fn lets_all(thesis: &Thesis, symbol: u32, expression: &[u32]) -> bool
 
 /// Whether each variable of an expression is apart from each of another.
 fn are_apart(thesis: &Thesis, expression: &[u32], others: &[u32]) -> bool
-    ensures { result ≡ are_apart thesis.now expression.now others.now }
+    ensures { result ≡ are_numbers_apart thesis.now expression.now others.now }
 {
     expression
         .iter()
@@ -133,7 +133,7 @@ fn are_apart(thesis: &Thesis, expression: &[u32], others: &[u32]) -> bool
 
 /// Whether what stands for the variables of a pair is apart.
 fn pair_met(thesis: &Thesis, pair: &(Piece, Piece), arguments: &Arguments) -> bool
-    ensures { result ≡ are_apart thesis.now (piece_value arguments.now pair.now.0) (piece_value arguments.now pair.now.1) }
+    ensures { result ≡ are_numbers_apart thesis.now (piece_value arguments.now pair.now.0) (piece_value arguments.now pair.now.1) }
 {
     are_apart(
         thesis,

@@ -136,7 +136,8 @@ pub(crate) fn name_labels<'a, D: Declared<'a>>(
     ensures keeps { OnOk result (Keeps table.old table.new) }
     ensures placed { IfOk result (λ ns. All (IsPlaced place) ns.items) }
     ensures named { IfOk result (λ ns. (x : Assertion) → slice_get (D.scope declared.now).assertions place ≡ Some x
-        → Lasts (words_of table.new) (λ name. AreNamed name (take place (D.scope declared.now).assertions) x (seen_words labels.now) ns.items)) }
+        → Lasts (words_of table.new) (λ name. AreNamed name (take place (D.scope declared.now).assertions) x (seen_words labels.now)
+        ns.items)) }
 {
     let mut named = Vec::with_capacity(alloc, labels.len())?;
     for label in labels {

@@ -42,7 +42,8 @@ fn check_counted<'a, D: Declared<'a>>(
     requires within { place < length (D.scope declared.now).assertions }
     requires many { place ≤ length frames.now }
     requires frames { Lasts (words_of table.old) (λ name. AreFrames name (take place (D.scope declared.now).assertions) frames.now) }
-    requires statement { option_map (λ a. a.statement) (slice_get (D.scope declared.now).assertions place) ≡ Some (seen_words statement.now) }
+    requires statement { option_map (λ a. a.statement) (slice_get (D.scope declared.now).assertions place)
+        ≡ Some (seen_words statement.now) }
     ensures keeps { OnOk result (Keeps table.old table.new) }
     ensures tells { (x : Assertion) → slice_get (D.scope declared.now).assertions place ≡ Some x
         → Tells (take place (D.scope declared.now).assertions) x (map (step_of (seen_words counted.entry.labels.items)) counted.entry.codes)
@@ -86,7 +87,8 @@ fn check_proof<'a, D: Declared<'a>>(
     requires within { place < length (D.scope declared.now).assertions }
     requires many { place ≤ length frames.now }
     requires frames { Lasts (words_of table.old) (λ name. AreFrames name (take place (D.scope declared.now).assertions) frames.now) }
-    requires statement { option_map (λ a. a.statement) (slice_get (D.scope declared.now).assertions place) ≡ Some (seen_words statement.now) }
+    requires statement { option_map (λ a. a.statement) (slice_get (D.scope declared.now).assertions place)
+        ≡ Some (seen_words statement.now) }
     ensures keeps { OnOk result (Keeps table.old table.new) }
     ensures tells { (x : Assertion) → slice_get (D.scope declared.now).assertions place ≡ Some x
         → TellsProof (take place (D.scope declared.now).assertions) x (seen_proof proof.now) result }
@@ -123,7 +125,8 @@ pub(crate) fn check_theorem<'a, D: Declared<'a>>(
     requires within { place < length (D.scope declared.now).assertions }
     requires many { place ≤ length frames.now }
     requires frames { Lasts (words_of table.old) (λ name. AreFrames name (take place (D.scope declared.now).assertions) frames.now) }
-    requires statement { option_map (λ a. a.statement) (slice_get (D.scope declared.now).assertions place) ≡ Some (seen_words statement.now) }
+    requires statement { option_map (λ a. a.statement) (slice_get (D.scope declared.now).assertions place)
+        ≡ Some (seen_words statement.now) }
     ensures keeps { OnOk result (Keeps table.old table.new) }
     ensures tells { (x : Assertion) → slice_get (D.scope declared.now).assertions place ≡ Some x
         → TellsAssertion (take place (D.scope declared.now).assertions) x result }

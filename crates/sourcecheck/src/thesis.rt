@@ -7,7 +7,7 @@ ghost use Rattle.source.specs.Views.{seen_hypotheses, seen_pairs};
 ghost use Rattle.sourcecheck.specs.Names.{words_of, IsSound, Keeps, Lasts};
 ghost use Rattle.sourcecheck.specs.Frames.{variable_of, names_of};
 ghost use Rattle.sourcecheck.specs.Shown.{IsThesisOf};
-ghost use Rattle.sourcecheck.specs.Coded.{is_variable_of, is_pair_of, symbols_apart};
+ghost use Rattle.sourcecheck.specs.Coded.{is_variable_of, is_pair_of_numbers, numbers_apart};
 
 use crate::framing::variable_of;
 use crate::table::Table;
@@ -31,7 +31,7 @@ impl Thesis {
 
     /// Whether two variables differ and are one of the pairs, in either order.
     pub(crate) fn are_apart(&self, first: u32, second: u32) -> bool
-        ensures { result ≡ symbols_apart self.now first second }
+        ensures { result ≡ numbers_apart self.now first second }
     {
         first != second && is_listed(self.pairs.as_slice(), first, second)
     }
@@ -39,14 +39,14 @@ impl Thesis {
 
 /// Whether two variables are those of a pair, in either order.
 fn is_pair_of(first: u32, second: u32, pair: &(u32, u32)) -> bool
-    ensures { result ≡ is_pair_of first second pair.now }
+    ensures { result ≡ is_pair_of_numbers first second pair.now }
 {
     (pair.0 == first && pair.1 == second) || (pair.1 == first && pair.0 == second)
 }
 
 /// Whether two variables are those of one of the pairs, in either order.
 fn is_listed(pairs: &[(u32, u32)], first: u32, second: u32) -> bool
-    ensures { result ≡ list_any (is_pair_of first second) pairs.now }
+    ensures { result ≡ list_any (is_pair_of_numbers first second) pairs.now }
 {
     pairs.iter().any(|pair| is_pair_of(first, second, pair))
 }

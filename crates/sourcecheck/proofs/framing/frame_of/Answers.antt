@@ -29,7 +29,8 @@ returns-clause-made g c = λ x at e said more.
     ∙ ap (λ ws. is_mandatory_variable hs ws w) said in
     record {
       demands = lasts_on (words_of c.demands_of.new.table) end
-          (λ name. map (asked_of name) c.in_ok-demands.demands.items ≡ map (asked_in hs) (seen_hypotheses c.in_ok-mandatory-2.field-0.items))
+          (λ name. map (asked_of name) c.in_ok-demands.demands.items ≡ map (asked_in hs)
+          (seen_hypotheses c.in_ok-mandatory-2.field-0.items))
           far (c.in_ok-demands.ensures.made hs variables) more ∙ ap (map (asked_in hs)) (sym second);
       statement = lasts_on (words_of c.pieces_of.new.table) end
           (λ name. map (part_of name) c.in_ok-statement.statement.items ≡ map (part_in hs) (seen_words c.args.words.now))

@@ -22,7 +22,8 @@ loop-pair-preserved-in_ok-push c = record {
       lasts_next parts_of (words_of c.loop-pair.table) (words_of c.pair_of.new.table) c.loop-pair.kept.items _
       c.in_ok-pair_of.field-0 (map (parts_in hs) (filter test (seen_pairs done))) _ _ c.in_ok-pair_of.ensures.keeps.grows
       c.in_ok-push.ensures.items
-      (ap (λ ps. map (parts_in hs) (filter test ps)) (map-append {B = Pair} (λ (p : Bor (List ℕ) × Bor (List ℕ)). (p.0.now, p.1.now)) done (pair ∷ []))
+      (ap (λ ps. map (parts_in hs) (filter test ps)) (map-append {B = Pair} (λ (p : Bor (List ℕ) × Bor (List ℕ)). (p.0.now, p.1.now))
+      done (pair ∷ []))
       ∙ ap (map (parts_in hs)) (kept_push test (seen_pairs done) seen (sym c.is_kept.ensures ∙ c.if-is_kept.true))
       ∙ map-append (parts_in hs) (filter test (seen_pairs done)) (seen ∷ []))
       (c.loop-pair.invariant.made hs is) (c.in_ok-pair_of.ensures.made hs is);

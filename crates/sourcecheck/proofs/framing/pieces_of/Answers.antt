@@ -24,5 +24,6 @@ loop-word-preserved c = record {
 
 pub returns-clause-made : goal.returns-clause-made
 returns-clause-made c = λ hs is.
-    subst (λ ws. Lasts (words_of c.loop-word.table) (λ name. map (part_of name) c.loop-word.pieces.items ≡ map (part_in hs) (seen_words ws)))
+    subst (λ ws. Lasts (words_of c.loop-word.table) (λ name. map (part_of name) c.loop-word.pieces.items ≡ map (part_in hs)
+    (seen_words ws)))
     (take_all c.loop-word.word-index c.args.words.now c.loop-word-test.false) (c.loop-word.invariant.made hs is)

@@ -9,7 +9,8 @@ use Rattle.sourcecheck.proofs.naming.named_by.Goals as goal
 
 pub returns-in-Some-clause-named : goal.returns-in-Some-clause-named
 returns-in-Some-clause-named g c = λ x at more.
-    assertion_named (g.D.Declared.scope c.args.declared.now) c.requires.whole c.args.place x at (name_in []) c.args.label.now c.in-Some.cited
+    assertion_named (g.D.Declared.scope c.args.declared.now) c.requires.whole c.args.place x at (name_in []) c.args.label.now
+    c.in-Some.cited
     (rw c.in-Some.is at c.earlier_place.ensures)
 
 pub returns-in-None-clause-placed : goal.returns-in-None-clause-placed

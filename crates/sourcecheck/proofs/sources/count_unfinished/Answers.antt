@@ -21,7 +21,8 @@ loop-place-preserved g c =
         few = omega (arith, w.count-is, old.few);
       }
       | else-is_unfinished_at w ↦ record {
-        counted = counted_off (λ (x : Assertion). option_map_or is_unfinished x.proof false) xs c.loop-place.place there.0 c.loop-place.count
+        counted = counted_off (λ (x : Assertion). option_map_or is_unfinished x.proof false) xs c.loop-place.place there.0
+            c.loop-place.count
             c.if-is_unfinished_at.count there.1 old.counted (sym said ∙ w.if-is_unfinished_at.false) w.count-is;
         few = omega (arith, w.count-is, old.few);
       }
