@@ -9,14 +9,16 @@ loop-place-preserved c =
     met_on (is_equal c.args.arguments.now) c.args.demands.now c.args.arguments.now c.loop-place.place c.index-demands-place.result []
     c.is_equal.result c.loop-place-test.true c.requires
     c.loop-place.invariant (c.is_equal.ensures ∙ ap (is_equal c.args.arguments.now _) c.at.ensures ∙ ap
-    (λ d. is_equal c.args.arguments.now d (get_or c.args.arguments.now c.loop-place.place [])) c.index-demands-place.is) c.if-not-is_equal.false
+    (λ d. is_equal c.args.arguments.now d (get_or c.args.arguments.now c.loop-place.place []))
+    c.index-demands-place.is) c.if-not-is_equal.false
 
 pub returns-then-not-is_equal : goal.returns-then-not-is_equal
 returns-then-not-is_equal c =
     met_off (is_equal c.args.arguments.now) c.args.demands.now c.args.arguments.now c.loop-place.place c.index-demands-place.result []
     c.is_equal.result c.loop-place-test.true c.requires
     c.loop-place.invariant (c.is_equal.ensures ∙ ap (is_equal c.args.arguments.now _) c.at.ensures ∙ ap
-    (λ d. is_equal c.args.arguments.now d (get_or c.args.arguments.now c.loop-place.place [])) c.index-demands-place.is) c.if-not-is_equal.true
+    (λ d. is_equal c.args.arguments.now d (get_or c.args.arguments.now c.loop-place.place []))
+    c.index-demands-place.is) c.if-not-is_equal.true
 
 pub returns : goal.returns
 returns c = met_all (is_equal c.args.arguments.now) c.args.demands.now c.args.arguments.now c.loop-place.place c.loop-place-test.false
