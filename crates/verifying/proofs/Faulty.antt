@@ -49,7 +49,7 @@ derives_or_fails earlier x proof e finished denotes =
           (sym (fault_is earlier x proof false e finished) ∙ h),
     )
 
-verified_is : (earlier : List Assertion) (x : Assertion) (o : Option Proof) → x.proof ≡ o → IfSome o (IsProofWhole earlier x)
+pub verified_is : (earlier : List Assertion) (x : Assertion) (o : Option Proof) → x.proof ≡ o → IfSome o (IsProofWhole earlier x)
     → IfSome o (λ proof. is_unfinished proof ≡ false → Derives earlier x proof) ↔ (fault_of earlier x ≡ None)
 unfolding of_proof
 verified_is earlier x None e whole = (λ h. ap (option_and_then (λ p. of_proof earlier x p (is_unfinished p))) e, λ h. tt)

@@ -64,8 +64,8 @@ TestsFail =
 
 -- ---- pairs
 
--- of dummies too, and in either order; one that is missing, or has another variable; one that is closed, and one that comes behind; two that
--- share a variable; a pair of a dummy of the cited assertion asks for nothing
+-- of dummies too, and in either order; one that is missing, or has another variable; one that is closed, and one that comes behind;
+-- two that share a variable; a pair of a dummy of the cited assertion asks for nothing
 abbrev pub PairsAreAsked : Type 0
 PairsAreAsked =
     map after (

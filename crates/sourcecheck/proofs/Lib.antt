@@ -1,0 +1,11 @@
+pub mod Spans
+pub mod Filling
+pub mod Zipped
+pub mod Leading
+pub mod Running
+pub mod Numbered
+pub mod Framed
+pub mod Labelled
+pub mod Counts
+pub mod Told
+pub mod Sourced

@@ -1,0 +1,161 @@
+//! What the steps of a proof count: the labels that its numbers mean, and its codes.
+
+ghost use Rattle.std.specs.Prelude.{◌≡◌, ◌+◌, ◌==◌, ◌++◌, List, map, None, IfOk, MatchOption};
+ghost use Rattle.std.specs.List.{list_any, flat_map};
+ghost use Rattle.source.specs.Statements.{normal, compressed};
+ghost use Rattle.source.specs.Scopes.{Hypothesis, label_of, is_unknown};
+ghost use Rattle.source.specs.Proofs.{Step, step_of, steps_of, is_unfinished};
+ghost use Rattle.source.specs.Proofs as proofs;
+ghost use Rattle.source.specs.Views.{seen_words, seen_proof, seen_hypothesis, seen_hypotheses};
+ghost use Rattle.sourcecheck.specs.Counted.{IsCounted};
+
+use mmsyntax::Sequence;
+use source::{Code, HypothesisWords, ProofWords, read_letters};
+use std::alloc::{AllocError, Global};
+
+/// The labels that numbers count, and the codes of the steps.
+#[derive(Drop)]
+pub(crate) struct Counted<'a> {
+    pub(crate) labels: Vec<&'a [u8]>,
+    pub(crate) codes: Sequence<Code>,
+}
+
+/// The number that follows. A source, of at most 268,435,456 bytes, has too few words for a number over `u32`; were there more, they would
+/// be refused as want of memory is.
+fn next_number(number: u32) -> Result<u32, AllocError>
+    ensures { IfOk result (λ next. next ≡ number + 1) }
+{
+    number.checked_add(1).ok_or(AllocError)
+}
+
+/// Whether a step of a proof isn't there.
+pub(crate) fn is_unfinished(proof: &ProofWords<'_>) -> bool
+    ensures { result ≡ is_unfinished (seen_proof proof.now) }
+{
+    match proof {
+        ProofWords::Normal(words) => has_unknown(words.as_slice()),
+        ProofWords::Compressed(_, letters) => has_unknown_letter(letters.as_slice()),
+    }
+}
+
+/// Whether a label is `?`.
+fn is_unknown(word: &[u8]) -> bool
+    ensures { result ≡ is_unknown word.now }
+{
+    word == b"?".as_slice()
+}
+
+/// Whether one of these labels is `?`.
+fn has_unknown(words: &[&[u8]]) -> bool
+    ensures { result ≡ list_any (λ w. is_unknown w.now) words.now }
+{
+    words.iter().any(|word| is_unknown(word))
+}
+
+/// Whether one of the letters of a word is `?`.
+fn has_question_mark(word: &[u8]) -> bool
+    ensures { result ≡ list_any (λ b. b == 63) word.now }
+{
+    word.contains(&b'?')
+}
+
+/// Whether one of the letters of these words is `?`.
+fn has_unknown_letter(words: &[&[u8]]) -> bool
+    ensures { result ≡ list_any (λ w. list_any (λ b. b == 63) w.now) words.now }
+{
+    words.iter().any(|word| has_question_mark(word))
+}
+
+/// The codes that count each label of a list once, in order.
+fn count_words(alloc: Global, words: &[&[u8]]) -> Result<Sequence<Code>, AllocError>
+    ensures { IfOk result (λ codes. map (step_of (seen_words words.now)) codes ≡ map (λ w. proofs.names w) (seen_words words.now)) }
+{
+    let mut codes = Vec::with_capacity(alloc, words.len())?;
+    let mut number = 0;
+    for _word in words {
+        number = next_number(number)?;
+        codes.push(Code::Number(number))?;
+    }
+    Ok(Sequence::from_vec(codes))
+}
+
+/// A normal proof: each of its words counts as itself.
+fn count_normal<'a>(alloc: Global, words: &[&'a [u8]]) -> Result<Counted<'a>, AllocError>
+    ensures { IfOk result (λ made. (hs : List Hypothesis) → IsCounted hs (normal (seen_words words.now)) made) }
+{
+    let codes = count_words(alloc, words)?;
+    let labels = Vec::from_slice(alloc, words)?;
+    Ok(Counted { labels, codes })
+}
+
+/// The label of a hypothesis.
+fn label_of<'a>(hypothesis: &HypothesisWords<'a>) -> &'a [u8]
+    ensures { result.now ≡ label_of (seen_hypothesis hypothesis.now) }
+{
+    match hypothesis {
+        HypothesisWords::Typing(label, _, _) => label,
+        HypothesisWords::Premise(label, _) => label,
+    }
+}
+
+/// The labels of hypotheses, and then others.
+fn labels_with<'a>(
+    alloc: Global,
+    hypotheses: Vec<&HypothesisWords<'a>>,
+    others: &[&'a [u8]],
+) -> Result<Vec<&'a [u8]>, AllocError>
+    ensures { IfOk result (λ made. seen_words made.items ≡ map label_of (seen_hypotheses hypotheses.entry.items) ++ seen_words others.now) }
+{
+    let mut labels = Vec::with_capacity(alloc, hypotheses.len())?;
+    for hypothesis in hypotheses {
+        labels.push(label_of(hypothesis))?;
+    }
+    labels.extend_from_slice(others)?;
+    Ok(labels)
+}
+
+/// The letters of words, one behind the other.
+fn joined(alloc: Global, words: &[&[u8]]) -> Result<Vec<u8>, AllocError>
+    ensures { IfOk result (λ made. made.items ≡ flat_map (λ w. w) (seen_words words.now)) }
+{
+    let mut letters = Vec::new(alloc);
+    for word in words {
+        letters.extend_from_slice(word)?;
+    }
+    Ok(letters)
+}
+
+/// A compressed proof: nothing where its letters may not stand so.
+fn count_compressed<'a>(
+    alloc: Global,
+    mandatory: Vec<&HypothesisWords<'a>>,
+    labels: &[&'a [u8]],
+    letters: &[&'a [u8]],
+) -> Result<Option<Counted<'a>>, AllocError>
+    ensures { let hs = seen_hypotheses mandatory.entry.items in let proof = compressed (seen_words labels.now) (seen_words letters.now) in
+        IfOk result (λ made. MatchOption made (steps_of hs proof ≡ None) (IsCounted hs proof)) }
+{
+    let joined = joined(alloc, letters)?;
+    let Some(codes) = read_letters(alloc, joined.as_slice())? else {
+        return Ok(None);
+    };
+    let labels = labels_with(alloc, mandatory, labels)?;
+    Ok(Some(Counted { labels, codes }))
+}
+
+/// What the steps of a proof count, where these are its mandatory hypotheses: nothing where its letters may not stand so.
+pub(crate) fn count_labels<'a>(
+    alloc: Global,
+    mandatory: Vec<&HypothesisWords<'a>>,
+    proof: &ProofWords<'a>,
+) -> Result<Option<Counted<'a>>, AllocError>
+    ensures { let hs = seen_hypotheses mandatory.entry.items in
+        IfOk result (λ made. MatchOption made (steps_of hs (seen_proof proof.now) ≡ None) (IsCounted hs (seen_proof proof.now))) }
+{
+    match proof {
+        ProofWords::Normal(words) => Ok(Some(count_normal(alloc, words.as_slice())?)),
+        ProofWords::Compressed(labels, letters) => {
+            count_compressed(alloc, mandatory, labels.as_slice(), letters.as_slice())
+        }
+    }
+}

@@ -1,0 +1,17 @@
+//! Checks the proofs of a source. Symbols are numbers, and a proof writes all its expressions down in one list of them.
+#![tactic(auto)]
+
+mod citing;
+mod counting;
+mod fitting;
+mod frame;
+mod framing;
+mod naming;
+mod sources;
+mod stack;
+mod stepping;
+mod table;
+mod theorem;
+mod thesis;
+
+pub use sources::{Unverified, check_source};

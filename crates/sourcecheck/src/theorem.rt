@@ -1,0 +1,141 @@
+//! Checks one theorem of a source.
+
+ghost use Rattle.std.specs.Prelude.{◌≡◌, ◌<◌, ◌≤◌, false, length, map, OnOk, Some, slice_get, take};
+ghost use Rattle.std.specs.Option.{option_map};
+ghost use Rattle.source.specs.Scopes.{Assertion};
+ghost use Rattle.source.specs.Proofs.{step_of, is_unfinished};
+ghost use Rattle.source.specs.Views.{seen_words, seen_proof};
+ghost use Rattle.source.specs.Whole.{IsWhole};
+ghost use Rattle.sourcecheck.specs.Names.{words_of, IsSound, Keeps, Lasts};
+ghost use Rattle.sourcecheck.specs.Frames.{AreFrames};
+ghost use Rattle.sourcecheck.specs.Shown.{Tells, TellsProof, TellsAssertion};
+
+use crate::counting::{Counted, count_labels, is_unfinished};
+use crate::frame::Frame;
+use crate::naming::name_labels;
+use crate::stepping::take_codes;
+use crate::table::Table;
+use crate::thesis::thesis_of;
+use derivation::{ProofFault, ProofFaultKind};
+use source::{Declared, ProofWords};
+use std::alloc::Global;
+
+/// A fault that no step has.
+fn fault(kind: ProofFaultKind) -> ProofFault
+    ensures { result.kind ≡ kind }
+{
+    ProofFault { step: 0, kind }
+}
+
+/// Checks the steps of a proof of the assertion at a place, with this statement. After an error nothing is said of the table.
+fn check_counted<'a, D: Declared<'a>>(
+    alloc: Global,
+    table: &mut Table<'a>,
+    frames: &[Frame],
+    declared: &D,
+    place: usize,
+    statement: &[&'a [u8]],
+    counted: Counted<'a>,
+) -> Result<(), ProofFault>
+    requires sound { IsSound table.old }
+    requires whole { IsWhole (D.scope declared.now) }
+    requires within { place < length (D.scope declared.now).assertions }
+    requires many { place ≤ length frames.now }
+    requires frames { Lasts (words_of table.old) (λ name. AreFrames name (take place (D.scope declared.now).assertions) frames.now) }
+    requires statement { option_map (λ a. a.statement) (slice_get (D.scope declared.now).assertions place)
+        ≡ Some (seen_words statement.now) }
+    ensures keeps { OnOk result (Keeps table.old table.new) }
+    ensures tells { (x : Assertion) → slice_get (D.scope declared.now).assertions place ≡ Some x
+        → Tells (take place (D.scope declared.now).assertions) x (map (step_of (seen_words counted.entry.labels.items)) counted.entry.codes)
+        result }
+{
+    let Ok(wanted) = table.numbers(alloc, statement) else {
+        return Err(fault(ProofFaultKind::NoMemory));
+    };
+    let Ok(active) = declared.active(alloc, place) else {
+        return Err(fault(ProofFaultKind::NoMemory));
+    };
+    let labels = counted.labels.as_slice();
+    let Ok(named) = name_labels(alloc, table, declared, place, &active, labels) else {
+        return Err(fault(ProofFaultKind::NoMemory));
+    };
+    let Ok(thesis) = thesis_of(alloc, table, declared, place) else {
+        return Err(fault(ProofFaultKind::NoMemory));
+    };
+    take_codes(
+        alloc,
+        frames,
+        &thesis,
+        named.as_slice(),
+        wanted.as_slice(),
+        counted.codes.as_slice(),
+    )
+}
+
+/// Checks a proof of the assertion at a place, with this statement. After an error nothing is said of the table.
+fn check_proof<'a, D: Declared<'a>>(
+    alloc: Global,
+    table: &mut Table<'a>,
+    frames: &[Frame],
+    declared: &D,
+    place: usize,
+    statement: &[&'a [u8]],
+    proof: &ProofWords<'a>,
+) -> Result<(), ProofFault>
+    requires sound { IsSound table.old }
+    requires whole { IsWhole (D.scope declared.now) }
+    requires within { place < length (D.scope declared.now).assertions }
+    requires many { place ≤ length frames.now }
+    requires frames { Lasts (words_of table.old) (λ name. AreFrames name (take place (D.scope declared.now).assertions) frames.now) }
+    requires statement { option_map (λ a. a.statement) (slice_get (D.scope declared.now).assertions place)
+        ≡ Some (seen_words statement.now) }
+    ensures keeps { OnOk result (Keeps table.old table.new) }
+    ensures tells { (x : Assertion) → slice_get (D.scope declared.now).assertions place ≡ Some x
+        → TellsProof (take place (D.scope declared.now).assertions) x (seen_proof proof.now) result }
+{
+    let Ok(mandatory) = declared.mandatory(alloc, place) else {
+        return Err(fault(ProofFaultKind::NoMemory));
+    };
+    match count_labels(alloc, mandatory, proof) {
+        Err(_) => Err(fault(ProofFaultKind::NoMemory)),
+        Ok(None) => Err(fault(ProofFaultKind::UnknownStep)),
+        Ok(Some(counted)) => check_counted(
+            alloc, table, frames, declared, place, statement, counted,
+        ),
+    }
+}
+
+/// Checks the assertion at a place, with this statement, over the frames of those before it: of an axiom, and of a theorem whose proof is
+/// unfinished, nothing is asked. After an error nothing is said of the table.
+///
+/// # Errors
+///
+/// The first fault of its proof. The kinds `NoMemory` and `TooLong` say that memory ran out, or that the expressions of the proof have over
+/// 2^28 symbols.
+pub(crate) fn check_theorem<'a, D: Declared<'a>>(
+    alloc: Global,
+    table: &mut Table<'a>,
+    frames: &[Frame],
+    declared: &D,
+    place: usize,
+    statement: &[&'a [u8]],
+) -> Result<(), ProofFault>
+    requires sound { IsSound table.old }
+    requires whole { IsWhole (D.scope declared.now) }
+    requires within { place < length (D.scope declared.now).assertions }
+    requires many { place ≤ length frames.now }
+    requires frames { Lasts (words_of table.old) (λ name. AreFrames name (take place (D.scope declared.now).assertions) frames.now) }
+    requires statement { option_map (λ a. a.statement) (slice_get (D.scope declared.now).assertions place)
+        ≡ Some (seen_words statement.now) }
+    ensures keeps { OnOk result (Keeps table.old table.new) }
+    ensures tells { (x : Assertion) → slice_get (D.scope declared.now).assertions place ≡ Some x
+        → TellsAssertion (take place (D.scope declared.now).assertions) x result }
+{
+    let Some(proof) = declared.proof(place) else {
+        return Ok(());
+    };
+    if is_unfinished(proof) {
+        return Ok(());
+    }
+    check_proof(alloc, table, frames, declared, place, statement, proof)
+}
