@@ -19,18 +19,24 @@ next_of : (x : Assertion) (xs : List Assertion) (k : ℕ) → (k ≡ 0 → ⊥) 
 next_of x xs zero some = absurd (some refl)
 next_of x xs (suc k) some = ap (slice_get xs) (let e : k ≡ suc k - 1 = omega arith in e)
 
-none_past : (flags : List Bool) (xs : List Assertion) (i k : ℕ) → length flags ≤ i → slice_get (others (drop i flags) (drop i xs)) k ≡ None
-none_past [] xs i k past = refl
-none_past (f ∷ fs) [] zero k past = absurd (omega arith)
-none_past (f ∷ fs) (y ∷ ys) zero k past = absurd (omega arith)
-none_past (f ∷ fs) [] (suc i) k past = none_past fs [] i k (omega arith)
-none_past (f ∷ fs) (y ∷ ys) (suc i) k past = none_past fs ys i k (omega arith)
+none_among : (flags : List Bool) (k : ℕ) → slice_get (others flags []) k ≡ None
+none_among [] k = refl
+none_among (f ∷ fs) k = refl
+
+none_past : (i k : ℕ) (flags : List Bool) (xs : List Assertion) → length flags ≤ i
+    → slice_get (others (drop i flags) (drop i xs)) k ≡ None
+none_past zero k [] xs past = refl
+none_past zero k (f ∷ fs) xs past = absurd (omega arith)
+none_past (suc i) k [] [] past = refl
+none_past (suc i) k [] (y ∷ ys) past = refl
+none_past (suc i) k (f ∷ fs) [] past = none_among (drop i fs) k
+none_past (suc i) k (f ∷ fs) (y ∷ ys) past = none_past i k fs ys (omega arith)
 
 module _ (flags : List Bool) (xs : List Assertion) (i left : ℕ) (found : Option Assertion)
     (so_far : found ≡ slice_get (others (drop i flags) (drop i xs)) left) where
   -- none of them is left
   pub found_none : length flags ≤ i → found ≡ None
-  found_none past = so_far ∙ none_past flags xs i left past
+  found_none past = so_far ∙ none_past i left flags xs past
 
   module _ (x : Assertion) (within : i < length flags) (at : slice_get xs i ≡ Some x) where
     next : (b : Bool) → get_or flags i false ≡ b

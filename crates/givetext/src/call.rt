@@ -129,7 +129,7 @@ fn takes_name<'a, D: Declared<'a>>(
     changes: &Changes<'_>,
     gone: &Changes<'_>,
 ) -> bool
-    ensures { IsTrue result → TakesName (D.scope declared.now) (seen_followed followed.now) changes.now gone.now }
+    ensures { IsTrue result → TakesName (D.scope declared.now) (seen_followed followed.entry.now) changes.now gone.now }
 {
     let then = followed.label_then();
     if let Some(source) = followed.source

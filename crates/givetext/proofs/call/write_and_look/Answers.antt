@@ -7,6 +7,9 @@ use Rattle.sourceediting.specs.Following.{label_then}
 use Rattle.sourceediting.specs.Views.{seen_following}
 use Rattle.std.specs.Prelude.{map}
 use Rattle.secondlook.specs.Looked.{IsLookedAt}
+use Rattle.std.proofs.lemmas.Result.{err_from_is_err_and}
+use Rattle.givetext.specs.Causes.{known_of}
+use Rattle.givetext.proofs.Stopped.{lost_cause}
 use Rattle.givetext.proofs.call.write_and_look.Goals as goal
 
 pub returns-clause-comments : goal.returns-clause-comments
@@ -24,3 +27,11 @@ returns-clause-looked g c =
     subst (λ (text : List ℕ). IsLookedAt old text c.args.changes.now c.args.own.now then c.args.replayed.now.edited)
     c.as_slice-text.ensures.value
     c.in_ok-look_at.ensures.looked
+
+pub returns-in_err-keep_comments-clause-refused : goal.returns-in_err-keep_comments-clause-refused
+returns-in_err-keep_comments-clause-refused g c =
+    let p = err_from_is_err_and c.from_residual-in_err-keep_comments.result c.from_residual-in_err-keep_comments.ensures.1 in
+    let k = known_of c.args.old.now.stand.scope c.args.taken.now c.args.replayed.now.entries c.args.replayed.now.edited
+    (seen_following c.args.following.now) c.args.changes.now c.args.own.now in
+    rw (p.1, p.2) (lost_cause k c.args.source.now c.in_ok-out.out.items c.in_err-keep_comments.field-0.0 c.in_ok-out.ensures.written
+    c.in_err-keep_comments.ensures.refused)

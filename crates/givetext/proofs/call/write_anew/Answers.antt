@@ -1,8 +1,8 @@
 -- What is left to show of `write_anew`.
 use Rattle.std.proofs.Common.{List, map, subst}
-use Rattle.std.specs.Prelude.{ℕ, IfOk, Vec}
+use Rattle.std.specs.Prelude.{ℕ}
 use Rattle.std.specs.Borrow.{Bor}
-use Rattle.std.specs.declared.alloc.Global.{Global}
+use Rattle.std.proofs.lemmas.Result.{err_from_is_err_and}
 use Rattle.mmtext.specs.Words.{Word}
 use Rattle.source.specs.Views.{seen_words}
 use Rattle.library.specs.declared.history.Entry.{Entry}
@@ -10,7 +10,10 @@ use Rattle.library.specs.declared.library.Ranked.{Ranked}
 use Rattle.sourceediting.specs.declared.following.Followed.{Followed as KeptAssertion}
 use Rattle.sourceediting.specs.Following.{all_commands}
 use Rattle.sourceediting.specs.Reproved.{AreOtherProofs}
-use Rattle.sourceediting.specs.Views.{seen_living}
+use Rattle.sourceediting.specs.Refusals.{HasCause}
+use Rattle.sourceediting.specs.Views.{seen_living, seen_following}
+use Rattle.givetext.specs.Causes.{known_of, edited_assertions}
+use Rattle.givetext.proofs.Stopped.{told_cause, edits_cause}
 use Rattle.sourceediting.specs.Written.{IsWrittenAnew}
 use Rattle.givetext.proofs.call.write_anew.Goals as goal
 
@@ -22,11 +25,21 @@ returns-clause-written c =
     let opened = c.args.taken.now.database.assertions in
     let edited = map (λ (r : Ranked). r.assertion) c.args.replayed.now.edited.entries in
     let gone = seen_words c.args.following.now.gone.items in
-    let says = λ (es : List Entry) (fs : List KeptAssertion) (ws : List Word) (out : Vec ℕ Global).
-    IsWrittenAnew (all_commands es) (seen_living fs) ws (AreOtherProofs source old opened edited (seen_living fs)) cs source out.items in
-    subst (λ (fs : List KeptAssertion). IfOk c.write_edits.result (says c.args.replayed.now.entries fs gone))
-    c.as_slice-living.ensures.value
-    (subst (λ (es : List Entry). IfOk c.write_edits.result (says es c.as_slice-living.result.now gone))
-    c.as_slice-entries.ensures
-    (subst (λ (ws : List (Bor (List ℕ))). IfOk c.write_edits.result
-    (says c.as_slice-entries.result.now c.as_slice-living.result.now (seen_words ws))) c.as_slice-gone.ensures.value c.write_edits.ensures.written))
+    let out = c.in_ok-write_edits.field-0.items in
+    let says = λ (es : List Entry) (fs : List KeptAssertion) (ws : List Word).
+    IsWrittenAnew (all_commands es) (seen_living fs) ws (AreOtherProofs source old opened edited (seen_living fs)) cs source out in
+    subst (λ (fs : List KeptAssertion). says c.args.replayed.now.entries fs gone) c.as_slice-living.ensures.value
+    (subst (λ (es : List Entry). says es c.as_slice-living.result.now gone) c.as_slice-entries.ensures
+    (subst (λ (ws : List (Bor (List ℕ))). says c.as_slice-entries.result.now c.as_slice-living.result.now (seen_words ws))
+    c.as_slice-gone.ensures.value c.in_ok-write_edits.ensures.written))
+
+pub returns-in_err-write_edits-clause-refused : goal.returns-in_err-write_edits-clause-refused
+returns-in_err-write_edits-clause-refused c =
+    let p = err_from_is_err_and c.from_residual-in_err-write_edits.result c.from_residual-in_err-write_edits.ensures.1 in
+    let k = known_of c.args.old.now.stand.scope c.args.taken.now c.args.replayed.now.entries c.args.replayed.now.edited
+    (seen_following c.args.following.now) c.args.changes.now c.args.own.now in
+    let source = c.args.source.now in
+    let e = c.in_err-write_edits.field-0.0 in
+    let cause = subst (λ (fs : List KeptAssertion). HasCause (seen_living fs) (edited_assertions k) source e)
+    c.as_slice-living.ensures.value c.in_err-write_edits.ensures.refused in
+    rw p.1 (told_cause k source e p.0 p.2 (edits_cause k source e cause))
