@@ -2,7 +2,7 @@
 use Rattle.std.specs.Prelude.{◌≡◌, ◌⊎◌, ℕ, ◌<◌, List, [], ◌++◌, map, take, find, filter, length, slice_get, slice_index_or}
 use Rattle.std.specs.Prelude.{Option, Some, None, Result, Ok, MatchResult}
 use Rattle.std.specs.Option.{option_and_then}
-use Rattle.std.specs.List.{filter_map as kept}
+use Rattle.std.specs.List.{filter_map}
 use Rattle.std.specs.Str.{bytes_eq}
 use Rattle.mmtext.specs.Words.{Word}
 use Rattle.mmsyntax.specs.Tables.{place_of}
@@ -29,7 +29,7 @@ shown name s = record { entries = map (shown_entry name) s.entries; marked = map
 
 -- the numbers of a theorem's variables and pairs stand for these
 pub record IsThesisOf (name : ℕ → Word) (t : Thesis) (x : Assertion) : Type 0 where
-  pub floats : map name t.floats.items ≡ kept variable_of x.active
+  pub floats : map name t.floats.items ≡ filter_map variable_of x.active
   pub pairs : map {B = Word × Word} (λ p. (name p.0, name p.1)) t.pairs.items ≡ x.pairs
 
 -- what stands while a proof of x is checked
