@@ -1,5 +1,5 @@
 -- A source with edits that was looked at.
-use Rattle.std.proofs.Common.{◌≡◌, ℕ, Bool, List, map, subst, ap}
+use Rattle.std.proofs.Common.{◌≡◌, ℕ, Bool, List, map, subst}
 use Rattle.std.specs.Prelude.{All, IsTrue}
 use Rattle.mmtext.specs.Words.{Word}
 use Rattle.source.specs.Scopes.{Scope}

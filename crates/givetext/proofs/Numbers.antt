@@ -1,6 +1,6 @@
 -- The assertions that flags don't choose, from a place on.
 use Rattle.std.proofs.Common.{◌≡◌, ◌∙◌, ℕ, zero, suc, ◌+◌, ◌-◌, ◌<◌, ◌≤◌, Bool, true, false, List, [], ◌∷◌, length, drop, get_or}
-use Rattle.std.proofs.Common.{Option, Some, None, add-one, refl, sym, ap, arith, subst}
+use Rattle.std.proofs.Common.{Option, Some, None, add-one, refl, ap, arith}
 use Rattle.std.specs.Prelude.{slice_get}
 use mathlib.Core.Bool.{not}
 use Rattle.source.specs.Scopes.{Assertion}

@@ -1,7 +1,7 @@
 -- Numbers of assertions in a text.
-use Rattle.std.proofs.Common.{◌≡◌, ◌∙◌, ℕ, Bool, true, false, cond, List, [], ◌∷◌, Option, Some, refl, sym, ap, subst}
+use Rattle.std.proofs.Common.{◌≡◌, ◌∙◌, ◌<◌, ℕ, Bool, true, false, cond, List, [], ◌∷◌, Some, get_or, length, refl, sym, ap, subst}
+use Rattle.std.proofs.lemmas.Option.{slice_get-get_or}
 use Rattle.std.specs.Prelude.{slice_get}
-use Rattle.std.specs.Option.{option_copied}
 use Rattle.std.specs.Str.{bytes_eq}
 use Rattle.std.specs.Borrow.{Bor}
 use Rattle.std.specs.HashMap as hash
@@ -13,7 +13,7 @@ use Rattle.mmsyntax.proofs.Names.{same_bytes}
 use Rattle.items.specs.declared.reading.Item.{Item as Found}
 use Rattle.items.specs.declared.reading.Kind.TheVariants.{Assertion}
 use Rattle.items.specs.Items.{Item, label_of}
-use Rattle.items.specs.Reading.{AreFound, AreItems, IsOfKind}
+use Rattle.items.specs.Reading.{AreFound, IsOfKind}
 use Rattle.arranging.proofs.Known.{found_at}
 use Rattle.arranging.proofs.Spelled.{found_spell}
 use Rattle.givetext.specs.Causes.{StandInOrder}
@@ -31,10 +31,16 @@ module _ (fs : List Found) (m n : HashMap (Bor (List ℕ)) ℕ RandomState) (x :
   pub numbers_more : hash.UpdatesBy (λ x y. bytes_eq x.now y.now) (λ k. bytes_eq x k.now) m n (Some v) → AreNumbers fs n
   numbers_more updates w a e = at w a (bytes_eq x w) refl (sym (hash_map_updates_str x m n (Some v) updates w) ∙ e)
 
--- what is found under a label
-pub number_found : (fs : List Found) (m : HashMap (Bor (List ℕ)) ℕ RandomState) (w : Word) (o : Option (Bor ℕ)) (a : Bor ℕ)
-    → AreNumbers fs m → o ≡ Some a → option_copied o ≡ hash.get_by (λ k. bytes_eq w k.now) m → IsNumber fs w a.now
-number_found fs m w o a are some is = are w a.now (sym is ∙ ap option_copied some)
+-- an item that is an assertion has its number
+pub numbered : (fs : List Found) (i : ℕ) (f : Found) (label : Bor (List ℕ)) → i < length fs → (get_or fs i f).kind ≡ Assertion label
+    → IsNumber fs label.now i
+numbered fs i f label within is = record {
+  item = get_or fs i f;
+  stands = slice_get-get_or fs i f within;
+  label = label;
+  kind = is;
+  labelled = refl;
+}
 
 -- ---- in the text
 

@@ -1,6 +1,6 @@
 -- From what single functions tell to why edits are not given back.
-use Rattle.std.proofs.Common.{◌≡◌, ◌∙◌, ℕ, Bool, List, map, inl, inr, refl, sym, subst}
-use Rattle.std.specs.Prelude.{◌≢◌, ◌⊎◌}
+use Rattle.std.proofs.Common.{◌≡◌, ℕ, Bool, List, inl, inr, sym, subst}
+use Rattle.std.specs.Prelude.{◌≢◌}
 use Rattle.source.specs.Scopes.{Scope}
 use Rattle.source.specs.Sources.{DeclaresText}
 use Rattle.taking.specs.Reasons.{Choice}
@@ -14,7 +14,7 @@ use Rattle.sourceediting.specs.Following.{Following, all_commands, behind_all, o
 use Rattle.sourceediting.specs.Refusals.{IsCitedCause, HasCause}
 use Rattle.sourceediting.specs.declared.refusal.Refusal.{Refusal as Unwritten}
 use Rattle.sourceediting.specs.declared.refusal.Refusal.TheVariants as edits
-use Rattle.givetext.specs.Causes.{Known, known_of, IsKnown, IsFollowed, IsJustified, IsRefused, IsTextThen, others_of, edited_assertions}
+use Rattle.givetext.specs.Causes.{Known, known_of, IsKnown, IsJustified, IsRefused, IsTextThen, others_of, edited_assertions}
 use Rattle.givetext.specs.Given.{IsTakenText}
 use Rattle.givetext.specs.Parts.{IsEditsRefusal, IsStopped, IsSourceRefusal, IsTakingRefusal, IsReplayRefusal, IsLoss}
 use Rattle.givetext.specs.declared.refusal.Refusal.{Refusal}

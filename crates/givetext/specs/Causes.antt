@@ -2,7 +2,6 @@
 use Rattle.std.specs.Prelude.{◌≡◌, ◌≢◌, ◌<◌, ◌||◌, ◌⊎◌, ℕ, Bool, false, List, [], ◌∷◌, map, Contains, Option, Some, None, IsTrue, slice_get}
 use Rattle.std.specs.Borrow.{Bor}
 use Rattle.mmtext.specs.Words.{Word}
-use Rattle.mmtext.specs.declared.fault.TextFault.{TextFault}
 use Rattle.mmsyntax.specs.declared.statement.Assertion.{Assertion as Unit'}
 use Rattle.source.specs.Scopes.{Assertion, Scope, is_in}
 use Rattle.source.specs.Sources.{DeclaresText}

@@ -1,5 +1,5 @@
 -- The line of a refusal.
-use Rattle.std.specs.Prelude.{ℕ, zero, suc, List, [], ◌∷◌, ◌++◌, Option, Some, None, codes, slice_index_or}
+use Rattle.std.specs.Prelude.{ℕ, zero, List, [], ◌∷◌, ◌++◌, Option, Some, codes, slice_index_or}
 use Rattle.mmtext.specs.FaultNames.{printed_fault}
 use Rattle.checking.specs.FaultLines.{fault_text, file_of}
 use Rattle.taketext.specs.Refusals.{shown}

@@ -1,7 +1,7 @@
 //! The call `give`: a library is taken of a source again, a history is done over it, and the source is written anew with its edits, and
 //! looked at again.
 
-ghost use Rattle.std.specs.Prelude.{◌≡◌, ◌≢◌, ℕ, Bool, List, IfOk, IfErr, IsTrue, OnOk, length, map};
+ghost use Rattle.std.specs.Prelude.{◌≡◌, ◌≢◌, ℕ, Bool, false, List, Some, IfOk, IfErr, IsTrue, OnOk, length, map};
 ghost use Rattle.source.specs.Scopes.{Assertion, is_in};
 ghost use Rattle.source.specs.Sources.{DeclaresText};
 ghost use Rattle.source.specs.Views.{seen_words};
@@ -122,6 +122,23 @@ fn replay_over(
     }
 }
 
+/// Whether an assertion has a label in the source.
+fn is_called(followed: &Followed<'_>, label: &[u8]) -> bool
+    ensures { (seen_followed followed.entry.now).source ≡ Some label.now → IsTrue result }
+{
+    match followed.source {
+        Some(source) => source == label,
+        None => false,
+    }
+}
+
+/// Whether a label isn't one of some.
+fn is_absent(labels: &Changes<'_>, label: &[u8]) -> bool
+    ensures { IsTrue result → is_in (map (λ c. c.0) labels.now) label.now ≡ false }
+{
+    labels.text_for(label).is_none()
+}
+
 /// Whether an assertion gets a label that it doesn't have in the source, and that is a name there, of something that keeps it.
 fn takes_name<'a, D: Declared<'a>>(
     declared: &D,
@@ -132,12 +149,10 @@ fn takes_name<'a, D: Declared<'a>>(
     ensures { IsTrue result → TakesName (D.scope declared.now) (seen_followed followed.entry.now) changes.now gone.now }
 {
     let then = followed.label_then();
-    if let Some(source) = followed.source
-        && source == then
-    {
+    if is_called(followed, then) || !declared.has_name(then) || !is_absent(changes, then) {
         return false;
     }
-    declared.has_name(then) && changes.text_for(then).is_none() && gone.text_for(then).is_none()
+    is_absent(gone, then)
 }
 
 /// No assertion gets a label that is a name of the source already.
