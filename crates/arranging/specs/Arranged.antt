@@ -1,5 +1,5 @@
 -- A source with items that leave their places, and with what is put in.
-use Rattle.std.specs.Prelude.{◌≡◌, ◌⊎◌, ℕ, Bool, true, false, List, [], ◌∷◌, ◌++◌, take, Option, Some, None, IsTrue, slice_get}
+use Rattle.std.specs.Prelude.{◌≡◌, ◌⊎◌, ℕ, Bool, true, false, List, [], ◌∷◌, ◌++◌, take, All, Option, Some, None, IsTrue, slice_get}
 use Rattle.std.specs.List.{flat_map, AllZip}
 use Rattle.std.specs.Option.{option_map}
 use Rattle.mmtext.specs.Words.{Word}
@@ -16,6 +16,7 @@ use Rattle.arranging.specs.declared.coming.Placed.TheVariants.{Stays, Goes as Le
 use Rattle.arranging.specs.Parts.{Edited, part_of, parts, unit_of}
 use Rattle.arranging.specs.Groups.{IsWritten}
 use Rattle.arranging.specs.Sections.{IsUnder}
+use Rattle.arranging.specs.Named.{IsNamedFrom}
 
 abbrev pub labels_of : List Item → List Word
 labels_of xs = flat_map label_of xs
@@ -107,3 +108,5 @@ pub record IsArranged (cs proofs : List Change) (e : Edited) (source out : List 
   pub layout : List Placed
   pub is_layout : IsLayout e [] old layout
   pub says : Says cs proofs old rest old layout out
+  -- what goes behind its description is what that describes
+  pub named : All (λ c. IsNamedFrom cs c (source_of c)) e.comings

@@ -8,3 +8,4 @@ pub mod Printing
 pub mod Held
 pub mod Lines
 pub mod LinesInside
+pub mod Named

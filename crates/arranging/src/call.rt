@@ -11,6 +11,7 @@ use crate::checking::Checker;
 use crate::coming::{Coming, Placed};
 use crate::describing::parts_of;
 use crate::layout::layout_of;
+use crate::naming::are_named_then;
 use crate::printing::Source;
 use giving::Changes;
 use items::Item;
@@ -90,6 +91,9 @@ pub fn arrange(
         })
         source.now out.items)) }
 {
+    if !are_named_then(alloc, edits.changes, comings)? {
+        return Ok(None);
+    }
     let parts = parts_of(alloc, edits.gone, edits.moving, source, items)?;
     let Some(layout) = laid_out(alloc, edits, source, items, parts.as_slice(), comings)? else {
         return Ok(None);

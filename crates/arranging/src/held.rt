@@ -13,7 +13,7 @@ use items::{Item, Kind};
 use std::alloc::{AllocError, Global};
 
 /// Whether the item at a place is an assertion with a label.
-fn is_labelled(items: &[Item<'_>], place: usize, label: &[u8]) -> bool
+pub(crate) fn is_labelled(items: &[Item<'_>], place: usize, label: &[u8]) -> bool
     ensures { (text : List ℕ) (old : List Pieces) → AreFound text 0 items.now old → IsTrue result
         → (x : Pieces) × (slice_get old place ≡ Some x) × (label_of x ≡ label.now ∷ []) }
 {

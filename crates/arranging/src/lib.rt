@@ -9,6 +9,7 @@ mod group;
 mod held;
 mod layout;
 mod lines;
+mod naming;
 mod printing;
 mod sections;
 

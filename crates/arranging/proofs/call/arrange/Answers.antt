@@ -45,5 +45,6 @@ returns c =
       spells = says.1;
       layout = layout;
       is_layout = is_layout;
+      named = c.in_ok-are_named_then.ensures c.if-not-branch.false;
       says = subst (λ ps. Says cs proofs old says.0 old ps out.items) c.as_slice-2.ensures.value says.2;
     }) made) (c.print.ensures old found)

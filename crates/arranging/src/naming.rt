@@ -1,0 +1,65 @@
+//! Whether what leaves its block stands under its own label behind what describes it.
+
+ghost use Rattle.std.specs.Prelude.{◌≡◌, All, IfOk, IsTrue};
+ghost use Rattle.giving.specs.Staying.{changed};
+ghost use Rattle.arranging.specs.Arranged.{source_of};
+ghost use Rattle.arranging.specs.Named.{BeginsWith, IsNamedFrom};
+
+use crate::coming::Coming;
+use crate::held::is_labelled;
+use giving::Changes;
+use items::read_items;
+use std::alloc::{AllocError, Global};
+
+/// The label that an assertion of the source has then.
+fn label_then<'c>(changes: &'c Changes<'_>, label: &'c [u8]) -> &'c [u8]
+    ensures { result.now ≡ changed changes.now label.now }
+{
+    match changes.text_for(label) {
+        Some(other) => other,
+        None => label,
+    }
+}
+
+/// Whether the first item of a text is the assertion with a label.
+fn begins_with(alloc: Global, text: &[u8], label: &[u8]) -> Result<bool, AllocError>
+    ensures { IfOk result (λ yes. IsTrue yes → BeginsWith text.now label.now) }
+{
+    let Some(items) = read_items(alloc, text)? else {
+        return Ok(false);
+    };
+    Ok(is_labelled(items.as_slice(), 0, label))
+}
+
+/// Whether one of the source goes as it stood, or is written anew under the label that it has then.
+fn is_named_then(
+    alloc: Global,
+    changes: &Changes<'_>,
+    coming: Coming<'_>,
+) -> Result<bool, AllocError>
+    ensures { IfOk result (λ yes. IsTrue yes → IsNamedFrom changes.now coming.entry (source_of coming.entry)) }
+{
+    let Some(label) = coming.source else {
+        return Ok(true);
+    };
+    if coming.back.is_empty() {
+        return Ok(true);
+    }
+    begins_with(alloc, coming.back, label_then(changes, label))
+}
+
+/// Whether each of these does.
+pub(crate) fn are_named_then(
+    alloc: Global,
+    changes: &Changes<'_>,
+    comings: &[Coming<'_>],
+) -> Result<bool, AllocError>
+    ensures { IfOk result (λ yes. IsTrue yes → All (λ c. IsNamedFrom changes.now c (source_of c)) comings.now) }
+{
+    for coming in comings {
+        if !is_named_then(alloc, changes, *coming)? {
+            return Ok(false);
+        }
+    }
+    Ok(true)
+}
