@@ -27,7 +27,7 @@ use Rattle.leaving.specs.Leaving.{open_behind}
 use Rattle.arranging.specs.declared.coming.Coming.{Coming}
 use Rattle.arranging.specs.Parts.{Edited, parts, unit_of, part_of, known_labels}
 use Rattle.arranging.specs.Groups.{IsWritten}
-use Rattle.arranging.specs.Arranged.{labels_of, AsItStood, IsParted, IsFrom, source_of}
+use Rattle.arranging.specs.Arranged.{labels_of, AsItStood, IsParted, IsFrom, label_in_source}
 use Rattle.arranging.specs.Arranged.{ends_described, IsDescription}
 use Rattle.arranging.specs.Sections.{IsUnder}
 use Rattle.arranging.specs.Places.{IsFree, IsWhole, MayCome}
@@ -162,14 +162,14 @@ module _ (e : Edited) (old : List Item) (ps : List Part) (are : ps ≡ parts e o
           written = anew;
         }
 
-pub comes_free : (e : Edited) (old : List Item) (c : Coming) → IsFree e old c.place → IsFrom e old (source_of c) c
+pub comes_free : (e : Edited) (old : List Item) (c : Coming) → IsFree e old c.place → IsFrom e old (label_in_source c) c
     → IsUnder e (take c.place old) c (drop c.place old) → MayCome e old c
 comes_free e old c free from under = (
   free.within,
   record {
     outermost = free.outermost;
     apart = free.apart;
-    from = subst (λ xs. IsFrom e xs (source_of c) c) (sym (take-append-drop c.place old)) from;
+    from = subst (λ xs. IsFrom e xs (label_in_source c) c) (sym (take-append-drop c.place old)) from;
     under = under;
   },
 )

@@ -56,14 +56,14 @@ abbrev pub IsFrom : Edited → List Item → Option Word → Coming → Type 0
 IsFrom e old None c = (unit_of old c ≡ []) × IsWritten c
 IsFrom e old (Some label) c = IsTrue (is_in e.moving label) × (AsItStood e old label c ⊎ IsParted e old label c)
 
-abbrev pub source_of : Coming → Option Word
-source_of c = option_map (λ w. w.now) c.source
+abbrev pub label_in_source : Coming → Option Word
+label_in_source c = option_map (λ w. w.now) c.source
 
 -- it is put in outside of blocks, not between a description and what that describes, and under the heading of what it follows
 pub record IsPutIn (e : Edited) (before : List Item) (c : Coming) (after : List Item) : Type 0 where
   pub outermost : open_behind 0 (parts e before) ≡ Some 0
   pub apart : ends_described (parts e before) ≡ false
-  pub from : IsFrom e (before ++ after) (source_of c) c
+  pub from : IsFrom e (before ++ after) (label_in_source c) c
   pub under : IsUnder e before c after
 
 -- ---- the whole
@@ -109,4 +109,4 @@ pub record IsArranged (cs proofs : List Change) (e : Edited) (source out : List 
   pub is_layout : IsLayout e [] old layout
   pub says : Says cs proofs old rest old layout out
   -- what goes behind its description is what that describes
-  pub named : All (λ c. IsNamedFrom cs c (source_of c)) e.comings
+  pub named : All (λ c. IsNamedFrom cs c (label_in_source c)) e.comings

@@ -5,7 +5,7 @@ ghost use Rattle.source.specs.Scopes.{is_in};
 ghost use Rattle.leaving.specs.Leaving.{open_behind, IsBlock};
 ghost use Rattle.items.specs.Items.{Item as Pieces};
 ghost use Rattle.arranging.specs.Parts.{Edited};
-ghost use Rattle.arranging.specs.Arranged.{AsItStood, IsParted, IsFrom, IsDescription, ends_described, labels_of, source_of};
+ghost use Rattle.arranging.specs.Arranged.{AsItStood, IsParted, IsFrom, IsDescription, ends_described, labels_of, label_in_source};
 ghost use Rattle.arranging.specs.Places.{AreDepths, IsFree, IsKnown, IsKnownOf, IsWhole, MayCome};
 
 use crate::coming::Coming;
@@ -260,7 +260,7 @@ impl<'c> Checker<'c> {
     /// Whether what comes is what it is said to be.
     fn is_from(&self, coming: Coming<'_>) -> bool
         ensures { (e : Edited) (source : List ℕ) (old : List Pieces) → IsKnown e source old self.now
-            → IsTrue result → IsFrom e old (source_of coming.entry) coming.entry }
+            → IsTrue result → IsFrom e old (label_in_source coming.entry) coming.entry }
     {
         match coming.source {
             None => coming.first == coming.end && is_written(coming),

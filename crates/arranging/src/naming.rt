@@ -2,7 +2,7 @@
 
 ghost use Rattle.std.specs.Prelude.{◌≡◌, All, IfOk, IsTrue};
 ghost use Rattle.giving.specs.Staying.{changed};
-ghost use Rattle.arranging.specs.Arranged.{source_of};
+ghost use Rattle.arranging.specs.Arranged.{label_in_source};
 ghost use Rattle.arranging.specs.Named.{BeginsWith, IsNamedFrom};
 
 use crate::coming::Coming;
@@ -37,7 +37,7 @@ fn is_named_then(
     changes: &Changes<'_>,
     coming: Coming<'_>,
 ) -> Result<bool, AllocError>
-    ensures { IfOk result (λ yes. IsTrue yes → IsNamedFrom changes.now coming.entry (source_of coming.entry)) }
+    ensures { IfOk result (λ yes. IsTrue yes → IsNamedFrom changes.now coming.entry (label_in_source coming.entry)) }
 {
     let Some(label) = coming.source else {
         return Ok(true);
@@ -54,7 +54,7 @@ pub(crate) fn are_named_then(
     changes: &Changes<'_>,
     comings: &[Coming<'_>],
 ) -> Result<bool, AllocError>
-    ensures { IfOk result (λ yes. IsTrue yes → All (λ c. IsNamedFrom changes.now c (source_of c)) comings.now) }
+    ensures { IfOk result (λ yes. IsTrue yes → All (λ c. IsNamedFrom changes.now c (label_in_source c)) comings.now) }
 {
     for coming in comings {
         if !is_named_then(alloc, changes, *coming)? {

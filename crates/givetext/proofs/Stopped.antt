@@ -38,7 +38,8 @@ module _ (k : Known) (source : List ℕ) where
   edits_cause edits.Unfit h = h
   edits_cause edits.NoMemory h = h
 
-  pub told_cause : (e : Unwritten) (why : Refusal) → IsEditsRefusal e why → IsJustified k source (refusal.Edits e) → IsJustified k source why
+  pub told_cause : (e : Unwritten) (why : Refusal) → IsEditsRefusal e why → IsJustified k source (refusal.Edits e)
+      → IsJustified k source why
   told_cause e why (inl none) h = subst (IsJustified k source) (sym none) tt
   told_cause e why (inr is) h = subst (IsJustified k source) (sym is) h
 

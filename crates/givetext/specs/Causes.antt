@@ -130,7 +130,8 @@ IsFirstOther k source x = (n : ℕ) × (slice_get (others_of k) n ≡ x) × IsUn
 
 -- the text with these edits has these assertions in this order, though the second is cited by the first
 abbrev pub WouldStandBehind : Known → List ℕ → Word → Word → Type 0
-WouldStandBehind k source label by = (out : List ℕ) × IsTextThen k source out × StandInOrder out by label × Cites k.changes (others_of k) by label
+WouldStandBehind k source label by =
+    (out : List ℕ) × IsTextThen k source out × StandInOrder out by label × Cites k.changes (others_of k) by label
 
 -- ---- each refusal, once the history was done again; of want of memory, of edits that can't be written, and of another prelude nothing is
 -- known, and of a lost comment just that there was a text

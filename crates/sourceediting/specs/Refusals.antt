@@ -6,7 +6,7 @@ use Rattle.source.specs.Statements.{Proof}
 use Rattle.source.specs.Scopes.{Assertion, is_in}
 use Rattle.source.specs.Whole.{labels_in}
 use Rattle.arranging.specs.declared.coming.Coming.{Coming}
-use Rattle.arranging.specs.Arranged.{source_of}
+use Rattle.arranging.specs.Arranged.{label_in_source}
 use Rattle.arranging.specs.Held.{IsHeldBehind}
 use Rattle.sourceediting.specs.declared.refusal.Refusal.{Refusal}
 use Rattle.sourceediting.specs.declared.refusal.Refusal.TheVariants as refusal
@@ -50,7 +50,7 @@ pub record IsInFront (living : List Followed) (edited : List Unit') (source : Li
   pub is_first : IsNumbered edited first label
   pub is_second : IsNumbered edited second next
   pub coming : Coming
-  pub comes : IsKnownAs living label (source_of coming)
+  pub comes : IsKnownAs living label (label_in_source coming)
   pub neighbour : Word
   pub stays : IsKnownAs living next (Some neighbour)
   pub held : IsHeldBehind source coming neighbour name

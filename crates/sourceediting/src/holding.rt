@@ -4,7 +4,7 @@ ghost use Rattle.std.specs.Prelude.{◌≡◌, Contains, IfOk, IfSome, IsTrue, S
 ghost use Rattle.std.specs.Option.{option_map};
 ghost use Rattle.mmtext.specs.Words.{Word};
 ghost use Rattle.items.specs.Reading.{AreItems};
-ghost use Rattle.arranging.specs.Arranged.{source_of};
+ghost use Rattle.arranging.specs.Arranged.{label_in_source};
 ghost use Rattle.arranging.specs.Held.{IsHeldBehind};
 ghost use Rattle.sourceediting.specs.Refusals.{HasCause, IsKnownAs};
 ghost use Rattle.sourceediting.specs.Views.{seen_followed, seen_living};
@@ -66,7 +66,7 @@ fn is_held(
     place: usize,
 ) -> Result<bool, AllocError>
     requires { AreItems known.now.text.now known.now.items.items }
-    ensures { IfOk result (λ held. IsTrue held → IsKnownAs (seen_living living.now) labels.entry.0.now (source_of coming.entry)
+    ensures { IfOk result (λ held. IsTrue held → IsKnownAs (seen_living living.now) labels.entry.0.now (label_in_source coming.entry)
         × ((neighbour : Word) × IsKnownAs (seen_living living.now) labels.entry.1.now (Some neighbour)
         × IsHeldBehind known.now.text.now coming.entry neighbour needed.entry.name.now)) }
 {

@@ -29,7 +29,8 @@ returns-clause-given g c =
     let edited = c.in_ok-replayed.replayed.edited in
     IfOk-weaker c.give_edits.result (λ out. IsEdited source old choice taken entries edited out.items)
     (λ out. IsGiven source library history out.items)
-    (λ out. given_by source library history out.items old taken entries edited c.in_ok-old.ensures.declares was c.in_ok-replayed.ensures.leads)
+    (λ out. given_by source library history out.items old taken entries edited c.in_ok-old.ensures.declares was
+    c.in_ok-replayed.ensures.leads)
     (c.give_edits.ensures.edited choice was.taken.chosen_are)
 
 pub returns-in_err-replayed-clause-refused : goal.returns-in_err-replayed-clause-refused

@@ -5,7 +5,7 @@ use Rattle.std.specs.Option.{option_map}
 use Rattle.std.proofs.lemmas.Option.{slice_get-map, slice_get_read}
 use Rattle.mmtext.specs.Words.{Word}
 use Rattle.library.specs.declared.library.Ranked.{Ranked}
-use Rattle.arranging.specs.Arranged.{source_of}
+use Rattle.arranging.specs.Arranged.{label_in_source}
 use Rattle.arranging.specs.Held.{IsHeldBehind}
 use Rattle.sourceediting.specs.Refusals.{IsNumbered, IsKnownAs}
 use Rattle.sourceediting.specs.Views.{seen_living}
@@ -40,7 +40,7 @@ returns c =
           (slice_get_read rs (length rs) c.args.next.0 found.second.now refl at'.0 (at'.1 found.second.now)) (sym c.in_ok-copy-2.ensures);
       coming = found.coming.now;
       comes =
-          subst (λ (w : Word). IsKnownAs living w (source_of found.coming.now)) (c.as_slice.ensures ∙ sym c.in_ok-copy.ensures) held.0;
+          subst (λ (w : Word). IsKnownAs living w (label_in_source found.coming.now)) (c.as_slice.ensures ∙ sym c.in_ok-copy.ensures) held.0;
       neighbour = held.1.0;
       stays = subst (λ (w : Word). IsKnownAs living w (Some held.1.0)) (c.as_slice-2.ensures ∙ sym c.in_ok-copy-2.ensures) held.1.1;
       held =
