@@ -40,7 +40,8 @@ returns c =
           (slice_get_read rs (length rs) c.args.next.0 found.second.now refl at'.0 (at'.1 found.second.now)) (sym c.in_ok-copy-2.ensures);
       coming = found.coming.now;
       comes =
-          subst (λ (w : Word). IsKnownAs living w (label_in_source found.coming.now)) (c.as_slice.ensures ∙ sym c.in_ok-copy.ensures) held.0;
+          subst (λ (w : Word). IsKnownAs living w (label_in_source found.coming.now))
+          (c.as_slice.ensures ∙ sym c.in_ok-copy.ensures) held.0;
       neighbour = held.1.0;
       stays = subst (λ (w : Word). IsKnownAs living w (Some held.1.0)) (c.as_slice-2.ensures ∙ sym c.in_ok-copy-2.ensures) held.1.1;
       held =
