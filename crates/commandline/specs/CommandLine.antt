@@ -31,6 +31,15 @@ workers_rule = record (new_rule (codes "workers")) {
   action = Some Set;
 }
 
+-- `--workers N`, of 1 to 64, where it is given
+abbrev pub checkers_rule : Rule
+checkers_rule = record (new_rule (codes "workers")) {
+  long = Some (codes "workers");
+  value_names = 1;
+  parser = Some (parser.Unsigned 1 64);
+  action = Some Set;
+}
+
 -- `--room W`, of at most 2^24
 abbrev pub room_rule : Rule
 room_rule = record (new_rule (codes "room")) {
@@ -97,18 +106,22 @@ take_app = with_rule (with_rule (with_rule (with_rule (new_app (codes "take")) f
 abbrev pub give_app : App
 give_app = with_rule (with_rule (with_rule (new_app (codes "give")) source_rule) library_rule) replayed_rule
 
+-- `verify [--workers N] SOURCE`
+abbrev pub verify_app : App
+verify_app = with_rule (with_rule (new_app (codes "verify")) checkers_rule) source_rule
+
 -- the program, before it has subcommands: it has a version, and wants one of them
 abbrev pub bare_app : App
 bare_app =
     let bare = new_app (codes "mmrefactor") in
     record bare { top = record bare.top { has_version = true; subcommand_required = true; arg_required_else_help = true } }
 
--- `mmrefactor`, with its five subcommands
+-- `mmrefactor`, with its six subcommands
 abbrev pub program_app : App
 program_app =
-    with_subcommand
+    with_subcommand (with_subcommand
     (with_subcommand (with_subcommand (with_subcommand (with_subcommand bare_app check_app.top) run_app.top) replay_app.top) take_app.top)
-    give_app.top
+    give_app.top) verify_app.top
 
 -- an argument with these rules
 abbrev pub IsArgument : Rule → Arg → Type 0

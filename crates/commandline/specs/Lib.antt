@@ -2,3 +2,4 @@ pub mod CommandLine
 pub mod Orders
 pub mod TakeOrders
 pub mod GiveOrders
+pub mod VerifyOrders

@@ -2,14 +2,14 @@
 
 ghost use Rattle.std.specs.Prelude.{IfOk};
 ghost use Rattle.clap.specs.Words.{App, Rule, with_rule, with_subcommand};
-ghost use Rattle.commandline.specs.CommandLine.{IsArgument, IsLine, file_rule, option_rule, workers_rule, room_rule, scripts_rule};
-ghost use Rattle.commandline.specs.CommandLine.{check_app, run_app, replay_app, take_app, give_app, program_app};
+ghost use Rattle.commandline.specs.CommandLine.{IsArgument, IsLine, file_rule, option_rule, workers_rule, checkers_rule, room_rule, scripts_rule};
+ghost use Rattle.commandline.specs.CommandLine.{check_app, run_app, replay_app, take_app, give_app, verify_app, program_app};
 
 use clap::builder::ValueParser;
 use clap::{Arg, ArgAction, Command};
 use std::alloc::{AllocError, Global};
 
-/// The most workers that a run has.
+/// The most workers that a run has, and the most threads that check proofs beside one another.
 pub(crate) const WORKERS: usize = 64;
 
 /// The most words that the store of a run has room for.
@@ -21,7 +21,7 @@ const DATABASE: &str = "A Metamath database";
 /// What is said of the history of a run.
 const HISTORY: &str = "The history of a run over it";
 
-/// What is said of the source that a library is taken of.
+/// What is said of a source.
 const SOURCE: &str = "A database in the whole language of Metamath, without $[";
 
 /// `NAME`: the path of a file that a job needs.
@@ -61,6 +61,18 @@ fn workers<'a>(alloc: Global) -> Arg<'a>
         .help("How many workers run the scripts, 1 to 64: each takes the next one")
         .value_parser(ValueParser::unsigned(1, WORKERS as u64))
         .default_value("1")
+        .action(ArgAction::Set)
+}
+
+/// `--workers N` of a command that checks proofs.
+fn checkers<'a>(alloc: Global) -> Arg<'a>
+    ensures { IsArgument checkers_rule result }
+{
+    Arg::new(alloc, "workers")
+        .long("workers")
+        .value_name("N")
+        .help("How many threads check proofs beside one another, 1 to 64; without it as many as processors")
+        .value_parser(ValueParser::unsigned(1, WORKERS as u64))
         .action(ArgAction::Set)
 }
 
@@ -223,9 +235,20 @@ fn give_line<'a>(alloc: Global) -> Result<Command<'a>, AllocError>
     with_argument(line, file(alloc, "HISTORY", HISTORY))
 }
 
+/// `mmrefactor verify [--workers N] SOURCE`.
+fn verify_line<'a>(alloc: Global) -> Result<Command<'a>, AllocError>
+    ensures { IfOk result (IsLine verify_app) }
+{
+    let line = Command::new(alloc, "verify")
+        .about("Checks all proofs of a database in the whole language; prints how many assertions it has")
+        .after_help("Example: mmrefactor verify set.mm")
+        .arg(checkers(alloc));
+    with_argument(line, file(alloc, "SOURCE", SOURCE))
+}
+
 /// The command lines that the program takes: `mmrefactor check DB`, `mmrefactor run [--workers N] [--room W] [--history FILE] DB SCRIPT..`,
-/// `mmrefactor replay DB HISTORY`, `mmrefactor take [--for LABEL].. [--from LABEL --to LABEL] SOURCE` and `mmrefactor give SOURCE LIBRARY
-/// HISTORY`.
+/// `mmrefactor replay DB HISTORY`, `mmrefactor take [--for LABEL].. [--from LABEL --to LABEL] SOURCE`, `mmrefactor give SOURCE LIBRARY
+/// HISTORY` and `mmrefactor verify [--workers N] SOURCE`.
 ///
 /// That `--from` and `--to` go together, and not with `--for`, is no rule of these lines.
 ///
@@ -244,5 +267,6 @@ pub fn command_line<'a>(alloc: Global) -> Result<Command<'a>, AllocError>
     let line = with_line(line, run_line(alloc));
     let line = with_line(line, replay_line(alloc));
     let line = with_line(line, take_line(alloc));
-    with_line(line, give_line(alloc))
+    let line = with_line(line, give_line(alloc));
+    with_line(line, verify_line(alloc))
 }

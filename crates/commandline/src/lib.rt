@@ -5,8 +5,10 @@ mod arguments;
 mod give_order;
 mod order;
 mod take_order;
+mod verify_order;
 
 pub use arguments::command_line;
 pub use give_order::{GiveOrder, give_of};
 pub use order::{Order, order_of};
 pub use take_order::{TakeOrder, take_of};
+pub use verify_order::{VerifyOrder, verify_of};

@@ -52,7 +52,7 @@ fn number_in(of: &ArgMatches<'_>, id: &str) -> Option<usize>
 }
 
 /// The number that an argument has, if it is given. None where it has a text that writes none below 2^64.
-fn number_if_given(of: &ArgMatches<'_>, id: &str) -> Option<Option<usize>>
+pub(crate) fn number_if_given(of: &ArgMatches<'_>, id: &str) -> Option<Option<usize>>
     ensures some { IfSome result (IsNumberIfGiven (one_of id.now (rows_of (found_of of.now)))) }
     ensures none { IsNone result → (n : Option ℕ) → IfSome n (λ m. m < 2 ^ 64)
         → IsNumberIfGiven (one_of id.now (rows_of (found_of of.now))) n → ⊥ }

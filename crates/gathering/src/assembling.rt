@@ -15,10 +15,10 @@ ghost use Rattle.gathering.specs.Gatherings.{told_in};
 ghost use Rattle.gathering.specs.Outcomes.{HasStepsFor};
 ghost use Rattle.gathering.specs.Placed.{map_of, tables_of, symbols_by};
 
-use crate::following::Follow;
 use crate::places::Placed;
 use crate::proving::{Outcome, outcome_at};
 use crate::saying::{placed_expression, placed_premises, restrictions};
+use following::Follow;
 use mmsyntax::{Assertion, Kind, Label, Proof};
 use prooftrees::Frames;
 use sites::{Active, active_at};

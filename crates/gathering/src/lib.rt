@@ -2,11 +2,9 @@
 #![tactic(auto)]
 
 mod assembling;
-mod following;
 mod places;
 mod proving;
 mod saying;
 
 pub use assembling::{Gathered, gather};
-pub use following::{Follow, Unfollowed};
 pub use places::Placed;

@@ -54,7 +54,7 @@ pub fn answer_give(
     ensures { IfOk result (IsGiveAnswer (seen_paths paths.entry) source.now library.now history.now) }
 {
     let given = give(rt, alloc, keys, source, library, history, follow);
-    follow.end_taking();
+    follow.end();
     match given {
         Ok(out) => Ok(Returned::Printed(out)),
         Err(Refusal::NoMemory) => Err(AllocError),

@@ -17,7 +17,8 @@ use crate::refusal::Refusal;
 use crate::rounds::take_placed;
 use crate::taken::Taken;
 use choosing::{Selection, Unchosen, Wish, choose};
-use gathering::{Follow, Placed};
+use following::Follow;
+use gathering::Placed;
 use prooftrees::Frames;
 use scopes::Scopes;
 use sites::{LibraryNames, Sites, name_all, sites_of};
@@ -126,7 +127,7 @@ pub fn take_declared<'a, 'w, D: Declared<'a>>(
     let chosen = selection.chosen.as_slice();
     let sites = sites_for(alloc, keys, declared, chosen)?;
     let names = names_for(alloc, keys, declared, &sites)?;
-    follow.begin_taking(count_chosen(chosen));
+    follow.begin_assertions(count_chosen(chosen));
     let placed = Placed {
         sites: &sites,
         names: &names,
@@ -184,6 +185,6 @@ pub fn take<'a, 'w>(
     ensures refused { IfErr result (λ why. why ≢ NoMemory → IsRefused text.now wish.entry why) }
 {
     let taken = take_text(rt, alloc, keys, text, wish, follow);
-    follow.end_taking();
+    follow.end();
     taken
 }

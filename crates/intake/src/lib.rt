@@ -9,6 +9,6 @@ mod rounds;
 mod taken;
 
 pub use call::{take, take_declared};
-pub use gathering::{Follow, Unfollowed};
+pub use following::{Follow, Unfollowed};
 pub use refusal::Refusal;
 pub use taken::Taken;

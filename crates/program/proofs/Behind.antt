@@ -1,10 +1,10 @@
 -- What is done behind what was done before.
-use Rattle.std.proofs.Common.{◌≡◌, ◌∙◌, ◌++◌, ◌∷◌, ◌<◌, ◌+◌, [], ℕ, List, Some, None, All, ap, append_assoc, append-nil, length, length-append, refl, sym, subst, arith, map, option_map, slice_index_or, Bor, Result, Ok, Err}
+use Rattle.std.proofs.Common.{◌≡◌, ◌∙◌, ◌++◌, ◌∷◌, ◌<◌, ◌+◌, [], ℕ, List, Option, Some, None, inr, All, ap, append_assoc, append-nil, length, length-append, refl, sym, subst, arith, map, option_map, slice_index_or, Bor, Result, Ok, Err}
 use Rattle.std.specs.Prelude.{slice_get}
 use Rattle.std.proofs.lemmas.Option.{slice_get-get_or, slice_get-map}
 use Rattle.std.proofs.lemmas.List.Elements.{All-append, All-cons, All-nil}
 use Rattle.program.specs.Events.{Adds, Bytes, Event, IsQuiet, reads}
-use Rattle.program.specs.Conduct.{EndsBy, IsReadBehind, reads_of}
+use Rattle.program.specs.Conduct.{EndsBy, IsReadBehind, IsReadThen, reads_of}
 
 pub adds_more : {a b c : List Event → Type 0} {es fs : List Event} → Adds a b es → Adds b c fs → Adds a c (es ++ fs)
 adds_more {a} {b} {c} {es} {fs} first next =
@@ -105,3 +105,14 @@ pub EndsBy-behind : {E : Type 0} (P Q : List Event → ℕ → Type 0) (front es
     → ((status : ℕ) → P es status → Q (front ++ es) status) → EndsBy P es r → EndsBy Q (front ++ es) r
 EndsBy-behind P Q front es (Ok status) quiet weaker ends = weaker status ends
 EndsBy-behind P Q front es (Err e) quiet weaker ends = All-append IsQuiet front es quiet ends
+
+-- one file read is quiet
+pub one_read : (path : Bytes) (got : Option Bytes) → All IsQuiet (reads path got ∷ [])
+one_read path got = All-cons IsQuiet (reads path got) [] tt (All-nil IsQuiet)
+
+-- what follows once a source is read
+pub read_then : {E : Type 0} (P : Bytes → List Event → ℕ → Type 0) (path source : Bytes) (rest : List Event) (r : Result ℕ E)
+    → EndsBy (P source) rest r → EndsBy (IsReadThen path P) (reads path (Some source) ∷ rest) r
+read_then P path source rest r ends =
+    EndsBy-behind (P source) (IsReadThen path P) (reads path (Some source) ∷ []) rest r (one_read path (Some source))
+    (λ status is. inr (source, rest, refl, is)) ends

@@ -1,6 +1,7 @@
 pub mod Behind
 pub mod Followed
 pub mod Taken
+mod Verified
 pub mod GivenBack
 pub mod Written
 pub mod Standing

@@ -1,23 +1,11 @@
 -- From a library that is taken and told to what a command line does.
-use Rattle.std.proofs.Common.{Bool, ◌≡◌, ◌∷◌, [], ℕ, List, Option, Some, All, inl, inr, refl, subst, Result}
-use Rattle.std.proofs.lemmas.List.Elements.{All-cons, All-nil}
+use Rattle.std.proofs.Common.{Bool, ◌≡◌, ℕ, List, Option, inl, inr, subst, Result}
 use Rattle.clap.specs.Words.{Row, Text}
 use Rattle.choosing.specs.declared.wish.Wish.{Wish}
 use Rattle.commandline.specs.TakeOrders.{IsTakeOrder}
-use Rattle.program.specs.Events.{Bytes, Event, IsQuiet, reads}
-use Rattle.program.specs.Conduct.{EndsBy, IsAnsweredTake, IsMatched, IsTakeDone, IsTakeFollowed, IsWishOf}
-use Rattle.program.proofs.Behind.{EndsBy-behind, EndsBy-weaker}
-
--- one file read is quiet
-pub one_read : (path : Bytes) (got : Option Bytes) → All IsQuiet (reads path got ∷ [])
-one_read path got = All-cons IsQuiet (reads path got) [] tt (All-nil IsQuiet)
-
-pub source_read : {E : Type 0} (keyed : Bool) (path source : Bytes) (w : Wish) (rest : List Event) (r : Result ℕ E)
-    → EndsBy (IsAnsweredTake keyed path source w) rest r
-    → EndsBy (IsTakeFollowed keyed path w) (reads path (Some source) ∷ rest) r
-source_read keyed path source w rest r ends =
-    EndsBy-behind (IsAnsweredTake keyed path source w) (IsTakeFollowed keyed path w) (reads path (Some source) ∷ []) rest r
-    (one_read path (Some source)) (λ status is. inr (source, rest, refl, is)) ends
+use Rattle.program.specs.Events.{Bytes, Event}
+use Rattle.program.specs.Conduct.{EndsBy, IsMatched, IsTakeDone, IsTakeFollowed, IsWishOf}
+use Rattle.program.proofs.Behind.{EndsBy-weaker}
 
 pub wished : {E : Type 0} (keyed : Bool) (path : Bytes) (words labels : List Bytes) (from to : Option Bytes) (w : Wish) (es : List Event)
     (r : Result ℕ E)

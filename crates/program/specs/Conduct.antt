@@ -22,6 +22,7 @@ use Rattle.program.specs.Events.{Bytes, Event, IsQuiet, reads, writes, prints, s
 use Rattle.commandline.specs.Orders.{AsksFor, IsOrder}
 use Rattle.commandline.specs.TakeOrders.{AsksToTake, IsTakeOrder}
 use Rattle.commandline.specs.GiveOrders.{AsksToGive}
+use Rattle.commandline.specs.VerifyOrders.{AsksToVerify}
 use Rattle.givetext.specs.Answers.{IsGiveAnswer}
 use Rattle.givetext.specs.declared.answering.Returned.{Returned}
 use Rattle.givetext.specs.declared.answering.Returned.TheVariants as returned
@@ -30,6 +31,9 @@ use Rattle.choosing.specs.declared.wish.Wish.TheVariants as wish
 use Rattle.taketext.specs.declared.answering.Told.{Told}
 use Rattle.taketext.specs.declared.answering.Told.TheVariants as told
 use Rattle.taketext.specs.Answers.{IsTakeAnswer}
+use Rattle.verifytext.specs.declared.answering.Verdict.{Verdict}
+use Rattle.verifytext.specs.declared.answering.Verdict.TheVariants as verdict
+use Rattle.verifytext.specs.Answers.{IsVerifyAnswer}
 
 -- ---- an answer
 
@@ -126,6 +130,14 @@ IsRead keyed task paths history es status =
 abbrev pub IsFollowed : Bool → Task → List Bytes → Option Bytes → List Event → ℕ → Type 0
 IsFollowed keyed task paths history es status = IsUnread paths es status ⊎ IsRead keyed task paths history es status
 
+-- ---- an order of one source
+
+-- the source can't be read, which is said, and the status is 1; or it is read, and then this follows of its bytes
+abbrev pub IsReadThen : Bytes → (Bytes → List Event → ℕ → Type 0) → List Event → ℕ → Type 0
+IsReadThen path P es status =
+    ((es ≡ reads path None ∷ says (path ++ codes ": cannot read") ∷ []) × (status ≡ 1))
+    ⊎ ((source : Bytes) × (rest : List Event) × (es ≡ reads path (Some source) ∷ rest) × P source rest status)
+
 -- ---- an order to take
 
 -- a library's text is printed, or the line of the refusal is said
@@ -138,11 +150,9 @@ abbrev pub IsAnsweredTake : Bool → Bytes → Bytes → Wish → List Event →
 IsAnsweredTake keyed path source w es status =
     ((told : Told) × IsTakeAnswer path source w told × IsTakeTold told es status) ⊎ IsUnkeyed keyed es status
 
--- the source can't be read, which is said, and the status is 1; or it is read, and then a library is taken of it
+-- the source is read, and then a library is taken of it
 abbrev pub IsTakeFollowed : Bool → Bytes → Wish → List Event → ℕ → Type 0
-IsTakeFollowed keyed path w es status =
-    ((es ≡ reads path None ∷ says (path ++ codes ": cannot read") ∷ []) × (status ≡ 1))
-    ⊎ ((source : Bytes) × (rest : List Event) × (es ≡ reads path (Some source) ∷ rest) × IsAnsweredTake keyed path source w rest status)
+IsTakeFollowed keyed path w es status = IsReadThen path (λ source. IsAnsweredTake keyed path source w) es status
 
 -- what is wished for by the labels of `--for`, and those of `--from` and `--to`
 abbrev pub IsWishOf : List Bytes → Option Bytes → Option Bytes → Wish → Type 0
@@ -177,6 +187,22 @@ IsGiveDone keyed source library history es status =
     ⊎ ((texts : List Bytes) × (rest : List Event) × (es ≡ reads_of (source ∷ library ∷ history ∷ []) texts ++ rest)
     × IsAnsweredGive keyed (source ∷ library ∷ history ∷ []) texts rest status)
 
+-- ---- an order to verify
+
+-- how much of a source was checked is printed, or the line of the refusal is said
+abbrev pub IsVerifyTold : Verdict → List Event → ℕ → Type 0
+IsVerifyTold (verdict.Verified line) es status = IsPrinted (string_bytes line) es status
+IsVerifyTold (verdict.Refused line) es status = IsSaid (string_bytes line) es status
+
+-- what is answered for a source is told; or the system gives no random numbers, which is said
+abbrev pub IsAnsweredVerify : Bool → Bytes → Bytes → List Event → ℕ → Type 0
+IsAnsweredVerify keyed path source es status =
+    ((told : Verdict) × IsVerifyAnswer path source told × IsVerifyTold told es status) ⊎ IsUnkeyed keyed es status
+
+-- the source is read, and then its proofs are checked
+abbrev pub IsVerifyDone : Bool → Bytes → List Event → ℕ → Type 0
+IsVerifyDone keyed path es status = IsReadThen path (IsAnsweredVerify keyed path) es status
+
 -- ---- a command line
 
 -- the parser's text is shown, and the status is 0 for help and the version, and 2 for all else; or it can't be, which is said, and it is 1
@@ -204,17 +230,23 @@ IsGiveOrdered keyed found es status =
     (source : Bytes) × (library : Bytes) × (history : Bytes) × AsksToGive found source library history
     × IsGiveDone keyed source library history es status
 
--- no subcommand, or one that asks for no task, and for nothing to take or to give back
+-- a subcommand with an order to verify, which is done, however many check
+abbrev pub IsVerifyOrdered : Bool → Option (Text × List Row) → List Event → ℕ → Type 0
+IsVerifyOrdered keyed found es status =
+    (path : Bytes) × (workers : Option ℕ) × AsksToVerify found path workers × IsVerifyDone keyed path es status
+
+-- no subcommand, or one that asks for no task, and for nothing to take, to give back or to verify
 abbrev pub IsUnasked : Option (Text × List Row) → List Event → ℕ → Type 0
 IsUnasked found es status =
     ((task : Task) → AsksFor found task → ⊥) × ((path : Bytes) → AsksToTake found path → ⊥)
     × ((source library history : Bytes) → AsksToGive found source library history → ⊥)
+    × ((path : Bytes) (workers : Option ℕ) → AsksToVerify found path workers → ⊥)
     × IsSaid (codes "the command line cannot be read") es status
 
 abbrev pub IsMatched : Bool → Option (Text × List Row) → List Event → ℕ → Type 0
 IsMatched keyed found es status =
     IsOrdered keyed found es status ⊎ (IsTakeOrdered keyed found es status
-    ⊎ (IsGiveOrdered keyed found es status ⊎ IsUnasked found es status))
+    ⊎ (IsGiveOrdered keyed found es status ⊎ (IsVerifyOrdered keyed found es status ⊎ IsUnasked found es status)))
 
 -- the words are none of the program's command lines, or ask for help or the version, which the parser tells by its error
 abbrev pub IsUsage : List Text → List Event → ℕ → Type 0

@@ -2,24 +2,26 @@
 
 ghost use Rattle.std.specs.Prelude.{is_some, ◌≡◌, ◌≢◌, ◌∷◌, [], List, Some, map, option_map, string_bytes};
 ghost use Rattle.checking.specs.declared.task.Task.{Task};
-ghost use Rattle.clap.specs.Words.{kind_of, subcommand_rows_of};
+ghost use Rattle.clap.specs.Words.{Text, kind_of, subcommand_rows_of};
 ghost use Rattle.jobs.specs.Jobs.{AreWithin};
 ghost use Rattle.program.specs.Events.{Event, Adds, says};
 ghost use Rattle.commandline.specs.Orders.{AsksFor, AsksWithin};
+ghost use Rattle.commandline.specs.GiveOrders.{AsksToGive};
 ghost use Rattle.program.specs.Conduct.{IsPrinted, IsWritten, IsTold, IsReadBehind, AreRead, IsUnreadTold, IsJobAnswered, IsAnswered, IsFollowed, IsShown, IsMatched, IsObeyed, EndsBy, Obeys};
 
 use crate::give::follow_give;
 use crate::take::obey_take;
+use crate::verify::follow_verify;
 use crate::world::{Trouble, World};
 use clap::ArgMatches;
 use clap::error::ErrorKind;
-use commandline::{Order, command_line, give_of, order_of};
+use commandline::{Order, command_line, give_of, order_of, verify_of};
 use jobs::{Answered, Job, RunOptions, Watch, answer, job_of, options_of};
+use following::Follow;
 use std::alloc::{AllocError, Global};
 use std::hash::RandomState;
 use std::sync::Wait;
 use std::thread::Threads;
-use taketext::Follow;
 
 /// Says why nothing was printed: one line, and status 1.
 pub(crate) fn refuse<W: World>(world: &mut W, line: &str) -> u8
@@ -211,9 +213,30 @@ fn show_usage<W: World>(world: &mut W, error: &clap::Error) -> u8
     refuse(world, "cannot write")
 }
 
-/// Gives edits back, or takes a library, where one of these is what was found in the words of a command line. Who follows is told how far
-/// that is.
-fn obey_other<R: Threads + Sync, W: World, F: Follow>(
+/// Checks the proofs of a source, or takes a library of it, where one of these is what was found in the words of a command line. Who follows
+/// is told how far that is.
+fn obey_source<R: Threads + Sync, W: World, F: Follow + Sync>(
+    rt: &R,
+    alloc: Global,
+    world: &mut W,
+    keys: Option<RandomState>,
+    matches: &ArgMatches<'_>,
+    follow: &F,
+) -> Result<u8, AllocError>
+    requires asks { (task : Task) → AsksFor (subcommand_rows_of matches.now) task → ⊥ }
+    requires gives { (source library history : Text) → AsksToGive (subcommand_rows_of matches.now) source library history → ⊥ }
+    ensures { (es : List Event) × Adds (W.done world.old) (W.done world.new) es
+        × EndsBy (IsMatched (is_some keys) (subcommand_rows_of matches.now)) es result }
+{
+    match verify_of(matches) {
+        Some(order) => follow_verify(rt, alloc, world, keys, order, follow),
+        None => obey_take(rt, alloc, world, keys, matches, follow),
+    }
+}
+
+/// Gives edits back, checks the proofs of a source, or takes a library of it, where one of these is what was found in the words of a command
+/// line. Who follows is told how far that is.
+fn obey_other<R: Threads + Sync, W: World, F: Follow + Sync>(
     rt: &R,
     alloc: Global,
     world: &mut W,
@@ -227,7 +250,7 @@ fn obey_other<R: Threads + Sync, W: World, F: Follow>(
 {
     match give_of(matches) {
         Some(order) => follow_give(rt, alloc, world, keys, order, follow),
-        None => obey_take(rt, alloc, world, keys, matches, follow),
+        None => obey_source(rt, alloc, world, keys, matches, follow),
     }
 }
 
@@ -283,7 +306,7 @@ fn try_obey<'a, R: Threads + Wait + Sync, W: World, V: Watch + Follow + Sync>(
 }
 
 /// Does what the words of a command line ask for, of which the first is the program's name, and answers the status that the program ends
-/// with. Who watches is told of a run, and how far a library is taken. It may wait.
+/// with. Who watches is told of a run, and how far the work on a source is. It may wait.
 ///
 /// All files are read, in their order, before anything else is done; a history is written before anything is printed; on the standard
 /// output stands nothing unless all is well, or just that can't be written; and where the status is 1, one line on the standard error says

@@ -8,10 +8,10 @@ use crate::conduct::{Unread, print_out, read_all, refuse, tell_unread};
 use crate::world::World;
 use commandline::GiveOrder;
 use givetext::{Paths, Returned, answer_give};
+use following::Follow;
 use std::alloc::{AllocError, Global};
 use std::hash::RandomState;
 use std::thread::Threads;
-use taketext::Follow;
 
 /// Tells an answer: what is printed, or the line of the refusal.
 fn tell_given<W: World>(world: &mut W, told: &Returned) -> u8

@@ -14,6 +14,7 @@ use crate::progress::Progress;
 use crate::whole::{read_whole, trouble_of, write_whole};
 use crate::world::{Trouble, World};
 use jobs::Watch;
+use following::Follow;
 use std::alloc::Global;
 use std::hash::RandomState;
 use std::io::Write;
@@ -23,7 +24,6 @@ use std::sync::Wait;
 use std::thread::Threads;
 use std::time::Clock;
 use std::{env, io};
-use taketext::Follow;
 
 /// Files, a standard output, and a runtime for the standard error, and for what the parser of command lines shows.
 #[derive(Drop)]

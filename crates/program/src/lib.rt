@@ -7,10 +7,13 @@ mod give;
 mod host;
 mod progress;
 mod take;
+mod verify;
 mod whole;
 mod world;
 
-pub use commandline::{GiveOrder, Order, TakeOrder, give_of, order_of, take_of};
+pub use commandline::{
+    GiveOrder, Order, TakeOrder, VerifyOrder, give_of, order_of, take_of, verify_of,
+};
 pub use conduct::obey;
 pub use disk::{Disk, SystemFiles};
 pub use host::{Host, run, run_on, run_over};

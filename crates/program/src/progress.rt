@@ -1,18 +1,18 @@
-//! A line of progress on the standard error while a run goes on, or a library is taken.
+//! A line of progress on the standard error while a run goes on, a library is taken, or proofs are checked.
 
+use following::Follow;
 use jobs::{Gate, Watch};
 use std::sync::atomic::Ordering::SeqCst;
 use std::sync::atomic::{AtomicBool, AtomicU64, AtomicUsize};
 use std::time::{Clock, Instant};
-use taketext::Follow;
 
-/// How long a run or a taking goes on without a line, in milliseconds.
+/// How long it goes on without a line, in milliseconds.
 const FIRST: u64 = 1000;
 
 /// How long a line stands at least before the next one, in milliseconds.
 const PAUSE: u64 = 100;
 
-/// Says how far a run is, or the taking of a library, on the standard error where that is a terminal: one line, which each later one
+/// Says how far a run is, or the work on a source, on the standard error where that is a terminal: one line, which each later one
 /// overwrites, and which is wiped at the end. Of the workers one at a time writes, and no other waits for it. What can't be written, or has
 /// no time by the clock, is left out.
 #[derive(Drop)]
@@ -24,8 +24,8 @@ pub(crate) struct Progress<'r, R> {
     scripts_done: AtomicUsize,
     transactions: AtomicUsize,
     transactions_done: AtomicUsize,
-    /// Whether a library is taken: then assertions are counted.
-    taking: AtomicBool,
+    /// Whether the work is on a source: then assertions are counted.
+    on_source: AtomicBool,
     assertions: AtomicUsize,
     assertions_done: AtomicUsize,
     /// From when on a line may be written, in milliseconds: never, where nothing goes on.
@@ -54,7 +54,7 @@ impl<'r, R: Eprint + Clock> Progress<'r, R> {
             scripts_done: AtomicUsize::new(0),
             transactions: AtomicUsize::new(0),
             transactions_done: AtomicUsize::new(0),
-            taking: AtomicBool::new(false),
+            on_source: AtomicBool::new(false),
             assertions: AtomicUsize::new(0),
             assertions_done: AtomicUsize::new(0),
             due: AtomicU64::new(NEVER),
@@ -79,8 +79,8 @@ impl<'r, R: Eprint + Clock> Progress<'r, R> {
         }
         self.due.store(now.saturating_add(PAUSE), SeqCst);
         self.shown.store(true, SeqCst);
-        if self.taking.load(SeqCst) {
-            self.write_taking();
+        if self.on_source.load(SeqCst) {
+            self.write_assertions();
         } else {
             self.write_run();
         }
@@ -99,8 +99,8 @@ impl<'r, R: Eprint + Clock> Progress<'r, R> {
         ));
     }
 
-    /// Overwrites the line that stands on the terminal, where a library is taken.
-    fn write_taking(&self) {
+    /// Overwrites the line that stands on the terminal, where the work is on a source.
+    fn write_assertions(&self) {
         let (done, all) = (
             self.assertions_done.load(SeqCst),
             self.assertions.load(SeqCst),
@@ -148,7 +148,7 @@ impl<R: Eprint + Clock> Watch for Progress<'_, R> {
         self.scripts_done.store(0, SeqCst);
         self.transactions.store(transactions, SeqCst);
         self.transactions_done.store(0, SeqCst);
-        self.taking.store(false, SeqCst);
+        self.on_source.store(false, SeqCst);
         self.due.store(now.saturating_add(FIRST), SeqCst);
     }
 
@@ -162,11 +162,11 @@ impl<R: Eprint + Clock> Follow for Progress<'_, R> {
         let Some(now) = self.now() else {
             return;
         };
-        self.taking.store(true, SeqCst);
+        self.on_source.store(true, SeqCst);
         self.due.store(now.saturating_add(FIRST), SeqCst);
     }
 
-    fn begin_taking(&self, assertions: usize) {
+    fn begin_assertions(&self, assertions: usize) {
         if self.made.is_none() {
             return;
         }
@@ -183,7 +183,7 @@ impl<R: Eprint + Clock> Follow for Progress<'_, R> {
         self.tell();
     }
 
-    fn end_taking(&self) {
+    fn end(&self) {
         self.wipe();
     }
 }

@@ -1,11 +1,12 @@
 //! How a library is taken: its source is read, and what is answered is told.
 
-ghost use Rattle.std.specs.Prelude.{is_some, ◌≡◌, [], List, IfOk, IfSome, IsNone, map, option_map};
+ghost use Rattle.std.specs.Prelude.{is_some, ◌≡◌, [], ℕ, List, Option, IfOk, IfSome, IsNone, map, option_map};
 ghost use Rattle.checking.specs.declared.task.Task.{Task};
 ghost use Rattle.choosing.specs.declared.wish.Wish.{Wish as WishOfTake};
 ghost use Rattle.clap.specs.Words.{Text, subcommand_rows_of};
 ghost use Rattle.commandline.specs.Orders.{AsksFor};
 ghost use Rattle.commandline.specs.GiveOrders.{AsksToGive};
+ghost use Rattle.commandline.specs.VerifyOrders.{AsksToVerify};
 ghost use Rattle.program.specs.Events.{Event, Adds};
 ghost use Rattle.program.specs.Conduct.{IsTakeTold, IsWishOf, IsAnsweredTake, IsTakeFollowed, IsTakeDone, IsMatched, EndsBy};
 
@@ -14,10 +15,11 @@ use crate::world::{Trouble, World};
 use choosing::Wish;
 use clap::ArgMatches;
 use commandline::{TakeOrder, take_of};
+use following::Follow;
 use std::alloc::{AllocError, Global};
 use std::hash::RandomState;
 use std::thread::Threads;
-use taketext::{Follow, Told, answer_take};
+use taketext::{Told, answer_take};
 
 /// The bytes of labels.
 fn label_bytes<'a>(alloc: Global, labels: &[&'a str]) -> Result<Vec<&'a [u8]>, AllocError>
@@ -161,6 +163,7 @@ pub(crate) fn obey_take<R: Threads + Sync, W: World, F: Follow>(
 ) -> Result<u8, AllocError>
     requires asks { (task : Task) → AsksFor (subcommand_rows_of matches.now) task → ⊥ }
     requires gives { (source library history : Text) → AsksToGive (subcommand_rows_of matches.now) source library history → ⊥ }
+    requires verifies { (path : Text) (workers : Option ℕ) → AsksToVerify (subcommand_rows_of matches.now) path workers → ⊥ }
     ensures { (es : List Event) × Adds (W.done world.old) (W.done world.new) es
         × EndsBy (IsMatched (is_some keys) (subcommand_rows_of matches.now)) es result }
 {

@@ -29,3 +29,4 @@ pub use laws::{
     comments_say_nothing, declared_behind_comments, sources_are_worded, spelled_behind_comments,
     white_space_ends_words,
 };
+pub use refusing::printed_name;

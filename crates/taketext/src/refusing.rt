@@ -8,8 +8,8 @@ use drafts::Limit;
 use intake::Refusal;
 use std::alloc::{AllocError, Global};
 
-/// A name as it is printed.
-fn shown(name: &[u8]) -> &str
+/// A name as it is printed: itself, where it is text, as each name of a source is; else a question mark.
+pub fn printed_name(name: &[u8]) -> &str
     ensures { result.now ≡ shown name.now }
 {
     match str::from_utf8(name) {
@@ -46,7 +46,7 @@ fn limit_text(alloc: Global, limit: Limit, name: Option<&[u8]>) -> Result<String
     match name {
         None => Ok(text),
         Some(name) => {
-            let name = shown(name);
+            let name = printed_name(name);
             format!(in alloc; "{name}: {text}")
         }
     }
@@ -59,20 +59,20 @@ fn refusal_text(alloc: Global, why: &Refusal<'_, '_>) -> Result<String, AllocErr
     match why {
         Refusal::Source(fault) => format!(in alloc; "text {fault}"),
         Refusal::UnknownLabel(label) => {
-            let label = shown(label);
+            let label = printed_name(label);
             format!(in alloc; "no assertion {label}")
         }
         Refusal::Backwards => format!(in alloc; "the first label stands behind the second"),
         Refusal::TooMany(n) => format!(in alloc; "{n} assertions: more than 4096"),
         Refusal::TooWide => format!(in alloc; "more than 65535 constants or $f"),
         Refusal::NoFreshName(word) => {
-            let word = shown(word);
+            let word = printed_name(word);
             format!(in alloc; "no free name for {word}")
         }
         Refusal::Passes(limit, name) => limit_text(alloc, *limit, *name),
         Refusal::Unlawful => format!(in alloc; "what is taken is not of the profile"),
         Refusal::Proof(label, fault) => {
-            let label = shown(label.as_slice());
+            let label = printed_name(label.as_slice());
             format!(in alloc; "proof of {label}: {fault}")
         }
         Refusal::NoMemory => format!(in alloc; "no memory"),

@@ -1,8 +1,8 @@
 use Rattle.std.specs.Prelude.{is_some}
 use Rattle.std.proofs.Common.{◌∷◌, ◌++◌, [], Some, None, codes, inl, refl}
 use Rattle.program.specs.Events.{reads, says}
-use Rattle.program.proofs.Behind.{adds_more}
-use Rattle.program.proofs.Taken.{one_read, source_read}
+use Rattle.program.specs.Conduct.{IsAnsweredTake}
+use Rattle.program.proofs.Behind.{adds_more, one_read, read_then}
 use Rattle.program.proofs.take.take_source.Goals as goal
 
 pub returns-in-Ok : goal.returns-in-Ok
@@ -12,7 +12,8 @@ returns-in-Ok g c =
     let path = c.args.path.now in (
       reads path (Some source) ∷ rest.0,
       adds_more c.in-Ok.ensures rest.1,
-      source_read (is_some c.args.keys) path source c.args.wish rest.0 c.answer_source.result (rw c.as_slice.ensures.value at rest.2),
+      read_then (λ source. IsAnsweredTake (is_some c.args.keys) path source c.args.wish) path source rest.0 c.answer_source.result
+          (rw c.as_slice.ensures.value at rest.2),
     )
 
 pub returns-in-Err-NoMemory : goal.returns-in-Err-NoMemory

@@ -1,6 +1,6 @@
 use Rattle.std.proofs.Common.{◌∙◌, sym}
 use Rattle.taketext.proofs.Shown.{shown_text, shown_otherwise}
-use Rattle.taketext.proofs.refusing.shown.Goals as goal
+use Rattle.taketext.proofs.refusing.printed_name.Goals as goal
 
 pub returns-in-Ok : goal.returns-in-Ok
 returns-in-Ok c =

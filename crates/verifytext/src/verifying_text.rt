@@ -1,0 +1,73 @@
+//! Checks all proofs of a source, from its text.
+
+ghost use Rattle.std.specs.Prelude.{IfOk, IfErr};
+ghost use Rattle.verifytext.specs.Verdicts.{IsVerifiedText, IsRefused};
+
+use crate::refusal::Refusal;
+use following::Follow;
+use scopes::Scopes;
+use source::Declared;
+use source::laws::sources_are_whole;
+use sourcecheck::check_source;
+use sourcereader::read_source;
+use std::alloc::Global;
+use std::hash::RandomState;
+use std::thread::Threads;
+
+/// How much of a source was looked at.
+#[derive(Clone, Copy, Debug, PartialEq, Eq)]
+pub struct Verified {
+    /// How many assertions it has, axioms and theorems.
+    pub assertions: usize,
+    /// How many of its proofs are unfinished: a step of theirs isn't there (`?`).
+    pub unfinished: usize,
+}
+
+/// Reads a source, and checks its proofs. Who follows is told how far it is, but not that it is at its end.
+fn verify_text<'a>(
+    rt: &(impl Threads + Sync),
+    alloc: Global,
+    keys: RandomState,
+    text: &'a [u8],
+    workers: Option<usize>,
+    follow: &(impl Follow + Sync),
+) -> Result<Verified, Refusal<'a>>
+    ensures verified { IfOk result (IsVerifiedText text.now) }
+    ensures refused { IfErr result (IsRefused text.now) }
+{
+    follow.begin_reading();
+    let scopes = read_source(alloc, Scopes::new(alloc, keys), text)?;
+    sources_are_whole();
+    let assertions = scopes.assertions();
+    follow.begin_assertions(assertions);
+    let unfinished = check_source(rt, alloc, keys, workers, &scopes, follow)?;
+    Ok(Verified {
+        assertions,
+        unfinished,
+    })
+}
+
+/// Checks all proofs of a source in the whole language, by so many threads beside one another, or as many as there are processors.
+///
+/// Ok only where the text declares a source each of whose finished proofs derives its statement; nothing is asked of an unfinished proof but
+/// that each of its steps takes what is there. The same is answered whatever the threads do. Who follows is told how far it is.
+///
+/// # Errors
+///
+/// The text's fault; or the first theorem in the order of the source whose proof has a fault, with its first step at fault; or want of
+/// memory at any time.
+pub fn verify<'a>(
+    rt: &(impl Threads + Sync),
+    alloc: Global,
+    keys: RandomState,
+    text: &'a [u8],
+    workers: Option<usize>,
+    follow: &(impl Follow + Sync),
+) -> Result<Verified, Refusal<'a>>
+    ensures verified { IfOk result (IsVerifiedText text.now) }
+    ensures refused { IfErr result (IsRefused text.now) }
+{
+    let verified = verify_text(rt, alloc, keys, text, workers, follow);
+    follow.end();
+    verified
+}
