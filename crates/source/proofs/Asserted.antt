@@ -9,7 +9,7 @@ use Rattle.std.proofs.lemmas.List.Sums.{AllPass-from_list_all}
 use Rattle.mmtext.specs.declared.fault.FaultKind.TheVariants.{UnknownSymbol, NotActive, NoTypeFor}
 use Rattle.mmtext.specs.Words.{Word, is_label}
 use Rattle.source.specs.Statements.{Proof, normal, compressed}
-use Rattle.source.specs.Scopes.{Hypothesis, typing, premise, Assertion, Scope, is_in, is_float_of, has_float, is_named}
+use Rattle.source.specs.Scopes.{Hypothesis, typing, premise, Assertion, Scope, is_in, is_float_of, has_float}
 use Rattle.source.specs.Scopes.{is_unknown}
 use Rattle.source.specs.Proofs.{taken_by, is_unfinished}
 use Rattle.source.specs.Tests.{label_tests, type_tests, symbol_tests, step_tests, cited_tests, letter_tests, passes, all_pass}

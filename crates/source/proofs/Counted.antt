@@ -1,21 +1,20 @@
 -- What a step leads to, on a stack of which the counts are known.
-use Rattle.std.proofs.Common.{◌≡◌, ℕ, zero, suc, ◌-◌, ◌<◌, ◌≤◌, Bool, true, false, List, [], ◌∷◌, ◌++◌, length, get_or, refl, sym, ap}
+use Rattle.std.proofs.Common.{◌≡◌, ℕ, zero, suc, ◌-◌, ◌<◌, ◌≤◌, Bool, true, false, List, [], ◌∷◌, length, get_or, refl, sym, ap}
 use Rattle.std.proofs.Common.{subst, ◌∙◌, inl, inr, arith}
-use Rattle.std.specs.Prelude.{Option, Some, None, find, nat_le, slice_get, if◌then◌else◌}
+use Rattle.std.specs.Prelude.{Option, Some, None, find, nat_le, if◌then◌else◌}
 use Rattle.std.specs.Option.{option_map}
 use Rattle.std.specs.List.{list_any}
 use Rattle.std.specs.Str.{bytes_eq}
 use mathlib.Core.Bool.{not}
 use Rattle.std.proofs.lemmas.Bool.{cases_Bool, cases_lt, le-leb, lt-leb, cond-true, cond-false}
 use Rattle.std.proofs.lemmas.Option.{some_pair_parts, slice_get-get_or, slice_get_past}
-use Rattle.std.proofs.lemmas.List.{length-append}
 use Rattle.mmtext.specs.Words.{Word}
 use Rattle.source.specs.declared.entries.Citation.{Citation}
 use Rattle.source.specs.declared.entries.Citation.TheVariants as citation
 use Rattle.source.specs.declared.entries.Entries.{Entries}
 use Rattle.source.specs.Scopes.{Hypothesis, label_of, Assertion}
-use Rattle.source.specs.Proofs.{Step, names, again, marks, unknown, numbered, taken_by, may_be_marked, is_placed}
-use Rattle.source.specs.Proofs.{Stack, pop, put, cite, repeat, mark, stepped, there}
+use Rattle.source.specs.Proofs.{Step, names, again, unknown, numbered, taken_by, may_be_marked, is_placed}
+use Rattle.source.specs.Proofs.{Stack, pop, put, cite, repeat, stepped, there}
 use Rattle.source.specs.Counts.{counts, citation_of, HaveCitations, IsStep}
 
 -- ---- entries come off
@@ -57,10 +56,14 @@ cited w s (Some hs) k e =
           ∙ at_k
     ]
 
+-- none is there always
+pub always : (n : ℕ) → nat_le 0 n ≡ true
+always n = le-leb 0 n (omega arith)
+
 -- an entry goes on
 put_one : (n m : ℕ) → Some (suc n, m) ≡ taken 0 n m
 put_one n m =
-    ap (λ b. if b then Some (suc n, m) else None) (sym (le-leb 0 n (omega arith)))
+    ap (λ b. if b then Some (suc n, m) else None) (sym (always n))
     ∙ ap (λ i. if nat_le 0 n then Some (suc i, m) else None) (let e : n ≡ n - 0 = omega arith in e)
 
 -- ---- what the code says of its counts
@@ -185,52 +188,6 @@ module _ (earlier : List Assertion) (active : List Hypothesis) where
         leads = λ s c.
             let both = some_pair_parts _ _ _ _ c in
             ap (λ x. counts (repeat s x)) (slice_get_past s.marked n (omega (arith, both.1)));
-        markable = λ go. absurd cc;
-        front = refl;
-      }
-
-  -- ---- a mark
-
-  marked_more : (xs ms : List (Unit {0})) (n m : ℕ) → length xs ≡ n → length ms ≡ m → (n ≡ 0 → ⊥)
-      → counts (mark xs ms) ≡ Some (n, suc m)
-  marked_more [] ms n m n-is m-is some = absurd (some (sym n-is))
-  marked_more (x ∷ xs) ms n m n-is m-is some =
-      ap (λ k. Some (suc (length xs), k)) (let e : length (ms ++ x ∷ []) ≡ suc m = omega (arith, length-append ms (x ∷ [])) in e)
-      ∙ ap (λ k. Some (k, suc m)) n-is
-
-  pub mark_step : (old new : Entries) → (old.entries ≡ 0 → ⊥) → old.is_markable ≡ true → new ≡ record old { marked = suc old.marked }
-      → IsStep earlier active marks old new true
-  mark_step old new some markable new-is =
-      record {
-        leads = λ s c.
-            let both = some_pair_parts _ _ _ _ c in
-            ap (λ b. counts (if b then mark s.entries s.marked else None)) markable
-            ∙ marked_more s.entries s.marked old.entries old.marked both.0 both.1 some
-            ∙ ap (λ (e : Entries). Some (e.entries, e.marked)) (sym new-is);
-        markable = λ go. ap (λ (e : Entries). e.is_markable) new-is ∙ markable;
-        front = ap (λ (e : Entries). e.front) new-is;
-      }
-
-  nothing_marked : (b : Bool) (xs ms : List (Unit {0})) → length xs ≡ 0 → counts (if b then mark xs ms else None) ≡ None
-  nothing_marked true [] ms e = refl
-  nothing_marked true (x ∷ xs) ms e = absurd (omega arith)
-  nothing_marked false xs ms e = refl
-
-  -- no entry is there
-  pub unmarked_step : (old : Entries) → old.entries ≡ 0 → IsStep earlier active marks old old false
-  unmarked_step old none =
-      record {
-        leads = λ s c.
-            let both = some_pair_parts _ _ _ _ c in nothing_marked old.is_markable s.entries s.marked (both.0 ∙ none);
-        markable = λ go. absurd cc;
-        front = refl;
-      }
-
-  -- it may not be marked
-  pub unplaced_step : (old : Entries) → old.is_markable ≡ false → IsStep earlier active marks old old false
-  unplaced_step old other =
-      record {
-        leads = λ s c. ap (λ b. counts (if b then mark s.entries s.marked else None)) other;
         markable = λ go. absurd cc;
         front = refl;
       }

@@ -9,7 +9,7 @@ use Rattle.source.specs.declared.letters.Turn.{Turn}
 use Rattle.source.specs.declared.entries.Entries.{Entries}
 use Rattle.source.specs.Scopes.{Hypothesis, Assertion}
 use Rattle.source.specs.Letters.{is_last, is_front, is_too_large, turn_at, Decoded, before, turned, decoded}
-use Rattle.source.specs.Proofs.{Step, step_of, go_on, steps_in, letters_go_on}
+use Rattle.source.specs.Proofs.{step_of, go_on, steps_in, letters_go_on}
 use Rattle.source.specs.Tests.{is_letter}
 use Rattle.source.specs.Counts.{StepsAreCounted, LettersAreCounted, IsStep}
 use Rattle.source.proofs.Decoded.{following}

@@ -1,7 +1,7 @@
 -- What is counted of steps, with one more of them.
 use Rattle.std.proofs.Common.{◌≡◌, ℕ, Bool, true, false, List, [], ◌∷◌, ◌++◌, refl, sym, ap, ◌∙◌, inl, inr}
 use Rattle.std.specs.Prelude.{Option, Some, None, ◌&&◌, is_some, if◌then◌else◌}
-use Rattle.std.proofs.lemmas.Bool.{cases_Bool, and_cases, and_left, and_right, and_from}
+use Rattle.std.proofs.lemmas.Bool.{and_cases, and_left, and_right, and_from}
 use Rattle.source.specs.declared.entries.Entries.{Entries}
 use Rattle.source.specs.Scopes.{Hypothesis, Assertion}
 use Rattle.source.specs.Proofs.{Step, names, again, marks, unknown, may_be_marked, is_placed, are_marks_placed, Stack, empty, stepped}
@@ -130,7 +130,6 @@ module _ (earlier : List Assertion) (active : List Hypothesis) where
     where
       left : counts (if is_placed old.is_markable x then run (steps ++ x ∷ []) else None)
           ≡ (if goes then Some (new.entries, new.marked) else None)
-      unfolding run
       left =
           ap (λ s. counts (if is_placed old.is_markable x then s else None)) (run-append (Some empty) steps (x ∷ []))
           ∙ one_on (run steps) x old new goes counted.left step

@@ -3,14 +3,14 @@ use Rattle.std.proofs.Common.{◌≡◌, ℕ, suc, ◌+◌, ◌<◌, ◌≤◌, 
 use Rattle.std.proofs.Common.{drop, replicate, map, refl, sym, ap, subst}
 use Rattle.std.proofs.Common.{◌∙◌, inl, inr, arith, append_assoc, ne_eqb}
 use Rattle.std.specs.Prelude.{Option, Some, None, find, ◌||◌, ◌&&◌, ◌==◌, ◌⊎◌, is_some, if◌then◌else◌}
-use Rattle.std.specs.Option.{option_map, option_and_then}
+use Rattle.std.specs.Option.{option_map}
 use Rattle.std.specs.List.{list_any, list_all, flat_map, All}
 use Rattle.std.specs.Str.{bytes_eq}
 use Rattle.std.proofs.lemmas.Bool.{cases_Bool, and_cases, and_parts, and_left, and_right, cond-true, cond-false}
 use Rattle.std.proofs.lemmas.List.{map-append, append-nil, take_all, take-append-drop, take_more, drop_more}
 use Rattle.std.proofs.lemmas.Option.{some_pair_parts}
 use Rattle.std.proofs.lemmas.List.Elements.{All-filter}
-use Rattle.std.proofs.lemmas.List.Folds.{list_any-append, list_any_at, list_all_at, list_all_more}
+use Rattle.std.proofs.lemmas.List.Folds.{list_any_at, list_all_at, list_all_more}
 use Rattle.std.proofs.lemmas.Grind.{flat_map-append}
 use mathlib.Core.Bool.{not}
 use Rattle.mmtext.specs.Words.{Word}
@@ -210,6 +210,13 @@ one_left (Some s) n m e = only_one s.entries ∙ ap (λ k. k == 1) (some_pair_pa
 -- a proof is whole where one entry is left and no number is cut
 abbrev pub is_ended : Entries → Bool
 is_ended c = (c.entries == 1) && (c.front == 0)
+
+pub one_ended : (c : Entries) → c.entries ≡ 1 → (c.front == 0) ≡ is_ended c
+one_ended c one = ap (λ n. (n == 1) && (c.front == 0)) (sym one)
+
+pub other_ended : (c : Entries) → (c.entries ≡ 1 → ⊥) → (c.entries == 1) ≡ is_ended c
+other_ended c other =
+    ne_eqb c.entries 1 other ∙ ap (λ b. b && (c.front == 0)) (sym (ne_eqb c.entries 1 other))
 
 beside_true : (a b : Bool) → b ≡ true → a ≡ (a && b)
 beside_true true b e = sym e
