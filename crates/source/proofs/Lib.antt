@@ -13,7 +13,7 @@ pub mod ParsedRows
 pub mod Parsed
 pub mod ParsedStatements
 pub mod SourceLaws
-pub mod Fronts
+pub mod CountedSteps
 pub mod Counted
 pub mod CountedLabels
 pub mod CountedLetters
