@@ -5,3 +5,5 @@ pub mod Frames
 pub mod Shown
 pub mod Counted
 pub mod Answers
+pub mod Found
+pub mod Checkers

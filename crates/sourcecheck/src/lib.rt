@@ -1,6 +1,7 @@
-//! Checks the proofs of a source. Symbols are numbers, and a proof writes all its expressions down in one list of them.
+//! Checks the proofs of a source, on several threads. Symbols are numbers, and a proof writes all its expressions down in one list of them.
 #![tactic(auto)]
 
+mod checkers;
 mod citing;
 mod counting;
 mod fitting;

@@ -5,20 +5,22 @@ ghost use Rattle.std.specs.Option.{option_map_or};
 ghost use Rattle.source.specs.Scopes.{Assertion};
 ghost use Rattle.source.specs.Proofs as proofs;
 ghost use Rattle.source.specs.Whole.{IsWhole};
-ghost use Rattle.verifying.specs.Verifies.{IsVerified, Verifies, unfinished};
+ghost use Rattle.verifying.specs.Verifies.{Verifies, unfinished};
 ghost use Rattle.sourcecheck.specs.Names.{words_of, IsSound, Keeps, Lasts};
 ghost use Rattle.sourcecheck.specs.Frames.{IsFrameOf, AreFrames};
-ghost use Rattle.sourcecheck.specs.Answers.{told_of, IsRefusedAt, IsRefusedIn};
+ghost use Rattle.sourcecheck.specs.Answers.{IsRefusedAt, IsRefusedIn};
+ghost use Rattle.sourcecheck.specs.Checkers.{IsFoundAmong, FailsAt};
 
+use crate::checkers::check_shared;
 use crate::counting::is_unfinished;
 use crate::frame::Frame;
 use crate::framing::frame_of;
 use crate::table::Table;
-use crate::theorem::check_theorem;
 use derivation::{ProofFault, ProofFaultKind};
 use source::Declared;
-use std::alloc::Global;
+use std::alloc::{AllocError, Global};
 use std::hash::RandomState;
+use std::thread::Threads;
 
 /// Why a source isn't said to verify.
 #[derive(Clone, Copy, Debug)]
@@ -31,10 +33,54 @@ pub enum Unverified<'a> {
     NoMemory,
 }
 
-/// What is told of a fault in the proof of the theorem with a label.
-fn refusal_of<'a>(label: &'a [u8], fault: ProofFault) -> Unverified<'a>
-    ensures { result ≡ told_of label.entry fault fault.kind }
+/// How the assertion at a place is cited. After an error nothing is said of the table.
+fn frame_at<'a, D: Declared<'a>>(
+    alloc: Global,
+    table: &mut Table<'a>,
+    declared: &D,
+    place: usize,
+) -> Result<Frame, AllocError>
+    requires sound { IsSound table.old }
+    requires whole { IsWhole (D.scope declared.now) }
+    requires within { place < length (D.scope declared.now).assertions }
+    ensures keeps { OnOk result (Keeps table.old table.new) }
+    ensures made { IfOk result (λ f. (x : Assertion) → slice_get (D.scope declared.now).assertions place ≡ Some x
+        → Lasts (words_of table.new) (λ name. IsFrameOf name f x)) }
 {
+    let Some(statement) = declared.statement(place) else {
+        unreachable!()
+    };
+    frame_of(alloc, table, declared, place, statement)
+}
+
+/// How each assertion is cited. After an error nothing is said of the table.
+fn frames_of<'a, D: Declared<'a>>(
+    alloc: Global,
+    table: &mut Table<'a>,
+    declared: &D,
+) -> Result<Vec<Frame>, AllocError>
+    requires sound { IsSound table.old }
+    requires whole { IsWhole (D.scope declared.now) }
+    ensures sound { OnOk result (IsSound table.new) }
+    ensures many { IfOk result (λ fs. length fs.items ≡ length (D.scope declared.now).assertions) }
+    ensures made { IfOk result (λ fs. Lasts (words_of table.new) (λ name. AreFrames name (D.scope declared.now).assertions fs.items)) }
+{
+    let mut frames = Vec::with_capacity(alloc, declared.assertions())?;
+    for place in 0..declared.assertions() {
+        frames.push(frame_at(alloc, table, declared, place)?)?;
+    }
+    Ok(frames)
+}
+
+/// What is told of a fault that was found at a place.
+fn refusal_at<'a, D: Declared<'a>>(declared: &D, place: usize, fault: ProofFault) -> Unverified<'a>
+    requires within { place < length (D.scope declared.now).assertions }
+    requires fails { FailsAt (D.scope declared.now).assertions place fault }
+    ensures { IsRefusedAt (D.scope declared.now).assertions place result }
+{
+    let Some(label) = declared.label(place) else {
+        unreachable!()
+    };
     match fault.kind {
         ProofFaultKind::NoMemory => Unverified::NoMemory,
         ProofFaultKind::TooLong => Unverified::TooLong(label),
@@ -42,39 +88,20 @@ fn refusal_of<'a>(label: &'a [u8], fault: ProofFault) -> Unverified<'a>
     }
 }
 
-/// Checks the assertion at a place over the frames of those before it, and makes its frame. After an error nothing is said of the table.
-fn check_at<'a, D: Declared<'a>>(
+/// What is found first among all assertions, by checkers beside one another.
+fn first_fault<'a, D: Declared<'a> + Sync>(
+    rt: &(impl Threads + Sync),
     alloc: Global,
-    table: &mut Table<'a>,
-    frames: &[Frame],
+    keys: RandomState,
+    workers: Option<usize>,
     declared: &D,
-    place: usize,
-) -> Result<Frame, Unverified<'a>>
-    requires sound { IsSound table.old }
-    requires whole { IsWhole (D.scope declared.now) }
-    requires within { place < length (D.scope declared.now).assertions }
-    requires many { length frames.now ≡ place }
-    requires frames { Lasts (words_of table.old) (λ name. AreFrames name (take place (D.scope declared.now).assertions) frames.now) }
-    ensures keeps { OnOk result (Keeps table.old table.new) }
-    ensures made { IfOk result (λ f. (x : Assertion) → slice_get (D.scope declared.now).assertions place ≡ Some x
-        → Lasts (words_of table.new) (λ name. IsFrameOf name f x)) }
-    ensures verified { OnOk result ((x : Assertion) → slice_get (D.scope declared.now).assertions place ≡ Some x
-        → IsVerified (take place (D.scope declared.now).assertions) x) }
-    ensures refused { IfErr result (IsRefusedAt (D.scope declared.now).assertions place) }
+) -> Result<Option<(usize, ProofFault)>, AllocError>
+    requires { IsWhole (D.scope declared.now) }
+    ensures { IfOk result (IsFoundAmong (D.scope declared.now).assertions (λ k. k < length (D.scope declared.now).assertions)) }
 {
-    let Some(label) = declared.label(place) else {
-        unreachable!()
-    };
-    let Some(statement) = declared.statement(place) else {
-        unreachable!()
-    };
-    match check_theorem(alloc, table, frames, declared, place, statement) {
-        Err(fault) => Err(refusal_of(label, fault)),
-        Ok(()) => match frame_of(alloc, table, declared, place, statement) {
-            Err(_) => Err(Unverified::NoMemory),
-            Ok(frame) => Ok(frame),
-        },
-    }
+    let mut table = Table::new(alloc, keys);
+    let frames = frames_of(alloc, &mut table, declared)?;
+    check_shared(rt, alloc, workers, &table, frames.as_slice(), declared)
 }
 
 /// Whether the proof of the assertion at a place is unfinished.
@@ -101,17 +128,21 @@ fn count_unfinished<'a, D: Declared<'a>>(declared: &D) -> usize
     count
 }
 
-/// Checks all proofs of a source, one after the other: how many of them are unfinished.
+/// Checks all proofs of a source: how many of them are unfinished. `workers` check beside one another, from 1 to 64; if none is said, as
+/// many as there are processors. Whatever they do first, the same is told.
 ///
 /// It costs about as much as the expressions that the proofs write down have symbols; at each assertion its active hypotheses and pairs are
 /// gone through as well.
 ///
 /// # Errors
 ///
-/// The first fault: that of the first theorem in the order of the source, at the first step at fault.
-pub fn check_source<'a, D: Declared<'a>>(
+/// The first fault: that of the first theorem in the order of the source, at the first step at fault. If memory or room runs out at a
+/// theorem before it, that is told.
+pub fn check_source<'a, D: Declared<'a> + Sync>(
+    rt: &(impl Threads + Sync),
     alloc: Global,
     keys: RandomState,
+    workers: Option<usize>,
     declared: &D,
 ) -> Result<usize, Unverified<'a>>
     requires { IsWhole (D.scope declared.now) }
@@ -119,14 +150,9 @@ pub fn check_source<'a, D: Declared<'a>>(
     ensures unfinished { IfOk result (λ n. n ≡ unfinished (D.scope declared.now)) }
     ensures refused { IfErr result (IsRefusedIn (D.scope declared.now)) }
 {
-    let mut table = Table::new(alloc, keys);
-    let mut frames = Vec::new(alloc);
-    for place in 0..declared.assertions() {
-        let frame = check_at(alloc, &mut table, frames.as_slice(), declared, place)?;
-        match frames.push(frame) {
-            Ok(()) => {}
-            Err(_) => return Err(Unverified::NoMemory),
-        }
+    match first_fault(rt, alloc, keys, workers, declared) {
+        Err(_) => Err(Unverified::NoMemory),
+        Ok(Some((place, fault))) => Err(refusal_at(declared, place, fault)),
+        Ok(None) => Ok(count_unfinished(declared)),
     }
-    Ok(count_unfinished(declared))
 }

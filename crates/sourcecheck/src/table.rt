@@ -35,6 +35,21 @@ impl<'a> Table<'a> {
         }
     }
 
+    /// The same words by the same numbers once more.
+    ///
+    /// # Errors
+    ///
+    /// Want of memory.
+    pub(crate) fn copy(&self) -> Result<Table<'a>, AllocError>
+        requires { IsSound self.now }
+        ensures sound { IfOk result IsSound }
+        ensures same { IfOk result (λ t. words_of t ≡ words_of self.now) }
+    {
+        let numbers = self.numbers.clone()?;
+        let words = self.words.clone()?;
+        Ok(Table { numbers, words })
+    }
+
     /// The number of a word, which gets one if it has none. After an error nothing is said of the table.
     ///
     /// # Errors

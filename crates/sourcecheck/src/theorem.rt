@@ -21,7 +21,7 @@ use source::{Declared, ProofWords};
 use std::alloc::Global;
 
 /// A fault that no step has.
-fn fault(kind: ProofFaultKind) -> ProofFault
+pub(crate) fn fault(kind: ProofFaultKind) -> ProofFault
     ensures { result.kind ≡ kind }
 {
     ProofFault { step: 0, kind }

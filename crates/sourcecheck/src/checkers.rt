@@ -1,0 +1,219 @@
+//! Those who check the assertions of a source beside one another.
+
+ghost use Rattle.std.specs.Prelude.{◌≡◌, ◌<◌, ◌≤◌, [], None, All, OnNone, IfSome, IfOk, length, map, vec_capacity};
+ghost use Rattle.source.specs.Whole.{IsWhole};
+ghost use Rattle.claims.specs.Claims.{IsClaimantOf, AreClaimed};
+ghost use Rattle.sourcecheck.specs.Found.{earlier, earliest};
+ghost use Rattle.sourcecheck.specs.Checkers.{checker_of, IsFoundAmong, Knows, IsReady, HasChecked};
+
+use crate::frame::Frame;
+use crate::table::Table;
+use crate::theorem::{check_theorem, fault};
+use claims::{Claimant, Numbers};
+use derivation::{ProofFault, ProofFaultKind};
+use rayon::current_num_threads;
+use source::Declared;
+use std::alloc::{AllocError, Global};
+use std::thread;
+use std::thread::Threads;
+
+/// The fewest assertions for which a thread is started. A proof takes long beside that, so few serve.
+const LEAST_SHARE: usize = 16;
+
+/// The most checkers.
+const MOST_CHECKERS: usize = 64;
+
+/// One of those who check: what it claims assertions with, and the first fault that it found, at its place.
+#[derive(Drop)]
+pub(crate) struct Checker {
+    pub(crate) claimant: Claimant,
+    pub(crate) found: Option<(usize, ProofFault)>,
+}
+
+/// What is found at one place, by who has these numbers of words, or none as memory was wanting. After a fault nothing is said of them.
+fn found_at<'a, D: Declared<'a>>(
+    alloc: Global,
+    own: &mut Option<Table<'a>>,
+    frames: &[Frame],
+    declared: &D,
+    place: usize,
+) -> Option<(usize, ProofFault)>
+    requires knows { IfSome own.old (Knows (D.scope declared.now).assertions frames.now) }
+    requires whole { IsWhole (D.scope declared.now) }
+    requires within { place < length (D.scope declared.now).assertions }
+    ensures knows { OnNone result (IfSome own.new (Knows (D.scope declared.now).assertions frames.now)) }
+    ensures found { IsFoundAmong (D.scope declared.now).assertions (λ k. k ≡ place) result }
+{
+    let Some(table) = own else {
+        return Some((place, fault(ProofFaultKind::NoMemory)));
+    };
+    let Some(statement) = declared.statement(place) else {
+        unreachable!()
+    };
+    match check_theorem(alloc, table, frames, declared, place, statement) {
+        Ok(()) => None,
+        Err(fault) => Some((place, fault)),
+    }
+}
+
+/// Checks the assertions that the checker claims, one after another, until all are claimed. Behind a fault it goes on claiming, and checks
+/// nothing more: each place that it claims is behind those that it claimed before.
+fn check_claimed<'a, D: Declared<'a>>(
+    alloc: Global,
+    table: &Table<'a>,
+    frames: &[Frame],
+    declared: &D,
+    numbers: &Numbers,
+    checker: &mut Checker,
+)
+    requires whole { IsWhole (D.scope declared.now) }
+    requires knows { Knows (D.scope declared.now).assertions frames.now table.now }
+    requires count { numbers.now.count ≡ length (D.scope declared.now).assertions }
+    requires ready { IsReady numbers.now checker.old }
+    ensures { HasChecked (D.scope declared.now).assertions numbers.now checker.new }
+{
+    let mut own = table.copy().ok();
+    while let Some(place) = checker.claimant.claim(numbers) {
+        if checker.found.is_none() {
+            checker.found = found_at(alloc, &mut own, frames, declared, place);
+        }
+    }
+}
+
+/// Checks by each of these checkers, each on a thread of its own.
+fn check_beside<'a, D: Declared<'a> + Sync>(
+    rt: &(impl Threads + Sync),
+    alloc: Global,
+    table: &Table<'a>,
+    frames: &[Frame],
+    declared: &D,
+    numbers: &Numbers,
+    checkers: &mut [Checker],
+)
+    requires some { 0 < length checkers.old }
+    requires whole { IsWhole (D.scope declared.now) }
+    requires knows { Knows (D.scope declared.now).assertions frames.now table.now }
+    requires count { numbers.now.count ≡ length (D.scope declared.now).assertions }
+    requires ready { All (IsReady numbers.now) checkers.old }
+    ensures many { length checkers.new ≡ length checkers.old }
+    ensures checked { All (HasChecked (D.scope declared.now).assertions numbers.now) checkers.new }
+{
+    let threads = checkers.len();
+    thread::for_each_mut(
+        rt,
+        checkers,
+        threads,
+        &|_place: usize, checker: &mut Checker|
+            requires { IsWhole (D.scope declared.now)
+                × Knows (D.scope declared.now).assertions frames.now table.now
+                × (numbers.now.count ≡ length (D.scope declared.now).assertions)
+                × IsReady numbers.now checker.now }
+            ensures { HasChecked (D.scope declared.entry.now).assertions numbers.entry.now checker.new }
+        { check_claimed(alloc, table, frames, declared, numbers, checker) },
+    );
+}
+
+/// How many check so many assertions: as many as are wanted, or one for each processor, and at most one for each share of the least size,
+/// but one at least.
+fn count_checkers(rt: &impl Threads, workers: Option<usize>, assertions: usize) -> usize
+    ensures some { 0 < result }
+    ensures few { result ≤ 64 }
+{
+    let wanted = match workers {
+        Some(workers) => workers,
+        None => current_num_threads(rt),
+    };
+    wanted.min(assertions / LEAST_SHARE).clamp(1, MOST_CHECKERS)
+}
+
+/// A checker for each claimant.
+fn checkers_of(alloc: Global, claimants: Vec<Claimant>) -> Result<Vec<Checker>, AllocError>
+    ensures { IfOk result (λ checkers. checkers.items ≡ map checker_of claimants.items) }
+{
+    let mut checkers = Vec::with_capacity(alloc, claimants.len())?;
+    for claimant in claimants {
+        checkers.push_reserved(Checker {
+            claimant,
+            found: None,
+        });
+    }
+    Ok(checkers)
+}
+
+/// What was found at the lower place.
+fn earlier_of(
+    found: Option<(usize, ProofFault)>,
+    other: Option<(usize, ProofFault)>,
+) -> Option<(usize, ProofFault)>
+    ensures { result ≡ earlier found other }
+{
+    match (found, other) {
+        (None, other) => other,
+        (Some(found), None) => Some(found),
+        (Some(found), Some(other)) => {
+            if other.0 < found.0 {
+                Some(other)
+            } else {
+                Some(found)
+            }
+        }
+    }
+}
+
+/// What the checkers found at the lowest place. The numbers are taken back from them: for the proof, so that each place was claimed.
+/// There is room for the claimants, as nothing is allocated any more when all is checked.
+fn first_found(
+    numbers: Numbers,
+    checkers: Vec<Checker>,
+    mut claimants: Vec<Claimant>,
+) -> Option<(usize, ProofFault)>
+    requires own { All (λ c. IsClaimantOf numbers c.claimant) checkers.items }
+    requires all { length checkers.items ≡ numbers.claimants }
+    requires none { claimants.items ≡ [] }
+    requires room { length checkers.items ≤ vec_capacity claimants }
+    ensures first { result ≡ earliest None (map (λ c. c.found) checkers.items) }
+    ensures claimed { AreClaimed numbers (map (λ c. c.claimant) checkers.items) }
+{
+    let mut first = None;
+    for checker in checkers {
+        let Checker { claimant, found } = checker;
+        first = earlier_of(first, found);
+        claimants.push_reserved(claimant);
+    }
+    numbers.close(claimants);
+    first
+}
+
+/// What is found first among all assertions.
+///
+/// # Errors
+///
+/// Want of memory before any proof is checked.
+pub(crate) fn check_shared<'a, D: Declared<'a> + Sync>(
+    rt: &(impl Threads + Sync),
+    alloc: Global,
+    workers: Option<usize>,
+    table: &Table<'a>,
+    frames: &[Frame],
+    declared: &D,
+) -> Result<Option<(usize, ProofFault)>, AllocError>
+    requires whole { IsWhole (D.scope declared.now) }
+    requires knows { Knows (D.scope declared.now).assertions frames.now table.now }
+    ensures { IfOk result (IsFoundAmong (D.scope declared.now).assertions (λ k. k < length (D.scope declared.now).assertions)) }
+{
+    let count = declared.assertions();
+    let many = count_checkers(rt, workers, count);
+    let (numbers, claimants) = Numbers::open(alloc, count, many)?;
+    let mut checkers = checkers_of(alloc, claimants)?;
+    let spent = Vec::with_capacity(alloc, many)?;
+    check_beside(
+        rt,
+        alloc,
+        table,
+        frames,
+        declared,
+        &numbers,
+        checkers.as_mut_slice(),
+    );
+    Ok(first_found(numbers, checkers, spent))
+}
