@@ -1,7 +1,7 @@
 #!/usr/bin/env python3
-"""Times `check`, `add` and `reprove` on small texts that were made to be slow, each beside one of a tenth of its size.
+"""Times `check`, `verify`, `add` and `reprove` on small texts that were made to be slow, each beside one of a tenth of its size.
 
-    hostile.py [--program CMD] [--out DIR] [--rounds 5] [--only WORD] [--by check|add|reprove]
+    hostile.py [--program CMD] [--out DIR] [--rounds 5] [--only WORD] [--by check|verify|add|reprove]
 
 --program is the program under test (default ../crates/mmrefactor/out/mmrefactor), called as `CMD check DB` or `CMD run DB SCRIPT`. By `add` the
 last theorem of a text is added to the library of what stands before it; by `reprove` it is given its own proof again. The time of
@@ -174,6 +174,35 @@ def repeated_by_turns(count, times):
     return prelude(vs) + "${\n" + words(*(["$d", *turns[turn % 4], "$."] for turn in range(times))) + "x $a |- T $.\n$}\n"
 
 
+def number(n):
+    """The letters of a number from 1 of a compressed proof (Metamath book, appendix B)."""
+    rest, letters = (n - 1) // 20, chr(ord("A") + (n - 1) % 20)
+    while rest:
+        rest, letter = divmod(rest - 1, 5)
+        letters = chr(ord("U") + letter) + letters
+    return letters
+
+
+def marks(count):
+    """A compressed proof of so many marks, each used twice."""
+    text = words(["$c", "wff", "(", ")", "$."], ["$v", "p", "q", "$."], ["wp", "$f", "wff", "p", "$.", "wq", "$f", "wff", "q", "$."])
+    text += words(["e", "$a", "wff", "(", ")", "$.", "${", "x", "$e", "wff", "p", "$.", "y", "$e", "wff", "q", "$."])
+    text += words(["d", "$a", "wff", "(", ")", "$.", "$}", "t", "$p", "wff", "(", ")", "$=", "(", "e", "d", ")", "A"])
+    return text + words("AZ" + number(3 + k) * 2 + "B" for k in range(count)) + "$.\n"
+
+
+def doubled(count):
+    """A proof whose expressions double at each of so many steps: past 27 of them it would write down over 2^28 symbols."""
+    text = words(["$c", "wff", "$."], ["$v", "p", "$."], ["wp", "$f", "wff", "p", "$.", "d", "$a", "wff", "p", "p", "$."])
+    return text + words(["t", "$p", "wff", "p", "$=", "wp"], ["d"] * count, ["$."])
+
+
+def many_marked(count):
+    """Theorems of so many compressed proofs, each of one step."""
+    text = words(["$c", "wff", "$."], ["$v", "p", "$."], ["wp", "$f", "wff", "p", "$."])
+    return text + "".join(f"t{i} $p wff p $= ( ) A $.\n" for i in range(count))
+
+
 def split(text):
     """What stands before the last theorem, and the theorem with its block."""
     at = text.rindex("${") if text.rstrip().endswith("$}") else text.rindex("th $p")
@@ -220,6 +249,17 @@ def rows():
     ]
 
 
+def rows_to_verify():
+    """Rows in the whole language."""
+    return [
+        ("1,000, 10,000 marks, each used twice", lambda: marks(1000), lambda: marks(10000)),
+        ("10,000, 100,000 marks, each used twice", lambda: marks(10000), lambda: marks(100000)),
+        ("expressions that double 20, 23 times", lambda: doubled(20), lambda: doubled(23)),
+        ("expressions that double 26, 40 times", lambda: doubled(26), lambda: doubled(40)),
+        ("4,000, 40,000 theorems of one step", lambda: many_marked(4000), lambda: many_marked(40000)),
+    ]
+
+
 def best(command, rounds):
     """The least time of so many calls in milliseconds, and what the last one printed."""
     least = float("inf")
@@ -242,7 +282,8 @@ class Bench:
 
     def checked(self, text):
         self.db.write_text(text)
-        return best([*self.program, "check", self.db], self.rounds)
+        words = ["verify", "--workers", "1"] if self.by == "verify" else ["check"]
+        return best([*self.program, *words, self.db], self.rounds)
 
     def run(self, script):
         self.script.write_text(script)
@@ -250,7 +291,7 @@ class Bench:
 
     def took(self, text):
         """The time that a text takes beyond an empty one, and what is answered."""
-        if self.by == "check":
+        if self.by in ("check", "verify"):
             nothing, _ = self.checked("$c T $.\n")
             spent, said = self.checked(text)
             return max(spent - nothing, 0.0), said
@@ -267,15 +308,15 @@ def main():
     parser.add_argument("--out", type=pathlib.Path, default=pathlib.Path("/tmp/mmrefactor-benches"))
     parser.add_argument("--rounds", type=int, default=5)
     parser.add_argument("--only", default="", help="the rows whose name has this")
-    parser.add_argument("--by", choices=["check", "add", "reprove"], default="check")
+    parser.add_argument("--by", choices=["check", "add", "reprove", "verify"], default="check")
     options = parser.parse_args()
     options.out.mkdir(parents=True, exist_ok=True)
     bench = Bench(options)
     print(f"by {options.by}; nproc {os.cpu_count()}, load {os.getloadavg()[0]:.1f}; best of {options.rounds} rounds in ms, less those of nothing\n")
     print("| row | a tenth | whole | whole / (10 tenths) | even | answer |")
     print("|---" * 6 + "|")
-    for name, small, large in rows():
-        if options.only not in name or (options.by != "check" and "$p" not in small()):
+    for name, small, large in rows() + (rows_to_verify() if options.by == "verify" else []):
+        if options.only not in name or (options.by in ("add", "reprove") and "$p" not in small()):
             continue
         took = [bench.took(make()) for make in (small, large)]
         ratio = took[1][0] / (10 * max(took[0][0], LEAST))
