@@ -12,7 +12,7 @@ use Rattle.source.specs.declared.letters.Code.TheVariants.{Number, Mark, Unknown
 use Rattle.source.specs.declared.letters.Turn.{Turn}
 use Rattle.source.specs.Statements.{Proof, normal, compressed}
 use Rattle.source.specs.Scopes.{Hypothesis, label_of, Assertion, is_unknown}
-use Rattle.source.specs.Letters.{is_last, is_front, is_too_large, turn_at, Decoded, before, turned, decoded, uncut, codes_of}
+use Rattle.source.specs.Letters.{is_last, is_front, is_too_large, turn_at, Decoded, before, turned, decoded, uncut, codes_of, is_absent}
 use Rattle.source.specs.Proofs.{Step, names, unknown, step_of_word, numbered, step_of, steps_of, is_unfinished}
 use Rattle.source.specs.Proofs.{there, made, are_marks_placed, leave_one, denotes}
 
@@ -32,38 +32,34 @@ made_there earlier active hypotheses proof h = left_there earlier active (steps_
 
 -- ---- steps that aren't there
 
-abbrev pub is_absent : Step → Bool
-is_absent unknown = true
-is_absent _ = false
+abbrev pub is_absent_step : Step → Bool
+is_absent_step unknown = true
+is_absent_step _ = false
 
-abbrev pub is_absent_code : Code → Bool
-is_absent_code Unknown = true
-is_absent_code _ = false
-
-number_there : (ws : List Word) (n : ℕ) → is_absent (numbered ws n) ≡ false
+number_there : (ws : List Word) (n : ℕ) → is_absent_step (numbered ws n) ≡ false
 number_there [] n = refl
 number_there (w ∷ ws) zero = refl
 number_there (w ∷ ws) (suc n) = number_there ws n
 
 -- the steps of codes
 pub absent_codes : (labels : List Word) (codes : List Code)
-    → list_any is_absent (map (step_of labels) codes) ≡ list_any is_absent_code codes
+    → list_any is_absent_step (map (step_of labels) codes) ≡ list_any is_absent codes
 absent_codes labels [] = refl
 absent_codes labels (Number n ∷ codes) =
-    ap (λ b. b || list_any is_absent (map (step_of labels) codes)) (number_there labels _) ∙ absent_codes labels codes
+    ap (λ b. b || list_any is_absent_step (map (step_of labels) codes)) (number_there labels _) ∙ absent_codes labels codes
 absent_codes labels (Mark ∷ codes) = absent_codes labels codes
 absent_codes labels (Unknown ∷ codes) = refl
 
 -- the steps of words
-absent_words : (ws : List Word) → list_any is_absent (map step_of_word ws) ≡ list_any is_unknown ws
+absent_words : (ws : List Word) → list_any is_absent_step (map step_of_word ws) ≡ list_any is_unknown ws
 absent_words [] = refl
 absent_words (w ∷ ws) =
-    ap (λ b. b || list_any is_absent (map step_of_word ws)) (absent_word (cases_Bool (is_unknown w)))
+    ap (λ b. b || list_any is_absent_step (map step_of_word ws)) (absent_word (cases_Bool (is_unknown w)))
     ∙ ap (λ b. is_unknown w || b) (absent_words ws)
   where
-    absent_word : (is_unknown w ≡ true) ⊎ (is_unknown w ≡ false) → is_absent (step_of_word w) ≡ is_unknown w
-    absent_word (inl is) = ap is_absent (cond-true (is_unknown w) unknown (names w) is) ∙ sym is
-    absent_word (inr is) = ap is_absent (cond-false (is_unknown w) unknown (names w) is) ∙ sym is
+    absent_word : (is_unknown w ≡ true) ⊎ (is_unknown w ≡ false) → is_absent_step (step_of_word w) ≡ is_unknown w
+    absent_word (inl is) = ap is_absent_step (cond-true (is_unknown w) unknown (names w) is) ∙ sym is
+    absent_word (inr is) = ap is_absent_step (cond-false (is_unknown w) unknown (names w) is) ∙ sym is
 
 -- ---- letters without a ?
 
@@ -86,7 +82,7 @@ turn_there front b other =
 
 all_there : Option Decoded → Type 0
 all_there None = Unit {0}
-all_there (Some d) = list_any is_absent_code d.codes ≡ false
+all_there (Some d) = list_any is_absent d.codes ≡ false
 
 before_there : (c : Option Code) (rest : Option Decoded) → (c ≡ Some Unknown → ⊥) → all_there rest → all_there (before c rest)
 unfolding all_there
@@ -108,13 +104,13 @@ letters_there (b ∷ bs) front none =
     let parts = or_parts (b == 63) (list_any (λ b. b == 63) bs) none in
     turned_there (turn_at front b) (λ f. decoded f bs) (turn_there front b parts.0) (λ f. letters_there bs f parts.1)
 
-uncut_there : (d : Option Decoded) (codes : List Code) → all_there d → uncut d ≡ Some codes → list_any is_absent_code codes ≡ false
+uncut_there : (d : Option Decoded) (codes : List Code) → all_there d → uncut d ≡ Some codes → list_any is_absent codes ≡ false
 unfolding all_there
 uncut_there None codes h e = absurd cc
 uncut_there (Some d) codes h e = elim (cases_Bool (d.front == 0)) [
   | inl whole ↦
       let same : Some d.codes ≡ Some codes = sym (cond-true (d.front == 0) (Some d.codes) None whole) ∙ e in
-      ap (list_any is_absent_code) (sym (same_Some d.codes codes same)) ∙ h
+      ap (list_any is_absent) (sym (same_Some d.codes codes same)) ∙ h
   | inr cut ↦ let none : None ≡ Some codes = sym (cond-false (d.front == 0) (Some d.codes) None cut) ∙ e in absurd cc
 ]
 
@@ -125,17 +121,17 @@ any_flat q (l ∷ ls) = ap (λ b. list_any q l || b) (any_flat q ls) ∙ sym (li
 -- ---- a finished proof
 
 coded_there : (labels : List Word) (codes : Option (List Code)) (steps : List Step)
-    → ((cs : List Code) → codes ≡ Some cs → list_any is_absent_code cs ≡ false)
-    → option_map (map (step_of labels)) codes ≡ Some steps → list_any is_absent steps ≡ false
+    → ((cs : List Code) → codes ≡ Some cs → list_any is_absent cs ≡ false)
+    → option_map (map (step_of labels)) codes ≡ Some steps → list_any is_absent_step steps ≡ false
 coded_there labels None steps h e = absurd cc
 coded_there labels (Some cs) steps h e =
-    ap (list_any is_absent) (sym (same_Some (map (step_of labels) cs) steps e)) ∙ absent_codes labels cs ∙ h cs refl
+    ap (list_any is_absent_step) (sym (same_Some (map (step_of labels) cs) steps e)) ∙ absent_codes labels cs ∙ h cs refl
 
 -- all its steps are there
 pub finished_steps : (hypotheses : List Hypothesis) (proof : Proof) (steps : List Step) → is_unfinished proof ≡ false
-    → steps_of hypotheses proof ≡ Some steps → list_any is_absent steps ≡ false
+    → steps_of hypotheses proof ≡ Some steps → list_any is_absent_step steps ≡ false
 finished_steps hypotheses (normal ws) steps none e =
-    ap (list_any is_absent) (sym (same_Some (map step_of_word ws) steps e)) ∙ absent_words ws ∙ none
+    ap (list_any is_absent_step) (sym (same_Some (map step_of_word ws) steps e)) ∙ absent_words ws ∙ none
 finished_steps hypotheses (compressed labels letters) steps none e =
     coded_there (map label_of hypotheses ++ labels) (codes_of (flat_map (λ l. l) letters)) steps
     (λ cs is. uncut_there (decoded 0 (flat_map (λ l. l) letters)) cs
