@@ -1,12 +1,14 @@
 -- Numbers that count the labels of a proof, and its codes.
 use Rattle.std.proofs.Common.{◌≡◌, ℕ, ◌+◌, ◌<◌, List, [], ◌∷◌, ◌++◌, length, map, take}
-use Rattle.std.proofs.Common.{sym, ap, ◌∙◌, arith}
-use Rattle.std.specs.Prelude.{pred, slice_index_or}
+use Rattle.std.proofs.Common.{sym, ap, ◌∙◌, arith, inl, inr}
+use Rattle.std.specs.Prelude.{pred, slice_index_or, if◌then◌else◌}
+use Rattle.std.proofs.lemmas.Bool.{cases_Bool, cond-true, cond-false}
 use Rattle.std.proofs.lemmas.List.{map-append, take_more}
 use Rattle.mmtext.specs.Words.{Word}
 use Rattle.source.specs.declared.letters.Code.{Code}
-use Rattle.source.specs.declared.letters.Code.TheVariants.{Number}
-use Rattle.source.specs.Proofs.{names, step_of}
+use Rattle.source.specs.declared.letters.Code.TheVariants.{Number, Unknown}
+use Rattle.source.specs.Scopes.{is_unknown}
+use Rattle.source.specs.Proofs.{names, unknown, step_of_word, step_of}
 use Rattle.taking.proofs.Stacked.{names_label}
 
 pred_more : (i : ℕ) → pred (i + 1) ≡ i
@@ -18,11 +20,27 @@ number_names ws i h =
     let e : pred (i + 1) ≡ i = pred_more i in
     names_label ws (pred (i + 1)) (omega arith) ∙ ap (λ k. names (slice_index_or ws k [])) e
 
-pub one_counted : (ws : List Word) (codes : List Code) (i : ℕ) → i < length ws → map (step_of ws) codes ≡ map (λ w. names w) (take i ws)
-    → map (step_of ws) (codes ++ Number (i + 1) ∷ []) ≡ map (λ w. names w) (take (i + 1) ws)
+-- a word counts as itself
+word_counts : (ws : List Word) (i : ℕ) → i < length ws
+    → step_of ws (if is_unknown (slice_index_or ws i []) then Unknown else Number (i + 1)) ≡ step_of_word (slice_index_or ws i [])
+word_counts ws i h =
+    let w = slice_index_or ws i [] in
+    elim (cases_Bool (is_unknown w)) [
+      | inl is ↦
+          ap (step_of ws) (cond-true (is_unknown w) Unknown (Number (i + 1)) is) ∙ sym (cond-true (is_unknown w) unknown (names w) is)
+      | inr other ↦
+          ap (step_of ws) (cond-false (is_unknown w) Unknown (Number (i + 1)) other)
+          ∙ number_names ws i h
+          ∙ sym (cond-false (is_unknown w) unknown (names w) other)
+    ]
+
+pub one_counted : (ws : List Word) (codes : List Code) (i : ℕ) → i < length ws → map (step_of ws) codes ≡ map step_of_word (take i ws)
+    → map (step_of ws) (codes ++ (if is_unknown (slice_index_or ws i []) then Unknown else Number (i + 1)) ∷ [])
+    ≡ map step_of_word (take (i + 1) ws)
 one_counted ws codes i h is =
-    map-append (step_of ws) codes (Number (i + 1) ∷ [])
-    ∙ ap (λ ss. ss ++ step_of ws (Number (i + 1)) ∷ []) is
-    ∙ ap (λ x. map (λ w. names w) (take i ws) ++ x ∷ []) (number_names ws i h)
-    ∙ sym (map-append (λ w. names w) (take i ws) (slice_index_or ws i [] ∷ []))
-    ∙ ap (map (λ w. names w)) (sym (take_more ws i [] h))
+    let code = if is_unknown (slice_index_or ws i []) then Unknown else Number (i + 1) in
+    map-append (step_of ws) codes (code ∷ [])
+    ∙ ap (λ ss. ss ++ step_of ws code ∷ []) is
+    ∙ ap (λ x. map step_of_word (take i ws) ++ x ∷ []) (word_counts ws i h)
+    ∙ sym (map-append step_of_word (take i ws) (slice_index_or ws i [] ∷ []))
+    ∙ ap (map step_of_word) (sym (take_more ws i [] h))

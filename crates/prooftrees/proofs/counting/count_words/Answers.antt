@@ -13,7 +13,7 @@ loop-word-preserved c =
     let words = c.args.words.now in
     let ws = seen_words words in
     let codes = c.loop-word.codes.items in
-    let i = c.loop-word._word-index in
+    let i = c.loop-word.word-index in
     let long : i < length ws = subst (λ (n : ℕ). i < n) (sym (length-map words (λ (w : Bor (List ℕ)). w.now))) c.loop-word-test.true in
     let number : c.in_ok-number.number ≡ i + 1 = c.in_ok-number.ensures ∙ ap (λ k. k + 1) c.loop-word.invariant.0 in (
       number,
