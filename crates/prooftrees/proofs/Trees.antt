@@ -15,12 +15,12 @@ use Rattle.source.specs.Proofs.{Tree, node, over, size, total, step_of, steps_of
 use Rattle.source.specs.Proofs as tree
 use Rattle.source.specs.Views.{seen_words}
 use Rattle.source.proofs.Sizes.{each_size}
-use Rattle.source.proofs.Finished.{absent_codes, finished_steps}
 use Rattle.taking.specs.declared.named.Named.{Named}
 use Rattle.taking.specs.Names.{Map}
 use Rattle.taking.specs.Nodes.{Shared, trees, sizes, counted}
 use Rattle.taking.specs.Walks.{TakesAll}
 use Rattle.taking.specs.Decoded.{AreDecoded, AreLabelsOf, tree_of}
+use Rattle.taking.proofs.Counting.{codes_there}
 use Rattle.taking.proofs.Values.{as_many, natural}
 use Rattle.prooftrees.specs.declared.form.ProofTree.{ProofTree}
 use Rattle.prooftrees.specs.declared.counting.Counted.{Counted}
@@ -98,8 +98,7 @@ counted_denoted earlier x proof c is counted =
 pub counted_there : (hs : List Hypothesis) (proof : Proof) (c : Counted) → IsCounted hs proof c → is_unfinished proof ≡ false
     → list_any is_absent c.codes ≡ false
 counted_there hs proof c counted finished =
-    let labels = seen_words c.labels.items in
-    sym (absent_codes labels c.codes) ∙ finished_steps hs proof (map (step_of labels) c.codes) finished counted.steps_are
+    codes_there hs proof (seen_words c.labels.items) c.codes finished counted.steps_are
 
 -- where they denote none
 pub tree_is_none : (m : Map) (earlier : List Assertion) (x : Assertion) (ws : List Word) (named : List Named) (codes : List Code)

@@ -5,7 +5,7 @@ use Rattle.std.specs.Borrow.{Bor}
 use Rattle.source.specs.declared.letters.Code.TheVariants.{Number}
 use Rattle.source.specs.Proofs.{step_of}
 use Rattle.source.specs.Views.{seen_words}
-use Rattle.prooftrees.proofs.Numbered.{one_counted}
+use Rattle.taking.proofs.Counting.{one_counted}
 use Rattle.prooftrees.proofs.counting.count_words.Goals as goal
 
 pub loop-word-preserved : goal.loop-word-preserved

@@ -1,14 +1,18 @@
--- Numbers that count the labels of a proof, and its codes.
+-- Numbers that count the words of a normal proof, and their codes.
 use Rattle.std.proofs.Common.{◌≡◌, ℕ, ◌+◌, ◌<◌, List, [], ◌∷◌, ◌++◌, length, map, take}
 use Rattle.std.proofs.Common.{sym, ap, ◌∙◌, arith, inl, inr}
-use Rattle.std.specs.Prelude.{pred, slice_index_or, if◌then◌else◌}
+use Rattle.std.specs.Prelude.{Some, false, pred, slice_index_or, if◌then◌else◌}
+use Rattle.std.specs.List.{list_any}
 use Rattle.std.proofs.lemmas.Bool.{cases_Bool, cond-true, cond-false}
 use Rattle.std.proofs.lemmas.List.{map-append, take_more}
 use Rattle.mmtext.specs.Words.{Word}
 use Rattle.source.specs.declared.letters.Code.{Code}
 use Rattle.source.specs.declared.letters.Code.TheVariants.{Number, Unknown}
-use Rattle.source.specs.Scopes.{is_unknown}
-use Rattle.source.specs.Proofs.{names, unknown, step_of_word, step_of}
+use Rattle.source.specs.Statements.{Proof}
+use Rattle.source.specs.Scopes.{Hypothesis, is_unknown}
+use Rattle.source.specs.Letters.{is_absent}
+use Rattle.source.specs.Proofs.{names, unknown, step_of_word, step_of, steps_of, is_unfinished}
+use Rattle.source.proofs.Finished.{absent_codes, finished_steps}
 use Rattle.taking.proofs.Stacked.{names_label}
 
 pred_more : (i : ℕ) → pred (i + 1) ≡ i
@@ -44,3 +48,9 @@ one_counted ws codes i h is =
     ∙ ap (λ x. map step_of_word (take i ws) ++ x ∷ []) (word_counts ws i h)
     ∙ sym (map-append step_of_word (take i ws) (slice_index_or ws i [] ∷ []))
     ∙ ap (map step_of_word) (sym (take_more ws i [] h))
+
+-- the codes of a finished proof are all there
+pub codes_there : (hypotheses : List Hypothesis) (proof : Proof) (labels : List Word) (codes : List Code) → is_unfinished proof ≡ false
+    → steps_of hypotheses proof ≡ Some (map (step_of labels) codes) → list_any is_absent codes ≡ false
+codes_there hypotheses proof labels codes finished is =
+    sym (absent_codes labels codes) ∙ finished_steps hypotheses proof (map (step_of labels) codes) finished is
