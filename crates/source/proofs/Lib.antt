@@ -22,3 +22,4 @@ pub mod Growing
 pub mod Everywhere
 pub mod Asserted
 pub mod Wholes
+pub mod Finished

@@ -1,5 +1,5 @@
 -- The letters of a compressed proof as numbers, marks and steps that aren't there (Metamath book, appendix B).
-use Rattle.std.specs.Prelude.{ℕ, ◌+◌, ◌-◌, ◌*◌, Bool, ◌&&◌, ◌==◌, nat_lt, nat_le, List, [], ◌∷◌, Option, Some, None}
+use Rattle.std.specs.Prelude.{ℕ, ◌+◌, ◌-◌, ◌*◌, Bool, true, false, ◌&&◌, ◌==◌, nat_lt, nat_le, List, [], ◌∷◌, Option, Some, None}
 use Rattle.std.specs.Prelude.{if◌then◌else◌}
 use Rattle.source.specs.declared.letters.Code.{Code}
 use Rattle.source.specs.declared.letters.Code.TheVariants.{Number, Mark, Unknown}
@@ -26,6 +26,11 @@ turn_at front b =
     if is_front b then Some (record { said = None; front = 5 * front + (b - 84) }) else (
     if (b == 90) && (front == 0) then Some (record { said = Some Mark; front = 0 }) else (
     if (b == 63) && (front == 0) then Some (record { said = Some Unknown; front = 0 }) else None))))
+
+-- a code is ?
+abbrev pub is_absent : Code → Bool
+is_absent Unknown = true
+is_absent _ = false
 
 -- codes, and what counts in front of the letters that follow
 pub record Decoded : Type 0 where
