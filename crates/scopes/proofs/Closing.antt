@@ -74,7 +74,7 @@ sound_block look k s = record {
   within = s.within;
   listed = s.listed;
   apart = s.apart;
-  counted = s.counted;
+  numbered = s.numbered;
   nested = subst (λ (bs : List Block). AreNested bs (length k.aparts) (length k.constants) (length k.variables) (length k.active)
       (length k.symbols) (length k.labels) (length k.entries)) (sym (reverse-push k.blocks (block_here k)))
       (same_below k, s.apart, s.nested);
@@ -163,7 +163,7 @@ sound_closed look k front b s split =
       within = all_take (λ a. a.link < length k.links) b.active k.active s.within;
       listed = listed_front look k b.active s;
       apart = nested.1;
-      counted = s.counted;
+      numbered = s.numbered;
       nested = nested_more (reverse front) (length k.aparts) (length k.aparts) (began b) (sizes_of (without_block k front b)) (omega arith)
           (record {
             cs = below.constants;

@@ -7,21 +7,24 @@ use Rattle.std.proofs.lemmas.List.{map-append, length-map, append-nil}
 use Rattle.std.proofs.lemmas.Grind.{flat_map-append}
 use Rattle.mmtext.specs.Words.{Word}
 use Rattle.source.specs.Statements.{Statement, Proof, float, hypothesis, distinct, asserted}
-use Rattle.source.specs.Scopes.{Hypothesis, typing, premise, label_of, Assertion, Scope, mandatory, pairs_of, declared, behind, with_hypothesis, with_assertion}
+use Rattle.source.specs.Scopes.{Hypothesis, typing, premise, label_of, Assertion, Scope, is_mandatory, mandatory, pairs_of, declared, behind, with_hypothesis, with_assertion}
+use Rattle.source.specs.Counts.{mandatory_marks}
 use Rattle.source.specs.Tests.{is_lawful}
 use Rattle.scopes.specs.declared.tables.Name.{Name}
 use Rattle.scopes.specs.declared.tables.Name.TheVariants as name
 use Rattle.scopes.specs.declared.tables.Active.{Active}
 use Rattle.scopes.specs.Paths.{path, IsWithin}
-use Rattle.scopes.specs.Views.{Linked, Entry, Kept, active_of, pairs_at, assertion_of, assertions_of, scopes_around, scope_of, stand_of}
-use Rattle.scopes.specs.Sound.{KnowsWord, IsSound, IsCounted, last_link}
+use Rattle.scopes.specs.Views.{Linked, Entry, Kept, hypothesis_at, active_of, marked_links, pairs_at, assertion_of, assertions_of, scopes_around}
+use Rattle.scopes.specs.Views.{scope_of, stand_of, marks_of}
+use Rattle.scopes.specs.Sound.{KnowsWord, IsSound, IsNumbered, last_link}
 use Rattle.scopes.specs.Effects.{with_link}
 use Rattle.scopes.proofs.Paths.{path_stays, path_grows}
 use Rattle.scopes.proofs.Naming.{knows_premise, knows_float, knows_assertion}
 use Rattle.scopes.proofs.Growing.{sizes_of, IsMore, Agree, nested_more, around_stays, take_stays, push_more}
 use Rattle.mmsyntax.proofs.Distinct.{all_push}
-use Rattle.scopes.proofs.Linking.{all_map, all_listed, last_within, entries_stay, counted_stay, links_stay, listed_more, scope_link}
+use Rattle.scopes.proofs.Linking.{all_map, all_listed, last_within, entries_stay, numbered_stay, links_stay, link_stays, listed_more, scope_link}
 use Rattle.scopes.proofs.Linking.{active_grows}
+use Rattle.scopes.proofs.Marking.{marked_within, marked_pass}
 use Rattle.scopes.proofs.Lawful.{lawful_hypothesis, lawful_float, lawful_asserted}
 
 -- ---- hypotheses
@@ -47,8 +50,8 @@ sound_link look found k h s known =
           (all_map (λ a. a.link < length k.links) (λ a. a.link < length j.links) (λ a lt. omega arith) k.active s.within) longer;
       listed = listed_more look k h s;
       apart = s.apart;
-      counted = counted_stay k.links j.links (length k.aparts) (length k.aparts) k.entries (omega arith) (omega arith) s.counted
-          (links_stay k h);
+      numbered = numbered_stay k.links j.links (length k.aparts) (length k.aparts) k.entries (omega arith) (omega arith) s.numbered
+          (links_stay k h) (link_stays k.links (last_link k.active, h));
       nested = nested_more (reverse k.blocks) (length k.aparts) (length k.aparts) (sizes_of k) (sizes_of j) (omega arith) more s.nested;
     }
 
@@ -62,7 +65,7 @@ stand_link look k h x s is =
     let here : scope_of j ≡ behind (scope_of k) x = scope_link look k h s ∙ sym is in
     let grown : active_of j.links j.active ≡ active_of k.links k.active ++ h ∷ [] = active_grows k.links l k.active false s.within in
     let entries : assertions_of j.links k.aparts k.entries ≡ assertions_of k.links k.aparts k.entries =
-    entries_stay k.links j.links k.aparts k.aparts k.entries s.counted (links_stay k h) (λ o w. refl) in
+    entries_stay k.links j.links k.aparts k.aparts k.entries s.numbered (links_stay k h) (λ o w. refl) in
     let agree : Agree k j (length k.aparts) (sizes_of k) = record {
       constants = λ n le. refl;
       variables = λ n le. refl;
@@ -139,7 +142,7 @@ scope_apart look k vs s =
     ∙ flat_map-append pairs_of (path k.aparts k.last_apart) (vs ∷ [])
     ∙ ap (λ xs. pairs_at k.aparts k.last_apart ++ xs) (append-nil (pairs_of vs)) in
     let es : assertions_of k.links j.aparts k.entries ≡ assertions_of k.links k.aparts k.entries =
-    entries_stay k.links k.links k.aparts j.aparts k.entries s.counted (λ o w. refl) (pairs_stay k vs) in
+    entries_stay k.links k.links k.aparts j.aparts k.entries s.numbered (λ o w. refl) (pairs_stay k vs) in
     cc
 
 pub sound_apart : (look : Word → Option Name) (k : Kept) (vs : List Word) → IsSound look k → IsSound look (with_apart k vs)
@@ -160,8 +163,8 @@ sound_apart look k vs s =
       within = s.within;
       listed = s.listed;
       apart = omega arith;
-      counted = counted_stay k.links k.links (length k.aparts) (length j.aparts) k.entries (omega arith) (omega arith) s.counted
-          (λ o w. refl);
+      numbered = numbered_stay k.links k.links (length k.aparts) (length j.aparts) k.entries (omega arith) (omega arith) s.numbered
+          (λ o w. refl) (λ i lt. refl);
       nested = nested_more (reverse k.blocks) (length k.aparts) (length j.aparts) (sizes_of k) (sizes_of j) (omega arith) more s.nested;
     }
   where
@@ -183,7 +186,7 @@ stand_apart look k vs s =
     let j = with_apart k vs in
     let here : scope_of j ≡ behind (scope_of k) (distinct vs) = scope_apart look k vs s in
     let es : assertions_of k.links j.aparts k.entries ≡ assertions_of k.links k.aparts k.entries =
-    entries_stay k.links k.links k.aparts j.aparts k.entries s.counted (λ o w. refl) (pairs_stay k vs) in
+    entries_stay k.links k.links k.aparts j.aparts k.entries s.numbered (λ o w. refl) (pairs_stay k vs) in
     let agree : Agree k j (length k.aparts) (sizes_of k) = record {
       constants = λ n le. refl;
       variables = λ n le. refl;
@@ -199,17 +202,23 @@ stand_apart look k vs s =
 
 -- ---- assertions
 
-abbrev pub entry_here : Kept → Word → List Word → Option Proof → ℕ → Entry
-entry_here k label ws proof arity =
-    record { label = label; statement = ws; proof = proof; hypotheses = last_link k.active; apart = k.last_apart; arity = arity }
+abbrev pub entry_here : Kept → Word → List Word → Option Proof → Entry
+entry_here k label ws proof = record {
+  label = label;
+  statement = ws;
+  proof = proof;
+  hypotheses = last_link k.active;
+  apart = k.last_apart;
+  mandatory_links = marked_links k.active;
+}
 
 abbrev pub with_entry : Kept → Entry → Kept
 with_entry k e = record k { labels = k.labels ++ e.label ∷ []; entries = k.entries ++ e ∷ [] }
 
-scope_entry : (look : Word → Option Name) (k : Kept) (label : Word) (ws : List Word) (proof : Option Proof) (arity : ℕ) → IsSound look k
-    → scope_of (with_entry k (entry_here k label ws proof arity)) ≡ with_assertion (scope_of k) label ws proof
-scope_entry look k label ws proof arity s =
-    let e = entry_here k label ws proof arity in
+scope_entry : (look : Word → Option Name) (k : Kept) (label : Word) (ws : List Word) (proof : Option Proof) → IsSound look k
+    → scope_of (with_entry k (entry_here k label ws proof)) ≡ with_assertion (scope_of k) label ws proof
+scope_entry look k label ws proof s =
+    let e = entry_here k label ws proof in
     let hs : path k.links (last_link k.active) ≡ active_of k.links k.active = all_listed k.links k.active s.listed in
     let a : Assertion = record {
       label = label;
@@ -224,12 +233,12 @@ scope_entry look k label ws proof arity s =
     map-append (assertion_of k.links k.aparts) k.entries (e ∷ []) ∙ ap (λ x. assertions_of k.links k.aparts k.entries ++ x ∷ []) one in
     cc
 
-pub sound_entry : (look : Word → Option Name) (k : Kept) (label : Word) (ws : List Word) (proof : Option Proof) (arity : ℕ) → IsSound look k
-    → is_lawful (scope_of k) (asserted label ws) ≡ true → arity ≡ length (mandatory (scope_of k).hypotheses ws)
+pub sound_entry : (look : Word → Option Name) (k : Kept) (label : Word) (ws : List Word) (proof : Option Proof) → IsSound look k
+    → is_lawful (scope_of k) (asserted label ws) ≡ true → marks_of k ≡ mandatory_marks (scope_of k) ws
     → IsSound (λ w. cond (bytes_eq label w) (Some (name.Assertion (length k.entries))) (look w))
-    (with_entry k (entry_here k label ws proof arity))
-sound_entry look k label ws proof arity s lawful counts =
-    let e = entry_here k label ws proof arity in
+    (with_entry k (entry_here k label ws proof))
+sound_entry look k label ws proof s lawful marks =
+    let e = entry_here k label ws proof in
     let j = with_entry k e in
     let new = lawful_asserted (scope_of k) label ws lawful in
     let len : length (scope_of k).assertions ≡ length k.entries = length-map k.entries _ in
@@ -252,32 +261,34 @@ sound_entry look k label ws proof arity s lawful counts =
     } in
     record {
       named = λ w. subst (λ (t : Scope). KnowsWord t w (cond (bytes_eq label w) (Some (name.Assertion (length k.entries))) (look w)))
-          (sym (scope_entry look k label ws proof arity s))
+          (sym (scope_entry look k label ws proof s))
           (subst (λ (n : ℕ). KnowsWord (with_assertion (scope_of k) label ws proof) w
           (cond (bytes_eq label w) (Some (name.Assertion n)) (look w))) len
           (knows_assertion (scope_of k) a look s.named new.0 new.1 w));
       within = s.within;
       listed = s.listed;
       apart = s.apart;
-      counted = all_push (IsCounted k.links (length k.aparts)) k.entries e s.counted (record {
+      numbered = all_push (IsNumbered k.links (length k.aparts)) k.entries e s.numbered (record {
         hypotheses = last_within (length k.links) k.active s.within;
         apart = s.apart;
-        arity = counts ∙ ap (λ xs. length (mandatory xs ws)) (sym hs);
+        mandatory_there = marked_within (length k.links) k.active s.within;
+        mandatory_are = marked_pass (hypothesis_at k.links) (is_mandatory (scope_of k).hypotheses ws) k.active marks
+            ∙ ap (λ xs. mandatory xs ws) (sym hs);
       });
       nested = nested_more (reverse k.blocks) (length k.aparts) (length k.aparts) (sizes_of k) (sizes_of j) (omega arith) more s.nested;
     }
 
-pub stand_entry : (look : Word → Option Name) (k : Kept) (label : Word) (ws : List Word) (proof : Option Proof) (arity : ℕ)
+pub stand_entry : (look : Word → Option Name) (k : Kept) (label : Word) (ws : List Word) (proof : Option Proof)
     → IsSound look k
-    → stand_of (with_entry k (entry_here k label ws proof arity)) ≡ record (stand_of k) {
+    → stand_of (with_entry k (entry_here k label ws proof)) ≡ record (stand_of k) {
       scope =
           with_assertion (scope_of k) label ws proof;
     }
 unfolding stand_of
-stand_entry look k label ws proof arity s =
-    let e = entry_here k label ws proof arity in
+stand_entry look k label ws proof s =
+    let e = entry_here k label ws proof in
     let j = with_entry k e in
-    let here : scope_of j ≡ with_assertion (scope_of k) label ws proof = scope_entry look k label ws proof arity s in
+    let here : scope_of j ≡ with_assertion (scope_of k) label ws proof = scope_entry look k label ws proof s in
     let f = assertion_of k.links k.aparts in
     let pushed : assertions_of k.links k.aparts j.entries ≡ assertions_of k.links k.aparts k.entries ++ f e ∷ [] =
     map-append f k.entries (e ∷ []) in

@@ -1,7 +1,6 @@
 mod Paths
 mod PathSteps
 mod Places
-mod Sets
 mod Found
 mod Outset
 mod SortsOf

@@ -10,8 +10,8 @@ use Rattle.std.proofs.Math.Seq.{get_or-append_seam, take-length}
 use Rattle.source.specs.Scopes.{Hypothesis, label_of, mandatory}
 use Rattle.scopes.specs.declared.tables.Active.{Active}
 use Rattle.scopes.specs.Paths.{path, IsWithin}
-use Rattle.scopes.specs.Views.{Linked, SetApart, Entry, Kept, hypothesis_at, active_of, assertion_of, assertions_of, scope_of}
-use Rattle.scopes.specs.Sound.{IsSound, IsCounted, last_link}
+use Rattle.scopes.specs.Views.{Linked, SetApart, Entry, Kept, hypothesis_at, hypotheses_at, active_of, assertion_of, assertions_of, scope_of}
+use Rattle.scopes.specs.Sound.{IsSound, IsNumbered, last_link}
 use Rattle.scopes.specs.Effects.{with_link}
 use Rattle.scopes.proofs.Paths.{path_stays, path_grows}
 use Rattle.scopes.proofs.Growing.{within_more}
@@ -69,12 +69,15 @@ all_listed links active h =
 
 -- ---- active hypotheses
 
+pub link_stays : (links : List Linked) (l : Linked) (i : ℕ) → i < length links
+    → hypothesis_at (links ++ l ∷ []) i ≡ hypothesis_at links i
+link_stays links l i lt = ap (λ p. p.1) (get_or_append_left links (l ∷ []) _ i lt)
+
 pub active_stays : (links : List Linked) (l : Linked) (active : List Active) → AllByRecursion (λ a. a.link < length links) active
     → active_of (links ++ l ∷ []) active ≡ active_of links active
 active_stays links l [] h = refl
 active_stays links l (a ∷ others) h =
-    let here : hypothesis_at (links ++ l ∷ []) a.link ≡ hypothesis_at links a.link =
-    ap (λ p. p.1) (get_or_append_left links (l ∷ []) _ a.link h.0) in
+    let here : hypothesis_at (links ++ l ∷ []) a.link ≡ hypothesis_at links a.link = link_stays links l a.link h.0 in
     let rest = active_stays links l others h.1 in
     cc
 
@@ -91,7 +94,7 @@ active_grows links l active mark h =
 -- ---- assertions
 
 pub entries_stay : (links more : List Linked) (aparts others : List SetApart) (es : List Entry)
-    → AllByRecursion (IsCounted links (length aparts)) es
+    → AllByRecursion (IsNumbered links (length aparts)) es
     → ((o : Option ℕ) → IsWithin o (length links) → path more o ≡ path links o)
     → ((o : Option ℕ) → IsWithin o (length aparts) → path others o ≡ path aparts o)
     → assertions_of more others es ≡ assertions_of links aparts es
@@ -103,13 +106,26 @@ entries_stay links more aparts others (e ∷ es) h same apart =
     let rest = entries_stay links more aparts others es h.1 same apart in
     cc
 
-pub counted_stay : (links more : List Linked) (m n : ℕ) (es : List Entry) → length links ≤ length more → m ≤ n
-    → AllByRecursion (IsCounted links m) es → ((o : Option ℕ) → IsWithin o (length links) → path more o ≡ path links o)
-    → AllByRecursion (IsCounted more n) es
-counted_stay links more m n es longer le h same = all_map (IsCounted links m) (IsCounted more n) (λ e c. record {
+-- the hypotheses of numbers
+pub hypotheses_stay : (links more : List Linked) (ns : List ℕ)
+    → ((i : ℕ) → i < length links → hypothesis_at more i ≡ hypothesis_at links i)
+    → AllByRecursion (λ i. i < length links) ns → hypotheses_at more ns ≡ hypotheses_at links ns
+hypotheses_stay links more [] same h = refl
+hypotheses_stay links more (i ∷ ns) same h =
+    let here : hypothesis_at more i ≡ hypothesis_at links i = same i h.0 in
+    let rest = hypotheses_stay links more ns same h.1 in
+    cc
+
+pub numbered_stay : (links more : List Linked) (m n : ℕ) (es : List Entry) → length links ≤ length more → m ≤ n
+    → AllByRecursion (IsNumbered links m) es → ((o : Option ℕ) → IsWithin o (length links) → path more o ≡ path links o)
+    → ((i : ℕ) → i < length links → hypothesis_at more i ≡ hypothesis_at links i)
+    → AllByRecursion (IsNumbered more n) es
+numbered_stay links more m n es longer le h same at = all_map (IsNumbered links m) (IsNumbered more n) (λ e c. record {
   hypotheses = within_more e.hypotheses (length links) (length more) longer c.hypotheses;
   apart = within_more e.apart m n le c.apart;
-  arity = c.arity ∙ ap (λ hs. length (mandatory hs e.statement)) (sym (same e.hypotheses c.hypotheses));
+  mandatory_there = all_map (λ i. i < length links) (λ i. i < length more) (λ i lt. omega arith) e.mandatory_links c.mandatory_there;
+  mandatory_are = hypotheses_stay links more e.mandatory_links at c.mandatory_there ∙ c.mandatory_are
+      ∙ ap (λ hs. mandatory hs e.statement) (sym (same e.hypotheses c.hypotheses));
 }) es h
 
 -- ---- one more link
@@ -154,5 +170,5 @@ scope_link look k h s =
     let hs : active_of (with_link k h).links (with_link k h).active ≡ active_of k.links k.active ++ h ∷ [] =
     active_grows k.links l k.active false s.within in
     let es : assertions_of (with_link k h).links k.aparts k.entries ≡ assertions_of k.links k.aparts k.entries =
-    entries_stay k.links (with_link k h).links k.aparts k.aparts k.entries s.counted (links_stay k h) (λ o w. refl) in
+    entries_stay k.links (with_link k h).links k.aparts k.aparts k.entries s.numbered (links_stay k h) (λ o w. refl) in
     cc

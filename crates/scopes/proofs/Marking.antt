@@ -1,8 +1,8 @@
 -- The marks for one more word, and for one more hypothesis.
 use Rattle.std.proofs.Common.{◌≡◌, inl, inr, ℕ, zero, suc, Bool, true, false, cond, List, [], ◌∷◌, ◌++◌, length, take, map}
-use Rattle.std.proofs.Common.{Option, Some, None, refl, sym, ap, ◌∙◌, append_assoc, take-suc}
+use Rattle.std.proofs.Common.{Option, Some, None, refl, sym, ap, ◌∙◌, append_assoc, append-nil, take-suc, ◌<◌}
 use Rattle.std.specs.Prelude.{◌||◌, filter, count_by}
-use Rattle.std.specs.List.{list_any, slice_get}
+use Rattle.std.specs.List.{AllByRecursion, list_any, slice_get}
 use Rattle.std.specs.Option.{option_map_or}
 use Rattle.std.specs.Str.{bytes_eq}
 use Rattle.std.proofs.Math.Bool.{or-false, or-true, or_assoc, or_comm}
@@ -14,7 +14,9 @@ use Rattle.std.proofs.lemmas.List.Sums.{length-filter}
 use Rattle.mmtext.specs.Words.{Word}
 use Rattle.mmsyntax.proofs.Names.{bytes_eq-sym}
 use Rattle.source.specs.Scopes.{Hypothesis, typing, premise, is_in, is_float_of, stands_in, is_mandatory}
+use Rattle.scopes.specs.declared.tables.Active.{Active}
 use Rattle.scopes.specs.Found.{Found, passes_at}
+use Rattle.scopes.specs.Views.{marked_links}
 use Rattle.scopes.specs.Symbols.{symbols_of, symbols_at}
 use Rattle.scopes.proofs.Found.{none_passes, found_any}
 
@@ -165,3 +167,49 @@ same_count f q (x ∷ xs) (y ∷ ys) e =
 pub count_map : {A B : Type 0} (f : A → Bool) (q : B → Bool) (xs : List A) (ys : List B) → map f xs ≡ map q ys
     → count_by f xs ≡ length (filter q ys)
 count_map f q xs ys e = sym (length-filter f xs) ∙ same_count f q xs ys e
+
+-- ---- the numbers of those that are marked
+
+pub marked_within : (n : ℕ) (xs : List Active) → AllByRecursion (λ a. a.link < n) xs → AllByRecursion (λ i. i < n) (marked_links xs)
+marked_within n [] h = tt
+marked_within n (x ∷ xs) h =
+    let rest = marked_within n xs h.1 in
+    let marked = filter (λ a. a.is_mandatory) xs in
+    elim x.is_mandatory as (λ b. AllByRecursion (λ i. i < n) (map (λ a. a.link) (cond b (x ∷ marked) marked))) [
+      | true ↦ (h.0, rest)
+      | false ↦ rest
+    ]
+
+-- they are of those that pass the test that the marks are of
+pub marked_pass : (f : ℕ → Hypothesis) (test : Hypothesis → Bool) (xs : List Active)
+    → map (λ a. a.is_mandatory) xs ≡ map test (map (λ a. f a.link) xs)
+    → map f (marked_links xs) ≡ filter test (map (λ a. f a.link) xs)
+marked_pass f test [] e = refl
+marked_pass f test (x ∷ xs) e =
+    let here : x.is_mandatory ≡ test (f x.link) = cc in
+    let later : map (λ a. a.is_mandatory) xs ≡ map test (map (λ a. f a.link) xs) = cc in
+    let rest : map f (marked_links xs) ≡ filter test (map (λ a. f a.link) xs) = marked_pass f test xs later in
+    let marked = filter (λ (a : Active). a.is_mandatory) xs in
+    let passed = filter test (map (λ a. f a.link) xs) in
+    ap (λ b. map f (map (λ a. a.link) (cond b (x ∷ marked) marked))) here
+    ∙ elim (test (f x.link)) as (λ b. map f (map (λ a. a.link) (cond b (x ∷ marked) marked)) ≡ cond b (f x.link ∷ passed) passed) [
+      | true ↦ ap (λ hs. f x.link ∷ hs) rest
+      | false ↦ rest
+    ]
+
+-- one more
+pub marked_more : (xs : List Active) (x : Active) (links : List ℕ) → links ≡ marked_links xs
+    → cond x.is_mandatory (links ++ x.link ∷ []) links ≡ marked_links (xs ++ x ∷ [])
+marked_more xs x links e =
+    let marked : Active → Bool = λ a. a.is_mandatory in
+    let more : filter marked (xs ++ x ∷ []) ≡ filter marked xs ++ filter marked (x ∷ []) = filter-append marked xs (x ∷ []) in
+    let link : Active → ℕ = λ a. a.link in
+    let both : marked_links (xs ++ x ∷ []) ≡ marked_links xs ++ marked_links (x ∷ []) =
+    ap (map link) more ∙ map-append link (filter marked xs) (filter marked (x ∷ [])) in
+    ap (λ ls. cond x.is_mandatory (ls ++ x.link ∷ []) ls) e
+    ∙ elim x.is_mandatory as (λ b. cond b (marked_links xs ++ x.link ∷ []) (marked_links xs)
+    ≡ marked_links xs ++ map link (cond b (x ∷ []) [])) [
+      | true ↦ refl
+      | false ↦ sym (append-nil (marked_links xs))
+    ]
+    ∙ sym both

@@ -67,7 +67,7 @@ marked_sound look k xs s e = record {
   listed = λ n. ap (path k.links) (same_last (take n xs) (take n k.active) (same_take n xs k.active e)) ∙ s.listed n
       ∙ sym (same_active k.links (take n xs) (take n k.active) (same_take n xs k.active e));
   apart = s.apart;
-  counted = s.counted;
+  numbered = s.numbered;
   nested = subst (λ (n : ℕ). AreNested (reverse k.blocks) (length k.aparts) (length k.constants) (length k.variables) n
       (length k.symbols) (length k.labels) (length k.entries)) (sym (same_length xs k.active e)) s.nested;
 }

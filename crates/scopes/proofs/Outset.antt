@@ -44,7 +44,7 @@ sound_nothing look none = record {
   within = tt;
   listed = λ n. rw take_nothing refl;
   apart = tt;
-  counted = tt;
+  numbered = tt;
   nested = tt;
 }
 

@@ -19,7 +19,7 @@ sound_looks look found k s same = record {
   within = s.within;
   listed = s.listed;
   apart = s.apart;
-  counted = s.counted;
+  numbered = s.numbered;
   nested = s.nested;
 }
 
@@ -45,7 +45,7 @@ sound_constant look k c s lawful =
       within = s.within;
       listed = s.listed;
       apart = s.apart;
-      counted = s.counted;
+      numbered = s.numbered;
       nested = nested_more (reverse k.blocks) (length k.aparts) (length k.aparts) (sizes_of k) (sizes_of (with_constant k c))
           (omega arith) more
           s.nested;
@@ -89,7 +89,7 @@ sound_variable look k v s lawful =
       within = s.within;
       listed = s.listed;
       apart = s.apart;
-      counted = s.counted;
+      numbered = s.numbered;
       nested = nested_more (reverse k.blocks) (length k.aparts) (length k.aparts) (sizes_of k) (sizes_of (with_variable k v))
           (omega arith) more
           s.nested;

@@ -1,7 +1,6 @@
 pub mod Paths
 pub mod Views
 pub mod Found
-pub mod Chosen
 pub mod Sound
 pub mod Sorts
 pub mod Symbols

@@ -14,7 +14,7 @@ use Rattle.scopes.specs.declared.tables.Active.{Active}
 use Rattle.scopes.specs.declared.tables.Block.{Block}
 use Rattle.scopes.specs.declared.tables.Tables.{Tables}
 use Rattle.scopes.specs.Paths.{path, IsWithin}
-use Rattle.scopes.specs.Views.{Linked, Entry, Kept, kept_of, active_of, scope_of}
+use Rattle.scopes.specs.Views.{Linked, Entry, Kept, kept_of, hypotheses_at, active_of, scope_of}
 use Rattle.scopes.specs.Found.{Found}
 
 -- ---- what a name says
@@ -82,11 +82,12 @@ AreNested (b ∷ bs) aparts cs vs hs ss ls es =
     × IsWithin b.apart aparts
     × AreNested bs aparts b.constants b.variables b.active b.symbols b.labels b.assertions
 
--- the numbers of an assertion are there, and the count of its mandatory hypotheses is right
-pub record IsCounted (links : List Linked) (aparts : ℕ) (e : Entry) : Type 0 where
+-- the numbers of an assertion are there, and those of its mandatory hypotheses are right
+pub record IsNumbered (links : List Linked) (aparts : ℕ) (e : Entry) : Type 0 where
   pub hypotheses : IsWithin e.hypotheses (length links)
   pub apart : IsWithin e.apart aparts
-  pub arity : e.arity ≡ length (mandatory (path links e.hypotheses) e.statement)
+  pub mandatory_there : AllByRecursion (λ i. i < length links) e.mandatory_links
+  pub mandatory_are : hypotheses_at links e.mandatory_links ≡ mandatory (path links e.hypotheses) e.statement
 
 -- what is always true, where the map of names finds what `look` says
 pub record IsSound (look : Word → Option Name) (k : Kept) : Type 0 where
@@ -94,7 +95,7 @@ pub record IsSound (look : Word → Option Name) (k : Kept) : Type 0 where
   pub within : AllByRecursion (λ a. a.link < length k.links) k.active
   pub listed : (n : ℕ) → path k.links (last_link (take n k.active)) ≡ active_of k.links (take n k.active)
   pub apart : IsWithin k.last_apart (length k.aparts)
-  pub counted : AllByRecursion (IsCounted k.links (length k.aparts)) k.entries
+  pub numbered : AllByRecursion (IsNumbered k.links (length k.aparts)) k.entries
   pub nested : AreNested (reverse k.blocks) (length k.aparts) (length k.constants) (length k.variables)
       (length k.active) (length k.symbols) (length k.labels) (length k.entries)
 

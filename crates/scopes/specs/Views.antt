@@ -1,5 +1,5 @@
 -- Of the code's inside, apart from the rules: how contracts see the tables.
-use Rattle.std.specs.Prelude.{ℕ, Bool, true, false, List, [], ◌∷◌, map, take, reverse, Option, None}
+use Rattle.std.specs.Prelude.{ℕ, Bool, true, false, List, [], ◌∷◌, map, filter, take, reverse, Option, None}
 use Rattle.std.proofs.Common.{get_or}
 use Rattle.std.specs.List.{flat_map}
 use Rattle.std.specs.Option.{option_map}
@@ -36,14 +36,14 @@ set_apart a = (a.before, seen_words a.variables.items)
 abbrev pub seen_aparts : List (Bor (List (Bor (List ℕ)))) → List (List Word)
 seen_aparts vs = map (λ v. seen_words v.now) vs
 
--- an assertion with the numbers of the last active hypothesis and $d, and the count of its mandatory hypotheses
+-- an assertion with the numbers of the last active hypothesis and $d, and of its mandatory hypotheses
 pub record Entry : Type 0 where
   pub label : Word
   pub statement : List Word
   pub proof : Option Proof
   pub hypotheses : Option ℕ
   pub apart : Option ℕ
-  pub arity : ℕ
+  pub mandatory_links : List ℕ
 
 abbrev pub entry_of : Asserted → Entry
 entry_of a = record {
@@ -52,7 +52,7 @@ entry_of a = record {
   proof = option_map seen_proof a.proof;
   hypotheses = a.hypotheses;
   apart = a.apart;
-  arity = a.arity;
+  mandatory_links = a.mandatory_links.items;
 }
 
 -- all that is kept, without the map of names
@@ -87,6 +87,10 @@ kept_of t = record {
 -- the hypothesis of a number
 abbrev pub hypothesis_at : List Linked → ℕ → Hypothesis
 hypothesis_at links i = (get_or links i (None, premise [] [])).1
+
+-- the hypotheses of some numbers
+abbrev pub hypotheses_at : List Linked → List ℕ → List Hypothesis
+hypotheses_at links numbers = map (hypothesis_at links) numbers
 
 -- the active hypotheses
 abbrev pub active_of : List Linked → List Active → List Hypothesis
@@ -148,6 +152,10 @@ scope_of k = record {
 
 unfoldable pub stand_of : Kept → Stand
 stand_of k = record { scope = scope_of k; around = scopes_around k (reverse k.blocks) }
+
+-- the numbers of those that are marked
+abbrev pub marked_links : List Active → List ℕ
+marked_links active = map (λ a. a.link) (filter (λ a. a.is_mandatory) active)
 
 -- of each active hypothesis: whether it is mandatory for the expression that was framed last
 abbrev pub marks_of : Kept → List Bool

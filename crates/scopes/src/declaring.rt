@@ -1,21 +1,22 @@
 //! What is put into the tables.
 
-ghost use Rattle.std.specs.Prelude.{◌≡◌, ◌++◌, ◌∷◌, [], length, cond, ℕ, Option, None, Some, OnOk, true};
+ghost use Rattle.std.specs.Prelude.{◌≡◌, ◌++◌, ◌∷◌, [], length, cond, ℕ, Option, None, Some, IfOk, OnOk, true};
 ghost use Rattle.std.specs.Option.{option_map};
 ghost use Rattle.std.specs.Str.{bytes_eq};
 ghost use Rattle.mmtext.specs.Words.{Word};
 ghost use Rattle.source.specs.Statements.{float, hypothesis, distinct, asserted, proved};
-ghost use Rattle.source.specs.Scopes.{Scope, declared, behind, label_of, mandatory, with_assertion};
+ghost use Rattle.source.specs.Counts.{mandatory_marks};
+ghost use Rattle.source.specs.Scopes.{declared, label_of, with_assertion};
 ghost use Rattle.source.specs.Tests.{is_lawful, a_constant, a_variable};
 ghost use Rattle.source.specs.Views.{seen_words, seen_proof, seen_hypothesis};
 ghost use Rattle.scopes.specs.declared.tables.Name.TheVariants as name;
-ghost use Rattle.scopes.specs.Views.{kept_of, scope_of, stand_of};
+ghost use Rattle.scopes.specs.Views.{kept_of, scope_of, stand_of, marks_of, marked_links};
 ghost use Rattle.scopes.specs.Sound.{IsSoundTables, looks_up, float_place, last_link};
 ghost use Rattle.scopes.specs.Effects.{with_link};
 
 use crate::tables::{Active, Apart, Asserted, Link, Name, Tables};
 use source::{HypothesisWords, ProofWords};
-use std::alloc::AllocError;
+use std::alloc::{AllocError, Global};
 
 /// One more constant.
 pub(crate) fn add_constant<'a>(tables: &mut Tables<'a>, word: &'a [u8]) -> Result<(), AllocError>
@@ -154,17 +155,30 @@ pub(crate) fn add_distinct<'a>(
     Ok(())
 }
 
-/// One more assertion, with the count of its mandatory hypotheses.
+/// The numbers of the hypotheses that are marked.
+fn marked_links(alloc: Global, active: &[Active]) -> Result<Vec<usize>, AllocError>
+    ensures { IfOk result (λ made. made.items ≡ marked_links active.now) }
+{
+    let mut links = Vec::new(alloc);
+    for hypothesis in active {
+        if hypothesis.is_mandatory {
+            links.push(hypothesis.link)?;
+        }
+    }
+    Ok(links)
+}
+
+/// One more assertion, for whose symbols the mandatory hypotheses are marked.
 pub(crate) fn add_asserted<'a>(
+    alloc: Global,
     tables: &mut Tables<'a>,
     label: &'a [u8],
     statement: Vec<&'a [u8]>,
     proof: Option<ProofWords<'a>>,
-    arity: usize,
 ) -> Result<(), AllocError>
     requires sound { IsSoundTables tables.old }
     requires lawful { is_lawful (scope_of (kept_of tables.old)) (asserted label.now (seen_words statement.items)) ≡ true }
-    requires counted { arity ≡ length (mandatory (scope_of (kept_of tables.old)).hypotheses (seen_words statement.items)) }
+    requires marks { marks_of (kept_of tables.old) ≡ mandatory_marks (scope_of (kept_of tables.old)) (seen_words statement.items) }
     ensures sound { OnOk result (IsSoundTables tables.new) }
     ensures stand { OnOk result (stand_of (kept_of tables.new) ≡ record (stand_of (kept_of tables.old)) {
       scope =
@@ -172,6 +186,7 @@ pub(crate) fn add_asserted<'a>(
           (option_map seen_proof proof.entry);
     }) }
 {
+    let mandatory_links = marked_links(alloc, tables.active.as_slice())?;
     let hypotheses = last_active(tables.active.as_slice());
     let apart = tables.last_apart;
     let place = tables.assertions.len();
@@ -182,7 +197,7 @@ pub(crate) fn add_asserted<'a>(
         proof,
         hypotheses,
         apart,
-        arity,
+        mandatory_links,
     })?;
     tables.names.insert(label, Name::Assertion(place))?;
     tables.labels.push(label)?;

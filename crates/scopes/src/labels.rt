@@ -31,7 +31,7 @@ fn citation_of(tables: &Tables<'_>, _word: &[u8], sort: Sort) -> Option<Citation
         Sort::Hypothesis(_) => Some(Citation::Hypothesis),
         Sort::Assertion(place) => {
             let assertion = tables.assertions.get(place)?;
-            Some(Citation::Assertion(assertion.arity))
+            Some(Citation::Assertion(assertion.mandatory_links.len()))
         }
         _ => None,
     }

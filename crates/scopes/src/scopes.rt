@@ -16,9 +16,9 @@ use std::mem;
 
 /// What stands at a place of a source: names, active variables, hypotheses and `$d`, blocks that are open, and all assertions so far.
 ///
-/// Each look-up is that of one word in a map. What is kept is linear in the text: the active hypotheses of an assertion are found from its
-/// last one. Where an assertion begins the words of the active `$e` are looked up once, and then each of its own, while it is read: its
-/// mandatory hypotheses are those marked at its end. Those that are asked for later cost the active hypotheses and the same words.
+/// Each look-up is that of one word in a map. What is kept is linear in the text and in the mandatory hypotheses of its assertions: the
+/// active ones of an assertion are found from its last one. Where an assertion begins the words of the active `$e` are looked up once, and
+/// then each of its own, while it is read: its mandatory hypotheses are those marked at its end, and their numbers are noted.
 pub struct Scopes<'a> {
     tables: Tables<'a>,
 }
@@ -56,6 +56,7 @@ impl<'a> Scopes<'a> {
     fn take(&mut self, alloc: Global) -> Tables<'a>
         ensures sound { IsSoundTables result }
         ensures stand { stand_of (kept_of result) ≡ self.old.stand }
+        ensures marks { marks_of (kept_of result) ≡ self.old.marks }
     {
         let none = Tables::new(alloc, *self.tables.names.hasher());
         mem::replace(&mut self.tables, none)
@@ -171,9 +172,8 @@ impl<'a> Standing<'a> for Scopes<'a> {
         label: &'a [u8],
         expression: Vec<&'a [u8]>,
     ) -> Result<(), AllocError> {
-        let arity = frames::count_marked(&self.tables);
         let mut tables = self.take(alloc);
-        declaring::add_asserted(&mut tables, label, expression, None, arity)?;
+        declaring::add_asserted(alloc, &mut tables, label, expression, None)?;
         self.tables = tables;
         Ok(())
     }
@@ -185,9 +185,8 @@ impl<'a> Standing<'a> for Scopes<'a> {
         expression: Vec<&'a [u8]>,
         proof: ProofWords<'a>,
     ) -> Result<(), AllocError> {
-        let arity = frames::count_marked(&self.tables);
         let mut tables = self.take(alloc);
-        declaring::add_asserted(&mut tables, label, expression, Some(proof), arity)?;
+        declaring::add_asserted(alloc, &mut tables, label, expression, Some(proof))?;
         self.tables = tables;
         Ok(())
     }

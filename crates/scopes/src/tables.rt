@@ -44,7 +44,8 @@ pub(crate) struct Active {
     pub(crate) is_mandatory: bool,
 }
 
-/// An assertion, with the numbers of the last active hypothesis and the last active `$d`, and how many mandatory hypotheses it has.
+/// An assertion, with the numbers of the last active hypothesis and the last active `$d`, and of its mandatory hypotheses, in order of
+/// appearance.
 #[derive(Drop)]
 pub(crate) struct Asserted<'a> {
     pub(crate) label: &'a [u8],
@@ -52,7 +53,7 @@ pub(crate) struct Asserted<'a> {
     pub(crate) proof: Option<ProofWords<'a>>,
     pub(crate) hypotheses: Option<usize>,
     pub(crate) apart: Option<usize>,
-    pub(crate) arity: usize,
+    pub(crate) mandatory_links: Vec<usize>,
 }
 
 /// How much stood before a block, of each list.

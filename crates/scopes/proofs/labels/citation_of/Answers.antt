@@ -8,7 +8,7 @@ use Rattle.std.specs.Str.{bytes_eq}
 use Rattle.source.specs.Scopes.{Assertion}
 use Rattle.source.specs.declared.entries.Citation.TheVariants as citation
 use Rattle.scopes.specs.Views.{kept_of, scope_of, linked, set_apart, entry_of, assertion_of}
-use Rattle.scopes.specs.Sound.{IsCounted}
+use Rattle.scopes.specs.Sound.{IsNumbered}
 use Rattle.scopes.specs.declared.sorts.Sort.{Sort}
 use Rattle.scopes.specs.Sorts.{IsSortOf}
 use Rattle.scopes.proofs.labels.citation_of.Goals as goal
@@ -29,12 +29,14 @@ returns-in_ok-assertion-in-Assertion c =
     let seen : slice_get s.assertions i ≡ Some (assertion_of links aparts (entry_of a)) =
     slice_get-map (assertion_of links aparts) (map entry_of t.assertions.items) i ∙ ap (option_map (assertion_of links aparts)) entry in
     let es = map entry_of t.assertions.items in
-    let counted = subst (IsCounted links (length aparts)) (get_or_from_slice_get es i (entry_of a) (entry_of a) entry)
-    (All-from_recursion (IsCounted links (length aparts)) es c.requires.sound.counted i (entry_of a)
+    let numbered = subst (IsNumbered links (length aparts)) (get_or_from_slice_get es i (entry_of a) (entry_of a) entry)
+    (All-from_recursion (IsNumbered links (length aparts)) es c.requires.sound.numbered i (entry_of a)
     (slice_get_within es i (entry_of a) entry)) in
+    let arity : length (assertion_of links aparts (entry_of a)).hypotheses ≡ c.len.result =
+    ap length (sym numbered.mandatory_are) ∙ length-map a.mandatory_links.items (hypothesis_at links) ∙ len in
     let w = c.args._word.now in
     let k = subst (λ (o : Sort). IsSortOf s w o) c.in-Assertion.is c.requires.sort in
     let named = λ (a : Assertion). citation.Assertion (length a.hypotheses) in
     sym (ap (λ b. cond b (Some citation.Hypothesis) (option_map named (find (λ a. bytes_eq w a.label) s.assertions))) k.hypothesis
     ∙ ap (option_map named) (k.first ∙ seen)
-    ∙ ap (λ n. Some (citation.Assertion n)) (sym counted.arity))
+    ∙ ap (λ n. Some (citation.Assertion n)) arity)
