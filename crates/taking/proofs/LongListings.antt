@@ -207,9 +207,11 @@ joined_long (Some hs) (Some parts) (Some own) steps n k e a l =
     let flat = length_flat arranged in
     let sum = ap total (map-append (λ (x : List Listed). length x) (at_floats hs parts) (at_premises hs parts))
     ∙ total_append (map (λ x. length x) (at_floats hs parts)) (map (λ x. length x) (at_premises hs parts)) in
-    let more = elim a [
+    let more : total (map (λ x. length x) (at_floats hs parts)) + total (map (λ x. length x) (at_premises hs parts))
+    ≡ total (map (λ x. length x) parts) =
+    elim a [
       | inl takes ↦ arranged_long hs parts (let same : length hs ≡ n = cc in omega (arith, both.0))
-      | inr none ↦ arranged_none hs parts (both.0 ∙ none)
+      | inr no ↦ arranged_none hs parts (both.0 ∙ no)
     ] in
     let steps-are : flat_map (λ x. x) arranged ++ own ∷ [] ≡ steps = same_Some _ _ e in
     omega (arith, ap length steps-are, length-append (flat_map (λ x. x) arranged) (own ∷ []), flat, sum, more, both.1)
