@@ -211,7 +211,7 @@ joined_long (Some hs) (Some parts) (Some own) steps n k e a l =
     ≡ total (map (λ x. length x) parts) =
     elim a [
       | inl takes ↦ arranged_long hs parts (let same : length hs ≡ n = cc in omega (arith, both.0))
-      | inr no ↦ arranged_none hs parts (both.0 ∙ no)
+      | inr few ↦ arranged_none hs parts (both.0 ∙ few)
     ] in
     let steps-are : flat_map (λ x. x) arranged ++ own ∷ [] ≡ steps = same_Some _ _ e in
     omega (arith, ap length steps-are, length-append (flat_map (λ x. x) arranged) (own ∷ []), flat, sum, more, both.1)
