@@ -73,7 +73,8 @@ module _ (s : Scope) where
   labels_taken e (compressed labels letters) h finished =
       let cited = λ (w : Word). passes (cited_tests s e w) in
       let parts = three_parts (list_all cited labels) (nat_le 1 (length letters)) (all_pass (letter_tests s e labels) [] letters) h in
-      All-weaker (λ w. cited w ≡ true) IsTaken (λ w p. named_takes s w (cited_named s e w p)) labels (AllPass-from_list_all cited labels parts.0)
+      All-weaker (λ w. cited w ≡ true) IsTaken (λ w p. named_takes s w (cited_named s e w p)) labels
+      (AllPass-from_list_all cited labels parts.0)
 
   -- a lawful proof is whole
   pub proof_whole : (label : Word) (e : List Word) (proof : Proof) → is_lawful_proof s e proof ≡ true

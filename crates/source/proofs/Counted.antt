@@ -95,8 +95,8 @@ now_markable k markable old new false puts go = absurd cc
 
 -- ---- what labels name
 
-no_assertion : (o : Option Assertion) → option_map (λ (a : Assertion). citation.Assertion (length a.hypotheses)) o ≡ Some citation.Hypothesis
-    → ⊥
+no_assertion : (o : Option Assertion)
+    → option_map (λ (a : Assertion). citation.Assertion (length a.hypotheses)) o ≡ Some citation.Hypothesis → ⊥
 no_assertion None e = absurd cc
 no_assertion (Some a) e = absurd cc
 

@@ -69,12 +69,12 @@ may_be_marked active (again n) = false
 may_be_marked active marks = true
 may_be_marked active unknown = false
 
--- a step stands right behind another that may be marked, or may not
+-- a mark stands right behind a step that may be marked, and any other step behind all
 abbrev pub is_placed : Bool → Step → Bool
 is_placed markable marks = markable
 is_placed markable _ = true
 
--- so do all steps. A mark in front of all others marks nothing
+-- so does each step but the first: where that is a mark, no entry is there
 abbrev pub are_marks_placed : List Hypothesis → List Step → Bool
 are_marks_placed active [] = true
 are_marks_placed active (x ∷ []) = true

@@ -207,9 +207,11 @@ joined_long (Some hs) (Some parts) (Some own) steps n k e a l =
     let flat = length_flat arranged in
     let sum = ap total (map-append (λ (x : List Listed). length x) (at_floats hs parts) (at_premises hs parts))
     ∙ total_append (map (λ x. length x) (at_floats hs parts)) (map (λ x. length x) (at_premises hs parts)) in
-    let more = elim a [
+    let more : total (map (λ x. length x) (at_floats hs parts)) + total (map (λ x. length x) (at_premises hs parts))
+    ≡ total (map (λ x. length x) parts) =
+    elim a [
       | inl takes ↦ arranged_long hs parts (let same : length hs ≡ n = cc in omega (arith, both.0))
-      | inr none ↦ arranged_none hs parts (both.0 ∙ none)
+      | inr few ↦ arranged_none hs parts (both.0 ∙ few)
     ] in
     let steps-are : flat_map (λ x. x) arranged ++ own ∷ [] ≡ steps = same_Some _ _ e in
     omega (arith, ap length steps-are, length-append (flat_map (λ x. x) arranged) (own ∷ []), flat, sum, more, both.1)
@@ -227,20 +229,21 @@ both_long (Some x) (Some xs) parts n k j e a b =
     (omega (arith, rest.0), omega (arith, one, rest.1))
 
 module _ (m : Map) (earlier : List Assertion) (active : List Hypothesis) where
-  either : {w : Word} {n : ℕ} → (option_map length (taken_by earlier active w) ≡ Some n) ⊎ (Unit {0} × (n ≡ 0))
+  either : (w : Word) (n : ℕ) → (option_map length (taken_by earlier active w) ≡ Some n) ⊎ (Unit {0} × (n ≡ 0))
       → (option_map length (taken_by earlier active w) ≡ Some n) ⊎ (n ≡ 0)
-  either (inl takes) = inl takes
-  either (inr other) = inr other.1
+  either w n (inl takes) = inl takes
+  either w n (inr other) = inr other.1
 
   mutual
     stands_long : (t : Tree) (steps : List Listed) → Stands (Unit {0}) earlier active t → listing m earlier active t ≡ Some steps
         → length steps ≡ size t
     stands_long (node w trees) steps h e =
         joined_long (taken_by earlier active w) (listings m earlier active trees) (step_in m active w) steps
-        (how_many trees) (sizes trees) e (either h.0)
+        (how_many trees) (sizes trees) e (either w (how_many trees) h.0)
         (λ parts is. listings_long trees parts h.1 is)
 
-    listings_long : (ts : Trees) (parts : List (List Listed)) → AllStand (Unit {0}) earlier active ts → listings m earlier active ts ≡ Some parts
+    listings_long : (ts : Trees) (parts : List (List Listed)) → AllStand (Unit {0}) earlier active ts
+        → listings m earlier active ts ≡ Some parts
         → (length parts ≡ how_many ts) × (total (map (λ x. length x) parts) ≡ sizes ts)
     listings_long none parts h e =
         subst (λ ps. (length ps ≡ 0) × (total (map (λ (x : List Listed). length x) ps) ≡ 0)) (same_Some _ _ e) (refl, refl)

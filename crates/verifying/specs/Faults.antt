@@ -1,6 +1,6 @@
 -- The first fault of the proofs of a source that doesn't verify: the first theorem in its order, and the first step at fault in its own
 -- proof.
-use Rattle.std.specs.Prelude.{ℕ, Bool, true, false, List, [], ◌∷◌, ◌++◌, filter, length, if◌then◌else◌, Option, Some, None, Ok, Err}
+use Rattle.std.specs.Prelude.{Bool, true, false, List, [], ◌∷◌, ◌++◌, filter, length, if◌then◌else◌, Option, Some, None, Ok, Err}
 use Rattle.std.specs.Option.{option_map, option_or, option_and_then}
 use Rattle.mmtext.specs.Words.{Word}
 use Rattle.derivation.specs.declared.fault.ProofFault.{ProofFault}

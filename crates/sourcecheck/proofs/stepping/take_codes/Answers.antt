@@ -15,7 +15,8 @@ returns-in-Err c = λ name earlier x labels stands named is there.
     subst (λ ss. IsFaultOfKind earlier x ss c.count-step.result c.in-Err.kind)
     (sym (mapped_around (step_of labels) codes i _ c.loop-code-test.true))
     (reached_fails name earlier x _ c.loop-code.stack c.loop-code.step before _ c.count-step.result (c.count-step.ensures.counted labels)
-    c.in-Err.kind (c.in-Err.ensures name earlier x labels stands named (none_at is_absent codes i _ there c.loop-code-test.true)) (map (step_of labels) (drop (i + 1) codes)))
+    c.in-Err.kind (c.in-Err.ensures name earlier x labels stands named (none_at is_absent codes i _ there c.loop-code-test.true))
+    (map (step_of labels) (drop (i + 1) codes)))
 
 pub loop-code-preserved : goal.loop-code-preserved
 loop-code-preserved c = record {

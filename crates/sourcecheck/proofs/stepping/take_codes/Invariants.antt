@@ -12,5 +12,6 @@ abbrev pub invariant-loop-code : goal.invariant-loop-code
 invariant-loop-code l = record {
   few : l.step ≤ l.code-index;
   reached : (name : ℕ → Word) (earlier : List Assertion) (x : Assertion) (labels : List Word) → Stands name earlier x l.frames l.thesis
-      → AreNamed name earlier x labels l.named → list_any is_absent l.codes ≡ false → Reached name earlier x (map (step_of labels) (take l.code-index l.codes)) l.stack l.step;
+      → AreNamed name earlier x labels l.named → list_any is_absent l.codes ≡ false
+      → Reached name earlier x (map (step_of labels) (take l.code-index l.codes)) l.stack l.step;
 }
