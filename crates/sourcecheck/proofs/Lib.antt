@@ -9,3 +9,5 @@ pub mod Labelled
 pub mod Counts
 pub mod Told
 pub mod Sourced
+pub mod Found
+pub mod Beside

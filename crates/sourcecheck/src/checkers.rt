@@ -1,6 +1,6 @@
 //! Those who check the assertions of a source beside one another.
 
-ghost use Rattle.std.specs.Prelude.{◌≡◌, ◌<◌, ◌≤◌, [], None, All, OnNone, IfSome, IfOk, length, map, vec_capacity};
+ghost use Rattle.std.specs.Prelude.{◌≡◌, ◌<◌, ◌≤◌, [], None, All, IfNone, IfSome, IfOk, length, map, vec_capacity};
 ghost use Rattle.source.specs.Whole.{IsWhole};
 ghost use Rattle.claims.specs.Claims.{IsClaimantOf, AreClaimed};
 ghost use Rattle.sourcecheck.specs.Found.{earlier, earliest};
@@ -12,6 +12,7 @@ use crate::theorem::{check_theorem, fault};
 use claims::{Claimant, Numbers};
 use derivation::{ProofFault, ProofFaultKind};
 use rayon::current_num_threads;
+use scopes::Scopes;
 use source::Declared;
 use std::alloc::{AllocError, Global};
 use std::thread;
@@ -41,7 +42,7 @@ fn found_at<'a, D: Declared<'a>>(
     requires knows { IfSome own.old (Knows (D.scope declared.now).assertions frames.now) }
     requires whole { IsWhole (D.scope declared.now) }
     requires within { place < length (D.scope declared.now).assertions }
-    ensures knows { OnNone result (IfSome own.new (Knows (D.scope declared.now).assertions frames.now)) }
+    ensures knows { IfNone result (IfSome own.new (Knows (D.scope declared.now).assertions frames.now)) }
     ensures found { IsFoundAmong (D.scope declared.now).assertions (λ k. k ≡ place) result }
 {
     let Some(table) = own else {
@@ -81,22 +82,22 @@ fn check_claimed<'a, D: Declared<'a>>(
 }
 
 /// Checks by each of these checkers, each on a thread of its own.
-fn check_beside<'a, D: Declared<'a> + Sync>(
+fn check_beside<'a>(
     rt: &(impl Threads + Sync),
     alloc: Global,
     table: &Table<'a>,
     frames: &[Frame],
-    declared: &D,
+    declared: &Scopes<'a>,
     numbers: &Numbers,
     checkers: &mut [Checker],
 )
     requires some { 0 < length checkers.old }
-    requires whole { IsWhole (D.scope declared.now) }
-    requires knows { Knows (D.scope declared.now).assertions frames.now table.now }
-    requires count { numbers.now.count ≡ length (D.scope declared.now).assertions }
+    requires whole { IsWhole declared.now.stand.scope }
+    requires knows { Knows declared.now.stand.scope.assertions frames.now table.now }
+    requires count { numbers.now.count ≡ length declared.now.stand.scope.assertions }
     requires ready { All (IsReady numbers.now) checkers.old }
     ensures many { length checkers.new ≡ length checkers.old }
-    ensures checked { All (HasChecked (D.scope declared.now).assertions numbers.now) checkers.new }
+    ensures checked { All (HasChecked declared.now.stand.scope.assertions numbers.now) checkers.new }
 {
     let threads = checkers.len();
     thread::for_each_mut(
@@ -104,11 +105,11 @@ fn check_beside<'a, D: Declared<'a> + Sync>(
         checkers,
         threads,
         &|_place: usize, checker: &mut Checker|
-            requires { IsWhole (D.scope declared.now)
-                × Knows (D.scope declared.now).assertions frames.now table.now
-                × (numbers.now.count ≡ length (D.scope declared.now).assertions)
+            requires { IsWhole declared.now.stand.scope
+                × Knows declared.now.stand.scope.assertions frames.now table.now
+                × (numbers.now.count ≡ length declared.now.stand.scope.assertions)
                 × IsReady numbers.now checker.now }
-            ensures { HasChecked (D.scope declared.entry.now).assertions numbers.entry.now checker.new }
+            ensures { HasChecked declared.entry.now.stand.scope.assertions numbers.entry.now checker.new }
         { check_claimed(alloc, table, frames, declared, numbers, checker) },
     );
 }
@@ -189,17 +190,17 @@ fn first_found(
 /// # Errors
 ///
 /// Want of memory before any proof is checked.
-pub(crate) fn check_shared<'a, D: Declared<'a> + Sync>(
+pub(crate) fn check_shared<'a>(
     rt: &(impl Threads + Sync),
     alloc: Global,
     workers: Option<usize>,
     table: &Table<'a>,
     frames: &[Frame],
-    declared: &D,
+    declared: &Scopes<'a>,
 ) -> Result<Option<(usize, ProofFault)>, AllocError>
-    requires whole { IsWhole (D.scope declared.now) }
-    requires knows { Knows (D.scope declared.now).assertions frames.now table.now }
-    ensures { IfOk result (IsFoundAmong (D.scope declared.now).assertions (λ k. k < length (D.scope declared.now).assertions)) }
+    requires whole { IsWhole declared.now.stand.scope }
+    requires knows { Knows declared.now.stand.scope.assertions frames.now table.now }
+    ensures { IfOk result (IsFoundAmong declared.now.stand.scope.assertions (λ k. k < length declared.now.stand.scope.assertions)) }
 {
     let count = declared.assertions();
     let many = count_checkers(rt, workers, count);

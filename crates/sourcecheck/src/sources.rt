@@ -17,6 +17,7 @@ use crate::frame::Frame;
 use crate::framing::frame_of;
 use crate::table::Table;
 use derivation::{ProofFault, ProofFaultKind};
+use scopes::Scopes;
 use source::Declared;
 use std::alloc::{AllocError, Global};
 use std::hash::RandomState;
@@ -89,15 +90,15 @@ fn refusal_at<'a, D: Declared<'a>>(declared: &D, place: usize, fault: ProofFault
 }
 
 /// What is found first among all assertions, by checkers beside one another.
-fn first_fault<'a, D: Declared<'a> + Sync>(
+fn first_fault<'a>(
     rt: &(impl Threads + Sync),
     alloc: Global,
     keys: RandomState,
     workers: Option<usize>,
-    declared: &D,
+    declared: &Scopes<'a>,
 ) -> Result<Option<(usize, ProofFault)>, AllocError>
-    requires { IsWhole (D.scope declared.now) }
-    ensures { IfOk result (IsFoundAmong (D.scope declared.now).assertions (λ k. k < length (D.scope declared.now).assertions)) }
+    requires { IsWhole declared.now.stand.scope }
+    ensures { IfOk result (IsFoundAmong declared.now.stand.scope.assertions (λ k. k < length declared.now.stand.scope.assertions)) }
 {
     let mut table = Table::new(alloc, keys);
     let frames = frames_of(alloc, &mut table, declared)?;
@@ -138,17 +139,17 @@ fn count_unfinished<'a, D: Declared<'a>>(declared: &D) -> usize
 ///
 /// The first fault: that of the first theorem in the order of the source, at the first step at fault. If memory or room runs out at a
 /// theorem before it, that is told.
-pub fn check_source<'a, D: Declared<'a> + Sync>(
+pub fn check_source<'a>(
     rt: &(impl Threads + Sync),
     alloc: Global,
     keys: RandomState,
     workers: Option<usize>,
-    declared: &D,
+    declared: &Scopes<'a>,
 ) -> Result<usize, Unverified<'a>>
-    requires { IsWhole (D.scope declared.now) }
-    ensures verified { OnOk result (Verifies (D.scope declared.now)) }
-    ensures unfinished { IfOk result (λ n. n ≡ unfinished (D.scope declared.now)) }
-    ensures refused { IfErr result (IsRefusedIn (D.scope declared.now)) }
+    requires { IsWhole declared.now.stand.scope }
+    ensures verified { OnOk result (Verifies declared.now.stand.scope) }
+    ensures unfinished { IfOk result (λ n. n ≡ unfinished declared.now.stand.scope) }
+    ensures refused { IfErr result (IsRefusedIn declared.now.stand.scope) }
 {
     match first_fault(rt, alloc, keys, workers, declared) {
         Err(_) => Err(Unverified::NoMemory),

@@ -1,0 +1,33 @@
+-- What is left to show of `check_shared`.
+use Rattle.std.proofs.Common.{◌≡◌, ◌<◌, None, List, length, map, All, sym, ap, subst, ◌∙◌, arith}
+use Rattle.std.proofs.lemmas.List.{length-map, with_items_is}
+use Rattle.claims.specs.Claims.{AreClaimed}
+use Rattle.sourcecheck.specs.declared.checkers.Checker.{Checker}
+use Rattle.sourcecheck.specs.Found.{earliest}
+use Rattle.sourcecheck.specs.Checkers.{IsFoundAmong, checker_of, IsReady}
+use Rattle.sourcecheck.proofs.Beside.{all_ready, found_everywhere}
+use Rattle.sourcecheck.proofs.checkers.check_shared.Goals as goal
+
+pub check_beside-requires-clause-ready : goal.check_beside-requires-clause-ready
+check_beside-requires-clause-ready g c κs within =
+    let home = c.in_ok-numbers.numbers in
+    subst (All (IsReady home)) (sym (c.as_mut_slice.ensures.value ∙ c.in_ok-checkers.ensures))
+    (all_ready home c.in_ok-numbers.claimants.items c.in_ok-numbers.ensures.new)
+
+pub returns : goal.returns
+returns g c =
+    let xs = c.args.declared.now.stand.scope.assertions in
+    let home = c.in_ok-numbers.numbers in
+    let checkers : List Checker = c.check_beside.new.checkers in
+    let sizes = c.in_ok-numbers.ensures.sizes in
+    let some = c.count_checkers-many.ensures.some in
+    let long = length-map c.in_ok-numbers.claimants.items checker_of in
+    let before = ap length (c.as_mut_slice.ensures.value ∙ c.in_ok-checkers.ensures) in
+    let many = c.check_beside.ensures.many in
+    let filled : 0 < length checkers = omega (arith, some, sizes.2, long, before, many) in
+    let count : home.count ≡ length xs = sizes.0 ∙ c.assertions-count.ensures in
+    let same = with_items_is c.in_ok-checkers.checkers checkers (many ∙ c.as_mut_slice.ensures.len) in
+    let claimed = subst (λ (cs : List Checker). AreClaimed home (map (λ c. c.claimant) cs)) same c.first_found.ensures.claimed in
+    let is = c.first_found.ensures.first ∙ ap (λ (cs : List Checker). earliest None (map (λ c. c.found) cs)) same in
+    subst (IsFoundAmong xs (λ k. k < length xs)) (sym is)
+    (found_everywhere xs home checkers c.check_beside.ensures.checked filled count claimed)

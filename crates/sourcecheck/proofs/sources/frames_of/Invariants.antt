@@ -1,0 +1,12 @@
+-- What the loop of `frames_of` keeps.
+use Rattle.std.proofs.Common.{◌≡◌, length, take}
+use Rattle.sourcecheck.specs.Names.{words_of, IsSound, Lasts}
+use Rattle.sourcecheck.specs.Frames.{AreFrames}
+use Rattle.sourcecheck.proofs.sources.frames_of.Given as goal
+
+abbrev pub invariant-loop-place : goal.invariant-loop-place
+invariant-loop-place g l = record {
+  sound : IsSound l.table;
+  many : length l.frames.items ≡ l.place;
+  frames : Lasts (words_of l.table) (λ name. AreFrames name (take l.place (g.D.Declared.scope l.declared).assertions) l.frames.items);
+}
