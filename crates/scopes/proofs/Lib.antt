@@ -15,3 +15,4 @@ mod Closing
 mod Marks
 mod Marking
 mod Seeing
+mod Numbered

@@ -18,7 +18,7 @@ fn hypotheses_at<'t, 'a>(
     links: &'t [Link<'a>],
     numbers: &[usize],
 ) -> Result<Vec<&'t HypothesisWords<'a>>, AllocError>
-    requires { AllByRecursion (λ i. i < length links.now) numbers.now }
+    requires { AllByRecursion (λ i. i < length (map linked links.now)) numbers.now }
     ensures { IfOk result (λ hs. seen_hypotheses hs.items ≡ hypotheses_at (map linked links.now) numbers.now) }
 {
     let mut hypotheses = Vec::with_capacity(alloc, numbers.len())?;

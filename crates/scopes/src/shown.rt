@@ -75,8 +75,9 @@ pub(crate) fn proof<'t, 'a>(tables: &'t Tables<'a>, place: usize) -> Option<&'t 
 /// The assertion at a place that is there.
 pub(crate) fn asserted_there<'t, 'a>(tables: &'t Tables<'a>, place: usize) -> &'t Asserted<'a>
     requires { place < length (scope_of (kept_of tables.now)).assertions }
-    ensures { slice_get (scope_of (kept_of tables.now)).assertions place
+    ensures stands { slice_get (scope_of (kept_of tables.now)).assertions place
         ≡ Some (assertion_of (kept_of tables.now).links (kept_of tables.now).aparts (entry_of result.now)) }
+    ensures entry { slice_get (kept_of tables.now).entries place ≡ Some (entry_of result.now) }
 {
     &tables.assertions[place]
 }

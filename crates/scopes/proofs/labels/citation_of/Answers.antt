@@ -1,16 +1,16 @@
 -- What is left to show of `citation_of`.
-use Rattle.std.proofs.Common.{◌≡◌, ◌∙◌, List, [], Some, cond, length, map, ap, refl, subst, sym}
+use Rattle.std.proofs.Common.{◌≡◌, ◌∙◌, Some, cond, length, map, ap, refl, rules, subst, sym}
 use Rattle.std.specs.List.{slice_get, find}
 use Rattle.std.specs.Option.{option_map}
-use Rattle.std.proofs.lemmas.List.Elements.{All-from_recursion}
-use Rattle.std.proofs.lemmas.Option.{slice_get-map, slice_get_read, slice_get_within, get_or_from_slice_get}
+use Rattle.std.proofs.lemmas.List.{length-map}
+use Rattle.std.proofs.lemmas.Option.{slice_get-map, slice_get_read}
 use Rattle.std.specs.Str.{bytes_eq}
 use Rattle.source.specs.Scopes.{Assertion}
 use Rattle.source.specs.declared.entries.Citation.TheVariants as citation
-use Rattle.scopes.specs.Views.{kept_of, scope_of, linked, set_apart, entry_of, assertion_of}
-use Rattle.scopes.specs.Sound.{IsNumbered}
+use Rattle.scopes.specs.Views.{kept_of, scope_of, linked, set_apart, entry_of, assertion_of, hypothesis_at}
 use Rattle.scopes.specs.declared.sorts.Sort.{Sort}
 use Rattle.scopes.specs.Sorts.{IsSortOf}
+use Rattle.scopes.proofs.Numbered.{numbered_at}
 use Rattle.scopes.proofs.labels.citation_of.Goals as goal
 
 pub returns-in_ok-assertion-in-Assertion : goal.returns-in_ok-assertion-in-Assertion
@@ -28,12 +28,10 @@ returns-in_ok-assertion-in-Assertion c =
     slice_get-map entry_of t.assertions.items i ∙ ap (option_map entry_of) at in
     let seen : slice_get s.assertions i ≡ Some (assertion_of links aparts (entry_of a)) =
     slice_get-map (assertion_of links aparts) (map entry_of t.assertions.items) i ∙ ap (option_map (assertion_of links aparts)) entry in
-    let es = map entry_of t.assertions.items in
-    let numbered = subst (IsNumbered links (length aparts)) (get_or_from_slice_get es i (entry_of a) (entry_of a) entry)
-    (All-from_recursion (IsNumbered links (length aparts)) es c.requires.sound.numbered i (entry_of a)
-    (slice_get_within es i (entry_of a) entry)) in
+    let numbered = numbered_at t i a c.requires.sound entry in
+    let many : c.len.result ≡ length a.mandatory_links.items = search rules in
     let arity : length (assertion_of links aparts (entry_of a)).hypotheses ≡ c.len.result =
-    ap length (sym numbered.mandatory_are) ∙ length-map a.mandatory_links.items (hypothesis_at links) ∙ len in
+    ap length (sym numbered.mandatory_are) ∙ length-map a.mandatory_links.items (hypothesis_at links) ∙ sym many in
     let w = c.args._word.now in
     let k = subst (λ (o : Sort). IsSortOf s w o) c.in-Assertion.is c.requires.sort in
     let named = λ (a : Assertion). citation.Assertion (length a.hypotheses) in

@@ -9,8 +9,8 @@ use Rattle.scopes.specs.Views.{kept_of}
 use Rattle.scopes.proofs.Seeing.{seen_scope}
 use Rattle.scopes.proofs.scopes.ScopesDeclared.mandatory.Goals as goal
 
-pub mandatory-requires : goal.mandatory-requires
-mandatory-requires c =
+pub mandatory-requires-clause-within : goal.mandatory-requires-clause-within
+mandatory-requires-clause-within c =
     subst (λ (s : Scope). c.args.place < length s.assertions)
     (sym (seen_scope (kept_of c.self.inside.tables) c.args.self.now c.self.view_is)) c.requires
 

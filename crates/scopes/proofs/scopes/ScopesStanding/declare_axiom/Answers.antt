@@ -1,5 +1,5 @@
 -- What is left to show of `declare_axiom`.
-use Rattle.std.proofs.Common.{◌≡◌, ◌∙◌, None, length, ap, sym, subst}
+use Rattle.std.proofs.Common.{◌≡◌, ◌∙◌, None, ap, sym}
 use Rattle.source.specs.Counts.{mandatory_marks}
 use Rattle.source.specs.Statements.{asserted}
 use Rattle.source.specs.Views.{seen_words}

@@ -1,5 +1,5 @@
 -- What is left to show of `declare_theorem`.
-use Rattle.std.proofs.Common.{◌≡◌, ◌∙◌, Some, length, ap, sym, subst}
+use Rattle.std.proofs.Common.{◌≡◌, ◌∙◌, Some, ap, sym}
 use Rattle.source.specs.Counts.{mandatory_marks}
 use Rattle.source.specs.Statements.{asserted}
 use Rattle.source.specs.Views.{seen_words, seen_proof}
