@@ -1,6 +1,7 @@
 -- What is counted of steps, with one more of them.
 use Rattle.std.proofs.Common.{◌≡◌, ℕ, Bool, true, false, List, [], ◌∷◌, ◌++◌, refl, sym, ap, ◌∙◌, inl, inr}
 use Rattle.std.specs.Prelude.{Option, Some, None, ◌&&◌, is_some, if◌then◌else◌}
+use Rattle.std.proofs.Math.Bool.{and-true, and_assoc}
 use Rattle.std.proofs.lemmas.Bool.{and_cases, and_left, and_right, and_from}
 use Rattle.source.specs.declared.entries.Entries.{Entries}
 use Rattle.source.specs.Scopes.{Hypothesis, Assertion}
@@ -10,21 +11,14 @@ use Rattle.source.specs.Counts.{counts, are_markable, StepsAreCounted, IsStep}
 
 -- ---- marks
 
-and-one : (b : Bool) → (b && true) ≡ b
-and-one true = refl
-and-one false = refl
-
-and-assoc : (a b c : Bool) → (a && (b && c)) ≡ ((a && b) && c)
-and-assoc true b c = refl
-and-assoc false b c = refl
-
 -- behind steps
 placed_more : (active : List Hypothesis) (x : Step) (xs : List Step) (y : Step)
     → are_marks_placed active ((x ∷ xs) ++ y ∷ []) ≡ (are_marks_placed active (x ∷ xs) && is_placed (are_markable active (x ∷ xs)) y)
-placed_more active x [] y = and-one (is_placed (may_be_marked active x) y)
+placed_more active x [] y = and-true (is_placed (may_be_marked active x) y)
 placed_more active x (z ∷ zs) y =
     ap (λ b. is_placed (may_be_marked active x) z && b) (placed_more active z zs y)
-    ∙ and-assoc (is_placed (may_be_marked active x) z) (are_marks_placed active (z ∷ zs)) (is_placed (are_markable active (z ∷ zs)) y)
+    ∙ sym (and_assoc (is_placed (may_be_marked active x) z) (are_marks_placed active (z ∷ zs))
+    (is_placed (are_markable active (z ∷ zs)) y))
 
 -- marks that aren't placed aren't in front of other steps
 placed_stuck : (active : List Hypothesis) (xs ys : List Step) → are_marks_placed active xs ≡ false

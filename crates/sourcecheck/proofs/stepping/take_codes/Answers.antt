@@ -1,10 +1,11 @@
 -- What is left to show of `take_codes`.
 use Rattle.std.proofs.Common.{◌+◌, map, drop, sym, subst, arith}
 use Rattle.std.proofs.lemmas.List.{map_more, take_all}
+use Rattle.mmsyntax.proofs.Distinct.{any_at}
 use Rattle.source.specs.Letters.{is_absent}
 use Rattle.source.specs.Proofs.{step_of}
 use Rattle.sourcecheck.specs.Shown.{Reached, IsFaultOfKind}
-use Rattle.sourcecheck.proofs.Running.{none_at, mapped_around, reached_more, reached_fails, ended, end_fails}
+use Rattle.sourcecheck.proofs.Running.{mapped_around, reached_more, reached_fails, ended, end_fails}
 use Rattle.sourcecheck.proofs.stepping.take_codes.Goals as goal
 
 pub returns-in-Err : goal.returns-in-Err
@@ -15,7 +16,7 @@ returns-in-Err c = λ name earlier x labels stands named is there.
     subst (λ ss. IsFaultOfKind earlier x ss c.count-step.result c.in-Err.kind)
     (sym (mapped_around (step_of labels) codes i _ c.loop-code-test.true))
     (reached_fails name earlier x _ c.loop-code.stack c.loop-code.step before _ c.count-step.result (c.count-step.ensures.counted labels)
-    c.in-Err.kind (c.in-Err.ensures name earlier x labels stands named (none_at is_absent codes i _ there c.loop-code-test.true))
+    c.in-Err.kind (c.in-Err.ensures name earlier x labels stands named (any_at is_absent codes i _ there c.loop-code-test.true))
     (map (step_of labels) (drop (i + 1) codes)))
 
 pub loop-code-preserved : goal.loop-code-preserved
@@ -28,7 +29,7 @@ loop-code-preserved c = record {
       subst (λ ss. Reached name earlier x ss c.take_code.new.stack c.count-step.result)
       (sym (map_more (step_of labels) codes i _ c.loop-code-test.true))
       (reached_more name earlier x _ c.loop-code.stack c.loop-code.step before _ c.count-step.result (c.count-step.ensures.counted labels)
-      c.take_code.new.stack (c.in-Ok.ensures name earlier x labels stands named (none_at is_absent codes i _ there c.loop-code-test.true)));
+      c.take_code.new.stack (c.in-Ok.ensures name earlier x labels stands named (any_at is_absent codes i _ there c.loop-code-test.true)));
 }
 
 pub returns-in-Ok-check_end : goal.returns-in-Ok-check_end
