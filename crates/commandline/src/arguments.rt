@@ -71,7 +71,9 @@ fn checkers<'a>(alloc: Global) -> Arg<'a>
     Arg::new(alloc, "workers")
         .long("workers")
         .value_name("N")
-        .help("How many threads check proofs beside one another, 1 to 64; without it as many as processors")
+        .help(
+            "How many threads check proofs beside one another, 1 to 64; without it as many as processors",
+        )
         .value_parser(ValueParser::unsigned(1, WORKERS as u64))
         .action(ArgAction::Set)
 }
@@ -240,7 +242,9 @@ fn verify_line<'a>(alloc: Global) -> Result<Command<'a>, AllocError>
     ensures { IfOk result (IsLine verify_app) }
 {
     let line = Command::new(alloc, "verify")
-        .about("Checks all proofs of a database in the whole language; prints how many assertions it has")
+        .about(
+            "Checks all proofs of a database in the whole language; prints how many assertions it has",
+        )
         .after_help("Example: mmrefactor verify set.mm")
         .arg(checkers(alloc));
     with_argument(line, file(alloc, "SOURCE", SOURCE))

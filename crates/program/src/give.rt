@@ -7,8 +7,8 @@ ghost use Rattle.program.specs.Conduct.{EndsBy, IsGiveTold, IsAnsweredGive, IsGi
 use crate::conduct::{Unread, print_out, read_all, refuse, tell_unread};
 use crate::world::World;
 use commandline::GiveOrder;
-use givetext::{Paths, Returned, answer_give};
 use following::Follow;
+use givetext::{Paths, Returned, answer_give};
 use std::alloc::{AllocError, Global};
 use std::hash::RandomState;
 use std::thread::Threads;
