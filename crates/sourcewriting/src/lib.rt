@@ -9,6 +9,7 @@ mod layout;
 mod letters;
 mod listing;
 mod proving;
+mod reading;
 mod shared;
 mod wording;
 
