@@ -129,7 +129,7 @@ module _ (m : Map) (choice : Choice) (s : Scope) (place : ℕ) (x : Assertion) (
           unfolding denoted
           unlisted known lists =
               let there = listing_there m choice s x place known f.3.tree
-              (denoted_enough (take place s.assertions) x f.3.tree f.3.denotes) (cited cites are ∙ none) in
+              (denoted_enough (take place s.assertions) x f.0 f.3.tree f.1 f.2 f.3.denotes) (cited cites are ∙ none) in
               let is = lists _ f.3.tree f.3.named f.3.stands in
               let no : false ≡ true = ap is_some (sym is) ∙ there in
               absurd cc

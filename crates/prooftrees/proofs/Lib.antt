@@ -1,7 +1,6 @@
 pub mod RolesOf
 pub mod Found
 pub mod Whole
-pub mod Numbered
 pub mod Framed
 pub mod Named
 pub mod Cases

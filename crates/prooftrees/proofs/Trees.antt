@@ -1,14 +1,17 @@
 -- A proof that is decoded is the tree that the steps denote.
-use Rattle.std.proofs.Common.{◌≡◌, ℕ, suc, ◌<◌, List, length, map, Option, Some, None, sym, ap, ◌∙◌, subst, arith, inl, inr}
+use Rattle.std.proofs.Common.{◌≡◌, ℕ, suc, ◌<◌, List, length, map, false, Option, Some, None, sym, ap, ◌∙◌, subst, arith, inl, inr}
 use Rattle.std.specs.Prelude.{All, MatchOption, slice_get, slice_index_or, []}
 use Rattle.std.specs.Option.{option_and_then, option_map}
+use Rattle.std.specs.List.{list_any}
+use Rattle.std.proofs.lemmas.Bool.{cond-false}
 use Rattle.std.proofs.lemmas.List.Elements.{All-weaker, recursion_from_All}
 use Rattle.std.proofs.lemmas.Option.{same_Some, slice_get-map, slice_get_cases}
 use Rattle.mmtext.specs.Words.{Word}
 use Rattle.source.specs.declared.letters.Code.{Code}
 use Rattle.source.specs.Statements.{Proof}
-use Rattle.source.specs.Scopes.{Assertion}
-use Rattle.source.specs.Proofs.{Tree, node, over, size, total, step_of, steps_of, denoted, denoted_by}
+use Rattle.source.specs.Scopes.{Hypothesis, Assertion}
+use Rattle.source.specs.Letters.{is_absent}
+use Rattle.source.specs.Proofs.{Tree, node, over, size, total, step_of, steps_of, denoted, denoted_by, is_unfinished}
 use Rattle.source.specs.Proofs as tree
 use Rattle.source.specs.Views.{seen_words}
 use Rattle.source.proofs.Sizes.{each_size}
@@ -17,6 +20,7 @@ use Rattle.taking.specs.Names.{Map}
 use Rattle.taking.specs.Nodes.{Shared, trees, sizes, counted}
 use Rattle.taking.specs.Walks.{TakesAll}
 use Rattle.taking.specs.Decoded.{AreDecoded, AreLabelsOf, tree_of}
+use Rattle.taking.proofs.Counting.{codes_there}
 use Rattle.taking.proofs.Values.{as_many, natural}
 use Rattle.prooftrees.specs.declared.form.ProofTree.{ProofTree}
 use Rattle.prooftrees.specs.declared.counting.Counted.{Counted}
@@ -61,10 +65,11 @@ pub tree_is : (m : Map) (earlier : List Assertion) (x : Assertion) (codes : List
     → denoted_by earlier x.active (map (step_of (seen_words t.labels.items)) codes) ≡ denoted earlier x
     → NamesOf m earlier x.active (seen_words t.labels.items) t.named.items
     → All (TakesAll t.named.items) t.proof.nodes
+    → list_any is_absent codes ≡ false
     → AreDecoded t.named.items codes (Some t.proof)
     → ((labels : List Word) (u : Tree) → tree_of labels t.proof ≡ Some u → AreLabelsOf labels t.proof.nodes u)
     → IsTree m earlier x t
-tree_is m earlier x codes t within steps named whole decoded cites =
+tree_is m earlier x codes t within steps named whole known decoded cites =
     let ws = seen_words t.labels.items in
     let many = as_many (λ n ts. node (slice_index_or ws n []) (over ts)) t.proof.nodes in
     let there : (u : Tree) × (slice_get (trees ws t.proof.nodes) t.proof.root ≡ Some u) =
@@ -72,6 +77,7 @@ tree_is m earlier x codes t within steps named whole decoded cites =
     record {
       tree = there.0;
       denotes = sym steps
+          ∙ sym (cond-false (list_any is_absent codes) None (denoted_by earlier x.active (map (step_of ws) codes)) known)
           ∙ decoded (record { places = m; earlier = earlier; active = x.active; labels = ws }) named
           ∙ there.1;
       stands = there.1;
@@ -88,13 +94,20 @@ counted_denoted earlier x proof c is counted =
     sym (ap (option_and_then (λ p. option_and_then (denoted_by earlier x.active) (steps_of x.hypotheses p))) is
     ∙ ap (option_and_then (denoted_by earlier x.active)) counted.steps_are)
 
+-- of a finished proof all are there
+pub counted_there : (hs : List Hypothesis) (proof : Proof) (c : Counted) → IsCounted hs proof c → is_unfinished proof ≡ false
+    → list_any is_absent c.codes ≡ false
+counted_there hs proof c counted finished =
+    codes_there hs proof (seen_words c.labels.items) c.codes finished counted.steps_are
+
 -- where they denote none
 pub tree_is_none : (m : Map) (earlier : List Assertion) (x : Assertion) (ws : List Word) (named : List Named) (codes : List Code)
     → denoted_by earlier x.active (map (step_of ws) codes) ≡ denoted earlier x
-    → NamesOf m earlier x.active ws named → AreDecoded named codes None
+    → NamesOf m earlier x.active ws named → list_any is_absent codes ≡ false → AreDecoded named codes None
     → denoted earlier x ≡ None
-tree_is_none m earlier x ws named codes steps names decoded =
-    sym steps ∙ decoded (record { places = m; earlier = earlier; active = x.active; labels = ws }) names
+tree_is_none m earlier x ws named codes steps names known decoded =
+    sym steps ∙ sym (cond-false (list_any is_absent codes) None (denoted_by earlier x.active (map (step_of ws) codes)) known)
+    ∙ decoded (record { places = m; earlier = earlier; active = x.active; labels = ws }) names
 
 -- where its letters may not stand so
 pub uncounted_is_none : (earlier : List Assertion) (x : Assertion) (proof : Proof) → x.proof ≡ Some proof

@@ -16,6 +16,7 @@ use Rattle.source.specs.Scopes.{Hypothesis, label_of, Assertion, Scope, is_manda
 use Rattle.source.specs.Proofs.{Tree, Step, node, over, there, denoted, denoted_by, made, steps_of, is_unfinished}
 use Rattle.source.specs.Whole.{IsProofWhole, IsAssertionWhole, AreAssertionsWhole, IsWhole, labels_in}
 use Rattle.source.proofs.Alike.{made_alike}
+use Rattle.source.proofs.Finished.{made_there}
 use Rattle.taking.proofs.Values.{all_more}
 use Rattle.prooftrees.specs.Counted.{counted_labels}
 use Rattle.prooftrees.specs.Names.{IsKnown}
@@ -109,10 +110,7 @@ module _ (s : Scope) (earlier : List Assertion) (x : Assertion) (proof : Proof) 
   -- it denotes a tree
   pub tree_there : denoted earlier x ≡ None → ⊥
   tree_there e =
-      as_there (steps_of x.hypotheses proof)
-      (ap (λ b. b || is_some (option_and_then (made there earlier x.active) (steps_of x.hypotheses proof))) (sym finished)
-      ∙ proof_whole.denotes)
-      (sym denoted_is ∙ e)
+      as_there (steps_of x.hypotheses proof) (made_there earlier x.active x.hypotheses proof proof_whole.denotes) (sym denoted_is ∙ e)
 
   pub steps_there : steps_of x.hypotheses proof ≡ None → ⊥
   steps_there e = tree_there (denoted_is ∙ ap (option_and_then (denoted_by earlier x.active)) e)

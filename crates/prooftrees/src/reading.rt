@@ -1,9 +1,9 @@
 //! Reading a proof: from its words to its nodes.
 
-ghost use Rattle.std.specs.Prelude.{◌≡◌, ◌<◌, length, take, slice_get, Some, None, All, IfOk, IfSome, MatchOption};
+ghost use Rattle.std.specs.Prelude.{◌≡◌, ◌<◌, length, take, slice_get, false, Some, None, All, IfOk, IfSome, MatchOption};
 ghost use Rattle.source.specs.Statements.{Proof};
 ghost use Rattle.source.specs.Whole.{IsWhole};
-ghost use Rattle.source.specs.Proofs.{denoted};
+ghost use Rattle.source.specs.Proofs.{denoted, is_unfinished};
 ghost use Rattle.source.specs.Views.{seen_words, seen_proof};
 ghost use Rattle.prooftrees.specs.Frames.{Holds};
 ghost use Rattle.prooftrees.specs.Counted.{IsCounted, counted_labels};
@@ -20,7 +20,7 @@ use std::alloc::{AllocError, Global};
 use std::hash::RandomState;
 use taking::{StepPlaces, decode};
 
-/// The tree of what the steps of the proof of the assertion at a place count: nothing where they denote none.
+/// The tree of what the steps of the finished proof of the assertion at a place count: nothing where they denote none.
 fn tree_of<'a, D: Declared<'a>, P: StepPlaces>(
     alloc: Global,
     keys: RandomState,
@@ -35,6 +35,8 @@ fn tree_of<'a, D: Declared<'a>, P: StepPlaces>(
     requires holds { Holds (D.scope declared.now).assertions frames.old }
     requires counted { At (D.scope declared.now).assertions place
         (λ x. (proof : Proof) → x.proof ≡ Some proof → IsCounted x.hypotheses proof counted) }
+    requires finished { At (D.scope declared.now).assertions place
+        (λ x. (proof : Proof) → x.proof ≡ Some proof → is_unfinished proof ≡ false) }
     requires known { At (D.scope declared.now).assertions place
         (λ x. All (IsKnown (take place (D.scope declared.now).assertions) x.active) (seen_words counted.labels.items)) }
     ensures holds { Holds (D.scope declared.now).assertions frames.new }
@@ -78,6 +80,7 @@ fn read_finished<'a, D: Declared<'a>, P: StepPlaces>(
     requires within { place < length (D.scope declared.now).assertions }
     requires holds { Holds (D.scope declared.now).assertions frames.old }
     requires proof { At (D.scope declared.now).assertions place (λ x. x.proof ≡ Some (seen_proof proof.now)) }
+    requires finished { is_unfinished (seen_proof proof.now) ≡ false }
     requires known { At (D.scope declared.now).assertions place
         (λ x. All (IsKnown (take place (D.scope declared.now).assertions) x.active) (counted_labels x.hypotheses (seen_proof proof.now))) }
     ensures holds { Holds (D.scope declared.now).assertions frames.new }

@@ -8,7 +8,7 @@ ghost use Rattle.scopes.specs.Views.{kept_of, stand_of, marks_of};
 use crate::tables::Tables;
 use crate::{blocks, declaring, faults, frames, labels, mandatory, shown};
 use mmtext::FaultKind;
-use source::{Declared, HypothesisWords, ProofWords, Standing};
+use source::{Citation, Declared, HypothesisWords, ProofWords, Standing};
 use std::alloc::{AllocError, Global};
 use std::hash::RandomState;
 use std::marker::Model;
@@ -107,11 +107,11 @@ impl<'a> Standing<'a> for Scopes<'a> {
         frames::count_marked(&self.tables)
     }
 
-    fn named(&self, word: &'a [u8]) -> Result<usize, FaultKind> {
+    fn named(&self, word: &'a [u8]) -> Result<Citation, FaultKind> {
         labels::named(&self.tables, word)
     }
 
-    fn cited(&self, word: &'a [u8]) -> Result<usize, FaultKind> {
+    fn cited(&self, word: &'a [u8]) -> Result<Citation, FaultKind> {
         labels::cited(&self.tables, word)
     }
 

@@ -9,7 +9,7 @@ use Rattle.std.proofs.lemmas.List.Sums.{AllPass-from_list_all}
 use Rattle.mmtext.specs.declared.fault.FaultKind.TheVariants.{UnknownSymbol, NotActive, NoTypeFor}
 use Rattle.mmtext.specs.Words.{Word, is_label}
 use Rattle.source.specs.Statements.{Proof, normal, compressed}
-use Rattle.source.specs.Scopes.{Hypothesis, typing, premise, Assertion, Scope, is_in, is_float_of, has_float, is_named}
+use Rattle.source.specs.Scopes.{Hypothesis, typing, premise, Assertion, Scope, is_in, is_float_of, has_float}
 use Rattle.source.specs.Scopes.{is_unknown}
 use Rattle.source.specs.Proofs.{taken_by, is_unfinished}
 use Rattle.source.specs.Tests.{label_tests, type_tests, symbol_tests, step_tests, cited_tests, letter_tests, passes, all_pass}
@@ -17,7 +17,7 @@ use Rattle.source.specs.Tests.{is_new_label, is_expression, has_lawful_words, is
 use Rattle.source.specs.Whole.{is_typed_at, IsHypothesisWhole, labels_in, IsProofWhole, IsAssertionWhole}
 use Rattle.source.proofs.Passing.{each_clear, three_parts, step_named, cited_named}
 use Rattle.source.proofs.InOrder.{all_passed}
-use Rattle.source.proofs.CountedWords.{named_takes, mapped_some}
+use Rattle.source.proofs.CountedWords.{named_takes}
 use Rattle.source.proofs.Growing.{Grows}
 use Rattle.source.proofs.Everywhere.{asserting, bare}
 
@@ -55,10 +55,6 @@ expression_typed s ws h =
 
 -- ---- proofs
 
--- a label that names something takes something
-taken : (s : Scope) (w : Word) → is_named s w ≡ true → IsTrue (is_some (taken_by s.assertions s.hypotheses w))
-taken s w h = sym (mapped_some length (taken_by s.assertions s.hypotheses w)) ∙ named_takes s w h
-
 module _ (s : Scope) where
   abbrev IsTaken : Word → Type 0
   IsTaken w = IsTrue (is_some (taken_by s.assertions s.hypotheses w))
@@ -68,7 +64,7 @@ module _ (s : Scope) where
   steps_taken front (w ∷ ws) finished h =
       let known = or_parts (is_unknown w) (list_any is_unknown ws) finished in
       let both = and_parts (passes (step_tests s front w)) (all_pass (step_tests s) (front ++ w ∷ []) ws) h in
-      All-cons IsTaken w ws (taken s w (step_named s front w both.0 known.0)) (steps_taken (front ++ w ∷ []) ws known.1 both.1)
+      All-cons IsTaken w ws (named_takes s w (step_named s front w both.0 known.0)) (steps_taken (front ++ w ∷ []) ws known.1 both.1)
 
   labels_taken : (e : List Word) (proof : Proof) → has_lawful_words s e proof ≡ true → is_unfinished proof ≡ false
       → All IsTaken (labels_in proof)
@@ -77,7 +73,8 @@ module _ (s : Scope) where
   labels_taken e (compressed labels letters) h finished =
       let cited = λ (w : Word). passes (cited_tests s e w) in
       let parts = three_parts (list_all cited labels) (nat_le 1 (length letters)) (all_pass (letter_tests s e labels) [] letters) h in
-      All-weaker (λ w. cited w ≡ true) IsTaken (λ w p. taken s w (cited_named s e w p)) labels (AllPass-from_list_all cited labels parts.0)
+      All-weaker (λ w. cited w ≡ true) IsTaken (λ w p. named_takes s w (cited_named s e w p)) labels
+      (AllPass-from_list_all cited labels parts.0)
 
   -- a lawful proof is whole
   pub proof_whole : (label : Word) (e : List Word) (proof : Proof) → is_lawful_proof s e proof ≡ true

@@ -1,15 +1,21 @@
 -- What a step leads to, on a stack of which the counts are known.
-use Rattle.std.proofs.Common.{◌≡◌, ℕ, zero, suc, ◌-◌, ◌<◌, ◌≤◌, Bool, true, false, List, [], ◌∷◌, ◌++◌, length, get_or, refl, sym, ap}
+use Rattle.std.proofs.Common.{◌≡◌, ℕ, zero, suc, ◌-◌, ◌<◌, ◌≤◌, Bool, true, false, List, [], ◌∷◌, length, get_or, refl, sym, ap}
 use Rattle.std.proofs.Common.{subst, ◌∙◌, inl, inr, arith}
-use Rattle.std.specs.Prelude.{Option, Some, None, nat_le, slice_get, is_some, if◌then◌else◌}
+use Rattle.std.specs.Prelude.{Option, Some, None, find, nat_le, if◌then◌else◌}
 use Rattle.std.specs.Option.{option_map}
-use Rattle.std.proofs.lemmas.Bool.{cases_lt, le-leb, lt-leb}
+use Rattle.std.specs.List.{list_any}
+use Rattle.std.specs.Str.{bytes_eq}
+use mathlib.Core.Bool.{not}
+use Rattle.std.proofs.lemmas.Bool.{cases_Bool, cases_lt, le-leb, lt-leb, cond-true, cond-false}
 use Rattle.std.proofs.lemmas.Option.{some_pair_parts, slice_get-get_or, slice_get_past}
 use Rattle.mmtext.specs.Words.{Word}
+use Rattle.source.specs.declared.entries.Citation.{Citation}
+use Rattle.source.specs.declared.entries.Citation.TheVariants as citation
 use Rattle.source.specs.declared.entries.Entries.{Entries}
-use Rattle.source.specs.Scopes.{Hypothesis, Assertion}
-use Rattle.source.specs.Proofs.{Step, names, again, numbered, taken_by, Stack, pop, put, cite, repeat, stepped, run_steps, there}
-use Rattle.source.specs.Counts.{counts, HaveArities, IsStep}
+use Rattle.source.specs.Scopes.{Hypothesis, label_of, Assertion}
+use Rattle.source.specs.Proofs.{Step, names, again, unknown, numbered, taken_by, may_be_marked, is_placed}
+use Rattle.source.specs.Proofs.{Stack, pop, put, cite, repeat, stepped, there}
+use Rattle.source.specs.Counts.{counts, citation_of, HaveCitations, IsStep}
 
 -- ---- entries come off
 
@@ -26,7 +32,7 @@ pop_many (h ∷ hs) (x ∷ xs) off le =
     let rest = pop_many hs xs (x ∷ off) (omega arith) in
     (rest.0, rest.1, omega (arith, rest.2))
 
--- what a label leads to that takes so many of so many
+-- what a step leads to that takes so many of so many
 abbrev taken : ℕ → ℕ → ℕ → Option (ℕ × ℕ)
 taken k n m = if nat_le k n then Some (suc (n - k), m) else None
 
@@ -50,63 +56,131 @@ cited w s (Some hs) k e =
           ∙ at_k
     ]
 
--- the call says it, and the new counts do
-outcome : (k n m : ℕ) (old new : Entries) (goes : Bool) → n ≡ old.entries → m ≡ old.marked → goes ≡ nat_le k old.entries
-    → new ≡ (if goes then record old { entries = suc (old.entries - k) } else old)
-    → taken k n m ≡ (if goes then Some (new.entries, new.marked) else None)
-outcome k n m old new true n-is m-is is new-is =
+-- none is there always
+pub always : (n : ℕ) → nat_le 0 n ≡ true
+always n = le-leb 0 n (omega arith)
+
+-- an entry goes on
+put_one : (n m : ℕ) → Some (suc n, m) ≡ taken 0 n m
+put_one n m =
+    ap (λ b. if b then Some (suc n, m) else None) (sym (always n))
+    ∙ ap (λ i. if nat_le 0 n then Some (suc i, m) else None) (let e : n ≡ n - 0 = omega arith in e)
+
+-- ---- what the code says of its counts
+
+-- an entry in place of so many, if they are there
+abbrev pub Puts : ℕ → Bool → Entries → Entries → Bool → Type 0
+Puts k markable old new goes =
+    (goes ≡ nat_le k old.entries)
+    × (new ≡ (if goes then record old { entries = suc (old.entries - k); is_markable = markable } else old))
+
+outcome : (k n m : ℕ) (markable : Bool) (old new : Entries) (goes : Bool) → n ≡ old.entries → m ≡ old.marked
+    → Puts k markable old new goes → taken k n m ≡ (if goes then Some (new.entries, new.marked) else None)
+outcome k n m markable old new true n-is m-is puts =
     ap (λ i. taken k i m) n-is
-    ∙ ap (λ b. if b then Some (suc (old.entries - k), m) else None) (sym is)
+    ∙ ap (λ b. if b then Some (suc (old.entries - k), m) else None) (sym puts.0)
     ∙ ap (λ j. Some (suc (old.entries - k), j)) m-is
-    ∙ ap (λ (c : Entries). Some (c.entries, c.marked)) (sym new-is)
-outcome k n m old new false n-is m-is is new-is =
-    ap (λ i. taken k i m) n-is ∙ ap (λ b. if b then Some (suc (old.entries - k), m) else None) (sym is)
+    ∙ ap (λ (c : Entries). Some (c.entries, c.marked)) (sym puts.1)
+outcome k n m markable old new false n-is m-is puts =
+    ap (λ i. taken k i m) n-is ∙ ap (λ b. if b then Some (suc (old.entries - k), m) else None) (sym puts.0)
 
-same_front : (old new : Entries) (n : ℕ) (goes : Bool) → new ≡ (if goes then record old { entries = n } else old) → new.front ≡ old.front
-same_front old new n true is = ap (λ (c : Entries). c.front) is
-same_front old new n false is = ap (λ (c : Entries). c.front) is
+same_front : (k : ℕ) (markable : Bool) (old new : Entries) (goes : Bool) → Puts k markable old new goes → new.front ≡ old.front
+same_front k markable old new true puts = ap (λ (c : Entries). c.front) puts.1
+same_front k markable old new false puts = ap (λ (c : Entries). c.front) puts.1
 
-same_known : (old new : Entries) (n : ℕ) (goes : Bool) → new ≡ (if goes then record old { entries = n } else old)
-    → new.is_known ≡ old.is_known
-same_known old new n true is = ap (λ (c : Entries). c.is_known) is
-same_known old new n false is = ap (λ (c : Entries). c.is_known) is
+now_markable : (k : ℕ) (markable : Bool) (old new : Entries) (goes : Bool) → Puts k markable old new goes → goes ≡ true
+    → new.is_markable ≡ markable
+now_markable k markable old new true puts go = ap (λ (c : Entries). c.is_markable) puts.1
+now_markable k markable old new false puts go = absurd cc
+
+-- ---- what labels name
+
+no_assertion : (o : Option Assertion)
+    → option_map (λ (a : Assertion). citation.Assertion (length a.hypotheses)) o ≡ Some citation.Hypothesis → ⊥
+no_assertion None e = absurd cc
+no_assertion (Some a) e = absurd cc
+
+some_assertion : (o : Option Assertion) (k : ℕ)
+    → option_map (λ (a : Assertion). citation.Assertion (length a.hypotheses)) o ≡ Some (citation.Assertion k)
+    → option_map length (option_map (λ (a : Assertion). a.hypotheses) o) ≡ Some k
+some_assertion None k e = absurd cc
+some_assertion (Some a) k e = cc
 
 module _ (earlier : List Assertion) (active : List Hypothesis) where
-  -- ---- a label
+  is_active : Word → Bool
+  is_active w = list_any (λ h. bytes_eq w (label_of h)) active
 
-  pub named_step : (w : Word) (k : ℕ) (old new : Entries) (goes : Bool) → option_map length (taken_by earlier active w) ≡ Some k
-      → goes ≡ nat_le k old.entries → new ≡ (if goes then record old { entries = suc (old.entries - k) } else old)
-      → IsStep earlier active (names w) old new goes
-  named_step w k old new goes takes is new-is =
+  assertion_at : Word → Option Assertion
+  assertion_at w = find (λ (a : Assertion). bytes_eq w a.label) earlier
+
+  hypothesis_named : (w : Word) → citation_of earlier active w ≡ Some citation.Hypothesis
+      → (option_map length (taken_by earlier active w) ≡ Some 0) × (may_be_marked active (names w) ≡ false)
+  unfolding is_active assertion_at
+  hypothesis_named w e = elim (cases_Bool (is_active w)) [
+    | inl is ↦ (ap (option_map length) (cond-true (is_active w) (Some []) _ is), ap not is)
+    | inr other ↦ absurd (no_assertion (assertion_at w) (sym (cond-false (is_active w) (Some citation.Hypothesis) _ other) ∙ e))
+  ]
+
+  assertion_named : (w : Word) (k : ℕ) → citation_of earlier active w ≡ Some (citation.Assertion k)
+      → (option_map length (taken_by earlier active w) ≡ Some k) × (may_be_marked active (names w) ≡ true)
+  unfolding is_active assertion_at
+  assertion_named w k e = elim (cases_Bool (is_active w)) [
+    | inl is ↦
+        let clash : Some citation.Hypothesis ≡ Some (citation.Assertion k) = sym (cond-true (is_active w) _ _ is) ∙ e in
+        absurd cc
+    | inr other ↦ (
+      ap (option_map length) (cond-false (is_active w) (Some []) _ other)
+          ∙ some_assertion (assertion_at w) k (sym (cond-false (is_active w) (Some citation.Hypothesis) _ other) ∙ e),
+      ap not other,
+    )
+  ]
+
+  -- ---- steps that put an entry in place of others
+
+  put_step : (x : Step) (k : ℕ) (markable : Bool) (old new : Entries) (goes : Bool)
+      → ((s : Stack (Unit {0})) → counts (Some s) ≡ Some (old.entries, old.marked)
+      → counts (stepped there earlier active s x) ≡ taken k (length s.entries) (length s.marked))
+      → is_placed old.is_markable x ≡ true → may_be_marked active x ≡ markable → Puts k markable old new goes
+      → IsStep earlier active x old new goes
+  put_step x k markable old new goes steps placed kind puts =
       record {
         leads = λ s c.
             let both = some_pair_parts _ _ _ _ c in
-            cited w s (taken_by earlier active w) k takes
-            ∙ outcome k (length s.entries) (length s.marked) old new goes both.0 both.1 is new-is;
-        front = same_front old new _ goes new-is;
-        known = same_known old new _ goes new-is;
+            ap (λ b. counts (if b then stepped there earlier active s x else None)) placed
+            ∙ steps s c ∙ outcome k (length s.entries) (length s.marked) markable old new goes both.0 both.1 puts;
+        markable = λ go. now_markable k markable old new goes puts go ∙ sym kind;
+        front = same_front k markable old new goes puts;
       }
+
+  -- the label of a hypothesis
+  pub hypothesis_step : (w : Word) (old new : Entries) (goes : Bool) → citation_of earlier active w ≡ Some citation.Hypothesis
+      → Puts 0 false old new goes → IsStep earlier active (names w) old new goes
+  hypothesis_step w old new goes e puts =
+      let named = hypothesis_named w e in
+      put_step (names w) 0 false old new goes (λ s c. cited w s (taken_by earlier active w) 0 named.0) refl named.1 puts
+
+  -- the label of an assertion
+  pub assertion_step : (w : Word) (k : ℕ) (old new : Entries) (goes : Bool) → citation_of earlier active w ≡ Some (citation.Assertion k)
+      → Puts k true old new goes → IsStep earlier active (names w) old new goes
+  assertion_step w k old new goes e puts =
+      let named = assertion_named w k e in
+      put_step (names w) k true old new goes (λ s c. cited w s (taken_by earlier active w) k named.0) refl named.1 puts
+
+  -- a step that isn't there
+  pub unknown_step : (old new : Entries) (goes : Bool) → Puts 0 false old new goes → IsStep earlier active unknown old new goes
+  unknown_step old new goes puts =
+      put_step unknown 0 false old new goes (λ s c. put_one (length s.entries) (length s.marked)) refl refl puts
 
   -- ---- a marked subproof
 
-  repeated : (s : Stack (Unit {0})) (n : ℕ) → n < length s.marked
-      → counts (repeat s (slice_get s.marked n)) ≡ Some (suc (length s.entries), length s.marked)
-  repeated s n lt = ap (λ x. counts (repeat s x)) (slice_get-get_or s.marked n tt lt)
-
-  pub again_step : (n : ℕ) (old new : Entries) (goes : Bool) → n < old.marked → goes ≡ nat_le 0 old.entries
-      → new ≡ (if goes then record old { entries = suc (old.entries - 0) } else old) → IsStep earlier active (again n) old new goes
-  again_step n old new goes lt is new-is =
-      record {
-        leads = λ s c.
-            let both = some_pair_parts _ _ _ _ c in
-            repeated s n (omega (arith, both.1))
-            ∙ ap (λ b. if b then Some (suc (length s.entries), length s.marked) else None) (sym (le-leb 0 (length s.entries) (omega arith)))
-            ∙ ap (λ i. if nat_le 0 (length s.entries) then Some (suc i, length s.marked) else None)
-            (let e : length s.entries ≡ length s.entries - 0 = omega arith in e)
-            ∙ outcome 0 (length s.entries) (length s.marked) old new goes both.0 both.1 is new-is;
-        front = same_front old new _ goes new-is;
-        known = same_known old new _ goes new-is;
-      }
+  pub again_step : (n : ℕ) (old new : Entries) (goes : Bool) → n < old.marked → Puts 0 false old new goes
+      → IsStep earlier active (again n) old new goes
+  again_step n old new goes lt puts =
+      put_step (again n) 0 false old new goes
+      (λ s c.
+      ap (λ x. counts (repeat s x))
+      (slice_get-get_or s.marked n tt (let both = some_pair_parts _ _ _ _ c in omega (arith, both.1)))
+      ∙ put_one (length s.entries) (length s.marked)) refl refl puts
 
   pub absent_step : (n : ℕ) (old : Entries) → old.marked ≤ n → IsStep earlier active (again n) old old false
   absent_step n old le =
@@ -114,71 +188,42 @@ module _ (earlier : List Assertion) (active : List Hypothesis) where
         leads = λ s c.
             let both = some_pair_parts _ _ _ _ c in
             ap (λ x. counts (repeat s x)) (slice_get_past s.marked n (omega (arith, both.1)));
+        markable = λ go. absurd cc;
         front = refl;
-        known = refl;
       }
 
   -- ---- a number
 
-  -- of a label whose arity is known
-  numbered_at : (ws : List Word) (ks : List ℕ) (i : ℕ) → HaveArities earlier active ws ks → i < length ks
-      → (w : Word) × (numbered ws i ≡ names w) × (option_map length (taken_by earlier active w) ≡ Some (get_or ks i 0))
+  -- of a label of which it is known what it names
+  numbered_at : (ws : List Word) (cs : List Citation) (i : ℕ) → HaveCitations earlier active ws cs → i < length cs
+      → (w : Word) × (numbered ws i ≡ names w) × (citation_of earlier active w ≡ Some (get_or cs i citation.Hypothesis))
   numbered_at [] [] i e lt = absurd (omega arith)
-  numbered_at [] (k ∷ ks) i e lt = absurd cc
+  numbered_at [] (c ∷ cs) i e lt = absurd cc
   numbered_at (w ∷ ws) [] i e lt = absurd cc
-  numbered_at (w ∷ ws) (k ∷ ks) zero e lt = (w, refl, cc)
-  numbered_at (w ∷ ws) (k ∷ ks) (suc i) e lt = numbered_at ws ks i (cc) (omega arith)
+  numbered_at (w ∷ ws) (c ∷ cs) zero e lt = (w, refl, cc)
+  numbered_at (w ∷ ws) (c ∷ cs) (suc i) e lt = numbered_at ws cs i (cc) (omega arith)
 
   -- behind the labels
-  numbered_past : (ws : List Word) (ks : List ℕ) (i : ℕ) → HaveArities earlier active ws ks → length ks ≤ i
-      → numbered ws i ≡ again (i - length ks)
+  numbered_past : (ws : List Word) (cs : List Citation) (i : ℕ) → HaveCitations earlier active ws cs → length cs ≤ i
+      → numbered ws i ≡ again (i - length cs)
   numbered_past [] [] i e le = ap again (let same : i ≡ i - 0 = omega arith in same)
-  numbered_past [] (k ∷ ks) i e le = absurd cc
+  numbered_past [] (c ∷ cs) i e le = absurd cc
   numbered_past (w ∷ ws) [] i e le = absurd cc
-  numbered_past (w ∷ ws) (k ∷ ks) zero e le = absurd (omega arith)
-  numbered_past (w ∷ ws) (k ∷ ks) (suc i) e le =
-      let same : i - length ks ≡ suc i - suc (length ks) = omega arith in
-      numbered_past ws ks i (cc) (omega arith) ∙ ap again same
+  numbered_past (w ∷ ws) (c ∷ cs) zero e le = absurd (omega arith)
+  numbered_past (w ∷ ws) (c ∷ cs) (suc i) e le =
+      let same : i - length cs ≡ suc i - suc (length cs) = omega arith in
+      numbered_past ws cs i (cc) (omega arith) ∙ ap again same
 
-  pub label_step : (ws : List Word) (ks : List ℕ) (i k : ℕ) (old new : Entries) (goes : Bool) → HaveArities earlier active ws ks
-      → i < length ks → k ≡ get_or ks i 0 → goes ≡ nat_le k old.entries
-      → new ≡ (if goes then record old { entries = suc (old.entries - k) } else old) → IsStep earlier active (numbered ws i) old new goes
-  label_step ws ks i k old new goes e lt k-is is new-is =
-      let at = numbered_at ws ks i e lt in
-      subst (λ x. IsStep earlier active x old new goes) (sym at.1)
-      (named_step at.0 k old new goes (at.2 ∙ ap (λ n. Some n) (sym k-is)) is new-is)
-
-  pub marked_step : (ws : List Word) (ks : List ℕ) (i n : ℕ) (old new : Entries) (goes : Bool) → HaveArities earlier active ws ks
-      → length ks ≤ i → n ≡ i - length ks → IsStep earlier active (again n) old new goes
+  pub label_step : (ws : List Word) (cs : List Citation) (i : ℕ) (c : Citation) (old new : Entries) (goes : Bool)
+      → HaveCitations earlier active ws cs → i < length cs → c ≡ get_or cs i citation.Hypothesis
+      → ((w : Word) → citation_of earlier active w ≡ Some c → IsStep earlier active (names w) old new goes)
       → IsStep earlier active (numbered ws i) old new goes
-  marked_step ws ks i n old new goes e le n-is step =
-      subst (λ x. IsStep earlier active x old new goes) (ap again n-is ∙ sym (numbered_past ws ks i e le)) step
+  label_step ws cs i c old new goes e lt c-is step =
+      let at = numbered_at ws cs i e lt in
+      subst (λ x. IsStep earlier active x old new goes) (sym at.1) (step at.0 (at.2 ∙ ap (λ x. Some x) (sym c-is)))
 
-  -- ---- steps one after the other
-
-  pub run-append : (s : Option (Stack (Unit {0}))) (xs ys : List Step)
-      → run_steps there earlier active s (xs ++ ys) ≡ run_steps there earlier active (run_steps there earlier active s xs) ys
-  run-append s [] ys = refl
-  run-append None (x ∷ xs) [] = refl
-  run-append None (x ∷ xs) (y ∷ ys) = refl
-  run-append (Some s) (x ∷ xs) ys = run-append (stepped there earlier active s x) xs ys
-
-  one_on : (s : Option (Stack (Unit {0}))) (x : Step) (old new : Entries) (goes : Bool) → counts s ≡ Some (old.entries, old.marked)
-      → IsStep earlier active x old new goes
-      → counts (run_steps there earlier active s (x ∷ [])) ≡ (if goes then Some (new.entries, new.marked) else None)
-  one_on None x old new goes c step = absurd cc
-  one_on (Some s) x old new goes c step = step.leads s c
-
-  -- one more step
-  pub one_more : (s : Option (Stack (Unit {0}))) (xs : List Step) (x : Step) (old new : Entries) (goes : Bool)
-      → counts (run_steps there earlier active s xs) ≡ Some (old.entries, old.marked) → IsStep earlier active x old new goes
-      → counts (run_steps there earlier active s (xs ++ x ∷ [])) ≡ (if goes then Some (new.entries, new.marked) else None)
-  one_more s xs x old new goes c step =
-      ap counts (run-append s xs (x ∷ [])) ∙ one_on (run_steps there earlier active s xs) x old new goes c step
-
--- whether a stack is there
-pub counted_some : (s : Option (Stack (Unit {0}))) (goes : Bool) (p : ℕ × ℕ) → counts s ≡ (if goes then Some p else None) → goes ≡ is_some s
-counted_some None true p e = absurd cc
-counted_some None false p e = refl
-counted_some (Some s) true p e = refl
-counted_some (Some s) false p e = absurd cc
+  pub marked_step : (ws : List Word) (cs : List Citation) (i n : ℕ) (old new : Entries) (goes : Bool) → HaveCitations earlier active ws cs
+      → length cs ≤ i → n ≡ i - length cs → IsStep earlier active (again n) old new goes
+      → IsStep earlier active (numbered ws i) old new goes
+  marked_step ws cs i n old new goes e le n-is step =
+      subst (λ x. IsStep earlier active x old new goes) (ap again n-is ∙ sym (numbered_past ws cs i e le)) step

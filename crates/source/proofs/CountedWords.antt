@@ -3,14 +3,14 @@ use Rattle.std.proofs.Common.{◌≡◌, ℕ, suc, ◌+◌, ◌<◌, ◌≤◌, 
 use Rattle.std.proofs.Common.{drop, replicate, map, refl, sym, ap, subst}
 use Rattle.std.proofs.Common.{◌∙◌, inl, inr, arith, append_assoc, ne_eqb}
 use Rattle.std.specs.Prelude.{Option, Some, None, find, ◌||◌, ◌&&◌, ◌==◌, ◌⊎◌, is_some, if◌then◌else◌}
-use Rattle.std.specs.Option.{option_map, option_and_then}
+use Rattle.std.specs.Option.{option_map}
 use Rattle.std.specs.List.{list_any, list_all, flat_map, All}
 use Rattle.std.specs.Str.{bytes_eq}
 use Rattle.std.proofs.lemmas.Bool.{cases_Bool, and_cases, and_parts, and_left, and_right, cond-true, cond-false}
 use Rattle.std.proofs.lemmas.List.{map-append, append-nil, take_all, take-append-drop, take_more, drop_more}
 use Rattle.std.proofs.lemmas.Option.{some_pair_parts}
 use Rattle.std.proofs.lemmas.List.Elements.{All-filter}
-use Rattle.std.proofs.lemmas.List.Folds.{list_any-append, list_any_at, list_all_at, list_all_more}
+use Rattle.std.proofs.lemmas.List.Folds.{list_any_at, list_all_at, list_all_more}
 use Rattle.std.proofs.lemmas.Grind.{flat_map-append}
 use mathlib.Core.Bool.{not}
 use Rattle.mmtext.specs.Words.{Word}
@@ -18,15 +18,18 @@ use Rattle.mmtext.specs.declared.fault.FaultKind.TheVariants.{BadToken}
 use Rattle.mmsyntax.specs.Rows.{first_fault}
 use Rattle.mmsyntax.proofs.Names.{bytes_eq-same}
 use Rattle.source.specs.declared.letters.Code.{Code}
+use Rattle.source.specs.declared.entries.Citation.{Citation}
+use Rattle.source.specs.declared.entries.Citation.TheVariants as citation
 use Rattle.source.specs.declared.entries.Entries.{Entries}
 use Rattle.source.specs.Statements.{normal, compressed}
-use Rattle.source.specs.Scopes.{Scope, Hypothesis, Assertion, label_of, mandatory, is_mandatory, is_unknown, is_named}
-use Rattle.source.specs.Letters.{decoded, uncut, codes_of}
-use Rattle.source.specs.Proofs.{Stack, names, step_of, taken_by, empty, run_steps, there, only, single, made, denotes, letters_go_on}
+use Rattle.source.specs.Scopes.{Scope, Hypothesis, Assertion, label_of, mandatory, is_mandatory, is_named}
+use Rattle.source.specs.Letters.{uncut}
+use Rattle.source.specs.Proofs.{Step, Stack, step_of_word, step_of, taken_by, empty, run_steps, there, only, single, made, leave_one}
+use Rattle.source.specs.Proofs.{denotes, letters_go_on}
 use Rattle.source.specs.Tests.{letter_tests, is_letter, numbered_labels}
-use Rattle.source.specs.Counts.{counts, LabelsAreCounted, LettersAreCounted, CountsLetters, HaveArities, CountNumbers}
-use Rattle.source.proofs.Fronts.{whole_front}
-use Rattle.source.proofs.CountedLetters.{is_question, goes_by, letters_stuck}
+use Rattle.source.specs.Counts.{counts, citation_of, StepsAreCounted, LabelsAreCounted, LettersAreCounted, CountsLetters, HaveCitations}
+use Rattle.source.specs.Counts.{CountNumbers}
+use Rattle.source.proofs.CountedLetters.{letters_go, letters_stuck}
 
 -- ---- what numbers count
 
@@ -39,39 +42,40 @@ all_active active =
     λ k d lt. list_any_at (λ x. bytes_eq (label_of (get_or active k d)) (label_of x)) active k d lt
     (bytes_eq-same (label_of (get_or active k d)))
 
-none_taken : (earlier : List Assertion) (active hs : List Hypothesis) → All (IsActive active) hs
-    → map (λ w. option_map length (taken_by earlier active w)) (map label_of hs) ≡ map (λ n. Some n) (replicate (length hs) 0)
-none_taken earlier active [] all = refl
-none_taken earlier active (h ∷ hs) all =
-    let here : option_map length (taken_by earlier active (label_of h)) ≡ Some 0 =
-    ap (option_map length) (cond-true (list_any (λ x. bytes_eq (label_of h) (label_of x)) active) (Some []) _ (all 0 h (omega arith))) in
-    ap (λ z. z ∷ map (λ w. option_map length (taken_by earlier active w)) (map label_of hs)) here
-    ∙ ap (λ z. Some 0 ∷ z) (none_taken earlier active hs (λ k d lt. all (suc k) d (omega arith)))
+all_hypotheses : (earlier : List Assertion) (active hs : List Hypothesis) → All (IsActive active) hs
+    → map (citation_of earlier active) (map label_of hs) ≡ map (λ c. Some c) (replicate (length hs) citation.Hypothesis)
+all_hypotheses earlier active [] all = refl
+all_hypotheses earlier active (h ∷ hs) all =
+    let here : citation_of earlier active (label_of h) ≡ Some citation.Hypothesis =
+    cond-true (list_any (λ x. bytes_eq (label_of h) (label_of x)) active) (Some citation.Hypothesis) _ (all 0 h (omega arith)) in
+    ap (λ z. z ∷ map (citation_of earlier active) (map label_of hs)) here
+    ∙ ap (λ z. Some citation.Hypothesis ∷ z) (all_hypotheses earlier active hs (λ k d lt. all (suc k) d (omega arith)))
 
 -- numbers count the mandatory hypotheses, then labels
-pub numbers_counted : (s : Scope) (e labels : List Word) (hypotheses : ℕ) (arities : List ℕ)
+pub numbers_counted : (s : Scope) (e labels : List Word) (hypotheses : ℕ) (citations : List Citation)
     → hypotheses ≡ length (mandatory s.hypotheses e)
-    → HaveArities s.assertions s.hypotheses labels arities
-    → CountNumbers s.assertions s.hypotheses (numbered_labels s e labels) hypotheses arities
-numbers_counted s e labels hypotheses arities is have =
-    let takes = λ (w : Word). option_map length (taken_by s.assertions s.hypotheses w) in
+    → HaveCitations s.assertions s.hypotheses labels citations
+    → CountNumbers s.assertions s.hypotheses (numbered_labels s e labels) hypotheses citations
+numbers_counted s e labels hypotheses citations is have =
+    let names = citation_of s.assertions s.hypotheses in
     let hs = mandatory s.hypotheses e in
-    map-append takes (map label_of hs) labels
-    ∙ ap (λ z. z ++ map takes labels) (none_taken s.assertions s.hypotheses hs
+    map-append names (map label_of hs) labels
+    ∙ ap (λ z. z ++ map names labels) (all_hypotheses s.assertions s.hypotheses hs
     (All-filter (is_mandatory s.hypotheses e) (IsActive s.hypotheses) s.hypotheses (all_active s.hypotheses)))
-    ∙ ap (λ z. map (λ n. Some n) (replicate (length hs) 0) ++ z) have
-    ∙ sym (map-append (λ (n : ℕ). Some n) (replicate (length hs) 0) arities)
-    ∙ ap (λ n. map (λ n. Some n) (replicate n 0 ++ arities)) (sym is)
+    ∙ ap (λ z. map (λ c. Some c) (replicate (length hs) citation.Hypothesis) ++ z) have
+    ∙ sym (map-append (λ (c : Citation). Some c) (replicate (length hs) citation.Hypothesis) citations)
+    ∙ ap (λ n. map (λ (c : Citation). Some c) (replicate n citation.Hypothesis ++ citations)) (sym is)
 
 -- one more label
-pub one_arity : (earlier : List Assertion) (active : List Hypothesis) (ws : List Word) (w : Word) (arities : List ℕ) (k : ℕ)
-    → HaveArities earlier active ws arities → option_map length (taken_by earlier active w) ≡ Some k
-    → HaveArities earlier active (ws ++ w ∷ []) (arities ++ k ∷ [])
-one_arity earlier active ws w arities k have takes =
-    map-append (λ (x : Word). option_map length (taken_by earlier active x)) ws (w ∷ [])
-    ∙ ap (λ z. z ++ option_map length (taken_by earlier active w) ∷ []) have
-    ∙ ap (λ z. map (λ (n : ℕ). Some n) arities ++ z ∷ []) takes
-    ∙ sym (map-append (λ (n : ℕ). Some n) arities (k ∷ []))
+pub one_citation : (earlier : List Assertion) (active : List Hypothesis) (ws : List Word) (w : Word) (citations : List Citation)
+    (c : Citation)
+    → HaveCitations earlier active ws citations → citation_of earlier active w ≡ Some c
+    → HaveCitations earlier active (ws ++ w ∷ []) (citations ++ c ∷ [])
+one_citation earlier active ws w citations c have is =
+    map-append (citation_of earlier active) ws (w ∷ [])
+    ∙ ap (λ z. z ++ citation_of earlier active w ∷ []) have
+    ∙ ap (λ z. map (λ (c : Citation). Some c) citations ++ z ∷ []) is
+    ∙ sym (map-append (λ (c : Citation). Some c) citations (c ∷ []))
 
 found_some : {A : Type 0} (p : A → Bool) (xs : List A) → list_any p xs ≡ true → is_some (find p xs) ≡ true
 found_some p [] h = absurd cc
@@ -86,17 +90,31 @@ pub mapped_some : {A B : Type 0} (f : A → B) (o : Option A) → is_some (optio
 mapped_some f None = refl
 mapped_some f (Some x) = refl
 
--- a label that names something takes something
-pub named_takes : (s : Scope) (w : Word) → is_named s w ≡ true → is_some (option_map length (taken_by s.assertions s.hypotheses w)) ≡ true
+-- a label that names something is cited
+pub named_cites : (s : Scope) (w : Word) → is_named s w ≡ true → is_some (citation_of s.assertions s.hypotheses w) ≡ true
+named_cites s w named =
+    let active = list_any (λ h. bytes_eq w (label_of h)) s.hypotheses in
+    let first = find (λ (a : Assertion). bytes_eq w a.label) s.assertions in
+    let rest = option_map (λ (a : Assertion). citation.Assertion (length a.hypotheses)) first in
+    elim (cases_Bool active) [
+      | inl is ↦ ap is_some (cond-true active (Some citation.Hypothesis) rest is)
+      | inr other ↦
+          ap is_some (cond-false active (Some citation.Hypothesis) rest other)
+          ∙ mapped_some (λ (a : Assertion). citation.Assertion (length a.hypotheses)) first
+          ∙ found_some (λ (a : Assertion). bytes_eq w a.label) s.assertions
+          (ap (λ b. b || list_any (λ (a : Assertion). bytes_eq w a.label) s.assertions) (sym other) ∙ named)
+    ]
+
+-- and so something is taken
+pub named_takes : (s : Scope) (w : Word) → is_named s w ≡ true → is_some (taken_by s.assertions s.hypotheses w) ≡ true
 named_takes s w named =
     let active = list_any (λ h. bytes_eq w (label_of h)) s.hypotheses in
-    let rest = option_map (λ (a : Assertion). a.hypotheses) (find (λ (a : Assertion). bytes_eq w a.label) s.assertions) in
-    mapped_some length (taken_by s.assertions s.hypotheses w)
-    ∙ elim (cases_Bool active) [
-      | inl is ↦ ap is_some (cond-true active (Some []) rest is)
+    let first = find (λ (a : Assertion). bytes_eq w a.label) s.assertions in
+    elim (cases_Bool active) [
+      | inl is ↦ ap is_some (cond-true active (Some []) _ is)
       | inr other ↦
-          ap is_some (cond-false active (Some []) rest other)
-          ∙ mapped_some (λ (a : Assertion). a.hypotheses) (find (λ (a : Assertion). bytes_eq w a.label) s.assertions)
+          ap is_some (cond-false active (Some []) _ other)
+          ∙ mapped_some (λ (a : Assertion). a.hypotheses) first
           ∙ found_some (λ (a : Assertion). bytes_eq w a.label) s.assertions
           (ap (λ b. b || list_any (λ (a : Assertion). bytes_eq w a.label) s.assertions) (sym other) ∙ named)
     ]
@@ -135,8 +153,8 @@ word_goes s e labels ls w n c le counted letters = (
   tests_find (list_all is_letter w) (goes (flat_map (λ l. l) (ls ++ w ∷ [])))
       ∙ ap (λ b. if b && goes (flat_map (λ l. l) (ls ++ w ∷ [])) then None else Some BadToken)
       (ap (list_all is_letter) (sym (take_all n w le)) ∙ letters)
-      ∙ ap (λ b. if b then None else Some BadToken) (sym (goes_by s.assertions s.hypotheses (numbered_labels s e labels)
-      (flat_map (λ l. l) (ls ++ w ∷ [])) here.codes c.front true (c.entries, c.marked) here.said here.left)),
+      ∙ ap (λ b. if b then None else Some BadToken) (sym (letters_go s.assertions s.hypotheses (numbered_labels s e labels)
+      (flat_map (λ l. l) (ls ++ w ∷ [])) c here)),
   here,
 )
   where
@@ -189,68 +207,47 @@ one_left : (s : Option (Stack (Unit {0}))) (n m : ℕ) → counts s ≡ Some (n,
 one_left None n m e = absurd cc
 one_left (Some s) n m e = only_one s.entries ∙ ap (λ k. k == 1) (some_pair_parts _ _ _ _ e).0
 
--- a proof is whole where a ? was read, or where one entry is left and no number is cut
+-- a proof is whole where one entry is left and no number is cut
 abbrev pub is_ended : Entries → Bool
-is_ended c = not c.is_known || ((c.entries == 1) && (c.front == 0))
+is_ended c = (c.entries == 1) && (c.front == 0)
 
-ended : (c : Entries) (unfinished made : Bool) → c.is_known ≡ not unfinished
-    → (unfinished ≡ false → made ≡ ((c.entries == 1) && (c.front == 0)))
-    → (unfinished || made) ≡ is_ended c
-ended c true made is h = ap (λ b. not b || ((c.entries == 1) && (c.front == 0))) (sym is)
-ended c false made is h = h refl ∙ ap (λ b. not b || ((c.entries == 1) && (c.front == 0))) (sym is)
+pub one_ended : (c : Entries) → c.entries ≡ 1 → (c.front == 0) ≡ is_ended c
+one_ended c one = ap (λ n. (n == 1) && (c.front == 0)) (sym one)
 
-pub unknown_ended : (c : Entries) → c.is_known ≡ false → not c.is_known ≡ is_ended c
-unknown_ended c off = ap (λ b. not b) off ∙ ap (λ b. not b || ((c.entries == 1) && (c.front == 0))) (sym off)
-
-pub one_ended : (c : Entries) → c.is_known ≡ true → c.entries ≡ 1 → (c.front == 0) ≡ is_ended c
-one_ended c on one = ap (λ n. (n == 1) && (c.front == 0)) (sym one) ∙ ap (λ b. not b || ((c.entries == 1) && (c.front == 0))) (sym on)
-
-pub other_ended : (c : Entries) → c.is_known ≡ true → (c.entries ≡ 1 → ⊥) → (c.entries == 1) ≡ is_ended c
-other_ended c on other =
+pub other_ended : (c : Entries) → (c.entries ≡ 1 → ⊥) → (c.entries == 1) ≡ is_ended c
+other_ended c other =
     ne_eqb c.entries 1 other ∙ ap (λ b. b && (c.front == 0)) (sym (ne_eqb c.entries 1 other))
-    ∙ ap (λ b. not b || ((c.entries == 1) && (c.front == 0))) (sym on)
 
 beside_true : (a b : Bool) → b ≡ true → a ≡ (a && b)
 beside_true true b e = sym e
 beside_true false b e = refl
 
+steps_ended : (earlier : List Assertion) (active : List Hypothesis) (steps : List Step) (c : Entries)
+    → StepsAreCounted earlier active steps c → leave_one earlier active (Some steps) ≡ (c.entries == 1)
+steps_ended earlier active steps c counted =
+    ap (λ b. b && is_some (made there earlier active steps)) counted.placed
+    ∙ one_left (run_steps there earlier active (Some empty) steps) c.entries c.marked counted.left
+
 pub labels_ended : (earlier : List Assertion) (active hypotheses : List Hypothesis) (ws : List Word) (c : Entries)
     → LabelsAreCounted earlier active ws c → denotes earlier active hypotheses (normal ws) ≡ is_ended c
 labels_ended earlier active hypotheses ws c counted =
-    ended c (list_any is_unknown ws) (is_some (made there earlier active (map (λ w. names w) ws))) counted.known
-    (λ none.
-    one_left (run_steps there earlier active (Some empty) (map (λ w. names w) ws)) c.entries c.marked
-    (ap (λ ks. counts (run_steps there earlier active (Some empty) (map (λ w. names w) ks))) (sym (whole_front is_unknown ws none))
-    ∙ counted.left)
-    ∙ beside_true (c.entries == 1) (c.front == 0) (ap (λ n. n == 0) counted.front))
-
-any_flat : (ls : List Word) → list_any (list_any is_question) ls ≡ list_any is_question (flat_map (λ l. l) ls)
-any_flat [] = refl
-any_flat (l ∷ ls) =
-    ap (λ b. list_any is_question l || b) (any_flat ls) ∙ sym (list_any-append is_question l (flat_map (λ l. l) ls))
+    steps_ended earlier active (map step_of_word ws) c counted.steps
+    ∙ beside_true (c.entries == 1) (c.front == 0) (ap (λ n. n == 0) counted.front)
 
 pub letters_ended : (earlier : List Assertion) (active hypotheses : List Hypothesis) (labels ls : List Word) (c : Entries)
     → LettersAreCounted earlier active (map label_of hypotheses ++ labels) (flat_map (λ l. l) ls) c
     → denotes earlier active hypotheses (compressed labels ls) ≡ is_ended c
 letters_ended earlier active hypotheses labels ls c counted =
-    ended c (list_any (list_any is_question) ls) (makes (codes_of letters)) (counted.known ∙ ap not (sym (any_flat ls)))
-    (λ none.
-    let all = whole_front is_question letters (sym (any_flat ls) ∙ none) in
-    ap (λ d. makes (uncut d)) (ap (decoded 0) (sym all) ∙ counted.said) ∙ uncut_makes (cases_Bool (c.front == 0)))
+    ap (λ d. leaves (uncut d)) counted.said ∙ uncut_leaves (cases_Bool (c.front == 0))
   where
-    letters : List ℕ
-    letters = flat_map (λ l. l) ls
+    leaves : Option (List Code) → Bool
+    leaves codes = leave_one earlier active (option_map (map (step_of (map label_of hypotheses ++ labels))) codes)
 
-    makes : Option (List Code) → Bool
-    makes codes =
-        is_some (option_and_then (made there earlier active) (option_map (map (step_of (map label_of hypotheses ++ labels))) codes))
-
-    uncut_makes : ((c.front == 0) ≡ true) ⊎ ((c.front == 0) ≡ false)
-        → makes (uncut (Some (record { codes = counted.codes; front = c.front }))) ≡ ((c.entries == 1) && (c.front == 0))
-    uncut_makes (inl whole) =
-        ap makes (cond-true (c.front == 0) (Some counted.codes) None whole)
-        ∙ one_left (run_steps there earlier active (Some empty) (map (step_of (map label_of hypotheses ++ labels)) counted.codes))
-        c.entries c.marked counted.left
+    uncut_leaves : ((c.front == 0) ≡ true) ⊎ ((c.front == 0) ≡ false)
+        → leaves (uncut (Some (record { codes = counted.codes; front = c.front }))) ≡ is_ended c
+    uncut_leaves (inl whole) =
+        ap leaves (cond-true (c.front == 0) (Some counted.codes) None whole)
+        ∙ steps_ended earlier active (map (step_of (map label_of hypotheses ++ labels)) counted.codes) c counted.steps
         ∙ beside_true (c.entries == 1) (c.front == 0) whole
-    uncut_makes (inr cut) =
-        ap makes (cond-false (c.front == 0) (Some counted.codes) None cut) ∙ sym (and_right (c.entries == 1) (c.front == 0) cut)
+    uncut_leaves (inr cut) =
+        ap leaves (cond-false (c.front == 0) (Some counted.codes) None cut) ∙ sym (and_right (c.entries == 1) (c.front == 0) cut)

@@ -13,7 +13,7 @@ pub mod ParsedRows
 pub mod Parsed
 pub mod ParsedStatements
 pub mod SourceLaws
-pub mod Fronts
+pub mod CountedSteps
 pub mod Counted
 pub mod CountedLabels
 pub mod CountedLetters
@@ -22,3 +22,4 @@ pub mod Growing
 pub mod Everywhere
 pub mod Asserted
 pub mod Wholes
+pub mod Finished

@@ -3,7 +3,7 @@ use Rattle.std.specs.Prelude.{◌≡◌, ℕ, Bool, true, false, List, [], ◌�
 use Rattle.mmtext.specs.Words.{Word}
 use Rattle.mmtext.specs.Text.{tokens}
 use Rattle.mmtext.specs.Comments.{words_of, without_comments}
-use Rattle.source.specs.declared.letters.Code.TheVariants.{Number, Mark}
+use Rattle.source.specs.declared.letters.Code.TheVariants.{Number, Mark, Unknown}
 use Rattle.source.specs.Statements.{Proof, normal, compressed, Statement, constants, variables, float, hypothesis, distinct, asserted}
 use Rattle.source.specs.Statements.{proved, block, Statements, none, some, spellings}
 use Rattle.source.specs.Scopes.{Hypothesis, typing, premise, Assertion, Scope, nothing, behind_all, mandatory_pairs}
@@ -16,7 +16,7 @@ use Rattle.source.specs.Faults.{source_language}
 use Rattle.source.specs.Tests.{are_lawful}
 use Rattle.source.specs.Sources.{Declares}
 use Rattle.source.specs.Letters.{codes_of}
-use Rattle.source.specs.Proofs.{Tree, node, over, denoted}
+use Rattle.source.specs.Proofs.{Tree, node, over, denoted, denotes}
 
 -- statements of a list
 abbrev pub these : List Statement → Statements
@@ -140,12 +140,16 @@ FaultsAreFound =
     ∷ codes "$c a $. ${ h $e a $. $} p $p a $= h $."
     ∷ codes "$c a $. p $p a $= p $."
     ∷ codes "$c a $. $v x $. f $f a x $. p $p a x $= ( f ) A $."
+    ∷ codes "$c a $. $v x $. f $f a x $. p $p a x $= ( ) AZ $."
+    ∷ codes "$c a $. $v x $. f $f a x $. p $p a x $= ( ) A ? $."
+    ∷ codes "$c a $. $v x $. f $f a x $. p $p a x $= ? f $."
     ∷ codes "$c a $. $v x $. $d x x $."
     ∷ codes "$c a $. ${ ${ $}"
     ∷ codes "$c a $. $}"
     ∷ [])
     ≡ failed 25 RepeatedLabel ∷ failed 11 BadToken ∷ failed 41 NotActive ∷ failed 34 NotActive ∷ failed 18 UnknownLabel
-    ∷ failed 42 BadToken ∷ failed 21 BadToken ∷ failed 16 Unfinished ∷ failed 8 BadToken ∷ []
+    ∷ failed 42 BadToken ∷ failed 44 BadToken ∷ failed 48 BadToken ∷ failed 44 BadToken ∷ failed 21 BadToken ∷ failed 16 Unfinished
+    ∷ failed 8 BadToken ∷ []
 
 abbrev pub ScopesDeclare : Type 0
 ScopesDeclare = Declares scopes (behind_all nothing scopes) × ((behind_all nothing scopes).assertions ≡ m ∷ n ∷ t ∷ [])
@@ -178,13 +182,13 @@ ClosedIsRefused =
 
 abbrev pub LettersCount : Type 0
 LettersCount =
-    map codes_of (codes "T" ∷ codes "UA" ∷ codes "YT" ∷ codes "UUA" ∷ codes "AZB" ∷ [])
+    map codes_of (codes "T" ∷ codes "UA" ∷ codes "YT" ∷ codes "UUA" ∷ codes "AZB" ∷ codes "A?" ∷ [])
     ≡ Some (Number 20 ∷ []) ∷ Some (Number 21 ∷ []) ∷ Some (Number 120 ∷ []) ∷ Some (Number 121 ∷ [])
-    ∷ Some (Number 1 ∷ Mark ∷ Number 2 ∷ []) ∷ []
+    ∷ Some (Number 1 ∷ Mark ∷ Number 2 ∷ []) ∷ Some (Number 1 ∷ Unknown ∷ []) ∷ []
 
 abbrev pub LettersFail : Type 0
 LettersFail =
-    map codes_of (codes "AU" ∷ codes "AUZ" ∷ codes "A?" ∷ codes "a" ∷ [])
+    map codes_of (codes "AU" ∷ codes "AUZ" ∷ codes "AU?" ∷ codes "a" ∷ [])
     ≡ None ∷ None ∷ None ∷ None ∷ []
 
 -- ---- proofs
@@ -242,3 +246,45 @@ BrokenDenoteNone =
     map (λ letters. denoted (ax ∷ []) (double (compressed (codes "ax" ∷ []) (letters ∷ []))))
     (codes "AABZDB" ∷ codes "AA" ∷ codes "AB" ∷ [] ∷ [])
     ≡ None ∷ None ∷ None ∷ None ∷ []
+
+-- ---- marks and steps that aren't there
+
+-- c $a wff ( ) $. takes nothing
+abbrev pub c : Assertion
+c = record {
+  label = codes "c";
+  hypotheses = [];
+  pairs = [];
+  statement = wff ∷ codes "(" ∷ codes ")" ∷ [];
+  proof = None;
+  active = fx ∷ fy ∷ [];
+}
+
+-- whether the proof of d is one, behind ax and c
+abbrev pub proves : Proof → Bool
+proves proof = denotes (ax ∷ c ∷ []) (fx ∷ fy ∷ []) (fx ∷ []) proof
+
+-- numbers: A is fx, B is ax, C is c, D is fy, and marked subproofs follow
+abbrev pub proves_by : List ℕ → Bool
+proves_by letters = proves (compressed (codes "ax" ∷ c.label ∷ codes "fy" ∷ []) (letters ∷ []))
+
+-- behind an assertion that takes two or none, and behind another mark
+abbrev pub MarksStandThere : Type 0
+MarksStandThere = map proves_by (codes "AABZEB" ∷ codes "CZEB" ∷ codes "AABZZFB" ∷ []) ≡ true ∷ true ∷ true ∷ []
+
+-- behind a mandatory hypothesis, one in parentheses, a marked subproof, and ?
+abbrev pub MarksStandNowhereElse : Type 0
+MarksStandNowhereElse =
+    map proves_by (codes "AZEB" ∷ codes "DZEB" ∷ codes "CZEZB" ∷ codes "?ZEB" ∷ []) ≡ false ∷ false ∷ false ∷ false ∷ []
+
+-- ? is one entry
+abbrev pub UnknownStepsAreThere : Type 0
+UnknownStepsAreThere =
+    map proves_by (codes "?" ∷ codes "A?B" ∷ codes "CZ?B" ∷ []) ≡ true ∷ true ∷ true ∷ []
+    × (map proves (normal (codes "?" ∷ []) ∷ normal (codes "fx" ∷ codes "?" ∷ codes "ax" ∷ []) ∷ []) ≡ true ∷ true ∷ [])
+
+-- an entry is not there, one is left, the number behind ? is cut, and one in front of it; so in normal proofs
+abbrev pub UnknownStepsAreOne : Type 0
+UnknownStepsAreOne =
+    map proves_by (codes "?B" ∷ codes "A?" ∷ codes "?U" ∷ codes "U?" ∷ []) ≡ false ∷ false ∷ false ∷ false ∷ []
+    × (map proves (normal (codes "?" ∷ codes "ax" ∷ []) ∷ normal (codes "?" ∷ codes "?" ∷ []) ∷ []) ≡ false ∷ false ∷ [])

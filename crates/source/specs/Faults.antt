@@ -56,7 +56,7 @@ to p place = Ok (record p { place = place })
 abbrev pub ends : Position → Statement → Next
 ends p x = Ok (record { stand = declared p.stand x; place = at_start })
 
--- a theorem ends, where its proof denotes a tree or is unfinished
+-- a theorem ends, where its proof denotes a tree
 abbrev pub ends_proof : Position → Word → List Word → Proof → Token → Next
 ends_proof p label e proof t = if is_whole p.stand.scope e proof then ends p (proved label e proof) else fault t BadToken
 

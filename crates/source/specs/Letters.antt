@@ -1,8 +1,8 @@
--- The letters of a compressed proof as numbers and marks (Metamath book, appendix B).
-use Rattle.std.specs.Prelude.{ℕ, ◌+◌, ◌-◌, ◌*◌, Bool, ◌&&◌, ◌==◌, nat_lt, nat_le, List, [], ◌∷◌, Option, Some, None}
+-- The letters of a compressed proof as numbers, marks and steps that aren't there (Metamath book, appendix B).
+use Rattle.std.specs.Prelude.{ℕ, ◌+◌, ◌-◌, ◌*◌, Bool, true, false, ◌&&◌, ◌==◌, nat_lt, nat_le, List, [], ◌∷◌, Option, Some, None}
 use Rattle.std.specs.Prelude.{if◌then◌else◌}
 use Rattle.source.specs.declared.letters.Code.{Code}
-use Rattle.source.specs.declared.letters.Code.TheVariants.{Number, Mark}
+use Rattle.source.specs.declared.letters.Code.TheVariants.{Number, Mark, Unknown}
 use Rattle.source.specs.declared.letters.Turn.{Turn}
 
 -- A to T end a number and count 1 to 20
@@ -17,14 +17,20 @@ is_front b = nat_le 85 b && nat_le b 89
 abbrev pub is_too_large : ℕ → Bool
 is_too_large front = nat_lt 13421772 front
 
--- u1 .. uj a is the number 20 * (5 * (.. 5 * u1 ..) + uj) + a: what a letter does behind a front that counts as much (0: none). Z stands
--- where no number is cut
+-- u1 .. uj a is the number 20 * (5 * (.. 5 * u1 ..) + uj) + a: what a letter does behind a front that counts as much (0: none). Z and ?
+-- stand where no number is cut
 abbrev pub turn_at : ℕ → ℕ → Option Turn
 turn_at front b =
     if is_too_large front then None else (
     if is_last b then Some (record { said = Some (Number (20 * front + (b - 64))); front = 0 }) else (
     if is_front b then Some (record { said = None; front = 5 * front + (b - 84) }) else (
-    if (b == 90) && (front == 0) then Some (record { said = Some Mark; front = 0 }) else None)))
+    if (b == 90) && (front == 0) then Some (record { said = Some Mark; front = 0 }) else (
+    if (b == 63) && (front == 0) then Some (record { said = Some Unknown; front = 0 }) else None))))
+
+-- a code is ?
+abbrev pub is_absent : Code → Bool
+is_absent Unknown = true
+is_absent _ = false
 
 -- codes, and what counts in front of the letters that follow
 pub record Decoded : Type 0 where

@@ -1,16 +1,16 @@
 -- What a proof denotes: a tree over hypotheses and assertions (Metamath book, sections 4.1.4 and 4.2.8; compressed proofs: appendix B).
 use Rattle.std.specs.Prelude.{◌≡◌, ℕ, ◌+◌, zero, suc, pred, Bool, List, [], ◌∷◌, ◌++◌, map, find, Option, Some, None, slice_get, if◌then◌else◌, ◌==◌}
-use Rattle.std.specs.Prelude.{false, ◌||◌, take_while, is_some}
+use Rattle.std.specs.Prelude.{true, false, ◌&&◌, is_some, codes}
 use mathlib.Core.Bool.{not}
 use Rattle.std.specs.Option.{option_map, option_and_then}
 use Rattle.std.specs.List.{list_any, flat_map}
 use Rattle.std.specs.Str.{bytes_eq}
 use Rattle.mmtext.specs.Words.{Word}
 use Rattle.source.specs.declared.letters.Code.{Code}
-use Rattle.source.specs.declared.letters.Code.TheVariants.{Number, Mark}
+use Rattle.source.specs.declared.letters.Code.TheVariants.{Number, Mark, Unknown}
 use Rattle.source.specs.Statements.{Proof, normal, compressed}
 use Rattle.source.specs.Scopes.{Hypothesis, label_of, Assertion, is_unknown}
-use Rattle.source.specs.Letters.{decoded, codes_of}
+use Rattle.source.specs.Letters.{Decoded, decoded, codes_of}
 
 -- a label over the trees of what it takes: none of a hypothesis, and of an assertion one for each of its mandatory hypotheses
 mutual
@@ -23,11 +23,16 @@ mutual
 
 -- ---- steps
 
--- a label, a marked subproof again (from 0), or the mark of the subproof that ends here
+-- a label, a marked subproof again (from 0), the mark of the subproof that ends here, or ?: a step that isn't there (section 4.2.8)
 pub data Step : Type 0 where
   names : Word → Step
   again : ℕ → Step
   marks : Step
+  unknown : Step
+
+-- a word of a normal proof
+abbrev pub step_of_word : Word → Step
+step_of_word w = if is_unknown w then unknown else names w
 
 -- a number from 0: that of a label, or behind the labels of a marked subproof (appendix B)
 abbrev pub numbered : List Word → ℕ → Step
@@ -39,10 +44,11 @@ numbered (w ∷ ws) (suc n) = numbered ws n
 abbrev pub step_of : List Word → Code → Step
 step_of labels (Number n) = numbered labels (pred n)
 step_of labels Mark = marks
+step_of labels Unknown = unknown
 
 -- the steps of a proof: those of letters count the mandatory hypotheses, then the labels in parentheses, then the marked subproofs
 abbrev pub steps_of : List Hypothesis → Proof → Option (List Step)
-steps_of hypotheses (normal ws) = Some (map (λ w. names w) ws)
+steps_of hypotheses (normal ws) = Some (map step_of_word ws)
 steps_of hypotheses (compressed labels letters) =
     option_map (map (step_of (map label_of hypotheses ++ labels))) (codes_of (flat_map (λ w. w) letters))
 
@@ -53,6 +59,26 @@ abbrev pub taken_by : List Assertion → List Hypothesis → Word → Option (Li
 taken_by earlier active w =
     if list_any (λ h. bytes_eq w (label_of h)) active then Some []
     else option_map (λ a. a.hypotheses) (find (λ a. bytes_eq w a.label) earlier)
+
+-- ---- marks (appendix B)
+
+-- a mark may stand right behind the label of an assertion, or another mark: what a hypothesis or a marked subproof puts is at hand anyway
+abbrev pub may_be_marked : List Hypothesis → Step → Bool
+may_be_marked active (names w) = not (list_any (λ h. bytes_eq w (label_of h)) active)
+may_be_marked active (again n) = false
+may_be_marked active marks = true
+may_be_marked active unknown = false
+
+-- a mark stands right behind a step that may be marked, and any other step behind all
+abbrev pub is_placed : Bool → Step → Bool
+is_placed markable marks = markable
+is_placed markable _ = true
+
+-- so does each step but the first: where that is a mark, no entry is there
+abbrev pub are_marks_placed : List Hypothesis → List Step → Bool
+are_marks_placed active [] = true
+are_marks_placed active (x ∷ []) = true
+are_marks_placed active (x ∷ y ∷ ys) = is_placed (may_be_marked active x) y && are_marks_placed active (y ∷ ys)
 
 -- ---- the stack (section 4.1.4), whatever it holds: trees, or what stands for them
 
@@ -99,6 +125,7 @@ abbrev pub stepped : {A : Type 0} → (Word → List A → A) → List Assertion
 stepped make earlier active s (names w) = cite make w s (taken_by earlier active w)
 stepped make earlier active s (again n) = repeat s (slice_get s.marked n)
 stepped make earlier active s marks = mark s.entries s.marked
+stepped make earlier active s unknown = Some (push s (make (codes "?") []))
 
 -- steps one after the other
 abbrev pub run_steps : {A : Type 0} → (Word → List A → A) → List Assertion → List Hypothesis → Option (Stack A) → List Step
@@ -167,7 +194,8 @@ abbrev pub denoted : List Assertion → Assertion → Option Tree
 denoted earlier a =
     option_and_then (λ proof. option_and_then (denoted_by earlier a.active) (steps_of a.hypotheses proof)) a.proof
 
--- ---- while a proof is read: whether what its steps take is there, until a step isn't there. Of what stands behind that nothing is asked
+-- ---- while a proof is read: whether what its steps take is there, and its marks are placed. A ? is a step as others are, which puts one
+-- entry
 
 -- a tree is on the stack, whichever
 abbrev pub there : Word → List (Unit {0}) → Unit {0}
@@ -176,26 +204,26 @@ there w trees = tt
 -- each step takes what is there
 abbrev pub go_on : List Assertion → List Hypothesis → Option (List Step) → Bool
 go_on earlier active None = false
-go_on earlier active (Some steps) = is_some (run_steps there earlier active (Some empty) steps)
+go_on earlier active (Some steps) =
+    are_marks_placed active steps && is_some (run_steps there earlier active (Some empty) steps)
 
--- the labels in front of the first ?
-abbrev pub known_labels : List Word → List Word
-known_labels ws = take_while (λ w. not (is_unknown w)) ws
-
--- the steps of labels do
+-- the words of a normal proof do
 abbrev pub labels_go_on : List Assertion → List Hypothesis → List Word → Bool
-labels_go_on earlier active ws = go_on earlier active (Some (map (λ w. names w) (known_labels ws)))
+labels_go_on earlier active ws = go_on earlier active (Some (map step_of_word ws))
 
--- the letters in front of the first ?
-abbrev pub known_letters : List ℕ → List ℕ
-known_letters letters = take_while (λ b. not (b == 63)) letters
+-- the steps of codes
+abbrev pub steps_in : List Word → Option Decoded → Option (List Step)
+steps_in labels d = option_map (λ (d : Decoded). map (step_of labels) d.codes) d
 
 -- the steps of letters do, of which the last number may be cut
 abbrev pub letters_go_on : List Assertion → List Hypothesis → List Word → List ℕ → Bool
-letters_go_on earlier active labels letters =
-    go_on earlier active (option_map (λ d. map (step_of labels) d.codes) (decoded 0 (known_letters letters)))
+letters_go_on earlier active labels letters = go_on earlier active (steps_in labels (decoded 0 letters))
 
--- a finished proof denotes a tree
+-- they do, and leave one entry
+abbrev pub leave_one : List Assertion → List Hypothesis → Option (List Step) → Bool
+leave_one earlier active None = false
+leave_one earlier active (Some steps) = are_marks_placed active steps && is_some (made there earlier active steps)
+
+-- a proof denotes a tree, in which ? is a leaf
 abbrev pub denotes : List Assertion → List Hypothesis → List Hypothesis → Proof → Bool
-denotes earlier active hypotheses proof =
-    is_unfinished proof || is_some (option_and_then (made there earlier active) (steps_of hypotheses proof))
+denotes earlier active hypotheses proof = leave_one earlier active (steps_of hypotheses proof)

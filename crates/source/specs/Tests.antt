@@ -4,7 +4,6 @@ use Rattle.std.specs.Prelude.{ℕ, Bool, true, ◌&&◌, ◌||◌, ◌==◌, nat
 use Rattle.std.specs.List.{list_any, list_all, flat_map}
 use Rattle.std.specs.Str.{bytes_eq}
 use mathlib.Core.Bool.{not}
-use Rattle.mmtext.specs.declared.fault.FaultKind.{FaultKind}
 use Rattle.mmtext.specs.declared.fault.FaultKind.TheVariants.{BadToken, UnknownSymbol, RepeatedLabel, NoTypeFor, UnknownLabel, NotActive}
 use Rattle.mmtext.specs.Words.{Word, has_dollar, is_label}
 use Rattle.mmsyntax.specs.Rows.{Tests, first_fault}
@@ -62,7 +61,7 @@ symbol_tests s (c ∷ e) w =
 abbrev pub named_tests : Scope → Word → Tests
 named_tests s w = (has_dollar w, BadToken) ∷ (not (is_in s.labels w), UnknownLabel) ∷ (not (is_named s w), NotActive) ∷ []
 
--- a step of a normal proof behind others: ? or a label, and then the entries that it takes are there (section 4.2.8)
+-- a step of a normal proof behind others: ?, which takes nothing, or a label, and then the entries that it takes are there (section 4.2.8)
 abbrev pub step_tests : Scope → List Word → Word → Tests
 step_tests s ws w =
     if is_unknown w then [] else named_tests s w ++ (not (labels_go_on s.assertions s.hypotheses (ws ++ w ∷ [])), BadToken) ∷ []
@@ -79,7 +78,7 @@ numbered_labels s e labels = map label_of (mandatory s.hypotheses e) ++ labels
 abbrev pub is_letter : ℕ → Bool
 is_letter b = (nat_le 65 b && nat_le b 90) || (b == 63)
 
--- the letters of a word behind those of others: what their numbers say is there (appendix B)
+-- the letters of a word behind those of others: what their numbers say is there, and marks stand where they may (appendix B)
 abbrev pub letter_tests : Scope → List Word → List Word → List Word → Word → Tests
 letter_tests s e labels ls w =
     (not (list_all is_letter w), BadToken)
@@ -111,7 +110,7 @@ has_lawful_words s e (normal steps) = nat_le 1 (length steps) && all_pass (step_
 has_lawful_words s e (compressed labels letters) =
     list_all (λ w. passes (cited_tests s e w)) labels && nat_le 1 (length letters) && all_pass (letter_tests s e labels) [] letters
 
--- a proof that is finished denotes a tree
+-- a proof denotes a tree
 abbrev pub is_whole : Scope → List Word → Proof → Bool
 is_whole s e proof = denotes s.assertions s.hypotheses (mandatory s.hypotheses e) proof
 

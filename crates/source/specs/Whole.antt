@@ -1,5 +1,5 @@
--- What is so of the assertions of each source: what they name is declared, a label is that of one hypothesis or of one assertion, and a
--- finished proof denotes a tree (Metamath book, sections 4.1.3 and 4.2; compressed proofs: appendix B).
+-- What is so of the assertions of each source: what they name is declared, a label is that of one hypothesis or of one assertion, and each
+-- proof denotes a tree (Metamath book, sections 4.1.3 and 4.2; compressed proofs: appendix B).
 use Rattle.std.specs.Prelude.{◌≡◌, Bool, false, ◌||◌, List, [], ◌∷◌, ◌++◌, map, All, IfSome, IsTrue, is_some}
 use Rattle.std.specs.List.{list_any}
 use Rattle.std.specs.Str.{bytes_eq}
@@ -25,7 +25,7 @@ abbrev pub labels_in : Proof → List Word
 labels_in (normal ws) = ws
 labels_in (compressed labels letters) = labels
 
--- a finished proof names what is there, and denotes a tree (section 4.2.8, appendix B)
+-- a proof denotes a tree, and a finished one names what is there (section 4.2.8, appendix B)
 pub record IsProofWhole (earlier : List Assertion) (x : Assertion) (proof : Proof) : Type 0 where
   pub named : is_unfinished proof ≡ false → All (λ w. IsTrue (is_some (taken_by earlier x.active w))) (labels_in proof)
   pub denotes : IsTrue (denotes earlier x.active x.hypotheses proof)

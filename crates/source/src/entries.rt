@@ -1,21 +1,29 @@
 //! What the steps of a proof take, counted while its words are read.
 
-ghost use Rattle.std.specs.Prelude.{◌≡◌, ◌≢◌, ℕ, suc, ◌-◌, nat_le, true, false, ◌&&◌, List, [], ◌∷◌, ◌++◌, length};
-ghost use Rattle.std.specs.Prelude.{None, Some, MatchResult, if◌then◌else◌};
-ghost use Rattle.std.specs.Option.{option_map};
+ghost use Rattle.std.specs.Prelude.{◌≡◌, ℕ, suc, ◌-◌, nat_le, true, false, ◌&&◌, List, [], ◌∷◌, ◌++◌, length};
+ghost use Rattle.std.specs.Prelude.{None, Some, MatchResult, IfOk, if◌then◌else◌};
 ghost use Rattle.mmtext.specs.Words.{Word};
 ghost use Rattle.mmtext.specs.declared.fault.FaultKind.TheVariants.{BadToken};
 ghost use Rattle.mmsyntax.specs.Rows.{first_fault};
 ghost use Rattle.source.specs.Statements.{normal, compressed};
 ghost use Rattle.source.specs.Scopes.{Scope, Hypothesis, Assertion, mandatory, is_unknown};
-ghost use Rattle.source.specs.Proofs.{taken_by, step_of, marks, labels_go_on, letters_go_on};
+ghost use Rattle.source.specs.Proofs.{names, step_of, marks, labels_go_on, letters_go_on};
 ghost use Rattle.source.specs.Tests.{letter_tests, is_letter, is_whole};
-ghost use Rattle.source.specs.Counts.{CountsSteps, CountsLetters, LettersAreCounted, HaveArities, CountNumbers, IsStep, IsFull};
+ghost use Rattle.source.specs.Counts.{CountsSteps, CountsLetters, LettersAreCounted, HaveCitations, CountNumbers, citation_of, IsStep, IsFull};
 
 use super::letters::{Code, take_letter};
 use std::alloc::AllocError;
 
-/// How many entries the steps of a proof left on the stack so far, until a step isn't there (`?`).
+/// What a label in a proof names.
+#[derive(Clone, Copy, Debug, PartialEq, Eq)]
+pub enum Citation {
+    /// An active hypothesis: it takes no entry, and what it puts isn't marked.
+    Hypothesis,
+    /// An earlier assertion with so many mandatory hypotheses: it takes an entry for each of them.
+    Assertion(usize),
+}
+
+/// How many entries the steps of a proof left on the stack so far. A step that isn't there, `?`, leaves one too.
 ///
 /// Where a call says `false`, the proof is faulty there, and nothing is said of what is counted from then on. A call fails where a count
 /// would not fit a `usize`: no text is as long.
@@ -27,8 +35,8 @@ pub struct Entries {
     marked: usize,
     /// Of the number that is cut by the end of what was read: 0 where none is.
     front: u32,
-    /// Whether no `?` was read.
-    is_known: bool,
+    /// Whether a `Z` may stand next: behind the label of an assertion, or another `Z`.
+    is_markable: bool,
 }
 
 // Proved here once: a derived drop is proved again in each crate that drops such a value.
@@ -38,7 +46,7 @@ impl Drop for Entries {
             entries: _,
             marked: _,
             front: _,
-            is_known: _,
+            is_markable: _,
         } = self;
     }
 }
@@ -53,108 +61,81 @@ impl Entries {
             entries: 0,
             marked: 0,
             front: 0,
-            is_known: true,
+            is_markable: false,
         }
     }
 
-    /// One more step of a normal proof, `?`: of what stands behind it nothing is asked.
-    pub fn skip(&mut self)
-        ensures { (s : Scope) (ws : List Word) (w : Word) → CountsSteps s ws self.old → is_unknown w ≡ true
-            → CountsSteps s (ws ++ w ∷ []) self.new }
+    /// One more step of a normal proof, `?`: one more entry.
+    pub fn take_unknown(&mut self) -> Result<(), AllocError>
+        ensures { MatchResult result (λ _. (s : Scope) (ws : List Word) (w : Word) → CountsSteps s ws self.old → is_unknown w ≡ true
+            → CountsSteps s (ws ++ w ∷ []) self.new)
+            (λ _. IsFull self.new) }
     {
-        self.is_known = false;
+        self.put(0, false)?;
+        Ok(())
     }
 
-    /// One more step of a normal proof, a label that takes so many entries: whether they are there, or a `?` stands in front of it.
-    pub fn take(&mut self, arity: usize) -> Result<bool, AllocError>
+    /// One more step of a normal proof, a label that names so: whether the entries that it takes are there.
+    pub fn take(&mut self, citation: Citation) -> Result<bool, AllocError>
         ensures { MatchResult result (λ goes. (s : Scope) (ws : List Word) (w : Word) → CountsSteps s ws self.old → is_unknown w ≡ false
-            → option_map length (taken_by s.assertions s.hypotheses w) ≡ Some arity
+            → citation_of s.assertions s.hypotheses w ≡ Some citation
             → (goes ≡ labels_go_on s.assertions s.hypotheses (ws ++ w ∷ [])) × (goes ≡ true → CountsSteps s (ws ++ w ∷ []) self.new))
             (λ _. IsFull self.new) }
     {
-        if self.is_known {
-            self.put(arity)
-        } else {
-            Ok(true)
-        }
+        self.put_citation(citation)
     }
 
-    /// One more word of letters, whose numbers count so many mandatory hypotheses, then labels that take so many entries each, then marked
-    /// subproofs: whether its bytes are letters or `?`, and what the numbers say is there, or a `?` stands in front of it.
+    /// One more word of letters, whose numbers count so many mandatory hypotheses, then labels that name so, then marked subproofs: whether
+    /// its bytes are letters or `?`, what the numbers say is there, and each `Z` stands behind the number of an assertion or another `Z`.
     pub fn take_letters(
         &mut self,
         hypotheses: usize,
-        arities: &[usize],
+        citations: &[Citation],
         word: &[u8],
     ) -> Result<bool, AllocError>
         ensures { MatchResult result (λ goes. (s : Scope) (e labels ls : List Word) → CountsLetters s e labels ls self.old
             → hypotheses ≡ length (mandatory s.hypotheses e)
-            → HaveArities s.assertions s.hypotheses labels arities.now
+            → HaveCitations s.assertions s.hypotheses labels citations.now
             → (first_fault (letter_tests s e labels ls word.now) ≡ (if goes then None else Some BadToken))
             × (goes ≡ true → CountsLetters s e labels (ls ++ word.now ∷ []) self.new))
             (λ _. IsFull self.new) }
     {
         for byte in word {
-            if !self.take_byte(hypotheses, arities, *byte)? {
+            if !self.take_byte(hypotheses, citations, *byte)? {
                 return Ok(false);
             }
         }
         Ok(true)
     }
 
-    /// Whether the proof whose words these were denotes a tree, or is unfinished.
+    /// Whether the proof whose words these were denotes a tree: it leaves one entry, and cuts no number.
     pub fn is_whole(&self) -> bool
         ensures steps { (s : Scope) (e ws : List Word) → CountsSteps s ws self.now → result ≡ is_whole s e (normal ws) }
         ensures letters { (s : Scope) (e labels ls : List Word) → CountsLetters s e labels ls self.now
             → result ≡ is_whole s e (compressed labels ls) }
     {
-        !self.is_known || (self.entries == 1 && self.front == 0)
+        self.entries == 1 && self.front == 0
     }
 
     /// One more byte of letters.
     fn take_byte(
         &mut self,
         hypotheses: usize,
-        arities: &[usize],
+        citations: &[Citation],
         byte: u8,
     ) -> Result<bool, AllocError>
         ensures { MatchResult result (λ goes. (earlier : List Assertion) (active : List Hypothesis) (labels : List Word) (letters : List ℕ)
-            → LettersAreCounted earlier active labels letters self.old → CountNumbers earlier active labels hypotheses arities.now
+            → LettersAreCounted earlier active labels letters self.old → CountNumbers earlier active labels hypotheses citations.now
             → (goes ≡ (is_letter byte && letters_go_on earlier active labels (letters ++ byte ∷ [])))
             × (goes ≡ true → LettersAreCounted earlier active labels (letters ++ byte ∷ []) self.new))
             (λ _. IsFull self.new) }
     {
-        if !self.is_known {
-            return Ok(is_letter(byte));
-        }
-        if byte == b'?' {
-            self.is_known = false;
-            return Ok(true);
-        }
-        self.take_letter(hypotheses, arities, byte)
-    }
-
-    /// One more letter in front of the first `?`.
-    fn take_letter(
-        &mut self,
-        hypotheses: usize,
-        arities: &[usize],
-        letter: u8,
-    ) -> Result<bool, AllocError>
-        requires known { self.old.is_known ≡ true }
-        requires letter { letter ≢ 63 }
-        ensures { MatchResult result (λ goes. (earlier : List Assertion) (active : List Hypothesis) (labels : List Word) (letters : List ℕ)
-            → LettersAreCounted earlier active labels letters self.old → CountNumbers earlier active labels hypotheses arities.now
-            → (goes ≡ letters_go_on earlier active labels (letters ++ letter ∷ []))
-            × (goes ≡ true → LettersAreCounted earlier active labels (letters ++ letter ∷ []) self.new))
-            (λ _. IsFull self.new) }
-    {
-        let Some(turn) = take_letter(self.front, letter) else {
+        let Some(turn) = take_letter(self.front, byte) else {
             return Ok(false);
         };
         self.front = turn.front;
         match turn.said {
-            Some(code) => self.take_code(hypotheses, arities, code),
+            Some(code) => self.take_code(hypotheses, citations, code),
             None => Ok(true),
         }
     }
@@ -163,17 +144,18 @@ impl Entries {
     fn take_code(
         &mut self,
         hypotheses: usize,
-        arities: &[usize],
+        citations: &[Citation],
         code: Code,
     ) -> Result<bool, AllocError>
         ensures { MatchResult result (λ goes. (earlier : List Assertion) (active : List Hypothesis) (labels : List Word)
-            → CountNumbers earlier active labels hypotheses arities.now
+            → CountNumbers earlier active labels hypotheses citations.now
             → IsStep earlier active (step_of labels code) self.old self.new goes)
             (λ _. IsFull self.new) }
     {
         match code {
-            Code::Number(number) => self.take_number(hypotheses, arities, number),
+            Code::Number(number) => self.take_number(hypotheses, citations, number),
             Code::Mark => self.mark(),
+            Code::Unknown => self.put(0, false),
         }
     }
 
@@ -181,32 +163,45 @@ impl Entries {
     fn take_number(
         &mut self,
         hypotheses: usize,
-        arities: &[usize],
+        citations: &[Citation],
         number: u32,
     ) -> Result<bool, AllocError>
         ensures { MatchResult result (λ goes. (earlier : List Assertion) (active : List Hypothesis) (labels : List Word)
-            → CountNumbers earlier active labels hypotheses arities.now
+            → CountNumbers earlier active labels hypotheses citations.now
             → IsStep earlier active (step_of labels (Code.Number number)) self.old self.new goes)
             (λ _. IsFull self.new) }
     {
         let index = number.saturating_sub(1) as usize;
         if index < hypotheses {
-            return self.put(0);
+            return self.put_citation(Citation::Hypothesis);
         }
         let index = index - hypotheses;
-        if index < arities.len() {
-            return self.put(arities[index]);
+        if index < citations.len() {
+            return self.put_citation(citations[index]);
         }
-        if index - arities.len() < self.marked {
-            return self.put(0);
+        if index - citations.len() < self.marked {
+            return self.put(0, false);
         }
         Ok(false)
     }
 
-    /// One more entry in place of so many: whether they are there. Else nothing is changed.
-    fn put(&mut self, arity: usize) -> Result<bool, AllocError>
+    /// A label that names so.
+    fn put_citation(&mut self, citation: Citation) -> Result<bool, AllocError>
+        ensures { MatchResult result (λ goes. (earlier : List Assertion) (active : List Hypothesis) (w : Word)
+            → citation_of earlier active w ≡ Some citation → IsStep earlier active (names w) self.old self.new goes)
+            (λ _. IsFull self.new) }
+    {
+        match citation {
+            Citation::Hypothesis => self.put(0, false),
+            Citation::Assertion(hypotheses) => self.put(hypotheses, true),
+        }
+    }
+
+    /// One more entry in place of so many, which may be marked or may not: whether they are there. Else nothing is changed.
+    fn put(&mut self, arity: usize, is_markable: bool) -> Result<bool, AllocError>
         ensures { MatchResult result (λ goes. (goes ≡ nat_le arity self.old.entries)
-            × (self.new ≡ (if goes then record self.old { entries = suc (self.old.entries - arity) } else self.old)))
+            × (self.new ≡ (if goes then record self.old { entries = suc (self.old.entries - arity); is_markable = is_markable }
+            else self.old)))
             (λ _. IsFull self.new) }
     {
         if self.entries < arity {
@@ -215,19 +210,20 @@ impl Entries {
         match (self.entries - arity).checked_add(1) {
             Some(entries) => {
                 self.entries = entries;
+                self.is_markable = is_markable;
                 Ok(true)
             }
             None => Err(AllocError),
         }
     }
 
-    /// The last entry is marked: whether there is one. Else nothing is changed.
+    /// The last entry is marked: whether there is one, which may be. Else nothing is changed.
     fn mark(&mut self) -> Result<bool, AllocError>
         ensures { MatchResult result (λ goes. (earlier : List Assertion) (active : List Hypothesis)
             → IsStep earlier active marks self.old self.new goes)
             (λ _. IsFull self.new) }
     {
-        if self.entries == 0 {
+        if self.entries == 0 || !self.is_markable {
             return Ok(false);
         }
         match self.marked.checked_add(1) {
@@ -238,11 +234,4 @@ impl Entries {
             None => Err(AllocError),
         }
     }
-}
-
-/// Whether a byte is a letter of a compressed proof, or `?`.
-fn is_letter(byte: u8) -> bool
-    ensures { result ≡ is_letter byte }
-{
-    matches!(byte, b'A'..=b'Z' | b'?')
 }

@@ -2,6 +2,7 @@
 
 ghost use Rattle.source.specs.Proofs.{MadeAlike, SizesAreMade};
 ghost use Rattle.source.specs.Examples.{ScopesAreSpelled, ScopesAreRead, FaultsAreFound, ScopesDeclare, DummyPairIsKept, ClosedIsRefused, LettersCount, LettersFail, MarkDenotes, LabelsDenote, BrokenDenoteNone};
+ghost use Rattle.source.specs.Examples.{MarksStandThere, MarksStandNowhereElse, UnknownStepsAreThere, UnknownStepsAreOne};
 ghost use Rattle.source.specs.Laws.{SourceIsOne, SourceHasNoFault, FaultyIsNoSource, SourceOrFault, SourcesAreSaid};
 ghost use Rattle.source.specs.Whole.{SourcesAreWhole};
 
@@ -50,6 +51,26 @@ pub fn broken_denote_none()
     ensures { BrokenDenoteNone }
 {}
 
+/// Where marks stand.
+pub fn marks_stand_there()
+    ensures { MarksStandThere }
+{}
+
+/// Where they don't.
+pub fn marks_stand_nowhere_else()
+    ensures { MarksStandNowhereElse }
+{}
+
+/// Proofs with steps that aren't there.
+pub fn unknown_steps_are_there()
+    ensures { UnknownStepsAreThere }
+{}
+
+/// A step that isn't there is one entry, and no more.
+pub fn unknown_steps_are_one()
+    ensures { UnknownStepsAreOne }
+{}
+
 /// The table of tests reads the text.
 pub fn scopes_are_read()
     ensures { ScopesAreRead }
@@ -96,7 +117,7 @@ pub fn sources_are_said()
 {}
 
 /// What is so of each source: the mandatory hypotheses of an assertion are those of its frame; what a statement, a hypothesis or a finished
-/// proof names is declared; a finished proof denotes a tree; a label is that of one assertion or of one hypothesis.
+/// proof names is declared; each proof denotes a tree; a label is that of one assertion or of one hypothesis.
 pub fn sources_are_whole()
     ensures { SourcesAreWhole }
 {}

@@ -13,6 +13,8 @@ pub enum Code {
     Number(u32),
     /// `Z`: the subproof that ends here is marked.
     Mark,
+    /// `?`: a step that isn't there.
+    Unknown,
 }
 
 /// What a letter does behind others.
@@ -43,6 +45,10 @@ pub fn take_letter(front: u32, letter: u8) -> Option<Turn>
         }),
         b'Z' if front == 0 => Some(Turn {
             said: Some(Code::Mark),
+            front: 0,
+        }),
+        b'?' if front == 0 => Some(Turn {
+            said: Some(Code::Unknown),
             front: 0,
         }),
         _ => None,

@@ -8,6 +8,6 @@ mod letters;
 mod standing;
 
 pub use contents::{Declared, HypothesisWords};
-pub use entries::Entries;
+pub use entries::{Citation, Entries};
 pub use letters::{Code, Turn, read_letters, take_letter};
 pub use standing::{ProofWords, Standing};

@@ -1,17 +1,16 @@
 //! What stands at a place of a source, as its reader asks for it and changes it.
 
 ghost use Rattle.std.specs.Prelude.{◌≡◌, Bool, List, [], ◌∷◌, ◌++◌, length, None, Some, true, false, IfOk, if◌then◌else◌};
-ghost use Rattle.std.specs.Option.{option_map};
 ghost use Rattle.std.specs.Result.{result_err};
 ghost use Rattle.mmtext.specs.Words.{Word};
 ghost use Rattle.mmsyntax.specs.Rows.{first_fault};
 ghost use Rattle.source.specs.Statements.{float, hypothesis, distinct, asserted, proved};
 ghost use Rattle.source.specs.Scopes.{Stand, mandatory, declared, opened, closed};
-ghost use Rattle.source.specs.Proofs.{taken_by};
 ghost use Rattle.source.specs.Tests.{label_tests, constant_tests, variable_tests, type_tests, float_tests, distinct_tests, symbol_tests, named_tests, cited_tests, a_constant, a_variable, is_lawful};
-ghost use Rattle.source.specs.Counts.{mandatory_marks};
+ghost use Rattle.source.specs.Counts.{mandatory_marks, citation_of};
 ghost use Rattle.source.specs.Views.{seen_words, seen_proof};
 
+use crate::entries::Citation;
 use mmtext::FaultKind;
 use std::alloc::{AllocError, Global};
 
@@ -80,26 +79,26 @@ pub trait Standing<'a>: Drop {
         ensures { (e : List Word) → marks self.now ≡ mandatory_marks (stand self.now).scope e
             → result ≡ length (mandatory (stand self.now).scope.hypotheses e) };
 
-    /// How many entries a label takes in a proof.
+    /// What a label in a proof names.
     ///
     /// # Errors
     ///
     /// Its fault.
-    fn named(&self, word: &'a [u8]) -> Result<usize, FaultKind>
+    fn named(&self, word: &'a [u8]) -> Result<Citation, FaultKind>
         ensures fault { result_err result ≡ first_fault (named_tests (stand self.now).scope word.now) }
-        ensures takes { IfOk result (λ n.
-            option_map length (taken_by (stand self.now).scope.assertions (stand self.now).scope.hypotheses word.entry.now) ≡ Some n) };
+        ensures names { IfOk result (λ c.
+            citation_of (stand self.now).scope.assertions (stand self.now).scope.hypotheses word.entry.now ≡ Some c) };
 
-    /// How many entries a label in parentheses takes, in the proof of the expression for which mandatory hypotheses are marked.
+    /// What a label in parentheses names, in the proof of the expression for which mandatory hypotheses are marked.
     ///
     /// # Errors
     ///
     /// Its fault.
-    fn cited(&self, word: &'a [u8]) -> Result<usize, FaultKind>
+    fn cited(&self, word: &'a [u8]) -> Result<Citation, FaultKind>
         ensures fault { (e : List Word) → marks self.now ≡ mandatory_marks (stand self.now).scope e
             → result_err result ≡ first_fault (cited_tests (stand self.now).scope e word.now) }
-        ensures takes { IfOk result (λ n.
-            option_map length (taken_by (stand self.now).scope.assertions (stand self.now).scope.hypotheses word.entry.now) ≡ Some n) };
+        ensures names { IfOk result (λ c.
+            citation_of (stand self.now).scope.assertions (stand self.now).scope.hypotheses word.entry.now ≡ Some c) };
 
     /// One more constant.
     fn declare_constant(&mut self, alloc: Global, word: &'a [u8]) -> Result<(), AllocError>

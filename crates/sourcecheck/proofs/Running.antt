@@ -4,6 +4,8 @@ use Rattle.std.proofs.Common.{refl, sym, ap, ◌∙◌, append_assoc, append-nil
 use Rattle.std.specs.Prelude.{◌==◌, OnOk, IfErr, MatchResult, Option, Some, None, Result, Ok, Err, if◌then◌else◌}
 use Rattle.std.specs.Option.{option_or, option_and_then}
 use Rattle.std.specs.Cmp.Lexicographic.{pointwise}
+use Rattle.std.specs.List.{list_any}
+use Rattle.std.proofs.lemmas.Bool.{or_parts}
 use Rattle.std.proofs.lemmas.List.{map-append}
 use Rattle.std.proofs.lemmas.Bool.Decides.{Decides-eqb}
 use Rattle.std.proofs.lemmas.Slice.Eq.{slice_eq-Decides}
@@ -51,6 +53,12 @@ around (x ∷ xs) (suc i) d lt =
 pub mapped_around : {A B : Type 0} (f : A → B) (xs : List A) (i : ℕ) (d : A) → i < length xs
     → map f xs ≡ map f (take i xs) ++ f (get_or xs i d) ∷ map f (drop (i + 1) xs)
 mapped_around f xs i d lt = ap (map f) (around xs i d lt) ∙ map-append f (take i xs) (get_or xs i d ∷ drop (i + 1) xs)
+
+-- where a test finds none, it doesn't find the one at a place
+pub none_at : {A : Type 0} (p : A → Bool) (xs : List A) (k : ℕ) (d : A) → list_any p xs ≡ false → k < length xs → p (get_or xs k d) ≡ false
+none_at p [] k d none lt = absurd (omega arith)
+none_at p (x ∷ xs) zero d none lt = (or_parts (p x) (list_any p xs) none).0
+none_at p (x ∷ xs) (suc k) d none lt = none_at p xs k d (or_parts (p x) (list_any p xs) none).1 (omega arith)
 
 -- ---- counting
 

@@ -1,11 +1,11 @@
 //! What the steps of a proof count: the labels that its numbers mean, and its codes.
 
-ghost use Rattle.std.specs.Prelude.{◌≡◌, ◌+◌, ◌==◌, ◌++◌, List, map, None, IfOk, MatchOption};
+ghost use Rattle.std.specs.Prelude.{◌≡◌, ◌+◌, ◌==◌, ◌++◌, List, map, None, IfOk, MatchOption, if◌then◌else◌};
 ghost use Rattle.std.specs.List.{list_any, flat_map};
 ghost use Rattle.source.specs.Statements.{normal, compressed};
 ghost use Rattle.source.specs.Scopes.{Hypothesis, label_of, is_unknown};
-ghost use Rattle.source.specs.Proofs.{Step, step_of, steps_of, is_unfinished};
-ghost use Rattle.source.specs.Proofs as proofs;
+ghost use Rattle.source.specs.declared.letters.Code.TheVariants.{Number, Unknown};
+ghost use Rattle.source.specs.Proofs.{step_of_word, step_of, steps_of, is_unfinished};
 ghost use Rattle.source.specs.Views.{seen_words, seen_proof, seen_hypothesis, seen_hypotheses};
 ghost use Rattle.sourcecheck.specs.Counted.{IsCounted};
 
@@ -66,15 +66,26 @@ fn has_unknown_letter(words: &[&[u8]]) -> bool
     words.iter().any(|word| has_question_mark(word))
 }
 
-/// The codes that count each label of a list once, in order.
+/// The code of a word of a normal proof that has a number.
+fn code_of(word: &[u8], number: u32) -> Code
+    ensures { result ≡ (if is_unknown word.now then Unknown else Number number) }
+{
+    if is_unknown(word) {
+        Code::Unknown
+    } else {
+        Code::Number(number)
+    }
+}
+
+/// The codes that count each label of a list once, in order, where a `?` is a step that isn't there.
 fn count_words(alloc: Global, words: &[&[u8]]) -> Result<Sequence<Code>, AllocError>
-    ensures { IfOk result (λ codes. map (step_of (seen_words words.now)) codes ≡ map (λ w. proofs.names w) (seen_words words.now)) }
+    ensures { IfOk result (λ codes. map (step_of (seen_words words.now)) codes ≡ map step_of_word (seen_words words.now)) }
 {
     let mut codes = Vec::with_capacity(alloc, words.len())?;
     let mut number = 0;
-    for _word in words {
+    for word in words {
         number = next_number(number)?;
-        codes.push(Code::Number(number))?;
+        codes.push(code_of(word, number))?;
     }
     Ok(Sequence::from_vec(codes))
 }

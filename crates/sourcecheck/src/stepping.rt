@@ -1,8 +1,10 @@
 //! The steps of a proof, one after the other.
 
-ghost use Rattle.std.specs.Prelude.{◌≡◌, ◌<◌, ◌≤◌, ◌+◌, ◌-◌, ◌^◌, ◌∷◌, [], ℕ, All, List, filter, length, map, pred, MatchResult};
+ghost use Rattle.std.specs.Prelude.{◌≡◌, ◌<◌, ◌≤◌, ◌+◌, ◌-◌, ◌^◌, ◌∷◌, [], ℕ, All, List, false, filter, length, map, pred, MatchResult};
+ghost use Rattle.std.specs.List.{list_any};
 ghost use Rattle.mmtext.specs.Words.{Word};
 ghost use Rattle.source.specs.Scopes.{Assertion};
+ghost use Rattle.source.specs.Letters.{is_absent};
 ghost use Rattle.source.specs.Proofs.{marks, numbered, step_of};
 ghost use Rattle.source.specs.Proofs as proofs;
 ghost use Rattle.verifying.specs.Faults.{is_counted};
@@ -73,7 +75,7 @@ fn take_mark(stack: &mut Stack) -> Result<(), ProofFaultKind>
     }
 }
 
-/// A step.
+/// A step, if it is there: none of a finished proof is missing.
 fn take_code(
     frames: &[Frame],
     thesis: &Thesis,
@@ -83,7 +85,7 @@ fn take_code(
 ) -> Result<(), ProofFaultKind>
     requires { All (IsPlaced (length frames.now)) named.now }
     ensures { (name : ℕ → Word) (earlier : List Assertion) (x : Assertion) (labels : List Word)
-        → Stands name earlier x frames.now thesis.now → AreNamed name earlier x labels named.now
+        → Stands name earlier x frames.now thesis.now → AreNamed name earlier x labels named.now → is_absent code ≡ false
         → Leads name earlier x (step_of labels code) stack.old stack.new result }
 {
     match code {
@@ -92,6 +94,7 @@ fn take_code(
             take_number(frames, thesis, named, stack, number)
         }
         Code::Mark => take_mark(stack),
+        Code::Unknown => Err(ProofFaultKind::UnknownStep),
     }
 }
 
@@ -104,6 +107,7 @@ fn count(before: usize, code: Code) -> usize
     match code {
         Code::Number(_) => before + 1,
         Code::Mark => before,
+        Code::Unknown => before + 1,
     }
 }
 
@@ -120,7 +124,7 @@ fn check_end(stack: &Stack, statement: &[u32]) -> Result<(), ProofFaultKind>
     Err(ProofFaultKind::StatementDiffers)
 }
 
-/// Takes steps, and tells the first fault.
+/// Takes steps, all of which are there, and tells the first fault.
 pub(crate) fn take_codes(
     alloc: Global,
     frames: &[Frame],
@@ -132,7 +136,7 @@ pub(crate) fn take_codes(
     requires { All (IsPlaced (length frames.now)) named.now }
     ensures { (name : ℕ → Word) (earlier : List Assertion) (x : Assertion) (labels : List Word)
         → Stands name earlier x frames.now thesis.now → AreNamed name earlier x labels named.now → map name statement.now ≡ x.statement
-        → Tells earlier x (map (step_of labels) codes.now) result }
+        → list_any is_absent codes.now ≡ false → Tells earlier x (map (step_of labels) codes.now) result }
 {
     let mut stack = Stack::new(alloc);
     let mut step = 0;

@@ -1,8 +1,10 @@
 //! Checks one theorem of a source.
 
 ghost use Rattle.std.specs.Prelude.{◌≡◌, ◌<◌, ◌≤◌, false, length, map, OnOk, Some, slice_get, take};
+ghost use Rattle.std.specs.List.{list_any};
 ghost use Rattle.std.specs.Option.{option_map};
 ghost use Rattle.source.specs.Scopes.{Assertion};
+ghost use Rattle.source.specs.Letters.{is_absent};
 ghost use Rattle.source.specs.Proofs.{step_of, is_unfinished};
 ghost use Rattle.source.specs.Views.{seen_words, seen_proof};
 ghost use Rattle.source.specs.Whole.{IsWhole};
@@ -27,7 +29,7 @@ fn fault(kind: ProofFaultKind) -> ProofFault
     ProofFault { step: 0, kind }
 }
 
-/// Checks the steps of a proof of the assertion at a place, with this statement. After an error nothing is said of the table.
+/// Checks the steps of a finished proof of the assertion at a place, with this statement. After an error nothing is said of the table.
 fn check_counted<'a, D: Declared<'a>>(
     alloc: Global,
     table: &mut Table<'a>,
@@ -46,6 +48,7 @@ fn check_counted<'a, D: Declared<'a>>(
         ≡ Some (seen_words statement.now) }
     ensures keeps { OnOk result (Keeps table.old table.new) }
     ensures tells { (x : Assertion) → slice_get (D.scope declared.now).assertions place ≡ Some x
+        → list_any is_absent counted.entry.codes ≡ false
         → Tells (take place (D.scope declared.now).assertions) x (map (step_of (seen_words counted.entry.labels.items)) counted.entry.codes)
         result }
 {
@@ -72,7 +75,7 @@ fn check_counted<'a, D: Declared<'a>>(
     )
 }
 
-/// Checks a proof of the assertion at a place, with this statement. After an error nothing is said of the table.
+/// Checks a finished proof of the assertion at a place, with this statement. After an error nothing is said of the table.
 fn check_proof<'a, D: Declared<'a>>(
     alloc: Global,
     table: &mut Table<'a>,
@@ -91,6 +94,7 @@ fn check_proof<'a, D: Declared<'a>>(
         ≡ Some (seen_words statement.now) }
     ensures keeps { OnOk result (Keeps table.old table.new) }
     ensures tells { (x : Assertion) → slice_get (D.scope declared.now).assertions place ≡ Some x
+        → is_unfinished (seen_proof proof.now) ≡ false
         → TellsProof (take place (D.scope declared.now).assertions) x (seen_proof proof.now) result }
 {
     let Ok(mandatory) = declared.mandatory(alloc, place) else {

@@ -12,7 +12,7 @@ use Rattle.sourcereader.specs.declared.place.ProofPlace.{ProofPlace}
 use Rattle.sourcereader.specs.declared.place.ProofPlace.TheVariants as proof
 use Rattle.sourcereader.specs.declared.place.Numbered.{Numbered}
 use Rattle.sourcereader.specs.Views.{seen_place}
-use Rattle.source.specs.Counts.{CountsSteps, CountsLetters, HaveArities, mandatory_marks}
+use Rattle.source.specs.Counts.{CountsSteps, CountsLetters, HaveCitations, mandatory_marks}
 
 -- a new label, and symbols that passed
 abbrev pub has_begun : Scope → Word → List Word → Bool
@@ -46,7 +46,7 @@ HasPassed s p = has_passed s p ≡ true
 -- what is counted of what numbers count, in the proof of an expression
 pub record IsNumbered (s : Scope) (e : List Word) (n : Numbered) : Type 0 where
   pub hypotheses : n.hypotheses ≡ length (mandatory s.hypotheses e)
-  pub arities : HaveArities s.assertions s.hypotheses (seen_words n.labels.items) n.arities.items
+  pub citations : HaveCitations s.assertions s.hypotheses (seen_words n.labels.items) n.citations.items
 
 -- what is marked and counted in the proof of an expression
 abbrev pub IsCountedProof : Scope → List Bool → List Word → ProofPlace → Type 0

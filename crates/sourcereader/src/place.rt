@@ -1,7 +1,7 @@
 //! Places in a statement, as the reader keeps them.
 
 use mmtext::Token;
-use source::Entries;
+use source::{Citation, Entries};
 
 /// What was read of the statement that a token stands in. Its words are slices of the text.
 #[derive(Drop)]
@@ -57,6 +57,6 @@ pub(crate) struct Numbered<'a> {
     pub hypotheses: usize,
     /// The labels in parentheses.
     pub labels: Vec<&'a [u8]>,
-    /// How many entries each of these takes.
-    pub arities: Vec<usize>,
+    /// What each of these names.
+    pub citations: Vec<Citation>,
 }

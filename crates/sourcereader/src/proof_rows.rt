@@ -1,24 +1,22 @@
 //! Reading a proof: one function for each place in it.
 
-ghost use Rattle.std.specs.Prelude.{◌≡◌, List, [], ◌∷◌, ◌++◌, length, None, Some, Ok, true, false, IfOk};
-ghost use Rattle.std.specs.Option.{option_map};
+ghost use Rattle.std.specs.Prelude.{◌≡◌, List, [], ◌∷◌, ◌++◌, None, Some, Ok, true, false, IfOk};
 ghost use Rattle.std.specs.Result.{result_err};
 ghost use Rattle.mmtext.specs.Views.{seen};
 ghost use Rattle.mmtext.specs.Words.{Word};
 ghost use Rattle.mmsyntax.specs.Rows.{first_fault};
-ghost use Rattle.source.specs.Proofs.{taken_by};
 ghost use Rattle.source.specs.Tests.{cited_tests, step_tests, letter_tests, is_whole};
 ghost use Rattle.source.specs.Faults.{at_start, in_steps, in_labels, in_letters, tested, ends_proof, next_step};
 ghost use Rattle.source.specs.Faults.{proof_row, labels_row, letters_row};
 ghost use Rattle.source.specs.Views.{seen_words, seen_proof};
-ghost use Rattle.source.specs.Counts.{CountsSteps, mandatory_marks};
+ghost use Rattle.source.specs.Counts.{CountsSteps, mandatory_marks, citation_of};
 ghost use Rattle.sourcereader.specs.Standing.{HasPassed, IsCounted, IsCountedProof, is_stated};
 ghost use Rattle.sourcereader.specs.Views.{standing_at, seen_place, Leads};
 ghost use Rattle.sourcereader.specs.declared.place.ProofPlace.TheVariants.{InSteps, InLabels, InLetters};
 
 use crate::place::{Numbered, Place, ProofPlace, Theorem};
 use mmtext::{FaultKind, Mark, Stop, Token, fault_at};
-use source::{Entries, ProofWords, Standing};
+use source::{Citation, Entries, ProofWords, Standing};
 use std::alloc::{AllocError, Global};
 
 /// The fault of one more step of a normal proof, which is counted behind others.
@@ -32,21 +30,21 @@ fn step_fault<'a, S: Standing<'a>>(
         × (fault ≡ None → CountsSteps s (ws ++ word.entry.now ∷ []) entries.new)) }
 {
     if word == b"?".as_slice() {
-        entries.skip();
+        entries.take_unknown()?;
         return Ok(None);
     }
-    let arity = match standing.named(word) {
-        Ok(arity) => arity,
+    let citation = match standing.named(word) {
+        Ok(citation) => citation,
         Err(kind) => return Ok(Some(kind)),
     };
-    if entries.take(arity)? {
+    if entries.take(citation)? {
         Ok(None)
     } else {
         Ok(Some(FaultKind::BadToken))
     }
 }
 
-/// The end of a `$p`, whose proof denotes a tree or is unfinished, or neither.
+/// The end of a `$p`, whose proof denotes a tree or doesn't.
 fn end<'a, S: Standing<'a>>(
     alloc: Global,
     standing: &mut S,
@@ -103,7 +101,7 @@ fn open<'a, S: Standing<'a>>(alloc: Global, standing: &S, theorem: Theorem<'a>) 
     let numbered = Numbered {
         hypotheses,
         labels: Vec::new(alloc),
-        arities: Vec::new(alloc),
+        citations: Vec::new(alloc),
     };
     Place::InProof(theorem, ProofPlace::InLabels(numbered))
 }
@@ -146,16 +144,16 @@ pub(crate) fn steps<'a, S: Standing<'a>>(
     step(standing, theorem, steps, entries, token)
 }
 
-/// How many entries a label in parentheses takes, or its fault, in the proof of an expression for which mandatory hypotheses are marked.
+/// What a label in parentheses names, or its fault, in the proof of an expression for which mandatory hypotheses are marked.
 fn cited<'a, S: Standing<'a>>(
     standing: &S,
     _expression: &[&'a [u8]],
     word: &'a [u8],
-) -> Result<usize, FaultKind>
+) -> Result<Citation, FaultKind>
     requires { S.marks standing.now ≡ mandatory_marks (S.stand standing.now).scope (seen_words _expression.now) }
     ensures fault { result_err result ≡ first_fault (cited_tests (S.stand standing.now).scope (seen_words _expression.now) word.now) }
-    ensures takes { let s = (S.stand standing.now).scope in
-        IfOk result (λ n. option_map length (taken_by s.assertions s.hypotheses word.entry.now) ≡ Some n) }
+    ensures names { let s = (S.stand standing.now).scope in
+        IfOk result (λ c. citation_of s.assertions s.hypotheses word.entry.now ≡ Some c) }
 {
     standing.cited(word)
 }
@@ -179,12 +177,12 @@ pub(crate) fn labels<'a, S: Standing<'a>>(
         let place = ProofPlace::InLetters(numbered, Vec::new(alloc), Entries::new());
         return Ok(Place::InProof(theorem, place));
     }
-    let arity = match cited(standing, &theorem.expression, token.text) {
-        Ok(arity) => arity,
+    let citation = match cited(standing, &theorem.expression, token.text) {
+        Ok(citation) => citation,
         Err(kind) => return Err(fault_at(token, kind)),
     };
     numbered.labels.push(token.text)?;
-    numbered.arities.push(arity)?;
+    numbered.citations.push(citation)?;
     Ok(Place::InProof(theorem, ProofPlace::InLabels(numbered)))
 }
 
@@ -205,7 +203,7 @@ fn more_letters<'a, S: Standing<'a>>(
         (Ok (standing_at (S.stand standing.now) (in_letters theorem.entry.label.now e ws (ls ++ w ∷ []))))) }
     ensures counted { IfOk result (λ p. IsCounted (S.stand standing.now).scope (S.marks standing.now) p) }
 {
-    if !entries.take_letters(numbered.hypotheses, &numbered.arities, token.text)? {
+    if !entries.take_letters(numbered.hypotheses, &numbered.citations, token.text)? {
         return Err(fault_at(token, FaultKind::BadToken));
     }
     letters.push(token.text)?;

@@ -173,7 +173,7 @@ fn read_from<'a, S: Standing<'a>, P: KeepsPlace<'a>>(
 /// What stands behind a text in the whole language, where at first nothing is declared.
 ///
 /// Comments are passed over. What the text declares is put into `standing`, whose words are slices of the text; a `$p` is put there only
-/// where its proof denotes a tree or is unfinished. No proof is checked further than that.
+/// where its proof denotes a tree, in which a `?` is a leaf. No proof is checked further than that.
 ///
 /// # Errors
 ///
@@ -200,11 +200,12 @@ fn read_from<'a, S: Standing<'a>, P: KeepsPlace<'a>>(
 ///   `$f`.
 /// - In a proof, for a label, which may be that of an active hypothesis or of an earlier assertion: `BadToken` for a token with `$`, also a
 ///   `$.` with no step before it; `UnknownLabel` for one that nothing before has; `NotActive` for that of a hypothesis of a closed block.
-///   Where it is a step, `BadToken` if fewer entries are there than it takes, unless a `?` stands before it; in parentheses, `BadToken` for
-///   that of a mandatory hypothesis.
-/// - Behind parentheses: `BadToken` for a word with a byte other than `A` to `Z` and `?`, also a `$.` with no word before it, and for a
-///   word with a number or a `Z`, before the first `?`, that names nothing or takes what isn't there.
-/// - At the `$.` of a proof without `?`: `BadToken` where other than one entry is left, or a number is cut.
+///   Where it is a step, `BadToken` if fewer entries are there than it takes; a `?` takes none, and puts one as each step does. In
+///   parentheses, `BadToken` for that of a mandatory hypothesis.
+/// - Behind parentheses: `BadToken` for a word with a byte other than `A` to `Z` and `?`, also a `$.` with no word before it; for a word
+///   with a number that names nothing or takes what isn't there, with a `?` that cuts a number, and with a `Z` that stands elsewhere than
+///   right behind the number of an assertion or another `Z`.
+/// - At the `$.` of a proof: `BadToken` where other than one entry is left, or a number is cut.
 /// - `Unfinished` at the length of the text: it ends in a statement, in a block or in a comment.
 /// - `NoMemory`: memory ran out; its place is 0, whatever was read.
 pub fn read_source<'a, S: Standing<'a>>(

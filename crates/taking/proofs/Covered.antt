@@ -1,15 +1,15 @@
 -- The nodes of a proof name just the labels of the trees of the entries.
-use Rattle.std.proofs.Common.{◌≡◌, ◌<◌, ℕ, zero, suc, Bool, true, false, List, [], ◌∷◌, ◌++◌, length, refl, sym, ap, subst, ◌∙◌, inl, inr, take, drop}
+use Rattle.std.proofs.Common.{◌≡◌, ◌<◌, ℕ, zero, suc, Bool, true, false, List, [], ◌∷◌, ◌++◌, length, refl, sym, ap, ◌∙◌}
 use Rattle.std.proofs.Common.{append-nil}
 use Rattle.std.specs.Prelude.{◌||◌, Option, Some, None, slice_get, slice_index_or, filter_map}
 use Rattle.std.specs.List.{AllByRecursion, list_any, flat_map, cons_option}
 use Rattle.std.proofs.Math.Bool.{or-false}
-use Rattle.std.proofs.lemmas.Bool.{cases_Bool, or_left, or_right}
+use Rattle.std.proofs.lemmas.Bool.{or_left, or_right}
 use Rattle.std.proofs.lemmas.List.Folds.{list_any-append}
 use Rattle.std.proofs.lemmas.List.Elements.{filter_map-append}
 use Rattle.std.proofs.lemmas.Grind.{flat_map-append}
 use Rattle.mmtext.specs.Words.{Word}
-use Rattle.source.specs.Proofs.{Tree, Trees, node, over}
+use Rattle.source.specs.Proofs.{Tree, node, over}
 use Rattle.taking.specs.Nodes.{Shared, trees, values, values_behind}
 use Rattle.taking.specs.Reasons.{labels_of, labels_of_each}
 use Rattle.taking.specs.Decoding.{trees_at}

@@ -10,6 +10,7 @@ pub mod Turned
 pub mod Stacked
 pub mod Covered
 pub mod Codes
+pub mod Counting
 pub mod Loops
 pub mod Cited
 pub mod Found

@@ -1,9 +1,10 @@
--- In the tree of a proof each label stands over as many trees as it takes, and the listing of such a tree is as long as its size says.
+-- In the tree of a proof each label stands over as many trees as it takes, or is a ? that stands over none, and the listing of such a tree
+-- is as long as its size says.
 use Rattle.std.proofs.Common.{◌≡◌, ℕ, suc, ◌+◌, ◌≤◌, Bool, List, [], ◌∷◌, ◌++◌, length, map, refl, sym, ap, subst, ◌∙◌, inl, inr, arith}
-use Rattle.std.specs.Prelude.{Option, Some, None, slice_get, nat_lt, true, false, if◌then◌else◌}
+use Rattle.std.specs.Prelude.{Option, Some, None, slice_get, nat_lt, true, false, if◌then◌else◌, ◌⊎◌}
 use Rattle.std.specs.Option.{option_map, option_and_then}
-use Rattle.std.specs.List.{AllByRecursion, flat_map}
-use Rattle.std.proofs.lemmas.Bool.{cases_Bool, ltb-false, cond-true}
+use Rattle.std.specs.List.{AllByRecursion, flat_map, list_any}
+use Rattle.std.proofs.lemmas.Bool.{cases_Bool, ltb-false, cond-true, or_left, or_right}
 use Rattle.std.proofs.lemmas.List.{length-append, map-append}
 use Rattle.std.proofs.lemmas.Option.{same_Some, option_and_then_some}
 use Rattle.mmtext.specs.Words.{Word}
@@ -11,9 +12,10 @@ use Rattle.mmsyntax.specs.declared.statement.Step.{Step as Listed}
 use Rattle.mmsyntax.specs.declared.statement.Assertion.{Assertion as Unit'}
 use Rattle.source.specs.Statements.{Proof}
 use Rattle.source.specs.Scopes.{Hypothesis, typing, premise, Assertion}
-use Rattle.source.specs.Proofs.{Tree, Trees, node, none, some, over, Step, names, again, marks, steps_of, taken_by}
+use Rattle.source.specs.Proofs.{Tree, Trees, node, none, some, over, Step, names, again, marks, unknown, steps_of, taken_by}
 use Rattle.source.specs.Proofs.{Stack, empty, pop, put, cite}
 use Rattle.source.specs.Proofs.{repeat, mark, stepped, run_steps, only, single, denoted_by, denoted, size, sizes, total, is_unfinished}
+use Rattle.source.proofs.Finished.{is_absent_step, finished_steps}
 use Rattle.taking.specs.declared.reason.Reason.{Reason}
 use Rattle.taking.specs.declared.reason.Reason.TheVariants.{Unfinished, TooLong}
 use Rattle.taking.specs.Names.{Map}
@@ -26,22 +28,54 @@ use Rattle.mmsyntax.proofs.Distinct.{all_append}
 use Rattle.taking.proofs.Listed.{all_at}
 use Rattle.taking.proofs.Picked.{total_append}
 
+-- each label stands over as many trees as it takes, or, where that may be, over none
+abbrev mutual
+  Stands : Type 0 → List Assertion → List Hypothesis → Tree → Type 0
+  Stands P earlier active (node w trees) =
+      ((option_map length (taken_by earlier active w) ≡ Some (how_many trees)) ⊎ (P × (how_many trees ≡ 0)))
+      × AllStand P earlier active trees
+
+  AllStand : Type 0 → List Assertion → List Hypothesis → Trees → Type 0
+  AllStand P earlier active none = Unit {0}
+  AllStand P earlier active (some t ts) = Stands P earlier active t × AllStand P earlier active ts
+
+mutual
+  enough_stands : (earlier : List Assertion) (active : List Hypothesis) (t : Tree) → TakesEnough earlier active t
+      → Stands (Unit {0}) earlier active t
+  enough_stands earlier active (node w trees) h = (inl h.0, enough_stand earlier active trees h.1)
+
+  enough_stand : (earlier : List Assertion) (active : List Hypothesis) (ts : Trees) → TakeEnough earlier active ts
+      → AllStand (Unit {0}) earlier active ts
+  enough_stand earlier active none h = tt
+  enough_stand earlier active (some t ts) h = (enough_stands earlier active t h.0, enough_stand earlier active ts h.1)
+
+mutual
+  stands_enough : (earlier : List Assertion) (active : List Hypothesis) (t : Tree) → Stands ⊥ earlier active t
+      → TakesEnough earlier active t
+  stands_enough earlier active (node w trees) h =
+      (elim h.0 [ inl takes ↦ takes | inr other ↦ absurd other.0 ], stand_enough earlier active trees h.1)
+
+  stand_enough : (earlier : List Assertion) (active : List Hypothesis) (ts : Trees) → AllStand ⊥ earlier active ts
+      → TakeEnough earlier active ts
+  stand_enough earlier active none h = tt
+  stand_enough earlier active (some t ts) h = (stands_enough earlier active t h.0, stand_enough earlier active ts h.1)
+
 -- ---- proofs denote such trees
 
-module _ (earlier : List Assertion) (active : List Hypothesis) where
+module _ (P : Type 0) (earlier : List Assertion) (active : List Hypothesis) where
   abbrev make : Word → List Tree → Tree
   make w ts = node w (over ts)
 
   abbrev Sound : Stack Tree → Type 0
-  Sound s = AllByRecursion (TakesEnough earlier active) s.entries × AllByRecursion (TakesEnough earlier active) s.marked
+  Sound s = AllByRecursion (Stands P earlier active) s.entries × AllByRecursion (Stands P earlier active) s.marked
 
   popped : (hs : List Hypothesis) (xs off : List Tree) (p : List Tree × List Tree) → pop hs xs off ≡ Some p
-      → AllByRecursion (TakesEnough earlier active) xs → AllByRecursion (TakesEnough earlier active) off
-      → AllByRecursion (TakesEnough earlier active) p.0 × AllByRecursion (TakesEnough earlier active) p.1
+      → AllByRecursion (Stands P earlier active) xs → AllByRecursion (Stands P earlier active) off
+      → AllByRecursion (Stands P earlier active) p.0 × AllByRecursion (Stands P earlier active) p.1
       × (length p.0 ≡ length hs + length off)
   popped [] xs off p e a b =
       let same : ◌≡◌ {A = List Tree × List Tree} (off, xs) p = same_Some _ _ e in
-      subst (λ q. AllByRecursion (TakesEnough earlier active) q.0 × AllByRecursion (TakesEnough earlier active) q.1
+      subst (λ q. AllByRecursion (Stands P earlier active) q.0 × AllByRecursion (Stands P earlier active) q.1
       × (length q.0 ≡ 0 + length off))
       same (b, a, omega arith)
   popped (h ∷ hs) [] off p e a b = absurd cc
@@ -53,9 +87,9 @@ module _ (earlier : List Assertion) (active : List Hypothesis) where
   over_many [] = refl
   over_many (t ∷ ts) = ap suc (over_many ts)
 
-  over_enough : (ts : List Tree) → AllByRecursion (TakesEnough earlier active) ts → TakeEnough earlier active (over ts)
-  over_enough [] a = tt
-  over_enough (t ∷ ts) a = (a.0, over_enough ts a.1)
+  over_stand : (ts : List Tree) → AllByRecursion (Stands P earlier active) ts → AllStand P earlier active (over ts)
+  over_stand [] a = tt
+  over_stand (t ∷ ts) a = (a.0, over_stand ts a.1)
 
   putted : (w : Word) (hs : List Hypothesis) (s s' : Stack Tree) (q : Option (List Tree × List Tree)) → pop hs s.entries [] ≡ q
       → Some hs ≡ taken_by earlier active w → put make w s.marked q ≡ Some s' → Sound s → Sound s'
@@ -64,7 +98,7 @@ module _ (earlier : List Assertion) (active : List Hypothesis) where
       let rest = popped hs s.entries [] p q-is a.0 tt in
       let many : length hs ≡ how_many (over p.0) = omega (arith, rest.2, over_many p.0) in
       subst Sound (same_Some _ _ e)
-      (((ap (option_map length) (sym is) ∙ ap (λ n. Some n) many, over_enough p.0 rest.0), rest.1), a.1)
+      (((inl (ap (option_map length) (sym is) ∙ ap (λ n. Some n) many), over_stand p.0 rest.0), rest.1), a.1)
 
   cited : (w : Word) (s s' : Stack Tree) (o : Option (List Hypothesis)) → o ≡ taken_by earlier active w → cite make w s o ≡ Some s'
       → Sound s → Sound s'
@@ -74,44 +108,69 @@ module _ (earlier : List Assertion) (active : List Hypothesis) where
   repeated : (s s' : Stack Tree) (n : ℕ) (o : Option Tree) → slice_get s.marked n ≡ o → repeat s o ≡ Some s' → Sound s → Sound s'
   repeated s s' n None is e a = absurd cc
   repeated s s' n (Some x) is e a =
-      subst Sound (same_Some _ _ e) ((all_at (TakesEnough earlier active) s.marked n x a.1 is, a.0), a.1)
+      subst Sound (same_Some _ _ e) ((all_at (Stands P earlier active) s.marked n x a.1 is, a.0), a.1)
 
-  marked : (xs ms : List Tree) (s' : Stack Tree) → mark xs ms ≡ Some s' → AllByRecursion (TakesEnough earlier active) xs
-      → AllByRecursion (TakesEnough earlier active) ms → Sound s'
+  marked : (xs ms : List Tree) (s' : Stack Tree) → mark xs ms ≡ Some s' → AllByRecursion (Stands P earlier active) xs
+      → AllByRecursion (Stands P earlier active) ms → Sound s'
   marked [] ms s' e a b = absurd cc
   marked (x ∷ xs) ms s' e a b =
-      subst Sound (same_Some _ _ e) (a, all_append (TakesEnough earlier active) ms (x ∷ []) b (a.0, tt))
+      subst Sound (same_Some _ _ e) (a, all_append (Stands P earlier active) ms (x ∷ []) b (a.0, tt))
 
-  one : (s s' : Stack Tree) (x : Step) → stepped make earlier active s x ≡ Some s' → Sound s → Sound s'
-  one s s' (names w) e a = cited w s s' (taken_by earlier active w) refl e a
-  one s s' (again n) e a = repeated s s' n (slice_get s.marked n) refl e a
-  one s s' marks e a = marked s.entries s.marked s' e a.0 a.1
+  one : (s s' : Stack Tree) (x : Step) → (is_absent_step x ≡ true → P) → stepped make earlier active s x ≡ Some s' → Sound s → Sound s'
+  one s s' (names w) p e a = cited w s s' (taken_by earlier active w) refl e a
+  one s s' (again n) p e a = repeated s s' n (slice_get s.marked n) refl e a
+  one s s' marks p e a = marked s.entries s.marked s' e a.0 a.1
+  one s s' unknown p e a = subst Sound (same_Some _ _ e) (((inr (p refl, refl), tt), a.0), a.1)
 
-  all : (o : Option (Stack Tree)) (xs : List Step) (s' : Stack Tree) → run_steps make earlier active o xs ≡ Some s'
-      → ((s : Stack Tree) → o ≡ Some s → Sound s) → Sound s'
-  all o [] s' e a = a s' e
-  all None (x ∷ xs) s' e a = absurd cc
-  all (Some s) (x ∷ xs) s' e a = all (stepped make earlier active s x) xs s' e (λ s2 e2. one s s2 x e2 (a s refl))
+  all : (o : Option (Stack Tree)) (xs : List Step) (s' : Stack Tree) → (list_any is_absent_step xs ≡ true → P)
+      → run_steps make earlier active o xs ≡ Some s' → ((s : Stack Tree) → o ≡ Some s → Sound s) → Sound s'
+  all o [] s' p e a = a s' e
+  all None (x ∷ xs) s' p e a = absurd cc
+  all (Some s) (x ∷ xs) s' p e a =
+      all (stepped make earlier active s x) xs s' (λ h. p (or_right (is_absent_step x) (list_any is_absent_step xs) h)) e
+      (λ s2 e2. one s s2 x (λ h. p (or_left (is_absent_step x) (list_any is_absent_step xs) h)) e2 (a s refl))
 
-  only_one : (xs : List Tree) (t : Tree) → only xs ≡ Some t → AllByRecursion (TakesEnough earlier active) xs → TakesEnough earlier active t
+  only_one : (xs : List Tree) (t : Tree) → only xs ≡ Some t → AllByRecursion (Stands P earlier active) xs → Stands P earlier active t
   only_one [] t e a = absurd cc
-  only_one (x ∷ []) t e a = subst (TakesEnough earlier active) (same_Some x t e) a.0
+  only_one (x ∷ []) t e a = subst (Stands P earlier active) (same_Some x t e) a.0
   only_one (x ∷ y ∷ xs) t e a = absurd cc
 
-  lone : (o : Option (Stack Tree)) (t : Tree) → single o ≡ Some t → ((s : Stack Tree) → o ≡ Some s → Sound s) → TakesEnough earlier active t
+  lone : (o : Option (Stack Tree)) (t : Tree) → single o ≡ Some t → ((s : Stack Tree) → o ≡ Some s → Sound s) → Stands P earlier active t
   lone None t e a = absurd cc
   lone (Some s) t e a = only_one s.entries t e (a s refl).0
 
-  made_enough : (steps : List Step) (t : Tree) → denoted_by earlier active steps ≡ Some t → TakesEnough earlier active t
-  made_enough steps t e =
+  made_stands : (steps : List Step) (t : Tree) → (list_any is_absent_step steps ≡ true → P) → denoted_by earlier active steps ≡ Some t
+      → Stands P earlier active t
+  made_stands steps t p e =
       lone (run_steps make earlier active (Some empty) steps) t e
-      (λ s is. all (Some empty) steps s is (λ s2 e2. subst Sound (same_Some _ _ e2) (tt, tt)))
+      (λ s is. all (Some empty) steps s p is (λ s2 e2. subst Sound (same_Some _ _ e2) (tt, tt)))
 
-pub denoted_enough : (earlier : List Assertion) (x : Assertion) (t : Tree) → denoted earlier x ≡ Some t → TakesEnough earlier x.active t
-denoted_enough earlier x t e =
+-- what is so of the trees of steps is so of the tree of a proof
+of_denoted : (earlier : List Assertion) (x : Assertion) (t : Tree) (P : Tree → Type 0)
+    → ((proof : Proof) → x.proof ≡ Some proof → (steps : List Step) → steps_of x.hypotheses proof ≡ Some steps
+    → denoted_by earlier x.active steps ≡ Some t → P t)
+    → denoted earlier x ≡ Some t → P t
+of_denoted earlier x t P h e =
     option_and_then_some (λ (proof : Proof). option_and_then (denoted_by earlier x.active) (steps_of x.hypotheses proof)) x.proof t e
     (λ proof is says. option_and_then_some (denoted_by earlier x.active) (steps_of x.hypotheses proof) t says
-    (λ steps are denotes. made_enough earlier x.active steps t denotes))
+    (λ steps are denotes. h proof is steps are denotes))
+
+denoted_stands : (earlier : List Assertion) (x : Assertion) (t : Tree) → denoted earlier x ≡ Some t
+    → Stands (Unit {0}) earlier x.active t
+denoted_stands earlier x t e =
+    of_denoted earlier x t (Stands (Unit {0}) earlier x.active)
+    (λ proof is steps are denotes. made_stands (Unit {0}) earlier x.active steps t (λ h. tt) denotes) e
+
+-- in the tree of a finished proof each label stands over as many trees as it takes
+pub denoted_enough : (earlier : List Assertion) (x : Assertion) (proof : Proof) (t : Tree) → x.proof ≡ Some proof
+    → is_unfinished proof ≡ false → denoted earlier x ≡ Some t → TakesEnough earlier x.active t
+denoted_enough earlier x proof t is finished e =
+    stands_enough earlier x.active t
+    (of_denoted earlier x t (Stands ⊥ earlier x.active)
+    (λ own own-is steps are denotes.
+    let same : proof ≡ own = same_Some proof own (sym is ∙ own-is) in
+    let none = finished_steps x.hypotheses own steps (sym (ap is_unfinished same) ∙ finished) are in
+    made_stands ⊥ earlier x.active steps t (λ h. absurd cc) denotes) e)
 
 -- ---- lengths
 
@@ -128,20 +187,32 @@ arranged_long (premise label ws ∷ hs) [] e = absurd (omega arith)
 arranged_long (typing label c v ∷ hs) (x ∷ xs) e = omega (arith, arranged_long hs xs (omega arith))
 arranged_long (premise label ws ∷ hs) (x ∷ xs) e = omega (arith, arranged_long hs xs (omega arith))
 
+-- of none
+arranged_none : {A : Type 0} (hs : List Hypothesis) (xs : List (List A)) → length xs ≡ 0
+    → total (map (λ x. length x) (at_floats hs xs)) + total (map (λ x. length x) (at_premises hs xs)) ≡ total (map (λ x. length x) xs)
+arranged_none [] [] e = omega arith
+arranged_none (typing label c v ∷ hs) [] e = omega arith
+arranged_none (premise label ws ∷ hs) [] e = omega arith
+arranged_none hs (x ∷ xs) e = absurd (omega arith)
+
 joined_long : (o : Option (List Hypothesis)) (ps : Option (List (List Listed))) (own : Option Listed) (steps : List Listed) (n k : ℕ)
-    → joined o ps own ≡ Some steps → option_map length o ≡ Some n
+    → joined o ps own ≡ Some steps → (option_map length o ≡ Some n) ⊎ (n ≡ 0)
     → ((parts : List (List Listed)) → ps ≡ Some parts → (length parts ≡ n) × (total (map (λ x. length x) parts) ≡ k)) → length steps ≡ suc k
 joined_long None ps own steps n k e a l = absurd cc
 joined_long (Some hs) None own steps n k e a l = absurd cc
 joined_long (Some hs) (Some parts) None steps n k e a l = absurd cc
 joined_long (Some hs) (Some parts) (Some own) steps n k e a l =
     let both = l parts refl in
-    let same : length hs ≡ n = cc in
     let arranged = in_profile_order hs parts in
     let flat = length_flat arranged in
     let sum = ap total (map-append (λ (x : List Listed). length x) (at_floats hs parts) (at_premises hs parts))
     ∙ total_append (map (λ x. length x) (at_floats hs parts)) (map (λ x. length x) (at_premises hs parts)) in
-    let more = arranged_long hs parts (omega (arith, both.0)) in
+    let more : total (map (λ x. length x) (at_floats hs parts)) + total (map (λ x. length x) (at_premises hs parts))
+    ≡ total (map (λ x. length x) parts) =
+    elim a [
+      | inl takes ↦ arranged_long hs parts (let same : length hs ≡ n = cc in omega (arith, both.0))
+      | inr few ↦ arranged_none hs parts (both.0 ∙ few)
+    ] in
     let steps-are : flat_map (λ x. x) arranged ++ own ∷ [] ≡ steps = same_Some _ _ e in
     omega (arith, ap length steps-are, length-append (flat_map (λ x. x) arranged) (own ∷ []), flat, sum, more, both.1)
 
@@ -158,26 +229,36 @@ both_long (Some x) (Some xs) parts n k j e a b =
     (omega (arith, rest.0), omega (arith, one, rest.1))
 
 module _ (m : Map) (earlier : List Assertion) (active : List Hypothesis) where
+  either : (w : Word) (n : ℕ) → (option_map length (taken_by earlier active w) ≡ Some n) ⊎ (Unit {0} × (n ≡ 0))
+      → (option_map length (taken_by earlier active w) ≡ Some n) ⊎ (n ≡ 0)
+  either w n (inl takes) = inl takes
+  either w n (inr other) = inr other.1
+
   mutual
-    pub listing_long : (t : Tree) (steps : List Listed) → TakesEnough earlier active t → listing m earlier active t ≡ Some steps
+    stands_long : (t : Tree) (steps : List Listed) → Stands (Unit {0}) earlier active t → listing m earlier active t ≡ Some steps
         → length steps ≡ size t
-    listing_long (node w trees) steps h e =
+    stands_long (node w trees) steps h e =
         joined_long (taken_by earlier active w) (listings m earlier active trees) (step_in m active w) steps
-        (how_many trees) (sizes trees) e h.0
+        (how_many trees) (sizes trees) e (either w (how_many trees) h.0)
         (λ parts is. listings_long trees parts h.1 is)
 
-    listings_long : (ts : Trees) (parts : List (List Listed)) → TakeEnough earlier active ts → listings m earlier active ts ≡ Some parts
+    listings_long : (ts : Trees) (parts : List (List Listed)) → AllStand (Unit {0}) earlier active ts
+        → listings m earlier active ts ≡ Some parts
         → (length parts ≡ how_many ts) × (total (map (λ x. length x) parts) ≡ sizes ts)
     listings_long none parts h e =
         subst (λ ps. (length ps ≡ 0) × (total (map (λ (x : List Listed). length x) ps) ≡ 0)) (same_Some _ _ e) (refl, refl)
     listings_long (some t ts) parts h e =
         both_long (listing m earlier active t) (listings m earlier active ts) parts (how_many ts) (sizes ts) (size t) e
-        (λ x is. listing_long t x h.0 is) (λ xs is. listings_long ts xs h.1 is)
+        (λ x is. stands_long t x h.0 is) (λ xs is. listings_long ts xs h.1 is)
+
+  pub listing_long : (t : Tree) (steps : List Listed) → TakesEnough earlier active t → listing m earlier active t ≡ Some steps
+      → length steps ≡ size t
+  listing_long t steps h e = stands_long t steps (enough_stands earlier active t h) e
 
 pub proof_long : (m : Map) (earlier : List Assertion) (x : Assertion) (a : Unit') (listed : IsListed m earlier x a)
     → length a.proof ≡ size listed.tree
 proof_long m earlier x a listed =
-    listing_long m earlier x.active listed.tree a.proof (denoted_enough earlier x listed.tree listed.denotes) listed.lists
+    stands_long m earlier x.active listed.tree a.proof (denoted_stands earlier x listed.tree listed.denotes) listed.lists
 
 -- ---- what is taken
 

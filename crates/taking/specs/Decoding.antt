@@ -1,8 +1,9 @@
 -- While a proof is decoded: for which stack of trees the code's stack of places stands.
-use Rattle.std.specs.Prelude.{◌≡◌, ℕ, Bool, List, [], length, reverse, All, filter_map, slice_get, slice_index_or, Option, Some}
+use Rattle.std.specs.Prelude.{◌≡◌, ℕ, Bool, true, false, List, [], length, reverse, All, filter_map, slice_get, slice_index_or, Option, Some}
 use Rattle.std.specs.Prelude.{None, if◌then◌else◌}
 use Rattle.mmtext.specs.Words.{Word}
 use Rattle.source.specs.declared.letters.Code.{Code}
+use Rattle.source.specs.Letters.{is_absent}
 use Rattle.source.specs.Proofs.{Tree, node, over, Stack, step_of, stepped, taken_by, cite, repeat, mark, only}
 use Rattle.taking.specs.declared.decoded.DecodedProof.{DecodedProof}
 use Rattle.taking.specs.Decoded.{tree_of}
@@ -66,12 +67,12 @@ IsMarked old new there =
     (labels : List Word) → mark (stack_of labels old).entries (stack_of labels old).marked
     ≡ (if there then Some (stack_of labels new) else None)
 
--- a code does its step
-abbrev pub IsTaken : List Named → Code → Decoder → Decoder → Bool → Type 0
-IsTaken named code old new there =
-    (s : Setting) → AreNamed s named
-    → stepped grown s.earlier s.active (stack_of s.labels old) (step_of s.labels code)
-    ≡ (if there then Some (stack_of s.labels new) else None)
+-- a code does its step, if that is there
+pub record IsTaken (named : List Named) (code : Code) (old new : Decoder) (there : Bool) : Type 0 where
+  pub known : there ≡ true → is_absent code ≡ false
+  pub steps : is_absent code ≡ false → (s : Setting) → AreNamed s named
+      → stepped grown s.earlier s.active (stack_of s.labels old) (step_of s.labels code)
+      ≡ (if there then Some (stack_of s.labels new) else None)
 
 -- the tree that is left alone
 abbrev pub IsLeft : Decoder → Option DecodedProof → Type 0

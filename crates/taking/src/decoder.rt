@@ -80,7 +80,7 @@ impl Decoder {
         Ok(true)
     }
 
-    /// What a code does: whether what it takes is there. After an error nothing is said of the stack.
+    /// What a code does: whether what it takes is there, and the step itself is. After an error nothing is said of the stack.
     fn take(&mut self, named: &[Named], code: Code) -> Result<bool, AllocError>
         requires { StandsOn named.now self.old }
         ensures stands { IfOk result (λ there. there ≡ true → StandsOn named.now self.new) }
@@ -96,6 +96,7 @@ impl Decoder {
                 }
             }
             Code::Mark => self.mark(named),
+            Code::Unknown => Ok(false),
         }
     }
 
@@ -118,7 +119,7 @@ impl Decoder {
 }
 
 /// Decodes a proof: its codes count the labels that name what is named, from 1, and then the marked subproofs. Nothing where they denote no
-/// proof.
+/// proof, or a step isn't there.
 ///
 /// A marked subproof is made once: it takes as many nodes as there are numbers.
 pub fn decode(

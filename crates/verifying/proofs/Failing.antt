@@ -1,7 +1,7 @@
 -- An entry that failed stays on the stack, in it or in what is made of it: so a proof that derives its statement has no fault, and the
 -- other way round.
 use Rattle.std.proofs.Common.{◌≡◌, Bool, true, false, ◌||◌, List, [], ◌∷◌, ◌++◌, refl, sym, ap, subst, ◌∙◌, append_assoc, append-nil, inl, inr}
-use Rattle.std.specs.Prelude.{find, is_err, slice_get, Option, Some, None, Ok, Err, is_some, if◌then◌else◌}
+use Rattle.std.specs.Prelude.{codes, find, is_err, slice_get, Option, Some, None, Ok, Err, is_some, if◌then◌else◌}
 use Rattle.std.specs.Option.{option_map, option_or, option_and_then}
 use Rattle.std.specs.List.{list_any}
 use Rattle.std.specs.Str.{bytes_eq}
@@ -13,7 +13,7 @@ use Rattle.derivation.specs.declared.fault.ProofFault.{ProofFault}
 use Rattle.derivation.specs.declared.fault.ProofFaultKind.{ProofFaultKind}
 use Rattle.derivation.specs.declared.fault.ProofFaultKind.TheVariants.{StatementDiffers}
 use Rattle.source.specs.Scopes.{Hypothesis, label_of, Assertion}
-use Rattle.source.specs.Proofs.{Step, names, again, marks, taken_by, Stack, empty, pop, put, cite, repeat, mark, stepped, run_steps, only, single, made}
+use Rattle.source.specs.Proofs.{Step, names, again, marks, unknown, taken_by, Stack, empty, pop, put, cite, repeat, mark, stepped, run_steps, only, single, made}
 use Rattle.verifying.specs.Citations.{Expression, same_expression}
 use Rattle.verifying.specs.Verifies.{Entry, before, all_of, made_of, named, entry}
 use Rattle.verifying.specs.Faults.{last_failure, failure_behind}
@@ -104,9 +104,12 @@ module _ (earlier : List Assertion) (x : Assertion) where
 
   step_failed : (s t : Stack Entry) (step : Step) → failed s.entries ≡ true
       → stepped (entry earlier x) earlier x.active s step ≡ Some t → failed t.entries ≡ true
+  unfolding failed
   step_failed s t (names w) h e = names_failed w s t h e
   step_failed s t (again n) h e = again_failed s t (slice_get s.marked n) h e
   step_failed s t marks h e = mark_failed s.entries s.marked t h e
+  step_failed s t unknown h e =
+      subst (λ s. failed s.entries ≡ true) (same_Some _ t e) (or_true (is_err (entry earlier x (codes "?") [])) (failed s.entries) h)
 
   run : Option (Stack Entry) → List Step → Option (Stack Entry)
   run s steps = run_steps (entry earlier x) earlier x.active s steps

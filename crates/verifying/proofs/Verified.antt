@@ -11,6 +11,7 @@ use Rattle.verifying.specs.Citations.{Expression}
 use Rattle.verifying.specs.Verifies.{before, all_of, made_of, named, entry, AreVerified}
 use Rattle.verifying.specs.Laws.{value, values, TreesAreDerived, FinishedAreDerived, HypothesesArePut, CitationsArePut, PartsVerify}
 use Rattle.source.proofs.Alike.{made_alike}
+use Rattle.source.proofs.Finished.{made_there}
 
 each_value : (earlier : List Assertion) (x : Assertion) (ts : List Tree) → values earlier x (over ts) ≡ map (value earlier x) ts
 each_value earlier x [] = refl
@@ -46,9 +47,7 @@ there_made earlier x (Some steps) =
 
 pub finished_are_derived : FinishedAreDerived
 finished_are_derived earlier x proof finished h =
-    let steps = steps_of x.hypotheses proof in
-    sym (there_made earlier x steps)
-    ∙ sym (ap (λ b. b || is_some (option_and_then (made there earlier x.active) steps)) finished) ∙ h
+    sym (there_made earlier x (steps_of x.hypotheses proof)) ∙ made_there earlier x.active x.hypotheses proof h
 
 -- ---- parts
 

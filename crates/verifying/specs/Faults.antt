@@ -1,21 +1,22 @@
 -- The first fault of the proofs of a source that doesn't verify: the first theorem in its order, and the first step at fault in its own
 -- proof.
-use Rattle.std.specs.Prelude.{ℕ, Bool, true, false, List, [], ◌∷◌, ◌++◌, filter, length, if◌then◌else◌, Option, Some, None, Ok, Err}
+use Rattle.std.specs.Prelude.{Bool, true, false, List, [], ◌∷◌, ◌++◌, filter, length, if◌then◌else◌, Option, Some, None, Ok, Err}
 use Rattle.std.specs.Option.{option_map, option_or, option_and_then}
 use Rattle.mmtext.specs.Words.{Word}
 use Rattle.derivation.specs.declared.fault.ProofFault.{ProofFault}
 use Rattle.derivation.specs.declared.fault.ProofFaultKind.{ProofFaultKind}
 use Rattle.derivation.specs.declared.fault.ProofFaultKind.TheVariants.{StatementDiffers}
 use Rattle.source.specs.Scopes.{Assertion, Scope}
-use Rattle.source.specs.Proofs.{Step, names, again, marks, steps_of, empty, run_steps, made, is_unfinished}
+use Rattle.source.specs.Proofs.{Step, names, again, marks, unknown, steps_of, empty, run_steps, made, is_unfinished}
 use Rattle.verifying.specs.Citations.{same_expression}
 use Rattle.verifying.specs.Verifies.{Entry, entry}
 
--- labels and numbers are counted as they are written, and a mark counts for none
+-- labels, numbers and ? are counted as they are written, and a mark counts for none
 abbrev pub is_counted : Step → Bool
 is_counted (names w) = true
 is_counted (again n) = true
 is_counted marks = false
+is_counted unknown = true
 
 -- behind a front of the steps: a fault of the last that is counted
 abbrev pub at_end : List Step → Option ProofFaultKind → Option ProofFault
@@ -42,7 +43,7 @@ fault_from earlier x front (step ∷ steps) =
     option_or (at_end (front ++ step ∷ []) (failure_behind earlier x (front ++ step ∷ []))) (
     fault_from earlier x (front ++ step ∷ []) steps)
 
--- the fault of an assertion after the earlier ones. That a finished proof denotes no tree is a fault of the text
+-- the fault of an assertion after the earlier ones. That a proof denotes no tree is a fault of the text
 abbrev pub fault_of : List Assertion → Assertion → Option ProofFault
 fault_of earlier x =
     option_and_then (λ proof.

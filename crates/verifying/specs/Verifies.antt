@@ -53,7 +53,7 @@ entry earlier x w entries =
 
 -- ---- when a source verifies
 
--- what a proof of x derives after the earlier assertions; none where it denotes no tree
+-- what a proof of x derives after the earlier assertions; none where it denotes no tree. A ? names nothing, and so fails
 abbrev pub derived : List Assertion → Assertion → Proof → Option Entry
 derived earlier x proof = option_and_then (made (entry earlier x) earlier x.active) (steps_of x.hypotheses proof)
 

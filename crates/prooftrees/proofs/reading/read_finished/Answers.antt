@@ -4,7 +4,7 @@ use Rattle.std.specs.Prelude.{All, MatchOption}
 use Rattle.mmtext.specs.Words.{Word}
 use Rattle.source.specs.Statements.{Proof}
 use Rattle.source.specs.Scopes.{Hypothesis}
-use Rattle.source.specs.Proofs.{steps_of}
+use Rattle.source.specs.Proofs.{steps_of, is_unfinished}
 use Rattle.source.specs.Views.{seen_proof, seen_hypotheses}
 use Rattle.prooftrees.specs.declared.counting.Counted.{Counted}
 use Rattle.prooftrees.specs.Counted.{IsCounted, counted_labels}
@@ -37,11 +37,17 @@ tree_of-requires g c =
                   subst (λ (p : Proof). IsCounted x.hypotheses p made) same
                   (subst (λ (ks : List Hypothesis). IsCounted ks own made)
                   (sym (mandatory_is xs c.args.place x at hs c.in_ok-mandatory.ensures)) counted),
-              λ x at.
-                  subst (λ (ws : List Word). All (IsKnown (take c.args.place xs) x.active) ws)
-                  (ap (λ ks. counted_labels ks own) (mandatory_is xs c.args.place x at hs c.in_ok-mandatory.ensures)
-                  ∙ sym counted.labels_are)
-                  (c.requires.known x at),
+              (
+                λ x at. λ proof is.
+                    let e : Some own ≡ Some proof = sym (c.requires.proof x at) ∙ is in
+                    let same : own ≡ proof = cc in
+                    sym (ap is_unfinished same) ∙ c.requires.finished,
+                λ x at.
+                    subst (λ (ws : List Word). All (IsKnown (take c.args.place xs) x.active) ws)
+                    (ap (λ ks. counted_labels ks own) (mandatory_is xs c.args.place x at hs c.in_ok-mandatory.ensures)
+                    ∙ sym counted.labels_are)
+                    (c.requires.known x at),
+              ),
             ),
           ),
         ),

@@ -45,9 +45,12 @@ read_finished-requires g c =
             c.requires.frames,
             (
               λ x at. proof_is s.assertions c.args.place x at (Some own) said,
-              λ x at.
-                  counted_known s (take c.args.place s.assertions) x own (whole_at s c.args.place x c.requires.whole at)
-                  (proof_is s.assertions c.args.place x at (Some own) said) (sym c.is_unfinished.ensures ∙ c.if-is_unfinished.false),
+              (
+                sym c.is_unfinished.ensures ∙ c.if-is_unfinished.false,
+                λ x at.
+                    counted_known s (take c.args.place s.assertions) x own (whole_at s c.args.place x c.requires.whole at)
+                    (proof_is s.assertions c.args.place x at (Some own) said) (sym c.is_unfinished.ensures ∙ c.if-is_unfinished.false),
+              ),
             ),
           ),
         ),

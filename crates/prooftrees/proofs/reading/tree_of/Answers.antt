@@ -14,7 +14,7 @@ use Rattle.prooftrees.specs.Names.{IsKnown}
 use Rattle.prooftrees.specs.Roles.{role_of}
 use Rattle.prooftrees.proofs.Asked.{mandatory_is}
 use Rattle.prooftrees.proofs.Named.{NamesOf}
-use Rattle.prooftrees.proofs.Trees.{tree_is, tree_is_none, counted_denoted}
+use Rattle.prooftrees.proofs.Trees.{tree_is, tree_is_none, counted_denoted, counted_there}
 use Rattle.prooftrees.proofs.reading.tree_of.Goals as goal
 
 pub name_labels-requires : goal.name_labels-requires
@@ -59,7 +59,8 @@ returns-in_default-clause-tree g c = λ x at. λ proof is.
     (subst (λ (ns : List Named). AreDecoded ns c.as_slice-3.result.now c.in_ok-proof.field-0) c.as_slice-2.ensures.value
     c.in_ok-proof.ensures.decoded)) in
     tree_is_none m (take c.args.place xs) x ws named codes
-    (counted_denoted (take c.args.place xs) x proof c.args.counted is (c.requires.counted x at proof is)) names decoded
+    (counted_denoted (take c.args.place xs) x proof c.args.counted is (c.requires.counted x at proof is)) names
+    (counted_there x.hypotheses proof c.args.counted (c.requires.counted x at proof is) (c.requires.finished x at proof is)) decoded
 
 pub returns-clause-tree : goal.returns-clause-tree
 returns-clause-tree g c = λ x at. λ proof is.
@@ -88,4 +89,5 @@ returns-clause-tree g c = λ x at. λ proof is.
     c.in-Some.is c.in_ok-proof.ensures.cites in
     tree_is m (take c.args.place xs) x codes (record { labels = c.args.counted.labels; named = c.in_ok-named.named; proof = made })
     made.within
-    (counted_denoted (take c.args.place xs) x proof c.args.counted is (c.requires.counted x at proof is)) names whole decoded cites
+    (counted_denoted (take c.args.place xs) x proof c.args.counted is (c.requires.counted x at proof is)) names whole
+    (counted_there x.hypotheses proof c.args.counted (c.requires.counted x at proof is) (c.requires.finished x at proof is)) decoded cites

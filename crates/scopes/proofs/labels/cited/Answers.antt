@@ -33,14 +33,14 @@ front_tests (t ∷ ts) us f h =
     ] in
     head t.0 h
 
-pub returns-in_err-arity-clause-fault : goal.returns-in_err-arity-clause-fault
-returns-in_err-arity-clause-fault c = λ e marks.
+pub returns-in_err-citation-clause-fault : goal.returns-in_err-citation-clause-fault
+returns-in_err-citation-clause-fault c = λ e marks.
     let s = scope_of (kept_of c.args.tables.now) in
     let w = c.args.word.now in
-    let same : c.from_residual.result ≡ Err c.in_err-arity.field-0.0 = search rules in
+    let same : c.from_residual.result ≡ Err c.in_err-citation.field-0.0 = search rules in
     ap result_err same
     ∙ sym (front_tests (named_tests s w) ((list_any (λ h. bytes_eq w (label_of h)) (mandatory s.hypotheses e), BadToken) ∷ []) _
-    (sym c.in_err-arity.ensures.fault))
+    (sym c.in_err-citation.ensures.fault))
 
 pub returns-then-is_marked_label-clause-fault : goal.returns-then-is_marked_label-clause-fault
 returns-then-is_marked_label-clause-fault c = λ e marks.
@@ -48,7 +48,7 @@ returns-then-is_marked_label-clause-fault c = λ e marks.
     let w = c.args.word.now in
     let label = sym (c.is_marked_label.ensures e marks) ∙ c.if-is_marked_label.true in
     sym (behind_tests (named_tests s w) ((list_any (λ h. bytes_eq w (label_of h)) (mandatory s.hypotheses e), BadToken) ∷ [])
-    (sym c.in_ok-arity.ensures.fault)
+    (sym c.in_ok-citation.ensures.fault)
     ∙ ap (λ b. cond b (Some BadToken) None) label)
 
 pub returns-else-is_marked_label-clause-fault : goal.returns-else-is_marked_label-clause-fault
@@ -57,5 +57,5 @@ returns-else-is_marked_label-clause-fault c = λ e marks.
     let w = c.args.word.now in
     let label = sym (c.is_marked_label.ensures e marks) ∙ c.if-is_marked_label.false in
     sym (behind_tests (named_tests s w) ((list_any (λ h. bytes_eq w (label_of h)) (mandatory s.hypotheses e), BadToken) ∷ [])
-    (sym c.in_ok-arity.ensures.fault)
+    (sym c.in_ok-citation.ensures.fault)
     ∙ ap (λ b. cond b (Some BadToken) None) label)

@@ -1,5 +1,7 @@
 -- What is left to show of `check_counted`.
-use Rattle.std.proofs.Common.{◌≡◌, map, take, sym, ap, subst, ◌∙◌}
+use Rattle.std.proofs.Common.{◌≡◌, false, map, take, sym, ap, subst, ◌∙◌}
+use Rattle.std.specs.List.{list_any}
+use Rattle.source.specs.Letters.{is_absent}
 use Rattle.source.specs.Proofs.{step_of}
 use Rattle.source.specs.Views.{seen_words}
 use Rattle.sourcecheck.specs.Names.{looks_up, words_of, name_in}
@@ -10,7 +12,7 @@ use Rattle.sourcecheck.proofs.Told.{statement_is}
 use Rattle.sourcecheck.proofs.theorem.check_counted.Goals as goal
 
 pub returns-clause-tells : goal.returns-clause-tells
-returns-clause-tells g c = λ x at.
+returns-clause-tells g c = λ x at there.
     let xs = (g.D.Declared.scope c.args.declared.now).assertions in
     let earlier = take c.args.place xs in
     let start = words_of c.args.table.now in
@@ -43,4 +45,5 @@ returns-clause-tells g c = λ x at.
     (lasts_on first end (λ name. map name c.in-Ok.wanted.items ≡ seen_words c.args.statement.now) mid c.in-Ok.ensures.named)
     ∙ statement_is xs c.args.place x at (seen_words c.args.statement.now) c.requires.statement in
     subst (λ cs. Tells earlier x (map (step_of labels) cs) c.take_codes.result) c.as_slice-3.ensures
-    (c.take_codes.ensures name earlier x labels stands named statement)
+    (c.take_codes.ensures name earlier x labels stands named statement
+    (subst (λ cs. list_any is_absent cs ≡ false) (sym c.as_slice-3.ensures) there))

@@ -21,5 +21,6 @@ returns-clause-tells g c = λ x at.
     let is : x.proof ≡ Some proof =
     proof_is s.assertions c.args.place x at (Some proof)
     (sym (ap (option_map (λ (p : Bor ProofWords). seen_proof p.now)) c.in-Some.is) ∙ c.proof.ensures) in
-    assertion_told (take c.args.place s.assertions) x s (whole_at s c.args.place x c.requires.whole at) proof is
-    (sym c.is_unfinished.ensures ∙ c.if-is_unfinished.false) c.check_proof.result (c.check_proof.ensures.tells x at)
+    let finished = sym c.is_unfinished.ensures ∙ c.if-is_unfinished.false in
+    assertion_told (take c.args.place s.assertions) x s (whole_at s c.args.place x c.requires.whole at) proof is finished
+    c.check_proof.result (c.check_proof.ensures.tells x at finished)

@@ -17,7 +17,7 @@ returns-then-not-branch-clause-leads g c =
     let ws = seen_words c.args.numbered.labels.items in
     let ls = seen_words c.args.letters.items in
     let counted = c.requires.1 in
-    let took = c.in_ok-take_letters.ensures s e ws ls c.requires.2 counted.hypotheses (rw c.deref.ensures.value counted.arities) in
+    let took = c.in_ok-take_letters.ensures s e ws ls c.requires.2 counted.hypotheses (rw c.deref.ensures.value counted.citations) in
     let fails = took.0 ∙ ap (λ b. cond b None (Some BadToken)) c.if-not-branch.true in
     rw c.fault_at.ensures (tested_fails (seen c.args.token) (letter_tests s e ws ls c.args.token.text.now) _ BadToken fails)
 
@@ -31,7 +31,7 @@ returns-clause-leads g c =
     let w = c.args.token.text in
     let counted = c.requires.1 in
     let took =
-    c.in_ok-take_letters.ensures stand.scope e ws ls c.requires.2 counted.hypotheses (rw c.deref.ensures.value counted.arities) in
+    c.in_ok-take_letters.ensures stand.scope e ws ls c.requires.2 counted.hypotheses (rw c.deref.ensures.value counted.citations) in
     let passes = took.0 ∙ ap (λ b. cond b None (Some BadToken)) c.if-not-branch.false in
     let next = standing_at stand (in_letters label e ws (ls ++ w.now ∷ [])) in
     tested_passes (seen c.args.token) (letter_tests stand.scope e ws ls w.now) (Ok next) passes
@@ -45,6 +45,6 @@ returns-clause-counted g c =
     let ws = seen_words c.args.numbered.labels.items in
     let ls = seen_words c.args.letters.items in
     let counted = c.requires.1 in
-    let took = c.in_ok-take_letters.ensures s e ws ls c.requires.2 counted.hypotheses (rw c.deref.ensures.value counted.arities) in
+    let took = c.in_ok-take_letters.ensures s e ws ls c.requires.2 counted.hypotheses (rw c.deref.ensures.value counted.citations) in
     let all = sym (ap seen_words c.in_ok-push.ensures.items ∙ one_more_word c.args.letters.items c.args.token.text) in
     (c.requires.0, counted, subst (λ x. CountsLetters s e ws x c.take_letters.new.self) all (took.1 c.if-not-branch.false))

@@ -1,20 +1,16 @@
 -- What is left to show of `take`.
+use Rattle.std.proofs.Common.{sym, subst}
 use Rattle.std.proofs.lemmas.Result.{MatchResult-weaker}
-use Rattle.source.proofs.Counted.{named_step}
-use Rattle.source.proofs.CountedLabels.{label_after, label_counted}
+use Rattle.source.specs.Counts.{IsStep}
+use Rattle.source.proofs.CountedLabels.{label_word, word_counted}
 use Rattle.source.proofs.entries.Entries.take.Goals as goal
 
-pub returns-then-self : goal.returns-then-self
-returns-then-self c =
+pub returns : goal.returns
+returns c =
     let old = c.args.self.now in
-    MatchResult-weaker c.put.result c.put.ensures
-    (λ goes puts s ws w counted label takes. label_counted s.assertions s.hypotheses ws w old c.put.new.self goes counted
-    c.if-self.true label
-    (named_step s.assertions s.hypotheses w c.args.arity old c.put.new.self goes takes puts.0 puts.1))
+    let new = c.put_citation.new.self in
+    MatchResult-weaker c.put_citation.result c.put_citation.ensures
+    (λ goes step s ws w counted label names. word_counted s.assertions s.hypotheses ws w old new goes counted
+    (subst (λ x. IsStep s.assertions s.hypotheses x old new goes) (sym (label_word w label))
+    (step s.assertions s.hypotheses w names)))
     (λ _ full. full)
-
-pub returns-else-self : goal.returns-else-self
-returns-else-self c =
-    λ s ws w counted label takes.
-    let after = label_after s.assertions s.hypotheses ws w c.args.self.now counted c.if-self.false in
-    (after.0, λ _. after.1)

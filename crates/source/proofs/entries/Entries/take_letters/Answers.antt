@@ -8,7 +8,7 @@ use Rattle.source.proofs.entries.Entries.take_letters.Goals as goal
 pub returns-then-not-branch : goal.returns-then-not-branch
 returns-then-not-branch c =
     λ s e labels ls counted is have.
-    let numbers = numbers_counted s e labels c.args.hypotheses c.args.arities.now is have in
+    let numbers = numbers_counted s e labels c.args.hypotheses c.args.citations.now is have in
     let before = c.loop-byte.invariant s.assertions s.hypotheses (numbered_labels s e labels) (flat_map (λ l. l) ls) counted numbers in
     let said = c.in_ok-take_byte.ensures s.assertions s.hypotheses (numbered_labels s e labels)
     (flat_map (λ l. l) ls ++ take c.loop-byte.byte-index c.args.word.now) before.0 numbers in (
@@ -28,7 +28,7 @@ loop-byte-preserved c =
 pub returns : goal.returns
 returns c =
     λ s e labels ls counted is have.
-    let numbers = numbers_counted s e labels c.args.hypotheses c.args.arities.now is have in
+    let numbers = numbers_counted s e labels c.args.hypotheses c.args.citations.now is have in
     let all = c.loop-byte.invariant s.assertions s.hypotheses (numbered_labels s e labels) (flat_map (λ l. l) ls) counted numbers in
     let whole = word_goes s e labels ls c.args.word.now c.loop-byte.byte-index c.loop-byte.self c.loop-byte-test.false all.0 all.1 in
     (whole.0, λ _. whole.1)

@@ -10,6 +10,6 @@ use Rattle.source.proofs.entries.Entries.take_letters.Given as goal
 abbrev pub invariant-loop-byte : goal.invariant-loop-byte
 invariant-loop-byte l =
     (earlier : List Assertion) (active : List Hypothesis) (labels : List Word) (letters : List ℕ)
-    → LettersAreCounted earlier active labels letters l.initial.self → CountNumbers earlier active labels l.hypotheses l.arities
+    → LettersAreCounted earlier active labels letters l.initial.self → CountNumbers earlier active labels l.hypotheses l.citations
     → LettersAreCounted earlier active labels (letters ++ take l.byte-index l.word) l.self
     × (list_all is_letter (take l.byte-index l.word) ≡ true)

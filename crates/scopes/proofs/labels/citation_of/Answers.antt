@@ -1,16 +1,17 @@
--- What is left to show of `arity_of`.
+-- What is left to show of `citation_of`.
 use Rattle.std.proofs.Common.{◌≡◌, ◌∙◌, List, [], Some, cond, length, map, ap, refl, subst, sym}
 use Rattle.std.specs.List.{slice_get, find}
 use Rattle.std.specs.Option.{option_map}
 use Rattle.std.proofs.lemmas.List.Elements.{All-from_recursion}
 use Rattle.std.proofs.lemmas.Option.{slice_get-map, slice_get_read, slice_get_within, get_or_from_slice_get}
 use Rattle.std.specs.Str.{bytes_eq}
-use Rattle.source.specs.Scopes.{Hypothesis}
+use Rattle.source.specs.Scopes.{Assertion}
+use Rattle.source.specs.declared.entries.Citation.TheVariants as citation
 use Rattle.scopes.specs.Views.{kept_of, scope_of, linked, set_apart, entry_of, assertion_of}
 use Rattle.scopes.specs.Sound.{IsCounted}
 use Rattle.scopes.specs.declared.sorts.Sort.{Sort}
 use Rattle.scopes.specs.Sorts.{IsSortOf}
-use Rattle.scopes.proofs.labels.arity_of.Goals as goal
+use Rattle.scopes.proofs.labels.citation_of.Goals as goal
 
 pub returns-in_ok-assertion-in-Assertion : goal.returns-in_ok-assertion-in-Assertion
 returns-in_ok-assertion-in-Assertion c =
@@ -33,8 +34,7 @@ returns-in_ok-assertion-in-Assertion c =
     (slice_get_within es i (entry_of a) entry)) in
     let w = c.args._word.now in
     let k = subst (λ (o : Sort). IsSortOf s w o) c.in-Assertion.is c.requires.sort in
-    let none : List Hypothesis = [] in
-    sym (ap (λ b. option_map length (cond b (Some none) (option_map (λ a. a.hypotheses) (find (λ a. bytes_eq w a.label) s.assertions))))
-    k.hypothesis
-    ∙ ap (λ o. option_map length (option_map (λ a. a.hypotheses) o)) (k.first ∙ seen)
-    ∙ ap (λ n. Some n) (sym counted.arity))
+    let named = λ (a : Assertion). citation.Assertion (length a.hypotheses) in
+    sym (ap (λ b. cond b (Some citation.Hypothesis) (option_map named (find (λ a. bytes_eq w a.label) s.assertions))) k.hypothesis
+    ∙ ap (option_map named) (k.first ∙ seen)
+    ∙ ap (λ n. Some (citation.Assertion n)) (sym counted.arity))

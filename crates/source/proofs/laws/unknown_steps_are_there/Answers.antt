@@ -1,0 +1,8 @@
+-- The example `unknown_steps_are_there` computes.
+use Rattle.std.specs.Prelude.{refl}
+use Rattle.source.specs.Letters.{decoded}
+use Rattle.source.proofs.laws.unknown_steps_are_there.Goals as goal
+
+pub returns : goal.returns
+unfolding decoded
+returns c = (refl, refl)
