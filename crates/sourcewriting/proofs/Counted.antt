@@ -1,5 +1,5 @@
 -- Labels with how many entries they take.
-use Rattle.std.proofs.Common.{◌≡◌, ◌<◌, ℕ, get_or, length, List, [], ◌∷◌, ◌++◌, sym, ap, subst, ◌∙◌, inl, inr, append_assoc, append-nil, arith}
+use Rattle.std.proofs.Common.{◌<◌, ℕ, get_or, length, List, [], ◌∷◌, ◌++◌, sym, ap, subst, ◌∙◌, inl, inr, append_assoc, append-nil, arith}
 use Rattle.std.specs.Prelude.{All, Contains}
 use Rattle.std.proofs.lemmas.List.Elements.{Contains-push_cases, Contains-get_or, All-contains, All-push}
 use Rattle.std.proofs.lemmas.List.{length-map, get_or-map}
@@ -33,8 +33,8 @@ pub all_among : (P : Word × ℕ → Type 0) (xs ys : List (Word × ℕ)) → ((
 all_among P xs ys among a k d h = All-contains P ys _ a (among _ (Contains-get_or xs k d h))
 
 -- and of one more
-pub all_one_more : (P : Word × ℕ → Type 0) (old new : List CountedLabel) (label : Word) (takes : ℕ) → All P (counts_of old) → P (label, takes)
-    → HaveOneMore old new label takes → All P (counts_of new)
+pub all_one_more : (P : Word × ℕ → Type 0) (old new : List CountedLabel) (label : Word) (takes : ℕ) → All P (counts_of old)
+    → P (label, takes) → HaveOneMore old new label takes → All P (counts_of new)
 all_one_more P old new label takes a h (inl same) = subst (All P) (sym same) a
 all_one_more P old new label takes a h (inr more) = subst (All P) (sym more) (All-push P (counts_of old) (label, takes) a h)
 

@@ -13,7 +13,7 @@ use Rattle.std.proofs.lemmas.List.Folds.{list_all-append}
 use Rattle.std.proofs.lemmas.Bool.Decides.{nat_tests}
 use Rattle.mmtext.specs.Words.{Word}
 use Rattle.items.specs.Items.{Piece, Item, bytes_of, words}
-use Rattle.items.specs.Layout.{indent, begins_line, column, is_laid_out, indents, is_word, is_compressed, IsLaidOut}
+use Rattle.items.specs.Layout.{indent, begins_line, column, is_laid_out, indents, is_word, is_compressed}
 use Rattle.sourcewriting.specs.Indentations.{IsIndentation}
 use Rattle.sourcewriting.specs.Laid.{column_behind, has_closing, AreLaid, IsLaidOutAs}
 
@@ -219,8 +219,7 @@ pub finished : (i : List ℕ) (ws : List Word) (text after : List ℕ) (at begin
 finished i ws text after at begin fits was e said begins =
     let p : Piece = record { space = space_of i fits; word = codes "$." } in
     let short : length i + 2 ≤ 79 = omega (arith, was.begins.short) in
-    let now = placed i (has_closing ws) at (column_behind 79 was.pieces) begin (begin + 2) (codes "$.") fits was.begins was.ends e (inr (inr short)) begins refl in
-    (
+    let now = placed i (has_closing ws) at (column_behind 79 was.pieces) begin (begin + 2) (codes "$.") fits was.begins was.ends e (inr (inr short)) begins refl in (
       record {
         proof = was.pieces;
         space = p.space;

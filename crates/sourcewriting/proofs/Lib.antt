@@ -3,7 +3,6 @@ pub mod Laying
 pub mod Orders
 mod Appended
 pub mod Marking
-pub mod Drafts
 pub mod Counted
 pub mod MarkedWords
 pub mod Told

@@ -1,11 +1,10 @@
 -- The text of a compressed proof is marked, wherever labels take as many entries as is known of the source and the library.
-use Rattle.std.proofs.Common.{◌≡◌, ◌<◌, ℕ, List, [], ◌∷◌, ◌++◌, length, map, get_or, refl, sym, ap, subst, ◌∙◌, inl, inr, append_assoc, codes, arith}
+use Rattle.std.proofs.Common.{◌≡◌, ℕ, List, [], ◌∷◌, ◌++◌, length, map, refl, sym, ap, subst, ◌∙◌, inr, append_assoc, codes, arith}
 use Rattle.std.specs.Prelude.{All, Contains, Some}
 use Rattle.std.specs.Option.{option_map}
 use Rattle.std.proofs.lemmas.List.{length-map, map-append, get_or-map}
 use Rattle.std.proofs.lemmas.List.Elements.{All-append, All-map, All-weaker, All-contains_itself}
 use Rattle.mmtext.specs.Words.{Word}
-use Rattle.source.specs.Letters.{codes_of}
 use Rattle.source.specs.Scopes.{Hypothesis, Assertion, label_of, Scope}
 use Rattle.source.specs.Proofs.{step_of, taken_by}
 use Rattle.sourcewriting.specs.declared.listing.Names.{Names}
@@ -46,7 +45,8 @@ each P cs a k d h =
     subst P (get_or-map pair cs k d (pair d) h) (a k (pair d) (omega (arith, length-map cs pair)))
 
 module _ (i : List ℕ) (s : Scope) (m : Names) (hs : List Hypothesis) (mandatory : List Word) (words : List CountedLabel) (text : List ℕ)
-    (are : mandatory ≡ map label_of hs) (all : All (λ (p : Word × ℕ). Takes s m hs p.0 p.1) (counts_of words)) (is : IsMarkedAs i mandatory words text) where
+    (are : mandatory ≡ map label_of hs) (all : All (λ (p : Word × ℕ). Takes s m hs p.0 p.1) (counts_of words))
+    (is : IsMarkedAs i mandatory words text) where
   none_taken : All (λ (p : Word × ℕ). Takes s m hs p.0 p.1) (map (λ w. (w, 0)) mandatory)
   none_taken =
       All-map (λ (p : Word × ℕ). Takes s m hs p.0 p.1) (λ (w : Word). (w, 0)) mandatory

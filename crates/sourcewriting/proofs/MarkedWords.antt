@@ -1,5 +1,5 @@
 -- The words of a compressed proof that is read again, and its text.
-use Rattle.std.proofs.Common.{◌≡◌, ℕ, List, [], ◌∷◌, ◌++◌, map, refl, sym, ap, subst, ◌∙◌, append_assoc, codes, Bool, IsFalse, Vec, Global}
+use Rattle.std.proofs.Common.{◌≡◌, ℕ, List, [], ◌∷◌, ◌++◌, map, sym, ap, subst, ◌∙◌, append_assoc, codes, Bool, IsFalse, Vec, Global}
 use Rattle.std.specs.Prelude.{Contains, Option, Some, None, Result, Ok, Err, IfOk, IfSome}
 use Rattle.std.specs.declared.alloc.AllocError.{AllocError}
 use Rattle.items.specs.Layout.{IsLaidOut}
@@ -9,7 +9,7 @@ use Rattle.std.proofs.lemmas.Grind.{flat_map-append}
 use Rattle.mmtext.specs.Words.{Word}
 use Rattle.sourcewriting.specs.declared.layout.Layout.{Layout}
 use Rattle.sourcewriting.specs.declared.shared.CountedLabel.{CountedLabel}
-use Rattle.sourcewriting.specs.Laid.{IsLaid, AreLaid, IsCompressed, IsInForm, IsLaidOutAs}
+use Rattle.sourcewriting.specs.Laid.{IsLaid, IsCompressed, IsInForm, IsLaidOutAs}
 use Rattle.sourcewriting.specs.Reading.{counts_of, labels_in, HaveMore, AreMarkedLetters, IsMarkedLayout}
 
 -- letters behind labels in parentheses

@@ -1,5 +1,5 @@
 -- A compressed proof that is read again, as the nodes that its steps make.
-use Rattle.std.proofs.Common.{◌≡◌, ◌<◌, ◌≤◌, ℕ, zero, suc, ◌+◌, ◌-◌, Bool, true, false, List, [], ◌∷◌, ◌++◌, length, map, take, reverse, refl, sym, ap, ◌∙◌, subst, arith}
+use Rattle.std.proofs.Common.{◌≡◌, ◌<◌, ◌≤◌, ℕ, zero, suc, ◌+◌, ◌-◌, true, false, List, [], ◌∷◌, ◌++◌, length, map, take, reverse, refl, sym, ap, ◌∙◌, subst, arith}
 use Rattle.std.proofs.Common.{get_or, inl, inr, IsTrue, append-nil}
 use Rattle.source.specs.declared.letters.Code.TheVariants.{Number, Mark}
 use Rattle.std.specs.Prelude.{pred, Option, Some, None, slice_get, nat_lt}
@@ -13,9 +13,9 @@ use Rattle.mmtext.specs.Words.{Word}
 use Rattle.source.specs.declared.letters.Code.{Code}
 use Rattle.source.specs.Scopes.{Hypothesis, Assertion}
 use Rattle.source.specs.Proofs.{Tree, Trees, node, none, some, over, Step, names, again, marks, taken_by, Stack, empty, pop, put, cite, repeat, mark, numbered, stepped, run_steps, step_of}
-use Rattle.sourcewriting.proofs.Drafts.{seen, all, popped}
+use Rattle.source.proofs.Alike.{seen, all}
 use Rattle.taking.proofs.Listed.{all_at}
-use Rattle.taking.proofs.Stacked.{names_mark}
+use Rattle.taking.proofs.Stacked.{popped, names_mark}
 use Rattle.taking.proofs.Values.{mapped}
 use Rattle.taking.proofs.Turned.{turned_back}
 use Rattle.taking.proofs.Codes.{pred_is}
@@ -121,7 +121,8 @@ cited_step make earlier active w front taken ms hs takes many =
     ap (cite make w (record { entries = reverse (front ++ taken); marked = ms })) takes
     ∙ ap (λ xs. put make w ms (pop hs xs [])) (reverse-append front taken)
     ∙ ap (put make w ms) (popped hs (reverse taken) (reverse front) [] (many ∙ sym (length-reverse taken)))
-    ∙ ap (λ xs. Some (record { entries = make w xs ∷ reverse front; marked = ms })) (append-nil (reverse (reverse taken)) ∙ turned_back taken)
+    ∙ ap (λ xs. Some (record { entries = make w xs ∷ reverse front; marked = ms }))
+    (append-nil (reverse (reverse taken)) ∙ turned_back taken)
     ∙ ap (λ es. Some (record { entries = es; marked = ms })) (sym (reverse-append front (make w taken ∷ [])))
 
 -- ---- up to a place
@@ -252,7 +253,8 @@ module _ (s : Shared) (earlier : List Assertion) (active : List Hypothesis) (ste
             | inl lt ↦ now.stay n (was.noted label n k lt taken at)
             | inr ge ↦
                 let here : k ≡ i = omega arith in
-                subst (λ m. slice_get new.written.items m ≡ Some true) (own_node label n k here at) (now.noted (takes_some label n k here at taken))
+                subst (λ m. slice_get new.written.items m ≡ Some true) (own_node label n k here at)
+                (now.noted (takes_some label n k here at taken))
           ];
       once = λ label n j k h g taken at there.
           elim (cases_lt j i) [
@@ -318,8 +320,8 @@ none_read s earlier active steps r entries marked may_mark = record {
   behind = λ k h. absurd (omega arith);
 }
 
-pub all_read : (s : Shared) (earlier : List Assertion) (active : List Hypothesis) (steps : List Step) (r : Reader) (i : ℕ) → length steps ≤ i
-    → IsReadTo s earlier active steps r i → IsMarked earlier active steps
+pub all_read : (s : Shared) (earlier : List Assertion) (active : List Hypothesis) (steps : List Step) (r : Reader) (i : ℕ)
+    → length steps ≤ i → IsReadTo s earlier active steps r i → IsMarked earlier active steps
 all_read s earlier active steps r i le read = record {
   once = λ label t j k takes at there.
       let lt = slice_get_within steps j (names label) at.labelled in

@@ -1,5 +1,5 @@
 -- Which labels take how many entries, while the nodes of a proof are made.
-use Rattle.std.proofs.Common.{◌≡◌, ◌⊎◌, ◌<◌, ℕ, zero, suc, List, [], ◌∷◌, ◌++◌, length, map, get_or, refl, sym, ap, subst, ◌∙◌, inl, inr, arith}
+use Rattle.std.proofs.Common.{◌≡◌, ◌⊎◌, ◌<◌, ℕ, zero, suc, List, [], ◌∷◌, length, map, get_or, refl, sym, ap, subst, ◌∙◌, inl, inr, arith}
 use Rattle.std.specs.Prelude.{All, Contains, Option, Some, None, slice_get}
 use Rattle.std.specs.Option.{option_map}
 use Rattle.std.specs.Borrow.{Bor}
@@ -14,7 +14,7 @@ use Rattle.taking.specs.Listings.{premise_labels}
 use Rattle.sourcewriting.specs.declared.listing.Cited.{Cited}
 use Rattle.sourcewriting.specs.declared.listing.Names.{Names}
 use Rattle.sourcewriting.specs.declared.shared.Shared.{Shared}
-use Rattle.sourcewriting.specs.Counting.{IsCountOf, IsCitedBy, IsHypothesis, Takes}
+use Rattle.sourcewriting.specs.Counting.{Takes}
 use Rattle.sourcewriting.specs.Taking.{AllTake, MayTakeMore, MayTakeNone}
 use Rattle.sourcewriting.proofs.Counted.{all_one_more}
 

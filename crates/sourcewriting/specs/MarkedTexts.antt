@@ -10,8 +10,8 @@ use Rattle.sourcewriting.specs.declared.listing.Names.{Names}
 use Rattle.sourcewriting.specs.Marking.{IsMarked}
 use Rattle.sourcewriting.specs.Counting.{TakeAsMany}
 
--- a text is a compressed proof of a theorem with these mandatory hypotheses, and it is marked, wherever each label that may stand in it takes
--- as many entries as is known of the source and the library
+-- a text is a compressed proof of a theorem with these mandatory hypotheses, and it is marked, wherever each label that may stand in it
+-- takes as many entries as is known of the source and the library
 pub record IsMarkedText (indentation : List ℕ) (s : Scope) (m : Names) (hypotheses : List Hypothesis) (text : List ℕ) : Type 0 where
   pub laid_out : IsLaidOut indentation true text
   pub labels : List Word

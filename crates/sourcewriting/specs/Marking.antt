@@ -1,6 +1,6 @@
 -- Marks of a compressed proof (Metamath book, appendix B): a subproof that stands in several places is written once and marked there, and
 -- elsewhere it is called by its number.
-use Rattle.std.specs.Prelude.{◌≡◌, ℕ, suc, Bool, true, false, List, [], ◌∷◌, take, Option, Some, None, IsTrue, slice_get}
+use Rattle.std.specs.Prelude.{◌≡◌, ℕ, suc, Bool, true, false, List, ◌∷◌, take, Option, Some, IsTrue, slice_get}
 use Rattle.mmtext.specs.Words.{Word}
 use Rattle.source.specs.Scopes.{Hypothesis, Assertion}
 use Rattle.source.specs.Proofs.{Tree, node, over, Step, names, marks, taken_by, Stack, empty, run_steps}

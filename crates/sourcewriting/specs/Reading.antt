@@ -1,5 +1,5 @@
 -- Of the code's inside, apart from the rules: a compressed proof that is read again, as the nodes that its steps make.
-use Rattle.std.specs.Prelude.{◌≡◌, ◌<◌, ◌⊎◌, ℕ, suc, Bool, true, false, List, [], ◌∷◌, ◌++◌, length, map, take, reverse, All, Contains, Option, Some, None}
+use Rattle.std.specs.Prelude.{◌≡◌, ◌<◌, ◌⊎◌, ℕ, suc, true, false, List, [], ◌∷◌, ◌++◌, length, map, take, reverse, All, Contains, Option, Some}
 use Rattle.std.specs.Prelude.{IsTrue, slice_get, nat_lt}
 use Rattle.std.specs.Option.{option_map, option_and_then, unwrap_or}
 use Rattle.std.specs.Str.{bytes_eq}
@@ -8,7 +8,7 @@ use Rattle.mmtext.specs.Words.{Word}
 use Rattle.source.specs.declared.letters.Code.{Code}
 use Rattle.source.specs.Letters.{codes_of}
 use Rattle.source.specs.Scopes.{Hypothesis, Assertion}
-use Rattle.source.specs.Proofs.{Step, names, marks, taken_by, Stack, empty, run_steps, step_of}
+use Rattle.source.specs.Proofs.{Step, marks, taken_by, empty, run_steps, step_of}
 use Rattle.sourcewriting.specs.declared.shared.CountedLabel.{CountedLabel}
 use Rattle.sourcewriting.specs.declared.shared.Shared.{Shared}
 use Rattle.sourcewriting.specs.declared.reading.Reader.{Reader}
@@ -122,8 +122,8 @@ pub record AreMarkedLetters (cs : List CountedLabel) (letters : List ℕ) : Type
   pub marked : (earlier : List Assertion) (active : List Hypothesis) → TakeSo cs earlier active
       → IsMarked earlier active (map (step_of (labels_in cs)) codes)
 
--- the words of a compressed proof, which is marked: its numbers count mandatory labels, which take no entries, and then labels that are among
--- some others
+-- the words of a compressed proof, which is marked: its numbers count mandatory labels, which take no entries, and then labels that are
+-- among some others
 pub record IsMarkedLayout (i : List ℕ) (l : Layout) (mandatory : List Word) (words : List CountedLabel) : Type 0 where
   pub labels : List CountedLabel
   pub among : (p : Word × ℕ) → Contains (counts_of labels) p → Contains (counts_of words) p

@@ -182,7 +182,8 @@ pub fn proof_text<'x, D: Declared<'x>>(
     ensures laid_out { let old = option_and_then (λ a. a.proof) (slice_get (D.scope declared.now).assertions place) in
         IfOk result (λ made. IfSome made (λ text. IsLaidOut indentation.now (is_compressed_form old) text.items)) }
     ensures marked { (a : AssertionOf) → slice_get (D.scope declared.now).assertions place ≡ Some a → IsTrue (is_compressed_form a.proof)
-        → IfOk result (λ made. IfSome made (λ text. IsMarkedText indentation.now (D.scope declared.now) names.now a.hypotheses text.items)) }
+        → IfOk result (λ made. IfSome made (λ text.
+        IsMarkedText indentation.now (D.scope declared.now) names.now a.hypotheses text.items)) }
 {
     let hypotheses = hypotheses_of(alloc, declared, place)?;
     let is_compressed = is_compressed_like(declared.proof(place));

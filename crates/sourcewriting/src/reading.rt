@@ -110,6 +110,8 @@ impl Reader {
                 }
             }
             Code::Mark => self.mark(),
+            // No step of a proof that was written is left out.
+            Code::Unknown => Ok(false),
         }
     }
 }

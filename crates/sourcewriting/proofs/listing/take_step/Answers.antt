@@ -1,6 +1,5 @@
-use Rattle.std.proofs.Common.{◌≡◌, ◌∙◌, sym, ap, subst, inl, inr, Bor, List, ℕ}
-use Rattle.std.specs.Prelude.{Contains, Some, slice_get}
-use Rattle.std.specs.Option.{option_map}
+use Rattle.std.proofs.Common.{◌∙◌, sym, ap, subst, inl, inr}
+use Rattle.std.specs.Prelude.{Contains, slice_get}
 use Rattle.source.proofs.Lent.{got_lent}
 use Rattle.taking.proofs.Turned.{if_ok}
 use Rattle.sourcewriting.proofs.Told.{word_there, premise_there, put_none, put_cited}
@@ -36,5 +35,6 @@ returns-in-Some g c = λ hs premises all.
     let m = c.args.names.now in
     let s = g.D.Declared.scope c.args.declared.now in
     if_ok c.cite.result
-    (λ there more. put_cited s m hs c.args.shared.now c.cite.new.shared all c.in-Cite.label.now c.in-Some.cited.now (sym c.in-Some.ensures.value) more)
+    (λ there more. put_cited s m hs c.args.shared.now c.cite.new.shared all c.in-Cite.label.now c.in-Some.cited.now
+    (sym c.in-Some.ensures.value) more)
     c.cite.ensures
