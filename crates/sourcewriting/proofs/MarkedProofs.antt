@@ -62,7 +62,8 @@ module _ (i : List ℕ) (s : Scope) (m : Names) (hs : List Hypothesis) (mandator
   so_many : (earlier : List Assertion) (active : List Hypothesis) → TakeAsMany s m hs earlier active → TakeSo is.counted earlier active
   so_many earlier active take =
       All-weaker (λ (c : CountedLabel). Takes s m hs c.label.now c.takes)
-      (λ c. option_map length (taken_by earlier active c.label.now) ≡ Some c.takes) (λ c takes. take c.label.now c.takes takes) is.counted
+      (λ c. (taken : List Hypothesis) → taken_by earlier active c.label.now ≡ Some taken → length taken ≡ c.takes)
+      (λ c takes taken is. take c.label.now c.takes taken takes is) is.counted
       (each (λ (p : Word × ℕ). Takes s m hs p.0 p.1) is.counted all_taken)
 
   pub marked_proof : IsMarkedText i s m hs text

@@ -1,5 +1,5 @@
 -- A compressed proof that is read again, as the nodes that its steps make.
-use Rattle.std.proofs.Common.{◌≡◌, ◌<◌, ◌≤◌, ℕ, zero, suc, ◌+◌, ◌-◌, true, false, List, [], ◌∷◌, ◌++◌, length, map, take, reverse, refl, sym, ap, ◌∙◌, subst, arith}
+use Rattle.std.proofs.Common.{◌≡◌, ◌<◌, ◌≤◌, ℕ, zero, suc, ◌+◌, ◌-◌, true, false, List, [], ◌∷◌, ◌++◌, length, map, take, reverse, refl, sym, ap, ◌∙◌, subst, arith, ◌≢◌}
 use Rattle.std.proofs.Common.{get_or, inl, inr, IsTrue, append-nil}
 use Rattle.source.specs.declared.letters.Code.TheVariants.{Number, Mark}
 use Rattle.std.specs.Prelude.{pred, Option, Some, None, slice_get, nat_lt}
@@ -16,7 +16,6 @@ use Rattle.source.specs.Proofs.{Tree, Trees, node, none, some, over, Step, names
 use Rattle.source.proofs.Alike.{seen, all}
 use Rattle.taking.proofs.Listed.{all_at}
 use Rattle.taking.proofs.Stacked.{popped, names_mark}
-use Rattle.taking.proofs.Values.{mapped}
 use Rattle.taking.proofs.Turned.{turned_back}
 use Rattle.taking.proofs.Codes.{pred_is}
 use Rattle.sourcewriting.specs.declared.shared.CountedLabel.{CountedLabel}
@@ -28,19 +27,17 @@ use Rattle.sourcewriting.specs.Reading.{labels_in, node_in, IsCited, IsRepeated,
 -- ---- steps
 
 -- one more step behind others
-step_more : {A : Type 0} (make : Word → List A → A) (earlier : List Assertion) (active : List Hypothesis) (from : Option (Stack A))
+step_back : {A : Type 0} (make : Word → List A → A) (earlier : List Assertion) (active : List Hypothesis) (from : Option (Stack A))
     (steps : List Step) (i : ℕ) (x : Step) (s : Stack A) → slice_get steps i ≡ Some x
-    → run_steps make earlier active from (take i steps) ≡ Some s
-    → run_steps make earlier active from (take (suc i) steps) ≡ stepped make earlier active s x
-step_more make earlier active from [] i x s is goes = absurd cc
-step_more make earlier active None (y ∷ steps) zero x s is goes = absurd cc
-step_more make earlier active (Some r) (y ∷ steps) zero x s is goes =
-    let same : r ≡ s = cc in
-    let here : y ≡ x = cc in
-    ap (λ z. stepped make earlier active z y) same ∙ ap (stepped make earlier active s) here
-step_more make earlier active None (y ∷ steps) (suc i) x s is goes = absurd cc
-step_more make earlier active (Some r) (y ∷ steps) (suc i) x s is goes =
-    step_more make earlier active (stepped make earlier active r y) steps i x s is goes
+    → run_steps make earlier active from (take (suc i) steps) ≡ Some s
+    → (r : Stack A) × (run_steps make earlier active from (take i steps) ≡ Some r) × (stepped make earlier active r x ≡ Some s)
+step_back make earlier active from [] i x s is goes = absurd cc
+step_back make earlier active None (y ∷ steps) zero x s is goes = absurd cc
+step_back make earlier active (Some r) (y ∷ steps) zero x s is goes =
+    let here : x ≡ y = cc in (r, refl, ap (stepped make earlier active r) here ∙ goes)
+step_back make earlier active None (y ∷ steps) (suc i) x s is goes = absurd cc
+step_back make earlier active (Some r) (y ∷ steps) (suc i) x s is goes =
+    step_back make earlier active (stepped make earlier active r y) steps i x s is goes
 
 -- ---- trees as nodes
 
@@ -102,15 +99,15 @@ mark_step cs code n place mark is place-is mark-is =
     ap (step_of (labels_in cs)) is ∙ names_mark (labels_in cs) (pred n) mark (omega arith)
 
 -- whether it takes entries
-some_taken : (hs : Option (List Hypothesis)) (n : ℕ) → option_map length hs ≡ Some n → 0 < n → IsTrue (takes_entries hs)
-some_taken None n e h = absurd cc
-some_taken (Some []) n e h = let z : 0 ≡ n = cc in absurd (omega arith)
-some_taken (Some (g ∷ hs)) n e h = refl
+none_taken : (hs : Option (List Hypothesis)) (n : ℕ) → ((taken : List Hypothesis) → hs ≡ Some taken → length taken ≡ n) → 0 < n
+    → hs ≢ Some []
+none_taken hs n many h e = let z : 0 ≡ n = many [] e in absurd (omega arith)
 
-taken_some : (hs : Option (List Hypothesis)) (n : ℕ) → option_map length hs ≡ Some n → IsTrue (takes_entries hs) → 0 < n
-taken_some None n e h = absurd cc
-taken_some (Some []) n e h = absurd cc
-taken_some (Some (g ∷ hs)) n e h = let z : length (g ∷ hs) ≡ n = cc in omega arith
+taken_some : (hs : Option (List Hypothesis)) (n : ℕ) → ((taken : List Hypothesis) → hs ≡ Some taken → length taken ≡ n)
+    → IsTrue (takes_entries hs) → 0 < n
+taken_some None n many h = absurd cc
+taken_some (Some []) n many h = absurd cc
+taken_some (Some (g ∷ hs)) n many h = let z : length (g ∷ hs) ≡ n = many (g ∷ hs) refl in omega arith
 
 -- a label takes its entries
 cited_step : {A : Type 0} (make : Word → List A → A) (earlier : List Assertion) (active : List Hypothesis) (w : Word)
@@ -125,17 +122,20 @@ cited_step make earlier active w front taken ms hs takes many =
     (append-nil (reverse (reverse taken)) ∙ turned_back taken)
     ∙ ap (λ es. Some (record { entries = es; marked = ms })) (sym (reverse-append front (make w taken ∷ [])))
 
+-- and leads nowhere else
+cited_into : {A : Type 0} (make : Word → List A → A) (earlier : List Assertion) (active : List Hypothesis) (w : Word)
+    (front taken ms : List A) (stack : Stack A) (o : Option (List Hypothesis)) → taken_by earlier active w ≡ o
+    → ((hs : List Hypothesis) → o ≡ Some hs → length hs ≡ length taken)
+    → stepped make earlier active (record { entries = reverse (front ++ taken); marked = ms }) (names w) ≡ Some stack
+    → stack ≡ record { entries = reverse (front ++ make w taken ∷ []); marked = ms }
+cited_into make earlier active w front taken ms stack None is many goes =
+    let none = sym (ap (cite make w (record { entries = reverse (front ++ taken); marked = ms })) is) ∙ goes in absurd (cc none)
+cited_into make earlier active w front taken ms stack (Some hs) is many goes =
+    let e = sym goes ∙ cited_step make earlier active w front taken ms hs is (many hs refl) in cc e
+
 -- ---- up to a place
 
 module _ (s : Shared) (earlier : List Assertion) (active : List Hypothesis) (steps : List Step) (old new : Reader) (i : ℕ) where
-  -- the last entry behind a step
-  top_of : (label : Word) (n k : ℕ) (stack : Stack ℕ) → IsNodeAt s earlier active steps label n k
-      → run_steps (node_in s) earlier active (Some empty) (take (suc k) steps) ≡ Some stack → slice_get stack.entries 0 ≡ Some n
-  top_of label n k stack is goes =
-      let e : Some is.stack ≡ Some stack = sym is.behind ∙ goes in
-      let same : is.stack ≡ stack = cc in
-      ap (λ (z : Stack ℕ). slice_get z.entries 0) (sym same) ∙ is.last
-
   last_of : (front : List ℕ) (n : ℕ) → new.entries.items ≡ front ++ n ∷ [] → slice_get (reverse new.entries.items) 0 ≡ Some n
   last_of front n is = ap (λ es. slice_get (reverse es) 0) is ∙ ap (λ es. slice_get es 0) (reverse-append front (n ∷ []))
 
@@ -150,7 +150,10 @@ module _ (s : Shared) (earlier : List Assertion) (active : List Hypothesis) (ste
       let e : Some x ≡ Some (names label) = sym is ∙ ap (slice_get steps) (sym here) ∙ at.labelled in
       no_label label cc in
       record {
-        goes = step_more (node_in s) earlier active (Some empty) steps i x _ is was.goes ∙ goes;
+        goes = λ stack h.
+            let back = step_back (node_in s) earlier active (Some empty) steps i x stack is h in
+            let e = sym back.2 ∙ ap (λ (z : Stack ℕ). stepped (node_in s) earlier active z x) (was.goes back.0 back.1) ∙ goes in
+            cc e;
         noted = λ label n k h takes at.
             elim (cases_lt k i) [
               | inl lt ↦ ap (λ ws. slice_get ws.items n) written ∙ was.noted label n k lt takes at
@@ -198,23 +201,24 @@ module _ (s : Shared) (earlier : List Assertion) (active : List Hypothesis) (ste
       now.may_mark (λ e. was.last now.could)
 
   module _ (c : CountedLabel) (now : IsCited s c old new) (is : slice_get steps i ≡ Some (names c.label.now))
-      (takes : option_map length (taken_by earlier active c.label.now) ≡ Some c.takes) (was : IsReadTo s earlier active steps old i) where
+      (takes : (taken : List Hypothesis) → taken_by earlier active c.label.now ≡ Some taken → length taken ≡ c.takes) (was : IsReadTo s earlier active steps old i) where
     own : ℕ
     own = node_in s c.label.now now.taken
 
     then : Stack ℕ
     then = record { entries = reverse new.entries.items; marked = new.marked.items }
 
-    goes_on : run_steps (node_in s) earlier active (Some empty) (take (suc i) steps) ≡ Some then
+    goes_on : (stack : Stack ℕ) → run_steps (node_in s) earlier active (Some empty) (take (suc i) steps) ≡ Some stack → stack ≡ then
     unfolding then
-    goes_on =
-        let hs = mapped length (taken_by earlier active c.label.now) c.takes takes in
-        step_more (node_in s) earlier active (Some empty) steps i (names c.label.now) _ is was.goes
-        ∙ ap (λ es. stepped (node_in s) earlier active (record { entries = reverse es; marked = old.marked.items }) (names c.label.now))
-        now.split
-        ∙ cited_step (node_in s) earlier active c.label.now now.front now.taken old.marked.items hs.0 hs.1 (hs.2 ∙ sym now.many)
-        ∙ ap (λ es. Some (record { entries = reverse es; marked = old.marked.items })) (sym now.entries)
-        ∙ ap (λ ms. Some (record { entries = reverse new.entries.items; marked = ms })) (sym now.marked)
+    goes_on stack h =
+        let back = step_back (node_in s) earlier active (Some empty) steps i (names c.label.now) stack is h in
+        let here : back.0 ≡ record { entries = reverse (now.front ++ now.taken); marked = old.marked.items } =
+        was.goes back.0 back.1 ∙ ap (λ es. record { entries = reverse es; marked = old.marked.items }) now.split in
+        let goes = ap (λ (z : Stack ℕ). stepped (node_in s) earlier active z (names c.label.now)) (sym here) ∙ back.2 in
+        cited_into (node_in s) earlier active c.label.now now.front now.taken old.marked.items stack (taken_by earlier active c.label.now)
+        refl (λ hs there. takes hs there ∙ sym now.many) goes
+        ∙ ap (λ es. record { entries = reverse es; marked = old.marked.items }) (sym now.entries)
+        ∙ ap (λ ms. record { entries = reverse new.entries.items; marked = ms }) (sym now.marked)
 
     -- what is made at this place is this
     own_label : (label : Word) (n k : ℕ) → k ≡ i → IsNodeAt s earlier active steps label n k → c.label.now ≡ label
@@ -224,8 +228,11 @@ module _ (s : Shared) (earlier : List Assertion) (active : List Hypothesis) (ste
     own_node : (label : Word) (n k : ℕ) → k ≡ i → IsNodeAt s earlier active steps label n k → own ≡ n
     unfolding own then
     own_node label n k here at =
-        let goes = subst (λ m. run_steps (node_in s) earlier active (Some empty) (take (suc m) steps) ≡ Some then) (sym here) goes_on in
-        let e : Some own ≡ Some n = sym (last_of now.front own now.entries) ∙ top_of label n k then at goes in cc
+        let goes = ap (λ m. run_steps (node_in s) earlier active (Some empty) (take (suc m) steps)) (sym here) ∙ at.behind in
+        let same = goes_on at.stack goes in
+        let e : Some own ≡ Some n =
+        sym (last_of now.front own now.entries) ∙ ap (λ (z : Stack ℕ). slice_get z.entries 0) (sym same) ∙ at.last in
+        cc
 
     takes_some : (label : Word) (n k : ℕ) → k ≡ i → IsNodeAt s earlier active steps label n k
         → IsTrue (takes_entries (taken_by earlier active label)) → 0 < c.takes
@@ -272,7 +279,7 @@ module _ (s : Shared) (earlier : List Assertion) (active : List Hypothesis) (ste
         behind = refl;
         label = c.label.now;
         labelled = is;
-        takes = some_taken (taken_by earlier active c.label.now) c.takes takes (positive c.takes (sym now.may_mark ∙ e));
+        takes = none_taken (taken_by earlier active c.label.now) c.takes takes (positive c.takes (sym now.may_mark ∙ e));
       };
       behind = λ k h mark.
           elim (cases_lt k i) [
@@ -291,8 +298,8 @@ pub cited_at : (s : Shared) (cs : List CountedLabel) (d : CountedLabel) (code : 
 cited_at s cs d code n place old new is place-is h now = λ earlier active takes steps i at was.
     let c = get_or cs place d in
     let there : slice_get cs place ≡ Some c = slice_get-get_or cs place d h in
-    let so = all_at (λ (c : CountedLabel). option_map length (taken_by earlier active c.label.now) ≡ Some c.takes) cs place c
-    (recursion_from_All (λ (c : CountedLabel). option_map length (taken_by earlier active c.label.now) ≡ Some c.takes) cs takes) there in
+    let so = all_at (λ (c : CountedLabel). (taken : List Hypothesis) → taken_by earlier active c.label.now ≡ Some taken → length taken ≡ c.takes) cs place c
+    (recursion_from_All (λ (c : CountedLabel). (taken : List Hypothesis) → taken_by earlier active c.label.now ≡ Some taken → length taken ≡ c.takes) cs takes) there in
     cited s earlier active steps old new i c now (at ∙ ap (λ x. Some x) (label_step cs c code n place is place-is there)) so was
 
 pub repeated_at : (s : Shared) (cs : List CountedLabel) (code : Code) (n place : ℕ) (old new : Reader) → code ≡ Number n → place ≡ n - 1
@@ -311,9 +318,12 @@ mark_at s cs code old new is now = λ earlier active takes steps i at was.
 pub none_read : (s : Shared) (earlier : List Assertion) (active : List Hypothesis) (steps : List Step) (r : Reader) → r.entries.items ≡ []
     → r.marked.items ≡ [] → r.may_mark ≡ false → IsReadTo s earlier active steps r 0
 none_read s earlier active steps r entries marked may_mark = record {
-  goes =
-      ap (λ es. Some (record { entries = reverse es; marked = [] })) (sym entries)
-      ∙ ap (λ ms. Some (record { entries = reverse r.entries.items; marked = ms })) (sym marked);
+  goes = λ stack h.
+      let here : Some (empty {A = ℕ}) ≡ Some stack = h in
+      let same : stack ≡ empty {A = ℕ} = cc here in
+      same
+      ∙ ap (λ es. record { entries = reverse es; marked = [] }) (sym entries)
+      ∙ ap (λ ms. record { entries = reverse r.entries.items; marked = ms }) (sym marked);
   noted = λ label n k h. absurd (omega arith);
   once = λ label n j k h. absurd (omega arith);
   last = λ e. absurd cc;

@@ -1,14 +1,14 @@
 -- Of the code's inside, apart from the rules: a compressed proof that is read again, as the nodes that its steps make.
 use Rattle.std.specs.Prelude.{◌≡◌, ◌<◌, ◌⊎◌, ℕ, suc, true, false, List, [], ◌∷◌, ◌++◌, length, map, take, reverse, All, Contains, Option, Some}
 use Rattle.std.specs.Prelude.{IsTrue, slice_get, nat_lt}
-use Rattle.std.specs.Option.{option_map, option_and_then, unwrap_or}
+use Rattle.std.specs.Option.{option_and_then, unwrap_or}
 use Rattle.std.specs.Str.{bytes_eq}
 use Rattle.std.specs.HashMap.{get_by}
 use Rattle.mmtext.specs.Words.{Word}
 use Rattle.source.specs.declared.letters.Code.{Code}
 use Rattle.source.specs.Letters.{codes_of}
 use Rattle.source.specs.Scopes.{Hypothesis, Assertion}
-use Rattle.source.specs.Proofs.{Step, marks, taken_by, empty, run_steps, step_of}
+use Rattle.source.specs.Proofs.{Step, marks, taken_by, empty, run_steps, step_of, Stack}
 use Rattle.sourcewriting.specs.declared.shared.CountedLabel.{CountedLabel}
 use Rattle.sourcewriting.specs.declared.shared.Shared.{Shared}
 use Rattle.sourcewriting.specs.declared.reading.Reader.{Reader}
@@ -34,9 +34,10 @@ pub record HaveMore (words old new : List CountedLabel) : Type 0 where
   pub behind : counts_of new ≡ counts_of old ++ others
   pub among : (p : Word × ℕ) → Contains others p → Contains (counts_of words) p
 
--- they do so in a proof of which active hypotheses may be named, after earlier assertions
+-- what they name does so in a proof of which active hypotheses may be named, after earlier assertions, if it is there
 abbrev pub TakeSo : List CountedLabel → List Assertion → List Hypothesis → Type 0
-TakeSo cs earlier active = All (λ c. option_map length (taken_by earlier active c.label.now) ≡ Some c.takes) cs
+TakeSo cs earlier active =
+    All (λ c. (taken : List Hypothesis) → taken_by earlier active c.label.now ≡ Some taken → length taken ≡ c.takes) cs
 
 -- ---- nodes
 
@@ -99,8 +100,8 @@ IsNodeAt s earlier active steps label node place = IsMadeAt (node_in s) earlier 
 
 pub record IsReadTo (s : Shared) (earlier : List Assertion) (active : List Hypothesis) (steps : List Step) (r : Reader) (i : ℕ)
     : Type 0 where
-  pub goes : run_steps (node_in s) earlier active (Some empty) (take i steps)
-      ≡ Some (record { entries = reverse r.entries.items; marked = r.marked.items })
+  pub goes : (stack : Stack ℕ) → run_steps (node_in s) earlier active (Some empty) (take i steps) ≡ Some stack
+      → stack ≡ record { entries = reverse r.entries.items; marked = r.marked.items }
   pub noted : (label : Word) (n k : ℕ) → k < i → IsTrue (takes_entries (taken_by earlier active label))
       → IsNodeAt s earlier active steps label n k → slice_get r.written.items n ≡ Some true
   pub once : (label : Word) (n j k : ℕ) → j < i → k < i → IsTrue (takes_entries (taken_by earlier active label))
