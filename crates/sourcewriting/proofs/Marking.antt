@@ -201,7 +201,8 @@ module _ (s : Shared) (earlier : List Assertion) (active : List Hypothesis) (ste
       now.may_mark (λ e. was.last now.could)
 
   module _ (c : CountedLabel) (now : IsCited s c old new) (is : slice_get steps i ≡ Some (names c.label.now))
-      (takes : (taken : List Hypothesis) → taken_by earlier active c.label.now ≡ Some taken → length taken ≡ c.takes) (was : IsReadTo s earlier active steps old i) where
+      (takes : (taken : List Hypothesis) → taken_by earlier active c.label.now ≡ Some taken → length taken ≡ c.takes)
+      (was : IsReadTo s earlier active steps old i) where
     own : ℕ
     own = node_in s c.label.now now.taken
 
@@ -298,8 +299,9 @@ pub cited_at : (s : Shared) (cs : List CountedLabel) (d : CountedLabel) (code : 
 cited_at s cs d code n place old new is place-is h now = λ earlier active takes steps i at was.
     let c = get_or cs place d in
     let there : slice_get cs place ≡ Some c = slice_get-get_or cs place d h in
-    let so = all_at (λ (c : CountedLabel). (taken : List Hypothesis) → taken_by earlier active c.label.now ≡ Some taken → length taken ≡ c.takes) cs place c
-    (recursion_from_All (λ (c : CountedLabel). (taken : List Hypothesis) → taken_by earlier active c.label.now ≡ Some taken → length taken ≡ c.takes) cs takes) there in
+    let P : CountedLabel → Type 0 = λ c. (taken : List Hypothesis) → taken_by earlier active c.label.now ≡ Some taken
+    → length taken ≡ c.takes in
+    let so = all_at P cs place c (recursion_from_All P cs takes) there in
     cited s earlier active steps old new i c now (at ∙ ap (λ x. Some x) (label_step cs c code n place is place-is there)) so was
 
 pub repeated_at : (s : Shared) (cs : List CountedLabel) (code : Code) (n place : ℕ) (old new : Reader) → code ≡ Number n → place ≡ n - 1
