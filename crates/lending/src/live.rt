@@ -215,7 +215,7 @@ impl<'w> Live<'w> {
 }
 
 impl<'w> Cells for Live<'w> {
-    ghost use Rattle.std.specs.Prelude.{IsOkUnless};
+    ghost use Rattle.std.specs.Prelude.{IsOkUnless, OnOk, ◌≡◌};
     ghost use Rattle.cells.specs.Sight.{IsCaused, Looks, Reads, Stages, ReadsWithin, ReadsNothing};
     ghost use Rattle.cells.specs.Slots.{cell_count};
     ghost use Rattle.lending.specs.Lent.{lent_sight};
@@ -258,7 +258,7 @@ impl<'w> Cells for Live<'w> {
         self.run.load_all(range, words)
     }
 
-    // the trait's clauses, and why it halts
+    // the trait's clauses, and why it halts; and whether the store had no room isn't told anew where it has
     fn stage(&mut self, words: &[u64]) -> Result<Range, Halt>
         requires may { (lent_sight self.old.run).may_stage ≡ true }
         requires some { words.now ≢ [] }
@@ -267,6 +267,7 @@ impl<'w> Cells for Live<'w> {
         ensures halts { IfErr result (IsCaused (lent_sight self.new.run)) }
         ensures reads { ReadsNothing (lent_sight self.old.run) (lent_sight self.new.run) }
         ensures full { IsOkUnless result Halt.StoreFull }
+        ensures room { OnOk result (self.new.run.full ≡ self.old.run.full) }
     {
         if let Some(range) = self.stage.find(words) {
             return Ok(range);

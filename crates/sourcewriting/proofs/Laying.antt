@@ -13,9 +13,9 @@ use Rattle.std.proofs.lemmas.List.Folds.{list_all-append}
 use Rattle.std.proofs.lemmas.Bool.Decides.{nat_tests}
 use Rattle.mmtext.specs.Words.{Word}
 use Rattle.items.specs.Items.{Piece, Item, bytes_of, words}
-use Rattle.items.specs.Layout.{indent, begins_line, column, is_laid_out, indents, is_word, is_compressed, IsLaidOut}
+use Rattle.items.specs.Layout.{indent, begins_line, column, is_laid_out, indents, is_word, is_compressed}
 use Rattle.sourcewriting.specs.Indentations.{IsIndentation}
-use Rattle.sourcewriting.specs.Laid.{column_behind, has_closing, AreLaid}
+use Rattle.sourcewriting.specs.Laid.{column_behind, has_closing, AreLaid, IsLaidOutAs}
 
 -- the white space that a piece may have, and its column
 abbrev stands : Piece → Bool
@@ -215,20 +215,22 @@ word_put i ws text between after at begin end word fits was is e short said begi
 -- the white space for $. behind them, on the line or on a new one
 pub finished : (i : List ℕ) (ws : List Word) (text after : List ℕ) (at begin : ℕ) (fits : Bool) → AreLaid i ws text at
     → fits ≡ nat_le (at + 3) 79 → after ≡ text ++ (if not fits then 10 ∷ i else codes " ")
-    → min begin 79 ≡ min (if not fits then length i else suc at) 79 → IsLaidOut i (is_compressed ws) after
+    → min begin 79 ≡ min (if not fits then length i else suc at) 79 → IsLaidOutAs i ws after
 finished i ws text after at begin fits was e said begins =
     let p : Piece = record { space = space_of i fits; word = codes "$." } in
     let short : length i + 2 ≤ 79 = omega (arith, was.begins.short) in
-    let now = placed i (has_closing ws) at (column_behind 79 was.pieces) begin (begin + 2) (codes "$.") fits was.begins was.ends e (inr (inr short)) begins refl in
-    record {
-      proof = was.pieces;
-      space = p.space;
-      bytes = said ∙ ap (λ t. t ++ p.space) was.bytes;
-      spelled = subst (λ vs. IsTrue (list_all is_word vs)) (sym was.words_are) was.spelled;
-      form = ap is_compressed was.words_are;
-      layout = layout_more i ws text at (begin + 2) p was now;
-      indented = indents-more i was.pieces p was.indented now.has;
-    }
+    let now = placed i (has_closing ws) at (column_behind 79 was.pieces) begin (begin + 2) (codes "$.") fits was.begins was.ends e (inr (inr short)) begins refl in (
+      record {
+        proof = was.pieces;
+        space = p.space;
+        bytes = said ∙ ap (λ t. t ++ p.space) was.bytes;
+        spelled = subst (λ vs. IsTrue (list_all is_word vs)) (sym was.words_are) was.spelled;
+        form = ap is_compressed was.words_are;
+        layout = layout_more i ws text at (begin + 2) p was now;
+        indented = indents-more i was.pieces p was.indented now.has;
+      },
+      was.words_are,
+    )
 
 -- what was right and stays so
 pub first_no : (a b : Bool) → (a || not b) ≡ false → a ≡ false

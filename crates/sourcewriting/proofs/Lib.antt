@@ -2,3 +2,9 @@ pub mod Labels
 pub mod Laying
 pub mod Orders
 mod Appended
+pub mod Marking
+pub mod Counted
+pub mod MarkedWords
+pub mod Told
+pub mod Mandatory
+pub mod MarkedProofs

@@ -1,10 +1,10 @@
 -- Of the code's inside, apart from the rules: words in lines, one behind the other.
 use Rattle.std.specs.Prelude.{◌≡◌, ◌≤◌, ◌+◌, ◌⊎◌, ℕ, suc, min, Bool, false, List, [], ◌∷◌, ◌++◌, length, All, IsTrue, IsFalse, codes}
-use Rattle.std.specs.List.{list_all, list_any}
+use Rattle.std.specs.List.{list_all, list_any, flat_map}
 use Rattle.std.specs.Str.{bytes_eq}
 use Rattle.mmtext.specs.Words.{Word, is_label}
 use Rattle.items.specs.Items.{Item, bytes_of, words}
-use Rattle.items.specs.Layout.{column, is_laid_out, indents, is_word, is_compressed}
+use Rattle.items.specs.Layout.{column, is_laid_out, indents, is_word, is_compressed, IsLaidOut}
 use Rattle.sourcewriting.specs.Indentations.{IsIndentation}
 use Rattle.sourcewriting.specs.declared.layout.Layout.{Layout}
 
@@ -40,9 +40,10 @@ HasLabels i l front labels = IsLaid i l (front ++ labels) × (IsFalse l.is_refus
 abbrev pub IsNormal : List ℕ → Layout → Type 0
 IsNormal i l = (labels : List Word) × HasLabels i l [] labels
 
--- labels in parentheses, and letters: a compressed proof (appendix B)
-abbrev pub IsCompressed : List ℕ → Layout → Type 0
-IsCompressed i l = (labels letters : List Word) × IsLaid i l ((codes "(" ∷ (labels ++ codes ")" ∷ [])) ++ letters)
+-- labels in parentheses, and these letters, cut somehow: a compressed proof (appendix B)
+abbrev pub IsCompressed : List ℕ → Layout → List Word → List ℕ → Type 0
+IsCompressed i l labels letters =
+    (cut : List Word) × (flat_map (λ w. w) cut ≡ letters) × IsLaid i l ((codes "(" ∷ (labels ++ codes ")" ∷ [])) ++ cut)
 
 -- the words of a proof in one of these forms
 abbrev pub IsInForm : List ℕ → Bool → Layout → Type 0
@@ -51,3 +52,7 @@ IsInForm i form l = (ws : List Word) × IsLaid i l ws × (IsFalse l.is_refused �
 -- a word of so many bytes is no longer than what is left of the line, or than a line
 abbrev pub IsShort : Layout → ℕ → Type 0
 IsShort l n = (l.column + suc n ≤ 79) ⊎ (length l.indentation.now + n ≤ 79)
+
+-- a text is laid out, and these are its words
+abbrev pub IsLaidOutAs : List ℕ → List Word → List ℕ → Type 0
+IsLaidOutAs i ws text = (laid : IsLaidOut i (is_compressed ws) text) × (words laid.proof ≡ ws)

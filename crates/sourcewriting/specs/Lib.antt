@@ -2,3 +2,8 @@ pub mod Forms
 pub mod Indentations
 pub mod Laid
 pub mod Letters
+pub mod Marking
+pub mod Counting
+pub mod Reading
+pub mod MarkedTexts
+pub mod Taking

@@ -10,7 +10,7 @@ ghost use Rattle.mmtext.specs.Words.{Word, is_label};
 ghost use Rattle.source.specs.Views.{seen_words};
 ghost use Rattle.items.specs.Layout.{IsLaidOut, is_word};
 ghost use Rattle.sourcewriting.specs.Indentations.{is_indentation, usual_indentation, indentation_like, IsIndentation};
-ghost use Rattle.sourcewriting.specs.Laid.{IsLaid, HasLabels, IsInForm, IsShort, has_closing};
+ghost use Rattle.sourcewriting.specs.Laid.{IsLaid, HasLabels, IsLaidOutAs, IsShort, has_closing};
 
 use items::are_spaces;
 use mmtext::is_label_token;
@@ -165,16 +165,6 @@ impl<'i> Layout<'i> {
         self.put_word(label);
     }
 
-    /// Puts labels.
-    pub(crate) fn put_labels(&mut self, labels: &[&[u8]])
-        ensures { (i : List ℕ) (front : List Word) → IsFalse (has_closing front)
-            → HasLabels i self.old front [] → HasLabels i self.new front (seen_words labels.now) }
-    {
-        for label in labels {
-            self.put_label(label);
-        }
-    }
-
     /// Puts words.
     pub(crate) fn put_words(&mut self, words: &[&[u8]]) {
         for word in words {
@@ -219,8 +209,8 @@ impl<'i> Layout<'i> {
 
     /// The text, with room for `$.` behind it. None where a word can't stand there.
     pub(crate) fn finish(mut self) -> Result<Option<Vec<u8>>, AllocError>
-        ensures { (i : List ℕ) (form : Bool) → IsInForm i form self.entry
-            → IfOk result (λ made. IfSome made (λ text. IsLaidOut i form text.items)) }
+        ensures { (i : List ℕ) (ws : List Word) → IsLaid i self.entry ws
+            → IfOk result (λ made. IfSome made (λ text. IsFalse self.entry.is_refused × IsLaidOutAs i ws text.items)) }
     {
         let begins_line = !self.has_room(2);
         self.put_space(begins_line);

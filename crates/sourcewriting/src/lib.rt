@@ -1,7 +1,7 @@
 //! Proofs and theorems of a library, written in the words of the source that it was taken of.
 //!
 //! What is written here is looked at again by whoever prints a text (`givetext`): so but for the order of arguments, the letters of a
-//! compressed proof, and the layout and form of the text of another proof, no contract says what it is.
+//! compressed proof, and the layout, the form and the marks of the text of another proof, no contract says what it is.
 #![tactic(auto)]
 
 mod adding;
@@ -9,6 +9,7 @@ mod layout;
 mod letters;
 mod listing;
 mod proving;
+mod reading;
 mod shared;
 mod wording;
 

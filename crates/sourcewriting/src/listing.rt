@@ -1,7 +1,12 @@
 //! From the steps of a proof in the library to nodes in the order of the source.
 
-ghost use Rattle.std.specs.Prelude.{◌≡◌, ◌<◌, length, count_by, IfOk};
+ghost use Rattle.std.specs.Prelude.{◌≡◌, ◌<◌, ◌+◌, List, length, count_by, IfOk, IfSome};
+ghost use Rattle.source.specs.Scopes.{Hypothesis as HypothesisOf};
+ghost use Rattle.source.specs.Views.{seen_words};
 ghost use Rattle.taking.specs.Walks.{arranged};
+ghost use Rattle.taking.specs.Listings.{premise_labels};
+ghost use Rattle.sourcewriting.specs.Counting.{IsCountOf};
+ghost use Rattle.sourcewriting.specs.Taking.{AllTake, MayTakeMore, MayTakeNone};
 
 use crate::shared::Shared;
 use mmsyntax::{Proof, StepRef};
@@ -51,6 +56,7 @@ fn kinds_at<'a, D: Declared<'a>>(
     place: usize,
 ) -> Result<Vec<bool>, AllocError>
     requires { place < length (D.scope declared.now).assertions }
+    ensures { IfOk result (λ made. IsCountOf (D.scope declared.now) (Kinds.Standing place) (length made.items)) }
 {
     let mut kinds = Vec::new(alloc);
     for hypothesis in declared.mandatory(alloc, place)? {
@@ -60,7 +66,9 @@ fn kinds_at<'a, D: Declared<'a>>(
 }
 
 /// Whether each mandatory hypothesis of one that is added is a `$f`, in order of appearance.
-fn added_kinds(alloc: Global, floats: usize, premises: usize) -> Result<Vec<bool>, AllocError> {
+fn added_kinds(alloc: Global, floats: usize, premises: usize) -> Result<Vec<bool>, AllocError>
+    ensures { IfOk result (λ made. length made.items ≡ floats + premises) }
+{
     let mut kinds = vec![in alloc; true; floats]?;
     for _ in 0..premises {
         kinds.push(false)?;
@@ -73,7 +81,9 @@ fn kinds_of<'a, D: Declared<'a>>(
     alloc: Global,
     declared: &D,
     kinds: Kinds,
-) -> Result<Option<Vec<bool>>, AllocError> {
+) -> Result<Option<Vec<bool>>, AllocError>
+    ensures { IfOk result (λ made. IfSome made (λ are. IsCountOf (D.scope declared.now) kinds (length are.items))) }
+{
     match kinds {
         Kinds::Standing(place) if place < declared.assertions() => {
             Ok(Some(kinds_at(alloc, declared, place)?))
@@ -97,7 +107,8 @@ fn in_source_order(
     arguments: &[usize],
 ) -> Result<Vec<usize>, AllocError>
     requires { length kinds.now ≡ length arguments.now }
-    ensures { IfOk result (λ made. arranged kinds.now made.items ≡ arguments.now) }
+    ensures order { IfOk result (λ made. arranged kinds.now made.items ≡ arguments.now) }
+    ensures many { IfOk result (λ made. length made.items ≡ length kinds.now) }
 {
     let mut floats = 0;
     let mut premises = count_floats(kinds);
@@ -121,7 +132,9 @@ fn cite<'x, 'a, D: Declared<'a>>(
     shared: &mut Shared<'x>,
     stack: &mut Vec<usize>,
     cited: Cited<'x>,
-) -> Result<bool, AllocError> {
+) -> Result<bool, AllocError>
+    ensures { IfOk result (λ _. MayTakeMore (D.scope declared.now) cited.entry shared.old shared.new) }
+{
     let Some(kinds) = kinds_of(alloc, declared, cited.kinds)? else {
         return Ok(false);
     };
@@ -141,7 +154,9 @@ fn put_leaf<'x>(
     shared: &mut Shared<'x>,
     stack: &mut Vec<usize>,
     label: Option<&'x [u8]>,
-) -> Result<bool, AllocError> {
+) -> Result<bool, AllocError>
+    ensures { IfOk result (λ _. MayTakeNone label.entry shared.old shared.new) }
+{
     let Some(label) = label else {
         return Ok(false);
     };
@@ -159,7 +174,11 @@ fn take_step<'x, 'a, D: Declared<'a>>(
     shared: &mut Shared<'x>,
     stack: &mut Vec<usize>,
     step: StepRef<'_>,
-) -> Result<bool, AllocError> {
+) -> Result<bool, AllocError>
+    ensures { (hs : List HypothesisOf) → seen_words premises.now ≡ premise_labels hs
+        → AllTake (D.scope declared.now) names.now hs shared.old
+        → IfOk result (λ _. AllTake (D.scope declared.now) names.now hs shared.new) }
+{
     match step {
         StepRef::Float(place) => {
             let label = names.floats.get(place as usize).copied();
@@ -184,7 +203,11 @@ pub(crate) fn put_nodes<'x, 'a, D: Declared<'a>>(
     names: &Names<'x>,
     premises: &[&'x [u8]],
     steps: &Proof,
-) -> Result<Option<usize>, AllocError> {
+) -> Result<Option<usize>, AllocError>
+    ensures { (hs : List HypothesisOf) → seen_words premises.now ≡ premise_labels hs
+        → AllTake (D.scope declared.now) names.now hs shared.old
+        → IfOk result (λ _. AllTake (D.scope declared.now) names.now hs shared.new) }
+{
     let mut stack = Vec::new(alloc);
     for place in 0..steps.len() {
         let step = steps.step(place);

@@ -1,11 +1,16 @@
 //! The text of another proof of a theorem, in the form that the old one has in the source.
 
-ghost use Rattle.std.specs.Prelude.{◌≡◌, ◌<◌, ℕ, Bool, List, [], length, option_and_then, option_map, slice_get, IfOk, IfSome};
-ghost use Rattle.source.specs.Views.{seen_proof};
+ghost use Rattle.std.specs.Prelude.{◌≡◌, ◌<◌, ℕ, Bool, List, [], length, option_and_then, option_map, slice_get, IfOk, IfSome, Some, IsTrue, if◌then◌else◌, ◌∷◌, ◌++◌};
+ghost use Rattle.source.specs.Scopes.{Assertion as AssertionOf, Hypothesis as HypothesisOf, label_of};
+ghost use Rattle.source.specs.Views.{seen_words, seen_hypothesis, seen_proof};
+ghost use Rattle.taking.specs.Listings.{premise_labels};
 ghost use Rattle.items.specs.Layout.{IsLaidOut};
 ghost use Rattle.sourcewriting.specs.Indentations.{IsIndentation};
 ghost use Rattle.sourcewriting.specs.Forms.{is_compressed_form};
 ghost use Rattle.sourcewriting.specs.Laid.{IsLaid, IsInForm};
+ghost use Rattle.sourcewriting.specs.MarkedTexts.{IsMarkedText};
+ghost use Rattle.sourcewriting.specs.Reading.{IsMarkedLayout};
+ghost use Rattle.sourcewriting.specs.Taking.{AreHypotheses, IsMarkedAs};
 
 use crate::layout::Layout;
 use crate::listing::{Names, put_nodes};
@@ -33,7 +38,10 @@ impl<'x> Drop for Hypotheses<'x> {
 }
 
 /// The label of a hypothesis, and whether it is a `$e`.
-fn label_of<'a>(hypothesis: &HypothesisWords<'a>) -> (&'a [u8], bool) {
+fn label_of<'a>(hypothesis: &HypothesisWords<'a>) -> (&'a [u8], bool)
+    ensures label { result.0.now ≡ label_of (seen_hypothesis hypothesis.now) }
+    ensures premise { premise_labels (seen_hypothesis hypothesis.now ∷ []) ≡ (if result.1 then result.0.now ∷ [] else []) }
+{
     match hypothesis {
         HypothesisWords::Typing(label, _, _) => (*label, false),
         HypothesisWords::Premise(label, _) => (*label, true),
@@ -42,7 +50,11 @@ fn label_of<'a>(hypothesis: &HypothesisWords<'a>) -> (&'a [u8], bool) {
 
 impl<'x> Hypotheses<'x> {
     /// One more hypothesis, and whether it is a `$e`.
-    fn push(&mut self, label: &'x [u8], is_premise: bool) -> Result<(), AllocError> {
+    fn push(&mut self, label: &'x [u8], is_premise: bool) -> Result<(), AllocError>
+        ensures mandatory { IfOk result (λ _. seen_words self.new.mandatory.items ≡ seen_words self.old.mandatory.items ++ label.now ∷ []) }
+        ensures premises { IfOk result (λ _. seen_words self.new.premises.items
+            ≡ seen_words self.old.premises.items ++ (if is_premise then label.now ∷ [] else [])) }
+    {
         self.mandatory.push(label)?;
         if is_premise {
             self.premises.push(label)?;
@@ -58,6 +70,8 @@ fn hypotheses_of<'x, D: Declared<'x>>(
     place: usize,
 ) -> Result<Hypotheses<'x>, AllocError>
     requires { place < length (D.scope declared.now).assertions }
+    ensures { (a : AssertionOf) → slice_get (D.scope declared.now).assertions place ≡ Some a
+        → IfOk result (AreHypotheses a.hypotheses) }
 {
     let mut hypotheses = Hypotheses {
         mandatory: Vec::new(alloc),
@@ -86,7 +100,8 @@ fn put_in_form(
     mandatory: &[&[u8]],
     root: usize,
 ) -> Result<bool, AllocError>
-    ensures { (i : List ℕ) → IsLaid i layout.old [] → IfOk result (λ _. IsInForm i is_compressed layout.new) }
+    ensures { (i : List ℕ) → IsLaid i layout.old [] → IfOk result (λ right. IsTrue right → IsInForm i is_compressed layout.new
+        × (IsTrue is_compressed → IsMarkedLayout i layout.new (seen_words mandatory.now) shared.now.words.items)) }
 {
     if is_compressed {
         put_compressed(alloc, layout, shared, mandatory, root)
@@ -106,7 +121,9 @@ fn text_in_form(
     root: usize,
 ) -> Result<Option<Vec<u8>>, AllocError>
     requires { IsIndentation indentation.now }
-    ensures { IfOk result (λ made. IfSome made (λ text. IsLaidOut indentation.now is_compressed text.items)) }
+    ensures laid_out { IfOk result (λ made. IfSome made (λ text. IsLaidOut indentation.now is_compressed text.items)) }
+    ensures marked { IsTrue is_compressed → IfOk result (λ made. IfSome made (λ text.
+        IsMarkedAs indentation.now (seen_words mandatory.now) shared.now.words.items text.items)) }
 {
     let mut layout = Layout::new(alloc, indentation);
     if put_in_form(alloc, &mut layout, is_compressed, shared, mandatory, root)? {
@@ -129,7 +146,9 @@ fn text_of<'p, 'a, D: Declared<'a>>(
     steps: &Proof,
 ) -> Result<Option<Vec<u8>>, AllocError>
     requires { IsIndentation indentation.now }
-    ensures { IfOk result (λ made. IfSome made (λ text. IsLaidOut indentation.now is_compressed text.items)) }
+    ensures laid_out { IfOk result (λ made. IfSome made (λ text. IsLaidOut indentation.now is_compressed text.items)) }
+    ensures marked { (hs : List HypothesisOf) → AreHypotheses hs hypotheses.now → IsTrue is_compressed
+        → IfOk result (λ made. IfSome made (λ text. IsMarkedText indentation.now (D.scope declared.now) names.now hs text.items)) }
 {
     let premises = hypotheses.premises.as_slice();
     let mandatory = hypotheses.mandatory.as_slice();
@@ -143,6 +162,8 @@ fn text_of<'p, 'a, D: Declared<'a>>(
 /// The text of a proof of the theorem at a place of the source, by its steps in the library, in the form that the old one has, with white
 /// space for the `$.` behind it: laid out in lines that begin with this indentation. None where the steps denote no tree, or one of over
 /// 16,384 steps, or name what is no label.
+///
+/// A compressed proof is read again: in it each subproof that takes entries is written once, and called by its number elsewhere.
 ///
 /// # Errors
 ///
@@ -158,8 +179,11 @@ pub fn proof_text<'x, D: Declared<'x>>(
 ) -> Result<Option<Vec<u8>>, AllocError>
     requires place { place < length (D.scope declared.now).assertions }
     requires indentation { IsIndentation indentation.now }
-    ensures { let old = option_and_then (λ a. a.proof) (slice_get (D.scope declared.now).assertions place) in
+    ensures laid_out { let old = option_and_then (λ a. a.proof) (slice_get (D.scope declared.now).assertions place) in
         IfOk result (λ made. IfSome made (λ text. IsLaidOut indentation.now (is_compressed_form old) text.items)) }
+    ensures marked { (a : AssertionOf) → slice_get (D.scope declared.now).assertions place ≡ Some a → IsTrue (is_compressed_form a.proof)
+        → IfOk result (λ made. IfSome made (λ text.
+        IsMarkedText indentation.now (D.scope declared.now) names.now a.hypotheses text.items)) }
 {
     let hypotheses = hypotheses_of(alloc, declared, place)?;
     let is_compressed = is_compressed_like(declared.proof(place));

@@ -1,8 +1,18 @@
 //! The nodes of a proof, each of which stands once.
 
+ghost use Rattle.std.specs.Prelude.{◌≡◌, [], ◌∷◌, length, IfOk};
+ghost use Rattle.sourcewriting.specs.Reading.{find_in, HaveOneMore};
+
 use std::alloc::{AllocError, Global};
 use std::collections::HashMap;
 use std::hash::RandomState;
+
+/// A label, and how many entries it takes.
+#[derive(Clone, Copy)]
+pub(crate) struct CountedLabel<'x> {
+    pub(crate) label: &'x [u8],
+    pub(crate) takes: usize,
+}
 
 /// A node: its arguments stand from one place of the vector of all arguments up to another.
 #[derive(Clone, Copy)]
@@ -18,8 +28,8 @@ struct Node {
 /// The nodes of a proof: equal subproofs are one node, which stands behind its arguments. Labels and nodes are numbered from 0, in the
 /// order of their first use.
 pub(crate) struct Shared<'x> {
-    /// The labels that nodes name.
-    words: Vec<&'x [u8]>,
+    /// The labels that nodes name, each with how many arguments the first node has that names it.
+    words: Vec<CountedLabel<'x>>,
     numbers: HashMap<&'x [u8], usize, RandomState>,
     nodes: Vec<Node>,
     arguments: Vec<usize>,
@@ -41,7 +51,9 @@ impl<'x> Drop for Shared<'x> {
 }
 
 /// The key of a node: the number of its label, and its arguments.
-fn key_of(alloc: Global, number: usize, arguments: &[usize]) -> Result<Vec<usize>, AllocError> {
+fn key_of(alloc: Global, number: usize, arguments: &[usize]) -> Result<Vec<usize>, AllocError>
+    ensures { IfOk result (λ key. key.items ≡ number ∷ arguments.now) }
+{
     let mut key = Vec::with_capacity(alloc, arguments.len() + 1)?;
     key.push(number)?;
     key.extend_from_slice(arguments)?;
@@ -50,7 +62,9 @@ fn key_of(alloc: Global, number: usize, arguments: &[usize]) -> Result<Vec<usize
 
 impl<'x> Shared<'x> {
     /// No node yet.
-    pub(crate) fn new(alloc: Global, keys: RandomState) -> Shared<'x> {
+    pub(crate) fn new(alloc: Global, keys: RandomState) -> Shared<'x>
+        ensures { result.words.items ≡ [] }
+    {
         Shared {
             words: Vec::new(alloc),
             numbers: HashMap::with_hasher(alloc, keys),
@@ -60,31 +74,39 @@ impl<'x> Shared<'x> {
         }
     }
 
-    /// The labels that nodes name, by their numbers.
-    pub(crate) fn words(&self) -> &[&'x [u8]] {
+    /// The labels that nodes name, by their numbers, each with how many arguments the first node has that names it.
+    pub(crate) fn words(&self) -> &[CountedLabel<'x>]
+        ensures { result.now ≡ self.now.words.items }
+    {
         self.words.as_slice()
     }
 
-    /// The number of a label: a new one where no node named it.
-    fn number_of(&mut self, word: &'x [u8]) -> Result<usize, AllocError> {
-        if let Some(number) = self.numbers.get(&word) {
+    /// The number of a label: a new one where no node named it, with how many arguments this node has.
+    fn number_of(&mut self, label: &'x [u8], takes: usize) -> Result<usize, AllocError>
+        ensures { IfOk result (λ _. HaveOneMore self.old.words.items self.new.words.items label.now takes) }
+    {
+        if let Some(number) = self.numbers.get(&label) {
             return Ok(*number);
         }
         let number = self.words.len();
-        self.words.push(word)?;
-        self.numbers.insert(word, number)?;
+        self.words.push(CountedLabel { label, takes })?;
+        self.numbers.insert(label, number)?;
         Ok(number)
     }
 
     /// A node is an argument in one more place.
-    fn use_again(&mut self, node: usize) {
+    fn use_again(&mut self, node: usize)
+        ensures { self.new.words ≡ self.old.words }
+    {
         if let Some(used) = self.nodes.get_mut(node) {
             used.uses = used.uses.saturating_add(1);
         }
     }
 
     /// A new node, of the label with a number.
-    fn push(&mut self, word: usize, arguments: &[usize]) -> Result<usize, AllocError> {
+    fn push(&mut self, word: usize, arguments: &[usize]) -> Result<usize, AllocError>
+        ensures { IfOk result (λ _. self.new.words ≡ self.old.words) }
+    {
         let begin = self.arguments.len();
         self.arguments.extend_from_slice(arguments)?;
         for argument in arguments {
@@ -107,8 +129,10 @@ impl<'x> Shared<'x> {
         alloc: Global,
         word: &'x [u8],
         arguments: &[usize],
-    ) -> Result<usize, AllocError> {
-        let number = self.number_of(word)?;
+    ) -> Result<usize, AllocError>
+        ensures { IfOk result (λ _. HaveOneMore self.old.words.items self.new.words.items word.now (length arguments.now)) }
+    {
+        let number = self.number_of(word, arguments.len())?;
         let key = key_of(alloc, number, arguments)?;
         if let Some(node) = self.places.get(&key) {
             return Ok(*node);
@@ -116,6 +140,22 @@ impl<'x> Shared<'x> {
         let node = self.push(number, arguments)?;
         self.places.insert(key, node)?;
         Ok(node)
+    }
+
+    /// The node of a label over nodes, if there is one.
+    pub(crate) fn find(
+        &self,
+        alloc: Global,
+        label: &[u8],
+        arguments: &[usize],
+    ) -> Result<Option<usize>, AllocError>
+        ensures { IfOk result (λ found. found ≡ find_in self.now label.now arguments.now) }
+    {
+        let Some(number) = self.numbers.get(&label).copied() else {
+            return Ok(None);
+        };
+        let key = key_of(alloc, number, arguments)?;
+        Ok(self.places.get(key.as_slice()).copied())
     }
 
     /// The number of the label that a node names: 0 where there is no such node.

@@ -1,11 +1,15 @@
 //! The words of a proof: normal, or compressed with each subproof once that stands there more than once.
 
-ghost use Rattle.std.specs.Prelude.{ℕ, List, [], IfOk, IsTrue};
-ghost use Rattle.sourcewriting.specs.Laid.{IsLaid, IsNormal, IsCompressed};
+ghost use Rattle.std.specs.Prelude.{◌≡◌, ◌++◌, ℕ, List, [], map, IfOk, IsTrue, IsFalse};
+ghost use Rattle.source.specs.Views.{seen_words};
+ghost use Rattle.mmtext.specs.Words.{Word};
+ghost use Rattle.sourcewriting.specs.Laid.{IsLaid, IsNormal, IsCompressed, HasLabels, has_closing};
+ghost use Rattle.sourcewriting.specs.Reading.{counts_of, labels_in, HaveOneMore, HaveMore, IsMarkedLayout};
 
 use crate::layout::Layout;
 use crate::letters::put_number;
-use crate::shared::Shared;
+use crate::reading::are_marked;
+use crate::shared::{CountedLabel, Shared};
 use mmsyntax::MOST_STEPS;
 use std::alloc::{AllocError, Global};
 
@@ -31,11 +35,10 @@ fn push_both(stack: &mut Vec<Turn>, turn: Turn, node: usize) -> Result<(), Alloc
 
 /// The label that a node names: `?`, which stands for an unknown step, where there is no such node.
 fn word_at<'x>(shared: &Shared<'x>, node: usize) -> &'x [u8] {
-    shared
-        .words()
-        .get(shared.word(node))
-        .copied()
-        .unwrap_or(b"?")
+    match shared.words().get(shared.word(node)) {
+        Some(word) => word.label,
+        None => b"?",
+    }
 }
 
 /// A turn at a node of a normal proof: its next argument is walked through, or else it puts its label.
@@ -150,10 +153,12 @@ impl Letters<'_> {
 /// The number of a label: that of the mandatory hypothesis, or that of the place in parentheses which it gets, behind the others.
 fn number_of<'x>(
     mandatory: &[&[u8]],
-    others: &mut Vec<&'x [u8]>,
-    word: &'x [u8],
-) -> Result<usize, AllocError> {
-    if let Some(place) = mandatory.iter().position(|label| *label == word) {
+    others: &mut Vec<CountedLabel<'x>>,
+    word: CountedLabel<'x>,
+) -> Result<usize, AllocError>
+    ensures { IfOk result (λ _. HaveOneMore others.old.items others.new.items word.entry.label.now word.entry.takes) }
+{
+    if let Some(place) = mandatory.iter().position(|label| *label == word.label) {
         return Ok(place);
     }
     let number = mandatory.len().saturating_add(others.len());
@@ -165,37 +170,62 @@ fn number_of<'x>(
 /// of their first use. The others are put behind those that there are.
 fn numbers_of<'x>(
     alloc: Global,
-    words: &[&'x [u8]],
+    words: &[CountedLabel<'x>],
     mandatory: &[&[u8]],
-    others: &mut Vec<&'x [u8]>,
-) -> Result<Vec<usize>, AllocError> {
+    others: &mut Vec<CountedLabel<'x>>,
+) -> Result<Vec<usize>, AllocError>
+    ensures { IfOk result (λ _. HaveMore words.now others.old.items others.new.items) }
+{
     let mut numbers = Vec::with_capacity(alloc, words.len())?;
     for word in words {
-        numbers.push(number_of(mandatory, others, word)?)?;
+        numbers.push(number_of(mandatory, others, *word)?)?;
     }
     Ok(numbers)
 }
 
+/// The labels that the numbers of a compressed proof count: those of the mandatory hypotheses, which take no entries, and others.
+fn counted_labels<'x>(
+    alloc: Global,
+    mandatory: &[&'x [u8]],
+    others: &[CountedLabel<'x>],
+) -> Result<Vec<CountedLabel<'x>>, AllocError>
+    ensures { IfOk result (λ made. counts_of made.items ≡ map (λ w. (w, 0)) (seen_words mandatory.now) ++ counts_of others.now) }
+{
+    let mut counted = Vec::with_capacity(alloc, mandatory.len().saturating_add(others.len()))?;
+    for label in mandatory {
+        counted.push(CountedLabel { label, takes: 0 })?;
+    }
+    counted.extend_from_slice(others)?;
+    Ok(counted)
+}
+
+/// Puts labels.
+fn put_labels(layout: &mut Layout<'_>, labels: &[CountedLabel<'_>])
+    ensures { (i : List ℕ) (front : List Word) → IsFalse (has_closing front)
+        → HasLabels i layout.old front [] → HasLabels i layout.new front (labels_in labels.now) }
+{
+    for word in labels {
+        layout.put_label(word.label);
+    }
+}
+
 /// Puts labels in parentheses.
-fn put_in_parentheses(layout: &mut Layout<'_>, labels: &[&[u8]])
-    ensures { (i : List ℕ) → IsLaid i layout.old [] → IsCompressed i layout.new }
+fn put_in_parentheses(layout: &mut Layout<'_>, labels: &[CountedLabel<'_>])
+    ensures { (i : List ℕ) → IsLaid i layout.old [] → IsCompressed i layout.new (labels_in labels.now) [] }
 {
     layout.put_word(b"(");
-    layout.put_labels(labels);
+    put_labels(layout, labels);
     layout.put_word(b")");
 }
 
-/// Puts the letters of a tree whose labels have these numbers, which are below `labels`. Whether it has at most 16,384 steps.
-fn put_letters(
+/// The letters of a tree whose labels have these numbers, which are below `labels`. None where it has over 16,384 steps.
+fn letters_of(
     alloc: Global,
-    layout: &mut Layout<'_>,
     shared: &Shared<'_>,
     numbers: &[usize],
     labels: usize,
     root: usize,
-) -> Result<bool, AllocError>
-    ensures { (i : List ℕ) → IsCompressed i layout.old → IfOk result (λ _. IsCompressed i layout.new) }
-{
+) -> Result<Option<Vec<u8>>, AllocError> {
     let mut letters = Letters {
         numbers,
         labels,
@@ -204,25 +234,28 @@ fn put_letters(
         text: Vec::new(alloc),
     };
     let is_whole = letters.put_tree(alloc, shared, root)?;
-    layout.put_letters(letters.text.as_slice());
-    Ok(is_whole)
+    Ok(is_whole.then_some(letters.text))
 }
 
-/// Puts a compressed proof of a theorem with these mandatory hypotheses. Whether it has at most 16,384 steps, where a marked subproof that
-/// stands there again counts as one.
-pub(crate) fn put_compressed(
+/// Puts a compressed proof of a theorem with these mandatory hypotheses, and reads it again. Whether it has at most 16,384 steps, where a
+/// marked subproof that stands there again counts as one, and is marked as it should be.
+pub(crate) fn put_compressed<'x>(
     alloc: Global,
     layout: &mut Layout<'_>,
-    shared: &Shared<'_>,
-    mandatory: &[&[u8]],
+    shared: &Shared<'x>,
+    mandatory: &[&'x [u8]],
     root: usize,
 ) -> Result<bool, AllocError>
-    ensures { (i : List ℕ) → IsLaid i layout.old [] → IfOk result (λ _. IsCompressed i layout.new) }
+    ensures { (i : List ℕ) → IsLaid i layout.old []
+        → IfOk result (λ right. IsTrue right → IsMarkedLayout i layout.new (seen_words mandatory.now) shared.now.words.items) }
 {
     let mut others = Vec::new(alloc);
     let numbers = numbers_of(alloc, shared.words(), mandatory, &mut others)?;
     put_in_parentheses(layout, others.as_slice());
-    let labels = mandatory.len().saturating_add(others.len());
-    drop(others);
-    put_letters(alloc, layout, shared, numbers.as_slice(), labels, root)
+    let counted = counted_labels(alloc, mandatory, others.as_slice())?;
+    let Some(letters) = letters_of(alloc, shared, numbers.as_slice(), counted.len(), root)? else {
+        return Ok(false);
+    };
+    layout.put_letters(letters.as_slice());
+    are_marked(alloc, shared, counted.as_slice(), letters.as_slice())
 }

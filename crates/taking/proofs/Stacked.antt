@@ -22,7 +22,7 @@ use Rattle.taking.proofs.Turned.{turned_cons, turned_back, all_turned, turned_fi
 
 -- ---- what comes off
 
-popped : {A : Type 0} (hs : List Hypothesis) (xs rest off : List A) → length hs ≡ length xs
+pub popped : {A : Type 0} (hs : List Hypothesis) (xs rest off : List A) → length hs ≡ length xs
     → pop hs (xs ++ rest) off ≡ Some (reverse xs ++ off, rest)
 popped [] [] rest off e = refl
 popped [] (x ∷ xs) rest off e = absurd (omega arith)

@@ -37,8 +37,9 @@ pub struct Worked {
 ///
 /// # Errors
 ///
-/// `NoThread` where there are two sessions or more and a thread can't be had, and want of memory. The sessions are gone then, and what they
-/// committed stays in the library.
+/// `NoThread` where there are two sessions or more and a thread can't be had, and want of memory. That may come before any script is run;
+/// where a worker claims one, before the first of its transactions, or behind the last, never between them; and behind all scripts. The
+/// sessions are gone then, and what they committed stays in the library.
 pub fn run_scripts<R: Threads + Wait + Sync, G: Gate + Sync>(
     rt: &R,
     alloc: Global,

@@ -30,6 +30,6 @@ returns-in-Some-2-clause-written g c κs = λ indented.
     let is : i ≡ found_in c.args.indentations.now c.args.source.now c.args.new.now =
     c.indentation_like-indentation.ensures.is ∙ ap₂ indentation_like c.text_for.ensures has in
     let laid : IsLaidOut i form c.in-Some-2.text.items =
-    subst (λ o. IfSome o (λ text. IsLaidOut i form text.items)) c.in-Some-2.is c.in_ok-text.ensures in
+    subst (λ o. IfSome o (λ text. IsLaidOut i form text.items)) c.in-Some-2.is c.in_ok-text.ensures.laid_out in
     written_for κs s c.args.source.now c.args.new.now c.in-Some-2.text.items i c.args.indentations.now c.in-Some.place indented
     (sym c.in-Some.ensures) is laid

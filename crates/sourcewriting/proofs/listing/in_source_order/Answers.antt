@@ -49,8 +49,8 @@ loop-is_float-preserved c =
           l.made.items _ l.invariant c.loop-is_float-test.true c.requires w.if-is_float.false w.in_ok-push-2.ensures.items)
     ]
 
-pub returns : goal.returns
-returns c =
+pub returns-clause-order : goal.returns-clause-order
+returns-clause-order c =
     let l = c.loop-is_float in
     all_placed c.args.kinds.now c.args.arguments.now l.is_float-index l.floats l.premises l.made.items l.invariant (omega arith)
     (omega arith) c.requires

@@ -1,8 +1,8 @@
 use Rattle.std.proofs.Common.{◌≡◌, [], ◌∷◌, ◌++◌, List, refl, sym, subst, inl, codes}
 use Rattle.std.proofs.lemmas.List.{append-nil}
 use Rattle.mmtext.specs.Words.{Word}
-use Rattle.source.specs.Views.{seen_words}
 use Rattle.sourcewriting.specs.Laid.{IsLaid, AreLaid, HasLabels}
+use Rattle.sourcewriting.specs.Reading.{labels_in}
 use Rattle.sourcewriting.proofs.Labels.{closed_none_behind}
 use Rattle.sourcewriting.proofs.wording.put_in_parentheses.Goals as goal
 
@@ -10,12 +10,12 @@ pub returns : goal.returns
 returns c = λ i laid.
     let m = c.put_word-2.new.self in
     let front : List Word = codes "(" ∷ [] in
-    let labels = seen_words c.args.labels.now in
+    let labels = labels_in c.args.labels.now in
     let first : IsLaid i c.put_word.new.self front = c.put_word.ensures.laid i [] (inl refl) laid in
-    let has : HasLabels i c.put_labels.new.self front labels = c.put_labels.ensures i front refl (first, λ _. refl) in
+    let has : HasLabels i c.put_labels.new.layout front labels = c.put_labels.ensures i front refl (first, λ _. refl) in
     let words = front ++ (labels ++ codes ")" ∷ []) in (
-      labels,
       [],
+      refl,
       λ whole right.
           let closed = closed_none_behind front labels refl (has.1 (c.put_word-2.ensures.right right)) in
           subst (λ ws. (m.indentation.now ≡ i) × AreLaid i ws m.text.items m.column) (sym (append-nil words))

@@ -1,0 +1,11 @@
+use Rattle.std.proofs.Common.{◌≡◌, List}
+use Rattle.source.specs.Scopes.{Hypothesis}
+use Rattle.source.specs.Views.{seen_words}
+use Rattle.taking.specs.Listings.{premise_labels}
+use Rattle.sourcewriting.specs.Taking.{AllTake}
+use Rattle.sourcewriting.proofs.listing.put_nodes.Given as goal
+
+abbrev pub invariant-loop-place : goal.invariant-loop-place
+invariant-loop-place g l =
+    (hs : List Hypothesis) → seen_words l.premises ≡ premise_labels hs
+    → AllTake (g.D.Declared.scope l.declared) l.names hs l.fn.shared → AllTake (g.D.Declared.scope l.declared) l.names hs l.shared
