@@ -8,3 +8,4 @@ mod Skipped
 mod KeptBy
 mod Walked
 mod Stayed
+pub mod InOrder

@@ -1,7 +1,7 @@
 //! Whether the comments of a source stand in the text with edits too.
 
-ghost use Rattle.std.specs.Prelude.{◌≡◌, IfOk, IsTrue, map};
-ghost use Rattle.comments.specs.Kept.{AreKept};
+ghost use Rattle.std.specs.Prelude.{◌≡◌, ◌↔◌, false, IfOk, IsTrue, map};
+ghost use Rattle.comments.specs.Kept.{AreKept, AreLost};
 ghost use Rattle.comments.specs.Walks.{seen_texts};
 
 use crate::walking::comment_texts;
@@ -11,7 +11,7 @@ use std::hash::RandomState;
 
 /// Whether texts are equal.
 fn are_equal(ones: &[Vec<u8>], others: &[Vec<u8>]) -> bool
-    ensures { IsTrue result → seen_texts ones.now ≡ seen_texts others.now }
+    ensures { IsTrue result ↔ (seen_texts ones.now ≡ seen_texts others.now) }
 {
     if ones.len() != others.len() {
         return false;
@@ -42,7 +42,8 @@ pub fn are_kept(
     source: &[u8],
     out: &[u8],
 ) -> Result<bool, AllocError>
-    ensures { IfOk result (λ kept. IsTrue kept → AreKept changes.now (map (λ c. c.0) gone.now) source.now out.now) }
+    ensures kept { IfOk result (λ kept. IsTrue kept → AreKept changes.now (map (λ c. c.0) gone.now) source.now out.now) }
+    ensures lost { IfOk result (λ kept. kept ≡ false → AreLost changes.now (map (λ c. c.0) gone.now) source.now out.now) }
 {
     let nothing = Changes::new(alloc, keys, Vec::new(alloc))?;
     let mut wanted = comment_texts(alloc, changes, gone, source)?;

@@ -19,7 +19,7 @@ module _ (old : Scope) (w : Wish) (changes : List Change) (own : List Bool) (edi
     other_library (unlike.Unread fault) h = absurd h
     other_library unlike.Untaken h = absurd h
     other_library unlike.AnotherLibrary h = record { taken = t; is_taken = l; other = h }
-    other_library unlike.AnotherPrelude h = tt
+    other_library unlike.AnotherPrelude h = record { taken = t; is_taken = l; other = h }
     other_library (unlike.AnotherAssertion n) h = absurd h
     other_library unlike.NoMemory h = tt
 
@@ -29,7 +29,7 @@ module _ (old : Scope) (w : Wish) (changes : List Change) (own : List Bool) (edi
     other_assertion flags are (unlike.Unread fault) h = absurd h
     other_assertion flags are unlike.Untaken h = absurd h
     other_assertion flags are unlike.AnotherLibrary h = absurd h
-    other_assertion flags are unlike.AnotherPrelude h = tt
+    other_assertion flags are unlike.AnotherPrelude h = absurd h
     other_assertion flags are (unlike.AnotherAssertion n) h = record {
       taken = t;
       is_taken = l;

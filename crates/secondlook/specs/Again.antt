@@ -3,7 +3,8 @@ use Rattle.std.specs.Prelude.{◌≡◌, ℕ, List, All, slice_get, Some}
 use Rattle.std.specs.List.{flat_map}
 use Rattle.mmtext.specs.Words.{Word}
 use Rattle.mmsyntax.specs.declared.statement.Float.{Float}
-use Rattle.mmsyntax.specs.Tables.{Tables, Contents}
+use Rattle.mmsyntax.specs.declared.symbols.Name.TheVariants.{Label}
+use Rattle.mmsyntax.specs.Tables.{Tables, Contents, meaning}
 use Rattle.mmsyntax.specs.Layout.{assertion_text}
 use Rattle.source.specs.Scopes.{Scope}
 use Rattle.taking.specs.declared.reason.Reason.{Reason}
@@ -18,14 +19,20 @@ pub record IsFloatNamed (t : Tables) (label constant variable : Word) (f : Float
   pub typed : slice_get t.constants f.type_code ≡ Some constant
   pub of : slice_get t.variables f.variable ≡ Some variable
 
+-- a label names a $f of a prelude
+pub record IsFloatLabelled (t : Tables) (label : Word) (f : Float) : Type 0 where
+  pub labelled : f.label ≡ label
+  pub place : ℕ
+  pub names : meaning t label ≡ Some (Label place)
+  pub stands : slice_get t.floats place ≡ Some f
+
 -- a $f of a prelude is one of the other, by these names
 pub record IsFloatOf (t other : Tables) (f : Float) : Type 0 where
   pub constant : Word
   pub variable : Word
   pub named : IsFloatNamed t f.label constant variable f
-  pub place : ℕ
   pub found : Float
-  pub stands : slice_get other.floats place ≡ Some found
+  pub there : IsFloatLabelled other f.label found
   pub named_there : IsFloatNamed other f.label constant variable found
 
 -- the lines of assertions

@@ -1,7 +1,11 @@
 //! Whether a library that was taken again is the edited one.
 
-ghost use Rattle.std.specs.Prelude.{◌≡◌, ℕ, All, IfOk, IfErr, IfSome, IsTrue, OnOk, Some, slice_get};
-ghost use Rattle.secondlook.specs.Again.{IsFloatNamed, IsFloatOf, database_lines, edited_lines};
+ghost use Rattle.std.specs.Prelude.{◌≡◌, ◌↔◌, ◌&&◌, ℕ, Some, All, IfOk, IfErr, IsTrue, MatchOption, OnOk};
+ghost use Rattle.std.specs.Str.{bytes_eq};
+ghost use Rattle.mmtext.specs.Words.{Word};
+ghost use Rattle.mmsyntax.specs.Tables.{meaning};
+ghost use Rattle.mmsyntax.specs.declared.statement.Float.{Float as FloatOf};
+ghost use Rattle.secondlook.specs.Again.{IsFloatNamed, IsFloatLabelled, IsFloatOf, database_lines, edited_lines};
 ghost use Rattle.secondlook.specs.Compared.{IsOther};
 
 use crate::unlike::Unlike;
@@ -36,41 +40,68 @@ fn database_lines(alloc: Global, database: &Database) -> Result<Vec<u8>, AllocEr
 
 /// The names of the type and of the variable of a `$f`.
 fn names_of<'p>(prelude: &'p Prelude, float: &Float) -> Option<(&'p [u8], &'p [u8])>
-    ensures { IfSome result (λ n. IsFloatNamed prelude.now float.now.label n.0.now n.1.now float.now) }
+    ensures { MatchOption result ((constant variable : Word) → IsFloatNamed prelude.now float.now.label constant variable float.now → ⊥)
+        (λ n. IsFloatNamed prelude.now float.now.label n.0.now n.1.now float.now) }
 {
-    let type_code = prelude.constants().get(float.type_code as usize)?;
-    let variable = prelude.variables().get(float.variable as usize)?;
-    Some((type_code.as_slice(), variable.as_slice()))
+    let Some(constant) = prelude.constants().get(float.type_code as usize) else {
+        return None;
+    };
+    let Some(variable) = prelude.variables().get(float.variable as usize) else {
+        return None;
+    };
+    Some((constant.as_slice(), variable.as_slice()))
+}
+
+/// The place of the `$f` with a label. None where that names none.
+fn float_place(prelude: &Prelude, label: &[u8]) -> Option<usize>
+    ensures { MatchOption result ((k : ℕ) → meaning prelude.now label.now ≡ Some (Name.Label k) → ⊥)
+        (λ k. meaning prelude.now label.now ≡ Some (Name.Label k)) }
+{
+    match prelude.look_up(label) {
+        Some(Name::Label(place)) => Some(place as usize),
+        Some(Name::Constant(_)) => None,
+        Some(Name::Variable(_, _)) => None,
+        None => None,
+    }
 }
 
 /// The `$f` of a prelude with a label.
 fn float_labelled<'p>(prelude: &'p Prelude, label: &[u8]) -> Option<&'p Float>
-    ensures { IfSome result (λ f. (f.now.label ≡ label.now) × ((k : ℕ) × (slice_get prelude.now.floats k ≡ Some f.now))) }
+    ensures { MatchOption result ((f : FloatOf) → IsFloatLabelled prelude.now label.now f → ⊥)
+        (λ f. IsFloatLabelled prelude.now label.now f.now) }
 {
-    let Some(Name::Label(place)) = prelude.look_up(label) else {
+    let Some(place) = float_place(prelude, label) else {
         return None;
     };
-    prelude.floats().get(place as usize)
+    prelude.floats().get(place)
+}
+
+/// Whether the names of a type and of a variable are two others.
+fn are_names(constant: &[u8], variable: &[u8], other: &[u8], another: &[u8]) -> bool
+    ensures { result ≡ (bytes_eq constant.now other.now && bytes_eq variable.now another.now) }
+{
+    constant == other && variable == another
 }
 
 /// A `$f` of one prelude is that of the other with its label: its type and its variable have the same names.
 fn is_float_of(prelude: &Prelude, other: &Prelude, float: &Float) -> bool
-    ensures { IsTrue result → IsFloatOf prelude.now other.now float.now }
+    ensures { IsTrue result ↔ IsFloatOf prelude.now other.now float.now }
 {
     let Some(found) = float_labelled(other, float.label.as_slice()) else {
         return false;
     };
-    match (names_of(prelude, float), names_of(other, found)) {
-        (Some((type_code, variable)), Some((other_code, other_variable))) => {
-            type_code == other_code && variable == other_variable
-        }
-        _ => false,
-    }
+    let Some((constant, variable)) = names_of(prelude, float) else {
+        return false;
+    };
+    let Some((type_there, variable_there)) = names_of(other, found) else {
+        return false;
+    };
+    are_names(constant, variable, type_there, variable_there)
 }
 
 /// Each `$f` of one prelude is one of the other.
 fn are_floats_of(prelude: &Prelude, other: &Prelude) -> bool
-    ensures { IsTrue result → All (IsFloatOf prelude.now other.now) prelude.now.floats }
+    ensures { IsTrue result ↔ All (IsFloatOf prelude.now other.now) prelude.now.floats }
 {
     for float in prelude.floats() {
         if !is_float_of(prelude, other, float) {

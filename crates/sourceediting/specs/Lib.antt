@@ -1,4 +1,5 @@
 pub mod Following
+pub mod Axioms
 pub mod Views
 pub mod Marked
 pub mod Written

@@ -4,6 +4,7 @@
 //! text. That the edited library can be taken of it is found by whoever prints it (`givetext`), who looks at it again.
 #![tactic(auto)]
 
+mod axioms;
 mod citing;
 mod commands;
 mod declaring;
@@ -17,8 +18,9 @@ mod rearranging;
 mod refusal;
 mod writing;
 
+pub use axioms::axioms_then;
 pub use citing::{are_uncited, labels_of, marked};
 pub use following::{Followed, Following, opening_of};
-pub use planning::{Planned, axioms_then};
+pub use planning::Planned;
 pub use refusal::Refusal;
 pub use writing::write_edits;

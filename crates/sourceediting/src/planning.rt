@@ -15,7 +15,7 @@ use crate::refusal::Refusal;
 use giving::Changes;
 use library::{PlainLibrary, Ranked};
 use mmframes::frame_of;
-use mmsyntax::{Assertion, Database, Float, Kind, Label, Prelude, Proof, StepRef};
+use mmsyntax::{Assertion, Database, Float, Label, Prelude, Proof, StepRef};
 use source::Declared;
 use sourcewriting::{Cited, Kinds, Names, indentation_like, names_in_source, proof_text};
 use std::alloc::{AllocError, Global};
@@ -267,27 +267,4 @@ pub(crate) fn other_proofs<'x, D: Declared<'x>>(
         }
     }
     Ok(proofs)
-}
-
-/// The labels in the source then of those that are axioms in the edited library.
-///
-/// # Errors
-///
-/// Want of memory.
-pub fn axioms_then<'x>(
-    alloc: Global,
-    keys: RandomState,
-    edited: &'x PlainLibrary,
-    living: &[Followed<'x>],
-) -> Result<Vec<&'x [u8]>, AllocError> {
-    let edited = edited_by_label(alloc, keys, edited.entries())?;
-    let mut axioms = Vec::new(alloc);
-    for followed in living {
-        if let Some(assertion) = edited.get(&followed.now) {
-            if assertion.kind == Kind::Axiom {
-                axioms.push(followed.label_then())?;
-            }
-        }
-    }
-    Ok(axioms)
 }

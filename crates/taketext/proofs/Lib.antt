@@ -8,3 +8,8 @@ pub mod Separate
 pub mod Silent
 pub mod Behind
 pub mod Worded
+pub mod Cutting
+pub mod Telling
+pub mod Words
+pub mod WishWords
+pub mod Printed

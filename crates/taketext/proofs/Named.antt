@@ -349,19 +349,19 @@ told_quiet choice earlier (x ∷ xs) h =
 
 -- ---- the labels of the wish
 
-known_quiet : (ls : List Word) (w : Word) → AllByRecursion AreQuiet ls → is_in ls w ≡ true → AreQuiet w
-known_quiet [] w q h = absurd cc
-known_quiet (l ∷ ls) w q h = elim (cases_Bool (bytes_eq w l)) [
-  | inl y ↦ subst AreQuiet (sym (same_word w l y)) q.0
-  | inr n ↦ known_quiet ls w q.1 (sym (ap (λ b. b || is_in ls w) n) ∙ h)
+known_has : (P : Word → Type 0) (ls : List Word) (w : Word) → AllByRecursion P ls → is_in ls w ≡ true → P w
+known_has P [] w q h = absurd cc
+known_has P (l ∷ ls) w q h = elim (cases_Bool (bytes_eq w l)) [
+  | inl y ↦ subst P (sym (same_word w l y)) q.0
+  | inr n ↦ known_has P ls w q.1 (sym (ap (λ b. b || is_in ls w) n) ∙ h)
 ]
 
-all_known : (ls ws : List Word) → AllByRecursion AreQuiet ls → find (λ w. not (is_in ls w)) ws ≡ None → AllByRecursion AreQuiet ws
-all_known ls [] q h = tt
-all_known ls (w ∷ ws) q h =
+all_known : (P : Word → Type 0) (ls ws : List Word) → AllByRecursion P ls → find (λ w. not (is_in ls w)) ws ≡ None → AllByRecursion P ws
+all_known P ls [] q h = tt
+all_known P ls (w ∷ ws) q h =
     let rest = find (λ v. not (is_in ls v)) ws in
     elim (cases_Bool (is_in ls w)) [
-      | inl y ↦ (known_quiet ls w q y, all_known ls ws q (sym (cond-false (not (is_in ls w)) (Some w) rest (ap not y)) ∙ h))
+      | inl y ↦ (known_has P ls w q y, all_known P ls ws q (sym (cond-false (not (is_in ls w)) (Some w) rest (ap not y)) ∙ h))
       | inr n ↦ absurd (let e : Some w ≡ None = sym (cond-true (not (is_in ls w)) (Some w) rest (ap not n)) ∙ h in cc)
     ]
 
@@ -371,12 +371,16 @@ module _ (text : List ℕ) (w : Wish) (t : Taken) (h : IsTakenByWish text w t) w
   worded_source : IsWorded h.source
   worded_source = sources_worded text h.source h.declares
 
-  pub wish_quiet : AllByRecursion AreQuiet (labels_wished w)
-  wish_quiet =
+  -- its labels are tokens
+  pub wish_labels : AllByRecursion IsLabelToken (labels_wished w)
+  wish_labels =
       let xs = h.source.assertions in
-      let labels = all_map IsAssertionWorded AreQuiet (λ x. x.label) xs (λ x worded. label_quiet x.label worded.label)
+      let labels = all_map IsAssertionWorded IsLabelToken (λ x. x.label) xs (λ x worded. worded.label)
       (recursion_from_All IsAssertionWorded xs worded_source.assertions) in
-      all_known (labels_of xs) (labels_wished w) labels h.known
+      all_known IsLabelToken (labels_of xs) (labels_wished w) labels h.known
+
+  pub wish_quiet : AllByRecursion AreQuiet (labels_wished w)
+  wish_quiet = all_weaker IsLabelToken AreQuiet (labels_wished w) label_quiet wish_labels
 
   pub names_quiet : HasSpelling t.database → AllByRecursion IsQuietNaming (names_of t)
   names_quiet spelling =

@@ -1,4 +1,4 @@
--- Bytes that may stand in a comment wherever they are: lawful ones without $.
+-- Bytes that may stand in a comment wherever they are: lawful ones without $, and of these those that aren't white space.
 use Rattle.std.proofs.Common.{◌≡◌, ℕ, zero, suc, ◌/◌, ◌%◌, ◌^◌, ◌<◌, Bool, true, false, eqb, List, [], ◌∷◌, ◌++◌}
 use Rattle.std.proofs.Common.{refl, sym, ap, subst, ◌∙◌, inl, inr, arith, get_or}
 use Rattle.std.proofs.Math.Nat.{mod-lt}
@@ -27,6 +27,13 @@ is_quiet b = is_lawful b && not (b == 36)
 abbrev pub AreQuiet : List ℕ → Type 0
 AreQuiet bytes = list_all is_quiet bytes ≡ true
 
+-- no white space either
+abbrev pub is_inked : ℕ → Bool
+is_inked b = is_printable b && not (b == 36)
+
+abbrev pub AreInked : List ℕ → Type 0
+AreInked bytes = list_all is_inked bytes ≡ true
+
 -- ---- what quiet bytes are
 
 quiet_lawful : (bytes : List ℕ) → AreQuiet bytes → AreLawful bytes
@@ -50,8 +57,22 @@ quiet_plain (b ∷ bs) h =
 
 -- ---- pieces
 
+joined_pass : (p : ℕ → Bool) (a b : List ℕ) → list_all p a ≡ true → list_all p b ≡ true → list_all p (a ++ b) ≡ true
+joined_pass p a b h g = list_all-append p a b ∙ and_from (list_all p a) (list_all p b) h g
+
 pub quiet_append : (a b : List ℕ) → AreQuiet a → AreQuiet b → AreQuiet (a ++ b)
-quiet_append a b h g = list_all-append is_quiet a b ∙ and_from (list_all is_quiet a) (list_all is_quiet b) h g
+quiet_append a b h g = joined_pass is_quiet a b h g
+
+pub inked_append : (a b : List ℕ) → AreInked a → AreInked b → AreInked (a ++ b)
+inked_append a b h g = joined_pass is_inked a b h g
+
+pub quiet_inked : (bytes : List ℕ) → AreInked bytes → AreQuiet bytes
+quiet_inked [] h = refl
+quiet_inked (b ∷ bs) h =
+    let both = and_parts (is_inked b) (list_all is_inked bs) h in
+    let parts = and_parts (is_printable b) (not (b == 36)) both.0 in
+    and_from (is_quiet b) (list_all is_quiet bs)
+    (and_from (is_lawful b) (not (b == 36)) (or_right (is_white b) (is_printable b) parts.0) parts.1) (quiet_inked bs both.1)
 
 -- pieces one behind the other
 abbrev pub joined : List (List ℕ) → List ℕ
@@ -91,71 +112,79 @@ quiet_label w h = quiet_bytes w (label_bytes w h) (label_plain w h)
 
 -- ---- bytes as a comment shows them
 
-quiet_shown_byte : (b : ℕ) → is_quiet (shown_byte b) ≡ true
-quiet_shown_byte b =
+inked_shown_byte : (b : ℕ) → is_inked (shown_byte b) ≡ true
+inked_shown_byte b =
     let test = is_printable b && not (eqb b 36) in
     elim (cases_Bool test) [
-      | inl y ↦
-          let both = and_parts (is_printable b) (not (eqb b 36)) y in
-          ap is_quiet (cond-true test b 63 y)
-          ∙ and_from (is_lawful b) (not (eqb b 36)) (or_right (is_white b) (is_printable b) both.0) both.1
-      | inr n ↦ ap is_quiet (cond-false test b 63 n)
+      | inl y ↦ ap is_inked (cond-true test b 63 y) ∙ y
+      | inr n ↦ ap is_inked (cond-false test b 63 n)
     ]
 
-pub quiet_shown : (bytes : List ℕ) → AreQuiet (shown_path bytes)
-quiet_shown [] = refl
-quiet_shown (b ∷ bs) = and_from (is_quiet (shown_byte b)) (list_all is_quiet (shown_path bs)) (quiet_shown_byte b) (quiet_shown bs)
+pub inked_shown : (bytes : List ℕ) → AreInked (shown_path bytes)
+inked_shown [] = refl
+inked_shown (b ∷ bs) = and_from (is_inked (shown_byte b)) (list_all is_inked (shown_path bs)) (inked_shown_byte b) (inked_shown bs)
 
 -- ---- numbers
 
-quiet_glyph : (d : ℕ) → d < 10 → is_quiet (digit_glyph false d) ≡ true
-quiet_glyph d h = agree_below_at (λ k. is_quiet (digit_glyph false k)) (λ k. true) 10 d refl h
+inked_glyph : (d : ℕ) → d < 10 → is_inked (digit_glyph false d) ≡ true
+inked_glyph d h = agree_below_at (λ k. is_inked (digit_glyph false k)) (λ k. true) 10 d refl h
 
-quiet_onto : (k n : ℕ) (behind : List ℕ) → AreQuiet behind → AreQuiet (digits_onto k 10 false n behind)
-quiet_onto zero n behind h = h
-quiet_onto (suc k) n behind h =
+inked_onto : (k n : ℕ) (behind : List ℕ) → AreInked behind → AreInked (digits_onto k 10 false n behind)
+inked_onto zero n behind h = h
+inked_onto (suc k) n behind h =
     let digit = digit_glyph false (n % 10) in
     let one = digit ∷ behind in
-    let more : AreQuiet one = and_from (is_quiet digit) (list_all is_quiet behind) (quiet_glyph (n % 10) (mod-lt n (omega arith))) h in
+    let more : AreInked one = and_from (is_inked digit) (list_all is_inked behind) (inked_glyph (n % 10) (mod-lt n (omega arith))) h in
     elim (cases_Bool (eqb (n / 10) 0)) [
-      | inl y ↦ ap (list_all is_quiet) (cond-true (eqb (n / 10) 0) one (digits_onto k 10 false (n / 10) one) y) ∙ more
-      | inr o ↦ ap (list_all is_quiet) (cond-false (eqb (n / 10) 0) one (digits_onto k 10 false (n / 10) one) o)
-          ∙ quiet_onto k (n / 10) one more
+      | inl y ↦ ap (list_all is_inked) (cond-true (eqb (n / 10) 0) one (digits_onto k 10 false (n / 10) one) y) ∙ more
+      | inr o ↦ ap (list_all is_inked) (cond-false (eqb (n / 10) 0) one (digits_onto k 10 false (n / 10) one) o)
+          ∙ inked_onto k (n / 10) one more
     ]
 
-pub quiet_decimal : (n : ℕ) → AreQuiet (decimal n)
+pub inked_decimal : (n : ℕ) → AreInked (decimal n)
 unfolding digits_in
-quiet_decimal n = quiet_onto 64 n [] refl
+inked_decimal n = inked_onto 64 n [] refl
 
 -- ---- digits of bytes
 
-quiet_digit : (n : ℕ) → n < 16 → is_quiet (digit n) ≡ true
-quiet_digit n h = agree_below_at (λ k. is_quiet (digit k)) (λ k. true) 16 n refl h
+inked_digit : (n : ℕ) → n < 16 → is_inked (digit n) ≡ true
+inked_digit n h = agree_below_at (λ k. is_inked (digit k)) (λ k. true) 16 n refl h
 
-quiet_digits : (b : ℕ) → b < 256 → AreQuiet (digits b)
-quiet_digits b h =
-    and_from (is_quiet (digit (b / 16))) (list_all is_quiet (digit (b % 16) ∷ [])) (quiet_digit (b / 16) (omega arith))
-    (and_from (is_quiet (digit (b % 16))) true (quiet_digit (b % 16) (omega arith)) refl)
+inked_digits : (b : ℕ) → b < 256 → AreInked (digits b)
+inked_digits b h =
+    and_from (is_inked (digit (b / 16))) (list_all is_inked (digit (b % 16) ∷ [])) (inked_digit (b / 16) (omega arith))
+    (and_from (is_inked (digit (b % 16))) true (inked_digit (b % 16) (omega arith)) refl)
 
 byte_below : (k n : ℕ) → byte_at k n < 256
 byte_below zero n = mod-lt n (omega arith)
 byte_below (suc k) n = mod-lt (n / 256 ^ suc k) (omega arith)
 
-bytes_quiet : (k n : ℕ) → AreQuiet (flat_map digits (bytes_high_first k n))
-bytes_quiet zero n = refl
-bytes_quiet (suc k) n =
-    subst AreQuiet (sym (flat_map-cons digits (byte_at k n) (bytes_high_first k n)))
-    (quiet_append (digits (byte_at k n)) (flat_map digits (bytes_high_first k n)) (quiet_digits (byte_at k n) (byte_below k n))
-    (bytes_quiet k n))
+bytes_inked : (k n : ℕ) → AreInked (flat_map digits (bytes_high_first k n))
+bytes_inked zero n = refl
+bytes_inked (suc k) n =
+    subst AreInked (sym (flat_map-cons digits (byte_at k n) (bytes_high_first k n)))
+    (inked_append (digits (byte_at k n)) (flat_map digits (bytes_high_first k n)) (inked_digits (byte_at k n) (byte_below k n))
+    (bytes_inked k n))
 
-digest_quiet : (h : List ℕ) (n : ℕ) → AreQuiet (flat_map digits (digest_bytes h n))
+digest_inked : (h : List ℕ) (n : ℕ) → AreInked (flat_map digits (digest_bytes h n))
 unfolding digest_bytes
-digest_quiet h zero = refl
-digest_quiet h (suc n) =
+digest_inked h zero = refl
+digest_inked h (suc n) =
     let word = bytes_high_first 4 (get_or h n 0) in
-    subst AreQuiet (sym (flat_map-append digits (digest_bytes h n) word))
-    (quiet_append (flat_map digits (digest_bytes h n)) (flat_map digits word) (digest_quiet h n) (bytes_quiet 4 (get_or h n 0)))
+    subst AreInked (sym (flat_map-append digits (digest_bytes h n) word))
+    (inked_append (flat_map digits (digest_bytes h n)) (flat_map digits word) (digest_inked h n) (bytes_inked 4 (get_or h n 0)))
+
+pub inked_sum : (bytes : List ℕ) → AreInked (flat_map digits (sha256 bytes))
+unfolding sha256
+inked_sum bytes = digest_inked _ 8
+
+-- ---- so they are quiet
+
+pub quiet_shown : (bytes : List ℕ) → AreQuiet (shown_path bytes)
+quiet_shown bytes = quiet_inked (shown_path bytes) (inked_shown bytes)
+
+pub quiet_decimal : (n : ℕ) → AreQuiet (decimal n)
+quiet_decimal n = quiet_inked (decimal n) (inked_decimal n)
 
 pub quiet_sum : (bytes : List ℕ) → AreQuiet (flat_map digits (sha256 bytes))
-unfolding sha256
-quiet_sum bytes = digest_quiet _ 8
+quiet_sum bytes = quiet_inked (flat_map digits (sha256 bytes)) (inked_sum bytes)

@@ -3,3 +3,5 @@ pub mod Refusals
 pub mod Answers
 pub mod Fronts
 pub mod Names
+pub mod Origins
+pub mod Reading

@@ -21,12 +21,14 @@
 mod answering;
 mod comment;
 mod laws;
+mod origin;
 mod refusing;
 
 pub use answering::{Told, answer_take, write_taken};
 pub use intake::{Follow, Unfollowed};
 pub use laws::{
-    comments_say_nothing, declared_behind_comments, sources_are_worded, spelled_behind_comments,
-    white_space_ends_words,
+    comments_say_nothing, declared_behind_comments, printed_tells, sources_are_worded,
+    spelled_behind_comments, tells_once, white_space_ends_words,
 };
+pub use origin::{Origin, origin_of};
 pub use refusing::printed_name;
