@@ -220,8 +220,8 @@ module _ (name : ℕ → Word) (injective : (m n : ℕ) → name m ≡ name n �
     variable_named : (n : ℕ) → list_any (is_float_of (name n)) x.active ≡ is_variable_of t n
     variable_named n =
         floats_among x.active (name n) ∙ ap (list_any (bytes_eq (name n))) (sym of.floats)
-        ∙ any_mapped (bytes_eq (name n)) name t.floats.items
-        ∙ any_alike (λ v. bytes_eq (name n) (name v)) (λ v. v == n) t.floats.items (same_number n)
+        ∙ any_mapped (bytes_eq (name n)) name t.floats
+        ∙ any_alike (λ v. bytes_eq (name n) (name v)) (λ v. v == n) t.floats (same_number n)
 
     pair_named : (u v : ℕ) (p : ℕ × ℕ) → is_pair (name u) (name v) (name p.0, name p.1) ≡ is_pair_of_numbers u v p
     pair_named u v p =

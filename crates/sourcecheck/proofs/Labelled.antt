@@ -6,12 +6,16 @@ use Rattle.std.specs.Option.{option_map}
 use Rattle.std.specs.List.{list_any}
 use Rattle.std.specs.Str.{bytes_eq}
 use Rattle.std.proofs.lemmas.Bool.{or_left, or_right}
-use Rattle.std.proofs.lemmas.List.{length-append, get_or_append_left, get_or-append_right}
+use Rattle.std.proofs.lemmas.Option.{slice_get_within, get_or_from_slice_get, slice_get-map, slice_get_read}
+use Rattle.std.proofs.lemmas.List.{length-map, length-append, get_or_append_left, get_or-append_right}
 use Rattle.mmtext.specs.Words.{Word}
 use Rattle.mmsyntax.specs.Tables.{place_of}
 use Rattle.mmsyntax.proofs.Names.{same_bytes}
 use Rattle.source.specs.Scopes.{Hypothesis, label_of, Assertion, Scope}
-use Rattle.source.specs.Whole.{IsWhole}
+use Rattle.std.specs.Borrow.{Bor}
+use Rattle.source.specs.declared.contents.HypothesisWords.{HypothesisWords}
+use Rattle.source.specs.Views.{seen_hypothesis, seen_hypotheses}
+use Rattle.source.specs.Whole.{IsWhole, AgreeOnLabels}
 use Rattle.sourcecheck.specs.declared.naming.Named.{Named}
 use Rattle.sourcecheck.specs.declared.naming.Named.TheVariants as named
 use Rattle.sourcecheck.specs.Shown.{IsSaid, IsEarlier, IsNamed, AreNamed}
@@ -176,3 +180,67 @@ placed_at p [] k h = absurd cc
 placed_at p (x ∷ xs) zero h = omega arith
 placed_at p (x ∷ xs) (suc k) h =
     let both = behind_later (p x) (place_of p xs) k h in let lt = placed_at p xs k both.1 in omega (arith, lt)
+
+-- ---- a label's hypothesis, wherever it was found
+
+pub placed_under : {A B : Type 0} (p : B → Bool) (f : A → B) (xs : List A) (k : ℕ) → place_of (λ x. p (f x)) xs ≡ Some k
+    → (y : B) × (slice_get (map f xs) k ≡ Some y) × (p y ≡ true)
+placed_under p f [] k h = absurd cc
+placed_under p f (x ∷ xs) zero h = (f x, refl, behind_first (p (f x)) (place_of (λ x. p (f x)) xs) h)
+placed_under p f (x ∷ xs) (suc k) h = placed_under p f xs k (behind_later (p (f x)) (place_of (λ x. p (f x)) xs) k h).1
+
+found_or : (y : Hypothesis) (o : Option Hypothesis) (h : Hypothesis) (b : Bool) → (b ≡ true → y ≡ h) → o ≡ Some h
+    → (if b then Some y else o) ≡ Some h
+found_or y o h true e f = ap (λ (g : Hypothesis). Some g) (e refl)
+found_or y o h false e f = f
+
+find_is : (hs : List Hypothesis) (w : Word) (h : Hypothesis) (k : ℕ) → slice_get hs k ≡ Some h → bytes_eq w (label_of h) ≡ true
+    → ((j : ℕ) (g : Hypothesis) → slice_get hs j ≡ Some g → bytes_eq w (label_of g) ≡ true → g ≡ h)
+    → find (λ g. bytes_eq w (label_of g)) hs ≡ Some h
+find_is [] w h k at is each = absurd cc
+find_is (y ∷ ys) w h zero at is each =
+    let e : y ≡ h = cc in
+    ap (λ b. if b then Some y else find (λ g. bytes_eq w (label_of g)) ys) (ap (λ (g : Hypothesis). bytes_eq w (label_of g)) e ∙ is)
+    ∙ ap (λ (g : Hypothesis). Some g) e
+find_is (y ∷ ys) w h (suc k) at is each =
+    found_or y (find (λ g. bytes_eq w (label_of g)) ys) h (bytes_eq w (label_of y)) (each zero y refl)
+    (find_is ys w h k at is (λ j g. each (suc j) g))
+
+-- where hypotheses of one label are one, any place will do
+pub found_anywhere : (hs : List Hypothesis) (w : Word) (h : Hypothesis) (k : ℕ) → AgreeOnLabels hs hs → slice_get hs k ≡ Some h
+    → bytes_eq w (label_of h) ≡ true → find (λ g. bytes_eq w (label_of g)) hs ≡ Some h
+found_anywhere hs w h k agree at is = find_is hs w h k at is each
+  where
+    each : (j : ℕ) (g : Hypothesis) → slice_get hs j ≡ Some g → bytes_eq w (label_of g) ≡ true → g ≡ h
+    each j g there has =
+        let one = agree j g (slice_get_within hs j g there) k h (slice_get_within hs k h at) in
+        let same : get_or hs j g ≡ g = get_or_from_slice_get hs j g g there in
+        let other : get_or hs k h ≡ h = get_or_from_slice_get hs k h h at in
+        let labels : label_of g ≡ label_of h = sym (same_bytes w (label_of g) has) ∙ same_bytes w (label_of h) is in
+        sym same ∙ one (ap label_of same ∙ labels ∙ sym (ap label_of other)) ∙ other
+
+pub agree_at : (s : Scope) (place : ℕ) (hs : List Hypothesis) → IsWhole s
+    → option_map (λ a. a.active) (slice_get s.assertions place) ≡ Some hs → AgreeOnLabels hs hs
+agree_at s place hs whole h = of (slice_get s.assertions place) refl h
+  where
+    of : (o : Option Assertion) → slice_get s.assertions place ≡ o → option_map (λ (a : Assertion). a.active) o ≡ Some hs
+        → AgreeOnLabels hs hs
+    of None at e = absurd cc
+    of (Some x) at e =
+        let lt = slice_get_within s.assertions place x at in
+        let is : get_or s.assertions place x ≡ x = get_or_from_slice_get s.assertions place x x at in
+        let active : x.active ≡ hs = cc in
+        transport (λ (ks : List Hypothesis). AgreeOnLabels ks ks) active
+        (transport (λ (y : Assertion). AgreeOnLabels y.active y.active) is (whole.agree place x lt place x lt))
+
+pub read_at : (items : List (Bor HypothesisWords)) (k : ℕ) (h : Hypothesis) (r : Bor HypothesisWords)
+    → slice_get (seen_hypotheses items) k ≡ Some h → r ≡ get_or items k r → h ≡ seen_hypothesis r.now
+read_at items k h r at is =
+    let lt = slice_get_within (seen_hypotheses items) k h at in
+    let long = length-map items (λ (b : Bor HypothesisWords). seen_hypothesis b.now) in
+    let there : slice_get items k ≡ Some r = slice_get_read items (length items) k r refl (omega (arith, lt, long)) is in
+    let mapped : slice_get (seen_hypotheses items) k ≡ Some (seen_hypothesis r.now) =
+    slice_get-map (λ (b : Bor HypothesisWords). seen_hypothesis b.now) items k
+    ∙ ap (option_map (λ (b : Bor HypothesisWords). seen_hypothesis b.now)) there in
+    let both : Some h ≡ Some (seen_hypothesis r.now) = sym at ∙ mapped in
+    cc

@@ -11,3 +11,4 @@ pub mod Told
 pub mod Sourced
 pub mod Found
 pub mod Beside
+pub mod Marking

@@ -1,5 +1,5 @@
 -- The numbers of words stay what they are as more words get numbers, and no two words have one.
-use Rattle.std.proofs.Common.{◌≡◌, ◌↔◌, ℕ, zero, suc, ◌+◌, ◌<◌, ◌≤◌, Bool, true, false, List, [], ◌∷◌, ◌++◌, length, map, replicate, refl, sym, ap}
+use Rattle.std.proofs.Common.{◌≡◌, ◌↔◌, ℕ, zero, suc, ◌+◌, ◌<◌, ◌≤◌, Bool, true, false, List, [], ◌∷◌, ◌++◌, length, map, replicate, refl, sym, ap, ap₂}
 use Rattle.std.proofs.Common.{subst as transport, ◌∙◌, append_assoc, append-nil, inl, inr, arith, ◌⊎◌}
 use Rattle.std.specs.Prelude.{slice_get, slice_index_or, Option, Some, None, if◌then◌else◌}
 use Rattle.std.specs.Str.{bytes_eq}
@@ -7,7 +7,12 @@ use Rattle.std.proofs.lemmas.Bool.{cases_lt}
 use Rattle.std.proofs.lemmas.List.{length-replicate, map-append}
 use Rattle.mmtext.specs.Words.{Word}
 use Rattle.mmsyntax.proofs.Names.{same_bytes, bytes_eq-same}
-use Rattle.sourcecheck.specs.Names.{Grows, total, name_in, Lasts}
+use Rattle.std.specs.List.{AllZip}
+use Rattle.std.specs.HashMap.{HashMap}
+use Rattle.std.specs.Map.{lookup}
+use Rattle.std.specs.Borrow.{Bor}
+use Rattle.std.specs.declared.random_state.RandomState.{RandomState}
+use Rattle.sourcecheck.specs.Names.{Grows, total, name_in, Lasts, looks_up, IsTable}
 
 -- ---- growth
 
@@ -149,3 +154,22 @@ table_more look look' ws w is none new v n = (to (bytes_eq w v) refl, of)
           new v ∙ ap (λ b. if b then Some (length ws) else look v) (ap (bytes_eq w) (sym p.1) ∙ bytes_eq-same w) ∙ ap (λ k. Some k)
           (sym p.0)
     ]
+
+-- ---- a table once more
+
+pub entries_same : (xs ys : List (Bor (List ℕ) × ℕ)) → AllZip (λ p q. (q.0 ≡ p.0) × (q.1 ≡ p.1)) xs ys → ys ≡ xs
+entries_same [] [] e = refl
+entries_same [] (y ∷ ys) e = absurd e
+entries_same (x ∷ xs) [] e = absurd e
+entries_same (x ∷ xs) (y ∷ ys) e =
+    let rest = entries_same xs ys e.1 in
+    let first : y ≡ x = ap₂ (λ (a : Bor (List ℕ)) (n : ℕ). let p : Bor (List ℕ) × ℕ = (a, n) in p) e.0.0 e.0.1 in
+    ap (λ (z : Bor (List ℕ) × ℕ). z ∷ ys) first ∙ ap (λ zs. x ∷ zs) rest
+
+pub same_table : (m n : HashMap (Bor (List ℕ)) ℕ RandomState) (ws vs : List Word) → n.entries ≡ m.entries → vs ≡ ws → IsTable m ws
+    → IsTable n vs
+same_table m n ws vs e f is = λ w k.
+    let looks : looks_up n w ≡ looks_up m w = ap (λ (es : List (Bor (List ℕ) × ℕ)). lookup (λ k. bytes_eq w k.now) es) e in (
+      λ h. ap (λ (us : List Word). slice_get us k) f ∙ (is w k).0 (sym looks ∙ h),
+      λ h. looks ∙ (is w k).1 (ap (λ (us : List Word). slice_get us k) (sym f) ∙ h),
+    )

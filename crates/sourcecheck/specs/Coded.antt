@@ -52,7 +52,7 @@ abbrev pub equals_met : List Demand → List (List ℕ) → Bool
 equals_met ds es = list_all (λ p. is_equal es p.0 p.1) (zip ds es)
 
 abbrev pub is_variable_of : Thesis → ℕ → Bool
-is_variable_of t n = list_any (λ v. v == n) t.floats.items
+is_variable_of t n = list_any (λ v. v == n) t.floats
 
 abbrev pub is_pair_of_numbers : ℕ → ℕ → ℕ × ℕ → Bool
 is_pair_of_numbers u v p = ((p.0 == u) && (p.1 == v)) || ((p.1 == u) && (p.0 == v))

@@ -6,4 +6,5 @@ pub mod Shown
 pub mod Counted
 pub mod Answers
 pub mod Found
+pub mod Marks
 pub mod Checkers

@@ -1,6 +1,6 @@
 -- Of the code's inside, apart from the rules: which entries of the rules a stack of numbers shows, and how a step of it leads on or fails.
 use Rattle.std.specs.Prelude.{◌≡◌, ◌⊎◌, ℕ, ◌<◌, List, [], ◌++◌, map, take, find, filter, length, slice_get, slice_index_or}
-use Rattle.std.specs.Prelude.{Option, Some, None, Result, Ok, MatchResult}
+use Rattle.std.specs.Prelude.{Option, Some, None, true, Result, Ok, MatchResult}
 use Rattle.std.specs.Option.{option_and_then}
 use Rattle.std.specs.List.{filter_map}
 use Rattle.std.specs.Str.{bytes_eq}
@@ -29,7 +29,7 @@ shown name s = record { entries = map (shown_entry name) s.entries; marked = map
 
 -- the numbers of a theorem's variables and pairs stand for these
 pub record IsThesisOf (name : ℕ → Word) (t : Thesis) (x : Assertion) : Type 0 where
-  pub floats : map name t.floats.items ≡ filter_map variable_of x.active
+  pub floats : map name t.floats ≡ filter_map variable_of x.active
   pub pairs : map {B = Word × Word} (λ p. (name p.0, name p.1)) t.pairs.items ≡ x.pairs
 
 -- what stands while a proof of x is checked
@@ -53,6 +53,11 @@ IsSaid name hs w (named.Hypothesis said) =
     (h : Hypothesis) × (find (λ h. bytes_eq w (label_of h)) hs ≡ Some h) × (map name said.items ≡ said_by h)
 IsSaid name hs w (named.Assertion k) = ⊥
 IsSaid name hs w named.Unknown = find (λ h. bytes_eq w (label_of h)) hs ≡ None
+
+-- the place of a hypothesis that has a label
+abbrev pub IsPlaceUnder : List Hypothesis → Word → Option ℕ → Type 0
+IsPlaceUnder hs w None = find (λ h. bytes_eq w (label_of h)) hs ≡ None
+IsPlaceUnder hs w (Some k) = (h : Hypothesis) × (slice_get hs k ≡ Some h) × (bytes_eq w (label_of h) ≡ true)
 
 -- the assertion in front of a place that has a label
 abbrev pub IsEarlier : List Assertion → ℕ → Word → Option ℕ → Type 0

@@ -73,7 +73,7 @@ fn check_claimed<'a, D: Declared<'a>>(
     requires ready { IsReady numbers.now checker.old }
     ensures { HasChecked (D.scope declared.now).assertions numbers.now checker.new }
 {
-    let mut own = table.copy().ok();
+    let mut own = table.copy(alloc).ok();
     while let Some(place) = checker.claimant.claim(numbers) {
         if checker.found.is_none() {
             checker.found = found_at(alloc, &mut own, frames, declared, place);

@@ -8,12 +8,17 @@ ghost use Rattle.mmsyntax.specs.Tables.{place_of};
 ghost use Rattle.source.specs.Scopes.{Hypothesis, Assertion, is_in, stands_in, is_mandatory_variable, mandatory};
 ghost use Rattle.source.specs.Views.{seen_words, seen_hypothesis, seen_hypotheses, seen_pairs};
 ghost use Rattle.sourcecheck.specs.Names.{words_of, IsSound, Keeps, Lasts};
+ghost use Rattle.sourcecheck.specs.Marks.{first_byte};
 ghost use Rattle.sourcecheck.specs.Frames.{found, part_in, part_of, asked_in, asked_of, variable_of, seen_variable, AreVariables, is_that, is_kept, parts_in, parts_of, IsFrameOf};
 
 use crate::frame::{Demand, Frame, Piece};
+use crate::marks::Marked;
 use crate::table::Table;
 use source::{Declared, HypothesisWords};
 use std::alloc::{AllocError, Global};
+
+/// How many values a byte has.
+const FIRST_BYTES: usize = 256;
 
 /// The variable of a `$f`.
 pub(crate) fn variable_of<'a>(hypothesis: &HypothesisWords<'a>) -> Option<&'a [u8]>
@@ -170,18 +175,42 @@ fn mentioned_in<'a>(
     Ok(mentioned)
 }
 
-/// Whether a word is one of these.
-fn is_among(words: &[&[u8]], word: &[u8]) -> bool
-    ensures { result ≡ list_any (λ w. bytes_eq word.now w.now) words.now }
+/// The first byte of a word, or 0.
+fn first_byte(word: &[u8]) -> u32
+    ensures { result ≡ first_byte word.now }
 {
-    words.iter().any(|other| word == *other)
+    if word.is_empty() { 0 } else { word[0] as u32 }
 }
 
-/// Whether both variables of a pair are among these words.
-fn is_kept(words: &[&[u8]], pair: &(&[u8], &[u8])) -> bool
+/// The first bytes of words.
+fn first_bytes(alloc: Global, words: &[&[u8]]) -> Result<Marked, AllocError>
+    ensures { IfOk result (λ made. made ≡ map first_byte (seen_words words.now)) }
+{
+    let mut bytes = Vec::with_capacity(alloc, words.len())?;
+    for word in words {
+        bytes.push(first_byte(*word))?;
+    }
+    Marked::new(alloc, bytes, FIRST_BYTES)
+}
+
+/// Whether a word is one of these, which have these first bytes: mostly its own tells that it isn't.
+fn is_among(words: &[&[u8]], firsts: &Marked, word: &[u8]) -> bool
+    requires { firsts.now ≡ map first_byte (seen_words words.now) }
+    ensures { result ≡ list_any (λ w. bytes_eq word.now w.now) words.now }
+{
+    if firsts.contains(first_byte(word)) {
+        words.iter().any(|other| word == *other)
+    } else {
+        false
+    }
+}
+
+/// Whether both variables of a pair are among these words, which have these first bytes.
+fn is_kept(words: &[&[u8]], firsts: &Marked, pair: &(&[u8], &[u8])) -> bool
+    requires { firsts.now ≡ map first_byte (seen_words words.now) }
     ensures { result ≡ is_kept (seen_words words.now) (pair.now.0.now, pair.now.1.now) }
 {
-    is_among(words, pair.0) && is_among(words, pair.1)
+    is_among(words, firsts, pair.0) && is_among(words, firsts, pair.1)
 }
 
 /// The two variables of a pair. After an error nothing is said of the table.
@@ -214,9 +243,10 @@ fn pairs_of<'a>(
         → Lasts (words_of table.new) (λ name. map (parts_of name) qs.items
         ≡ map (parts_in hs) (filter (is_kept (seen_words mentioned.now)) (seen_pairs pairs.entry.items)))) }
 {
+    let firsts = first_bytes(alloc, mentioned)?;
     let mut kept = Vec::new(alloc);
     for pair in pairs {
-        if is_kept(mentioned, &pair) {
+        if is_kept(mentioned, &firsts, &pair) {
             kept.push(pair_of(table, variables, pair)?)?;
         }
     }
@@ -242,10 +272,11 @@ pub(crate) fn frame_of<'a, D: Declared<'a>>(
         → mandatory x.active x.statement ≡ x.hypotheses → seen_words words.now ≡ x.statement
         → Lasts (words_of table.new) (λ name. IsFrameOf name f x)) }
 {
-    let variables = variables_of(alloc, declared.mandatory(alloc, place)?)?;
+    let mandatory = declared.mandatory(alloc, place)?;
+    let variables = variables_of(alloc, mandatory.clone()?)?;
     let variables = variables.as_slice();
-    let demands = demands_of(alloc, table, variables, declared.mandatory(alloc, place)?)?;
-    let mentioned = mentioned_in(alloc, words, declared.mandatory(alloc, place)?)?;
+    let demands = demands_of(alloc, table, variables, mandatory.clone()?)?;
+    let mentioned = mentioned_in(alloc, words, mandatory)?;
     let statement = pieces_of(alloc, table, variables, words)?;
     let pairs = pairs_of(
         alloc,

@@ -7,6 +7,7 @@ mod counting;
 mod fitting;
 mod frame;
 mod framing;
+mod marks;
 mod naming;
 mod sources;
 mod stack;

@@ -1,15 +1,15 @@
 //! What the labels of a proof name.
 
-ghost use Rattle.std.specs.Prelude.{◌≡◌, ◌<◌, ℕ, All, IfOk, OnOk, MatchOption, None, Some, find, length, map, slice_get, take};
+ghost use Rattle.std.specs.Prelude.{◌≡◌, ◌<◌, ℕ, true, All, IfOk, OnOk, MatchOption, None, Some, find, length, map, slice_get, take};
 ghost use Rattle.std.specs.Option.{option_map};
 ghost use Rattle.std.specs.Str.{bytes_eq};
 ghost use Rattle.mmsyntax.specs.Tables.{place_of};
 ghost use Rattle.source.specs.Scopes.{Assertion, label_of};
 ghost use Rattle.source.specs.Views.{seen_words, seen_hypothesis, seen_hypotheses};
-ghost use Rattle.source.specs.Whole.{IsWhole};
+ghost use Rattle.source.specs.Whole.{IsWhole, AgreeOnLabels};
 ghost use Rattle.verifying.specs.Citations.{said_by};
 ghost use Rattle.sourcecheck.specs.Names.{words_of, IsSound, Keeps, Lasts};
-ghost use Rattle.sourcecheck.specs.Shown.{IsSaid, IsEarlier, IsNamed, AreNamed, IsPlaced};
+ghost use Rattle.sourcecheck.specs.Shown.{IsSaid, IsPlaceUnder, IsEarlier, IsNamed, AreNamed, IsPlaced};
 
 use crate::table::Table;
 use source::{Declared, HypothesisWords};
@@ -54,8 +54,19 @@ fn said_by<'a>(
     }
 }
 
+/// Whether the hypothesis at a place has a label.
+fn has_label<'a>(active: &Vec<&HypothesisWords<'a>>, place: usize, label: &[u8]) -> bool
+    ensures { result ≡ true → IsPlaceUnder (seen_hypotheses active.now.items) label.now (Some place) }
+{
+    if place < active.len() {
+        label == label_of(active[place])
+    } else {
+        false
+    }
+}
+
 /// The place of the first of these hypotheses that has a label.
-fn place_under<'a>(active: &Vec<&HypothesisWords<'a>>, label: &[u8]) -> Option<usize>
+fn first_place_under<'a>(active: &Vec<&HypothesisWords<'a>>, label: &[u8]) -> Option<usize>
     ensures { result ≡ place_of (λ h. bytes_eq label.now (label_of (seen_hypothesis h.now))) active.now.items }
 {
     for place in 0..active.len() {
@@ -66,19 +77,45 @@ fn place_under<'a>(active: &Vec<&HypothesisWords<'a>>, label: &[u8]) -> Option<u
     None
 }
 
-/// What the first of these hypotheses that has a label says, if one has it. After an error nothing is said of the table.
+/// The place of one of these hypotheses that has a label: mostly where it was found last. After an error nothing is said of the table.
+fn place_under<'a>(
+    table: &mut Table<'a>,
+    active: &Vec<&HypothesisWords<'a>>,
+    label: &'a [u8],
+) -> Result<Option<usize>, AllocError>
+    ensures numbers { OnOk result (table.new.numbers ≡ table.old.numbers) }
+    ensures words { OnOk result (table.new.words ≡ table.old.words) }
+    ensures place { IfOk result (IsPlaceUnder (seen_hypotheses active.now.items) label.entry.now) }
+{
+    if let Some(place) = table.last_place(label)
+        && has_label(active, place, label)
+    {
+        return Ok(Some(place));
+    }
+    match first_place_under(active, label) {
+        None => Ok(None),
+        Some(place) => {
+            table.note_place(label, place)?;
+            Ok(Some(place))
+        }
+    }
+}
+
+/// What the hypothesis that has a label says, if one of these has it. After an error nothing is said of the table.
 fn said_under<'a>(
     alloc: Global,
     table: &mut Table<'a>,
     active: &Vec<&HypothesisWords<'a>>,
-    label: &[u8],
+    label: &'a [u8],
 ) -> Result<Named, AllocError>
-    requires { IsSound table.old }
+    requires sound { IsSound table.old }
+    requires agree { let hs = seen_hypotheses active.now.items in AgreeOnLabels hs hs }
     ensures keeps { OnOk result (Keeps table.old table.new) }
     ensures placed { (n : ℕ) → IfOk result (IsPlaced n) }
-    ensures said { IfOk result (λ n. Lasts (words_of table.new) (λ name. IsSaid name (seen_hypotheses active.now.items) label.now n)) }
+    ensures said { IfOk result (λ n. Lasts (words_of table.new) (λ name. IsSaid name (seen_hypotheses active.now.items)
+        label.entry.now n)) }
 {
-    match place_under(active, label) {
+    match place_under(table, active, label)? {
         Some(place) => Ok(Named::Hypothesis(said_by(alloc, table, active[place])?)),
         None => Ok(Named::Unknown),
     }
@@ -102,7 +139,7 @@ fn named_by<'a, D: Declared<'a>>(
     declared: &D,
     place: usize,
     active: &Vec<&HypothesisWords<'a>>,
-    label: &[u8],
+    label: &'a [u8],
 ) -> Result<Named, AllocError>
     requires sound { IsSound table.old }
     requires whole { IsWhole (D.scope declared.now) }
@@ -111,7 +148,7 @@ fn named_by<'a, D: Declared<'a>>(
     ensures keeps { OnOk result (Keeps table.old table.new) }
     ensures placed { IfOk result (IsPlaced place) }
     ensures named { IfOk result (λ n. (x : Assertion) → slice_get (D.scope declared.now).assertions place ≡ Some x
-        → Lasts (words_of table.new) (λ name. IsNamed name (take place (D.scope declared.now).assertions) x label.now n)) }
+        → Lasts (words_of table.new) (λ name. IsNamed name (take place (D.scope declared.now).assertions) x label.entry.now n)) }
 {
     match earlier_place(declared, place, label) {
         Some(cited) => Ok(Named::Assertion(cited)),

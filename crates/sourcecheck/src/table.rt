@@ -1,6 +1,6 @@
 //! The numbers of symbols.
 
-ghost use Rattle.std.specs.Prelude.{◌≡◌, IfOk, OnOk, map};
+ghost use Rattle.std.specs.Prelude.{◌≡◌, IfOk, OnOk, Some, true, map, slice_get};
 ghost use Rattle.source.specs.Views.{seen_words};
 ghost use Rattle.sourcecheck.specs.Names.{words_of, IsSound, Keeps, Lasts};
 
@@ -12,6 +12,10 @@ use std::hash::RandomState;
 pub(crate) struct Table<'a> {
     pub(crate) numbers: HashMap<&'a [u8], u32, RandomState>,
     pub(crate) words: Vec<&'a [u8]>,
+    /// Where hypotheses were found by their labels among the active ones. It may be that others stand there.
+    pub(crate) places: HashMap<&'a [u8], usize, RandomState>,
+    /// The numbers of the variables of `$f` that were met last, by their places among the active ones. It may be that others stand there.
+    pub(crate) recent: Vec<u32>,
 }
 
 // Proved here once: a derived drop is proved again in each crate that drops such a value.
@@ -20,6 +24,8 @@ impl Drop for Table<'_> {
         let Table {
             numbers: _,
             words: _,
+            places: _,
+            recent: _,
         } = self;
     }
 }
@@ -32,7 +38,14 @@ impl<'a> Table<'a> {
         Table {
             numbers: HashMap::with_hasher(alloc, keys),
             words: Vec::new(alloc),
+            places: HashMap::with_hasher(alloc, keys),
+            recent: Vec::new(alloc),
         }
+    }
+
+    /// How many words have a number.
+    pub(crate) fn count(&self) -> usize {
+        self.words.len()
     }
 
     /// The same words by the same numbers once more.
@@ -40,14 +53,20 @@ impl<'a> Table<'a> {
     /// # Errors
     ///
     /// Want of memory.
-    pub(crate) fn copy(&self) -> Result<Table<'a>, AllocError>
+    pub(crate) fn copy(&self, alloc: Global) -> Result<Table<'a>, AllocError>
         requires { IsSound self.now }
         ensures sound { IfOk result IsSound }
         ensures same { IfOk result (λ t. words_of t ≡ words_of self.now) }
     {
+        let keys = *self.numbers.hasher();
         let numbers = self.numbers.clone()?;
         let words = self.words.clone()?;
-        Ok(Table { numbers, words })
+        Ok(Table {
+            numbers,
+            words,
+            places: HashMap::with_hasher(alloc, keys),
+            recent: Vec::new(alloc),
+        })
     }
 
     /// The number of a word, which gets one if it has none. After an error nothing is said of the table.
@@ -90,5 +109,72 @@ impl<'a> Table<'a> {
             numbers.push(self.number(*word)?)?;
         }
         Ok(numbers)
+    }
+
+    /// Whether a number is that of a word.
+    fn is_number_of(&self, number: u32, word: &[u8]) -> bool
+        ensures { result ≡ true → slice_get (words_of self.now) number ≡ Some word.now }
+    {
+        let place = number as usize;
+        if place < self.words.len() {
+            self.words[place] == word
+        } else {
+            false
+        }
+    }
+
+    /// The number that the variable had that was met last at a place among the active `$f`: any number where none was.
+    fn last_number(&self, place: usize) -> u32 {
+        match self.recent.get(place) {
+            None => 0,
+            Some(number) => *number,
+        }
+    }
+
+    /// Notes the number of the variable of the active hypothesis at a place.
+    fn note_recent(&mut self, place: usize, number: u32) -> Result<(), AllocError>
+        ensures numbers { self.new.numbers ≡ self.old.numbers }
+        ensures words { self.new.words ≡ self.old.words }
+    {
+        if place < self.recent.len() {
+            self.recent[place] = number;
+            return Ok(());
+        }
+        self.recent.push(number)?;
+        Ok(())
+    }
+
+    /// The number of the variable of the active hypothesis at a place: that of the one that was met there last, if it is the same word; so
+    /// mostly nothing is looked up. After an error nothing is said of the table.
+    ///
+    /// # Errors
+    ///
+    /// Want of memory.
+    pub(crate) fn number_at(&mut self, place: usize, word: &'a [u8]) -> Result<u32, AllocError>
+        requires { IsSound self.old }
+        ensures keeps { OnOk result (Keeps self.old self.new) }
+        ensures named { IfOk result (λ n. Lasts (words_of self.new) (λ name. name n ≡ word.entry.now)) }
+    {
+        let last = self.last_number(place);
+        if self.is_number_of(last, word) {
+            return Ok(last);
+        }
+        let number = self.number(word)?;
+        self.note_recent(place, number)?;
+        Ok(number)
+    }
+
+    /// Where the hypothesis with a label was found last.
+    pub(crate) fn last_place(&self, label: &[u8]) -> Option<usize> {
+        self.places.get(&label).copied()
+    }
+
+    /// Notes where the hypothesis with a label was found.
+    pub(crate) fn note_place(&mut self, label: &'a [u8], place: usize) -> Result<(), AllocError>
+        ensures numbers { self.new.numbers ≡ self.old.numbers }
+        ensures words { self.new.words ≡ self.old.words }
+    {
+        self.places.insert(label, place)?;
+        Ok(())
     }
 }

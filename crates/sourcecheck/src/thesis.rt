@@ -10,6 +10,7 @@ ghost use Rattle.sourcecheck.specs.Shown.{IsThesisOf};
 ghost use Rattle.sourcecheck.specs.Coded.{is_variable_of, is_pair_of_numbers, numbers_apart};
 
 use crate::framing::variable_of;
+use crate::marks::Marked;
 use crate::table::Table;
 use source::{Declared, HypothesisWords};
 use std::alloc::{AllocError, Global};
@@ -17,7 +18,7 @@ use std::alloc::{AllocError, Global};
 /// The variables that have an active `$f` at a theorem, and its active pairs, by the numbers of symbols.
 #[derive(Drop)]
 pub(crate) struct Thesis {
-    pub(crate) floats: Vec<u32>,
+    pub(crate) floats: Marked,
     pub(crate) pairs: Vec<(u32, u32)>,
 }
 
@@ -26,7 +27,7 @@ impl Thesis {
     pub(crate) fn is_variable(&self, number: u32) -> bool
         ensures { result ≡ is_variable_of self.now number }
     {
-        self.floats.as_slice().contains(&number)
+        self.floats.contains(number)
     }
 
     /// Whether two variables differ and are one of the pairs, in either order.
@@ -65,7 +66,7 @@ fn floats_of<'a>(
     let mut floats = Vec::new(alloc);
     for hypothesis in active {
         if let Some(variable) = variable_of(hypothesis) {
-            floats.push(table.number(variable)?)?;
+            floats.push(table.number_at(floats.len(), variable)?)?;
         }
     }
     Ok(floats)
@@ -117,5 +118,6 @@ pub(crate) fn thesis_of<'a, D: Declared<'a>>(
 {
     let floats = floats_of(alloc, table, declared.active(alloc, place)?)?;
     let pairs = numbered(alloc, table, declared.pairs(alloc, place)?)?;
+    let floats = Marked::new(alloc, floats, table.count())?;
     Ok(Thesis { floats, pairs })
 }

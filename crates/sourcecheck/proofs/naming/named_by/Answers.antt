@@ -4,7 +4,7 @@ use Rattle.std.proofs.lemmas.Result.{IfOk-weaker}
 use Rattle.source.specs.Views.{seen_hypotheses}
 use Rattle.sourcecheck.specs.Names.{name_in}
 use Rattle.sourcecheck.proofs.Framed.{active_are}
-use Rattle.sourcecheck.proofs.Labelled.{assertion_named, said_named}
+use Rattle.sourcecheck.proofs.Labelled.{assertion_named, said_named, agree_at}
 use Rattle.sourcecheck.proofs.naming.named_by.Goals as goal
 
 pub returns-in-Some-clause-named : goal.returns-in-Some-clause-named
@@ -24,3 +24,8 @@ returns-in-None-clause-named g c =
     (λ n said x at more. said_named _ (take c.args.place xs) x hs c.args.label.now n
     (active_are xs c.args.place x at hs c.requires.active) (rw c.in-None.is at c.earlier_place.ensures) (said more))
     c.said_under.ensures.said
+
+pub said_under-requires-clause-agree : goal.said_under-requires-clause-agree
+said_under-requires-clause-agree g c =
+    agree_at (g.D.Declared.scope c.args.declared.now) c.args.place (seen_hypotheses c.args.active.now.items) c.requires.whole
+    c.requires.active

@@ -18,14 +18,14 @@ loop-hypothesis-preserved-in_ok-push c =
     let v : List ℕ = c.in-Some-variable_of.variable.now in
     let is : variable_of (seen_hypothesis h.now) ≡ Some v = sym c.variable_of.ensures ∙ ap seen_variable c.in-Some-variable_of.is in
     record {
-      sound = c.in_ok-number.ensures.keeps.sound;
-      grows = grows_on _ _ _ c.loop-hypothesis.invariant.grows c.in_ok-number.ensures.keeps.grows;
-      made = lasts_next (λ name. name) (words_of c.loop-hypothesis.table) (words_of c.number.new.self) c.loop-hypothesis.floats.items _
-          c.in_ok-number.field-0 (filter_map variable_of (seen_hypotheses done)) _ v c.in_ok-number.ensures.keeps.grows
+      sound = c.in_ok-number_at.ensures.keeps.sound;
+      grows = grows_on _ _ _ c.loop-hypothesis.invariant.grows c.in_ok-number_at.ensures.keeps.grows;
+      made = lasts_next (λ name. name) (words_of c.loop-hypothesis.table) (words_of c.number_at.new.self) c.loop-hypothesis.floats.items _
+          c.in_ok-number_at.field-0 (filter_map variable_of (seen_hypotheses done)) _ v c.in_ok-number_at.ensures.keeps.grows
           c.in_ok-push.ensures.items
           (ap (filter_map variable_of) (map-append (λ (h : Bor HypothesisWords). seen_hypothesis h.now) done (h ∷ []))
           ∙ given_some variable_of (seen_hypotheses done) (seen_hypothesis h.now) v is)
-          c.loop-hypothesis.invariant.made c.in_ok-number.ensures.named;
+          c.loop-hypothesis.invariant.made c.in_ok-number_at.ensures.named;
     }
 
 pub loop-hypothesis-preserved : goal.loop-hypothesis-preserved

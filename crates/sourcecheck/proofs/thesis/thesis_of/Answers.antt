@@ -1,8 +1,8 @@
 -- What is left to show of `thesis_of`.
-use Rattle.std.proofs.Common.{◌≡◌, map, ap, sym, ◌∙◌}
+use Rattle.std.proofs.Common.{◌≡◌, ◌++◌, map, ap, sym, ◌∙◌}
 use Rattle.std.specs.List.{filter_map}
 use Rattle.source.specs.Views.{seen_hypotheses}
-use Rattle.sourcecheck.specs.Names.{words_of}
+use Rattle.sourcecheck.specs.Names.{words_of, name_in}
 use Rattle.sourcecheck.specs.Frames.{variable_of}
 use Rattle.sourcecheck.proofs.Numbered.{lasts_on}
 use Rattle.sourcecheck.proofs.Framed.{active_are, pairs_are}
@@ -14,7 +14,8 @@ returns-clause-made g c = λ x at more.
     let active = active_are xs c.args.place x at _ c.in_ok-active.ensures in
     let pairs = pairs_are xs c.args.place x at _ c.in_ok-pairs.ensures in
     record {
-      floats = lasts_on (words_of c.floats_of.new.table) (words_of c.numbered.new.table)
+      floats = ap (map (name_in (words_of c.numbered.new.table ++ more))) c.in_ok-floats-2.ensures
+          ∙ lasts_on (words_of c.floats_of.new.table) (words_of c.numbered.new.table)
           (λ name. map name c.in_ok-floats.floats.items ≡ filter_map variable_of (seen_hypotheses c.in_ok-active.field-0.items))
           c.in_ok-pairs-2.ensures.keeps.grows c.in_ok-floats.ensures.made more ∙ ap (filter_map variable_of) (sym active);
       pairs = c.in_ok-pairs-2.ensures.made more ∙ sym pairs;
