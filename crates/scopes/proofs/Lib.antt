@@ -16,3 +16,4 @@ mod Closing
 mod Marks
 mod Marking
 mod Seeing
+pub mod Firsts

@@ -7,3 +7,4 @@ pub mod Sorts
 pub mod Symbols
 pub mod Effects
 pub mod Seen
+pub mod Firsts

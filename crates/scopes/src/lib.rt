@@ -12,5 +12,6 @@ mod scopes;
 mod shown;
 mod sorts;
 mod tables;
+mod word_sets;
 
 pub use scopes::Scopes;

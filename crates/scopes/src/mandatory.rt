@@ -14,17 +14,14 @@ ghost use Rattle.scopes.specs.Sound.{IsSoundTables};
 use crate::chains::hypothesis_at;
 use crate::shown::asserted_there;
 use crate::tables::{Link, Tables};
+use crate::word_sets::WordSet;
 use source::HypothesisWords;
 use std::alloc::{AllocError, Global};
-use std::collections::HashSet;
 use std::hash::RandomState;
 
 /// Adds words to a set.
-fn add_words<'a>(
-    set: &mut HashSet<&'a [u8], RandomState>,
-    words: &[&'a [u8]],
-) -> Result<(), AllocError>
-    ensures { IfOk result (λ _. (w : Word) → has set.new w ≡ (has set.old w || is_in (seen_words words.entry.now) w)) }
+fn add_words<'a>(set: &mut WordSet<'a>, words: &[&'a [u8]]) -> Result<(), AllocError>
+    ensures { IfOk result (λ _. (w : Word) → has set.new.set w ≡ (has set.old.set w || is_in (seen_words words.entry.now) w)) }
 {
     for word in words {
         set.insert(*word)?;
@@ -34,10 +31,11 @@ fn add_words<'a>(
 
 /// Adds the words of a hypothesis to a set, if it is a `$e`.
 fn add_symbols<'a>(
-    set: &mut HashSet<&'a [u8], RandomState>,
+    set: &mut WordSet<'a>,
     hypothesis: &HypothesisWords<'a>,
 ) -> Result<(), AllocError>
-    ensures { IfOk result (λ _. (w : Word) → has set.new w ≡ (has set.old w || stands_in w (seen_hypothesis hypothesis.entry.now))) }
+    ensures { IfOk result (λ _. (w : Word) → has set.new.set w
+        ≡ (has set.old.set w || stands_in w (seen_hypothesis hypothesis.entry.now))) }
 {
     match hypothesis {
         HypothesisWords::Typing(_, _, _) => Ok(()),
@@ -47,12 +45,12 @@ fn add_symbols<'a>(
 
 /// Adds to a set the words of each `$e` up to the hypothesis of a number.
 fn add_premises<'a>(
-    set: &mut HashSet<&'a [u8], RandomState>,
+    set: &mut WordSet<'a>,
     links: &[Link<'a>],
     last: Option<usize>,
 ) -> Result<(), AllocError>
-    ensures { IfOk result (λ _. (w : Word) → has set.new w
-        ≡ (has set.old w || list_any (stands_in w) (path (map linked links.entry.now) last))) }
+    ensures { IfOk result (λ _. (w : Word) → has set.new.set w
+        ≡ (has set.old.set w || list_any (stands_in w) (path (map linked links.entry.now) last))) }
 {
     let mut number = last;
     while let Some((hypothesis, before)) = hypothesis_at(links, number) {
@@ -69,19 +67,19 @@ fn words_of<'a>(
     expression: &[&'a [u8]],
     links: &[Link<'a>],
     last: Option<usize>,
-) -> Result<HashSet<&'a [u8], RandomState>, AllocError>
-    ensures { IfOk result (λ set. (w : Word) → has set w
+) -> Result<WordSet<'a>, AllocError>
+    ensures { IfOk result (λ made. (w : Word) → has made.set w
         ≡ is_mandatory_variable (path (map linked links.entry.now) last) (seen_words expression.entry.now) w) }
 {
-    let mut set = HashSet::with_hasher(alloc, keys);
+    let mut set = WordSet::new(alloc, keys)?;
     add_words(&mut set, expression)?;
     add_premises(&mut set, links, last)?;
     Ok(set)
 }
 
 /// Whether a hypothesis is a `$e`, or the `$f` of a word of a set.
-fn is_chosen(set: &HashSet<&[u8], RandomState>, hypothesis: &HypothesisWords<'_>) -> bool
-    ensures { result ≡ is_chosen (has set.now) (seen_hypothesis hypothesis.now) }
+fn is_chosen(set: &WordSet<'_>, hypothesis: &HypothesisWords<'_>) -> bool
+    ensures { result ≡ is_chosen (has set.now.set) (seen_hypothesis hypothesis.now) }
 {
     match hypothesis {
         HypothesisWords::Typing(_, _, variable) => set.contains(variable),
@@ -92,11 +90,11 @@ fn is_chosen(set: &HashSet<&[u8], RandomState>, hypothesis: &HypothesisWords<'_>
 /// Of the hypotheses up to the one of a number each `$e`, and each `$f` of a word of a set, in order of appearance.
 fn chosen<'t, 'a>(
     alloc: Global,
-    set: &HashSet<&[u8], RandomState>,
+    set: &WordSet<'_>,
     links: &'t [Link<'a>],
     last: Option<usize>,
 ) -> Result<Vec<&'t HypothesisWords<'a>>, AllocError>
-    ensures { IfOk result (λ hs. seen_hypotheses hs.items ≡ filter (is_chosen (has set.entry.now)) (path (map linked links.now) last)) }
+    ensures { IfOk result (λ hs. seen_hypotheses hs.items ≡ filter (is_chosen (has set.entry.now.set)) (path (map linked links.now) last)) }
 {
     let mut chosen = Vec::new(alloc);
     let mut number = last;

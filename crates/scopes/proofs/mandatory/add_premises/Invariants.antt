@@ -11,8 +11,8 @@ use Rattle.scopes.proofs.mandatory.add_premises.Given as goal
 
 abbrev pub invariant-loop-hypothesis : goal.invariant-loop-hypothesis
 invariant-loop-hypothesis l = (w : Word) →
-    (has l.set w || list_any (stands_in w) (path (map linked l.links) l.number))
-    ≡ (has l.initial.set w || list_any (stands_in w) (path (map linked l.links) l.fn.last))
+    (has l.set.set w || list_any (stands_in w) (path (map linked l.links) l.number))
+    ≡ (has l.initial.set.set w || list_any (stands_in w) (path (map linked l.links) l.fn.last))
 
 abbrev pub decreases-loop-hypothesis : goal.decreases-loop-hypothesis
 decreases-loop-hypothesis l = count_to l.number

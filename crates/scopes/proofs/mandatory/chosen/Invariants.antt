@@ -8,8 +8,8 @@ use Rattle.scopes.specs.Chosen.{is_chosen}
 use Rattle.scopes.proofs.mandatory.chosen.Given as goal
 
 abbrev pub invariant-loop-hypothesis : goal.invariant-loop-hypothesis
-invariant-loop-hypothesis l = filter (is_chosen (has l.set)) (path (map linked l.links) l.fn.last)
-    ≡ filter (is_chosen (has l.set)) (path (map linked l.links) l.number) ++ seen_hypotheses (reverse l.chosen.items)
+invariant-loop-hypothesis l = filter (is_chosen (has l.set.set)) (path (map linked l.links) l.fn.last)
+    ≡ filter (is_chosen (has l.set.set)) (path (map linked l.links) l.number) ++ seen_hypotheses (reverse l.chosen.items)
 
 abbrev pub decreases-loop-hypothesis : goal.decreases-loop-hypothesis
 decreases-loop-hypothesis l = count_to l.number

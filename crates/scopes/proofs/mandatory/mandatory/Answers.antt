@@ -19,7 +19,7 @@ returns c =
     let t = c.args.tables.now in
     let a = c.asserted_there-asserted.result.now in
     let active = path (map linked t.links.items) a.hypotheses in
-    let test = has c.in_ok-set.set in
+    let test = has c.in_ok-set.set.set in
     let links : path (map linked c.as_slice-links.result.now) a.hypotheses ≡ active =
     ap (λ ls. path (map linked ls) a.hypotheses) c.as_slice-links.ensures.value in
     let words : seen_words c.as_slice-statement.result.now ≡ seen_words a.statement.items =

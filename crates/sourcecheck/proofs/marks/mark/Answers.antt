@@ -1,6 +1,6 @@
 -- What is left to show of `mark`.
 use Rattle.std.proofs.Common.{arith}
-use Rattle.sourcecheck.proofs.Marking.{mark_put, mark_past}
+use Rattle.scopes.proofs.Firsts.{mark_put, mark_past}
 use Rattle.sourcecheck.proofs.marks.mark.Goals as goal
 
 pub returns-then-place-len-clause-marked : goal.returns-then-place-len-clause-marked
