@@ -16,7 +16,9 @@ use Rattle.sourceediting.specs.declared.refusal.Refusal.{Refusal as Unwritten}
 use Rattle.sourceediting.specs.declared.refusal.Refusal.TheVariants as edits
 use Rattle.givetext.specs.Causes.{Known, known_of, IsKnown, IsJustified, IsRefused, IsTextThen, others_of, edited_assertions}
 use Rattle.givetext.specs.Given.{IsTakenText}
-use Rattle.givetext.specs.Parts.{IsEditsRefusal, IsStopped, IsSourceRefusal, IsTakingRefusal, IsReplayRefusal, IsLoss}
+use Rattle.choosing.specs.declared.wish.Wish.{Wish}
+use Rattle.taketext.specs.Origins.{Tells}
+use Rattle.givetext.specs.Parts.{IsEditsRefusal, IsStopped, IsSourceRefusal, IsTakingRefusal, IsUntakenBy, IsReplayRefusal, IsLoss}
 use Rattle.givetext.specs.declared.refusal.Refusal.{Refusal}
 use Rattle.givetext.specs.declared.refusal.Refusal.TheVariants as refusal
 
@@ -43,9 +45,9 @@ module _ (k : Known) (source : List ℕ) where
   told_cause e why (inl none) h = subst (IsJustified k source) (sym none) tt
   told_cause e why (inr is) h = subst (IsJustified k source) (sym is) h
 
-  pub lost_cause : (out : List ℕ) (why : Refusal) → IsTextThen k source out → IsLoss why
+  pub lost_cause : (out : List ℕ) (why : Refusal) → IsTextThen k source out → IsLoss k.changes k.followed.gone source out why
       → IsJustified k source why
-  lost_cause out refusal.CommentLost written h = (out, written)
+  lost_cause out refusal.CommentLost written h = (out, written, h)
   lost_cause out refusal.NoMemory written h = tt
   lost_cause out _ written h = absurd h
 
@@ -65,6 +67,14 @@ module _ (source : List ℕ) (old : Scope) (choice : Choice) (taken : Taken) (en
     cause = cause;
   }
 
+-- ---- another library
+
+pub untaken_refused : (source : List ℕ) (s : Scope) (library path : List ℕ) (w : Wish) → Tells library path w → (why : Refusal)
+    → IsUntakenBy s w why → IsTakingRefusal source s library why
+untaken_refused source s library path w tells refusal.NotTaken h = inr (path, w, tells, inl h)
+untaken_refused source s library path w tells refusal.NoMemory h = tt
+untaken_refused source s library path w tells _ h = absurd h
+
 -- ---- all
 
 module _ (source library history : List ℕ) where
@@ -74,8 +84,8 @@ module _ (source library history : List ℕ) where
   source_refused _ h = absurd h
 
   module _ (old : Scope) (declares : DeclaresText source old) where
-    pub taking_refused : (why : Refusal) → IsTakingRefusal why → IsRefused source library history why
-    taking_refused refusal.NotTaken h = (old, declares)
+    pub taking_refused : (why : Refusal) → IsTakingRefusal source old library why → IsRefused source library history why
+    taking_refused refusal.NotTaken h = (old, declares, h)
     taking_refused refusal.NoMemory h = tt
     taking_refused _ h = absurd h
 

@@ -8,25 +8,47 @@ use Rattle.source.specs.Sources.{DeclaresText}
 use Rattle.source.specs.Faults.{FaultySource}
 use Rattle.source.specs.Views.{seen_words}
 use Rattle.taking.specs.Reasons.{Choice}
+use Rattle.choosing.specs.declared.wish.Wish.{Wish}
 use Rattle.choosing.specs.declared.wish.Wish.TheVariants.{These}
 use Rattle.giving.specs.Staying.{Change, changed, others}
 use Rattle.items.specs.Items.{Item, label_of, Spells}
+use Rattle.comments.specs.Kept.{AreLost}
 use Rattle.library.specs.declared.history.Entry.{Entry}
 use Rattle.library.specs.Library.{Listed}
 use Rattle.checking.specs.Checks.{LeadsTo, IsReplayFault}
 use Rattle.intake.specs.declared.taken.Taken.{Taken}
-use Rattle.intake.specs.Intakes.{axioms_of}
+use Rattle.intake.specs.Intakes.{IsLibraryOf, axioms_of}
+use Rattle.taketext.specs.Answers.{taken_text}
+use Rattle.taketext.specs.Origins.{Tells, TellsNothing}
+use Rattle.sourceediting.specs.Axioms.{axioms_then}
 use Rattle.sourceediting.specs.Following.{Followed, Following, all_commands, behind_all, opening, changes_of, label_then, own_flags}
 use Rattle.sourceediting.specs.Refusals.{names, IsStillCited, HasCause}
 use Rattle.sourceediting.specs.Reproved.{AreOtherProofs}
 use Rattle.sourceediting.specs.Written.{IsWrittenAnew}
 use Rattle.sourceediting.specs.declared.refusal.Refusal.TheVariants as edits
-use Rattle.secondlook.specs.Differing.{IsUnlike}
+use Rattle.secondlook.specs.Differing.{IsUnlike, IsUntaken}
 use Rattle.secondlook.specs.declared.unlike.Unlike.{Unlike}
 use Rattle.secondlook.specs.declared.unlike.Unlike.TheVariants as unlike
 use Rattle.givetext.specs.Given.{IsTakenText}
 use Rattle.givetext.specs.declared.refusal.Refusal.{Refusal}
 use Rattle.givetext.specs.declared.refusal.Refusal.TheVariants as refusal
+
+-- ---- the library isn't what is taken of the source
+
+-- what is taken by a wish has another text
+pub record IsOtherText (source : List ℕ) (s : Scope) (library path : List ℕ) (w : Wish) : Type 0 where
+  pub taken : Taken
+  pub is_taken : IsLibraryOf s w taken
+  pub other : library ≢ taken_text path source w taken
+
+-- by a wish nothing is taken of the source, or another text
+abbrev pub IsNotBy : List ℕ → Scope → List ℕ → List ℕ → Wish → Type 0
+IsNotBy source s library path w = IsUntaken s w ⊎ IsOtherText source s library path w
+
+-- the comment of the library tells no wish, or one by which it isn't taken
+abbrev pub IsNotTaken : List ℕ → Scope → List ℕ → Type 0
+IsNotTaken source s library =
+    TellsNothing library ⊎ ((path : List ℕ) × (w : Wish) × Tells library path w × IsNotBy source s library path w)
 
 -- ---- what is known once the history was done again
 
@@ -115,13 +137,15 @@ pub record Cites (cs : List Change) (xs : List Assertion) (by label : Word) : Ty
   pub named : IsTrue (names cited citing.proof)
   pub now : changed cs cited ≡ label
 
--- the text with the edits isn't as it should be, where the library is taken by the labels that its assertions have then
+-- the text with the edits isn't as it should be, where the library is taken by the labels that its assertions have then, and as axioms are
+-- taken just those that are axioms in the edited library
 pub record IsUnfit (k : Known) (source : List ℕ) (why : Unlike) : Type 0 where
   pub out : List ℕ
   pub written : IsTextThen k source out
   pub then : Bor (List (Bor (List ℕ)))
   pub labels : seen_words then.now ≡ map label_then k.followed.living
   pub axioms : Bor (List (Bor (List ℕ)))
+  pub axioms_are : seen_words axioms.now ≡ axioms_then (edited_assertions k) k.followed.living
   pub unlike : IsUnlike k.old out (These then axioms) k.changes k.own k.edited why
 
 -- the other with this number is the first that isn't as it was, and has this label; or there is none with this number
@@ -133,8 +157,7 @@ abbrev pub WouldStandBehind : Known → List ℕ → Word → Word → Type 0
 WouldStandBehind k source label by =
     (out : List ℕ) × IsTextThen k source out × StandInOrder out by label × Cites k.changes (others_of k) by label
 
--- ---- each refusal, once the history was done again; of want of memory, of edits that can't be written, and of another prelude nothing is
--- known, and of a lost comment just that there was a text
+-- ---- each refusal, once the history was done again; of want of memory, and of edits that can't be written, nothing is known
 
 abbrev pub IsJustified : Known → List ℕ → Refusal → Type 0
 IsJustified k source (refusal.NameTaken label) = IsNameTaken k label
@@ -146,7 +169,8 @@ IsJustified k source (refusal.Changes label) = (x : Assertion) × IsFirstOther k
 IsJustified k source refusal.AnotherAssertion = IsFirstOther k source None
 IsJustified k source refusal.Untaken = IsUnfit k source unlike.Untaken
 IsJustified k source refusal.AnotherLibrary = IsUnfit k source unlike.AnotherLibrary ⊎ IsUnfit k source unlike.AnotherPrelude
-IsJustified k source refusal.CommentLost = (out : List ℕ) × IsTextThen k source out
+IsJustified k source refusal.CommentLost =
+    (out : List ℕ) × IsTextThen k source out × AreLost k.changes k.followed.gone source out
 IsJustified k source refusal.NoMemory = Unit {0}
 IsJustified k source _ = ⊥
 
@@ -154,7 +178,7 @@ IsJustified k source _ = ⊥
 
 abbrev pub IsRefused : List ℕ → List ℕ → List ℕ → Refusal → Type 0
 IsRefused source library history (refusal.Source fault) = FaultySource source fault
-IsRefused source library history refusal.NotTaken = (s : Scope) × DeclaresText source s
+IsRefused source library history refusal.NotTaken = (s : Scope) × DeclaresText source s × IsNotTaken source s library
 IsRefused source library history (refusal.Replay fault) =
     (s : Scope) × (t : Taken) × DeclaresText source s × IsTakenText source s library t × IsReplayFault library history fault
 IsRefused source library history refusal.NoMemory = Unit {0}

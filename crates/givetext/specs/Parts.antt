@@ -14,14 +14,16 @@ use Rattle.items.specs.declared.reading.Kind.TheVariants.{Assertion as IsAsserti
 use Rattle.checking.specs.Checks.{IsReplayFault}
 use Rattle.sourceediting.specs.Refusals.{names}
 use Rattle.sourceediting.specs.declared.refusal.Refusal.{Refusal as Unwritten}
-use Rattle.givetext.specs.Causes.{known_of, IsFollowed, IsJustified}
+use Rattle.choosing.specs.declared.wish.Wish.{Wish}
+use Rattle.secondlook.specs.Differing.{IsUntaken}
+use Rattle.givetext.specs.Causes.{known_of, IsFollowed, IsJustified, IsNotTaken}
 use Rattle.givetext.specs.declared.refusal.Refusal.{Refusal}
 use Rattle.givetext.specs.declared.refusal.Refusal.TheVariants as refusal
 use Rattle.library.specs.declared.history.Entry.{Entry}
 use Rattle.library.specs.Library.{Listed}
 use Rattle.intake.specs.declared.taken.Taken.{Taken}
 use Rattle.intake.specs.Intakes.{axioms_of}
-use Rattle.comments.specs.Kept.{AreKept}
+use Rattle.comments.specs.Kept.{AreKept, AreLost}
 use Rattle.sourceediting.specs.Following.{Followed, Following, all_commands, behind_all, opening, changes_of, label_then, own_flags}
 use Rattle.sourceediting.specs.Following.{names_none}
 use Rattle.secondlook.specs.Looked.{IsLookedAt}
@@ -49,11 +51,17 @@ IsSourceRefusal text (refusal.Source fault) = FaultySource text fault
 IsSourceRefusal text refusal.NoMemory = Unit {0}
 IsSourceRefusal text _ = ⊥
 
+-- nothing is taken of a source by a wish
+abbrev pub IsUntakenBy : Scope → Wish → Refusal → Type 0
+IsUntakenBy s w refusal.NotTaken = IsUntaken s w
+IsUntakenBy s w refusal.NoMemory = Unit {0}
+IsUntakenBy s w _ = ⊥
+
 -- another library is there
-abbrev pub IsTakingRefusal : Refusal → Type 0
-IsTakingRefusal refusal.NotTaken = Unit {0}
-IsTakingRefusal refusal.NoMemory = Unit {0}
-IsTakingRefusal _ = ⊥
+abbrev pub IsTakingRefusal : List ℕ → Scope → List ℕ → Refusal → Type 0
+IsTakingRefusal source s library refusal.NotTaken = IsNotTaken source s library
+IsTakingRefusal source s library refusal.NoMemory = Unit {0}
+IsTakingRefusal source s library _ = ⊥
 
 -- a history isn't done again
 abbrev pub IsReplayRefusal : List ℕ → List ℕ → Refusal → Type 0
@@ -62,10 +70,10 @@ IsReplayRefusal library history refusal.NoMemory = Unit {0}
 IsReplayRefusal library history _ = ⊥
 
 -- a comment is lost
-abbrev pub IsLoss : Refusal → Type 0
-IsLoss refusal.CommentLost = Unit {0}
-IsLoss refusal.NoMemory = Unit {0}
-IsLoss _ = ⊥
+abbrev pub IsLoss : List Change → List Word → List ℕ → List ℕ → Refusal → Type 0
+IsLoss cs gone source out refusal.CommentLost = AreLost cs gone source out
+IsLoss cs gone source out refusal.NoMemory = Unit {0}
+IsLoss cs gone source out _ = ⊥
 
 -- edits can't be written
 abbrev pub IsEditsRefusal : Unwritten → Refusal → Type 0

@@ -119,7 +119,7 @@ pub(crate) fn keep_comments(
     out: &[u8],
 ) -> Result<(), Refusal>
     ensures kept { OnOk result (AreKept changes.now (seen_words gone.now) source.now out.now) }
-    ensures refused { IfErr result IsLoss }
+    ensures refused { IfErr result (IsLoss changes.now (seen_words gone.now) source.now out.now) }
 {
     let gone = marked(alloc, keys, gone)?;
     if !are_kept(alloc, keys, changes, &gone, source, out)? {

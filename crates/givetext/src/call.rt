@@ -2,7 +2,7 @@
 //! looked at again.
 
 ghost use Rattle.std.specs.Prelude.{◌≡◌, ◌≢◌, ℕ, Bool, false, List, Some, IfOk, IfErr, IsTrue, OnOk, length, map};
-ghost use Rattle.source.specs.Scopes.{Assertion, is_in};
+ghost use Rattle.source.specs.Scopes.{Assertion, Scope, is_in};
 ghost use Rattle.source.specs.Sources.{DeclaresText};
 ghost use Rattle.source.specs.Views.{seen_words};
 ghost use Rattle.source.specs.Whole.{IsWhole};
@@ -13,17 +13,19 @@ ghost use Rattle.sourceediting.specs.Following.{all_commands, behind_all, label_
 ghost use Rattle.sourceediting.specs.Views.{seen_followed, seen_following};
 ghost use Rattle.library.specs.declared.history.Entry.{Entry};
 ghost use Rattle.library.specs.Library.{Listed};
+ghost use Rattle.choosing.specs.declared.wish.Wish.{Wish as WishOf};
+ghost use Rattle.intake.specs.Intakes.{IsRefusedOf};
 ghost use Rattle.intake.specs.declared.taken.Taken.{Taken};
 ghost use Rattle.sourceediting.specs.Reproved.{AreOtherProofs};
 ghost use Rattle.sourceediting.specs.Written.{IsWrittenAnew};
 ghost use Rattle.secondlook.specs.Looked.{IsLookedAt};
 ghost use Rattle.givetext.specs.Causes.{known_of, IsJustified, IsRefused, IsTextThen};
 ghost use Rattle.givetext.specs.Given.{IsTakenText, IsGiven};
-ghost use Rattle.givetext.specs.Parts.{IsEdited, IsReplayRefusal, IsSourceRefusal, IsStopped, IsTakingRefusal, TakesName};
+ghost use Rattle.givetext.specs.Parts.{IsEdited, IsReplayRefusal, IsSourceRefusal, IsStopped, IsTakingRefusal, IsUntakenBy};
+ghost use Rattle.givetext.specs.Parts.{TakesName};
 ghost use Rattle.givetext.specs.declared.refusal.Refusal.TheVariants.{NoMemory};
 
 use crate::again::{keep_comments, unprinted};
-use crate::origin::origin_of;
 use crate::refusal::Refusal;
 use checking::{Fault, replay_library};
 use giving::Changes;
@@ -41,7 +43,7 @@ use sourcereader::read_source;
 use std::alloc::{AllocError, Global};
 use std::hash::RandomState;
 use std::thread::Threads;
-use taketext::write_taken;
+use taketext::{origin_of, write_taken};
 
 /// What the source declares.
 fn read_old<'a>(
@@ -59,7 +61,7 @@ fn read_old<'a>(
 
 /// Why no library is taken of the source.
 fn untaken(refusal: intake::Refusal<'_, '_>) -> Refusal
-    ensures { IsTakingRefusal result }
+    ensures { (s : Scope) (w : WishOf) → IsRefusedOf s w refusal.entry → IsUntakenBy s w result }
 {
     match refusal {
         intake::Refusal::NoMemory => Refusal::NoMemory,
@@ -79,12 +81,14 @@ fn take_old<'a, D: Declared<'a>>(
 ) -> Result<Taken<'a>, Refusal>
     requires { IsWhole (D.scope declared.now) }
     ensures taken { IfOk result (IsTakenText source.now (D.scope declared.now) library.now) }
-    ensures refused { IfErr result IsTakingRefusal }
+    ensures refused { IfErr result (IsTakingRefusal source.now (D.scope declared.now) library.now) }
 {
     let Some(origin) = origin_of(alloc, library)? else {
         return Err(Refusal::NotTaken);
     };
-    let wish = origin.wished.wish();
+    let Some(wish) = origin.wish() else {
+        return Err(Refusal::NotTaken);
+    };
     let taken = match take_declared(rt, alloc, keys, declared, wish, follow) {
         Ok(taken) => taken,
         Err(refusal) => return Err(untaken(refusal)),

@@ -5,7 +5,6 @@
 mod again;
 mod answering;
 mod call;
-mod origin;
 mod refusal;
 mod refusing;
 mod standing;

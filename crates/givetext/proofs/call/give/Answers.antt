@@ -6,7 +6,7 @@ use Rattle.givetext.specs.Parts.{IsEdited, IsStopped}
 use Rattle.givetext.specs.Causes.{IsRefused}
 use Rattle.givetext.specs.declared.refusal.Refusal.{Refusal}
 use Rattle.givetext.specs.declared.refusal.Refusal.TheVariants.{NoMemory}
-use Rattle.givetext.proofs.Stopped.{replay_refused, stopped_refused}
+use Rattle.givetext.proofs.Stopped.{replay_refused, stopped_refused, taking_refused}
 use Rattle.givetext.specs.Given.{IsGiven}
 use Rattle.givetext.proofs.Looked.{given_by}
 use Rattle.givetext.proofs.call.give.Goals as goal
@@ -32,6 +32,12 @@ returns-clause-given g c =
     (λ out. given_by source library history out.items old taken entries edited c.in_ok-old.ensures.declares was
     c.in_ok-replayed.ensures.leads)
     (c.give_edits.ensures.edited choice was.taken.chosen_are)
+
+pub returns-in_err-taken-clause-refused : goal.returns-in_err-taken-clause-refused
+returns-in_err-taken-clause-refused g c =
+    let p = err_from_is_err_and c.from_residual-in_err-taken.result c.from_residual-in_err-taken.ensures.1 in
+    rw (p.1, p.2) (taking_refused c.args.source.now c.args.library.now c.args.history.now c.in_ok-old.old.stand.scope
+    c.in_ok-old.ensures.declares c.in_err-taken.field-0.0 c.in_err-taken.ensures.refused)
 
 pub returns-in_err-replayed-clause-refused : goal.returns-in_err-replayed-clause-refused
 returns-in_err-replayed-clause-refused g c =

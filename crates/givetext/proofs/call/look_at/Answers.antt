@@ -1,6 +1,8 @@
 -- What is left to show of `look_at`.
-use Rattle.std.proofs.Common.{◌∙◌, List, ap, refl, subst}
-use Rattle.sourceediting.specs.Views.{seen_following}
+use Rattle.std.proofs.Common.{◌∙◌, List, map, ap, refl, subst}
+use Rattle.sourceediting.specs.Axioms.{axioms_then}
+use Rattle.sourceediting.specs.Views.{seen_following, seen_living}
+use Rattle.sourceediting.specs.declared.following.Followed.{Followed as Kept}
 use Rattle.givetext.specs.Causes.{known_of}
 use Rattle.mmtext.specs.Words.{Word}
 use Rattle.source.specs.Views.{seen_words}
@@ -23,5 +25,9 @@ returns-clause-refused g c = λ taken entries source written.
       then = c.as_slice-2.result;
       labels = ap seen_words c.as_slice-2.ensures.value ∙ c.in_ok-then.ensures;
       axioms = c.as_slice-3.result;
+      axioms_are =
+          ap seen_words c.as_slice-3.ensures.value
+          ∙ c.in_ok-axioms.ensures
+          ∙ ap (λ (fs : List Kept). axioms_then (map (λ r. r.assertion) c.args.edited.now.entries) (seen_living fs)) c.as_slice.ensures.value;
       unlike = c.in-Err.ensures.unlike;
     })

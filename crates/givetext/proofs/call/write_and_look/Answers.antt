@@ -9,6 +9,7 @@ use Rattle.std.specs.Prelude.{map}
 use Rattle.secondlook.specs.Looked.{IsLookedAt}
 use Rattle.std.proofs.lemmas.Result.{err_from_is_err_and}
 use Rattle.givetext.specs.Causes.{known_of}
+use Rattle.givetext.specs.Parts.{IsLoss}
 use Rattle.givetext.proofs.Stopped.{lost_cause}
 use Rattle.givetext.proofs.call.write_and_look.Goals as goal
 
@@ -31,7 +32,13 @@ returns-clause-looked g c =
 pub returns-in_err-keep_comments-clause-refused : goal.returns-in_err-keep_comments-clause-refused
 returns-in_err-keep_comments-clause-refused g c =
     let p = err_from_is_err_and c.from_residual-in_err-keep_comments.result c.from_residual-in_err-keep_comments.ensures.1 in
+    let changes = c.args.changes.now in
+    let source = c.args.source.now in
+    let why = c.in_err-keep_comments.field-0.0 in
     let k = known_of c.args.old.now.stand.scope c.args.taken.now c.args.replayed.now.entries c.args.replayed.now.edited
-    (seen_following c.args.following.now) c.args.changes.now c.args.own.now in
-    rw (p.1, p.2) (lost_cause k c.args.source.now c.in_ok-out.out.items c.in_err-keep_comments.field-0.0 c.in_ok-out.ensures.written
-    c.in_err-keep_comments.ensures.refused)
+    (seen_following c.args.following.now) changes c.args.own.now in
+    let lost =
+    subst (λ (text : List ℕ). IsLoss changes (seen_words c.args.following.now.gone.items) source text why) c.as_slice-text.ensures.value
+    (subst (λ (ws : List Word). IsLoss changes ws source c.as_slice-text.result.now why) (ap seen_words c.as_slice-gone.ensures.value)
+    c.in_err-keep_comments.ensures.refused) in
+    rw (p.1, p.2) (lost_cause k source c.in_ok-out.out.items why c.in_ok-out.ensures.written lost)
