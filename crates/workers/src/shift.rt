@@ -1,6 +1,6 @@
 //! What one worker does.
 
-ghost use Rattle.std.specs.Prelude.{◌≡◌, All, IfOk, OnErr, length};
+ghost use Rattle.std.specs.Prelude.{◌≡◌, All, IfOk, length};
 ghost use Rattle.library.specs.Fitting.{CommandFits};
 ghost use Rattle.claims.specs.Claims.{IsClaimantOf};
 ghost use Rattle.lawful.specs.Lawful.{setting_given};
@@ -105,7 +105,6 @@ fn submit_all<R: Wait, G: Gate>(
     requires fit { All (All (CommandFits (setting_given shop.library.now.given).prelude)) transactions.now }
     ensures own { IsSessionOf shop.entry.library.now session.new }
     ensures ok { IfOk result (λ outcomes. SubmitsAll transactions.now session.old session.new outcomes.items) }
-    ensures lack { OnErr result (session.new ≡ session.old) }
 {
     let mut outcomes = Vec::with_capacity(alloc, transactions.len())?;
     for transaction in transactions {
