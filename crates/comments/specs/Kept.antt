@@ -15,8 +15,8 @@ pub record AreKept (cs : List Change) (gone : List Word) (source out : List ℕ)
   pub left : All (IsOfDeleted gone source) (kept (map not stay) (comments source))
   pub same : IsPermutation (map (λ c. reading c.words) (comments out)) (map (reading_then cs) (kept stay (comments source)))
 
--- a comment is lost or made: where some are left out that go with deleted assertions, those of the source, with changed labels, aren't those
--- of the text, as often as there. Where none was deleted, all are compared
+-- a comment is lost or made: where some are left out that go with deleted assertions, those of the source, with changed labels, aren't
+-- those of the text, as often as there. Where none was deleted, all are compared
 pub record AreLost (cs : List Change) (gone : List Word) (source out : List ℕ) : Type 0 where
   pub stay : List Bool
   pub many : length stay ≡ length (comments source)

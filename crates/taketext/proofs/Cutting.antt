@@ -40,7 +40,8 @@ cut_there byte text xs us h e =
 
 -- ---- lines
 
-pub lines_one : (text first third other one : List ℕ) → AreLines text first third → AreLines text other one → (first ≡ other) × (third ≡ one)
+pub lines_one : (text first third other one : List ℕ) → AreLines text first third → AreLines text other one
+    → (first ≡ other) × (third ≡ one)
 lines_one text first third other one h k =
     let front = cut_one 10 first other _ _ h.in_first k.in_first (sym h.are ∙ k.are) in
     let middle = cut_one 10 h.second k.second _ _ h.in_second k.in_second front.1 in

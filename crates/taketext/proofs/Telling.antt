@@ -151,7 +151,8 @@ untold text none path w h = let o = told_so text path w h in none path o.chosen 
 
 -- ---- a text has one path, and one list of words
 
-pub origin_one : (text path other : List ℕ) (ws vs : List Word) → IsOrigin text path ws → IsOrigin text other vs → (path ≡ other) × (ws ≡ vs)
+pub origin_one : (text path other : List ℕ) (ws vs : List Word) → IsOrigin text path ws → IsOrigin text other vs
+    → (path ≡ other) × (ws ≡ vs)
 origin_one text path other ws vs h k =
     let lines = lines_one text _ _ _ _ h.lines k.lines in
     let chosen : h.chosen ≡ k.chosen = append_cancel_left (codes "   Chosen: ") h.chosen k.chosen lines.1 in (

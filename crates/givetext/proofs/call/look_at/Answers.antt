@@ -28,6 +28,7 @@ returns-clause-refused g c = λ taken entries source written.
       axioms_are =
           ap seen_words c.as_slice-3.ensures.value
           ∙ c.in_ok-axioms.ensures
-          ∙ ap (λ (fs : List Kept). axioms_then (map (λ r. r.assertion) c.args.edited.now.entries) (seen_living fs)) c.as_slice.ensures.value;
+          ∙ ap (λ (fs : List Kept). axioms_then (map (λ r. r.assertion) c.args.edited.now.entries) (seen_living fs))
+          c.as_slice.ensures.value;
       unlike = c.in-Err.ensures.unlike;
     })

@@ -9,7 +9,8 @@ pub returns-in_default : goal.returns-in_default
 returns-in_default c = (
   λ yes. absurd cc,
   λ h.
-      absurd (c.in_default.ensures h.found (subst (λ (w : Word). IsFloatLabelled c.args.other.now w h.found) (sym c.as_slice.ensures) h.there)),
+      absurd (c.in_default.ensures h.found (subst (λ (w : Word). IsFloatLabelled c.args.other.now w h.found)
+      (sym c.as_slice.ensures) h.there)),
 )
 
 pub returns : goal.returns
