@@ -11,6 +11,7 @@ use crate::table::Table;
 use crate::theorem::{check_theorem, fault};
 use claims::{Claimant, Numbers};
 use derivation::{ProofFault, ProofFaultKind};
+use following::Follow;
 use rayon::current_num_threads;
 use scopes::Scopes;
 use source::Declared;
@@ -58,7 +59,7 @@ fn found_at<'a, D: Declared<'a>>(
 }
 
 /// Checks the assertions that the checker claims, one after another, until all are claimed. Behind a fault it goes on claiming, and checks
-/// nothing more: each place that it claims is behind those that it claimed before.
+/// nothing more: each place that it claims is behind those that it claimed before. Who follows is told of each.
 fn check_claimed<'a, D: Declared<'a>>(
     alloc: Global,
     table: &Table<'a>,
@@ -66,6 +67,7 @@ fn check_claimed<'a, D: Declared<'a>>(
     declared: &D,
     numbers: &Numbers,
     checker: &mut Checker,
+    follow: &impl Follow,
 )
     requires whole { IsWhole (D.scope declared.now) }
     requires knows { Knows (D.scope declared.now).assertions frames.now table.now }
@@ -75,6 +77,7 @@ fn check_claimed<'a, D: Declared<'a>>(
 {
     let mut own = table.copy(alloc).ok();
     while let Some(place) = checker.claimant.claim(numbers) {
+        follow.pass_assertion();
         if checker.found.is_none() {
             checker.found = found_at(alloc, &mut own, frames, declared, place);
         }
@@ -90,6 +93,7 @@ fn check_beside<'a>(
     declared: &Scopes<'a>,
     numbers: &Numbers,
     checkers: &mut [Checker],
+    follow: &(impl Follow + Sync),
 )
     requires some { 0 < length checkers.old }
     requires whole { IsWhole declared.now.stand.scope }
@@ -110,7 +114,7 @@ fn check_beside<'a>(
                 × (numbers.now.count ≡ length declared.now.stand.scope.assertions)
                 × IsReady numbers.now checker.now }
             ensures { HasChecked declared.entry.now.stand.scope.assertions numbers.entry.now checker.new }
-        { check_claimed(alloc, table, frames, declared, numbers, checker) },
+        { check_claimed(alloc, table, frames, declared, numbers, checker, follow) },
     );
 }
 
@@ -197,6 +201,7 @@ pub(crate) fn check_shared<'a>(
     table: &Table<'a>,
     frames: &[Frame],
     declared: &Scopes<'a>,
+    follow: &(impl Follow + Sync),
 ) -> Result<Option<(usize, ProofFault)>, AllocError>
     requires whole { IsWhole declared.now.stand.scope }
     requires knows { Knows declared.now.stand.scope.assertions frames.now table.now }
@@ -215,6 +220,7 @@ pub(crate) fn check_shared<'a>(
         declared,
         &numbers,
         checkers.as_mut_slice(),
+        follow,
     );
     Ok(first_found(numbers, checkers, spent))
 }

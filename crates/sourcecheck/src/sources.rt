@@ -17,6 +17,7 @@ use crate::frame::Frame;
 use crate::framing::frame_of;
 use crate::table::Table;
 use derivation::{ProofFault, ProofFaultKind};
+use following::Follow;
 use scopes::Scopes;
 use source::Declared;
 use std::alloc::{AllocError, Global};
@@ -96,13 +97,22 @@ fn first_fault<'a>(
     keys: RandomState,
     workers: Option<usize>,
     declared: &Scopes<'a>,
+    follow: &(impl Follow + Sync),
 ) -> Result<Option<(usize, ProofFault)>, AllocError>
     requires { IsWhole declared.now.stand.scope }
     ensures { IfOk result (IsFoundAmong declared.now.stand.scope.assertions (λ k. k < length declared.now.stand.scope.assertions)) }
 {
     let mut table = Table::new(alloc, keys);
     let frames = frames_of(alloc, &mut table, declared)?;
-    check_shared(rt, alloc, workers, &table, frames.as_slice(), declared)
+    check_shared(
+        rt,
+        alloc,
+        workers,
+        &table,
+        frames.as_slice(),
+        declared,
+        follow,
+    )
 }
 
 /// Whether the proof of the assertion at a place is unfinished.
@@ -130,7 +140,7 @@ fn count_unfinished<'a, D: Declared<'a>>(declared: &D) -> usize
 }
 
 /// Checks all proofs of a source: how many of them are unfinished. `workers` check beside one another, from 1 to 64; if none is said, as
-/// many as there are processors. Whatever they do first, the same is told.
+/// many as there are processors. Whatever they do first, the same is told. Who follows is told of each assertion, on any thread.
 ///
 /// It costs about as much as the expressions that the proofs write down have symbols; at each assertion its active hypotheses and pairs are
 /// gone through as well.
@@ -145,13 +155,14 @@ pub fn check_source<'a>(
     keys: RandomState,
     workers: Option<usize>,
     declared: &Scopes<'a>,
+    follow: &(impl Follow + Sync),
 ) -> Result<usize, Unverified<'a>>
     requires { IsWhole declared.now.stand.scope }
     ensures verified { OnOk result (Verifies declared.now.stand.scope) }
     ensures unfinished { IfOk result (λ n. n ≡ unfinished declared.now.stand.scope) }
     ensures refused { IfErr result (IsRefusedIn declared.now.stand.scope) }
 {
-    match first_fault(rt, alloc, keys, workers, declared) {
+    match first_fault(rt, alloc, keys, workers, declared, follow) {
         Err(_) => Err(Unverified::NoMemory),
         Ok(Some((place, fault))) => Err(refusal_at(declared, place, fault)),
         Ok(None) => Ok(count_unfinished(declared)),

@@ -40,7 +40,7 @@ fn verify_text<'a>(
     sources_are_whole();
     let assertions = scopes.assertions();
     follow.begin_assertions(assertions);
-    let unfinished = check_source(rt, alloc, keys, workers, &scopes)?;
+    let unfinished = check_source(rt, alloc, keys, workers, &scopes, follow)?;
     Ok(Verified {
         assertions,
         unfinished,
