@@ -213,8 +213,8 @@ fn show_usage<W: World>(world: &mut W, error: &clap::Error) -> u8
     refuse(world, "cannot write")
 }
 
-/// Checks the proofs of a source, or takes a library of it, where one of these is what was found in the words of a command line. Who follows
-/// is told how far that is.
+/// Checks the proofs of a source, or takes a library of it, where one of these is what was found in the words of a command line. Who
+/// follows is told how far that is.
 fn obey_source<R: Threads + Sync, W: World, F: Follow + Sync>(
     rt: &R,
     alloc: Global,
@@ -234,8 +234,8 @@ fn obey_source<R: Threads + Sync, W: World, F: Follow + Sync>(
     }
 }
 
-/// Gives edits back, checks the proofs of a source, or takes a library of it, where one of these is what was found in the words of a command
-/// line. Who follows is told how far that is.
+/// Gives edits back, checks the proofs of a source, or takes a library of it, where one of these is what was found in the words of a
+/// command line. Who follows is told how far that is.
 fn obey_other<R: Threads + Sync, W: World, F: Follow + Sync>(
     rt: &R,
     alloc: Global,

@@ -53,7 +53,8 @@ either_not true b h = absurd cc
 either_not false b h = (refl, h)
 
 -- a word whose first byte is that of none of some words is none of them
-pub not_among : (ws : List Word) (w : Word) → list_any (λ v. v == first_byte w) (map first_byte ws) ≡ false → list_any (bytes_eq w) ws ≡ false
+pub not_among : (ws : List Word) (w : Word) → list_any (λ v. v == first_byte w) (map first_byte ws) ≡ false
+    → list_any (bytes_eq w) ws ≡ false
 not_among [] w h = refl
 not_among (y ∷ ys) w h =
     let both = either_not (first_byte y == first_byte w) (list_any (λ v. v == first_byte w) (map first_byte ys)) h in

@@ -49,8 +49,8 @@ fn verify_text<'a>(
 
 /// Checks all proofs of a source in the whole language, by so many threads beside one another, or as many as there are processors.
 ///
-/// Ok only where the text declares a source each of whose finished proofs derives its statement; nothing is asked of an unfinished proof but
-/// that each of its steps takes what is there. The same is answered whatever the threads do. Who follows is told how far it is.
+/// Ok only where the text declares a source each of whose finished proofs derives its statement; nothing is asked of an unfinished proof
+/// but that each of its steps takes what is there. The same is answered whatever the threads do. Who follows is told how far it is.
 ///
 /// # Errors
 ///

@@ -43,7 +43,8 @@ returns-clause-sound c =
     } in
     let entries : map entry_of c.push.new.self.items ≡ map entry_of t.assertions.items ++ entry_here (kept_of t) label ws proof
     ∷ [] =
-    ap (map entry_of) also ∙ map-append entry_of t.assertions.items _ ∙ ap₂ (λ o ns. map entry_of t.assertions.items ++ put o ns ∷ []) last marked in
+    ap (map entry_of) also ∙ map-append entry_of t.assertions.items _
+    ∙ ap₂ (λ o ns. map entry_of t.assertions.items ++ put o ns ∷ []) last marked in
     let count : c.len-place.result ≡ length t.assertions.items = search rules in
     let place : c.len-place.result ≡ length (kept_of t).entries = count ∙ sym (length-map t.assertions.items entry_of) in
     rw (labels, entries) (sound_looks _ (looks_up c.insert.new.self) _
@@ -82,5 +83,6 @@ returns-clause-stand c =
     } in
     let entries : map entry_of c.push.new.self.items ≡ map entry_of t.assertions.items ++ entry_here (kept_of t) label ws proof
     ∷ [] =
-    ap (map entry_of) also ∙ map-append entry_of t.assertions.items _ ∙ ap₂ (λ o ns. map entry_of t.assertions.items ++ put o ns ∷ []) last marked in
+    ap (map entry_of) also ∙ map-append entry_of t.assertions.items _
+    ∙ ap₂ (λ o ns. map entry_of t.assertions.items ++ put o ns ∷ []) last marked in
     rw (labels, entries) (stand_entry (looks_up t.names) (kept_of t) label ws proof c.requires.sound)

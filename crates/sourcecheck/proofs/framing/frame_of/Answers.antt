@@ -21,7 +21,8 @@ returns-clause-made g c = λ x at e said more.
     let second = first ∙ sym (ap seen_hypotheses other) in
     let pairs = pairs_are xs place x at _ c.in_ok-pairs.ensures in
     let variables : AreVariables hs c.as_slice-variables.result.now =
-    ap (map seen_variable) c.as_slice-variables.ensures.value ∙ c.in_ok-variables.ensures ∙ ap (λ hs. map variable_of (seen_hypotheses hs)) one ∙ ap (map variable_of) (sym first) in
+    ap (map seen_variable) c.as_slice-variables.ensures.value ∙ c.in_ok-variables.ensures
+    ∙ ap (λ hs. map variable_of (seen_hypotheses hs)) one ∙ ap (map variable_of) (sym first) in
     let end = words_of c.pairs_of.new.table in
     let near = c.in_ok-pairs-2.ensures.keeps.grows in
     let far = grows_on (words_of c.demands_of.new.table) (words_of c.pieces_of.new.table) end c.in_ok-statement.ensures.keeps.grows near in

@@ -16,5 +16,6 @@ returns-clause-made g c =
     let words = seen_words c.in-Some.statement.now in
     let said : option_map (λ (a : Assertion). a.statement) (slice_get s.assertions place) ≡ Some words =
     sym c.statement.ensures ∙ ap (option_map (λ (ws : Bor (List (Bor (List ℕ)))). seen_words ws.now)) c.in-Some.is in
-    IfOk-weaker c.frame_of.result _ _ (λ f made x at. made x at (whole_at s place x c.requires.whole at).mandatory (statement_is s.assertions place x at words said))
+    IfOk-weaker c.frame_of.result _ _
+    (λ f made x at. made x at (whole_at s place x c.requires.whole at).mandatory (statement_is s.assertions place x at words said))
     c.frame_of.ensures.made

@@ -17,7 +17,8 @@ returns-in-Ok-Some-clause-tells g c = λ x at finished.
     let made = c.in-Ok-Some.counted in
     let hs = seen_hypotheses c.in-Ok.mandatory.items in
     let counted : IsCounted hs own made =
-    subst (λ (o : Option Counted). MatchOption o (steps_of hs own ≡ None) (IsCounted hs own)) c.in-Ok-Some.field-0-is c.in-Ok-Some.ensures in
+    subst (λ (o : Option Counted). MatchOption o (steps_of hs own ≡ None) (IsCounted hs own)) c.in-Ok-Some.field-0-is
+    c.in-Ok-Some.ensures in
     let labels = seen_words made.labels.items in
     let hypotheses : Some x.hypotheses ≡ Some hs =
     sym (ap (option_map (λ (a : Assertion). a.hypotheses)) at) ∙ c.in-Ok.ensures in
