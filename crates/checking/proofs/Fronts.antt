@@ -7,7 +7,7 @@ use Rattle.derivation.specs.Databases.{AllCheck}
 use Rattle.library.specs.Library.{Verifies, opening}
 use Rattle.librarylaws.proofs.Opening.{opening_verifies}
 use Rattle.library.specs.declared.history.Entry.{Entry}
-use Rattle.library.specs.Histories.{told, after_front, EntriesFit}
+use Rattle.library.specs.Histories.{seen_entry, after_front, EntriesFit}
 use Rattle.librarylaws.proofs.Fronts.{fronts_verify}
 use Rattle.checking.specs.Outcomes.{program_setting}
 
@@ -20,7 +20,7 @@ opening_stands db spelled checks =
     opening_verifies db 4096 spelled checks some most few
 
 -- of entries whose commands are within the limits
-pub fronts_of : (db : Contents) (es : List Entry) → HasSpelling db → AllCheck db → EntriesFit db.prelude (map told es)
-    → (k : ℕ) → Verifies (program_setting db) (after_front (program_setting db) (opening db) (map told es) k)
+pub fronts_of : (db : Contents) (es : List Entry) → HasSpelling db → AllCheck db → EntriesFit db.prelude (map seen_entry es)
+    → (k : ℕ) → Verifies (program_setting db) (after_front (program_setting db) (opening db) (map seen_entry es) k)
 fronts_of db es spelled checks within k =
-    fronts_verify (program_setting db) (opening db) (map told es) k (opening_stands db spelled checks) within
+    fronts_verify (program_setting db) (opening db) (map seen_entry es) k (opening_stands db spelled checks) within

@@ -7,7 +7,7 @@ use Rattle.mmtext.specs.Languages.{too_long}
 use Rattle.mmsyntax.specs.Tables.{Tables, Contents}
 use Rattle.library.specs.Library.{opening}
 use Rattle.library.specs.declared.history.Entry.{Entry}
-use Rattle.library.specs.Histories.{told, IsLegal}
+use Rattle.library.specs.Histories.{seen_entry, IsLegal}
 use Rattle.history.proofs.Differing.{no_first_differing, one_first_differing}
 use Rattle.historytext.specs.Places.{FaultyHistory}
 use Rattle.checking.specs.declared.fault.Fault.{Fault}
@@ -42,14 +42,14 @@ history_faulted p text g _ is faulty ne = absurd is
 pub one_difference : (contents : Contents) (history : List Entry) (n : ℕ) (f : Fault) → IsDifference contents history (Differs n)
     → IsDifference contents history f → f ≡ Differs n
 one_difference contents history n (Differs m) first h =
-    ap (λ k. Differs k) (one_first_differing (program_setting contents) (opening contents) (map told history) m n h first)
+    ap (λ k. Differs k) (one_first_differing (program_setting contents) (opening contents) (map seen_entry history) m n h first)
 one_difference contents history n _ first h = absurd h
 
 -- a legal history has none
 pub no_difference : (contents : Contents) (history : List Entry) (f : Fault)
-    → IsLegal (program_setting contents) (opening contents) (map told history) → IsDifference contents history f → ⊥
+    → IsLegal (program_setting contents) (opening contents) (map seen_entry history) → IsDifference contents history f → ⊥
 no_difference contents history (Differs n) legal h =
-    no_first_differing (program_setting contents) (opening contents) (map told history) n legal h
+    no_first_differing (program_setting contents) (opening contents) (map seen_entry history) n legal h
 no_difference contents history _ legal h = h
 
 -- ---- replays

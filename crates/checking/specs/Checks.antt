@@ -15,7 +15,7 @@ use Rattle.library.specs.Library.{Listed, opening}
 use Rattle.scripts.specs.Scripts.{SpellsScript}
 use Rattle.scripts.specs.ScriptFaults.{FaultyScript}
 use Rattle.library.specs.declared.history.Entry.{Entry}
-use Rattle.library.specs.Histories.{told, IsAfterHistory}
+use Rattle.library.specs.Histories.{seen_entry, IsAfterHistory}
 use Rattle.history.specs.Replays.{IsFirstDiffering}
 use Rattle.historytext.specs.Grammar.{SpellsHistory}
 use Rattle.historytext.specs.Places.{FaultyHistory}
@@ -41,7 +41,7 @@ replayed_lines count library = codes "replayed " ++ (decimal count ++ 10 ∷ lib
 
 -- the library after a history, in export order: the history is legal over the library of the database
 abbrev pub IsAfter : Contents → List Entry → Listed → Type 0
-IsAfter contents history library = IsAfterHistory (program_setting contents) (opening contents) (map told history) library
+IsAfter contents history library = IsAfterHistory (program_setting contents) (opening contents) (map seen_entry history) library
 
 -- `replayed`, the number of entries, and the library after them, whose text is accepted: the history is legal
 pub record PrintsReplay (contents : Contents) (history : List Entry) (out : Bytes) : Type 0 where
@@ -127,7 +127,7 @@ IsDatabaseFault text _ = ⊥
 
 -- an entry is the first of the history that differs
 abbrev pub IsDifference : Contents → List Entry → Fault → Type 0
-IsDifference contents history (Differs n) = IsFirstDiffering (program_setting contents) (opening contents) (map told history) n
+IsDifference contents history (Differs n) = IsFirstDiffering (program_setting contents) (opening contents) (map seen_entry history) n
 IsDifference contents history _ = ⊥
 
 -- the fault of a replay: that of its database, or of the history's text, or the first entry that differs

@@ -8,7 +8,7 @@ use Rattle.std.proofs.lemmas.List.Sorted.{IsPermutation-sym, IsPermutation-trans
 use Rattle.std.proofs.lemmas.Slice.Zip.{AllZip-long}
 use Rattle.library.specs.declared.history.Entry.{Entry as CodeEntry}
 use Rattle.library.specs.Library.{Listed}
-use Rattle.library.specs.Histories.{Entry, Grows, told}
+use Rattle.library.specs.Histories.{Entry, Grows, seen_entry}
 use Rattle.ranges.specs.Ranges.{Has}
 use Rattle.tlwords.specs.Rule.{total_of}
 use Rattle.ranges.proofs.Members.{all_has, has_flat, has_mapped, mapped_has}
@@ -94,7 +94,7 @@ module _ (home : Home) (before after : List Member) (history : List CodeEntry) (
     (finished : IsFinished home after history library) (many : length before ≡ home.sessions)
     (none : All (λ (m : Member). m.known.drawn ≡ []) before) (back : AllZip IsHandedBack before after) where
   abbrev entries : List Entry
-  entries = map told history
+  entries = map seen_entry history
 
   recorded : (m : Member) → Has m after → AreRecorded m
   recorded = stands before after back
@@ -116,7 +116,7 @@ module _ (home : Home) (before after : List Member) (history : List CodeEntry) (
   pub few_drawn : (m : Member) → Has m after → length m.known.drawn ≤ length entries
   few_drawn m has =
       let one = drawn_within after m has in
-      let size = length-map history told in
+      let size = length-map history seen_entry in
       let all = drawn in
       omega (arith, one, size, all)
 
@@ -132,7 +132,7 @@ module _ (home : Home) (before after : List Member) (history : List CodeEntry) (
   done_are numbers same =
       let counted = map suc (up_to (length entries)) in
       let all = flat_map drawn_by after in
-      let size = length-map history told in
+      let size = length-map history seen_entry in
       let cover = covers (length entries) all (drawn ∙ sym size) (λ i less. each i (omega (arith, less, size))) in
       let found = all_newly entries before after none back finished.grow in
       IsPermutation-trans numbers (filter (is_done entries) all) (filter (is_done entries) counted)

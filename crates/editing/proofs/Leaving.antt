@@ -8,7 +8,7 @@ use Rattle.std.proofs.lemmas.Slice.Zip.{AllZip-long}
 use Rattle.library.specs.declared.command.Command.{Command}
 use Rattle.library.specs.declared.history.Entry.{Entry as CodeEntry}
 use Rattle.library.specs.Library.{Listed}
-use Rattle.library.specs.Histories.{told}
+use Rattle.library.specs.Histories.{seen_entry}
 use Rattle.lending.specs.Lent.{Pass}
 use Rattle.transaction.specs.declared.outcome.Outcome.{Outcome}
 use Rattle.transaction.specs.Members.{Home, Member, IsSessionOf}
@@ -61,10 +61,11 @@ module _ (home : Home) (before : List Member) (new : All (IsNewSession home) bef
 
     -- that no number is left is shown by the history
     all_told : (history : List CodeEntry) (library : Listed) → IsFinished home after history library
-        → All (All (ToldIn (map told history))) rows
+        → All (All (ToldIn (map seen_entry history))) rows
     all_told history library finished =
-        of_each (ToldIn (map told history)) rows (length scripts) works.shares (AllZip-long HasOutcomes scripts rows works.each) works.parts
-        (share_told home.given (map told history) scripts rows before after works.shares
+        of_each (ToldIn (map seen_entry history)) rows (length scripts) works.shares (AllZip-long HasOutcomes scripts rows works.each)
+        works.parts
+        (share_told home.given (map seen_entry history) scripts rows before after works.shares
         (few_drawn home before after history library finished many none_drawn works.back) works.run)
 
     -- that the store is full, by the words at the end
@@ -72,8 +73,8 @@ module _ (home : Home) (before : List Member) (new : All (IsNewSession home) bef
         → All (All (FullIn finished.words)) rows
     all_full history library finished =
         of_each (FullIn finished.words) rows (length scripts) works.shares (AllZip-long HasOutcomes scripts rows works.each) works.parts
-        (share_full home.given (map told history) scripts rows home finished.words before after works.shares finished.its finished.room
-        handed_on works.back works.run)
+        (share_full home.given (map seen_entry history) scripts rows home finished.words before after works.shares finished.its
+        finished.room handed_on works.back works.run)
 
     pub leaves : (history : List CodeEntry) (library : Listed) → IsFinished home after history library
         → IsEdited home scripts rows history library
@@ -83,7 +84,7 @@ module _ (home : Home) (before : List Member) (new : All (IsNewSession home) bef
         shares = works.shares;
         many = as_many_shares home.given scripts rows before after works.shares works.run ∙ many;
         parts = works.parts;
-        run = shares_told home.given (map told history) scripts rows before after works.shares none_seen finished.agree works.run;
+        run = shares_told home.given (map seen_entry history) scripts rows before after works.shares none_seen finished.agree works.run;
         told = all_told history library finished;
         numbers = done_are home before after history library finished many none_drawn works.back _ works.numbers;
       };

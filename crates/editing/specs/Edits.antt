@@ -6,7 +6,7 @@ use Rattle.library.specs.declared.command.Command.{Command}
 use Rattle.library.specs.declared.history.Entry.{Entry as CodeEntry}
 use Rattle.library.specs.declared.library.Ranked.{Ranked}
 use Rattle.library.specs.Library.{Setting, Listed}
-use Rattle.library.specs.Histories.{Entry, EntriesFit, told, IsAfterHistory}
+use Rattle.library.specs.Histories.{Entry, EntriesFit, seen_entry, IsAfterHistory}
 use Rattle.lawful.specs.Lawful.{setting_given, first_library}
 use Rattle.claims.specs.Claims.{up_to}
 use Rattle.transaction.specs.declared.outcome.Outcome.{Outcome}
@@ -85,9 +85,9 @@ pub record AreEnded (home : Home) (scripts : List (List (List Command))) (rows :
 -- library is the one after all of it; and the sessions that ran them tell why they gave up what they gave up
 pub record IsEditedFrom (s : Setting) (lib0 : List Ranked) (home : Home) (scripts : List (List (List Command))) (rows : List (List Outcome))
     (history : List CodeEntry) (library : Listed) : Type 0 where
-  pub told_by : AreToldBy s lib0 (map told history) home.sessions scripts rows
-  pub fit : EntriesFit s.prelude (map told history)
-  pub after : IsAfterHistory s lib0 (map told history) library
+  pub told_by : AreToldBy s lib0 (map seen_entry history) home.sessions scripts rows
+  pub fit : EntriesFit s.prelude (map seen_entry history)
+  pub after : IsAfterHistory s lib0 (map seen_entry history) library
   pub ended : AreEnded home scripts rows told_by.shares
 
 -- from the library at the opening

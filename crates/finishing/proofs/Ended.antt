@@ -6,7 +6,7 @@ use Rattle.std.proofs.lemmas.List.{length-map, take_all}
 use Rattle.std.proofs.lemmas.Option.{slice_get-map, slice_get_within}
 use Rattle.library.specs.declared.history.Entry.{Entry as CodeEntry}
 use Rattle.library.specs.declared.library.Ranked.{Ranked}
-use Rattle.library.specs.Histories.{Entry, EntriesFit, Grows, IsLegal, after_all, told}
+use Rattle.library.specs.Histories.{Entry, EntriesFit, Grows, IsLegal, after_all, seen_entry}
 use Rattle.library.specs.Library.{Verifies, Listed, Setting}
 use Rattle.ranges.specs.Ranges.{Has}
 use Rattle.tlwords.specs.declared.closing.ClosedCell.{ClosedCell}
@@ -36,13 +36,14 @@ use Rattle.finishing.specs.Shown.{values_of, ShowsAtEnd, IsShownBy}
 -- ---- lists
 
 same_told : (entries : List Entry) (history : List CodeEntry) → length entries ≡ length history
-    → ((i : ℕ) (e : CodeEntry) → slice_get history i ≡ Some e → slice_get entries i ≡ Some (told e)) → entries ≡ map told history
+    → ((i : ℕ) (e : CodeEntry) → slice_get history i ≡ Some e → slice_get entries i ≡ Some (seen_entry e))
+    → entries ≡ map seen_entry history
 same_told [] [] long at = refl
 same_told [] (h ∷ history) long at = absurd (omega (arith, long))
 same_told (e ∷ entries) [] long at = absurd (omega (arith, long))
 same_told (e ∷ entries) (h ∷ history) long at =
     let first = at zero h refl in
-    let same : e ≡ told h = cc in
+    let same : e ≡ seen_entry h = cc in
     let rest = same_told entries history (omega (arith, long)) (λ i x there. at (suc i) x there) in
     λ i. same i ∷ rest i
 
@@ -159,7 +160,7 @@ module _ (home : Home) (members : List Member) (closed : ClosedLibrary) (is : Is
       long : length history ≡ words.clock
       long = sym (length-map history Some) ∙ ap length all ∙ ordered.long
 
-      entry_is : (i : ℕ) (e : CodeEntry) → slice_get history i ≡ Some e → slice_get (history_of seen) i ≡ Some (told e)
+      entry_is : (i : ℕ) (e : CodeEntry) → slice_get history i ≡ Some e → slice_get (history_of seen) i ≡ Some (seen_entry e)
       entry_is i e at =
           let t = recorded_by i e at in
           let noted = all_has (IsRecordIn (history_of t.0.known.seen)) t.0.records t.1 (member_is t.0 t.2).recorded.entries t.3 in
@@ -170,28 +171,28 @@ module _ (home : Home) (members : List Member) (closed : ClosedLibrary) (is : Is
           (recorded_settled t.1.done)
           ∙ ap (λ (x : Entry). Some x) t.5
 
-      is_history : history_of seen ≡ map told history
+      is_history : history_of seen ≡ map seen_entry history
       is_history =
           same_told (history_of seen) history
           (length-entries_of seen.history seen.notes ∙ is.words.closes.shows.clock_is ∙ sym long) entry_is
 
-      grows : All (λ (m : Member). Grows (history_of m.known.seen) (map told history)) members
+      grows : All (λ (m : Member). Grows (history_of m.known.seen) (map seen_entry history)) members
       grows =
-          all_from_has (λ (m : Member). Grows (history_of m.known.seen) (map told history)) members
+          all_from_has (λ (m : Member). Grows (history_of m.known.seen) (map seen_entry history)) members
           (λ m has. subst (Grows (history_of m.known.seen)) is_history (grown m has))
 
-      agree : All (λ (m : Member). AllAgree home.given (map told history) m.known.mine) members
+      agree : All (λ (m : Member). AllAgree home.given (map seen_entry history) m.known.mine) members
       agree =
           let g = home.given in
           let all = (closed_histories_stand g home.words.base home.store words is.words.closes small).1 in
-          all_from_has (λ (m : Member). AllAgree g (map told history) m.known.mine) members
+          all_from_has (λ (m : Member). AllAgree g (map seen_entry history) m.known.mine) members
           (λ m has. subst (λ h. AllAgree g h m.known.mine) is_history
           (all m.known.mine (is.words.each m.known (has_mapped (λ (x : Member). x.known) members m has)).mine))
 
       -- ---- the library
 
       abbrev pub last_library : List Ranked
-      last_library = after_all (setting_given home.given) (first_library home.given) (map told history)
+      last_library = after_all (setting_given home.given) (first_library home.given) (map seen_entry history)
 
       verifies : Verifies (setting_given home.given) last_library
       verifies =

@@ -6,7 +6,7 @@ use Rattle.std.proofs.Math.ListN.{set}
 use Rattle.std.proofs.lemmas.List.{length-set, length-replicate, map-append}
 use Rattle.std.proofs.lemmas.Option.{slice_get_within}
 use Rattle.library.specs.declared.history.Entry.{Entry}
-use Rattle.library.specs.Histories.{told}
+use Rattle.library.specs.Histories.{seen_entry}
 use Rattle.ranges.specs.Ranges.{Has}
 use Rattle.ranges.proofs.Members.{has_append_left, has_append_right, has_append_cases}
 use Rattle.transaction.specs.declared.outcome.Record.{Record}
@@ -64,7 +64,7 @@ module _ (front : List Record) (r : Record) (first old : List (Option Entry)) (p
             elim outside [ inl none ↦ omega (arith, is, none) | inr past ↦ omega (arith, is, past, lt) ]);
       }
 
-  pub one_put : (k : ℕ) (e : Entry) → r.number ≡ suc k → k < length old → told e ≡ entry_recorded r.done
+  pub one_put : (k : ℕ) (e : Entry) → r.number ≡ suc k → k < length old → seen_entry e ≡ entry_recorded r.done
       → ArePut (front ++ r ∷ []) first (set old k (Some e))
   one_put k e number lt tells =
       record {
@@ -77,7 +77,7 @@ module _ (front : List Record) (r : Record) (first old : List (Option Entry)) (p
           → ((q : Record) × Has q (front ++ r ∷ []) × Tells q i f) ⊎ (slice_get first i ≡ Some (Some f))
       put_at i f (inl here) =
           let same : e ≡ f = let s = here.1 in cc in
-          inl (r, has_append_right front (r ∷ []) r (inl refl), (number ∙ ap suc (sym here.0), sym tells ∙ ap told same))
+          inl (r, has_append_right front (r ∷ []) r (inl refl), (number ∙ ap suc (sym here.0), sym tells ∙ ap seen_entry same))
       put_at i f (inr at) = earlier i f (p.put i f at)
 
       none_at : (i : ℕ) → slice_get (set old k (Some e)) i ≡ Some None → ((i ≡ k) × (Some e ≡ None)) ⊎ (slice_get old i ≡ Some None)

@@ -1,7 +1,7 @@
 -- What finishing a library in running words gives, and when it is refused.
 use Rattle.std.specs.Prelude.{◌≡◌, ◌<◌, ◌≤◌, ℕ, suc, ◌%◌, Some, List, length, map, slice_get, All, Result, Ok, Err}
 use Rattle.library.specs.Library.{Listed}
-use Rattle.library.specs.Histories.{Grows, EntriesFit, after_all, told, IsAfterHistory}
+use Rattle.library.specs.Histories.{Grows, EntriesFit, after_all, seen_entry, IsAfterHistory}
 use Rattle.library.specs.declared.history.Entry.{Entry as CodeEntry}
 use Rattle.ranges.specs.Ranges.{Has}
 use Rattle.tlwords.specs.declared.closing.ClosedCell.{ClosedCell}
@@ -46,7 +46,7 @@ IsHeldByAnother home members words its c = IsHeldIn its.closes.world c × (lengt
 abbrev pub AreRecordedBy : List Member → List CodeEntry → Type 0
 AreRecordedBy members history =
     (i : ℕ) (e : CodeEntry) → slice_get history i ≡ Some e
-    → (m : Member) × (r : Record) × Has m members × Has r m.records × (r.number ≡ suc i) × (entry_recorded r.done ≡ told e)
+    → (m : Member) × (r : Record) × Has m members × Has r m.records × (r.number ≡ suc i) × (entry_recorded r.done ≡ seen_entry e)
 
 -- the history has one entry for each number up to the clock, and is the one that the words show; what each session had seen grows into it,
 -- and its calls agree with it; each entry is the record of a session; it is legal from the library at the opening, with commands within the
@@ -56,14 +56,14 @@ pub record IsFinished (home : Home) (members : List Member) (history : List Code
   pub its : AreItsWords home members words
   pub room : words.room ≡ home.words.room
   pub long : length history ≡ words.clock
-  pub is : history_of its.closes.seen ≡ map told history
-  pub grow : All (λ m. Grows (history_of m.known.seen) (map told history)) members
-  pub agree : All (λ m. AllAgree home.given (map told history) m.known.mine) members
+  pub is : history_of its.closes.seen ≡ map seen_entry history
+  pub grow : All (λ m. Grows (history_of m.known.seen) (map seen_entry history)) members
+  pub agree : All (λ m. AllAgree home.given (map seen_entry history) m.known.mine) members
   pub recorded : AreRecordedBy members history
-  pub fit : EntriesFit (setting_given home.given).prelude (map told history)
-  pub after : IsAfterHistory (setting_given home.given) (first_library home.given) (map told history) library
+  pub fit : EntriesFit (setting_given home.given).prelude (map seen_entry history)
+  pub after : IsAfterHistory (setting_given home.given) (first_library home.given) (map seen_entry history) library
   pub shows : Shows home.given.slots (state_of (map (λ x. x.value) words.cells.items) its.closes.seen.ranges)
-      (after_all (setting_given home.given) (first_library home.given) (map told history))
+      (after_all (setting_given home.given) (first_library home.given) (map seen_entry history))
 
 -- the least number that is missing; then the least cell whose lock is held, by a session that isn't handed in
 abbrev pub Finishes : Home → List Member → Result (List CodeEntry × Listed) FinishError → Type 0

@@ -1,7 +1,7 @@
 -- Of the code's inside, apart from the rules: records put in the order of their numbers.
 use Rattle.std.specs.Prelude.{◌≡◌, ◌<◌, ℕ, suc, ◌%◌, ◌⊎◌, Option, Some, None, List, length, slice_get}
 use Rattle.library.specs.declared.history.Entry.{Entry}
-use Rattle.library.specs.Histories.{told}
+use Rattle.library.specs.Histories.{seen_entry}
 use Rattle.ranges.specs.Ranges.{Has}
 use Rattle.tlwords.specs.declared.closing.ClosedCell.{ClosedCell}
 use Rattle.transaction.specs.declared.outcome.Record.{Record}
@@ -9,7 +9,7 @@ use Rattle.transaction.specs.Members.{entry_recorded}
 
 -- the record tells the entry with the index i
 abbrev pub Tells : Record → ℕ → Entry → Type 0
-Tells r i e = (r.number ≡ suc i) × (entry_recorded r.done ≡ told e)
+Tells r i e = (r.number ≡ suc i) × (entry_recorded r.done ≡ seen_entry e)
 
 -- some record of these lists has the number with the index i
 abbrev pub IsToldIn : List (List Record) → ℕ → Type 0

@@ -1,7 +1,7 @@
 //! The records of sessions, in the order of their numbers.
 
 ghost use Rattle.std.specs.Prelude.{◌≡◌, None, Some, IfOk, map, replicate};
-ghost use Rattle.library.specs.Histories.{told};
+ghost use Rattle.library.specs.Histories.{seen_entry};
 ghost use Rattle.transaction.specs.Members.{entry_recorded};
 ghost use Rattle.transaction.specs.Closings.{lists_of};
 ghost use Rattle.finishing.specs.Ordering.{AreOrdered, ArePut, IsFirstMissing, IsFirstHeld};
@@ -14,7 +14,7 @@ use transaction::Record;
 
 /// What a record says that the entry of its number is.
 fn entry_of(kept: Record) -> Entry
-    ensures { told result ≡ entry_recorded kept.done }
+    ensures { seen_entry result ≡ entry_recorded kept.done }
 {
     match kept.done {
         None => Entry::Void,

@@ -12,7 +12,7 @@ use Rattle.source.specs.Scopes.{Assertion, is_in}
 use Rattle.taking.specs.declared.reason.Reason.{Reason}
 use Rattle.taking.specs.Names.{Map}
 use Rattle.taking.specs.Reasons.{Choice, reason}
-use Rattle.taking.specs.Taken.{IsTaken, AreTakenFrom, AreTaken, told_of, told}
+use Rattle.taking.specs.Taken.{IsTaken, AreTakenFrom, AreTaken, told_of, taken_as_axioms}
 use Rattle.gathering.specs.Assembled.{told_with}
 
 told_same : (label : Word) (r : Option Reason) → told_with (Some label) r ≡ told_of label true r
@@ -53,13 +53,13 @@ module _ (m : Map) (t : Tables) (choice : Choice) (xs : List Assertion) (place :
         from_here later (subst (λ (b : Bool). AreTakenFrom b (IsTaken m t choice (take place xs) x) (AreTaken m t choice (take place
         xs ++ x ∷ []) (drop (place + 1) xs)) later) (sym left) rest_here)
 
-  pub one_told : told choice (take place xs) (drop place xs)
+  pub one_told : taken_as_axioms choice (take place xs) (drop place xs)
       ≡ told_of x.label (is_in choice.chosen x.label) (reason choice (take place xs) x)
-      ++ told choice (take (place + 1) xs) (drop (place + 1) xs)
+      ++ taken_as_axioms choice (take (place + 1) xs) (drop (place + 1) xs)
   one_told =
-      ap (told choice (take place xs)) behind
+      ap (taken_as_axioms choice (take place xs)) behind
       ∙ ap (λ (es : List Assertion). told_of x.label (is_in choice.chosen x.label) (reason choice (take place xs) x)
-      ++ told choice es (drop (place + 1) xs)) front
+      ++ taken_as_axioms choice es (drop (place + 1) xs)) front
 
   -- all is taken of which this much was, with what is taken next, or passed
   module _ (old now : List Unit')
@@ -79,12 +79,12 @@ module _ (m : Map) (t : Tables) (choice : Choice) (xs : List Assertion) (place :
 
   -- and so is it told
   module _ (old now : List (Word × Reason))
-      (all : told choice [] xs ≡ old ++ told choice (take place xs) (drop place xs)) where
+      (all : taken_as_axioms choice [] xs ≡ old ++ taken_as_axioms choice (take place xs) (drop place xs)) where
     abbrev pub rest_told : List (Word × Reason)
-    rest_told = told choice (take (place + 1) xs) (drop (place + 1) xs)
+    rest_told = taken_as_axioms choice (take (place + 1) xs) (drop (place + 1) xs)
 
     pub told_more : (r : Option Reason) → now ≡ old ++ told_with (Some x.label) r → is_in choice.chosen x.label ≡ true
-        → reason choice (take place xs) x ≡ r → told choice [] xs ≡ now ++ rest_told
+        → reason choice (take place xs) x ≡ r → taken_as_axioms choice [] xs ≡ now ++ rest_told
     told_more r grown chosen is =
         all
         ∙ ap (λ (ps : List (Word × Reason)). old ++ ps) one_told
@@ -94,7 +94,7 @@ module _ (m : Map) (t : Tables) (choice : Choice) (xs : List Assertion) (place :
         ∙ ap (λ (ps : List (Word × Reason)). old ++ ps) (told_same x.label r))
         ∙ append_assoc old (told_of x.label true r) rest_told)
 
-    pub told_passed : now ≡ old → is_in choice.chosen x.label ≡ false → told choice [] xs ≡ now ++ rest_told
+    pub told_passed : now ≡ old → is_in choice.chosen x.label ≡ false → taken_as_axioms choice [] xs ≡ now ++ rest_told
     told_passed same left =
         all
         ∙ ap (λ (ps : List (Word × Reason)). old ++ ps) one_told

@@ -6,7 +6,7 @@ ghost use Rattle.source.specs.Views.{seen_pairs, seen_words};
 ghost use Rattle.source.specs.Whole.{IsWhole};
 ghost use Rattle.taking.specs.Reasons.{Choice, AreFlags, kept};
 ghost use Rattle.taking.specs.Says.{each, premises};
-ghost use Rattle.taking.specs.Taken.{AreTaken, told};
+ghost use Rattle.taking.specs.Taken.{AreTaken, taken_as_axioms};
 ghost use Rattle.prooftrees.specs.Frames.{Holds};
 ghost use Rattle.sites.specs.Given.{given_hypotheses};
 ghost use Rattle.sites.specs.Sites.{AreSites};
@@ -211,7 +211,7 @@ pub fn gather<'a, D: Declared<'a>>(
         AreTaken (map_of placed.now.sites.now placed.now.names.now) (tables_of placed.now.sites.now placed.now.names.now) choice []
         (D.scope declared.now).assertions g.assertions.items) }
     ensures told { (choice : Choice) → AreFlags (D.scope declared.now) choice chosen.now front.now long.now → IfOk result (λ g.
-        told choice [] (D.scope declared.now).assertions ≡ told_in g.axioms.items) }
+        taken_as_axioms choice [] (D.scope declared.now).assertions ≡ told_in g.axioms.items) }
 {
     let mut gathered = Gathered {
         assertions: Vec::new(alloc),

@@ -3,7 +3,7 @@
 ghost use Rattle.mmsyntax.specs.declared.limits.TheConstants.{MOST_ASSERTIONS};
 ghost use Rattle.std.specs.Prelude.{◌≡◌, ◌≤◌, ◌↔◌, IfOk, OnOk, IsTrue, map};
 ghost use Rattle.derivation.specs.Databases.{AllCheck};
-ghost use Rattle.library.specs.Histories.{told, after_entry, EntryFits, EntriesFit, IsRepeated};
+ghost use Rattle.library.specs.Histories.{seen_entry, after_entry, EntryFits, EntriesFit, IsRepeated};
 ghost use Rattle.history.specs.Replays.{Replays};
 
 use crate::editor::{ApplyError, Editor, OpenError};
@@ -82,10 +82,10 @@ impl From<AllocError> for ReplayError {
 
 /// Does an entry's transaction, and says whether the replies are the entry's. An entry without commands has no others.
 fn repeats(alloc: Global, editor: &mut Editor, entry: &Entry) -> Result<bool, AllocError>
-    requires fit { EntryFits editor.old.setting.prelude (told entry.now) }
+    requires fit { EntryFits editor.old.setting.prelude (seen_entry entry.now) }
     ensures setting { editor.new.setting ≡ editor.old.setting }
-    ensures same { IfOk result (λ same. IsTrue same ↔ IsRepeated editor.old.setting editor.old.library (told entry.now)) }
-    ensures after { OnOk result (editor.new.library ≡ after_entry editor.old.setting editor.old.library (told entry.now)) }
+    ensures same { IfOk result (λ same. IsTrue same ↔ IsRepeated editor.old.setting editor.old.library (seen_entry entry.now)) }
+    ensures after { OnOk result (editor.new.library ≡ after_entry editor.old.setting editor.old.library (seen_entry entry.now)) }
 {
     let Entry::Done { commands, replies } = entry else {
         return Ok(true);
@@ -112,8 +112,8 @@ pub fn replay(
 ) -> Result<PlainLibrary, ReplayError>
     requires slots { (1 ≤ slots) × (slots ≤ MOST_ASSERTIONS) }
     requires checks { AllCheck db.now }
-    requires fit { EntriesFit db.now.prelude (map told history.now) }
-    ensures { Replays db.now slots (map told history.now) result }
+    requires fit { EntriesFit db.now.prelude (map seen_entry history.now) }
+    ensures { Replays db.now slots (map seen_entry history.now) result }
 {
     let mut editor = Editor::open(alloc, keys, db, slots)?;
     for (i, entry) in history.iter().enumerate() {

@@ -29,7 +29,7 @@ use Rattle.library.specs.declared.command.Reply.TheVariants as reply
 use Rattle.library.specs.declared.history.Entry.{Entry}
 use Rattle.library.specs.declared.history.Entry.TheVariants as entry
 use Rattle.library.specs.declared.library.Ranked.{Ranked}
-use Rattle.library.specs.Histories.{told, EntriesFit, IsLegal}
+use Rattle.library.specs.Histories.{seen_entry, EntriesFit, IsLegal}
 use Rattle.library.specs.Library.{highest_rank, Setting, Verifies}
 use Rattle.historytext.proofs.Naming.{IsLawful, IsSoundPart, IsSoundCommand, IsSoundLine, IsSoundReply, IsSoundTurn, legal_sound}
 use Rattle.scripts.specs.Scripts.{IsPlain, IsRank, Part, a_word, a_rank, a_unit, a_proof, parts, SpellsPart}
@@ -266,11 +266,11 @@ module _ (t : Tables) (sound : IsSoundPrelude t) where
         entries = inner.spelled;
       })
 
-module _ (s : Setting) (lib0 : List Ranked) (h : List Entry) (v : Verifies s lib0) (fit : EntriesFit s.prelude (map told h))
-    (legal : IsLegal s lib0 (map told h)) where
-  entry_sound : (i : ℕ) (e : Entry) → slice_get (map told h) i ≡ Some (told e) → IsSoundEntry s.prelude v.setting.sound e
+module _ (s : Setting) (lib0 : List Ranked) (h : List Entry) (v : Verifies s lib0) (fit : EntriesFit s.prelude (map seen_entry h))
+    (legal : IsLegal s lib0 (map seen_entry h)) where
+  entry_sound : (i : ℕ) (e : Entry) → slice_get (map seen_entry h) i ≡ Some (seen_entry e) → IsSoundEntry s.prelude v.setting.sound e
   entry_sound i entry.Void at = tt
-  entry_sound i (entry.Done commands replies) at = legal_sound s lib0 (map told h) i commands replies v fit legal at
+  entry_sound i (entry.Done commands replies) at = legal_sound s lib0 (map seen_entry h) i commands replies v fit legal at
 
 pub legal_histories_are_spelled : LegalHistoriesAreSpelled
 legal_histories_are_spelled s lib0 h v fit legal small =

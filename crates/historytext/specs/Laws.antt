@@ -7,7 +7,7 @@ use Rattle.library.specs.declared.history.Entry.{Entry}
 use Rattle.historytext.specs.Grammar.{highest_count, SpellsHistory}
 use Rattle.library.specs.declared.library.Ranked.{Ranked}
 use Rattle.library.specs.Library.{Setting, Verifies}
-use Rattle.library.specs.Histories.{told, EntriesFit, IsLegal}
+use Rattle.library.specs.Histories.{seen_entry, EntriesFit, IsLegal}
 use Rattle.historytext.specs.Places.{history_language}
 use Rattle.historytext.specs.Layout.{history_text, EntryFitsText}
 
@@ -19,14 +19,14 @@ TextsSpell = (t : Tables) (bytes : List ℕ) (history : List Entry) → IsSoundP
 -- each entry of a history that is legal from an opening library that verifies can be written, where its commands are within the limits
 abbrev pub LegalHistoriesFit : Type 0
 LegalHistoriesFit =
-    (s : Setting) (lib0 : List Ranked) (history : List Entry) → Verifies s lib0 → EntriesFit s.prelude (map told history)
-    → IsLegal s lib0 (map told history) → All (EntryFitsText s.prelude) history
+    (s : Setting) (lib0 : List Ranked) (history : List Entry) → Verifies s lib0 → EntriesFit s.prelude (map seen_entry history)
+    → IsLegal s lib0 (map seen_entry history) → All (EntryFitsText s.prelude) history
 
 -- and it is spelled by its canonical text, where it has at most 18,446,744,073,709,551,615 entries
 abbrev pub LegalHistoriesAreSpelled : Type 0
 LegalHistoriesAreSpelled =
-    (s : Setting) (lib0 : List Ranked) (history : List Entry) → Verifies s lib0 → EntriesFit s.prelude (map told history)
-    → IsLegal s lib0 (map told history) → length history ≤ highest_count
+    (s : Setting) (lib0 : List Ranked) (history : List Entry) → Verifies s lib0 → EntriesFit s.prelude (map seen_entry history)
+    → IsLegal s lib0 (map seen_entry history) → length history ≤ highest_count
     → SpellsHistory s.prelude (history_text s.prelude history) history
 
 -- a text spells at most one history

@@ -14,7 +14,7 @@ use Rattle.taking.specs.declared.fresh.Unnamed.TheVariants as unnamed'
 use Rattle.taking.specs.declared.reason.Reason.{Reason}
 use Rattle.taking.specs.Names.{Naming}
 use Rattle.taking.specs.Reasons.{Choice, kept, AreFlags}
-use Rattle.taking.specs.Taken.{AreTaken, told}
+use Rattle.taking.specs.Taken.{AreTaken, taken_as_axioms}
 use Rattle.choosing.specs.Choices.{IsChosen}
 use Rattle.choosing.specs.declared.wish.Wish.{Wish}
 use Rattle.choosing.specs.declared.wish.Selection.{Selection}
@@ -182,7 +182,7 @@ module _ (s : Scope) (t : Sited) (names : LibraryNames)
       → AreChosen s w (map_of t names) (tables_of t names) chosen front long → AreSites s (kept chosen s.assertions) t
       → ((choice : Choice) → AreFlags s choice chosen front long
       → AreTaken (map_of t names) (tables_of t names) choice [] s.assertions g.assertions.items)
-      → ((choice : Choice) → AreFlags s choice chosen front long → told choice [] s.assertions ≡ told_in g.axioms.items)
+      → ((choice : Choice) → AreFlags s choice chosen front long → taken_as_axioms choice [] s.assertions ≡ told_in g.axioms.items)
       → IsGathered s w t names g chosen
   is_gathered w g chosen front long c sites taken telling = record {
     choice = c.choice;

@@ -7,7 +7,7 @@ use Rattle.source.specs.Scopes.{Scope, is_in}
 use Rattle.taking.specs.declared.reason.Reason.{Reason}
 use Rattle.taking.specs.Names.{Map, Naming, renamed}
 use Rattle.taking.specs.Reasons.{Choice, AreFlags}
-use Rattle.taking.specs.Taken.{AreTaken, told, chosen_of}
+use Rattle.taking.specs.Taken.{AreTaken, taken_as_axioms, chosen_of}
 use Rattle.choosing.specs.Choices.{AreThere}
 use Rattle.choosing.specs.declared.wish.Wish.{Wish}
 use Rattle.derivation.specs.declared.fault.ProofFaultKind.TheVariants.{TooLong}
@@ -42,7 +42,7 @@ pub record IsGathered (s : Scope) (w : Wish) (t : Sited) (names : LibraryNames) 
   pub sites : AreSites s (chosen_of choice s) t
   pub names_are : AreNamedWell s t.constants t.variables t.floats t.labels names
   pub taken : AreTaken (map_of t names) (tables_of t names) choice [] s.assertions g.assertions.items
-  pub told_are : told choice [] s.assertions ≡ told_in g.axioms.items
+  pub told_are : taken_as_axioms choice [] s.assertions ≡ told_in g.axioms.items
   pub flags_are : map (λ x. is_in choice.chosen x.label) s.assertions ≡ flags
 
 -- the names that were changed, where sites have these names

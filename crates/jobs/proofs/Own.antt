@@ -8,7 +8,7 @@ use Rattle.mmtext.proofs.TextLaws.{spells_one, spells_without_fault}
 use Rattle.mmsyntax.specs.Tables.{Contents}
 use Rattle.library.specs.declared.history.Entry.{Entry}
 use Rattle.library.specs.Library.{Verifies, opening}
-use Rattle.library.specs.Histories.{told, after_all}
+use Rattle.library.specs.Histories.{seen_entry, after_all}
 use Rattle.library.proofs.ExportOrder.{one_export_order}
 use Rattle.historytext.specs.Grammar.{SpellsHistory}
 use Rattle.historytext.specs.Places.{FaultyHistory, history_language}
@@ -74,7 +74,7 @@ module _ (db text out : Bytes) (texts : List Bytes) (workers : ℕ) (room : Room
   replay_printed again h =
       let s = program_setting run.contents in
       let first = opening run.contents in
-      let entries = map told kept in
+      let entries = map seen_entry kept in
       let p = subst (λ es. PrintsReplay run.contents es again) (one_history h.contents h.history h.checked h.read)
       (subst (λ (d : Contents). PrintsReplay d h.history again) (one_content h.contents h.checked) h.printed) in
       let whole : take (length entries) entries ≡ entries = take_all (length entries) entries (omega arith) in

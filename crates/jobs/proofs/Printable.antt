@@ -10,7 +10,7 @@ use Rattle.library.specs.declared.history.Entry.{Entry as CodeEntry}
 use Rattle.library.specs.declared.library.Ranked.{Ranked}
 use Rattle.library.specs.Library.{Setting, Listed, Verifies, opening}
 use Rattle.library.specs.Fitting.{CommandFits}
-use Rattle.library.specs.Histories.{Entry, told, after_front, EntriesFit, IsLegal}
+use Rattle.library.specs.Histories.{Entry, seen_entry, after_front, EntriesFit, IsLegal}
 use Rattle.librarylaws.proofs.Agreeing.{legal_replies_fit}
 use Rattle.librarylaws.proofs.Fitting.{replies_fit}
 use Rattle.librarylaws.proofs.Fronts.{fronts_verify}
@@ -64,5 +64,5 @@ pub printable : (db : Contents) (workers room : ℕ) (scripts : List (List (List
     (library : Listed) → HasSpelling db → AllCheck db → All (All (All (CommandFits db.prelude))) scripts
     → IsWorked db workers room scripts rows history library → AreReportable db.prelude rows
 printable db workers room scripts rows history library spelled checks fit w =
-    rows_fit (program_setting db) (opening db) (map told history) (opening_stands db spelled checks) w.edited.fit w.edited.after.legal
+    rows_fit (program_setting db) (opening db) (map seen_entry history) (opening_stands db spelled checks) w.edited.fit w.edited.after.legal
     w.home.sessions scripts rows fit w.edited.told_by

@@ -6,7 +6,7 @@ use Rattle.mmtext.specs.declared.fault.FaultKind.TheVariants.{NoMemory as OutOfM
 use Rattle.mmsyntax.specs.Tables.{Contents}
 use Rattle.library.specs.Library.{Listed, Verifies, opening}
 use Rattle.library.specs.declared.history.Entry.{Entry}
-use Rattle.library.specs.Histories.{told, after_front}
+use Rattle.library.specs.Histories.{seen_entry, after_front}
 use Rattle.plaincells.specs.Measures.{all_bodies_length}
 use Rattle.rooms.specs.Rooms.{room_for}
 use Rattle.transaction.specs.declared.outcome.Outcome.{Outcome}
@@ -65,7 +65,7 @@ pub record PrintsRun (contents : Contents) (workers : ℕ) (room : Room) (asked 
   pub library : Listed
   pub worked : IsWorked contents workers (room_of room contents scripts) scripts rows entries library
   pub fronts : (k : ℕ) → Verifies (program_setting contents)
-      (after_front (program_setting contents) (opening contents) (map told entries) k)
+      (after_front (program_setting contents) (opening contents) (map seen_entry entries) k)
   pub prints : out ≡ report_text contents.prelude rows ++ library_lines library
   pub accepted : IsAccepted library
   pub kept : history ≡ (if asked then history_text contents.prelude entries else [])

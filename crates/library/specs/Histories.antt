@@ -69,6 +69,6 @@ pub record IsAfterHistory (s : Setting) (lib0 : List Ranked) (h : List Entry) (l
 
 -- ---- the entries that the program keeps, none of which is open
 
-abbrev pub told : CodeEntry → Entry
-told Void = void_entry
-told (Done commands replies) = done_entry commands replies
+abbrev pub seen_entry : CodeEntry → Entry
+seen_entry Void = void_entry
+seen_entry (Done commands replies) = done_entry commands replies

@@ -5,7 +5,7 @@ use Rattle.std.specs.Prelude.{slice_get}
 use Rattle.library.specs.declared.library.Ranked.{Ranked}
 use Rattle.library.specs.declared.history.Entry.{Entry as CodeEntry}
 use Rattle.library.specs.Library.{Setting}
-use Rattle.library.specs.Histories.{Entry, done_entry, told, after_front, after_entry, after_all, IsRepeated, IsLegal}
+use Rattle.library.specs.Histories.{Entry, done_entry, seen_entry, after_front, after_entry, after_all, IsRepeated, IsLegal}
 
 module _ (s : Setting) where
   -- the library after it
@@ -38,9 +38,9 @@ module _ (s : Setting) (lib : List Ranked) (h : List Entry) (i : ℕ) (e : Entry
 
 -- an entry that the program keeps, as the definitions see it
 pub told_at : (h : List CodeEntry) (i : ℕ) (x : CodeEntry) → i < length h → x ≡ get_or h i x
-    → (i < length (map told h)) × (told x ≡ get_or (map told h) i (told x))
+    → (i < length (map seen_entry h)) × (seen_entry x ≡ get_or (map seen_entry h) i (seen_entry x))
 told_at h i x lt is =
-    (rw length-map lt, ap told is ∙ sym (get_or-map told h i x (told x) lt))
+    (rw length-map lt, ap seen_entry is ∙ sym (get_or-map seen_entry h i x (seen_entry x) lt))
 
 -- an entry of a front
 pub get_in_front : (h : List Entry) (i j : ℕ) → i < j → slice_get (take j h) i ≡ slice_get h i

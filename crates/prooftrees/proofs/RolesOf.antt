@@ -11,6 +11,7 @@ use Rattle.mmsyntax.specs.Tables.{place_of}
 use Rattle.mmsyntax.proofs.Names.{place_of-push, bytes_eq-sym}
 use Rattle.source.specs.Scopes.{Hypothesis, typing, premise, label_of}
 use Rattle.taking.specs.Listings.{premise_labels}
+use Rattle.taking.proofs.Premises.{premises_append}
 use Rattle.prooftrees.specs.declared.roles.Role.{Role}
 use Rattle.prooftrees.specs.declared.roles.Role.TheVariants.{Float, Premise}
 use Rattle.prooftrees.specs.Roles.{role_in, is_label_of, role_of, stays, noted, AreRoles}
@@ -34,11 +35,6 @@ noted_new role true so_far o same h =
     sym (ap (λ s. if not s then Some role else o) e)
 
 -- ---- one more hypothesis
-
-premises_both : (hs ks : List Hypothesis) → premise_labels (hs ++ ks) ≡ premise_labels hs ++ premise_labels ks
-premises_both [] ks = refl
-premises_both (typing l c v ∷ hs) ks = premises_both hs ks
-premises_both (premise l ws ∷ hs) ks = ap (λ ls. l ∷ ls) (premises_both hs ks)
 
 float_role : (a b : Bool) (p : Option ℕ) → role_in (a || (b || false)) p ≡ noted Float b (role_in a p)
 float_role true true None = refl
@@ -66,14 +62,14 @@ label_more hs h w =
 pub float_more : (hs : List Hypothesis) (l c v w : Word) → role_of (hs ++ typing l c v ∷ []) w ≡ noted Float (bytes_eq l w) (role_of hs w)
 float_more hs l c v w =
     ap (λ ps. role_in (is_label_of (hs ++ typing l c v ∷ []) w) (place_of (bytes_eq w) ps))
-    (premises_both hs (typing l c v ∷ []) ∙ append-nil (premise_labels hs))
+    (premises_append hs (typing l c v ∷ []) ∙ append-nil (premise_labels hs))
     ∙ ap (λ b. role_in b (place_of (bytes_eq w) (premise_labels hs))) (label_more hs (typing l c v) w)
     ∙ float_role (is_label_of hs w) (bytes_eq l w) (place_of (bytes_eq w) (premise_labels hs))
 
 pub premise_more : (hs : List Hypothesis) (l : Word) (ws : List Word) (w : Word) (n : ℕ) → length (premise_labels hs) ≡ n
     → role_of (hs ++ premise l ws ∷ []) w ≡ noted (Premise n) (bytes_eq l w) (role_of hs w)
 premise_more hs l ws w n count =
-    ap (λ ps. role_in (is_label_of (hs ++ premise l ws ∷ []) w) (place_of (bytes_eq w) ps)) (premises_both hs (premise l ws ∷ []))
+    ap (λ ps. role_in (is_label_of (hs ++ premise l ws ∷ []) w) (place_of (bytes_eq w) ps)) (premises_append hs (premise l ws ∷ []))
     ∙ ap (λ o. role_in (is_label_of (hs ++ premise l ws ∷ []) w) o) (place_of-push (bytes_eq w) (premise_labels hs) l)
     ∙ ap (λ b. role_in b (option_or (place_of (bytes_eq w) (premise_labels hs)) (cond (bytes_eq w l) (Some (length (premise_labels hs)))
     None))) (label_more hs (premise l ws) w)
@@ -89,7 +85,7 @@ module _ (hs : List Hypothesis) (old new : Word → Option Role) (n : ℕ) (are 
       → AreRoles (hs ++ typing l c v ∷ []) new n
   roles_with_float l c v is = record {
     roles_are = λ w. is w ∙ ap (noted Float (bytes_eq l w)) (are.roles_are w) ∙ sym (float_more hs l c v w);
-    premises_are = ap length (premises_both hs (typing l c v ∷ []) ∙ append-nil (premise_labels hs)) ∙ are.premises_are;
+    premises_are = ap length (premises_append hs (typing l c v ∷ []) ∙ append-nil (premise_labels hs)) ∙ are.premises_are;
   }
 
   pub roles_with_premise : (l : Word) (ws : List Word) (next : ℕ) → next ≡ n + 1
@@ -97,7 +93,7 @@ module _ (hs : List Hypothesis) (old new : Word → Option Role) (n : ℕ) (are 
   roles_with_premise l ws next e is = record {
     roles_are = λ w. is w ∙ ap (noted (Premise n) (bytes_eq l w)) (are.roles_are w)
         ∙ sym (premise_more hs l ws w n are.premises_are);
-    premises_are = ap length (premises_both hs (premise l ws ∷ []))
+    premises_are = ap length (premises_append hs (premise l ws ∷ []))
         ∙ length-append (premise_labels hs) (l ∷ [])
         ∙ ap (λ k. k + 1) are.premises_are
         ∙ sym e;

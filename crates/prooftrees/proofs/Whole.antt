@@ -110,7 +110,7 @@ module _ (s : Scope) (earlier : List Assertion) (x : Assertion) (proof : Proof) 
   -- it denotes a tree
   pub tree_there : denoted earlier x ≡ None → ⊥
   tree_there e =
-      as_there (steps_of x.hypotheses proof) (made_there earlier x.active x.hypotheses proof proof_whole.denotes) (sym denoted_is ∙ e)
+      as_there (steps_of x.hypotheses proof) (made_there earlier x.active x.hypotheses proof proof_whole.leaves_one) (sym denoted_is ∙ e)
 
   pub steps_there : steps_of x.hypotheses proof ≡ None → ⊥
   steps_there e = tree_there (denoted_is ∙ ap (option_and_then (denoted_by earlier x.active)) e)

@@ -81,7 +81,7 @@ module _ (s : Scope) where
       → IsProofWhole s.assertions (asserting s label e (Some proof)) proof
   proof_whole label e proof h =
       let both = and_parts (has_lawful_words s e proof) (is_whole s e proof) h in
-      record { named = labels_taken e proof both.0; denotes = both.1 }
+      record { named = labels_taken e proof both.0; leaves_one = both.1 }
 
 -- ---- hypotheses
 

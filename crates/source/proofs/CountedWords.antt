@@ -25,7 +25,7 @@ use Rattle.source.specs.Statements.{normal, compressed}
 use Rattle.source.specs.Scopes.{Scope, Hypothesis, Assertion, label_of, mandatory, is_mandatory, is_named}
 use Rattle.source.specs.Letters.{uncut}
 use Rattle.source.specs.Proofs.{Step, Stack, step_of_word, step_of, taken_by, empty, run_steps, there, only, single, made, leave_one}
-use Rattle.source.specs.Proofs.{denotes, letters_go_on}
+use Rattle.source.specs.Proofs.{leaves_one, letters_go_on}
 use Rattle.source.specs.Tests.{letter_tests, is_letter, numbered_labels}
 use Rattle.source.specs.Counts.{counts, citation_of, StepsAreCounted, LabelsAreCounted, LettersAreCounted, CountsLetters, HaveCitations}
 use Rattle.source.specs.Counts.{CountNumbers}
@@ -229,14 +229,14 @@ steps_ended earlier active steps c counted =
     ∙ one_left (run_steps there earlier active (Some empty) steps) c.entries c.marked counted.left
 
 pub labels_ended : (earlier : List Assertion) (active hypotheses : List Hypothesis) (ws : List Word) (c : Entries)
-    → LabelsAreCounted earlier active ws c → denotes earlier active hypotheses (normal ws) ≡ is_ended c
+    → LabelsAreCounted earlier active ws c → leaves_one earlier active hypotheses (normal ws) ≡ is_ended c
 labels_ended earlier active hypotheses ws c counted =
     steps_ended earlier active (map step_of_word ws) c counted.steps
     ∙ beside_true (c.entries == 1) (c.front == 0) (ap (λ n. n == 0) counted.front)
 
 pub letters_ended : (earlier : List Assertion) (active hypotheses : List Hypothesis) (labels ls : List Word) (c : Entries)
     → LettersAreCounted earlier active (map label_of hypotheses ++ labels) (flat_map (λ l. l) ls) c
-    → denotes earlier active hypotheses (compressed labels ls) ≡ is_ended c
+    → leaves_one earlier active hypotheses (compressed labels ls) ≡ is_ended c
 letters_ended earlier active hypotheses labels ls c counted =
     ap (λ d. leaves (uncut d)) counted.said ∙ uncut_leaves (cases_Bool (c.front == 0))
   where

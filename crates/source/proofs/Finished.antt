@@ -14,7 +14,7 @@ use Rattle.source.specs.Statements.{Proof, normal, compressed}
 use Rattle.source.specs.Scopes.{Hypothesis, label_of, Assertion, is_unknown}
 use Rattle.source.specs.Letters.{is_last, is_front, is_too_large, turn_at, Decoded, before, turned, decoded, uncut, codes_of, is_absent}
 use Rattle.source.specs.Proofs.{Step, names, unknown, step_of_word, numbered, step_of, steps_of, is_unfinished}
-use Rattle.source.specs.Proofs.{there, made, are_marks_placed, leave_one, denotes}
+use Rattle.source.specs.Proofs.{there, made, are_marks_placed, leave_one, leaves_one}
 
 -- ---- a proof that denotes a tree
 
@@ -26,7 +26,7 @@ left_there earlier active (Some steps) h =
 
 -- its steps make one
 pub made_there : (earlier : List Assertion) (active hypotheses : List Hypothesis) (proof : Proof)
-    → denotes earlier active hypotheses proof ≡ true
+    → leaves_one earlier active hypotheses proof ≡ true
     → is_some (option_and_then (made there earlier active) (steps_of hypotheses proof)) ≡ true
 made_there earlier active hypotheses proof h = left_there earlier active (steps_of hypotheses proof) h
 

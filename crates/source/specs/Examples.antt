@@ -16,7 +16,7 @@ use Rattle.source.specs.Faults.{source_language}
 use Rattle.source.specs.Tests.{are_lawful}
 use Rattle.source.specs.Sources.{Declares}
 use Rattle.source.specs.Letters.{codes_of}
-use Rattle.source.specs.Proofs.{Tree, node, over, denoted, denotes}
+use Rattle.source.specs.Proofs.{Tree, node, over, denoted, leaves_one}
 
 -- statements of a list
 abbrev pub these : List Statement → Statements
@@ -262,7 +262,7 @@ c = record {
 
 -- whether the proof of d is one, behind ax and c
 abbrev pub proves : Proof → Bool
-proves proof = denotes (ax ∷ c ∷ []) (fx ∷ fy ∷ []) (fx ∷ []) proof
+proves proof = leaves_one (ax ∷ c ∷ []) (fx ∷ fy ∷ []) (fx ∷ []) proof
 
 -- numbers: A is fx, B is ax, C is c, D is fy, and marked subproofs follow
 abbrev pub proves_by : List ℕ → Bool

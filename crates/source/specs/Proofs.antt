@@ -225,5 +225,5 @@ leave_one earlier active None = false
 leave_one earlier active (Some steps) = are_marks_placed active steps && is_some (made there earlier active steps)
 
 -- a proof denotes a tree, in which ? is a leaf
-abbrev pub denotes : List Assertion → List Hypothesis → List Hypothesis → Proof → Bool
-denotes earlier active hypotheses proof = leave_one earlier active (steps_of hypotheses proof)
+abbrev pub leaves_one : List Assertion → List Hypothesis → List Hypothesis → Proof → Bool
+leaves_one earlier active hypotheses proof = leave_one earlier active (steps_of hypotheses proof)

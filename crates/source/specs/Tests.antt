@@ -10,7 +10,7 @@ use Rattle.mmsyntax.specs.Rows.{Tests, first_fault}
 use Rattle.source.specs.Statements.{Proof, normal, compressed, Statement, constants, variables, float, hypothesis, distinct, asserted}
 use Rattle.source.specs.Statements.{proved, block, Statements, none, some}
 use Rattle.source.specs.Scopes.{Scope, label_of, is_in, has_float, mandatory, is_named, is_unknown, enter, behind}
-use Rattle.source.specs.Proofs.{labels_go_on, letters_go_on, denotes}
+use Rattle.source.specs.Proofs.{labels_go_on, letters_go_on, leaves_one}
 
 -- ---- words
 
@@ -112,7 +112,7 @@ has_lawful_words s e (compressed labels letters) =
 
 -- a proof denotes a tree
 abbrev pub is_whole : Scope → List Word → Proof → Bool
-is_whole s e proof = denotes s.assertions s.hypotheses (mandatory s.hypotheses e) proof
+is_whole s e proof = leaves_one s.assertions s.hypotheses (mandatory s.hypotheses e) proof
 
 abbrev pub is_lawful_proof : Scope → List Word → Proof → Bool
 is_lawful_proof s e proof = has_lawful_words s e proof && is_whole s e proof

@@ -7,7 +7,7 @@ use Rattle.mmtext.specs.Words.{Word}
 use Rattle.mmsyntax.specs.Assertions.{Distinct}
 use Rattle.source.specs.Statements.{Proof, normal, compressed, Statements}
 use Rattle.source.specs.Scopes.{Hypothesis, typing, premise, label_of, Assertion, Scope, is_in, is_float_of, mandatory}
-use Rattle.source.specs.Proofs.{taken_by, denotes, is_unfinished}
+use Rattle.source.specs.Proofs.{taken_by, leaves_one, is_unfinished}
 use Rattle.source.specs.Sources.{Declares}
 
 -- ---- an assertion
@@ -28,7 +28,7 @@ labels_in (compressed labels letters) = labels
 -- a proof denotes a tree, and a finished one names what is there (section 4.2.8, appendix B)
 pub record IsProofWhole (earlier : List Assertion) (x : Assertion) (proof : Proof) : Type 0 where
   pub named : is_unfinished proof ≡ false → All (λ w. IsTrue (is_some (taken_by earlier x.active w))) (labels_in proof)
-  pub denotes : IsTrue (denotes earlier x.active x.hypotheses proof)
+  pub leaves_one : IsTrue (leaves_one earlier x.active x.hypotheses proof)
 
 -- an assertion that stands behind earlier ones, in a source
 pub record IsAssertionWhole (s : Scope) (earlier : List Assertion) (x : Assertion) : Type 0 where

@@ -10,6 +10,7 @@ use Rattle.std.proofs.lemmas.List.Folds.{list_any-append}
 use Rattle.std.specs.Str.{bytes_eq}
 use Rattle.mmtext.specs.Words.{Word}
 use Rattle.mmsyntax.proofs.Names.{same_bytes}
+use Rattle.source.proofs.Passing.{neither}
 use Rattle.sourcecheck.specs.Marks.{AreMarked, first_byte}
 
 or_true : (b : Bool) → (b || true) ≡ true
@@ -48,16 +49,12 @@ marked_on ns i old new lt long put was = λ n here.
 
 -- ---- words and their first bytes
 
-either_not : (a b : Bool) → (a || b) ≡ false → (a ≡ false) × (b ≡ false)
-either_not true b h = absurd cc
-either_not false b h = (refl, h)
-
 -- a word whose first byte is that of none of some words is none of them
 pub not_among : (ws : List Word) (w : Word) → list_any (λ v. v == first_byte w) (map first_byte ws) ≡ false
     → list_any (bytes_eq w) ws ≡ false
 not_among [] w h = refl
 not_among (y ∷ ys) w h =
-    let both = either_not (first_byte y == first_byte w) (list_any (λ v. v == first_byte w) (map first_byte ys)) h in
+    let both = neither (first_byte y == first_byte w) (list_any (λ v. v == first_byte w) (map first_byte ys)) h in
     ap (λ b. b || list_any (bytes_eq w) ys) (of (bytes_eq w y) refl both.0) ∙ not_among ys w both.1
   where
     of : (b : Bool) → bytes_eq w y ≡ b → (first_byte y == first_byte w) ≡ false → b ≡ false

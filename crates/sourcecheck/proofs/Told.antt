@@ -90,7 +90,7 @@ module _ (earlier : List Assertion) (x : Assertion) where
     some_derived : derived earlier x proof ≡ None → ⊥
     some_derived e =
         let w : IsProofWhole earlier x proof = transport (λ (o : Option Proof). IfSome o (IsProofWhole earlier x)) is whole.proof in
-        let there = finished_are_derived earlier x proof finished w.denotes in
+        let there = finished_are_derived earlier x proof finished w.leaves_one in
         let none = sym (ap is_some e) ∙ there in
         absurd cc
 

@@ -7,13 +7,9 @@ use Rattle.source.specs.declared.contents.HypothesisWords.{HypothesisWords}
 use Rattle.source.specs.Scopes.{Hypothesis, typing, premise, label_of}
 use Rattle.source.specs.Views.{seen_words, seen_hypothesis, seen_hypotheses}
 use Rattle.taking.specs.Listings.{premise_labels}
+use Rattle.taking.proofs.Premises.{premises_append}
 use Rattle.sourcewriting.specs.declared.proving.Hypotheses.{Hypotheses}
 use Rattle.sourcewriting.specs.Taking.{AreHypotheses}
-
-premises_append : (hs gs : List Hypothesis) → premise_labels (hs ++ gs) ≡ premise_labels hs ++ premise_labels gs
-premises_append [] gs = refl
-premises_append (typing label c v ∷ hs) gs = premises_append hs gs
-premises_append (premise label ws ∷ hs) gs = ap (λ ws. label ∷ ws) (premises_append hs gs)
 
 -- one more
 pub one_more_hypothesis : (seen : List (Bor HypothesisWords)) (one : Bor HypothesisWords) (old new : Hypotheses) (label : Word)

@@ -33,7 +33,7 @@ use Rattle.taking.specs.Names.{Map, Naming, label_in, is_symbol_of, is_float_lab
 use Rattle.taking.specs.Names.{constant_namings, variable_namings, float_namings}
 use Rattle.taking.specs.Says.{SaysSame, IsFloatTaken}
 use Rattle.taking.specs.Reasons.{Choice, reason}
-use Rattle.taking.specs.Taken.{IsTaken, AreTakenFrom, AreTaken, told_of, told, chosen_of, Takes}
+use Rattle.taking.specs.Taken.{IsTaken, AreTakenFrom, AreTaken, told_of, taken_as_axioms, chosen_of, Takes}
 use Rattle.choosing.specs.Choices.{labels_of, labels_wished}
 use Rattle.choosing.specs.declared.wish.Wish.{Wish}
 use Rattle.choosing.proofs.Apart.{filter_hold}
@@ -340,10 +340,11 @@ told_one label false (Some why) h = tt
 told_one label false None h = tt
 
 told_quiet : (choice : Choice) (earlier xs : List Assertion) → AllByRecursion IsAssertionWorded xs
-    → AllByRecursion IsQuietAxiom (told choice earlier xs)
+    → AllByRecursion IsQuietAxiom (taken_as_axioms choice earlier xs)
 told_quiet choice earlier [] h = tt
 told_quiet choice earlier (x ∷ xs) h =
-    all_append IsQuietAxiom (told_of x.label (is_in choice.chosen x.label) (reason choice earlier x)) (told choice (earlier ++ x ∷ []) xs)
+    all_append IsQuietAxiom (told_of x.label (is_in choice.chosen x.label) (reason choice earlier x))
+    (taken_as_axioms choice (earlier ++ x ∷ []) xs)
     (told_one x.label (is_in choice.chosen x.label) (reason choice earlier x) (label_quiet x.label h.0.label))
     (told_quiet choice (earlier ++ x ∷ []) xs h.1)
 

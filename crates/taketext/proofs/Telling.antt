@@ -12,6 +12,8 @@ use Rattle.choosing.specs.Choices.{labels_wished}
 use Rattle.mmtext.specs.Words.{Word}
 use Rattle.source.specs.Views.{seen_words}
 use Rattle.mmsyntax.specs.Layout.{spaced}
+use Rattle.mmsyntax.proofs.Distinct.{all_right}
+use Rattle.source.proofs.Passing.{neither}
 use Rattle.taketext.specs.Comments.{chosen_line}
 use Rattle.taketext.specs.Origins.{IsInLine, IsBetweenSpaces, Tells, TellsNothing, TellsOnce, IsForJust}
 use Rattle.taketext.specs.Reading.{AreWords, AreOriginLines, IsOrigin, AreWishWords, wish_words}
@@ -37,15 +39,11 @@ chosen_rest w line rest e =
 
 -- ---- bytes of words and lines
 
-or_false : (a b : Bool) → (a || b) ≡ false → (a ≡ false) × (b ≡ false)
-or_false true b h = absurd cc
-or_false false b h = (refl, h)
-
 -- what no byte has of some that are written out
 none_has : (p : ℕ → Bool) (P : ℕ → Type 0) → ((b : ℕ) → p b ≡ false → P b) → (xs : List ℕ) → list_any p xs ≡ false → AllByRecursion P xs
 none_has p P each [] h = tt
 none_has p P each (x ∷ xs) h =
-    let both = or_false (p x) (list_any p xs) h in
+    let both = neither (p x) (list_any p xs) h in
     (each x both.0, none_has p P each xs both.1)
 
 abbrev Plain : ℕ → Type 0
@@ -55,7 +53,7 @@ abbrev is_space : ℕ → Bool
 is_space b = eqb b 10 || eqb b 32
 
 plain : (b : ℕ) → is_space b ≡ false → Plain b
-plain b h = let both = or_false (eqb b 10) (eqb b 32) h in (eqb-false b 10 both.0, eqb-false b 32 both.1)
+plain b h = let both = neither (eqb b 10) (eqb b 32) h in (eqb-false b 10 both.0, eqb-false b 32 both.1)
 
 written_word : (w : Word) → list_any is_space w ≡ false → IsBetweenSpaces w
 written_word w h = All-from_recursion Plain w (none_has is_space Plain plain w h)
@@ -76,14 +74,10 @@ spaced_in_line (w ∷ ws) h =
           (All-append P w (spaced ws) (in_line w h.0) (All-from_recursion P (spaced ws) (spaced_in_line ws h.1))),
     )
 
-all_behind : {X : Type 0} (P : X → Type 0) (xs ys : List X) → AllByRecursion P (xs ++ ys) → AllByRecursion P ys
-all_behind P [] ys h = h
-all_behind P (x ∷ xs) ys h = all_behind P xs ys h.1
-
 behind_in_line : (xs ys : List ℕ) → IsInLine (xs ++ ys) → IsInLine ys
 behind_in_line xs ys h =
     let P : ℕ → Type 0 = λ b. b ≢ 10 in
-    All-from_recursion P ys (all_behind P xs ys (recursion_from_All P (xs ++ ys) h))
+    All-from_recursion P ys (all_right P xs ys (recursion_from_All P (xs ++ ys) h))
 
 -- ---- the words of a wish
 

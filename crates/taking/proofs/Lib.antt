@@ -18,3 +18,4 @@ pub mod Symbols
 pub mod Given
 pub mod Candidates
 pub mod Lent
+pub mod Premises

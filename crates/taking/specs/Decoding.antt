@@ -68,7 +68,7 @@ IsMarked old new there =
     ≡ (if there then Some (stack_of labels new) else None)
 
 -- a code does its step, if that is there
-pub record IsTaken (named : List Named) (code : Code) (old new : Decoder) (there : Bool) : Type 0 where
+pub record IsCodeTaken (named : List Named) (code : Code) (old new : Decoder) (there : Bool) : Type 0 where
   pub known : there ≡ true → is_absent code ≡ false
   pub steps : is_absent code ≡ false → (s : Setting) → AreNamed s named
       → stepped grown s.earlier s.active (stack_of s.labels old) (step_of s.labels code)

@@ -44,10 +44,10 @@ told_of label true (Some why) = (label, why) ∷ []
 told_of label _ _ = []
 
 -- each chosen theorem that is taken as an axiom, by its label in the source, with its reason
-abbrev pub told : Choice → List Assertion → List Assertion → List (Word × Reason)
-told choice earlier [] = []
-told choice earlier (x ∷ xs) =
-    told_of x.label (is_in choice.chosen x.label) (reason choice earlier x) ++ told choice (earlier ++ x ∷ []) xs
+abbrev pub taken_as_axioms : Choice → List Assertion → List Assertion → List (Word × Reason)
+taken_as_axioms choice earlier [] = []
+taken_as_axioms choice earlier (x ∷ xs) =
+    told_of x.label (is_in choice.chosen x.label) (reason choice earlier x) ++ taken_as_axioms choice (earlier ++ x ∷ []) xs
 
 -- ---- all
 
@@ -63,5 +63,5 @@ pub record Takes (s : Scope) (choice : Choice) (db : Contents) (axioms : List (W
   pub has_places : HasPlaces places db.prelude s (chosen_of choice s)
   pub keeps_names : KeepsNames places db.prelude s
   pub taken : AreTaken places db.prelude choice [] s.assertions db.assertions
-  pub axioms_told : told choice [] s.assertions ≡ axioms
+  pub axioms_told : taken_as_axioms choice [] s.assertions ≡ axioms
   pub names_told : renamed places db.prelude ≡ names

@@ -5,7 +5,7 @@ ghost use Rattle.mmtext.specs.Words.{Word};
 ghost use Rattle.source.specs.Proofs.{Tree};
 ghost use Rattle.taking.specs.Walks.{TakesAll};
 ghost use Rattle.taking.specs.Decoded.{AreDecoded, AreLabelsOf, tree_of};
-ghost use Rattle.taking.specs.Decoding.{StandsOn, IsCited, IsRepeated, IsMarked, IsTaken, IsLeft};
+ghost use Rattle.taking.specs.Decoding.{StandsOn, IsCited, IsRepeated, IsMarked, IsCodeTaken, IsLeft};
 
 use crate::decoded::DecodedProof;
 use crate::named::Named;
@@ -84,7 +84,7 @@ impl Decoder {
     fn take(&mut self, named: &[Named], code: Code) -> Result<bool, AllocError>
         requires { StandsOn named.now self.old }
         ensures stands { IfOk result (λ there. there ≡ true → StandsOn named.now self.new) }
-        ensures taken { IfOk result (λ there. IsTaken named.now code self.old self.new there) }
+        ensures taken { IfOk result (λ there. IsCodeTaken named.now code self.old self.new there) }
     {
         match code {
             Code::Number(number) => {

@@ -3,7 +3,7 @@
 ghost use Rattle.mmsyntax.specs.declared.limits.TheConstants.{MOST_ASSERTIONS};
 ghost use Rattle.std.specs.Prelude.{◌≤◌, map, All, IfSome};
 ghost use Rattle.derivation.specs.Databases.{AllCheck};
-ghost use Rattle.library.specs.Histories.{told, EntriesFit};
+ghost use Rattle.library.specs.Histories.{seen_entry, EntriesFit};
 ghost use Rattle.transaction.specs.Members.{IsSessionOf};
 ghost use Rattle.trials.specs.Opened.{IsOpen};
 
@@ -127,7 +127,7 @@ fn put_finished(
 )
     requires slots { (1 ≤ slots) × (slots ≤ MOST_ASSERTIONS) }
     requires checks { AllCheck database.now }
-    requires fit { EntriesFit database.now.prelude (map told history.now) }
+    requires fit { EntriesFit database.now.prelude (map seen_entry history.now) }
 {
     let count = history.len();
     out.show(format_args!("finished {count}\n"));
@@ -153,7 +153,7 @@ fn put_replayed(
 )
     requires slots { (1 ≤ slots) × (slots ≤ MOST_ASSERTIONS) }
     requires checks { AllCheck database.now }
-    requires fit { EntriesFit database.now.prelude (map told history.now) }
+    requires fit { EntriesFit database.now.prelude (map seen_entry history.now) }
 {
     match replay(alloc, keys, database, slots, history) {
         Ok(library) => put_told(out, &library, true),

@@ -56,7 +56,7 @@ verified_is earlier x None e whole = (λ h. ap (option_and_then (λ p. of_proof 
 verified_is earlier x (Some proof) e whole = elim (cases_Bool (is_unfinished proof)) [
   | inl y ↦ (λ h. fault_is earlier x proof true e y, λ h f. absurd cc)
   | inr n ↦
-      let law = derives_or_fails earlier x proof e n whole.denotes in
+      let law = derives_or_fails earlier x proof e n whole.leaves_one in
       (λ h. law.0 (h n), λ h f. law.1 h)
 ]
 

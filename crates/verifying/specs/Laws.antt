@@ -6,7 +6,7 @@ use Rattle.mmtext.specs.Words.{Word}
 use Rattle.source.specs.Statements.{Proof, Statements}
 use Rattle.source.specs.Scopes.{Hypothesis, label_of, Assertion, Scope}
 use Rattle.source.specs.Sources.{Declares}
-use Rattle.source.specs.Proofs.{Tree, Trees, node, none, some, names, steps_of, Stack, pop, push, stepped, denoted_by, denotes, is_unfinished}
+use Rattle.source.specs.Proofs.{Tree, Trees, node, none, some, names, steps_of, Stack, pop, push, stepped, denoted_by, leaves_one, is_unfinished}
 use Rattle.verifying.specs.Citations.{Expression, said_by}
 use Rattle.verifying.specs.Verifies.{Entry, cited, entry, derived, Derives, AreVerified, Verifies}
 use Rattle.verifying.specs.Faults.{fault_of, fault_in}
@@ -33,7 +33,7 @@ TreesAreDerived =
 abbrev pub FinishedAreDerived : Type 0
 FinishedAreDerived =
     (earlier : List Assertion) (x : Assertion) (proof : Proof) → is_unfinished proof ≡ false
-    → IsTrue (denotes earlier x.active x.hypotheses proof) → IsSome (derived earlier x proof)
+    → IsTrue (leaves_one earlier x.active x.hypotheses proof) → IsSome (derived earlier x proof)
 
 -- ---- each kind of step
 
@@ -70,7 +70,7 @@ PartsVerify =
 abbrev pub DerivesOrFails : Type 0
 DerivesOrFails =
     (earlier : List Assertion) (x : Assertion) (proof : Proof) → x.proof ≡ Some proof → is_unfinished proof ≡ false
-    → IsTrue (denotes earlier x.active x.hypotheses proof) → Derives earlier x proof ↔ (fault_of earlier x ≡ None)
+    → IsTrue (leaves_one earlier x.active x.hypotheses proof) → Derives earlier x proof ↔ (fault_of earlier x ≡ None)
 
 -- a source verifies, or it has a first fault
 abbrev pub VerifiesOrFails : Type 0

@@ -3,7 +3,7 @@ use Rattle.std.proofs.Common.{◌≡◌, ◌++◌, [], List, take, drop}
 use Rattle.mmsyntax.specs.declared.statement.Assertion.{Assertion as Unit'}
 use Rattle.prooftrees.specs.Frames.{Holds}
 use Rattle.taking.specs.Reasons.{Choice, AreFlags}
-use Rattle.taking.specs.Taken.{AreTaken, told}
+use Rattle.taking.specs.Taken.{AreTaken, taken_as_axioms}
 use Rattle.gathering.specs.Gatherings.{told_in}
 use Rattle.gathering.specs.Placed.{map_of, tables_of}
 use Rattle.gathering.proofs.assembling.gather.Given as goal
@@ -17,7 +17,8 @@ invariant-loop-place g l = record {
       → AreTaken (map_of l.placed.sites.now l.placed.names.now) (tables_of l.placed.sites.now l.placed.names.now) choice []
       (g.D.Declared.scope l.declared).assertions (l.gathered.assertions.items ++ later);
   told : (choice : Choice) → AreFlags (g.D.Declared.scope l.declared) choice l.chosen l.front l.long
-      → told choice [] (g.D.Declared.scope l.declared).assertions
+      → taken_as_axioms choice [] (g.D.Declared.scope l.declared).assertions
       ≡ told_in l.gathered.axioms.items
-      ++ told choice (take l.place (g.D.Declared.scope l.declared).assertions) (drop l.place (g.D.Declared.scope l.declared).assertions);
+      ++ taken_as_axioms choice (take l.place (g.D.Declared.scope l.declared).assertions)
+      (drop l.place (g.D.Declared.scope l.declared).assertions);
 }
