@@ -5,7 +5,7 @@ use Rattle.std.specs.List.{AllByRecursion}
 use Rattle.std.specs.Str.{bytes_eq}
 use Rattle.std.specs.HashMap.{HashMap, get_by}
 use Rattle.std.specs.Borrow.{Bor}
-use Rattle.std.specs.declared.random_state.RandomState.{RandomState}
+use Rattle.wordkeys.specs.declared.keys.WordKeys.{WordKeys}
 use Rattle.mmtext.specs.Words.{Word}
 use Rattle.source.specs.Scopes.{label_of, Scope, is_in, is_float_of, mandatory}
 use Rattle.scopes.specs.declared.tables.Name.{Name}
@@ -100,7 +100,7 @@ pub record IsSound (look : Word → Option Name) (k : Kept) : Type 0 where
       (length k.active) (length k.symbols) (length k.labels) (length k.entries)
 
 -- what the map of names finds
-abbrev pub looks_up : HashMap (Bor (List ℕ)) Name RandomState → Word → Option Name
+abbrev pub looks_up : HashMap (Bor (List ℕ)) Name WordKeys → Word → Option Name
 looks_up names w = get_by (λ k. bytes_eq w k.now) names
 
 abbrev pub IsSoundTables : Tables → Type 0

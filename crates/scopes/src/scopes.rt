@@ -13,6 +13,7 @@ use std::alloc::{AllocError, Global};
 use std::hash::RandomState;
 use std::marker::Model;
 use std::mem;
+use wordkeys::WordKeys;
 
 /// What stands at a place of a source: names, active variables, hypotheses and `$d`, blocks that are open, and all assertions so far.
 ///
@@ -48,7 +49,7 @@ impl<'a> Scopes<'a> {
         ensures { result.stand ≡ outset }
     {
         Scopes {
-            tables: Tables::new(alloc, keys),
+            tables: Tables::new(alloc, WordKeys::new(keys)),
         }
     }
 

@@ -8,7 +8,7 @@ ghost use Rattle.source.specs.Scopes.{outset};
 use source::{HypothesisWords, ProofWords};
 use std::alloc::Global;
 use std::collections::HashMap;
-use std::hash::RandomState;
+use wordkeys::WordKeys;
 
 /// What a word was declared as, and where it was put then. What is at that place by now may be something else.
 #[derive(Clone, Copy)]
@@ -70,7 +70,7 @@ pub(crate) struct Block {
 
 /// All that is kept. What is active is put on top of a list, and taken off at the end of its block; what is put elsewhere stays.
 pub(crate) struct Tables<'a> {
-    pub(crate) names: HashMap<&'a [u8], Name, RandomState>,
+    pub(crate) names: HashMap<&'a [u8], Name, WordKeys>,
     pub(crate) constants: Vec<&'a [u8]>,
     pub(crate) variables: Vec<&'a [u8]>,
     pub(crate) symbols: Vec<&'a [u8]>,
@@ -104,7 +104,7 @@ impl<'a> Drop for Tables<'a> {
 
 impl<'a> Tables<'a> {
     /// Before any statement.
-    pub(crate) fn new(alloc: Global, keys: RandomState) -> Tables<'a>
+    pub(crate) fn new(alloc: Global, keys: WordKeys) -> Tables<'a>
         ensures sound { IsSoundTables result }
         ensures outset { stand_of (kept_of result) ≡ outset }
     {

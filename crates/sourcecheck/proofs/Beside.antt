@@ -136,4 +136,5 @@ pub one_found : (s : Scope) (k : ℕ) (f : ProofFault) (u : Unverified) → IsWh
 one_found s k f u whole found told =
     let lt = found.0 in
     refused_in s k u whole lt
-    (front_verified s.assertions k (omega (arith, lt)) (λ j less. found.2 j less (omega (arith, less, lt)))) told
+    (front_verified s.assertions k (omega (arith, lt)) (λ j less. found.2 j less (omega (arith, less, lt))))
+    (λ j y less at. found.2 j less (omega (arith, less, lt)) y at) told

@@ -24,7 +24,8 @@ use Rattle.sourcecheck.specs.declared.frame.Demand.{Demand}
 use Rattle.sourcecheck.specs.declared.frame.Demand.TheVariants.{Typed, Equal}
 use Rattle.sourcecheck.specs.declared.frame.Frame.{Frame}
 use Rattle.sourcecheck.specs.declared.thesis.Thesis.{Thesis}
-use Rattle.sourcecheck.specs.Coded.{piece_value, filled, begins_with_number, is_typed, types_met, is_equal, equals_met, is_variable_of, is_pair_of_numbers}
+use Rattle.sourcecheck.specs.Coded.{piece_value, filled, begins_with_number, is_typed, types_met, is_equal, equals_met, is_variable_of}
+use Rattle.sourcecheck.specs.Pairs.{is_pair_of_numbers}
 use Rattle.sourcecheck.specs.Coded.{numbers_apart, is_apart, are_numbers_apart, pairs_met, coded}
 use Rattle.sourcecheck.specs.Frames.{Part, found, part_in, part_of, asked_in, asked_of, variable_of, IsFrameOf}
 use Rattle.sourcecheck.specs.Shown.{IsThesisOf}
@@ -234,8 +235,8 @@ module _ (name : ℕ → Word) (injective : (m n : ℕ) → name m ≡ name n �
     symbols_named u v =
         ap (λ b. not b && list_any (is_pair (name u) (name v)) x.pairs) (same_number-sym u v)
         ∙ ap (λ ps. not (u == v) && list_any (is_pair (name u) (name v)) ps) (sym of.pairs)
-        ∙ ap (λ b. not (u == v) && b) (any_mapped (is_pair (name u) (name v)) (λ p. (name p.0, name p.1)) t.pairs.items
-        ∙ any_alike (λ p. is_pair (name u) (name v) (name p.0, name p.1)) (is_pair_of_numbers u v) t.pairs.items (pair_named u v))
+        ∙ ap (λ b. not (u == v) && b) (any_mapped (is_pair (name u) (name v)) (λ p. (name p.0, name p.1)) t.pairs
+        ∙ any_alike (λ p. is_pair (name u) (name v) (name p.0, name p.1)) (is_pair_of_numbers u v) t.pairs (pair_named u v))
 
     of_variables : (q : Word → Bool) (e : List ℕ)
         → list_all q (variables_in x (map name e)) ≡ list_all (λ n. not (is_variable_of t n) || q (name n)) e

@@ -22,8 +22,17 @@ use Rattle.sourcecheck.specs.declared.thesis.Thesis.{Thesis}
 use Rattle.sourcecheck.specs.Coded.{coded, lasts, IsCited, FailsTest, FailsToCite}
 use Rattle.sourcecheck.specs.Frames.{IsFrameOf}
 use Rattle.sourcecheck.specs.Shown.{shown_entry, shown, Stands, FailsBy}
+use Rattle.sourcecheck.specs.Spans.{Sheet, last_length}
+use Rattle.sourcecheck.specs.Written.{symbols_of, symbols_of_last, written_at}
 use Rattle.sourcecheck.proofs.Spans.{reverse-cons}
 use Rattle.sourcecheck.proofs.Filling.{over_words, cited_named}
+
+-- ---- what is written down
+
+-- the last expression has as many words as numbers
+pub last_shown : (name : ℕ → Word) (es : List (List ℕ)) → symbols_of_last (map (shown_entry name) es) ≡ last_length es
+last_shown name [] = refl
+last_shown name (e ∷ es) = length-map e name
 
 -- ---- what comes off
 
@@ -149,14 +158,21 @@ module _ (name : ℕ → Word) (earlier : List Assertion) (x : Assertion) where
         (pop_short c.hypotheses (map (shown_entry name) old.entries) []
         (omega (arith, as_long, lt, length-map old.entries (shown_entry name))))
 
-    pub citation_fails : (old : Stack (List ℕ)) (kind : ProofFaultKind) → FailsToCite t f old kind
-        → FailsBy (stepped (entry earlier x) earlier x.active (shown name old) (names w)) kind
+    -- what is made is written down
+    made_written : (old : Stack (List ℕ)) (made : List ℕ) → length f.demands.items ≤ length old.entries
+        → coded t f (lasts (length f.demands.items) old) ≡ Ok made
+        → written_at (names w) (stepped (entry earlier x) earlier x.active (shown name old) (names w)) ≡ length made
+    made_written old made le is =
+        ap (written_at (names w)) (gives old le) ∙ ap (λ r. symbols_of (over_words name r)) is ∙ length-map made name
+
+    pub citation_fails : (old : Sheet) (kind : ProofFaultKind) → FailsToCite t f old kind
+        → FailsBy old.written (names w) (stepped (entry earlier x) earlier x.active (shown name old.stack) (names w)) kind
     citation_fails old NoMemory h = tt
-    citation_fails old TooLong h = tt
-    citation_fails old StackShort h = too_few old h
-    citation_fails old WrongType h = failed_by old WrongType h
-    citation_fails old HypothesisDiffers h = failed_by old HypothesisDiffers h
-    citation_fails old NotDisjoint h = failed_by old NotDisjoint h
+    citation_fails old TooLong h = let size = made_written old.stack h.made h.enough h.gives in omega (arith, size, h.long)
+    citation_fails old StackShort h = too_few old.stack h
+    citation_fails old WrongType h = failed_by old.stack WrongType h
+    citation_fails old HypothesisDiffers h = failed_by old.stack HypothesisDiffers h
+    citation_fails old NotDisjoint h = failed_by old.stack NotDisjoint h
     citation_fails old UnknownStep h = absurd h
     citation_fails old NotOneLeft h = absurd h
     citation_fails old StatementDiffers h = absurd h

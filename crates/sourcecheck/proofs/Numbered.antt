@@ -11,7 +11,7 @@ use Rattle.std.specs.List.{AllZip}
 use Rattle.std.specs.HashMap.{HashMap}
 use Rattle.std.specs.Map.{lookup}
 use Rattle.std.specs.Borrow.{Bor}
-use Rattle.std.specs.declared.random_state.RandomState.{RandomState}
+use Rattle.wordkeys.specs.declared.keys.WordKeys.{WordKeys}
 use Rattle.sourcecheck.specs.Names.{Grows, total, name_in, Lasts, looks_up, IsTable}
 
 -- ---- growth
@@ -166,7 +166,7 @@ entries_same (x ∷ xs) (y ∷ ys) e =
     let first : y ≡ x = ap₂ (λ (a : Bor (List ℕ)) (n : ℕ). let p : Bor (List ℕ) × ℕ = (a, n) in p) e.0.0 e.0.1 in
     ap (λ (z : Bor (List ℕ) × ℕ). z ∷ ys) first ∙ ap (λ zs. x ∷ zs) rest
 
-pub same_table : (m n : HashMap (Bor (List ℕ)) ℕ RandomState) (ws vs : List Word) → n.entries ≡ m.entries → vs ≡ ws → IsTable m ws
+pub same_table : (m n : HashMap (Bor (List ℕ)) ℕ WordKeys) (ws vs : List Word) → n.entries ≡ m.entries → vs ≡ ws → IsTable m ws
     → IsTable n vs
 same_table m n ws vs e f is = λ w k.
     let looks : looks_up n w ≡ looks_up m w = ap (λ (es : List (Bor (List ℕ) × ℕ)). lookup (λ k. bytes_eq w k.now) es) e in (

@@ -19,15 +19,17 @@ use Rattle.verifying.specs.Citations.{same_expression}
 use Rattle.verifying.specs.Verifies.{Entry, entry}
 use Rattle.verifying.specs.Faults.{is_counted, at_end, last_failure, differs, fault_from}
 use Rattle.sourcecheck.specs.Coded.{EndFails}
-use Rattle.sourcecheck.specs.Shown.{shown_entry, shown, FailsBy, Reached, IsFaultOfKind}
+use Rattle.sourcecheck.specs.Shown.{shown_entry, shown, FailsBy, LeadsTo, Reached, IsFaultOfKind}
+use Rattle.sourcecheck.specs.Spans.{Sheet}
+use Rattle.sourcecheck.specs.Written.{written_at, written}
 use Rattle.sourcecheck.proofs.Filling.{same_numbers}
 
 -- ---- results
 
-pub match_of : {A E : Type 0} {P Q : Type 0} {R S : E → Type 0} (r : Result A E) → OnOk r P → IfErr r R → (P → Q) → ((e : E) → R e → S e)
-    → MatchResult r (λ _. Q) S
-match_of (Ok a) p q f g = f p
-match_of (Err e) p q f g = g e q
+pub match_both : {A E : Type 0} {P Q T : Type 0} {R S : E → Type 0} (r : Result A E) → OnOk r P → OnOk r T → IfErr r R → (P → T → Q)
+    → ((e : E) → R e → S e) → MatchResult r (λ _. Q) S
+match_both (Ok a) p t q f g = f p t
+match_both (Err e) p t q f g = g e q
 
 -- ---- lists
 
@@ -84,21 +86,21 @@ module _ (name : ℕ → Word) (earlier : List Assertion) (x : Assertion) where
   none_failed [] = refl
   none_failed (e ∷ es) = refl
 
-  pub start : Reached name earlier x [] (record { entries = []; marked = [] }) 0
-  start = record { leads = refl; counted = refl; passed = λ rest. refl }
+  pub start : Reached name earlier x [] (record { stack = record { entries = []; marked = [] }; written = 0 }) 0
+  start = record { leads = refl; counted = refl; passed = λ rest. refl; written = λ rest. omega arith }
 
-  module _ (front : List Step) (s : Stack (List ℕ)) (n : ℕ) (before : Reached name earlier x front s n) (step : Step) (m : ℕ)
+  module _ (front : List Step) (s : Sheet) (n : ℕ) (before : Reached name earlier x front s n) (step : Step) (m : ℕ)
       (m-is : m ≡ n + length (filter is_counted (step ∷ []))) where
-    led : run (Some empty) (front ++ step ∷ []) ≡ stepped (entry earlier x) earlier x.active (shown name s) step
+    led : run (Some empty) (front ++ step ∷ []) ≡ stepped (entry earlier x) earlier x.active (shown name s.stack) step
     led = run_then (Some empty) front (step ∷ []) ∙ ap (λ o. run o (step ∷ [])) before.leads
 
     counted_more : m ≡ length (filter is_counted (front ++ step ∷ []))
     counted_more =
         m-is ∙ ap (λ k. k + length (filter is_counted (step ∷ []))) before.counted ∙ sym (filtered_more is_counted front (step ∷ []))
 
-    pub reached_more : (t : Stack (List ℕ)) → stepped (entry earlier x) earlier x.active (shown name s) step ≡ Some (shown name t)
-        → Reached name earlier x (front ++ step ∷ []) t m
-    reached_more t h =
+    pub reached_more : (t : Sheet) → LeadsTo name earlier x step s t → Reached name earlier x (front ++ step ∷ []) t m
+    reached_more t to =
+        let h = to.leads in
         let all = led ∙ h in
         record {
           leads = all;
@@ -107,17 +109,23 @@ module _ (name : ℕ → Word) (earlier : List Assertion) (x : Assertion) where
               ap (fault_from earlier x []) (append_assoc front (step ∷ []) rest)
               ∙ before.passed (step ∷ rest)
               ∙ ap (λ k. option_or (at_end (front ++ step ∷ []) k) (fault_from earlier x (front ++ step ∷ []) rest))
-              (ap (option_and_then (λ z. last_failure z.entries)) all ∙ none_failed t.entries);
+              (ap (option_and_then (λ z. last_failure z.entries)) all ∙ none_failed t.stack.entries);
+          written = λ rest.
+              let here = before.written (step ∷ rest) in
+              let far : written earlier x (Some (shown name s.stack)) (step ∷ rest)
+              ≡ written_at step (Some (shown name t.stack)) + written earlier x (Some (shown name t.stack)) rest =
+              ap (λ o. written_at step o + written earlier x o rest) h in
+              ap (written earlier x (Some empty)) (append_assoc front (step ∷ []) rest) ∙ omega (arith, here, far, to.written);
         }
 
-    none_made : stepped (entry earlier x) earlier x.active (shown name s) step ≡ None → (rest : List Step)
+    none_made : stepped (entry earlier x) earlier x.active (shown name s.stack) step ≡ None → (rest : List Step)
         → made (entry earlier x) earlier x.active (front ++ step ∷ rest) ≡ None
     none_made h rest =
         ap single (run_then (Some empty) front (step ∷ rest) ∙ ap (λ o. run o (step ∷ rest)) before.leads
         ∙ ap (λ o. run o rest) h ∙ run_none rest)
 
     told : (kind : ProofFaultKind)
-        → option_and_then (λ z. last_failure z.entries) (stepped (entry earlier x) earlier x.active (shown name s) step) ≡ Some kind
+        → option_and_then (λ z. last_failure z.entries) (stepped (entry earlier x) earlier x.active (shown name s.stack) step) ≡ Some kind
         → (rest : List Step) → fault_from earlier x [] (front ++ step ∷ rest) ≡ Some (record { step = m; kind = kind })
     told kind h rest =
         before.passed (step ∷ rest)
@@ -125,10 +133,15 @@ module _ (name : ℕ → Word) (earlier : List Assertion) (x : Assertion) where
         (ap (option_and_then (λ z. last_failure z.entries)) led ∙ h)
         ∙ ap (λ k. Some (record { step = k; kind = kind })) (sym counted_more)
 
-    pub reached_fails : (kind : ProofFaultKind) → FailsBy (stepped (entry earlier x) earlier x.active (shown name s) step) kind
+    pub reached_fails : (kind : ProofFaultKind)
+        → FailsBy s.written step (stepped (entry earlier x) earlier x.active (shown name s.stack) step) kind
         → (rest : List Step) → IsFaultOfKind earlier x (front ++ step ∷ rest) m kind
     reached_fails NoMemory h rest = tt
-    reached_fails TooLong h rest = tt
+    reached_fails TooLong h rest =
+        let all = before.written (step ∷ rest) in
+        let next = stepped (entry earlier x) earlier x.active (shown name s.stack) step in
+        let far : written earlier x (Some (shown name s.stack)) (step ∷ rest) ≡ written_at step next + written earlier x next rest = refl in
+        omega (arith, h, all, far)
     reached_fails UnknownStep h rest = none_made h rest
     reached_fails StackShort h rest = none_made h rest
     reached_fails NotOneLeft h rest = absurd h
@@ -139,11 +152,11 @@ module _ (name : ℕ → Word) (earlier : List Assertion) (x : Assertion) where
 
   -- ---- the end
 
-  module _ (steps : List Step) (s : Stack (List ℕ)) (n : ℕ) (all : Reached name earlier x steps s n) where
-    made_is : made (entry earlier x) earlier x.active steps ≡ only (map (shown_entry name) s.entries)
+  module _ (steps : List Step) (s : Sheet) (n : ℕ) (all : Reached name earlier x steps s n) where
+    made_is : made (entry earlier x) earlier x.active steps ≡ only (map (shown_entry name) s.stack.entries)
     made_is = ap single all.leads
 
-    pub ended : (statement : List ℕ) → s.entries ≡ statement ∷ [] → map name statement ≡ x.statement
+    pub ended : (statement : List ℕ) → s.stack.entries ≡ statement ∷ [] → map name statement ≡ x.statement
         → made (entry earlier x) earlier x.active steps ≡ Some (Ok x.statement)
     ended statement one is =
         made_is ∙ ap (λ es. only (map (shown_entry name) es)) one ∙ ap (λ e. Some (Ok e)) is
@@ -158,8 +171,8 @@ module _ (name : ℕ → Word) (earlier : List Assertion) (x : Assertion) where
     unlike d e false is h = refl
 
     pub end_fails : ((m k : ℕ) → name m ≡ name k → m ≡ k) → (statement : List ℕ) (kind : ProofFaultKind)
-        → map name statement ≡ x.statement → EndFails statement s.entries kind → IsFaultOfKind earlier x steps n kind
-    end_fails injective statement NotOneLeft is h = made_is ∙ not_one s.entries h
+        → map name statement ≡ x.statement → EndFails statement s.stack.entries kind → IsFaultOfKind earlier x steps n kind
+    end_fails injective statement NotOneLeft is h = made_is ∙ not_one s.stack.entries h
     end_fails injective statement StatementDiffers is h =
         let e = h.0 in
         let other : same_expression (map name e) x.statement ≡ false =

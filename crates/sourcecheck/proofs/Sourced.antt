@@ -86,13 +86,24 @@ first_found s k x f whole v at h = first_behind s [] s.assertions k x f whole.as
 -- ---- what is told of a source
 
 pub refused_in : (s : Scope) (k : ℕ) (u : Unverified) → IsWhole s → k < length s.assertions → AreVerified [] (take k s.assertions)
+    → ((j : ℕ) (y : Assertion) → j < k → slice_get s.assertions j ≡ Some y → IsVerified (take j s.assertions) y)
     → IsRefusedAt s.assertions k u → IsRefusedIn s u
-refused_in s k (unverified.Fault label f) whole lt v h =
+refused_in s k (unverified.Fault label f) whole lt v each h =
     let there = there_is s.assertions k lt in
     let told = h there.0 there.1 in
     first_found s k there.0 f whole v there.1 told.1 ∙ ap (λ w. Some (w, f)) (sym told.0)
-refused_in s k (unverified.TooLong label) whole lt v h = tt
-refused_in s k unverified.NoMemory whole lt v h = tt
+refused_in s k (unverified.TooLong label) whole lt v each h =
+    let there = there_is s.assertions k lt in
+    let told = h there.0 there.1 in
+    record {
+      place = k;
+      assertion = there.0;
+      stands = there.1;
+      labelled = sym told.0;
+      long = told.1;
+      verified = λ j y less at. each j y less at;
+    }
+refused_in s k unverified.NoMemory whole lt v each h = tt
 
 -- ---- how many pass a test
 

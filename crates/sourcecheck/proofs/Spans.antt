@@ -1,7 +1,7 @@
 -- Expressions that lie in one list of symbols stay what they are when more come behind them.
 use Rattle.std.proofs.Common.{◌≡◌, ℕ, zero, suc, ◌+◌, ◌-◌, ◌<◌, ◌≤◌, List, [], ◌∷◌, ◌++◌, length, drop, take, get_or, refl, sym, ap}
 use Rattle.std.proofs.Common.{◌∙◌, arith}
-use Rattle.std.specs.Prelude.{slice_range, slice_get, reverse, Some}
+use Rattle.std.specs.Prelude.{slice_range, slice_get, slice_index_or, reverse, Some, Result, Ok, Err, OnOk}
 use Rattle.std.proofs.Math.Seq.{take-length, take-append_seam, drop-append_seam}
 use Rattle.std.proofs.Common.{append_assoc, append-nil}
 use Rattle.std.specs.Option.{option_map}
@@ -13,7 +13,10 @@ use Rattle.std.proofs.lemmas.Grind.{flat_map-append}
 use Rattle.source.specs.Proofs.{Stack, push, mark, repeat}
 use Rattle.sourcecheck.specs.declared.frame.Piece.{Piece}
 use Rattle.sourcecheck.specs.Spans.{cut, AreWithin}
-use Rattle.sourcecheck.specs.Coded.{piece_value, filled}
+use Rattle.sourcecheck.specs.Coded.{IsRefusal, piece_value, filled}
+use Rattle.derivation.specs.declared.fault.ProofFaultKind.{ProofFaultKind}
+use Rattle.derivation.specs.declared.fault.ProofFaultKind.TheVariants.{UnknownStep, StackShort, WrongType, HypothesisDiffers, NotDisjoint}
+use Rattle.derivation.specs.declared.fault.ProofFaultKind.TheVariants.{NotOneLeft, StatementDiffers, TooLong, NoMemory}
 
 -- a part is the same where more stands behind
 range-more : (s e : List ℕ) (a b : ℕ) → a ≤ b → b ≤ length s → slice_range (s ++ e) a b ≡ slice_range s a b
@@ -101,6 +104,13 @@ seen-repeat s ps ms n p at =
 
 -- ---- what pieces make
 
+-- the expression at a place
+pub value-at : (s : List ℕ) (ps : List (ℕ × ℕ)) (k : ℕ) (p : ℕ × ℕ) → slice_get ps k ≡ Some p → slice_index_or (cut s ps) k []
+    ≡ slice_range s p.0 p.1
+value-at s [] k p h = absurd cc
+value-at s (q ∷ ps) zero p h = let e : q ≡ p = cc in ap (λ (r : ℕ × ℕ). slice_range s r.0 r.1) e
+value-at s (q ∷ ps) (suc k) p h = value-at s ps k p h
+
 pub filled-one : (s now new : List ℕ) (ps : List (ℕ × ℕ)) (pieces : List Piece) (i : ℕ) (d : Piece) → AreWithin (length s) ps
     → i < length pieces → now ≡ s ++ filled (cut s ps) (take i pieces) → new ≡ now ++ piece_value (cut now ps) (get_or pieces i d)
     → new ≡ s ++ filled (cut s ps) (take (i + 1) pieces)
@@ -114,6 +124,38 @@ filled-one s now new ps pieces i d h lt now-is new-is =
     ∙ ap (λ z. s ++ (made ++ z)) (sym (append-nil (v (cut s ps))))
     ∙ ap (λ z. s ++ z) (sym (flat_map-append (piece_value (cut s ps)) (take i pieces) (get_or pieces i d ∷ [])))
     ∙ ap (λ l. s ++ filled (cut s ps) l) (sym (take_more pieces i d lt))
+
+-- so many symbols are there with one more value, and no more than with all
+pub filled-within : (s now : List ℕ) (ps : List (ℕ × ℕ)) (pieces : List Piece) (i : ℕ) (d : Piece) → AreWithin (length s) ps
+    → i < length pieces → now ≡ s ++ filled (cut s ps) (take i pieces)
+    → length now + length (piece_value (cut now ps) (get_or pieces i d)) ≤ length s + length (filled (cut s ps) pieces)
+filled-within s now ps pieces i d h lt is =
+    let v = piece_value (cut now ps) (get_or pieces i d) in
+    let front = filled (cut s ps) (take (i + 1) pieces) in
+    let back = filled (cut s ps) (drop (i + 1) pieces) in
+    let one : now ++ v ≡ s ++ front = filled-one s now (now ++ v) ps pieces i d h lt is refl in
+    let all : filled (cut s ps) pieces ≡ front ++ back =
+    ap (filled (cut s ps)) (sym (take-append-drop (i + 1) pieces))
+    ∙ flat_map-append (piece_value (cut s ps)) (take (i + 1) pieces) (drop (i + 1) pieces) in
+    let size = ap length one in
+    let whole = ap length all in
+    omega (arith, size, whole, length-append now v, length-append s front, length-append front back)
+
+-- a refusal for want of room behind some symbols is one behind more
+pub refused-more : (a b : ℕ) (kind : ProofFaultKind) → a ≤ b → IsRefusal a kind → IsRefusal b kind
+refused-more a b NoMemory le h = tt
+refused-more a b TooLong le h = omega (arith, le, h)
+refused-more a b UnknownStep le h = absurd h
+refused-more a b StackShort le h = absurd h
+refused-more a b WrongType le h = absurd h
+refused-more a b HypothesisDiffers le h = absurd h
+refused-more a b NotDisjoint le h = absurd h
+refused-more a b NotOneLeft le h = absurd h
+refused-more a b StatementDiffers le h = absurd h
+
+pub on-ok : {A E P : Type 0} (r : Result A E) → P → OnOk r P
+on-ok (Ok a) p = p
+on-ok (Err e) p = tt
 
 -- ---- the last of a stack
 
@@ -141,6 +183,15 @@ turned-back xs n h =
 within-front : (n k : ℕ) (ps : List (ℕ × ℕ)) → AreWithin n ps → AreWithin n (take k ps)
 within-front n k ps h = All-take (λ p. (p.0 ≤ p.1) × (p.1 ≤ n)) k ps h
 
+-- the last parts are the last expressions
+pub last-cut : (s : List ℕ) (ps : List (ℕ × ℕ)) (n : ℕ) → n ≤ length ps
+    → cut s (drop (length ps - n) ps) ≡ reverse (take n (reverse (cut s ps)))
+last-cut s ps n le =
+    let f : ℕ × ℕ → List ℕ = λ q. slice_range s q.0 q.1 in
+    let same : length (cut s ps) ≡ length ps = length-map ps f in
+    let within : n ≤ length (cut s ps) = omega (arith, same, le) in
+    sym (drop-map f (length ps - n) ps) ∙ ap (λ m. drop (m - n) (cut s ps)) (sym same) ∙ sym (turned-front (cut s ps) n within)
+
 -- what pieces make of the last ones in their place
 pub seen-conclude : (s new : List ℕ) (ps ms : List (ℕ × ℕ)) (pieces : List Piece) (n : ℕ) → AreWithin (length s) ps
     → AreWithin (length s) ms → n ≤ length ps → new ≡ s ++ filled (cut s (drop (length ps - n) ps)) pieces
@@ -156,8 +207,7 @@ seen-conclude s new ps ms pieces n h k le is =
     let long : length new ≡ length s + length made = ap length is ∙ length-append s made in
     let same : length (cut s ps) ≡ length ps = length-map ps f in
     let within : n ≤ length (cut s ps) = omega (arith, same, le) in
-    let last : cut s (drop b ps) ≡ reverse (take n (reverse (cut s ps))) =
-    sym (drop-map f b ps) ∙ ap (λ m. drop (m - n) (cut s ps)) (sym same) ∙ sym (turned-front (cut s ps) n within) in
+    let last : cut s (drop b ps) ≡ reverse (take n (reverse (cut s ps))) = last-cut s ps n le in
     let first : reverse (cut s (take b ps)) ≡ drop n (reverse (cut s ps)) =
     ap reverse (sym (take-map f b ps)) ∙ ap (λ m. reverse (take (m - n) (cut s ps))) (sym same)
     ∙ sym (turned-back (cut s ps) n within) in

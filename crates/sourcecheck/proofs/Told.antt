@@ -1,6 +1,6 @@
 -- What is told of an assertion, by what its steps made.
-use Rattle.std.proofs.Common.{◌≡◌, ◌⊎◌, ℕ, zero, suc, ◌≤◌, true, false, All, List, [], ◌∷◌, ◌++◌, take, refl, sym, ap}
-use Rattle.std.proofs.Common.{subst as transport, ◌∙◌, append_assoc, append-nil, inl, inr, arith}
+use Rattle.std.proofs.Common.{◌≡◌, ℕ, zero, suc, ◌≤◌, true, false, All, List, [], ◌∷◌, ◌++◌, take, sym, ap}
+use Rattle.std.proofs.Common.{subst as transport, ◌∙◌, append_assoc, append-nil, arith}
 use Rattle.std.specs.Prelude.{IfSome, slice_get, is_some, Option, Some, None, Result, Ok, Err, if◌then◌else◌}
 use Rattle.std.specs.Option.{option_map, option_and_then}
 use Rattle.mmtext.specs.Words.{Word}
@@ -17,7 +17,7 @@ use Rattle.verifying.specs.Faults.{fault_from, fault_of}
 use Rattle.verifying.proofs.Verified.{finished_are_derived}
 use Rattle.sourcecheck.specs.declared.naming.Named.{Named}
 use Rattle.sourcecheck.specs.declared.naming.Named.TheVariants as named
-use Rattle.sourcecheck.specs.Shown.{IsPlaced, IsFaultOfKind, Tells, IsFaultOfProof, TellsProof, IsRefused, TellsAssertion}
+use Rattle.sourcecheck.specs.Shown.{IsPlaced, IsFaultOfKind, Tells, IsFaultOfProof, TellsProof, IsFaultOfAssertion, TellsAssertion}
 
 -- ---- places
 
@@ -67,7 +67,7 @@ module _ (earlier : List Assertion) (x : Assertion) where
 
     kind_told : (count : ℕ) (kind : ProofFaultKind) → IsFaultOfKind earlier x steps count kind → IsFaultOfProof earlier x proof count kind
     kind_told count NoMemory h = tt
-    kind_told count TooLong h = tt
+    kind_told count TooLong h = (steps, is, h)
     kind_told count UnknownStep h = derived_is ∙ h
     kind_told count StackShort h = derived_is ∙ h
     kind_told count NotOneLeft h = derived_is ∙ h
@@ -100,16 +100,16 @@ module _ (earlier : List Assertion) (x : Assertion) where
         ∙ ap (λ b. if b then None else option_and_then (fault_from earlier x []) (steps_of x.hypotheses proof)) finished
 
     fault_told : (count : ℕ) (kind : ProofFaultKind) → IsFaultOfProof earlier x proof count kind
-        → IsRefused (record { step = count; kind = kind }) ⊎ (fault_of earlier x ≡ Some (record { step = count; kind = kind }))
-    fault_told count NoMemory h = inl (inl refl)
-    fault_told count TooLong h = inl (inr refl)
+        → IsFaultOfAssertion earlier x (record { step = count; kind = kind })
+    fault_told count NoMemory h = tt
+    fault_told count TooLong h = record { proof = proof; has = is; long = h }
     fault_told count UnknownStep h = absurd (some_derived h)
     fault_told count StackShort h = absurd (some_derived h)
     fault_told count NotOneLeft h = absurd (some_derived h)
-    fault_told count WrongType h = inr (fault_of_is ∙ h)
-    fault_told count HypothesisDiffers h = inr (fault_of_is ∙ h)
-    fault_told count NotDisjoint h = inr (fault_of_is ∙ h)
-    fault_told count StatementDiffers h = inr (fault_of_is ∙ h)
+    fault_told count WrongType h = fault_of_is ∙ h
+    fault_told count HypothesisDiffers h = fault_of_is ∙ h
+    fault_told count NotDisjoint h = fault_of_is ∙ h
+    fault_told count StatementDiffers h = fault_of_is ∙ h
 
     pub assertion_told : (r : Result (Unit {0}) ProofFault) → TellsProof earlier x proof r → TellsAssertion earlier x r
     assertion_told (Ok u) h = transport (λ (o : Option Proof). IfSome o (λ p. is_unfinished p ≡ false → Derives earlier x p)) (sym is)

@@ -1,25 +1,24 @@
 -- Of the code's inside, apart from the rules: those who check the assertions of a source beside one another.
-use Rattle.std.specs.Prelude.{◌≡◌, ◌≤◌, ◌⊎◌, ℕ, List, length, take, slice_get, Option, None, Some, true}
+use Rattle.std.specs.Prelude.{◌≡◌, ◌≤◌, ℕ, List, length, take, slice_get, Option, None, Some, true}
 use Rattle.derivation.specs.declared.fault.ProofFault.{ProofFault}
 use Rattle.ranges.specs.Ranges.{Has}
 use Rattle.claims.specs.Claims.{Counting, Claimant, IsClaimantOf, IsNewOf}
 use Rattle.source.specs.Scopes.{Assertion}
 use Rattle.verifying.specs.Verifies.{IsVerified}
-use Rattle.verifying.specs.Faults.{fault_of}
 use Rattle.sourcecheck.specs.declared.frame.Frame.{Frame}
 use Rattle.sourcecheck.specs.declared.table.Table.{Table}
 use Rattle.sourcecheck.specs.declared.checkers.Checker.{Checker}
 use Rattle.sourcecheck.specs.Names.{words_of, IsSound, Lasts}
 use Rattle.sourcecheck.specs.Frames.{AreFrames}
-use Rattle.sourcecheck.specs.Shown.{IsRefused}
+use Rattle.sourcecheck.specs.Shown.{IsFaultOfAssertion}
 use Rattle.sourcecheck.specs.Found.{FoundAmong}
 
--- the assertion at a place is verified, or has the fault, of which nothing is said where memory or room is wanting
+-- the assertion at a place is verified, or has the fault, or its proof is too long; of want of memory nothing is said
 abbrev pub PassesAt : List Assertion → ℕ → Type 0
 PassesAt xs k = (x : Assertion) → slice_get xs k ≡ Some x → IsVerified (take k xs) x
 
 abbrev pub FailsAt : List Assertion → ℕ → ProofFault → Type 0
-FailsAt xs k f = (x : Assertion) → slice_get xs k ≡ Some x → IsRefused f ⊎ (fault_of (take k xs) x ≡ Some f)
+FailsAt xs k f = (x : Assertion) → slice_get xs k ≡ Some x → IsFaultOfAssertion (take k xs) x f
 
 abbrev pub IsFoundAmong : List Assertion → (ℕ → Type 0) → Option (ℕ × ProofFault) → Type 0
 IsFoundAmong xs P found = FoundAmong (PassesAt xs) (FailsAt xs) P found

@@ -1,5 +1,5 @@
 -- Of the code's inside, apart from the rules: a citation over expressions whose symbols are numbers.
-use Rattle.std.specs.Prelude.{◌≡◌, ◌≢◌, ℕ, ◌<◌, ◌≤◌, ◌==◌, Bool, true, false, ◌&&◌, ◌||◌, List, [], ◌∷◌, drop, take, reverse, length}
+use Rattle.std.specs.Prelude.{◌≡◌, ◌≢◌, ℕ, ◌+◌, ◌<◌, ◌≤◌, ◌^◌, ◌==◌, Bool, true, false, ◌&&◌, ◌||◌, List, [], ◌∷◌, drop, take, reverse, length}
 use Rattle.std.specs.Prelude.{slice_index_or, Result, Ok, Err, if◌then◌else◌}
 use mathlib.Core.Bool.{not}
 use Rattle.std.specs.List.{list_any, list_all, zip, flat_map}
@@ -14,12 +14,14 @@ use Rattle.sourcecheck.specs.declared.frame.Demand.{Demand}
 use Rattle.sourcecheck.specs.declared.frame.Demand.TheVariants.{Typed, Equal}
 use Rattle.sourcecheck.specs.declared.frame.Frame.{Frame}
 use Rattle.sourcecheck.specs.declared.thesis.Thesis.{Thesis}
+use Rattle.sourcecheck.specs.Spans.{Sheet}
+use Rattle.sourcecheck.specs.Pairs.{is_pair_of_numbers}
 
--- want of memory, or of room
-abbrev pub IsRefusal : ProofFaultKind → Type 0
-IsRefusal NoMemory = Unit {0}
-IsRefusal TooLong = Unit {0}
-IsRefusal _ = ⊥
+-- want of memory; or so many more symbols make more than 2^28 with those that were written down
+abbrev pub IsRefusal : ℕ → ProofFaultKind → Type 0
+IsRefusal count NoMemory = Unit {0}
+IsRefusal count TooLong = 2 ^ 28 < count
+IsRefusal count _ = ⊥
 
 -- ---- substitution
 
@@ -54,11 +56,8 @@ equals_met ds es = list_all (λ p. is_equal es p.0 p.1) (zip ds es)
 abbrev pub is_variable_of : Thesis → ℕ → Bool
 is_variable_of t n = list_any (λ v. v == n) t.floats
 
-abbrev pub is_pair_of_numbers : ℕ → ℕ → ℕ × ℕ → Bool
-is_pair_of_numbers u v p = ((p.0 == u) && (p.1 == v)) || ((p.1 == u) && (p.0 == v))
-
 abbrev pub numbers_apart : Thesis → ℕ → ℕ → Bool
-numbers_apart t u v = not (u == v) && list_any (is_pair_of_numbers u v) t.pairs.items
+numbers_apart t u v = not (u == v) && list_any (is_pair_of_numbers u v) t.pairs
 
 abbrev pub is_apart : Thesis → ℕ → List ℕ → Bool
 is_apart t u e = list_all (λ v. not (is_variable_of t v) || numbers_apart t u v) e
@@ -93,14 +92,21 @@ abbrev pub FailsTest : Thesis → Frame → Stack (List ℕ) → ProofFaultKind 
 FailsTest t f s kind =
     (length f.demands.items ≤ length s.entries) × (coded t f (lasts (length f.demands.items) s) ≡ Err kind)
 
+-- what it makes is too long, behind what was written down
+pub record MakesTooLong (t : Thesis) (f : Frame) (s : Sheet) : Type 0 where
+  pub enough : length f.demands.items ≤ length s.stack.entries
+  pub made : List ℕ
+  pub gives : coded t f (lasts (length f.demands.items) s.stack) ≡ Ok made
+  pub long : 2 ^ 28 < s.written + length made
+
 -- why it isn't
-abbrev pub FailsToCite : Thesis → Frame → Stack (List ℕ) → ProofFaultKind → Type 0
+abbrev pub FailsToCite : Thesis → Frame → Sheet → ProofFaultKind → Type 0
 FailsToCite t f s NoMemory = Unit {0}
-FailsToCite t f s TooLong = Unit {0}
-FailsToCite t f s StackShort = length s.entries < length f.demands.items
-FailsToCite t f s WrongType = FailsTest t f s WrongType
-FailsToCite t f s HypothesisDiffers = FailsTest t f s HypothesisDiffers
-FailsToCite t f s NotDisjoint = FailsTest t f s NotDisjoint
+FailsToCite t f s TooLong = MakesTooLong t f s
+FailsToCite t f s StackShort = length s.stack.entries < length f.demands.items
+FailsToCite t f s WrongType = FailsTest t f s.stack WrongType
+FailsToCite t f s HypothesisDiffers = FailsTest t f s.stack HypothesisDiffers
+FailsToCite t f s NotDisjoint = FailsTest t f s.stack NotDisjoint
 FailsToCite t f s _ = ⊥
 
 -- ---- the end

@@ -1,5 +1,6 @@
 pub mod Spans
 pub mod Coded
+pub mod Written
 pub mod Names
 pub mod Frames
 pub mod Shown
@@ -7,4 +8,5 @@ pub mod Counted
 pub mod Answers
 pub mod Found
 pub mod Marks
+pub mod Pairs
 pub mod Checkers

@@ -3,17 +3,17 @@ use Rattle.std.specs.Prelude.{◌≡◌, ◌↔◌, ℕ, suc, ◌+◌, List, [],
 use Rattle.std.specs.HashMap.{HashMap, get_by}
 use Rattle.std.specs.Borrow.{Bor}
 use Rattle.std.specs.Str.{bytes_eq}
-use Rattle.std.specs.declared.random_state.RandomState.{RandomState}
+use Rattle.wordkeys.specs.declared.keys.WordKeys.{WordKeys}
 use Rattle.mmtext.specs.Words.{Word}
 use Rattle.source.specs.Views.{seen_words}
 use Rattle.sourcecheck.specs.declared.table.Table.{Table}
 
 -- what a map has for a word
-abbrev pub looks_up : HashMap (Bor (List ℕ)) ℕ RandomState → Word → Option ℕ
+abbrev pub looks_up : HashMap (Bor (List ℕ)) ℕ WordKeys → Word → Option ℕ
 looks_up numbers w = get_by (λ k. bytes_eq w k.now) numbers
 
 -- a map has the words of a list, each by its place
-abbrev pub IsTable : HashMap (Bor (List ℕ)) ℕ RandomState → List Word → Type 0
+abbrev pub IsTable : HashMap (Bor (List ℕ)) ℕ WordKeys → List Word → Type 0
 IsTable numbers words = (w : Word) (n : ℕ) → (looks_up numbers w ≡ Some n) ↔ (slice_get words n ≡ Some w)
 
 abbrev pub words_of : Table → List Word

@@ -1,5 +1,5 @@
 -- Of the code's inside, apart from the rules: which entries of the rules a stack of numbers shows, and how a step of it leads on or fails.
-use Rattle.std.specs.Prelude.{◌≡◌, ◌⊎◌, ℕ, ◌<◌, List, [], ◌++◌, map, take, find, filter, length, slice_get, slice_index_or}
+use Rattle.std.specs.Prelude.{◌≡◌, ℕ, ◌+◌, ◌<◌, ◌^◌, List, [], ◌++◌, map, take, find, filter, length, slice_get, slice_index_or}
 use Rattle.std.specs.Prelude.{Option, Some, None, true, Result, Ok, MatchResult}
 use Rattle.std.specs.Option.{option_and_then}
 use Rattle.std.specs.List.{filter_map}
@@ -20,6 +20,8 @@ use Rattle.sourcecheck.specs.declared.thesis.Thesis.{Thesis}
 use Rattle.sourcecheck.specs.declared.naming.Named.{Named}
 use Rattle.sourcecheck.specs.declared.naming.Named.TheVariants as named
 use Rattle.sourcecheck.specs.Frames.{variable_of, AreFrames}
+use Rattle.sourcecheck.specs.Spans.{Sheet}
+use Rattle.sourcecheck.specs.Written.{written_at, written, AreTooLong, IsTooLong, HasTooLong}
 
 abbrev pub shown_entry : (ℕ → Word) → List ℕ → Entry
 shown_entry name e = Ok (map name e)
@@ -30,7 +32,7 @@ shown name s = record { entries = map (shown_entry name) s.entries; marked = map
 -- the numbers of a theorem's variables and pairs stand for these
 pub record IsThesisOf (name : ℕ → Word) (t : Thesis) (x : Assertion) : Type 0 where
   pub floats : map name t.floats ≡ filter_map variable_of x.active
-  pub pairs : map {B = Word × Word} (λ p. (name p.0, name p.1)) t.pairs.items ≡ x.pairs
+  pub pairs : map {B = Word × Word} (λ p. (name p.0, name p.1)) t.pairs ≡ x.pairs
 
 -- what stands while a proof of x is checked
 pub record Stands (name : ℕ → Word) (earlier : List Assertion) (x : Assertion) (fs : List Frame) (t : Thesis) : Type 0 where
@@ -77,35 +79,40 @@ pub record AreNamed (name : ℕ → Word) (earlier : List Assertion) (x : Assert
 
 -- ---- steps
 
--- why a step leads nowhere, or to an entry that failed; of want of memory nothing is said
-abbrev pub FailsBy : Option (Stack Entry) → ProofFaultKind → Type 0
-FailsBy o NoMemory = Unit {0}
-FailsBy o TooLong = Unit {0}
-FailsBy o UnknownStep = o ≡ None
-FailsBy o StackShort = o ≡ None
-FailsBy o NotOneLeft = ⊥
-FailsBy o kind = option_and_then (λ s. last_failure s.entries) o ≡ Some kind
+-- why a step, behind so many symbols, leads nowhere, or to an entry that failed or is too long; of want of memory nothing is said
+abbrev pub FailsBy : ℕ → Step → Option (Stack Entry) → ProofFaultKind → Type 0
+FailsBy count step o NoMemory = Unit {0}
+FailsBy count step o TooLong = 2 ^ 28 < count + written_at step o
+FailsBy count step o UnknownStep = o ≡ None
+FailsBy count step o StackShort = o ≡ None
+FailsBy count step o NotOneLeft = ⊥
+FailsBy count step o kind = option_and_then (λ s. last_failure s.entries) o ≡ Some kind
 
--- a step leads from a stack to another, or fails
-abbrev pub Leads : (ℕ → Word) → List Assertion → Assertion → Step → Stack (List ℕ) → Stack (List ℕ) → Result (Unit {0}) ProofFaultKind →
-    Type 0
+-- a step leads from a stack to another, and writes down so many symbols
+pub record LeadsTo (name : ℕ → Word) (earlier : List Assertion) (x : Assertion) (step : Step) (old new : Sheet) : Type 0 where
+  pub leads : stepped (entry earlier x) earlier x.active (shown name old.stack) step ≡ Some (shown name new.stack)
+  pub written : new.written ≡ old.written + written_at step (Some (shown name new.stack))
+
+-- or fails
+abbrev pub Leads : (ℕ → Word) → List Assertion → Assertion → Step → Sheet → Sheet → Result (Unit {0}) ProofFaultKind → Type 0
 Leads name earlier x step old new result =
-    MatchResult result (λ _. stepped (entry earlier x) earlier x.active (shown name old) step ≡ Some (shown name new))
-    (FailsBy (stepped (entry earlier x) earlier x.active (shown name old) step))
+    MatchResult result (λ _. LeadsTo name earlier x step old new)
+    (FailsBy old.written step (stepped (entry earlier x) earlier x.active (shown name old.stack) step))
 
 -- ---- proofs
 
--- steps lead from an empty stack to this one, so many of them are counted, and none of them failed
-pub record Reached (name : ℕ → Word) (earlier : List Assertion) (x : Assertion) (front : List Step) (s : Stack (List ℕ)) (count : ℕ)
-    : Type 0 where
-  pub leads : run_steps (entry earlier x) earlier x.active (Some empty) front ≡ Some (shown name s)
+-- steps lead from an empty stack to this one, so many of them are counted, none of them failed, and so many symbols were written down
+pub record Reached (name : ℕ → Word) (earlier : List Assertion) (x : Assertion) (front : List Step) (s : Sheet) (count : ℕ) : Type 0 where
+  pub leads : run_steps (entry earlier x) earlier x.active (Some empty) front ≡ Some (shown name s.stack)
   pub counted : count ≡ length (filter is_counted front)
   pub passed : (rest : List Step) → fault_from earlier x [] (front ++ rest) ≡ fault_from earlier x front rest
+  pub written : (rest : List Step) → written earlier x (Some empty) (front ++ rest)
+      ≡ s.written + written earlier x (Some (shown name s.stack)) rest
 
 -- what is told of steps that derive no statement: their first fault, or that they denote no tree
 abbrev pub IsFaultOfKind : List Assertion → Assertion → List Step → ℕ → ProofFaultKind → Type 0
 IsFaultOfKind earlier x steps count NoMemory = Unit {0}
-IsFaultOfKind earlier x steps count TooLong = Unit {0}
+IsFaultOfKind earlier x steps count TooLong = AreTooLong earlier x steps
 IsFaultOfKind earlier x steps count UnknownStep = made (entry earlier x) earlier x.active steps ≡ None
 IsFaultOfKind earlier x steps count StackShort = made (entry earlier x) earlier x.active steps ≡ None
 IsFaultOfKind earlier x steps count NotOneLeft = made (entry earlier x) earlier x.active steps ≡ None
@@ -120,7 +127,7 @@ Tells earlier x steps result =
 -- what is told of a proof: it derives the statement, or has this fault, or denotes no tree
 abbrev pub IsFaultOfProof : List Assertion → Assertion → Proof → ℕ → ProofFaultKind → Type 0
 IsFaultOfProof earlier x proof count NoMemory = Unit {0}
-IsFaultOfProof earlier x proof count TooLong = Unit {0}
+IsFaultOfProof earlier x proof count TooLong = IsTooLong earlier x proof
 IsFaultOfProof earlier x proof count UnknownStep = derived earlier x proof ≡ None
 IsFaultOfProof earlier x proof count StackShort = derived earlier x proof ≡ None
 IsFaultOfProof earlier x proof count NotOneLeft = derived earlier x proof ≡ None
@@ -131,11 +138,15 @@ abbrev pub TellsProof : List Assertion → Assertion → Proof → Result (Unit 
 TellsProof earlier x proof result =
     MatchResult result (λ _. Derives earlier x proof) (λ f. IsFaultOfProof earlier x proof f.step f.kind)
 
--- want of memory, or of room
-abbrev pub IsRefused : ProofFault → Type 0
-IsRefused f = (f.kind ≡ NoMemory) ⊎ (f.kind ≡ TooLong)
+-- what is told of an assertion that isn't verified: its fault, or that its proof is too long; of want of memory nothing is known
+abbrev pub IsFaultByKind : List Assertion → Assertion → ProofFault → ProofFaultKind → Type 0
+IsFaultByKind earlier x f NoMemory = Unit {0}
+IsFaultByKind earlier x f TooLong = HasTooLong earlier x
+IsFaultByKind earlier x f _ = fault_of earlier x ≡ Some f
 
--- what is told of an assertion: it is verified, or has this fault, or nothing
+abbrev pub IsFaultOfAssertion : List Assertion → Assertion → ProofFault → Type 0
+IsFaultOfAssertion earlier x f = IsFaultByKind earlier x f f.kind
+
+-- what is told of an assertion
 abbrev pub TellsAssertion : List Assertion → Assertion → Result (Unit {0}) ProofFault → Type 0
-TellsAssertion earlier x result =
-    MatchResult result (λ _. IsVerified earlier x) (λ f. IsRefused f ⊎ (fault_of earlier x ≡ Some f))
+TellsAssertion earlier x result = MatchResult result (λ _. IsVerified earlier x) (IsFaultOfAssertion earlier x)

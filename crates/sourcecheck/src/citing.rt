@@ -1,6 +1,7 @@
 //! A citation over the last expressions of a stack.
 
-ghost use Rattle.std.specs.Prelude.{OnOk, IfErr};
+ghost use Rattle.std.specs.Prelude.{◌≡◌, ◌+◌, OnOk, IfErr};
+ghost use Rattle.sourcecheck.specs.Spans.{last_length};
 ghost use Rattle.sourcecheck.specs.Coded.{IsCited, FailsToCite};
 
 use crate::fitting::{equals_met, pairs_met, types_met};
@@ -11,7 +12,8 @@ use derivation::ProofFaultKind;
 
 /// Puts what a citation of the frame gives in the place of the last expressions, which it takes.
 pub(crate) fn cite(thesis: &Thesis, frame: &Frame, stack: &mut Stack) -> Result<(), ProofFaultKind>
-    ensures ok { OnOk result (IsCited thesis.now frame.now stack.old stack.new) }
+    ensures ok { OnOk result (IsCited thesis.now frame.now stack.old.stack stack.new.stack) }
+    ensures written { OnOk result (stack.new.written ≡ stack.old.written + last_length stack.new.stack.entries) }
     ensures err { IfErr result (FailsToCite thesis.now frame.now stack.old) }
 {
     let count = frame.demands.len();

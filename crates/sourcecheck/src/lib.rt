@@ -9,6 +9,7 @@ mod frame;
 mod framing;
 mod marks;
 mod naming;
+mod pairs;
 mod sources;
 mod stack;
 mod stepping;

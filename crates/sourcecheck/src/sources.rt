@@ -29,7 +29,7 @@ use std::thread::Threads;
 pub enum Unverified<'a> {
     /// The label of the first theorem whose proof has a fault, and the fault.
     Fault(&'a [u8], ProofFault),
-    /// The label of a theorem whose proof makes expressions of over 2^28 symbols.
+    /// The label of the first theorem that isn't verified, if the steps of its proof write down over 2^28 symbols.
     TooLong(&'a [u8]),
     /// Memory ran out.
     NoMemory,

@@ -1,6 +1,6 @@
 //! The expressions of a proof: their symbols in one list that only grows, and an expression is a part of it.
 
-ghost use Rattle.std.specs.Prelude.{◌≡◌, ◌≤◌, ◌++◌, ◌∷◌, [], OnOk, IfOk, IfErr, Some, None, length, take, drop, reverse, slice_get, slice_index_or, slice_range, if◌then◌else◌};
+ghost use Rattle.std.specs.Prelude.{◌≡◌, ◌≤◌, ◌+◌, ℕ, ◌++◌, ◌∷◌, [], OnOk, IfOk, IfErr, Some, None, length, take, drop, reverse, slice_get, slice_index_or, slice_range, if◌then◌else◌};
 ghost use Rattle.source.specs.Proofs.{push, mark, repeat};
 ghost use Rattle.sourcecheck.specs.Spans.{cut, AreWithin};
 ghost use Rattle.sourcecheck.specs.Coded.{IsRefusal, piece_value, filled};
@@ -10,7 +10,7 @@ use derivation::ProofFaultKind;
 use std::alloc::{AllocError, Global};
 use std::marker::Model;
 
-/// The most symbols of one proof's expressions: 2^28.
+/// The most symbols that the steps of one proof write down: 2^28.
 const MOST_SYMBOLS: usize = 268_435_456;
 
 /// From a place of the list to another.
@@ -56,7 +56,8 @@ impl<'a> Arguments<'a> {
     }
 }
 
-/// The expressions of a proof that stand, and those that are marked. Contracts see both as lists, the last that stands first.
+/// The expressions of a proof that stand, and those that are marked. Contracts see both as lists, the last that stands first, and how many
+/// symbols were written down.
 #[derive(Drop)]
 pub(crate) struct Stack {
     symbols: Vec<u32>,
@@ -66,12 +67,14 @@ pub(crate) struct Stack {
 
 impl Model for Stack {
     ghost use Rattle.std.specs.Prelude.{List, ℕ, length, reverse};
-    ghost use Rattle.source.specs.Proofs.{Stack as Seen};
-    ghost use Rattle.sourcecheck.specs.Spans.{cut, AreWithin};
+    ghost use Rattle.sourcecheck.specs.Spans.{cut, AreWithin, Sheet};
 
-    ghost Value = { Seen (List ℕ) };
+    ghost Value = { Sheet };
 
-    ghost view = { λ s. record { entries = reverse (cut s.symbols.items s.spans.items); marked = cut s.symbols.items s.marked.items } };
+    ghost view = { λ s. record {
+      stack = record { entries = reverse (cut s.symbols.items s.spans.items); marked = cut s.symbols.items s.marked.items };
+      written = length s.symbols.items;
+    } };
 
     ghost invariant = { λ s. AreWithin (length s.symbols.items) s.spans.items × AreWithin (length s.symbols.items) s.marked.items };
 }
@@ -80,7 +83,7 @@ impl Model for Stack {
 fn add(symbols: &mut Vec<u32>, number: u32) -> Result<(), ProofFaultKind>
     ensures made { OnOk result (symbols.new.items ≡ symbols.old.items ++ number ∷ []) }
     ensures grows { length symbols.old.items ≤ length symbols.new.items }
-    ensures kinds { IfErr result IsRefusal }
+    ensures kinds { (count : ℕ) → IfErr result (IsRefusal count) }
 {
     match symbols.push(number) {
         Ok(()) => Ok(()),
@@ -93,12 +96,13 @@ fn add_again(symbols: &mut Vec<u32>, start: usize, end: usize) -> Result<(), Pro
     requires { (start ≤ end) × (end ≤ length symbols.old.items) }
     ensures made { OnOk result (symbols.new.items ≡ symbols.old.items ++ drop 1 (slice_range symbols.old.items start end)) }
     ensures grows { length symbols.old.items ≤ length symbols.new.items }
-    ensures kinds { IfErr result IsRefusal }
+    ensures kinds { IfErr result (IsRefusal (length symbols.old.items + length (drop 1 (slice_range symbols.old.items start end)))) }
 {
     if start == end {
         return Ok(());
     }
-    if symbols.len() > MOST_SYMBOLS || end - start > MOST_SYMBOLS - symbols.len() {
+    let more = end - start - 1;
+    if symbols.len() > MOST_SYMBOLS || more > MOST_SYMBOLS - symbols.len() {
         return Err(ProofFaultKind::TooLong);
     }
     match symbols.extend_from_within(start + 1..end) {
@@ -110,7 +114,7 @@ fn add_again(symbols: &mut Vec<u32>, start: usize, end: usize) -> Result<(), Pro
 impl Stack {
     /// Nothing stands.
     pub(crate) fn new(alloc: Global) -> Stack
-        ensures { result ≡ record { entries = []; marked = [] } }
+        ensures { result ≡ record { stack = record { entries = []; marked = [] }; written = 0 } }
     {
         Stack {
             symbols: Vec::new(alloc),
@@ -121,15 +125,15 @@ impl Stack {
 
     /// How many expressions stand.
     pub(crate) fn len(&self) -> usize
-        ensures { result ≡ length self.now.entries }
+        ensures { result ≡ length self.now.stack.entries }
     {
         self.spans.len()
     }
 
     /// So many of the last expressions.
     pub(crate) fn last(&self, count: usize) -> Arguments<'_>
-        requires { count ≤ length self.now.entries }
-        ensures { result ≡ reverse (take count self.now.entries) }
+        requires { count ≤ length self.now.stack.entries }
+        ensures { result ≡ reverse (take count self.now.stack.entries) }
     {
         let base = self.spans.len() - count;
         let (_, spans) = self.spans.as_slice().split_at(base);
@@ -141,7 +145,8 @@ impl Stack {
 
     /// An expression goes on.
     pub(crate) fn push(&mut self, expression: &[u32]) -> Result<(), AllocError>
-        ensures { OnOk result (self.new ≡ push self.old expression.now) }
+        ensures stack { OnOk result (self.new.stack ≡ push self.old.stack expression.now) }
+        ensures written { OnOk result (self.new.written ≡ self.old.written + length expression.now) }
     {
         let start = self.symbols.len();
         self.symbols.extend_from_slice(expression)?;
@@ -152,7 +157,9 @@ impl Stack {
 
     /// The last expression is marked: whether there is one.
     pub(crate) fn mark(&mut self) -> Result<bool, AllocError>
-        ensures { IfOk result (λ goes. mark self.old.entries self.old.marked ≡ (if goes then Some self.new else None)) }
+        ensures stack { IfOk result (λ goes. mark self.old.stack.entries self.old.stack.marked
+            ≡ (if goes then Some self.new.stack else None)) }
+        ensures written { self.new.written ≡ self.old.written }
     {
         let count = self.spans.len();
         if count == 0 {
@@ -165,7 +172,9 @@ impl Stack {
 
     /// A marked expression goes on again, by its number from 0: whether there is one.
     pub(crate) fn repeat(&mut self, number: usize) -> Result<bool, AllocError>
-        ensures { IfOk result (λ goes. repeat self.old (slice_get self.old.marked number) ≡ (if goes then Some self.new else None)) }
+        ensures stack { IfOk result (λ goes. repeat self.old.stack (slice_get self.old.stack.marked number)
+            ≡ (if goes then Some self.new.stack else None)) }
+        ensures written { self.new.written ≡ self.old.written }
     {
         if number >= self.marked.len() {
             return Ok(false);
@@ -177,12 +186,15 @@ impl Stack {
 
     /// What pieces make of so many of the last expressions goes on in their place.
     pub(crate) fn conclude(&mut self, count: usize, pieces: &[Piece]) -> Result<(), ProofFaultKind>
-        requires { count ≤ length self.old.entries }
-        ensures kinds { IfErr result IsRefusal }
-        ensures made { OnOk result (self.new ≡ record {
-          entries = filled (reverse (take count self.old.entries)) pieces.now ∷ drop count self.old.entries;
-          marked = self.old.marked;
+        requires { count ≤ length self.old.stack.entries }
+        ensures kinds { let made = filled (reverse (take count self.old.stack.entries)) pieces.now in
+            IfErr result (IsRefusal (self.old.written + length made)) }
+        ensures stack { OnOk result (self.new.stack ≡ record {
+          entries = filled (reverse (take count self.old.stack.entries)) pieces.now ∷ drop count self.old.stack.entries;
+          marked = self.old.stack.marked;
         }) }
+        ensures written { let made = filled (reverse (take count self.old.stack.entries)) pieces.now in
+            OnOk result (self.new.written ≡ self.old.written + length made) }
     {
         let base = self.spans.len() - count;
         let start = self.symbols.len();
@@ -202,7 +214,7 @@ fn fill_one(symbols: &mut Vec<u32>, spans: &[Span], piece: Piece) -> Result<(), 
     requires { AreWithin (length symbols.old.items) spans.now }
     ensures made { OnOk result (symbols.new.items ≡ symbols.old.items ++ piece_value (cut symbols.old.items spans.now) piece) }
     ensures grows { length symbols.old.items ≤ length symbols.new.items }
-    ensures kinds { IfErr result IsRefusal }
+    ensures kinds { IfErr result (IsRefusal (length symbols.old.items + length (piece_value (cut symbols.old.items spans.now) piece))) }
 {
     match piece {
         Piece::Itself(number) => add(symbols, number),
@@ -218,7 +230,7 @@ fn fill(symbols: &mut Vec<u32>, spans: &[Span], pieces: &[Piece]) -> Result<(), 
     requires { AreWithin (length symbols.old.items) spans.now }
     ensures made { OnOk result (symbols.new.items ≡ symbols.old.items ++ filled (cut symbols.old.items spans.now) pieces.now) }
     ensures grows { length symbols.old.items ≤ length symbols.new.items }
-    ensures kinds { IfErr result IsRefusal }
+    ensures kinds { IfErr result (IsRefusal (length symbols.old.items + length (filled (cut symbols.old.items spans.now) pieces.now))) }
 {
     for piece in pieces {
         fill_one(symbols, spans, *piece)?;

@@ -113,7 +113,7 @@ fn count(before: usize, code: Code) -> usize
 
 /// Whether what is left is just the statement.
 fn check_end(stack: &Stack, statement: &[u32]) -> Result<(), ProofFaultKind>
-    ensures { MatchResult result (λ _. stack.now.entries ≡ statement.now ∷ []) (EndFails statement.now stack.now.entries) }
+    ensures { MatchResult result (λ _. stack.now.stack.entries ≡ statement.now ∷ []) (EndFails statement.now stack.now.stack.entries) }
 {
     if stack.len() != 1 {
         return Err(ProofFaultKind::NotOneLeft);

@@ -7,15 +7,21 @@ ghost use Rattle.sourcecheck.specs.Names.{words_of, IsSound, Keeps, Lasts};
 use std::alloc::{AllocError, Global};
 use std::collections::HashMap;
 use std::hash::RandomState;
+use wordkeys::WordKeys;
+
+/// How many numbers are noted of words that were met last: a power of two.
+const RECENT: usize = 4096;
 
 /// Words by numbers, from 0 in the order in which they were met.
 pub(crate) struct Table<'a> {
-    pub(crate) numbers: HashMap<&'a [u8], u32, RandomState>,
+    pub(crate) numbers: HashMap<&'a [u8], u32, WordKeys>,
     pub(crate) words: Vec<&'a [u8]>,
     /// Where hypotheses were found by their labels among the active ones. It may be that others stand there.
-    pub(crate) places: HashMap<&'a [u8], usize, RandomState>,
+    pub(crate) places: HashMap<&'a [u8], usize, WordKeys>,
     /// The numbers of the variables of `$f` that were met last, by their places among the active ones. It may be that others stand there.
     pub(crate) recent: Vec<u32>,
+    /// The numbers of words that were met last, by some of their bytes. It may be that others stand there.
+    pub(crate) met: Vec<u32>,
 }
 
 // Proved here once: a derived drop is proved again in each crate that drops such a value.
@@ -26,8 +32,29 @@ impl Drop for Table<'_> {
             words: _,
             places: _,
             recent: _,
+            met: _,
         } = self;
     }
+}
+
+/// The number at a place: any number where there is none.
+fn number_at_place(numbers: &[u32], place: usize) -> u32 {
+    match numbers.get(place) {
+        None => 0,
+        Some(number) => *number,
+    }
+}
+
+/// A place below `RECENT` by the length of a word, its first byte, its last, and that in the middle.
+fn place_by_bytes(word: &[u8]) -> usize {
+    let length = word.len();
+    if length == 0 {
+        return 0;
+    }
+    let first = word[0] as usize;
+    let middle = word[length / 2] as usize;
+    let last = word[length - 1] as usize;
+    (61 * first + 13 * middle + 7 * last + (length & 63)) & (RECENT - 1)
 }
 
 impl<'a> Table<'a> {
@@ -35,17 +62,24 @@ impl<'a> Table<'a> {
     pub(crate) fn new(alloc: Global, keys: RandomState) -> Table<'a>
         ensures { IsSound result }
     {
+        let keys = WordKeys::new(keys);
         Table {
             numbers: HashMap::with_hasher(alloc, keys),
             words: Vec::new(alloc),
             places: HashMap::with_hasher(alloc, keys),
             recent: Vec::new(alloc),
+            met: Vec::new(alloc),
         }
     }
 
     /// How many words have a number.
     pub(crate) fn count(&self) -> usize {
         self.words.len()
+    }
+
+    /// The key of the hashes.
+    pub(crate) fn keys(&self) -> WordKeys {
+        *self.numbers.hasher()
     }
 
     /// The same words by the same numbers once more.
@@ -58,7 +92,7 @@ impl<'a> Table<'a> {
         ensures sound { IfOk result IsSound }
         ensures same { IfOk result (λ t. words_of t ≡ words_of self.now) }
     {
-        let keys = *self.numbers.hasher();
+        let keys = self.keys();
         let numbers = self.numbers.clone()?;
         let words = self.words.clone()?;
         Ok(Table {
@@ -66,15 +100,12 @@ impl<'a> Table<'a> {
             words,
             places: HashMap::with_hasher(alloc, keys),
             recent: Vec::new(alloc),
+            met: Vec::new(alloc),
         })
     }
 
-    /// The number of a word, which gets one if it has none. After an error nothing is said of the table.
-    ///
-    /// # Errors
-    ///
-    /// Want of memory. More words than a `u32` counts would be refused as if memory were wanting: no source has so many.
-    pub(crate) fn number(&mut self, word: &'a [u8]) -> Result<u32, AllocError>
+    /// The number of a word by its hash: it gets one if it has none. After an error nothing is said of the table.
+    fn hashed_number(&mut self, word: &'a [u8]) -> Result<u32, AllocError>
         requires { IsSound self.old }
         ensures keeps { OnOk result (Keeps self.old self.new) }
         ensures named { IfOk result (λ n. Lasts (words_of self.new) (λ name. name n ≡ word.entry.now)) }
@@ -87,6 +118,27 @@ impl<'a> Table<'a> {
         };
         self.words.push(word)?;
         self.numbers.insert(word, number)?;
+        Ok(number)
+    }
+
+    /// The number of a word, which gets one if it has none: mostly that which was noted last for a word with such bytes, so that nothing is
+    /// hashed. After an error nothing is said of the table.
+    ///
+    /// # Errors
+    ///
+    /// Want of memory. More words than a `u32` counts would be refused as if memory were wanting: no source has so many.
+    pub(crate) fn number(&mut self, word: &'a [u8]) -> Result<u32, AllocError>
+        requires { IsSound self.old }
+        ensures keeps { OnOk result (Keeps self.old self.new) }
+        ensures named { IfOk result (λ n. Lasts (words_of self.new) (λ name. name n ≡ word.entry.now)) }
+    {
+        let place = place_by_bytes(word);
+        let last = number_at_place(self.met.as_slice(), place);
+        if self.is_number_of(last, word) {
+            return Ok(last);
+        }
+        let number = self.hashed_number(word)?;
+        self.note_met(place, number)?;
         Ok(number)
     }
 
@@ -123,12 +175,18 @@ impl<'a> Table<'a> {
         }
     }
 
-    /// The number that the variable had that was met last at a place among the active `$f`: any number where none was.
-    fn last_number(&self, place: usize) -> u32 {
-        match self.recent.get(place) {
-            None => 0,
-            Some(number) => *number,
+    /// Notes the number of a word that was met, at the place for its bytes.
+    fn note_met(&mut self, place: usize, number: u32) -> Result<(), AllocError>
+        ensures numbers { self.new.numbers ≡ self.old.numbers }
+        ensures words { self.new.words ≡ self.old.words }
+    {
+        if self.met.is_empty() {
+            self.met.resize(RECENT, 0)?;
         }
+        if place < self.met.len() {
+            self.met[place] = number;
+        }
+        Ok(())
     }
 
     /// Notes the number of the variable of the active hypothesis at a place.
@@ -155,7 +213,7 @@ impl<'a> Table<'a> {
         ensures keeps { OnOk result (Keeps self.old self.new) }
         ensures named { IfOk result (λ n. Lasts (words_of self.new) (λ name. name n ≡ word.entry.now)) }
     {
-        let last = self.last_number(place);
+        let last = number_at_place(self.recent.as_slice(), place);
         if self.is_number_of(last, word) {
             return Ok(last);
         }

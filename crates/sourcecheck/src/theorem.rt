@@ -62,7 +62,7 @@ fn check_counted<'a, D: Declared<'a>>(
     let Ok(named) = name_labels(alloc, table, declared, place, &active, labels) else {
         return Err(fault(ProofFaultKind::NoMemory));
     };
-    let Ok(thesis) = thesis_of(alloc, table, declared, place) else {
+    let Ok(thesis) = thesis_of(alloc, table, declared, place, active) else {
         return Err(fault(ProofFaultKind::NoMemory));
     };
     take_codes(
@@ -114,7 +114,7 @@ fn check_proof<'a, D: Declared<'a>>(
 ///
 /// # Errors
 ///
-/// The first fault of its proof. The kinds `NoMemory` and `TooLong` say that memory ran out, or that the expressions of the proof have over
+/// The first fault of its proof. The kinds `NoMemory` and `TooLong` say that memory ran out, or that the steps of the proof write down over
 /// 2^28 symbols.
 pub(crate) fn check_theorem<'a, D: Declared<'a>>(
     alloc: Global,

@@ -1,16 +1,18 @@
 //! What the pairs of a citation are asked of: the variables of the theorem whose proof it stands in, and its pairs.
 
 ghost use Rattle.std.specs.Prelude.{◌≡◌, ◌<◌, IfOk, OnOk, Some, length, map, slice_get};
-ghost use Rattle.std.specs.List.{list_any, filter_map};
+ghost use Rattle.std.specs.Option.{option_map};
+ghost use Rattle.std.specs.List.{filter_map};
 ghost use Rattle.source.specs.Scopes.{Assertion};
 ghost use Rattle.source.specs.Views.{seen_hypotheses, seen_pairs};
 ghost use Rattle.sourcecheck.specs.Names.{words_of, IsSound, Keeps, Lasts};
 ghost use Rattle.sourcecheck.specs.Frames.{variable_of, names_of};
 ghost use Rattle.sourcecheck.specs.Shown.{IsThesisOf};
-ghost use Rattle.sourcecheck.specs.Coded.{is_variable_of, is_pair_of_numbers, numbers_apart};
+ghost use Rattle.sourcecheck.specs.Coded.{is_variable_of, numbers_apart};
 
 use crate::framing::variable_of;
 use crate::marks::Marked;
+use crate::pairs::Pairs;
 use crate::table::Table;
 use source::{Declared, HypothesisWords};
 use std::alloc::{AllocError, Global};
@@ -19,7 +21,7 @@ use std::alloc::{AllocError, Global};
 #[derive(Drop)]
 pub(crate) struct Thesis {
     pub(crate) floats: Marked,
-    pub(crate) pairs: Vec<(u32, u32)>,
+    pub(crate) pairs: Pairs,
 }
 
 impl Thesis {
@@ -34,22 +36,8 @@ impl Thesis {
     pub(crate) fn are_apart(&self, first: u32, second: u32) -> bool
         ensures { result ≡ numbers_apart self.now first second }
     {
-        first != second && is_listed(self.pairs.as_slice(), first, second)
+        first != second && self.pairs.has(first, second)
     }
-}
-
-/// Whether two variables are those of a pair, in either order.
-fn is_pair_of(first: u32, second: u32, pair: &(u32, u32)) -> bool
-    ensures { result ≡ is_pair_of_numbers first second pair.now }
-{
-    (pair.0 == first && pair.1 == second) || (pair.1 == first && pair.0 == second)
-}
-
-/// Whether two variables are those of one of the pairs, in either order.
-fn is_listed(pairs: &[(u32, u32)], first: u32, second: u32) -> bool
-    ensures { result ≡ list_any (is_pair_of_numbers first second) pairs.now }
-{
-    pairs.iter().any(|pair| is_pair_of(first, second, pair))
 }
 
 /// The numbers of the variables of `$f`. After an error nothing is said of the table.
@@ -103,21 +91,25 @@ fn numbered<'a>(
     Ok(numbered)
 }
 
-/// The variables and the pairs of the theorem at a place. After an error nothing is said of the table.
+/// The variables and the pairs of the theorem at a place, where these are its active hypotheses. After an error nothing is said of the table.
 pub(crate) fn thesis_of<'a, D: Declared<'a>>(
     alloc: Global,
     table: &mut Table<'a>,
     declared: &D,
     place: usize,
+    active: Vec<&HypothesisWords<'a>>,
 ) -> Result<Thesis, AllocError>
     requires sound { IsSound table.old }
     requires within { place < length (D.scope declared.now).assertions }
+    requires active { option_map (λ a. a.active) (slice_get (D.scope declared.now).assertions place)
+        ≡ Some (seen_hypotheses active.items) }
     ensures keeps { OnOk result (Keeps table.old table.new) }
     ensures made { IfOk result (λ t. (x : Assertion) → slice_get (D.scope declared.now).assertions place ≡ Some x
         → Lasts (words_of table.new) (λ name. IsThesisOf name t x)) }
 {
-    let floats = floats_of(alloc, table, declared.active(alloc, place)?)?;
+    let floats = floats_of(alloc, table, active)?;
     let pairs = numbered(alloc, table, declared.pairs(alloc, place)?)?;
     let floats = Marked::new(alloc, floats, table.count())?;
+    let pairs = Pairs::new(alloc, table.keys(), pairs)?;
     Ok(Thesis { floats, pairs })
 }

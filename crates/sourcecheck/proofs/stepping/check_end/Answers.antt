@@ -7,14 +7,14 @@ use Rattle.sourcecheck.proofs.stepping.check_end.Goals as goal
 
 pub returns-then-eq : goal.returns-then-eq
 returns-then-eq c =
-    let es = c.args.stack.now.entries in
+    let es = c.args.stack.now.stack.entries in
     let one : length es ≡ 1 = omega arith in
     let same = (slice_eq-Decides Decides-eqb _ _ _ c.eq.ensures).0 c.if-eq.true in
     last-one es c.last.result c.at.result.now one c.last.ensures c.at.ensures ∙ ap (λ e. e ∷ []) same
 
 pub returns : goal.returns
 returns c =
-    let es = c.args.stack.now.entries in
+    let es = c.args.stack.now.stack.entries in
     let one : length es ≡ 1 = omega arith in
     let decides = slice_eq-Decides Decides-eqb _ _ _ c.eq.ensures in (
       c.at.result.now,

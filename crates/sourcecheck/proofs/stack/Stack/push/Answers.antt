@@ -1,5 +1,6 @@
 -- What is left to show of `push`.
 use Rattle.std.proofs.Common.{◌≡◌, ◌+◌, length, arith}
+use Rattle.std.proofs.lemmas.List.{length-append}
 use Rattle.sourcecheck.proofs.Spans.{seen-push}
 use Rattle.sourcecheck.proofs.stack.Stack.push.Goals as goal
 
@@ -10,4 +11,5 @@ returns c =
     let one = seen-push s e c.self.inside.spans.items c.self.inside.marked.items c.self.invariant.0 c.self.invariant.1 in
     let start : c.len-start.result ≡ length s = omega arith in
     let end : c.len-end.result ≡ length s + length e = omega (arith, c.in_ok-extend_from_slice.ensures.len) in
-    rw (c.in_ok-push.ensures.items, c.in_ok-extend_from_slice.ensures.items, start, end, ← c.self.view_is) one
+    rw (c.in_ok-push.ensures.items, c.in_ok-extend_from_slice.ensures.items, start, end, ← c.self.view_is)
+    (record { stack = one; written = length-append s e })

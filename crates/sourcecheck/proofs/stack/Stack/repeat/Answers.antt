@@ -11,4 +11,7 @@ returns c =
     let at : slice_get ms c.args.number ≡ Some c.index-span.result.now =
     slice_get_read ms _ c.args.number c.index-span.result.now refl lt c.index-span.ensures in
     rw (c.in_ok-push.ensures.items, ← c.self.view_is)
-    (seen-repeat c.self.inside.symbols.items c.self.inside.spans.items ms c.args.number c.index-span.result.now at)
+    (record {
+      stack = seen-repeat c.self.inside.symbols.items c.self.inside.spans.items ms c.args.number c.index-span.result.now at;
+      written = refl;
+    })

@@ -1,4 +1,4 @@
--- What is left to show of `number`.
+-- What is left to show of `hashed_number`.
 use Rattle.std.proofs.Common.{◌≡◌, ℕ, List, ◌∷◌, [], ◌++◌, length, ap, sym, ◌∙◌, rules, subst, arith}
 use Rattle.std.specs.Prelude.{Some, if◌then◌else◌}
 use Rattle.std.specs.Str.{bytes_eq}
@@ -8,7 +8,7 @@ use Rattle.std.proofs.lemmas.Map.Text.{hash_map_updates_str}
 use Rattle.source.specs.Views.{seen_words}
 use Rattle.sourcecheck.specs.Names.{looks_up, IsTable, words_of}
 use Rattle.sourcecheck.proofs.Numbered.{named_lasts, table_more}
-use Rattle.sourcecheck.proofs.table.Table.number.Goals as goal
+use Rattle.sourcecheck.proofs.table.Table.hashed_number.Goals as goal
 
 pub returns-in-Some-clause-named : goal.returns-in-Some-clause-named
 returns-in-Some-clause-named c =
