@@ -257,6 +257,7 @@ def rows_to_verify():
         ("expressions that double 20, 23 times", lambda: doubled(20), lambda: doubled(23)),
         ("expressions that double 26, 40 times", lambda: doubled(26), lambda: doubled(40)),
         ("4,000, 40,000 theorems of one step", lambda: many_marked(4000), lambda: many_marked(40000)),
+        ("a $d of 362 cited whole 100, 1,000 times", lambda: halves(362, 100), lambda: halves(362, 1000)),
     ]
 
 

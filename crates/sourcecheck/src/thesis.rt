@@ -91,7 +91,8 @@ fn numbered<'a>(
     Ok(numbered)
 }
 
-/// The variables and the pairs of the theorem at a place, where these are its active hypotheses. After an error nothing is said of the table.
+/// The variables and the pairs of the theorem at a place, where these are its active hypotheses. After an error nothing is said of the
+/// table.
 pub(crate) fn thesis_of<'a, D: Declared<'a>>(
     alloc: Global,
     table: &mut Table<'a>,

@@ -1,4 +1,4 @@
-//! Keys of hash maps whose keys are words, which are short: `RandomState`'s hashes cost some two hundred instructions a word, these some forty.
+//! Keys of hash maps of words, which are short: the hashes of `RandomState` cost some two hundred instructions a word, these some forty.
 #![tactic(auto)]
 
 mod keys;

@@ -10,7 +10,7 @@ use Rattle.sourcecheck.proofs.stack.fill_one.Goals as goal
 
 pub returns-in-Itself-clause-kinds : goal.returns-in-Itself-clause-kinds
 returns-in-Itself-clause-kinds c =
-    c.add.ensures.kinds (length c.args.symbols.now.items + length (piece_value (cut c.args.symbols.now.items c.args.spans.now) c.args.piece))
+    let s = c.args.symbols.now.items in c.add.ensures.kinds (length s + length (piece_value (cut s c.args.spans.now) c.args.piece))
 
 pub returns-in-Some-clause-made : goal.returns-in-Some-clause-made
 returns-in-Some-clause-made c =

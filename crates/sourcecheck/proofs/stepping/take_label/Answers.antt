@@ -15,7 +15,8 @@ returns-in-Ok c = λ name earlier x w stands named.
     record {
       leads = rw pushed (hypothesis_leads name earlier x w h.0 c.in-Hypothesis.said.items old.stack h.1 h.2);
       written = c.in-Ok.ensures.written
-          ∙ ap (λ k. old.written + k) (sym (last_shown name c.push.new.self.stack.entries ∙ ap (λ s. last_length s.entries) c.in-Ok.ensures.stack));
+          ∙ ap (λ k. old.written + k)
+          (sym (last_shown name c.push.new.self.stack.entries ∙ ap (λ s. last_length s.entries) c.in-Ok.ensures.stack));
     }
 
 pub returns-in-Assertion : goal.returns-in-Assertion

@@ -17,7 +17,8 @@ returns-in_err-fill-clause-kinds c =
     let le : c.args.count ≤ length ps = omega (arith, long, c.requires) in
     let base : c.len.result - c.args.count ≡ length ps - c.args.count = search rules in
     let p = err_from_is_err_and c.from_residual.result c.from_residual.ensures.1 in
-    let kinds = rw (c.split_at.ensures.back, c.as_slice.ensures.value, base, last-cut s ps c.args.count le) at c.in_err-fill.ensures.kinds in
+    let last = last-cut s ps c.args.count le in
+    let kinds = rw (c.split_at.ensures.back, c.as_slice.ensures.value, base, last) at c.in_err-fill.ensures.kinds in
     rw (p.1, p.2, ← c.self.view_is) kinds
 
 pub returns-clause-stack : goal.returns-clause-stack
