@@ -5,6 +5,7 @@ ghost use Rattle.source.specs.Scopes.{Assertion as AssertionOf, Hypothesis as Hy
 ghost use Rattle.source.specs.Views.{seen_words, seen_hypothesis, seen_proof};
 ghost use Rattle.taking.specs.Listings.{premise_labels};
 ghost use Rattle.items.specs.Layout.{IsLaidOut};
+ghost use Rattle.sourcewriting.specs.Counting.{Takes};
 ghost use Rattle.sourcewriting.specs.Indentations.{IsIndentation};
 ghost use Rattle.sourcewriting.specs.Forms.{is_compressed_form};
 ghost use Rattle.sourcewriting.specs.Laid.{IsLaid, IsInForm};
@@ -148,7 +149,8 @@ fn text_of<'p, 'a, D: Declared<'a>>(
     requires { IsIndentation indentation.now }
     ensures laid_out { IfOk result (λ made. IfSome made (λ text. IsLaidOut indentation.now is_compressed text.items)) }
     ensures marked { (hs : List HypothesisOf) → AreHypotheses hs hypotheses.now → IsTrue is_compressed
-        → IfOk result (λ made. IfSome made (λ text. IsMarkedText indentation.now (D.scope declared.now) names.now hs text.items)) }
+        → IfOk result (λ made. IfSome made (λ text.
+        IsMarkedText indentation.now (Takes (D.scope declared.now) names.now hs) hs text.items)) }
 {
     let premises = hypotheses.premises.as_slice();
     let mandatory = hypotheses.mandatory.as_slice();
@@ -183,7 +185,7 @@ pub fn proof_text<'x, D: Declared<'x>>(
         IfOk result (λ made. IfSome made (λ text. IsLaidOut indentation.now (is_compressed_form old) text.items)) }
     ensures marked { (a : AssertionOf) → slice_get (D.scope declared.now).assertions place ≡ Some a → IsTrue (is_compressed_form a.proof)
         → IfOk result (λ made. IfSome made (λ text.
-        IsMarkedText indentation.now (D.scope declared.now) names.now a.hypotheses text.items)) }
+        IsMarkedText indentation.now (Takes (D.scope declared.now) names.now a.hypotheses) a.hypotheses text.items)) }
 {
     let hypotheses = hypotheses_of(alloc, declared, place)?;
     let is_compressed = is_compressed_like(declared.proof(place));
