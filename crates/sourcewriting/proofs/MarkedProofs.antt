@@ -39,7 +39,7 @@ labels_are counted labels mandatory are =
     ∙ ap (λ ws. mandatory ++ ws) (firsts labels)
 
 -- what is so of each count
-each : (P : Word × ℕ → Type 0) (cs : List CountedLabel) → All P (counts_of cs) → All (λ c. P (c.label.now, c.takes)) cs
+pub each : (P : Word × ℕ → Type 0) (cs : List CountedLabel) → All P (counts_of cs) → All (λ c. P (c.label.now, c.takes)) cs
 each P cs a k d h =
     let pair : CountedLabel → Word × ℕ = λ c. (c.label.now, c.takes) in
     subst P (get_or-map pair cs k d (pair d) h) (a k (pair d) (omega (arith, length-map cs pair)))

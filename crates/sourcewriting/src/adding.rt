@@ -331,7 +331,8 @@ fn put_words_of_proof<'p>(
     root: usize,
 ) -> Result<bool, AllocError> {
     if !statement.is_compressed {
-        return put_normal(alloc, layout, shared, root);
+        put_normal(alloc, layout, shared, root)?;
+        return Ok(true);
     }
     let mandatory = mandatory_labels(alloc, prelude, names, statement.assertion, premises)?;
     put_compressed(alloc, layout, shared, mandatory.as_slice(), root)
