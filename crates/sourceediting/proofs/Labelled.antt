@@ -14,6 +14,7 @@ use Rattle.std.proofs.lemmas.List.Elements.{All-push}
 use Rattle.source.specs.Scopes.{Scope}
 use Rattle.giving.specs.Staying.{Change}
 use Rattle.sourceediting.specs.Following.{Followed}
+use Rattle.sourceediting.specs.Entries.{Edition}
 use Rattle.sourceediting.specs.Reproved.{HasAnotherProof, AreOtherProofs}
 use Rattle.sourceediting.specs.Views.{AreLabelled}
 
@@ -34,12 +35,10 @@ module _ (m n : HashMap (Bor (List ℕ)) (Bor Assertion) RandomState) (xs : List
   labelled_more updates w a e = at w a (bytes_eq x w) refl (sym (hash_map_updates_str x m n (Some v) updates w) ∙ e)
 
 -- one more theorem has another proof
-pub proofs_more : (source : List ℕ) (s : Scope) (opened edited : List Assertion) (living : List Followed) (ps qs : List Change) (p : Change)
-    → AreOtherProofs source s opened edited living ps → HasAnotherProof source s opened edited living p → qs ≡ ps ++ p ∷ []
-    → AreOtherProofs source s opened edited living qs
-proofs_more source s opened edited living ps qs p all one e =
-    subst (AreOtherProofs source s opened edited living) (sym e)
-    (All-push (HasAnotherProof source s opened edited living) ps p all one)
+pub proofs_more : (source : List ℕ) (s : Scope) (e : Edition) (living : List Followed) (ps qs : List Change) (p : Change)
+    → AreOtherProofs source s e living ps → HasAnotherProof source s e living p → qs ≡ ps ++ p ∷ [] → AreOtherProofs source s e living qs
+proofs_more source s e living ps qs p all one is =
+    subst (AreOtherProofs source s e living) (sym is) (All-push (HasAnotherProof source s e living) ps p all one)
 
 -- what is found under a label
 pub found_labelled : (m : HashMap (Bor (List ℕ)) (Bor Assertion) RandomState) (w : Word) (o : Option (Bor Assertion))

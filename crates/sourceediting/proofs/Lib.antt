@@ -6,3 +6,4 @@ pub mod Others
 pub mod Rewritten
 mod Labelled
 mod Indented
+mod Cited

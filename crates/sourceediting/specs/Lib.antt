@@ -3,5 +3,6 @@ pub mod Axioms
 pub mod Views
 pub mod Marked
 pub mod Written
+pub mod Entries
 pub mod Reproved
 pub mod Refusals

@@ -1,5 +1,5 @@
 -- Which theorems have another proof behind a history: those whose listing isn't the old one with changed labels.
-use Rattle.std.specs.Prelude.{◌≡◌, ◌≢◌, ℕ, Bool, List, map, filter_map, find, length, Contains, All, Option, Some, None, slice_get, nat_eq}
+use Rattle.std.specs.Prelude.{◌≡◌, ◌≢◌, ℕ, Bool, List, map, filter_map, find, length, Contains, All, Option, Some, None, IsTrue, slice_get, nat_eq}
 use mathlib.Core.Bool.{not}
 use Rattle.std.specs.Option.{option_map, option_and_then}
 use Rattle.std.specs.Str.{bytes_eq}
@@ -8,14 +8,16 @@ use Rattle.mmsyntax.specs.declared.statement.Assertion.{Assertion}
 use Rattle.mmsyntax.specs.declared.statement.Step.{Step}
 use Rattle.mmsyntax.specs.declared.statement.Step.TheVariants.{Float, Hyp, Cite}
 use Rattle.mmsyntax.specs.Tables.{place_of}
-use Rattle.source.specs.Scopes.{Scope}
+use Rattle.source.specs.Scopes.{Scope, Assertion as Old}
 use Rattle.giving.specs.Staying.{Change, changed}
 use Rattle.items.specs.Items.{Item, Spells}
 use Rattle.items.specs.Layout.{IsLaidOut}
 use Rattle.items.specs.Indentations.{indentations}
 use Rattle.sourcewriting.specs.Indentations.{indentation_like}
 use Rattle.sourcewriting.specs.Forms.{is_compressed_form}
+use Rattle.sourcewriting.specs.MarkedTexts.{IsMarkedText}
 use Rattle.sourceediting.specs.Following.{Followed}
+use Rattle.sourceediting.specs.Entries.{Edition, assertions_of, TakesThen}
 
 -- the labels that those of the opening had in the library, with those that they have now
 abbrev pub now_of : Followed → Option Word → Option Change
@@ -52,8 +54,11 @@ abbrev pub has_premises : Assertion → Bool
 has_premises a = not (nat_eq (length a.hyps) 0)
 
 -- the text of another proof of a theorem of the source: in the form of the old one, and laid out with its indentation, if it has one, or
--- else with six spaces where the theorem has $e, and with four elsewhere (section 4.2.8)
-pub record IsWrittenFor (source : List ℕ) (s : Scope) (label : Word) (new : Assertion) (text : List ℕ) : Type 0 where
+-- else with six spaces where the theorem has $e, and with four elsewhere (section 4.2.8). A compressed one is marked, wherever each label
+-- takes as many entries as it does by the source and the library (appendix B)
+pub record IsWrittenFor (source : List ℕ) (s : Scope) (e : Edition) (living : List Followed) (label : Word) (new : Assertion)
+    (text : List ℕ)
+    : Type 0 where
   pub place : ℕ
   pub stands : place_of (λ x. bytes_eq label x.label) s.assertions ≡ Some place
   pub items : List Item
@@ -61,11 +66,14 @@ pub record IsWrittenFor (source : List ℕ) (s : Scope) (label : Word) (new : As
   pub spells : Spells items rest source
   pub laid_out : IsLaidOut (indentation_like (old_indentation items label) (has_premises new))
       (is_compressed_form (option_and_then (λ x. x.proof) (slice_get s.assertions place))) text
+  pub marked : (x : Old) → slice_get s.assertions place ≡ Some x → IsTrue (is_compressed_form x.proof)
+      → IsMarkedText (indentation_like (old_indentation items label) (has_premises new))
+      (TakesThen s e living x.hypotheses) x.hypotheses text
 
 -- a theorem has another proof, with such a text
-abbrev pub HasAnotherProof : List ℕ → Scope → List Assertion → List Assertion → List Followed → Change → Type 0
-HasAnotherProof source s opened edited living p =
-    (is : HasAnotherListing opened edited living p.0) × IsWrittenFor source s p.0 is.new p.1
+abbrev pub HasAnotherProof : List ℕ → Scope → Edition → List Followed → Change → Type 0
+HasAnotherProof source s e living p =
+    (is : HasAnotherListing e.opened.assertions (assertions_of e) living p.0) × IsWrittenFor source s e living p.0 is.new p.1
 
-abbrev pub AreOtherProofs : List ℕ → Scope → List Assertion → List Assertion → List Followed → List Change → Type 0
-AreOtherProofs source s opened edited living proofs = All (HasAnotherProof source s opened edited living) proofs
+abbrev pub AreOtherProofs : List ℕ → Scope → Edition → List Followed → List Change → Type 0
+AreOtherProofs source s e living proofs = All (HasAnotherProof source s e living) proofs

@@ -9,10 +9,16 @@ use Rattle.mmtext.specs.Words.{Word}
 use Rattle.mmsyntax.specs.declared.statement.Assertion.{Assertion}
 use Rattle.giving.specs.Staying.{Change}
 use Rattle.std.specs.Option.{option_map}
+use Rattle.source.specs.Scopes.{Hypothesis, Scope}
 use Rattle.source.specs.Views.{seen_words}
+use Rattle.sourcewriting.specs.declared.listing.Cited.{Cited}
+use Rattle.sourcewriting.specs.declared.listing.Names.{Names}
+use Rattle.sourcewriting.specs.Counting.{IsCountOf, Takes}
 use Rattle.sourceediting.specs.declared.following.Followed.{Followed as KeptAssertion}
 use Rattle.sourceediting.specs.declared.following.Following.{Following as Kept}
-use Rattle.sourceediting.specs.Following.{Followed, Following}
+use Rattle.sourceediting.specs.declared.planning.Planned.{Planned}
+use Rattle.sourceediting.specs.Following.{Followed, Following, label_then}
+use Rattle.sourceediting.specs.Entries.{Edition, HasHypotheses, TakesThen}
 
 -- its labels are slices of texts
 abbrev pub seen_followed : KeptAssertion → Followed
@@ -31,3 +37,22 @@ seen_proofs ps = map (λ p. (p.0.now, p.1.items)) ps
 -- what a map finds under a label is one of these assertions, and has the label
 abbrev pub AreLabelled : HashMap (Bor (List ℕ)) (Bor Assertion) RandomState → List Assertion → Type 0
 AreLabelled m as' = (w : Word) (a : Bor Assertion) → get_by (λ k. bytes_eq w k.now) m ≡ Some a → Contains as' a.now × (a.now.label ≡ w)
+
+-- the library, and the edits over it
+abbrev pub edition_of : Planned → Edition
+edition_of p = record { opened = p.database.now; names = map (λ q. (q.0.now, q.1)) p.names.now; edited = p.edited.now }
+
+-- an assertion as proofs cite it then
+pub record IsCitedAs (s : Scope) (e : Edition) (f : Followed) (c : Cited) : Type 0 where
+  pub labelled : c.label.now ≡ label_then f
+  pub many : (n : ℕ) → IsCountOf s c.kinds n → HasHypotheses s e f.now f.source n
+
+-- what a map finds under a label is one that lives, as proofs cite it then
+abbrev pub AreCitedThen : Scope → Edition → List Followed → HashMap (Bor (List ℕ)) Cited RandomState → Type 0
+AreCitedThen s e living m =
+    (w : Word) (c : Cited) → get_by (λ k. bytes_eq w k.now) m ≡ Some c → (f : Followed) × Contains living f × IsCitedAs s e f c
+
+-- what the steps of proofs name takes as many entries as is known of the library
+abbrev pub AreNamesOf : Scope → Edition → List Followed → Names → Type 0
+AreNamesOf s e living m =
+    (hypotheses : List Hypothesis) (label : Word) (n : ℕ) → Takes s m hypotheses label n → TakesThen s e living hypotheses label n

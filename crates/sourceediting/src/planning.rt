@@ -1,13 +1,21 @@
 //! Which theorems have another proof behind the edits of a history, and the texts of these proofs.
 
-ghost use Rattle.std.specs.Prelude.{◌≡◌, ◌↔◌, ℕ, List, Contains, IfOk, IfErr, IfSome, IsTrue, map};
+ghost use Rattle.std.specs.Prelude.{◌≡◌, ◌↔◌, ℕ, List, Contains, IfOk, IfErr, IfSome, IsTrue, None, Some, map};
 ghost use Rattle.mmsyntax.specs.declared.statement.Assertion.{Assertion as AssertionOf};
 ghost use Rattle.mmsyntax.specs.ProofWords.{seen_step};
+ghost use Rattle.std.specs.Option.{option_map};
+ghost use Rattle.mmtext.specs.Words.{Word};
+ghost use Rattle.source.specs.Scopes.{Scope};
+ghost use Rattle.source.specs.Views.{seen_words};
+ghost use Rattle.giving.specs.Staying.{changed};
 ghost use Rattle.items.specs.Walking.{AreIndentations};
+ghost use Rattle.sourcewriting.specs.Counting.{IsCountOf};
+ghost use Rattle.sourceediting.specs.Entries.{Edition, HasHypotheses, assertions_of};
 ghost use Rattle.sourceediting.specs.Reproved.{changes_in_library, step_then, IsWrittenFor, AreOtherProofs};
 ghost use Rattle.sourceediting.specs.Following.{Followed as FollowedOf};
 ghost use Rattle.sourceediting.specs.Refusals.{HasCause};
-ghost use Rattle.sourceediting.specs.Views.{seen_living, seen_proofs, AreLabelled};
+ghost use Rattle.sourceediting.specs.Views.{seen_followed, seen_living, seen_proofs, edition_of, AreLabelled, IsCitedAs};
+ghost use Rattle.sourceediting.specs.Views.{AreCitedThen, AreNamesOf};
 ghost use Rattle.sourceediting.specs.declared.refusal.Refusal.TheVariants.{Unwritten};
 
 use crate::following::Followed;
@@ -74,28 +82,75 @@ pub(crate) fn edited_by_label<'x>(
     Ok(found)
 }
 
+/// A label as it reads then.
+fn changed_in<'x>(changes: &Changes<'x>, label: &'x [u8]) -> &'x [u8]
+    ensures { result.now ≡ changed changes.now label.now }
+{
+    match changes.text_for(label) {
+        Some(new) => new,
+        None => label,
+    }
+}
+
 /// The labels of the library's `$f` in the source.
 fn floats_in_source<'x>(
     alloc: Global,
-    changed: &Changes<'x>,
+    changes: &Changes<'x>,
     floats: &'x [Float],
-) -> Result<Vec<&'x [u8]>, AllocError> {
+) -> Result<Vec<&'x [u8]>, AllocError>
+    ensures { IfOk result (λ made. seen_words made.items ≡ map (λ f. changed changes.now f.label) floats.now) }
+{
     let mut labels = Vec::new(alloc);
     for float in floats {
-        let label = float.label.as_slice();
-        labels.push(changed.text_for(label).unwrap_or(label))?;
+        labels.push(changed_in(changes, float.label.as_slice()))?;
     }
     Ok(labels)
 }
 
-/// How many mandatory `$f` and `$e` an assertion has that is added.
-fn kinds_of_added(
+/// How many mandatory `$f` and `$e` an assertion of the edited library has, by its label there. None where it isn't there.
+fn kinds_of_added<'x>(
     alloc: Global,
+    edited: &ByLabel<'x>,
     prelude: &Prelude,
-    assertion: &Assertion,
-) -> Result<Kinds, AllocError> {
+    label: &[u8],
+) -> Result<Option<Kinds>, AllocError>
+    ensures { (s : Scope) (e : Edition) → AreLabelled edited.now (assertions_of e) → prelude.now ≡ e.edited.setting.prelude
+        → IfOk result (λ made. IfSome made (λ kinds. (n : ℕ) → IsCountOf s kinds n → HasHypotheses s e label.now None n)) }
+{
+    let Some(assertion) = labelled(edited, label) else {
+        return Ok(None);
+    };
     let frame = frame_of(alloc, prelude, assertion)?;
-    Ok(Kinds::Added(frame.floats.as_slice().len(), frame.hyps.as_slice().len()))
+    Ok(Some(Kinds::Added(frame.floats.as_slice().len(), frame.hyps.as_slice().len())))
+}
+
+/// The mandatory hypotheses of an assertion of the source, by its label. None where it isn't there.
+fn kinds_in_source<'x, D: Declared<'x>>(declared: &D, label: &[u8]) -> Option<Kinds>
+    ensures { IfSome result (λ kinds. (e : Edition) (now : Word) (n : ℕ) → IsCountOf (D.scope declared.now) kinds n
+        → HasHypotheses (D.scope declared.now) e now (Some label.now) n) }
+{
+    match declared.place_of(label) {
+        Some(place) => Some(Kinds::Standing(place)),
+        None => None,
+    }
+}
+
+/// The mandatory hypotheses of an assertion of the library where it stands then. None where it isn't there.
+fn kinds_then<'x, D: Declared<'x>>(
+    alloc: Global,
+    declared: &D,
+    edited: &ByLabel<'x>,
+    prelude: &Prelude,
+    followed: &Followed<'x>,
+) -> Result<Option<Kinds>, AllocError>
+    ensures { (e : Edition) → AreLabelled edited.now (assertions_of e) → prelude.now ≡ e.edited.setting.prelude
+        → IfOk result (λ made. IfSome made (λ kinds. (n : ℕ) → IsCountOf (D.scope declared.now) kinds n
+        → HasHypotheses (D.scope declared.now) e followed.entry.now.now.now (option_map (λ w. w.now) followed.entry.now.source) n)) }
+{
+    match followed.source {
+        Some(source) => Ok(kinds_in_source(declared, source)),
+        None => kinds_of_added(alloc, edited, prelude, followed.now),
+    }
 }
 
 /// An assertion as proofs cite it. None where it isn't there.
@@ -105,14 +160,15 @@ fn cited_one<'x, D: Declared<'x>>(
     edited: &ByLabel<'x>,
     prelude: &Prelude,
     followed: &Followed<'x>,
-) -> Result<Option<Cited<'x>>, AllocError> {
-    let label = followed.label_then();
-    let kinds = match (followed.source, edited.get(&followed.now)) {
-        (Some(source), _) => declared.place_of(source).map(Kinds::Standing),
-        (None, Some(assertion)) => Some(kinds_of_added(alloc, prelude, assertion)?),
-        (None, None) => None,
+) -> Result<Option<Cited<'x>>, AllocError>
+    ensures { (e : Edition) → AreLabelled edited.now (assertions_of e) → prelude.now ≡ e.edited.setting.prelude
+        → IfOk result (λ made. IfSome made (IsCitedAs (D.scope declared.now) e (seen_followed followed.entry.now))) }
+{
+    let Some(kinds) = kinds_then(alloc, declared, edited, prelude, followed)? else {
+        return Ok(None);
     };
-    Ok(kinds.map(|kinds| Cited { kinds, label }))
+    let label = followed.label_then();
+    Ok(Some(Cited { kinds, label }))
 }
 
 /// The library's assertions as proofs cite them then.
@@ -122,7 +178,10 @@ fn cited_then<'x, D: Declared<'x>>(
     declared: &D,
     edited: &ByLabel<'x>,
     planned: &Planned<'x>,
-) -> Result<HashMap<&'x [u8], Cited<'x>, RandomState>, AllocError> {
+) -> Result<HashMap<&'x [u8], Cited<'x>, RandomState>, AllocError>
+    requires { AreLabelled edited.now (map (λ r. r.assertion) planned.now.edited.now.entries) }
+    ensures { IfOk result (AreCitedThen (D.scope declared.now) (edition_of planned.now) (seen_living planned.now.living.now)) }
+{
     let mut cited = HashMap::with_hasher(alloc, keys);
     for followed in planned.living {
         if let Some(one) = cited_one(alloc, declared, edited, planned.edited.prelude(), followed)? {
@@ -139,10 +198,13 @@ pub(crate) fn names_of<'x, D: Declared<'x>>(
     declared: &D,
     edited: &ByLabel<'x>,
     planned: &Planned<'x>,
-) -> Result<Names<'x>, AllocError> {
-    let changed = names_in_source(alloc, keys, planned.names)?;
+) -> Result<Names<'x>, AllocError>
+    requires { AreLabelled edited.now (map (λ r. r.assertion) planned.now.edited.now.entries) }
+    ensures { IfOk result (AreNamesOf (D.scope declared.now) (edition_of planned.now) (seen_living planned.now.living.now)) }
+{
+    let changes = names_in_source(alloc, keys, planned.names)?;
     Ok(Names {
-        floats: floats_in_source(alloc, &changed, planned.database.prelude().floats())?,
+        floats: floats_in_source(alloc, &changes, planned.database.prelude().floats())?,
         cited: cited_then(alloc, keys, declared, edited, planned)?,
     })
 }
@@ -210,8 +272,9 @@ fn other_proof<'x, D: Declared<'x>>(
     source: &'x [u8],
     new: &Assertion,
 ) -> Result<Vec<u8>, Refusal>
-    ensures written { (bytes : List ℕ) → AreIndentations bytes indentations.now
-        → IfOk result (λ text. IsWrittenFor bytes (D.scope declared.now) source.now new.now text.items) }
+    ensures written { (bytes : List ℕ) (e : Edition) (living : List FollowedOf) → AreIndentations bytes indentations.now
+        → AreNamesOf (D.scope declared.now) e living names.now
+        → IfOk result (λ text. IsWrittenFor bytes (D.scope declared.now) e living source.now new.now text.items) }
     ensures refused { (living : List FollowedOf) (edited : List AssertionOf) (text : List ℕ) → Contains edited new.now
         → IfErr result (HasCause living edited text) }
 {
@@ -243,10 +306,11 @@ pub(crate) fn other_proofs<'x, D: Declared<'x>>(
     indentations: &Changes<'_>,
     planned: &Planned<'x>,
 ) -> Result<Vec<(&'x [u8], Vec<u8>)>, Refusal>
-    requires { AreLabelled edited.now (map (λ r. r.assertion) planned.now.edited.now.entries) }
+    requires labelled { AreLabelled edited.now (map (λ r. r.assertion) planned.now.edited.now.entries) }
+    requires names { AreNamesOf (D.scope declared.now) (edition_of planned.now) (seen_living planned.now.living.now) names.now }
     ensures made { (source : List ℕ) → AreIndentations source indentations.now
-        → IfOk result (λ made. AreOtherProofs source (D.scope declared.now) planned.now.database.now.assertions
-        (map (λ r. r.assertion) planned.now.edited.now.entries) (seen_living planned.now.living.now) (seen_proofs made.items)) }
+        → IfOk result (λ made. AreOtherProofs source (D.scope declared.now) (edition_of planned.now)
+        (seen_living planned.now.living.now) (seen_proofs made.items)) }
     ensures refused { (text : List ℕ) → IfErr result (HasCause (seen_living planned.now.living.now)
         (map (λ r. r.assertion) planned.now.edited.now.entries) text) }
 {

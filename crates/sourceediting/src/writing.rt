@@ -5,7 +5,7 @@ ghost use Rattle.source.specs.Views.{seen_words};
 ghost use Rattle.sourceediting.specs.Following.{all_commands};
 ghost use Rattle.sourceediting.specs.Refusals.{HasCause};
 ghost use Rattle.sourceediting.specs.Reproved.{AreOtherProofs};
-ghost use Rattle.sourceediting.specs.Views.{seen_living, seen_proofs, AreLabelled};
+ghost use Rattle.sourceediting.specs.Views.{seen_living, seen_proofs, edition_of, AreLabelled, AreNamesOf};
 ghost use Rattle.sourceediting.specs.Written.{IsWrittenAnew};
 
 use crate::commands::keep_places;
@@ -68,10 +68,11 @@ fn write_over<'e, D: Declared<'e>>(
     edited: &ByLabel<'e>,
     names: &Names<'e>,
 ) -> Result<Vec<u8>, Refusal>
-    requires { AreLabelled edited.now (map (λ r. r.assertion) planned.now.edited.now.entries) }
+    requires labelled { AreLabelled edited.now (map (λ r. r.assertion) planned.now.edited.now.entries) }
+    requires names { AreNamesOf (D.scope declared.now) (edition_of planned.now) (seen_living planned.now.living.now) names.now }
     ensures written { IfOk result (λ out. IsWrittenAnew (all_commands entries.now) (seen_living planned.now.living.now)
-        (seen_words planned.now.gone.now) (AreOtherProofs source.now (D.scope declared.now) planned.now.database.now.assertions
-        (map (λ r. r.assertion) planned.now.edited.now.entries) (seen_living planned.now.living.now)) changes.now source.now out.items) }
+        (seen_words planned.now.gone.now) (AreOtherProofs source.now (D.scope declared.now) (edition_of planned.now)
+        (seen_living planned.now.living.now)) changes.now source.now out.items) }
     ensures refused { IfErr result (HasCause (seen_living planned.now.living.now)
         (map (λ r. r.assertion) planned.now.edited.now.entries) source.now) }
 {
@@ -105,8 +106,8 @@ pub fn write_edits<'e, D: Declared<'e>>(
     changes: &'e Changes<'e>,
 ) -> Result<Vec<u8>, Refusal>
     ensures written { IfOk result (λ out. IsWrittenAnew (all_commands entries.now) (seen_living planned.now.living.now)
-        (seen_words planned.now.gone.now) (AreOtherProofs source.now (D.scope declared.now) planned.now.database.now.assertions
-        (map (λ r. r.assertion) planned.now.edited.now.entries) (seen_living planned.now.living.now)) changes.now source.now out.items) }
+        (seen_words planned.now.gone.now) (AreOtherProofs source.now (D.scope declared.now) (edition_of planned.now)
+        (seen_living planned.now.living.now)) changes.now source.now out.items) }
     ensures refused { IfErr result (HasCause (seen_living planned.now.living.now)
         (map (λ r. r.assertion) planned.now.edited.now.entries) source.now) }
 {

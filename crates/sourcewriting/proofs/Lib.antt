@@ -8,3 +8,5 @@ pub mod MarkedWords
 pub mod Told
 pub mod Mandatory
 pub mod MarkedProofs
+mod Named
+mod Leading

@@ -1,10 +1,10 @@
 -- The labels of mandatory hypotheses, one behind another.
-use Rattle.std.proofs.Common.{◌≡◌, Bool, List, [], ◌∷◌, ◌++◌, map, refl, sym, ap, subst, ◌∙◌, Bor}
+use Rattle.std.proofs.Common.{◌≡◌, Bool, List, [], ◌∷◌, ◌++◌, map, sym, ap, subst, ◌∙◌, Bor}
 use Rattle.std.specs.Prelude.{if◌then◌else◌}
 use Rattle.std.proofs.lemmas.List.{map_push}
 use Rattle.mmtext.specs.Words.{Word}
 use Rattle.source.specs.declared.contents.HypothesisWords.{HypothesisWords}
-use Rattle.source.specs.Scopes.{Hypothesis, typing, premise, label_of}
+use Rattle.source.specs.Scopes.{label_of}
 use Rattle.source.specs.Views.{seen_words, seen_hypothesis, seen_hypotheses}
 use Rattle.taking.specs.Listings.{premise_labels}
 use Rattle.taking.proofs.Premises.{premises_append}

@@ -39,7 +39,7 @@ labels_are counted labels mandatory are =
     ∙ ap (λ ws. mandatory ++ ws) (firsts labels)
 
 -- what is so of each count
-each : (P : Word × ℕ → Type 0) (cs : List CountedLabel) → All P (counts_of cs) → All (λ c. P (c.label.now, c.takes)) cs
+pub each : (P : Word × ℕ → Type 0) (cs : List CountedLabel) → All P (counts_of cs) → All (λ c. P (c.label.now, c.takes)) cs
 each P cs a k d h =
     let pair : CountedLabel → Word × ℕ = λ c. (c.label.now, c.takes) in
     subst P (get_or-map pair cs k d (pair d) h) (a k (pair d) (omega (arith, length-map cs pair)))
@@ -59,14 +59,15 @@ module _ (i : List ℕ) (s : Scope) (m : Names) (hs : List Hypothesis) (mandator
       (All-append (λ (p : Word × ℕ). Takes s m hs p.0 p.1) (map (λ w. (w, 0)) mandatory) (counts_of is.labels) none_taken
       (all_among (λ (p : Word × ℕ). Takes s m hs p.0 p.1) (counts_of is.labels) (counts_of words) is.among all))
 
-  so_many : (earlier : List Assertion) (active : List Hypothesis) → TakeAsMany s m hs earlier active → TakeSo is.counted earlier active
+  so_many : (earlier : List Assertion) (active : List Hypothesis) → TakeAsMany (Takes s m hs) earlier active
+      → TakeSo is.counted earlier active
   so_many earlier active take =
       All-weaker (λ (c : CountedLabel). Takes s m hs c.label.now c.takes)
       (λ c. (taken : List Hypothesis) → taken_by earlier active c.label.now ≡ Some taken → length taken ≡ c.takes)
       (λ c takes taken is. take c.label.now c.takes taken takes is) is.counted
       (each (λ (p : Word × ℕ). Takes s m hs p.0 p.1) is.counted all_taken)
 
-  pub marked_proof : IsMarkedText i s m hs text
+  pub marked_proof : IsMarkedText i (Takes s m hs) hs text
   marked_proof =
       let labels = labels_in is.labels in
       let counted : labels_in is.counted ≡ map label_of hs ++ labels =
@@ -82,3 +83,16 @@ module _ (i : List ℕ) (s : Scope) (m : Names) (hs : List Hypothesis) (mandator
             ∙ ap (λ ws. Some (map (step_of ws) is.marked.codes)) (sym counted);
         marked = λ earlier active take. is.marked.marked earlier active (so_many earlier active take);
       }
+
+-- so it is where more is known of labels
+pub marked_where : (i : List ℕ) (takes known : Word → ℕ → Type 0) (hs : List Hypothesis) (text : List ℕ)
+    → ((label : Word) (n : ℕ) → takes label n → known label n) → IsMarkedText i takes hs text → IsMarkedText i known hs text
+marked_where i takes known hs text within is = record {
+  laid_out = is.laid_out;
+  labels = is.labels;
+  letters = is.letters;
+  says = is.says;
+  steps = is.steps;
+  steps_are = is.steps_are;
+  marked = λ earlier active take. is.marked earlier active (λ label n taken one. take label n taken (within label n one));
+}

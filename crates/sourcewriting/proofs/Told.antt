@@ -19,7 +19,7 @@ use Rattle.sourcewriting.specs.Taking.{AllTake, MayTakeMore, MayTakeNone}
 use Rattle.sourcewriting.proofs.Counted.{all_one_more}
 
 -- what stands at a place is there
-contained : {A : Type 0} (xs : List A) (i : ℕ) (x : A) → slice_get xs i ≡ Some x → Contains xs x
+pub contained : {A : Type 0} (xs : List A) (i : ℕ) (x : A) → slice_get xs i ≡ Some x → Contains xs x
 contained xs i x is =
     let h = slice_get_within xs i x is in
     let e : Some (get_or xs i x) ≡ Some x = sym (slice_get-get_or xs i x h) ∙ is in

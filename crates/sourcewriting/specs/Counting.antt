@@ -33,8 +33,7 @@ pub record IsHypothesis (m : Names) (hypotheses : List Hypothesis) (label : Word
 abbrev pub Takes : Scope → Names → List Hypothesis → Word → ℕ → Type 0
 Takes s m hypotheses label n = IsCitedBy s m label n ⊎ IsHypothesis m hypotheses label n
 
--- where the proof of a theorem with these hypotheses is to stand, what each of these labels names takes as many, if it is there
-abbrev pub TakeAsMany : Scope → Names → List Hypothesis → List Assertion → List Hypothesis → Type 0
-TakeAsMany s m hypotheses earlier active =
-    (label : Word) (n : ℕ) (taken : List Hypothesis) → Takes s m hypotheses label n → taken_by earlier active label ≡ Some taken
-    → length taken ≡ n
+-- where a proof is to stand, what each of these labels names takes as many, if it is there
+abbrev pub TakeAsMany : (Word → ℕ → Type 0) → List Assertion → List Hypothesis → Type 0
+TakeAsMany takes earlier active =
+    (label : Word) (n : ℕ) (taken : List Hypothesis) → takes label n → taken_by earlier active label ≡ Some taken → length taken ≡ n

@@ -7,3 +7,5 @@ pub mod Counting
 pub mod Reading
 pub mod MarkedTexts
 pub mod Taking
+pub mod Leaving
+pub mod Named

@@ -2,22 +2,20 @@
 use Rattle.std.specs.Prelude.{◌≡◌, ℕ, true, List, Some}
 use Rattle.mmtext.specs.Words.{Word}
 use Rattle.source.specs.Statements.{compressed, proof_spelling}
-use Rattle.source.specs.Scopes.{Hypothesis, Assertion, Scope}
+use Rattle.source.specs.Scopes.{Hypothesis, Assertion}
 use Rattle.source.specs.Proofs.{Step, steps_of}
 use Rattle.items.specs.Items.{words}
 use Rattle.items.specs.Layout.{IsLaidOut}
-use Rattle.sourcewriting.specs.declared.listing.Names.{Names}
 use Rattle.sourcewriting.specs.Marking.{IsMarked}
 use Rattle.sourcewriting.specs.Counting.{TakeAsMany}
 
 -- a text is a compressed proof of a theorem with these mandatory hypotheses, and it is marked, wherever each label that may stand in it
--- takes as many entries as is known of the source and the library
-pub record IsMarkedText (indentation : List ℕ) (s : Scope) (m : Names) (hypotheses : List Hypothesis) (text : List ℕ) : Type 0 where
+-- takes as many entries as is known of it
+pub record IsMarkedText (indentation : List ℕ) (takes : Word → ℕ → Type 0) (hypotheses : List Hypothesis) (text : List ℕ) : Type 0 where
   pub laid_out : IsLaidOut indentation true text
   pub labels : List Word
   pub letters : List Word
   pub says : words laid_out.proof ≡ proof_spelling (compressed labels letters)
   pub steps : List Step
   pub steps_are : steps_of hypotheses (compressed labels letters) ≡ Some steps
-  pub marked : (earlier : List Assertion) (active : List Hypothesis) → TakeAsMany s m hypotheses earlier active
-      → IsMarked earlier active steps
+  pub marked : (earlier : List Assertion) (active : List Hypothesis) → TakeAsMany takes earlier active → IsMarked earlier active steps

@@ -1,5 +1,6 @@
 //! The text of an assertion that is put into a source: a block of its own where it has pairs or `$e`.
 
+ghost use Rattle.std.specs.Prelude.{◌≡◌, IfOk, map};
 ghost use Rattle.sourcewriting.specs.Indentations.{IsIndentation};
 
 use crate::layout::{Layout, proof_indentation};
@@ -104,7 +105,9 @@ pub fn names_in_source<'x>(
     alloc: Global,
     keys: RandomState,
     names: &'x [(&'x [u8], Label)],
-) -> Result<Changes<'x>, AllocError> {
+) -> Result<Changes<'x>, AllocError>
+    ensures { IfOk result (λ made. made ≡ map (λ p. (p.1, p.0.now)) names.now) }
+{
     let mut pairs = Vec::new(alloc);
     for (source, library) in names {
         pairs.push((library.as_slice(), *source))?;
@@ -328,7 +331,8 @@ fn put_words_of_proof<'p>(
     root: usize,
 ) -> Result<bool, AllocError> {
     if !statement.is_compressed {
-        return put_normal(alloc, layout, shared, root);
+        put_normal(alloc, layout, shared, root)?;
+        return Ok(true);
     }
     let mandatory = mandatory_labels(alloc, prelude, names, statement.assertion, premises)?;
     put_compressed(alloc, layout, shared, mandatory.as_slice(), root)

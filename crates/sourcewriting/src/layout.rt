@@ -1,6 +1,6 @@
 //! Words and letters in lines of at most 79 columns.
 
-ghost use Rattle.std.specs.Prelude.{◌||◌, ◌≡◌, ◌≤◌, ◌<◌, ◌+◌, ◌⊎◌, ℕ, Bool, suc, min, nat_le, List, [], ◌∷◌, ◌++◌, length, IsTrue, IsFalse, IfOk, IfSome, if◌then◌else◌, codes};
+ghost use Rattle.std.specs.Prelude.{◌||◌, ◌≡◌, ◌≤◌, ◌<◌, ◌+◌, ◌⊎◌, ℕ, Bool, suc, min, nat_le, List, [], ◌∷◌, ◌++◌, length, is_some, IsTrue, IsFalse, IfOk, IfSome, if◌then◌else◌, codes};
 ghost use Rattle.std.specs.List.{list_all, flat_map};
 ghost use Rattle.std.specs.Bool.{then_some};
 ghost use Rattle.std.specs.Option.{option_map};
@@ -86,7 +86,8 @@ impl<'i> Layout<'i> {
     /// No word yet.
     pub(crate) fn new(alloc: Global, indentation: &'i [u8]) -> Layout<'i>
         requires { IsIndentation indentation.now }
-        ensures { IsLaid indentation.now result [] }
+        ensures laid { IsLaid indentation.now result [] }
+        ensures fine { IsFalse result.is_refused }
     {
         Layout {
             text: Vec::new(alloc),
@@ -147,6 +148,7 @@ impl<'i> Layout<'i> {
     pub(crate) fn put_word(&mut self, word: &[u8])
         ensures whole { IsFalse self.new.is_cut_off → IsFalse self.old.is_cut_off }
         ensures right { IsFalse self.new.is_refused → IsFalse self.old.is_refused }
+        ensures fine { IsTrue (is_word word.now) → self.new.is_refused ≡ self.old.is_refused }
         ensures laid { (i : List ℕ) (ws : List Word) → IsFalse (has_closing ws) ⊎ IsShort self.old (length word.now)
             → IsLaid i self.old ws → IsLaid i self.new (ws ++ word.now ∷ []) }
     {
@@ -158,7 +160,8 @@ impl<'i> Layout<'i> {
 
     /// Puts a label: no other word can stand there.
     pub(crate) fn put_label(&mut self, label: &[u8])
-        ensures { (i : List ℕ) (front labels : List Word) → IsFalse (has_closing front)
+        ensures fine { IsTrue (is_label label.now) → IsTrue (is_word label.now) → self.new.is_refused ≡ self.old.is_refused }
+        ensures laid { (i : List ℕ) (front labels : List Word) → IsFalse (has_closing front)
             → HasLabels i self.old front labels → HasLabels i self.new front (labels ++ label.now ∷ []) }
     {
         self.expect(is_label_token(label));
@@ -209,7 +212,8 @@ impl<'i> Layout<'i> {
 
     /// The text, with room for `$.` behind it. None where a word can't stand there.
     pub(crate) fn finish(mut self) -> Result<Option<Vec<u8>>, AllocError>
-        ensures { (i : List ℕ) (ws : List Word) → IsLaid i self.entry ws
+        ensures whole { IsFalse self.entry.is_refused → IfOk result (λ made. IsTrue (is_some made)) }
+        ensures laid { (i : List ℕ) (ws : List Word) → IsLaid i self.entry ws
             → IfOk result (λ made. IfSome made (λ text. IsFalse self.entry.is_refused × IsLaidOutAs i ws text.items)) }
     {
         let begins_line = !self.has_room(2);

@@ -1,15 +1,18 @@
 //! From the steps of a proof in the library to nodes in the order of the source.
 
-ghost use Rattle.std.specs.Prelude.{◌≡◌, ◌<◌, ◌+◌, List, length, count_by, IfOk, IfSome};
+ghost use Rattle.std.specs.Prelude.{◌≡◌, ◌<◌, ◌≤◌, ◌+◌, ℕ, suc, List, length, count_by, is_some, IfOk, IfSome, IsTrue};
+ghost use Rattle.mmsyntax.specs.ProofWords.{seen_step};
+ghost use Rattle.mmsyntax.specs.declared.limits.TheConstants.{MOST_STEPS};
 ghost use Rattle.source.specs.Scopes.{Hypothesis as HypothesisOf};
 ghost use Rattle.source.specs.Views.{seen_words};
 ghost use Rattle.taking.specs.Walks.{arranged};
 ghost use Rattle.taking.specs.Listings.{premise_labels};
 ghost use Rattle.sourcewriting.specs.Counting.{IsCountOf};
+ghost use Rattle.sourcewriting.specs.Leaving.{StepTakes, LeaveOne};
 ghost use Rattle.sourcewriting.specs.Taking.{AllTake, MayTakeMore, MayTakeNone};
 
 use crate::shared::Shared;
-use mmsyntax::{Proof, StepRef};
+use mmsyntax::{MOST_STEPS, Proof, StepRef};
 use source::{Declared, HypothesisWords};
 use std::alloc::{AllocError, Global};
 use std::collections::HashMap;
@@ -82,7 +85,8 @@ fn kinds_of<'a, D: Declared<'a>>(
     declared: &D,
     kinds: Kinds,
 ) -> Result<Option<Vec<bool>>, AllocError>
-    ensures { IfOk result (λ made. IfSome made (λ are. IsCountOf (D.scope declared.now) kinds (length are.items))) }
+    ensures many { IfOk result (λ made. IfSome made (λ are. IsCountOf (D.scope declared.now) kinds (length are.items))) }
+    ensures some { (n : ℕ) → IsCountOf (D.scope declared.now) kinds n → IfOk result (λ made. IsTrue (is_some made)) }
 {
     match kinds {
         Kinds::Standing(place) if place < declared.assertions() => {
@@ -133,7 +137,9 @@ fn cite<'x, 'a, D: Declared<'a>>(
     stack: &mut Vec<usize>,
     cited: Cited<'x>,
 ) -> Result<bool, AllocError>
-    ensures { IfOk result (λ _. MayTakeMore (D.scope declared.now) cited.entry shared.old shared.new) }
+    ensures taken { IfOk result (λ _. MayTakeMore (D.scope declared.now) cited.entry shared.old shared.new) }
+    ensures there { (rest n : ℕ) → IsCountOf (D.scope declared.now) cited.entry.kinds n → length stack.old.items ≡ rest + n
+        → IfOk result (λ done. IsTrue done × (length stack.new.items ≡ suc rest)) }
 {
     let Some(kinds) = kinds_of(alloc, declared, cited.kinds)? else {
         return Ok(false);
@@ -155,7 +161,9 @@ fn put_leaf<'x>(
     stack: &mut Vec<usize>,
     label: Option<&'x [u8]>,
 ) -> Result<bool, AllocError>
-    ensures { IfOk result (λ _. MayTakeNone label.entry shared.old shared.new) }
+    ensures taken { IfOk result (λ _. MayTakeNone label.entry shared.old shared.new) }
+    ensures there { IsTrue (is_some label.entry)
+        → IfOk result (λ done. IsTrue done × (length stack.new.items ≡ suc (length stack.old.items))) }
 {
     let Some(label) = label else {
         return Ok(false);
@@ -175,9 +183,11 @@ fn take_step<'x, 'a, D: Declared<'a>>(
     stack: &mut Vec<usize>,
     step: StepRef<'_>,
 ) -> Result<bool, AllocError>
-    ensures { (hs : List HypothesisOf) → seen_words premises.now ≡ premise_labels hs
+    ensures taken { (hs : List HypothesisOf) → seen_words premises.now ≡ premise_labels hs
         → AllTake (D.scope declared.now) names.now hs shared.old
         → IfOk result (λ _. AllTake (D.scope declared.now) names.now hs shared.new) }
+    ensures there { (rest n : ℕ) → StepTakes (D.scope declared.now) names.now (length premises.now) (seen_step step.entry) n
+        → length stack.old.items ≡ rest + n → IfOk result (λ done. IsTrue done × (length stack.new.items ≡ suc rest)) }
 {
     match step {
         StepRef::Float(place) => {
@@ -195,7 +205,7 @@ fn take_step<'x, 'a, D: Declared<'a>>(
     }
 }
 
-/// Puts the nodes of a proof, by its steps, and tells which of them is the proof. None where the steps denote no tree.
+/// Puts the nodes of a proof, by its steps, and tells which of them is the proof. None where the steps denote no tree, or are over 16,384.
 pub(crate) fn put_nodes<'x, 'a, D: Declared<'a>>(
     alloc: Global,
     shared: &mut Shared<'x>,
@@ -204,10 +214,15 @@ pub(crate) fn put_nodes<'x, 'a, D: Declared<'a>>(
     premises: &[&'x [u8]],
     steps: &Proof,
 ) -> Result<Option<usize>, AllocError>
-    ensures { (hs : List HypothesisOf) → seen_words premises.now ≡ premise_labels hs
+    ensures taken { (hs : List HypothesisOf) → seen_words premises.now ≡ premise_labels hs
         → AllTake (D.scope declared.now) names.now hs shared.old
         → IfOk result (λ _. AllTake (D.scope declared.now) names.now hs shared.new) }
+    ensures one { length steps.now ≤ MOST_STEPS → LeaveOne (D.scope declared.now) names.now (length premises.now) steps.now
+        → IfOk result (λ made. IsTrue (is_some made)) }
 {
+    if steps.len() > MOST_STEPS {
+        return Ok(None);
+    }
     let mut stack = Vec::new(alloc);
     for place in 0..steps.len() {
         let step = steps.step(place);

@@ -1,15 +1,19 @@
 //! The text of another proof of a theorem, in the form that the old one has in the source.
 
-ghost use Rattle.std.specs.Prelude.{◌≡◌, ◌<◌, ℕ, Bool, List, [], length, option_and_then, option_map, slice_get, IfOk, IfSome, Some, IsTrue, if◌then◌else◌, ◌∷◌, ◌++◌};
+ghost use Rattle.std.specs.Prelude.{◌≡◌, ◌<◌, ℕ, Bool, List, [], length, option_and_then, option_map, slice_get, IfOk, IfSome, Some, IsTrue, IsFalse, if◌then◌else◌};
+ghost use Rattle.std.specs.Prelude.{◌∷◌, ◌++◌, is_some};
 ghost use Rattle.source.specs.Scopes.{Assertion as AssertionOf, Hypothesis as HypothesisOf, label_of};
 ghost use Rattle.source.specs.Views.{seen_words, seen_hypothesis, seen_proof};
 ghost use Rattle.taking.specs.Listings.{premise_labels};
 ghost use Rattle.items.specs.Layout.{IsLaidOut};
+ghost use Rattle.sourcewriting.specs.Counting.{Takes};
 ghost use Rattle.sourcewriting.specs.Indentations.{IsIndentation};
 ghost use Rattle.sourcewriting.specs.Forms.{is_compressed_form};
 ghost use Rattle.sourcewriting.specs.Laid.{IsLaid, IsInForm};
+ghost use Rattle.sourcewriting.specs.Leaving.{CanStand};
+ghost use Rattle.sourcewriting.specs.Named.{AreNames};
 ghost use Rattle.sourcewriting.specs.MarkedTexts.{IsMarkedText};
-ghost use Rattle.sourcewriting.specs.Reading.{IsMarkedLayout};
+ghost use Rattle.sourcewriting.specs.Reading.{labels_in, IsMarkedLayout};
 ghost use Rattle.sourcewriting.specs.Taking.{AreHypotheses, IsMarkedAs};
 
 use crate::layout::Layout;
@@ -91,7 +95,7 @@ fn is_compressed_like(old: Option<&ProofWords<'_>>) -> bool
     !matches!(old, Some(ProofWords::Normal(_)))
 }
 
-/// Puts the words of a proof in one of its forms. Whether it has at most 16,384 steps.
+/// Puts the words of a proof in one of its forms. Whether it is marked as it should be.
 fn put_in_form(
     alloc: Global,
     layout: &mut Layout<'_>,
@@ -100,18 +104,21 @@ fn put_in_form(
     mandatory: &[&[u8]],
     root: usize,
 ) -> Result<bool, AllocError>
-    ensures { (i : List ℕ) → IsLaid i layout.old [] → IfOk result (λ right. IsTrue right → IsInForm i is_compressed layout.new
+    ensures laid { (i : List ℕ) → IsLaid i layout.old [] → IfOk result (λ right. IsTrue right → IsInForm i is_compressed layout.new
         × (IsTrue is_compressed → IsMarkedLayout i layout.new (seen_words mandatory.now) shared.now.words.items)) }
+    ensures fine { AreNames (labels_in shared.now.words.items) → IsFalse is_compressed
+        → IfOk result (λ right. IsTrue right × (layout.new.is_refused ≡ layout.old.is_refused)) }
 {
     if is_compressed {
         put_compressed(alloc, layout, shared, mandatory, root)
     } else {
-        put_normal(alloc, layout, shared, root)
+        put_normal(alloc, layout, shared, root)?;
+        Ok(true)
     }
 }
 
-/// The text of a proof by its nodes, in one of its forms, of a theorem with these mandatory hypotheses. None where it has over 16,384
-/// steps, or names what is no label.
+/// The text of a proof by its nodes, in one of its forms, of a theorem with these mandatory hypotheses. None where it names what is no
+/// label, or is compressed and not marked as it should be.
 fn text_in_form(
     alloc: Global,
     is_compressed: bool,
@@ -124,6 +131,8 @@ fn text_in_form(
     ensures laid_out { IfOk result (λ made. IfSome made (λ text. IsLaidOut indentation.now is_compressed text.items)) }
     ensures marked { IsTrue is_compressed → IfOk result (λ made. IfSome made (λ text.
         IsMarkedAs indentation.now (seen_words mandatory.now) shared.now.words.items text.items)) }
+    ensures some { AreNames (labels_in shared.now.words.items) → IsFalse is_compressed
+        → IfOk result (λ made. IsTrue (is_some made)) }
 {
     let mut layout = Layout::new(alloc, indentation);
     if put_in_form(alloc, &mut layout, is_compressed, shared, mandatory, root)? {
@@ -134,7 +143,7 @@ fn text_in_form(
 }
 
 /// The text of a proof, by its steps in the library, in one of its forms, of a theorem with these hypotheses. None where they denote no
-/// tree, or one of over 16,384 steps, or name what is no label.
+/// tree, or are over 16,384, or name what is no label, or a compressed proof isn't marked as it should be.
 fn text_of<'p, 'a, D: Declared<'a>>(
     alloc: Global,
     keys: RandomState,
@@ -148,7 +157,10 @@ fn text_of<'p, 'a, D: Declared<'a>>(
     requires { IsIndentation indentation.now }
     ensures laid_out { IfOk result (λ made. IfSome made (λ text. IsLaidOut indentation.now is_compressed text.items)) }
     ensures marked { (hs : List HypothesisOf) → AreHypotheses hs hypotheses.now → IsTrue is_compressed
-        → IfOk result (λ made. IfSome made (λ text. IsMarkedText indentation.now (D.scope declared.now) names.now hs text.items)) }
+        → IfOk result (λ made. IfSome made (λ text.
+        IsMarkedText indentation.now (Takes (D.scope declared.now) names.now hs) hs text.items)) }
+    ensures some { (hs : List HypothesisOf) → AreHypotheses hs hypotheses.now → IsFalse is_compressed
+        → CanStand (D.scope declared.now) names.now hs steps.now → IfOk result (λ made. IsTrue (is_some made)) }
 {
     let premises = hypotheses.premises.as_slice();
     let mandatory = hypotheses.mandatory.as_slice();
@@ -160,10 +172,11 @@ fn text_of<'p, 'a, D: Declared<'a>>(
 }
 
 /// The text of a proof of the theorem at a place of the source, by its steps in the library, in the form that the old one has, with white
-/// space for the `$.` behind it: laid out in lines that begin with this indentation. None where the steps denote no tree, or one of over
-/// 16,384 steps, or name what is no label.
+/// space for the `$.` behind it: laid out in lines that begin with this indentation. None where the steps denote no tree, or are over
+/// 16,384, or name what is no label.
 ///
-/// A compressed proof is read again: in it each subproof that takes entries is written once, and called by its number elsewhere.
+/// A compressed proof is read again: in it each subproof that takes entries is written once, and called by its number elsewhere. None
+/// where it isn't so.
 ///
 /// # Errors
 ///
@@ -183,7 +196,9 @@ pub fn proof_text<'x, D: Declared<'x>>(
         IfOk result (λ made. IfSome made (λ text. IsLaidOut indentation.now (is_compressed_form old) text.items)) }
     ensures marked { (a : AssertionOf) → slice_get (D.scope declared.now).assertions place ≡ Some a → IsTrue (is_compressed_form a.proof)
         → IfOk result (λ made. IfSome made (λ text.
-        IsMarkedText indentation.now (D.scope declared.now) names.now a.hypotheses text.items)) }
+        IsMarkedText indentation.now (Takes (D.scope declared.now) names.now a.hypotheses) a.hypotheses text.items)) }
+    ensures some { (a : AssertionOf) → slice_get (D.scope declared.now).assertions place ≡ Some a → IsFalse (is_compressed_form a.proof)
+        → CanStand (D.scope declared.now) names.now a.hypotheses steps.now → IfOk result (λ made. IsTrue (is_some made)) }
 {
     let hypotheses = hypotheses_of(alloc, declared, place)?;
     let is_compressed = is_compressed_like(declared.proof(place));

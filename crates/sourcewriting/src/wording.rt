@@ -1,8 +1,9 @@
 //! The words of a proof: normal, or compressed with each subproof once that stands there more than once.
 
-ghost use Rattle.std.specs.Prelude.{◌≡◌, ◌++◌, ℕ, List, [], map, IfOk, IsTrue, IsFalse};
+ghost use Rattle.std.specs.Prelude.{◌≡◌, ◌++◌, ℕ, List, [], map, IfOk, IfSome, IsTrue, IsFalse};
 ghost use Rattle.source.specs.Views.{seen_words};
 ghost use Rattle.mmtext.specs.Words.{Word};
+ghost use Rattle.sourcewriting.specs.Named.{IsName, AreNames};
 ghost use Rattle.sourcewriting.specs.Laid.{IsLaid, IsNormal, IsCompressed, HasLabels, has_closing};
 ghost use Rattle.sourcewriting.specs.Reading.{counts_of, labels_in, HaveOneMore, HaveMore, IsMarkedLayout};
 
@@ -33,11 +34,13 @@ fn push_both(stack: &mut Vec<Turn>, turn: Turn, node: usize) -> Result<(), Alloc
     Ok(())
 }
 
-/// The label that a node names: `?`, which stands for an unknown step, where there is no such node.
-fn word_at<'x>(shared: &Shared<'x>, node: usize) -> &'x [u8] {
+/// The label that a node names: none where there is no such node.
+fn word_at<'x>(shared: &Shared<'x>, node: usize) -> Option<&'x [u8]>
+    ensures { IfSome result (λ label. AreNames (labels_in shared.now.words.items) → IsName label.now) }
+{
     match shared.words().get(shared.word(node)) {
-        Some(word) => word.label,
-        None => b"?",
+        Some(word) => Some(word.label),
+        None => None,
     }
 }
 
@@ -48,23 +51,31 @@ fn take_turn(
     shared: &Shared<'_>,
     turn: Turn,
 ) -> Result<(), AllocError>
-    ensures { (i : List ℕ) → IsNormal i layout.old → IfOk result (λ _. IsNormal i layout.new) }
+    ensures laid { (i : List ℕ) → IsNormal i layout.old → IfOk result (λ _. IsNormal i layout.new) }
+    ensures fine { AreNames (labels_in shared.now.words.items)
+        → IfOk result (λ _. layout.new.is_refused ≡ layout.old.is_refused) }
 {
     match shared.arguments(turn.node).get(turn.argument) {
         Some(node) => push_both(stack, turn, *node)?,
-        None => layout.put_label(word_at(shared, turn.node)),
+        None => {
+            if let Some(label) = word_at(shared, turn.node) {
+                layout.put_label(label);
+            }
+        }
     }
     Ok(())
 }
 
-/// Puts the labels of a normal proof. Whether there are at most 16,384.
+/// Puts the labels of a normal proof, of which there are at most 16,384.
 pub(crate) fn put_normal(
     alloc: Global,
     layout: &mut Layout<'_>,
     shared: &Shared<'_>,
     root: usize,
-) -> Result<bool, AllocError>
-    ensures { (i : List ℕ) → IsNormal i layout.old → IfOk result (λ _. IsNormal i layout.new) }
+) -> Result<(), AllocError>
+    ensures laid { (i : List ℕ) → IsNormal i layout.old → IfOk result (λ _. IsNormal i layout.new) }
+    ensures fine { AreNames (labels_in shared.now.words.items)
+        → IfOk result (λ _. layout.new.is_refused ≡ layout.old.is_refused) }
 {
     let mut stack = Vec::new(alloc);
     stack.push(Turn {
@@ -73,11 +84,11 @@ pub(crate) fn put_normal(
     })?;
     for _ in 0..MOST_TURNS {
         let Some(turn) = stack.pop() else {
-            return Ok(true);
+            break;
         };
         take_turn(layout, &mut stack, shared, turn)?;
     }
-    Ok(stack.is_empty())
+    Ok(())
 }
 
 /// The letters of a compressed proof, and what they count: the mandatory hypotheses, the labels in parentheses, the marked subproofs.

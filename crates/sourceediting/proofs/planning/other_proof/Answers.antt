@@ -6,6 +6,10 @@ use mathlib.Core.Bool.{not}
 use Rattle.items.specs.Layout.{IsLaidOut}
 use Rattle.sourcewriting.specs.Forms.{is_compressed_form}
 use Rattle.sourcewriting.specs.Indentations.{indentation_like}
+use Rattle.sourcewriting.specs.Counting.{Takes}
+use Rattle.sourcewriting.specs.MarkedTexts.{IsMarkedText}
+use Rattle.sourcewriting.proofs.MarkedProofs.{marked_where}
+use Rattle.sourceediting.specs.Entries.{TakesThen}
 use Rattle.sourceediting.specs.Reproved.{has_premises}
 use Rattle.sourceediting.proofs.Indented.{found_in, written_for}
 use Rattle.mmsyntax.specs.Tables.{place_of}
@@ -22,14 +26,19 @@ proof_text-requires g c κs =
     ((refl, tt), (within, c.indentation_like-indentation.ensures.room))
 
 pub returns-in-Some-2-clause-written : goal.returns-in-Some-2-clause-written
-returns-in-Some-2-clause-written g c κs = λ indented.
+returns-in-Some-2-clause-written g c = λ bytes e living indented names.
     let s = g.D.Declared.scope c.args.declared.now in
     let form = is_compressed_form (option_and_then (λ x. x.proof) (slice_get s.assertions c.in-Some.place)) in
     let i = c.indentation_like-indentation.result.now in
     let has : not c.is_empty-has_premises.result ≡ has_premises c.args.new.now = search rules in
     let is : i ≡ found_in c.args.indentations.now c.args.source.now c.args.new.now =
     c.indentation_like-indentation.ensures.is ∙ ap₂ indentation_like c.text_for.ensures has in
-    let laid : IsLaidOut i form c.in-Some-2.text.items =
+    let text = c.in-Some-2.text.items in
+    let laid : IsLaidOut i form text =
     subst (λ o. IfSome o (λ text. IsLaidOut i form text.items)) c.in-Some-2.is c.in_ok-text.ensures.laid_out in
-    written_for κs s c.args.source.now c.args.new.now c.in-Some-2.text.items i c.args.indentations.now c.in-Some.place indented
-    (sym c.in-Some.ensures) is laid
+    written_for bytes s e living c.args.source.now c.args.new.now text i c.args.indentations.now c.in-Some.place indented
+    (sym c.in-Some.ensures) is laid (λ x at compressed.
+    let takes = Takes s c.args.names.now x.hypotheses in
+    marked_where i takes (TakesThen s e living x.hypotheses) x.hypotheses text (names x.hypotheses)
+    (subst (λ o. IfSome o (λ text. IsMarkedText i takes x.hypotheses text.items)) c.in-Some-2.is
+    (c.in_ok-text.ensures.marked x at compressed)))

@@ -6,7 +6,7 @@ use Rattle.std.proofs.lemmas.Result.{err_from_is_err_and}
 use Rattle.library.specs.declared.library.Ranked.{Ranked}
 use Rattle.std.proofs.lemmas.List.{map-append, get_or_default}
 use Rattle.sourceediting.specs.declared.following.Followed.{Followed as KeptAssertion}
-use Rattle.sourceediting.specs.Views.{seen_living, seen_proofs, seen_followed, AreLabelled}
+use Rattle.sourceediting.specs.Views.{seen_living, seen_proofs, seen_followed, edition_of, AreLabelled}
 use Rattle.sourceediting.specs.Reproved.{step_then}
 use Rattle.library.proofs.Filtered.{contains_mapped}
 use Rattle.sourceediting.proofs.Labelled.{proofs_more}
@@ -26,11 +26,12 @@ loop-followed-preserved g c = λ source indented.
     let d : KeptAssertion = record { source = None; first = e; now = e; moved = false } in
     let x : KeptAssertion = get_or c.args.planned.now.living.now c.loop-followed.followed-index d in
     let old = some.ensures opened (subst (AreLabelled c.in_ok-opened.opened) c.assertions.ensures.value c.in_ok-opened.ensures) in
-    let new = some.ensures' edited c.requires in
+    let new = some.ensures' edited c.requires.labelled in
     elim c.if-not-is_proof.branch [
       | then-not-is_proof+in_ok-text+in_ok-push w ↦
           rw w.proofs-is
-          (proofs_more source (g.D.Declared.scope c.args.declared.now) opened edited living (seen_proofs c.loop-followed.proofs.items) _
+          (proofs_more source (g.D.Declared.scope c.args.declared.now) (edition_of c.args.planned.now) living
+          (seen_proofs c.loop-followed.proofs.items) _
           (some.source.now, w.in_ok-text.text.items)
           (c.loop-followed.invariant source indented) (
             record {
@@ -51,7 +52,7 @@ loop-followed-preserved g c = λ source indented.
                   differ (sym w.if-not-is_proof.true ∙ c.is_proof.ensures.1
                   (ap (λ cs. map (step_then cs) some.old.now.proof) c.in_ok-changes.ensures ∙ e));
             },
-            w.in_ok-text.ensures.written source indented,
+            w.in_ok-text.ensures.written source (edition_of c.args.planned.now) living indented c.requires.names,
           )
           (ap seen_proofs w.in_ok-push.ensures.items ∙ map-append _ c.loop-followed.proofs.items _))
       | else-not-is_proof w ↦ rw w.proofs-is (c.loop-followed.invariant source indented)
@@ -63,4 +64,4 @@ returns-in_err-text-clause-refused g c = λ text.
     let edited = map (λ (r : Ranked). r.assertion) planned.edited.now.entries in
     let p = err_from_is_err_and c.from_residual-in_err-text.result c.from_residual-in_err-text.ensures.1 in
     rw (p.1, p.2) (c.in_err-text.ensures.refused (seen_living planned.living.now) edited text
-    (c.in-Some-Some-Some.ensures' edited c.requires).0)
+    (c.in-Some-Some-Some.ensures' edited c.requires.labelled).0)

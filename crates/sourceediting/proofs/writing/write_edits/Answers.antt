@@ -7,6 +7,9 @@ use Rattle.sourceediting.proofs.writing.write_edits.Goals as goal
 pub write_over-requires : goal.write_over-requires
 write_over-requires g c κs = (
   (refl, tt),
-  subst (λ (es : List Ranked). AreLabelled c.in_ok-edited.edited (map (λ (r : Ranked). r.assertion) es)) c.entries.ensures.value
-      c.in_ok-edited.ensures,
+  (
+    subst (λ (es : List Ranked). AreLabelled c.in_ok-edited.edited (map (λ (r : Ranked). r.assertion) es)) c.entries.ensures.value
+        c.in_ok-edited.ensures,
+    c.in_ok-names.ensures,
+  ),
 )

@@ -1,13 +1,12 @@
 -- What is left to show of `write_over`.
-use Rattle.std.proofs.Common.{◌≡◌, ◌∙◌, map, sym, ap, subst}
+use Rattle.std.proofs.Common.{◌≡◌, ◌∙◌, sym, ap, subst}
 use Rattle.std.specs.Prelude.{IfSome}
 use Rattle.items.specs.Walking.{AreIndentations}
 use Rattle.std.proofs.lemmas.Result.{IfOk-weaker, err_from_is_err_and}
-use Rattle.library.specs.declared.library.Ranked.{Ranked}
 use Rattle.source.specs.Views.{seen_words}
 use Rattle.sourceediting.specs.Following.{all_commands}
 use Rattle.sourceediting.specs.Reproved.{AreOtherProofs}
-use Rattle.sourceediting.specs.Views.{seen_living, seen_proofs}
+use Rattle.sourceediting.specs.Views.{seen_living, seen_proofs, edition_of}
 use Rattle.sourceediting.specs.Written.{IsWrittenAnew}
 use Rattle.sourceediting.proofs.Rewritten.{by_others}
 use Rattle.sourceediting.proofs.writing.write_over.Goals as goal
@@ -19,8 +18,7 @@ returns-clause-written g c =
     let source = c.args.source.now in
     let proofs = c.in_ok-proofs-2.proofs in
     let planned = c.args.planned.now in
-    let are_others = AreOtherProofs source (g.D.Declared.scope c.args.declared.now) planned.database.now.assertions
-    (map (λ (r : Ranked). r.assertion) planned.edited.now.entries) (seen_living planned.living.now) in
+    let are_others = AreOtherProofs source (g.D.Declared.scope c.args.declared.now) (edition_of planned) (seen_living planned.living.now) in
     let indented = subst (λ o. IfSome o (AreIndentations source)) c.in-Some.is c.in_ok-indented.ensures in
     let are = subst are_others (sym (c.in_ok-proofs-2.ensures ∙ ap seen_proofs c.as_slice.ensures.value))
     (c.in_ok-proofs.ensures.made source indented) in

@@ -9,3 +9,9 @@ returns-clause-marked g c = λ a at is.
     let form = c.is_compressed_like-is_compressed.ensures ∙ ap is_compressed_form c.proof.ensures
     ∙ ap (λ (o : Option Assertion). is_compressed_form (option_and_then (λ a. a.proof) o)) at ∙ is in
     c.text_of.ensures.marked a.hypotheses (c.in_ok-hypotheses.ensures a at) form
+
+pub returns-clause-some : goal.returns-clause-some
+returns-clause-some g c = λ a at is stand.
+    let form = c.is_compressed_like-is_compressed.ensures ∙ ap is_compressed_form c.proof.ensures
+    ∙ ap (λ (o : Option Assertion). is_compressed_form (option_and_then (λ a. a.proof) o)) at ∙ is in
+    c.text_of.ensures.some a.hypotheses (c.in_ok-hypotheses.ensures a at) form stand

@@ -4,19 +4,18 @@ use Rattle.sourcewriting.proofs.Labels.{form_of_labels}
 use Rattle.sourcewriting.specs.Reading.{labels_in}
 use Rattle.sourcewriting.proofs.proving.put_in_form.Goals as goal
 
-pub returns-then-is_compressed : goal.returns-then-is_compressed
-returns-then-is_compressed c = λ i laid.
+pub returns-then-is_compressed-clause-laid : goal.returns-then-is_compressed-clause-laid
+returns-then-is_compressed-clause-laid c = λ i laid.
     if_ok c.put_compressed.result
     (λ right has yes.
     let marked = has yes in
     ((((codes "(" ∷ (labels_in marked.labels ++ codes ")" ∷ [])) ++ marked.laid.0), marked.laid.2, λ _. sym c.if-is_compressed.true), λ _. marked))
     (c.put_compressed.ensures i laid)
 
-pub returns-else-is_compressed : goal.returns-else-is_compressed
-returns-else-is_compressed c = λ i laid.
-    if_ok c.put_normal.result
-    (λ _ has yes. (
+pub returns-in_ok-put_normal-clause-laid : goal.returns-in_ok-put_normal-clause-laid
+returns-in_ok-put_normal-clause-laid c = λ i laid.
+    λ whole.
+    let has = c.in_ok-put_normal.ensures.laid i ([], (laid, λ _. refl)) in (
       (has.0, has.1.0, λ right. form_of_labels has.0 (has.1.1 right) ∙ sym c.if-is_compressed.false),
       λ is. absurd (cc c.if-is_compressed.false),
-    ))
-    (c.put_normal.ensures i ([], (laid, λ _. refl)))
+    )

@@ -10,8 +10,8 @@ at_some : {A : Type 0} (b : Bool) (v : A) (P : A → Type 0) → (b ≡ false �
 at_some true v P h = tt
 at_some false v P h = h refl
 
-pub returns : goal.returns
-returns c = λ i ws has.
+pub returns-clause-laid : goal.returns-clause-laid
+returns-clause-laid c = λ i ws has.
     let l = c.args.self in
     let m = c.put_space.new.self in
     let fits = c.has_room-begins_line.result in

@@ -5,8 +5,8 @@ use Rattle.sourcewriting.proofs.Labels.{closed_none_behind, labels_more}
 use Rattle.sourcewriting.proofs.Laying.{first_no, second_yes}
 use Rattle.sourcewriting.proofs.layout.Layout.put_label.Goals as goal
 
-pub returns : goal.returns
-returns c = λ i front labels closed has.
+pub returns-clause-laid : goal.returns-clause-laid
+returns-clause-laid c = λ i front labels closed has.
     let l = c.args.self.now in
     let m = c.put_word.new.self in
     let label = c.args.label.now in

@@ -1,0 +1,16 @@
+-- What is left to show of `kinds_then`.
+use Rattle.std.proofs.Common.{ℕ, Option, sym, subst}
+use Rattle.std.specs.Prelude.{IfOk, IfSome}
+use Rattle.std.specs.Borrow.{Bor}
+use Rattle.std.specs.Option.{option_map}
+use Rattle.mmtext.specs.Words.{Word}
+use Rattle.sourcewriting.specs.Counting.{IsCountOf}
+use Rattle.sourceediting.specs.Entries.{HasHypotheses}
+use Rattle.sourceediting.proofs.planning.kinds_then.Goals as goal
+
+pub returns-in-None : goal.returns-in-None
+returns-in-None g c = λ e labelled prelude.
+    let s = g.D.Declared.scope c.args.declared.now in
+    subst (λ (o : Option (Bor Word)). IfOk c.kinds_of_added.result (λ made. IfSome made (λ kinds. (n : ℕ) → IsCountOf s kinds n
+    → HasHypotheses s e c.args.followed.now.now.now (option_map (λ w. w.now) o) n)))
+    (sym c.in-None.is) (c.kinds_of_added.ensures s e labelled prelude)

@@ -1,0 +1,42 @@
+-- When the steps of a proof in the library denote a tree where the proof is to stand: they leave one entry (Metamath book, section 4.1.4).
+use Rattle.std.specs.Prelude.{◌≡◌, ◌<◌, ◌≤◌, ◌+◌, ℕ, suc, List, [], ◌∷◌, length, Some}
+use Rattle.std.specs.Str.{bytes_eq}
+use Rattle.std.specs.HashMap.{get_by}
+use Rattle.mmsyntax.specs.declared.limits.TheConstants.{MOST_STEPS}
+use Rattle.mmsyntax.specs.declared.statement.Step.{Step}
+use Rattle.mmsyntax.specs.declared.statement.Step.TheVariants.{Float, Hyp, Cite}
+use Rattle.mmtext.specs.Words.{Word}
+use Rattle.source.specs.Scopes.{Hypothesis, Scope}
+use Rattle.taking.specs.Listings.{premise_labels}
+use Rattle.sourcewriting.specs.declared.listing.Cited.{Cited}
+use Rattle.sourcewriting.specs.declared.listing.Names.{Names}
+use Rattle.sourcewriting.specs.Counting.{IsCountOf, Takes}
+use Rattle.sourcewriting.specs.Named.{IsName}
+
+-- an assertion is cited by its label in the library, and takes so many entries
+pub record IsCitedAs (s : Scope) (m : Names) (label : Word) (n : ℕ) : Type 0 where
+  pub cited : Cited
+  pub found : get_by (λ k. bytes_eq label k.now) m.cited ≡ Some cited
+  pub many : IsCountOf s cited.kinds n
+
+-- a step takes so many entries, in the proof of a theorem with so many $e: that of a $f or a $e which is there takes none
+abbrev pub StepTakes : Scope → Names → ℕ → Step → ℕ → Type 0
+StepTakes s m premises (Float i) n = (i < length m.floats.items) × (n ≡ 0)
+StepTakes s m premises (Hyp k) n = (k < premises) × (n ≡ 0)
+StepTakes s m premises (Cite label) n = IsCitedAs s m label n
+
+-- steps lead from so many entries to so many: each takes its own off, and puts one
+abbrev pub Lead : Scope → Names → ℕ → ℕ → List Step → ℕ → Type 0
+Lead s m premises before [] after = before ≡ after
+Lead s m premises before (step ∷ steps) after =
+    (rest : ℕ) × (n : ℕ) × StepTakes s m premises step n × (before ≡ rest + n) × Lead s m premises (suc rest) steps after
+
+abbrev pub LeaveOne : Scope → Names → ℕ → List Step → Type 0
+LeaveOne s m premises steps = Lead s m premises 0 steps 1
+
+-- a proof of a theorem with these hypotheses can be written there: it denotes a tree, of at most 16,384 steps, and what may be a label in
+-- it is a name
+pub record CanStand (s : Scope) (m : Names) (hypotheses : List Hypothesis) (steps : List Step) : Type 0 where
+  pub few : length steps ≤ MOST_STEPS
+  pub one : LeaveOne s m (length (premise_labels hypotheses)) steps
+  pub names : (label : Word) (n : ℕ) → Takes s m hypotheses label n → IsName label
