@@ -14,12 +14,11 @@ use Rattle.library.specs.Library.{Listed}
 use Rattle.comments.specs.Kept.{AreKept}
 use Rattle.sourceediting.specs.Following.{Following, all_commands, behind_all, opening, changes_of, label_then, own_flags}
 use Rattle.sourceediting.specs.Following.{names_none}
-use Rattle.library.specs.declared.library.Ranked.{Ranked}
 use Rattle.sourceediting.specs.Reproved.{AreOtherProofs}
 use Rattle.sourceediting.specs.Written.{IsWrittenAnew}
 use Rattle.secondlook.specs.Looked.{IsLookedAt}
 use Rattle.givetext.specs.Parts.{IsEdited}
-use Rattle.givetext.specs.Given.{IsTakenText, IsGiven}
+use Rattle.givetext.specs.Given.{IsTakenText, IsGiven, edition}
 
 module _ (source out : List ℕ) (old : Scope) (choice : Choice) (taken : Taken) (entries : List Entry) (edited : Listed)
     (followed : Following)
@@ -28,7 +27,7 @@ module _ (source out : List ℕ) (old : Scope) (choice : Choice) (taken : Taken)
   pub edited_by : (then : List Word) → then ≡ map label_then followed.living
       → All (λ x. IsTrue (names_none followed.gone x.proof)) (others own old.assertions)
       → IsWrittenAnew (all_commands entries) followed.living followed.gone
-      (AreOtherProofs source old taken.database.assertions (map (λ (r : Ranked). r.assertion) edited.entries) followed.living)
+      (AreOtherProofs source old (edition taken edited) followed.living)
       changes source out
       → AreKept changes followed.gone source out → IsLookedAt old out changes own then edited
       → IsEdited source old choice taken entries edited out
@@ -41,7 +40,7 @@ module _ (source out : List ℕ) (old : Scope) (choice : Choice) (taken : Taken)
             subst (λ (fs : List Bool). All (λ x. IsTrue (names_none followed.gone x.proof)) (others fs old.assertions)) flags uncited;
         written =
             subst (λ (cs : List Change). IsWrittenAnew (all_commands entries) followed.living followed.gone
-            (AreOtherProofs source old taken.database.assertions (map (λ (r : Ranked). r.assertion) edited.entries) followed.living)
+            (AreOtherProofs source old (edition taken edited) followed.living)
             cs source out) changed
             written;
         comments = subst (λ (cs : List Change). AreKept cs followed.gone source out) changed kept;

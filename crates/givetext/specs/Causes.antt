@@ -29,7 +29,7 @@ use Rattle.sourceediting.specs.declared.refusal.Refusal.TheVariants as edits
 use Rattle.secondlook.specs.Differing.{IsUnlike, IsUntaken}
 use Rattle.secondlook.specs.declared.unlike.Unlike.{Unlike}
 use Rattle.secondlook.specs.declared.unlike.Unlike.TheVariants as unlike
-use Rattle.givetext.specs.Given.{IsTakenText}
+use Rattle.givetext.specs.Given.{IsTakenText, edition}
 use Rattle.givetext.specs.declared.refusal.Refusal.{Refusal}
 use Rattle.givetext.specs.declared.refusal.Refusal.TheVariants as refusal
 
@@ -97,7 +97,7 @@ edited_assertions k = map (λ r. r.assertion) k.edited.entries
 abbrev pub IsTextThen : Known → List ℕ → List ℕ → Type 0
 IsTextThen k source out =
     IsWrittenAnew (all_commands k.entries) k.followed.living k.followed.gone
-    (AreOtherProofs source k.old k.taken.database.assertions (edited_assertions k) k.followed.living) k.changes source out
+    (AreOtherProofs source k.old (edition k.taken k.edited) k.followed.living) k.changes source out
 
 -- ---- a label is a name already
 

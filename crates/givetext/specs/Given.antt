@@ -11,12 +11,13 @@ use Rattle.library.specs.declared.history.Entry.{Entry}
 use Rattle.library.specs.Library.{Listed}
 use Rattle.checking.specs.Checks.{LeadsTo}
 use Rattle.intake.specs.declared.taken.Taken.{Taken}
-use Rattle.intake.specs.Intakes.{IsLibraryOf, axioms_of}
+use Rattle.intake.specs.Intakes.{IsLibraryOf, axioms_of, names_of}
 use Rattle.taketext.specs.Answers.{taken_text}
 use Rattle.comments.specs.Kept.{AreKept}
 use Rattle.sourceediting.specs.Following.{Following, all_commands, behind_all, opening, changes_of, label_then, own_flags}
 use Rattle.sourceediting.specs.Following.{names_none}
 use Rattle.secondlook.specs.Again.{IsTakenAgain}
+use Rattle.sourceediting.specs.Entries.{Edition}
 use Rattle.sourceediting.specs.Reproved.{AreOtherProofs}
 use Rattle.sourceediting.specs.Written.{IsWrittenAnew}
 
@@ -26,6 +27,10 @@ pub record IsTakenText (source : List ℕ) (s : Scope) (library : List ℕ) (t :
   pub wish : Wish
   pub taken : IsLibraryOf s wish t
   pub text : library ≡ taken_text path source wish t
+
+-- that library, and what it is behind a history
+abbrev pub edition : Taken → Listed → Edition
+edition t edited = record { opened = t.database; names = names_of t; edited = edited }
 
 -- a source with the edits of a history over a library that was taken of it
 pub record IsGiven (source library history out : List ℕ) : Type 0 where
@@ -52,9 +57,9 @@ pub record IsGiven (source library history out : List ℕ) : Type 0 where
   pub uncited : All (λ x. IsTrue (names_none followed.gone x.proof))
       (others (own_flags was_taken.taken.taken.choice (axioms_of taken) old) old.assertions)
   -- and so is every byte, but for these edits: just theorems whose listing the history changes have another proof, in the form of the old
-  -- one
+  -- one, and marked where that is compressed
   pub written : IsWrittenAnew (all_commands entries) followed.living followed.gone
-      (AreOtherProofs source old taken.database.assertions (map (λ r. r.assertion) edited.entries) followed.living)
+      (AreOtherProofs source old (edition taken edited) followed.living)
       (changes_of followed) source out
   -- no comment between statements is lost or made, but some that go with what was deleted, and in each just the labels change
   pub comments : AreKept (changes_of followed) followed.gone source out

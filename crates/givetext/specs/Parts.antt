@@ -28,6 +28,7 @@ use Rattle.sourceediting.specs.Following.{Followed, Following, all_commands, beh
 use Rattle.sourceediting.specs.Following.{names_none}
 use Rattle.secondlook.specs.Looked.{IsLookedAt}
 use Rattle.sourceediting.specs.Reproved.{AreOtherProofs}
+use Rattle.givetext.specs.Given.{edition}
 use Rattle.sourceediting.specs.Written.{IsWrittenAnew}
 
 -- it is the source with the edits of a history over a library that was taken of it by a choice, and was looked at
@@ -38,7 +39,7 @@ pub record IsEdited (source : List ℕ) (old : Scope) (choice : Choice) (taken :
   pub follows : followed ≡ behind_all (all_commands entries) (opening old choice taken.database)
   pub uncited : All (λ x. IsTrue (names_none followed.gone x.proof)) (others (own_flags choice (axioms_of taken) old) old.assertions)
   pub written : IsWrittenAnew (all_commands entries) followed.living followed.gone
-      (AreOtherProofs source old taken.database.assertions (map (λ r. r.assertion) edited.entries) followed.living)
+      (AreOtherProofs source old (edition taken edited) followed.living)
       (changes_of followed) source out
   pub comments : AreKept (changes_of followed) followed.gone source out
   pub looked : IsLookedAt old out (changes_of followed) (own_flags choice (axioms_of taken) old) (map label_then followed.living) edited

@@ -20,7 +20,7 @@ ghost use Rattle.sourceediting.specs.Reproved.{AreOtherProofs};
 ghost use Rattle.sourceediting.specs.Written.{IsWrittenAnew};
 ghost use Rattle.secondlook.specs.Looked.{IsLookedAt};
 ghost use Rattle.givetext.specs.Causes.{known_of, IsJustified, IsRefused, IsTextThen};
-ghost use Rattle.givetext.specs.Given.{IsTakenText, IsGiven};
+ghost use Rattle.givetext.specs.Given.{IsTakenText, IsGiven, edition};
 ghost use Rattle.givetext.specs.Parts.{IsEdited, IsReplayRefusal, IsSourceRefusal, IsStopped, IsTakingRefusal, IsUntakenBy};
 ghost use Rattle.givetext.specs.Parts.{TakesName};
 ghost use Rattle.givetext.specs.declared.refusal.Refusal.TheVariants.{NoMemory};
@@ -212,7 +212,7 @@ fn write_anew(
 ) -> Result<Vec<u8>, Refusal>
     ensures written { IfOk result (λ out. IsWrittenAnew (all_commands replayed.now.entries) (seen_following following.now).living
         (seen_following following.now).gone (AreOtherProofs source.now old.now.stand.scope
-        taken.now.database.assertions (map (λ r. r.assertion) replayed.now.edited.entries) (seen_following following.now).living)
+        (edition taken.now replayed.now.edited) (seen_following following.now).living)
         changes.now source.now out.items) }
     ensures refused { IfErr result (IsJustified (known_of old.now.stand.scope taken.now replayed.now.entries replayed.now.edited
         (seen_following following.now) changes.now own.now) source.now) }
@@ -283,7 +283,7 @@ fn write_and_look<'x>(
     requires { length own.now ≡ length old.now.stand.scope.assertions }
     ensures written { IfOk result (λ out. IsWrittenAnew (all_commands replayed.now.entries) (seen_following following.now).living
         (seen_following following.now).gone (AreOtherProofs source.now old.now.stand.scope
-        taken.now.database.assertions (map (λ r. r.assertion) replayed.now.edited.entries) (seen_following following.now).living)
+        (edition taken.now replayed.now.edited) (seen_following following.now).living)
         changes.now source.now out.items) }
     ensures comments { IfOk result (λ out. AreKept changes.now (seen_words following.now.gone.items) source.now out.items) }
     ensures looked { IfOk result (λ out. IsLookedAt old.now.stand.scope out.items changes.now own.now

@@ -6,13 +6,13 @@ use Rattle.std.proofs.lemmas.Result.{err_from_is_err_and}
 use Rattle.mmtext.specs.Words.{Word}
 use Rattle.source.specs.Views.{seen_words}
 use Rattle.library.specs.declared.history.Entry.{Entry}
-use Rattle.library.specs.declared.library.Ranked.{Ranked}
 use Rattle.sourceediting.specs.declared.following.Followed.{Followed as KeptAssertion}
 use Rattle.sourceediting.specs.Following.{all_commands}
 use Rattle.sourceediting.specs.Reproved.{AreOtherProofs}
 use Rattle.sourceediting.specs.Refusals.{HasCause}
 use Rattle.sourceediting.specs.Views.{seen_living, seen_following}
 use Rattle.givetext.specs.Causes.{known_of, edited_assertions}
+use Rattle.givetext.specs.Given.{edition}
 use Rattle.givetext.proofs.Stopped.{told_cause, edits_cause}
 use Rattle.sourceediting.specs.Written.{IsWrittenAnew}
 use Rattle.givetext.proofs.call.write_anew.Goals as goal
@@ -22,16 +22,19 @@ returns-clause-written c =
     let cs = c.args.changes.now in
     let source = c.args.source.now in
     let old = c.args.old.now.stand.scope in
-    let opened = c.args.taken.now.database.assertions in
-    let edited = map (λ (r : Ranked). r.assertion) c.args.replayed.now.edited.entries in
+    let e = edition c.args.taken.now c.args.replayed.now.edited in
     let gone = seen_words c.args.following.now.gone.items in
     let out = c.in_ok-write_edits.field-0.items in
-    let says = λ (es : List Entry) (fs : List KeptAssertion) (ws : List Word).
-    IsWrittenAnew (all_commands es) (seen_living fs) ws (AreOtherProofs source old opened edited (seen_living fs)) cs source out in
-    subst (λ (fs : List KeptAssertion). says c.args.replayed.now.entries fs gone) c.as_slice-living.ensures.value
-    (subst (λ (es : List Entry). says es c.as_slice-living.result.now gone) c.as_slice-entries.ensures
-    (subst (λ (ws : List (Bor (List ℕ))). says c.as_slice-entries.result.now c.as_slice-living.result.now (seen_words ws))
-    c.as_slice-gone.ensures.value c.in_ok-write_edits.ensures.written))
+    let says = λ (es : List Entry) (fs : List KeptAssertion) (ws : List Word) (ns : List (Bor (List ℕ) × List ℕ)).
+    IsWrittenAnew (all_commands es) (seen_living fs) ws
+    (AreOtherProofs source old (record e { names = map (λ p. (p.0.now, p.1)) ns }) (seen_living fs)) cs source out in
+    let es = c.as_slice-entries.result.now in
+    let fs = c.as_slice-living.result.now in
+    let ns = c.args.taken.now.names.items in
+    subst (λ (fs : List KeptAssertion). says c.args.replayed.now.entries fs gone ns) c.as_slice-living.ensures.value
+    (subst (λ (es : List Entry). says es fs gone ns) c.as_slice-entries.ensures
+    (subst (λ (ws : List (Bor (List ℕ))). says es fs (seen_words ws) ns) c.as_slice-gone.ensures.value
+    (subst (says es fs (seen_words c.as_slice-gone.result.now)) c.as_slice-2.ensures.value c.in_ok-write_edits.ensures.written)))
 
 pub returns-in_err-write_edits-clause-refused : goal.returns-in_err-write_edits-clause-refused
 returns-in_err-write_edits-clause-refused c =
