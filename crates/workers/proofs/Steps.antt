@@ -16,7 +16,7 @@ use Rattle.transaction.specs.Attempts.{Submits}
 use Rattle.claims.specs.Claims.{Counting, Claimant, IsClaimantOf, Claims, Ends}
 use Rattle.workers.specs.declared.shift.Row.{Row}
 use Rattle.workers.specs.Works.{SubmitsAll}
-use Rattle.workers.specs.Shifts.{RunsAll, IsShift}
+use Rattle.workers.specs.Shifts.{RunsAll, RunsNext, IsShift}
 
 submits_more : (script : List (List Command)) (old mid new : Member) (os : List Outcome) (cs : List Command) (o : Outcome)
     → SubmitsAll script old mid os → Submits cs mid new o → SubmitsAll (script ++ cs ∷ []) old new (os ++ o ∷ [])
@@ -44,15 +44,30 @@ runs_more scripts old mid new [] row script same is submits =
 runs_more scripts old mid new (r ∷ rows) row script (next, own, there, first, others) is submits =
     (next, own, there, first, runs_more scripts next mid new rows row script others is submits)
 
-pub runs_next : (scripts : List (List (List Command))) (n : ℕ) (old mid new : Member) (rows after : List Row)
-    (outcomes : Vec Outcome Global) (given script : List (List Command)) → n < length scripts → script ≡ get_or scripts n given
-    → after ≡ rows ++ record { script = n; outcomes = outcomes } ∷ [] → RunsAll scripts old mid rows
-    → SubmitsAll script mid new outcomes.items → RunsAll scripts old new after
-runs_next scripts n old mid new rows after outcomes given script within is pushed so_far submits =
-    let there : slice_get scripts n ≡ Some script =
-    slice_get-get_or scripts n given within ∙ ap (λ (z : List (List Command)). Some z) (sym is) in
+-- a script that was run, with what became of it
+pub script_ran : (scripts : List (List (List Command))) (n : ℕ) (given script : List (List Command)) (old new : Member)
+    (rows kept after : List Row) (outcomes : Vec Outcome Global) → n < length scripts → script ≡ get_or scripts n given → kept ≡ rows
+    → after ≡ kept ++ record { script = n; outcomes = outcomes } ∷ [] → SubmitsAll script old new outcomes.items
+    → RunsNext scripts n old new rows after
+script_ran scripts n given script old new rows kept after outcomes within is same pushed submits = (
+  record { script = n; outcomes = outcomes },
+  refl,
+  pushed ∙ ap (λ (rs : List Row). rs ++ record { script = n; outcomes = outcomes } ∷ []) same,
+  (script, slice_get-get_or scripts n given within ∙ ap (λ (z : List (List Command)). Some z) (sym is), submits),
+)
+
+pub runs_next : (scripts : List (List (List Command))) (n : ℕ) (old mid new : Member) (rows after : List Row) → RunsAll scripts old mid rows
+    → RunsNext scripts n mid new rows after → RunsAll scripts old new after
+runs_next scripts n old mid new rows after so_far (row, index, pushed, (script, is, submits)) =
     subst (RunsAll scripts old new) (sym pushed)
-    (runs_more scripts old mid new rows (record { script = n; outcomes = outcomes }) script so_far there submits)
+    (runs_more scripts old mid new rows row script so_far (ap (λ (k : ℕ). slice_get scripts k) index ∙ is) submits)
+
+-- the rows are of one script more
+pub scripts_next : (scripts : List (List (List Command))) (n : ℕ) (old new : Member) (rows after : List Row)
+    → RunsNext scripts n old new rows after → map (λ row. row.script) after ≡ map (λ row. row.script) rows ++ n ∷ []
+scripts_next scripts n old new rows after (row, index, pushed, ran) =
+    ap (map (λ (r : Row). r.script)) pushed
+    ∙ (map-append (λ (r : Row). r.script) rows (row ∷ []) ∙ ap (λ (k : ℕ). map (λ (r : Row). r.script) rows ++ k ∷ []) index)
 
 -- ---- claims
 
@@ -83,28 +98,17 @@ module _ (home : Counting) (n : ℕ) (old new : Claimant) (claims : Claims home 
   pub same_count : new.count ≡ old.count
   same_count = ap (λ (c : Claimant). c.count) claims.is
 
-  -- what was claimed since are the scripts of the rows
-  pub claimed_next : (first : List ℕ) (rows after : List Row) (outcomes : Vec Outcome Global)
-      → after ≡ rows ++ record { script = n; outcomes = outcomes } ∷ [] → old.claimed ≡ first ++ map (λ r. r.script) rows
-      → new.claimed ≡ first ++ map (λ r. r.script) after
-  claimed_next first rows after outcomes pushed so_far =
-      let mapped = ap (map (λ (r : Row). r.script)) pushed
-      ∙ map-append (λ (r : Row). r.script) rows (record { script = n; outcomes = outcomes } ∷ []) in
+  -- behind what was claimed since comes this one
+  pub claimed_next : (first own : List ℕ) → old.claimed ≡ first ++ own → new.claimed ≡ first ++ (own ++ n ∷ [])
+  claimed_next first own so_far =
       ap (λ (c : Claimant). c.claimed) claims.is
-      ∙ (ap (λ (ns : List ℕ). ns ++ n ∷ []) so_far
-      ∙ (append_assoc first (map (λ r. r.script) rows) (n ∷ []) ∙ ap (λ (ns : List ℕ). first ++ ns) (sym mapped)))
+      ∙ (ap (λ (ns : List ℕ). ns ++ n ∷ []) so_far ∙ append_assoc first own (n ∷ []))
 
   -- they rise, as each claim is behind those before it
-  pub rising_next : (first : List ℕ) (rows after : List Row) (outcomes : Vec Outcome Global)
-      → after ≡ rows ++ record { script = n; outcomes = outcomes } ∷ [] → old.claimed ≡ first ++ map (λ r. r.script) rows
-      → IsStrictlyIncreasing (map (λ r. r.script) rows) → IsStrictlyIncreasing (map (λ r. r.script) after)
-  rising_next first rows after outcomes pushed so_far rises =
-      let mapped = ap (map (λ (r : Row). r.script)) pushed
-      ∙ map-append (λ (r : Row). r.script) rows (record { script = n; outcomes = outcomes } ∷ []) in
-      let own = map (λ (r : Row). r.script) rows in
+  pub rising_next : (first own : List ℕ) → old.claimed ≡ first ++ own → IsStrictlyIncreasing own → IsStrictlyIncreasing (own ++ n ∷ [])
+  rising_next first own so_far rises =
       let behind = All-drop (λ m. m < n) (length first) (first ++ own) (subst (All (λ m. m < n)) so_far claims.later) in
-      let below = subst (All (λ m. m < n)) (drop-append_seam first own) behind in
-      subst IsStrictlyIncreasing (sym mapped) (rises_more own n rises below)
+      rises_more own n rises (subst (All (λ m. m < n)) (drop-append_seam first own) behind)
 
 -- a worker that is told that there are no more ends its shift
 pub shift_ends : (scripts : List (List (List Command))) (session after : Member) (claimant last told : Claimant) (rows : List Row)

@@ -17,6 +17,12 @@ RunsAll scripts old new (row ∷ rows) =
     (mid : Member) × (script : List (List Command)) × (slice_get scripts row.script ≡ Some script)
     × SubmitsAll script old mid row.outcomes.items × RunsAll scripts mid new rows
 
+-- the session runs the script with this index, and what became of it is put behind the other rows
+abbrev pub RunsNext : List (List (List Command)) → (index : ℕ) → Member → Member → List Row → List Row → Type 0
+RunsNext scripts index old new rows after =
+    (row : Row) × (row.script ≡ index) × (after ≡ rows ++ row ∷ [])
+    × ((script : List (List Command)) × (slice_get scripts index ≡ Some script) × SubmitsAll script old new row.outcomes.items)
+
 -- what a worker does: its session runs the scripts that it claims, in this order, until it is told that there are no more
 pub record IsShift (scripts : List (List (List Command))) (session : Member) (claimant : Claimant) (after : Member) (last : Claimant)
     (rows : List Row) : Type 0 where
@@ -27,6 +33,14 @@ pub record IsShift (scripts : List (List (List Command))) (session : Member) (cl
   pub claimed : last.claimed ≡ claimant.claimed ++ map (λ row. row.script) rows
   pub rises : IsStrictlyIncreasing (map (λ row. row.script) rows)
   pub ended : last.ended ≡ true
+
+-- what it did where memory was wanting: its session ran all scripts that it had claimed but the last, in this order, each of them to its
+-- end, and submitted nothing of the last
+pub record IsCutOff (scripts : List (List (List Command))) (session : Member) (claimant : Claimant) (after : Member) (last : Claimant)
+    (rows : List Row) : Type 0 where
+  pub runs : RunsAll scripts session after rows
+  pub left : ℕ
+  pub claimed : last.claimed ≡ claimant.claimed ++ (map (λ row. row.script) rows ++ left ∷ [])
 
 -- each worker does, with these sessions and claimants
 abbrev pub AreShifts : List (List (List Command)) → List Member → List Claimant → List Shift → Type 0

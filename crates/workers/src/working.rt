@@ -38,8 +38,8 @@ pub struct Worked {
 /// # Errors
 ///
 /// `NoThread` where there are two sessions or more and a thread can't be had, and want of memory. That may come before any script is run;
-/// where a worker claims one, before the first of its transactions, or behind the last, never between them; and behind all scripts. The
-/// sessions are gone then, and what they committed stays in the library.
+/// where a worker claims one, before the first of its transactions, of which none is submitted then; and behind all scripts. So each script
+/// was run to its end or not at all. The sessions are gone then, and what they committed stays in the library.
 pub fn run_scripts<R: Threads + Wait + Sync, G: Gate + Sync>(
     rt: &R,
     alloc: Global,

@@ -1,7 +1,7 @@
 use Rattle.std.proofs.Common.{◌≡◌, take, vec_len}
 use Rattle.transaction.specs.Members.{IsSessionOf}
 use Rattle.workers.specs.Works.{SubmitsAll}
-use Rattle.workers.proofs.shift.submit_all.Given as goal
+use Rattle.workers.proofs.shift.run_script.Given as goal
 
 abbrev pub invariant-loop-transaction : goal.invariant-loop-transaction
 invariant-loop-transaction g l =
