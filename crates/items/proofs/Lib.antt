@@ -12,3 +12,5 @@ mod Fronts
 pub mod PutThen
 pub mod Found
 mod Indented
+mod Divided
+pub mod Sourced

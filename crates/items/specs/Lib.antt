@@ -2,6 +2,7 @@ pub mod Items
 pub mod Renaming
 pub mod Layout
 pub mod Reading
+pub mod Divided
 pub mod Machine
 pub mod Rewriting
 pub mod Indentations

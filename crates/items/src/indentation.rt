@@ -1,9 +1,10 @@
 //! How far the proofs of a source are indented.
 
-ghost use Rattle.std.specs.Prelude.{◌≡◌, ◌≤◌, ◌==◌, IfOk, IfSome, length};
+ghost use Rattle.std.specs.Prelude.{◌≡◌, ◌≤◌, ◌==◌, IfOk, IfSome, IsSome, length};
 ghost use Rattle.std.specs.List.{list_all};
 ghost use Rattle.std.specs.Option.{option_map};
 ghost use Rattle.items.specs.Items.{Item as Pieces};
+ghost use Rattle.items.specs.Divided.{IsDivided};
 ghost use Rattle.items.specs.Layout.{indent};
 ghost use Rattle.items.specs.Reading.{IsOfKind, Stands};
 ghost use Rattle.items.specs.Indentations.{indentation_of, indented};
@@ -131,7 +132,8 @@ pub fn indentations<'s>(
     keys: RandomState,
     source: &'s [u8],
 ) -> Result<Option<Changes<'s>>, AllocError>
-    ensures { IfOk result (λ made. IfSome made (AreIndentations source.now)) }
+    ensures indentations { IfOk result (λ made. IfSome made (AreIndentations source.now)) }
+    ensures all { IsDivided source.now → IfOk result IsSome }
 {
     let mut pairs = Vec::new(alloc);
     let mut at = 0;

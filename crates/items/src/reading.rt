@@ -1,11 +1,13 @@
 //! The items of a text, one behind the other.
 
-ghost use Rattle.std.specs.Prelude.{◌≡◌, ◌≢◌, ◌≤◌, ◌<◌, ℕ, length, IfOk, IfSome};
+ghost use Rattle.std.specs.Prelude.{◌≡◌, ◌≢◌, ◌≤◌, ◌<◌, ℕ, List, [], true, false, length, IfOk, IfSome, IsSome, MatchOption};
 ghost use Rattle.mmtext.specs.Text.{mark_of};
+ghost use Rattle.mmtext.specs.Words.{Word};
 ghost use Rattle.mmtext.specs.Views.{seen};
 ghost use Rattle.mmtext.specs.declared.mark.Mark.TheVariants.{Comment, Opening, Closing, End, Proof};
 ghost use Rattle.items.specs.Items.{asserts};
-ghost use Rattle.items.specs.Reading.{AreItems, IsItemAt, IsCommentTo, IsStatementTo, IsFirst, end_of};
+ghost use Rattle.items.specs.Divided.{AreOutside, IsDivided, IsDividedFrom};
+ghost use Rattle.items.specs.Reading.{AreItems, IsItemAt, IsCommentTo, IsStatementTo, IsFirst, end_of, tokens_at};
 
 use mmtext::{Mark, Token, mark_word, next_token};
 use std::alloc::{AllocError, Global};
@@ -40,6 +42,7 @@ pub(crate) fn end_of_comment(text: &[u8], from: usize) -> Option<usize>
     ensures comment { IfSome result (IsCommentTo text.now from) }
     ensures later { IfSome result (λ end. from < end) }
     ensures within { IfSome result (λ end. end ≤ length text.now) }
+    ensures outside { (ws : List Word) → AreOutside true text.now from ws → MatchOption result ⊥ (λ end. AreOutside false text.now end ws) }
 {
     let mut at = from;
     while let Some(token) = next_token(text, at) {
@@ -73,6 +76,7 @@ fn end_of_statement(text: &[u8], from: usize) -> Option<Statement>
     ensures statement { IfSome result (λ s. IsStatementTo text.now from s.end s.asserts) }
     ensures later { IfSome result (λ s. from < s.end) }
     ensures within { IfSome result (λ s. s.end ≤ length text.now) }
+    ensures divided { IsDividedFrom true text.now from → MatchOption result ⊥ (λ s. IsDividedFrom false text.now s.end) }
 {
     let mut first = None;
     let mut at = from;
@@ -103,6 +107,7 @@ fn read_statement<'s>(text: &[u8], first: Token<'s>, behind: usize) -> Option<It
         → mark_of first.entry.text.now ≢ End → mark_of first.entry.text.now ≢ Proof → IfSome result (IsItemAt text.now from) }
     ensures later { IfSome result (λ i. behind < i.end) }
     ensures within { IfSome result (λ i. i.end ≤ length text.now) }
+    ensures divided { IsDividedFrom true text.now behind → MatchOption result ⊥ (λ i. IsDividedFrom false text.now i.end) }
 {
     let statement = end_of_statement(text, behind)?;
     let kind = if statement.asserts {
@@ -120,6 +125,8 @@ pub fn read_item(text: &[u8], from: usize) -> Option<Item<'_>>
     ensures item { IfSome result (IsItemAt text.now from) }
     ensures later { IfSome result (λ i. from < i.end) }
     ensures within { IfSome result (λ i. i.end ≤ length text.now) }
+    ensures divided { IsDividedFrom false text.now from
+        → MatchOption result (tokens_at text.now from ≡ []) (λ i. IsDividedFrom false text.now i.end) }
 {
     let first = next_token(text, from)?;
     let behind = first.place + first.text.len();
@@ -150,7 +157,8 @@ pub fn read_item(text: &[u8], from: usize) -> Option<Item<'_>>
 ///
 /// Want of memory.
 pub fn read_items<'s>(alloc: Global, text: &'s [u8]) -> Result<Option<Vec<Item<'s>>>, AllocError>
-    ensures { IfOk result (λ made. IfSome made (λ found. AreItems text.now found.items)) }
+    ensures found { IfOk result (λ made. IfSome made (λ found. AreItems text.now found.items)) }
+    ensures all { IsDivided text.now → IfOk result IsSome }
 {
     let mut items = Vec::new(alloc);
     let mut at = 0;

@@ -21,6 +21,7 @@ loop-item-preserved-in_ok-push c =
           (seen_pairs c.push.new.self.items) (pair.0.now, pair.1.now) c.loop-item.invariant.so_far is
           (sym (c.in-Some-indented.ensures is.item is.stands is.kind))
           (ap seen_pairs c.in_ok-push.ensures.items ∙ map_push (λ p. (p.0.now, p.1.now)) c.loop-item.pairs.items pair);
+      divided = λ d. c.in-Some.ensures.divided (c.loop-item.invariant.divided d);
     }
 
 pub loop-item-preserved : goal.loop-item-preserved
@@ -31,10 +32,11 @@ loop-item-preserved c =
       so_far =
           one_without c.args.source.now c.loop-item.at c.in-Some.item (seen_pairs c.loop-item.pairs.items)
           c.loop-item.invariant.so_far is (sym (c.in_default-indented.ensures is.item is.stands is.kind));
+      divided = λ d. c.in-Some.ensures.divided (c.loop-item.invariant.divided d);
     }
 
-pub returns : goal.returns
-returns c =
+pub returns-clause-indentations : goal.returns-clause-indentations
+returns-clause-indentations c =
     all_indented c.args.source.now c.loop-item.at c.in_ok-new.field-0
     (subst (AreIndented c.args.source.now c.loop-item.at) (sym c.in_ok-new.ensures) c.loop-item.invariant.so_far)
     (none_if c.next_token.result c.is_some.result c.is_some.ensures c.if-is_some.false c.next_token.ensures.none)

@@ -1,7 +1,8 @@
 -- What is left to show of `end_of_comment`.
-use Rattle.std.proofs.Common.{◌≡◌, false, codes, rules, arith}
+use Rattle.std.proofs.Common.{◌≡◌, true, false, codes, rules, arith}
 use Rattle.std.specs.Str.{bytes_eq}
 use Rattle.mmtext.specs.Views.{seen}
+use Rattle.items.proofs.Divided.{comment_goes, comment_left, comment_on}
 use Rattle.items.proofs.Passed.{comment_ends, comment_goes_on}
 use Rattle.items.proofs.reading.end_of_comment.Goals as goal
 
@@ -25,4 +26,18 @@ loop-token-preserved c =
       passed =
           comment_goes_on c.args.text.now c.args.from c.loop-token.at p.0 (seen c.in-Some.token) p.1 p.2
           (record { next = next.some; later = next.later; within = next.within }) no;
+      outside = λ ws h.
+          comment_on c.args.text.now c.loop-token.at ws (seen c.in-Some.token)
+          (record { next = next.some; later = next.later; within = next.within }) (c.loop-token.invariant.outside ws h) no;
     }
+
+pub returns-then-eq-clause-outside : goal.returns-then-eq-clause-outside
+returns-then-eq-clause-outside c = λ ws h.
+    let next = c.in-Some.ensures in
+    let is : bytes_eq c.in-Some.token.text.now (codes "$)") ≡ true = search rules in
+    comment_left c.args.text.now c.loop-token.at ws (seen c.in-Some.token)
+    (record { next = next.some; later = next.later; within = next.within }) (c.loop-token.invariant.outside ws h) is
+
+pub returns-clause-outside : goal.returns-clause-outside
+returns-clause-outside c = λ ws h.
+    comment_goes c.args.text.now c.loop-token.at ws (c.loop-token.invariant.outside ws h) c.in_default.ensures.none
