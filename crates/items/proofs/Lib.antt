@@ -14,3 +14,4 @@ pub mod Found
 mod Indented
 mod Divided
 pub mod Sourced
+pub mod Bare

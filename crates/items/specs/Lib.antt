@@ -5,5 +5,6 @@ pub mod Reading
 pub mod Divided
 pub mod Machine
 pub mod Rewriting
+pub mod Bare
 pub mod Indentations
 pub mod Walking

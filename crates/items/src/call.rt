@@ -1,6 +1,8 @@
 //! The call `rewrite`.
 
-ghost use Rattle.std.specs.Prelude.{IfOk, IfSome};
+ghost use Rattle.std.specs.Prelude.{IfNone, IfOk, IfSome};
+ghost use Rattle.items.specs.Bare.{HasBare};
+ghost use Rattle.items.specs.Divided.{IsDivided};
 ghost use Rattle.items.specs.Rewriting.{IsRewritten};
 
 use crate::reading::read_item;
@@ -24,7 +26,8 @@ pub fn rewrite(
     proofs: &Changes<'_>,
     source: &[u8],
 ) -> Result<Option<Vec<u8>>, AllocError>
-    ensures { IfOk result (λ made. IfSome made (λ out. IsRewritten changes.now proofs.now source.now out.items)) }
+    ensures rewritten { IfOk result (λ made. IfSome made (λ out. IsRewritten changes.now proofs.now source.now out.items)) }
+    ensures bare { IsDivided source.now → IfOk result (λ made. IfNone made (HasBare proofs.now source.now)) }
 {
     let mut out = Vec::with_capacity(alloc, source.len())?;
     let mut at = 0;

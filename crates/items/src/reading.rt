@@ -5,9 +5,9 @@ ghost use Rattle.mmtext.specs.Text.{mark_of};
 ghost use Rattle.mmtext.specs.Words.{Word};
 ghost use Rattle.mmtext.specs.Views.{seen};
 ghost use Rattle.mmtext.specs.declared.mark.Mark.TheVariants.{Comment, Opening, Closing, End, Proof};
-ghost use Rattle.items.specs.Items.{asserts};
+ghost use Rattle.items.specs.Items.{Item as Pieces, asserts, is_open_behind, words};
 ghost use Rattle.items.specs.Divided.{AreOutside, IsDivided, IsDividedFrom};
-ghost use Rattle.items.specs.Reading.{AreItems, IsItemAt, IsCommentTo, IsStatementTo, IsFirst, end_of, tokens_at};
+ghost use Rattle.items.specs.Reading.{AreItems, IsItemAt, IsCommentTo, IsStatementTo, IsFirst, Stands, end_of, tokens_at};
 
 use mmtext::{Mark, Token, mark_word, next_token};
 use std::alloc::{AllocError, Global};
@@ -42,6 +42,7 @@ pub(crate) fn end_of_comment(text: &[u8], from: usize) -> Option<usize>
     ensures comment { IfSome result (IsCommentTo text.now from) }
     ensures later { IfSome result (λ end. from < end) }
     ensures within { IfSome result (λ end. end ≤ length text.now) }
+    ensures closed { (x : Pieces) (end : ℕ) → Stands text.now from x end → is_open_behind true (words x) ≡ false → IsSome result }
     ensures outside { (ws : List Word) → AreOutside true text.now from ws → MatchOption result ⊥ (λ end. AreOutside false text.now end ws) }
 {
     let mut at = from;

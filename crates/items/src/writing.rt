@@ -1,9 +1,10 @@
 //! Items as they read then.
 
-ghost use Rattle.std.specs.Prelude.{◌≡◌, ◌≤◌, ◌∷◌, ◌++◌, ℕ, [], length, false, None, IfOk, IfSome, IsTrue, OnOk, codes};
+ghost use Rattle.std.specs.Prelude.{◌≡◌, ◌≤◌, ◌∷◌, ◌++◌, ℕ, [], length, false, None, IfOk, IfSome, IsTrue, MatchOption, OnOk, codes};
 ghost use Rattle.std.specs.Str.{bytes_eq};
 ghost use Rattle.mmtext.specs.Words.{Word};
 ghost use Rattle.items.specs.declared.place.Place.{Place};
+ghost use Rattle.items.specs.Bare.{IsBare, has_proof};
 ghost use Rattle.items.specs.Items.{Item as Pieces, bytes_of, label_of, IsStatement};
 ghost use Rattle.items.specs.Reading.{Stands, IsFrontTo, IsItemAt};
 ghost use Rattle.items.specs.Machine.{rest_then, IsPut};
@@ -50,6 +51,8 @@ fn end_of_front(text: &[u8], from: usize) -> Option<usize>
     requires { from ≤ length text.now }
     ensures front { IfSome result (IsFrontTo text.now from) }
     ensures within { IfSome result (λ end. from ≤ end × (end ≤ length text.now)) }
+    ensures bare { (x : Pieces) (end : ℕ) → Stands text.now from x end → IsStatement x
+        → MatchOption result (has_proof x ≡ false) (λ front. end ≤ front → has_proof x ≡ false) }
 {
     let mut at = from;
     while let Some(token) = next_token(text, at) {
@@ -78,9 +81,10 @@ fn put_reproved(
 ) -> Result<bool, AllocError>
     requires order { from ≤ end }
     requires within { end ≤ length text.now }
-    ensures { (x : Pieces) (label : Word) → Stands text.now from x end → IsStatement x → label_of x ≡ label ∷ []
+    ensures put { (x : Pieces) (label : Word) → Stands text.now from x end → IsStatement x → label_of x ≡ label ∷ []
         → bytes_eq label (codes "$=") ≡ false → IfOk result (λ is. IsTrue is → IsPut out.old.items out.new.items
         (HasProofText changes.now proof.now x)) }
+    ensures bare { (x : Pieces) → Stands text.now from x end → IsStatement x → IfOk result (λ is. is ≡ false → has_proof x ≡ false) }
 {
     let Some(front) = end_of_front(text, from) else {
         return Ok(false);
@@ -106,8 +110,9 @@ pub fn put_item(
 ) -> Result<bool, AllocError>
     requires order { from ≤ item.end }
     requires within { item.end ≤ length text.now }
-    ensures { (is : IsItemAt text.now from item.entry) → IfOk result (λ put. IsTrue put → IsPut out.old.items out.new.items
+    ensures put { (is : IsItemAt text.now from item.entry) → IfOk result (λ put. IsTrue put → IsPut out.old.items out.new.items
         (ReadsThen changes.now proofs.now is.item)) }
+    ensures bare { (is : IsItemAt text.now from item.entry) → IfOk result (λ put. put ≡ false → IsBare proofs.now is.item) }
 {
     let Kind::Assertion(label) = item.kind else {
         put_reworded(out, changes, text, from, item.end, Part::Fixed)?;

@@ -1,5 +1,6 @@
 -- What the loop of `rewrite` keeps.
-use Rattle.std.proofs.Common.{◌-◌, ◌≤◌, length}
+use Rattle.std.proofs.Common.{◌-◌, ◌≤◌, false, length}
+use Rattle.items.specs.Divided.{IsDivided, IsDividedFrom}
 use Rattle.items.proofs.PutThen.{ArePut}
 use Rattle.items.proofs.call.rewrite.Given as goal
 
@@ -8,6 +9,7 @@ abbrev pub invariant-loop-item : goal.invariant-loop-item
 invariant-loop-item l = record {
   within : l.at ≤ length l.source;
   put : ArePut l.changes l.proofs l.source l.at l.out.items;
+  divided : IsDivided l.source → IsDividedFrom false l.source l.at;
 }
 
 abbrev pub decreases-loop-item : goal.decreases-loop-item

@@ -2,6 +2,7 @@
 use Rattle.std.proofs.Common.{◌≡◌, true, false, codes, rules, arith}
 use Rattle.std.specs.Str.{bytes_eq}
 use Rattle.mmtext.specs.Views.{seen}
+use Rattle.items.proofs.Bare.{comment_closed}
 use Rattle.items.proofs.Divided.{comment_goes, comment_left, comment_on}
 use Rattle.items.proofs.Passed.{comment_ends, comment_goes_on}
 use Rattle.items.proofs.reading.end_of_comment.Goals as goal
@@ -41,3 +42,8 @@ returns-then-eq-clause-outside c = λ ws h.
 pub returns-clause-outside : goal.returns-clause-outside
 returns-clause-outside c = λ ws h.
     comment_goes c.args.text.now c.loop-token.at ws (c.loop-token.invariant.outside ws h) c.in_default.ensures.none
+
+pub returns-clause-closed : goal.returns-clause-closed
+returns-clause-closed c = λ x end stands closed.
+    let p = c.loop-token.invariant.passed in
+    absurd (comment_closed c.args.text.now c.args.from c.loop-token.at end x p.0 p.1 p.2 c.in_default.ensures.none stands closed)

@@ -11,8 +11,8 @@ use Rattle.items.proofs.Stated.{at_label, at_fixed, assertion_reads, other_reads
 use Rattle.items.proofs.PutThen.{unlabelled, reads_unlabelled, reads_renamed, reads_reproved}
 use Rattle.items.proofs.writing.put_item.Goals as goal
 
-pub returns-in_default : goal.returns-in_default
-returns-in_default c = λ is _.
+pub returns-in_default-clause-put : goal.returns-in_default-clause-put
+returns-in_default-clause-put c = λ is _.
     let cs = c.args.changes.now in
     let none = unlabelled c.args.item.kind c.in_default.not-Assertion is.item is.kind in (
       bytes_of (renamed cs is.item),
@@ -21,8 +21,8 @@ returns-in_default c = λ is _.
       reads_unlabelled cs c.args.proofs.now is.item (bytes_of (renamed cs is.item)) none refl,
     )
 
-pub returns-in-Some : goal.returns-in-Some
-returns-in-Some c = λ is.
+pub returns-in-Some-clause-put : goal.returns-in-Some-clause-put
+returns-in-Some-clause-put c = λ is.
     let cs = c.args.changes.now in
     let proof = c.in-Some.proof.now in
     let label = c.in-Assertion.label.now in
@@ -32,10 +32,10 @@ returns-in-Some c = λ is.
     (λ put. IsTrue put → IsPut c.args.out.now.items c.put_reproved.new.out.items (ReadsThen cs c.args.proofs.now is.item))
     (λ put h yes.
     let p = h yes in (p.0, p.1, reads_reproved cs c.args.proofs.now is.item label proof p.0 kind.1 c.in-Some.ensures p.2))
-    (c.put_reproved.ensures is.item label is.stands kind.0 kind.1 kind.2)
+    (c.put_reproved.ensures.put is.item label is.stands kind.0 kind.1 kind.2)
 
-pub returns : goal.returns
-returns c = λ is _.
+pub returns-clause-put : goal.returns-clause-put
+returns-clause-put c = λ is _.
     let cs = c.args.changes.now in
     let kind = subst (λ k. IsOfKind k is.item) c.in-Assertion.is is.kind in (
       bytes_of (renamed cs is.item),

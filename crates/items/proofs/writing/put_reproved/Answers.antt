@@ -6,8 +6,8 @@ use Rattle.items.proofs.Stated.{at_label}
 use Rattle.items.proofs.PutThen.{has_proof_text}
 use Rattle.items.proofs.writing.put_reproved.Goals as goal
 
-pub returns : goal.returns
-returns c = λ x label stands is has other _.
+pub returns-clause-put : goal.returns-clause-put
+returns-clause-put c = λ x label stands is has other _.
     let cs = c.args.changes.now in
     let proof = c.args.proof.now in
     let f = c.in-Some.ensures.front in
