@@ -1,10 +1,11 @@
 -- Items that were printed, one behind the other.
 use Rattle.std.proofs.Common.{◌≡◌, ◌∙◌, ℕ, ◌+◌, ◌-◌, ◌<◌, List, [], ◌∷◌, ◌++◌, length, drop, take, get_or, refl, sym, ap, subst}
-use Rattle.std.proofs.Common.{append-nil, append_assoc, arith}
-use Rattle.std.specs.Prelude.{slice_range}
+use Rattle.std.proofs.Common.{append-nil, append_assoc, arith, min, ◌≤◌, inl, inr}
+use Rattle.std.specs.Prelude.{slice_range, nat_le}
 use Rattle.std.specs.List.{flat_map, AllZip}
 use Rattle.std.proofs.lemmas.Grind.{flat_map-append}
-use Rattle.std.proofs.lemmas.List.{drop_more}
+use Rattle.std.proofs.lemmas.List.{drop_more, length-drop, take_all, take_more, drop_all}
+use Rattle.std.proofs.lemmas.Bool.{cases_Bool, leb-true, leb-false}
 use Rattle.giving.specs.Staying.{Change}
 use Rattle.items.specs.declared.reading.Item.{Item as Found}
 use Rattle.items.specs.Items.{Item}
@@ -14,8 +15,28 @@ use Rattle.items.specs.Machine.{IsPut}
 use Rattle.items.proofs.PutThen.{zip_more}
 use Rattle.items.proofs.Found.{many_found}
 use Rattle.arranging.specs.declared.coming.Placed.TheVariants.{Stays, Goes as Leaves}
-use Rattle.arranging.specs.Arranged.{ReadThen, Says}
+use Rattle.arranging.specs.declared.coming.Placed.{Placed}
+use Rattle.arranging.specs.Parts.{Edited}
+use Rattle.arranging.specs.Arranged.{ReadThen, Says, IsLayout}
 use Rattle.arranging.specs.Printing.{SaysNext}
+
+-- a stretch goes no farther than the list
+pub clamped : {A : Type 0} (xs : List A) (first end e : ℕ) → e ≡ min end (length xs) → slice_range xs first e ≡ slice_range xs first end
+clamped xs first end e is = elim (cases_Bool (nat_le end (length xs))) [
+  | inl y ↦
+      let le = leb-true end (length xs) y in
+      let same : e ≡ end = omega (arith, le, is) in
+      ap (λ n. slice_range xs first n) same
+  | inr n ↦
+      let lt = leb-false end (length xs) n in
+      let many = length-drop first xs in
+      let one : length (drop first xs) ≤ e - first = omega (arith, lt, is, many) in
+      let other : length (drop first xs) ≤ end - first = omega (arith, lt, many) in
+      take_all (e - first) (drop first xs) one ∙ sym (take_all (end - first) (drop first xs) other)
+]
+
+pub nothing_between : {A : Type 0} (xs : List A) (first end : ℕ) → end ≤ first → slice_range xs first end ≡ []
+nothing_between xs first end le = let none : end - first ≡ 0 = omega (arith, le) in ap (λ n. take n (drop first xs)) none
 
 module _ (cs proofs : List Change) where
   one_more : (xs : List Item) (x : Item) (old now : List ℕ) → ReadThen cs proofs xs old → ReadsThen cs proofs x now
@@ -61,3 +82,39 @@ module _ (cs proofs : List Change) where
       -- the next of the source leaves its place
       pub goes_next : SaysNext cs proofs old Leaves place (place + 1) []
       goes_next = λ rest ps later h. subst (λ xs. Says cs proofs old rest xs (Leaves ∷ ps) later) (sym next) h
+
+-- ---- layouts, item by item
+
+module _ (e : Edited) (source : List ℕ) (fs : List Found) (old : List Item) (found : AreFound source 0 fs old) (place : ℕ) (ps : List Placed)
+  where
+    -- a layout goes on behind an item
+    module _ (lt : place < length fs) where
+      many : place < length old
+      many = let same = many_found source 0 fs old found in omega (arith, same, lt)
+
+      cut : drop place old ≡ get_or old place [] ∷ drop (place + 1) old
+      cut = drop_more old place [] many
+
+      taken : take place old ++ get_or old place [] ∷ [] ≡ take (place + 1) old
+      taken = sym (take_more old place [] many)
+
+      pub stays_on : IsLayout e (take place old) (drop place old) (Stays ∷ ps) → IsLayout e (take (place + 1) old) (drop (place + 1) old) ps
+      stays_on h =
+          subst (λ xs. IsLayout e xs (drop (place + 1) old) ps) taken
+          (subst (λ xs. IsLayout e (take place old) xs (Stays ∷ ps)) cut h).1
+
+      pub goes_on : IsLayout e (take place old) (drop place old) (Leaves ∷ ps) → IsLayout e (take (place + 1) old) (drop (place + 1) old) ps
+      goes_on h =
+          subst (λ xs. IsLayout e xs (drop (place + 1) old) ps) taken
+          (subst (λ xs. IsLayout e (take place old) xs (Leaves ∷ ps)) cut h).1
+
+    -- and has no item behind the last
+    module _ (le : length fs ≤ place) where
+      over : drop place old ≡ []
+      over = let same = many_found source 0 fs old found in drop_all place old (omega (arith, same, le))
+
+      pub none_stays : IsLayout e (take place old) (drop place old) (Stays ∷ ps) → ⊥
+      none_stays h = subst (λ xs. IsLayout e (take place old) xs (Stays ∷ ps)) over h
+
+      pub none_goes : IsLayout e (take place old) (drop place old) (Leaves ∷ ps) → ⊥
+      none_goes h = subst (λ xs. IsLayout e (take place old) xs (Leaves ∷ ps)) over h

@@ -9,3 +9,4 @@ pub mod Held
 pub mod Lines
 pub mod LinesInside
 pub mod Named
+pub mod Outcomes

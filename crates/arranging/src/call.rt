@@ -1,9 +1,10 @@
 //! The call `arrange`.
 
-ghost use Rattle.std.specs.Prelude.{◌≡◌, ℕ, List, [], IfOk, IfSome};
+ghost use Rattle.std.specs.Prelude.{◌≡◌, ◌<◌, ℕ, List, [], IfErr, IfOk, length};
 ghost use Rattle.items.specs.Items.{Item as Pieces};
 ghost use Rattle.items.specs.Reading.{AreItems};
-ghost use Rattle.arranging.specs.Arranged.{IsLayout, IsArranged};
+ghost use Rattle.arranging.specs.Arranged.{IsLayout};
+ghost use Rattle.arranging.specs.Outcomes.{IsOutcome};
 ghost use Rattle.arranging.specs.Places.{IsKnownOf};
 ghost use Rattle.arranging.specs.Parts.{Edited, known_labels};
 
@@ -11,7 +12,7 @@ use crate::checking::Checker;
 use crate::coming::{Coming, Placed};
 use crate::describing::parts_of;
 use crate::layout::layout_of;
-use crate::naming::are_named_then;
+use crate::naming::first_misnamed;
 use crate::printing::Source;
 use giving::Changes;
 use items::Item;
@@ -35,7 +36,18 @@ pub struct Edits<'e> {
     pub library: &'e Changes<'e>,
 }
 
-/// The layout of a source whose items play these parts.
+/// What becomes of a source with edits.
+#[derive(Drop)]
+pub enum Outcome {
+    /// Its text then.
+    Text(Vec<u8>),
+    /// What is put in with this number, counted from 0, can't stand at its place.
+    Misplaced(usize),
+    /// An assertion without a proof is to have another one.
+    Bare,
+}
+
+/// The layout of a source whose items play these parts, or the number of something that can't stand at its place.
 fn laid_out<'t>(
     alloc: Global,
     edits: Edits<'_>,
@@ -43,10 +55,11 @@ fn laid_out<'t>(
     items: &[Item<'_>],
     parts: &[Part],
     comings: &[Coming<'t>],
-) -> Result<Option<Vec<Placed<'t>>>, AllocError>
-    ensures { (e : Edited) (old : List Pieces)
+) -> Result<Result<Vec<Placed<'t>>, usize>, AllocError>
+    ensures misplaced { IfOk result (λ made. IfErr made (λ number. number < length comings.now)) }
+    ensures laid { (e : Edited) (old : List Pieces)
         → IsKnownOf e text.now old edits.entry.moving.now edits.entry.moved.now edits.entry.library.now items.now parts.now
-        → e.comings ≡ comings.now → IfOk result (λ made. IfSome made (λ layout. IsLayout e [] old layout.items)) }
+        → e.comings ≡ comings.now → IfOk result (λ made. IfOk made (λ layout. IsLayout e [] old layout.items)) }
 {
     let checker = Checker::new(
         alloc,
@@ -57,16 +70,16 @@ fn laid_out<'t>(
         items,
         parts,
     )?;
-    if !checker.may_all_come(comings) {
-        return Ok(None);
+    if let Some(number) = checker.first_misplaced(comings) {
+        return Ok(Err(number));
     }
     let goes = goes_of(alloc, parts)?;
     layout_of(alloc, goes.as_slice(), comings)
 }
 
 /// The text of a source with edits, of which these are the items, and this is put in, in the order of its places: labels change, theorems
-/// have other proofs, and assertions leave their places, with what describes them and with the blocks that have nothing left. None where
-/// what is put in can't stand at its place, or a proof is for an axiom.
+/// have other proofs, and assertions leave their places, with what describes them and with the blocks that have nothing left. Or why there
+/// is no such text.
 ///
 /// It costs about as much as the source and what is put in have bytes.
 ///
@@ -79,9 +92,9 @@ pub fn arrange(
     source: &[u8],
     items: &[Item<'_>],
     comings: &[Coming<'_>],
-) -> Result<Option<Vec<u8>>, AllocError>
+) -> Result<Outcome, AllocError>
     requires { AreItems source.now items.now }
-    ensures { IfOk result (λ made. IfSome made (λ out. IsArranged edits.entry.changes.now edits.entry.proofs.now
+    ensures { IfOk result (IsOutcome edits.entry.changes.now edits.entry.proofs.now
         (record {
           gone = known_labels edits.entry.gone.now;
           moving = known_labels edits.entry.moving.now;
@@ -89,14 +102,15 @@ pub fn arrange(
           library = known_labels edits.entry.library.now;
           comings = comings.now;
         })
-        source.now out.items)) }
+        source.now) }
 {
-    if !are_named_then(alloc, edits.changes, comings)? {
-        return Ok(None);
+    if let Some(number) = first_misnamed(alloc, edits.changes, comings)? {
+        return Ok(Outcome::Misplaced(number));
     }
     let parts = parts_of(alloc, edits.gone, edits.moving, source, items)?;
-    let Some(layout) = laid_out(alloc, edits, source, items, parts.as_slice(), comings)? else {
-        return Ok(None);
+    let layout = match laid_out(alloc, edits, source, items, parts.as_slice(), comings)? {
+        Ok(layout) => layout,
+        Err(number) => return Ok(Outcome::Misplaced(number)),
     };
     let source = Source {
         text: source,
@@ -104,5 +118,8 @@ pub fn arrange(
         changes: edits.changes,
         proofs: edits.proofs,
     };
-    source.print(alloc, layout.as_slice())
+    match source.print(alloc, layout.as_slice())? {
+        Some(text) => Ok(Outcome::Text(text)),
+        None => Ok(Outcome::Bare),
+    }
 }

@@ -1,6 +1,6 @@
 //! Whether what is put into a source may stand at its place, and is what it is said to be.
 
-ghost use Rattle.std.specs.Prelude.{◌≡◌, ◌⊎◌, ◌≤◌, [], ◌∷◌, ◌++◌, All, List, ℕ, Some, IfOk, IfSome, IsTrue, length, slice_range, take};
+ghost use Rattle.std.specs.Prelude.{◌≡◌, ◌⊎◌, ◌≤◌, [], ◌∷◌, ◌++◌, ◌<◌, All, List, ℕ, Some, IfNone, IfOk, IfSome, IsTrue, length, slice_range, take};
 ghost use Rattle.source.specs.Scopes.{is_in};
 ghost use Rattle.leaving.specs.Leaving.{open_behind, IsBlock};
 ghost use Rattle.items.specs.Items.{Item as Pieces};
@@ -282,19 +282,20 @@ impl<'c> Checker<'c> {
         }
     }
 
-    /// Whether all this may be put in.
-    pub(crate) fn may_all_come(&self, comings: &[Coming<'_>]) -> bool
-        ensures { (e : Edited) (source : List ℕ) (old : List Pieces) → IsKnown e source old self.now → e.comings ≡ comings.now
-            → IsTrue result → All (MayCome e old) comings.now }
+    /// The number of the first of these that may not be put in, if one may not.
+    pub(crate) fn first_misplaced(&self, comings: &[Coming<'_>]) -> Option<usize>
+        ensures all { (e : Edited) (source : List ℕ) (old : List Pieces) → IsKnown e source old self.now → e.comings ≡ comings.now
+            → IfNone result (All (MayCome e old) comings.now) }
+        ensures one { IfSome result (λ number. number < length comings.now) }
     {
-        for coming in comings {
+        for (number, coming) in comings.iter().enumerate() {
             if !self.is_free(coming.place)
                 || !self.is_from(*coming)
                 || !self.is_under(*coming, comings)
             {
-                return false;
+                return Some(number);
             }
         }
-        true
+        None
     }
 }

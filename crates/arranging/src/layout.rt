@@ -1,6 +1,6 @@
 //! Where each item of a source stands then, and what is put in between.
 
-ghost use Rattle.std.specs.Prelude.{◌≡◌, ◌≤◌, [], All, List, IfOk, IfSome, length};
+ghost use Rattle.std.specs.Prelude.{◌≡◌, ◌≤◌, ◌<◌, [], All, List, IfErr, IfOk, length};
 ghost use Rattle.leaving.specs.Leaving.{AreGoing};
 ghost use Rattle.items.specs.Items.{Item as Pieces};
 ghost use Rattle.arranging.specs.Parts.{Edited, parts};
@@ -38,14 +38,15 @@ fn item_placed<'t>(leaves: bool) -> Placed<'t>
 }
 
 /// Where items stand, of which those leave their places which these flags say, and what is put in between: it is given in the order of
-/// its places. None where it isn't in this order.
+/// its places. Where it isn't in this order, the number of the first that is left.
 pub(crate) fn layout_of<'t>(
     alloc: Global,
     goes: &[bool],
     comings: &[Coming<'t>],
-) -> Result<Option<Vec<Placed<'t>>>, AllocError>
-    ensures { (e : Edited) (old : List Pieces) → AreGoing [] (parts e old) goes.now → All (MayCome e old) comings.now
-        → IfOk result (λ made. IfSome made (λ layout. IsLayout e [] old layout.items)) }
+) -> Result<Result<Vec<Placed<'t>>, usize>, AllocError>
+    ensures laid { (e : Edited) (old : List Pieces) → AreGoing [] (parts e old) goes.now → All (MayCome e old) comings.now
+        → IfOk result (λ made. IfOk made (λ layout. IsLayout e [] old layout.items)) }
+    ensures left { IfOk result (λ made. IfErr made (λ number. number < length comings.now)) }
 {
     let mut layout = Vec::with_capacity(alloc, goes.len())?;
     let mut next = 0;
@@ -54,5 +55,8 @@ pub(crate) fn layout_of<'t>(
         layout.push(item_placed(*leaves))?;
     }
     next = put_at(&mut layout, comings, next, goes.len())?;
-    Ok((next == comings.len()).then_some(layout))
+    if next < comings.len() {
+        return Ok(Err(next));
+    }
+    Ok(Ok(layout))
 }

@@ -13,7 +13,7 @@ mod naming;
 mod printing;
 mod sections;
 
-pub use call::{Edits, arrange};
+pub use call::{Edits, Outcome, arrange};
 pub use coming::{Coming, Why};
 pub use describing::parts_of;
 pub use held::is_held_behind;

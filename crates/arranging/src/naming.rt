@@ -1,6 +1,6 @@
 //! Whether what leaves its block stands under its own label behind what describes it.
 
-ghost use Rattle.std.specs.Prelude.{◌≡◌, All, IfOk, IsTrue};
+ghost use Rattle.std.specs.Prelude.{◌≡◌, ◌<◌, All, IfNone, IfOk, IfSome, IsTrue, length};
 ghost use Rattle.giving.specs.Staying.{changed};
 ghost use Rattle.arranging.specs.Arranged.{label_in_source};
 ghost use Rattle.arranging.specs.Named.{BeginsWith, IsNamedFrom};
@@ -48,18 +48,19 @@ fn is_named_then(
     begins_with(alloc, coming.back, label_then(changes, label))
 }
 
-/// Whether each of these does.
-pub(crate) fn are_named_then(
+/// The number of the first of these that doesn't, if one doesn't.
+pub(crate) fn first_misnamed(
     alloc: Global,
     changes: &Changes<'_>,
     comings: &[Coming<'_>],
-) -> Result<bool, AllocError>
-    ensures { IfOk result (λ yes. IsTrue yes → All (λ c. IsNamedFrom changes.now c (label_in_source c)) comings.now) }
+) -> Result<Option<usize>, AllocError>
+    ensures named { IfOk result (λ made. IfNone made (All (λ c. IsNamedFrom changes.now c (label_in_source c)) comings.now)) }
+    ensures one { IfOk result (λ made. IfSome made (λ number. number < length comings.now)) }
 {
-    for coming in comings {
+    for (number, coming) in comings.iter().enumerate() {
         if !is_named_then(alloc, changes, *coming)? {
-            return Ok(false);
+            return Ok(Some(number));
         }
     }
-    Ok(true)
+    Ok(None)
 }

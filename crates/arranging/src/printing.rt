@@ -1,10 +1,14 @@
 //! The text of what stands in a source then.
 
-ghost use Rattle.std.specs.Prelude.{◌≡◌, ◌≤◌, ◌<◌, ◌++◌, List, ℕ, IfOk, IfSome, IsTrue, drop, length, slice_range};
+ghost use Rattle.std.specs.Prelude.{◌≡◌, ◌≤◌, ◌<◌, ◌++◌, ◌∷◌, [], List, ℕ, false, IfNone, IfOk, IfSome, IsTrue, MatchOption, drop, take};
+ghost use Rattle.std.specs.Prelude.{length, slice_range};
+ghost use Rattle.items.specs.Bare.{HasBare};
 ghost use Rattle.items.specs.Items.{Item as Pieces, Spells};
 ghost use Rattle.items.specs.Reading.{AreFound, AreItems, IsBehind};
 ghost use Rattle.items.specs.Machine.{IsPut};
-ghost use Rattle.arranging.specs.Arranged.{Says, ReadThen, IsTextOf};
+ghost use Rattle.arranging.specs.declared.coming.Placed.{Placed as Placing};
+ghost use Rattle.arranging.specs.Parts.{Edited};
+ghost use Rattle.arranging.specs.Arranged.{Says, ReadThen, IsTextOf, IsLayout};
 ghost use Rattle.arranging.specs.Printing.{SaysNext};
 
 use crate::coming::{Coming, Placed};
@@ -43,12 +47,13 @@ impl Source<'_> {
     /// Puts the items from a place up to another. Whether they could be put: no proof is for an axiom.
     fn put_items(self, out: &mut Vec<u8>, first: usize, end: usize) -> Result<bool, AllocError>
         requires { AreItems self.text.now self.items.now }
-        ensures { (old : List Pieces) → AreFound self.entry.text.now 0 self.entry.items.now old
+        ensures bare { IfOk result (λ put. put ≡ false → HasBare self.entry.proofs.now self.entry.text.now) }
+        ensures put { (old : List Pieces) → AreFound self.entry.text.now 0 self.entry.items.now old
             → IfOk result (λ put. IsTrue put → IsPut out.old.items out.new.items
             (ReadThen self.entry.changes.now self.entry.proofs.now (slice_range old first end))) }
     {
-        let Some(items) = self.items.get(first..end) else {
-            return Ok(false);
+        let Some(items) = self.items.get(first..end.min(self.items.len())) else {
+            return Ok(true);
         };
         let mut at = self.behind(first);
         for item in items {
@@ -63,7 +68,8 @@ impl Source<'_> {
     /// Puts what comes. Whether it could be put.
     fn put_coming(self, out: &mut Vec<u8>, coming: Coming<'_>) -> Result<bool, AllocError>
         requires { AreItems self.text.now self.items.now }
-        ensures { (old : List Pieces) → AreFound self.entry.text.now 0 self.entry.items.now old
+        ensures bare { IfOk result (λ put. put ≡ false → HasBare self.entry.proofs.now self.entry.text.now) }
+        ensures put { (old : List Pieces) → AreFound self.entry.text.now 0 self.entry.items.now old
             → IfOk result (λ put. IsTrue put → IsPut out.old.items out.new.items
             (IsTextOf self.entry.changes.now self.entry.proofs.now old coming.entry)) }
     {
@@ -82,7 +88,11 @@ impl Source<'_> {
         placed: Placed<'_>,
     ) -> Result<Option<usize>, AllocError>
         requires { AreItems self.text.now self.items.now }
-        ensures { (old : List Pieces) → AreFound self.entry.text.now 0 self.entry.items.now old
+        ensures bare { (e : Edited) (old : List Pieces) (ps : List Placing) → AreFound self.entry.text.now 0 self.entry.items.now old
+            → IsLayout e (take place old) (drop place old) (placed.entry ∷ ps)
+            → IfOk result (λ put. MatchOption put (HasBare self.entry.proofs.now self.entry.text.now)
+            (λ next. IsLayout e (take next old) (drop next old) ps)) }
+        ensures put { (old : List Pieces) → AreFound self.entry.text.now 0 self.entry.items.now old
             → IfOk result (λ put. IfSome put (λ next. IsPut out.old.items out.new.items
             (SaysNext self.entry.changes.now self.entry.proofs.now old placed.entry place next))) }
     {
@@ -96,14 +106,16 @@ impl Source<'_> {
         }
     }
 
-    /// The text of what stands then. None where a proof is for an axiom, and where this isn't a layout of the items.
+    /// The text of what stands then by a layout of the items. None where a proof is for an axiom.
     pub(crate) fn print(
         self,
         alloc: Global,
         layout: &[Placed<'_>],
     ) -> Result<Option<Vec<u8>>, AllocError>
         requires { AreItems self.text.now self.items.now }
-        ensures { (old : List Pieces) → AreFound self.entry.text.now 0 self.entry.items.now old
+        ensures bare { (e : Edited) (old : List Pieces) → AreFound self.entry.text.now 0 self.entry.items.now old
+            → IsLayout e [] old layout.now → IfOk result (λ made. IfNone made (HasBare self.entry.proofs.now self.entry.text.now)) }
+        ensures printed { (old : List Pieces) → AreFound self.entry.text.now 0 self.entry.items.now old
             → IfOk result (λ made. IfSome made (λ out. (rest : List ℕ) × Spells old rest self.entry.text.now
             × Says self.entry.changes.now self.entry.proofs.now old rest old layout.now out.items)) }
     {
@@ -115,7 +127,7 @@ impl Source<'_> {
             };
             place = next;
         }
-        if place != self.items.len() {
+        if place < self.items.len() {
             return Ok(None);
         }
         out.extend_from_slice(&self.text[self.behind(self.items.len())..])?;

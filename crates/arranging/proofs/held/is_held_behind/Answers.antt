@@ -1,12 +1,10 @@
 -- What is left to show of `is_held_behind`.
-use Rattle.std.proofs.Common.{◌≡◌, ◌∙◌, ◌<◌, ◌≤◌, ℕ, List, [], true, false, length, refl, sym, ap, subst, arith, get_or}
-use Rattle.std.specs.Prelude.{IsTrue}
+use Rattle.std.proofs.Common.{◌∙◌, ◌<◌, [], length, refl, sym, arith, get_or}
 use Rattle.std.proofs.lemmas.Bool.{false≢true}
 use Rattle.std.proofs.lemmas.Option.{slice_get-get_or}
 use Rattle.items.proofs.Found.{many_found}
 use Rattle.arranging.specs.Parts.{Edited, known_labels}
 use Rattle.arranging.specs.Places.{IsKnown}
-use Rattle.arranging.specs.Held.{IsHeldBehind}
 use Rattle.arranging.proofs.Spelled.{found_spell}
 use Rattle.arranging.proofs.held.is_held_behind.Goals as goal
 use Rattle.arranging.proofs.held.is_held_behind.Goals.{then-declares, else-declares}

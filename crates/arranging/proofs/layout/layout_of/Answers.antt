@@ -1,6 +1,4 @@
-use Rattle.std.proofs.Common.{◌≡◌, ◌+◌, Bool, true, false, [], ◌∷◌, ◌++◌, IfSome, length, sym, subst, arith}
-use Rattle.std.specs.Bool.{then_some}
-use Rattle.arranging.specs.Arranged.{IsLayout}
+use Rattle.std.proofs.Common.{◌≡◌, ◌+◌, false, [], ◌∷◌, ◌++◌, length, sym, subst, arith}
 use Rattle.arranging.specs.Places.{GoesOn}
 use Rattle.arranging.proofs.Laid.{GoesFrom, item_on, all_on}
 use Rattle.arranging.proofs.layout.layout_of.Goals as goal
@@ -20,16 +18,10 @@ loop-place-preserved c =
           (on.0, subst (λ ps. GoesOn e old ps (i + 1)) (sym is) on.1);
     }
 
-if_some : {A : Type 0} (P : A → Type 0) (b : Bool) (x : A) → P x → IfSome (then_some b x) P
-if_some P true x h = h
-if_some P false x h = tt
-
-pub returns : goal.returns
-returns c = λ e old going may.
+pub returns-clause-laid : goal.returns-clause-laid
+returns-clause-laid c = λ e old going may.
     let goes = c.args.goes.now in
     let before = c.loop-place.invariant.layout e old going may in
     let end : c.loop-place.place ≡ length goes = omega (arith, c.loop-place-test.false, c.loop-place.auto.place-end) in
     let on = c.in_ok-next-2.ensures.layout e old may (subst (GoesOn e old c.loop-place.layout.items) end before.1) in
-    let whole = all_on e old c.put_at-2.new.layout.items goes (length goes) (omega arith) (subst (GoesFrom e old goes) end before.0) on in
-    subst (λ o. IfSome o (λ layout. IsLayout e [] old layout.items)) (sym c.then_some.ensures)
-    (if_some (λ layout. IsLayout e [] old layout.items) _ c.put_at-2.new.layout whole)
+    all_on e old c.put_at-2.new.layout.items goes (length goes) (omega arith) (subst (GoesFrom e old goes) end before.0) on

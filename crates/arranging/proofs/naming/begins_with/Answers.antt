@@ -12,7 +12,7 @@ returns c = λ holds.
     let text = c.args.text.now in
     let fs = c.in-Some.items.items in
     let are : AreItems text fs =
-    subst (λ (o : Option (Vec Found Global)). IfSome o (λ found. AreItems text found.items)) c.in-Some.is c.in_ok-items.ensures in
+    subst (λ (o : Option (Vec Found Global)). IfSome o (λ found. AreItems text found.items)) c.in-Some.is c.in_ok-items.ensures.found in
     let found = subst (λ (gs : List Found). AreFound text 0 gs are.0) (sym c.as_slice.ensures.value) are.1 in
     let first = c.is_labelled.ensures text are.0 found holds in
     let spelled = found_spell text fs are.0 are.1 in

@@ -2,9 +2,9 @@
 use Rattle.std.proofs.Common.{◌∙◌, ◌++◌, refl, ap, append_assoc}
 use Rattle.arranging.proofs.printing.Source.put_coming.Goals as goal
 
-pub returns : goal.returns
-returns c = λ old h yes.
-    let put = c.in_ok-is_put.ensures old h yes in
+pub returns-clause-put : goal.returns-clause-put
+returns-clause-put c = λ old h yes.
+    let put = c.in_ok-is_put.ensures.put old h yes in
     let front = c.args.coming.front.now in
     let back = c.args.coming.back.now in
     let out = c.args.out.now.items in (
