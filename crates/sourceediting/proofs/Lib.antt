@@ -7,3 +7,5 @@ pub mod Rewritten
 mod Labelled
 mod Indented
 mod Cited
+mod Numbered
+mod Bared

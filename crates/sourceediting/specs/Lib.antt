@@ -6,3 +6,4 @@ pub mod Written
 pub mod Entries
 pub mod Reproved
 pub mod Refusals
+pub mod Filled

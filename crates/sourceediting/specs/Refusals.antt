@@ -1,16 +1,20 @@
 -- Why the edits of a history are not written into a source.
-use Rattle.std.specs.Prelude.{◌≡◌, ◌<◌, ℕ, Bool, false, List, Contains, Option, Some, None, IsTrue, slice_get}
+use Rattle.std.specs.Prelude.{◌≡◌, ◌<◌, ℕ, Bool, false, List, [], ◌∷◌, All, Contains, Option, Some, None, IsTrue, slice_get}
 use Rattle.mmtext.specs.Words.{Word}
 use Rattle.mmsyntax.specs.declared.statement.Assertion.{Assertion as Unit'}
 use Rattle.source.specs.Statements.{Proof}
 use Rattle.source.specs.Scopes.{Assertion, is_in}
 use Rattle.source.specs.Whole.{labels_in}
+use Rattle.giving.specs.Staying.{Change}
+use Rattle.items.specs.Items.{Item, label_of}
+use Rattle.items.specs.Bare.{IsItemOf, has_proof}
 use Rattle.arranging.specs.declared.coming.Coming.{Coming}
 use Rattle.arranging.specs.Arranged.{label_in_source}
 use Rattle.arranging.specs.Held.{IsHeldBehind}
 use Rattle.sourceediting.specs.declared.refusal.Refusal.{Refusal}
 use Rattle.sourceediting.specs.declared.refusal.Refusal.TheVariants as refusal
 use Rattle.sourceediting.specs.Following.{Followed}
+use Rattle.sourceediting.specs.Reproved.{HasAnotherListing}
 
 -- ---- what was deleted is still cited
 
@@ -55,15 +59,37 @@ pub record IsInFront (living : List Followed) (edited : List Unit') (source : Li
   pub stays : IsKnownAs living next (Some neighbour)
   pub held : IsHeldBehind source coming neighbour name
 
+-- ---- what is put in can't stand at its place
+
+-- an assertion of the edited library has this label
+abbrev pub IsUnplaced : List Unit' → Word → Type 0
+IsUnplaced edited label = (number : ℕ) × IsNumbered edited number label
+
+-- ---- an assertion that has no proof is to have another one
+
+-- texts for proofs are of those whose listing isn't the old one with changed labels
+abbrev pub AreListedAnew : List Followed → List Unit' → List Change → Type 0
+AreListedAnew living edited proofs = (opened : List Unit') × All (λ p. HasAnotherListing opened edited living p.0) proofs
+
+-- an item of the source has no $=, and the label of one of these
+pub record IsBareIn (living : List Followed) (edited : List Unit') (source : List ℕ) : Type 0 where
+  pub item : Item
+  pub stands : IsItemOf source item
+  pub bare : has_proof item ≡ false
+  pub label : Word
+  pub labelled : label_of item ≡ label ∷ []
+  pub opened : List Unit'
+  pub listed : HasAnotherListing opened edited living label
+
 -- ---- while a source is written anew
 
--- why it isn't: of an assertion that is still cited it was told before; of edits that can't be written, and of want of memory, nothing is
--- known
+-- why it isn't: of an assertion that is still cited it was told before, and of want of memory nothing is known
 abbrev pub HasCause : List Followed → List Unit' → List ℕ → Refusal → Type 0
 HasCause living edited source (refusal.StillCited label by) = ⊥
 HasCause living edited source (refusal.InFront label next name) = IsInFront living edited source label next name
 HasCause living edited source (refusal.Unwritten label) = (a : Unit') × Contains edited a × (a.label ≡ label)
-HasCause living edited source refusal.Unfit = Unit {0}
+HasCause living edited source (refusal.Unplaced label) = IsUnplaced edited label
+HasCause living edited source refusal.Bare = IsBareIn living edited source
 HasCause living edited source refusal.NoMemory = Unit {0}
 
 -- why a history is refused that deletes: one of the others still cites what is gone

@@ -3,8 +3,9 @@
 //! there, and so does what is put behind it. None stands in front of what declares a symbol that it mentions, nor between a description
 //! and what that describes.
 
-ghost use Rattle.std.specs.Prelude.{IfErr, map};
+ghost use Rattle.std.specs.Prelude.{◌≡◌, ◌⊎◌, ◌+◌, ℕ, IfErr, IfOk, IfSome, OnOk, Some, length, map};
 ghost use Rattle.items.specs.Reading.{AreItems};
+ghost use Rattle.sourceediting.specs.Filled.{ArePuts, IsFilledTo};
 ghost use Rattle.sourceediting.specs.Refusals.{HasCause};
 ghost use Rattle.sourceediting.specs.Views.{seen_living};
 
@@ -196,10 +197,20 @@ fn put_in_front(comings: &mut [Coming<'_>], first: usize, place: usize, block: S
     }
 }
 
+/// What is put in, in the order of its places.
+#[derive(Drop)]
+pub(crate) struct Puts<'t> {
+    pub comings: Vec<Coming<'t>>,
+    /// Of each its number among the library's assertions, counted from 0.
+    pub numbers: Vec<usize>,
+}
+
 /// How far the library's assertions were walked over, in its order.
 #[derive(Drop)]
 struct Filling<'t> {
     comings: Vec<Coming<'t>>,
+    /// Of each its number among the library's assertions, counted from 0.
+    numbers: Vec<usize>,
     /// Where the last of those ends that stay, or the declaration of a name that one mentions which was put in.
     at: usize,
     /// Which of these it is.
@@ -212,13 +223,16 @@ struct Filling<'t> {
 
 impl<'t> Filling<'t> {
     /// Before any of them.
-    fn new(alloc: Global, known: &Known<'_>, first: Option<Staying>) -> Filling<'t> {
+    fn new(alloc: Global, known: &Known<'_>, first: Option<Staying>) -> Filling<'t>
+        ensures { IsFilledTo 0 result }
+    {
         let (at, why) = match first {
             Some(first) => (known.apart(first.whole.first), Why::First(first.place)),
             None => (known.items.len(), Why::Alone),
         };
         Filling {
             comings: Vec::new(alloc),
+            numbers: Vec::new(alloc),
             at,
             why,
             waiting: None,
@@ -227,7 +241,12 @@ impl<'t> Filling<'t> {
     }
 
     /// Goes behind the declaration of what one mentions that is put in, and has this number.
-    fn go_behind(&mut self, number: usize, needed: Declared<'t>) {
+    fn go_behind(&mut self, number: usize, needed: Declared<'t>)
+        ensures comings { self.new.comings ≡ self.old.comings }
+        ensures numbers { self.new.numbers ≡ self.old.numbers }
+        ensures held { IfSome self.new.held (λ h. (self.old.held ≡ Some h)
+            ⊎ ((h.number ≡ number) × (h.coming ≡ length self.old.comings.items))) }
+    {
         if self.at < needed.from {
             self.at = needed.from;
             let item = needed.from.saturating_sub(1);
@@ -242,7 +261,10 @@ impl<'t> Filling<'t> {
     }
 
     /// One that is put in, which has this number.
-    fn put(&mut self, number: usize, piece: &'t Piece<'_>) -> Result<(), AllocError> {
+    fn put(&mut self, number: usize, piece: &'t Piece<'_>) -> Result<(), AllocError>
+        requires { IsFilledTo number self.old }
+        ensures { OnOk result (IsFilledTo (number + 1) self.new) }
+    {
         if let Some(needed) = piece.needed {
             self.go_behind(number, needed);
         }
@@ -258,11 +280,15 @@ impl<'t> Filling<'t> {
             end: piece.unit.end,
             back: piece.text.back.as_slice(),
         })?;
+        self.numbers.push(number)?;
         Ok(())
     }
 
     /// One that stays, in front of which something may be put in at this place. The one that can't stand in front of it, if one can't.
-    fn pass(&mut self, staying: Staying, apart: usize) -> Option<Held<'t>> {
+    fn pass(&mut self, staying: Staying, apart: usize) -> Option<Held<'t>>
+        ensures filled { (count : ℕ) → IsFilledTo count self.old → IsFilledTo count self.new }
+        ensures held { IfSome result (λ h. (self.old.held ≡ Some h) × (self.new.comings ≡ self.old.comings)) }
+    {
         let whole = staying.whole;
         if let Some(held) = self.held
             && whole.first < held.needed.from
@@ -288,7 +314,7 @@ impl<'t> Filling<'t> {
 /// # Errors
 ///
 /// One that would have to stand in front of what declares a name which it mentions, with its neighbour; want of memory.
-pub(crate) fn comings_of<'t>(
+pub(crate) fn puts_of<'t>(
     alloc: Global,
     keys: RandomState,
     known: &Known<'_>,
@@ -296,17 +322,18 @@ pub(crate) fn comings_of<'t>(
     moving: &Changes<'_>,
     entries: &[Ranked],
     texts: &'t Texts<'_>,
-) -> Result<Vec<Coming<'t>>, Refusal>
+) -> Result<Puts<'t>, Refusal>
     requires { AreItems known.now.text.now known.now.items.items }
-    ensures { IfErr result (HasCause (seen_living living.now) (map (λ r. r.assertion) entries.now) known.now.text.now) }
+    ensures puts { IfOk result (ArePuts (length entries.now)) }
+    ensures refused { IfErr result (HasCause (seen_living living.now) (map (λ r. r.assertion) entries.now) known.now.text.now) }
 {
     let places = staying_of(alloc, keys, known, living, moving, entries)?;
     let mut filling = Filling::new(alloc, known, first_of(places.as_slice()));
-    for (number, (entry, staying)) in entries.iter().zip(places.as_slice()).enumerate() {
+    for (number, entry) in entries.iter().enumerate() {
         let label = entry.assertion.label.as_slice();
         if let Some(piece) = texts.get(label) {
             filling.put(number, piece)?;
-        } else if let Some(staying) = staying {
+        } else if let Some(Some(staying)) = places.get(number) {
             let apart = known.apart(staying.whole.first);
             if let Some(held) = filling.pass(*staying, apart) {
                 let comings = filling.comings.as_slice();
@@ -315,6 +342,10 @@ pub(crate) fn comings_of<'t>(
             }
         }
     }
-    let Filling { comings, .. } = filling;
-    Ok(comings)
+    let Filling {
+        comings,
+        numbers,
+        ..
+    } = filling;
+    Ok(Puts { comings, numbers })
 }

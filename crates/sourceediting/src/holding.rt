@@ -1,11 +1,12 @@
 //! Why something that is put in can't stand in front of its neighbour in the library, which keeps its place.
 
-ghost use Rattle.std.specs.Prelude.{◌≡◌, Contains, IfOk, IfSome, IsTrue, Some, map};
+ghost use Rattle.std.specs.Prelude.{◌≡◌, ◌<◌, ℕ, List, Contains, IfOk, IfSome, IsTrue, Some, length, map};
 ghost use Rattle.std.specs.Option.{option_map};
 ghost use Rattle.mmtext.specs.Words.{Word};
 ghost use Rattle.items.specs.Reading.{AreItems};
 ghost use Rattle.arranging.specs.Arranged.{label_in_source};
 ghost use Rattle.arranging.specs.Held.{IsHeldBehind};
+ghost use Rattle.sourceediting.specs.Following.{Followed as FollowedOf};
 ghost use Rattle.sourceediting.specs.Refusals.{HasCause, IsKnownAs};
 ghost use Rattle.sourceediting.specs.Views.{seen_followed, seen_living};
 
@@ -96,6 +97,20 @@ fn is_held(
     )
 }
 
+/// The assertion with this number among those of the library can't stand at its place.
+pub(crate) fn unplaced(
+    alloc: Global,
+    entries: &[Ranked],
+    number: usize,
+) -> Result<Refusal, AllocError>
+    requires { number < length entries.now }
+    ensures { (living : List FollowedOf) (text : List ℕ)
+        → IfOk result (HasCause living (map (λ r. r.assertion) entries.now) text) }
+{
+    let entry = &entries[number];
+    Ok(Refusal::Unplaced(entry.assertion.label.copy(alloc)?))
+}
+
 /// One that was put in can't stand in front of the next one that stays, which has this number in the library and stands at this place.
 pub(crate) fn held_behind(
     alloc: Global,
@@ -107,32 +122,28 @@ pub(crate) fn held_behind(
     held: Held<'_>,
     next: (usize, usize),
 ) -> Result<Refusal, AllocError>
-    requires { AreItems known.now.text.now known.now.items.items }
+    requires items { AreItems known.now.text.now known.now.items.items }
+    requires order { held.number < next.0 }
+    requires within { next.0 < length entries.now }
+    requires comes { held.coming < length comings.now }
     ensures { IfOk result (HasCause (seen_living living.now) (map (λ r. r.assertion) entries.now) known.now.text.now) }
 {
     let (number, place) = next;
-    let (Some(first), Some(second), Some(coming)) = (
-        entries.get(held.number),
-        entries.get(number),
-        comings.get(held.coming),
-    ) else {
-        return Ok(Refusal::Unfit);
-    };
+    let (first, second) = (&entries[held.number], &entries[number]);
+    let coming = comings[held.coming];
     let (label, next) = (&first.assertion.label, &second.assertion.label);
     let labels = (label.as_slice(), next.as_slice());
-    if held.number >= number
-        || !is_held(
-            alloc,
-            keys,
-            known,
-            living,
-            *coming,
-            held.needed,
-            labels,
-            place,
-        )?
-    {
-        return Ok(Refusal::Unfit);
+    if !is_held(
+        alloc,
+        keys,
+        known,
+        living,
+        coming,
+        held.needed,
+        labels,
+        place,
+    )? {
+        return unplaced(alloc, entries, held.number);
     }
     Ok(Refusal::InFront {
         label: label.copy(alloc)?,

@@ -1,26 +1,30 @@
 //! A source with the edits of a history that adds, moves or deletes: what is put in, and how it is put there.
 
-ghost use Rattle.std.specs.Prelude.{◌≡◌, ℕ, List, Contains, IfOk, IfErr, map};
+ghost use Rattle.std.specs.Prelude.{◌≡◌, ℕ, List, Contains, IfOk, IfErr, length, map};
 ghost use Rattle.source.specs.Views.{seen_words};
+ghost use Rattle.items.specs.Divided.{IsDivided};
 ghost use Rattle.items.specs.Reading.{AreItems};
 ghost use Rattle.items.specs.Rewriting.{IsRewritten};
-ghost use Rattle.mmsyntax.specs.declared.statement.Assertion.{Assertion};
+ghost use Rattle.mmsyntax.specs.declared.statement.Assertion.{Assertion as AssertionOf};
 ghost use Rattle.sourceediting.specs.Following.{Followed as FollowedOf};
-ghost use Rattle.sourceediting.specs.Refusals.{HasCause};
+ghost use Rattle.sourceediting.specs.Filled.{ArePuts};
+ghost use Rattle.sourceediting.specs.Refusals.{HasCause, AreListedAnew};
 ghost use Rattle.sourceediting.specs.Views.{seen_living, AreLabelled};
 ghost use Rattle.sourceediting.specs.Written.{IsRearranged, moved_in, sources_of};
 
 use crate::citing::marked;
 use crate::declaring::declarations_of;
-use crate::filling::{Known, Piece, Texts, comings_of};
+use crate::filling::{Known, Piece, Puts, Texts, puts_of};
 use crate::following::Followed;
+use crate::holding::unplaced;
 use crate::moving::{Moving, moving_of};
 use crate::outline::{Standing, Stretch, outline_of};
 use crate::planning::{ByLabel, Planned, labelled, unwritten};
 use crate::refusal::Refusal;
-use arranging::{Coming, Edits, arrange, parts_of};
+use arranging::{Edits, Outcome, arrange, parts_of};
 use giving::Changes;
 use items::{Item, read_items, rewrite};
+use mmsyntax::Assertion;
 use source::{Declared, ProofWords};
 use sourcewriting::{Names, Statement, SymbolWords, Written, assertion_text, symbol_words};
 use std::alloc::{AllocError, Global};
@@ -59,7 +63,7 @@ fn text_of<'x, 'a, D: Declared<'a>>(
     edits: &Rearranged<'x>,
     statement: &Statement<'_>,
 ) -> Result<Written, Refusal>
-    ensures { (living : List FollowedOf) (edited : List Assertion) (text : List ℕ) → Contains edited statement.now.assertion.now
+    ensures { (living : List FollowedOf) (edited : List AssertionOf) (text : List ℕ) → Contains edited statement.now.assertion.now
         → IfErr result (HasCause living edited text) }
 {
     let prelude = edits.planned.edited.prelude();
@@ -91,18 +95,14 @@ fn parted<'x, 'a, D: Declared<'a>>(
     declared: &D,
     known: &Known<'x>,
     standing: &Standing<'x>,
-    now: &'x [u8],
+    assertion: &Assertion,
     is_in_front: bool,
     words: &SymbolWords<'x>,
     edits: &Rearranged<'x>,
 ) -> Result<Piece<'x>, Refusal>
-    requires { AreLabelled edits.now.edited.now (map (λ r. r.assertion) edits.now.planned.edited.now.entries) }
-    ensures { (living : List FollowedOf) (text : List ℕ)
-        → IfErr result (HasCause living (map (λ r. r.assertion) edits.now.planned.edited.now.entries) text) }
+    ensures { (living : List FollowedOf) (edited : List AssertionOf) (text : List ℕ) → Contains edited assertion.now
+        → IfErr result (HasCause living edited text) }
 {
-    let Some(assertion) = labelled(edits.edited, now) else {
-        return Err(Refusal::Unfit);
-    };
     let source = standing.label;
     let statement = Statement {
         assertion,
@@ -134,25 +134,29 @@ fn put_moved<'x, 'a, D: Declared<'a>>(
 {
     for standing in known.outline.assertions.as_slice() {
         let source = standing.label;
-        if let Some(now) = moving.labels.text_for(source) {
-            let piece = if known.outline.is_alone(standing) {
-                as_it_stands(alloc, known, source, known.outline.whole(standing))
-            } else {
-                let is_in_front = moving.in_front.text_for(source).is_some();
-                parted(
-                    alloc,
-                    keys,
-                    declared,
-                    known,
-                    standing,
-                    now,
-                    is_in_front,
-                    words,
-                    edits,
-                )?
-            };
-            texts.insert(now, piece)?;
-        }
+        let Some(now) = moving.labels.text_for(source) else {
+            continue;
+        };
+        let Some(assertion) = labelled(edits.edited, now) else {
+            continue;
+        };
+        let piece = if known.outline.is_alone(standing) {
+            as_it_stands(alloc, known, source, known.outline.whole(standing))
+        } else {
+            let is_in_front = moving.in_front.text_for(source).is_some();
+            parted(
+                alloc,
+                keys,
+                declared,
+                known,
+                standing,
+                assertion,
+                is_in_front,
+                words,
+                edits,
+            )?
+        };
+        texts.insert(now, piece)?;
     }
     Ok(())
 }
@@ -226,19 +230,22 @@ fn texts_of<'x, 'a, D: Declared<'a>>(
 ///
 /// # Errors
 ///
-/// A text that isn't items, one behind the other; want of memory.
+/// An assertion without a proof that is to have another one; want of memory.
 pub(crate) fn rewritten(
     alloc: Global,
     edits: &Rearranged<'_>,
     text: &[u8],
 ) -> Result<Vec<u8>, Refusal>
+    requires divided { IsDivided text.now }
+    requires listed { AreListedAnew (seen_living edits.now.planned.living.now)
+        (map (λ r. r.assertion) edits.now.planned.edited.now.entries) edits.now.proofs.now }
     ensures rewritten { IfOk result (λ out. IsRewritten edits.now.changes.now edits.now.proofs.now text.now out.items) }
-    ensures refused { (living : List FollowedOf) (edited : List Assertion) (source : List ℕ)
-        → IfErr result (HasCause living edited source) }
+    ensures refused { IfErr result (HasCause (seen_living edits.now.planned.living.now)
+        (map (λ r. r.assertion) edits.now.planned.edited.now.entries) text.now) }
 {
     match rewrite(alloc, edits.changes, edits.proofs, text)? {
         Some(out) => Ok(out),
-        None => Err(Refusal::Unfit),
+        None => Err(Refusal::Bare),
     }
 }
 
@@ -275,14 +282,19 @@ fn arranged(
     source: &[u8],
     items: &[Item<'_>],
     moving: &Changes<'_>,
-    comings: &[Coming<'_>],
+    puts: &Puts<'_>,
     edits: &Rearranged<'_>,
 ) -> Result<Vec<u8>, Refusal>
-    requires { AreItems source.now items.now }
+    requires items { AreItems source.now items.now }
+    requires numbered { ArePuts (length edits.now.planned.edited.now.entries) puts.now }
+    requires listed { AreListedAnew (seen_living edits.now.planned.living.now)
+        (map (λ r. r.assertion) edits.now.planned.edited.now.entries) edits.now.proofs.now }
     ensures arranged { IfOk result (λ out. IsRearranged (seen_living edits.now.planned.living.now)
         (seen_words edits.now.planned.gone.now) edits.now.changes.now edits.now.proofs.now source.now out.items) }
-    ensures refused { (living : List FollowedOf) (edited : List Assertion) (text : List ℕ) → IfErr result (HasCause living edited text) }
+    ensures refused { IfErr result (HasCause (seen_living edits.now.planned.living.now)
+        (map (λ r. r.assertion) edits.now.planned.edited.now.entries) source.now) }
 {
+    let entries = edits.planned.edited.entries();
     let gone = marked(alloc, keys, edits.planned.gone)?;
     let moved = moved_in(alloc, edits.planned.living)?;
     let moved = marked(alloc, keys, moved.as_slice())?;
@@ -296,9 +308,10 @@ fn arranged(
         moved: &moved,
         library: &library,
     };
-    match arrange(alloc, edits, source, items, comings)? {
-        Some(out) => Ok(out),
-        None => Err(Refusal::Unfit),
+    match arrange(alloc, edits, source, items, puts.comings.as_slice())? {
+        Outcome::Text(out) => Ok(out),
+        Outcome::Misplaced(number) => Err(unplaced(alloc, entries, puts.numbers[number])?),
+        Outcome::Bare => Err(Refusal::Bare),
     }
 }
 
@@ -312,6 +325,8 @@ fn rearrange_known<'x, 'a, D: Declared<'a>>(
 ) -> Result<Vec<u8>, Refusal>
     requires items { AreItems known.now.text.now known.now.items.items }
     requires labelled { AreLabelled edits.now.edited.now (map (λ r. r.assertion) edits.now.planned.edited.now.entries) }
+    requires listed { AreListedAnew (seen_living edits.now.planned.living.now)
+        (map (λ r. r.assertion) edits.now.planned.edited.now.entries) edits.now.proofs.now }
     ensures arranged { IfOk result (λ out. IsRearranged (seen_living edits.now.planned.living.now)
         (seen_words edits.now.planned.gone.now) edits.now.changes.now edits.now.proofs.now known.now.text.now out.items) }
     ensures refused { IfErr result (HasCause (seen_living edits.now.planned.living.now)
@@ -322,19 +337,18 @@ fn rearrange_known<'x, 'a, D: Declared<'a>>(
     let moving = &moving.labels;
     let living = edits.planned.living;
     let entries = edits.planned.edited.entries();
-    let comings = comings_of(alloc, keys, known, living, moving, entries, &texts)?;
-    let comings = comings.as_slice();
+    let puts = puts_of(alloc, keys, known, living, moving, entries, &texts)?;
     let items = known.items.as_slice();
-    arranged(alloc, keys, known.text, items, moving, comings, edits)
+    arranged(alloc, keys, known.text, items, moving, &puts, edits)
 }
 
 /// A source by its items.
-fn known_of<'x>(alloc: Global, keys: RandomState, source: &'x [u8]) -> Result<Known<'x>, Refusal>
-    ensures items { IfOk result (λ known. AreItems source.now known.items.items × (known.text.now ≡ source.now)) }
-    ensures refused { (living : List FollowedOf) (edited : List Assertion) (text : List ℕ) → IfErr result (HasCause living edited text) }
+fn known_of<'x>(alloc: Global, keys: RandomState, source: &'x [u8]) -> Result<Known<'x>, AllocError>
+    requires { IsDivided source.now }
+    ensures { IfOk result (λ known. AreItems source.now known.items.items × (known.text.now ≡ source.now)) }
 {
     let Some(items) = read_items(alloc, source)? else {
-        return Err(Refusal::Unfit);
+        unreachable!()
     };
     let none = marked(alloc, keys, &[])?;
     let parts = parts_of(alloc, &none, &none, source, items.as_slice())?;
@@ -357,7 +371,10 @@ pub(crate) fn rearrange<'x, 'a, D: Declared<'a>>(
     source: &'x [u8],
     edits: &Rearranged<'x>,
 ) -> Result<Vec<u8>, Refusal>
-    requires { AreLabelled edits.now.edited.now (map (λ r. r.assertion) edits.now.planned.edited.now.entries) }
+    requires labelled { AreLabelled edits.now.edited.now (map (λ r. r.assertion) edits.now.planned.edited.now.entries) }
+    requires divided { IsDivided source.now }
+    requires listed { AreListedAnew (seen_living edits.now.planned.living.now)
+        (map (λ r. r.assertion) edits.now.planned.edited.now.entries) edits.now.proofs.now }
     ensures arranged { IfOk result (λ out. IsRearranged (seen_living edits.now.planned.living.now)
         (seen_words edits.now.planned.gone.now) edits.now.changes.now edits.now.proofs.now source.now out.items) }
     ensures refused { IfErr result (HasCause (seen_living edits.now.planned.living.now)

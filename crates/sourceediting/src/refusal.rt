@@ -25,8 +25,10 @@ pub enum Refusal {
     },
     /// The proof of a theorem of the edited library, by its label there, can't be written.
     Unwritten(Label),
-    /// The edits can't be written.
-    Unfit,
+    /// An assertion that is put in, by its label in the library, can't stand at its place.
+    Unplaced(Label),
+    /// An assertion that has no proof in the source is to have another one.
+    Bare,
     /// Memory ran out.
     NoMemory,
 }

@@ -1,9 +1,11 @@
 //! A source is written anew with the edits of a history.
 
 ghost use Rattle.std.specs.Prelude.{◌≡◌, IfOk, IfErr, map};
+ghost use Rattle.source.specs.Sources.{DeclaresText};
 ghost use Rattle.source.specs.Views.{seen_words};
+ghost use Rattle.items.specs.Divided.{IsDivided};
 ghost use Rattle.sourceediting.specs.Following.{all_commands};
-ghost use Rattle.sourceediting.specs.Refusals.{HasCause};
+ghost use Rattle.sourceediting.specs.Refusals.{HasCause, AreListedAnew};
 ghost use Rattle.sourceediting.specs.Reproved.{AreOtherProofs};
 ghost use Rattle.sourceediting.specs.Views.{seen_living, seen_proofs, edition_of, AreLabelled, AreNamesOf};
 ghost use Rattle.sourceediting.specs.Written.{IsWrittenAnew};
@@ -44,7 +46,10 @@ fn written<'x, 'a, D: Declared<'a>>(
     entries: &[Entry],
     edits: &Rearranged<'x>,
 ) -> Result<Vec<u8>, Refusal>
-    requires { AreLabelled edits.now.edited.now (map (λ r. r.assertion) edits.now.planned.edited.now.entries) }
+    requires labelled { AreLabelled edits.now.edited.now (map (λ r. r.assertion) edits.now.planned.edited.now.entries) }
+    requires divided { IsDivided source.now }
+    requires listed { AreListedAnew (seen_living edits.now.planned.living.now)
+        (map (λ r. r.assertion) edits.now.planned.edited.now.entries) edits.now.proofs.now }
     ensures written { IfOk result (λ out. IsWrittenAnew (all_commands entries.now) (seen_living edits.now.planned.living.now)
         (seen_words edits.now.planned.gone.now) (λ proofs. proofs ≡ edits.now.proofs.now) edits.now.changes.now source.now out.items) }
     ensures refused { IfErr result (HasCause (seen_living edits.now.planned.living.now)
@@ -70,6 +75,7 @@ fn write_over<'e, D: Declared<'e>>(
 ) -> Result<Vec<u8>, Refusal>
     requires labelled { AreLabelled edited.now (map (λ r. r.assertion) planned.now.edited.now.entries) }
     requires names { AreNamesOf (D.scope declared.now) (edition_of planned.now) (seen_living planned.now.living.now) names.now }
+    requires divided { IsDivided source.now }
     ensures written { IfOk result (λ out. IsWrittenAnew (all_commands entries.now) (seen_living planned.now.living.now)
         (seen_words planned.now.gone.now) (AreOtherProofs source.now (D.scope declared.now) (edition_of planned.now)
         (seen_living planned.now.living.now)) changes.now source.now out.items) }
@@ -77,7 +83,7 @@ fn write_over<'e, D: Declared<'e>>(
         (map (λ r. r.assertion) planned.now.edited.now.entries) source.now) }
 {
     let Some(indented) = indentations(alloc, keys, source)? else {
-        return Err(Refusal::Unfit);
+        unreachable!()
     };
     let proofs = other_proofs(alloc, keys, declared, edited, names, &indented, planned)?;
     let proofs = by_label(alloc, keys, proofs.as_slice())?;
@@ -105,6 +111,7 @@ pub fn write_edits<'e, D: Declared<'e>>(
     entries: &[Entry],
     changes: &'e Changes<'e>,
 ) -> Result<Vec<u8>, Refusal>
+    requires { DeclaresText source.now (D.scope declared.now) }
     ensures written { IfOk result (λ out. IsWrittenAnew (all_commands entries.now) (seen_living planned.now.living.now)
         (seen_words planned.now.gone.now) (AreOtherProofs source.now (D.scope declared.now) (edition_of planned.now)
         (seen_living planned.now.living.now)) changes.now source.now out.items) }

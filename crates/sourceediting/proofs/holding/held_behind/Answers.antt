@@ -1,50 +1,23 @@
 -- What is left to show of `held_behind`.
-use Rattle.std.proofs.Common.{◌≡◌, ◌∙◌, ℕ, List, Some, length, map, refl, sym, ap, subst, arith}
-use Rattle.std.specs.Prelude.{slice_get}
-use Rattle.std.specs.Option.{option_map}
-use Rattle.std.proofs.lemmas.Option.{slice_get-map, slice_get_read}
-use Rattle.mmtext.specs.Words.{Word}
+use Rattle.std.proofs.Common.{◌∙◌, map, sym, arith}
 use Rattle.library.specs.declared.library.Ranked.{Ranked}
-use Rattle.arranging.specs.Arranged.{label_in_source}
-use Rattle.arranging.specs.Held.{IsHeldBehind}
-use Rattle.sourceediting.specs.Refusals.{IsNumbered, IsKnownAs}
 use Rattle.sourceediting.specs.Views.{seen_living}
+use Rattle.sourceediting.proofs.Numbered.{numbered, in_front}
 use Rattle.sourceediting.proofs.holding.held_behind.Goals as goal
 
-numbered : (rs : List Ranked) (k : ℕ) (r : Ranked) (label : Word) → slice_get rs k ≡ Some r → r.assertion.label ≡ label
-    → IsNumbered (map (λ (r : Ranked). r.assertion) rs) k label
-numbered rs k r label at is = record {
-  assertion = r.assertion;
-  stands = slice_get-map (λ (r : Ranked). r.assertion) rs k ∙ ap (option_map (λ (r : Ranked). r.assertion)) at;
-  labelled = is;
-}
+pub returns-then-not-branch : goal.returns-then-not-branch
+returns-then-not-branch c = c.unplaced.ensures (seen_living c.args.living.now) c.args.known.now.text.now
 
 pub returns : goal.returns
 returns c =
     let rs = c.args.entries.now in
-    let living = seen_living c.args.living.now in
-    let found = c.in-Some-Some-Some in
-    let at = found.ensures.lookup.3 in
-    let at' = found.ensures'.lookup.3 in
+    let order = c.requires.order in
+    let within = c.requires.within in
+    let first = c.index-entries-held in
+    let second = c.index-entries-number in
     let held = c.in_ok-is_held.ensures c.if-not-branch.false in
-    let name = c.in_ok-from_slice.field-0 in
-    record {
-      first = c.args.held.number;
-      second = c.args.next.0;
-      in_front = omega (arith, c.if-held-number.false);
-      is_first =
-          numbered rs c.args.held.number found.first.now c.in_ok-copy.field-0
-          (slice_get_read rs (length rs) c.args.held.number found.first.now refl at.0 (at.1 found.first.now)) (sym c.in_ok-copy.ensures);
-      is_second =
-          numbered rs c.args.next.0 found.second.now c.in_ok-copy-2.field-0
-          (slice_get_read rs (length rs) c.args.next.0 found.second.now refl at'.0 (at'.1 found.second.now)) (sym c.in_ok-copy-2.ensures);
-      coming = found.coming.now;
-      comes =
-          subst (λ (w : Word). IsKnownAs living w (label_in_source found.coming.now))
-          (c.as_slice.ensures ∙ sym c.in_ok-copy.ensures) held.0;
-      neighbour = held.1.0;
-      stays = subst (λ (w : Word). IsKnownAs living w (Some held.1.0)) (c.as_slice-2.ensures ∙ sym c.in_ok-copy-2.ensures) held.1.1;
-      held =
-          subst (λ (w : Word). IsHeldBehind c.args.known.now.text.now found.coming.now held.1.0 w) (sym c.in_ok-from_slice.ensures)
-          held.1.2;
-    }
+    in_front (seen_living c.args.living.now) (map (λ (r : Ranked). r.assertion) rs) c.args.known.now.text.now _ held.1.0 _
+    c.args.held.number c.args.next.0 c.in_ok-copy.field-0 c.in_ok-copy-2.field-0 _ _ c.in_ok-from_slice.field-0 held.1.2 order
+    (numbered rs c.args.held.number first.result c.in_ok-copy.field-0 (omega (arith, order, within)) first.is (sym c.in_ok-copy.ensures))
+    (numbered rs c.args.next.0 second.result c.in_ok-copy-2.field-0 within second.is (sym c.in_ok-copy-2.ensures)) held.0 held.1.1
+    (c.as_slice.ensures ∙ sym c.in_ok-copy.ensures) (c.as_slice-2.ensures ∙ sym c.in_ok-copy-2.ensures) (sym c.in_ok-from_slice.ensures)

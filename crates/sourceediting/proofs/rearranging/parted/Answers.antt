@@ -1,11 +1,8 @@
 -- What is left to show of `parted`.
-use Rattle.std.proofs.Common.{map}
 use Rattle.std.proofs.lemmas.Result.{err_from_is_err_and}
-use Rattle.library.specs.declared.library.Ranked.{Ranked}
 use Rattle.sourceediting.proofs.rearranging.parted.Goals as goal
 
 pub returns-in_err-text : goal.returns-in_err-text
-returns-in_err-text g c = λ living text.
-    let edited = map (λ (r : Ranked). r.assertion) c.args.edits.now.planned.edited.now.entries in
+returns-in_err-text g c = λ living edited text there.
     let p = err_from_is_err_and c.from_residual.result c.from_residual.ensures.1 in
-    rw (p.1, p.2) (c.in_err-text.ensures living edited text (c.in-Some.ensures edited c.requires).0)
+    rw (p.1, p.2) (c.in_err-text.ensures living edited text there)

@@ -9,9 +9,3 @@ pub returns-in_err-texts-clause-refused : goal.returns-in_err-texts-clause-refus
 returns-in_err-texts-clause-refused g c =
     let p = err_from_is_err_and c.from_residual-in_err-texts.result c.from_residual-in_err-texts.ensures.1 in
     rw (p.1, p.2) (c.in_err-texts.ensures (seen_living c.args.edits.now.planned.living.now) c.args.known.now.text.now)
-
-pub returns-clause-refused : goal.returns-clause-refused
-returns-clause-refused g c =
-    let planned = c.args.edits.now.planned in
-    c.arranged.ensures.refused (seen_living planned.living.now) (map (λ (r : Ranked). r.assertion) planned.edited.now.entries)
-    c.args.known.now.text.now

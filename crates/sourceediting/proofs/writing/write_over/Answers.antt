@@ -1,5 +1,5 @@
 -- What is left to show of `write_over`.
-use Rattle.std.proofs.Common.{◌≡◌, ◌∙◌, sym, ap, subst}
+use Rattle.std.proofs.Common.{◌≡◌, ◌∙◌, refl, sym, ap, subst}
 use Rattle.std.specs.Prelude.{IfSome}
 use Rattle.items.specs.Walking.{AreIndentations}
 use Rattle.std.proofs.lemmas.Result.{IfOk-weaker, err_from_is_err_and}
@@ -8,6 +8,7 @@ use Rattle.sourceediting.specs.Following.{all_commands}
 use Rattle.sourceediting.specs.Reproved.{AreOtherProofs}
 use Rattle.sourceediting.specs.Views.{seen_living, seen_proofs, edition_of}
 use Rattle.sourceediting.specs.Written.{IsWrittenAnew}
+use Rattle.sourceediting.proofs.Bared.{listed_anew}
 use Rattle.sourceediting.proofs.Rewritten.{by_others}
 use Rattle.sourceediting.proofs.writing.write_over.Goals as goal
 
@@ -19,7 +20,7 @@ returns-clause-written g c =
     let proofs = c.in_ok-proofs-2.proofs in
     let planned = c.args.planned.now in
     let are_others = AreOtherProofs source (g.D.Declared.scope c.args.declared.now) (edition_of planned) (seen_living planned.living.now) in
-    let indented = subst (λ o. IfSome o (AreIndentations source)) c.in-Some.is c.in_ok-indented.ensures in
+    let indented = subst (λ o. IfSome o (AreIndentations source)) c.in-Some.is c.in_ok-indented.ensures.indentations in
     let are = subst are_others (sym (c.in_ok-proofs-2.ensures ∙ ap seen_proofs c.as_slice.ensures.value))
     (c.in_ok-proofs.ensures.made source indented) in
     let living = seen_living planned.living.now in
@@ -35,3 +36,17 @@ pub returns-in_err-proofs-clause-refused : goal.returns-in_err-proofs-clause-ref
 returns-in_err-proofs-clause-refused g c =
     let p = err_from_is_err_and c.from_residual-in_err-proofs.result c.from_residual-in_err-proofs.ensures.1 in
     rw (p.1, p.2) (c.in_err-proofs.ensures.refused c.args.source.now)
+
+pub written-requires : goal.written-requires
+written-requires g c κs =
+    let source = c.args.source.now in
+    let planned = c.args.planned.now in
+    let s = g.D.Declared.scope c.args.declared.now in
+    let e = edition_of planned in
+    let living = seen_living planned.living.now in
+    let indented = subst (λ o. IfSome o (AreIndentations source)) c.in-Some.is c.in_ok-indented.ensures.indentations in
+    let are = subst (AreOtherProofs source s e living) (sym (c.in_ok-proofs-2.ensures ∙ ap seen_proofs c.as_slice.ensures.value))
+    (c.in_ok-proofs.ensures.made source indented) in (
+      (refl, (refl, tt)),
+      (c.requires.labelled, (c.requires.divided, listed_anew source s e living c.in_ok-proofs-2.proofs are)),
+    )

@@ -28,10 +28,7 @@ returns-then-keep_places-clause-written g c =
     (λ out. only_rewritten commands living gone cs source out.items proofs all) c.rewritten.ensures.rewritten
 
 pub returns-then-keep_places-clause-refused : goal.returns-then-keep_places-clause-refused
-returns-then-keep_places-clause-refused g c =
-    let planned = c.args.edits.now.planned in
-    c.rewritten.ensures.refused (seen_living planned.living.now)
-    (map (λ (r : Ranked). r.assertion) planned.edited.now.entries) c.args.source.now
+returns-then-keep_places-clause-refused g c = c.rewritten.ensures.refused
 
 pub returns-clause-refused : goal.returns-clause-refused
 returns-clause-refused g c = c.rearrange.ensures.refused
