@@ -85,7 +85,8 @@ module _ (cs proofs : List Change) where
 
 -- ---- layouts, item by item
 
-module _ (e : Edited) (source : List ℕ) (fs : List Found) (old : List Item) (found : AreFound source 0 fs old) (place : ℕ) (ps : List Placed)
+module _ (e : Edited) (source : List ℕ) (fs : List Found) (old : List Item) (found : AreFound source 0 fs old) (place : ℕ)
+    (ps : List Placed)
   where
     -- a layout goes on behind an item
     module _ (lt : place < length fs) where

@@ -29,7 +29,8 @@ module _ (k : Known) (source : List ℕ) where
   cited_cause (edits.StillCited label by) h = h
   cited_cause (edits.InFront label next name) h = absurd h
   cited_cause (edits.Unwritten label) h = absurd h
-  cited_cause edits.Unfit h = absurd h
+  cited_cause (edits.Unplaced label) h = absurd h
+  cited_cause edits.Bare h = absurd h
   cited_cause edits.NoMemory h = tt
 
   pub edits_cause : (e : Unwritten) → HasCause k.followed.living (edited_assertions k) source e
@@ -37,7 +38,8 @@ module _ (k : Known) (source : List ℕ) where
   edits_cause (edits.StillCited label by) h = absurd h
   edits_cause (edits.InFront label next name) h = h
   edits_cause (edits.Unwritten label) h = h
-  edits_cause edits.Unfit h = h
+  edits_cause (edits.Unplaced label) h = h
+  edits_cause edits.Bare h = h
   edits_cause edits.NoMemory h = h
 
   pub told_cause : (e : Unwritten) (why : Refusal) → IsEditsRefusal e why → IsJustified k source (refusal.Edits e)

@@ -157,7 +157,7 @@ abbrev pub WouldStandBehind : Known → List ℕ → Word → Word → Type 0
 WouldStandBehind k source label by =
     (out : List ℕ) × IsTextThen k source out × StandInOrder out by label × Cites k.changes (others_of k) by label
 
--- ---- each refusal, once the history was done again; of want of memory, and of edits that can't be written, nothing is known
+-- ---- each refusal, once the history was done again; of want of memory nothing is known
 
 abbrev pub IsJustified : Known → List ℕ → Refusal → Type 0
 IsJustified k source (refusal.NameTaken label) = IsNameTaken k label

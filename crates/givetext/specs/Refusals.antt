@@ -39,7 +39,8 @@ edits_text (edits.StillCited label by) =
 edits_text (edits.InFront label next name) =
     shown label ++ (codes " can't stand in front of " ++ (shown next ++ (codes ": " ++ (shown name ++ codes " is declared behind that"))))
 edits_text (edits.Unwritten label) = codes "the proof of " ++ (shown label ++ codes " can't be written")
-edits_text edits.Unfit = codes "the edits can't be written"
+edits_text (edits.Unplaced label) = shown label ++ codes " can't stand at its place"
+edits_text edits.Bare = codes "an axiom of the source would have a proof"
 edits_text edits.NoMemory = codes "no memory"
 
 abbrev pub refusal_text : Refusal → List ℕ

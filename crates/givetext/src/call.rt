@@ -210,6 +210,7 @@ fn write_anew(
     changes: &Changes<'_>,
     own: &[bool],
 ) -> Result<Vec<u8>, Refusal>
+    requires { DeclaresText source.now old.now.stand.scope }
     ensures written { IfOk result (λ out. IsWrittenAnew (all_commands replayed.now.entries) (seen_following following.now).living
         (seen_following following.now).gone (AreOtherProofs source.now old.now.stand.scope
         (edition taken.now replayed.now.edited) (seen_following following.now).living)
@@ -280,7 +281,8 @@ fn write_and_look<'x>(
     changes: &Changes<'x>,
     own: &[bool],
 ) -> Result<Vec<u8>, Refusal>
-    requires { length own.now ≡ length old.now.stand.scope.assertions }
+    requires own { length own.now ≡ length old.now.stand.scope.assertions }
+    requires declares { DeclaresText source.now old.now.stand.scope }
     ensures written { IfOk result (λ out. IsWrittenAnew (all_commands replayed.now.entries) (seen_following following.now).living
         (seen_following following.now).gone (AreOtherProofs source.now old.now.stand.scope
         (edition taken.now replayed.now.edited) (seen_following following.now).living)
@@ -312,7 +314,8 @@ fn give_edits<'x, 'a: 'x>(
     taken: &'x Taken<'a>,
     replayed: &'x Replayed,
 ) -> Result<Vec<u8>, Refusal>
-    requires { length taken.now.chosen.items ≡ length old.now.stand.scope.assertions }
+    requires chosen { length taken.now.chosen.items ≡ length old.now.stand.scope.assertions }
+    requires declares { DeclaresText source.now old.now.stand.scope }
     ensures edited { (choice : Choice) → map (λ (x : Assertion). is_in choice.chosen x.label) old.now.stand.scope.assertions
         ≡ taken.now.chosen.items
         → IfOk result (λ out. IsEdited source.now old.now.stand.scope choice taken.now replayed.now.entries replayed.now.edited out.items) }

@@ -85,7 +85,11 @@ fn edits_text(alloc: Global, why: &Unwritten) -> Result<String, AllocError>
             let label = shown(label.as_slice());
             format!(in alloc; "the proof of {label} can't be written")
         }
-        Unwritten::Unfit => format!(in alloc; "the edits can't be written"),
+        Unwritten::Unplaced(label) => {
+            let label = shown(label.as_slice());
+            format!(in alloc; "{label} can't stand at its place")
+        }
+        Unwritten::Bare => format!(in alloc; "an axiom of the source would have a proof"),
         Unwritten::NoMemory => format!(in alloc; "no memory"),
     }
 }

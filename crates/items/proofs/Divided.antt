@@ -109,7 +109,8 @@ module _ (text : List ℕ) (at : ℕ) where
   -- a statement doesn't end with the text
   pub statement_goes : IsDividedFrom true text at → tokens_at text at ≡ [] → ⊥
   statement_goes d none =
-      let e : divides true [] ≡ true = subst (λ vs. divides true vs ≡ true) (nothing_outside text at d.outside d.outside_are none) d.divided in cc
+      let nothing = nothing_outside text at d.outside d.outside_are none in
+      let e : divides true [] ≡ true = subst (λ vs. divides true vs ≡ true) nothing d.divided in cc
 
   module _ (t : Token) (is : IsFirst text at t) where
     -- a comment belongs to what it stands in

@@ -91,7 +91,8 @@ label_begins : (s : Scope) (label : Word) (ws : List Word) → is_new_label s la
 label_begins s label ws h = begun label ws (label_plain label (new_label s label h))
 
 mutual
-  pub statement_divides : (s : Scope) (x : Statement) (ws : List Word) → is_lawful s x ≡ true → divides false (spelling x ++ ws) ≡ divides false ws
+  pub statement_divides : (s : Scope) (x : Statement) (ws : List Word) → is_lawful s x ≡ true
+      → divides false (spelling x ++ ws) ≡ divides false ws
   statement_divides s (constants vs) ws h =
       let parts = three_parts s.outermost (nat_le 1 (length vs)) (each_declared a_constant constant_tests s vs) h in
       ended vs ws

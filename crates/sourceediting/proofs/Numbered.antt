@@ -23,12 +23,13 @@ numbered rs k r label lt at is = record {
 }
 
 -- something that is put in, which is held behind what its neighbour stands in front of
-pub in_front : (living : List Followed) (edited : List Unit') (source : List ℕ) (coming : Coming) (neighbour : Word) (name : Word)
+pub in_front : (living : List Followed) (edited : List Unit') (source : List ℕ) (coming : Coming) (neighbour name : Word)
     (first second : ℕ) (label next label' next' name' : Word) → IsHeldBehind source coming neighbour name → first < second
     → IsNumbered edited first label → IsNumbered edited second next → IsKnownAs living label' (label_in_source coming)
     → IsKnownAs living next' (Some neighbour) → label' ≡ label → next' ≡ next → name ≡ name'
     → IsInFront living edited source label next name'
-in_front living edited source coming neighbour name first second label next label' next' name' held lt one other comes stays l n m = record {
+in_front living edited source coming neighbour name first second label next label' next' name' held lt one other comes stays
+    l n m = record {
   first = first;
   second = second;
   in_front = lt;

@@ -11,6 +11,7 @@ pub returns-in-None-clause-refused : goal.returns-in-None-clause-refused
 returns-in-None-clause-refused c =
     let edits = c.args.edits.now in
     let text = c.args.text.now in
-    bare_in (seen_living edits.planned.living.now) (map (λ (r : Ranked). r.assertion) edits.planned.edited.now.entries) text edits.proofs.now
+    let edited = map (λ (r : Ranked). r.assertion) edits.planned.edited.now.entries in
+    bare_in (seen_living edits.planned.living.now) edited text edits.proofs.now
     (subst (λ made. IfNone made (HasBare edits.proofs.now text)) c.in-None.is (c.in_ok-out.ensures.bare c.requires.divided))
     c.requires.listed

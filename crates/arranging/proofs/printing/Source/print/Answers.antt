@@ -50,8 +50,8 @@ loop-placed-preserved c =
           (subst (λ ps. Says c.args.self.changes.now c.args.self.proofs.now old rest (drop c.loop-placed.place old) ps (put.0 ++ later))
           (sym next) (put.2 rest (drop (i + 1) layout) later h)));
       left = λ e old found h.
-          subst (λ made. MatchOption made (HasBare c.args.self.proofs.now text) (λ n. IsLayout e (take n old) (drop n old) (drop (i + 1) layout)))
-          c.in-Some.is
+          subst (λ made. MatchOption made (HasBare c.args.self.proofs.now text)
+          (λ n. IsLayout e (take n old) (drop n old) (drop (i + 1) layout))) c.in-Some.is
           (c.in_ok-next.ensures.bare e old (drop (i + 1) layout) found
           (subst (λ ps. IsLayout e (take c.loop-placed.place old) (drop c.loop-placed.place old) ps) next
           (c.loop-placed.invariant.left e old found h)));

@@ -82,7 +82,8 @@ returns-in_default-clause-put c = λ old h _.
     sym (clamped old first c.args.end e (bound ∙ ap (min c.args.end) many)) ∙ nothing_between old first e over in (
       [],
       sym (append-nil c.args.out.now.items),
-      subst (λ xs. ReadThen c.args.self.changes.now c.args.self.proofs.now xs []) (sym none) (record { texts = []; each = tt; whole = refl }),
+      subst (λ xs. ReadThen c.args.self.changes.now c.args.self.proofs.now xs []) (sym none)
+          (record { texts = []; each = tt; whole = refl }),
     )
 
 pub returns-then-not-branch-clause-bare : goal.returns-then-not-branch-clause-bare
