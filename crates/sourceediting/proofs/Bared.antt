@@ -1,5 +1,5 @@
 -- Assertions without a proof that are to have another one.
-use Rattle.std.proofs.Common.{◌≡◌, ◌≢◌, ◌∙◌, ℕ, Bool, true, false, cond, List, [], ◌∷◌, All, Option, Some, None, refl, sym, ap, subst, inl, inr, append-nil}
+use Rattle.std.proofs.Common.{◌≡◌, ◌≢◌, ◌∙◌, ℕ, Bool, true, false, cond, List, [], ◌∷◌, All, Some, None, refl, sym, ap, subst, inl, inr, append-nil}
 use Rattle.std.specs.Prelude.{find}
 use Rattle.std.specs.Str.{bytes_eq}
 use Rattle.std.proofs.lemmas.Bool.{cases_Bool}
@@ -9,7 +9,7 @@ use Rattle.mmsyntax.proofs.Names.{same_bytes}
 use Rattle.mmsyntax.specs.declared.statement.Assertion.{Assertion}
 use Rattle.source.specs.Scopes.{Scope}
 use Rattle.giving.specs.Staying.{Change}
-use Rattle.items.specs.Items.{asserts, label_among, label_of as labels, said}
+use Rattle.items.specs.Items.{asserts, label_among, said}
 use Rattle.items.specs.Rewriting.{text_for}
 use Rattle.items.specs.Bare.{HasBare}
 use Rattle.sourceediting.specs.Following.{Followed}
@@ -38,9 +38,9 @@ one_among (label ∷ mark ∷ vs) w ws e = one_label (asserts mark) label w ws e
 
 module _ (living : List Followed) (edited : List Assertion) (source : List ℕ) (proofs : List Change) where
   pub bare_in : HasBare proofs source → AreListedAnew living edited proofs → IsBareIn living edited source
-  bare_in (x, stands, bare) (opened, listed) = by_labels (labels x) refl
+  bare_in (x, stands, bare) (opened, listed) = by_labels (label_among (said x)) refl
     where
-      by_labels : (ws : List Word) → labels x ≡ ws → IsBareIn living edited source
+      by_labels : (ws : List Word) → label_among (said x) ≡ ws → IsBareIn living edited source
       by_labels [] e = absurd (bare.wanted (ap (text_for proofs) e))
       by_labels (w ∷ ws) e =
           let found = found_so (λ (p : Change). HasAnotherListing opened edited living p.0) (λ (p : Change). bytes_eq w p.0) proofs listed
@@ -49,7 +49,7 @@ module _ (living : List Followed) (edited : List Assertion) (source : List ℕ) 
             stands = stands;
             bare = bare.bare;
             label = w;
-            labelled = append-nil (labels x) ∙ (e ∙ ap (λ vs. w ∷ vs) (one_among (said x) w ws e));
+            labelled = append-nil (label_among (said x)) ∙ (e ∙ ap (λ vs. w ∷ vs) (one_among (said x) w ws e));
             opened = opened;
             listed = subst (HasAnotherListing opened edited living) (sym (same_bytes w found.0.0 found.2)) found.1;
           }

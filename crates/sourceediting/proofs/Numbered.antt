@@ -1,6 +1,5 @@
 -- Assertions of a library by their numbers.
 use Rattle.std.proofs.Common.{◌≡◌, ◌∙◌, ◌<◌, ℕ, List, Some, length, map, get_or, ap, sym, subst}
-use Rattle.std.specs.Prelude.{slice_get}
 use Rattle.std.specs.Option.{option_map}
 use Rattle.std.proofs.lemmas.Option.{slice_get-map, slice_get-get_or}
 use Rattle.mmtext.specs.Words.{Word}
@@ -30,14 +29,14 @@ pub in_front : (living : List Followed) (edited : List Unit') (source : List ℕ
     → IsInFront living edited source label next name'
 in_front living edited source coming neighbour name first second label next label' next' name' held lt one other comes stays
     l n m = record {
-  first = first;
-  second = second;
-  in_front = lt;
-  is_first = one;
-  is_second = other;
-  coming = coming;
-  comes = subst (λ (w : Word). IsKnownAs living w (label_in_source coming)) l comes;
-  neighbour = neighbour;
-  stays = subst (λ (w : Word). IsKnownAs living w (Some neighbour)) n stays;
-  held = subst (IsHeldBehind source coming neighbour) m held;
-}
+      first = first;
+      second = second;
+      in_front = lt;
+      is_first = one;
+      is_second = other;
+      coming = coming;
+      comes = subst (λ (w : Word). IsKnownAs living w (label_in_source coming)) l comes;
+      neighbour = neighbour;
+      stays = subst (λ (w : Word). IsKnownAs living w (Some neighbour)) n stays;
+      held = subst (IsHeldBehind source coming neighbour) m held;
+    }

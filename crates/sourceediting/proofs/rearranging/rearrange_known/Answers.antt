@@ -1,7 +1,5 @@
 -- What is left to show of `rearrange_known`.
-use Rattle.std.proofs.Common.{map}
 use Rattle.std.proofs.lemmas.Result.{err_from_is_err_and}
-use Rattle.library.specs.declared.library.Ranked.{Ranked}
 use Rattle.sourceediting.specs.Views.{seen_living}
 use Rattle.sourceediting.proofs.rearranging.rearrange_known.Goals as goal
 

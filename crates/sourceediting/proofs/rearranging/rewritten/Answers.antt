@@ -1,5 +1,5 @@
 -- What is left to show of `rewritten`.
-use Rattle.std.proofs.Common.{List, ℕ, map, subst}
+use Rattle.std.proofs.Common.{map, subst}
 use Rattle.std.specs.Prelude.{IfNone}
 use Rattle.items.specs.Bare.{HasBare}
 use Rattle.library.specs.declared.library.Ranked.{Ranked}

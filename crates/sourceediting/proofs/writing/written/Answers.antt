@@ -1,8 +1,7 @@
 -- What is left to show of `written`.
-use Rattle.std.proofs.Common.{◌≡◌, ◌∙◌, false, true, map, sym}
+use Rattle.std.proofs.Common.{◌≡◌, ◌∙◌, false, true, sym}
 use Rattle.std.specs.Prelude.{All}
 use Rattle.std.proofs.lemmas.Result.{IfOk-weaker}
-use Rattle.library.specs.declared.library.Ranked.{Ranked}
 use Rattle.source.specs.Views.{seen_words}
 use Rattle.sourceediting.specs.Following.{KeepsPlaces, all_commands}
 use Rattle.sourceediting.specs.Views.{seen_living}
