@@ -20,8 +20,8 @@ use Rattle.givetext.proofs.call.give_edits.Goals as goal
 pub are_uncited-requires : goal.are_uncited-requires
 are_uncited-requires g c κs = ((refl, tt), ap length c.as_slice-own.ensures.value ∙ c.in_ok-own.ensures.many)
 
-pub write_and_look-requires-after_bounds : goal.write_and_look-requires-after_bounds
-write_and_look-requires-after_bounds g c κs within = ap length c.as_slice-own.ensures.value ∙ c.in_ok-own.ensures.many
+pub write_and_look-requires-clause-own : goal.write_and_look-requires-clause-own
+write_and_look-requires-clause-own g c κs within = ap length c.as_slice-own.ensures.value ∙ c.in_ok-own.ensures.many
 
 pub returns-clause-edited : goal.returns-clause-edited
 returns-clause-edited g c choice are =

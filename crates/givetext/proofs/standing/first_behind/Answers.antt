@@ -24,7 +24,7 @@ returns-in-Some-first_behind_at g c =
     let i = c.loop-place.place in
     let fs = c.in-Some.items.items in
     let are : AreItems out fs =
-    subst (λ (o : Option (Vec Found Global)). IfSome o (λ found. AreItems out found.items)) c.in-Some.is c.in_ok-items.ensures in
+    subst (λ (o : Option (Vec Found Global)). IfSome o (λ found. AreItems out found.items)) c.in-Some.is c.in_ok-items.ensures.found in
     let numbers : AreNumbers fs c.in_ok-places.places =
     subst (λ (gs : List Found). AreNumbers gs c.in_ok-places.places) c.as_slice.ensures.value c.in_ok-places.ensures in
     let label = c.in-Some-first_behind_at.label.now in
