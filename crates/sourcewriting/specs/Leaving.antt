@@ -1,5 +1,5 @@
 -- When the steps of a proof in the library denote a tree where the proof is to stand: they leave one entry (Metamath book, section 4.1.4).
-use Rattle.std.specs.Prelude.{◌≡◌, ◌<◌, ◌≤◌, ◌+◌, ℕ, suc, List, [], ◌∷◌, length, Some}
+use Rattle.std.specs.Prelude.{◌≡◌, ◌<◌, ◌≤◌, ◌+◌, ℕ, suc, Bool, List, [], ◌∷◌, length, IsTrue, Some}
 use Rattle.std.specs.Str.{bytes_eq}
 use Rattle.std.specs.HashMap.{get_by}
 use Rattle.mmsyntax.specs.declared.limits.TheConstants.{MOST_STEPS}
@@ -40,3 +40,12 @@ pub record CanStand (s : Scope) (m : Names) (hypotheses : List Hypothesis) (step
   pub few : length steps ≤ MOST_STEPS
   pub one : LeaveOne s m (length (premise_labels hypotheses)) steps
   pub names : (label : Word) (n : ℕ) → Takes s m hypotheses label n → IsName label
+
+-- and it can be compressed: a label takes as many entries wherever it stands, and there are numbers for what is counted
+pub record CanBeCounted (s : Scope) (m : Names) (hypotheses : List Hypothesis) : Type 0 where
+  pub alike : (label : Word) (one other : ℕ) → Takes s m hypotheses label one → Takes s m hypotheses label other → one ≡ other
+  pub few : length hypotheses + MOST_STEPS + MOST_STEPS < 268435460
+
+-- a proof of a theorem with these hypotheses can be put there in a form: compressed, or not
+abbrev pub CanBePut : Scope → Names → Bool → List Hypothesis → List Step → Type 0
+CanBePut s m is_compressed hypotheses steps = CanStand s m hypotheses steps × (IsTrue is_compressed → CanBeCounted s m hypotheses)
