@@ -16,4 +16,4 @@ mod Lettered
 mod Printed
 mod Numbering
 mod Stacks
-mod Leading
+pub mod Leading

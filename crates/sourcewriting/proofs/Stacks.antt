@@ -19,7 +19,7 @@ use Rattle.sourcewriting.specs.Taking.{AllTake}
 use Rattle.sourcewriting.proofs.MarkedProofs.{each}
 
 -- a label takes as many as it did
-pub taken_alike : (s : Scope) (m : Names) (hs : List Hypothesis) (shared : Shared) → AllTake s m hs shared → CanBeCounted s m hs
+pub taken_alike : (s : Scope) (m : Names) (hs : List Hypothesis) (shared : Shared) → AllTake s m hs shared → CanBeCounted (Takes s m hs) hs
     → (label : Word) (n : ℕ) → Takes s m hs label n → IsTakenAlike shared.words.items label n
 taken_alike s m hs shared all can label n takes = λ c has is.
     let taken = All-contains (λ (c : CountedLabel). Takes s m hs c.label.now c.takes) shared.words.items c
@@ -76,7 +76,7 @@ stack_then s t old front new first node more there low is put =
 
 -- the node of a proof that can be compressed can be put in letters
 pub lettered : (s : Scope) (m : Names) (hs : List Hypothesis) (none shared : Shared) (mandatory : List Word) (root : ℕ)
-    → mandatory ≡ map label_of hs → AllTake s m hs shared → CanBeCounted s m hs → none.words.items ≡ [] → none.nodes.items ≡ []
+    → mandatory ≡ map label_of hs → AllTake s m hs shared → CanBeCounted (Takes s m hs) hs → none.words.items ≡ [] → none.nodes.items ≡ []
     → AreFew MOST_STEPS none shared → AreNodes shared → root < length shared.nodes.items → CanBeLettered shared mandatory root
 lettered s m hs none shared mandatory root are all can words nodes few sound there = record {
   nodes = sound;

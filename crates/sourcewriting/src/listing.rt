@@ -7,7 +7,7 @@ ghost use Rattle.source.specs.Scopes.{Hypothesis as HypothesisOf};
 ghost use Rattle.source.specs.Views.{seen_words};
 ghost use Rattle.taking.specs.Walks.{arranged};
 ghost use Rattle.taking.specs.Listings.{premise_labels};
-ghost use Rattle.sourcewriting.specs.Counting.{IsCountOf};
+ghost use Rattle.sourcewriting.specs.Counting.{IsCountOf, Takes};
 ghost use Rattle.sourcewriting.specs.Leaving.{StepTakes, LeaveOne, CanBeCounted};
 ghost use Rattle.sourcewriting.specs.Nodes.{AreNodes, AreThere, AreFew, IsTakenAlike};
 ghost use Rattle.sourcewriting.specs.Taking.{AllTake, MayTakeMore, MayTakeNone};
@@ -198,7 +198,7 @@ fn take_step<'x, 'a, D: Declared<'a>>(
         → length stack.old.items ≡ rest + n → IfOk result (λ done. IsTrue done × (length stack.new.items ≡ suc rest)) }
     ensures few { IfOk result (λ _. AreFew 1 shared.old shared.new) }
     ensures nodes { (hs : List HypothesisOf) → seen_words premises.now ≡ premise_labels hs
-        → AllTake (D.scope declared.now) names.now hs shared.old → CanBeCounted (D.scope declared.now) names.now hs
+        → AllTake (D.scope declared.now) names.now hs shared.old → CanBeCounted (Takes (D.scope declared.now) names.now hs) hs
         → AreNodes shared.old → AreThere shared.old stack.old.items
         → IfOk result (λ _. AreNodes shared.new × AreThere shared.new stack.new.items) }
 {
@@ -230,11 +230,11 @@ pub(crate) fn put_nodes<'x, 'a, D: Declared<'a>>(
     ensures taken { (hs : List HypothesisOf) → seen_words premises.now ≡ premise_labels hs
         → AllTake (D.scope declared.now) names.now hs shared.old
         → IfOk result (λ _. AllTake (D.scope declared.now) names.now hs shared.new) }
-    ensures one { length steps.now ≤ MOST_STEPS → LeaveOne (D.scope declared.now) names.now (length premises.now) steps.now
+    ensures one { length steps.now ≤ MOST_STEPS → LeaveOne (StepTakes (D.scope declared.now) names.now (length premises.now)) steps.now
         → IfOk result (λ made. IsTrue (is_some made)) }
     ensures few { IfOk result (λ made. IfSome made (λ _. AreFew MOST_STEPS shared.old shared.new)) }
     ensures nodes { (hs : List HypothesisOf) → seen_words premises.now ≡ premise_labels hs
-        → AllTake (D.scope declared.now) names.now hs shared.old → CanBeCounted (D.scope declared.now) names.now hs
+        → AllTake (D.scope declared.now) names.now hs shared.old → CanBeCounted (Takes (D.scope declared.now) names.now hs) hs
         → AreNodes shared.old → IfOk result (λ made. IfSome made (λ root. AreNodes shared.new × (root < length shared.new.nodes.items))) }
 {
     if steps.len() > MOST_STEPS {

@@ -10,7 +10,7 @@ ghost use Rattle.sourcewriting.specs.Counting.{Takes};
 ghost use Rattle.sourcewriting.specs.Indentations.{IsIndentation};
 ghost use Rattle.sourcewriting.specs.Forms.{is_compressed_form};
 ghost use Rattle.sourcewriting.specs.Laid.{IsLaid, IsInForm};
-ghost use Rattle.sourcewriting.specs.Leaving.{CanBePut};
+ghost use Rattle.sourcewriting.specs.Leaving.{CanBePutWith};
 ghost use Rattle.sourcewriting.specs.Lettered.{CanBeLettered};
 ghost use Rattle.sourcewriting.specs.Named.{AreNames};
 ghost use Rattle.sourcewriting.specs.MarkedTexts.{IsMarkedText};
@@ -163,7 +163,7 @@ fn text_of<'p, 'a, D: Declared<'a>>(
         → IfOk result (λ made. IfSome made (λ text.
         IsMarkedText indentation.now (Takes (D.scope declared.now) names.now hs) hs text.items)) }
     ensures some { (hs : List HypothesisOf) → AreHypotheses hs hypotheses.now
-        → CanBePut (D.scope declared.now) names.now is_compressed hs steps.now → IfOk result (λ made. IsTrue (is_some made)) }
+        → CanBePutWith (D.scope declared.now) names.now is_compressed hs steps.now → IfOk result (λ made. IsTrue (is_some made)) }
 {
     let premises = hypotheses.premises.as_slice();
     let mandatory = hypotheses.mandatory.as_slice();
@@ -201,7 +201,7 @@ pub fn proof_text<'x, D: Declared<'x>>(
         → IfOk result (λ made. IfSome made (λ text.
         IsMarkedText indentation.now (Takes (D.scope declared.now) names.now a.hypotheses) a.hypotheses text.items)) }
     ensures some { (a : AssertionOf) → slice_get (D.scope declared.now).assertions place ≡ Some a
-        → CanBePut (D.scope declared.now) names.now (is_compressed_form a.proof) a.hypotheses steps.now
+        → CanBePutWith (D.scope declared.now) names.now (is_compressed_form a.proof) a.hypotheses steps.now
         → IfOk result (λ made. IsTrue (is_some made)) }
 {
     let hypotheses = hypotheses_of(alloc, declared, place)?;

@@ -1,5 +1,9 @@
-use Rattle.std.proofs.Common.{◌∙◌, ◌<◌, sym, ap, subst, List, ℕ, length, Option}
-use Rattle.std.specs.Prelude.{All, IfSome}
+use Rattle.std.proofs.Common.{◌≡◌, ◌∙◌, ◌<◌, IsTrue, sym, ap, subst, List, ℕ, length, Option}
+use Rattle.std.specs.Prelude.{All, IfSome, is_some}
+use Rattle.std.specs.Borrow.{Bor}
+use Rattle.std.proofs.lemmas.List.{length-map}
+use Rattle.taking.specs.Listings.{premise_labels}
+use Rattle.sourcewriting.specs.Leaving.{LeaveOne, StepTakes}
 use Rattle.mmsyntax.specs.declared.limits.TheConstants.{MOST_STEPS}
 use Rattle.sourcewriting.specs.Nodes.{AreNodes, AreFew}
 use Rattle.sourcewriting.proofs.Stacks.{lettered}
@@ -45,3 +49,13 @@ returns-in-Some-clause-some g c = λ hs are can.
     (c.in_ok-root.ensures.nodes hs premises none (can.1 is) c.new-shared.ensures.sound) in
     lettered s m hs c.new-shared.result c.put_nodes.new.shared (seen_words c.as_slice-mandatory.result.now) c.in-Some.root mandatory all
     (can.1 is) c.new-shared.ensures.words c.new-shared.ensures.nodes few made.0 made.1)
+
+pub returns-clause-some : goal.returns-clause-some
+returns-clause-some g c = λ hs are can.
+    let s = g.D.Declared.scope c.args.declared.now in
+    let m = c.args.names.now in
+    let premises = c.as_slice-premises.result.now in
+    let many : length (premise_labels hs) ≡ length premises =
+    sym (ap length (ap seen_words c.as_slice-premises.ensures.value ∙ are.premises)) ∙ length-map premises (λ (w : Bor (List ℕ)). w.now) in
+    let one = c.in_ok-root.ensures.one can.0.few (subst (λ n. LeaveOne (StepTakes s m n) c.args.steps.now) many can.0.one) in
+    subst (λ (o : Option ℕ). IsTrue (is_some o)) c.in-None.is one
