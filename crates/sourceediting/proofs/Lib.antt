@@ -7,3 +7,4 @@ pub mod Rewritten
 mod Labelled
 mod Indented
 mod Cited
+mod Unwritten

@@ -9,7 +9,7 @@ write_over-requires g c κs = (
   (refl, tt),
   (
     subst (λ (es : List Ranked). AreLabelled c.in_ok-edited.edited (map (λ (r : Ranked). r.assertion) es)) c.entries.ensures.value
-        c.in_ok-edited.ensures,
-    c.in_ok-names.ensures,
+        c.in_ok-edited.ensures.labelled,
+    c.in_ok-names.ensures.names,
   ),
 )

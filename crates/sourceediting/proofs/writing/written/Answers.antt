@@ -1,5 +1,5 @@
 -- What is left to show of `written`.
-use Rattle.std.proofs.Common.{◌≡◌, ◌∙◌, false, true, map, sym}
+use Rattle.std.proofs.Common.{◌≡◌, ◌∙◌, [], false, true, map, sym}
 use Rattle.std.specs.Prelude.{All}
 use Rattle.std.proofs.lemmas.Result.{IfOk-weaker}
 use Rattle.library.specs.declared.library.Ranked.{Ranked}
@@ -9,6 +9,7 @@ use Rattle.sourceediting.specs.Views.{seen_living}
 use Rattle.items.specs.Rewriting.{IsRewritten}
 use Rattle.sourceediting.specs.Written.{IsRearranged, IsWrittenAnew}
 use Rattle.sourceediting.proofs.Rewritten.{only_rewritten, all_rearranged}
+use Rattle.sourceediting.proofs.Unwritten.{never_unwritten}
 use Rattle.sourceediting.proofs.writing.written.Goals as goal
 
 clash : false ≡ true → ⊥
@@ -49,3 +50,9 @@ returns-clause-written g c =
     IfOk-weaker c.rearrange.result (λ out. IsRearranged living gone cs proofs source out.items)
     (λ out. IsWrittenAnew commands living gone (λ ps. ps ≡ proofs) cs source out.items)
     (λ out. all_rearranged commands living gone cs source out.items proofs some) c.rearrange.ensures.arranged
+
+pub returns-then-keep_places-clause-unwritten : goal.returns-then-keep_places-clause-unwritten
+returns-then-keep_places-clause-unwritten g c =
+    let commands = all_commands c.args.entries.now in
+    never_unwritten [] c.args.source.now (λ _. All KeepsPlaces commands → ⊥) c.rewritten.result
+    (c.rewritten.ensures.refused [] [] c.args.source.now)
