@@ -40,7 +40,8 @@ module _ {V : Type 0} (m n : HashMap (Bor (List ℕ)) V RandomState) (x : Word) 
       → ((x ≡ w) × (v ≡ c)) ⊎ (hash.get_by (λ k. bytes_eq w k.now) m ≡ Some c)
   new_at w c true e at =
       let same : Some v ≡ Some c =
-      sym (hash_map_updates_str x m n (Some v) updates w ∙ cond-true (bytes_eq x w) (Some v) (hash.get_by (λ k. bytes_eq w k.now) m) e) ∙ at in
+      sym (hash_map_updates_str x m n (Some v) updates w
+      ∙ cond-true (bytes_eq x w) (Some v) (hash.get_by (λ k. bytes_eq w k.now) m) e) ∙ at in
       inl (same_bytes x w e, same_Some v c same)
   new_at w c false e at =
       inr (sym (hash_map_updates_str x m n (Some v) updates w

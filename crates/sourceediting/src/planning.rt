@@ -322,7 +322,8 @@ pub(crate) fn labelled<'x>(map: &ByLabel<'x>, label: &[u8]) -> Option<&'x Assert
 
 /// The assertion with a label, if it was found.
 fn found_at<'x>(map: &ByLabel<'x>, label: &[u8]) -> Option<&'x Assertion>
-    ensures labelled { IfSome result (λ a. (xs : List AssertionOf) → AreLabelled map.now xs → Contains xs a.now × (a.now.label ≡ label.now)) }
+    ensures labelled { IfSome result (λ a. (xs : List AssertionOf) → AreLabelled map.now xs
+        → Contains xs a.now × (a.now.label ≡ label.now)) }
     ensures found { result ≡ get_by (λ k. bytes_eq label.now k.now) map.now }
 {
     map.get(&label).copied()

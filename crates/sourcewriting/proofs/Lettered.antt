@@ -159,7 +159,8 @@ module _ (s : Shared) (cs : List CountedLabel) (l : Letters) (n : ℕ) (old new 
         codes = was.codes ++ Number (length cs + there.0 + 1) ∷ [];
         said = number_said l.text.items text.items was.codes (length cs + there.0 + 1) was.said put;
         read = then;
-        leads = lead_more s cs was.codes (Number (length cs + there.0 + 1)) (unread (length s.nodes.items)) was.read then was.leads (inr one);
+        leads =
+            lead_more s cs was.codes (Number (length cs + there.0 + 1)) (unread (length s.nodes.items)) was.read then was.leads (inr one);
         entries = ap (λ es. es ++ n ∷ []) was.entries ∙ sym (ap (λ (w : Walked). w.entries) again.left);
         written = was.written ∙ sym (ap (λ (w : Walked). w.written) again.left);
         many = was.many;
@@ -360,7 +361,9 @@ module _ (s : Shared) (cs : List CountedLabel) (sound : AreNodes s) (l : Letters
         let same = ap (count_by is_some) is in
         record {
           codes = codes ++ Mark ∷ [];
-          said = mark_said text.items text'.items codes (number_said l.text.items text.items was.codes (own_number.0 + 1) was.said put) mark-put;
+          said =
+              mark_said text.items text'.items codes (number_said l.text.items text.items was.codes (own_number.0 + 1) was.said put)
+              mark-put;
           read = marked_read;
           leads = lead_more s cs codes Mark (unread (length s.nodes.items)) read_then marked_read leads_then marks;
           entries = entries_then;

@@ -61,8 +61,8 @@ others test m n keeps = keeps
 
 -- a number is put at a list: there it is found, and at others what was
 pub found_then : (bs : List ℕ) (m n : HashMap (Vec ℕ Global) ℕ RandomState) (x : ℕ)
-    → hash.UpdatesBy (λ x y. bytes_eq x.items y.items) (λ k. bytes_eq bs k.items) m n (Some x) → (cs : List ℕ) (b : Bool) → bytes_eq bs cs ≡ b
-    → get_by (λ k. bytes_eq cs k.items) n ≡ cond b (Some x) (get_by (λ k. bytes_eq cs k.items) m)
+    → hash.UpdatesBy (λ x y. bytes_eq x.items y.items) (λ k. bytes_eq bs k.items) m n (Some x) → (cs : List ℕ) (b : Bool)
+    → bytes_eq bs cs ≡ b → get_by (λ k. bytes_eq cs k.items) n ≡ cond b (Some x) (get_by (λ k. bytes_eq cs k.items) m)
 found_then bs m n x updates cs true e =
     subst (λ l. get_by (λ k. bytes_eq l k.items) n ≡ Some x) (same_list bs cs e) updates.1
 found_then bs m n x updates cs false e =

@@ -335,7 +335,8 @@ put_walks s old new t again same is step w =
     let one = subst (λ ps. IsWalking s ps old.opened.items (reverse old.tasks.items)) (sym is) (step w) in
     let two = subst (λ (fs : Vec Bool Global). IsWalking s new.puts.items fs.items (reverse old.tasks.items))
     (sym (ap (λ (w : Walk). w.opened) same)) one in
-    subst (λ (ts : Vec Task Global). IsWalking s new.puts.items new.opened.items (reverse ts.items)) (sym (ap (λ (w : Walk). w.tasks) same)) two
+    subst (λ (ts : Vec Task Global). IsWalking s new.puts.items new.opened.items (reverse ts.items))
+    (sym (ap (λ (w : Walk). w.tasks) same)) two
 
 -- where it is opened
 pub open_walks : (s : Shared) (old new : Walk) (t : Task) (args : List ℕ) → new.puts ≡ old.puts

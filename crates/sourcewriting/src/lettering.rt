@@ -75,7 +75,8 @@ impl Letters<'_> {
     /// The node that was put last is marked.
     fn mark(&mut self, node: usize) -> Result<(), AllocError>
         ensures { IfOk result (λ _. (self.new ≡ record self.old { text = self.new.text; marks = self.new.marks; marked = self.new.marked })
-            × (self.new.text.items ≡ self.old.text.items ++ 90 ∷ []) × (self.new.marks.items ≡ slice_set self.old.marks.items node (Some self.old.marked))
+            × (self.new.text.items ≡ self.old.text.items ++ 90 ∷ [])
+            × (self.new.marks.items ≡ slice_set self.old.marks.items node (Some self.old.marked))
             × (self.old.marked + 1 < 2 ^ 64 → self.new.marked ≡ self.old.marked + 1)) }
     {
         self.text.push(b'Z')?;

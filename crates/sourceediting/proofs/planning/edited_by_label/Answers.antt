@@ -22,7 +22,8 @@ loop-entry-preserved c =
       labelled =
           labelled_more c.loop-entry.found c.insert.new.self (map assertion entries) c.as_slice.result.now _
           c.loop-entry.invariant.labelled
-          (contains_mapped assertion entries entry (i, c.loop-entry-test.true, there)) (sym c.as_slice.ensures) c.in_ok-insert.ensures.updates;
+          (contains_mapped assertion entries entry (i, c.loop-entry-test.true, there)) (sym c.as_slice.ensures)
+          c.in_ok-insert.ensures.updates;
       all =
           found_more c.loop-entry.found c.insert.new.self (map assertion entries) i _ c.as_slice.result.now (sym c.as_slice.ensures)
           (slice_get-map assertion entries i

@@ -27,7 +27,8 @@ returns-clause-nodes g c = λ alike sound there.
     ∙ c.in_ok-arguments.ensures.order ∙ take_rest c.deref.result.now first ∙ ap (drop first) c.deref.ensures.value in
     let slice = c.as_slice-2.ensures.value in
     let args = subst (AreThere s) (sym slice) (arguments_there s kinds made stack first long order there) in
-    let taken = subst (λ (n : ℕ). IsTakenAlike s.words.items cited.label.now n) (sym (ap length slice ∙ long)) (alike (length kinds) many) in
+    let taken = subst (λ (n : ℕ). IsTakenAlike s.words.items cited.label.now n) (sym (ap length slice ∙ long))
+    (alike (length kinds) many) in
     let node = c.in_ok-node.ensures.sound args taken sound in (
       node.0,
       stack_then s t stack c.truncate.new.self.items c.push.new.self.items first c.in_ok-node.node c.in_ok-node.ensures.few.1 there node.1

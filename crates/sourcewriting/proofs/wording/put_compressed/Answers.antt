@@ -59,17 +59,20 @@ returns-clause-fine c = λ names can.
     c.in_ok-counted.ensures ∙ ap (counts_behind mandatory) c.as_slice-2.ensures.value in
     let numbers = subst (λ (ns : List ℕ). AreNumbers words (counts_of counted) ns) (sym c.as_slice-3.ensures.value)
     (subst (λ ps. AreNumbers words ps c.in_ok-numbers.numbers.items) (sym are)
-    (subst (λ (ws : List CountedLabel). AreNumbers ws (counts_behind mandatory others) c.in_ok-numbers.numbers.items) c.words.ensures numbered)) in
+    (subst (λ (ws : List CountedLabel). AreNumbers ws (counts_behind mandatory others) c.in_ok-numbers.numbers.items)
+    c.words.ensures numbered)) in
     let long = counted_long mandatory counted others are in
     let few = c.in_ok-numbers.ensures.few in
     let said = c.in_ok-letters.ensures counted can.nodes can.there numbers (c.len.ensures ∙ c.in_ok-counted.counted.ok.0)
     (omega (arith, long, few, can.few, none-long, words-long)) in
     let printed = c.put_letters.ensures.fine
-    (subst (λ (ls : List ℕ). IsTrue (list_all is_printable ls)) (sym c.as_slice-4.ensures.value) (printable_letters letters said.0 said.2)) in
+    (subst (λ (ls : List ℕ). IsTrue (list_all is_printable ls)) (sym c.as_slice-4.ensures.value)
+    (printable_letters letters said.0 said.2)) in
     let parted = c.put_in_parentheses.ensures.fine
     (subst (λ (os : List CountedLabel). AreNames (labels_in os)) (sym c.as_slice.ensures.value)
     (names_among words none others c.new-others.ensures.items have names)) in
     if_ok c.are_marked.result (λ right yes'. (yes', printed ∙ parted))
     (c.are_marked.ensures.right said.0 said.1
     (subst (λ (ls : List ℕ). codes_of ls ≡ Some said.0) (sym c.as_slice-6.ensures.value) said.2)
-    (subst (λ (cs : List CountedLabel). LeadAll s cs said.0 (unread (length s.nodes.items)) said.1) (sym c.as_slice-5.ensures.value) said.3))
+    (subst (λ (cs : List CountedLabel). LeadAll s cs said.0 (unread (length s.nodes.items)) said.1)
+    (sym c.as_slice-5.ensures.value) said.3))

@@ -21,7 +21,13 @@ returns-clause-sound c = λ below alike sound.
     let h = c.in_ok-number.ensures.numbered alike sound in
     let s = c.number_of.new.self in
     let p = c.push.new.self in
-    let t : Shared = record { words = p.words; numbers = p.numbers; nodes = p.nodes; arguments = p.arguments; places = c.insert.new.self } in
+    let t : Shared = record {
+      words = p.words;
+      numbers = p.numbers;
+      nodes = p.nodes;
+      arguments = p.arguments;
+      places = c.insert.new.self;
+    } in
     let number = c.in_ok-number.number in
     let args = c.args.arguments.now in
     let d : Node = record { word = number; begin = length s.arguments.items; end = length p.arguments.items } in

@@ -20,7 +20,9 @@ returns-then-task-clause-walks c = λ sound.
     put_walks s old c.put.new.self t false has.0 has.1
     (λ w.
     elim c.then-task.branch [
-      | then-task-via-then-task b ↦ ended s old.puts.items old.opened.items t.node ts (next_is s old.puts.items old.opened.items t ts true b.if-task.true w)
+      | then-task-via-then-task b ↦
+          ended s old.puts.items old.opened.items t.node ts
+          (next_is s old.puts.items old.opened.items t ts true b.if-task.true w)
       | then-task-via-else-task+then-is_empty b ↦
           let none : length c.arguments-arguments.result.now ≡ 0 = grind (arith, nat_tests, b.is_empty.ensures, b.if-is_empty.true) in
           leaf_put s old.puts.items old.opened.items t.node ts
