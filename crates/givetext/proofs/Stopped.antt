@@ -11,11 +11,11 @@ use Rattle.checking.specs.Checks.{LeadsTo}
 use Rattle.intake.specs.declared.taken.Taken.{Taken}
 use Rattle.intake.specs.Intakes.{axioms_of}
 use Rattle.sourceediting.specs.Following.{Following, all_commands, behind_all, opening, changes_of, own_flags}
-use Rattle.sourceediting.specs.Refusals.{IsCitedCause, HasCause}
+use Rattle.sourceediting.specs.Refusals.{IsCitedCause, HasCause, IsUnwritten, OnUnwritten}
 use Rattle.sourceediting.specs.declared.refusal.Refusal.{Refusal as Unwritten}
 use Rattle.sourceediting.specs.declared.refusal.Refusal.TheVariants as edits
 use Rattle.givetext.specs.Causes.{Known, known_of, IsKnown, IsJustified, IsRefused, IsTextThen, others_of, edited_assertions}
-use Rattle.givetext.specs.Given.{IsTakenText}
+use Rattle.givetext.specs.Given.{IsTakenText, edition}
 use Rattle.choosing.specs.declared.wish.Wish.{Wish}
 use Rattle.taketext.specs.Origins.{Tells}
 use Rattle.givetext.specs.Parts.{IsEditsRefusal, IsStopped, IsSourceRefusal, IsTakingRefusal, IsUntakenBy, IsReplayRefusal, IsLoss}
@@ -34,13 +34,14 @@ module _ (k : Known) (source : List ℕ) where
   cited_cause edits.NoMemory h = tt
 
   pub edits_cause : (e : Unwritten) → HasCause k.followed.living (edited_assertions k) source e
+      → OnUnwritten (IsUnwritten k.old (edition k.taken k.edited) k.followed.living (all_commands k.entries)) e
       → IsJustified k source (refusal.Edits e)
-  edits_cause (edits.StillCited label by) h = absurd h
-  edits_cause (edits.InFront label next name) h = h
-  edits_cause (edits.Unwritten label) h = h
-  edits_cause (edits.Unplaced label) h = h
-  edits_cause edits.Bare h = h
-  edits_cause edits.NoMemory h = h
+  edits_cause (edits.StillCited label by) h unwritten = absurd h
+  edits_cause (edits.InFront label next name) h unwritten = h
+  edits_cause (edits.Unwritten label) h unwritten = (h, unwritten)
+  edits_cause (edits.Unplaced label) h unwritten = h
+  edits_cause edits.Bare h unwritten = h
+  edits_cause edits.NoMemory h unwritten = h
 
   pub told_cause : (e : Unwritten) (why : Refusal) → IsEditsRefusal e why → IsJustified k source (refusal.Edits e)
       → IsJustified k source why

@@ -22,7 +22,7 @@ use Rattle.taketext.specs.Answers.{taken_text}
 use Rattle.taketext.specs.Origins.{Tells, TellsNothing}
 use Rattle.sourceediting.specs.Axioms.{axioms_then}
 use Rattle.sourceediting.specs.Following.{Followed, Following, all_commands, behind_all, opening, changes_of, label_then, own_flags}
-use Rattle.sourceediting.specs.Refusals.{names, IsStillCited, HasCause}
+use Rattle.sourceediting.specs.Refusals.{names, IsStillCited, HasCause, IsUnwritten}
 use Rattle.sourceediting.specs.Reproved.{AreOtherProofs}
 use Rattle.sourceediting.specs.Written.{IsWrittenAnew}
 use Rattle.sourceediting.specs.declared.refusal.Refusal.TheVariants as edits
@@ -162,6 +162,9 @@ WouldStandBehind k source label by =
 abbrev pub IsJustified : Known → List ℕ → Refusal → Type 0
 IsJustified k source (refusal.NameTaken label) = IsNameTaken k label
 IsJustified k source (refusal.Edits (edits.StillCited label by)) = IsStillCited k.followed.gone (others_of k) label by
+IsJustified k source (refusal.Edits (edits.Unwritten label)) =
+    HasCause k.followed.living (edited_assertions k) source (edits.Unwritten label)
+    × IsUnwritten k.old (edition k.taken k.edited) k.followed.living (all_commands k.entries) label
 IsJustified k source (refusal.Edits why) = HasCause k.followed.living (edited_assertions k) source why
 IsJustified k source (refusal.StandsBehind label by) = WouldStandBehind k source label by
 IsJustified k source (refusal.Unread fault) = IsUnfit k source (unlike.Unread fault)

@@ -9,3 +9,4 @@ mod Indented
 mod Cited
 mod Numbered
 mod Bared
+mod Unwritten

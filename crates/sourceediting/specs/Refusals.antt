@@ -1,9 +1,10 @@
 -- Why the edits of a history are not written into a source.
-use Rattle.std.specs.Prelude.{◌≡◌, ◌<◌, ℕ, Bool, false, List, [], ◌∷◌, All, Contains, Option, Some, None, IsTrue, slice_get}
+use Rattle.std.specs.Prelude.{◌≡◌, ◌<◌, ◌⊎◌, ℕ, Bool, false, List, [], ◌∷◌, All, Contains, Option, Some, None, IsTrue, slice_get}
 use Rattle.mmtext.specs.Words.{Word}
 use Rattle.mmsyntax.specs.declared.statement.Assertion.{Assertion as Unit'}
 use Rattle.source.specs.Statements.{Proof}
-use Rattle.source.specs.Scopes.{Assertion, is_in}
+use Rattle.source.specs.Scopes.{Assertion, Scope, is_in}
+use Rattle.library.specs.declared.command.Command.{Command}
 use Rattle.source.specs.Whole.{labels_in}
 use Rattle.giving.specs.Staying.{Change}
 use Rattle.items.specs.Items.{Item}
@@ -13,8 +14,9 @@ use Rattle.arranging.specs.Arranged.{label_in_source, labels_of}
 use Rattle.arranging.specs.Held.{IsHeldBehind}
 use Rattle.sourceediting.specs.declared.refusal.Refusal.{Refusal}
 use Rattle.sourceediting.specs.declared.refusal.Refusal.TheVariants as refusal
-use Rattle.sourceediting.specs.Following.{Followed}
-use Rattle.sourceediting.specs.Reproved.{HasAnotherListing}
+use Rattle.sourceediting.specs.Entries.{Edition, assertions_of}
+use Rattle.sourceediting.specs.Following.{Followed, KeepsPlaces}
+use Rattle.sourceediting.specs.Reproved.{HasAnotherListing, CanBeReproved}
 
 -- ---- what was deleted is still cited
 
@@ -80,6 +82,24 @@ pub record IsBareIn (living : List Followed) (edited : List Unit') (source : Lis
   pub labelled : labels_of (item ∷ []) ≡ label ∷ []
   pub opened : List Unit'
   pub listed : HasAnotherListing opened edited living label
+
+-- ---- a proof can't be written
+
+-- a theorem of the source has another proof in the edited library, which can't be put there
+pub record IsNotReproved (s : Scope) (e : Edition) (living : List Followed) (label : Word) : Type 0 where
+  pub source : Word
+  pub another : HasAnotherListing e.opened.assertions (assertions_of e) living source
+  pub labelled : another.new.label ≡ label
+  pub cannot : CanBeReproved s e living source another.new → ⊥
+
+-- so it is; or a command adds, moves or deletes, and the assertion with the label is put in
+abbrev pub IsUnwritten : Scope → Edition → List Followed → List Command → Word → Type 0
+IsUnwritten s e living commands label = IsNotReproved s e living label ⊎ (All KeepsPlaces commands → ⊥)
+
+-- what is known of a label whose proof can't be written
+abbrev pub OnUnwritten : (Word → Type 0) → Refusal → Type 0
+OnUnwritten P (refusal.Unwritten label) = P label
+OnUnwritten P _ = Unit {0}
 
 -- ---- while a source is written anew
 

@@ -15,9 +15,11 @@ use Rattle.items.specs.Layout.{IsLaidOut}
 use Rattle.items.specs.Indentations.{indentations}
 use Rattle.sourcewriting.specs.Indentations.{indentation_like}
 use Rattle.sourcewriting.specs.Forms.{is_compressed_form}
+use Rattle.sourcewriting.specs.Leaving.{CanBePut}
+use Rattle.taking.specs.Listings.{premise_labels}
 use Rattle.sourcewriting.specs.MarkedTexts.{IsMarkedText}
 use Rattle.sourceediting.specs.Following.{Followed}
-use Rattle.sourceediting.specs.Entries.{Edition, assertions_of, TakesThen}
+use Rattle.sourceediting.specs.Entries.{Edition, assertions_of, TakesThen, StepTakesThen}
 
 -- the labels that those of the opening had in the library, with those that they have now
 abbrev pub now_of : Followed → Option Word → Option Change
@@ -77,3 +79,14 @@ HasAnotherProof source s e living p =
 
 abbrev pub AreOtherProofs : List ℕ → Scope → Edition → List Followed → List Change → Type 0
 AreOtherProofs source s e living proofs = All (HasAnotherProof source s e living) proofs
+
+-- ---- whether it can be written
+
+-- another proof of a theorem can be put where that stands in the source
+pub record CanBeReproved (s : Scope) (e : Edition) (living : List Followed) (label : Word) (new : Assertion) : Type 0 where
+  pub place : ℕ
+  pub stands : place_of (λ x. bytes_eq label x.label) s.assertions ≡ Some place
+  pub old : Old
+  pub is : slice_get s.assertions place ≡ Some old
+  pub can : CanBePut (StepTakesThen s e living (length (premise_labels old.hypotheses))) (TakesThen s e living old.hypotheses)
+      (is_compressed_form old.proof) old.hypotheses new.proof

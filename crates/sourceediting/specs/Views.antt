@@ -1,5 +1,5 @@
 -- Of the code's inside, apart from the rules: how contracts see what becomes of the assertions of a library.
-use Rattle.std.specs.Prelude.{◌≡◌, ℕ, List, map, Contains, Some, Vec}
+use Rattle.std.specs.Prelude.{◌≡◌, ◌<◌, ℕ, List, map, Contains, Some, Vec, slice_get}
 use Rattle.std.specs.Borrow.{Bor}
 use Rattle.std.specs.Str.{bytes_eq}
 use Rattle.std.specs.HashMap.{HashMap, get_by}
@@ -14,11 +14,13 @@ use Rattle.source.specs.Views.{seen_words}
 use Rattle.sourcewriting.specs.declared.listing.Cited.{Cited}
 use Rattle.sourcewriting.specs.declared.listing.Names.{Names}
 use Rattle.sourcewriting.specs.Counting.{IsCountOf, Takes}
+use Rattle.sourcewriting.specs.Leaving.{StepTakes}
+use Rattle.mmsyntax.specs.declared.statement.Step.{Step}
 use Rattle.sourceediting.specs.declared.following.Followed.{Followed as KeptAssertion}
 use Rattle.sourceediting.specs.declared.following.Following.{Following as Kept}
 use Rattle.sourceediting.specs.declared.planning.Planned.{Planned}
 use Rattle.sourceediting.specs.Following.{Followed, Following, label_then}
-use Rattle.sourceediting.specs.Entries.{Edition, HasHypotheses, TakesThen}
+use Rattle.sourceediting.specs.Entries.{Edition, HasHypotheses, HasOnly, TakesThen, StepTakesThen}
 
 -- its labels are slices of texts
 abbrev pub seen_followed : KeptAssertion → Followed
@@ -56,3 +58,21 @@ AreCitedThen s e living m =
 abbrev pub AreNamesOf : Scope → Edition → List Followed → Names → Type 0
 AreNamesOf s e living m =
     (hypotheses : List Hypothesis) (label : Word) (n : ℕ) → Takes s m hypotheses label n → TakesThen s e living hypotheses label n
+
+-- each assertion is found under its label
+abbrev pub AreAllFound : HashMap (Bor (List ℕ)) (Bor Assertion) RandomState → List Assertion → Type 0
+AreAllFound m as' = (a : Assertion) → Contains as' a → (b : Bor Assertion) × (get_by (λ k. bytes_eq a.label k.now) m ≡ Some b)
+
+-- what a map finds under a label is one that lives with this label now, with as many hypotheses as that has; and of the first so many of
+-- those that live each is found, if it has some number of them
+pub record AreCitedNow (s : Scope) (e : Edition) (living : List Followed) (m : HashMap (Bor (List ℕ)) Cited RandomState) (count : ℕ)
+    : Type 0 where
+  pub found : (w : Word) (c : Cited) → get_by (λ k. bytes_eq w k.now) m ≡ Some c
+      → (f : Followed) × Contains living f × (f.now ≡ w) × ((n : ℕ) → HasOnly s e f.now f.source n → IsCountOf s c.kinds n)
+  pub there : (k : ℕ) (f : Followed) → slice_get living k ≡ Some f → k < count → (n : ℕ) → HasOnly s e f.now f.source n
+      → (c : Cited) × (get_by (λ x. bytes_eq f.now x.now) m ≡ Some c)
+
+-- steps take as many as they do in the edited library
+abbrev pub AreStepsOf : Scope → Edition → List Followed → Names → Type 0
+AreStepsOf s e living m =
+    (premises : ℕ) (step : Step) (n : ℕ) → StepTakesThen s e living premises step n → StepTakes s m premises step n

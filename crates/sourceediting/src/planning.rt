@@ -1,6 +1,8 @@
 //! Which theorems have another proof behind the edits of a history, and the texts of these proofs.
 
-ghost use Rattle.std.specs.Prelude.{◌≡◌, ◌↔◌, ℕ, List, Contains, IfOk, IfErr, IfSome, IsTrue, None, Some, map};
+ghost use Rattle.std.specs.Prelude.{◌≡◌, ◌↔◌, ℕ, List, length, Contains, IfOk, IfErr, IfSome, IsSomeAnd, IsTrue, None, Some, map};
+ghost use Rattle.std.specs.Str.{bytes_eq};
+ghost use Rattle.std.specs.HashMap.{get_by};
 ghost use Rattle.mmsyntax.specs.declared.statement.Assertion.{Assertion as AssertionOf};
 ghost use Rattle.mmsyntax.specs.ProofWords.{seen_step};
 ghost use Rattle.std.specs.Option.{option_map};
@@ -10,12 +12,12 @@ ghost use Rattle.source.specs.Views.{seen_words};
 ghost use Rattle.giving.specs.Staying.{changed};
 ghost use Rattle.items.specs.Walking.{AreIndentations};
 ghost use Rattle.sourcewriting.specs.Counting.{IsCountOf};
-ghost use Rattle.sourceediting.specs.Entries.{Edition, HasHypotheses, assertions_of};
-ghost use Rattle.sourceediting.specs.Reproved.{changes_in_library, step_then, IsWrittenFor, AreOtherProofs};
+ghost use Rattle.sourceediting.specs.Entries.{Edition, HasHypotheses, HasOnly, assertions_of};
+ghost use Rattle.sourceediting.specs.Reproved.{changes_in_library, step_then, IsWrittenFor, AreOtherProofs, CanBeReproved};
 ghost use Rattle.sourceediting.specs.Following.{Followed as FollowedOf};
-ghost use Rattle.sourceediting.specs.Refusals.{HasCause};
+ghost use Rattle.sourceediting.specs.Refusals.{HasCause, OnUnwritten, IsNotReproved};
 ghost use Rattle.sourceediting.specs.Views.{seen_followed, seen_living, seen_proofs, edition_of, AreLabelled, IsCitedAs};
-ghost use Rattle.sourceediting.specs.Views.{AreCitedThen, AreNamesOf};
+ghost use Rattle.sourceediting.specs.Views.{AreCitedThen, AreCitedNow, AreNamesOf, AreStepsOf, AreAllFound};
 ghost use Rattle.sourceediting.specs.declared.refusal.Refusal.TheVariants.{Unwritten};
 
 use crate::following::Followed;
@@ -73,7 +75,8 @@ pub(crate) fn edited_by_label<'x>(
     keys: RandomState,
     entries: &'x [Ranked],
 ) -> Result<ByLabel<'x>, AllocError>
-    ensures { IfOk result (λ made. AreLabelled made (map (λ r. r.assertion) entries.now)) }
+    ensures labelled { IfOk result (λ made. AreLabelled made (map (λ r. r.assertion) entries.now)) }
+    ensures all { IfOk result (λ made. AreAllFound made (map (λ r. r.assertion) entries.now)) }
 {
     let mut found = HashMap::with_hasher(alloc, keys);
     for entry in entries {
@@ -114,10 +117,13 @@ fn kinds_of_added<'x>(
     prelude: &Prelude,
     label: &[u8],
 ) -> Result<Option<Kinds>, AllocError>
-    ensures { (s : Scope) (e : Edition) → AreLabelled edited.now (assertions_of e) → prelude.now ≡ e.edited.setting.prelude
+    ensures has { (s : Scope) (e : Edition) → AreLabelled edited.now (assertions_of e) → prelude.now ≡ e.edited.setting.prelude
         → IfOk result (λ made. IfSome made (λ kinds. (n : ℕ) → IsCountOf s kinds n → HasHypotheses s e label.now None n)) }
+    ensures only { (s : Scope) (e : Edition) (n : ℕ) → AreAllFound edited.now (assertions_of e)
+        → AreLabelled edited.now (assertions_of e) → prelude.now ≡ e.edited.setting.prelude → HasOnly s e label.now None n
+        → IfOk result (λ made. IsSomeAnd made (λ kinds. IsCountOf s kinds n)) }
 {
-    let Some(assertion) = labelled(edited, label) else {
+    let Some(assertion) = found_at(edited, label) else {
         return Ok(None);
     };
     let frame = frame_of(alloc, prelude, assertion)?;
@@ -126,8 +132,10 @@ fn kinds_of_added<'x>(
 
 /// The mandatory hypotheses of an assertion of the source, by its label. None where it isn't there.
 fn kinds_in_source<'x, D: Declared<'x>>(declared: &D, label: &[u8]) -> Option<Kinds>
-    ensures { IfSome result (λ kinds. (e : Edition) (now : Word) (n : ℕ) → IsCountOf (D.scope declared.now) kinds n
+    ensures has { IfSome result (λ kinds. (e : Edition) (now : Word) (n : ℕ) → IsCountOf (D.scope declared.now) kinds n
         → HasHypotheses (D.scope declared.now) e now (Some label.now) n) }
+    ensures only { (e : Edition) (now : Word) (n : ℕ) → HasHypotheses (D.scope declared.now) e now (Some label.now) n
+        → IsSomeAnd result (λ kinds. IsCountOf (D.scope declared.now) kinds n) }
 {
     match declared.place_of(label) {
         Some(place) => Some(Kinds::Standing(place)),
@@ -143,7 +151,11 @@ fn kinds_then<'x, D: Declared<'x>>(
     prelude: &Prelude,
     followed: &Followed<'x>,
 ) -> Result<Option<Kinds>, AllocError>
-    ensures { (e : Edition) → AreLabelled edited.now (assertions_of e) → prelude.now ≡ e.edited.setting.prelude
+    ensures only { (e : Edition) (n : ℕ) → AreAllFound edited.now (assertions_of e) → AreLabelled edited.now (assertions_of e)
+        → prelude.now ≡ e.edited.setting.prelude
+        → HasOnly (D.scope declared.now) e followed.entry.now.now.now (option_map (λ w. w.now) followed.entry.now.source) n
+        → IfOk result (λ made. IsSomeAnd made (λ kinds. IsCountOf (D.scope declared.now) kinds n)) }
+    ensures has { (e : Edition) → AreLabelled edited.now (assertions_of e) → prelude.now ≡ e.edited.setting.prelude
         → IfOk result (λ made. IfSome made (λ kinds. (n : ℕ) → IsCountOf (D.scope declared.now) kinds n
         → HasHypotheses (D.scope declared.now) e followed.entry.now.now.now (option_map (λ w. w.now) followed.entry.now.source) n)) }
 {
@@ -161,7 +173,11 @@ fn cited_one<'x, D: Declared<'x>>(
     prelude: &Prelude,
     followed: &Followed<'x>,
 ) -> Result<Option<Cited<'x>>, AllocError>
-    ensures { (e : Edition) → AreLabelled edited.now (assertions_of e) → prelude.now ≡ e.edited.setting.prelude
+    ensures only { (e : Edition) (n : ℕ) → AreAllFound edited.now (assertions_of e) → AreLabelled edited.now (assertions_of e)
+        → prelude.now ≡ e.edited.setting.prelude
+        → HasOnly (D.scope declared.now) e followed.entry.now.now.now (option_map (λ w. w.now) followed.entry.now.source) n
+        → IfOk result (λ made. IsSomeAnd made (λ c. IsCountOf (D.scope declared.now) c.kinds n)) }
+    ensures has { (e : Edition) → AreLabelled edited.now (assertions_of e) → prelude.now ≡ e.edited.setting.prelude
         → IfOk result (λ made. IfSome made (IsCitedAs (D.scope declared.now) e (seen_followed followed.entry.now))) }
 {
     let Some(kinds) = kinds_then(alloc, declared, edited, prelude, followed)? else {
@@ -180,7 +196,10 @@ fn cited_then<'x, D: Declared<'x>>(
     planned: &Planned<'x>,
 ) -> Result<HashMap<&'x [u8], Cited<'x>, RandomState>, AllocError>
     requires { AreLabelled edited.now (map (λ r. r.assertion) planned.now.edited.now.entries) }
-    ensures { IfOk result (AreCitedThen (D.scope declared.now) (edition_of planned.now) (seen_living planned.now.living.now)) }
+    ensures cited { IfOk result (AreCitedThen (D.scope declared.now) (edition_of planned.now) (seen_living planned.now.living.now)) }
+    ensures all { AreAllFound edited.now (map (λ r. r.assertion) planned.now.edited.now.entries)
+        → IfOk result (λ made. AreCitedNow (D.scope declared.now) (edition_of planned.now) (seen_living planned.now.living.now) made
+        (length planned.now.living.now)) }
 {
     let mut cited = HashMap::with_hasher(alloc, keys);
     for followed in planned.living {
@@ -200,7 +219,9 @@ pub(crate) fn names_of<'x, D: Declared<'x>>(
     planned: &Planned<'x>,
 ) -> Result<Names<'x>, AllocError>
     requires { AreLabelled edited.now (map (λ r. r.assertion) planned.now.edited.now.entries) }
-    ensures { IfOk result (AreNamesOf (D.scope declared.now) (edition_of planned.now) (seen_living planned.now.living.now)) }
+    ensures names { IfOk result (AreNamesOf (D.scope declared.now) (edition_of planned.now) (seen_living planned.now.living.now)) }
+    ensures steps { AreAllFound edited.now (map (λ r. r.assertion) planned.now.edited.now.entries)
+        → IfOk result (AreStepsOf (D.scope declared.now) (edition_of planned.now) (seen_living planned.now.living.now)) }
 {
     let changes = names_in_source(alloc, keys, planned.names)?;
     Ok(Names {
@@ -277,6 +298,9 @@ fn other_proof<'x, D: Declared<'x>>(
         → IfOk result (λ text. IsWrittenFor bytes (D.scope declared.now) e living source.now new.now text.items) }
     ensures refused { (living : List FollowedOf) (edited : List AssertionOf) (text : List ℕ) → Contains edited new.now
         → IfErr result (HasCause living edited text) }
+    ensures unwritten { (e : Edition) (living : List FollowedOf) → AreNamesOf (D.scope declared.now) e living names.now
+        → AreStepsOf (D.scope declared.now) e living names.now → IfErr result (OnUnwritten (λ label. (new.now.label ≡ label)
+        × (CanBeReproved (D.scope declared.now) e living source.now new.now → ⊥))) }
 {
     let Some(place) = declared.place_of(source) else {
         return Err(unwritten(alloc, new)?);
@@ -292,6 +316,15 @@ fn other_proof<'x, D: Declared<'x>>(
 /// The assertion with a label.
 pub(crate) fn labelled<'x>(map: &ByLabel<'x>, label: &[u8]) -> Option<&'x Assertion>
     ensures { IfSome result (λ a. (xs : List AssertionOf) → AreLabelled map.now xs → Contains xs a.now × (a.now.label ≡ label.now)) }
+{
+    map.get(&label).copied()
+}
+
+/// The assertion with a label, if it was found.
+fn found_at<'x>(map: &ByLabel<'x>, label: &[u8]) -> Option<&'x Assertion>
+    ensures labelled { IfSome result (λ a. (xs : List AssertionOf) → AreLabelled map.now xs
+        → Contains xs a.now × (a.now.label ≡ label.now)) }
+    ensures found { result ≡ get_by (λ k. bytes_eq label.now k.now) map.now }
 {
     map.get(&label).copied()
 }
@@ -313,6 +346,8 @@ pub(crate) fn other_proofs<'x, D: Declared<'x>>(
         (seen_living planned.now.living.now) (seen_proofs made.items)) }
     ensures refused { (text : List ℕ) → IfErr result (HasCause (seen_living planned.now.living.now)
         (map (λ r. r.assertion) planned.now.edited.now.entries) text) }
+    ensures unwritten { AreStepsOf (D.scope declared.now) (edition_of planned.now) (seen_living planned.now.living.now) names.now
+        → IfErr result (OnUnwritten (IsNotReproved (D.scope declared.now) (edition_of planned.now) (seen_living planned.now.living.now))) }
 {
     let opened = opened_by_label(alloc, keys, planned.database.assertions())?;
     let changes = changes_in_library(alloc, keys, planned.living)?;

@@ -1,13 +1,13 @@
 //! A source is written anew with the edits of a history.
 
-ghost use Rattle.std.specs.Prelude.{◌≡◌, IfOk, IfErr, map};
+ghost use Rattle.std.specs.Prelude.{◌≡◌, All, IfOk, IfErr, map};
 ghost use Rattle.source.specs.Sources.{DeclaresText};
 ghost use Rattle.source.specs.Views.{seen_words};
 ghost use Rattle.items.specs.Divided.{IsDivided};
-ghost use Rattle.sourceediting.specs.Following.{all_commands};
-ghost use Rattle.sourceediting.specs.Refusals.{HasCause, AreListedAnew};
+ghost use Rattle.sourceediting.specs.Following.{KeepsPlaces, all_commands};
+ghost use Rattle.sourceediting.specs.Refusals.{HasCause, AreListedAnew, IsUnwritten, OnUnwritten};
 ghost use Rattle.sourceediting.specs.Reproved.{AreOtherProofs};
-ghost use Rattle.sourceediting.specs.Views.{seen_living, seen_proofs, edition_of, AreLabelled, AreNamesOf};
+ghost use Rattle.sourceediting.specs.Views.{seen_living, seen_proofs, edition_of, AreLabelled, AreNamesOf, AreStepsOf};
 ghost use Rattle.sourceediting.specs.Written.{IsWrittenAnew};
 
 use crate::commands::keep_places;
@@ -54,6 +54,7 @@ fn written<'x, 'a, D: Declared<'a>>(
         (seen_words edits.now.planned.gone.now) (λ proofs. proofs ≡ edits.now.proofs.now) edits.now.changes.now source.now out.items) }
     ensures refused { IfErr result (HasCause (seen_living edits.now.planned.living.now)
         (map (λ r. r.assertion) edits.now.planned.edited.now.entries) source.now) }
+    ensures unwritten { IfErr result (OnUnwritten (λ _. All KeepsPlaces (all_commands entries.now) → ⊥)) }
 {
     if keep_places(entries) {
         return rewritten(alloc, edits, source);
@@ -81,6 +82,9 @@ fn write_over<'e, D: Declared<'e>>(
         (seen_living planned.now.living.now)) changes.now source.now out.items) }
     ensures refused { IfErr result (HasCause (seen_living planned.now.living.now)
         (map (λ r. r.assertion) planned.now.edited.now.entries) source.now) }
+    ensures unwritten { AreStepsOf (D.scope declared.now) (edition_of planned.now) (seen_living planned.now.living.now) names.now
+        → IfErr result (OnUnwritten (IsUnwritten (D.scope declared.now) (edition_of planned.now) (seen_living planned.now.living.now)
+        (all_commands entries.now))) }
 {
     let Some(indented) = indentations(alloc, keys, source)? else {
         unreachable!()
@@ -117,6 +121,8 @@ pub fn write_edits<'e, D: Declared<'e>>(
         (seen_living planned.now.living.now)) changes.now source.now out.items) }
     ensures refused { IfErr result (HasCause (seen_living planned.now.living.now)
         (map (λ r. r.assertion) planned.now.edited.now.entries) source.now) }
+    ensures unwritten { IfErr result (OnUnwritten (IsUnwritten (D.scope declared.now) (edition_of planned.now)
+        (seen_living planned.now.living.now) (all_commands entries.now))) }
 {
     let edited = edited_by_label(alloc, keys, planned.edited.entries())?;
     let names = names_of(alloc, keys, declared, &edited, planned)?;

@@ -18,11 +18,11 @@ no_opening w h = false_if _ (λ e. let k : is_label (codes "(") ≡ true = subst
 no_closing : (w : Word) → IsTrue (is_label w) → bytes_eq w (codes ")") ≡ false
 no_closing w h = false_if _ (λ e. let k : is_label (codes ")") ≡ true = subst (λ v. IsTrue (is_label v)) ((bytes_eq-Decides w (codes ")")).0 e) h in cc)
 
-first_of_two : (a b : Bool) → IsTrue (a && b) → IsTrue a
+pub first_of_two : (a b : Bool) → IsTrue (a && b) → IsTrue a
 first_of_two true b p = refl
 first_of_two false b p = p
 
-second_of_two : (a b : Bool) → IsTrue (a && b) → IsTrue b
+pub second_of_two : (a b : Bool) → IsTrue (a && b) → IsTrue b
 second_of_two true b p = p
 second_of_two false b p = cc
 

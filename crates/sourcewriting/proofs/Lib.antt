@@ -9,4 +9,11 @@ pub mod Told
 pub mod Mandatory
 pub mod MarkedProofs
 mod Named
-mod Leading
+mod Readable
+mod Nodes
+mod Walked
+mod Lettered
+mod Printed
+mod Numbering
+mod Stacks
+pub mod Leading

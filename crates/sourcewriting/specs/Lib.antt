@@ -9,3 +9,7 @@ pub mod MarkedTexts
 pub mod Taking
 pub mod Leaving
 pub mod Named
+pub mod Readable
+pub mod Nodes
+pub mod Walked
+pub mod Lettered

@@ -319,7 +319,7 @@ fn mandatory_labels<'p>(
     Ok(labels)
 }
 
-/// Puts the words of a proof in its form. Whether it has at most 16,384 steps.
+/// Puts the words of a proof in its form. Whether it is marked as it should be.
 fn put_words_of_proof<'p>(
     alloc: Global,
     layout: &mut Layout<'_>,
@@ -348,7 +348,7 @@ fn put_end(out: &mut Vec<u8>, layout: Layout<'_>) -> Result<bool, AllocError> {
     Ok(true)
 }
 
-/// Puts a proof by its nodes, up to the end of its statement. Whether it could be written: it has at most 16,384 steps.
+/// Puts a proof by its nodes, up to the end of its statement. Whether it could be written.
 fn put_tree<'p>(
     alloc: Global,
     out: &mut Vec<u8>,

@@ -189,7 +189,8 @@ impl<'i> Layout<'i> {
 
     /// Puts letters, which can be cut anywhere.
     pub(crate) fn put_letters(&mut self, letters: &[u8])
-        ensures { (i : List ℕ) (ws : List Word) → IsLaid i self.old ws
+        ensures fine { IsTrue (list_all is_printable letters.now) → self.new.is_refused ≡ self.old.is_refused }
+        ensures laid { (i : List ℕ) (ws : List Word) → IsLaid i self.old ws
             → (cut : List Word) × (flat_map (λ w. w) cut ≡ letters.now) × IsLaid i self.new (ws ++ cut) }
     {
         let mut rest = letters;

@@ -6,11 +6,13 @@
 
 mod adding;
 mod layout;
+mod lettering;
 mod letters;
 mod listing;
 mod proving;
 mod reading;
 mod shared;
+mod walking;
 mod wording;
 
 pub use adding::{Statement, SymbolWords, Written, assertion_text, names_in_source, symbol_words};

@@ -7,8 +7,9 @@ ghost use Rattle.source.specs.Scopes.{Hypothesis as HypothesisOf};
 ghost use Rattle.source.specs.Views.{seen_words};
 ghost use Rattle.taking.specs.Walks.{arranged};
 ghost use Rattle.taking.specs.Listings.{premise_labels};
-ghost use Rattle.sourcewriting.specs.Counting.{IsCountOf};
-ghost use Rattle.sourcewriting.specs.Leaving.{StepTakes, LeaveOne};
+ghost use Rattle.sourcewriting.specs.Counting.{IsCountOf, Takes};
+ghost use Rattle.sourcewriting.specs.Leaving.{StepTakes, LeaveOne, CanBeCounted};
+ghost use Rattle.sourcewriting.specs.Nodes.{AreNodes, AreThere, AreFew, IsTakenAlike};
 ghost use Rattle.sourcewriting.specs.Taking.{AllTake, MayTakeMore, MayTakeNone};
 
 use crate::shared::Shared;
@@ -140,6 +141,10 @@ fn cite<'x, 'a, D: Declared<'a>>(
     ensures taken { IfOk result (λ _. MayTakeMore (D.scope declared.now) cited.entry shared.old shared.new) }
     ensures there { (rest n : ℕ) → IsCountOf (D.scope declared.now) cited.entry.kinds n → length stack.old.items ≡ rest + n
         → IfOk result (λ done. IsTrue done × (length stack.new.items ≡ suc rest)) }
+    ensures few { IfOk result (λ _. AreFew 1 shared.old shared.new) }
+    ensures nodes { ((n : ℕ) → IsCountOf (D.scope declared.now) cited.entry.kinds n
+        → IsTakenAlike shared.old.words.items cited.entry.label.now n) → AreNodes shared.old → AreThere shared.old stack.old.items
+        → IfOk result (λ _. AreNodes shared.new × AreThere shared.new stack.new.items) }
 {
     let Some(kinds) = kinds_of(alloc, declared, cited.kinds)? else {
         return Ok(false);
@@ -164,6 +169,9 @@ fn put_leaf<'x>(
     ensures taken { IfOk result (λ _. MayTakeNone label.entry shared.old shared.new) }
     ensures there { IsTrue (is_some label.entry)
         → IfOk result (λ done. IsTrue done × (length stack.new.items ≡ suc (length stack.old.items))) }
+    ensures few { IfOk result (λ _. AreFew 1 shared.old shared.new) }
+    ensures nodes { IfSome label.entry (λ w. IsTakenAlike shared.old.words.items w.now 0) → AreNodes shared.old
+        → AreThere shared.old stack.old.items → IfOk result (λ _. AreNodes shared.new × AreThere shared.new stack.new.items) }
 {
     let Some(label) = label else {
         return Ok(false);
@@ -188,6 +196,11 @@ fn take_step<'x, 'a, D: Declared<'a>>(
         → IfOk result (λ _. AllTake (D.scope declared.now) names.now hs shared.new) }
     ensures there { (rest n : ℕ) → StepTakes (D.scope declared.now) names.now (length premises.now) (seen_step step.entry) n
         → length stack.old.items ≡ rest + n → IfOk result (λ done. IsTrue done × (length stack.new.items ≡ suc rest)) }
+    ensures few { IfOk result (λ _. AreFew 1 shared.old shared.new) }
+    ensures nodes { (hs : List HypothesisOf) → seen_words premises.now ≡ premise_labels hs
+        → AllTake (D.scope declared.now) names.now hs shared.old → CanBeCounted (Takes (D.scope declared.now) names.now hs) hs
+        → AreNodes shared.old → AreThere shared.old stack.old.items
+        → IfOk result (λ _. AreNodes shared.new × AreThere shared.new stack.new.items) }
 {
     match step {
         StepRef::Float(place) => {
@@ -217,8 +230,12 @@ pub(crate) fn put_nodes<'x, 'a, D: Declared<'a>>(
     ensures taken { (hs : List HypothesisOf) → seen_words premises.now ≡ premise_labels hs
         → AllTake (D.scope declared.now) names.now hs shared.old
         → IfOk result (λ _. AllTake (D.scope declared.now) names.now hs shared.new) }
-    ensures one { length steps.now ≤ MOST_STEPS → LeaveOne (D.scope declared.now) names.now (length premises.now) steps.now
+    ensures one { length steps.now ≤ MOST_STEPS → LeaveOne (StepTakes (D.scope declared.now) names.now (length premises.now)) steps.now
         → IfOk result (λ made. IsTrue (is_some made)) }
+    ensures few { IfOk result (λ made. IfSome made (λ _. AreFew MOST_STEPS shared.old shared.new)) }
+    ensures nodes { (hs : List HypothesisOf) → seen_words premises.now ≡ premise_labels hs
+        → AllTake (D.scope declared.now) names.now hs shared.old → CanBeCounted (Takes (D.scope declared.now) names.now hs) hs
+        → AreNodes shared.old → IfOk result (λ made. IfSome made (λ root. AreNodes shared.new × (root < length shared.new.nodes.items))) }
 {
     if steps.len() > MOST_STEPS {
         return Ok(None);

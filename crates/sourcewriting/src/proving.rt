@@ -10,7 +10,8 @@ ghost use Rattle.sourcewriting.specs.Counting.{Takes};
 ghost use Rattle.sourcewriting.specs.Indentations.{IsIndentation};
 ghost use Rattle.sourcewriting.specs.Forms.{is_compressed_form};
 ghost use Rattle.sourcewriting.specs.Laid.{IsLaid, IsInForm};
-ghost use Rattle.sourcewriting.specs.Leaving.{CanStand};
+ghost use Rattle.sourcewriting.specs.Leaving.{CanBePutWith};
+ghost use Rattle.sourcewriting.specs.Lettered.{CanBeLettered};
 ghost use Rattle.sourcewriting.specs.Named.{AreNames};
 ghost use Rattle.sourcewriting.specs.MarkedTexts.{IsMarkedText};
 ghost use Rattle.sourcewriting.specs.Reading.{labels_in, IsMarkedLayout};
@@ -106,7 +107,8 @@ fn put_in_form(
 ) -> Result<bool, AllocError>
     ensures laid { (i : List ℕ) → IsLaid i layout.old [] → IfOk result (λ right. IsTrue right → IsInForm i is_compressed layout.new
         × (IsTrue is_compressed → IsMarkedLayout i layout.new (seen_words mandatory.now) shared.now.words.items)) }
-    ensures fine { AreNames (labels_in shared.now.words.items) → IsFalse is_compressed
+    ensures fine { AreNames (labels_in shared.now.words.items)
+        → (IsTrue is_compressed → CanBeLettered shared.now (seen_words mandatory.now) root)
         → IfOk result (λ right. IsTrue right × (layout.new.is_refused ≡ layout.old.is_refused)) }
 {
     if is_compressed {
@@ -118,7 +120,7 @@ fn put_in_form(
 }
 
 /// The text of a proof by its nodes, in one of its forms, of a theorem with these mandatory hypotheses. None where it names what is no
-/// label, or is compressed and not marked as it should be.
+/// label, or is compressed and can't be marked as it should be: a label takes entries here and none there, or there are too many labels.
 fn text_in_form(
     alloc: Global,
     is_compressed: bool,
@@ -131,7 +133,8 @@ fn text_in_form(
     ensures laid_out { IfOk result (λ made. IfSome made (λ text. IsLaidOut indentation.now is_compressed text.items)) }
     ensures marked { IsTrue is_compressed → IfOk result (λ made. IfSome made (λ text.
         IsMarkedAs indentation.now (seen_words mandatory.now) shared.now.words.items text.items)) }
-    ensures some { AreNames (labels_in shared.now.words.items) → IsFalse is_compressed
+    ensures some { AreNames (labels_in shared.now.words.items)
+        → (IsTrue is_compressed → CanBeLettered shared.now (seen_words mandatory.now) root)
         → IfOk result (λ made. IsTrue (is_some made)) }
 {
     let mut layout = Layout::new(alloc, indentation);
@@ -159,8 +162,8 @@ fn text_of<'p, 'a, D: Declared<'a>>(
     ensures marked { (hs : List HypothesisOf) → AreHypotheses hs hypotheses.now → IsTrue is_compressed
         → IfOk result (λ made. IfSome made (λ text.
         IsMarkedText indentation.now (Takes (D.scope declared.now) names.now hs) hs text.items)) }
-    ensures some { (hs : List HypothesisOf) → AreHypotheses hs hypotheses.now → IsFalse is_compressed
-        → CanStand (D.scope declared.now) names.now hs steps.now → IfOk result (λ made. IsTrue (is_some made)) }
+    ensures some { (hs : List HypothesisOf) → AreHypotheses hs hypotheses.now
+        → CanBePutWith (D.scope declared.now) names.now is_compressed hs steps.now → IfOk result (λ made. IsTrue (is_some made)) }
 {
     let premises = hypotheses.premises.as_slice();
     let mandatory = hypotheses.mandatory.as_slice();
@@ -173,10 +176,10 @@ fn text_of<'p, 'a, D: Declared<'a>>(
 
 /// The text of a proof of the theorem at a place of the source, by its steps in the library, in the form that the old one has, with white
 /// space for the `$.` behind it: laid out in lines that begin with this indentation. None where the steps denote no tree, or are over
-/// 16,384, or name what is no label.
+/// 16,384, or name what is no label; of a compressed proof also where a label takes entries here and others there, or there are over
+/// 268,402,692 hypotheses.
 ///
-/// A compressed proof is read again: in it each subproof that takes entries is written once, and called by its number elsewhere. None
-/// where it isn't so.
+/// A compressed proof is read again: in it each subproof that takes entries is written once, and called by its number elsewhere.
 ///
 /// # Errors
 ///
@@ -197,8 +200,9 @@ pub fn proof_text<'x, D: Declared<'x>>(
     ensures marked { (a : AssertionOf) → slice_get (D.scope declared.now).assertions place ≡ Some a → IsTrue (is_compressed_form a.proof)
         → IfOk result (λ made. IfSome made (λ text.
         IsMarkedText indentation.now (Takes (D.scope declared.now) names.now a.hypotheses) a.hypotheses text.items)) }
-    ensures some { (a : AssertionOf) → slice_get (D.scope declared.now).assertions place ≡ Some a → IsFalse (is_compressed_form a.proof)
-        → CanStand (D.scope declared.now) names.now a.hypotheses steps.now → IfOk result (λ made. IsTrue (is_some made)) }
+    ensures some { (a : AssertionOf) → slice_get (D.scope declared.now).assertions place ≡ Some a
+        → CanBePutWith (D.scope declared.now) names.now (is_compressed_form a.proof) a.hypotheses steps.now
+        → IfOk result (λ made. IsTrue (is_some made)) }
 {
     let hypotheses = hypotheses_of(alloc, declared, place)?;
     let is_compressed = is_compressed_like(declared.proof(place));

@@ -1,6 +1,9 @@
 //! A compressed proof that was written is read again, as the nodes that its steps make: whether each subproof is written once.
 
-ghost use Rattle.std.specs.Prelude.{◌≡◌, [], false, IfOk, IsTrue};
+ghost use Rattle.std.specs.Prelude.{◌≡◌, [], false, true, length, replicate, slice_get, slice_set, IfOk, IsTrue, List, Some};
+ghost use Rattle.source.specs.Letters.{codes_of};
+ghost use Rattle.source.specs.declared.letters.Code.{Code as CodeOf};
+ghost use Rattle.sourcewriting.specs.Readable.{Read, seen_reader, unread, Cites, Repeats, Marks, Leads, LeadAll};
 ghost use Rattle.sourcewriting.specs.Reading.{IsNoted, IsCited, IsRepeated, IsMarkPut, IsReadOn, AreMarkedLetters};
 
 use crate::shared::{CountedLabel, Shared};
@@ -24,6 +27,7 @@ impl Reader {
         ensures entries { IfOk result (λ made. made.entries.items ≡ []) }
         ensures marked { IfOk result (λ made. made.marked.items ≡ []) }
         ensures may_mark { IfOk result (λ made. made.may_mark ≡ false) }
+        ensures written { IfOk result (λ made. made.written.items ≡ replicate nodes false) }
     {
         Ok(Reader {
             entries: Vec::new(alloc),
@@ -35,7 +39,9 @@ impl Reader {
 
     /// A node is written: whether it wasn't before.
     fn note(&mut self, node: usize) -> bool
-        ensures { IsTrue result → IsNoted node self.old self.new }
+        ensures noted { IsTrue result → IsNoted node self.old self.new }
+        ensures right { slice_get self.old.written.items node ≡ Some false
+            → IsTrue result × (self.new.written.items ≡ slice_set self.old.written.items node true) }
     {
         if node >= self.written.len() || self.written[node] {
             return false;
@@ -51,7 +57,9 @@ impl Reader {
         shared: &Shared<'_>,
         cited: CountedLabel<'_>,
     ) -> Result<bool, AllocError>
-        ensures { IfOk result (λ right. IsTrue right → IsCited shared.now cited.entry self.old self.new) }
+        ensures cited { IfOk result (λ right. IsTrue right → IsCited shared.now cited.entry self.old self.new) }
+        ensures right { (new : Read) → Cites shared.now cited.entry (seen_reader self.old) new
+            → IfOk result (λ right. IsTrue right × (seen_reader self.new ≡ new)) }
     {
         let Some(first) = self.entries.len().checked_sub(cited.takes) else {
             return Ok(false);
@@ -67,7 +75,9 @@ impl Reader {
 
     /// A marked entry goes on again: whether it is there.
     fn repeat(&mut self, number: usize) -> Result<bool, AllocError>
-        ensures { IfOk result (λ right. IsTrue right → IsRepeated number self.old self.new) }
+        ensures repeated { IfOk result (λ right. IsTrue right → IsRepeated number self.old self.new) }
+        ensures right { (new : Read) → Repeats number (seen_reader self.old) new
+            → IfOk result (λ right. IsTrue right × (seen_reader self.new ≡ new)) }
     {
         let Some(node) = self.marked.get(number).copied() else {
             return Ok(false);
@@ -79,7 +89,9 @@ impl Reader {
 
     /// The last entry is marked: whether it may be.
     fn mark(&mut self) -> Result<bool, AllocError>
-        ensures { IfOk result (λ right. IsTrue right → IsMarkPut self.old self.new) }
+        ensures put { IfOk result (λ right. IsTrue right → IsMarkPut self.old self.new) }
+        ensures right { (new : Read) → Marks (seen_reader self.old) new
+            → IfOk result (λ right. IsTrue right × (seen_reader self.new ≡ new)) }
     {
         let Some(node) = self.entries.last().copied() else {
             return Ok(false);
@@ -98,7 +110,9 @@ impl Reader {
         counted: &[CountedLabel<'_>],
         code: Code,
     ) -> Result<bool, AllocError>
-        ensures { IfOk result (λ right. IsTrue right → IsReadOn shared.now counted.now code self.old self.new) }
+        ensures read { IfOk result (λ right. IsTrue right → IsReadOn shared.now counted.now code self.old self.new) }
+        ensures right { (new : Read) → Leads shared.now counted.now code (seen_reader self.old) new
+            → IfOk result (λ right. IsTrue right × (seen_reader self.new ≡ new)) }
     {
         match code {
             Code::Number(number) => {
@@ -124,7 +138,9 @@ pub(crate) fn are_marked(
     counted: &[CountedLabel<'_>],
     letters: &[u8],
 ) -> Result<bool, AllocError>
-    ensures { IfOk result (λ right. IsTrue right → AreMarkedLetters counted.now letters.now) }
+    ensures marked { IfOk result (λ right. IsTrue right → AreMarkedLetters counted.now letters.now) }
+    ensures right { (said : List CodeOf) (end : Read) → codes_of letters.now ≡ Some said
+        → LeadAll shared.now counted.now said (unread (length shared.now.nodes.items)) end → IfOk result IsTrue }
 {
     let Some(codes) = read_letters(alloc, letters)? else {
         return Ok(false);

@@ -1,7 +1,11 @@
 //! The nodes of a proof, each of which stands once.
 
-ghost use Rattle.std.specs.Prelude.{◌≡◌, [], ◌∷◌, length, IfOk};
+ghost use Rattle.std.specs.Prelude.{◌≡◌, ◌<◌, ◌≤◌, [], ◌∷◌, ◌++◌, length, slice_get, All, Some, IfOk};
+ghost use Rattle.std.specs.Str.{bytes_eq};
+ghost use Rattle.std.specs.HashMap.{get_by};
+ghost use Rattle.sourcewriting.specs.Nodes.{AreNodes, AreFew, IsNumbered, IsTakenAlike, arguments_in};
 ghost use Rattle.sourcewriting.specs.Reading.{find_in, HaveOneMore};
+ghost use Rattle.sourcewriting.specs.declared.shared.Node.{Node as NodeOf};
 
 use std::alloc::{AllocError, Global};
 use std::collections::HashMap;
@@ -21,8 +25,6 @@ struct Node {
     word: usize,
     begin: usize,
     end: usize,
-    /// In how many places it is an argument.
-    uses: usize,
 }
 
 /// The nodes of a proof: equal subproofs are one node, which stands behind its arguments. Labels and nodes are numbered from 0, in the
@@ -63,7 +65,9 @@ fn key_of(alloc: Global, number: usize, arguments: &[usize]) -> Result<Vec<usize
 impl<'x> Shared<'x> {
     /// No node yet.
     pub(crate) fn new(alloc: Global, keys: RandomState) -> Shared<'x>
-        ensures { result.words.items ≡ [] }
+        ensures words { result.words.items ≡ [] }
+        ensures nodes { result.nodes.items ≡ [] }
+        ensures sound { AreNodes result }
     {
         Shared {
             words: Vec::new(alloc),
@@ -83,7 +87,11 @@ impl<'x> Shared<'x> {
 
     /// The number of a label: a new one where no node named it, with how many arguments this node has.
     fn number_of(&mut self, label: &'x [u8], takes: usize) -> Result<usize, AllocError>
-        ensures { IfOk result (λ _. HaveOneMore self.old.words.items self.new.words.items label.now takes) }
+        ensures more { IfOk result (λ _. HaveOneMore self.old.words.items self.new.words.items label.now takes) }
+        ensures same { IfOk result (λ _. (self.new.nodes ≡ self.old.nodes) × (self.new.arguments ≡ self.old.arguments)
+            × (self.new.places ≡ self.old.places)) }
+        ensures numbered { IsTakenAlike self.old.words.items label.now takes → AreNodes self.old
+            → IfOk result (λ number. AreNodes self.new × IsNumbered self.new label.now takes number) }
     {
         if let Some(number) = self.numbers.get(&label) {
             return Ok(*number);
@@ -94,32 +102,23 @@ impl<'x> Shared<'x> {
         Ok(number)
     }
 
-    /// A node is an argument in one more place.
-    fn use_again(&mut self, node: usize)
-        ensures { self.new.words ≡ self.old.words }
-    {
-        if let Some(used) = self.nodes.get_mut(node) {
-            used.uses = used.uses.saturating_add(1);
-        }
-    }
-
     /// A new node, of the label with a number.
     fn push(&mut self, word: usize, arguments: &[usize]) -> Result<usize, AllocError>
-        ensures { IfOk result (λ _. self.new.words ≡ self.old.words) }
+        ensures put { IfOk result (λ node. (node ≡ length self.old.nodes.items)
+            × (self.new.arguments.items ≡ self.old.arguments.items ++ arguments.now)
+            × (self.new.nodes.items ≡ self.old.nodes.items ++ record {
+              word = word;
+              begin = length self.old.arguments.items;
+              end = length self.new.arguments.items;
+            } ∷ [])) }
+        ensures same { IfOk result (λ _. (self.new.words ≡ self.old.words) × (self.new.numbers ≡ self.old.numbers)
+            × (self.new.places ≡ self.old.places)) }
     {
         let begin = self.arguments.len();
         self.arguments.extend_from_slice(arguments)?;
-        for argument in arguments {
-            self.use_again(*argument);
-        }
         let node = self.nodes.len();
         let end = self.arguments.len();
-        self.nodes.push(Node {
-            word,
-            begin,
-            end,
-            uses: 0,
-        })?;
+        self.nodes.push(Node { word, begin, end })?;
         Ok(node)
     }
 
@@ -130,11 +129,15 @@ impl<'x> Shared<'x> {
         word: &'x [u8],
         arguments: &[usize],
     ) -> Result<usize, AllocError>
-        ensures { IfOk result (λ _. HaveOneMore self.old.words.items self.new.words.items word.now (length arguments.now)) }
+        ensures more { IfOk result (λ _. HaveOneMore self.old.words.items self.new.words.items word.now (length arguments.now)) }
+        ensures few { IfOk result (λ _. AreFew 1 self.old self.new × (length self.old.nodes.items ≤ length self.new.nodes.items)) }
+        ensures sound { All (λ a. a < length self.old.nodes.items) arguments.now
+            → IsTakenAlike self.old.words.items word.now (length arguments.now) → AreNodes self.old
+            → IfOk result (λ node. AreNodes self.new × (node < length self.new.nodes.items)) }
     {
         let number = self.number_of(word, arguments.len())?;
         let key = key_of(alloc, number, arguments)?;
-        if let Some(node) = self.places.get(&key) {
+        if let Some(node) = self.places.get(key.as_slice()) {
             return Ok(*node);
         }
         let node = self.push(number, arguments)?;
@@ -159,7 +162,9 @@ impl<'x> Shared<'x> {
     }
 
     /// The number of the label that a node names: 0 where there is no such node.
-    pub(crate) fn word(&self, node: usize) -> usize {
+    pub(crate) fn word(&self, node: usize) -> usize
+        ensures { (d : NodeOf) → slice_get self.now.nodes.items node ≡ Some d → result ≡ d.word }
+    {
         match self.nodes.get(node) {
             Some(there) => there.word,
             None => 0,
@@ -167,23 +172,20 @@ impl<'x> Shared<'x> {
     }
 
     /// The arguments of a node, in order: none where there is no such node.
-    pub(crate) fn arguments(&self, node: usize) -> &[usize] {
+    pub(crate) fn arguments(&self, node: usize) -> &[usize]
+        ensures are { AreNodes self.now → result.now ≡ arguments_in self.now node }
+        ensures few { length result.now ≤ length self.now.arguments.items }
+    {
         match self.nodes.get(node) {
             Some(there) => self.arguments.get(there.begin..there.end).unwrap_or(&[]),
             None => &[],
         }
     }
 
-    /// Whether a node is an argument in more than one place.
-    pub(crate) fn is_shared(&self, node: usize) -> bool {
-        match self.nodes.get(node) {
-            Some(there) => there.uses > 1,
-            None => false,
-        }
-    }
-
     /// How many nodes there are.
-    pub(crate) fn len(&self) -> usize {
+    pub(crate) fn len(&self) -> usize
+        ensures { result ≡ length self.now.nodes.items }
+    {
         self.nodes.len()
     }
 }

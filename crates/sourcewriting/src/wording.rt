@@ -1,14 +1,15 @@
 //! The words of a proof: normal, or compressed with each subproof once that stands there more than once.
 
-ghost use Rattle.std.specs.Prelude.{◌≡◌, ◌++◌, ℕ, List, [], map, IfOk, IfSome, IsTrue, IsFalse};
+ghost use Rattle.std.specs.Prelude.{◌≡◌, ◌≤◌, ◌<◌, ◌+◌, ◌^◌, ℕ, List, [], length, slice_get, Contains, Some, IfOk, IfSome, IsTrue, IsFalse};
 ghost use Rattle.source.specs.Views.{seen_words};
 ghost use Rattle.mmtext.specs.Words.{Word};
 ghost use Rattle.sourcewriting.specs.Named.{IsName, AreNames};
 ghost use Rattle.sourcewriting.specs.Laid.{IsLaid, IsNormal, IsCompressed, HasLabels, has_closing};
+ghost use Rattle.sourcewriting.specs.Lettered.{AreNumbers, AreUntaken, CanBeLettered, counts_behind};
 ghost use Rattle.sourcewriting.specs.Reading.{counts_of, labels_in, HaveOneMore, HaveMore, IsMarkedLayout};
 
 use crate::layout::Layout;
-use crate::letters::put_number;
+use crate::lettering::letters_of;
 use crate::reading::are_marked;
 use crate::shared::{CountedLabel, Shared};
 use mmsyntax::MOST_STEPS;
@@ -91,74 +92,16 @@ pub(crate) fn put_normal(
     Ok(())
 }
 
-/// The letters of a compressed proof, and what they count: the mandatory hypotheses, the labels in parentheses, the marked subproofs.
-#[derive(Drop)]
-struct Letters<'n> {
-    /// The number of each label, from 0.
-    numbers: &'n [usize],
-    /// How many numbers are those of labels.
-    labels: usize,
-    /// The number of each marked node, behind those of labels.
-    marks: Vec<Option<usize>>,
-    /// How many nodes are marked.
-    marked: usize,
-    text: Vec<u8>,
-}
-
-impl Letters<'_> {
-    /// A node that is marked stands there again: whether it is.
-    fn repeat(&mut self, node: usize) -> Result<bool, AllocError> {
-        match self.marks.get(node) {
-            Some(Some(mark)) => {
-                put_number(&mut self.text, self.labels.saturating_add(*mark))?;
-                Ok(true)
-            }
-            _ => Ok(false),
+/// The place of a label among others. None where it isn't there.
+fn place_in(labels: &[&[u8]], label: &[u8]) -> Option<usize>
+    ensures { IfSome result (λ place. slice_get (seen_words labels.now) place ≡ Some label.now) }
+{
+    for (place, other) in labels.iter().enumerate() {
+        if *other == label {
+            return Some(place);
         }
     }
-
-    /// A node ends: its label, and the mark of one that has arguments and stands there again.
-    fn end(&mut self, shared: &Shared<'_>, node: usize) -> Result<(), AllocError> {
-        // Each label that a node names has a number.
-        let number = self.numbers.get(shared.word(node)).copied().unwrap_or(0);
-        put_number(&mut self.text, number)?;
-        if shared.arguments(node).is_empty() || !shared.is_shared(node) {
-            return Ok(());
-        }
-        self.text.push(b'Z')?;
-        if let Some(mark) = self.marks.get_mut(node) {
-            *mark = Some(self.marked);
-        }
-        self.marked = self.marked.saturating_add(1);
-        Ok(())
-    }
-
-    /// Puts the letters of a tree. Whether it has at most 16,384 steps, where a marked subproof that stands there again counts as one.
-    fn put_tree(
-        &mut self,
-        alloc: Global,
-        shared: &Shared<'_>,
-        root: usize,
-    ) -> Result<bool, AllocError> {
-        let mut stack = Vec::new(alloc);
-        stack.push(Turn {
-            node: root,
-            argument: 0,
-        })?;
-        for _ in 0..MOST_TURNS {
-            let Some(turn) = stack.pop() else {
-                return Ok(true);
-            };
-            if turn.argument == 0 && self.repeat(turn.node)? {
-                continue;
-            }
-            match shared.arguments(turn.node).get(turn.argument) {
-                Some(node) => push_both(&mut stack, turn, *node)?,
-                None => self.end(shared, turn.node)?,
-            }
-        }
-        Ok(stack.is_empty())
-    }
+    None
 }
 
 /// The number of a label: that of the mandatory hypothesis, or that of the place in parentheses which it gets, behind the others.
@@ -167,9 +110,14 @@ fn number_of<'x>(
     others: &mut Vec<CountedLabel<'x>>,
     word: CountedLabel<'x>,
 ) -> Result<usize, AllocError>
-    ensures { IfOk result (λ _. HaveOneMore others.old.items others.new.items word.entry.label.now word.entry.takes) }
+    ensures more { IfOk result (λ _. HaveOneMore others.old.items others.new.items word.entry.label.now word.entry.takes) }
+    ensures few { IfOk result (λ _. length others.new.items ≤ length others.old.items + 1) }
+    ensures numbered { length mandatory.now + length others.old.items < 2 ^ 64
+        → (Contains (seen_words mandatory.now) word.entry.label.now → word.entry.takes ≡ 0)
+        → IfOk result (λ number. slice_get (counts_behind (seen_words mandatory.now) others.new.items) number
+        ≡ Some (word.entry.label.now, word.entry.takes)) }
 {
-    if let Some(place) = mandatory.iter().position(|label| *label == word.label) {
+    if let Some(place) = place_in(mandatory, word.label) {
         return Ok(place);
     }
     let number = mandatory.len().saturating_add(others.len());
@@ -185,7 +133,11 @@ fn numbers_of<'x>(
     mandatory: &[&[u8]],
     others: &mut Vec<CountedLabel<'x>>,
 ) -> Result<Vec<usize>, AllocError>
-    ensures { IfOk result (λ _. HaveMore words.now others.old.items others.new.items) }
+    ensures more { IfOk result (λ _. HaveMore words.now others.old.items others.new.items) }
+    ensures few { IfOk result (λ _. length others.new.items ≤ length others.old.items + length words.now) }
+    ensures numbered { length mandatory.now + length others.old.items + length words.now < 2 ^ 64
+        → AreUntaken (seen_words mandatory.now) words.now → IfOk result (λ numbers.
+        AreNumbers words.now (counts_behind (seen_words mandatory.now) others.new.items) numbers.items) }
 {
     let mut numbers = Vec::with_capacity(alloc, words.len())?;
     for word in words {
@@ -200,7 +152,7 @@ fn counted_labels<'x>(
     mandatory: &[&'x [u8]],
     others: &[CountedLabel<'x>],
 ) -> Result<Vec<CountedLabel<'x>>, AllocError>
-    ensures { IfOk result (λ made. counts_of made.items ≡ map (λ w. (w, 0)) (seen_words mandatory.now) ++ counts_of others.now) }
+    ensures { IfOk result (λ made. counts_of made.items ≡ counts_behind (seen_words mandatory.now) others.now) }
 {
     let mut counted = Vec::with_capacity(alloc, mandatory.len().saturating_add(others.len()))?;
     for label in mandatory {
@@ -212,7 +164,8 @@ fn counted_labels<'x>(
 
 /// Puts labels.
 fn put_labels(layout: &mut Layout<'_>, labels: &[CountedLabel<'_>])
-    ensures { (i : List ℕ) (front : List Word) → IsFalse (has_closing front)
+    ensures fine { AreNames (labels_in labels.now) → layout.new.is_refused ≡ layout.old.is_refused }
+    ensures laid { (i : List ℕ) (front : List Word) → IsFalse (has_closing front)
         → HasLabels i layout.old front [] → HasLabels i layout.new front (labels_in labels.now) }
 {
     for word in labels {
@@ -222,34 +175,15 @@ fn put_labels(layout: &mut Layout<'_>, labels: &[CountedLabel<'_>])
 
 /// Puts labels in parentheses.
 fn put_in_parentheses(layout: &mut Layout<'_>, labels: &[CountedLabel<'_>])
-    ensures { (i : List ℕ) → IsLaid i layout.old [] → IsCompressed i layout.new (labels_in labels.now) [] }
+    ensures fine { AreNames (labels_in labels.now) → layout.new.is_refused ≡ layout.old.is_refused }
+    ensures laid { (i : List ℕ) → IsLaid i layout.old [] → IsCompressed i layout.new (labels_in labels.now) [] }
 {
     layout.put_word(b"(");
     put_labels(layout, labels);
     layout.put_word(b")");
 }
 
-/// The letters of a tree whose labels have these numbers, which are below `labels`. None where it has over 16,384 steps.
-fn letters_of(
-    alloc: Global,
-    shared: &Shared<'_>,
-    numbers: &[usize],
-    labels: usize,
-    root: usize,
-) -> Result<Option<Vec<u8>>, AllocError> {
-    let mut letters = Letters {
-        numbers,
-        labels,
-        marks: vec![in alloc; None; shared.len()]?,
-        marked: 0,
-        text: Vec::new(alloc),
-    };
-    let is_whole = letters.put_tree(alloc, shared, root)?;
-    Ok(is_whole.then_some(letters.text))
-}
-
-/// Puts a compressed proof of a theorem with these mandatory hypotheses, and reads it again. Whether it has at most 16,384 steps, where a
-/// marked subproof that stands there again counts as one, and is marked as it should be.
+/// Puts a compressed proof of a theorem with these mandatory hypotheses, and reads it again. Whether it is marked as it should be.
 pub(crate) fn put_compressed<'x>(
     alloc: Global,
     layout: &mut Layout<'_>,
@@ -257,16 +191,16 @@ pub(crate) fn put_compressed<'x>(
     mandatory: &[&'x [u8]],
     root: usize,
 ) -> Result<bool, AllocError>
-    ensures { (i : List ℕ) → IsLaid i layout.old []
+    ensures laid { (i : List ℕ) → IsLaid i layout.old []
         → IfOk result (λ right. IsTrue right → IsMarkedLayout i layout.new (seen_words mandatory.now) shared.now.words.items) }
+    ensures fine { AreNames (labels_in shared.now.words.items) → CanBeLettered shared.now (seen_words mandatory.now) root
+        → IfOk result (λ right. IsTrue right × (layout.new.is_refused ≡ layout.old.is_refused)) }
 {
     let mut others = Vec::new(alloc);
     let numbers = numbers_of(alloc, shared.words(), mandatory, &mut others)?;
     put_in_parentheses(layout, others.as_slice());
     let counted = counted_labels(alloc, mandatory, others.as_slice())?;
-    let Some(letters) = letters_of(alloc, shared, numbers.as_slice(), counted.len(), root)? else {
-        return Ok(false);
-    };
+    let letters = letters_of(alloc, shared, numbers.as_slice(), counted.len(), root)?;
     layout.put_letters(letters.as_slice());
     are_marked(alloc, shared, counted.as_slice(), letters.as_slice())
 }

@@ -9,7 +9,7 @@ use Rattle.library.specs.declared.history.Entry.{Entry}
 use Rattle.sourceediting.specs.declared.following.Followed.{Followed as KeptAssertion}
 use Rattle.sourceediting.specs.Following.{all_commands}
 use Rattle.sourceediting.specs.Reproved.{AreOtherProofs}
-use Rattle.sourceediting.specs.Refusals.{HasCause}
+use Rattle.sourceediting.specs.Refusals.{HasCause, IsUnwritten, OnUnwritten}
 use Rattle.sourceediting.specs.Views.{seen_living, seen_following}
 use Rattle.givetext.specs.Causes.{known_of, edited_assertions}
 use Rattle.givetext.specs.Given.{edition}
@@ -45,4 +45,12 @@ returns-in_err-write_edits-clause-refused c =
     let e = c.in_err-write_edits.field-0.0 in
     let cause = subst (λ (fs : List KeptAssertion). HasCause (seen_living fs) (edited_assertions k) source e)
     c.as_slice-living.ensures.value c.in_err-write_edits.ensures.refused in
-    rw p.1 (told_cause k source e p.0 p.2 (edits_cause k source e cause))
+    let edition = edition c.args.taken.now c.args.replayed.now.edited in
+    let known = λ (es : List Entry) (fs : List KeptAssertion) (ns : List (Bor (List ℕ) × List ℕ)).
+    OnUnwritten (IsUnwritten k.old (record edition { names = map (λ p. (p.0.now, p.1)) ns }) (seen_living fs) (all_commands es)) e in
+    let fs = c.as_slice-living.result.now in
+    let ns = c.args.taken.now.names.items in
+    let unwritten = subst (λ (fs : List KeptAssertion). known c.args.replayed.now.entries fs ns) c.as_slice-living.ensures.value
+    (subst (λ (es : List Entry). known es fs ns) c.as_slice-entries.ensures
+    (subst (known c.as_slice-entries.result.now fs) c.as_slice-2.ensures.value c.in_err-write_edits.ensures.unwritten)) in
+    rw p.1 (told_cause k source e p.0 p.2 (edits_cause k source e cause unwritten))

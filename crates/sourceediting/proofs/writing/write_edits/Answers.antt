@@ -8,6 +8,6 @@ use Rattle.sourceediting.proofs.writing.write_edits.Goals as goal
 pub write_over-requires : goal.write_over-requires
 write_over-requires g c κs =
     let labelled = subst (λ (es : List Ranked). AreLabelled c.in_ok-edited.edited (map (λ (r : Ranked). r.assertion) es))
-    c.entries.ensures.value c.in_ok-edited.ensures in
+    c.entries.ensures.value c.in_ok-edited.ensures.labelled in
     let divided = declares_divided c.args.source.now (g.D.Declared.scope c.args.declared.now) c.requires in
-    ((refl, tt), (labelled, (c.in_ok-names.ensures, divided)))
+    ((refl, tt), (labelled, (c.in_ok-names.ensures.names, divided)))

@@ -1,5 +1,5 @@
 -- What is left to show of `written`.
-use Rattle.std.proofs.Common.{◌≡◌, ◌∙◌, false, true, sym}
+use Rattle.std.proofs.Common.{◌≡◌, ◌∙◌, [], false, true, map, sym}
 use Rattle.std.specs.Prelude.{All}
 use Rattle.std.proofs.lemmas.Result.{IfOk-weaker}
 use Rattle.source.specs.Views.{seen_words}
@@ -45,3 +45,7 @@ returns-clause-written g c =
     IfOk-weaker c.rearrange.result (λ out. IsRearranged living gone cs proofs source out.items)
     (λ out. IsWrittenAnew commands living gone (λ ps. ps ≡ proofs) cs source out.items)
     (λ out. all_rearranged commands living gone cs source out.items proofs some) c.rearrange.ensures.arranged
+
+pub returns-then-keep_places-clause-unwritten : goal.returns-then-keep_places-clause-unwritten
+returns-then-keep_places-clause-unwritten g c =
+    c.rewritten.ensures.unwritten (λ _. All KeepsPlaces (all_commands c.args.entries.now) → ⊥)

@@ -10,7 +10,7 @@ returns-then-is_compressed-clause-laid c = λ i laid.
     (λ right has yes.
     let marked = has yes in
     ((((codes "(" ∷ (labels_in marked.labels ++ codes ")" ∷ [])) ++ marked.laid.0), marked.laid.2, λ _. sym c.if-is_compressed.true), λ _. marked))
-    (c.put_compressed.ensures i laid)
+    (c.put_compressed.ensures.laid i laid)
 
 pub returns-in_ok-put_normal-clause-laid : goal.returns-in_ok-put_normal-clause-laid
 returns-in_ok-put_normal-clause-laid c = λ i laid.
@@ -19,3 +19,6 @@ returns-in_ok-put_normal-clause-laid c = λ i laid.
       (has.0, has.1.0, λ right. form_of_labels has.0 (has.1.1 right) ∙ sym c.if-is_compressed.false),
       λ is. absurd (cc c.if-is_compressed.false),
     )
+
+pub returns-then-is_compressed-clause-fine : goal.returns-then-is_compressed-clause-fine
+returns-then-is_compressed-clause-fine c = λ names can. c.put_compressed.ensures.fine names (can c.if-is_compressed.true)

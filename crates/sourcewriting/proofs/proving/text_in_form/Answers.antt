@@ -19,9 +19,9 @@ returns-then-branch-clause-marked c = λ is.
     c.finish.ensures.laid
 
 pub returns-then-branch-clause-some : goal.returns-then-branch-clause-some
-returns-then-branch-clause-some c = λ names normal.
-    c.finish.ensures.whole ((c.in_ok-put_in_form.ensures.fine names normal).1 ∙ c.new-layout.ensures.fine)
+returns-then-branch-clause-some c = λ names can.
+    c.finish.ensures.whole ((c.in_ok-put_in_form.ensures.fine names can).1 ∙ c.new-layout.ensures.fine)
 
 pub returns-else-branch-clause-some : goal.returns-else-branch-clause-some
-returns-else-branch-clause-some c = λ names normal.
-    absurd (refuted _ (c.in_ok-put_in_form.ensures.fine names normal).0 c.if-branch.false)
+returns-else-branch-clause-some c = λ names can.
+    absurd (refuted _ (c.in_ok-put_in_form.ensures.fine names can).0 c.if-branch.false)

@@ -1,10 +1,12 @@
-use Rattle.std.proofs.Common.{◌≡◌, ◌≤◌, ◌++◌, ◌∷◌, [], ℕ, List, length, take, drop, sym, ◌∙◌, ap, subst, inr, append_assoc, arith}
+use Rattle.std.proofs.Common.{◌≡◌, ◌≤◌, ◌<◌, ◌++◌, ◌∷◌, [], ℕ, List, length, take, drop, sym, ◌∙◌, ap, subst, inr, append_assoc, arith}
 use Rattle.std.specs.List.{flat_map}
 use Rattle.std.proofs.lemmas.Grind.{flat_map-append}
 use Rattle.std.proofs.lemmas.List.{append-nil, take-append-drop}
 use Rattle.mmtext.specs.Words.{Word}
 use Rattle.sourcewriting.specs.Indentations.{IsIndentation}
 use Rattle.sourcewriting.specs.Laid.{AreLaid}
+use Rattle.std.proofs.lemmas.Bool.Decides.{nat_tests}
+use Rattle.sourcewriting.proofs.Printed.{cut_printable}
 use Rattle.sourcewriting.proofs.layout.Layout.put_letters.Goals as goal
 
 abbrev joined : List Word → List ℕ
@@ -20,18 +22,27 @@ cut_more cut word others rest letters n e front back =
     ap (λ t. t ++ others) one ∙ (append_assoc (joined cut) word others ∙ (ap (λ t. joined cut ++ t) both ∙ e))
 
 pub loop-rest-preserved : goal.loop-rest-preserved
-loop-rest-preserved c = λ i ws laid.
-    let was = c.loop-rest.invariant i ws laid in
-    let cut = was.0 in
-    let m = c.put_word.new.self in
-    let word = c.split_at.result.0.now in
-    let le : length word ≤ c.room.result = omega (arith, c.split_at.ensures.front_len, c.min.ensures) in (
-      cut ++ word ∷ [],
-      cut_more cut word _ _ _ _ was.1 c.split_at.ensures.front c.split_at.ensures.back,
-      λ whole right.
-          let old = was.2 (c.put_word.ensures.whole whole) (c.put_word.ensures.right right) in
-          let begins = subst IsIndentation (sym old.0) old.1.begins in
-          let short = c.room.ensures.short (length word) le begins in
-          subst (λ ws. (m.indentation.now ≡ i) × AreLaid i ws m.text.items m.column) (append_assoc ws cut (word ∷ []))
-          (c.put_word.ensures.laid i (ws ++ cut) (inr short) was.2 whole right),
-    )
+loop-rest-preserved c = record {
+  laid = λ i ws laid.
+      let was = c.loop-rest.invariant.laid i ws laid in
+      let cut = was.0 in
+      let m = c.put_word.new.self in
+      let word = c.split_at.result.0.now in
+      let le : length word ≤ c.room.result = omega (arith, c.split_at.ensures.front_len, c.min.ensures) in (
+        cut ++ word ∷ [],
+        cut_more cut word _ _ _ _ was.1 c.split_at.ensures.front c.split_at.ensures.back,
+        λ whole right.
+            let old = was.2 (c.put_word.ensures.whole whole) (c.put_word.ensures.right right) in
+            let begins = subst IsIndentation (sym old.0) old.1.begins in
+            let short = c.room.ensures.short (length word) le begins in
+            subst (λ ws. (m.indentation.now ≡ i) × AreLaid i ws m.text.items m.column) (append_assoc ws cut (word ∷ []))
+            (c.put_word.ensures.laid i (ws ++ cut) (inr short) was.2 whole right),
+      );
+  fine = λ printable.
+      let was = c.loop-rest.invariant.fine printable in
+      let some : 0 < length c.loop-rest.rest.now = grind (arith, nat_tests, c.is_empty.ensures, c.loop-rest-test.true) in
+      let low : 0 < c.min.result = omega (arith, c.room.ensures.some, c.min.ensures, some) in
+      let cut = cut_printable _ c.loop-rest.rest.now c.split_at.result.0.now c.split_at.result.1.now was.0 low some
+      c.split_at.ensures.front c.split_at.ensures.back in
+      (cut.1, c.put_word.ensures.fine cut.0 ∙ was.1);
+}
