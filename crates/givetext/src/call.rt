@@ -100,12 +100,13 @@ fn take_old<'a, D: Declared<'a>>(
     Ok(taken)
 }
 
-/// A history that was done again over a library.
+/// A history that was done over a library.
 #[derive(Drop)]
-struct Replayed {
-    entries: History,
+pub struct Replayed {
+    /// What became of each number, from 1.
+    pub entries: History,
     /// The library behind it.
-    edited: PlainLibrary,
+    pub edited: PlainLibrary,
 }
 
 /// The history is done again over the library.
@@ -304,8 +305,12 @@ fn write_and_look<'x>(
     Ok(out)
 }
 
-/// The source with the edits of a history that was done again over a library which was taken of it. It is looked at again.
-fn give_edits<'x, 'a: 'x>(
+/// The source with the edits of a history that was done over a library which was taken of it. It is looked at again before it is given.
+///
+/// # Errors
+///
+/// The first cause that holds, in the order of [`Refusal`]; want of memory at any time.
+pub fn give_edits<'x, 'a: 'x>(
     rt: &(impl Threads + Sync),
     alloc: Global,
     keys: RandomState,

@@ -10,3 +10,6 @@ mod refusing;
 mod standing;
 
 pub use answering::{Paths, Returned, answer_give};
+pub use call::{Replayed, give_edits};
+pub use refusal::Refusal;
+pub use refusing::refusal_text;

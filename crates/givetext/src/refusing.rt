@@ -95,7 +95,7 @@ fn edits_text(alloc: Global, why: &Unwritten) -> Result<String, AllocError>
 }
 
 /// What a refusal says, without the path of the text at fault.
-fn refusal_text(alloc: Global, why: &Refusal) -> Result<String, AllocError>
+pub fn refusal_text(alloc: Global, why: &Refusal) -> Result<String, AllocError>
     ensures { IfOk result (λ text. string_bytes text ≡ refusal_text why.now) }
 {
     match why {

@@ -1,5 +1,5 @@
 -- What is asked of texts, and what is answered.
-use Rattle.std.specs.Prelude.{◌≡◌, ◌≢◌, ◌⊎◌, ℕ, false, is_none, unwrap_or, List, [], ◌∷◌, map, string_bytes}
+use Rattle.std.specs.Prelude.{◌≡◌, ◌≢◌, ◌⊎◌, ℕ, false, Option, is_none, unwrap_or, List, [], ◌∷◌, map, string_bytes}
 use Rattle.jobs.specs.declared.job.Job.{Job}
 use Rattle.jobs.specs.declared.job.RunOptions.{RunOptions}
 use Rattle.jobs.specs.declared.job.Job.TheVariants as job
@@ -8,6 +8,7 @@ use Rattle.checking.specs.declared.fault.Fault.TheVariants.{NoMemory}
 use Rattle.checking.specs.declared.task.Task.{Task}
 use Rattle.checking.specs.declared.task.Task.TheVariants.{Check, Run, Replay}
 use Rattle.jobs.specs.declared.answering.Answered.{Answered}
+use Rattle.jobs.specs.declared.running.Plan.{Plan}
 use Rattle.jobs.specs.declared.answering.Answered.TheVariants.{Done, Refused}
 use Rattle.checking.specs.FaultLines.{line_of, fault_text}
 use Rattle.checking.specs.Checks.{Bytes}
@@ -41,6 +42,14 @@ pub record IsJobOf (asked : Task) (given : List Bytes) (j : Job) : Type 0 where
 abbrev pub options_asked : Task → RunOptions
 options_asked (Run workers room asked) = record { may_grow = is_none room; history = asked }
 options_asked _ = record { may_grow = false; history = false }
+
+-- how a run is done by so many workers, with a room that is given or isn't, whose history's text isn't wanted
+abbrev pub plan_asked : ℕ → Option ℕ → Plan
+plan_asked workers room = record {
+  workers = workers;
+  room = unwrap_or room least_room;
+  options = record { may_grow = is_none room; history = false };
+}
 
 -- ---- what is answered
 

@@ -32,6 +32,7 @@ pub use editing::{EditError, Edited, run_to_end};
 pub use job::{Job, Printed, RunOptions};
 pub use laws::{accepted_texts_check, fault_labels_are_shown, runs_are_replayed};
 pub use performing::perform;
-pub use task::{job_of, options_of};
+pub use running::{Plan, work};
+pub use task::{job_of, options_of, plan_of};
 pub use watching::Watch;
 pub use workers::{Gate, Open};

@@ -32,13 +32,13 @@ use transaction::{Library, OpenError, Outcome, Session, Shape};
 
 /// How a run is to be done.
 #[derive(Clone, Copy)]
-pub(crate) struct Plan {
+pub struct Plan {
     /// How many workers it has, 1 to 64.
-    pub(crate) workers: usize,
+    pub workers: usize,
     /// For how many words its store has room, at most 16,777,216.
-    pub(crate) room: usize,
+    pub room: usize,
     /// Whether it may have room for more, and whether the text of its history is asked for.
-    pub(crate) options: RunOptions,
+    pub options: RunOptions,
 }
 
 /// How the library of a run lies in words: in the room that was asked for, or in a larger one that the run can need, where it may have it.
@@ -105,8 +105,14 @@ fn fault_of(error: EditError) -> Fault
     }
 }
 
-/// Runs the scripts over the library of a database by workers, to its end.
-fn edit(
+/// Runs scripts over the library of a database whose proofs check by workers, to its end. Their commands are within the limits of its prelude.
+/// Who watches is told of the run. It may wait.
+///
+/// # Errors
+///
+/// `StoreFull` where the bodies of the database's assertions have more words than the room; `NoThread` where a thread for one of two workers or more
+/// can't be had; want of memory.
+pub fn work(
     rt: &(impl Threads + Wait + Sync),
     alloc: Global,
     keys: RandomState,
@@ -228,6 +234,6 @@ pub(crate) fn print_run(
     ensures fault { IfErr result (IsWorkFault db.now plan.workers (room_of (planned_room plan) db.now scripts.now)) }
     ensures full { room_of (planned_room plan) db.now scripts.now < all_bodies_length db.now.assertions → RefusesWith StoreFull result }
 {
-    let edited = edit(rt, alloc, keys, db, scripts, plan, watch)?;
+    let edited = work(rt, alloc, keys, db, scripts, plan, watch)?;
     Ok(print_edited(alloc, db, scripts, edited, plan.options.history)?)
 }

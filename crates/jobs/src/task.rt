@@ -2,9 +2,10 @@
 
 ghost use Rattle.std.specs.Prelude.{◌≡◌, ◌↔◌, length, map, IfSome, IsNone};
 ghost use Rattle.checking.specs.Tasks.{TakesTexts};
-ghost use Rattle.jobs.specs.Tasks.{IsJobOf, options_asked};
+ghost use Rattle.jobs.specs.Tasks.{IsJobOf, options_asked, plan_asked};
 
 use crate::job::{Job, RunOptions};
+use crate::running::Plan;
 use checking::Task;
 
 /// For how many words the store of a run has room at least that isn't given a room.
@@ -52,6 +53,20 @@ pub fn options_of(task: Task) -> RunOptions
         },
         Task::Check | Task::Replay => RunOptions {
             may_grow: false,
+            history: false,
+        },
+    }
+}
+
+/// How a run of scripts is done by so many workers, with a store that is given a room or isn't. The text of its history isn't asked for.
+pub fn plan_of(workers: usize, room: Option<usize>) -> Plan
+    ensures { result ≡ plan_asked workers room }
+{
+    Plan {
+        workers,
+        room: room.unwrap_or(LEAST_ROOM),
+        options: RunOptions {
+            may_grow: room.is_none(),
             history: false,
         },
     }

@@ -31,4 +31,4 @@ pub use laws::{
     spelled_behind_comments, tells_once, white_space_ends_words,
 };
 pub use origin::{Origin, origin_of};
-pub use refusing::printed_name;
+pub use refusing::{printed_name, refusal_line};

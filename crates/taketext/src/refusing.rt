@@ -80,7 +80,7 @@ fn refusal_text(alloc: Global, why: &Refusal<'_, '_>) -> Result<String, AllocErr
 }
 
 /// The line of a refusal, behind the path of the source: want of memory has none.
-pub(crate) fn refusal_line(
+pub fn refusal_line(
     alloc: Global,
     path: &str,
     why: &Refusal<'_, '_>,

@@ -26,3 +26,4 @@ pub use answering::{Verdict, answer_verify};
 pub use following::{Follow, Unfollowed};
 pub use refusal::Refusal;
 pub use verifying_text::{Verified, verify};
+pub use wording::refusal_line;

@@ -42,7 +42,7 @@ fn refusal_text(alloc: Global, why: Refusal<'_>) -> Result<String, AllocError>
 }
 
 /// The line of a refusal, behind the path of the source: want of memory has none.
-pub(crate) fn refusal_line(
+pub fn refusal_line(
     alloc: Global,
     path: &str,
     why: Refusal<'_>,

@@ -4,7 +4,7 @@ use Rattle.jobs.specs.Jobs.{room_of}
 use Rattle.jobs.specs.Parts.{IsWorkFault, planned_room}
 use Rattle.transaction.specs.Closings.{lists_of}
 use Rattle.jobs.proofs.Worked.{some_session, all_sessions, worked, unworked}
-use Rattle.jobs.proofs.running.edit.Goals as goal
+use Rattle.jobs.proofs.running.work.Goals as goal
 
 pub run_to_end-edited-requires-clause-some : goal.run_to_end-edited-requires-clause-some
 run_to_end-edited-requires-clause-some g c κs outlives =
