@@ -7,3 +7,4 @@ pub mod Parts
 pub mod Wanted
 pub mod Chosen
 pub mod Known
+pub mod Speaking

@@ -152,7 +152,7 @@ is_in_at (l ∷ ls) zero d h = ap (λ b. b || is_in (seen_words ls) l.now) (byte
 is_in_at (l ∷ ls) (suc k) d h =
     or_right (bytes_eq (get_or ls k d).now l.now) (is_in (seen_words ls) (get_or ls k d).now) (is_in_at ls k d (omega arith))
 
-any_grown : (test : Word → Bool) (labels : List (Bor (List ℕ))) (k : ℕ) (d : Bor (List ℕ)) → k < length labels
+pub any_grown : (test : Word → Bool) (labels : List (Bor (List ℕ))) (k : ℕ) (d : Bor (List ℕ)) → k < length labels
     → list_any test (seen_words (take (suc k) labels)) ≡ (test (get_or labels k d).now || list_any test (seen_words (take k labels)))
 any_grown test [] k d h = absurd (omega arith)
 any_grown test (l ∷ ls) zero d h = refl

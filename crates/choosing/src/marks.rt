@@ -29,7 +29,7 @@ pub(crate) fn count_marked(marks: &[bool]) -> usize
 }
 
 /// The assertion with a label is marked, if there is one, and this says whether there is.
-fn mark<'a, D: Declared<'a>>(declared: &D, label: &[u8], marks: &mut [bool]) -> bool
+pub(crate) fn mark<'a, D: Declared<'a>>(declared: &D, label: &[u8], marks: &mut [bool]) -> bool
     requires distinct { Distinct bytes_eq (map (λ x. x.label) (D.scope declared.now).assertions) }
     requires long { length marks.old ≡ length (D.scope declared.now).assertions }
     ensures there { result ≡ is_some (place_of (λ x. bytes_eq label.now x.label) (D.scope declared.now).assertions) }

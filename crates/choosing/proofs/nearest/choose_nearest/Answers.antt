@@ -1,6 +1,5 @@
 -- What is left to show of `choose_nearest`.
-use Rattle.std.proofs.Common.{◌≡◌, ◌∙◌, ◌<◌, ◌-◌, ℕ, suc, List, Bool, length, arith, refl, subst, sym, ap}
-use Rattle.mmtext.specs.Words.{Word}
+use Rattle.std.proofs.Common.{◌≡◌, ◌∙◌, ◌<◌, ◌-◌, ℕ, suc, length, arith, subst}
 use Rattle.choosing.proofs.Going.{Stands, start, finish, turned_left, turned_wanted}
 use Rattle.choosing.proofs.nearest.choose_nearest.Goals as goal
 

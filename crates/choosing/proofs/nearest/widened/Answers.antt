@@ -5,7 +5,7 @@ use mathlib.Core.Bool.{not}
 use Rattle.std.proofs.lemmas.List.{with_items_is}
 use Rattle.std.proofs.lemmas.List.Elements.{same_from_all_zip}
 use Rattle.source.specs.Scopes.{is_in}
-use Rattle.choosing.specs.Marks.{AreMarkedToo, AreWidened}
+use Rattle.choosing.specs.Marks.{AreWidened}
 use Rattle.choosing.proofs.Turns.{widened_more, widened_same}
 use Rattle.choosing.proofs.nearest.widened.Goals as goal
 
