@@ -3,6 +3,7 @@ use Rattle.std.proofs.Common.{◌≡◌, ◌≢◌, ◌∙◌, ℕ, Bool, true, 
 use Rattle.std.specs.Prelude.{◌||◌, MatchOption}
 use Rattle.std.specs.Option.{option_map}
 use Rattle.std.specs.Str.{bytes_eq}
+use Rattle.std.proofs.lemmas.Bool.{or_from}
 use Rattle.mmtext.specs.declared.mark.Mark.TheVariants as mark
 use Rattle.mmtext.specs.Words.{Word}
 use Rattle.mmtext.specs.Text.{Token, mark_of, has_comment_mark}
@@ -28,14 +29,6 @@ passed : (b y : Bool) → cond b false y ≡ true → y ≡ true
 passed true y h = absurd cc
 passed false y h = h
 
--- one of two
-pub either_one : (a b : Bool) → a ≡ true → (a || b) ≡ true
-either_one a b h = ap (λ x. x || b) h
-
-pub either_other : (a b : Bool) → b ≡ true → (a || b) ≡ true
-either_other true b h = refl
-either_other false b h = h
-
 -- what is always there is there
 pub there : {A : Type 0} (o : Option A) (P : Type 0) (Q : A → Type 0) → MatchOption o ⊥ Q → MatchOption o P Q
 there None P Q h = absurd h
@@ -46,13 +39,10 @@ opens_comment : (w : Word) → mark_of w ≢ mark.Comment → bytes_eq w (codes 
 unfolding mark_of
 opens_comment w = not_word mark.Comment w (codes "$(") refl
 
-neither_mark : (a b : Bool) → a ≡ false → b ≡ false → (a || b) ≡ false
-neither_mark a b h k = ap (λ x. x || b) h ∙ k
-
 no_mark : (w : Word) → mark_of w ≢ mark.Opening → mark_of w ≢ mark.Closing → is_mark w ≡ false
 unfolding mark_of
 no_mark w not_opening not_closing =
-    neither_mark (bytes_eq w (codes "${")) (bytes_eq w (codes "$}")) (not_word mark.Opening w (codes "${") refl not_opening)
+    or_from (bytes_eq w (codes "${")) (bytes_eq w (codes "$}")) (not_word mark.Opening w (codes "${") refl not_opening)
     (not_word mark.Closing w (codes "$}") refl not_closing)
 
 -- ---- words outside of comments

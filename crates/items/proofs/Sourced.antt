@@ -3,7 +3,7 @@ use Rattle.std.proofs.Common.{◌≡◌, ◌∙◌, Bool, true, false, cond, Lis
 use Rattle.std.specs.Prelude.{◌||◌, nat_le, ℕ}
 use Rattle.std.specs.List.{list_all}
 use Rattle.std.specs.Str.{bytes_eq}
-use Rattle.std.proofs.lemmas.Bool.{cases_Bool, and_parts}
+use Rattle.std.proofs.lemmas.Bool.{cases_Bool, and_parts, or_from}
 use Rattle.std.proofs.lemmas.List.Elements.{All-cons, All-append, All-head, All-tail}
 use Rattle.mmtext.specs.Words.{Word, has_dollar}
 use Rattle.mmtext.proofs.Marks.{same_word, label_plain}
@@ -34,12 +34,9 @@ apart w v plain has = elim (cases_Bool (bytes_eq w v)) [
   | inr n ↦ n
 ]
 
-neither : (a b : Bool) → a ≡ false → b ≡ false → (a || b) ≡ false
-neither a b h k = ap (λ x. x || b) h ∙ k
-
 no_mark : (w : Word) → has_dollar w ≡ false → is_mark w ≡ false
 no_mark w plain =
-    neither (bytes_eq w (codes "${")) (bytes_eq w (codes "$}")) (apart w (codes "${") plain refl) (apart w (codes "$}") plain refl)
+    or_from (bytes_eq w (codes "${")) (bytes_eq w (codes "$}")) (apart w (codes "${") plain refl) (apart w (codes "$}") plain refl)
 
 plain_goes : (w : Word) → has_dollar w ≡ false → Goes w
 plain_goes w plain = (apart w (codes "$.") plain refl, no_mark w plain)
@@ -64,7 +61,7 @@ begun : (label : Word) (ws : List Word) → has_dollar label ≡ false → divid
 begun label ws plain =
     ap (λ b. cond b (divides false ws) (cond (begins_none label) false (divides true ws))) (no_mark label plain)
     ∙ ap (λ b. cond b false (divides true ws))
-    (neither (bytes_eq label (codes "$.")) (bytes_eq label (codes "$=")) (apart label (codes "$.") plain refl)
+    (or_from (bytes_eq label (codes "$.")) (bytes_eq label (codes "$=")) (apart label (codes "$.") plain refl)
     (apart label (codes "$=") plain refl))
 
 -- ---- the words of a proof

@@ -2,12 +2,12 @@
 use Rattle.std.proofs.Common.{◌≡◌, ◌∙◌, ◌+◌, true, false, length, codes, sym, ap, subst, rules, arith}
 use Rattle.std.specs.Option.{unwrap_or}
 use Rattle.std.specs.Str.{bytes_eq}
+use Rattle.std.proofs.lemmas.Bool.{or_left, or_right}
 use Rattle.mmtext.specs.Views.{seen}
 use Rattle.items.specs.Items.{ends_statement}
 use Rattle.items.specs.Reading.{IsFirst, IsStatementTo}
 use Rattle.items.specs.Divided.{is_mark}
 use Rattle.items.proofs.Divided.{comment_entered, comment_within, statement_goes, statement_ends as divided_ends, statement_on, no_mark_within}
-use Rattle.items.proofs.Divided.{either_one, either_other}
 use Rattle.items.proofs.Kinded.{none_of}
 use Rattle.items.proofs.Passed.{nothing_begun, comment_begun, word_begun, statement_ends}
 use Rattle.items.proofs.reading.end_of_statement.Goals as goal
@@ -96,10 +96,10 @@ returns-then-eq-3-clause-divided c = λ h.
     elim c.then-eq-3.branch [
       | then-eq-3-via-then-eq-3 w ↦
           let is : bytes_eq t.text (codes "${") ≡ true = search rules in
-          either_one (bytes_eq t.text (codes "${")) (bytes_eq t.text (codes "$}")) is
+          or_left (bytes_eq t.text (codes "${")) (bytes_eq t.text (codes "$}")) is
       | then-eq-3-via-else-eq-3+then-eq-4 w ↦
           let is : bytes_eq t.text (codes "$}") ≡ true = search rules in
-          either_other (bytes_eq t.text (codes "${")) (bytes_eq t.text (codes "$}")) is
+          or_right (bytes_eq t.text (codes "${")) (bytes_eq t.text (codes "$}")) is
     ] in
     no_mark_within c.args.text.now c.loop-token.at t (record { next = next.some; later = next.later; within = next.within })
     (c.loop-token.invariant.divided h) opens other marks
