@@ -8,7 +8,6 @@ ghost use Rattle.items.specs.Rewriting.{IsRewritten};
 ghost use Rattle.mmsyntax.specs.declared.statement.Assertion.{Assertion as AssertionOf};
 ghost use Rattle.sourceediting.specs.Following.{Followed as FollowedOf};
 ghost use Rattle.sourceediting.specs.Filled.{ArePuts};
-ghost use Rattle.mmtext.specs.Words.{Word};
 ghost use Rattle.sourceediting.specs.Refusals.{HasCause, AreListedAnew, OnUnwritten};
 ghost use Rattle.sourceediting.specs.Views.{seen_living, AreLabelled};
 ghost use Rattle.sourceediting.specs.Written.{IsRearranged, moved_in, sources_of};
@@ -243,7 +242,7 @@ pub(crate) fn rewritten(
     ensures rewritten { IfOk result (λ out. IsRewritten edits.now.changes.now edits.now.proofs.now text.now out.items) }
     ensures refused { IfErr result (HasCause (seen_living edits.now.planned.living.now)
         (map (λ r. r.assertion) edits.now.planned.edited.now.entries) text.now) }
-    ensures unwritten { (P : Word → Type 0) → IfErr result (OnUnwritten P) }
+    ensures unwritten { IfErr result (OnUnwritten (λ _. ⊥)) }
 {
     match rewrite(alloc, edits.changes, edits.proofs, text)? {
         Some(out) => Ok(out),

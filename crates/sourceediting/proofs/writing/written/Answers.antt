@@ -8,6 +8,7 @@ use Rattle.sourceediting.specs.Views.{seen_living}
 use Rattle.items.specs.Rewriting.{IsRewritten}
 use Rattle.sourceediting.specs.Written.{IsRearranged, IsWrittenAnew}
 use Rattle.sourceediting.proofs.Rewritten.{only_rewritten, all_rearranged}
+use Rattle.sourceediting.proofs.Unwritten.{if_unwritten}
 use Rattle.sourceediting.proofs.writing.written.Goals as goal
 
 clash : false ≡ true → ⊥
@@ -48,4 +49,5 @@ returns-clause-written g c =
 
 pub returns-then-keep_places-clause-unwritten : goal.returns-then-keep_places-clause-unwritten
 returns-then-keep_places-clause-unwritten g c =
-    c.rewritten.ensures.unwritten (λ _. All KeepsPlaces (all_commands c.args.entries.now) → ⊥)
+    if_unwritten (λ _. ⊥) (λ _. All KeepsPlaces (all_commands c.args.entries.now) → ⊥) c.rewritten.result (λ label h. absurd h)
+    c.rewritten.ensures.unwritten
