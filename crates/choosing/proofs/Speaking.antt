@@ -22,8 +22,8 @@ use Rattle.choosing.proofs.Going.{one_more}
 -- ---- words
 
 -- one more word is marked
-pub words_more : (xs : List Assertion) (words : List (Bor (List ℕ))) (k : ℕ) (d : Bor (List ℕ)) (marks after : List Bool) (test : Word → Bool)
-    → k < length words → AreMarked xs (λ w. is_in (seen_words (take k words)) w || test w) marks
+pub words_more : (xs : List Assertion) (words : List (Bor (List ℕ))) (k : ℕ) (d : Bor (List ℕ)) (marks after : List Bool)
+    (test : Word → Bool) → k < length words → AreMarked xs (λ w. is_in (seen_words (take k words)) w || test w) marks
     → ((t : Word → Bool) → AreMarked xs t marks → AreMarked xs (λ v. bytes_eq v (get_or words k d).now || t v) after)
     → AreMarked xs (λ w. is_in (seen_words (take (k + 1) words)) w || test w) after
 words_more xs words k d marks after test h are more =

@@ -105,13 +105,13 @@ fn fault_of(error: EditError) -> Fault
     }
 }
 
-/// Runs scripts over the library of a database whose proofs check by workers, to its end. Their commands are within the limits of its prelude.
-/// Who watches is told of the run. It may wait.
+/// Runs scripts over the library of a database whose proofs check by workers, to its end. Their commands are within the limits of its
+/// prelude. Who watches is told of the run. It may wait.
 ///
 /// # Errors
 ///
-/// `StoreFull` where the bodies of the database's assertions have more words than the room; `NoThread` where a thread for one of two workers or more
-/// can't be had; want of memory.
+/// `StoreFull` where the bodies of the database's assertions have more words than the room; `NoThread` where a thread for one of two
+/// workers or more can't be had; want of memory.
 pub fn work(
     rt: &(impl Threads + Wait + Sync),
     alloc: Global,
