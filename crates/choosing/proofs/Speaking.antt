@@ -48,7 +48,8 @@ needs_more test earlier [] x =
 needs_more test earlier (y ∷ ys) x =
     ap (λ ws. needed_here test earlier y ++ ws) (needs_more test (earlier ++ y ∷ []) ys x)
     ∙ sym (append_assoc (needed_here test earlier y) (needs test (earlier ++ y ∷ []) ys) (needed_here test ((earlier ++ y ∷ []) ++ ys) x))
-    ∙ ap (λ zs. (needed_here test earlier y ++ needs test (earlier ++ y ∷ []) ys) ++ needed_here test zs x) (append_assoc earlier (y ∷ []) ys)
+    ∙ ap (λ zs. (needed_here test earlier y ++ needs test (earlier ++ y ∷ []) ys) ++ needed_here test zs x)
+    (append_assoc earlier (y ∷ []) ys)
 
 module _ (xs : List Assertion) (k : ℕ) (x : Assertion) (at : slice_get xs k ≡ Some x) (asks test : Word → Bool) where
   grown : needs asks [] (take (k + 1) xs) ≡ needs asks [] (take k xs) ++ needed_here asks (take k xs) x
@@ -127,7 +128,8 @@ unmarked_by xs test asks ms os marked asked =
     both xs ∙ ap (λ bs. left_out bs (map (λ x. asks x.label) xs)) marked ∙ ap (left_out ms) asked
   where
     both : (ys : List Assertion)
-        → map (λ (x : Assertion). test x.label && not (asks x.label)) ys ≡ left_out (map (λ x. test x.label) ys) (map (λ x. asks x.label) ys)
+        → map (λ (x : Assertion). test x.label && not (asks x.label)) ys
+        ≡ left_out (map (λ x. test x.label) ys) (map (λ x. asks x.label) ys)
     both [] = refl
     both (y ∷ ys) = ap (λ bs. (test y.label && not (asks y.label)) ∷ bs) (both ys)
 

@@ -62,9 +62,10 @@ pub fn options_of(task: Task) -> RunOptions
 pub fn plan_of(workers: usize, room: Option<usize>) -> Plan
     ensures { result ≡ plan_asked workers room }
 {
+    let words = room.unwrap_or(LEAST_ROOM);
     Plan {
         workers,
-        room: room.unwrap_or(LEAST_ROOM),
+        room: words,
         options: RunOptions {
             may_grow: room.is_none(),
             history: false,

@@ -80,11 +80,7 @@ fn refusal_text(alloc: Global, why: &Refusal<'_, '_>) -> Result<String, AllocErr
 }
 
 /// The line of a refusal, behind the path of the source: want of memory has none.
-pub fn refusal_line(
-    alloc: Global,
-    path: &str,
-    why: &Refusal<'_, '_>,
-) -> Result<String, AllocError>
+pub fn refusal_line(alloc: Global, path: &str, why: &Refusal<'_, '_>) -> Result<String, AllocError>
     ensures { IfOk result (λ line. string_bytes line ≡ refusal_line path.now why.now) }
 {
     let text = refusal_text(alloc, why)?;

@@ -20,7 +20,8 @@ loop-place-preserved g c =
         marked = λ asks test asked are.
             let x = mark_at xs k asks c.args.asked.now _ _ c.loop-place-test.true asked w.if-is_asked.true in
             subst (AreMarked xs (λ v. is_in (needs asks [] (take (k + 1) xs)) v || test v)) (sym w.marks-is)
-            (asked_more xs k x.0 x.1 asks test c.loop-place.marks w.mark_needed.new.marks x.2 (c.loop-place.invariant.marked asks test asked are)
+            (asked_more xs k x.0 x.1 asks test c.loop-place.marks w.mark_needed.new.marks x.2
+            (c.loop-place.invariant.marked asks test asked are)
             w.in_ok-mark_needed.ensures.marked);
       }
       | else-is_asked w ↦ record {
