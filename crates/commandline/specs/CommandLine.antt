@@ -3,7 +3,7 @@ use Rattle.std.specs.Prelude.{◌≡◌, [], ◌∷◌, Some, true, false, codes
 use Rattle.clap.specs.declared.builder.arg.Arg.{Arg}
 use Rattle.clap.specs.declared.builder.command.Command.{Command}
 use Rattle.clap.specs.declared.builder.action.ArgAction.{ArgAction}
-use Rattle.clap.specs.declared.builder.action.ArgAction.TheVariants.{Set, Append}
+use Rattle.clap.specs.declared.builder.action.ArgAction.TheVariants.{Set, SetTrue, Append}
 use Rattle.clap.specs.declared.builder.value_parser.ValueParser.TheVariants as parser
 use Rattle.clap.specs.declared.builder.command.Command.TheViews.{out-Command}
 use Rattle.clap.specs.Words.{App, Rule, Text, app_of, new_app, new_rule, rule_of, with_rule, with_subcommand}
@@ -48,6 +48,10 @@ room_rule = record (new_rule (codes "room")) {
   parser = Some (parser.Unsigned 0 16777216);
   action = Some Set;
 }
+
+-- `--partial`
+abbrev pub partial_rule : Rule
+partial_rule = record (new_rule (codes "partial")) { long = Some (codes "partial"); action = Some SetTrue }
 
 -- `--history FILE`
 abbrev pub history_rule : Rule
@@ -110,18 +114,23 @@ give_app = with_rule (with_rule (with_rule (new_app (codes "give")) source_rule)
 abbrev pub verify_app : App
 verify_app = with_rule (with_rule (new_app (codes "verify")) checkers_rule) source_rule
 
+-- `edit [--workers N] [--room W] [--partial] SOURCE SCRIPT..`
+abbrev pub edit_app : App
+edit_app = with_rule (with_rule (with_rule
+    (with_rule (with_rule (new_app (codes "edit")) workers_rule) room_rule) partial_rule) source_rule) scripts_rule
+
 -- the program, before it has subcommands: it has a version, and wants one of them
 abbrev pub bare_app : App
 bare_app =
     let bare = new_app (codes "mmrefactor") in
     record bare { top = record bare.top { has_version = true; subcommand_required = true; arg_required_else_help = true } }
 
--- `mmrefactor`, with its six subcommands
+-- `mmrefactor`, with its seven subcommands
 abbrev pub program_app : App
 program_app =
-    with_subcommand (with_subcommand
+    with_subcommand (with_subcommand (with_subcommand
     (with_subcommand (with_subcommand (with_subcommand (with_subcommand bare_app check_app.top) run_app.top) replay_app.top) take_app.top)
-    give_app.top) verify_app.top
+    give_app.top) verify_app.top) edit_app.top
 
 -- an argument with these rules
 abbrev pub IsArgument : Rule → Arg → Type 0

@@ -3,3 +3,4 @@ pub mod Orders
 pub mod TakeOrders
 pub mod GiveOrders
 pub mod VerifyOrders
+pub mod EditOrders

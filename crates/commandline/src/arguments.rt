@@ -2,8 +2,8 @@
 
 ghost use Rattle.std.specs.Prelude.{IfOk};
 ghost use Rattle.clap.specs.Words.{App, Rule, with_rule, with_subcommand};
-ghost use Rattle.commandline.specs.CommandLine.{IsArgument, IsLine, file_rule, option_rule, workers_rule, checkers_rule, room_rule, scripts_rule};
-ghost use Rattle.commandline.specs.CommandLine.{check_app, run_app, replay_app, take_app, give_app, verify_app, program_app};
+ghost use Rattle.commandline.specs.CommandLine.{IsArgument, IsLine, file_rule, option_rule, workers_rule, checkers_rule, room_rule, partial_rule, scripts_rule};
+ghost use Rattle.commandline.specs.CommandLine.{check_app, run_app, replay_app, take_app, give_app, verify_app, edit_app, program_app};
 
 use clap::builder::ValueParser;
 use clap::{Arg, ArgAction, Command};
@@ -96,6 +96,16 @@ fn room<'a>(alloc: Global) -> Arg<'a>
         )
         .value_parser(ValueParser::unsigned(0, ROOM as u64))
         .action(ArgAction::Set)
+}
+
+/// `--partial`.
+fn partial<'a>(alloc: Global) -> Arg<'a>
+    ensures { IsArgument partial_rule result }
+{
+    Arg::new(alloc, "partial")
+        .long("partial")
+        .help("Prints the database also where some transaction was not done; the status is 3 then")
+        .action(ArgAction::SetTrue)
 }
 
 /// The scripts of a run.
@@ -250,9 +260,25 @@ fn verify_line<'a>(alloc: Global) -> Result<Command<'a>, AllocError>
     with_argument(line, file(alloc, "SOURCE", SOURCE))
 }
 
+/// `mmrefactor edit [--workers N] [--room W] [--partial] SOURCE SCRIPT..`.
+fn edit_line<'a>(alloc: Global) -> Result<Command<'a>, AllocError>
+    ensures { IfOk result (IsLine edit_app) }
+{
+    let line = Command::new(alloc, "edit")
+        .about(
+            "Edits a database in the whole language by scripts; prints it with the edits, verified",
+        )
+        .after_help("Example: mmrefactor edit set.mm changes.edits > edited.mm")
+        .arg(workers(alloc));
+    let line = with_argument(line, room(alloc));
+    let line = with_argument(line, partial(alloc));
+    let line = with_argument(line, file(alloc, "SOURCE", SOURCE));
+    with_argument(line, scripts(alloc))
+}
+
 /// The command lines that the program takes: `mmrefactor check DB`, `mmrefactor run [--workers N] [--room W] [--history FILE] DB SCRIPT..`,
 /// `mmrefactor replay DB HISTORY`, `mmrefactor take [--for LABEL].. [--from LABEL --to LABEL] SOURCE`, `mmrefactor give SOURCE LIBRARY
-/// HISTORY` and `mmrefactor verify [--workers N] SOURCE`.
+/// HISTORY`, `mmrefactor verify [--workers N] SOURCE` and `mmrefactor edit [--workers N] [--room W] [--partial] SOURCE SCRIPT..`.
 ///
 /// That `--from` and `--to` go together, and not with `--for`, is no rule of these lines.
 ///
@@ -272,5 +298,6 @@ pub fn command_line<'a>(alloc: Global) -> Result<Command<'a>, AllocError>
     let line = with_line(line, replay_line(alloc));
     let line = with_line(line, take_line(alloc));
     let line = with_line(line, give_line(alloc));
-    with_line(line, verify_line(alloc))
+    let line = with_line(line, verify_line(alloc));
+    with_line(line, edit_line(alloc))
 }

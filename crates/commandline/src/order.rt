@@ -61,7 +61,7 @@ pub(crate) fn number_if_given(of: &ArgMatches<'_>, id: &str) -> Option<Option<us
 }
 
 /// How many workers a run has, and for how many words its store has room, if that is given. None beyond their limits.
-fn limits_in(of: &ArgMatches<'_>) -> Option<(usize, Option<usize>)>
+pub(crate) fn limits_in(of: &ArgMatches<'_>) -> Option<(usize, Option<usize>)>
     ensures some { IfSome result (λ r. HasLimits (rows_of (found_of of.now)) r.0 r.1) }
     ensures none { IsNone result → (workers : ℕ) (room : Option ℕ) → HasLimits (rows_of (found_of of.now)) workers room → ⊥ }
 {

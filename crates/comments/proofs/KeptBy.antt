@@ -3,7 +3,7 @@ use Rattle.std.proofs.Common.{◌≡◌, ◌∙◌, Bool, true, false, List, [],
 use Rattle.std.specs.Prelude.{All}
 use mathlib.Core.Bool.{not}
 use Rattle.std.proofs.lemmas.List.Elements.{All-head}
-use Rattle.taking.specs.Reasons.{kept, kept_at}
+use Rattle.source.specs.Flags.{kept, kept_at}
 
 module _ {A : Type 0} where
   kept_at-append : (b : Bool) (x : A) (xs ys : List A) → kept_at b x (xs ++ ys) ≡ kept_at b x xs ++ ys

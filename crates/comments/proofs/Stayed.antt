@@ -11,7 +11,7 @@ use Rattle.mmtext.specs.Words.{Word}
 use Rattle.comments.proofs.InOrder.{same_sorted}
 use Rattle.source.specs.Scopes.{is_in}
 use Rattle.giving.specs.Staying.{Change, changed}
-use Rattle.taking.specs.Reasons.{kept}
+use Rattle.source.specs.Flags.{kept}
 use Rattle.comments.specs.declared.reading.Standing.{Standing}
 use Rattle.comments.specs.Comments.{Comment, comments, behind_word, words_then, at_first, reading, reading_then}
 use Rattle.comments.specs.Deleted.{IsOfDeleted}

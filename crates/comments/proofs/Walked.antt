@@ -9,7 +9,7 @@ use Rattle.std.proofs.lemmas.List.Elements.{All-nil, All-cons, All-append}
 use Rattle.mmtext.specs.Words.{Word}
 use Rattle.mmtext.specs.Text.{Token, tokens}
 use Rattle.giving.specs.Staying.{Change}
-use Rattle.taking.specs.Reasons.{kept}
+use Rattle.source.specs.Flags.{kept}
 use Rattle.comments.specs.declared.walking.Walk.{Walk}
 use Rattle.comments.specs.Comments.{Comment, stands_between, comments_from, comments, reading_then}
 use Rattle.comments.specs.Deleted.{IsOfDeleted}

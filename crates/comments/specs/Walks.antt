@@ -5,7 +5,7 @@ use Rattle.std.specs.declared.alloc.Global.{Global}
 use Rattle.mmtext.specs.Words.{Word}
 use Rattle.mmtext.specs.Text.{Token, tokens}
 use Rattle.giving.specs.Staying.{Change}
-use Rattle.taking.specs.Reasons.{kept}
+use Rattle.source.specs.Flags.{kept}
 use Rattle.comments.specs.declared.walking.Walk.{Walk}
 use Rattle.comments.specs.Comments.{Comment, comments_from, comments, reading_then}
 use Rattle.comments.specs.Deleted.{IsInFront, IsOfDeleted}

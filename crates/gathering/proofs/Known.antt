@@ -17,7 +17,7 @@ use Rattle.source.specs.Whole.{is_typed_at, IsHypothesisWhole}
 use Rattle.taking.specs.Names.{is_symbol_of, is_symbol_of_hypothesis}
 use Rattle.taking.specs.Says.{both, each, symbol_at, premises, IsFloatTaken}
 use Rattle.taking.specs.Settings.{is_float}
-use Rattle.taking.specs.Reasons.{kept, kept_at}
+use Rattle.source.specs.Flags.{kept, kept_at}
 use Rattle.sites.specs.Sites.{Sited, IsFloatSited}
 use Rattle.sites.specs.declared.names.LibraryNames.{LibraryNames}
 use Rattle.gathering.specs.Placed.{map_of, tables_of, floats_from}

@@ -13,7 +13,8 @@ use Rattle.source.specs.Whole.{IsWhole}
 use Rattle.taking.specs.Names.{label_in, float_in, is_symbol_of}
 use Rattle.taking.specs.Settings.{is_float}
 use Rattle.taking.specs.Says.{IsFloatTaken}
-use Rattle.taking.specs.Reasons.{Choice, AreFlags, kept}
+use Rattle.taking.specs.Reasons.{Choice, AreFlags}
+use Rattle.source.specs.Flags.{kept}
 use Rattle.prooftrees.proofs.Whole.{whole_at}
 use Rattle.sites.specs.Sites.{Sited, IsFloatSited, AreSites}
 use Rattle.sites.specs.declared.names.LibraryNames.{LibraryNames}

@@ -4,7 +4,8 @@ ghost use Rattle.std.specs.Prelude.{◌≡◌, ◌≢◌, ◌<◌, ◌++◌, ◌
 ghost use Rattle.std.specs.Option.{option_map};
 ghost use Rattle.source.specs.Views.{seen_pairs, seen_words};
 ghost use Rattle.source.specs.Whole.{IsWhole};
-ghost use Rattle.taking.specs.Reasons.{Choice, AreFlags, kept};
+ghost use Rattle.taking.specs.Reasons.{Choice, AreFlags};
+ghost use Rattle.source.specs.Flags.{kept};
 ghost use Rattle.taking.specs.Says.{each, premises};
 ghost use Rattle.taking.specs.Taken.{AreTaken, taken_as_axioms};
 ghost use Rattle.prooftrees.specs.Frames.{Holds};

@@ -4,7 +4,7 @@ use Rattle.std.proofs.Common.{Option, Some, None, add-one, refl, ap, arith}
 use Rattle.std.specs.Prelude.{slice_get}
 use mathlib.Core.Bool.{not}
 use Rattle.source.specs.Scopes.{Assertion}
-use Rattle.taking.specs.Reasons.{kept_at}
+use Rattle.source.specs.Flags.{kept_at}
 use Rattle.giving.specs.Staying.{others}
 
 others_suc : (flags : List Bool) (xs : List Assertion) (i : ℕ) (x : Assertion) → i < length flags → slice_get xs i ≡ Some x

@@ -5,7 +5,7 @@ use Rattle.std.specs.Prelude.{slice_get}
 use mathlib.Core.Bool.{not}
 use Rattle.std.proofs.lemmas.List.{map-append, append-nil}
 use Rattle.std.proofs.lemmas.Option.{slice_get_cases}
-use Rattle.taking.specs.Reasons.{kept_at}
+use Rattle.source.specs.Flags.{kept_at}
 use Rattle.source.specs.Scopes.{Assertion}
 use Rattle.giving.specs.Staying.{others}
 use Rattle.giving.specs.Places.{ArePlacesBefore}

@@ -12,7 +12,8 @@ use Rattle.mmtext.specs.Words.{Word}
 use Rattle.mmsyntax.specs.Preludes.{float_labels, variables_used}
 use Rattle.source.specs.Scopes.{Assertion, Scope, is_in}
 use Rattle.taking.specs.Names.{HasPlaces, KeepsNames, Naming, is_float_named_well, is_label_named_well}
-use Rattle.taking.specs.Reasons.{Choice, kept, kept_at}
+use Rattle.taking.specs.Reasons.{Choice}
+use Rattle.source.specs.Flags.{kept, kept_at}
 use Rattle.taking.specs.Taken.{chosen_of}
 use Rattle.choosing.specs.declared.wish.Wish.{Wish}
 use Rattle.sites.specs.declared.names.LibraryNames.{LibraryNames}

@@ -32,7 +32,8 @@ use Rattle.taking.specs.declared.reason.Reason.TheVariants.{Unfinished, TooLong,
 use Rattle.taking.specs.Names.{Map}
 use Rattle.taking.specs.Says.{SaysSame}
 use Rattle.taking.specs.Listings.{IsListed}
-use Rattle.taking.specs.Reasons.{Choice, reason, reason_of, reason_of_finished, reason_of_tree, cites_left_out, kept}
+use Rattle.taking.specs.Reasons.{Choice, reason, reason_of, reason_of_finished, reason_of_tree, cites_left_out}
+use Rattle.source.specs.Flags.{kept}
 use Rattle.taking.specs.Taken.{HasProof, IsTaken, AreTaken, AreTakenFrom}
 use Rattle.choosing.specs.Choices.{IsChoice, IsChosen, labels_of}
 use Rattle.choosing.specs.declared.wish.Wish.{Wish}

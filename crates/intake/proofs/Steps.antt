@@ -13,7 +13,8 @@ use Rattle.taking.specs.declared.fresh.Unnamed.{Unnamed}
 use Rattle.taking.specs.declared.fresh.Unnamed.TheVariants as unnamed'
 use Rattle.taking.specs.declared.reason.Reason.{Reason}
 use Rattle.taking.specs.Names.{Naming}
-use Rattle.taking.specs.Reasons.{Choice, kept, AreFlags}
+use Rattle.taking.specs.Reasons.{Choice, AreFlags}
+use Rattle.source.specs.Flags.{kept}
 use Rattle.taking.specs.Taken.{AreTaken, taken_as_axioms}
 use Rattle.choosing.specs.Choices.{IsChosen}
 use Rattle.choosing.specs.declared.wish.Wish.{Wish}

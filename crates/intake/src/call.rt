@@ -2,7 +2,7 @@
 
 ghost use Rattle.std.specs.Prelude.{◌≡◌, ◌≢◌, ◌≤◌, length, IfOk, IfErr};
 ghost use Rattle.source.specs.Whole.{IsWhole};
-ghost use Rattle.taking.specs.Reasons.{kept};
+ghost use Rattle.source.specs.Flags.{kept};
 ghost use Rattle.prooftrees.specs.Frames.{Holds};
 ghost use Rattle.sites.specs.Sites.{AreSites};
 ghost use Rattle.sites.specs.Namings.{AreNamedWell};

@@ -6,7 +6,7 @@ ghost use Rattle.mmtext.specs.Words.{Word};
 ghost use Rattle.mmsyntax.specs.Tables.{place_of};
 ghost use Rattle.source.specs.Scopes.{is_in};
 ghost use Rattle.source.specs.Whole.{IsWhole};
-ghost use Rattle.taking.specs.Reasons.{kept};
+ghost use Rattle.source.specs.Flags.{kept};
 ghost use Rattle.prooftrees.specs.Frames.{Holds};
 ghost use Rattle.sites.specs.Sites.{AreSites};
 ghost use Rattle.sites.specs.Namings.{AreNamedWell};

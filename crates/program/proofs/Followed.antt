@@ -15,7 +15,7 @@ use Rattle.program.specs.declared.conduct.Unread.TheVariants as unread
 use Rattle.commandline.specs.CommandLine.{program_app}
 use Rattle.program.specs.Events.{Bytes, Event, IsQuiet, reads, says}
 use Rattle.commandline.specs.Orders.{IsOrder}
-use Rattle.program.specs.Conduct.{EndsBy, IsAnswer, IsAnswered, IsFollowed, IsJobAnswered, IsMatched, IsObeyed, IsShown, IsStopped, IsTold, IsUnread, IsUnreadTold, reads_of}
+use Rattle.program.specs.Conduct.{AreReadThen, EndsBy, IsAnswer, IsAnswered, IsFollowed, IsJobAnswered, IsMatched, IsObeyed, IsShown, IsStopped, IsTold, IsUnread, IsUnreadTold, reads_of}
 use Rattle.program.proofs.Behind.{EndsBy-behind, EndsBy-weaker, are_quiet, quiet_nothing}
 
 pub job_answered : (paths shown : List Bytes) (history : Option Bytes) (options : RunOptions) (job : Job) (told : Answered)
@@ -32,19 +32,18 @@ texts_answered keyed task paths history texts job options es r asked of ends =
     EndsBy-weaker (IsJobAnswered paths history options job) (IsAnswered keyed task paths history texts) es r
     (λ status is. inl (job, of, subst (λ (o : RunOptions). IsJobAnswered paths history o job es status) asked is)) ends
 
-pub followed : {E : Type 0} (keyed : Bool) (task : Task) (paths shown : List Bytes) (history : Option Bytes) (texts : List Bytes)
-    (es rest : List Event)
-    (r : Result ℕ E) → shown ≡ paths → length texts ≡ length shown → es ≡ reads_of shown texts
-    → EndsBy (IsAnswered keyed task paths history texts) rest r → EndsBy (IsFollowed keyed task paths history) (es ++ rest) r
-followed keyed task paths shown history texts es rest r same many is ends =
-    EndsBy-behind (IsAnswered keyed task paths history texts) (IsFollowed keyed task paths history) es rest r
-    (are_quiet shown texts es is)
-    (λ status answered. inr (
+-- what follows once the files are read
+pub all_read : {E : Type 0} (P : List Bytes → List Event → ℕ → Type 0) (paths shown texts : List Bytes) (es rest : List Event)
+    (r : Result ℕ E) → shown ≡ paths → length texts ≡ length shown → es ≡ reads_of shown texts → EndsBy (P texts) rest r
+    → EndsBy (AreReadThen paths P) (es ++ rest) r
+all_read P paths shown texts es rest r same many is ends =
+    EndsBy-behind (P texts) (AreReadThen paths P) es rest r (are_quiet shown texts es is)
+    (λ status follows. inr (
       texts,
       rest,
       many ∙ ap length same,
       ap (λ (f : List Event). f ++ rest) (is ∙ ap (λ (ps : List Bytes). reads_of ps texts) same),
-      answered,
+      follows,
     ))
     ends
 
@@ -66,12 +65,12 @@ unread_told paths shown texts unread.NoMemory es fs (Ok status) same read told =
 unread_told paths shown texts unread.NoMemory es fs (Err e) same read told =
     All-append IsQuiet es fs read (subst (λ (f : List Event). All IsQuiet f) (sym told) quiet_nothing)
 
-pub untold : {E : Type 0} (keyed : Bool) (task : Task) (paths shown : List Bytes) (history : Option Bytes) (texts : List Bytes) (u : Unread)
-    (es fs : List Event)
-    (r : Result ℕ E) → shown ≡ paths → IsStopped shown texts es u → IsUnreadTold u fs r
-    → EndsBy (IsFollowed keyed task paths history) (es ++ fs) r
-untold keyed task paths shown history texts u es fs r same read told =
-    EndsBy-weaker (IsUnread paths) (IsFollowed keyed task paths history) (es ++ fs) r (λ status is. inl is)
+-- where one can't be read
+pub one_unread : {E : Type 0} (P : List Bytes → List Event → ℕ → Type 0) (paths shown texts : List Bytes) (u : Unread)
+    (es fs : List Event) (r : Result ℕ E) → shown ≡ paths → IsStopped shown texts es u → IsUnreadTold u fs r
+    → EndsBy (AreReadThen paths P) (es ++ fs) r
+one_unread P paths shown texts u es fs r same read told =
+    EndsBy-weaker (IsUnread paths) (AreReadThen paths P) (es ++ fs) r (λ status is. inl is)
     (unread_told paths shown texts u es fs r same read told)
 
 pub ordered : {E : Type 0} (keyed : Bool) (found : Option (Text × List Row)) (task : Task) (paths : List Bytes) (history : Option Bytes)

@@ -1,14 +1,12 @@
 -- From edits that are given back and told to what a command line does.
-use Rattle.std.proofs.Common.{Bool, ◌≡◌, ◌++◌, ◌∷◌, [], ℕ, List, Option, ap, arith, inl, inr, length, refl, slice_index_or, subst, sym, Result}
+use Rattle.std.proofs.Common.{Bool, ◌≡◌, ◌∷◌, [], ℕ, List, Option, arith, inl, inr, length, slice_index_or, subst, sym, Result}
 use Rattle.clap.specs.Words.{Row, Text}
 use Rattle.commandline.specs.GiveOrders.{AsksToGive}
 use Rattle.givetext.specs.Answers.{IsGiveAnswer}
 use Rattle.givetext.specs.declared.answering.Returned.{Returned}
-use Rattle.program.specs.declared.conduct.Unread.{Unread}
 use Rattle.program.specs.Events.{Bytes, Event}
-use Rattle.program.specs.Conduct.{EndsBy, IsAnsweredGive, IsGiveDone, IsGiveTold, IsMatched, IsStopped, IsUnread, IsUnreadTold, reads_of}
-use Rattle.program.proofs.Behind.{EndsBy-behind, EndsBy-weaker, are_quiet}
-use Rattle.program.proofs.Followed.{unread_told}
+use Rattle.program.specs.Conduct.{EndsBy, IsAnsweredGive, IsGiveDone, IsGiveTold, IsMatched}
+use Rattle.program.proofs.Behind.{EndsBy-weaker}
 
 -- a list of three, by its places
 pub only_three : {X : Type 0} (xs : List X) (x y z : X) → length xs ≡ 3 → x ≡ slice_index_or xs 0 x → y ≡ slice_index_or xs 1 y
@@ -24,23 +22,6 @@ pub given_told : (keyed : Bool) (paths texts : List Bytes) (source library histo
     → IsAnsweredGive keyed paths texts es status
 given_told keyed paths texts source library history told es status are answer is =
     subst (λ (ts : List Bytes). IsAnsweredGive keyed paths ts es status) (sym are) (inl (told, answer, is))
-
-pub unread_given : {E : Type 0} (keyed : Bool) (source library history : Bytes) (texts : List Bytes) (u : Unread) (es fs : List Event)
-    (r : Result ℕ E)
-    → IsStopped (source ∷ library ∷ history ∷ []) texts es u → IsUnreadTold u fs r
-    → EndsBy (IsGiveDone keyed source library history) (es ++ fs) r
-unread_given keyed source library history texts u es fs r read told =
-    let paths = source ∷ library ∷ history ∷ [] in
-    EndsBy-weaker (IsUnread paths) (IsGiveDone keyed source library history) (es ++ fs) r (λ status is. inl is)
-    (unread_told paths paths texts u es fs r refl read told)
-
-pub given_done : {E : Type 0} (keyed : Bool) (source library history : Bytes) (texts : List Bytes) (es rest : List Event) (r : Result ℕ E)
-    → es ≡ reads_of (source ∷ library ∷ history ∷ []) texts → EndsBy (IsAnsweredGive keyed (source ∷ library ∷ history ∷ []) texts) rest r
-    → EndsBy (IsGiveDone keyed source library history) (es ++ rest) r
-given_done keyed source library history texts es rest r is ends =
-    EndsBy-behind (IsAnsweredGive keyed (source ∷ library ∷ history ∷ []) texts) (IsGiveDone keyed source library history) es rest r
-    (are_quiet (source ∷ library ∷ history ∷ []) texts es is)
-    (λ status answered. inr (texts, rest, ap (λ (f : List Event). f ++ rest) is, answered)) ends
 
 pub give_ordered : {E : Type 0} (keyed : Bool) (found : Option (Text × List Row)) (source library history : Bytes) (es : List Event)
     (r : Result ℕ E)

@@ -1,6 +1,7 @@
 -- What the program does for a command line, event by event, and the status that it ends with.
 use Rattle.std.specs.Prelude.{◌≡◌, ◌≢◌, ◌⊎◌, ℕ, Bool, true, false, List, [], ◌∷◌, ◌++◌, Option, Some, None, Result, Ok, Err, All, codes, length}
-use Rattle.std.specs.Prelude.{map, slice_get, string_bytes}
+use Rattle.std.specs.Prelude.{String, map, slice_get, string_bytes}
+use Rattle.std.specs.declared.alloc.Global.{Global}
 use Rattle.clap.specs.declared.error.Error.{Error}
 use Rattle.clap.specs.declared.error.kind.ErrorKind.TheVariants.{DisplayHelp, DisplayVersion, OutOfMemory}
 use Rattle.clap.specs.Words.{Row, Text, HasKind, fault_of, kind_of, subcommand_of}
@@ -23,6 +24,11 @@ use Rattle.commandline.specs.Orders.{AsksFor, IsOrder}
 use Rattle.commandline.specs.TakeOrders.{AsksToTake, IsTakeOrder}
 use Rattle.commandline.specs.GiveOrders.{AsksToGive}
 use Rattle.commandline.specs.VerifyOrders.{AsksToVerify}
+use Rattle.commandline.specs.EditOrders.{AsksToEdit, IsEditOrder}
+use Rattle.edittext.specs.Answers.{IsEditAnswer}
+use Rattle.edittext.specs.Edited.{edit_room}
+use Rattle.edittext.specs.declared.answering.Told.{Told as Edited}
+use Rattle.edittext.specs.declared.answering.Told.TheVariants as edited
 use Rattle.givetext.specs.Answers.{IsGiveAnswer}
 use Rattle.givetext.specs.declared.answering.Returned.{Returned}
 use Rattle.givetext.specs.declared.answering.Returned.TheVariants as returned
@@ -45,10 +51,14 @@ IsSaid line es status = (es ≡ says line ∷ []) × (status ≡ 1)
 abbrev pub IsUnkeyed : Bool → List Event → ℕ → Type 0
 IsUnkeyed keyed es status = (keyed ≡ false) × IsSaid (codes "no random numbers") es status
 
--- the text is printed, and the status is 0; or it can't be, which is said, and the status is 1
+-- the text is printed, and the status is this; or it can't be, which is said, and the status is 1
+abbrev pub IsPrintedWith : ℕ → Bytes → List Event → ℕ → Type 0
+IsPrintedWith well out es status =
+    ((es ≡ prints out true ∷ []) × (status ≡ well)) ⊎ ((es ≡ prints out false ∷ says (codes "cannot write") ∷ []) × (status ≡ 1))
+
+-- the text is printed, and the status is 0; or it can't be
 abbrev pub IsPrinted : Bytes → List Event → ℕ → Type 0
-IsPrinted out es status =
-    ((es ≡ prints out true ∷ []) × (status ≡ 0)) ⊎ ((es ≡ prints out false ∷ says (codes "cannot write") ∷ []) × (status ≡ 1))
+IsPrinted out es status = IsPrintedWith 0 out es status
 
 -- a history is written to its file, and then the text is printed; or that file can't be written, or memory runs out as it is, which is
 -- said, the status is 1, and nothing is printed
@@ -121,14 +131,16 @@ IsUnreadTold (unread.File path) es (Err e) = ⊥
 IsUnreadTold unread.NoMemory es (Ok status) = ⊥
 IsUnreadTold unread.NoMemory es (Err e) = es ≡ []
 
--- all files are read, in their order, before anything else is done; and then the job of their texts is answered
-abbrev pub IsRead : Bool → Task → List Bytes → Option Bytes → List Event → ℕ → Type 0
-IsRead keyed task paths history es status =
-    (texts : List Bytes) × (rest : List Event) × (length texts ≡ length paths) × (es ≡ reads_of paths texts ++ rest)
-    × IsAnswered keyed task paths history texts rest status
+-- a file can't be read; or all are read, in their order, before anything else is done, and then this follows of their texts
+abbrev pub AreReadThen : List Bytes → (List Bytes → List Event → ℕ → Type 0) → List Event → ℕ → Type 0
+AreReadThen paths P es status =
+    IsUnread paths es status
+    ⊎ ((texts : List Bytes) × (rest : List Event) × (length texts ≡ length paths) × (es ≡ reads_of paths texts ++ rest)
+    × P texts rest status)
 
+-- the files are read, and then the job of their texts is answered
 abbrev pub IsFollowed : Bool → Task → List Bytes → Option Bytes → List Event → ℕ → Type 0
-IsFollowed keyed task paths history es status = IsUnread paths es status ⊎ IsRead keyed task paths history es status
+IsFollowed keyed task paths history es status = AreReadThen paths (IsAnswered keyed task paths history) es status
 
 -- ---- an order of one source
 
@@ -180,12 +192,11 @@ IsAnsweredGive keyed paths (source ∷ library ∷ history ∷ []) es status =
     ((told : Returned) × IsGiveAnswer paths source library history told × IsGiveTold told es status) ⊎ IsUnkeyed keyed es status
 IsAnsweredGive keyed paths _ es status = ⊥
 
--- a file can't be read; or all are read, in their order, before anything else is done, and then the edits are given back
+-- the files are read, and then the edits are given back
 abbrev pub IsGiveDone : Bool → Bytes → Bytes → Bytes → List Event → ℕ → Type 0
 IsGiveDone keyed source library history es status =
-    IsUnread (source ∷ library ∷ history ∷ []) es status
-    ⊎ ((texts : List Bytes) × (rest : List Event) × (es ≡ reads_of (source ∷ library ∷ history ∷ []) texts ++ rest)
-    × IsAnsweredGive keyed (source ∷ library ∷ history ∷ []) texts rest status)
+    let paths = source ∷ library ∷ history ∷ [] in
+    AreReadThen paths (IsAnsweredGive keyed paths) es status
 
 -- ---- an order to verify
 
@@ -202,6 +213,41 @@ IsAnsweredVerify keyed path source es status =
 -- the source is read, and then its proofs are checked
 abbrev pub IsVerifyDone : Bool → Bytes → List Event → ℕ → Type 0
 IsVerifyDone keyed path es status = IsReadThen path (IsAnsweredVerify keyed path) es status
+
+-- ---- an order to edit
+
+-- these lines are said, one after another
+abbrev pub all_said : List (String Global) → List Event
+all_said lines = map (λ line. says (string_bytes line)) lines
+
+-- the status where these lines say which transactions weren't done: 0 where all were
+abbrev pub undone_status : List (String Global) → ℕ
+undone_status [] = 0
+undone_status (line ∷ lines) = 3
+
+-- it is said which transactions weren't done, and then the source with the edits is printed; or that is said, nothing is printed, and the
+-- status is 3; or the line of the refusal is said
+abbrev pub IsEditTold : Edited → List Event → ℕ → Type 0
+IsEditTold (edited.Printed out lines) es status =
+    (rest : List Event) × (es ≡ all_said lines.items ++ rest) × IsPrintedWith (undone_status lines.items) out.items rest status
+IsEditTold (edited.Undone lines) es status = (es ≡ all_said lines.items) × (status ≡ 3)
+IsEditTold (edited.Refused line) es status = IsSaid (string_bytes line) es status
+
+-- what is answered is told, for a source in the first of the files, and scripts in the others
+abbrev pub IsEditAnswered : List Bytes → ℕ → Option ℕ → Bool → List Bytes → List Event → ℕ → Type 0
+IsEditAnswered (path ∷ scripts) workers room partial (source ∷ texts) es status =
+    (told : Edited) × IsEditAnswer path (path ∷ scripts) source texts workers (edit_room room) partial told × IsEditTold told es status
+IsEditAnswered _ workers room partial _ es status = ⊥
+
+-- so it is; or the system gives no random numbers, which is said
+abbrev pub IsAnsweredEdit : Bool → List Bytes → ℕ → Option ℕ → Bool → List Bytes → List Event → ℕ → Type 0
+IsAnsweredEdit keyed paths workers room partial texts es status =
+    IsEditAnswered paths workers room partial texts es status ⊎ IsUnkeyed keyed es status
+
+-- the files are read, and then the scripts edit the source
+abbrev pub IsEditDone : Bool → List Bytes → ℕ → Option ℕ → Bool → List Event → ℕ → Type 0
+IsEditDone keyed paths workers room partial es status =
+    AreReadThen paths (IsAnsweredEdit keyed paths workers room partial) es status
 
 -- ---- a command line
 
@@ -235,18 +281,26 @@ abbrev pub IsVerifyOrdered : Bool → Option (Text × List Row) → List Event �
 IsVerifyOrdered keyed found es status =
     (path : Bytes) × (workers : Option ℕ) × AsksToVerify found path workers × IsVerifyDone keyed path es status
 
--- no subcommand, or one that asks for no task, and for nothing to take, to give back or to verify
+-- a subcommand with an order to edit, which is done
+abbrev pub IsEditOrdered : Bool → Option (Text × List Row) → List Event → ℕ → Type 0
+IsEditOrdered keyed found es status =
+    (paths : List Bytes) × (workers : ℕ) × (room : Option ℕ) × (partial : Bool) × IsEditOrder found paths workers room partial
+    × IsEditDone keyed paths workers room partial es status
+
+-- no subcommand, or one that asks for no task, and for nothing to take, to give back, to verify or to edit
 abbrev pub IsUnasked : Option (Text × List Row) → List Event → ℕ → Type 0
 IsUnasked found es status =
     ((task : Task) → AsksFor found task → ⊥) × ((path : Bytes) → AsksToTake found path → ⊥)
     × ((source library history : Bytes) → AsksToGive found source library history → ⊥)
     × ((path : Bytes) (workers : Option ℕ) → AsksToVerify found path workers → ⊥)
+    × ((path : Bytes) (workers : ℕ) (room : Option ℕ) → AsksToEdit found path workers room → ⊥)
     × IsSaid (codes "the command line cannot be read") es status
 
 abbrev pub IsMatched : Bool → Option (Text × List Row) → List Event → ℕ → Type 0
 IsMatched keyed found es status =
     IsOrdered keyed found es status ⊎ (IsTakeOrdered keyed found es status
-    ⊎ (IsGiveOrdered keyed found es status ⊎ (IsVerifyOrdered keyed found es status ⊎ IsUnasked found es status)))
+    ⊎ (IsGiveOrdered keyed found es status ⊎ (IsVerifyOrdered keyed found es status
+    ⊎ (IsEditOrdered keyed found es status ⊎ IsUnasked found es status))))
 
 -- the words are none of the program's command lines, or ask for help or the version, which the parser tells by its error
 abbrev pub IsUsage : List Text → List Event → ℕ → Type 0

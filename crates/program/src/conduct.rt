@@ -1,21 +1,23 @@
 //! How a command line is done: its files are read, its job is answered, and the answer is told.
 
-ghost use Rattle.std.specs.Prelude.{is_some, ◌≡◌, ◌≢◌, ◌∷◌, [], List, Some, map, option_map, string_bytes};
+ghost use Rattle.std.specs.Prelude.{is_some, ◌≡◌, ◌≢◌, ◌∷◌, [], ℕ, List, Option, Some, map, option_map, string_bytes};
 ghost use Rattle.checking.specs.declared.task.Task.{Task};
 ghost use Rattle.clap.specs.Words.{Text, kind_of, subcommand_rows_of};
 ghost use Rattle.jobs.specs.Jobs.{AreWithin};
 ghost use Rattle.program.specs.Events.{Event, Adds, says};
 ghost use Rattle.commandline.specs.Orders.{AsksFor, AsksWithin};
 ghost use Rattle.commandline.specs.GiveOrders.{AsksToGive};
-ghost use Rattle.program.specs.Conduct.{IsPrinted, IsWritten, IsTold, IsReadBehind, AreRead, IsUnreadTold, IsJobAnswered, IsAnswered, IsFollowed, IsShown, IsMatched, IsObeyed, EndsBy, Obeys};
+ghost use Rattle.commandline.specs.EditOrders.{AsksToEdit};
+ghost use Rattle.program.specs.Conduct.{IsPrintedWith, IsPrinted, IsWritten, IsTold, IsReadBehind, AreRead, IsUnreadTold, IsJobAnswered, IsAnswered, IsFollowed, IsShown, IsMatched, IsObeyed, EndsBy, Obeys};
 
+use crate::edit::follow_edit;
 use crate::give::follow_give;
 use crate::take::obey_take;
 use crate::verify::follow_verify;
 use crate::world::{Trouble, World};
 use clap::ArgMatches;
 use clap::error::ErrorKind;
-use commandline::{Order, command_line, give_of, order_of, verify_of};
+use commandline::{Order, command_line, edit_of, give_of, order_of, verify_of};
 use following::Follow;
 use jobs::{Answered, Job, RunOptions, Watch, answer, job_of, options_of};
 use std::alloc::{AllocError, Global};
@@ -32,14 +34,21 @@ pub(crate) fn refuse<W: World>(world: &mut W, line: &str) -> u8
     1
 }
 
+/// Prints a text, after which the status is this one, or says that it can't.
+pub(crate) fn print_with<W: World>(world: &mut W, status: u8, out: &[u8]) -> u8
+    ensures { (es : List Event) × Adds (W.done world.old) (W.done world.new) es × IsPrintedWith status out.now es result }
+{
+    if world.print(out) {
+        return status;
+    }
+    refuse(world, "cannot write")
+}
+
 /// Prints a text, or says that it can't.
 pub(crate) fn print_out<W: World>(world: &mut W, out: &[u8]) -> u8
     ensures { (es : List Event) × Adds (W.done world.old) (W.done world.new) es × IsPrinted out.now es result }
 {
-    if world.print(out) {
-        return 0;
-    }
-    refuse(world, "cannot write")
+    print_with(world, 0, out)
 }
 
 /// Writes the history of a run to its file, and then prints what the run prints.
@@ -224,6 +233,7 @@ fn obey_source<R: Threads + Sync, W: World, F: Follow + Sync>(
     follow: &F,
 ) -> Result<u8, AllocError>
     requires asks { (task : Task) → AsksFor (subcommand_rows_of matches.now) task → ⊥ }
+    requires edits { (path : Text) (workers : ℕ) (room : Option ℕ) → AsksToEdit (subcommand_rows_of matches.now) path workers room → ⊥ }
     requires gives { (source library history : Text) → AsksToGive (subcommand_rows_of matches.now) source library history → ⊥ }
     ensures { (es : List Event) × Adds (W.done world.old) (W.done world.new) es
         × EndsBy (IsMatched (is_some keys) (subcommand_rows_of matches.now)) es result }
@@ -244,13 +254,35 @@ fn obey_other<R: Threads + Sync, W: World, F: Follow + Sync>(
     matches: &ArgMatches<'_>,
     follow: &F,
 ) -> Result<u8, AllocError>
-    requires { (task : Task) → AsksFor (subcommand_rows_of matches.now) task → ⊥ }
+    requires asks { (task : Task) → AsksFor (subcommand_rows_of matches.now) task → ⊥ }
+    requires edits { (path : Text) (workers : ℕ) (room : Option ℕ) → AsksToEdit (subcommand_rows_of matches.now) path workers room → ⊥ }
     ensures { (es : List Event) × Adds (W.done world.old) (W.done world.new) es
         × EndsBy (IsMatched (is_some keys) (subcommand_rows_of matches.now)) es result }
 {
     match give_of(matches) {
         Some(order) => follow_give(rt, alloc, world, keys, order, follow),
         None => obey_source(rt, alloc, world, keys, matches, follow),
+    }
+}
+
+/// Edits a source by scripts, where that is what was found in the words of a command line, or else one of those that need no run. Who
+/// watches is told of the run, and how far the work on the source is. It may wait.
+fn obey_edit<R: Threads + Wait + Sync, W: World, V: Watch + Follow + Sync>(
+    rt: &R,
+    alloc: Global,
+    world: &mut W,
+    keys: Option<RandomState>,
+    matches: &ArgMatches<'_>,
+    watch: &V,
+) -> Result<u8, AllocError>
+    requires { (task : Task) → AsksFor (subcommand_rows_of matches.now) task → ⊥ }
+    ensures { (es : List Event) × Adds (W.done world.old) (W.done world.new) es
+        × EndsBy (IsMatched (is_some keys) (subcommand_rows_of matches.now)) es result }
+{
+    match edit_of(alloc, matches) {
+        Ok(Some(order)) => follow_edit(rt, alloc, world, keys, &order, watch),
+        Ok(None) => obey_other(rt, alloc, world, keys, matches, watch),
+        Err(_) => Err(AllocError),
     }
 }
 
@@ -268,7 +300,7 @@ fn obey_matches<R: Threads + Wait + Sync, W: World, V: Watch + Follow + Sync>(
 {
     match order_of(alloc, matches) {
         Ok(Some(order)) => follow(rt, alloc, world, keys, &order, watch),
-        Ok(None) => obey_other(rt, alloc, world, keys, matches, watch),
+        Ok(None) => obey_edit(rt, alloc, world, keys, matches, watch),
         Err(_) => Err(AllocError),
     }
 }

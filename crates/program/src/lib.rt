@@ -3,6 +3,7 @@
 
 mod conduct;
 mod disk;
+mod edit;
 mod give;
 mod host;
 mod progress;
@@ -12,7 +13,8 @@ mod whole;
 mod world;
 
 pub use commandline::{
-    GiveOrder, Order, TakeOrder, VerifyOrder, give_of, order_of, take_of, verify_of,
+    EditOrder, GiveOrder, Order, TakeOrder, VerifyOrder, edit_of, give_of, order_of, take_of,
+    verify_of,
 };
 pub use conduct::obey;
 pub use disk::{Disk, SystemFiles};

@@ -7,6 +7,7 @@ ghost use Rattle.clap.specs.Words.{Text, subcommand_rows_of};
 ghost use Rattle.commandline.specs.Orders.{AsksFor};
 ghost use Rattle.commandline.specs.GiveOrders.{AsksToGive};
 ghost use Rattle.commandline.specs.VerifyOrders.{AsksToVerify};
+ghost use Rattle.commandline.specs.EditOrders.{AsksToEdit};
 ghost use Rattle.program.specs.Events.{Event, Adds};
 ghost use Rattle.program.specs.Conduct.{IsTakeTold, IsWishOf, IsAnsweredTake, IsTakeFollowed, IsTakeDone, IsMatched, EndsBy};
 
@@ -164,6 +165,7 @@ pub(crate) fn obey_take<R: Threads + Sync, W: World, F: Follow>(
     requires asks { (task : Task) → AsksFor (subcommand_rows_of matches.now) task → ⊥ }
     requires gives { (source library history : Text) → AsksToGive (subcommand_rows_of matches.now) source library history → ⊥ }
     requires verifies { (path : Text) (workers : Option ℕ) → AsksToVerify (subcommand_rows_of matches.now) path workers → ⊥ }
+    requires edits { (path : Text) (workers : ℕ) (room : Option ℕ) → AsksToEdit (subcommand_rows_of matches.now) path workers room → ⊥ }
     ensures { (es : List Event) × Adds (W.done world.old) (W.done world.new) es
         × EndsBy (IsMatched (is_some keys) (subcommand_rows_of matches.now)) es result }
 {

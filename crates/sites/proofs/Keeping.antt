@@ -3,7 +3,7 @@ use Rattle.std.proofs.Common.{◌≡◌, ◌∙◌, ℕ, zero, suc, ◌+◌, ◌
 use Rattle.std.proofs.Common.{refl, sym, ap, arith}
 use Rattle.std.specs.List.{slice_get, AllByRecursion}
 use Rattle.std.proofs.lemmas.List.{take_all}
-use Rattle.taking.specs.Reasons.{kept, kept_at}
+use Rattle.source.specs.Flags.{kept, kept_at}
 
 -- one more
 kept_step : {A : Type 0} (b : Bool) (x : A) (xs ys : List A) → kept_at b x (xs ++ ys) ≡ kept_at b x xs ++ ys

@@ -18,7 +18,7 @@ use Rattle.source.specs.Scopes.{Hypothesis, typing, premise, label_of, Assertion
 use Rattle.source.specs.Whole.{IsWhole, IsHypothesisWhole, AreAssertionsWhole, AgreeOnLabels}
 use Rattle.source.proofs.CountedWords.{mapped_some}
 use Rattle.taking.specs.Names.{is_symbol_of, is_symbol_of_hypothesis, is_float_labelled, has_float_labelled}
-use Rattle.taking.specs.Reasons.{kept}
+use Rattle.source.specs.Flags.{kept}
 use Rattle.taking.proofs.Values.{mapped}
 use Rattle.sites.specs.Sites.{Sited, IsFloatSited, AreSites}
 use Rattle.std.specs.Borrow.{Bor}

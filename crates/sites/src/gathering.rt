@@ -6,7 +6,7 @@ ghost use Rattle.std.specs.Option.{option_map};
 ghost use Rattle.source.specs.Views.{has, seen_words};
 ghost use Rattle.source.specs.Whole.{IsWhole};
 ghost use Rattle.taking.specs.Names.{is_symbol_of, has_float_labelled};
-ghost use Rattle.taking.specs.Reasons.{kept};
+ghost use Rattle.source.specs.Flags.{kept};
 ghost use Rattle.sites.specs.Indexes.{HasRoom};
 ghost use Rattle.sites.specs.Sites.{AreSites};
 ghost use Rattle.sites.specs.Used.{Uses, is_noted, noted, type_at, variable_at};

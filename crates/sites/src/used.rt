@@ -7,7 +7,7 @@ ghost use Rattle.source.specs.Scopes.{Assertion, is_in};
 ghost use Rattle.source.specs.Views.{has, seen_words, seen_hypothesis};
 ghost use Rattle.sites.specs.Given.{given_hypotheses};
 ghost use Rattle.taking.specs.Names.{is_symbol_of, is_symbol_of_hypothesis};
-ghost use Rattle.taking.specs.Reasons.{kept};
+ghost use Rattle.source.specs.Flags.{kept};
 ghost use Rattle.sites.specs.Used.{noted, typed_by, typed, Uses};
 
 use crate::given::active_at;

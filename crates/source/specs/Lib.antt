@@ -8,5 +8,6 @@ pub mod Faults
 pub mod Laws
 pub mod Views
 pub mod Counts
+pub mod Flags
 pub mod Examples
 pub mod Whole

@@ -8,7 +8,8 @@ use Rattle.std.proofs.lemmas.Option.{get_or_from_slice_get, slice_get_within}
 use Rattle.mmtext.specs.Words.{Word}
 use Rattle.source.specs.Scopes.{Assertion, is_in}
 use Rattle.taking.specs.declared.reason.Reason.{Reason}
-use Rattle.taking.specs.Reasons.{Choice, kept_at}
+use Rattle.taking.specs.Reasons.{Choice}
+use Rattle.source.specs.Flags.{kept_at}
 use Rattle.giving.specs.Staying.{others}
 use Rattle.giving.proofs.Places.{others_more}
 use Rattle.sourceediting.specs.Following.{is_own}

@@ -78,12 +78,3 @@ pub record AreFlags (s : Scope) (choice : Choice) (chosen front long : List Bool
   pub chosen_are : map (λ x. is_in choice.chosen x.label) s.assertions ≡ chosen
   pub front_are : map (λ x. is_in choice.front x.label) s.assertions ≡ front
   pub long_are : map (λ x. is_in choice.long x.label) s.assertions ≡ long
-
--- what flags keep
-abbrev pub kept_at : {A : Type 0} → Bool → A → List A → List A
-kept_at true x xs = x ∷ xs
-kept_at false x xs = xs
-
-abbrev pub kept : {A : Type 0} → List Bool → List A → List A
-kept (f ∷ fs) (x ∷ xs) = kept_at f x (kept fs xs)
-kept _ _ = []

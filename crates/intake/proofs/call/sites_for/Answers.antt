@@ -1,7 +1,7 @@
 -- What is left to show of `sites_for`: where there are no sites, what is chosen is too wide.
 use Rattle.std.proofs.Common.{subst}
 use Rattle.std.specs.Prelude.{Option, MatchOption}
-use Rattle.taking.specs.Reasons.{kept}
+use Rattle.source.specs.Flags.{kept}
 use Rattle.sites.specs.Sites.{Sited, AreSites}
 use Rattle.intake.specs.Intakes.{IsWide}
 use Rattle.intake.proofs.Steps.{too_wide}

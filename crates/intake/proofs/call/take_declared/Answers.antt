@@ -1,7 +1,7 @@
 -- What is left to show of `take_declared`: what has sites is what the wish chose.
 use Rattle.std.proofs.Common.{rules, ◌≡◌, List, Bool, refl, subst}
 use Rattle.std.proofs.lemmas.Result.{err_from_is_err_and}
-use Rattle.taking.specs.Reasons.{kept}
+use Rattle.source.specs.Flags.{kept}
 use Rattle.sites.specs.Sites.{AreSites}
 use Rattle.intake.specs.Parts.{AreAsMany}
 use Rattle.intake.proofs.Steps.{by_flags, has_sites}

@@ -3,7 +3,7 @@ use Rattle.std.proofs.Common.{rules, ◌≡◌, ◌∙◌, ◌<◌, true, length
 use mathlib.Core.Bool.{not}
 use Rattle.std.specs.Prelude.{filter}
 use Rattle.std.proofs.lemmas.List.{with_items_is}
-use Rattle.taking.specs.Reasons.{kept}
+use Rattle.source.specs.Flags.{kept}
 use Rattle.sites.specs.Sites.{AreSites}
 use Rattle.gathering.specs.Placed.{map_of, tables_of}
 use Rattle.intake.specs.Parts.{AreChosen, IsLibraryRound}

@@ -1,8 +1,9 @@
 use Rattle.std.proofs.Common.{◌++◌, ap, ℕ, List, Bor, map, option_map}
 use Rattle.std.specs.Prelude.{is_some, Vec}
 use Rattle.std.specs.declared.alloc.Global.{Global}
+use Rattle.program.specs.Conduct.{IsAnswered}
 use Rattle.program.proofs.Behind.{adds_more}
-use Rattle.program.proofs.Followed.{followed, untold}
+use Rattle.program.proofs.Followed.{all_read, one_unread}
 use Rattle.program.proofs.conduct.follow.Goals as goal
 
 pub returns-in-Err : goal.returns-in-Err
@@ -11,11 +12,11 @@ returns-in-Err g c =
     let told = c.tell_unread.ensures in
     let same = ap (λ (ps : List (Bor (List ℕ))). map (λ (p : Bor (List ℕ)). p.now) ps) c.as_slice.ensures.value in
     let history = option_map (λ (s : Bor (List ℕ)). s.now) c.args.order.now.history in
-    let texts = map (λ (t : Vec ℕ Global). t.items) c.read_all.new.texts.items in (
+    let paths = map (λ (p : Bor (List ℕ)). p.now) c.args.order.now.paths.items in (
       read.0 ++ told.0,
       adds_more read.1 told.1,
-      untold (is_some c.args.keys) c.args.order.now.task _ _ history texts c.in-Err.unread read.0 told.0 c.tell_unread.result same read.2
-          told.2,
+      one_unread (IsAnswered (is_some c.args.keys) c.args.order.now.task paths history) paths _ _ c.in-Err.unread read.0 told.0
+          c.tell_unread.result same read.2 told.2,
     )
 
 pub returns : goal.returns
@@ -24,9 +25,10 @@ returns g c =
     let rest = c.answer_texts.ensures in
     let same = ap (λ (ps : List (Bor (List ℕ))). map (λ (p : Bor (List ℕ)). p.now) ps) c.as_slice.ensures.value in
     let history = option_map (λ (s : Bor (List ℕ)). s.now) c.args.order.now.history in
+    let paths = map (λ (p : Bor (List ℕ)). p.now) c.args.order.now.paths.items in
     let texts = map (λ (t : Vec ℕ Global). t.items) c.read_all.new.texts.items in (
       read.0 ++ rest.0,
       adds_more read.1 rest.1,
-      followed (is_some c.args.keys) c.args.order.now.task _ _ history texts read.0 rest.0 c.answer_texts.result same read.2.0 read.2.1
-          rest.2,
+      all_read (IsAnswered (is_some c.args.keys) c.args.order.now.task paths history) paths _ texts read.0 rest.0 c.answer_texts.result same
+          read.2.0 read.2.1 rest.2,
     )

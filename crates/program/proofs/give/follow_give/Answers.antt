@@ -1,8 +1,9 @@
-use Rattle.std.proofs.Common.{◌++◌, ℕ, map}
+use Rattle.std.proofs.Common.{◌++◌, ◌∷◌, [], ℕ, map, refl}
 use Rattle.std.specs.Prelude.{is_some, Vec}
 use Rattle.std.specs.declared.alloc.Global.{Global}
+use Rattle.program.specs.Conduct.{IsAnsweredGive}
 use Rattle.program.proofs.Behind.{adds_more}
-use Rattle.program.proofs.GivenBack.{given_done, unread_given}
+use Rattle.program.proofs.Followed.{all_read, one_unread}
 use Rattle.program.proofs.give.follow_give.Goals as goal
 
 pub returns-in-Err : goal.returns-in-Err
@@ -10,11 +11,11 @@ returns-in-Err g c =
     let read = c.in-Err.ensures in
     let told = c.tell_unread.ensures in
     let order = c.args.order in
-    let texts = map (λ (t : Vec ℕ Global). t.items) c.read_all.new.texts.items in (
+    let paths = order.source.now ∷ order.library.now ∷ order.history.now ∷ [] in (
       read.0 ++ told.0,
       adds_more read.1 told.1,
-      unread_given (is_some c.args.keys) order.source.now order.library.now order.history.now texts c.in-Err.unread read.0 told.0
-          c.tell_unread.result read.2 told.2,
+      one_unread (IsAnsweredGive (is_some c.args.keys) paths) paths paths _ c.in-Err.unread read.0 told.0 c.tell_unread.result refl read.2
+          told.2,
     )
 
 pub returns : goal.returns
@@ -22,10 +23,10 @@ returns g c =
     let read = c.in_default.ensures in
     let rest = c.answer_given.ensures in
     let order = c.args.order in
+    let paths = order.source.now ∷ order.library.now ∷ order.history.now ∷ [] in
     let texts = map (λ (t : Vec ℕ Global). t.items) c.read_all.new.texts.items in (
       read.0 ++ rest.0,
       adds_more read.1 rest.1,
-      given_done (is_some c.args.keys) order.source.now order.library.now order.history.now texts read.0 rest.0 c.answer_given.result
-          read.2.1
+      all_read (IsAnsweredGive (is_some c.args.keys) paths) paths paths texts read.0 rest.0 c.answer_given.result refl read.2.0 read.2.1
           (rw c.as_slice.ensures.value at rest.2),
     )

@@ -9,7 +9,7 @@ use Rattle.std.proofs.lemmas.List.{map-append, append-nil}
 use Rattle.mmtext.specs.Words.{Word}
 use Rattle.source.specs.Scopes.{Assertion}
 use Rattle.source.specs.Views.{seen_words}
-use Rattle.taking.specs.Reasons.{kept}
+use Rattle.source.specs.Flags.{kept}
 use Rattle.sites.proofs.Keeping.{kept_one, kept_whole}
 use Rattle.sites.proofs.gathering.chosen_labels.Goals as goal
 use Rattle.sites.proofs.gathering.chosen_labels.Goals.{then-is_chosen+in-Some+in_ok-push, then-is_chosen+in_default, else-is_chosen}

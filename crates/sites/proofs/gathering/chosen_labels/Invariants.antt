@@ -2,7 +2,7 @@
 use Rattle.std.proofs.Common.{◌≡◌, take}
 use Rattle.std.specs.Prelude.{map}
 use Rattle.source.specs.Views.{seen_words}
-use Rattle.taking.specs.Reasons.{kept}
+use Rattle.source.specs.Flags.{kept}
 use Rattle.sites.proofs.gathering.chosen_labels.Given as goal
 
 abbrev pub invariant-loop-place : goal.invariant-loop-place

@@ -6,7 +6,7 @@ use Rattle.mmtext.specs.Words.{Word}
 use Rattle.source.specs.Scopes.{Assertion, Scope}
 use Rattle.source.specs.Views.{has, seen_words}
 use Rattle.taking.specs.Names.{is_symbol_of, has_float_labelled}
-use Rattle.taking.specs.Reasons.{kept}
+use Rattle.source.specs.Flags.{kept}
 use Rattle.sites.specs.Sites.{Sited, AreSites}
 use Rattle.sites.specs.Used.{is_noted, noted, type_at, variable_at}
 use Rattle.sites.proofs.Siting.{floats_noted, used_words, AreGathered, are_sites}

@@ -5,7 +5,7 @@ use Rattle.std.specs.List.{slice_get}
 use Rattle.std.proofs.lemmas.Option.{slice_get_cases}
 use Rattle.std.proofs.lemmas.List.{append-nil}
 use Rattle.source.specs.Scopes.{Assertion}
-use Rattle.taking.specs.Reasons.{kept}
+use Rattle.source.specs.Flags.{kept}
 use Rattle.sites.specs.declared.used.Used.{Used}
 use Rattle.sites.specs.Used.{Uses}
 use Rattle.sites.proofs.Keeping.{kept_one, kept_whole}

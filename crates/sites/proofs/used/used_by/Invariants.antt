@@ -1,6 +1,6 @@
 -- What the loop of `used_by` keeps: what the chosen ones so far use.
 use Rattle.std.proofs.Common.{take}
-use Rattle.taking.specs.Reasons.{kept}
+use Rattle.source.specs.Flags.{kept}
 use Rattle.sites.specs.Used.{Uses}
 use Rattle.sites.proofs.used.used_by.Given as goal
 

@@ -1,7 +1,7 @@
 use Rattle.std.proofs.Common.{◌∷◌, [], codes, false, inr, refl}
 use Rattle.program.specs.Events.{prints, says}
 use Rattle.program.proofs.Behind.{adds_more}
-use Rattle.program.proofs.conduct.print_out.Goals as goal
+use Rattle.program.proofs.conduct.print_with.Goals as goal
 
 pub returns : goal.returns
 returns g c =

@@ -1,0 +1,27 @@
+-- What a subcommand asks to edit, by what was found.
+use Rattle.std.proofs.Common.{◌≡◌, ◌∷◌, ℕ, Bool, List, Option, Some, codes, subst, sym}
+use Rattle.clap.specs.Words.{Row, Text, all_of, first_of}
+use Rattle.commandline.specs.Orders.{HasLimits, all_listed}
+use Rattle.commandline.specs.EditOrders.{AsksToEdit, IsEditOrder, is_flagged}
+
+-- it asks for nothing, where its numbers aren't within their limits
+pub edits_nothing : (found : Option (Text × List Row)) (name : Text) (rows : List Row) → Some (name, rows) ≡ found
+    → ((workers : ℕ) (room : Option ℕ) → HasLimits rows workers room → ⊥)
+    → (path : Text) (workers : ℕ) (room : Option ℕ) → AsksToEdit found path workers room → ⊥
+edits_nothing found name rows is none path workers room asks =
+    let here = subst (λ (f : Option (Text × List Row)). AsksToEdit f path workers room) (sym is) asks in
+    none workers room here.limits
+
+-- its order
+pub edits_so : (found : Option (Text × List Row)) (name : Text) (rows : List Row) (path : Text) (paths : List Text) (workers : ℕ)
+    (room : Option ℕ) (partial : Bool)
+    → Some (name, rows) ≡ found → name ≡ codes "edit" → Some path ≡ first_of (codes "SOURCE") rows → HasLimits rows workers room
+    → paths ≡ path ∷ all_listed (all_of (codes "SCRIPT") rows) → partial ≡ is_flagged (first_of (codes "partial") rows)
+    → IsEditOrder found paths workers room partial
+edits_so found name rows path paths workers room partial is named source limits read part =
+    subst (λ (f : Option (Text × List Row)). IsEditOrder f paths workers room partial) is (record {
+      source = path;
+      asked = record { named = named; source_given = sym source; limits = limits };
+      read = read;
+      part = part;
+    })

@@ -1,0 +1,28 @@
+use Rattle.std.proofs.Common.{rules, codes}
+use Rattle.std.proofs.lemmas.Result.{IfOk-weaker}
+use Rattle.clap.specs.Words.{App, new_app, with_rule}
+use Rattle.commandline.specs.CommandLine.{IsLine, workers_rule, room_rule, partial_rule, source_rule, scripts_rule}
+use Rattle.commandline.proofs.Lines.{adds_argument}
+use Rattle.commandline.proofs.arguments.edit_line.Goals as goal
+
+abbrev bare_edit : App
+bare_edit = new_app (codes "edit")
+
+abbrev with_workers : App
+with_workers = with_rule bare_edit workers_rule
+
+abbrev with_room : App
+with_room = with_rule with_workers room_rule
+
+abbrev with_partial : App
+with_partial = with_rule with_room partial_rule
+
+pub returns : goal.returns
+returns c =
+    let bare : IsLine bare_edit c.after_help.result = search rules in
+    let workers = IfOk-weaker c.arg-line.result _ (IsLine with_workers)
+    (λ new adds. adds_argument _ _ _ _ new adds bare c.workers.ensures) c.arg-line.ensures in
+    let room = c.with_argument-line.ensures with_workers room_rule workers c.room.ensures in
+    let partial = c.with_argument-line-2.ensures with_room partial_rule room c.partial.ensures in
+    let source = c.with_argument-line-3.ensures with_partial source_rule partial c.file.ensures in
+    c.with_argument.ensures (with_rule with_partial source_rule) scripts_rule source c.scripts.ensures

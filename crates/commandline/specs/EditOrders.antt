@@ -1,0 +1,28 @@
+-- What a command line asks to edit, by what its parser found in the words.
+use Rattle.std.specs.Prelude.{◌≡◌, ℕ, Bool, false, List, ◌∷◌, Option, Some, None, codes}
+use Rattle.std.specs.Str.{bytes_eq}
+use Rattle.clap.specs.Words.{Row, Text, all_of, first_of}
+use Rattle.commandline.specs.Orders.{HasLimits, all_listed, rows_in}
+
+-- a flag is given: its text is `true`
+abbrev pub is_flagged : Option Text → Bool
+is_flagged (Some text) = bytes_eq text (codes "true")
+is_flagged None = false
+
+-- the subcommand `edit`, with a source, and with so many workers and a store of this room, if that is given
+pub record IsEditOf (name : Text) (rows : List Row) (path : Text) (workers : ℕ) (room : Option ℕ) : Type 0 where
+  pub named : name ≡ codes "edit"
+  pub source_given : first_of (codes "SOURCE") rows ≡ Some path
+  pub limits : HasLimits rows workers room
+
+abbrev pub AsksToEdit : Option (Text × List Row) → Text → ℕ → Option ℕ → Type 0
+AsksToEdit (Some p) path workers room = IsEditOf p.0 p.1 path workers room
+AsksToEdit None path workers room = ⊥
+
+-- the paths of its source and of its scripts, its numbers, and whether a part of the transactions is enough for it
+pub record IsEditOrder (found : Option (Text × List Row)) (paths : List Text) (workers : ℕ) (room : Option ℕ) (partial : Bool)
+    : Type 0 where
+  pub source : Text
+  pub asked : AsksToEdit found source workers room
+  pub read : paths ≡ source ∷ all_listed (all_of (codes "SCRIPT") (rows_in found))
+  pub part : partial ≡ is_flagged (first_of (codes "partial") (rows_in found))

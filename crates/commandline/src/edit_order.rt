@@ -1,0 +1,68 @@
+//! What a command line asks to edit.
+
+ghost use Rattle.std.specs.Prelude.{◌≡◌, ℕ, IfOk, IfSome, IsNone, Option, map};
+ghost use Rattle.clap.specs.Words.{Text, first_of, found_of, rows_of, subcommand_rows_of};
+ghost use Rattle.commandline.specs.EditOrders.{AsksToEdit, IsEditOrder, is_flagged};
+
+use crate::order::{limits_in, put_all, subcommand_in, text_in, texts_in};
+use clap::ArgMatches;
+use std::alloc::{AllocError, Global};
+
+/// What a command line asks to edit.
+#[derive(Drop)]
+pub struct EditOrder<'a> {
+    /// The path of the source, and behind it those of the scripts: at least one.
+    pub paths: Vec<&'a str>,
+    /// How many workers run the scripts, 1 to 64.
+    pub workers: usize,
+    /// For how many words the store of the run has room, at most 16,777,216, if that is given.
+    pub room: Option<usize>,
+    /// Whether the source is printed also where not all transactions were done.
+    pub partial: bool,
+}
+
+/// Whether a flag is given.
+fn flag_in(of: &ArgMatches<'_>, id: &str) -> bool
+    ensures { result ≡ is_flagged (first_of id.now (rows_of (found_of of.now))) }
+{
+    match text_in(of, id) {
+        Some(text) => text == "true",
+        None => false,
+    }
+}
+
+/// The order to edit that a command line gives. None where it asks for another job, or for none.
+///
+/// # Errors
+///
+/// Want of memory.
+pub fn edit_of<'a>(
+    alloc: Global,
+    matches: &ArgMatches<'a>,
+) -> Result<Option<EditOrder<'a>>, AllocError>
+    ensures some { IfOk result (λ given. IfSome given (λ order. IsEditOrder (subcommand_rows_of matches.now)
+        (map (λ p. p.now) order.paths.items) order.workers order.room order.partial)) }
+    ensures none { IfOk result (λ given. IsNone given → (path : Text) (workers : ℕ) (room : Option ℕ)
+        → AsksToEdit (subcommand_rows_of matches.now) path workers room → ⊥) }
+{
+    let Some((name, of)) = subcommand_in(matches) else {
+        return Ok(None);
+    };
+    if name != "edit" {
+        return Ok(None);
+    }
+    let Some(path) = text_in(of, "SOURCE") else {
+        return Ok(None);
+    };
+    let Some((workers, room)) = limits_in(of) else {
+        return Ok(None);
+    };
+    let mut paths = vec![in alloc; path]?;
+    put_all(&mut paths, texts_in(of, "SCRIPT"))?;
+    Ok(Some(EditOrder {
+        paths,
+        workers,
+        room,
+        partial: flag_in(of, "partial"),
+    }))
+}

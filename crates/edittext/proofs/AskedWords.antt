@@ -1,0 +1,94 @@
+-- Words behind words that ask for a proof: one more word, one more text.
+use Rattle.std.proofs.Common.{◌≡◌, ◌<◌, ◌+◌, ℕ, zero, suc, Bool, true, false, List, [], ◌∷◌, ◌++◌, length, map, take, get_or, Bor, Vec, Global, Some}
+use Rattle.std.proofs.Common.{refl, sym, ap, ◌∙◌, append_assoc, add-one, arith}
+use Rattle.std.specs.Prelude.{if◌then◌else◌, slice_get}
+use Rattle.std.proofs.lemmas.Option.{slice_get-get_or}
+use Rattle.choosing.proofs.Going.{one_more}
+use Rattle.std.specs.List.{flat_map}
+use Rattle.std.proofs.lemmas.Grind.{flat_map-append}
+use Rattle.std.proofs.lemmas.Bool.{cond-true, cond-false}
+use Rattle.std.proofs.lemmas.List.{append-nil, map-append}
+use Rattle.source.specs.Views.{seen_words}
+use Rattle.mmtext.specs.Words.{Word}
+use Rattle.edittext.specs.Words.{asks_for_proof, asked_by, asked_in}
+
+-- whether the last word asks for a proof
+abbrev pub asks_last : List Word → Bool
+asks_last [] = false
+asks_last (w ∷ []) = asks_for_proof w
+asks_last (v ∷ w ∷ ws) = asks_last (w ∷ ws)
+
+pub last_asks : (ws : List Word) (w : Word) → asks_last (ws ++ w ∷ []) ≡ asks_for_proof w
+last_asks [] w = refl
+last_asks (v ∷ []) w = refl
+last_asks (v ∷ u ∷ ws) w = last_asks (u ∷ ws) w
+
+-- one more word
+pub asked_more : (ws : List Word) (w : Word) → asked_in (ws ++ w ∷ []) ≡ asked_in ws ++ (if asks_last ws then w ∷ [] else [])
+asked_more [] w = refl
+asked_more (v ∷ []) w = append-nil (if asks_for_proof v then w ∷ [] else [])
+asked_more (v ∷ u ∷ ws) w =
+    ap (λ vs. asked_by v (u ∷ ws) ++ vs) (asked_more (u ∷ ws) w)
+    ∙ sym (append_assoc (asked_by v (u ∷ ws)) (asked_in (u ∷ ws)) (if asks_last (u ∷ ws) then w ∷ [] else []))
+
+-- ---- turns over words
+
+-- one more item
+pub take_next : {A : Type 0} (xs : List A) (k : ℕ) (x : A) → slice_get xs k ≡ Some x → take (k + 1) xs ≡ take k xs ++ x ∷ []
+take_next xs k x at = ap (λ j. take j xs) (add-one k) ∙ one_more xs k x at
+
+pub item_at : {A : Type 0} (xs : List A) (k : ℕ) (d : A) → k < length xs → slice_get xs k ≡ Some (get_or xs k d)
+item_at xs k d h = slice_get-get_or xs k d h
+
+pub seen_next : (words : List (Bor (List ℕ))) (k : ℕ) (d : Bor (List ℕ)) → k < length words
+    → seen_words (take (k + 1) words) ≡ seen_words (take k words) ++ (get_or words k d).now ∷ []
+seen_next words k d h =
+    ap seen_words (take_next words k (get_or words k d) (item_at words k d h))
+    ∙ map-append (λ (w : Bor (List ℕ)). w.now) (take k words) (get_or words k d ∷ [])
+
+module _ (words : List (Bor (List ℕ))) (k : ℕ) (d : Bor (List ℕ)) (within : k < length words) where
+  abbrev pub before : List Word
+  before = seen_words (take k words)
+
+  abbrev pub word : Word
+  word = (get_or words k d).now
+
+  pub last_next : (b : Bool) → b ≡ asks_for_proof word → b ≡ asks_last (seen_words (take (k + 1) words))
+  last_next b is = is ∙ sym (ap asks_last (seen_next words k d within) ∙ last_asks (seen_words (take k words)) word)
+
+  -- a word that is asked for
+  pub asked_next : (start now : List Word) → asks_last before ≡ true → now ≡ start ++ asked_in before
+      → now ++ word ∷ [] ≡ start ++ asked_in (seen_words (take (k + 1) words))
+  asked_next start now asks is =
+      ap (λ ws. ws ++ word ∷ []) is
+      ∙ append_assoc start (asked_in before) (word ∷ [])
+      ∙ ap (λ ws. start ++ ws)
+      (ap (λ ws. asked_in before ++ ws) (sym (cond-true (asks_last before) (word ∷ []) [] asks))
+      ∙ sym (ap asked_in (seen_next words k d within) ∙ asked_more before word))
+
+  -- one that isn't
+  pub unasked_next : (start now : List Word) → asks_last before ≡ false → now ≡ start ++ asked_in before
+      → now ≡ start ++ asked_in (seen_words (take (k + 1) words))
+  unasked_next start now asks is =
+      is
+      ∙ ap (λ ws. start ++ ws)
+      (sym (append-nil (asked_in before))
+      ∙ ap (λ ws. asked_in before ++ ws) (sym (cond-false (asks_last before) (word ∷ []) [] asks))
+      ∙ sym (ap asked_in (seen_next words k d within) ∙ asked_more before word))
+
+-- ---- texts
+
+-- one more text
+pub flat_next : (F : List ℕ → List Word) (texts : List (Vec ℕ Global)) (k : ℕ) (t : Vec ℕ Global) → slice_get texts k ≡ Some t
+    → (before now : List Word) → before ≡ flat_map F (map (λ t. t.items) (take k texts)) → now ≡ F t.items
+    → before ++ now ≡ flat_map F (map (λ t. t.items) (take (k + 1) texts))
+flat_next F texts k t at before now first next =
+    let I = λ (t : Vec ℕ Global). t.items in
+    ap (λ ws. before ++ ws) (next ∙ sym (append-nil (F t.items)))
+    ∙ ap (λ ws. ws ++ (F t.items ++ [])) first
+    ∙ sym (ap (λ ts. flat_map F (map I ts)) (take_next texts k t at)
+    ∙ ap (flat_map F) (map-append I (take k texts) (t ∷ []))
+    ∙ flat_map-append F (map I (take k texts)) (t.items ∷ []))
+
+pub seen_both : (ws vs : List (Bor (List ℕ))) → seen_words (ws ++ vs) ≡ seen_words ws ++ seen_words vs
+seen_both ws vs = map-append (λ (w : Bor (List ℕ)). w.now) ws vs

@@ -1,0 +1,4 @@
+pub mod Reading
+pub mod AskedWords
+pub mod Undoing
+pub mod Lines

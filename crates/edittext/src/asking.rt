@@ -1,0 +1,56 @@
+//! What scripts ask of a source: of which assertions they speak, and whose proofs they ask for.
+
+ghost use Rattle.std.specs.Prelude.{◌≡◌, ◌++◌, IfOk, IsTrue, OnOk, map};
+ghost use Rattle.source.specs.Views.{seen_words};
+ghost use Rattle.edittext.specs.Words.{asks_for_proof, asked_in, spoken, asked};
+
+use crate::words::words_in;
+use std::alloc::{AllocError, Global};
+
+/// The words of scripts.
+#[derive(Drop)]
+pub(crate) struct Asked<'a> {
+    /// Those outside of comments.
+    pub spoken: Vec<&'a [u8]>,
+    /// Those behind a word that asks for a proof.
+    pub asked: Vec<&'a [u8]>,
+}
+
+/// Whether a word is that of a command by which an assertion gets another proof or another place, or goes.
+fn asks_for_proof(word: &[u8]) -> bool
+    ensures { result ≡ asks_for_proof word.now }
+{
+    word == b"reprove".as_slice()
+        || word == b"replace".as_slice()
+        || word == b"move".as_slice()
+        || word == b"delete".as_slice()
+}
+
+/// Puts the words behind others that stand behind a word which asks for a proof.
+fn put_asked<'a>(asked: &mut Vec<&'a [u8]>, words: &[&'a [u8]]) -> Result<(), AllocError>
+    ensures { OnOk result (seen_words asked.new.items ≡ seen_words asked.old.items ++ asked_in (seen_words words.now)) }
+{
+    let mut asks = false;
+    for word in words {
+        if asks {
+            asked.push(*word)?;
+        }
+        asks = asks_for_proof(*word);
+    }
+    Ok(())
+}
+
+/// What scripts speak of, and what they ask for.
+pub(crate) fn asked_of<'a>(alloc: Global, texts: &'a [Vec<u8>]) -> Result<Asked<'a>, AllocError>
+    ensures spoken { IfOk result (λ a. seen_words a.spoken.items ≡ spoken (map (λ t. t.items) texts.now)) }
+    ensures asked { IfOk result (λ a. seen_words a.asked.items ≡ asked (map (λ t. t.items) texts.now)) }
+{
+    let mut spoken = Vec::new(alloc);
+    let mut asked = Vec::new(alloc);
+    for text in texts {
+        let words = words_in(alloc, text.as_slice())?;
+        put_asked(&mut asked, words.as_slice())?;
+        spoken.extend_from_slice(words.as_slice())?;
+    }
+    Ok(Asked { spoken, asked })
+}

@@ -1,0 +1,12 @@
+//! What the program answers where scripts edit a source: the source with the edits of one history, which verifies; or why it isn't printed.
+#![tactic(auto)]
+
+mod answering;
+mod asking;
+mod call;
+mod telling;
+mod undone;
+mod unedited;
+mod words;
+
+pub use answering::{EditOrder, Told, answer_edit};

@@ -1,0 +1,23 @@
+//! Why a source isn't edited.
+
+use std::alloc::AllocError;
+
+/// Why nothing is printed.
+#[derive(Debug, Drop)]
+pub(crate) enum Unedited {
+    /// Nothing is printed but this line.
+    Refused(String),
+    /// Memory ran out.
+    NoMemory,
+}
+
+impl From<AllocError> for Unedited {
+    ghost use Rattle.std.specs.Prelude.{◌≡◌};
+    ghost use Rattle.edittext.specs.declared.unedited.Unedited.TheVariants.{NoMemory};
+
+    ghost from_gives = { λ _ why. why ≡ NoMemory };
+
+    fn from(_error: AllocError) -> Unedited {
+        Unedited::NoMemory
+    }
+}

@@ -1,0 +1,7 @@
+use Rattle.std.proofs.Common.{take}
+use Rattle.program.specs.Events.{Adds}
+use Rattle.program.specs.Conduct.{all_said}
+use Rattle.program.proofs.edit.say_all.Given as goal
+
+abbrev pub invariant-loop-line : goal.invariant-loop-line
+invariant-loop-line g l = Adds (g.W.World.done l.initial.world) (g.W.World.done l.world) (all_said (take l.line-index l.lines))
