@@ -1,0 +1,6 @@
+pub mod Words
+pub mod Forms
+pub mod Spreading
+pub mod Ranking
+pub mod Refusals
+pub mod Views

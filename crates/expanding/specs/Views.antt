@@ -1,0 +1,52 @@
+-- Of the code's inside, apart from the rules: how a text of words remembers where they stand, and what was put at each gap.
+use Rattle.std.specs.Prelude.{◌≡◌, ◌<◌, ◌≤◌, ℕ, suc, Bool, List, map, length, slice_get, Option, Some}
+use Rattle.mmtext.specs.Text.{Token}
+use Rattle.expanding.specs.Words.{text_of}
+use Rattle.expanding.specs.Ranking.{taken_among, many_at}
+use Rattle.expanding.specs.declared.laid.Stretch.{Stretch}
+use Rattle.expanding.specs.declared.laid.Laid.{Laid}
+use Rattle.expanding.specs.declared.ranking.Ranker.{Ranker}
+use Rattle.mmtext.specs.Views.{seen}
+use Rattle.expanding.specs.Spreading.{Star, Misfit, unknown, numbered, not_alone}
+use Rattle.expanding.specs.declared.star.Star.{Star as CodeStar}
+use Rattle.expanding.specs.declared.misfit.Misfit.{Misfit as CodeMisfit}
+use Rattle.expanding.specs.declared.misfit.Misfit.TheVariants as misfit
+
+-- a word's length and place
+abbrev pub stretch_of : Token → ℕ × ℕ
+stretch_of t = (length t.text, t.place)
+
+abbrev pub seen_stretches : List Stretch → List (ℕ × ℕ)
+seen_stretches ws = map (λ w. (w.length, w.place)) ws
+
+-- the text is that of these words, and remembers them
+pub record IsLaid (ts : List Token) (l : Laid) : Type 0 where
+  pub text : l.text.items ≡ text_of ts
+  pub words : seen_stretches l.words.items ≡ map stretch_of ts
+
+-- for each front of the flags, how many of it are taken
+pub record AreFronts (flags : List Bool) (fronts : List ℕ) : Type 0 where
+  pub many : length fronts ≡ suc (length flags)
+  pub each : (n : ℕ) → n ≤ length flags → slice_get fronts n ≡ Some (taken_among flags n)
+
+-- for each gap, how many were put there
+abbrev pub AreCounts : List ℕ → List ℕ → Type 0
+AreCounts earlier counts = (gap : ℕ) → gap < length counts → slice_get counts gap ≡ Some (many_at earlier gap)
+
+-- a ranker of the assertions that are taken, behind these gaps
+pub record IsRanker (flags : List Bool) (earlier : List ℕ) (r : Ranker) : Type 0 where
+  pub fronts : AreFronts flags r.fronts.items
+  pub many : length r.counts.items ≡ suc (taken_among flags (length flags))
+  pub counts : AreCounts earlier r.counts.items
+
+-- what the code tells of what can't be in one part
+abbrev pub IsMisfit : Option Misfit → CodeMisfit → Type 0
+IsMisfit m (misfit.Unknown t) = m ≡ Some (unknown (seen t))
+IsMisfit m (misfit.Numbered t) = m ≡ Some (numbered (seen t))
+IsMisfit m (misfit.NotAlone t) = m ≡ Some (not_alone (seen t))
+IsMisfit m (misfit.Crowded t) = ⊥
+IsMisfit m misfit.NoMemory = Unit {0}
+
+-- the words of `replace *`
+abbrev pub seen_star : CodeStar → Star
+seen_star x = record { verb = seen x.verb; star = seen x.star; old = seen x.old; new = seen x.new }

@@ -1,0 +1,16 @@
+//! The forms of scripts that speak of a source, done away with: `replace *`, `behind M` and `before M`.
+#![tactic(auto)]
+
+mod forms;
+mod laid;
+mod misfit;
+mod ranking;
+mod spreading;
+mod star;
+mod words;
+
+pub use laid::Laid;
+pub use misfit::Misfit;
+pub use ranking::Ranker;
+pub use spreading::spread;
+pub use words::words_in;
