@@ -3,6 +3,7 @@
 
 mod forms;
 mod laid;
+mod lines;
 mod misfit;
 mod ranking;
 mod spreading;
@@ -10,6 +11,7 @@ mod star;
 mod words;
 
 pub use laid::Laid;
+pub use lines::{line_at, lines_of};
 pub use misfit::Misfit;
 pub use ranking::Ranker;
 pub use spreading::spread;
