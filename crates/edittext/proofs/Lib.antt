@@ -1,4 +1,4 @@
-pub mod Reading
+pub mod Expanding
 pub mod AskedWords
 pub mod Undoing
 pub mod Lines

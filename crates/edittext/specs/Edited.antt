@@ -1,17 +1,15 @@
 -- What a source becomes that scripts edit.
-use Rattle.std.specs.Prelude.{◌≡◌, ℕ, Bool, true, false, List, Option, is_none, unwrap_or}
-use Rattle.std.specs.List.{list_any}
-use Rattle.mmtext.specs.Words.{Word}
+use Rattle.std.specs.Prelude.{◌≡◌, ℕ, List, [], Option, is_none, unwrap_or}
+use Rattle.mmtext.specs.Text.{Token}
 use Rattle.source.specs.Scopes.{Scope}
 use Rattle.source.specs.Sources.{DeclaresText}
 use Rattle.source.specs.Views.{seen_words}
+use Rattle.taking.specs.Reasons.{Choice}
 use Rattle.choosing.specs.declared.wish.Wish.{Wish}
 use Rattle.choosing.specs.declared.wish.Wish.TheVariants.{These}
 use Rattle.choosing.specs.Spoken.{wanted_labels, axiom_labels}
 use Rattle.intake.specs.declared.taken.Taken.{Taken}
 use Rattle.intake.specs.Intakes.{IsLibraryOf}
-use Rattle.library.specs.declared.command.Command.{Command}
-use Rattle.library.specs.declared.command.Command.TheVariants as command
 use Rattle.library.specs.declared.history.Entry.{Entry}
 use Rattle.library.specs.Library.{Listed}
 use Rattle.checking.specs.Checks.{Bytes, Orders, AreScripts}
@@ -22,6 +20,7 @@ use Rattle.givetext.specs.Parts.{IsEdited}
 use Rattle.verifytext.specs.declared.verifying_text.Verified.{Verified}
 use Rattle.verifytext.specs.Verdicts.{IsVerifiedText}
 use Rattle.edittext.specs.Words.{spoken, asked}
+use Rattle.edittext.specs.Expanded.{AreWordsOf, AreSpread, RankedScript, AreRanked, texts_of}
 
 -- the room of a run that is given one, or isn't
 abbrev pub edit_room : Option ℕ → Room
@@ -29,50 +28,65 @@ edit_room room = record { words = unwrap_or room least_room; may_grow = is_none 
 
 -- the wish of scripts: just the assertions of the source that they speak of, and those that the proofs need which they ask for; as
 -- axioms all of them but these
-abbrev pub IsAskedBy : Scope → List Bytes → Wish → Type 0
-IsAskedBy s texts (These labels axioms) =
-    (seen_words labels.now ≡ wanted_labels s (spoken texts) (asked texts))
-    × (seen_words axioms.now ≡ axiom_labels s (spoken texts) (asked texts))
-IsAskedBy s texts _ = ⊥
+abbrev pub IsAskedBy : Scope → List (List Token) → Wish → Type 0
+IsAskedBy s scripts (These labels axioms) =
+    (seen_words labels.now ≡ wanted_labels s (spoken scripts) (asked scripts))
+    × (seen_words axioms.now ≡ axiom_labels s (spoken scripts) (asked scripts))
+IsAskedBy s scripts _ = ⊥
 
 -- a library is taken of a source by that wish
-pub record IsTakenFor (s : Scope) (texts : List Bytes) (t : Taken) : Type 0 where
+pub record IsTakenFor (s : Scope) (scripts : List (List Token)) (t : Taken) : Type 0 where
   pub wish : Wish
-  pub by : IsAskedBy s texts wish
+  pub by : IsAskedBy s scripts wish
   pub library : IsLibraryOf s wish t
 
--- a command that names a rank: a source has none
-abbrev pub has_rank : Command → Bool
-has_rank (command.Add rank a) = true
-has_rank (command.Move label rank) = true
-has_rank _ = false
+-- the words of scripts by the source
+pub record Spread (s : Scope) (texts : List Bytes) : Type 0 where
+  pub words : List (List Token)
+  pub are_words : AreWordsOf texts words
+  pub spread : List (List Token)
+  pub are_spread : AreSpread s words spread
 
--- some command of a script does
-abbrev pub names_rank : Orders → Bool
-names_rank script = list_any (list_any has_rank) script
+-- and the library that is taken for them
+pub record Asked (s : Scope) (texts : List Bytes) : Type 0 where
+  pub of_source : Spread s texts
+  pub taken : Taken
+  pub for_scripts : IsTakenFor s of_source.spread taken
+
+-- and their words with the ranks of that library
+pub record Ranked (s : Scope) (texts : List Bytes) : Type 0 where
+  pub over : Asked s texts
+  pub ranked : List RankedScript
+  pub gaps : List ℕ
+  pub are_ranked : AreRanked s over.taken.chosen.items [] over.of_source.spread ranked gaps
 
 -- the library of a source that scripts ask for, and the scripts as they are read over it
 pub record Begun (source : Bytes) (texts : List Bytes) : Type 0 where
   pub old : Scope
   pub declares : DeclaresText source old
-  pub taken : Taken
-  pub for_scripts : IsTakenFor old texts taken
+  pub with_ranks : Ranked old texts
   pub scripts : List Orders
-  pub ordered : AreScripts taken.database.prelude texts scripts
-  pub rankless : list_any names_rank scripts ≡ false
+  pub ordered : AreScripts with_ranks.over.taken.database.prelude (texts_of with_ranks.ranked) scripts
+
+abbrev pub taken_of : {source : Bytes} {texts : List Bytes} → Begun source texts → Taken
+taken_of b = b.with_ranks.over.taken
+
+abbrev pub choice_of : {source : Bytes} {texts : List Bytes} → Begun source texts → Choice
+choice_of b = b.with_ranks.over.for_scripts.library.taken.choice
 
 -- so many workers ran the scripts over that library: with these outcomes, in one history, to the library behind it
 pub record Run (source : Bytes) (texts : List Bytes) (workers : ℕ) (room : Room) (rows : List (List Outcome)) : Type 0 where
   pub begun : Begun source texts
   pub entries : List Entry
   pub edited : Listed
-  pub worked : IsWorked begun.taken.database workers (room_of room begun.taken.database begun.scripts) begun.scripts rows entries edited
+  pub worked :
+      IsWorked (taken_of begun).database workers (room_of room (taken_of begun).database begun.scripts) begun.scripts rows entries edited
 
 -- the text is the source with the edits of that history
 abbrev pub IsSourceThen : {source : Bytes} {texts : List Bytes} {workers : ℕ} {room : Room} {rows : List (List Outcome)}
     → Run source texts workers room rows → Bytes → Type 0
 IsSourceThen {source} r out =
-    IsEdited source r.begun.old r.begun.for_scripts.library.taken.choice r.begun.taken r.entries r.edited out
+    IsEdited source r.begun.old (choice_of r.begun) (taken_of r.begun) r.entries r.edited out
 
 -- what is printed: the source with the edits of the history of a run, which verifies as a whole
 pub record IsEditedBy (source : Bytes) (texts : List Bytes) (workers : ℕ) (room : Room) (rows : List (List Outcome)) (out : Bytes)

@@ -1,5 +1,7 @@
 pub mod Words
+pub mod Expanded
 pub mod Edited
 pub mod Undone
 pub mod Refusals
+pub mod Views
 pub mod Answers

@@ -1,13 +1,19 @@
 -- The lines of transactions that weren't done.
-use Rattle.std.specs.Prelude.{◌≡◌, ℕ, Bool, true, false, ◌+◌, List, [], ◌∷◌, ◌++◌, Option, Some, None, String, codes, if◌then◌else◌}
-use Rattle.std.specs.Prelude.{slice_index_or, string_bytes}
+use Rattle.std.specs.Prelude.{◌≡◌, ℕ, suc, Bool, true, false, ◌-◌, List, [], ◌∷◌, ◌++◌, Option, Some, None, String, codes, if◌then◌else◌}
+use Rattle.std.specs.Prelude.{map, slice_get, slice_index_or, string_bytes}
 use Rattle.std.specs.List.{list_all}
 use Rattle.std.specs.declared.alloc.Global.{Global}
 use Rattle.std.specs.Fmt.{decimal}
+use Rattle.checking.specs.FaultLines.{shown_label}
+use Rattle.library.specs.declared.command.Command.{Command}
+use Rattle.library.specs.declared.command.Command.TheVariants as command
 use Rattle.library.specs.Reasons.{printed_reason}
 use Rattle.transaction.specs.declared.outcome.Outcome.{Outcome}
 use Rattle.transaction.specs.declared.outcome.Outcome.TheVariants.{Committed, Read, Refused, Conflict, StoreFull, NumbersUsed, TooManyCommands, NoMemory}
-use Rattle.checking.specs.Checks.{Bytes}
+use Rattle.checking.specs.Checks.{Bytes, Orders}
+use Rattle.expanding.specs.Lines.{line_at}
+
+-- ---- one transaction
 
 -- a transaction was done: it is an entry of the history, or it only read
 abbrev pub is_done : Outcome → Bool
@@ -18,36 +24,59 @@ is_done _ = false
 abbrev pub all_done : List (List Outcome) → Bool
 all_done rows = list_all (list_all is_done) rows
 
--- why it wasn't: a command of it was refused, for a reason; or what it wanted of the run
-abbrev pub undone_text : Outcome → Bytes
-undone_text (Committed number replies) = []
-undone_text (Read place replies) = []
-undone_text (Refused place index reason) = codes "command " ++ (decimal index ++ (codes ": " ++ printed_reason reason))
-undone_text (Conflict place cell word before) = codes "conflict"
-undone_text StoreFull = codes "store full"
-undone_text NumbersUsed = codes "numbers used"
-undone_text TooManyCommands = codes "too many commands"
-undone_text NoMemory = codes "no memory"
+-- a command's word, and the labels that it speaks of
+abbrev pub command_text : Command → Bytes
+command_text (command.Add rank a) = codes "add " ++ shown_label a.label
+command_text (command.Reprove label steps) = codes "reprove " ++ shown_label label
+command_text (command.Replace label old new) =
+    codes "replace " ++ (shown_label label ++ (codes " " ++ (shown_label old ++ (codes " " ++ shown_label new))))
+command_text (command.Rename old new) = codes "rename " ++ (shown_label old ++ (codes " " ++ shown_label new))
+command_text (command.Move label rank) = codes "move " ++ shown_label label
+command_text (command.Delete label) = codes "delete " ++ shown_label label
+command_text (command.Show label) = codes "show " ++ shown_label label
+command_text command.List = codes "list"
 
--- `PATH: transaction K: ` and that, where it wasn't done
-abbrev pub undone_line : Bytes → ℕ → Outcome → List Bytes
-undone_line path k outcome =
-    if is_done outcome then [] else (path ++ (codes ": transaction " ++ (decimal k ++ (codes ": " ++ undone_text outcome)))) ∷ []
+-- a command is refused for a reason
+abbrev pub refused_text : Option Command → Bytes → Bytes
+refused_text None why = why
+refused_text (Some c) why = command_text c ++ (codes ": " ++ why)
 
--- those of the transactions of a script, from the k-th on
-abbrev pub undone_from : Bytes → ℕ → List Outcome → List Bytes
-undone_from path k [] = []
-undone_from path k (o ∷ os) = undone_line path k o ++ undone_from path (k + 1) os
+-- why a transaction with these commands wasn't done: one of them, which count from 1, was refused; or what it wanted of the run
+abbrev pub undone_text : List Command → Outcome → Bytes
+undone_text commands (Committed number replies) = []
+undone_text commands (Read place replies) = []
+undone_text commands (Refused place index reason) = refused_text (slice_get commands (index - 1)) (printed_reason reason)
+undone_text commands (Conflict place cell word before) = codes "conflict"
+undone_text commands StoreFull = codes "store full"
+undone_text commands NumbersUsed = codes "numbers used"
+undone_text commands TooManyCommands = codes "too many commands"
+undone_text commands NoMemory = codes "no memory"
 
--- those of the scripts from the s-th on; scripts count from 1, and so do the paths, in front of which stands that of the source
-abbrev pub all_undone_from : List Bytes → ℕ → List (List Outcome) → List Bytes
-all_undone_from paths s [] = []
-all_undone_from paths s (row ∷ rows) = undone_from (slice_index_or paths s []) 1 row ++ all_undone_from paths (s + 1) rows
+-- `PATH:LINE: ` and that, where it wasn't done
+abbrev pub undone_line : Bytes → ℕ → List Command → Outcome → List Bytes
+undone_line path line commands outcome =
+    if is_done outcome then []
+    else (path ++ (codes ":" ++ (decimal line ++ (codes ": " ++ undone_text commands outcome)))) ∷ []
 
-abbrev pub all_undone : List Bytes → List (List Outcome) → List Bytes
-all_undone paths rows = all_undone_from paths 1 rows
+-- ---- all of them
+
+-- what each of a list has, by its place, from the k-th on
+abbrev pub each_from : {A : Type 0} → (ℕ → A → List Bytes) → ℕ → List A → List Bytes
+each_from F k [] = []
+each_from F k (x ∷ xs) = F k x ++ each_from F (suc k) xs
+
+-- those of the transactions of a script, which begin on these lines
+abbrev pub undone_of : Bytes → List ℕ → Orders → List Outcome → List Bytes
+undone_of path lines script outcomes =
+    each_from (λ k outcome. undone_line path (slice_index_or lines k 0) (slice_index_or script k []) outcome) 0 outcomes
+
+-- those of the scripts, whose transactions begin at these places; in front of their paths stands that of the source
+abbrev pub all_undone : List Bytes → List Bytes → List (List ℕ) → List Orders → List (List Outcome) → List Bytes
+all_undone paths texts beginnings scripts rows =
+    each_from (λ n row. undone_of (slice_index_or paths (suc n) []) (map (line_at (slice_index_or texts n [])) (slice_index_or beginnings n []))
+    (slice_index_or scripts n []) row) 0 rows
 
 -- of the code's inside: the text of a transaction, if it wasn't done
-abbrev pub IsUndoneText : Outcome → Option (String Global) → Type 0
-IsUndoneText outcome None = is_done outcome ≡ true
-IsUndoneText outcome (Some text) = (is_done outcome ≡ false) × (string_bytes text ≡ undone_text outcome)
+abbrev pub IsUndoneText : List Command → Outcome → Option (String Global) → Type 0
+IsUndoneText commands outcome None = is_done outcome ≡ true
+IsUndoneText commands outcome (Some text) = (is_done outcome ≡ false) × (string_bytes text ≡ undone_text commands outcome)

@@ -45,13 +45,13 @@ pub enum Told {
 }
 
 /// The source with the edits of one history of the scripts, once it was verified; or the lines of what wasn't done.
-fn edit(
+fn edit<'a>(
     rt: &(impl Threads + Wait + Sync),
     alloc: Global,
     keys: RandomState,
     order: EditOrder<'_>,
-    source: &[u8],
-    texts: &[Vec<u8>],
+    source: &'a [u8],
+    texts: &'a [Vec<u8>],
     follow: &(impl Follow + Watch + Sync),
 ) -> Result<Told, Unedited>
     requires { IsWithin order.workers order.room }
@@ -63,15 +63,16 @@ fn edit(
     let old = read_old(alloc, keys, order.path, source, follow)?;
     // For the proof: what is read is whole.
     sources_are_whole();
-    let (taken, scripts) = begin(rt, alloc, keys, order, &old, texts, follow)?;
+    let begun = begin(rt, alloc, keys, order, &old, texts, follow)?;
     Follow::end(follow);
-    let scripts = scripts.as_slice();
+    let (taken, scripts) = (&begun.taken, begun.scripts.as_slice());
     let Edited {
         outcomes,
         history,
         library,
     } = run_over(rt, alloc, keys, order, &taken.database, scripts, follow)?;
-    let lines = undone(alloc, order.paths, outcomes.as_slice())?;
+    let laid = begun.laid.as_slice();
+    let lines = undone(alloc, order.paths, texts, laid, scripts, outcomes.as_slice())?;
     if !may_print(order.partial, lines.as_slice()) {
         return Ok(Told::Undone(lines));
     }
@@ -79,7 +80,7 @@ fn edit(
         entries: history,
         edited: library,
     };
-    let out = give_back(rt, alloc, keys, order.path, &old, source, &taken, &run)?;
+    let out = give_back(rt, alloc, keys, order.path, &old, source, taken, &run)?;
     look_at(rt, alloc, keys, order.path, out.as_slice(), follow)?;
     Ok(Told::Printed(out, lines))
 }

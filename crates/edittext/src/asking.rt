@@ -1,10 +1,12 @@
 //! What scripts ask of a source: of which assertions they speak, and whose proofs they ask for.
 
 ghost use Rattle.std.specs.Prelude.{◌≡◌, ◌++◌, IfOk, IsTrue, OnOk, map};
+ghost use Rattle.mmtext.specs.Views.{seen};
 ghost use Rattle.source.specs.Views.{seen_words};
-ghost use Rattle.edittext.specs.Words.{asks_for_proof, asked_in, spoken, asked};
+ghost use Rattle.edittext.specs.Words.{asks_for_proof, asked_in, spoken_in, spoken, asked};
+ghost use Rattle.edittext.specs.Views.{seen_scripts};
 
-use crate::words::words_in;
+use mmtext::Token;
 use std::alloc::{AllocError, Global};
 
 /// The words of scripts.
@@ -26,31 +28,37 @@ fn asks_for_proof(word: &[u8]) -> bool
         || word == b"delete".as_slice()
 }
 
-/// Puts the words behind others that stand behind a word which asks for a proof.
-fn put_asked<'a>(asked: &mut Vec<&'a [u8]>, words: &[&'a [u8]]) -> Result<(), AllocError>
-    ensures { OnOk result (seen_words asked.new.items ≡ seen_words asked.old.items ++ asked_in (seen_words words.now)) }
+/// Puts the words of a script behind others, and those behind words that ask for a proof.
+fn put_words<'a>(put: &mut Asked<'a>, words: &[Token<'a>]) -> Result<(), AllocError>
+    ensures spoken { OnOk result (seen_words put.new.spoken.items ≡ seen_words put.old.spoken.items ++ spoken_in (map seen words.now)) }
+    ensures asked { OnOk result (seen_words put.new.asked.items
+        ≡ seen_words put.old.asked.items ++ asked_in (spoken_in (map seen words.now))) }
 {
     let mut asks = false;
     for word in words {
         if asks {
-            asked.push(*word)?;
+            put.asked.push(word.text)?;
         }
-        asks = asks_for_proof(*word);
+        put.spoken.push(word.text)?;
+        asks = asks_for_proof(word.text);
     }
     Ok(())
 }
 
 /// What scripts speak of, and what they ask for.
-pub(crate) fn asked_of<'a>(alloc: Global, texts: &'a [Vec<u8>]) -> Result<Asked<'a>, AllocError>
-    ensures spoken { IfOk result (λ a. seen_words a.spoken.items ≡ spoken (map (λ t. t.items) texts.now)) }
-    ensures asked { IfOk result (λ a. seen_words a.asked.items ≡ asked (map (λ t. t.items) texts.now)) }
+pub(crate) fn asked_of<'a>(
+    alloc: Global,
+    scripts: &[Vec<Token<'a>>],
+) -> Result<Asked<'a>, AllocError>
+    ensures spoken { IfOk result (λ a. seen_words a.spoken.items ≡ spoken (seen_scripts scripts.now)) }
+    ensures asked { IfOk result (λ a. seen_words a.asked.items ≡ asked (seen_scripts scripts.now)) }
 {
-    let mut spoken = Vec::new(alloc);
-    let mut asked = Vec::new(alloc);
-    for text in texts {
-        let words = words_in(alloc, text.as_slice())?;
-        put_asked(&mut asked, words.as_slice())?;
-        spoken.extend_from_slice(words.as_slice())?;
+    let mut put = Asked {
+        spoken: Vec::new(alloc),
+        asked: Vec::new(alloc),
+    };
+    for words in scripts {
+        put_words(&mut put, words.as_slice())?;
     }
-    Ok(Asked { spoken, asked })
+    Ok(put)
 }

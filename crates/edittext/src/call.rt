@@ -1,8 +1,7 @@
 //! The call `edit`: what a source declares, the library that scripts ask of it, their run over that, and the source with the edits of its
 //! history.
 
-ghost use Rattle.std.specs.Prelude.{◌≡◌, ◌⊎◌, All, IfOk, IfErr, MatchOption, Some, true, false, length, map, option_map, slice_get};
-ghost use Rattle.std.specs.List.{list_any};
+ghost use Rattle.std.specs.Prelude.{◌≡◌, All, IfOk, IfErr, length, map};
 ghost use Rattle.derivation.specs.Databases.{AllCheck};
 ghost use Rattle.library.specs.Fitting.{CommandFits};
 ghost use Rattle.taking.specs.Reasons.{Choice};
@@ -12,26 +11,26 @@ ghost use Rattle.source.specs.Scopes.{Assertion, is_in};
 ghost use Rattle.source.specs.Sources.{DeclaresText};
 ghost use Rattle.source.specs.Whole.{IsWhole};
 ghost use Rattle.transaction.specs.Closings.{lists_of};
-ghost use Rattle.checking.specs.Checks.{AreScripts};
 ghost use Rattle.checking.specs.Tasks.{IsWithin};
 ghost use Rattle.jobs.specs.Jobs.{IsWorked, room_of};
-ghost use Rattle.edittext.specs.Edited.{IsTakenFor, edit_room, has_rank, names_rank};
-ghost use Rattle.edittext.specs.Refusals.{IsFaultyLine, IsToldBy, IsUntakenLine, IsUnreadLine, IsRankedLine, IsWorkLine};
-ghost use Rattle.edittext.specs.Refusals.{IsStoppedLine, IsFaultyThenLine};
+ghost use Rattle.edittext.specs.Edited.{IsTakenFor, edit_room};
+ghost use Rattle.edittext.specs.Refusals.{IsFaultyLine, IsToldBy, IsUntakenBy, IsUnbegunLine, IsWorkLine, IsStoppedLine, IsFaultyThenLine};
+ghost use Rattle.edittext.specs.Views.{seen_texts, seen_scripts, IsBegun};
 
 use crate::answering::EditOrder;
 use crate::asking::asked_of;
-use crate::telling::{ranked, ungiven, untaken, unverified, unworked};
+use crate::expanded::{rank_all, read_all, spread_all, words_of};
+use crate::telling::{ungiven, untaken, unverified, unworked};
 use crate::unedited::Unedited;
-use checking::read_scripts;
 use choosing::{Wish, wanted_of};
+use expanding::Laid;
 use following::Follow;
 use givetext::{Replayed, give_edits};
 use intake::{Taken, take_declared};
 use jobs::{Edited, Watch, plan_of, work};
-use library::{Command, Script};
+use library::Script;
 use mmsyntax::Database;
-use mmtext::FaultKind;
+use mmtext::{FaultKind, Token};
 use scopes::Scopes;
 use source::Declared;
 use sourcereader::read_source;
@@ -71,14 +70,14 @@ fn take_for<'a, D: Declared<'a>>(
     keys: RandomState,
     path: &str,
     declared: &D,
-    texts: &[Vec<u8>],
+    scripts: &[Vec<Token<'_>>],
     follow: &impl Follow,
 ) -> Result<Taken<'a>, Unedited>
     requires { IsWhole (D.scope declared.now) }
-    ensures taken { IfOk result (IsTakenFor (D.scope declared.now) (map (λ t. t.items) texts.now)) }
-    ensures refused { IfErr result (IsToldBy (IsUntakenLine path.now (D.scope declared.now) (map (λ t. t.items) texts.now))) }
+    ensures taken { IfOk result (IsTakenFor (D.scope declared.now) (seen_scripts scripts.now)) }
+    ensures refused { IfErr result (IsToldBy (IsUntakenBy path.now (D.scope declared.now) (seen_scripts scripts.now))) }
 {
-    let asked = asked_of(alloc, texts)?;
+    let asked = asked_of(alloc, scripts)?;
     let (spoken, proofs) = (asked.spoken.as_slice(), asked.asked.as_slice());
     let wanted = wanted_of(alloc, keys, declared, spoken, proofs)?;
     let wish = Wish::These(wanted.labels.as_slice(), wanted.axioms.as_slice());
@@ -88,43 +87,15 @@ fn take_for<'a, D: Declared<'a>>(
     }
 }
 
-/// Whether a command names a rank: a source has none.
-fn has_rank(command: &Command) -> bool
-    ensures { result ≡ has_rank command.now }
-{
-    matches!(command, Command::Add { .. } | Command::Move { .. })
-}
-
-/// Whether some command does.
-fn have_rank(commands: &[Command]) -> bool
-    ensures { result ≡ list_any has_rank commands.now }
-{
-    commands.iter().any(has_rank)
-}
-
-/// Whether some command of a script does.
-fn names_rank(script: &Script) -> bool
-    ensures { result ≡ names_rank script.now }
-{
-    for commands in script.as_slice() {
-        if have_rank(commands.as_slice()) {
-            return true;
-        }
-    }
-    false
-}
-
-/// A script that names a rank: its place, from 0.
-fn ranked_among(scripts: &[Script]) -> Option<usize>
-    ensures { MatchOption result (list_any names_rank scripts.now ≡ false)
-        (λ k. option_map names_rank (slice_get scripts.now k) ≡ Some true) }
-{
-    for (place, script) in scripts.iter().enumerate() {
-        if names_rank(script) {
-            return Some(place);
-        }
-    }
-    None
+/// The library that scripts ask of a source, and the scripts as they are read over it.
+#[derive(Drop)]
+pub(crate) struct Begun<'a> {
+    /// The library.
+    pub taken: Taken<'a>,
+    /// The texts of the scripts with its ranks.
+    pub laid: Vec<Laid>,
+    /// The scripts.
+    pub scripts: Vec<Script>,
 }
 
 /// The library that scripts ask of a source, and the scripts as they are read over it.
@@ -134,28 +105,25 @@ pub(crate) fn begin<'a, D: Declared<'a>>(
     keys: RandomState,
     order: EditOrder<'_>,
     declared: &D,
-    texts: &[Vec<u8>],
+    texts: &'a [Vec<u8>],
     follow: &impl Follow,
-) -> Result<(Taken<'a>, Vec<Script>), Unedited>
+) -> Result<Begun<'a>, Unedited>
     requires { IsWhole (D.scope declared.now) }
-    ensures taken { IfOk result (λ b. IsTakenFor (D.scope declared.now) (map (λ t. t.items) texts.now) b.0) }
-    ensures scripts { IfOk result (λ b. AreScripts b.0.database.prelude (map (λ t. t.items) texts.now) b.1.items) }
-    ensures fit { IfOk result (λ b. All (All (All (CommandFits b.0.database.prelude))) b.1.items) }
-    ensures rankless { IfOk result (λ b. list_any names_rank b.1.items ≡ false) }
-    ensures refused { IfErr result (IsToldBy (λ line.
-        IsUntakenLine order.entry.path.now (D.scope declared.now) (map (λ t. t.items) texts.now) line
-        ⊎ (IsUnreadLine (map (λ p. p.now) order.entry.paths.now) (D.scope declared.now) (map (λ t. t.items) texts.now) line
-        ⊎ IsRankedLine (map (λ p. p.now) order.entry.paths.now) (D.scope declared.now) (map (λ t. t.items) texts.now) line))) }
+    ensures begun { IfOk result (IsBegun (D.scope declared.now) (seen_texts texts.now)) }
+    ensures refused { IfErr result (IsToldBy (IsUnbegunLine
+        order.entry.path.now (map (λ p. p.now) order.entry.paths.now) (D.scope declared.now) (seen_texts texts.now))) }
 {
-    let taken = take_for(rt, alloc, keys, order.path, declared, texts, follow)?;
-    let scripts = match read_scripts(alloc, taken.database.prelude(), texts) {
-        Ok(scripts) => scripts,
-        Err(fault) => return Err(unworked(alloc, order.paths, &fault)?),
-    };
-    match ranked_among(scripts.as_slice()) {
-        None => Ok((taken, scripts)),
-        Some(script) => Err(ranked(alloc, order.paths, script + 1)?),
-    }
+    let words = words_of(alloc, order.paths, texts)?;
+    let spread = spread_all(alloc, order.paths, declared, texts, words.as_slice())?;
+    let spread = spread.as_slice();
+    let taken = take_for(rt, alloc, keys, order.path, declared, spread, follow)?;
+    let laid = rank_all(alloc, order.paths, declared, texts, taken.chosen.as_slice(), spread)?;
+    let scripts = read_all(alloc, order.paths, texts, taken.database.prelude(), laid.as_slice())?;
+    Ok(Begun {
+        taken,
+        laid,
+        scripts,
+    })
 }
 
 /// The workers run the scripts over the library that was taken, to its end.

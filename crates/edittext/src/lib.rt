@@ -4,9 +4,9 @@
 mod answering;
 mod asking;
 mod call;
+mod expanded;
 mod telling;
 mod undone;
 mod unedited;
-mod words;
 
 pub use answering::{EditOrder, Told, answer_edit};

@@ -1,22 +1,83 @@
 //! The transactions that weren't done, each with its line.
 
-ghost use Rattle.std.specs.Prelude.{◌≡◌, ◌≢◌, ◌++◌, [], false, codes, IfOk, IsTrue, OnOk, map, string_bytes};
-ghost use Rattle.std.specs.Fmt.{decimal};
+ghost use Rattle.std.specs.Prelude.{◌≡◌, ◌≢◌, ◌++◌, [], false, IfOk, IsTrue, OnOk, map, option_map, slice_index_or, string_bytes};
 ghost use Rattle.transaction.specs.Closings.{lists_of};
-ghost use Rattle.edittext.specs.Undone.{IsUndoneText, undone_from, all_undone};
+ghost use Rattle.expanding.specs.Lines.{line_at};
+ghost use Rattle.library.specs.Reasons.{printed_reason};
+ghost use Rattle.edittext.specs.Undone.{IsUndoneText, command_text, refused_text, undone_of, all_undone};
+ghost use Rattle.edittext.specs.Views.{seen_texts, beginnings_of};
 
-use crate::telling::path_at;
+use crate::telling::{path_at, shown, text_at};
+use expanding::{Laid, lines_of};
+use library::{Command, Reason, Script, Transaction};
 use std::alloc::{AllocError, Global};
 use transaction::Outcome;
 
-/// Why a transaction wasn't done. None where it was.
-fn undone_text(alloc: Global, outcome: &Outcome) -> Result<Option<String>, AllocError>
-    ensures { IfOk result (λ text. IsUndoneText outcome.now text) }
+/// A command's word, and the labels that it speaks of.
+fn command_text(alloc: Global, command: &Command) -> Result<String, AllocError>
+    ensures { IfOk result (λ text. string_bytes text ≡ command_text command.now) }
+{
+    match command {
+        Command::Add { assertion, .. } => {
+            let label = shown(assertion.label.as_slice());
+            format!(in alloc; "add {label}")
+        }
+        Command::Reprove { label, .. } => {
+            let label = shown(label.as_slice());
+            format!(in alloc; "reprove {label}")
+        }
+        Command::Replace { label, old, new } => {
+            let (label, old) = (shown(label.as_slice()), shown(old.as_slice()));
+            let new = shown(new.as_slice());
+            format!(in alloc; "replace {label} {old} {new}")
+        }
+        Command::Rename { old, new } => {
+            let (old, new) = (shown(old.as_slice()), shown(new.as_slice()));
+            format!(in alloc; "rename {old} {new}")
+        }
+        Command::Move { label, .. } => {
+            let label = shown(label.as_slice());
+            format!(in alloc; "move {label}")
+        }
+        Command::Delete { label } => {
+            let label = shown(label.as_slice());
+            format!(in alloc; "delete {label}")
+        }
+        Command::Show { label } => {
+            let label = shown(label.as_slice());
+            format!(in alloc; "show {label}")
+        }
+        Command::List => format!(in alloc; "list"),
+    }
+}
+
+/// That a command, if it is there, is refused for a reason.
+fn refused_text(
+    alloc: Global,
+    command: Option<&Command>,
+    reason: &Reason,
+) -> Result<String, AllocError>
+    ensures { IfOk result (λ text. string_bytes text ≡ refused_text (option_map (λ c. c.now) command.entry) (printed_reason reason.now)) }
+{
+    let Some(command) = command else {
+        return format!(in alloc; "{reason}");
+    };
+    let command = command_text(alloc, command)?;
+    format!(in alloc; "{command}: {reason}")
+}
+
+/// Why a transaction with these commands wasn't done. None where it was.
+fn undone_text(
+    alloc: Global,
+    commands: &[Command],
+    outcome: &Outcome,
+) -> Result<Option<String>, AllocError>
+    ensures { IfOk result (λ text. IsUndoneText commands.now outcome.now text) }
 {
     let text = match outcome {
         Outcome::Committed { .. } | Outcome::Read { .. } => return Ok(None),
         Outcome::Refused { index, reason, .. } => {
-            format!(in alloc; "command {index}: {reason}")?
+            refused_text(alloc, commands.get(index.saturating_sub(1)), reason)?
         }
         Outcome::Conflict { .. } => format!(in alloc; "conflict")?,
         Outcome::StoreFull => format!(in alloc; "store full")?,
@@ -27,50 +88,82 @@ fn undone_text(alloc: Global, outcome: &Outcome) -> Result<Option<String>, Alloc
     Ok(Some(text))
 }
 
-/// The line of a transaction of a script, which counts from 1, and why it wasn't done.
-fn line_of(alloc: Global, path: &str, number: u64, text: &str) -> Result<String, AllocError>
-    ensures { IfOk result (λ line. string_bytes line
-        ≡ path.now ++ (codes ": transaction " ++ (decimal number ++ (codes ": " ++ text.now)))) }
+/// The commands of a transaction of a script, from 0; none where it has no such transaction.
+fn commands_at(script: &[Transaction], place: usize) -> &[Command]
+    ensures { result.now ≡ slice_index_or script.now place [] }
 {
-    format!(in alloc; "{path}: transaction {number}: {text}")
+    match script.get(place) {
+        Some(transaction) => transaction.as_slice(),
+        None => &[],
+    }
 }
 
-/// Puts the lines of the transactions of a script behind others.
+/// Puts the lines of the transactions of a script behind others, which begin on these lines.
 fn put_undone(
     alloc: Global,
-    lines: &mut Vec<String>,
+    said: &mut Vec<String>,
     path: &str,
+    lines: &[usize],
+    script: &[Transaction],
     outcomes: &[Outcome],
 ) -> Result<(), AllocError>
-    ensures { OnOk result (map string_bytes lines.new.items ≡ map string_bytes lines.old.items ++ undone_from path.now 1 outcomes.now) }
+    ensures { OnOk result (map string_bytes said.new.items
+        ≡ map string_bytes said.old.items ++ undone_of path.now lines.now script.now outcomes.now) }
 {
     for (k, outcome) in outcomes.iter().enumerate() {
-        let number = k as u64 + 1;
-        if let Some(text) = undone_text(alloc, outcome)? {
-            lines.push(line_of(alloc, path, number, text.as_str())?)?;
+        if let Some(text) = undone_text(alloc, commands_at(script, k), outcome)? {
+            let line = lines.get(k).copied().unwrap_or(0);
+            said.push(format!(in alloc; "{path}:{line}: {text}")?)?;
         }
     }
     Ok(())
+}
+
+/// The lines on which the transactions of a script begin, of which a place counts from 0.
+fn lines_at(
+    alloc: Global,
+    texts: &[Vec<u8>],
+    laid: &[Laid],
+    place: usize,
+) -> Result<Vec<usize>, AllocError>
+    ensures { IfOk result (λ lines. lines.items ≡ map (λ at. line_at (slice_index_or (seen_texts texts.now) place []) at)
+        (slice_index_or (beginnings_of laid.now) place [])) }
+{
+    match laid.get(place) {
+        Some(script) => lines_of(alloc, text_at(texts, place), script.beginnings.as_slice()),
+        None => Ok(Vec::new(alloc)),
+    }
+}
+
+/// The transactions of the script at a place, from 0; none where there is no such script.
+fn transactions_at(scripts: &[Script], place: usize) -> &[Transaction]
+    ensures { result.now ≡ slice_index_or scripts.now place [] }
+{
+    match scripts.get(place) {
+        Some(script) => script.as_slice(),
+        None => &[],
+    }
 }
 
 /// A line for each transaction that wasn't done, by the scripts and in their order. The paths are those of the source and of the scripts.
 pub(crate) fn undone(
     alloc: Global,
     paths: &[&str],
+    texts: &[Vec<u8>],
+    laid: &[Laid],
+    scripts: &[Script],
     rows: &[Vec<Outcome>],
 ) -> Result<Vec<String>, AllocError>
-    ensures { IfOk result (λ lines. map string_bytes lines.items ≡ all_undone (map (λ p. p.now) paths.now) (lists_of rows.now)) }
+    ensures { IfOk result (λ said. map string_bytes said.items ≡ all_undone
+        (map (λ p. p.now) paths.now) (seen_texts texts.now) (beginnings_of laid.now) scripts.now (lists_of rows.now)) }
 {
-    let mut lines = Vec::new(alloc);
-    for (script, row) in rows.iter().enumerate() {
-        put_undone(
-            alloc,
-            &mut lines,
-            path_at(paths, script + 1),
-            row.as_slice(),
-        )?;
+    let mut said = Vec::new(alloc);
+    for (n, row) in rows.iter().enumerate() {
+        let lines = lines_at(alloc, texts, laid, n)?;
+        let (path, script) = (path_at(paths, n + 1), transactions_at(scripts, n));
+        put_undone(alloc, &mut said, path, lines.as_slice(), script, row.as_slice())?;
     }
-    Ok(lines)
+    Ok(said)
 }
 
 /// Whether a source is printed by these lines of what wasn't done: there is none, or a part is asked for.
