@@ -1,0 +1,28 @@
+-- Words as a text, and where they stand.
+use Rattle.std.proofs.Common.{◌≡◌, ◌∙◌, ℕ, suc, ◌+◌, ◌-◌, ◌<◌, ◌≤◌, Bool, true, false, cond, List, [], ◌∷◌, ◌++◌, length, map, take, drop, get_or, Some}
+use Rattle.std.proofs.lemmas.List.{get_or_read, drop_more}
+use Rattle.std.proofs.Common.{refl, sym, ap, subst, arith}
+use Rattle.std.specs.Prelude.{nat_le, slice_get}
+use Rattle.mmtext.specs.Text.{Token}
+use Rattle.expanding.specs.Words.{place_at}
+use Rattle.expanding.specs.Views.{stretch_of, seen_stretches, IsLaid}
+use Rattle.expanding.specs.declared.laid.Stretch.{Stretch}
+use Rattle.expanding.specs.declared.laid.Laid.{Laid}
+
+-- as the code goes through them
+abbrev pub stood_at : List Stretch → ℕ → ℕ → ℕ
+stood_at [] end byte = end
+stood_at (w ∷ ws) end byte = cond (nat_le byte w.length) w.place (stood_at ws end (byte - suc w.length))
+
+pub stood_laid : (ws : List Stretch) (ts : List Token) (end byte : ℕ) → seen_stretches ws ≡ map stretch_of ts
+    → stood_at ws end byte ≡ place_at ts end byte
+stood_laid [] [] end byte e = refl
+stood_laid [] (t ∷ ts) end byte e = absurd cc
+stood_laid (w ∷ ws) [] end byte e = absurd cc
+stood_laid (w ∷ ws) (t ∷ ts) end byte e =
+    let rest : seen_stretches ws ≡ map stretch_of ts = cc in
+    let first : (w.length, w.place) ≡ stretch_of t = cc in
+    let long : w.length ≡ length t.text = ap (λ (p : ℕ × ℕ). p.0) first in
+    let place : w.place ≡ t.place = ap (λ (p : ℕ × ℕ). p.1) first in
+    let behind = stood_laid ws ts end (byte - suc w.length) rest in
+    rw (behind, long, place) refl
