@@ -1,17 +1,25 @@
 //! Which words of a script belong to one command.
 
-ghost use Rattle.std.specs.Prelude.{◌≡◌, ◌<◌, ◌≤◌, ◌≢◌, ◌∷◌, [], List, length, map, take, drop};
+ghost use Rattle.std.specs.Prelude.{◌≡◌, ◌<◌, ◌≤◌, ◌≢◌, ◌∷◌, [], List, length, map, take, drop, position};
+ghost use Rattle.std.specs.Str.{bytes_eq};
 ghost use Rattle.mmtext.specs.Text.{Token as Word};
 ghost use Rattle.mmtext.specs.Views.{seen};
 ghost use Rattle.expanding.specs.Forms.{up_to, unit_length, is_beside, place_length, behind_word, begins_with, words_before_place, beginning_of, AreParts, Part};
 
 use mmtext::Token;
 
+/// The place of the first word that is this one.
+fn first_place(last: &[u8], words: &[Token<'_>]) -> Option<usize>
+    ensures { result ≡ position (λ t. bytes_eq t.text.now last.now) words.now }
+{
+    words.iter().position(|word| word.text == last)
+}
+
 /// How many words stand up to the first that is this one, with it: all where none is.
 fn up_to(last: &[u8], words: &[Token<'_>]) -> usize
     ensures { result ≡ up_to last.now (map seen words.now) }
 {
-    match words.iter().position(|word| word.text == last) {
+    match first_place(last, words) {
         Some(place) => place + 1,
         None => words.len(),
     }

@@ -1,6 +1,6 @@
 //! The lines of a text on which bytes stand.
 
-ghost use Rattle.std.specs.Prelude.{◌≡◌, IfOk, map};
+ghost use Rattle.std.specs.Prelude.{◌≡◌, ◌≤◌, IfOk, map, length};
 ghost use Rattle.expanding.specs.Lines.{line_at};
 
 use std::alloc::{AllocError, Global};
@@ -9,13 +9,20 @@ use std::alloc::{AllocError, Global};
 pub fn line_at(text: &[u8], place: usize) -> usize
     ensures { result ≡ line_at text.now place }
 {
-    let mut line = 1;
-    for byte in &text[..place.min(text.len())] {
-        if *byte == b'\n' {
-            line += 1;
-        }
+    let before = &text[..place.min(text.len())];
+    1 + before.iter().filter(|byte| **byte == b'\n').count()
+}
+
+/// The line of the byte at a place, where that of a byte in the text is known.
+fn line_from(text: &[u8], at: usize, line: usize, place: usize) -> usize
+    requires within { at ≤ length text.now }
+    requires known { line ≡ line_at text.now at }
+    ensures { result ≡ line_at text.now place }
+{
+    if place < at {
+        return line_at(text, place);
     }
-    line
+    line + (line_at(&text[at..], place - at) - 1)
 }
 
 /// The lines of a text on which bytes at these places stand. Where the places ascend, the text is gone through once.
@@ -31,11 +38,7 @@ pub fn lines_of(alloc: Global, text: &[u8], places: &[usize]) -> Result<Vec<usiz
     let mut line = 1;
     for place in places {
         let place = (*place).min(text.len());
-        if place < at {
-            line = line_at(text, place);
-        } else {
-            line += line_at(&text[at..], place - at) - 1;
-        }
+        line = line_from(text, at, line, place);
         at = place;
         lines.push(line)?;
     }

@@ -7,7 +7,7 @@ ghost use Rattle.expanding.specs.Refusals.{IsUnranked};
 ghost use Rattle.expanding.specs.Ranking.{IsRanked, gap_of_place};
 ghost use Rattle.expanding.specs.Views.{IsLaid, IsRanker, AreFronts};
 
-use crate::forms::{behind, beginning_of, is_beside, part_length, words_before_place};
+use crate::forms::{beginning_of, behind, is_beside, part_length, words_before_place};
 use crate::laid::Laid;
 use crate::misfit::Misfit;
 use mmtext::Token;
@@ -72,8 +72,7 @@ impl Ranker {
     }
 
     /// One more is put behind so many assertions: its rank. None where 99 were put there before.
-    fn rank_at(&mut self, gap: usize) -> Option<u64>
-    {
+    fn rank_at(&mut self, gap: usize) -> Option<u64> {
         let count = self.counts.get_mut(gap)?;
         if *count >= MOST_BESIDE {
             return None;
@@ -89,8 +88,7 @@ impl Ranker {
         declared: &D,
         words: &[Token<'w>],
         laid: &mut Laid,
-    ) -> Result<(), Misfit<'w>>
-    {
+    ) -> Result<(), Misfit<'w>> {
         let (Some(how), Some(gap)) = (words.first(), self.gap_of(declared, words)) else {
             return Ok(laid.put_words(words)?);
         };
@@ -109,8 +107,7 @@ impl Ranker {
         declared: &D,
         part: &[Token<'w>],
         laid: &mut Laid,
-    ) -> Result<(), Misfit<'w>>
-    {
+    ) -> Result<(), Misfit<'w>> {
         if let Some(place) = beginning_of(part) {
             laid.begin(place)?;
         }

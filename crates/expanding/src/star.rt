@@ -47,11 +47,7 @@ pub(crate) fn word_at<'a>(place: usize, text: &'a [u8]) -> Token<'a>
 
 impl<'a> Star<'a> {
     /// Puts the same in the theorem with a label.
-    pub(crate) fn put_in(
-        self,
-        label: &'a [u8],
-        out: &mut Vec<Token<'a>>,
-    ) -> Result<(), AllocError>
+    pub(crate) fn put_in(self, label: &'a [u8], out: &mut Vec<Token<'a>>) -> Result<(), AllocError>
         ensures { OnOk result (map seen out.new.items ≡ map seen out.old.items ++ replaced_in (seen_star self.entry) label.now) }
     {
         out.push(self.verb)?;

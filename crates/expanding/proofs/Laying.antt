@@ -1,0 +1,39 @@
+-- Words as a text, and where they stand.
+use Rattle.std.proofs.Common.{◌≡◌, ◌∙◌, ℕ, suc, ◌+◌, ◌-◌, ◌<◌, ◌≤◌, Bool, true, false, cond, List, [], ◌∷◌, ◌++◌, length, map, take, drop, get_or, Some}
+use Rattle.std.proofs.lemmas.List.{at_drop_more, at_drop_all}
+use Rattle.std.proofs.lemmas.Bool.{cond-true, le-leb}
+use Rattle.std.proofs.Common.{refl, sym, ap, subst, arith}
+use Rattle.std.specs.Prelude.{nat_le, slice_get}
+use Rattle.mmtext.specs.Text.{Token}
+use Rattle.expanding.specs.Words.{place_at}
+use Rattle.expanding.specs.Views.{stretch_of, seen_stretches, IsLaid}
+use Rattle.expanding.specs.declared.laid.Stretch.{Stretch}
+use Rattle.expanding.specs.declared.laid.Laid.{Laid}
+
+-- as the code goes through them
+abbrev pub stood_at : List Stretch → ℕ → ℕ → ℕ
+stood_at [] end byte = end
+stood_at (w ∷ ws) end byte = cond (nat_le byte w.length) w.place (stood_at ws end (byte - suc w.length))
+
+pub stood_laid : (ws : List Stretch) (ts : List Token) (end byte : ℕ) → seen_stretches ws ≡ map stretch_of ts
+    → stood_at ws end byte ≡ place_at ts end byte
+stood_laid [] [] end byte e = refl
+stood_laid [] (t ∷ ts) end byte e = absurd cc
+stood_laid (w ∷ ws) [] end byte e = absurd cc
+stood_laid (w ∷ ws) (t ∷ ts) end byte e =
+    let rest : seen_stretches ws ≡ map stretch_of ts = cc in
+    let first : (w.length, w.place) ≡ stretch_of t = cc in
+    let long : w.length ≡ length t.text = ap (λ (p : ℕ × ℕ). p.0) first in
+    let place : w.place ≡ t.place = ap (λ (p : ℕ × ℕ). p.1) first in
+    let behind = stood_laid ws ts end (byte - suc w.length) rest in
+    rw (behind, long, place) refl
+
+module _ (ws : List Stretch) (i : ℕ) (end left : ℕ) where
+  pub stood_here : (d : Stretch) → i < length ws → left ≤ (get_or ws i d).length → stood_at (drop i ws) end left ≡ (get_or ws i d).place
+  stood_here d lt le =
+      at_drop_more (λ us. stood_at us end left) ws i d lt
+      ∙ cond-true (nat_le left (get_or ws i d).length) (get_or ws i d).place
+      (stood_at (drop (i + 1) ws) end (left - suc (get_or ws i d).length)) (le-leb left (get_or ws i d).length le)
+
+  pub stood_behind : length ws ≤ i → stood_at (drop i ws) end left ≡ end
+  stood_behind le = at_drop_all (λ us. stood_at us end left) ws i le
