@@ -1,16 +1,20 @@
 -- Scripts on the way to those that are run: one more of them.
-use Rattle.std.proofs.Common.{◌≡◌, ◌≤◌, ◌+◌, ℕ, Bool, List, [], ◌∷◌, ◌++◌, length, map, take, Some, ap, sym, ◌∙◌, subst, arith}
-use Rattle.std.specs.Prelude.{slice_get, option_map}
+use Rattle.std.proofs.Common.{◌≡◌, ◌≤◌, ◌+◌, ℕ, Bool, List, [], ◌∷◌, ◌++◌, length, map, take, Option, Some, refl, ap, ap₂, sym, ◌∙◌}
+use Rattle.std.proofs.Common.{subst, arith}
+use Rattle.std.specs.Prelude.{slice_get, option_map, MatchOption, IsSomeAnd}
 use Rattle.std.specs.List.{AllZip}
 use Rattle.std.proofs.lemmas.List.{map-append, take_all, length-map}
 use Rattle.std.proofs.lemmas.Option.{slice_get-map}
-use Rattle.std.proofs.lemmas.Slice.Zip.{all_zipped_more}
+use Rattle.std.proofs.lemmas.Slice.Zip.{all_zipped_more, AllZip-right}
 use Rattle.mmtext.specs.Text.{Token}
 use Rattle.mmsyntax.specs.Tables.{Tables}
 use Rattle.source.specs.Scopes.{Scope}
 use Rattle.checking.specs.Checks.{Bytes, Orders, IsScript, AreScripts}
 use Rattle.expanding.specs.Ranking.{IsRanked}
-use Rattle.edittext.specs.Expanded.{RankedScript, AreRanked}
+use Rattle.expanding.specs.Words.{text_of}
+use Rattle.expanding.specs.declared.laid.Laid.{Laid}
+use Rattle.edittext.specs.Expanded.{RankedScript, AreRanked, texts_of}
+use Rattle.edittext.specs.Views.{IsLaidOf, AreLaid, beginnings_of}
 use Rattle.edittext.proofs.AskedWords.{take_next}
 
 -- ---- two lists, item by item
@@ -51,3 +55,28 @@ module _ (s : Scope) (flags : List Bool) where
   )
   ranked_more earlier (us ∷ scripts) (o ∷ outs) after ts out gaps all one =
       (all.0, all.1.0, ranked_more (earlier ++ all.0) scripts outs after ts out gaps all.1.1 one)
+
+-- ---- what is laid
+
+some_and : {A : Type 0} (P : A → Type 0) (o : Option A) → IsSomeAnd o P → (x : A) × (o ≡ Some x) × P x
+some_and P (Some x) h = (x, refl, h)
+
+pub laid_at : (outs : List RankedScript) (all : List Laid) (k : ℕ) (l : Laid) → AreLaid outs all → slice_get all k ≡ Some l
+    → (o : RankedScript) × (slice_get outs k ≡ Some o) × IsLaidOf o l
+laid_at outs all k l h at =
+    some_and (λ o. IsLaidOf o l) (slice_get outs k)
+    (subst (λ (found : Option Laid). MatchOption found (Unit {0}) (λ y. IsSomeAnd (slice_get outs k) (λ o. IsLaidOf o y))) at
+    (AllZip-right IsLaidOf outs all h k))
+
+pub begun_at : (outs : List RankedScript) (all : List Laid) → AreLaid outs all → map (λ o. o.beginnings) outs ≡ beginnings_of all
+begun_at [] [] h = refl
+begun_at (o ∷ outs) (l ∷ all) h = ap₂ (λ b bs. b ∷ bs) (sym h.0.beginnings) (begun_at outs all h.1)
+
+pub scripts_next : (p : Tables) (outs : List RankedScript) (k : ℕ) (o : RankedScript) (xs ys : List Orders) (x : Orders)
+    → slice_get outs k ≡ Some o → AreScripts p (texts_of (take k outs)) xs → IsScript p (text_of o.words) x → ys ≡ xs ++ x ∷ []
+    → AreScripts p (texts_of (take (k + 1) outs)) ys
+scripts_next p outs k o xs ys x at all one more =
+    let texts = ap texts_of (take_next outs k o at) ∙ map-append (λ (r : RankedScript). text_of r.words) (take k outs) (o ∷ []) in
+    subst (λ (us : List Bytes). AreScripts p us ys) (sym texts)
+    (subst (λ (vs : List Orders). AreScripts p (texts_of (take k outs) ++ text_of o.words ∷ []) vs) (sym more)
+    (scripts_more p (texts_of (take k outs)) xs (text_of o.words) x all one))
