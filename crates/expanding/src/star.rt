@@ -22,22 +22,6 @@ pub(crate) struct Star<'a> {
     pub new: Token<'a>,
 }
 
-/// The command `replace *`, if a part is one.
-pub(crate) fn star_of<'a>(part: &[Token<'a>]) -> Option<Star<'a>>
-    ensures { option_map seen_star result ≡ star_of (map seen part.now) }
-{
-    let (verb, star, old, new) = (part.first()?, part.get(1)?, part.get(2)?, part.get(3)?);
-    if part.len() > 4 || verb.text != b"replace".as_slice() || star.text != b"*".as_slice() {
-        return None;
-    }
-    Some(Star {
-        verb: *verb,
-        star: *star,
-        old: *old,
-        new: *new,
-    })
-}
-
 /// A word that stands at the place of another.
 pub(crate) fn word_at<'a>(place: usize, text: &'a [u8]) -> Token<'a>
     ensures { seen result ≡ word_at place text.now }
