@@ -1,6 +1,6 @@
 -- Words behind words that ask for a proof: one more word, one more script.
-use Rattle.std.proofs.Common.{◌≡◌, ◌<◌, ◌+◌, ℕ, Bool, true, false, List, [], ◌∷◌, ◌++◌, length, map, take, get_or, Some}
-use Rattle.std.proofs.Common.{refl, sym, ap, ◌∙◌, append_assoc, add-one}
+use Rattle.std.proofs.Common.{◌≡◌, ◌<◌, ◌+◌, ℕ, zero, suc, Bool, true, false, List, [], ◌∷◌, ◌++◌, length, map, take, get_or, Bor, Some}
+use Rattle.std.proofs.Common.{refl, sym, ap, ◌∙◌, append_assoc, add-one, arith}
 use Rattle.std.specs.Prelude.{if◌then◌else◌, slice_get}
 use Rattle.std.proofs.lemmas.Option.{slice_get-get_or}
 use Rattle.choosing.proofs.Going.{one_more}
@@ -8,10 +8,9 @@ use Rattle.std.specs.List.{flat_map}
 use Rattle.std.proofs.lemmas.Grind.{flat_map-append}
 use Rattle.std.proofs.lemmas.Bool.{cond-true, cond-false}
 use Rattle.std.proofs.lemmas.List.{append-nil, map-append}
-use Rattle.mmtext.specs.Views.{seen}
+use Rattle.source.specs.Views.{seen_words}
 use Rattle.mmtext.specs.Words.{Word}
-use Rattle.mmtext.specs.declared.token.Token.{Token as CodeToken}
-use Rattle.edittext.specs.Words.{asks_for_proof, asked_by, asked_in, spoken_in}
+use Rattle.edittext.specs.Words.{asks_for_proof, asked_by, asked_in}
 
 -- whether the last word asks for a proof
 abbrev pub asks_last : List Word → Bool
@@ -38,60 +37,57 @@ asked_more (v ∷ u ∷ ws) w =
 pub take_next : {A : Type 0} (xs : List A) (k : ℕ) (x : A) → slice_get xs k ≡ Some x → take (k + 1) xs ≡ take k xs ++ x ∷ []
 take_next xs k x at = ap (λ j. take j xs) (add-one k) ∙ one_more xs k x at
 
--- the words of a script
-abbrev pub words_of : List CodeToken → List Word
-words_of ts = spoken_in (map seen ts)
+pub item_at : {A : Type 0} (xs : List A) (k : ℕ) (d : A) → k < length xs → slice_get xs k ≡ Some (get_or xs k d)
+item_at xs k d h = slice_get-get_or xs k d h
 
-module _ (words : List CodeToken) (k : ℕ) (d : CodeToken) (within : k < length words) where
+pub seen_next : (words : List (Bor (List ℕ))) (k : ℕ) (d : Bor (List ℕ)) → k < length words
+    → seen_words (take (k + 1) words) ≡ seen_words (take k words) ++ (get_or words k d).now ∷ []
+seen_next words k d h =
+    ap seen_words (take_next words k (get_or words k d) (item_at words k d h))
+    ∙ map-append (λ (w : Bor (List ℕ)). w.now) (take k words) (get_or words k d ∷ [])
+
+module _ (words : List (Bor (List ℕ))) (k : ℕ) (d : Bor (List ℕ)) (within : k < length words) where
   abbrev pub before : List Word
-  before = words_of (take k words)
+  before = seen_words (take k words)
 
   abbrev pub word : Word
-  word = (get_or words k d).text.now
+  word = (get_or words k d).now
 
-  pub words_next : words_of (take (k + 1) words) ≡ before ++ word ∷ []
-  words_next =
-      ap words_of (take_next words k (get_or words k d) (slice_get-get_or words k d within))
-      ∙ ap spoken_in (map-append seen (take k words) (get_or words k d ∷ []))
-      ∙ map-append (λ t. t.text) (map seen (take k words)) (seen (get_or words k d) ∷ [])
-
-  pub spoken_next : (start now : List Word) → now ≡ start ++ before → now ++ word ∷ [] ≡ start ++ words_of (take (k + 1) words)
-  spoken_next start now is =
-      ap (λ ws. ws ++ word ∷ []) is ∙ append_assoc start before (word ∷ []) ∙ ap (λ ws. start ++ ws) (sym words_next)
-
-  pub last_next : (b : Bool) → b ≡ asks_for_proof word → b ≡ asks_last (words_of (take (k + 1) words))
-  last_next b is = is ∙ sym (ap asks_last words_next ∙ last_asks before word)
+  pub last_next : (b : Bool) → b ≡ asks_for_proof word → b ≡ asks_last (seen_words (take (k + 1) words))
+  last_next b is = is ∙ sym (ap asks_last (seen_next words k d within) ∙ last_asks (seen_words (take k words)) word)
 
   -- a word that is asked for
   pub asked_next : (start now : List Word) → asks_last before ≡ true → now ≡ start ++ asked_in before
-      → now ++ word ∷ [] ≡ start ++ asked_in (words_of (take (k + 1) words))
+      → now ++ word ∷ [] ≡ start ++ asked_in (seen_words (take (k + 1) words))
   asked_next start now asks is =
       ap (λ ws. ws ++ word ∷ []) is
       ∙ append_assoc start (asked_in before) (word ∷ [])
       ∙ ap (λ ws. start ++ ws)
       (ap (λ ws. asked_in before ++ ws) (sym (cond-true (asks_last before) (word ∷ []) [] asks))
-      ∙ sym (ap asked_in words_next ∙ asked_more before word))
+      ∙ sym (ap asked_in (seen_next words k d within) ∙ asked_more before word))
 
   -- one that isn't
   pub unasked_next : (start now : List Word) → asks_last before ≡ false → now ≡ start ++ asked_in before
-      → now ≡ start ++ asked_in (words_of (take (k + 1) words))
+      → now ≡ start ++ asked_in (seen_words (take (k + 1) words))
   unasked_next start now asks is =
       is
       ∙ ap (λ ws. start ++ ws)
       (sym (append-nil (asked_in before))
       ∙ ap (λ ws. asked_in before ++ ws) (sym (cond-false (asks_last before) (word ∷ []) [] asks))
-      ∙ sym (ap asked_in words_next ∙ asked_more before word))
+      ∙ sym (ap asked_in (seen_next words k d within) ∙ asked_more before word))
 
 -- ---- scripts
 
 -- one more, of which something is put behind what was put of those before
 pub flat_next : {A B : Type 0} (I : A → B) (F : B → List Word) (xs : List A) (k : ℕ) (x : A) → slice_get xs k ≡ Some x
-    → (before now : List Word) → before ≡ flat_map F (map I (take k xs)) → now ≡ before ++ F (I x)
-    → now ≡ flat_map F (map I (take (k + 1) xs))
+    → (before now : List Word) → before ≡ flat_map F (map I (take k xs)) → now ≡ F (I x)
+    → before ++ now ≡ flat_map F (map I (take (k + 1) xs))
 flat_next I F xs k x at before now first next =
-    next
-    ∙ ap (λ ws. before ++ ws) (sym (append-nil (F (I x))))
+    ap (λ ws. before ++ ws) (next ∙ sym (append-nil (F (I x))))
     ∙ ap (λ ws. ws ++ (F (I x) ++ [])) first
     ∙ sym (ap (λ ys. flat_map F (map I ys)) (take_next xs k x at)
     ∙ ap (flat_map F) (map-append I (take k xs) (x ∷ []))
     ∙ flat_map-append F (map I (take k xs)) (I x ∷ []))
+
+pub seen_both : (ws vs : List (Bor (List ℕ))) → seen_words (ws ++ vs) ≡ seen_words ws ++ seen_words vs
+seen_both ws vs = map-append (λ (w : Bor (List ℕ)). w.now) ws vs

@@ -28,21 +28,29 @@ fn asks_for_proof(word: &[u8]) -> bool
         || word == b"delete".as_slice()
 }
 
-/// Puts the words of a script behind others, and those behind words that ask for a proof.
-fn put_words<'a>(put: &mut Asked<'a>, words: &[Token<'a>]) -> Result<(), AllocError>
-    ensures spoken { OnOk result (seen_words put.new.spoken.items ≡ seen_words put.old.spoken.items ++ spoken_in (map seen words.now)) }
-    ensures asked { OnOk result (seen_words put.new.asked.items
-        ≡ seen_words put.old.asked.items ++ asked_in (spoken_in (map seen words.now))) }
+/// Puts the words behind others that stand behind a word which asks for a proof.
+fn put_asked<'a>(asked: &mut Vec<&'a [u8]>, words: &[&'a [u8]]) -> Result<(), AllocError>
+    ensures { OnOk result (seen_words asked.new.items ≡ seen_words asked.old.items ++ asked_in (seen_words words.now)) }
 {
     let mut asks = false;
     for word in words {
         if asks {
-            put.asked.push(word.text)?;
+            asked.push(*word)?;
         }
-        put.spoken.push(word.text)?;
-        asks = asks_for_proof(word.text);
+        asks = asks_for_proof(*word);
     }
     Ok(())
+}
+
+/// The words of a script, without their places.
+fn spoken_in<'a>(alloc: Global, script: &[Token<'a>]) -> Result<Vec<&'a [u8]>, AllocError>
+    ensures { IfOk result (λ words. seen_words words.items ≡ spoken_in (map seen script.now)) }
+{
+    let mut words = Vec::new(alloc);
+    for word in script {
+        words.push(word.text)?;
+    }
+    Ok(words)
 }
 
 /// What scripts speak of, and what they ask for.
@@ -53,12 +61,12 @@ pub(crate) fn asked_of<'a>(
     ensures spoken { IfOk result (λ a. seen_words a.spoken.items ≡ spoken (seen_scripts scripts.now)) }
     ensures asked { IfOk result (λ a. seen_words a.asked.items ≡ asked (seen_scripts scripts.now)) }
 {
-    let mut put = Asked {
-        spoken: Vec::new(alloc),
-        asked: Vec::new(alloc),
-    };
-    for words in scripts {
-        put_words(&mut put, words.as_slice())?;
+    let mut spoken = Vec::new(alloc);
+    let mut asked = Vec::new(alloc);
+    for script in scripts {
+        let words = spoken_in(alloc, script.as_slice())?;
+        put_asked(&mut asked, words.as_slice())?;
+        spoken.extend_from_slice(words.as_slice())?;
     }
-    Ok(put)
+    Ok(Asked { spoken, asked })
 }

@@ -1,28 +1,30 @@
 -- What is left to show of `asked_of`.
-use Rattle.std.proofs.Common.{◌∙◌, ◌++◌, length, refl, sym, ap}
+use Rattle.std.proofs.Common.{◌∙◌, ◌++◌, length, map, refl, ap, List}
 use Rattle.std.proofs.lemmas.Option.{slice_get_read}
+use Rattle.mmtext.specs.Views.{seen}
 use Rattle.source.specs.Views.{seen_words}
-use Rattle.edittext.specs.Words.{words_in, asked_in}
+use Rattle.edittext.specs.Words.{spoken_in, asked_in}
 use Rattle.edittext.proofs.AskedWords.{flat_next, seen_both}
 use Rattle.edittext.proofs.asking.asked_of.Goals as goal
 
-pub loop-text-preserved : goal.loop-text-preserved
-loop-text-preserved c =
-    let texts = c.args.texts.now in
-    let k = c.loop-text.text-index in
-    let text = c.text-item.result in
-    let at = slice_get_read texts (length texts) k text refl c.loop-text-test.true c.text-item.is in
-    let are = c.in_ok-words.ensures ∙ ap words_in c.as_slice.ensures.value in
-    let put = c.as_slice-in-loop-text.result.now in
-    let more = c.as_slice-in-loop-text-2.result.now in
+pub loop-script-preserved : goal.loop-script-preserved
+loop-script-preserved c =
+    let scripts = c.args.scripts.now in
+    let k = c.loop-script.script-index in
+    let script = c.script-item.result in
+    let at = slice_get_read scripts (length scripts) k script refl c.loop-script-test.true c.script-item.is in
+    let are = c.in_ok-words.ensures ∙ ap (λ ts. spoken_in (map seen ts)) c.as_slice.ensures.value in
+    let put = c.as_slice-in-loop-script.result.now in
+    let more = c.as_slice-in-loop-script-2.result.now in
     record {
       spoken_are =
           ap seen_words c.in_ok-extend_from_slice.ensures.items
-          ∙ seen_both c.loop-text.spoken.items more
-          ∙ flat_next words_in texts k text at (seen_words c.loop-text.spoken.items) (seen_words more) c.loop-text.invariant.spoken_are
-          (ap seen_words c.as_slice-in-loop-text-2.ensures.value ∙ are);
+          ∙ seen_both c.loop-script.spoken.items more
+          ∙ flat_next (λ ts. map seen ts.items) spoken_in scripts k script at (seen_words c.loop-script.spoken.items) (seen_words more)
+          c.loop-script.invariant.spoken_are (ap seen_words c.as_slice-in-loop-script-2.ensures.value ∙ are);
       asked_are =
           c.in_ok-put_asked.ensures
-          ∙ flat_next (λ text. asked_in (words_in text)) texts k text at (seen_words c.loop-text.asked.items) (asked_in (seen_words put))
-          c.loop-text.invariant.asked_are (ap asked_in (ap seen_words c.as_slice-in-loop-text.ensures.value ∙ are));
+          ∙ flat_next (λ ts. map seen ts.items) (λ ts. asked_in (spoken_in ts)) scripts k script at
+          (seen_words c.loop-script.asked.items) (asked_in (seen_words put))
+          c.loop-script.invariant.asked_are (ap asked_in (ap seen_words c.as_slice-in-loop-script.ensures.value ∙ are));
     }
