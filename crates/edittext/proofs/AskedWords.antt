@@ -9,8 +9,11 @@ use Rattle.std.proofs.lemmas.Grind.{flat_map-append}
 use Rattle.std.proofs.lemmas.Bool.{cond-true, cond-false}
 use Rattle.std.proofs.lemmas.List.{append-nil, map-append}
 use Rattle.source.specs.Views.{seen_words}
+use Rattle.mmtext.specs.Text.{Token}
+use Rattle.mmtext.specs.Views.{seen}
 use Rattle.mmtext.specs.Words.{Word}
-use Rattle.edittext.specs.Words.{asks_for_proof, asked_by, asked_in}
+use Rattle.mmtext.specs.declared.token.Token.{Token as CodeToken}
+use Rattle.edittext.specs.Words.{asks_for_proof, asked_by, asked_in, spoken_in}
 
 -- whether the last word asks for a proof
 abbrev pub asks_last : List Word → Bool
@@ -75,6 +78,21 @@ module _ (words : List (Bor (List ℕ))) (k : ℕ) (d : Bor (List ℕ)) (within 
       (sym (append-nil (asked_in before))
       ∙ ap (λ ws. asked_in before ++ ws) (sym (cond-false (asks_last before) (word ∷ []) [] asks))
       ∙ sym (ap asked_in (seen_next words k d within) ∙ asked_more before word))
+
+-- ---- words without their places
+
+pub spoken_next : (words : List CodeToken) (k : ℕ) (d : CodeToken) → k < length words → (before now : List (Bor (List ℕ)))
+    → now ≡ before ++ (get_or words k d).text ∷ [] → seen_words before ≡ spoken_in (map seen (take k words))
+    → seen_words now ≡ spoken_in (map seen (take (k + 1) words))
+spoken_next words k d within before now next first =
+    let t = get_or words k d in
+    let left : seen_words now ≡ seen_words before ++ t.text.now ∷ [] =
+    ap seen_words next ∙ map-append (λ (w : Bor (List ℕ)). w.now) before (t.text ∷ []) in
+    let right : spoken_in (map seen (take (k + 1) words)) ≡ spoken_in (map seen (take k words)) ++ t.text.now ∷ [] =
+    ap (λ ts. spoken_in (map seen ts)) (take_next words k t (slice_get-get_or words k d within))
+    ∙ ap spoken_in (map-append seen (take k words) (t ∷ []))
+    ∙ map-append (λ (u : Token). u.text) (map seen (take k words)) (seen t ∷ []) in
+    left ∙ ap (λ ws. ws ++ t.text.now ∷ []) first ∙ sym right
 
 -- ---- scripts
 

@@ -1,0 +1,8 @@
+-- What is left to show of `spoken_in`.
+use Rattle.edittext.proofs.AskedWords.{spoken_next}
+use Rattle.edittext.proofs.asking.spoken_in.Goals as goal
+
+pub loop-word-preserved : goal.loop-word-preserved
+loop-word-preserved c =
+    spoken_next c.args.script.now c.loop-word.word-index _ c.loop-word-test.true c.loop-word.words.items _ c.in_ok-push.ensures.items
+    c.loop-word.invariant
