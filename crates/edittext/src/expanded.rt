@@ -108,9 +108,13 @@ pub(crate) fn read_all(
     for (place, laid) in all.iter().enumerate() {
         match read_script(alloc, prelude, laid.text.as_slice()) {
             Ok(script) => scripts.push(script)?,
-            Err(TextFault { place: byte, kind }) => {
-                let at = laid.place_of(text_at(texts, place).len(), byte);
-                return Err(unread(alloc, paths, place, TextFault { place: at, kind })?);
+            Err(fault) => {
+                let end = text_at(texts, place).len();
+                let told = TextFault {
+                    place: laid.place_of(end, fault.place),
+                    kind: fault.kind,
+                };
+                return Err(unread(alloc, paths, place, told)?);
             }
         }
     }

@@ -1,6 +1,6 @@
 //! Why a source isn't edited.
 
-use std::alloc::AllocError;
+use std::alloc::{AllocError, AllocFailed};
 
 /// Why nothing is printed.
 #[derive(Debug, Drop)]
@@ -18,6 +18,17 @@ impl From<AllocError> for Unedited {
     ghost from_gives = { λ _ why. why ≡ NoMemory };
 
     fn from(_error: AllocError) -> Unedited {
+        Unedited::NoMemory
+    }
+}
+
+impl<T: Drop> From<AllocFailed<T>> for Unedited {
+    ghost use Rattle.std.specs.Prelude.{◌≡◌};
+    ghost use Rattle.edittext.specs.declared.unedited.Unedited.TheVariants.{NoMemory};
+
+    ghost from_gives = { λ _ why. why ≡ NoMemory };
+
+    fn from(_error: AllocFailed<T>) -> Unedited {
         Unedited::NoMemory
     }
 }
