@@ -1,5 +1,5 @@
 -- Of the code's inside, apart from the rules: how a text of words remembers where they stand, and what was put at each gap.
-use Rattle.std.specs.Prelude.{◌≡◌, ◌<◌, ◌≤◌, ℕ, suc, Bool, List, map, length, slice_get, Option, Some}
+use Rattle.std.specs.Prelude.{◌≡◌, ◌<◌, ◌≤◌, ℕ, suc, Bool, List, map, length, slice_get, Option, Some, None, if◌then◌else◌}
 use Rattle.mmtext.specs.Text.{Token}
 use Rattle.expanding.specs.Words.{text_of}
 use Rattle.expanding.specs.Ranking.{taken_among, many_at}
@@ -7,7 +7,9 @@ use Rattle.expanding.specs.declared.laid.Stretch.{Stretch}
 use Rattle.expanding.specs.declared.laid.Laid.{Laid}
 use Rattle.expanding.specs.declared.ranking.Ranker.{Ranker}
 use Rattle.mmtext.specs.Views.{seen}
-use Rattle.expanding.specs.Spreading.{Star, Misfit, unknown, numbered, not_alone}
+use Rattle.expanding.specs.Spreading.{Star, Misfit, unknown, numbered, not_alone, cites}
+use Rattle.mmtext.specs.Words.{Word}
+use Rattle.source.specs.Scopes.{Assertion}
 use Rattle.expanding.specs.declared.star.Star.{Star as CodeStar}
 use Rattle.expanding.specs.declared.misfit.Misfit.{Misfit as CodeMisfit}
 use Rattle.expanding.specs.declared.misfit.Misfit.TheVariants as misfit
@@ -50,3 +52,7 @@ IsMisfit m misfit.NoMemory = Unit {0}
 -- the words of `replace *`
 abbrev pub seen_star : CodeStar → Star
 seen_star x = record { verb = seen x.verb; star = seen x.star; old = seen x.old; new = seen x.new }
+
+-- the label of an assertion whose proof names another
+abbrev pub citer : Word → Assertion → Option Word
+citer w a = if cites w a.proof then Some a.label else None

@@ -1,15 +1,18 @@
 //! The forms of a script that the source does away with: `replace * OLD NEW` is one transaction for each theorem that cites OLD, and
 //! `before M` is `behind` the assertion in front of M.
 
-ghost use Rattle.std.specs.Prelude.{◌≡◌, ◌++◌, [], IfOk, IfErr, OnOk, Some, None, false, map, option_map, slice_get};
+ghost use Rattle.std.specs.Prelude.{◌≡◌, ◌++◌, ◌&&◌, [], codes, IfOk, IfErr, OnOk, Some, None, false, map, option_map, slice_get};
 ghost use Rattle.std.specs.Option.{option_and_then};
 ghost use Rattle.mmtext.specs.Views.{seen};
 ghost use Rattle.mmtext.specs.Words.{all_digits};
-ghost use Rattle.source.specs.Scopes.{is_in};
-ghost use Rattle.source.specs.Views.{seen_words};
+ghost use Rattle.std.specs.List.{list_any};
+ghost use Rattle.std.specs.Str.{bytes_eq};
+ghost use Rattle.source.specs.Views.{seen_words, seen_proof};
+ghost use Rattle.source.specs.Whole.{labels_in};
+ghost use Rattle.expanding.specs.Forms.{begins_with};
 ghost use Rattle.expanding.specs.Refusals.{IsUnspread};
 ghost use Rattle.expanding.specs.Spreading.{IsSpread, cites, citing, replaced_in_each, label_in_front, assertion_at, spread_place, spread_part, misfit_of, misfit_other, misfit_place, spread_other};
-ghost use Rattle.expanding.specs.Views.{IsMisfit, seen_star};
+ghost use Rattle.expanding.specs.Views.{IsMisfit, seen_star, citer};
 
 use crate::forms::{begins_with, is_beside, part_length, words_before_place};
 use crate::misfit::Misfit;
@@ -22,9 +25,18 @@ use std::alloc::{AllocError, Global};
 
 /// Whether a label is one of these.
 fn is_among(labels: &[&[u8]], label: &[u8]) -> bool
-    ensures { result ≡ is_in (seen_words labels.now) label.now }
+    ensures { result ≡ list_any (λ w. bytes_eq label.now w.now) labels.now }
 {
-    labels.iter().any(|other| *other == label)
+    labels.iter().any(|other| label == *other)
+}
+
+/// The labels that stand in a proof.
+fn labels_in<'p, 'a>(proof: &'p ProofWords<'a>) -> &'p [&'a [u8]]
+    ensures { seen_words result.now ≡ labels_in (seen_proof proof.now) }
+{
+    match proof {
+        ProofWords::Normal(labels) | ProofWords::Compressed(labels, _) => labels.as_slice(),
+    }
 }
 
 /// Whether the proof of the assertion at a place names a label.
@@ -33,9 +45,18 @@ fn cites<'a, D: Declared<'a>>(declared: &D, place: usize, label: &[u8]) -> bool
 {
     match declared.proof(place) {
         None => false,
-        Some(ProofWords::Normal(labels) | ProofWords::Compressed(labels, _)) => {
-            is_among(labels.as_slice(), label)
-        }
+        Some(proof) => is_among(labels_in(proof), label),
+    }
+}
+
+/// The label of the assertion at a place, if its proof names one.
+fn citer_at<'a, D: Declared<'a>>(declared: &D, place: usize, label: &[u8]) -> Option<&'a [u8]>
+    ensures { option_map (λ w. w.now) result ≡ option_and_then (citer label.now) (slice_get (D.scope declared.now).assertions place) }
+{
+    if cites(declared, place, label) {
+        declared.label(place)
+    } else {
+        None
     }
 }
 
@@ -49,10 +70,8 @@ fn citing<'a, D: Declared<'a>>(
 {
     let mut labels = Vec::new(alloc);
     for place in 0..declared.assertions() {
-        if cites(declared, place, label)
-            && let Some(citing) = declared.label(place)
-        {
-            labels.push(citing)?;
+        if let Some(citer) = citer_at(declared, place, label) {
+            labels.push(citer)?;
         }
     }
     Ok(labels)
@@ -66,11 +85,12 @@ fn put_each<'a>(
 ) -> Result<(), AllocError>
     ensures { OnOk result (map seen out.new.items ≡ map seen out.old.items ++ replaced_in_each (seen_star star.entry) (seen_words labels.now)) }
 {
-    for (number, label) in labels.iter().enumerate() {
-        if number > 0 {
-            out.push(word_at(star.verb.place, b"commit"))?;
-            out.push(word_at(star.verb.place, b"begin"))?;
-        }
+    let Some((first, others)) = labels.split_first() else {
+        return Ok(());
+    };
+    star.put_in(first, out)?;
+    for label in others {
+        star.begin_next(out)?;
         star.put_in(label, out)?;
     }
     Ok(())
@@ -114,18 +134,12 @@ fn misfit_place<'a, D: Declared<'a>>(declared: &D, words: &[Token<'a>]) -> Resul
     ensures fit { OnOk result (misfit_place (D.scope declared.now) (map seen words.now) ≡ None) }
     ensures misfit { IfErr result (IsMisfit (misfit_place (D.scope declared.now) (map seen words.now))) }
 {
-    let Some(how) = words.first() else {
-        return Ok(());
-    };
-    if !is_beside(*how) {
-        return if is_number(how.text) {
-            Err(Misfit::Numbered(*how))
-        } else {
-            Ok(())
-        };
-    }
-    match words.get(1) {
-        Some(label) if declared.place_of(label.text).is_none() => Err(Misfit::Unknown(*label)),
+    match words {
+        [how, label, ..] if is_beside(*how) => match declared.place_of(label.text) {
+            None => Err(Misfit::Unknown(*label)),
+            Some(_) => Ok(()),
+        },
+        [how, ..] if is_number(how.text) => Err(Misfit::Numbered(*how)),
         _ => Ok(()),
     }
 }
@@ -199,6 +213,13 @@ fn put_part<'a, D: Declared<'a>>(
     }
 }
 
+/// Whether `begin` stands right in front of a part, as is said, and `commit` right behind it.
+fn is_enclosed(is_begun: bool, behind: &[Token<'_>]) -> bool
+    ensures { result ≡ (is_begun && begins_with (codes "commit") (map seen behind.now)) }
+{
+    is_begun && begins_with(behind, b"commit")
+}
+
 /// The words of a script by the source, which has done away with `replace *` and `before`, but before the first assertion of all. Each
 /// has the place of the word in the script for which it stands.
 ///
@@ -220,7 +241,7 @@ pub fn spread<'a, D: Declared<'a>>(
     while at < words.len() {
         let rest = &words[at..];
         let (part, behind) = rest.split_at(part_length(rest));
-        let is_alone = is_begun && begins_with(behind, b"commit");
+        let is_alone = is_enclosed(is_begun, behind);
         put_part(alloc, declared, is_alone, part, &mut out)?;
         is_begun = begins_with(part, b"begin");
         at += part.len();
