@@ -5,6 +5,7 @@ ghost use Rattle.std.specs.Str.{bytes_eq};
 ghost use Rattle.mmtext.specs.Text.{Token as Word};
 ghost use Rattle.mmtext.specs.Views.{seen};
 ghost use Rattle.expanding.specs.Forms.{up_to, unit_length, is_beside, place_length, behind_word, begins_with, words_before_place, beginning_of, AreParts, Part};
+ghost use Rattle.expanding.specs.Views.{front_words, place_words};
 
 use mmtext::Token;
 
@@ -55,7 +56,7 @@ fn place_length(words: &[Token<'_>]) -> usize
 }
 
 /// The words behind so many.
-pub(crate) fn behind<'w, 'a>(words: &'w [Token<'a>], many: usize) -> &'w [Token<'a>]
+fn behind<'w, 'a>(words: &'w [Token<'a>], many: usize) -> &'w [Token<'a>]
     ensures { result.now ≡ drop many words.now }
 {
     &words[many.min(words.len())..]
@@ -105,7 +106,7 @@ pub(crate) fn begins_with(words: &[Token<'_>], text: &[u8]) -> bool
 }
 
 /// How many words of a command stand in front of those that say where something is put, if it puts something.
-pub(crate) fn words_before_place(part: &[Token<'_>]) -> Option<usize>
+fn words_before_place(part: &[Token<'_>]) -> Option<usize>
     ensures { result ≡ words_before_place (map seen part.now) }
 {
     let verb = part.first()?.text;
@@ -116,6 +117,17 @@ pub(crate) fn words_before_place(part: &[Token<'_>]) -> Option<usize>
         return Some(2);
     }
     None
+}
+
+/// A part, cut in front of the words that say where something is put.
+pub(crate) fn split_place<'w, 'a>(part: &'w [Token<'a>]) -> (&'w [Token<'a>], &'w [Token<'a>])
+    ensures front { map seen result.0.now ≡ front_words (words_before_place (map seen part.now)) (map seen part.now) }
+    ensures place { map seen result.1.now ≡ place_words (words_before_place (map seen part.now)) (map seen part.now) }
+{
+    match words_before_place(part) {
+        None => part.split_at(part.len()),
+        Some(before) => part.split_at(before.min(part.len())),
+    }
 }
 
 /// The place of a part that begins a transaction.

@@ -1,13 +1,14 @@
 //! Where something is put in a source, as a rank of the library that is taken of it.
 
-ghost use Rattle.std.specs.Prelude.{◌≡◌, ◌++◌, ◌≤◌, ◌∷◌, [], ℕ, Bool, IfOk, IfErr, OnOk, List, Option, map, length, filter_map};
+ghost use Rattle.std.specs.Prelude.{◌≡◌, ◌++◌, ◌≤◌, ◌∷◌, [], ℕ, Bool, None, IfOk, IfErr, OnOk, List, map, length};
 ghost use Rattle.mmtext.specs.Text.{Token as Word};
 ghost use Rattle.mmtext.specs.Views.{seen};
 ghost use Rattle.expanding.specs.Refusals.{IsUnranked};
-ghost use Rattle.expanding.specs.Ranking.{IsRanked, gap_of_place};
-ghost use Rattle.expanding.specs.Views.{IsLaid, IsRanker, AreFronts};
+ghost use Rattle.expanding.specs.Forms.{words_before_place};
+ghost use Rattle.expanding.specs.Ranking.{IsRanked, gap_of_place, gap_of, taken_among, ranked_place, ranked_part, crowded_at, crowded_behind};
+ghost use Rattle.expanding.specs.Views.{IsLaid, IsRanker, IsRankerOf, IsGiven, IsTooMany, with_gap, with_beginning, AreFronts};
 
-use crate::forms::{beginning_of, behind, is_beside, part_length, words_before_place};
+use crate::forms::{beginning_of, is_beside, part_length, split_place};
 use crate::laid::Laid;
 use crate::misfit::Misfit;
 use mmtext::Token;
@@ -56,29 +57,35 @@ impl Ranker {
         })
     }
 
-    /// How many assertions of the library stand in front of what words put somewhere, if they do.
-    fn gap_of<'a, D: Declared<'a>>(&self, declared: &D, words: &[Token<'_>]) -> Option<usize>
-        ensures { (flags : List Bool) (earlier : List ℕ) → IsRanker flags earlier self.now
-            → length flags ≡ length (D.scope declared.now).assertions
-            → result ≡ gap_of_place (D.scope declared.now) flags (map seen words.now) }
+    /// How many assertions of the library stand in front of what two words put beside an assertion, if they do.
+    fn gap_of<'a, D: Declared<'a>>(
+        &self,
+        declared: &D,
+        how: Token<'_>,
+        label: Token<'_>,
+    ) -> Option<usize>
+        ensures gap { (flags : List Bool) (earlier : List ℕ) → IsRankerOf (D.scope declared.now) flags earlier self.now
+            → result ≡ gap_of_place (D.scope declared.now) flags (seen how.entry ∷ seen label.entry ∷ []) }
     {
-        let (how, label) = (words.first()?, words.get(1)?);
-        if !is_beside(*how) {
+        if !is_beside(how) {
             return None;
         }
         let place = declared.place_of(label.text)?;
-        let front = place + usize::from(how.text == b"behind".as_slice());
+        let front = place.checked_add(usize::from(how.text == b"behind".as_slice()))?;
         self.fronts.get(front).copied()
     }
 
-    /// One more is put behind so many assertions: its rank. None where 99 were put there before.
-    fn rank_at(&mut self, gap: usize) -> Option<u64> {
-        let count = self.counts.get_mut(gap)?;
-        if *count >= MOST_BESIDE {
+    /// One more is put behind so many assertions: its rank. None where as many were put there as may be.
+    fn rank_at(&mut self, gap: usize) -> Option<u128>
+        ensures { (flags : List Bool) (earlier : List ℕ) → IsRanker flags earlier self.old → gap ≤ taken_among flags (length flags)
+            → IsGiven flags earlier gap result self.new }
+    {
+        let count = *self.counts.get(gap)?;
+        if count >= MOST_BESIDE {
             return None;
         }
-        *count += 1;
-        Some(100 * gap as u64 + *count as u64)
+        self.counts[gap] = count + 1;
+        Some(100 * gap as u128 + (count + 1) as u128)
     }
 
     /// Puts words that say where something is put, and those behind them, with a rank.
@@ -88,15 +95,33 @@ impl Ranker {
         declared: &D,
         words: &[Token<'w>],
         laid: &mut Laid,
-    ) -> Result<(), Misfit<'w>> {
-        let (Some(how), Some(gap)) = (words.first(), self.gap_of(declared, words)) else {
-            return Ok(laid.put_words(words)?);
+    ) -> Result<(), Misfit<'w>>
+        ensures laid { (flags : List Bool) (earlier : List ℕ) → IsRankerOf (D.scope declared.now) flags earlier self.old
+            → OnOk result ((ts : List Word) → IsLaid ts laid.old
+            → IsLaid (ts ++ ranked_place (D.scope declared.now) flags earlier (map seen words.now)) laid.new) }
+        ensures beginnings { OnOk result (laid.new.beginnings.items ≡ laid.old.beginnings.items) }
+        ensures uncrowded { (flags : List Bool) (earlier : List ℕ) → IsRankerOf (D.scope declared.now) flags earlier self.old
+            → OnOk result (crowded_at earlier (gap_of_place (D.scope declared.now) flags (map seen words.now)) (map seen words.now) ≡ None) }
+        ensures ranker { (flags : List Bool) (earlier : List ℕ) → IsRankerOf (D.scope declared.now) flags earlier self.old
+            → OnOk result (IsRankerOf (D.scope declared.now) flags
+            (with_gap earlier (gap_of_place (D.scope declared.now) flags (map seen words.now))) self.new) }
+        ensures crowded { (flags : List Bool) (earlier : List ℕ) → IsRankerOf (D.scope declared.now) flags earlier self.old
+            → IfErr result (IsTooMany (crowded_at earlier (gap_of_place (D.scope declared.now) flags (map seen words.now))
+            (map seen words.now))) }
+    {
+        let [how, label, others @ ..] = words else {
+            laid.put_words(words)?;
+            return Ok(());
+        };
+        let Some(gap) = self.gap_of(declared, *how, *label) else {
+            laid.put_words(words)?;
+            return Ok(());
         };
         let Some(rank) = self.rank_at(gap) else {
             return Err(Misfit::Crowded(*how));
         };
         laid.put_rank(alloc, rank, how.place)?;
-        laid.put_words(behind(words, 2))?;
+        laid.put_words(others)?;
         Ok(())
     }
 
@@ -107,15 +132,24 @@ impl Ranker {
         declared: &D,
         part: &[Token<'w>],
         laid: &mut Laid,
-    ) -> Result<(), Misfit<'w>> {
-        if let Some(place) = beginning_of(part) {
-            laid.begin(place)?;
-        }
-        let before = match words_before_place(part) {
-            None => part.len(),
-            Some(before) => before.min(part.len()),
-        };
-        let (front, place) = part.split_at(before);
+    ) -> Result<(), Misfit<'w>>
+        ensures laid { (flags : List Bool) (earlier : List ℕ) → IsRankerOf (D.scope declared.now) flags earlier self.old
+            → OnOk result ((ts : List Word) → IsLaid ts laid.old
+            → IsLaid (ts ++ ranked_part (D.scope declared.now) flags earlier (map seen part.now)) laid.new) }
+        ensures beginnings { OnOk result (laid.new.beginnings.items
+            ≡ with_beginning laid.old.beginnings.items (beginning_of (map seen part.now))) }
+        ensures uncrowded { (flags : List Bool) (earlier : List ℕ) → IsRankerOf (D.scope declared.now) flags earlier self.old
+            → OnOk result (crowded_behind (D.scope declared.now) flags earlier (map seen part.now)
+            (words_before_place (map seen part.now)) ≡ None) }
+        ensures ranker { (flags : List Bool) (earlier : List ℕ) → IsRankerOf (D.scope declared.now) flags earlier self.old
+            → OnOk result (IsRankerOf (D.scope declared.now) flags
+            (with_gap earlier (gap_of (D.scope declared.now) flags (map seen part.now))) self.new) }
+        ensures crowded { (flags : List Bool) (earlier : List ℕ) → IsRankerOf (D.scope declared.now) flags earlier self.old
+            → IfErr result (IsTooMany (crowded_behind (D.scope declared.now) flags earlier (map seen part.now)
+            (words_before_place (map seen part.now)))) }
+    {
+        laid.begin_at(beginning_of(part))?;
+        let (front, place) = split_place(part);
         laid.put_words(front)?;
         self.put_place(alloc, declared, place, laid)
     }

@@ -14,7 +14,7 @@ ghost use Rattle.expanding.specs.Refusals.{IsUnspread};
 ghost use Rattle.expanding.specs.Spreading.{IsSpread, cites, citing, replaced_in_each, label_in_front, assertion_at, spread_place, spread_part, misfit_of, misfit_other, misfit_place, spread_other};
 ghost use Rattle.expanding.specs.Views.{IsMisfit, seen_star, citer};
 
-use crate::forms::{begins_with, is_beside, part_length, words_before_place};
+use crate::forms::{begins_with, is_beside, part_length, split_place};
 use crate::misfit::Misfit;
 use crate::star::{Star, star_of, word_at};
 use mmtext::Token;
@@ -181,11 +181,7 @@ fn put_other<'a, D: Declared<'a>>(
         ≡ map seen out.old.items ++ spread_other (D.scope declared.now) (map seen part.now) None) }
     ensures misfit { IfErr result (IsMisfit (misfit_other (D.scope declared.now) false (map seen part.now) None)) }
 {
-    let before = match words_before_place(part) {
-        None => part.len(),
-        Some(before) => before.min(part.len()),
-    };
-    let (front, place) = part.split_at(before);
+    let (front, place) = split_place(part);
     misfit_place(declared, place)?;
     out.extend_from_slice(front)?;
     put_place(declared, place, out)?;
