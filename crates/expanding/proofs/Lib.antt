@@ -4,3 +4,7 @@ pub mod Lined
 pub mod Laying
 pub mod Citing
 pub mod PartByPart
+pub mod Fronts
+pub mod Gaps
+pub mod PartsRanked
+pub mod Placing

@@ -1,9 +1,10 @@
 //! Which words of a script belong to one command.
 
-ghost use Rattle.std.specs.Prelude.{◌≡◌, ◌<◌, ◌≤◌, ◌≢◌, ◌∷◌, [], List, length, map, take, drop, position};
+ghost use Rattle.std.specs.Prelude.{◌≡◌, ◌<◌, ◌≤◌, ◌≢◌, ◌∷◌, [], List, length, map, take, drop, position, codes};
 ghost use Rattle.std.specs.Str.{bytes_eq};
 ghost use Rattle.mmtext.specs.Text.{Token as Word};
 ghost use Rattle.mmtext.specs.Views.{seen};
+ghost use Rattle.expanding.specs.Words.{says};
 ghost use Rattle.expanding.specs.Forms.{up_to, unit_length, is_beside, place_length, behind_word, begins_with, words_before_place, beginning_of, AreParts, Part};
 ghost use Rattle.expanding.specs.Views.{front_words, place_words};
 
@@ -37,11 +38,18 @@ fn unit_length(words: &[Token<'_>]) -> usize
     }
 }
 
+/// `behind`.
+pub(crate) fn is_behind(word: Token<'_>) -> bool
+    ensures { result ≡ says (seen word.entry) (codes "behind") }
+{
+    word.text == b"behind".as_slice()
+}
+
 /// `behind` or `before`.
 pub(crate) fn is_beside(word: Token<'_>) -> bool
     ensures { result ≡ is_beside (seen word.entry) }
 {
-    word.text == b"behind".as_slice() || word.text == b"before".as_slice()
+    is_behind(word) || word.text == b"before".as_slice()
 }
 
 /// How many words say where something is put.

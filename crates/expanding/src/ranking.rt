@@ -1,14 +1,14 @@
 //! Where something is put in a source, as a rank of the library that is taken of it.
 
-ghost use Rattle.std.specs.Prelude.{◌≡◌, ◌++◌, ◌≤◌, ◌∷◌, [], ℕ, Bool, None, IfOk, IfErr, OnOk, List, map, length};
+ghost use Rattle.std.specs.Prelude.{◌≡◌, ◌++◌, ◌≤◌, ◌∷◌, [], ℕ, Bool, None, IfOk, IfErr, OnOk, List, map, length, slice_get, slice_set, ◌<◌};
 ghost use Rattle.mmtext.specs.Text.{Token as Word};
 ghost use Rattle.mmtext.specs.Views.{seen};
 ghost use Rattle.expanding.specs.Refusals.{IsUnranked};
-ghost use Rattle.expanding.specs.Forms.{words_before_place};
+ghost use Rattle.expanding.specs.Forms.{words_before_place, beginning_of};
 ghost use Rattle.expanding.specs.Ranking.{IsRanked, gap_of_place, gap_of, taken_among, ranked_place, ranked_part, crowded_at, crowded_behind};
 ghost use Rattle.expanding.specs.Views.{IsLaid, IsRanker, IsRankerOf, IsGiven, IsTooMany, with_gap, with_beginning, AreFronts};
 
-use crate::forms::{beginning_of, is_beside, part_length, split_place};
+use crate::forms::{beginning_of, is_behind, is_beside, part_length, split_place};
 use crate::laid::Laid;
 use crate::misfit::Misfit;
 use mmtext::Token;
@@ -50,11 +50,32 @@ impl Ranker {
         ensures { IfOk result (IsRanker flags.now []) }
     {
         let fronts = fronts_of(alloc, flags)?;
-        let taken = fronts.last().copied().unwrap_or(0);
-        Ok(Ranker {
-            fronts,
-            counts: vec![in alloc; 0; taken + 1]?,
-        })
+        let taken = flags.iter().filter(|flag| **flag).count();
+        let counts = vec![in alloc; 0; taken + 1]?;
+        Ok(Ranker { fronts, counts })
+    }
+
+    /// How many are taken of so many assertions of the source, if it has so many.
+    fn taken_of(&self, front: usize) -> Option<usize>
+        ensures { result ≡ slice_get self.now.fronts.items front }
+    {
+        self.fronts.get(front).copied()
+    }
+
+    /// How many were put behind so many assertions of the library, if it has so many.
+    fn many_at(&self, gap: usize) -> Option<usize>
+        ensures { result ≡ slice_get self.now.counts.items gap }
+    {
+        self.counts.get(gap).copied()
+    }
+
+    /// Notes that so many were put behind so many assertions of the library.
+    fn note(&mut self, gap: usize, many: usize)
+        requires { gap < length self.old.counts.items }
+        ensures fronts { self.new.fronts.items ≡ self.old.fronts.items }
+        ensures counts { self.new.counts.items ≡ slice_set self.old.counts.items gap many }
+    {
+        self.counts[gap] = many;
     }
 
     /// How many assertions of the library stand in front of what two words put beside an assertion, if they do.
@@ -64,15 +85,15 @@ impl Ranker {
         how: Token<'_>,
         label: Token<'_>,
     ) -> Option<usize>
-        ensures gap { (flags : List Bool) (earlier : List ℕ) → IsRankerOf (D.scope declared.now) flags earlier self.now
+        ensures { (flags : List Bool) (earlier : List ℕ) → IsRankerOf (D.scope declared.now) flags earlier self.now
             → result ≡ gap_of_place (D.scope declared.now) flags (seen how.entry ∷ seen label.entry ∷ []) }
     {
         if !is_beside(how) {
             return None;
         }
         let place = declared.place_of(label.text)?;
-        let front = place.checked_add(usize::from(how.text == b"behind".as_slice()))?;
-        self.fronts.get(front).copied()
+        let front = place.checked_add(usize::from(is_behind(how)))?;
+        self.taken_of(front)
     }
 
     /// One more is put behind so many assertions: its rank. None where as many were put there as may be.
@@ -80,11 +101,11 @@ impl Ranker {
         ensures { (flags : List Bool) (earlier : List ℕ) → IsRanker flags earlier self.old → gap ≤ taken_among flags (length flags)
             → IsGiven flags earlier gap result self.new }
     {
-        let count = *self.counts.get(gap)?;
+        let count = self.many_at(gap)?;
         if count >= MOST_BESIDE {
             return None;
         }
-        self.counts[gap] = count + 1;
+        self.note(gap, count + 1);
         Some(100 * gap as u128 + (count + 1) as u128)
     }
 
