@@ -2,3 +2,9 @@ pub mod Counted
 pub mod Parted
 pub mod Lined
 pub mod Laying
+pub mod Citing
+pub mod PartByPart
+pub mod Fronts
+pub mod Gaps
+pub mod PartsRanked
+pub mod Placing

@@ -1,13 +1,16 @@
 -- Of the code's inside, apart from the rules: how a text of words remembers where they stand, and what was put at each gap.
-use Rattle.std.specs.Prelude.{◌≡◌, ◌<◌, ◌≤◌, ℕ, suc, Bool, List, map, length, slice_get, Option, Some}
+use Rattle.std.specs.Prelude.{◌≡◌, ◌<◌, ◌≤◌, ℕ, suc, Bool, List, [], ◌∷◌, ◌++◌, map, take, drop, length, slice_get, Option, Some, None, if◌then◌else◌}
 use Rattle.mmtext.specs.Text.{Token}
 use Rattle.expanding.specs.Words.{text_of}
-use Rattle.expanding.specs.Ranking.{taken_among, many_at}
+use Rattle.expanding.specs.Forms.{Part}
+use Rattle.expanding.specs.Ranking.{taken_among, many_at, rank_at, most_beside}
 use Rattle.expanding.specs.declared.laid.Stretch.{Stretch}
 use Rattle.expanding.specs.declared.laid.Laid.{Laid}
 use Rattle.expanding.specs.declared.ranking.Ranker.{Ranker}
 use Rattle.mmtext.specs.Views.{seen}
-use Rattle.expanding.specs.Spreading.{Star, Misfit, unknown, numbered, not_alone}
+use Rattle.expanding.specs.Spreading.{Star, Misfit, unknown, numbered, not_alone, cites}
+use Rattle.mmtext.specs.Words.{Word}
+use Rattle.source.specs.Scopes.{Assertion, Scope}
 use Rattle.expanding.specs.declared.star.Star.{Star as CodeStar}
 use Rattle.expanding.specs.declared.misfit.Misfit.{Misfit as CodeMisfit}
 use Rattle.expanding.specs.declared.misfit.Misfit.TheVariants as misfit
@@ -39,6 +42,36 @@ pub record IsRanker (flags : List Bool) (earlier : List ℕ) (r : Ranker) : Type
   pub many : length r.counts.items ≡ suc (taken_among flags (length flags))
   pub counts : AreCounts earlier r.counts.items
 
+-- a ranker for a source, of which so much is taken
+pub record IsRankerOf (s : Scope) (flags : List Bool) (earlier : List ℕ) (r : Ranker) : Type 0 where
+  pub ranker : IsRanker flags earlier r
+  pub each : length flags ≡ length s.assertions
+
+-- what is put at a gap gets a rank there, where fewer were put than may be
+abbrev pub IsGiven : List Bool → List ℕ → ℕ → Option ℕ → Ranker → Type 0
+IsGiven flags earlier gap (Some rank) r =
+    (rank ≡ rank_at earlier gap) × (many_at earlier gap < most_beside) × IsRanker flags (earlier ++ gap ∷ []) r
+IsGiven flags earlier gap None r = most_beside ≤ many_at earlier gap
+
+-- one more gap, if there is one
+abbrev pub with_gap : List ℕ → Option ℕ → List ℕ
+with_gap earlier None = earlier
+with_gap earlier (Some gap) = earlier ++ gap ∷ []
+
+-- the place of a beginning, if there is one
+abbrev pub with_beginning : List ℕ → Option ℕ → List ℕ
+with_beginning places None = places
+with_beginning places (Some place) = places ++ place ∷ []
+
+-- the words of a part in front of those that say where something is put, and these with what is behind them
+abbrev pub front_words : Option ℕ → Part → List Token
+front_words None p = p
+front_words (Some n) p = take n p
+
+abbrev pub place_words : Option ℕ → Part → List Token
+place_words None p = []
+place_words (Some n) p = drop n p
+
 -- what the code tells of what can't be in one part
 abbrev pub IsMisfit : Option Misfit → CodeMisfit → Type 0
 IsMisfit m (misfit.Unknown t) = m ≡ Some (unknown (seen t))
@@ -50,3 +83,13 @@ IsMisfit m misfit.NoMemory = Unit {0}
 -- the words of `replace *`
 abbrev pub seen_star : CodeStar → Star
 seen_star x = record { verb = seen x.verb; star = seen x.star; old = seen x.old; new = seen x.new }
+
+-- the label of an assertion whose proof names another
+abbrev pub citer : Word → Assertion → Option Word
+citer w a = if cites w a.proof then Some a.label else None
+
+-- what it tells where no more may be put
+abbrev pub IsTooMany : Option Token → CodeMisfit → Type 0
+IsTooMany o (misfit.Crowded t) = o ≡ Some (seen t)
+IsTooMany o misfit.NoMemory = Unit {0}
+IsTooMany o _ = ⊥

@@ -1,10 +1,12 @@
 //! Which words of a script belong to one command.
 
-ghost use Rattle.std.specs.Prelude.{◌≡◌, ◌<◌, ◌≤◌, ◌≢◌, ◌∷◌, [], List, length, map, take, drop, position};
+ghost use Rattle.std.specs.Prelude.{◌≡◌, ◌<◌, ◌≤◌, ◌≢◌, ◌∷◌, [], List, length, map, take, drop, position, codes};
 ghost use Rattle.std.specs.Str.{bytes_eq};
 ghost use Rattle.mmtext.specs.Text.{Token as Word};
 ghost use Rattle.mmtext.specs.Views.{seen};
+ghost use Rattle.expanding.specs.Words.{says};
 ghost use Rattle.expanding.specs.Forms.{up_to, unit_length, is_beside, place_length, behind_word, begins_with, words_before_place, beginning_of, AreParts, Part};
+ghost use Rattle.expanding.specs.Views.{front_words, place_words};
 
 use mmtext::Token;
 
@@ -36,11 +38,18 @@ fn unit_length(words: &[Token<'_>]) -> usize
     }
 }
 
+/// `behind`.
+pub(crate) fn is_behind(word: Token<'_>) -> bool
+    ensures { result ≡ says (seen word.entry) (codes "behind") }
+{
+    word.text == b"behind".as_slice()
+}
+
 /// `behind` or `before`.
 pub(crate) fn is_beside(word: Token<'_>) -> bool
     ensures { result ≡ is_beside (seen word.entry) }
 {
-    word.text == b"behind".as_slice() || word.text == b"before".as_slice()
+    is_behind(word) || word.text == b"before".as_slice()
 }
 
 /// How many words say where something is put.
@@ -55,7 +64,7 @@ fn place_length(words: &[Token<'_>]) -> usize
 }
 
 /// The words behind so many.
-pub(crate) fn behind<'w, 'a>(words: &'w [Token<'a>], many: usize) -> &'w [Token<'a>]
+fn behind<'w, 'a>(words: &'w [Token<'a>], many: usize) -> &'w [Token<'a>]
     ensures { result.now ≡ drop many words.now }
 {
     &words[many.min(words.len())..]
@@ -105,7 +114,7 @@ pub(crate) fn begins_with(words: &[Token<'_>], text: &[u8]) -> bool
 }
 
 /// How many words of a command stand in front of those that say where something is put, if it puts something.
-pub(crate) fn words_before_place(part: &[Token<'_>]) -> Option<usize>
+fn words_before_place(part: &[Token<'_>]) -> Option<usize>
     ensures { result ≡ words_before_place (map seen part.now) }
 {
     let verb = part.first()?.text;
@@ -116,6 +125,17 @@ pub(crate) fn words_before_place(part: &[Token<'_>]) -> Option<usize>
         return Some(2);
     }
     None
+}
+
+/// A part, cut in front of the words that say where something is put.
+pub(crate) fn split_place<'w, 'a>(part: &'w [Token<'a>]) -> (&'w [Token<'a>], &'w [Token<'a>])
+    ensures front { map seen result.0.now ≡ front_words (words_before_place (map seen part.now)) (map seen part.now) }
+    ensures place { map seen result.1.now ≡ place_words (words_before_place (map seen part.now)) (map seen part.now) }
+{
+    match words_before_place(part) {
+        None => part.split_at(part.len()),
+        Some(before) => part.split_at(before.min(part.len())),
+    }
 }
 
 /// The place of a part that begins a transaction.

@@ -5,7 +5,7 @@ ghost use Rattle.std.specs.Fmt.{decimal};
 ghost use Rattle.mmtext.specs.Text.{Token as Word};
 ghost use Rattle.mmtext.specs.Views.{seen};
 ghost use Rattle.expanding.specs.Words.{place_at, word_at};
-ghost use Rattle.expanding.specs.Views.{IsLaid};
+ghost use Rattle.expanding.specs.Views.{IsLaid, with_beginning};
 
 use mmtext::Token;
 use std::alloc::{AllocError, Global};
@@ -42,12 +42,14 @@ impl Laid {
         }
     }
 
-    /// A transaction begins at a place of the script.
-    pub(crate) fn begin(&mut self, place: usize) -> Result<(), AllocError>
+    /// A transaction begins at a place of the script, if there is one.
+    pub(crate) fn begin_at(&mut self, place: Option<usize>) -> Result<(), AllocError>
         ensures words { (ts : List Word) → IsLaid ts self.old → IsLaid ts self.new }
-        ensures beginnings { OnOk result (self.new.beginnings.items ≡ self.old.beginnings.items ++ place ∷ []) }
+        ensures beginnings { OnOk result (self.new.beginnings.items ≡ with_beginning self.old.beginnings.items place) }
     {
-        self.beginnings.push(place)?;
+        if let Some(place) = place {
+            self.beginnings.push(place)?;
+        }
         Ok(())
     }
 
@@ -67,7 +69,7 @@ impl Laid {
     pub(crate) fn put_rank(
         &mut self,
         alloc: Global,
-        rank: u64,
+        rank: u128,
         place: usize,
     ) -> Result<(), AllocError>
         ensures laid { OnOk result ((ts : List Word) → IsLaid ts self.old → IsLaid (ts ++ word_at place (decimal rank) ∷ []) self.new) }

@@ -8,7 +8,6 @@ mod misfit;
 mod ranking;
 mod spreading;
 mod star;
-
 mod words;
 
 pub use laid::Laid;
