@@ -119,7 +119,10 @@ pub(crate) fn unread(
 pub(crate) fn shown(label: &[u8]) -> &str
     ensures { result.now ≡ shown_label label.now }
 {
-    str::from_utf8(label).unwrap_or("?")
+    match str::from_utf8(label) {
+        Ok(text) => text,
+        Err(_) => "?",
+    }
 }
 
 /// Why a word of a script doesn't fit a source.

@@ -1,6 +1,7 @@
 //! The transactions that weren't done, each with its line.
 
-ghost use Rattle.std.specs.Prelude.{◌≡◌, ◌≢◌, ◌++◌, [], false, IfOk, IsTrue, OnOk, map, option_map, slice_index_or, string_bytes};
+ghost use Rattle.std.specs.Prelude.{◌≡◌, ◌≢◌, ◌++◌, [], false, codes, IfOk, IsTrue, OnOk, map, option_map, slice_index_or, string_bytes};
+ghost use Rattle.std.specs.Fmt.{decimal};
 ghost use Rattle.transaction.specs.Closings.{lists_of};
 ghost use Rattle.expanding.specs.Lines.{line_at};
 ghost use Rattle.library.specs.Reasons.{printed_reason};
@@ -98,6 +99,23 @@ fn commands_at(script: &[Transaction], place: usize) -> &[Command]
     }
 }
 
+/// The line on which a transaction begins, of which a place counts from 0.
+fn line_at(lines: &[usize], place: usize) -> usize
+    ensures { result ≡ slice_index_or lines.now place 0 }
+{
+    match lines.get(place) {
+        Some(line) => *line,
+        None => 0,
+    }
+}
+
+/// The line of a transaction that begins on a line of a script, and why it wasn't done.
+fn undone_line(alloc: Global, path: &str, line: usize, text: &str) -> Result<String, AllocError>
+    ensures { IfOk result (λ said. string_bytes said ≡ path.now ++ (codes ":" ++ (decimal line ++ (codes ": " ++ text.now)))) }
+{
+    format!(in alloc; "{path}:{line}: {text}")
+}
+
 /// Puts the lines of the transactions of a script behind others, which begin on these lines.
 fn put_undone(
     alloc: Global,
@@ -112,8 +130,7 @@ fn put_undone(
 {
     for (k, outcome) in outcomes.iter().enumerate() {
         if let Some(text) = undone_text(alloc, commands_at(script, k), outcome)? {
-            let line = lines.get(k).copied().unwrap_or(0);
-            said.push(format!(in alloc; "{path}:{line}: {text}")?)?;
+            said.push(undone_line(alloc, path, line_at(lines, k), text.as_str())?)?;
         }
     }
     Ok(())

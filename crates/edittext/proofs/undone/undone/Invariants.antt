@@ -2,9 +2,11 @@
 use Rattle.std.proofs.Common.{◌≡◌, take, map}
 use Rattle.std.specs.Prelude.{string_bytes}
 use Rattle.transaction.specs.Closings.{lists_of}
-use Rattle.edittext.specs.Undone.{all_undone_from}
+use Rattle.edittext.specs.Undone.{all_undone}
+use Rattle.edittext.specs.Views.{seen_texts, beginnings_of}
 use Rattle.edittext.proofs.undone.undone.Given as goal
 
-abbrev pub invariant-loop-script : goal.invariant-loop-script
-invariant-loop-script l =
-    map string_bytes l.lines.items ≡ all_undone_from (map (λ p. p.now) l.paths) 1 (lists_of (take l.script l.rows))
+abbrev pub invariant-loop-n : goal.invariant-loop-n
+invariant-loop-n l =
+    map string_bytes l.said.items
+    ≡ all_undone (map (λ p. p.now) l.paths) (seen_texts l.texts) (beginnings_of l.laid) l.scripts (lists_of (take l.n l.rows))

@@ -1,0 +1,14 @@
+-- What is left to show of `shown`.
+use Rattle.std.proofs.Common.{◌∙◌, sym}
+use Rattle.checking.proofs.Shown.{shown_text, shown_otherwise}
+use Rattle.edittext.proofs.telling.shown.Goals as goal
+
+pub returns-in-Ok : goal.returns-in-Ok
+returns-in-Ok c =
+    let cases = c.in-Ok.ensures.cases in
+    cases.0 ∙ sym (shown_text _ cases.1)
+
+pub returns-in-Err : goal.returns-in-Err
+returns-in-Err c =
+    let cases = c.in-Err.ensures.cases in
+    sym (shown_otherwise _ cases.0)
