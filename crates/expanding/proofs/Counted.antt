@@ -1,6 +1,6 @@
 -- How many words stand up to one.
-use Rattle.std.proofs.Common.{◌≡◌, ◌∙◌, ℕ, suc, min, ◌+◌, ◌<◌, ◌≤◌, Bool, true, false, cond, ltb, List, [], ◌∷◌, length, map, Some, None, Option}
-use Rattle.std.proofs.Common.{refl, sym, ap, arith, inl, inr, codes}
+use Rattle.std.proofs.Common.{◌≡◌, ◌∙◌, ℕ, suc, min, ◌+◌, ◌≤◌, Bool, true, false, cond, ltb, List, [], ◌∷◌, length, map, Some, None, Option}
+use Rattle.std.proofs.Common.{refl, sym, arith, inl, inr, codes}
 use Rattle.std.specs.Prelude.{position, not}
 use Rattle.std.specs.List.{position_or_len}
 use Rattle.std.specs.Str.{bytes_eq}

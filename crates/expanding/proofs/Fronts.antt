@@ -1,17 +1,16 @@
 -- How many of each front of flags are taken.
-use Rattle.std.proofs.Common.{◌≡◌, ◌∙◌, ℕ, zero, suc, min, ◌+◌, ◌-◌, ◌<◌, ◌≤◌, Bool, true, false, cond, List, [], ◌∷◌, ◌++◌, length, take, drop, get_or, replicate}
-use Rattle.std.proofs.Common.{Some, None, Option, refl, sym, ap, subst, arith, inl, inr, length-append, length-take}
+use Rattle.std.proofs.Common.{◌≡◌, ◌∙◌, ℕ, zero, suc, ◌+◌, ◌<◌, ◌≤◌, Bool, true, false, cond, List, [], ◌∷◌, ◌++◌, length, take, drop, get_or}
+use Rattle.std.proofs.Common.{Some, refl, sym, ap, arith, inl, inr, length-append, length-take}
 use Rattle.std.specs.Prelude.{filter, slice_get, ◌⊎◌}
 use Rattle.std.specs.Int.{from_bool}
 use Rattle.std.proofs.Math.Nat.{eq-or-lt_of_le}
-use Rattle.std.proofs.lemmas.List.{take-append-drop, take-take, take_all, length_push, get_or-replicate, length-replicate}
+use Rattle.std.proofs.lemmas.List.{take-append-drop, take_all, length_push}
 use Rattle.std.proofs.lemmas.List.Elements.{filter-append}
 use Rattle.std.proofs.lemmas.List.Sums.{length-filter, count_by-le-length}
 use Rattle.std.proofs.lemmas.List.Filters.{length-filter_more}
-use Rattle.std.proofs.lemmas.Option.{slice_get-get_or, slice_get_within}
 use Rattle.std.specs.List.{count_by}
-use Rattle.expanding.specs.Ranking.{taken_among, many_at}
-use Rattle.expanding.specs.Views.{AreFronts, AreCounts}
+use Rattle.expanding.specs.Ranking.{taken_among}
+use Rattle.expanding.specs.Views.{AreFronts}
 
 pub taken_within : (flags : List Bool) (n : ℕ) → taken_among flags n ≤ n
 taken_within flags n =

@@ -1,14 +1,14 @@
 -- How many were put at each gap.
-use Rattle.std.proofs.Common.{◌≡◌, ◌≢◌, ◌∙◌, ℕ, suc, ◌+◌, ◌*◌, ◌<◌, ◌≤◌, Bool, true, false, cond, List, [], ◌∷◌, ◌++◌, length, set, get_or, replicate, map}
+use Rattle.std.proofs.Common.{◌≡◌, ◌∙◌, ℕ, suc, ◌+◌, ◌*◌, ◌<◌, ◌≤◌, Bool, true, false, cond, List, [], ◌∷◌, ◌++◌, length, set, get_or, replicate}
 use Rattle.std.proofs.Common.{Some, None, Option, refl, sym, ap, subst, arith, inl, inr, length-append, length-set}
-use Rattle.std.specs.Prelude.{filter, filter_map, slice_get, nat_eq}
+use Rattle.std.specs.Prelude.{filter, slice_get, nat_eq}
 use Rattle.std.proofs.lemmas.Bool.{cases_Bool, eqb-true, eqb-false}
 use Rattle.std.proofs.lemmas.List.{get_or-set_same, get_or-set_other, get_or-replicate, length-replicate}
 use Rattle.std.proofs.lemmas.List.Elements.{filter-append}
 use Rattle.std.proofs.lemmas.Option.{slice_get-get_or, get_or_from_slice_get}
 use Rattle.std.specs.Option.{option_map}
 use Rattle.mmsyntax.specs.Tables.{place_of}
-use Rattle.expanding.specs.Ranking.{many_at, taken_among, rank_at, most_beside}
+use Rattle.expanding.specs.Ranking.{many_at, taken_among, most_beside}
 use Rattle.expanding.specs.Views.{AreFronts, AreCounts, IsRanker, IsGiven}
 use Rattle.expanding.specs.declared.ranking.Ranker.{Ranker}
 

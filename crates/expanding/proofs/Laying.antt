@@ -1,14 +1,13 @@
 -- Words as a text, and where they stand.
-use Rattle.std.proofs.Common.{◌≡◌, ◌∙◌, ℕ, suc, ◌+◌, ◌-◌, ◌<◌, ◌≤◌, Bool, true, false, cond, List, [], ◌∷◌, ◌++◌, length, map, take, drop, get_or, Some}
+use Rattle.std.proofs.Common.{◌≡◌, ◌∙◌, ℕ, suc, ◌+◌, ◌-◌, ◌<◌, ◌≤◌, cond, List, [], ◌∷◌, length, map, drop, get_or}
 use Rattle.std.proofs.lemmas.List.{at_drop_more, at_drop_all}
 use Rattle.std.proofs.lemmas.Bool.{cond-true, le-leb}
-use Rattle.std.proofs.Common.{refl, sym, ap, subst, arith}
-use Rattle.std.specs.Prelude.{nat_le, slice_get}
+use Rattle.std.proofs.Common.{refl, ap}
+use Rattle.std.specs.Prelude.{nat_le}
 use Rattle.mmtext.specs.Text.{Token}
 use Rattle.expanding.specs.Words.{place_at}
-use Rattle.expanding.specs.Views.{stretch_of, seen_stretches, IsLaid}
+use Rattle.expanding.specs.Views.{stretch_of, seen_stretches}
 use Rattle.expanding.specs.declared.laid.Stretch.{Stretch}
-use Rattle.expanding.specs.declared.laid.Laid.{Laid}
 
 -- as the code goes through them
 abbrev pub stood_at : List Stretch → ℕ → ℕ → ℕ

@@ -1,16 +1,14 @@
 -- A script whose parts are spread, part by part.
-use Rattle.std.proofs.Common.{◌≡◌, ◌≢◌, ◌∙◌, ℕ, suc, ◌+◌, ◌-◌, ◌<◌, ◌≤◌, Bool, true, false, List, [], ◌∷◌, ◌++◌, length, map, take, drop, Option, Some, None}
-use Rattle.std.proofs.Common.{refl, sym, ap, subst, arith, length-drop}
+use Rattle.std.proofs.Common.{◌≡◌, ◌∙◌, Bool, false, List, [], ◌∷◌, ◌++◌, Some, None}
+use Rattle.std.proofs.Common.{refl, sym, ap, subst}
 use Rattle.std.specs.Prelude.{◌&&◌, codes}
 use Rattle.std.specs.List.{flat_map}
 use Rattle.std.proofs.lemmas.Grind.{flat_map-append}
-use Rattle.std.proofs.lemmas.List.{append_assoc, append-nil, take-map, drop-map}
+use Rattle.std.proofs.lemmas.List.{append_assoc, append-nil}
 use Rattle.mmtext.specs.Text.{Token}
 use Rattle.mmtext.specs.Words.{Word}
-use Rattle.mmtext.specs.Views.{seen}
-use Rattle.mmtext.specs.declared.token.Token.{Token as CodeToken}
 use Rattle.source.specs.Scopes.{Scope}
-use Rattle.expanding.specs.Forms.{Part, AreParts, behind_word, begins_with}
+use Rattle.expanding.specs.Forms.{Part, AreParts, begins_with}
 use Rattle.expanding.specs.Spreading.{spread_part, first_misfit, misfit_of, next_begins_with, or_first, IsSpread, HasMisfit, Misfit}
 use Rattle.expanding.specs.Refusals.{IsUnspread}
 use Rattle.expanding.specs.Views.{IsMisfit}

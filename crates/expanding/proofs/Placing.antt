@@ -1,19 +1,19 @@
 -- Where a rank is put, and where none is.
-use Rattle.std.proofs.Common.{◌≡◌, ◌∙◌, ℕ, zero, suc, ◌+◌, ◌<◌, ◌≤◌, Bool, true, false, cond, List, [], ◌∷◌, ◌++◌, length, take, drop, get_or, Option, Some, None}
-use Rattle.std.proofs.Common.{refl, sym, ap, subst, arith, codes}
+use Rattle.std.proofs.Common.{◌≡◌, ◌∙◌, ℕ, suc, ◌+◌, ◌<◌, ◌≤◌, Bool, true, false, cond, List, [], ◌∷◌, ◌++◌, length, drop, get_or, Option, Some, None}
+use Rattle.std.proofs.Common.{refl, sym, ap, arith, codes}
 use Rattle.std.specs.Prelude.{nat_lt, slice_get, Result, Ok, Err, OnOk}
 use Rattle.std.specs.Int.{from_bool}
 use Rattle.std.specs.Str.{bytes_eq}
 use Rattle.std.specs.Fmt.{decimal}
 use Rattle.std.specs.Option.{option_map}
-use Rattle.std.proofs.lemmas.List.{append-nil, append_assoc}
-use Rattle.std.proofs.lemmas.Bool.{cond-true, cond-false, lt-ltb, le-ltb}
+use Rattle.std.proofs.lemmas.List.{append-nil}
+use Rattle.std.proofs.lemmas.Bool.{lt-ltb, le-ltb}
 use Rattle.mmtext.specs.Text.{Token}
 use Rattle.source.specs.Scopes.{Scope}
 use Rattle.expanding.specs.Words.{says, word_at}
 use Rattle.expanding.specs.Forms.{Part, is_beside, placed_at}
 use Rattle.expanding.specs.Spreading.{assertion_at}
-use Rattle.expanding.specs.Ranking.{gap_at, gap_of_place, gap_behind, taken_among, crowded_at, crowded_behind, ranked_place, ranked_words, rank_at, many_at, most_beside}
+use Rattle.expanding.specs.Ranking.{gap_of_place, gap_behind, taken_among, crowded_at, crowded_behind, ranked_place, ranked_words, rank_at, many_at, most_beside}
 use Rattle.expanding.specs.Views.{front_words, place_words, IsRankerOf, IsGiven}
 use Rattle.expanding.specs.declared.ranking.Ranker.{Ranker}
 use Rattle.mmtext.specs.declared.token.Token.{Token as CodeToken}

@@ -1,16 +1,15 @@
 -- The forms of a script that speak of a source, done away with by the source: `replace * OLD NEW` is one transaction for each theorem
 -- that cites OLD, and `before M` is `behind` the assertion in front of M.
-use Rattle.std.specs.Prelude.{◌≡◌, ℕ, zero, suc, Bool, false, true, ◌&&◌, List, [], ◌∷◌, ◌++◌, drop, filter, map, Option, Some, None, is_some, slice_get}
+use Rattle.std.specs.Prelude.{◌≡◌, ℕ, zero, suc, Bool, false, ◌&&◌, List, [], ◌∷◌, ◌++◌, drop, filter, map, Option, Some, None, is_some, slice_get}
 use Rattle.std.specs.Prelude.{if◌then◌else◌, codes}
-use mathlib.Core.Bool.{not}
 use Rattle.std.specs.List.{flat_map}
-use Rattle.std.specs.Option.{option_map, option_and_then}
+use Rattle.std.specs.Option.{option_map}
 use Rattle.std.specs.Str.{bytes_eq}
 use Rattle.mmtext.specs.Words.{Word, all_digits}
 use Rattle.mmtext.specs.Text.{Token}
 use Rattle.mmsyntax.specs.Tables.{place_of}
 use Rattle.source.specs.Statements.{Proof}
-use Rattle.source.specs.Scopes.{Assertion, Scope, is_in}
+use Rattle.source.specs.Scopes.{Scope, is_in}
 use Rattle.source.specs.Whole.{labels_in}
 use Rattle.expanding.specs.Words.{says, word_at}
 use Rattle.expanding.specs.Forms.{is_beside, Part, AreParts, begins_with, words_before_place, placed_at}

@@ -1,8 +1,7 @@
 -- What is left to show of `behind_word`.
-use Rattle.std.proofs.Common.{◌≡◌, ◌∙◌, ap, length, map, drop, arith, length-drop}
+use Rattle.std.proofs.Common.{◌∙◌, ap, length, map, arith, length-drop}
 use Rattle.std.proofs.lemmas.List.{length-map}
 use Rattle.mmtext.specs.Views.{seen}
-use Rattle.expanding.specs.Forms.{place_length}
 use Rattle.expanding.proofs.Counted.{unit_within, place_within}
 use Rattle.expanding.proofs.forms.behind_word.Goals as goal
 

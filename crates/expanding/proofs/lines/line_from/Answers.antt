@@ -1,5 +1,5 @@
 -- What is left to show of `line_from`.
-use Rattle.std.proofs.Common.{◌≡◌, ◌∙◌, ◌+◌, ◌-◌, ap, drop, arith, length-drop}
+use Rattle.std.proofs.Common.{◌∙◌, ◌-◌, ap, drop, arith, length-drop}
 use Rattle.std.proofs.lemmas.List.{take_rest}
 use Rattle.expanding.specs.Lines.{line_at}
 use Rattle.expanding.proofs.Lined.{line_most, line_further}

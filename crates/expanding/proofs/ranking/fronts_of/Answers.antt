@@ -1,5 +1,5 @@
 -- What is left to show of `fronts_of`.
-use Rattle.std.proofs.Common.{◌≡◌, ◌∙◌, ◌+◌, ◌++◌, ◌∷◌, [], ℕ, false, cond, get_or, sym, ap, subst, arith}
+use Rattle.std.proofs.Common.{◌≡◌, ◌+◌, false, get_or, sym, subst, arith}
 use Rattle.expanding.specs.Ranking.{taken_among}
 use Rattle.expanding.proofs.Fronts.{AreFrontsTo, taken_within, taken_next, from_most, fronts_more}
 use Rattle.expanding.proofs.ranking.fronts_of.Goals as goal

@@ -1,10 +1,9 @@
 -- What is left to show of `citing`.
-use Rattle.std.proofs.Common.{◌≡◌, ◌<◌, ◌∙◌, ◌++◌, ◌∷◌, [], List, ℕ, Bor, Some, None, Option, length, map, ap, sym, subst, append-nil}
+use Rattle.std.proofs.Common.{◌<◌, ◌∙◌, ◌++◌, List, ℕ, Bor, length, ap, sym, subst, append-nil}
 use Rattle.std.specs.Option.{option_map}
 use Rattle.std.proofs.lemmas.List.{map_push}
-use Rattle.mmtext.specs.Words.{Word}
 use Rattle.source.specs.Views.{seen_words}
-use Rattle.expanding.proofs.Citing.{citing_next, listed, citing_in, listed_none}
+use Rattle.expanding.proofs.Citing.{citing_next, listed, listed_none}
 use Rattle.expanding.proofs.spreading.citing.Goals as goal
 use Rattle.expanding.proofs.spreading.citing.Goals.{in-Some+in_ok-push, in_default}
 

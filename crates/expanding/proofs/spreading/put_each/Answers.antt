@@ -1,13 +1,12 @@
 -- What is left to show of `put_each`.
 use Rattle.std.proofs.Common.{◌≡◌, ◌∙◌, ◌++◌, ◌∷◌, List, ℕ, map, take, suc, get_or, Bor, [], length, sym, ap, arith}
-use Rattle.mmtext.specs.Text.{Token}
 use Rattle.mmtext.specs.Views.{seen}
 use Rattle.mmtext.specs.Words.{Word}
 use Rattle.std.proofs.lemmas.List.{take_all}
 use Rattle.source.specs.Views.{seen_words}
 use Rattle.expanding.specs.Spreading.{replaced_in_each, replaced_in}
 use Rattle.expanding.specs.Views.{seen_star}
-use Rattle.expanding.proofs.Citing.{between, put_next, one_further, so_far}
+use Rattle.expanding.proofs.Citing.{put_next, one_further, so_far}
 use Rattle.expanding.proofs.spreading.put_each.Goals as goal
 
 pub loop-label-init : goal.loop-label-init

@@ -1,13 +1,12 @@
 -- What is left to show of `spread`.
-use Rattle.std.proofs.Common.{◌≡◌, ◌∙◌, ◌+◌, ◌++◌, false, List, [], ◌∷◌, length, map, drop, sym, ap, subst, arith}
+use Rattle.std.proofs.Common.{◌∙◌, ◌+◌, false, length, map, drop, sym, ap, subst, arith}
 use Rattle.std.specs.Prelude.{◌&&◌, codes}
 use Rattle.std.proofs.lemmas.List.{drop_all}
 use Rattle.std.proofs.lemmas.Result.{err_from_is_err_and}
-use Rattle.mmtext.specs.Text.{Token}
 use Rattle.mmtext.specs.Views.{seen}
 use Rattle.expanding.specs.Forms.{begins_with}
 use Rattle.expanding.specs.Refusals.{IsUnspread}
-use Rattle.expanding.proofs.Parted.{behind_first, more_within, some_first, part_first, parts_of, words_behind}
+use Rattle.expanding.proofs.Parted.{behind_first, more_within, some_first, part_first, parts_of}
 use Rattle.expanding.proofs.PartByPart.{IsSpreading, at_first, at_last, goes_on, refused}
 use Rattle.expanding.proofs.spreading.spread.Goals as goal
 

@@ -1,7 +1,7 @@
 -- What is left to show of `place_of`.
-use Rattle.std.proofs.Common.{◌≡◌, ◌∙◌, sym, ap}
+use Rattle.std.proofs.Common.{◌∙◌, sym, ap}
 use Rattle.expanding.specs.Views.{seen_stretches}
-use Rattle.expanding.proofs.Laying.{stood_at, stood_laid, stood_here, stood_behind}
+use Rattle.expanding.proofs.Laying.{stood_laid, stood_here, stood_behind}
 use Rattle.expanding.proofs.laid.Laid.place_of.Goals as goal
 
 pub returns-then-left-word : goal.returns-then-left-word

@@ -1,9 +1,8 @@
 -- What is left to show of `gap_of`.
-use Rattle.std.proofs.Common.{◌≡◌, ◌∙◌, ◌+◌, ◌<◌, true, rules, sym, ap, arith}
-use Rattle.std.specs.Prelude.{slice_get, codes}
+use Rattle.std.proofs.Common.{◌≡◌, ◌∙◌, ◌+◌, true, sym, ap, arith}
+use Rattle.std.specs.Prelude.{slice_get}
 use Rattle.std.specs.Int.{from_bool}
 use Rattle.mmtext.specs.Views.{seen}
-use Rattle.expanding.specs.Words.{says}
 use Rattle.expanding.specs.Forms.{is_beside}
 use Rattle.expanding.proofs.Placing.{front_most, front_found}
 use Rattle.expanding.proofs.ranking.Ranker.gap_of.Goals as goal

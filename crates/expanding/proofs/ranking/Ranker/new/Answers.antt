@@ -1,9 +1,7 @@
 -- What is left to show of `new`.
-use Rattle.std.proofs.Common.{◌≡◌, ◌∙◌, ◌+◌, suc, [], Bool, length, replicate, rules, sym, ap, subst, arith}
+use Rattle.std.proofs.Common.{◌≡◌, ◌∙◌, ◌+◌, [], length, replicate, rules, sym, ap, subst, arith}
 use Rattle.std.specs.List.{count_by}
 use Rattle.std.proofs.lemmas.List.{length-replicate}
-use Rattle.std.proofs.lemmas.List.Sums.{count_by-le-length}
-use Rattle.expanding.specs.Ranking.{taken_among}
 use Rattle.expanding.specs.Views.{AreCounts}
 use Rattle.expanding.proofs.Fronts.{taken_all}
 use Rattle.expanding.proofs.Gaps.{counts_none}

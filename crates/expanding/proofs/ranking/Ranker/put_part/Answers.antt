@@ -1,11 +1,10 @@
 -- What is left to show of `put_part`.
-use Rattle.std.proofs.Common.{◌≡◌, ◌∙◌, ◌++◌, List, map, sym, ap, subst}
+use Rattle.std.proofs.Common.{◌≡◌, ◌∙◌, ◌++◌, map, sym, ap, subst}
 use Rattle.std.specs.Prelude.{IfErr}
 use Rattle.std.proofs.lemmas.List.{append_assoc}
-use Rattle.mmtext.specs.Text.{Token}
 use Rattle.mmtext.specs.Views.{seen}
 use Rattle.expanding.specs.Forms.{words_before_place}
-use Rattle.expanding.specs.Ranking.{gap_of_place, gap_of, crowded_at, ranked_place, ranked_part}
+use Rattle.expanding.specs.Ranking.{gap_of_place, crowded_at, ranked_place, ranked_part}
 use Rattle.expanding.specs.Views.{IsLaid, IsRankerOf, IsTooMany, with_gap, front_words}
 use Rattle.expanding.proofs.Placing.{placed, crowded_there, gap_there, on_ok}
 use Rattle.expanding.proofs.ranking.Ranker.put_part.Goals as goal

@@ -1,11 +1,11 @@
 -- What is left to show of `put_place`.
-use Rattle.std.proofs.Common.{◌≡◌, ◌∙◌, ◌++◌, ◌∷◌, [], ℕ, List, Some, None, map, drop, get_or, sym, ap, subst}
+use Rattle.std.proofs.Common.{◌∙◌, ◌++◌, ◌∷◌, [], List, map, drop, get_or, sym, ap, subst}
 use Rattle.std.specs.Fmt.{decimal}
 use Rattle.std.proofs.lemmas.List.{append_assoc, take_rest}
 use Rattle.mmtext.specs.Text.{Token}
 use Rattle.mmtext.specs.Views.{seen}
 use Rattle.mmtext.specs.declared.token.Token.{Token as CodeToken}
-use Rattle.expanding.specs.Ranking.{gap_of_place, crowded_at}
+use Rattle.expanding.specs.Ranking.{gap_of_place}
 use Rattle.expanding.specs.Words.{word_at}
 use Rattle.expanding.specs.Views.{IsLaid, IsRankerOf, with_gap}
 use Rattle.expanding.proofs.Placing.{two_words, none_there, too_many, ranked_none, crowded_none, crowded_full, crowded_room, ranked_there, gap_most}

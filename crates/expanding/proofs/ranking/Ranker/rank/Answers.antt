@@ -1,8 +1,7 @@
 -- What is left to show of `rank`.
-use Rattle.std.proofs.Common.{◌≡◌, ◌∙◌, ◌+◌, ◌++◌, List, [], length, map, take, drop, refl, sym, ap, subst, arith}
+use Rattle.std.proofs.Common.{◌+◌, ◌++◌, length, map, take, drop, refl, sym, ap, subst, arith}
 use Rattle.std.proofs.lemmas.List.{drop_all}
 use Rattle.std.proofs.lemmas.Result.{err_from_is_err_and}
-use Rattle.mmtext.specs.Text.{Token}
 use Rattle.mmtext.specs.Views.{seen}
 use Rattle.expanding.specs.Ranking.{gaps_of}
 use Rattle.expanding.specs.Refusals.{IsUnranked}

@@ -1,5 +1,5 @@
 -- What is left to show of `rank_at`.
-use Rattle.std.proofs.Common.{◌∙◌, ◌+◌, sym, ap}
+use Rattle.std.proofs.Common.{sym}
 use Rattle.std.proofs.lemmas.Option.{slice_get_within}
 use Rattle.expanding.proofs.Gaps.{given, full, no_gap_there}
 use Rattle.expanding.proofs.ranking.Ranker.rank_at.Goals as goal
