@@ -40,25 +40,25 @@ pub record IsTakenFor (s : Scope) (scripts : List (List Token)) (t : Taken) : Ty
   pub by : IsAskedBy s scripts wish
   pub library : IsLibraryOf s wish t
 
--- the words of scripts by the source
-pub record Spread (s : Scope) (texts : List Bytes) : Type 0 where
+-- these are the words of scripts by the source
+pub record IsSpreadOf (s : Scope) (texts : List Bytes) (scripts : List (List Token)) : Type 0 where
   pub words : List (List Token)
   pub are_words : AreWordsOf texts words
-  pub spread : List (List Token)
-  pub are_spread : AreSpread s words spread
+  pub are_spread : AreSpread s words scripts
 
--- and the library that is taken for them
+-- these, and the library that is taken for them
 pub record Asked (s : Scope) (texts : List Bytes) : Type 0 where
-  pub of_source : Spread s texts
+  pub spread : List (List Token)
+  pub of_source : IsSpreadOf s texts spread
   pub taken : Taken
-  pub for_scripts : IsTakenFor s of_source.spread taken
+  pub for_scripts : IsTakenFor s spread taken
 
 -- and their words with the ranks of that library
 pub record Ranked (s : Scope) (texts : List Bytes) : Type 0 where
   pub over : Asked s texts
   pub ranked : List RankedScript
   pub gaps : List ℕ
-  pub are_ranked : AreRanked s over.taken.chosen.items [] over.of_source.spread ranked gaps
+  pub are_ranked : AreRanked s over.taken.chosen.items [] over.spread ranked gaps
 
 -- the library of a source that scripts ask for, and the scripts as they are read over it
 pub record Begun (source : Bytes) (texts : List Bytes) : Type 0 where

@@ -42,7 +42,7 @@ use Rattle.verifytext.specs.Lines.{refusal_line as verifying_line}
 use Rattle.edittext.specs.declared.unedited.Unedited.{Unedited}
 use Rattle.edittext.specs.declared.unedited.Unedited.TheVariants as unedited
 use Rattle.edittext.specs.Expanded.{AreWordsOf, AreSpread, RankedScript, AreRanked, texts_of}
-use Rattle.edittext.specs.Edited.{IsAskedBy, Spread, Asked, Ranked, Begun, taken_of, choice_of, Run, IsSourceThen}
+use Rattle.edittext.specs.Edited.{IsAskedBy, IsSpreadOf, Asked, Ranked, Begun, taken_of, choice_of, Run, IsSourceThen}
 
 -- the text of the source has a fault
 pub record IsFaultyLine (path source line : Bytes) : Type 0 where
@@ -106,8 +106,9 @@ pub record IsUntakenBy (path : Bytes) (s : Scope) (scripts : List (List Token)) 
   pub says : line ≡ taking_line path why
 
 pub record IsUntakenLine (path : Bytes) (s : Scope) (texts : List Bytes) (line : Bytes) : Type 0 where
-  pub of_source : Spread s texts
-  pub cause : IsUntakenBy path s of_source.spread line
+  pub spread : List (List Token)
+  pub of_source : IsSpreadOf s texts spread
+  pub cause : IsUntakenBy path s spread line
 
 -- a script puts too many at one place, of a source of which flags say which assertions are taken; those before it don't
 pub record IsCrowdedBy (paths : List Bytes) (s : Scope) (texts : List Bytes) (flags : List Bool) (scripts : List (List Token)) (line : Bytes)
@@ -125,7 +126,7 @@ pub record IsCrowdedBy (paths : List Bytes) (s : Scope) (texts : List Bytes) (fl
 
 pub record IsCrowdedLine (paths : List Bytes) (s : Scope) (texts : List Bytes) (line : Bytes) : Type 0 where
   pub over : Asked s texts
-  pub cause : IsCrowdedBy paths s texts over.taken.chosen.items over.of_source.spread line
+  pub cause : IsCrowdedBy paths s texts over.taken.chosen.items over.spread line
 
 -- a script isn't read over a library, though those before it are: its first fault is told at the word of the keeper's text for which the
 -- word stands that has it

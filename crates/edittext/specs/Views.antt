@@ -13,7 +13,7 @@ use Rattle.expanding.specs.Views.{IsLaid}
 use Rattle.expanding.specs.declared.laid.Laid.{Laid}
 use Rattle.edittext.specs.declared.call.Begun.{Begun as CodeBegun}
 use Rattle.edittext.specs.Expanded.{RankedScript, AreRanked, texts_of}
-use Rattle.edittext.specs.Edited.{IsTakenFor, Spread}
+use Rattle.edittext.specs.Edited.{IsSpreadOf, IsTakenFor}
 
 -- texts, and the words of scripts
 abbrev pub seen_texts : List (Vec ℕ Global) → List Bytes
@@ -36,11 +36,12 @@ AreLaid outs laid = AllZip IsLaidOf outs laid
 
 -- the library that scripts ask of a source, and the scripts as they are read over it
 pub record IsBegun (s : Scope) (texts : List Bytes) (b : CodeBegun) : Type 0 where
-  pub of_source : Spread s texts
-  pub for_scripts : IsTakenFor s of_source.spread b.taken
+  pub spread : List (List Token)
+  pub of_source : IsSpreadOf s texts spread
+  pub for_scripts : IsTakenFor s spread b.taken
   pub ranked : List RankedScript
   pub gaps : List ℕ
-  pub are_ranked : AreRanked s b.taken.chosen.items [] of_source.spread ranked gaps
+  pub are_ranked : AreRanked s b.taken.chosen.items [] spread ranked gaps
   pub beginnings : map (λ out. out.beginnings) ranked ≡ beginnings_of b.laid.items
   pub ordered : AreScripts b.taken.database.prelude (texts_of ranked) b.scripts.items
   pub fit : All (All (All (CommandFits b.taken.database.prelude))) b.scripts.items

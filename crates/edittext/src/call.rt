@@ -19,7 +19,7 @@ ghost use Rattle.edittext.specs.Views.{seen_texts, seen_scripts, IsBegun};
 
 use crate::answering::EditOrder;
 use crate::asking::asked_of;
-use crate::expanded::{rank_all, read_all, spread_all, words_of};
+use crate::expanded::{rank_all, read_all, spread_of};
 use crate::telling::{ungiven, untaken, unverified, unworked};
 use crate::unedited::Unedited;
 use choosing::{Wish, wanted_of};
@@ -113,8 +113,7 @@ pub(crate) fn begin<'a, D: Declared<'a>>(
     ensures refused { IfErr result (IsToldBy (IsUnbegunLine
         order.entry.path.now (map (λ p. p.now) order.entry.paths.now) (D.scope declared.now) (seen_texts texts.now))) }
 {
-    let words = words_of(alloc, order.paths, texts)?;
-    let spread = spread_all(alloc, order.paths, declared, texts, words.as_slice())?;
+    let spread = spread_of(alloc, order.paths, declared, texts)?;
     let spread = spread.as_slice();
     let taken = take_for(rt, alloc, keys, order.path, declared, spread, follow)?;
     let laid = rank_all(alloc, order.paths, declared, texts, taken.chosen.as_slice(), spread)?;

@@ -1,9 +1,10 @@
 //! Scripts on the way to those that are run: their words, these by the source, and the text of these with ranks.
 
-ghost use Rattle.std.specs.Prelude.{◌≡◌, ℕ, All, List, [], IfOk, IfErr, length, map};
+ghost use Rattle.std.specs.Prelude.{◌≡◌, ◌⊎◌, ℕ, All, List, [], IfOk, IfErr, length, map};
 ghost use Rattle.library.specs.Fitting.{CommandFits};
 ghost use Rattle.checking.specs.Checks.{AreScripts};
 ghost use Rattle.edittext.specs.Expanded.{AreWordsOf, AreSpread, RankedScript, AreRanked, texts_of};
+ghost use Rattle.edittext.specs.Edited.{IsSpreadOf};
 ghost use Rattle.edittext.specs.Refusals.{IsToldBy, IsWordlessLine, IsMisfitLine, IsCrowdedBy, IsUnreadBy};
 ghost use Rattle.edittext.specs.Views.{seen_texts, seen_scripts, AreLaid};
 
@@ -18,7 +19,7 @@ use source::Declared;
 use std::alloc::Global;
 
 /// The words of scripts that stand outside of comments.
-pub(crate) fn words_of<'a>(
+fn words_of<'a>(
     alloc: Global,
     paths: &[&str],
     texts: &'a [Vec<u8>],
@@ -37,7 +38,7 @@ pub(crate) fn words_of<'a>(
 }
 
 /// The words of scripts by the source, which has done away with the forms that speak of it.
-pub(crate) fn spread_all<'a, D: Declared<'a>>(
+fn spread_all<'a, D: Declared<'a>>(
     alloc: Global,
     paths: &[&str],
     declared: &D,
@@ -59,6 +60,21 @@ pub(crate) fn spread_all<'a, D: Declared<'a>>(
         }
     }
     Ok(outs)
+}
+
+/// The words of scripts by the source, outside of comments.
+pub(crate) fn spread_of<'a, D: Declared<'a>>(
+    alloc: Global,
+    paths: &[&str],
+    declared: &D,
+    texts: &'a [Vec<u8>],
+) -> Result<Vec<Vec<Token<'a>>>, Unedited>
+    ensures spread { IfOk result (λ outs. IsSpreadOf (D.scope declared.now) (seen_texts texts.now) (seen_scripts outs.items)) }
+    ensures refused { IfErr result (IsToldBy (λ line. IsWordlessLine (map (λ p. p.now) paths.now) (seen_texts texts.now) line
+        ⊎ IsMisfitLine (map (λ p. p.now) paths.now) (D.scope declared.now) (seen_texts texts.now) line)) }
+{
+    let words = words_of(alloc, paths, texts)?;
+    spread_all(alloc, paths, declared, texts, words.as_slice())
 }
 
 /// The texts of scripts with the ranks of a library that is taken of the source, as flags say of each of its assertions.

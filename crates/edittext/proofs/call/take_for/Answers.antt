@@ -1,5 +1,5 @@
 -- What is left to show of `take_for`.
-use Rattle.std.proofs.Common.{◌≡◌, ◌∙◌, Bor, List, ℕ, map, Vec, Global, ap, sym}
+use Rattle.std.proofs.Common.{◌≡◌, ◌∙◌, ap}
 use Rattle.std.specs.Prelude.{◌≢◌}
 use Rattle.intake.specs.declared.refusal.Refusal.TheVariants.{NoMemory}
 use Rattle.taketext.specs.Refusals.{refusal_line}
@@ -7,26 +7,26 @@ use Rattle.source.specs.Views.{seen_words}
 use Rattle.choosing.specs.declared.wish.Wish.TheVariants.{These}
 use Rattle.choosing.specs.Spoken.{wanted_labels, axiom_labels}
 use Rattle.edittext.specs.Words.{spoken, asked}
-use Rattle.edittext.specs.Edited.{IsAskedBy}
-use Rattle.edittext.specs.Refusals.{IsUntakenLine}
+use Rattle.edittext.specs.Refusals.{IsUntakenBy}
+use Rattle.edittext.specs.Views.{seen_scripts}
 use Rattle.edittext.proofs.Lines.{told_more}
 use Rattle.edittext.proofs.call.take_for.Goals as goal
 
 pub returns-in-Ok-clause-taken : goal.returns-in-Ok-clause-taken
 returns-in-Ok-clause-taken g c =
     let s = g.D.Declared.scope c.args.declared.now in
-    let texts = map (λ (t : Vec ℕ Global). t.items) c.args.texts.now in
-    let words : seen_words c.as_slice-spoken.result.now ≡ spoken texts =
+    let scripts = seen_scripts c.args.scripts.now in
+    let words : seen_words c.as_slice-spoken.result.now ≡ spoken scripts =
     ap seen_words c.as_slice-spoken.ensures.value ∙ c.in_ok-asked.ensures.spoken in
-    let proofs : seen_words c.as_slice-proofs.result.now ≡ asked texts =
+    let proofs : seen_words c.as_slice-proofs.result.now ≡ asked scripts =
     ap seen_words c.as_slice-proofs.ensures.value ∙ c.in_ok-asked.ensures.asked in
     record {
       wish = These c.as_slice.result c.as_slice-2.result;
       by = (
         ap seen_words c.as_slice.ensures.value ∙ c.in_ok-wanted.ensures.labels
-            ∙ ap (λ ws. wanted_labels s ws (seen_words c.as_slice-proofs.result.now)) words ∙ ap (wanted_labels s (spoken texts)) proofs,
+            ∙ ap (λ ws. wanted_labels s ws (seen_words c.as_slice-proofs.result.now)) words ∙ ap (wanted_labels s (spoken scripts)) proofs,
         ap seen_words c.as_slice-2.ensures.value ∙ c.in_ok-wanted.ensures.axioms
-            ∙ ap (λ ws. axiom_labels s ws (seen_words c.as_slice-proofs.result.now)) words ∙ ap (axiom_labels s (spoken texts)) proofs,
+            ∙ ap (λ ws. axiom_labels s ws (seen_words c.as_slice-proofs.result.now)) words ∙ ap (axiom_labels s (spoken scripts)) proofs,
       );
       library = c.in-Ok.ensures.taken;
     }
@@ -34,21 +34,21 @@ returns-in-Ok-clause-taken g c =
 pub returns-clause-refused : goal.returns-clause-refused
 returns-clause-refused g c =
     let s = g.D.Declared.scope c.args.declared.now in
-    let texts = map (λ (t : Vec ℕ Global). t.items) c.args.texts.now in
-    let words : seen_words c.as_slice-spoken.result.now ≡ spoken texts =
+    let scripts = seen_scripts c.args.scripts.now in
+    let words : seen_words c.as_slice-spoken.result.now ≡ spoken scripts =
     ap seen_words c.as_slice-spoken.ensures.value ∙ c.in_ok-asked.ensures.spoken in
-    let proofs : seen_words c.as_slice-proofs.result.now ≡ asked texts =
+    let proofs : seen_words c.as_slice-proofs.result.now ≡ asked scripts =
     ap seen_words c.as_slice-proofs.ensures.value ∙ c.in_ok-asked.ensures.asked in
     let path = c.args.path.now in
     let why = c.in-Err.why in
-    told_more (λ line. (why ≢ NoMemory) × (line ≡ refusal_line path why)) (IsUntakenLine path s texts)
+    told_more (λ line. (why ≢ NoMemory) × (line ≡ refusal_line path why)) (IsUntakenBy path s scripts)
     (λ line h. record {
       wish = These c.as_slice.result c.as_slice-2.result;
       by = (
         ap seen_words c.as_slice.ensures.value ∙ c.in_ok-wanted.ensures.labels
-            ∙ ap (λ ws. wanted_labels s ws (seen_words c.as_slice-proofs.result.now)) words ∙ ap (wanted_labels s (spoken texts)) proofs,
+            ∙ ap (λ ws. wanted_labels s ws (seen_words c.as_slice-proofs.result.now)) words ∙ ap (wanted_labels s (spoken scripts)) proofs,
         ap seen_words c.as_slice-2.ensures.value ∙ c.in_ok-wanted.ensures.axioms
-            ∙ ap (λ ws. axiom_labels s ws (seen_words c.as_slice-proofs.result.now)) words ∙ ap (axiom_labels s (spoken texts)) proofs,
+            ∙ ap (λ ws. axiom_labels s ws (seen_words c.as_slice-proofs.result.now)) words ∙ ap (axiom_labels s (spoken scripts)) proofs,
       );
       why = c.in-Err.why;
       refused = c.in-Err.ensures.refused;
