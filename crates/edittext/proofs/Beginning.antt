@@ -1,0 +1,37 @@
+-- What is begun with, and the run over it.
+use Rattle.std.proofs.Common.{◌≡◌, ℕ, List, map}
+use Rattle.source.specs.Scopes.{Scope}
+use Rattle.source.specs.Sources.{DeclaresText}
+use Rattle.transaction.specs.Closings.{lists_of}
+use Rattle.checking.specs.Checks.{Bytes, Orders}
+use Rattle.jobs.specs.Jobs.{Room, IsWorked, room_of}
+use Rattle.editing.specs.declared.editing.Edited.{Edited}
+use Rattle.edittext.specs.declared.call.Begun.{Begun as CodeBegun}
+use Rattle.edittext.specs.Edited.{Begun, Run}
+use Rattle.edittext.specs.Views.{IsBegun}
+use Rattle.edittext.proofs.Lines.{worked_as}
+
+module _ (source : Bytes) (texts : List Bytes) (s : Scope) (b : CodeBegun) (d : DeclaresText source s) (is : IsBegun s texts b) where
+  abbrev pub begun_of : Begun source texts
+  begun_of = record {
+    old = s;
+    declares = d;
+    with_ranks = record {
+      over = record { spread = is.spread; of_source = is.of_source; taken = b.taken; for_scripts = is.for_scripts };
+      ranked = is.ranked;
+      gaps = is.gaps;
+      are_ranked = is.are_ranked;
+    };
+    scripts = b.scripts.items;
+    ordered = is.ordered;
+  }
+
+  abbrev pub run_of : (workers : ℕ) (room : Room) (ss : List Orders) (e : Edited) → ss ≡ b.scripts.items
+      → IsWorked b.taken.database workers (room_of room b.taken.database ss) ss (lists_of e.outcomes.items) e.history e.library
+      → Run source texts workers room (lists_of e.outcomes.items)
+  run_of workers room ss e same worked = record {
+    begun = begun_of;
+    entries = e.history;
+    edited = e.library;
+    worked = worked_as b.taken.database workers room ss b.scripts.items same e worked;
+  }
