@@ -72,7 +72,14 @@ fn edit<'a>(
         library,
     } = run_over(rt, alloc, keys, order, &taken.database, scripts, follow)?;
     let laid = begun.laid.as_slice();
-    let lines = undone(alloc, order.paths, texts, laid, scripts, outcomes.as_slice())?;
+    let lines = undone(
+        alloc,
+        order.paths,
+        texts,
+        laid,
+        scripts,
+        outcomes.as_slice(),
+    )?;
     if !may_print(order.partial, lines.as_slice()) {
         return Ok(Told::Undone(lines));
     }

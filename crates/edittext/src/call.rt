@@ -116,8 +116,21 @@ pub(crate) fn begin<'a, D: Declared<'a>>(
     let spread = spread_of(alloc, order.paths, declared, texts)?;
     let spread = spread.as_slice();
     let taken = take_for(rt, alloc, keys, order.path, declared, spread, follow)?;
-    let laid = rank_all(alloc, order.paths, declared, texts, taken.chosen.as_slice(), spread)?;
-    let scripts = read_all(alloc, order.paths, texts, taken.database.prelude(), laid.as_slice())?;
+    let laid = rank_all(
+        alloc,
+        order.paths,
+        declared,
+        texts,
+        taken.chosen.as_slice(),
+        spread,
+    )?;
+    let scripts = read_all(
+        alloc,
+        order.paths,
+        texts,
+        taken.database.prelude(),
+        laid.as_slice(),
+    )?;
     Ok(Begun {
         taken,
         laid,

@@ -178,7 +178,14 @@ pub(crate) fn undone(
     for (n, row) in rows.iter().enumerate() {
         let lines = lines_at(alloc, texts, laid, n)?;
         let (path, script) = (path_at(paths, n + 1), transactions_at(scripts, n));
-        put_undone(alloc, &mut said, path, lines.as_slice(), script, row.as_slice())?;
+        put_undone(
+            alloc,
+            &mut said,
+            path,
+            lines.as_slice(),
+            script,
+            row.as_slice(),
+        )?;
     }
     Ok(said)
 }

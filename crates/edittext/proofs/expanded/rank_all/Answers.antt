@@ -65,8 +65,8 @@ loop-place-preserved g c =
       kept.0 ++ out ∷ [],
       gaps ++ now.1,
       laid_next kept.0 c.loop-place.all.items _ out laid kept.2 (record { laid = now.2; beginnings = refl })
-      c.in_ok-push-in-Ok.ensures.items,
+          c.in_ok-push-in-Ok.ensures.items,
       ranked_next s flags (seen_scripts scripts) k (map seen words.items) kept.0 out gaps now.1
-      (get_seen (λ (ts : Vec CodeToken Global). map seen ts.items) scripts k words at) kept.3 one,
+          (get_seen (λ (ts : Vec CodeToken Global). map seen ts.items) scripts k words at) kept.3 one,
       now.3,
     )
