@@ -17,6 +17,10 @@ file_rule name = record (new_rule name) { required = true; action = Some Set }
 abbrev pub option_rule : Text → ArgAction → Rule
 option_rule name action = record (new_rule name) { long = Some name; value_names = 1; action = Some action }
 
+-- `--NAME`: an option that a job may have, without a value
+abbrev pub flag_rule : Text → Rule
+flag_rule name = record (new_rule name) { long = Some name; action = Some SetTrue }
+
 -- `DB`
 abbrev pub database_rule : Rule
 database_rule = file_rule (codes "DB")
@@ -51,7 +55,15 @@ room_rule = record (new_rule (codes "room")) {
 
 -- `--partial`
 abbrev pub partial_rule : Rule
-partial_rule = record (new_rule (codes "partial")) { long = Some (codes "partial"); action = Some SetTrue }
+partial_rule = flag_rule (codes "partial")
+
+-- `--output FILE`
+abbrev pub output_rule : Rule
+output_rule = option_rule (codes "output") Set
+
+-- `--in-place`
+abbrev pub in_place_rule : Rule
+in_place_rule = flag_rule (codes "in-place")
 
 -- `--history FILE`
 abbrev pub history_rule : Rule
@@ -114,10 +126,10 @@ give_app = with_rule (with_rule (with_rule (new_app (codes "give")) source_rule)
 abbrev pub verify_app : App
 verify_app = with_rule (with_rule (new_app (codes "verify")) checkers_rule) source_rule
 
--- `edit [--workers N] [--room W] [--partial] SOURCE SCRIPT..`
+-- `edit [--workers N] [--room W] [--output FILE] [--in-place] [--partial] SOURCE SCRIPT..`
 abbrev pub edit_app : App
-edit_app = with_rule (with_rule (with_rule
-    (with_rule (with_rule (new_app (codes "edit")) workers_rule) room_rule) partial_rule) source_rule) scripts_rule
+edit_app = with_rule (with_rule (with_rule (with_rule (with_rule
+    (with_rule (with_rule (new_app (codes "edit")) workers_rule) room_rule) output_rule) in_place_rule) partial_rule) source_rule) scripts_rule
 
 -- the program, before it has subcommands: it has a version, and wants one of them
 abbrev pub bare_app : App

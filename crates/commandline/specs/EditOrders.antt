@@ -1,7 +1,9 @@
 -- What a command line asks to edit, by what its parser found in the words.
-use Rattle.std.specs.Prelude.{◌≡◌, ℕ, Bool, false, List, ◌∷◌, Option, Some, None, codes}
+use Rattle.std.specs.Prelude.{◌≡◌, ℕ, Bool, true, false, List, ◌∷◌, Option, Some, None, codes, is_some}
 use Rattle.std.specs.Str.{bytes_eq}
 use Rattle.clap.specs.Words.{Row, Text, all_of, first_of}
+use Rattle.commandline.specs.declared.edit_order.Place.{Place}
+use Rattle.commandline.specs.declared.edit_order.Place.TheVariants.{Printed, File, Source}
 use Rattle.commandline.specs.Orders.{HasLimits, all_listed, rows_in}
 
 -- a flag is given: its text is `true`
@@ -19,10 +21,21 @@ abbrev pub AsksToEdit : Option (Text × List Row) → Text → ℕ → Option �
 AsksToEdit (Some p) path workers room = IsEditOf p.0 p.1 path workers room
 AsksToEdit None path workers room = ⊥
 
--- the paths of its source and of its scripts, its numbers, and whether a part of the transactions is enough for it
-pub record IsEditOrder (found : Option (Text × List Row)) (paths : List Text) (workers : ℕ) (room : Option ℕ) (partial : Bool)
-    : Type 0 where
+-- where the edited source goes, by the file of `--output` and the flag `--in-place`: it is printed where neither is given, and there is no
+-- place where both are
+abbrev pub IsPlaceGiven : Option Text → Bool → Option Place → Type 0
+IsPlaceGiven output in_place (Some Printed) = (output ≡ None) × (in_place ≡ false)
+IsPlaceGiven output in_place (Some (File path)) = (output ≡ Some path.now) × (in_place ≡ false)
+IsPlaceGiven output in_place (Some Source) = (output ≡ None) × (in_place ≡ true)
+IsPlaceGiven output in_place None = (is_some output ≡ true) × (in_place ≡ true)
+
+-- the paths of its source and of its scripts, its numbers, where the edited source goes, and whether a part of the transactions is enough
+-- for it
+pub record IsEditOrder (found : Option (Text × List Row)) (paths : List Text) (workers : ℕ) (room : Option ℕ) (place : Option Place)
+    (partial : Bool) : Type 0 where
   pub source : Text
   pub asked : AsksToEdit found source workers room
   pub read : paths ≡ source ∷ all_listed (all_of (codes "SCRIPT") (rows_in found))
+  pub put :
+      IsPlaceGiven (first_of (codes "output") (rows_in found)) (is_flagged (first_of (codes "in-place") (rows_in found))) place
   pub part : partial ≡ is_flagged (first_of (codes "partial") (rows_in found))

@@ -2,7 +2,7 @@
 
 ghost use Rattle.std.specs.Prelude.{IfOk};
 ghost use Rattle.clap.specs.Words.{App, Rule, with_rule, with_subcommand};
-ghost use Rattle.commandline.specs.CommandLine.{IsArgument, IsLine, file_rule, option_rule, workers_rule, checkers_rule, room_rule, partial_rule, scripts_rule};
+ghost use Rattle.commandline.specs.CommandLine.{IsArgument, IsLine, file_rule, option_rule, flag_rule, workers_rule, checkers_rule, room_rule, scripts_rule};
 ghost use Rattle.commandline.specs.CommandLine.{check_app, run_app, replay_app, take_app, give_app, verify_app, edit_app, program_app};
 
 use clap::builder::ValueParser;
@@ -98,13 +98,13 @@ fn room<'a>(alloc: Global) -> Arg<'a>
         .action(ArgAction::Set)
 }
 
-/// `--partial`.
-fn partial<'a>(alloc: Global) -> Arg<'a>
-    ensures { IsArgument partial_rule result }
+/// `--NAME`: an option that a job may have, without a value.
+fn flag<'a>(alloc: Global, name: &'a str, help: &'a str) -> Arg<'a>
+    ensures { IsArgument (flag_rule name.now) result }
 {
-    Arg::new(alloc, "partial")
-        .long("partial")
-        .help("Prints the database also where some transaction was not done; the status is 3 then")
+    Arg::new(alloc, name)
+        .long(name)
+        .help(help)
         .action(ArgAction::SetTrue)
 }
 
@@ -260,7 +260,7 @@ fn verify_line<'a>(alloc: Global) -> Result<Command<'a>, AllocError>
     with_argument(line, file(alloc, "SOURCE", SOURCE))
 }
 
-/// `mmrefactor edit [--workers N] [--room W] [--partial] SOURCE SCRIPT..`.
+/// `mmrefactor edit [--workers N] [--room W] [--in-place | --output FILE] [--partial] SOURCE SCRIPT..`.
 fn edit_line<'a>(alloc: Global) -> Result<Command<'a>, AllocError>
     ensures { IfOk result (IsLine edit_app) }
 {
@@ -268,19 +268,40 @@ fn edit_line<'a>(alloc: Global) -> Result<Command<'a>, AllocError>
         .about(
             "Edits a database in the whole language by scripts; prints it with the edits, verified",
         )
-        .after_help("Example: mmrefactor edit set.mm changes.edits > edited.mm")
+        .after_help("Example: mmrefactor edit --output edited.mm set.mm changes.edits")
         .arg(workers(alloc));
     let line = with_argument(line, room(alloc));
-    let line = with_argument(line, partial(alloc));
+    let output = option(
+        alloc,
+        "output",
+        "FILE",
+        ArgAction::Set,
+        "Writes the edited database to this file, which is not SOURCE, instead of printing it",
+    );
+    let line = with_argument(line, output);
+    let in_place = flag(
+        alloc,
+        "in-place",
+        "Puts the edited database in place of SOURCE, instead of printing it",
+    );
+    let line = with_argument(line, in_place);
+    let partial = flag(
+        alloc,
+        "partial",
+        "Prints the database also where some transaction was not done; the status is 3 then",
+    );
+    let line = with_argument(line, partial);
     let line = with_argument(line, file(alloc, "SOURCE", SOURCE));
     with_argument(line, scripts(alloc))
 }
 
-/// The command lines that the program takes: `mmrefactor check DB`, `mmrefactor run [--workers N] [--room W] [--history FILE] DB SCRIPT..`,
-/// `mmrefactor replay DB HISTORY`, `mmrefactor take [--for LABEL].. [--from LABEL --to LABEL] SOURCE`, `mmrefactor give SOURCE LIBRARY
-/// HISTORY`, `mmrefactor verify [--workers N] SOURCE` and `mmrefactor edit [--workers N] [--room W] [--partial] SOURCE SCRIPT..`.
+/// The command lines that the program takes: `mmrefactor check DB`, `mmrefactor run [--workers N] [--room W] [--history FILE] DB
+/// SCRIPT..`, `mmrefactor replay DB HISTORY`, `mmrefactor take [--for LABEL].. [--from LABEL --to LABEL] SOURCE`, `mmrefactor give SOURCE
+/// LIBRARY HISTORY`, `mmrefactor verify [--workers N] SOURCE` and `mmrefactor edit [--workers N] [--room W] [--in-place | --output FILE]
+/// [--partial] SOURCE SCRIPT..`.
 ///
-/// That `--from` and `--to` go together, and not with `--for`, is no rule of these lines.
+/// That `--from` and `--to` go together, and not with `--for`, and that `--in-place` does not go with `--output`, is no rule of these
+/// lines.
 ///
 /// # Errors
 ///

@@ -1,12 +1,23 @@
 //! What a command line asks to edit.
 
-ghost use Rattle.std.specs.Prelude.{◌≡◌, ℕ, IfOk, IfSome, IsNone, Option, map};
+ghost use Rattle.std.specs.Prelude.{◌≡◌, codes, ℕ, IfOk, IfSome, IsNone, Option, map};
 ghost use Rattle.clap.specs.Words.{Text, first_of, found_of, rows_of, subcommand_rows_of};
-ghost use Rattle.commandline.specs.EditOrders.{AsksToEdit, IsEditOrder, is_flagged};
+ghost use Rattle.commandline.specs.EditOrders.{AsksToEdit, IsEditOrder, IsPlaceGiven, is_flagged};
 
 use crate::order::{limits_in, put_all, subcommand_in, text_in, texts_in};
 use clap::ArgMatches;
 use std::alloc::{AllocError, Global};
+
+/// Where an edited source goes.
+#[derive(Clone, Copy)]
+pub enum Place<'a> {
+    /// To the standard output.
+    Printed,
+    /// Into the file at this path.
+    File(&'a str),
+    /// In place of the source.
+    Source,
+}
 
 /// What a command line asks to edit.
 #[derive(Drop)]
@@ -17,6 +28,8 @@ pub struct EditOrder<'a> {
     pub workers: usize,
     /// For how many words the store of the run has room, at most 16,777,216, if that is given.
     pub room: Option<usize>,
+    /// Where the edited source goes. None where `--output` and `--in-place` are both given.
+    pub place: Option<Place<'a>>,
     /// Whether the source is printed also where not all transactions were done.
     pub partial: bool,
 }
@@ -31,6 +44,19 @@ fn flag_in(of: &ArgMatches<'_>, id: &str) -> bool
     }
 }
 
+/// Where the edited source goes. None where two places are given.
+fn place_in<'a>(of: &ArgMatches<'a>) -> Option<Place<'a>>
+    ensures { IsPlaceGiven (first_of (codes "output") (rows_of (found_of of.now)))
+        (is_flagged (first_of (codes "in-place") (rows_of (found_of of.now)))) result }
+{
+    match (text_in(of, "output"), flag_in(of, "in-place")) {
+        (None, false) => Some(Place::Printed),
+        (Some(path), false) => Some(Place::File(path)),
+        (None, true) => Some(Place::Source),
+        (Some(_), true) => None,
+    }
+}
+
 /// The order to edit that a command line gives. None where it asks for another job, or for none.
 ///
 /// # Errors
@@ -41,7 +67,7 @@ pub fn edit_of<'a>(
     matches: &ArgMatches<'a>,
 ) -> Result<Option<EditOrder<'a>>, AllocError>
     ensures some { IfOk result (λ given. IfSome given (λ order. IsEditOrder (subcommand_rows_of matches.now)
-        (map (λ p. p.now) order.paths.items) order.workers order.room order.partial)) }
+        (map (λ p. p.now) order.paths.items) order.workers order.room order.place order.partial)) }
     ensures none { IfOk result (λ given. IsNone given → (path : Text) (workers : ℕ) (room : Option ℕ)
         → AsksToEdit (subcommand_rows_of matches.now) path workers room → ⊥) }
 {
@@ -63,6 +89,7 @@ pub fn edit_of<'a>(
         paths,
         workers,
         room,
+        place: place_in(of),
         partial: flag_in(of, "partial"),
     }))
 }

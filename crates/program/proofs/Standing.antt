@@ -4,7 +4,7 @@ use Rattle.std.specs.Prelude.{IfOk, IfSome, OnErr, OnOk, Vec, is_ok}
 use Rattle.std.specs.declared.alloc.Global.{Global}
 use Rattle.std.specs.Io.KnownBytes.{Appends}
 use Rattle.clap.specs.declared.error.Error.{Error}
-use Rattle.program.specs.Events.{Adds, Bytes, Event, bytes_of, prints, reads, says, shows, writes}
+use Rattle.program.specs.Events.{Adds, Bytes, Event, bytes_of, compares, prints, reads, replaces, says, shows, writes}
 use Rattle.program.specs.Output.{AreDone, AreHeld, AreOwn, IsPut, Puts, Stands}
 
 stands_behind : (front : List Event) (e : Event) (out here : Bytes) → Stands front out → Puts e here
@@ -21,7 +21,9 @@ stands_behind (f ∷ front) e out here (first, rest, put, stands, is) puts = (
 own_front : (front es : List Event) → AreOwn (front ++ es) → AreOwn front
 own_front [] es own = tt
 own_front (reads path got ∷ front) es own = own_front front es own
+own_front (compares one other same ∷ front) es own = own_front front es own
 own_front (writes path text whole ∷ front) es own = own_front front es own
+own_front (replaces path text whole ∷ front) es own = own_front front es own
 own_front (prints text whole ∷ front) es own = own_front front es own
 own_front (says line ∷ front) es own = own_front front es own
 own_front (shows error whole ∷ front) es own = absurd own
@@ -29,7 +31,9 @@ own_front (shows error whole ∷ front) es own = absurd own
 own_last : (front es : List Event) → AreOwn (front ++ es) → AreOwn es
 own_last [] es own = own
 own_last (reads path got ∷ front) es own = own_last front es own
+own_last (compares one other same ∷ front) es own = own_last front es own
 own_last (writes path text whole ∷ front) es own = own_last front es own
+own_last (replaces path text whole ∷ front) es own = own_last front es own
 own_last (prints text whole ∷ front) es own = own_last front es own
 own_last (says line ∷ front) es own = own_last front es own
 own_last (shows error whole ∷ front) es own = absurd own
@@ -38,7 +42,9 @@ held_behind : (holds : Bytes → Option Bytes) (front es : List Event) → AreHe
 held_behind holds [] es held more = more
 held_behind holds (reads path (Some text) ∷ front) es held more = (held.0, held_behind holds front es held.1 more)
 held_behind holds (reads path None ∷ front) es held more = held_behind holds front es held more
+held_behind holds (compares one other same ∷ front) es held more = held_behind holds front es held more
 held_behind holds (writes path text whole ∷ front) es held more = held_behind holds front es held more
+held_behind holds (replaces path text whole ∷ front) es held more = held_behind holds front es held more
 held_behind holds (prints text whole ∷ front) es held more = held_behind holds front es held more
 held_behind holds (says line ∷ front) es held more = held_behind holds front es held more
 held_behind holds (shows error whole ∷ front) es held more = held_behind holds front es held more
@@ -65,6 +71,14 @@ adds_unread holds out path = adds_none holds out (reads path None) refl tt
 pub adds_write : (holds : Bytes → Option Bytes) (out : Option Bytes) (path text : Bytes) (whole : Bool)
     → Adds (AreDone holds out) (AreDone holds out) (writes path text whole ∷ [])
 adds_write holds out path text whole = adds_none holds out (writes path text whole) refl tt
+
+pub adds_replace : (holds : Bytes → Option Bytes) (out : Option Bytes) (path text : Bytes) (whole : Bool)
+    → Adds (AreDone holds out) (AreDone holds out) (replaces path text whole ∷ [])
+adds_replace holds out path text whole = adds_none holds out (replaces path text whole) refl tt
+
+pub adds_compare : (holds : Bytes → Option Bytes) (out : Option Bytes) (one other : Bytes) (same : Bool)
+    → Adds (AreDone holds out) (AreDone holds out) (compares one other same ∷ [])
+adds_compare holds out one other same = adds_none holds out (compares one other same) refl tt
 
 pub adds_line : (holds : Bytes → Option Bytes) (out : Option Bytes) (line : Bytes)
     → Adds (AreDone holds out) (AreDone holds out) (says line ∷ [])

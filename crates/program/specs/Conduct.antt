@@ -19,12 +19,14 @@ use Rattle.program.specs.declared.conduct.Unread.TheVariants as unread
 use Rattle.program.specs.declared.world.Trouble.{Trouble}
 use Rattle.program.specs.declared.world.Trouble.TheVariants as trouble
 use Rattle.commandline.specs.CommandLine.{program_app}
-use Rattle.program.specs.Events.{Bytes, Event, IsQuiet, reads, writes, prints, says, shows}
+use Rattle.program.specs.Events.{Bytes, Event, IsQuiet, reads, compares, writes, replaces, prints, says, shows}
 use Rattle.commandline.specs.Orders.{AsksFor, IsOrder}
 use Rattle.commandline.specs.TakeOrders.{AsksToTake, IsTakeOrder}
 use Rattle.commandline.specs.GiveOrders.{AsksToGive}
 use Rattle.commandline.specs.VerifyOrders.{AsksToVerify}
 use Rattle.commandline.specs.EditOrders.{AsksToEdit, IsEditOrder}
+use Rattle.commandline.specs.declared.edit_order.Place.{Place}
+use Rattle.commandline.specs.declared.edit_order.Place.TheVariants as place
 use Rattle.edittext.specs.Answers.{IsEditAnswer}
 use Rattle.edittext.specs.Edited.{edit_room}
 use Rattle.edittext.specs.declared.answering.Told.{Told as Edited}
@@ -225,29 +227,65 @@ abbrev pub undone_status : List (String Global) → ℕ
 undone_status [] = 0
 undone_status (line ∷ lines) = 3
 
--- it is said which transactions weren't done, and then the source with the edits is printed; or that is said, nothing is printed, and the
--- status is 3; or the line of the refusal is said
-abbrev pub IsEditTold : Edited → List Event → ℕ → Type 0
-IsEditTold (edited.Printed out lines) es status =
-    (rest : List Event) × (es ≡ all_said lines.items ++ rest) × IsPrintedWith (undone_status lines.items) out.items rest status
-IsEditTold (edited.Undone lines) es status = (es ≡ all_said lines.items) × (status ≡ 3)
-IsEditTold (edited.Refused line) es status = IsSaid (string_bytes line) es status
+-- a text is in its file, whole, and the status is this; or it isn't, since that can't be written or memory ran out for it, which is said,
+-- and the status is 1
+abbrev pub IsSaved : Bytes → ℕ → Bool → List Event → ℕ → Type 0
+IsSaved path well true es status = (es ≡ []) × (status ≡ well)
+IsSaved path well false es status = IsSaid (path ++ codes ": cannot write") es status ⊎ IsSaid (codes "no memory") es status
+
+-- the source with the edits goes where it is to go, and the status is this: it is printed, it is written to a file, or it is put in place
+-- of what the source's file has; or it can't be
+abbrev pub IsPutAt : Place → Bytes → ℕ → Bytes → List Event → ℕ → Type 0
+IsPutAt place.Printed source well out es status = IsPrintedWith well out es status
+IsPutAt (place.File path) source well out es status =
+    (whole : Bool) × (rest : List Event) × (es ≡ writes path.now out whole ∷ rest) × IsSaved path.now well whole rest status
+IsPutAt place.Source source well out es status =
+    (whole : Bool) × (rest : List Event) × (es ≡ replaces source out whole ∷ rest) × IsSaved source well whole rest status
+
+-- it is said which transactions weren't done, and then the source with the edits goes where it is to go; or that is said, nothing goes
+-- anywhere, and the status is 3; or the line of the refusal is said
+abbrev pub IsEditTold : Place → Bytes → Edited → List Event → ℕ → Type 0
+IsEditTold place source (edited.Printed out lines) es status =
+    (rest : List Event) × (es ≡ all_said lines.items ++ rest) × IsPutAt place source (undone_status lines.items) out.items rest status
+IsEditTold place source (edited.Undone lines) es status = (es ≡ all_said lines.items) × (status ≡ 3)
+IsEditTold place source (edited.Refused line) es status = IsSaid (string_bytes line) es status
 
 -- what is answered is told, for a source in the first of the files, and scripts in the others
-abbrev pub IsEditAnswered : List Bytes → ℕ → Option ℕ → Bool → List Bytes → List Event → ℕ → Type 0
-IsEditAnswered (path ∷ scripts) workers room partial (source ∷ texts) es status =
-    (told : Edited) × IsEditAnswer path (path ∷ scripts) source texts workers (edit_room room) partial told × IsEditTold told es status
-IsEditAnswered _ workers room partial _ es status = ⊥
+abbrev pub IsEditAnswered : List Bytes → ℕ → Option ℕ → Place → Bool → List Bytes → List Event → ℕ → Type 0
+IsEditAnswered (path ∷ scripts) workers room place partial (source ∷ texts) es status =
+    (told : Edited) × IsEditAnswer path (path ∷ scripts) source texts workers (edit_room room) partial told
+    × IsEditTold place path told es status
+IsEditAnswered _ workers room place partial _ es status = ⊥
 
 -- so it is; or the system gives no random numbers, which is said
-abbrev pub IsAnsweredEdit : Bool → List Bytes → ℕ → Option ℕ → Bool → List Bytes → List Event → ℕ → Type 0
-IsAnsweredEdit keyed paths workers room partial texts es status =
-    IsEditAnswered paths workers room partial texts es status ⊎ IsUnkeyed keyed es status
+abbrev pub IsAnsweredEdit : Bool → List Bytes → ℕ → Option ℕ → Place → Bool → List Bytes → List Event → ℕ → Type 0
+IsAnsweredEdit keyed paths workers room place partial texts es status =
+    IsEditAnswered paths workers room place partial texts es status ⊎ IsUnkeyed keyed es status
 
 -- the files are read, and then the scripts edit the source
-abbrev pub IsEditDone : Bool → List Bytes → ℕ → Option ℕ → Bool → List Event → ℕ → Type 0
-IsEditDone keyed paths workers room partial es status =
-    AreReadThen paths (IsAnsweredEdit keyed paths workers room partial) es status
+abbrev pub IsEditFollowed : Bool → List Bytes → ℕ → Option ℕ → Place → Bool → List Event → ℕ → Type 0
+IsEditFollowed keyed paths workers room place partial es status =
+    AreReadThen paths (IsAnsweredEdit keyed paths workers room place partial) es status
+
+-- where the source with the edits goes to a file, it is asked whether that is the source's own; it always is at the source's path
+abbrev pub IsCompared : Place → Bytes → List Event → Bool → Type 0
+IsCompared (place.File path) source es same = (es ≡ compares path.now source same ∷ []) × (path.now ≡ source → same ≡ true)
+IsCompared _ source es same = (es ≡ []) × (same ≡ false)
+
+-- it would go over the source, which is said, and no file is read; or it wouldn't, and this follows
+abbrev pub IsApartThen : Place → Bytes → (List Event → ℕ → Type 0) → List Event → ℕ → Type 0
+IsApartThen place source P es status =
+    (asked : List Event) × (rest : List Event) × (es ≡ asked ++ rest)
+    × ((IsCompared place source asked true × IsSaid (codes "--output names SOURCE") rest status)
+    ⊎ (IsCompared place source asked false × P rest status))
+
+-- a source, in the first of the files, is edited, unless that would go over it; or it is to go to two places, which is said, and no file is
+-- read
+abbrev pub IsEditDone : Bool → List Bytes → ℕ → Option ℕ → Option Place → Bool → List Event → ℕ → Type 0
+IsEditDone keyed paths workers room (Some place) partial es status =
+    (source : Bytes) × (scripts : List Bytes) × (paths ≡ source ∷ scripts)
+    × IsApartThen place source (IsEditFollowed keyed paths workers room place partial) es status
+IsEditDone keyed paths workers room None partial es status = IsSaid (codes "--in-place and --output do not go together") es status
 
 -- ---- a command line
 
@@ -284,8 +322,8 @@ IsVerifyOrdered keyed found es status =
 -- a subcommand with an order to edit, which is done
 abbrev pub IsEditOrdered : Bool → Option (Text × List Row) → List Event → ℕ → Type 0
 IsEditOrdered keyed found es status =
-    (paths : List Bytes) × (workers : ℕ) × (room : Option ℕ) × (partial : Bool) × IsEditOrder found paths workers room partial
-    × IsEditDone keyed paths workers room partial es status
+    (paths : List Bytes) × (workers : ℕ) × (room : Option ℕ) × (place : Option Place) × (partial : Bool)
+    × IsEditOrder found paths workers room place partial × IsEditDone keyed paths workers room place partial es status
 
 -- no subcommand, or one that asks for no task, and for nothing to take, to give back, to verify or to edit
 abbrev pub IsUnasked : Option (Text × List Row) → List Event → ℕ → Type 0

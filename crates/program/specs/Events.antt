@@ -7,12 +7,15 @@ use Rattle.clap.specs.declared.error.Error.{Error}
 abbrev pub Bytes : Type 0
 Bytes = List ℕ
 
--- it reads the file at a path, and gets its bytes, or none where it can't be read; it writes a text to the file at a path, or can't; it
--- prints a text on the standard output, or can't; it says a line on the standard error; it shows what the parser of command lines says, on
--- the stream of that, or can't
+-- it reads the file at a path, and gets its bytes, or none where it can't be read; it asks whether two paths lead to one file, and is
+-- told; it writes a text to the file at a path, or can't; it puts a text in place of what the file at a path has, or can't, and then that
+-- has what it had; it prints a text on the standard output, or can't; it says a line on the standard error; it shows what the parser of
+-- command lines says, on the stream of that, or can't
 pub data Event : Type 0 where
   reads : Bytes → Option Bytes → Event
+  compares : Bytes → Bytes → Bool → Event
   writes : Bytes → Bytes → Bool → Event
+  replaces : Bytes → Bytes → Bool → Event
   prints : Bytes → Bool → Event
   says : Bytes → Event
   shows : Error → Bool → Event
@@ -26,10 +29,12 @@ abbrev pub bytes_of : {E : Type 0} → Result (Vec ℕ Global) E → Option Byte
 bytes_of (Ok text) = Some text.items
 bytes_of (Err e) = None
 
--- nothing was written, printed or said: a file was read
+-- nothing was written, printed or said: a file was read, or it was asked where paths lead
 abbrev pub IsQuiet : Event → Type 0
 IsQuiet (reads path got) = Unit {0}
+IsQuiet (compares one other same) = Unit {0}
 IsQuiet (writes path text whole) = ⊥
+IsQuiet (replaces path text whole) = ⊥
 IsQuiet (prints text whole) = ⊥
 IsQuiet (says line) = ⊥
 IsQuiet (shows error whole) = ⊥

@@ -1,6 +1,6 @@
 -- What was read, and what stands on the standard output, where a program did these things.
 use Rattle.std.specs.Prelude.{◌≡◌, ℕ, Bool, true, false, List, [], ◌∷◌, ◌++◌, Option, Some, None, IfSome, take}
-use Rattle.program.specs.Events.{Bytes, Event, reads, writes, prints, says, shows}
+use Rattle.program.specs.Events.{Bytes, Event, reads, compares, writes, replaces, prints, says, shows}
 
 -- a text, or a front of it where it isn't whole
 abbrev pub IsPut : Bytes → Bool → Bytes → Type 0
@@ -10,7 +10,9 @@ IsPut text false here = (many : ℕ) × (here ≡ take many text)
 -- what one thing puts there; of what the parser of command lines shows it isn't known
 abbrev pub Puts : Event → Bytes → Type 0
 Puts (reads path got) here = here ≡ []
+Puts (compares one other same) here = here ≡ []
 Puts (writes path text whole) here = here ≡ []
+Puts (replaces path text whole) here = here ≡ []
 Puts (prints text whole) here = IsPut text whole here
 Puts (says line) here = here ≡ []
 Puts (shows error whole) here = Unit {0}
@@ -25,7 +27,9 @@ abbrev pub AreOwn : List Event → Type 0
 AreOwn [] = Unit {0}
 AreOwn (shows error whole ∷ es) = ⊥
 AreOwn (reads path got ∷ es) = AreOwn es
+AreOwn (compares one other same ∷ es) = AreOwn es
 AreOwn (writes path text whole ∷ es) = AreOwn es
+AreOwn (replaces path text whole ∷ es) = AreOwn es
 AreOwn (prints text whole ∷ es) = AreOwn es
 AreOwn (says line ∷ es) = AreOwn es
 
@@ -38,7 +42,9 @@ abbrev pub AreHeld : (Bytes → Option Bytes) → List Event → Type 0
 AreHeld holds [] = Unit {0}
 AreHeld holds (reads path (Some text) ∷ es) = IfSome (holds path) (λ held. text ≡ held) × AreHeld holds es
 AreHeld holds (reads path None ∷ es) = AreHeld holds es
+AreHeld holds (compares one other same ∷ es) = AreHeld holds es
 AreHeld holds (writes path text whole ∷ es) = AreHeld holds es
+AreHeld holds (replaces path text whole ∷ es) = AreHeld holds es
 AreHeld holds (prints text whole ∷ es) = AreHeld holds es
 AreHeld holds (says line ∷ es) = AreHeld holds es
 AreHeld holds (shows error whole ∷ es) = AreHeld holds es

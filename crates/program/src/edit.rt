@@ -1,13 +1,13 @@
 //! How scripts edit a source: all files are read, and what is answered is told.
 
-ghost use Rattle.std.specs.Prelude.{is_some, ◌≡◌, ◌<◌, List, length, map};
+ghost use Rattle.std.specs.Prelude.{is_some, ◌≡◌, ◌<◌, List, Some, is_ok, length, map};
 ghost use Rattle.checking.specs.Tasks.{IsWithin};
 ghost use Rattle.program.specs.Events.{Event, Adds};
-ghost use Rattle.program.specs.Conduct.{EndsBy, all_said, undone_status, IsEditTold, IsAnsweredEdit, IsEditDone};
+ghost use Rattle.program.specs.Conduct.{EndsBy, all_said, undone_status, IsSaved, IsPutAt, IsEditTold, IsAnsweredEdit, IsEditFollowed, IsCompared, IsEditDone};
 
 use crate::conduct::{print_with, read_all, refuse, tell_unread};
-use crate::world::World;
-use commandline::EditOrder;
+use crate::world::{Trouble, World};
+use commandline::{EditOrder, Place};
 use edittext::{Told, answer_edit};
 use following::Follow;
 use jobs::Watch;
@@ -32,14 +32,62 @@ fn undone_status(lines: &[String]) -> u8
     if lines.is_empty() { 0 } else { 3 }
 }
 
-/// Tells an answer: which transactions were not done, and what is printed; or the line of the refusal.
-fn tell_edited<W: World>(world: &mut W, told: &Told) -> u8
-    ensures { (es : List Event) × Adds (W.done world.old) (W.done world.new) es × IsEditTold told.now es result }
+/// Says why a text isn't in the file at a path, unless it is.
+fn tell_saved<W: World>(world: &mut W, path: &str, status: u8, saved: Result<(), Trouble>) -> u8
+    ensures { (es : List Event) × Adds (W.done world.old) (W.done world.new) es × IsSaved path.now status (is_ok saved) es result }
+{
+    match saved {
+        Ok(()) => status,
+        Err(Trouble::NoMemory) => refuse(world, "no memory"),
+        Err(Trouble::Refused) => {
+            world.say_of(path, "cannot write");
+            1
+        }
+    }
+}
+
+/// Prints the edited source, writes it to a file, or puts it in place of the source, after which the status is this one; or says that it
+/// can't.
+fn put_at<W: World>(
+    world: &mut W,
+    alloc: Global,
+    place: Place<'_>,
+    source: &str,
+    status: u8,
+    out: &[u8],
+) -> u8
+    ensures { (es : List Event) × Adds (W.done world.old) (W.done world.new) es
+        × IsPutAt place.entry source.now status out.now es result }
+{
+    match place {
+        Place::Printed => print_with(world, status, out),
+        Place::File(path) => {
+            let saved = world.write(path, out);
+            tell_saved(world, path, status, saved)
+        }
+        Place::Source => {
+            let saved = world.replace(alloc, source, out);
+            tell_saved(world, source, status, saved)
+        }
+    }
+}
+
+/// Tells an answer: which transactions were not done, and the edited source where it goes; or the line of the refusal.
+fn tell_edited<W: World>(
+    world: &mut W,
+    alloc: Global,
+    place: Place<'_>,
+    source: &str,
+    told: &Told,
+) -> u8
+    ensures { (es : List Event) × Adds (W.done world.old) (W.done world.new) es
+        × IsEditTold place.entry source.now told.now es result }
 {
     match told {
         Told::Printed(out, lines) => {
             say_all(world, lines.as_slice());
-            print_with(world, undone_status(lines.as_slice()), out.as_slice())
+            let status = undone_status(lines.as_slice());
+            put_at(world, alloc, place, source, status, out.as_slice())
         }
         Told::Undone(lines) => {
             say_all(world, lines.as_slice());
@@ -49,13 +97,15 @@ fn tell_edited<W: World>(world: &mut W, told: &Told) -> u8
     }
 }
 
-/// Edits the source by the scripts, of which these are the texts, the source's first, and tells the answer. It may wait.
+/// Edits the source by the scripts, of which these are the texts, the source's first, and tells the answer: the edited source goes to this
+/// place. It may wait.
 fn answer_edited<R: Threads + Wait + Sync, W: World, V: Watch + Follow + Sync>(
     rt: &R,
     alloc: Global,
     world: &mut W,
     keys: Option<RandomState>,
     order: &EditOrder<'_>,
+    place: Place<'_>,
     texts: &[Vec<u8>],
     watch: &V,
 ) -> Result<u8, AllocError>
@@ -63,15 +113,16 @@ fn answer_edited<R: Threads + Wait + Sync, W: World, V: Watch + Follow + Sync>(
     requires any { 0 < length order.now.paths.items }
     requires many { length texts.now ≡ length order.now.paths.items }
     ensures { (es : List Event) × Adds (W.done world.old) (W.done world.new) es
-        × EndsBy (IsAnsweredEdit (is_some keys) (map (λ p. p.now) order.now.paths.items) order.now.workers order.now.room order.now.partial
-        (map (λ t. t.items) texts.now)) es result }
+        × EndsBy (IsAnsweredEdit (is_some keys) (map (λ p. p.now) order.now.paths.items) order.now.workers order.now.room place.entry
+        order.now.partial (map (λ t. t.items) texts.now)) es result }
 {
     let Some(keys) = keys else {
         return Ok(refuse(world, "no random numbers"));
     };
     let paths = order.paths.as_slice();
+    let path = paths[0];
     let asked = edittext::EditOrder {
-        path: paths[0],
+        path,
         paths,
         workers: order.workers,
         room: order.room,
@@ -79,9 +130,77 @@ fn answer_edited<R: Threads + Wait + Sync, W: World, V: Watch + Follow + Sync>(
     };
     let (source, scripts) = (texts[0].as_slice(), &texts[1..]);
     match answer_edit(rt, alloc, keys, asked, source, scripts, watch) {
-        Ok(told) => Ok(tell_edited(world, &told)),
+        Ok(told) => Ok(tell_edited(world, alloc, place, path, &told)),
         Err(_) => Err(AllocError),
     }
+}
+
+/// Reads the files of an order, and edits the source, which goes to this place. Who watches is told of the run, and how far the work on the
+/// source is. It may wait.
+fn edit_files<R: Threads + Wait + Sync, W: World, V: Watch + Follow + Sync>(
+    rt: &R,
+    alloc: Global,
+    world: &mut W,
+    keys: Option<RandomState>,
+    order: &EditOrder<'_>,
+    place: Place<'_>,
+    watch: &V,
+) -> Result<u8, AllocError>
+    requires within { IsWithin order.now.workers order.now.room }
+    requires any { 0 < length order.now.paths.items }
+    ensures { (es : List Event) × Adds (W.done world.old) (W.done world.new) es
+        × EndsBy (IsEditFollowed (is_some keys) (map (λ p. p.now) order.now.paths.items) order.now.workers order.now.room place.entry
+        order.now.partial) es result }
+{
+    let mut texts = Vec::new(alloc);
+    if let Err(unread) = read_all(world, alloc, order.paths.as_slice(), &mut texts) {
+        return tell_unread(world, unread);
+    }
+    answer_edited(
+        rt,
+        alloc,
+        world,
+        keys,
+        order,
+        place,
+        texts.as_slice(),
+        watch,
+    )
+}
+
+/// Whether an edited source would be written over the source.
+fn is_source<W: World>(world: &mut W, place: Place<'_>, source: &str) -> bool
+    ensures { (es : List Event) × Adds (W.done world.old) (W.done world.new) es × IsCompared place.entry source.now es result }
+{
+    match place {
+        Place::File(path) => world.is_one_file(path, source),
+        Place::Printed | Place::Source => false,
+    }
+}
+
+/// Edits the source of an order, which goes to this place, unless that would be written over the source. Who watches is told of the run,
+/// and how far the work on the source is. It may wait.
+fn edit_apart<R: Threads + Wait + Sync, W: World, V: Watch + Follow + Sync>(
+    rt: &R,
+    alloc: Global,
+    world: &mut W,
+    keys: Option<RandomState>,
+    order: &EditOrder<'_>,
+    place: Place<'_>,
+    watch: &V,
+) -> Result<u8, AllocError>
+    requires within { IsWithin order.now.workers order.now.room }
+    requires any { 0 < length order.now.paths.items }
+    requires placed { order.now.place ≡ Some place }
+    ensures { (es : List Event) × Adds (W.done world.old) (W.done world.new) es
+        × EndsBy (IsEditDone (is_some keys) (map (λ p. p.now) order.now.paths.items) order.now.workers order.now.room order.now.place
+        order.now.partial) es result }
+{
+    let paths = order.paths.as_slice();
+    if is_source(world, place, paths[0]) {
+        return Ok(refuse(world, "--output names SOURCE"));
+    }
+    edit_files(rt, alloc, world, keys, order, place, watch)
 }
 
 /// Does what an order to edit asks for. Who watches is told of the run, and how far the work on the source is. It may wait.
@@ -96,12 +215,11 @@ pub(crate) fn follow_edit<R: Threads + Wait + Sync, W: World, V: Watch + Follow 
     requires within { IsWithin order.now.workers order.now.room }
     requires any { 0 < length order.now.paths.items }
     ensures { (es : List Event) × Adds (W.done world.old) (W.done world.new) es
-        × EndsBy (IsEditDone (is_some keys) (map (λ p. p.now) order.now.paths.items) order.now.workers order.now.room order.now.partial)
-        es result }
+        × EndsBy (IsEditDone (is_some keys) (map (λ p. p.now) order.now.paths.items) order.now.workers order.now.room order.now.place
+        order.now.partial) es result }
 {
-    let mut texts = Vec::new(alloc);
-    if let Err(unread) = read_all(world, alloc, order.paths.as_slice(), &mut texts) {
-        return tell_unread(world, unread);
+    match order.place {
+        Some(place) => edit_apart(rt, alloc, world, keys, order, place, watch),
+        None => Ok(refuse(world, "--in-place and --output do not go together")),
     }
-    answer_edited(rt, alloc, world, keys, order, texts.as_slice(), watch)
 }

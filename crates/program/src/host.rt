@@ -8,6 +8,7 @@ ghost use Rattle.program.specs.Events.{Event};
 ghost use Rattle.program.specs.Output.{AreDone};
 ghost use Rattle.program.specs.declared.world.Trouble.{Trouble as TroubleOfWords};
 
+use crate::beside::put_over;
 use crate::conduct::{obey, refuse};
 use crate::disk::{Disk, SystemFiles};
 use crate::progress::Progress;
@@ -37,9 +38,9 @@ pub struct Host<'r, D, O, R> {
 }
 
 impl<D: Disk + Drop, O: Write + Drop, R: Print + Eprint> World for Host<'_, D, O, R> {
-    ghost use Rattle.std.specs.Prelude.{◌∷◌, [], OnOk, is_ok};
+    ghost use Rattle.std.specs.Prelude.{ℕ, List, ◌∷◌, [], OnOk, is_ok};
     ghost use Rattle.std.specs.Io.KnownBytes.{Appends};
-    ghost use Rattle.program.specs.Events.{Adds, writes};
+    ghost use Rattle.program.specs.Events.{Adds, writes, replaces};
     ghost use Rattle.program.specs.Output.{AreDone};
 
     ghost done = { λ h es. AreDone (D.holds h.disk) (O.contents h.out) es };
@@ -51,6 +52,10 @@ impl<D: Disk + Drop, O: Write + Drop, R: Print + Eprint> World for Host<'_, D, O
         }
     }
 
+    fn is_one_file(&mut self, one: &str, other: &str) -> bool {
+        one == other || self.disk.is_one_file(one, other)
+    }
+
     fn write(&mut self, path: &str, text: &[u8]) -> Result<(), Trouble>
         ensures done { Adds (AreDone (D.holds self.old.disk) (O.contents self.old.out))
             (AreDone (D.holds self.new.disk) (O.contents self.new.out)) (writes path.now text.now (is_ok result) ∷ []) }
@@ -59,6 +64,18 @@ impl<D: Disk + Drop, O: Write + Drop, R: Print + Eprint> World for Host<'_, D, O
     {
         match self.disk.create(path) {
             Ok(mut file) => write_whole(&mut file, text),
+            Err(error) => Err(trouble_of(&error)),
+        }
+    }
+
+    fn replace(&mut self, alloc: Global, path: &str, text: &[u8]) -> Result<(), Trouble>
+        ensures done { Adds (AreDone (D.holds self.old.disk) (O.contents self.old.out))
+            (AreDone (D.holds self.new.disk) (O.contents self.new.out)) (replaces path.now text.now (is_ok result) ∷ []) }
+        ensures whole { OnOk result ((real beside : List ℕ) × (made written : D.File) × D.leads path.now real × D.is_at made beside
+            × Appends (D.File.contents made) (D.File.contents written) text.now × D.is_synced written × D.is_moved beside real) }
+    {
+        match self.disk.follow_links(alloc, path) {
+            Ok(real) => put_over(&self.disk, alloc, real.as_str(), text),
             Err(error) => Err(trouble_of(&error)),
         }
     }

@@ -1,6 +1,7 @@
 //! The program: how what a command line asks for is done on files and streams.
 #![tactic(auto)]
 
+mod beside;
 mod conduct;
 mod disk;
 mod edit;
@@ -13,8 +14,8 @@ mod whole;
 mod world;
 
 pub use commandline::{
-    EditOrder, GiveOrder, Order, TakeOrder, VerifyOrder, edit_of, give_of, order_of, take_of,
-    verify_of,
+    EditOrder, GiveOrder, Order, Place, TakeOrder, VerifyOrder, edit_of, give_of, order_of,
+    take_of, verify_of,
 };
 pub use conduct::obey;
 pub use disk::{Disk, SystemFiles};

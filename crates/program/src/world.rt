@@ -13,8 +13,8 @@ pub enum Trouble {
 
 /// What the program does on the outside. Contracts see all that was done, in order.
 pub trait World {
-    ghost use Rattle.std.specs.Prelude.{◌≡◌, ◌++◌, ◌∷◌, [], List, Option, None, codes, is_ok};
-    ghost use Rattle.program.specs.Events.{Event, Adds, bytes_of, reads, writes, prints, says, shows};
+    ghost use Rattle.std.specs.Prelude.{◌≡◌, ◌++◌, ◌∷◌, [], List, Option, None, codes, is_ok, true};
+    ghost use Rattle.program.specs.Events.{Event, Adds, bytes_of, reads, compares, writes, replaces, prints, says, shows};
 
     /// Whether just this was done so far, as far as what lies outside tells.
     ghost done: { Self → List Event → Type 0 };
@@ -27,6 +27,11 @@ pub trait World {
     fn read(&mut self, alloc: Global, path: &str) -> Result<Vec<u8>, Trouble>
         ensures { Adds (done self.old) (done self.new) (reads path.now (bytes_of result) ∷ []) };
 
+    /// Whether two paths lead to one file, as far as the system tells. A path leads where it leads itself, though nothing is there.
+    fn is_one_file(&mut self, one: &str, other: &str) -> bool
+        ensures told { Adds (done self.old) (done self.new) (compares one.now other.now result ∷ []) }
+        ensures same { one.now ≡ other.now → result ≡ true };
+
     /// Writes a text to the file at a path, in place of what it had.
     ///
     /// # Errors
@@ -34,6 +39,14 @@ pub trait World {
     /// The file can't be written whole, or there is no memory for that: what it has then is not said.
     fn write(&mut self, path: &str, text: &[u8]) -> Result<(), Trouble>
         ensures { Adds (done self.old) (done self.new) (writes path.now text.now (is_ok result) ∷ []) };
+
+    /// Puts a text in place of what the file at a path has: at any time that has the one or the other whole.
+    ///
+    /// # Errors
+    ///
+    /// The text can't be put there, or there is no memory for that: the file has what it had.
+    fn replace(&mut self, alloc: Global, path: &str, text: &[u8]) -> Result<(), Trouble>
+        ensures { Adds (done self.old) (done self.new) (replaces path.now text.now (is_ok result) ∷ []) };
 
     /// Prints a text on the standard output, and answers whether it was printed whole.
     fn print(&mut self, text: &[u8]) -> bool

@@ -6,7 +6,7 @@ use Rattle.program.proofs.edit.answer_edited.Goals as goal
 
 pub returns-in-Ok : goal.returns-in-Ok
 returns-in-Ok g c =
-    let told = c.tell_edited.ensures in
+    let told = rw c.as_slice-paths.ensures.value at c.tell_edited.ensures in
     let order = c.args.order.now in
     let texts = c.args.texts.now in
     let source = c.index-texts-0.result in
@@ -18,6 +18,6 @@ returns-in-Ok g c =
     let answer = rw c.as_slice-source.ensures.value at (rw c.as_slice-paths.ensures.value at c.in-Ok.ensures) in (
       told.0,
       told.1,
-      edit_answered (is_some c.args.keys) _ _ _ source.items _ _ order.workers order.room order.partial c.in-Ok.told told.0
+      edit_answered (is_some c.args.keys) _ _ _ source.items _ _ order.workers order.room c.args.place order.partial c.in-Ok.told told.0
           c.tell_edited.result named are answer told.2,
     )
