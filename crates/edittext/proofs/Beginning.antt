@@ -1,5 +1,5 @@
 -- What is begun with, and the run over it.
-use Rattle.std.proofs.Common.{◌≡◌, ℕ, List, map}
+use Rattle.std.proofs.Common.{◌≡◌, ℕ, List}
 use Rattle.source.specs.Scopes.{Scope}
 use Rattle.source.specs.Sources.{DeclaresText}
 use Rattle.transaction.specs.Closings.{lists_of}

@@ -1,5 +1,5 @@
 -- What is left to show of `edit`.
-use Rattle.std.proofs.Common.{◌≡◌, ◌∙◌, rules, refl, ℕ, List, map, inl, inr, ap, subst, sym}
+use Rattle.std.proofs.Common.{◌∙◌, rules, refl, List, map, inl, inr, ap, subst, sym}
 use Rattle.std.specs.Prelude.{IfErr, IfOk}
 use Rattle.givetext.specs.Parts.{IsEdited}
 use Rattle.verifytext.specs.Verdicts.{IsVerifiedText}

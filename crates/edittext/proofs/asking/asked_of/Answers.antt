@@ -1,5 +1,5 @@
 -- What is left to show of `asked_of`.
-use Rattle.std.proofs.Common.{◌∙◌, ◌++◌, length, map, refl, ap, List}
+use Rattle.std.proofs.Common.{◌∙◌, length, map, refl, ap}
 use Rattle.std.proofs.lemmas.Option.{slice_get_read}
 use Rattle.mmtext.specs.Views.{seen}
 use Rattle.source.specs.Views.{seen_words}

@@ -1,5 +1,5 @@
 -- What is left to show of `put_asked`.
-use Rattle.std.proofs.Common.{◌∙◌, ◌∷◌, [], sym, ap}
+use Rattle.std.proofs.Common.{◌∙◌, [], sym, ap}
 use Rattle.std.proofs.lemmas.List.{map-append}
 use Rattle.std.proofs.Common.{Bor, List, ℕ}
 use Rattle.source.specs.Views.{seen_words}

@@ -1,5 +1,5 @@
 -- What is left to show of `begin`.
-use Rattle.std.proofs.Common.{◌≡◌, [], Bool, List, ℕ, map, inl, inr, sym, subst, Vec, Global}
+use Rattle.std.proofs.Common.{[], Bool, List, map, inl, inr, sym, subst, Vec, Global}
 use Rattle.std.specs.Prelude.{◌⊎◌, All}
 use Rattle.std.proofs.lemmas.Result.{err_from_is_err_and}
 use Rattle.mmtext.specs.declared.token.Token.{Token as CodeToken}

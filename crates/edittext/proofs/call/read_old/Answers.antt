@@ -1,5 +1,5 @@
 -- What is left to show of `read_old`.
-use Rattle.std.proofs.Common.{◌≡◌, rules, ℕ, List}
+use Rattle.std.proofs.Common.{◌≡◌, rules}
 use Rattle.std.specs.Prelude.{◌≢◌}
 use Rattle.intake.specs.declared.refusal.Refusal.TheVariants as untaken
 use Rattle.mmtext.specs.declared.fault.FaultKind.TheVariants.{NoMemory}

@@ -1,6 +1,6 @@
 -- What is left to show of `read_all`.
-use Rattle.std.proofs.Common.{◌≡◌, ◌≤◌, ◌∙◌, ◌+◌, ℕ, List, length, map, take, refl, sym, ap, subst, arith}
-use Rattle.std.specs.Prelude.{◌≢◌, All, slice_index_or}
+use Rattle.std.proofs.Common.{◌≡◌, ◌≤◌, ◌∙◌, ◌+◌, ℕ, length, map, refl, ap, subst, arith}
+use Rattle.std.specs.Prelude.{◌≢◌, All}
 use Rattle.std.proofs.lemmas.List.{take_all}
 use Rattle.std.proofs.lemmas.List.Elements.{All-push, All-same}
 use Rattle.std.proofs.lemmas.Option.{slice_get_read}
@@ -8,7 +8,7 @@ use Rattle.mmtext.specs.declared.fault.TextFault.{TextFault}
 use Rattle.mmtext.specs.declared.fault.FaultKind.TheVariants.{NoMemory}
 use Rattle.library.specs.Fitting.{CommandFits}
 use Rattle.scripts.specs.ScriptFaults.{FaultyScript}
-use Rattle.checking.specs.Checks.{Bytes, AreScripts, IsScript}
+use Rattle.checking.specs.Checks.{Bytes, AreScripts}
 use Rattle.checking.specs.FaultLines.{line_of}
 use Rattle.checking.specs.declared.fault.Fault.TheVariants.{Text}
 use Rattle.checking.proofs.ScriptFaults.{read_as}

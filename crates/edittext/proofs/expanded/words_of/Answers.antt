@@ -1,5 +1,5 @@
 -- What is left to show of `words_of`.
-use Rattle.std.proofs.Common.{◌≡◌, ◌+◌, ℕ, List, length, map, refl, subst, Vec, Global}
+use Rattle.std.proofs.Common.{◌≡◌, ◌+◌, ℕ, length, map, refl, subst, Vec, Global}
 use Rattle.std.specs.Prelude.{◌≢◌}
 use Rattle.std.proofs.lemmas.Option.{slice_get_read}
 use Rattle.mmtext.specs.Languages.{Faulty}
