@@ -15,7 +15,7 @@ use Rattle.expanding.specs.Words.{text_of}
 use Rattle.expanding.specs.declared.laid.Laid.{Laid}
 use Rattle.edittext.specs.Expanded.{RankedScript, AreRanked, texts_of}
 use Rattle.edittext.specs.Views.{IsLaidOf, AreLaid, beginnings_of}
-use Rattle.edittext.proofs.AskedWords.{take_next}
+use Rattle.expanding.proofs.Citing.{take_next}
 
 -- ---- two lists, item by item
 

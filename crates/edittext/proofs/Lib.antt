@@ -1,5 +1,4 @@
 pub mod Expanding
-pub mod AskedWords
 pub mod Undoing
 pub mod Lines
 pub mod Beginning

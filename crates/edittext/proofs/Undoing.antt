@@ -9,7 +9,7 @@ use Rattle.library.specs.declared.command.Command.{Command}
 use Rattle.transaction.specs.declared.outcome.Outcome.{Outcome}
 use Rattle.checking.specs.Checks.{Bytes}
 use Rattle.edittext.specs.Undone.{is_done, undone_text, undone_line, each_from}
-use Rattle.edittext.proofs.AskedWords.{take_next}
+use Rattle.expanding.proofs.Citing.{take_next}
 
 -- ---- what each of a list has
 

@@ -19,7 +19,7 @@ use Rattle.jobs.specs.Tasks.{least_room}
 use Rattle.givetext.specs.Parts.{IsEdited}
 use Rattle.verifytext.specs.declared.verifying_text.Verified.{Verified}
 use Rattle.verifytext.specs.Verdicts.{IsVerifiedText}
-use Rattle.edittext.specs.Words.{spoken, asked}
+use Rattle.expanding.specs.Asking.{spoken, asked}
 use Rattle.edittext.specs.Expanded.{AreWordsOf, AreSpread, RankedScript, AreRanked, texts_of}
 
 -- the room of a run that is given one, or isn't

@@ -1,4 +1,3 @@
-pub mod Words
 pub mod Expanded
 pub mod Edited
 pub mod Undone

@@ -4,8 +4,6 @@ use Rattle.std.specs.List.{AllZip}
 use Rattle.std.specs.declared.alloc.Global.{Global}
 use Rattle.std.specs.Prelude.{Vec}
 use Rattle.mmtext.specs.Text.{Token}
-use Rattle.mmtext.specs.Views.{seen}
-use Rattle.mmtext.specs.declared.token.Token.{Token as CodeToken}
 use Rattle.source.specs.Scopes.{Scope}
 use Rattle.library.specs.Fitting.{CommandFits}
 use Rattle.checking.specs.Checks.{Bytes, AreScripts}
@@ -15,12 +13,9 @@ use Rattle.edittext.specs.declared.call.Begun.{Begun as CodeBegun}
 use Rattle.edittext.specs.Expanded.{RankedScript, AreRanked, texts_of}
 use Rattle.edittext.specs.Edited.{IsSpreadOf, IsTakenFor}
 
--- texts, and the words of scripts
+-- texts
 abbrev pub seen_texts : List (Vec ℕ Global) → List Bytes
 seen_texts texts = map (λ t. t.items) texts
-
-abbrev pub seen_scripts : List (Vec CodeToken Global) → List (List Token)
-seen_scripts scripts = map (λ ts. map seen ts.items) scripts
 
 -- where the transactions of each script begin
 abbrev pub beginnings_of : List Laid → List (List ℕ)

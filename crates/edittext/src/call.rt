@@ -15,15 +15,15 @@ ghost use Rattle.checking.specs.Tasks.{IsWithin};
 ghost use Rattle.jobs.specs.Jobs.{IsWorked, room_of};
 ghost use Rattle.edittext.specs.Edited.{IsTakenFor, edit_room};
 ghost use Rattle.edittext.specs.Refusals.{IsFaultyLine, IsToldBy, IsUntakenBy, IsUnbegunLine, IsWorkLine, IsStoppedLine, IsFaultyThenLine};
-ghost use Rattle.edittext.specs.Views.{seen_texts, seen_scripts, IsBegun};
+ghost use Rattle.expanding.specs.Views.{seen_scripts};
+ghost use Rattle.edittext.specs.Views.{seen_texts, IsBegun};
 
 use crate::answering::EditOrder;
-use crate::asking::asked_of;
 use crate::expanded::{rank_all, read_all, spread_of};
 use crate::telling::{ungiven, untaken, unverified, unworked};
 use crate::unedited::Unedited;
 use choosing::{Wish, wanted_of};
-use expanding::Laid;
+use expanding::{Laid, asked_of};
 use following::Follow;
 use givetext::{Replayed, give_edits};
 use intake::{Taken, take_declared};

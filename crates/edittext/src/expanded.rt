@@ -6,7 +6,8 @@ ghost use Rattle.checking.specs.Checks.{AreScripts};
 ghost use Rattle.edittext.specs.Expanded.{AreWordsOf, AreSpread, RankedScript, AreRanked, texts_of};
 ghost use Rattle.edittext.specs.Edited.{IsSpreadOf};
 ghost use Rattle.edittext.specs.Refusals.{IsToldBy, IsWordlessLine, IsMisfitLine, IsCrowdedBy, IsUnreadBy};
-ghost use Rattle.edittext.specs.Views.{seen_texts, seen_scripts, AreLaid};
+ghost use Rattle.expanding.specs.Views.{seen_scripts};
+ghost use Rattle.edittext.specs.Views.{seen_texts, AreLaid};
 
 use crate::telling::{misfit, path_at, text_at, unread};
 use crate::unedited::Unedited;

@@ -2,7 +2,6 @@
 #![tactic(auto)]
 
 mod answering;
-mod asking;
 mod call;
 mod expanded;
 mod telling;

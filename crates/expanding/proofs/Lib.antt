@@ -8,3 +8,4 @@ pub mod Fronts
 pub mod Gaps
 pub mod PartsRanked
 pub mod Placing
+mod AskedWords

@@ -1,5 +1,6 @@
 pub mod Lines
 pub mod Words
+pub mod Asking
 pub mod Forms
 pub mod Spreading
 pub mod Ranking

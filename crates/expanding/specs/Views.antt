@@ -1,6 +1,9 @@
 -- Of the code's inside, apart from the rules: how a text of words remembers where they stand, and what was put at each gap.
 use Rattle.std.specs.Prelude.{◌≡◌, ◌<◌, ◌≤◌, ℕ, suc, Bool, List, [], ◌∷◌, ◌++◌, map, take, drop, length, slice_get, Option, Some, None, if◌then◌else◌}
+use Rattle.std.specs.Prelude.{Vec}
+use Rattle.std.specs.declared.alloc.Global.{Global}
 use Rattle.mmtext.specs.Text.{Token}
+use Rattle.mmtext.specs.declared.token.Token.{Token as CodeToken}
 use Rattle.expanding.specs.Words.{text_of}
 use Rattle.expanding.specs.Forms.{Part}
 use Rattle.expanding.specs.Ranking.{taken_among, many_at, rank_at, most_beside}
@@ -93,3 +96,7 @@ abbrev pub IsTooMany : Option Token → CodeMisfit → Type 0
 IsTooMany o (misfit.Crowded t) = o ≡ Some (seen t)
 IsTooMany o misfit.NoMemory = Unit {0}
 IsTooMany o _ = ⊥
+
+-- the words of scripts
+abbrev pub seen_scripts : List (Vec CodeToken Global) → List (List Token)
+seen_scripts scripts = map (λ ts. map seen ts.items) scripts

@@ -1,6 +1,8 @@
-//! The forms of scripts that speak of a source, done away with: `replace *`, `behind M` and `before M`.
+//! Scripts that speak of a source: what their words ask of it, and their forms, which it does away with: `replace *`, `behind M` and
+//! `before M`.
 #![tactic(auto)]
 
+mod asking;
 mod forms;
 mod laid;
 mod lines;
@@ -10,6 +12,7 @@ mod spreading;
 mod star;
 mod words;
 
+pub use asking::{Asked, asked_of};
 pub use laid::Laid;
 pub use lines::{line_at, lines_of};
 pub use misfit::Misfit;

@@ -10,7 +10,8 @@ use Rattle.expanding.specs.declared.laid.Laid.{Laid}
 use Rattle.edittext.specs.Expanded.{AreRanked, texts_of}
 use Rattle.edittext.specs.Edited.{IsSpreadOf}
 use Rattle.edittext.specs.Refusals.{IsWordlessLine, IsMisfitLine, IsUnbegunLine, IsCrowdedBy, IsUnreadBy}
-use Rattle.edittext.specs.Views.{seen_texts, seen_scripts, AreLaid}
+use Rattle.expanding.specs.Views.{seen_scripts}
+use Rattle.edittext.specs.Views.{seen_texts, AreLaid}
 use Rattle.edittext.proofs.Expanding.{begun_at}
 use Rattle.edittext.proofs.Lines.{told_more}
 use Rattle.edittext.proofs.call.begin.Goals as goal

@@ -6,9 +6,9 @@ use Rattle.taketext.specs.Refusals.{refusal_line}
 use Rattle.source.specs.Views.{seen_words}
 use Rattle.choosing.specs.declared.wish.Wish.TheVariants.{These}
 use Rattle.choosing.specs.Spoken.{wanted_labels, axiom_labels}
-use Rattle.edittext.specs.Words.{spoken, asked}
+use Rattle.expanding.specs.Asking.{spoken, asked}
 use Rattle.edittext.specs.Refusals.{IsUntakenBy}
-use Rattle.edittext.specs.Views.{seen_scripts}
+use Rattle.expanding.specs.Views.{seen_scripts}
 use Rattle.edittext.proofs.Lines.{told_more}
 use Rattle.edittext.proofs.call.take_for.Goals as goal
 

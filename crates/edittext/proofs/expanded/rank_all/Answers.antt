@@ -10,7 +10,8 @@ use Rattle.expanding.specs.declared.misfit.Misfit.TheVariants.{NoMemory}
 use Rattle.edittext.specs.Expanded.{RankedScript}
 use Rattle.checking.specs.Checks.{Bytes}
 use Rattle.edittext.specs.Refusals.{IsCrowdedBy, misfit_line}
-use Rattle.edittext.specs.Views.{seen_texts, seen_scripts}
+use Rattle.expanding.specs.Views.{seen_scripts}
+use Rattle.edittext.specs.Views.{seen_texts}
 use Rattle.edittext.proofs.Expanding.{get_seen, ranked_next, laid_next}
 use Rattle.edittext.proofs.Lines.{told_more}
 use Rattle.edittext.proofs.expanded.rank_all.Goals as goal

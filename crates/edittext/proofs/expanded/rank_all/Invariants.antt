@@ -2,7 +2,8 @@
 use Rattle.std.proofs.Common.{ℕ, List, [], take}
 use Rattle.expanding.specs.Views.{IsRanker}
 use Rattle.edittext.specs.Expanded.{RankedScript, AreRanked}
-use Rattle.edittext.specs.Views.{seen_scripts, AreLaid}
+use Rattle.expanding.specs.Views.{seen_scripts}
+use Rattle.edittext.specs.Views.{AreLaid}
 use Rattle.edittext.proofs.expanded.rank_all.Given as goal
 
 abbrev pub invariant-loop-place : goal.invariant-loop-place

@@ -9,7 +9,8 @@ use Rattle.expanding.specs.Spreading.{IsSpread}
 use Rattle.expanding.specs.declared.misfit.Misfit.TheVariants.{NoMemory}
 use Rattle.checking.specs.Checks.{Bytes}
 use Rattle.edittext.specs.Refusals.{IsMisfitLine, misfit_line}
-use Rattle.edittext.specs.Views.{seen_texts, seen_scripts}
+use Rattle.expanding.specs.Views.{seen_scripts}
+use Rattle.edittext.specs.Views.{seen_texts}
 use Rattle.edittext.proofs.Expanding.{get_seen, zipped_next}
 use Rattle.edittext.proofs.Lines.{told_more}
 use Rattle.edittext.proofs.expanded.spread_all.Goals as goal

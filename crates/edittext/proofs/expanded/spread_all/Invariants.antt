@@ -1,7 +1,7 @@
 -- What the loop of `spread_all` keeps: the words of the scripts so far, by the source.
 use Rattle.std.proofs.Common.{take}
 use Rattle.edittext.specs.Expanded.{AreSpread}
-use Rattle.edittext.specs.Views.{seen_scripts}
+use Rattle.expanding.specs.Views.{seen_scripts}
 use Rattle.edittext.proofs.expanded.spread_all.Given as goal
 
 abbrev pub invariant-loop-place : goal.invariant-loop-place

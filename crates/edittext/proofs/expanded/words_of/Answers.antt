@@ -11,7 +11,8 @@ use Rattle.checking.specs.FaultLines.{line_of}
 use Rattle.checking.specs.declared.fault.Fault.TheVariants.{Text}
 use Rattle.expanding.specs.Words.{word_language}
 use Rattle.edittext.specs.Refusals.{IsWordlessLine}
-use Rattle.edittext.specs.Views.{seen_texts, seen_scripts}
+use Rattle.expanding.specs.Views.{seen_scripts}
+use Rattle.edittext.specs.Views.{seen_texts}
 use Rattle.edittext.proofs.Expanding.{get_seen, zipped_next}
 use Rattle.edittext.proofs.Lines.{told_more}
 use Rattle.edittext.proofs.expanded.words_of.Goals as goal

@@ -1,7 +1,8 @@
 -- What the loop of `words_of` keeps: the words of the scripts so far.
 use Rattle.std.proofs.Common.{take}
 use Rattle.edittext.specs.Expanded.{AreWordsOf}
-use Rattle.edittext.specs.Views.{seen_texts, seen_scripts}
+use Rattle.expanding.specs.Views.{seen_scripts}
+use Rattle.edittext.specs.Views.{seen_texts}
 use Rattle.edittext.proofs.expanded.words_of.Given as goal
 
 abbrev pub invariant-loop-place : goal.invariant-loop-place

@@ -1,9 +1,9 @@
 -- Words behind words that ask for a proof: one more word, one more script.
 use Rattle.std.proofs.Common.{◌≡◌, ◌<◌, ◌+◌, ℕ, Bool, true, false, List, [], ◌∷◌, ◌++◌, length, map, take, get_or, Bor, Some}
-use Rattle.std.proofs.Common.{refl, sym, ap, ◌∙◌, append_assoc, add-one}
+use Rattle.std.proofs.Common.{refl, sym, ap, ◌∙◌, append_assoc}
 use Rattle.std.specs.Prelude.{if◌then◌else◌, slice_get}
 use Rattle.std.proofs.lemmas.Option.{slice_get-get_or}
-use Rattle.choosing.proofs.Going.{one_more}
+use Rattle.expanding.proofs.Citing.{take_next}
 use Rattle.std.specs.List.{flat_map}
 use Rattle.std.proofs.lemmas.Grind.{flat_map-append}
 use Rattle.std.proofs.lemmas.Bool.{cond-true, cond-false}
@@ -13,7 +13,7 @@ use Rattle.mmtext.specs.Text.{Token}
 use Rattle.mmtext.specs.Views.{seen}
 use Rattle.mmtext.specs.Words.{Word}
 use Rattle.mmtext.specs.declared.token.Token.{Token as CodeToken}
-use Rattle.edittext.specs.Words.{asks_for_proof, asked_by, asked_in, spoken_in}
+use Rattle.expanding.specs.Asking.{asks_for_proof, asked_by, asked_in, spoken_in}
 
 -- whether the last word asks for a proof
 abbrev pub asks_last : List Word → Bool
@@ -36,17 +36,10 @@ asked_more (v ∷ u ∷ ws) w =
 
 -- ---- turns over words
 
--- one more item
-pub take_next : {A : Type 0} (xs : List A) (k : ℕ) (x : A) → slice_get xs k ≡ Some x → take (k + 1) xs ≡ take k xs ++ x ∷ []
-take_next xs k x at = ap (λ j. take j xs) (add-one k) ∙ one_more xs k x at
-
-pub item_at : {A : Type 0} (xs : List A) (k : ℕ) (d : A) → k < length xs → slice_get xs k ≡ Some (get_or xs k d)
-item_at xs k d h = slice_get-get_or xs k d h
-
 pub seen_next : (words : List (Bor (List ℕ))) (k : ℕ) (d : Bor (List ℕ)) → k < length words
     → seen_words (take (k + 1) words) ≡ seen_words (take k words) ++ (get_or words k d).now ∷ []
 seen_next words k d h =
-    ap seen_words (take_next words k (get_or words k d) (item_at words k d h))
+    ap seen_words (take_next words k (get_or words k d) (slice_get-get_or words k d h))
     ∙ map-append (λ (w : Bor (List ℕ)). w.now) (take k words) (get_or words k d ∷ [])
 
 module _ (words : List (Bor (List ℕ))) (k : ℕ) (d : Bor (List ℕ)) (within : k < length words) where

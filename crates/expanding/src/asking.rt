@@ -3,18 +3,18 @@
 ghost use Rattle.std.specs.Prelude.{◌≡◌, ◌++◌, IfOk, IsTrue, OnOk, map};
 ghost use Rattle.mmtext.specs.Views.{seen};
 ghost use Rattle.source.specs.Views.{seen_words};
-ghost use Rattle.edittext.specs.Words.{asks_for_proof, asked_in, spoken_in, spoken, asked};
-ghost use Rattle.edittext.specs.Views.{seen_scripts};
+ghost use Rattle.expanding.specs.Asking.{asks_for_proof, asked_in, spoken_in, spoken, asked};
+ghost use Rattle.expanding.specs.Views.{seen_scripts};
 
 use mmtext::Token;
 use std::alloc::{AllocError, Global};
 
-/// The words of scripts.
+/// What the words of scripts ask of a source.
 #[derive(Drop)]
-pub(crate) struct Asked<'a> {
-    /// Those outside of comments.
+pub struct Asked<'a> {
+    /// Of which assertions they speak: all words.
     pub spoken: Vec<&'a [u8]>,
-    /// Those behind a word that asks for a proof.
+    /// Whose proofs they ask for: the words behind one that does.
     pub asked: Vec<&'a [u8]>,
 }
 
@@ -53,11 +53,12 @@ fn spoken_in<'a>(alloc: Global, script: &[Token<'a>]) -> Result<Vec<&'a [u8]>, A
     Ok(words)
 }
 
-/// What scripts speak of, and what they ask for.
-pub(crate) fn asked_of<'a>(
-    alloc: Global,
-    scripts: &[Vec<Token<'a>>],
-) -> Result<Asked<'a>, AllocError>
+/// What scripts speak of, and what they ask for, by their words.
+///
+/// # Errors
+///
+/// Want of memory.
+pub fn asked_of<'a>(alloc: Global, scripts: &[Vec<Token<'a>>]) -> Result<Asked<'a>, AllocError>
     ensures spoken { IfOk result (λ a. seen_words a.spoken.items ≡ spoken (seen_scripts scripts.now)) }
     ensures asked { IfOk result (λ a. seen_words a.asked.items ≡ asked (seen_scripts scripts.now)) }
 {

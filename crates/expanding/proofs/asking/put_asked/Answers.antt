@@ -3,9 +3,9 @@ use Rattle.std.proofs.Common.{◌∙◌, [], sym, ap}
 use Rattle.std.proofs.lemmas.List.{map-append}
 use Rattle.std.proofs.Common.{Bor, List, ℕ}
 use Rattle.source.specs.Views.{seen_words}
-use Rattle.edittext.proofs.AskedWords.{last_next, asked_next, unasked_next}
-use Rattle.edittext.proofs.asking.put_asked.Goals as goal
-use Rattle.edittext.proofs.asking.put_asked.Goals.{then-asks+in_ok-push, else-asks}
+use Rattle.expanding.proofs.AskedWords.{last_next, asked_next, unasked_next}
+use Rattle.expanding.proofs.asking.put_asked.Goals as goal
+use Rattle.expanding.proofs.asking.put_asked.Goals.{then-asks+in_ok-push, else-asks}
 
 pub loop-word-preserved : goal.loop-word-preserved
 loop-word-preserved c =

@@ -2,8 +2,8 @@
 use Rattle.std.proofs.Common.{◌≡◌, map, take}
 use Rattle.mmtext.specs.Views.{seen}
 use Rattle.source.specs.Views.{seen_words}
-use Rattle.edittext.specs.Words.{spoken_in}
-use Rattle.edittext.proofs.asking.spoken_in.Given as goal
+use Rattle.expanding.specs.Asking.{spoken_in}
+use Rattle.expanding.proofs.asking.spoken_in.Given as goal
 
 abbrev pub invariant-loop-word : goal.invariant-loop-word
 invariant-loop-word l = seen_words l.words.items ≡ spoken_in (map seen (take l.word-index l.script))

@@ -3,9 +3,9 @@ use Rattle.std.proofs.Common.{◌∙◌, length, map, refl, ap}
 use Rattle.std.proofs.lemmas.Option.{slice_get_read}
 use Rattle.mmtext.specs.Views.{seen}
 use Rattle.source.specs.Views.{seen_words}
-use Rattle.edittext.specs.Words.{spoken_in, asked_in}
-use Rattle.edittext.proofs.AskedWords.{flat_next, seen_both}
-use Rattle.edittext.proofs.asking.asked_of.Goals as goal
+use Rattle.expanding.specs.Asking.{spoken_in, asked_in}
+use Rattle.expanding.proofs.AskedWords.{flat_next, seen_both}
+use Rattle.expanding.proofs.asking.asked_of.Goals as goal
 
 pub loop-script-preserved : goal.loop-script-preserved
 loop-script-preserved c =

@@ -1,9 +1,9 @@
 -- What the loop of `asked_of` keeps: the words of the scripts so far.
 use Rattle.std.proofs.Common.{◌≡◌, take}
 use Rattle.source.specs.Views.{seen_words}
-use Rattle.edittext.specs.Words.{spoken, asked}
-use Rattle.edittext.specs.Views.{seen_scripts}
-use Rattle.edittext.proofs.asking.asked_of.Given as goal
+use Rattle.expanding.specs.Asking.{spoken, asked}
+use Rattle.expanding.specs.Views.{seen_scripts}
+use Rattle.expanding.proofs.asking.asked_of.Given as goal
 
 abbrev pub invariant-loop-script : goal.invariant-loop-script
 invariant-loop-script l = record {

@@ -1,6 +1,6 @@
 -- What is left to show of `spoken_in`.
-use Rattle.edittext.proofs.AskedWords.{spoken_next}
-use Rattle.edittext.proofs.asking.spoken_in.Goals as goal
+use Rattle.expanding.proofs.AskedWords.{spoken_next}
+use Rattle.expanding.proofs.asking.spoken_in.Goals as goal
 
 pub loop-word-preserved : goal.loop-word-preserved
 loop-word-preserved c =
