@@ -30,8 +30,8 @@ edit_room room = record { words = unwrap_or room least_room; may_grow = is_none 
 -- axioms all of them but these
 abbrev pub IsAskedBy : Scope → List (List Token) → Wish → Type 0
 IsAskedBy s scripts (These labels axioms) =
-    (seen_words labels.now ≡ wanted_labels s (spoken scripts) (asked scripts))
-    × (seen_words axioms.now ≡ axiom_labels s (spoken scripts) (asked scripts))
+    (seen_words labels.now ≡ wanted_labels s (spoken s scripts) (asked scripts))
+    × (seen_words axioms.now ≡ axiom_labels s (spoken s scripts) (asked scripts))
 IsAskedBy s scripts _ = ⊥
 
 -- a library is taken of a source by that wish

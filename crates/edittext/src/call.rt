@@ -70,14 +70,14 @@ fn take_for<'a, D: Declared<'a>>(
     keys: RandomState,
     path: &str,
     declared: &D,
-    scripts: &[Vec<Token<'_>>],
+    scripts: &[Vec<Token<'a>>],
     follow: &impl Follow,
 ) -> Result<Taken<'a>, Unedited>
     requires { IsWhole (D.scope declared.now) }
     ensures taken { IfOk result (IsTakenFor (D.scope declared.now) (seen_scripts scripts.now)) }
     ensures refused { IfErr result (IsToldBy (IsUntakenBy path.now (D.scope declared.now) (seen_scripts scripts.now))) }
 {
-    let asked = asked_of(alloc, scripts)?;
+    let asked = asked_of(alloc, declared, scripts)?;
     let (spoken, proofs) = (asked.spoken.as_slice(), asked.asked.as_slice());
     let wanted = wanted_of(alloc, keys, declared, spoken, proofs)?;
     let wish = Wish::These(wanted.labels.as_slice(), wanted.axioms.as_slice());

@@ -1,4 +1,4 @@
--- Words behind words that ask for a proof: one more word, one more script.
+-- Words behind words that pass a test: one more word, one more script.
 use Rattle.std.proofs.Common.{◌≡◌, ◌<◌, ◌+◌, ℕ, Bool, true, false, List, [], ◌∷◌, ◌++◌, length, map, take, get_or, Bor, Some}
 use Rattle.std.proofs.Common.{refl, sym, ap, ◌∙◌, append_assoc}
 use Rattle.std.specs.Prelude.{if◌then◌else◌, slice_get}
@@ -13,26 +13,27 @@ use Rattle.mmtext.specs.Text.{Token}
 use Rattle.mmtext.specs.Views.{seen}
 use Rattle.mmtext.specs.Words.{Word}
 use Rattle.mmtext.specs.declared.token.Token.{Token as CodeToken}
-use Rattle.expanding.specs.Asking.{asks_for_proof, asked_by, asked_in, spoken_in}
+use Rattle.expanding.specs.Asking.{word_behind, words_behind, spoken_in}
 
--- whether the last word asks for a proof
-abbrev pub asks_last : List Word → Bool
-asks_last [] = false
-asks_last (w ∷ []) = asks_for_proof w
-asks_last (v ∷ w ∷ ws) = asks_last (w ∷ ws)
+-- whether the last word passes a test
+abbrev pub last_passes : (Word → Bool) → List Word → Bool
+last_passes test [] = false
+last_passes test (w ∷ []) = test w
+last_passes test (v ∷ w ∷ ws) = last_passes test (w ∷ ws)
 
-pub last_asks : (ws : List Word) (w : Word) → asks_last (ws ++ w ∷ []) ≡ asks_for_proof w
-last_asks [] w = refl
-last_asks (v ∷ []) w = refl
-last_asks (v ∷ u ∷ ws) w = last_asks (u ∷ ws) w
+pub last_of : (test : Word → Bool) (ws : List Word) (w : Word) → last_passes test (ws ++ w ∷ []) ≡ test w
+last_of test [] w = refl
+last_of test (v ∷ []) w = refl
+last_of test (v ∷ u ∷ ws) w = last_of test (u ∷ ws) w
 
 -- one more word
-pub asked_more : (ws : List Word) (w : Word) → asked_in (ws ++ w ∷ []) ≡ asked_in ws ++ (if asks_last ws then w ∷ [] else [])
-asked_more [] w = refl
-asked_more (v ∷ []) w = append-nil (if asks_for_proof v then w ∷ [] else [])
-asked_more (v ∷ u ∷ ws) w =
-    ap (λ vs. asked_by v (u ∷ ws) ++ vs) (asked_more (u ∷ ws) w)
-    ∙ sym (append_assoc (asked_by v (u ∷ ws)) (asked_in (u ∷ ws)) (if asks_last (u ∷ ws) then w ∷ [] else []))
+pub behind_more : (test : Word → Bool) (ws : List Word) (w : Word)
+    → words_behind test (ws ++ w ∷ []) ≡ words_behind test ws ++ (if last_passes test ws then w ∷ [] else [])
+behind_more test [] w = refl
+behind_more test (v ∷ []) w = append-nil (if test v then w ∷ [] else [])
+behind_more test (v ∷ u ∷ ws) w =
+    ap (λ vs. word_behind test v (u ∷ ws) ++ vs) (behind_more test (u ∷ ws) w)
+    ∙ sym (append_assoc (word_behind test v (u ∷ ws)) (words_behind test (u ∷ ws)) (if last_passes test (u ∷ ws) then w ∷ [] else []))
 
 -- ---- turns over words
 
@@ -42,35 +43,35 @@ seen_next words k d h =
     ap seen_words (take_next words k (get_or words k d) (slice_get-get_or words k d h))
     ∙ map-append (λ (w : Bor (List ℕ)). w.now) (take k words) (get_or words k d ∷ [])
 
-module _ (words : List (Bor (List ℕ))) (k : ℕ) (d : Bor (List ℕ)) (within : k < length words) where
+module _ (test : Word → Bool) (words : List (Bor (List ℕ))) (k : ℕ) (d : Bor (List ℕ)) (within : k < length words) where
   abbrev pub before : List Word
   before = seen_words (take k words)
 
   abbrev pub word : Word
   word = (get_or words k d).now
 
-  pub last_next : (b : Bool) → b ≡ asks_for_proof word → b ≡ asks_last (seen_words (take (k + 1) words))
-  last_next b is = is ∙ sym (ap asks_last (seen_next words k d within) ∙ last_asks (seen_words (take k words)) word)
+  pub last_next : (b : Bool) → b ≡ test word → b ≡ last_passes test (seen_words (take (k + 1) words))
+  last_next b is = is ∙ sym (ap (last_passes test) (seen_next words k d within) ∙ last_of test (seen_words (take k words)) word)
 
-  -- a word that is asked for
-  pub asked_next : (start now : List Word) → asks_last before ≡ true → now ≡ start ++ asked_in before
-      → now ++ word ∷ [] ≡ start ++ asked_in (seen_words (take (k + 1) words))
-  asked_next start now asks is =
+  -- a word behind one that passes
+  pub behind_next : (start now : List Word) → last_passes test before ≡ true → now ≡ start ++ words_behind test before
+      → now ++ word ∷ [] ≡ start ++ words_behind test (seen_words (take (k + 1) words))
+  behind_next start now passes is =
       ap (λ ws. ws ++ word ∷ []) is
-      ∙ append_assoc start (asked_in before) (word ∷ [])
+      ∙ append_assoc start (words_behind test before) (word ∷ [])
       ∙ ap (λ ws. start ++ ws)
-      (ap (λ ws. asked_in before ++ ws) (sym (cond-true (asks_last before) (word ∷ []) [] asks))
-      ∙ sym (ap asked_in (seen_next words k d within) ∙ asked_more before word))
+      (ap (λ ws. words_behind test before ++ ws) (sym (cond-true (last_passes test before) (word ∷ []) [] passes))
+      ∙ sym (ap (words_behind test) (seen_next words k d within) ∙ behind_more test before word))
 
-  -- one that isn't
-  pub unasked_next : (start now : List Word) → asks_last before ≡ false → now ≡ start ++ asked_in before
-      → now ≡ start ++ asked_in (seen_words (take (k + 1) words))
-  unasked_next start now asks is =
+  -- one behind another
+  pub other_next : (start now : List Word) → last_passes test before ≡ false → now ≡ start ++ words_behind test before
+      → now ≡ start ++ words_behind test (seen_words (take (k + 1) words))
+  other_next start now passes is =
       is
       ∙ ap (λ ws. start ++ ws)
-      (sym (append-nil (asked_in before))
-      ∙ ap (λ ws. asked_in before ++ ws) (sym (cond-false (asks_last before) (word ∷ []) [] asks))
-      ∙ sym (ap asked_in (seen_next words k d within) ∙ asked_more before word))
+      (sym (append-nil (words_behind test before))
+      ∙ ap (λ ws. words_behind test before ++ ws) (sym (cond-false (last_passes test before) (word ∷ []) [] passes))
+      ∙ sym (ap (words_behind test) (seen_next words k d within) ∙ behind_more test before word))
 
 -- ---- words without their places
 

@@ -1,8 +1,8 @@
 pub mod Lines
 pub mod Words
-pub mod Asking
 pub mod Forms
 pub mod Spreading
+pub mod Asking
 pub mod Ranking
 pub mod Refusals
 pub mod Views

@@ -16,7 +16,7 @@ pub returns-in-Ok-clause-taken : goal.returns-in-Ok-clause-taken
 returns-in-Ok-clause-taken g c =
     let s = g.D.Declared.scope c.args.declared.now in
     let scripts = seen_scripts c.args.scripts.now in
-    let words : seen_words c.as_slice-spoken.result.now ≡ spoken scripts =
+    let words : seen_words c.as_slice-spoken.result.now ≡ spoken s scripts =
     ap seen_words c.as_slice-spoken.ensures.value ∙ c.in_ok-asked.ensures.spoken in
     let proofs : seen_words c.as_slice-proofs.result.now ≡ asked scripts =
     ap seen_words c.as_slice-proofs.ensures.value ∙ c.in_ok-asked.ensures.asked in
@@ -24,9 +24,9 @@ returns-in-Ok-clause-taken g c =
       wish = These c.as_slice.result c.as_slice-2.result;
       by = (
         ap seen_words c.as_slice.ensures.value ∙ c.in_ok-wanted.ensures.labels
-            ∙ ap (λ ws. wanted_labels s ws (seen_words c.as_slice-proofs.result.now)) words ∙ ap (wanted_labels s (spoken scripts)) proofs,
+            ∙ ap (λ ws. wanted_labels s ws (seen_words c.as_slice-proofs.result.now)) words ∙ ap (wanted_labels s (spoken s scripts)) proofs,
         ap seen_words c.as_slice-2.ensures.value ∙ c.in_ok-wanted.ensures.axioms
-            ∙ ap (λ ws. axiom_labels s ws (seen_words c.as_slice-proofs.result.now)) words ∙ ap (axiom_labels s (spoken scripts)) proofs,
+            ∙ ap (λ ws. axiom_labels s ws (seen_words c.as_slice-proofs.result.now)) words ∙ ap (axiom_labels s (spoken s scripts)) proofs,
       );
       library = c.in-Ok.ensures.taken;
     }
@@ -35,7 +35,7 @@ pub returns-clause-refused : goal.returns-clause-refused
 returns-clause-refused g c =
     let s = g.D.Declared.scope c.args.declared.now in
     let scripts = seen_scripts c.args.scripts.now in
-    let words : seen_words c.as_slice-spoken.result.now ≡ spoken scripts =
+    let words : seen_words c.as_slice-spoken.result.now ≡ spoken s scripts =
     ap seen_words c.as_slice-spoken.ensures.value ∙ c.in_ok-asked.ensures.spoken in
     let proofs : seen_words c.as_slice-proofs.result.now ≡ asked scripts =
     ap seen_words c.as_slice-proofs.ensures.value ∙ c.in_ok-asked.ensures.asked in
@@ -46,9 +46,9 @@ returns-clause-refused g c =
       wish = These c.as_slice.result c.as_slice-2.result;
       by = (
         ap seen_words c.as_slice.ensures.value ∙ c.in_ok-wanted.ensures.labels
-            ∙ ap (λ ws. wanted_labels s ws (seen_words c.as_slice-proofs.result.now)) words ∙ ap (wanted_labels s (spoken scripts)) proofs,
+            ∙ ap (λ ws. wanted_labels s ws (seen_words c.as_slice-proofs.result.now)) words ∙ ap (wanted_labels s (spoken s scripts)) proofs,
         ap seen_words c.as_slice-2.ensures.value ∙ c.in_ok-wanted.ensures.axioms
-            ∙ ap (λ ws. axiom_labels s ws (seen_words c.as_slice-proofs.result.now)) words ∙ ap (axiom_labels s (spoken scripts)) proofs,
+            ∙ ap (λ ws. axiom_labels s ws (seen_words c.as_slice-proofs.result.now)) words ∙ ap (axiom_labels s (spoken s scripts)) proofs,
       );
       why = c.in-Err.why;
       refused = c.in-Err.ensures.refused;
