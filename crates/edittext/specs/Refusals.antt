@@ -111,8 +111,8 @@ pub record IsUntakenLine (path : Bytes) (s : Scope) (texts : List Bytes) (line :
   pub cause : IsUntakenBy path s spread line
 
 -- a script puts too many at one place, of a source of which flags say which assertions are taken; those before it don't
-pub record IsCrowdedBy (paths : List Bytes) (s : Scope) (texts : List Bytes) (flags : List Bool) (scripts : List (List Token)) (line : Bytes)
-    : Type 0 where
+pub record IsCrowdedBy (paths : List Bytes) (s : Scope) (texts : List Bytes) (flags : List Bool) (scripts : List (List Token))
+    (line : Bytes) : Type 0 where
   pub script : ℕ
   pub before : List RankedScript
   pub gaps : List ℕ

@@ -73,8 +73,8 @@ undone_of path lines script outcomes =
 -- those of the scripts, whose transactions begin at these places; in front of their paths stands that of the source
 abbrev pub all_undone : List Bytes → List Bytes → List (List ℕ) → List Orders → List (List Outcome) → List Bytes
 all_undone paths texts beginnings scripts rows =
-    each_from (λ n row. undone_of (slice_index_or paths (suc n) []) (map (line_at (slice_index_or texts n [])) (slice_index_or beginnings n []))
-    (slice_index_or scripts n []) row) 0 rows
+    each_from (λ n row. undone_of (slice_index_or paths (suc n) [])
+    (map (line_at (slice_index_or texts n [])) (slice_index_or beginnings n [])) (slice_index_or scripts n []) row) 0 rows
 
 -- of the code's inside: the text of a transaction, if it wasn't done
 abbrev pub IsUndoneText : List Command → Outcome → Option (String Global) → Type 0

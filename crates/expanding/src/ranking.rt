@@ -122,7 +122,8 @@ impl Ranker {
             → IsLaid (ts ++ ranked_place (D.scope declared.now) flags earlier (map seen words.now)) laid.new) }
         ensures beginnings { OnOk result (laid.new.beginnings.items ≡ laid.old.beginnings.items) }
         ensures uncrowded { (flags : List Bool) (earlier : List ℕ) → IsRankerOf (D.scope declared.now) flags earlier self.old
-            → OnOk result (crowded_at earlier (gap_of_place (D.scope declared.now) flags (map seen words.now)) (map seen words.now) ≡ None) }
+            → OnOk result (crowded_at earlier (gap_of_place (D.scope declared.now) flags (map seen words.now))
+            (map seen words.now) ≡ None) }
         ensures ranker { (flags : List Bool) (earlier : List ℕ) → IsRankerOf (D.scope declared.now) flags earlier self.old
             → OnOk result (IsRankerOf (D.scope declared.now) flags
             (with_gap earlier (gap_of_place (D.scope declared.now) flags (map seen words.now))) self.new) }

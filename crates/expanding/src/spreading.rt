@@ -83,7 +83,8 @@ fn put_each<'a>(
     labels: &[&'a [u8]],
     out: &mut Vec<Token<'a>>,
 ) -> Result<(), AllocError>
-    ensures { OnOk result (map seen out.new.items ≡ map seen out.old.items ++ replaced_in_each (seen_star star.entry) (seen_words labels.now)) }
+    ensures { OnOk result (map seen out.new.items
+        ≡ map seen out.old.items ++ replaced_in_each (seen_star star.entry) (seen_words labels.now)) }
 {
     let Some((first, others)) = labels.split_first() else {
         return Ok(());

@@ -69,7 +69,8 @@ returns-then-not-may_print-clause-told g c =
     c.in_ok-outcomes.ensures.done in
     let lines =
     c.in_ok-lines.ensures
-    ∙ ap (λ ls. all_undone paths texts (beginnings_of ls) c.as_slice-scripts.result.now (lists_of c.as_slice.result.now)) c.as_slice-laid.ensures.value
+    ∙ ap (λ ls. all_undone paths texts (beginnings_of ls) c.as_slice-scripts.result.now (lists_of c.as_slice.result.now))
+    c.as_slice-laid.ensures.value
     ∙ ap (λ (ss : List Orders). all_undone paths texts (beginnings_of begun.laid.items) ss (lists_of c.as_slice.result.now)) same
     ∙ ap (λ rs. all_undone paths texts (beginnings_of begun.laid.items) begun.scripts.items (lists_of rs)) c.as_slice.ensures.value
     ∙ ap (λ bs. all_undone paths texts bs begun.scripts.items (lists_of e.outcomes.items)) (sym is.beginnings) in
@@ -89,7 +90,8 @@ returns-in_err-out-clause-refused g c =
     let is = c.in_ok-begun.ensures.begun in
     let e = c.in_ok-outcomes.field-0 in
     let run =
-    run_of source texts s begun c.in_ok-old.ensures.declares is workers room c.as_slice-scripts.result.now e c.as_slice-scripts.ensures.value
+    run_of source texts s begun c.in_ok-old.ensures.declares is workers room c.as_slice-scripts.result.now e
+    c.as_slice-scripts.ensures.value
     c.in_ok-outcomes.ensures.done in
     let library = is.for_scripts.library in
     let choice = library.taken.choice in
@@ -115,7 +117,8 @@ returns-in_err-look_at-clause-refused g c =
     let is = c.in_ok-begun.ensures.begun in
     let e = c.in_ok-outcomes.field-0 in
     let run =
-    run_of source texts s begun c.in_ok-old.ensures.declares is workers room c.as_slice-scripts.result.now e c.as_slice-scripts.ensures.value
+    run_of source texts s begun c.in_ok-old.ensures.declares is workers room c.as_slice-scripts.result.now e
+    c.as_slice-scripts.ensures.value
     c.in_ok-outcomes.ensures.done in
     let library = is.for_scripts.library in
     let choice = library.taken.choice in
@@ -153,7 +156,8 @@ returns-clause-told g c =
     c.in_ok-outcomes.ensures.done in
     let lines =
     c.in_ok-lines.ensures
-    ∙ ap (λ ls. all_undone paths texts (beginnings_of ls) c.as_slice-scripts.result.now (lists_of c.as_slice.result.now)) c.as_slice-laid.ensures.value
+    ∙ ap (λ ls. all_undone paths texts (beginnings_of ls) c.as_slice-scripts.result.now (lists_of c.as_slice.result.now))
+    c.as_slice-laid.ensures.value
     ∙ ap (λ (ss : List Orders). all_undone paths texts (beginnings_of begun.laid.items) ss (lists_of c.as_slice.result.now)) same
     ∙ ap (λ rs. all_undone paths texts (beginnings_of begun.laid.items) begun.scripts.items (lists_of rs)) c.as_slice.ensures.value
     ∙ ap (λ bs. all_undone paths texts bs begun.scripts.items (lists_of e.outcomes.items)) (sym is.beginnings) in

@@ -79,7 +79,8 @@ returns-in_err-scripts-clause-refused g c =
         };
         ranked = outs;
         gaps = ranked.1;
-        are_ranked = subst (λ (flags : List Bool). AreRanked s flags [] (seen_scripts scripts) outs ranked.1) c.as_slice.ensures.value ranked.3;
+        are_ranked = subst (λ (flags : List Bool). AreRanked s flags [] (seen_scripts scripts) outs ranked.1) c.as_slice.ensures.value
+            ranked.3;
       };
       cause = subst (λ (t : Tables). IsUnreadBy paths t texts outs line) c.prelude.ensures h;
     }))))) c.in_err-scripts.field-0.0 (c.in_err-scripts.ensures.refused outs laid))
@@ -101,7 +102,8 @@ returns-clause-begun g c =
       for_scripts = c.in_ok-taken.ensures.taken;
       ranked = outs;
       gaps = ranked.1;
-      are_ranked = subst (λ (flags : List Bool). AreRanked s flags [] (seen_scripts scripts) outs ranked.1) c.as_slice.ensures.value ranked.3;
+      are_ranked = subst (λ (flags : List Bool). AreRanked s flags [] (seen_scripts scripts) outs ranked.1) c.as_slice.ensures.value
+          ranked.3;
       beginnings = begun_at outs c.in_ok-laid.laid.items ranked.2;
       ordered = subst (λ (t : Tables). AreScripts t (texts_of outs) made) c.prelude.ensures (c.in_ok-scripts.ensures.scripts outs laid);
       fit = subst (λ (t : Tables). All (All (All (CommandFits t))) made) c.prelude.ensures c.in_ok-scripts.ensures.fit;

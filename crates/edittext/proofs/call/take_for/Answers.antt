@@ -24,7 +24,8 @@ returns-in-Ok-clause-taken g c =
       wish = These c.as_slice.result c.as_slice-2.result;
       by = (
         ap seen_words c.as_slice.ensures.value ∙ c.in_ok-wanted.ensures.labels
-            ∙ ap (λ ws. wanted_labels s ws (seen_words c.as_slice-proofs.result.now)) words ∙ ap (wanted_labels s (spoken s scripts)) proofs,
+            ∙ ap (λ ws. wanted_labels s ws (seen_words c.as_slice-proofs.result.now)) words
+            ∙ ap (wanted_labels s (spoken s scripts)) proofs,
         ap seen_words c.as_slice-2.ensures.value ∙ c.in_ok-wanted.ensures.axioms
             ∙ ap (λ ws. axiom_labels s ws (seen_words c.as_slice-proofs.result.now)) words ∙ ap (axiom_labels s (spoken s scripts)) proofs,
       );
@@ -46,7 +47,8 @@ returns-clause-refused g c =
       wish = These c.as_slice.result c.as_slice-2.result;
       by = (
         ap seen_words c.as_slice.ensures.value ∙ c.in_ok-wanted.ensures.labels
-            ∙ ap (λ ws. wanted_labels s ws (seen_words c.as_slice-proofs.result.now)) words ∙ ap (wanted_labels s (spoken s scripts)) proofs,
+            ∙ ap (λ ws. wanted_labels s ws (seen_words c.as_slice-proofs.result.now)) words
+            ∙ ap (wanted_labels s (spoken s scripts)) proofs,
         ap seen_words c.as_slice-2.ensures.value ∙ c.in_ok-wanted.ensures.axioms
             ∙ ap (λ ws. axiom_labels s ws (seen_words c.as_slice-proofs.result.now)) words ∙ ap (axiom_labels s (spoken s scripts)) proofs,
       );

@@ -22,13 +22,15 @@ loop-n-preserved c =
     let at = slice_get_read rows (length rows) n row refl c.loop-n-test.true c.index-rows-n.is in
     let I = λ (r : Vec Outcome Global). r.items in
     let L : ℕ → List ℕ = λ k. map (line_at (slice_index_or texts k [])) (slice_index_or begin k []) in
-    let G : ℕ → List Outcome → List Bytes = λ k outcomes. undone_of (slice_index_or paths (suc k) []) (L k) (slice_index_or scripts k []) outcomes in
+    let G : ℕ → List Outcome → List Bytes = λ k outcomes. undone_of (slice_index_or paths (suc k) []) (L k) (slice_index_or scripts k [])
+    outcomes in
     let path : c.path_at-path.result.now ≡ slice_index_or paths (suc n) [] =
     c.path_at-path.ensures ∙ ap (λ k. slice_index_or paths k []) (add-one n) in
     let lines : c.as_slice.result.now ≡ L n = c.as_slice.ensures.value ∙ c.in_ok-lines.ensures in
     let script : c.transactions_at-script.result.now ≡ slice_index_or scripts n [] = c.transactions_at-script.ensures in
     let outcomes : c.as_slice-in-loop-n.result.now ≡ row.items = c.as_slice-in-loop-n.ensures.value in
-    let one : undone_of c.path_at-path.result.now c.as_slice.result.now c.transactions_at-script.result.now c.as_slice-in-loop-n.result.now ≡ G n row.items =
+    let one : undone_of c.path_at-path.result.now c.as_slice.result.now c.transactions_at-script.result.now
+    c.as_slice-in-loop-n.result.now ≡ G n row.items =
     ap (λ (p : Bytes). undone_of p c.as_slice.result.now c.transactions_at-script.result.now c.as_slice-in-loop-n.result.now) path
     ∙ ap (λ ls. undone_of (slice_index_or paths (suc n) []) ls c.transactions_at-script.result.now c.as_slice-in-loop-n.result.now) lines
     ∙ ap (λ (x : Orders). undone_of (slice_index_or paths (suc n) []) (L n) x c.as_slice-in-loop-n.result.now) script

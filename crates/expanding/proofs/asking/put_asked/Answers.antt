@@ -21,7 +21,8 @@ loop-word-preserved c =
             ap (λ v. seen_words v.items) w.asked-is
             ∙ ap seen_words w.in_ok-push.ensures.items
             ∙ map-append (λ (v : Bor (List ℕ)). v.now) c.loop-word.asked.items _
-            ∙ behind_next asks_for_proof words k _ within start now (sym c.loop-word.invariant.passes ∙ w.if-asks.true) c.loop-word.invariant.put
+            ∙ behind_next asks_for_proof words k _ within start now (sym c.loop-word.invariant.passes
+            ∙ w.if-asks.true) c.loop-word.invariant.put
         | else-asks w ↦
             ap (λ v. seen_words v.items) w.asked-is
             ∙ other_next asks_for_proof words k (record { ref_ptr = (0, 0); now = [] }) within start now

@@ -21,7 +21,8 @@ loop-word-preserved c =
             ap (λ v. seen_words v.items) w.named-is
             ∙ ap seen_words w.in_ok-push.ensures.items
             ∙ map-append (λ (v : Bor (List ℕ)). v.now) c.loop-word.named.items _
-            ∙ behind_next is_behind words k _ within start now (sym c.loop-word.invariant.passes ∙ w.if-names.true) c.loop-word.invariant.put
+            ∙ behind_next is_behind words k _ within start now (sym c.loop-word.invariant.passes
+            ∙ w.if-names.true) c.loop-word.invariant.put
         | else-names w ↦
             ap (λ v. seen_words v.items) w.named-is
             ∙ other_next is_behind words k (record { ref_ptr = (0, 0); now = [] }) within start now

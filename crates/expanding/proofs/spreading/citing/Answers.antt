@@ -10,7 +10,8 @@ use Rattle.expanding.proofs.spreading.citing.Goals.{in-Some+in_ok-push, in_defau
 pub loop-place-preserved : goal.loop-place-preserved
 loop-place-preserved g c =
     let xs = (g.D.Declared.scope c.args.declared.now).assertions in
-    let within : c.loop-place.place < length xs = subst (λ n. c.loop-place.place < n) c.assertions-place-end.ensures c.loop-place-test.true in
+    let within : c.loop-place.place < length xs = subst (λ n. c.loop-place.place < n) c.assertions-place-end.ensures
+    c.loop-place-test.true in
     let next = citing_next c.args.label.now xs c.loop-place.place within _ c.citer_at.ensures (seen_words c.loop-place.labels.items)
     c.loop-place.invariant in
     let now = λ (w : Bor (List ℕ)). w.now in

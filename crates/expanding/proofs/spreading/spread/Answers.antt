@@ -14,7 +14,11 @@ pub loop-at-init : goal.loop-at-init
 loop-at-init g c =
     let s = g.D.Declared.scope c.args.declared.now in
     let ts = map seen c.args.words.now in
-    record { within = omega arith; spreading = subst (IsSpreading s ts ts false) (ap (map seen) (sym c.new-out.ensures.items)) (at_first s ts) }
+    record {
+      within = omega arith;
+      spreading = subst (IsSpreading s ts ts false) (ap (map seen) (sym c.new-out.ensures.items))
+          (at_first s ts);
+    }
 
 pub loop-at-preserved : goal.loop-at-preserved
 loop-at-preserved g c =
@@ -36,7 +40,8 @@ loop-at-preserved g c =
           (sym c.begins_with-is_begun.ensures)
           (subst (IsSpreading s (map seen words) (map seen (drop (at + length part) words)) (begins_with (codes "begin") (map seen part)))
           (sym c.in_ok-put_part.ensures.spread)
-          (goes_on s (map seen words) (map seen (drop at words)) (map seen part) (map seen (drop (at + length part) words)) c.loop-at.is_begun
+          (goes_on s (map seen words) (map seen (drop at words)) (map seen part) (map seen (drop (at + length part) words))
+          c.loop-at.is_begun
           c.is_enclosed-is_alone.result (map seen c.loop-at.out.items) c.loop-at.invariant.spreading
           (part_first words at n lt within first part front)
           (c.is_enclosed-is_alone.ensures ∙ ap (λ ts. c.loop-at.is_begun && begins_with (codes "commit") ts) back)

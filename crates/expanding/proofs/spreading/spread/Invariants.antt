@@ -7,7 +7,8 @@ use Rattle.expanding.proofs.spreading.spread.Given as goal
 abbrev pub invariant-loop-at : goal.invariant-loop-at
 invariant-loop-at g l = record {
   within : l.at ≤ length l.words;
-  spreading : IsSpreading (g.D.Declared.scope l.declared) (map seen l.words) (map seen (drop l.at l.words)) l.is_begun (map seen l.out.items);
+  spreading : IsSpreading (g.D.Declared.scope l.declared) (map seen l.words) (map seen (drop l.at l.words)) l.is_begun
+      (map seen l.out.items);
 }
 
 abbrev pub decreases-loop-at : goal.decreases-loop-at
