@@ -65,6 +65,10 @@ output_rule = option_rule (codes "output") Set
 abbrev pub in_place_rule : Rule
 in_place_rule = flag_rule (codes "in-place")
 
+-- `--replies FILE`
+abbrev pub replies_rule : Rule
+replies_rule = option_rule (codes "replies") Set
+
 -- `--history FILE`
 abbrev pub history_rule : Rule
 history_rule = option_rule (codes "history") Set
@@ -126,10 +130,11 @@ give_app = with_rule (with_rule (with_rule (new_app (codes "give")) source_rule)
 abbrev pub verify_app : App
 verify_app = with_rule (with_rule (new_app (codes "verify")) checkers_rule) source_rule
 
--- `edit [--workers N] [--room W] [--output FILE] [--in-place] [--partial] SOURCE SCRIPT..`
+-- `edit [--workers N] [--room W] [--output FILE] [--in-place] [--replies FILE] [--partial] SOURCE SCRIPT..`
 abbrev pub edit_app : App
-edit_app = with_rule (with_rule (with_rule (with_rule (with_rule
-    (with_rule (with_rule (new_app (codes "edit")) workers_rule) room_rule) output_rule) in_place_rule) partial_rule) source_rule) scripts_rule
+edit_app = with_rule (with_rule (with_rule (with_rule (with_rule (with_rule
+    (with_rule (with_rule (new_app (codes "edit")) workers_rule) room_rule) output_rule) in_place_rule) replies_rule) partial_rule)
+    source_rule) scripts_rule
 
 -- the program, before it has subcommands: it has a version, and wants one of them
 abbrev pub bare_app : App

@@ -1,8 +1,10 @@
 -- What a command line asks to edit, by what its parser found in the words.
 use Rattle.std.specs.Prelude.{◌≡◌, ℕ, Bool, true, false, List, ◌∷◌, Option, Some, None, codes, is_some}
+use Rattle.std.specs.Option.{option_map}
 use Rattle.std.specs.Str.{bytes_eq}
 use Rattle.clap.specs.Words.{Row, Text, all_of, first_of}
 use Rattle.commandline.specs.declared.edit_order.Place.{Place}
+use Rattle.commandline.specs.declared.edit_order.Outputs.{Outputs}
 use Rattle.commandline.specs.declared.edit_order.Place.TheVariants.{Printed, File, Source}
 use Rattle.commandline.specs.Orders.{HasLimits, all_listed, rows_in}
 
@@ -29,13 +31,19 @@ IsPlaceGiven output in_place (Some (File path)) = (output ≡ Some path.now) × 
 IsPlaceGiven output in_place (Some Source) = (output ≡ None) × (in_place ≡ true)
 IsPlaceGiven output in_place None = (is_some output ≡ true) × (in_place ≡ true)
 
--- the paths of its source and of its scripts, its numbers, where the edited source goes, and whether a part of the transactions is enough
--- for it
-pub record IsEditOrder (found : Option (Text × List Row)) (paths : List Text) (workers : ℕ) (room : Option ℕ) (place : Option Place)
+-- and what became of the transactions goes into the file of `--replies`, if it is given
+abbrev pub AreOutputsGiven : List Row → Option Outputs → Type 0
+AreOutputsGiven rows (Some o) =
+    IsPlaceGiven (first_of (codes "output") rows) (is_flagged (first_of (codes "in-place") rows)) (Some o.place)
+    × (option_map (λ path. path.now) o.replies ≡ first_of (codes "replies") rows)
+AreOutputsGiven rows None = IsPlaceGiven (first_of (codes "output") rows) (is_flagged (first_of (codes "in-place") rows)) None
+
+-- the paths of its source and of its scripts, its numbers, where all goes, and whether a part of the transactions is enough for the edited
+-- source
+pub record IsEditOrder (found : Option (Text × List Row)) (paths : List Text) (workers : ℕ) (room : Option ℕ) (outputs : Option Outputs)
     (partial : Bool) : Type 0 where
   pub source : Text
   pub asked : AsksToEdit found source workers room
   pub read : paths ≡ source ∷ all_listed (all_of (codes "SCRIPT") (rows_in found))
-  pub put :
-      IsPlaceGiven (first_of (codes "output") (rows_in found)) (is_flagged (first_of (codes "in-place") (rows_in found))) place
+  pub put : AreOutputsGiven (rows_in found) outputs
   pub part : partial ≡ is_flagged (first_of (codes "partial") (rows_in found))

@@ -260,7 +260,7 @@ fn verify_line<'a>(alloc: Global) -> Result<Command<'a>, AllocError>
     with_argument(line, file(alloc, "SOURCE", SOURCE))
 }
 
-/// `mmrefactor edit [--workers N] [--room W] [--in-place | --output FILE] [--partial] SOURCE SCRIPT..`.
+/// `mmrefactor edit [--workers N] [--room W] [--in-place | --output FILE] [--replies FILE] [--partial] SOURCE SCRIPT..`.
 fn edit_line<'a>(alloc: Global) -> Result<Command<'a>, AllocError>
     ensures { IfOk result (IsLine edit_app) }
 {
@@ -285,6 +285,14 @@ fn edit_line<'a>(alloc: Global) -> Result<Command<'a>, AllocError>
         "Puts the edited database in place of SOURCE, instead of printing it",
     );
     let line = with_argument(line, in_place);
+    let replies = option(
+        alloc,
+        "replies",
+        "FILE",
+        ArgAction::Set,
+        "Writes what became of each transaction to this file, one line of JSON each",
+    );
+    let line = with_argument(line, replies);
     let partial = flag(
         alloc,
         "partial",
@@ -298,7 +306,7 @@ fn edit_line<'a>(alloc: Global) -> Result<Command<'a>, AllocError>
 /// The command lines that the program takes: `mmrefactor check DB`, `mmrefactor run [--workers N] [--room W] [--history FILE] DB
 /// SCRIPT..`, `mmrefactor replay DB HISTORY`, `mmrefactor take [--for LABEL].. [--from LABEL --to LABEL] SOURCE`, `mmrefactor give SOURCE
 /// LIBRARY HISTORY`, `mmrefactor verify [--workers N] SOURCE` and `mmrefactor edit [--workers N] [--room W] [--in-place | --output FILE]
-/// [--partial] SOURCE SCRIPT..`.
+/// [--replies FILE] [--partial] SOURCE SCRIPT..`.
 ///
 /// That `--from` and `--to` go together, and not with `--for`, and that `--in-place` does not go with `--output`, is no rule of these
 /// lines.

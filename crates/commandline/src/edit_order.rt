@@ -2,7 +2,7 @@
 
 ghost use Rattle.std.specs.Prelude.{◌≡◌, codes, ℕ, IfOk, IfSome, IsNone, Option, map};
 ghost use Rattle.clap.specs.Words.{Text, first_of, found_of, rows_of, subcommand_rows_of};
-ghost use Rattle.commandline.specs.EditOrders.{AsksToEdit, IsEditOrder, IsPlaceGiven, is_flagged};
+ghost use Rattle.commandline.specs.EditOrders.{AreOutputsGiven, AsksToEdit, IsEditOrder, IsPlaceGiven, is_flagged};
 
 use crate::order::{limits_in, put_all, subcommand_in, text_in, texts_in};
 use clap::ArgMatches;
@@ -19,6 +19,15 @@ pub enum Place<'a> {
     Source,
 }
 
+/// Where what an edit gives goes.
+#[derive(Clone, Copy)]
+pub struct Outputs<'a> {
+    /// Where the edited source goes.
+    pub place: Place<'a>,
+    /// The path of the file that tells what became of each transaction, if it is asked for.
+    pub replies: Option<&'a str>,
+}
+
 /// What a command line asks to edit.
 #[derive(Drop)]
 pub struct EditOrder<'a> {
@@ -28,8 +37,8 @@ pub struct EditOrder<'a> {
     pub workers: usize,
     /// For how many words the store of the run has room, at most 16,777,216, if that is given.
     pub room: Option<usize>,
-    /// Where the edited source goes. None where `--output` and `--in-place` are both given.
-    pub place: Option<Place<'a>>,
+    /// Where the edited source and what became of the transactions go. None where `--output` and `--in-place` are both given.
+    pub outputs: Option<Outputs<'a>>,
     /// Whether the source is printed also where not all transactions were done.
     pub partial: bool,
 }
@@ -57,6 +66,17 @@ fn place_in<'a>(of: &ArgMatches<'a>) -> Option<Place<'a>>
     }
 }
 
+/// Where all goes. None where the edited source has two places.
+fn outputs_in<'a>(of: &ArgMatches<'a>) -> Option<Outputs<'a>>
+    ensures { AreOutputsGiven (rows_of (found_of of.now)) result }
+{
+    let place = place_in(of)?;
+    Some(Outputs {
+        place,
+        replies: text_in(of, "replies"),
+    })
+}
+
 /// The order to edit that a command line gives. None where it asks for another job, or for none.
 ///
 /// # Errors
@@ -67,7 +87,7 @@ pub fn edit_of<'a>(
     matches: &ArgMatches<'a>,
 ) -> Result<Option<EditOrder<'a>>, AllocError>
     ensures some { IfOk result (λ given. IfSome given (λ order. IsEditOrder (subcommand_rows_of matches.now)
-        (map (λ p. p.now) order.paths.items) order.workers order.room order.place order.partial)) }
+        (map (λ p. p.now) order.paths.items) order.workers order.room order.outputs order.partial)) }
     ensures none { IfOk result (λ given. IsNone given → (path : Text) (workers : ℕ) (room : Option ℕ)
         → AsksToEdit (subcommand_rows_of matches.now) path workers room → ⊥) }
 {
@@ -89,7 +109,7 @@ pub fn edit_of<'a>(
         paths,
         workers,
         room,
-        place: place_in(of),
+        outputs: outputs_in(of),
         partial: flag_in(of, "partial"),
     }))
 }

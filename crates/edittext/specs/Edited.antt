@@ -20,6 +20,8 @@ use Rattle.givetext.specs.Parts.{IsEdited}
 use Rattle.verifytext.specs.declared.verifying_text.Verified.{Verified}
 use Rattle.verifytext.specs.Verdicts.{IsVerifiedText}
 use Rattle.expanding.specs.Asking.{spoken, asked}
+use Rattle.expanding.specs.Descriptions.{Description}
+use Rattle.edittext.specs.Described.{AreDescriptive, IsDescribedBy, done_descriptions, descriptions_then}
 use Rattle.edittext.specs.Expanded.{AreWordsOf, AreSpread, RankedScript, AreRanked, texts_of}
 
 -- the room of a run that is given one, or isn't
@@ -88,10 +90,15 @@ abbrev pub IsSourceThen : {source : Bytes} {texts : List Bytes} {workers : ℕ} 
 IsSourceThen {source} r out =
     IsEdited source r.begun.old (choice_of r.begun) (taken_of r.begun) r.entries r.edited out
 
--- what is printed: the source with the edits of the history of a run, which verifies as a whole
+-- what is printed: the source with the edits of the history of a run, in which what was added stands behind its description, and which
+-- verifies as a whole
 pub record IsEditedBy (source : Bytes) (texts : List Bytes) (workers : ℕ) (room : Room) (rows : List (List Outcome)) (out : Bytes)
     : Type 0 where
   pub run : Run source texts workers room rows
-  pub source_then : IsSourceThen run out
+  pub edits : Bytes
+  pub source_then : IsSourceThen run edits
+  pub descriptions : List (List Description)
+  pub are_descriptive : AreDescriptive texts run.begun.with_ranks.over.spread descriptions
+  pub described : IsDescribedBy (descriptions_then (done_descriptions rows descriptions) source_then.followed) edits out
   pub much : Verified
   pub verifies : IsVerifiedText out much

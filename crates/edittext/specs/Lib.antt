@@ -1,6 +1,9 @@
 pub mod Expanded
-pub mod Edited
 pub mod Undone
+pub mod Described
+pub mod Edited
 pub mod Refusals
 pub mod Views
+pub mod Accounts
+pub mod Finished
 pub mod Answers

@@ -24,6 +24,7 @@ use Rattle.expanding.specs.declared.misfit.Misfit.TheVariants as misfit
 use Rattle.expanding.specs.Lines.{line_at}
 use Rattle.expanding.specs.Words.{word_language, text_of, place_at}
 use Rattle.expanding.specs.Refusals.{IsUnspread, IsUnranked}
+use Rattle.expanding.specs.Barred.{IsBarred}
 use Rattle.mmsyntax.specs.Tables.{Tables, Contents}
 use Rattle.taking.specs.Reasons.{Choice}
 use Rattle.library.specs.declared.history.Entry.{Entry}
@@ -31,7 +32,7 @@ use Rattle.library.specs.Library.{Listed}
 use Rattle.transaction.specs.declared.outcome.Outcome.{Outcome}
 use Rattle.jobs.specs.Jobs.{Room, room_of}
 use Rattle.jobs.specs.Parts.{IsWorkFault}
-use Rattle.givetext.specs.Parts.{IsStopped}
+use Rattle.givetext.specs.Parts.{IsEdited, IsStopped}
 use Rattle.givetext.specs.Refusals.{refusal_text}
 use Rattle.givetext.specs.declared.refusal.Refusal.{Refusal as Ungiven}
 use Rattle.givetext.specs.declared.refusal.Refusal.TheVariants as ungiven
@@ -41,6 +42,9 @@ use Rattle.verifytext.specs.Verdicts.{IsRefused}
 use Rattle.verifytext.specs.Lines.{refusal_line as verifying_line}
 use Rattle.edittext.specs.declared.unedited.Unedited.{Unedited}
 use Rattle.edittext.specs.declared.unedited.Unedited.TheVariants as unedited
+use Rattle.expanding.specs.Descriptions.{Description}
+use Rattle.giving.specs.Staying.{Change}
+use Rattle.edittext.specs.Described.{AreDescriptive, IsDescribedBy, done_descriptions, descriptions_then}
 use Rattle.edittext.specs.Expanded.{AreWordsOf, AreSpread, RankedScript, AreRanked, texts_of}
 use Rattle.edittext.specs.Edited.{IsAskedBy, IsSpreadOf, Asked, Ranked, Begun, taken_of, choice_of, Run, IsSourceThen}
 
@@ -95,6 +99,25 @@ pub record IsMisfitLine (paths : List Bytes) (s : Scope) (texts : List Bytes) (l
   pub unspread : IsUnspread s ts why
   pub told : why ≢ misfit.NoMemory
   pub says : line ≡ misfit_line (slice_index_or paths (script + 1) []) (slice_index_or texts script []) why
+
+-- a theorem forbids a command of a script, whatever becomes of the others
+abbrev pub barred_line : Bytes → Bytes → Token → Bytes → Bytes
+barred_line path text t by =
+    path ++ (codes ":" ++ (decimal (line_at text t.place)
+    ++ (codes ": " ++ (shown_label t.text ++ (codes " can't leave its place: "
+    ++ (shown_label by ++ codes " cites it, and no script moves that or gives it another proof"))))))
+
+pub record IsBarredBy (paths : List Bytes) (s : Scope) (texts : List Bytes) (scripts : List (List Token)) (line : Bytes) : Type 0 where
+  pub script : ℕ
+  pub label : Token
+  pub by : Bytes
+  pub barred : IsBarred s scripts script label by
+  pub says : line ≡ barred_line (slice_index_or paths (script + 1) []) (slice_index_or texts script []) label by
+
+pub record IsBarredLine (paths : List Bytes) (s : Scope) (texts : List Bytes) (line : Bytes) : Type 0 where
+  pub spread : List (List Token)
+  pub of_source : IsSpreadOf s texts spread
+  pub cause : IsBarredBy paths s texts spread line
 
 -- no library is taken of what the source declares by the wish of the scripts
 pub record IsUntakenBy (path : Bytes) (s : Scope) (scripts : List (List Token)) (line : Bytes) : Type 0 where
@@ -152,7 +175,8 @@ abbrev pub IsUnbegunLine : Bytes → List Bytes → Scope → List Bytes → Byt
 IsUnbegunLine path paths s texts line =
     IsWordlessLine paths texts line
     ⊎ (IsMisfitLine paths s texts line
-    ⊎ (IsUntakenLine path s texts line ⊎ (IsCrowdedLine paths s texts line ⊎ IsUnreadLine paths s texts line)))
+    ⊎ (IsBarredLine paths s texts line
+    ⊎ (IsUntakenLine path s texts line ⊎ (IsCrowdedLine paths s texts line ⊎ IsUnreadLine paths s texts line))))
 
 -- ---- the run, and what becomes of the source
 
@@ -191,12 +215,23 @@ pub record IsFaultyThenLine (path out line : Bytes) : Type 0 where
   pub told : why ≢ unverified.NoMemory
   pub says : line ≡ verifying_line (path ++ codes ": the source with these edits") why
 
+-- of the code's inside: edits of a history aren't given back, or the source with them, and with descriptions, isn't said to verify
+abbrev pub IsStoppedOrFaulty : Bytes → Bytes → Scope → Choice → Taken → List Entry → Listed → List Change → Bytes → Type 0
+IsStoppedOrFaulty path source old choice taken entries edited ds line =
+    IsStoppedLine path source old choice taken entries edited line
+    ⊎ ((edits : Bytes) × (out : Bytes) × (is : IsEdited source old choice taken entries edited edits)
+    × IsDescribedBy (descriptions_then ds is.followed) edits out × IsFaultyThenLine path out line)
+
 -- nor is the source with those of the run
 pub record IsUnverifiedLine (path source : Bytes) (texts : List Bytes) (workers : ℕ) (room : Room) (line : Bytes) : Type 0 where
   pub rows : List (List Outcome)
   pub run : Run source texts workers room rows
+  pub edits : Bytes
+  pub source_then : IsSourceThen run edits
+  pub descriptions : List (List Description)
+  pub are_descriptive : AreDescriptive texts run.begun.with_ranks.over.spread descriptions
   pub out : Bytes
-  pub source_then : IsSourceThen run out
+  pub described : IsDescribedBy (descriptions_then (done_descriptions rows descriptions) source_then.followed) edits out
   pub cause : IsFaultyThenLine path out line
 
 -- why nothing is printed; the path of the source is the first of all

@@ -4,10 +4,9 @@ use Rattle.std.specs.Prelude.{map, slice_get, slice_index_or, string_bytes}
 use Rattle.std.specs.List.{list_all}
 use Rattle.std.specs.declared.alloc.Global.{Global}
 use Rattle.std.specs.Fmt.{decimal}
-use Rattle.checking.specs.FaultLines.{shown_label}
 use Rattle.library.specs.declared.command.Command.{Command}
-use Rattle.library.specs.declared.command.Command.TheVariants as command
 use Rattle.library.specs.Reasons.{printed_reason}
+use Rattle.replylines.specs.CommandTexts.{command_text}
 use Rattle.transaction.specs.declared.outcome.Outcome.{Outcome}
 use Rattle.transaction.specs.declared.outcome.Outcome.TheVariants.{Committed, Read, Refused, Conflict, StoreFull, NumbersUsed, TooManyCommands, NoMemory}
 use Rattle.checking.specs.Checks.{Bytes, Orders}
@@ -23,18 +22,6 @@ is_done _ = false
 
 abbrev pub all_done : List (List Outcome) → Bool
 all_done rows = list_all (list_all is_done) rows
-
--- a command's word, and the labels that it speaks of
-abbrev pub command_text : Command → Bytes
-command_text (command.Add rank a) = codes "add " ++ shown_label a.label
-command_text (command.Reprove label steps) = codes "reprove " ++ shown_label label
-command_text (command.Replace label old new) =
-    codes "replace " ++ (shown_label label ++ (codes " " ++ (shown_label old ++ (codes " " ++ shown_label new))))
-command_text (command.Rename old new) = codes "rename " ++ (shown_label old ++ (codes " " ++ shown_label new))
-command_text (command.Move label rank) = codes "move " ++ shown_label label
-command_text (command.Delete label) = codes "delete " ++ shown_label label
-command_text (command.Show label) = codes "show " ++ shown_label label
-command_text command.List = codes "list"
 
 -- a command is refused for a reason
 abbrev pub refused_text : Option Command → Bytes → Bytes
@@ -61,7 +48,7 @@ undone_line path line commands outcome =
 -- ---- all of them
 
 -- what each of a list has, by its place, from the k-th on
-abbrev pub each_from : {A : Type 0} → (ℕ → A → List Bytes) → ℕ → List A → List Bytes
+abbrev pub each_from : {A B : Type 0} → (ℕ → A → List B) → ℕ → List A → List B
 each_from F k [] = []
 each_from F k (x ∷ xs) = F k x ++ each_from F (suc k) xs
 

@@ -9,9 +9,13 @@ use Rattle.library.specs.Fitting.{CommandFits}
 use Rattle.checking.specs.Checks.{Bytes, AreScripts}
 use Rattle.expanding.specs.Views.{IsLaid}
 use Rattle.expanding.specs.declared.laid.Laid.{Laid}
+use Rattle.expanding.specs.declared.described.Described.{Described}
+use Rattle.expanding.specs.Descriptions.{Description}
+use Rattle.expanding.specs.InFront.{seen_described}
 use Rattle.edittext.specs.declared.call.Begun.{Begun as CodeBegun}
 use Rattle.edittext.specs.Expanded.{RankedScript, AreRanked, texts_of}
 use Rattle.edittext.specs.Edited.{IsSpreadOf, IsTakenFor}
+use Rattle.edittext.specs.Described.{AreDescriptive}
 
 -- texts
 abbrev pub seen_texts : List (Vec ℕ Global) → List Bytes
@@ -29,6 +33,10 @@ pub record IsLaidOf (out : RankedScript) (l : Laid) : Type 0 where
 abbrev pub AreLaid : List RankedScript → List Laid → Type 0
 AreLaid outs laid = AllZip IsLaidOf outs laid
 
+-- the descriptions in scripts
+abbrev pub seen_descriptions : List (Vec Described Global) → List (List Description)
+seen_descriptions all = map (λ ds. map seen_described ds.items) all
+
 -- the library that scripts ask of a source, and the scripts as they are read over it
 pub record IsBegun (s : Scope) (texts : List Bytes) (b : CodeBegun) : Type 0 where
   pub spread : List (List Token)
@@ -39,4 +47,5 @@ pub record IsBegun (s : Scope) (texts : List Bytes) (b : CodeBegun) : Type 0 whe
   pub are_ranked : AreRanked s b.taken.chosen.items [] spread ranked gaps
   pub beginnings : map (λ out. out.beginnings) ranked ≡ beginnings_of b.laid.items
   pub ordered : AreScripts b.taken.database.prelude (texts_of ranked) b.scripts.items
+  pub descriptive : AreDescriptive texts spread (seen_descriptions b.descriptions.items)
   pub fit : All (All (All (CommandFits b.taken.database.prelude))) b.scripts.items

@@ -1,12 +1,20 @@
 //! The answer of the program where scripts edit a source.
 
-ghost use Rattle.std.specs.Prelude.{◌≡◌, ◌≢◌, IfOk, IfErr, map};
+ghost use Rattle.std.specs.Prelude.{IfOk, IfErr, map};
+ghost use Rattle.transaction.specs.Closings.{lists_of};
+ghost use Rattle.reports.specs.Reports.{AreReportable};
 ghost use Rattle.checking.specs.Tasks.{IsWithin};
 ghost use Rattle.edittext.specs.Edited.{edit_room};
 ghost use Rattle.edittext.specs.Answers.{IsEditAnswer};
+ghost use Rattle.edittext.specs.Finished.{IsFirstAccount};
 ghost use Rattle.edittext.specs.Refusals.{IsToldBy, IsUneditedLine};
+ghost use Rattle.edittext.specs.Views.{seen_texts};
 
-use crate::call::{begin, give_back, look_at, read_old, run_over};
+use crate::account::Account;
+use crate::call::{Begun, begin, read_old, run_over};
+use crate::described::done_descriptions;
+use crate::finishing::{Finished, finish};
+use crate::replying::replies_if;
 use crate::undone::{may_print, undone};
 use crate::unedited::Unedited;
 use following::Follow;
@@ -17,6 +25,7 @@ use std::alloc::{AllocError, Global};
 use std::hash::RandomState;
 use std::sync::Wait;
 use std::thread::Threads;
+use transaction::Outcome;
 
 /// What an edit is asked to do.
 #[derive(Clone, Copy)]
@@ -31,20 +40,49 @@ pub struct EditOrder<'o> {
     pub room: Option<usize>,
     /// Whether the source is printed also where not all transactions were done.
     pub partial: bool,
+    /// Whether it is told what became of each transaction.
+    pub with_replies: bool,
 }
 
 /// What the program answers where scripts edit a source.
 #[derive(Debug, Drop)]
 pub enum Told {
-    /// This is printed on the standard output, and these lines on the standard error: one for each transaction that wasn't done.
-    Printed(Vec<u8>, Vec<String>),
-    /// Nothing is printed but these lines, on the standard error: one for each transaction that wasn't done.
-    Undone(Vec<String>),
+    /// This is printed, and so much is told of the run.
+    Printed(Vec<u8>, Account),
+    /// Nothing is printed, since some transaction wasn't done: so much is told of the run.
+    Undone(Account),
     /// Nothing is printed but this line, on the standard error.
     Refused(String),
 }
 
-/// The source with the edits of one history of the scripts, once it was verified; or the lines of what wasn't done.
+/// What is told of a run, before the source with its edits is written.
+fn account_of(
+    alloc: Global,
+    order: EditOrder<'_>,
+    texts: &[Vec<u8>],
+    begun: &Begun<'_>,
+    outcomes: &[Vec<Outcome>],
+) -> Result<Account, AllocError>
+    requires { AreReportable begun.now.taken.database.prelude (lists_of outcomes.now) }
+    ensures { IfOk result (IsFirstAccount (map (λ p. p.now) order.entry.paths.now) (seen_texts texts.now) begun.now (lists_of outcomes.now)
+        order.entry.with_replies) }
+{
+    let (laid, scripts) = (begun.laid.as_slice(), begun.scripts.as_slice());
+    let paths = order.paths;
+    let undone = undone(alloc, paths, texts, laid, scripts, outcomes)?;
+    let prelude = begun.taken.database.prelude();
+    let asked = order.with_replies;
+    let replies = replies_if(
+        alloc, asked, prelude, paths, texts, laid, scripts, outcomes,
+    )?;
+    Ok(Account {
+        undone,
+        spoken: Vec::new(alloc),
+        replies,
+    })
+}
+
+/// The source with the edits of one history of the scripts, once it was verified; or what wasn't done.
 fn edit<'a>(
     rt: &(impl Threads + Wait + Sync),
     alloc: Global,
@@ -56,7 +94,7 @@ fn edit<'a>(
 ) -> Result<Told, Unedited>
     requires { IsWithin order.workers order.room }
     ensures told { IfOk result (IsEditAnswer order.entry.path.now (map (λ p. p.now) order.entry.paths.now) source.now
-        (map (λ t. t.items) texts.now) order.entry.workers (edit_room order.entry.room) order.entry.partial) }
+        (map (λ t. t.items) texts.now) order.entry.workers (edit_room order.entry.room) order.entry.partial order.entry.with_replies) }
     ensures refused { IfErr result (IsToldBy (IsUneditedLine order.entry.path.now (map (λ p. p.now) order.entry.paths.now) source.now
         (map (λ t. t.items) texts.now) order.entry.workers (edit_room order.entry.room))) }
 {
@@ -71,25 +109,21 @@ fn edit<'a>(
         history,
         library,
     } = run_over(rt, alloc, keys, order, &taken.database, scripts, follow)?;
-    let laid = begun.laid.as_slice();
-    let lines = undone(
-        alloc,
-        order.paths,
-        texts,
-        laid,
-        scripts,
-        outcomes.as_slice(),
-    )?;
-    if !may_print(order.partial, lines.as_slice()) {
-        return Ok(Told::Undone(lines));
+    let rows = outcomes.as_slice();
+    let account = account_of(alloc, order, texts, &begun, rows)?;
+    if !may_print(order.partial, account.undone.as_slice()) {
+        return Ok(Told::Undone(account));
     }
     let run = Replayed {
         entries: history,
         edited: library,
     };
-    let out = give_back(rt, alloc, keys, order.path, &old, source, taken, &run)?;
-    look_at(rt, alloc, keys, order.path, out.as_slice(), follow)?;
-    Ok(Told::Printed(out, lines))
+    let done = done_descriptions(alloc, rows, begun.descriptions.as_slice())?;
+    let (path, described) = (order.path, done.as_slice());
+    let Finished { out, spoken } = finish(
+        rt, alloc, keys, path, &old, source, taken, &run, described, follow,
+    )?;
+    Ok(Told::Printed(out, Account { spoken, ..account }))
 }
 
 /// Edits the source in the text of a file by scripts, and gives what the program answers.
@@ -112,7 +146,7 @@ pub fn answer_edit(
 ) -> Result<Told, AllocError>
     requires { IsWithin order.workers order.room }
     ensures { IfOk result (IsEditAnswer order.entry.path.now (map (λ p. p.now) order.entry.paths.now) source.now
-        (map (λ t. t.items) texts.now) order.entry.workers (edit_room order.entry.room) order.entry.partial) }
+        (map (λ t. t.items) texts.now) order.entry.workers (edit_room order.entry.room) order.entry.partial order.entry.with_replies) }
 {
     let told = edit(rt, alloc, keys, order, source, texts, follow);
     Follow::end(follow);

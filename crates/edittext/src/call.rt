@@ -1,13 +1,8 @@
-//! The call `edit`: what a source declares, the library that scripts ask of it, their run over that, and the source with the edits of its
-//! history.
+//! The call `edit`, up to its run: what a source declares, the library that scripts ask of it, and their run over that.
 
-ghost use Rattle.std.specs.Prelude.{◌≡◌, All, IfOk, IfErr, length, map};
+ghost use Rattle.std.specs.Prelude.{All, IfOk, IfErr, map};
 ghost use Rattle.derivation.specs.Databases.{AllCheck};
 ghost use Rattle.library.specs.Fitting.{CommandFits};
-ghost use Rattle.taking.specs.Reasons.{Choice};
-ghost use Rattle.givetext.specs.Parts.{IsEdited};
-ghost use Rattle.verifytext.specs.Verdicts.{IsVerifiedText};
-ghost use Rattle.source.specs.Scopes.{Assertion, is_in};
 ghost use Rattle.source.specs.Sources.{DeclaresText};
 ghost use Rattle.source.specs.Whole.{IsWhole};
 ghost use Rattle.transaction.specs.Closings.{lists_of};
@@ -19,13 +14,14 @@ ghost use Rattle.expanding.specs.Views.{seen_scripts};
 ghost use Rattle.edittext.specs.Views.{seen_texts, IsBegun};
 
 use crate::answering::EditOrder;
+use crate::barring::are_free;
+use crate::described::descriptions_of;
 use crate::expanded::{rank_all, read_all, spread_of};
-use crate::telling::{ungiven, untaken, unverified, unworked};
+use crate::telling::{untaken, unworked};
 use crate::unedited::Unedited;
 use choosing::{Wish, wanted_of};
-use expanding::{Laid, asked_of};
+use expanding::{Described, Laid, asked_of};
 use following::Follow;
-use givetext::{Replayed, give_edits};
 use intake::{Taken, take_declared};
 use jobs::{Edited, Watch, plan_of, work};
 use library::Script;
@@ -38,7 +34,6 @@ use std::alloc::Global;
 use std::hash::RandomState;
 use std::sync::Wait;
 use std::thread::Threads;
-use verifytext::{Verified, verify};
 
 /// What the source declares.
 pub(crate) fn read_old<'a>(
@@ -96,6 +91,8 @@ pub(crate) struct Begun<'a> {
     pub laid: Vec<Laid>,
     /// The scripts.
     pub scripts: Vec<Script>,
+    /// The descriptions in each of them.
+    pub descriptions: Vec<Vec<Described<'a>>>,
 }
 
 /// The library that scripts ask of a source, and the scripts as they are read over it.
@@ -115,6 +112,7 @@ pub(crate) fn begin<'a, D: Declared<'a>>(
 {
     let spread = spread_of(alloc, order.paths, declared, texts)?;
     let spread = spread.as_slice();
+    are_free(alloc, keys, order.paths, declared, texts, spread)?;
     let taken = take_for(rt, alloc, keys, order.path, declared, spread, follow)?;
     let laid = rank_all(
         alloc,
@@ -131,10 +129,12 @@ pub(crate) fn begin<'a, D: Declared<'a>>(
         taken.database.prelude(),
         laid.as_slice(),
     )?;
+    let descriptions = descriptions_of(alloc, keys, texts, spread)?;
     Ok(Begun {
         taken,
         laid,
         scripts,
+        descriptions,
     })
 }
 
@@ -160,49 +160,5 @@ pub(crate) fn run_over(
     match work(rt, alloc, keys, database, scripts, plan, watch) {
         Ok(edited) => Ok(edited),
         Err(fault) => Err(unworked(alloc, order.paths, &fault)?),
-    }
-}
-
-/// The source with the edits of a history over the library that was taken of it.
-pub(crate) fn give_back<'x, 'a: 'x>(
-    rt: &(impl Threads + Sync),
-    alloc: Global,
-    keys: RandomState,
-    path: &str,
-    old: &Scopes<'a>,
-    source: &[u8],
-    taken: &'x Taken<'a>,
-    run: &'x Replayed,
-) -> Result<Vec<u8>, Unedited>
-    requires chosen { length taken.now.chosen.items ≡ length old.now.stand.scope.assertions }
-    requires declares { DeclaresText source.now old.now.stand.scope }
-    ensures edited { (choice : Choice) → map (λ (x : Assertion). is_in choice.chosen x.label) old.now.stand.scope.assertions
-        ≡ taken.now.chosen.items
-        → IfOk result (λ out. IsEdited source.now old.now.stand.scope choice taken.now run.now.entries run.now.edited out.items) }
-    ensures refused { (choice : Choice) → map (λ (x : Assertion). is_in choice.chosen x.label) old.now.stand.scope.assertions
-        ≡ taken.now.chosen.items
-        → IfErr result (IsToldBy (IsStoppedLine path.now source.now old.now.stand.scope choice taken.now run.now.entries run.now.edited)) }
-{
-    match give_edits(rt, alloc, keys, old, source, taken, run) {
-        Ok(out) => Ok(out),
-        Err(why) => Err(ungiven(alloc, path, &why)?),
-    }
-}
-
-/// A text with edits verifies.
-pub(crate) fn look_at(
-    rt: &(impl Threads + Sync),
-    alloc: Global,
-    keys: RandomState,
-    path: &str,
-    out: &[u8],
-    follow: &(impl Follow + Sync),
-) -> Result<Verified, Unedited>
-    ensures verified { IfOk result (IsVerifiedText out.now) }
-    ensures refused { IfErr result (IsToldBy (IsFaultyThenLine path.now out.now)) }
-{
-    match verify(rt, alloc, keys, out, None, follow) {
-        Ok(much) => Ok(much),
-        Err(why) => Err(unverified(alloc, path, why)?),
     }
 }

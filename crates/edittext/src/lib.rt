@@ -1,11 +1,18 @@
 //! What the program answers where scripts edit a source: the source with the edits of one history, which verifies; or why it isn't printed.
 #![tactic(auto)]
 
+mod account;
 mod answering;
+mod barring;
 mod call;
+mod described;
 mod expanded;
+mod finishing;
+mod replying;
+mod spoken;
 mod telling;
 mod undone;
 mod unedited;
 
+pub use account::Account;
 pub use answering::{EditOrder, Told, answer_edit};

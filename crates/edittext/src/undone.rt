@@ -5,52 +5,15 @@ ghost use Rattle.std.specs.Fmt.{decimal};
 ghost use Rattle.transaction.specs.Closings.{lists_of};
 ghost use Rattle.expanding.specs.Lines.{line_at};
 ghost use Rattle.library.specs.Reasons.{printed_reason};
-ghost use Rattle.edittext.specs.Undone.{IsUndoneText, command_text, refused_text, undone_of, all_undone};
+ghost use Rattle.edittext.specs.Undone.{IsUndoneText, refused_text, undone_of, all_undone};
 ghost use Rattle.edittext.specs.Views.{seen_texts, beginnings_of};
 
-use crate::telling::{path_at, shown, text_at};
+use crate::telling::{path_at, text_at};
 use expanding::{Laid, lines_of};
 use library::{Command, Reason, Script, Transaction};
+use replylines::command_text;
 use std::alloc::{AllocError, Global};
 use transaction::Outcome;
-
-/// A command's word, and the labels that it speaks of.
-fn command_text(alloc: Global, command: &Command) -> Result<String, AllocError>
-    ensures { IfOk result (λ text. string_bytes text ≡ command_text command.now) }
-{
-    match command {
-        Command::Add { assertion, .. } => {
-            let label = shown(assertion.label.as_slice());
-            format!(in alloc; "add {label}")
-        }
-        Command::Reprove { label, .. } => {
-            let label = shown(label.as_slice());
-            format!(in alloc; "reprove {label}")
-        }
-        Command::Replace { label, old, new } => {
-            let (label, old) = (shown(label.as_slice()), shown(old.as_slice()));
-            let new = shown(new.as_slice());
-            format!(in alloc; "replace {label} {old} {new}")
-        }
-        Command::Rename { old, new } => {
-            let (old, new) = (shown(old.as_slice()), shown(new.as_slice()));
-            format!(in alloc; "rename {old} {new}")
-        }
-        Command::Move { label, .. } => {
-            let label = shown(label.as_slice());
-            format!(in alloc; "move {label}")
-        }
-        Command::Delete { label } => {
-            let label = shown(label.as_slice());
-            format!(in alloc; "delete {label}")
-        }
-        Command::Show { label } => {
-            let label = shown(label.as_slice());
-            format!(in alloc; "show {label}")
-        }
-        Command::List => format!(in alloc; "list"),
-    }
-}
 
 /// That a command, if it is there, is refused for a reason.
 fn refused_text(
@@ -90,7 +53,7 @@ fn undone_text(
 }
 
 /// The commands of a transaction of a script, from 0; none where it has no such transaction.
-fn commands_at(script: &[Transaction], place: usize) -> &[Command]
+pub(crate) fn commands_at(script: &[Transaction], place: usize) -> &[Command]
     ensures { result.now ≡ slice_index_or script.now place [] }
 {
     match script.get(place) {
@@ -100,7 +63,7 @@ fn commands_at(script: &[Transaction], place: usize) -> &[Command]
 }
 
 /// The line on which a transaction begins, of which a place counts from 0.
-fn line_at(lines: &[usize], place: usize) -> usize
+pub(crate) fn line_at(lines: &[usize], place: usize) -> usize
     ensures { result ≡ slice_index_or lines.now place 0 }
 {
     match lines.get(place) {
@@ -137,7 +100,7 @@ fn put_undone(
 }
 
 /// The lines on which the transactions of a script begin, of which a place counts from 0.
-fn lines_at(
+pub(crate) fn lines_at(
     alloc: Global,
     texts: &[Vec<u8>],
     laid: &[Laid],
@@ -153,7 +116,7 @@ fn lines_at(
 }
 
 /// The transactions of the script at a place, from 0; none where there is no such script.
-fn transactions_at(scripts: &[Script], place: usize) -> &[Transaction]
+pub(crate) fn transactions_at(scripts: &[Script], place: usize) -> &[Transaction]
     ensures { result.now ≡ slice_index_or scripts.now place [] }
 {
     match scripts.get(place) {

@@ -16,6 +16,9 @@ use Rattle.sourceediting.specs.declared.refusal.Refusal.{Refusal as Unwritten}
 use Rattle.sourceediting.specs.declared.refusal.Refusal.TheVariants as edits
 use Rattle.givetext.specs.Causes.{Known, known_of, IsKnown, IsJustified, IsRefused, IsTextThen, others_of, edited_assertions}
 use Rattle.givetext.specs.Given.{IsTakenText, edition}
+use Rattle.givetext.specs.Drafts.{IsDraft, known_in}
+use Rattle.givetext.specs.declared.drafting.Draft.{Draft}
+use Rattle.sourceediting.specs.Views.{seen_following}
 use Rattle.choosing.specs.declared.wish.Wish.{Wish}
 use Rattle.taketext.specs.Origins.{Tells}
 use Rattle.givetext.specs.Parts.{IsEditsRefusal, IsStopped, IsSourceRefusal, IsTakingRefusal, IsUntakenBy, IsReplayRefusal, IsLoss}
@@ -69,6 +72,18 @@ module _ (source : List ℕ) (old : Scope) (choice : Choice) (taken : Taken) (en
     is_followed = record { follows = follows; changes_are = changed; own_are = flags };
     cause = cause;
   }
+
+-- of a draft
+pub draft_stopped : (source : List ℕ) (old : Scope) (choice : Choice) (taken : Taken) (entries : List Entry) (edited : Listed) (d : Draft)
+    → IsDraft source old choice taken entries edited d → (why : Refusal)
+    → IsJustified (known_in old taken entries edited d) source why → IsStopped source old choice taken entries edited why
+draft_stopped source old choice taken entries edited d is why cause = record {
+  followed = seen_following d.following;
+  changes = d.changes;
+  own = d.own.items;
+  is_followed = is.followed;
+  cause = cause;
+}
 
 -- ---- another library
 

@@ -2,6 +2,7 @@
 use Rattle.std.specs.Prelude.{◌≡◌, ◌≢◌, ◌<◌, ◌||◌, ◌⊎◌, ℕ, Bool, false, List, [], ◌∷◌, map, Contains, Option, Some, None, IsTrue, slice_get}
 use Rattle.std.specs.Borrow.{Bor}
 use Rattle.mmtext.specs.Words.{Word}
+use Rattle.mmtext.specs.declared.fault.TextFault.{TextFault}
 use Rattle.mmsyntax.specs.declared.statement.Assertion.{Assertion as Unit'}
 use Rattle.source.specs.Scopes.{Assertion, Scope, is_in}
 use Rattle.source.specs.Sources.{DeclaresText}
@@ -157,6 +158,10 @@ abbrev pub WouldStandBehind : Known → List ℕ → Word → Word → Type 0
 WouldStandBehind k source label by =
     (out : List ℕ) × IsTextThen k source out × StandInOrder out by label × Cites k.changes (others_of k) by label
 
+-- the text with these edits has the fault
+abbrev pub WouldBeFaulty : Known → List ℕ → TextFault → Type 0
+WouldBeFaulty k source fault = (out : List ℕ) × IsTextThen k source out × FaultySource out fault
+
 -- ---- each refusal, once the history was done again; of want of memory nothing is known
 
 abbrev pub IsJustified : Known → List ℕ → Refusal → Type 0
@@ -167,7 +172,7 @@ IsJustified k source (refusal.Edits (edits.Unwritten label)) =
     × IsUnwritten k.old (edition k.taken k.edited) k.followed.living (all_commands k.entries) label
 IsJustified k source (refusal.Edits why) = HasCause k.followed.living (edited_assertions k) source why
 IsJustified k source (refusal.StandsBehind label by) = WouldStandBehind k source label by
-IsJustified k source (refusal.Unread fault) = IsUnfit k source (unlike.Unread fault)
+IsJustified k source (refusal.Unread fault) = WouldBeFaulty k source fault
 IsJustified k source (refusal.Changes label) = (x : Assertion) × IsFirstOther k source (Some x) × (x.label ≡ label)
 IsJustified k source refusal.AnotherAssertion = IsFirstOther k source None
 IsJustified k source refusal.Untaken = IsUnfit k source unlike.Untaken

@@ -3,3 +3,4 @@ pub mod Causes
 pub mod Refusals
 pub mod Answers
 pub mod Parts
+pub mod Drafts

@@ -1,11 +1,13 @@
 //! What is told of what is about to be printed, where the second look finds it not as it should be; and its comments.
 
-ghost use Rattle.std.specs.Prelude.{◌≡◌, ℕ, List, IfErr, IfOk, OnOk, length, slice_get};
+ghost use Rattle.std.specs.Prelude.{◌≡◌, ◌≢◌, ℕ, List, IfErr, IfOk, OnOk, length, slice_get};
 ghost use Rattle.std.specs.Option.{option_map};
 ghost use Rattle.source.specs.Views.{seen_words};
 ghost use Rattle.giving.specs.Staying.{others};
 ghost use Rattle.comments.specs.Kept.{AreKept};
-ghost use Rattle.secondlook.specs.declared.unlike.Unlike.TheVariants.{AnotherAssertion, Unread};
+ghost use Rattle.mmtext.specs.declared.fault.FaultKind.TheVariants.{NoMemory as OutOfMemory};
+ghost use Rattle.source.specs.Faults.{FaultySource};
+ghost use Rattle.secondlook.specs.declared.unlike.Unlike.TheVariants.{AnotherAssertion};
 ghost use Rattle.givetext.specs.Causes.{Known, IsTextThen, IsUnfit, IsJustified};
 ghost use Rattle.givetext.specs.Parts.{IsLoss};
 
@@ -15,7 +17,7 @@ use comments::are_kept;
 use giving::Changes;
 use mmsyntax::Label;
 use mmtext::{FaultKind, TextFault};
-use secondlook::{Edits, Unlike};
+use secondlook::Unlike;
 use source::Declared;
 use sourceediting::marked;
 use std::alloc::{AllocError, Global};
@@ -57,8 +59,8 @@ fn changed<'a, D: Declared<'a>>(
     }
 }
 
-/// Why the source with the edits can't be read.
-fn unread<'a, D: Declared<'a>>(
+/// Why the source with the edits can't be read, whose text has this fault.
+pub(crate) fn unread<'a, D: Declared<'a>>(
     alloc: Global,
     keys: RandomState,
     declared: &D,
@@ -69,8 +71,11 @@ fn unread<'a, D: Declared<'a>>(
 ) -> Result<Refusal, AllocError>
     requires { length own.now ≡ length (D.scope declared.now).assertions }
     ensures { (k : Known) (source : List ℕ) → k.old ≡ D.scope declared.now → k.changes ≡ changes.now → k.own ≡ own.now
-        → IsTextThen k source out.now → IsUnfit k source (Unread fault) → IfOk result (IsJustified k source) }
+        → IsTextThen k source out.now → (fault.kind ≢ OutOfMemory → FaultySource out.now fault) → IfOk result (IsJustified k source) }
 {
+    if fault.kind == FaultKind::NoMemory {
+        return Ok(Refusal::NoMemory);
+    }
     if fault.kind != FaultKind::UnknownLabel {
         return Ok(Refusal::Unread(fault));
     }
@@ -86,24 +91,19 @@ fn unread<'a, D: Declared<'a>>(
 /// Why the source with the edits isn't printed.
 pub(crate) fn unprinted<'a, D: Declared<'a>>(
     alloc: Global,
-    keys: RandomState,
     declared: &D,
-    out: &[u8],
-    edits: Edits<'_, '_>,
+    own: &[bool],
     why: Unlike,
 ) -> Result<Refusal, AllocError>
-    requires { length edits.own.now ≡ length (D.scope declared.now).assertions }
-    ensures { (k : Known) (source : List ℕ) → k.old ≡ D.scope declared.now → k.changes ≡ edits.entry.changes.now
-        → k.own ≡ edits.entry.own.now → IsTextThen k source out.now → IsUnfit k source why → IfOk result (IsJustified k source) }
+    requires { length own.now ≡ length (D.scope declared.now).assertions }
+    ensures { (k : Known) (source : List ℕ) → k.old ≡ D.scope declared.now → k.own ≡ own.now → IsUnfit k source why
+        → IfOk result (IsJustified k source) }
 {
     match why {
-        Unlike::Unread(fault) => {
-            unread(alloc, keys, declared, out, edits.changes, edits.own, fault)
-        }
         Unlike::Untaken => Ok(Refusal::Untaken),
         Unlike::AnotherLibrary => Ok(Refusal::AnotherLibrary),
         Unlike::AnotherPrelude => Ok(Refusal::AnotherLibrary),
-        Unlike::AnotherAssertion(number) => changed(alloc, declared, edits.own, number),
+        Unlike::AnotherAssertion(number) => changed(alloc, declared, own, number),
         Unlike::NoMemory => Err(AllocError),
     }
 }

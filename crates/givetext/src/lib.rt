@@ -5,11 +5,14 @@
 mod again;
 mod answering;
 mod call;
+mod drafting;
+mod looking;
 mod refusal;
 mod refusing;
 mod standing;
 
 pub use answering::{Paths, Returned, answer_give};
-pub use call::{Replayed, give_edits};
+pub use drafting::{Draft, Replayed, draft_edits};
+pub use looking::{look_at_draft, read_draft};
 pub use refusal::Refusal;
 pub use refusing::refusal_text;

@@ -1,6 +1,7 @@
 -- What the program does for a command line, event by event, and the status that it ends with.
 use Rattle.std.specs.Prelude.{◌≡◌, ◌≢◌, ◌⊎◌, ℕ, Bool, true, false, List, [], ◌∷◌, ◌++◌, Option, Some, None, Result, Ok, Err, All, codes, length}
-use Rattle.std.specs.Prelude.{String, map, slice_get, string_bytes}
+use Rattle.std.specs.Prelude.{String, Vec, map, slice_get, string_bytes, is_some, if◌then◌else◌}
+use Rattle.std.specs.Option.{option_map}
 use Rattle.std.specs.declared.alloc.Global.{Global}
 use Rattle.clap.specs.declared.error.Error.{Error}
 use Rattle.clap.specs.declared.error.kind.ErrorKind.TheVariants.{DisplayHelp, DisplayVersion, OutOfMemory}
@@ -25,10 +26,12 @@ use Rattle.commandline.specs.TakeOrders.{AsksToTake, IsTakeOrder}
 use Rattle.commandline.specs.GiveOrders.{AsksToGive}
 use Rattle.commandline.specs.VerifyOrders.{AsksToVerify}
 use Rattle.commandline.specs.EditOrders.{AsksToEdit, IsEditOrder}
+use Rattle.commandline.specs.declared.edit_order.Outputs.{Outputs}
 use Rattle.commandline.specs.declared.edit_order.Place.{Place}
 use Rattle.commandline.specs.declared.edit_order.Place.TheVariants as place
 use Rattle.edittext.specs.Answers.{IsEditAnswer}
 use Rattle.edittext.specs.Edited.{edit_room}
+use Rattle.edittext.specs.declared.account.Account.{Account}
 use Rattle.edittext.specs.declared.answering.Told.{Told as Edited}
 use Rattle.edittext.specs.declared.answering.Told.TheVariants as edited
 use Rattle.givetext.specs.Answers.{IsGiveAnswer}
@@ -242,49 +245,100 @@ IsPutAt (place.File path) source well out es status =
 IsPutAt place.Source source well out es status =
     (whole : Bool) × (rest : List Event) × (es ≡ replaces source out whole ∷ rest) × IsSaved source well whole rest status
 
--- it is said which transactions weren't done, and then the source with the edits goes where it is to go; or that is said, nothing goes
--- anywhere, and the status is 3; or the line of the refusal is said
-abbrev pub IsEditTold : Place → Bytes → Edited → List Event → ℕ → Type 0
-IsEditTold place source (edited.Printed out lines) es status =
-    (rest : List Event) × (es ≡ all_said lines.items ++ rest) × IsPutAt place source (undone_status lines.items) out.items rest status
-IsEditTold place source (edited.Undone lines) es status = (es ≡ all_said lines.items) × (status ≡ 3)
-IsEditTold place source (edited.Refused line) es status = IsSaid (string_bytes line) es status
+-- what became of the transactions is in the file for that, whole, if there is one; or it isn't, which is said, and the status is 1
+abbrev pub ArePutReplies : Option Bytes → Option (Vec ℕ Global) → List Event → Option ℕ → Type 0
+ArePutReplies (Some path) (Some text) es None = es ≡ writes path text.items true ∷ []
+ArePutReplies (Some path) (Some text) es (Some status) =
+    (rest : List Event) × (es ≡ writes path text.items false ∷ rest) × IsSaved path 1 false rest status
+ArePutReplies _ _ es failed = (es ≡ []) × (failed ≡ None)
+
+-- and then this follows, unless it isn't
+abbrev pub AreRepliesThen : Option Bytes → Option (Vec ℕ Global) → (List Event → ℕ → Type 0) → List Event → ℕ → Type 0
+AreRepliesThen path text P es status =
+    ArePutReplies path text es (Some status)
+    ⊎ ((put : List Event) × (rest : List Event) × (es ≡ put ++ rest) × ArePutReplies path text put None × P rest status)
+
+abbrev pub replies_path : Outputs → Option Bytes
+replies_path o = option_map (λ path. path.now) o.replies
+
+-- it is said which transactions weren't done, and of which labels that are gone a comment speaks; then what became of each transaction and
+-- the source with the edits go where they are to go
+abbrev pub IsPrintedTold : Outputs → Bytes → Bytes → Account → List Event → ℕ → Type 0
+IsPrintedTold o source out account es status =
+    (rest : List Event) × (es ≡ all_said account.undone.items ++ (all_said account.spoken.items ++ rest))
+    × AreRepliesThen (replies_path o) account.replies (IsPutAt o.place source (undone_status account.undone.items) out) rest status
+
+-- it is said which weren't done, and just what became of them goes anywhere: the status is 3
+abbrev pub IsUndoneTold : Outputs → Account → List Event → ℕ → Type 0
+IsUndoneTold o account es status =
+    (rest : List Event) × (es ≡ all_said account.undone.items ++ rest)
+    × AreRepliesThen (replies_path o) account.replies (λ more told. (more ≡ []) × (told ≡ 3)) rest status
+
+-- so it is; or the line of the refusal is said
+abbrev pub IsEditTold : Outputs → Bytes → Edited → List Event → ℕ → Type 0
+IsEditTold o source (edited.Printed out account) es status = IsPrintedTold o source out.items account es status
+IsEditTold o source (edited.Undone account) es status = IsUndoneTold o account es status
+IsEditTold o source (edited.Refused line) es status = IsSaid (string_bytes line) es status
 
 -- what is answered is told, for a source in the first of the files, and scripts in the others
-abbrev pub IsEditAnswered : List Bytes → ℕ → Option ℕ → Place → Bool → List Bytes → List Event → ℕ → Type 0
-IsEditAnswered (path ∷ scripts) workers room place partial (source ∷ texts) es status =
-    (told : Edited) × IsEditAnswer path (path ∷ scripts) source texts workers (edit_room room) partial told
-    × IsEditTold place path told es status
-IsEditAnswered _ workers room place partial _ es status = ⊥
+abbrev pub IsEditAnswered : List Bytes → ℕ → Option ℕ → Outputs → Bool → List Bytes → List Event → ℕ → Type 0
+IsEditAnswered (path ∷ scripts) workers room o partial (source ∷ texts) es status =
+    (told : Edited) × IsEditAnswer path (path ∷ scripts) source texts workers (edit_room room) partial (is_some o.replies) told
+    × IsEditTold o path told es status
+IsEditAnswered _ workers room o partial _ es status = ⊥
 
 -- so it is; or the system gives no random numbers, which is said
-abbrev pub IsAnsweredEdit : Bool → List Bytes → ℕ → Option ℕ → Place → Bool → List Bytes → List Event → ℕ → Type 0
-IsAnsweredEdit keyed paths workers room place partial texts es status =
-    IsEditAnswered paths workers room place partial texts es status ⊎ IsUnkeyed keyed es status
+abbrev pub IsAnsweredEdit : Bool → List Bytes → ℕ → Option ℕ → Outputs → Bool → List Bytes → List Event → ℕ → Type 0
+IsAnsweredEdit keyed paths workers room o partial texts es status =
+    IsEditAnswered paths workers room o partial texts es status ⊎ IsUnkeyed keyed es status
 
 -- the files are read, and then the scripts edit the source
-abbrev pub IsEditFollowed : Bool → List Bytes → ℕ → Option ℕ → Place → Bool → List Event → ℕ → Type 0
-IsEditFollowed keyed paths workers room place partial es status =
-    AreReadThen paths (IsAnsweredEdit keyed paths workers room place partial) es status
+abbrev pub IsEditFollowed : Bool → List Bytes → ℕ → Option ℕ → Outputs → Bool → List Event → ℕ → Type 0
+IsEditFollowed keyed paths workers room o partial es status =
+    AreReadThen paths (IsAnsweredEdit keyed paths workers room o partial) es status
 
--- where the source with the edits goes to a file, it is asked whether that is the source's own; it always is at the source's path
-abbrev pub IsCompared : Place → Bytes → List Event → Bool → Type 0
-IsCompared (place.File path) source es same = (es ≡ compares path.now source same ∷ []) × (path.now ≡ source → same ≡ true)
-IsCompared _ source es same = (es ≡ []) × (same ≡ false)
+-- two paths that are not to lead to one file, and the line that says that they do
+pub record Clash : Type 0 where
+  pub one : Bytes
+  pub other : Bytes
+  pub line : Bytes
 
--- it would go over the source, which is said, and no file is read; or it wouldn't, and this follows
-abbrev pub IsApartThen : Place → Bytes → (List Event → ℕ → Type 0) → List Event → ℕ → Type 0
-IsApartThen place source P es status =
+-- the edited source goes to a file
+abbrev pub file_of : Place → Option Bytes
+file_of (place.File path) = Some path.now
+file_of _ = None
+
+abbrev pub clash : Bytes → Option Bytes → Option Bytes → List Clash
+clash line (Some one) (Some other) = record { one = one; other = other; line = line } ∷ []
+clash line _ _ = []
+
+-- neither the edited source nor what became of the transactions goes to the file of the source, nor both to one
+abbrev pub clashes : Outputs → Bytes → List Clash
+clashes o source =
+    clash (codes "--output names SOURCE") (file_of o.place) (Some source)
+    ++ (clash (codes "--replies names SOURCE") (replies_path o) (Some source)
+    ++ clash (codes "--replies and --output name one file") (replies_path o) (file_of o.place))
+
+-- it is asked of each whether the paths lead to one file, up to the first that do: its line; equal paths always do
+abbrev pub AreCompared : List Clash → List Event → Option Bytes → Type 0
+AreCompared [] es line = (es ≡ []) × (line ≡ None)
+AreCompared (x ∷ xs) es line =
+    (same : Bool) × (rest : List Event) × (es ≡ compares x.one x.other same ∷ rest) × (x.one ≡ x.other → same ≡ true)
+    × (if same then (rest ≡ []) × (line ≡ Some x.line) else AreCompared xs rest line)
+
+-- it would, which is said, and no file is read; or it wouldn't, and this follows
+abbrev pub IsApartThen : Outputs → Bytes → (List Event → ℕ → Type 0) → List Event → ℕ → Type 0
+IsApartThen o source P es status =
     (asked : List Event) × (rest : List Event) × (es ≡ asked ++ rest)
-    × ((IsCompared place source asked true × IsSaid (codes "--output names SOURCE") rest status)
-    ⊎ (IsCompared place source asked false × P rest status))
+    × (((line : Bytes) × AreCompared (clashes o source) asked (Some line) × IsSaid line rest status)
+    ⊎ (AreCompared (clashes o source) asked None × P rest status))
 
 -- a source, in the first of the files, is edited, unless that would go over it; or it is to go to two places, which is said, and no file is
 -- read
-abbrev pub IsEditDone : Bool → List Bytes → ℕ → Option ℕ → Option Place → Bool → List Event → ℕ → Type 0
-IsEditDone keyed paths workers room (Some place) partial es status =
+abbrev pub IsEditDone : Bool → List Bytes → ℕ → Option ℕ → Option Outputs → Bool → List Event → ℕ → Type 0
+IsEditDone keyed paths workers room (Some o) partial es status =
     (source : Bytes) × (scripts : List Bytes) × (paths ≡ source ∷ scripts)
-    × IsApartThen place source (IsEditFollowed keyed paths workers room place partial) es status
+    × IsApartThen o source (IsEditFollowed keyed paths workers room o partial) es status
 IsEditDone keyed paths workers room None partial es status = IsSaid (codes "--in-place and --output do not go together") es status
 
 -- ---- a command line
@@ -322,8 +376,8 @@ IsVerifyOrdered keyed found es status =
 -- a subcommand with an order to edit, which is done
 abbrev pub IsEditOrdered : Bool → Option (Text × List Row) → List Event → ℕ → Type 0
 IsEditOrdered keyed found es status =
-    (paths : List Bytes) × (workers : ℕ) × (room : Option ℕ) × (place : Option Place) × (partial : Bool)
-    × IsEditOrder found paths workers room place partial × IsEditDone keyed paths workers room place partial es status
+    (paths : List Bytes) × (workers : ℕ) × (room : Option ℕ) × (outputs : Option Outputs) × (partial : Bool)
+    × IsEditOrder found paths workers room outputs partial × IsEditDone keyed paths workers room outputs partial es status
 
 -- no subcommand, or one that asks for no task, and for nothing to take, to give back, to verify or to edit
 abbrev pub IsUnasked : Option (Text × List Row) → List Event → ℕ → Type 0

@@ -1,14 +1,17 @@
 //! How scripts edit a source: all files are read, and what is answered is told.
 
 ghost use Rattle.std.specs.Prelude.{is_some, ◌≡◌, ◌<◌, List, Some, is_ok, length, map};
+ghost use Rattle.std.specs.Option.{option_map};
+ghost use Rattle.std.specs.Bool.{then_some};
 ghost use Rattle.checking.specs.Tasks.{IsWithin};
-ghost use Rattle.program.specs.Events.{Event, Adds};
-ghost use Rattle.program.specs.Conduct.{EndsBy, all_said, undone_status, IsSaved, IsPutAt, IsEditTold, IsAnsweredEdit, IsEditFollowed, IsCompared, IsEditDone};
+ghost use Rattle.program.specs.Events.{Bytes, Event, Adds};
+ghost use Rattle.program.specs.Conduct.{EndsBy, all_said, undone_status, IsSaved, IsPutAt, ArePutReplies, IsPrintedTold, IsUndoneTold, IsEditTold};
+ghost use Rattle.program.specs.Conduct.{IsAnsweredEdit, IsEditFollowed, AreCompared, clash, clashes, file_of, IsEditDone};
 
 use crate::conduct::{print_with, read_all, refuse, tell_unread};
 use crate::world::{Trouble, World};
-use commandline::{EditOrder, Place};
-use edittext::{Told, answer_edit};
+use commandline::{EditOrder, Outputs, Place};
+use edittext::{Account, Told, answer_edit};
 use following::Follow;
 use jobs::Watch;
 use std::alloc::{AllocError, Global};
@@ -72,40 +75,83 @@ fn put_at<W: World>(
     }
 }
 
-/// Tells an answer: which transactions were not done, and the edited source where it goes; or the line of the refusal.
+/// Writes what became of the transactions to the file at a path, if there is one and it was told: the status where that can't be done, which
+/// is said.
+fn put_replies<W: World>(
+    world: &mut W,
+    path: Option<&str>,
+    replies: Option<&Vec<u8>>,
+) -> Option<u8>
+    ensures { (es : List Event) × Adds (W.done world.old) (W.done world.new) es
+        × ArePutReplies (option_map (λ p. p.now) path) (option_map (λ text. text.now) replies) es result }
+{
+    let (path, text) = (path?, replies?);
+    let saved = world.write(path, text.as_slice());
+    if saved.is_ok() {
+        return None;
+    }
+    Some(tell_saved(world, path, 1, saved))
+}
+
+/// Tells what became of the transactions, and puts the edited source where it goes.
+fn tell_printed<W: World>(
+    world: &mut W,
+    alloc: Global,
+    outputs: Outputs<'_>,
+    source: &str,
+    out: &[u8],
+    account: &Account,
+) -> u8
+    ensures { (es : List Event) × Adds (W.done world.old) (W.done world.new) es
+        × IsPrintedTold outputs.entry source.now out.now account.now es result }
+{
+    let undone = account.undone.as_slice();
+    say_all(world, undone);
+    say_all(world, account.spoken.as_slice());
+    if let Some(status) = put_replies(world, outputs.replies, account.replies.as_ref()) {
+        return status;
+    }
+    put_at(world, alloc, outputs.place, source, undone_status(undone), out)
+}
+
+/// Tells what became of the transactions, where no source is printed.
+fn tell_undone<W: World>(world: &mut W, outputs: Outputs<'_>, account: &Account) -> u8
+    ensures { (es : List Event) × Adds (W.done world.old) (W.done world.new) es
+        × IsUndoneTold outputs.entry account.now es result }
+{
+    say_all(world, account.undone.as_slice());
+    put_replies(world, outputs.replies, account.replies.as_ref()).unwrap_or(3)
+}
+
+/// Tells an answer: what became of the transactions, and the edited source where it goes; or the line of the refusal.
 fn tell_edited<W: World>(
     world: &mut W,
     alloc: Global,
-    place: Place<'_>,
+    outputs: Outputs<'_>,
     source: &str,
     told: &Told,
 ) -> u8
     ensures { (es : List Event) × Adds (W.done world.old) (W.done world.new) es
-        × IsEditTold place.entry source.now told.now es result }
+        × IsEditTold outputs.entry source.now told.now es result }
 {
     match told {
-        Told::Printed(out, lines) => {
-            say_all(world, lines.as_slice());
-            let status = undone_status(lines.as_slice());
-            put_at(world, alloc, place, source, status, out.as_slice())
+        Told::Printed(out, account) => {
+            tell_printed(world, alloc, outputs, source, out.as_slice(), account)
         }
-        Told::Undone(lines) => {
-            say_all(world, lines.as_slice());
-            3
-        }
+        Told::Undone(account) => tell_undone(world, outputs, account),
         Told::Refused(line) => refuse(world, line.as_str()),
     }
 }
 
-/// Edits the source by the scripts, of which these are the texts, the source's first, and tells the answer: the edited source goes to this
-/// place. It may wait.
+/// Edits the source by the scripts, of which these are the texts, the source's first, and tells the answer, of which all goes where it is
+/// to go. It may wait.
 fn answer_edited<R: Threads + Wait + Sync, W: World, V: Watch + Follow + Sync>(
     rt: &R,
     alloc: Global,
     world: &mut W,
     keys: Option<RandomState>,
     order: &EditOrder<'_>,
-    place: Place<'_>,
+    outputs: Outputs<'_>,
     texts: &[Vec<u8>],
     watch: &V,
 ) -> Result<u8, AllocError>
@@ -113,7 +159,7 @@ fn answer_edited<R: Threads + Wait + Sync, W: World, V: Watch + Follow + Sync>(
     requires any { 0 < length order.now.paths.items }
     requires many { length texts.now ≡ length order.now.paths.items }
     ensures { (es : List Event) × Adds (W.done world.old) (W.done world.new) es
-        × EndsBy (IsAnsweredEdit (is_some keys) (map (λ p. p.now) order.now.paths.items) order.now.workers order.now.room place.entry
+        × EndsBy (IsAnsweredEdit (is_some keys) (map (λ p. p.now) order.now.paths.items) order.now.workers order.now.room outputs.entry
         order.now.partial (map (λ t. t.items) texts.now)) es result }
 {
     let Some(keys) = keys else {
@@ -127,29 +173,29 @@ fn answer_edited<R: Threads + Wait + Sync, W: World, V: Watch + Follow + Sync>(
         workers: order.workers,
         room: order.room,
         partial: order.partial,
+        with_replies: outputs.replies.is_some(),
     };
     let (source, scripts) = (texts[0].as_slice(), &texts[1..]);
     match answer_edit(rt, alloc, keys, asked, source, scripts, watch) {
-        Ok(told) => Ok(tell_edited(world, alloc, place, path, &told)),
+        Ok(told) => Ok(tell_edited(world, alloc, outputs, path, &told)),
         Err(_) => Err(AllocError),
     }
 }
 
-/// Reads the files of an order, and edits the source, which goes to this place. Who watches is told of the run, and how far the work on the
-/// source is. It may wait.
+/// Reads the files of an order, and edits the source. Who watches is told of the run, and how far the work on the source is. It may wait.
 fn edit_files<R: Threads + Wait + Sync, W: World, V: Watch + Follow + Sync>(
     rt: &R,
     alloc: Global,
     world: &mut W,
     keys: Option<RandomState>,
     order: &EditOrder<'_>,
-    place: Place<'_>,
+    outputs: Outputs<'_>,
     watch: &V,
 ) -> Result<u8, AllocError>
     requires within { IsWithin order.now.workers order.now.room }
     requires any { 0 < length order.now.paths.items }
     ensures { (es : List Event) × Adds (W.done world.old) (W.done world.new) es
-        × EndsBy (IsEditFollowed (is_some keys) (map (λ p. p.now) order.now.paths.items) order.now.workers order.now.room place.entry
+        × EndsBy (IsEditFollowed (is_some keys) (map (λ p. p.now) order.now.paths.items) order.now.workers order.now.room outputs.entry
         order.now.partial) es result }
 {
     let mut texts = Vec::new(alloc);
@@ -162,45 +208,74 @@ fn edit_files<R: Threads + Wait + Sync, W: World, V: Watch + Follow + Sync>(
         world,
         keys,
         order,
-        place,
+        outputs,
         texts.as_slice(),
         watch,
     )
 }
 
-/// Whether an edited source would be written over the source.
-fn is_source<W: World>(world: &mut W, place: Place<'_>, source: &str) -> bool
-    ensures { (es : List Event) × Adds (W.done world.old) (W.done world.new) es × IsCompared place.entry source.now es result }
+/// Whether two paths, if both are there, lead to one file.
+fn is_one<W: World>(world: &mut W, one: Option<&str>, other: Option<&str>) -> bool
+    ensures { (line : Bytes) → (es : List Event) × Adds (W.done world.old) (W.done world.new) es
+        × AreCompared (clash line (option_map (λ p. p.now) one) (option_map (λ p. p.now) other)) es (then_some result line) }
 {
-    match place {
-        Place::File(path) => world.is_one_file(path, source),
-        Place::Printed | Place::Source => false,
+    match (one, other) {
+        (Some(one), Some(other)) => world.is_one_file(one, other),
+        _ => false,
     }
 }
 
-/// Edits the source of an order, which goes to this place, unless that would be written over the source. Who watches is told of the run,
-/// and how far the work on the source is. It may wait.
+/// The path of the file that the edited source goes to, if it goes to one.
+fn file_of<'a>(place: Place<'a>) -> Option<&'a str>
+    ensures { option_map (λ p. p.now) result ≡ file_of place.entry }
+{
+    match place {
+        Place::File(path) => Some(path),
+        Place::Printed | Place::Source => None,
+    }
+}
+
+/// That something would be written over the source, or to one file with something else. None where nothing would.
+fn clash<W: World>(world: &mut W, outputs: Outputs<'_>, source: &str) -> Option<&'static str>
+    ensures { (es : List Event) × Adds (W.done world.old) (W.done world.new) es
+        × AreCompared (clashes outputs.entry source.now) es (option_map (λ line. line.now) result) }
+{
+    let (file, replies) = (file_of(outputs.place), outputs.replies);
+    if is_one(world, file, Some(source)) {
+        return Some("--output names SOURCE");
+    }
+    if is_one(world, replies, Some(source)) {
+        return Some("--replies names SOURCE");
+    }
+    if is_one(world, replies, file) {
+        return Some("--replies and --output name one file");
+    }
+    None
+}
+
+/// Edits the source of an order, unless something would be written over it, or two texts to one file. Who watches is told of the run, and
+/// how far the work on the source is. It may wait.
 fn edit_apart<R: Threads + Wait + Sync, W: World, V: Watch + Follow + Sync>(
     rt: &R,
     alloc: Global,
     world: &mut W,
     keys: Option<RandomState>,
     order: &EditOrder<'_>,
-    place: Place<'_>,
+    outputs: Outputs<'_>,
     watch: &V,
 ) -> Result<u8, AllocError>
     requires within { IsWithin order.now.workers order.now.room }
     requires any { 0 < length order.now.paths.items }
-    requires placed { order.now.place ≡ Some place }
+    requires placed { order.now.outputs ≡ Some outputs }
     ensures { (es : List Event) × Adds (W.done world.old) (W.done world.new) es
-        × EndsBy (IsEditDone (is_some keys) (map (λ p. p.now) order.now.paths.items) order.now.workers order.now.room order.now.place
+        × EndsBy (IsEditDone (is_some keys) (map (λ p. p.now) order.now.paths.items) order.now.workers order.now.room order.now.outputs
         order.now.partial) es result }
 {
     let paths = order.paths.as_slice();
-    if is_source(world, place, paths[0]) {
-        return Ok(refuse(world, "--output names SOURCE"));
+    if let Some(line) = clash(world, outputs, paths[0]) {
+        return Ok(refuse(world, line));
     }
-    edit_files(rt, alloc, world, keys, order, place, watch)
+    edit_files(rt, alloc, world, keys, order, outputs, watch)
 }
 
 /// Does what an order to edit asks for. Who watches is told of the run, and how far the work on the source is. It may wait.
@@ -215,11 +290,11 @@ pub(crate) fn follow_edit<R: Threads + Wait + Sync, W: World, V: Watch + Follow 
     requires within { IsWithin order.now.workers order.now.room }
     requires any { 0 < length order.now.paths.items }
     ensures { (es : List Event) × Adds (W.done world.old) (W.done world.new) es
-        × EndsBy (IsEditDone (is_some keys) (map (λ p. p.now) order.now.paths.items) order.now.workers order.now.room order.now.place
+        × EndsBy (IsEditDone (is_some keys) (map (λ p. p.now) order.now.paths.items) order.now.workers order.now.room order.now.outputs
         order.now.partial) es result }
 {
-    match order.place {
-        Some(place) => edit_apart(rt, alloc, world, keys, order, place, watch),
+    match order.outputs {
+        Some(outputs) => edit_apart(rt, alloc, world, keys, order, outputs, watch),
         None => Ok(refuse(world, "--in-place and --output do not go together")),
     }
 }

@@ -2,7 +2,6 @@
 use Rattle.std.specs.Prelude.{◌≡◌, ◌≢◌, ℕ, Bool, List, All, Some}
 use Rattle.source.specs.Scopes.{Scope}
 use Rattle.source.specs.Sources.{DeclaresText}
-use Rattle.source.specs.Faults.{FaultySource}
 use Rattle.choosing.specs.declared.wish.Wish.{Wish}
 use Rattle.giving.specs.Staying.{Change, IsFirstNotStaying, others}
 use Rattle.intake.specs.declared.taken.Taken.{Taken}
@@ -14,12 +13,6 @@ use Rattle.sourceediting.specs.Following.{own_flags}
 use Rattle.secondlook.specs.Again.{IsFloatOf, database_lines, edited_lines}
 use Rattle.secondlook.specs.declared.unlike.Unlike.{Unlike}
 use Rattle.secondlook.specs.declared.unlike.Unlike.TheVariants as unlike
-
--- a text has the fault
-abbrev pub IsFaulty : List ℕ → Unlike → Type 0
-IsFaulty text (unlike.Unread fault) = FaultySource text fault
-IsFaulty text unlike.NoMemory = Unit {0}
-IsFaulty text _ = ⊥
 
 -- of what a text declares no library is taken by a wish
 pub record IsUntaken (new : Scope) (w : Wish) : Type 0 where
@@ -48,15 +41,13 @@ pub record IsOtherAssertion (old new : Scope) (w : Wish) (changes : List Change)
 
 -- what a text declares isn't as it should be; of want of memory nothing is known
 abbrev pub IsUnlikeOf : Scope → Scope → Wish → List Change → List Bool → Listed → Unlike → Type 0
-IsUnlikeOf old new w changes own edited (unlike.Unread fault) = ⊥
 IsUnlikeOf old new w changes own edited unlike.Untaken = IsUntaken new w
 IsUnlikeOf old new w changes own edited unlike.AnotherLibrary = IsOtherLibrary new w edited
 IsUnlikeOf old new w changes own edited unlike.AnotherPrelude = IsOtherPrelude new w edited
 IsUnlikeOf old new w changes own edited (unlike.AnotherAssertion n) = IsOtherAssertion old new w changes own n
 IsUnlikeOf old new w changes own edited unlike.NoMemory = Unit {0}
 
--- why a text isn't as it should be: its fault, or what it declares
+-- why a text isn't as it should be, by what it declares
 abbrev pub IsUnlike : Scope → List ℕ → Wish → List Change → List Bool → Listed → Unlike → Type 0
-IsUnlike old out w changes own edited (unlike.Unread fault) = FaultySource out fault
 IsUnlike old out w changes own edited unlike.NoMemory = Unit {0}
 IsUnlike old out w changes own edited why = (new : Scope) × DeclaresText out new × IsUnlikeOf old new w changes own edited why

@@ -1,5 +1,5 @@
-//! The second look at a source with edits, before it is printed: it is read, the library is taken of it again, and it and all other
-//! assertions are compared.
+//! The second look at a source with edits, before it is printed: the library is taken of it again, and it and all other assertions are
+//! compared.
 #![tactic(auto)]
 
 mod edited;

@@ -11,7 +11,7 @@ ghost use Rattle.intake.specs.Intakes.{IsLibraryOf, IsRefusedOf};
 ghost use Rattle.library.specs.Library.{Listed};
 ghost use Rattle.giving.specs.Staying.{Change, StayAll, others};
 ghost use Rattle.secondlook.specs.Compared.{IsNotStaying};
-ghost use Rattle.secondlook.specs.Differing.{IsFaulty, IsUnlike, IsUnlikeOf};
+ghost use Rattle.secondlook.specs.Differing.{IsUnlike, IsUnlikeOf};
 ghost use Rattle.secondlook.specs.Looked.{IsLookedAt};
 
 use crate::edited::is_edited;
@@ -21,21 +21,10 @@ use choosing::Wish;
 use giving::{Changes, first_not_staying};
 use intake::{Refusal, Taken, Unfollowed, take_declared};
 use library::PlainLibrary;
-use scopes::Scopes;
 use source::Declared;
-use source::laws::sources_are_whole;
-use sourcereader::read_source;
 use std::alloc::Global;
 use std::hash::RandomState;
 use std::thread::Threads;
-
-/// The source with the edits, as it declares.
-fn read_again<'o>(alloc: Global, keys: RandomState, out: &'o [u8]) -> Result<Scopes<'o>, Unlike>
-    ensures declares { IfOk result (λ s. DeclaresText out.now s.stand.scope) }
-    ensures faulty { IfErr result (IsFaulty out.now) }
-{
-    Ok(read_source(alloc, Scopes::new(alloc, keys), out)?)
-}
 
 /// Why no library is taken again.
 fn untaken(refusal: Refusal<'_, '_>) -> Unlike
@@ -129,8 +118,13 @@ fn compare<'o, D: Declared<'o>, E: Declared<'o>>(
     stay(alloc, edits.changes, old, new, edits.own, own.as_slice())
 }
 
-/// The library is taken of the source with the edits again, and it and all other assertions are compared.
-fn look_over<'o, D: Declared<'o>, E: Declared<'o>>(
+/// Looks again at a source with edits, by what its text declares: the library is taken of it again, and it and all other assertions are
+/// compared.
+///
+/// # Errors
+///
+/// Why it isn't as it should be; want of memory.
+pub fn look_again<'o, D: Declared<'o>, E: Declared<'o>>(
     rt: &(impl Threads + Sync),
     alloc: Global,
     keys: RandomState,
@@ -142,34 +136,9 @@ fn look_over<'o, D: Declared<'o>, E: Declared<'o>>(
     requires whole { IsWhole (E.scope new.now) }
     ensures looked { (out : List ℕ) → DeclaresText out (E.scope new.now) → OnOk result (IsLookedAt (D.scope old.now) out
         edits.entry.changes.now edits.entry.own.now (seen_words edits.entry.then.now) edits.entry.edited.now) }
-    ensures unlike { IfErr result (IsUnlikeOf (D.scope old.now) (E.scope new.now) (These edits.entry.then edits.entry.axioms)
-        edits.entry.changes.now edits.entry.own.now edits.entry.edited.now) }
+    ensures unlike { (out : List ℕ) → DeclaresText out (E.scope new.now) → IfErr result (IsUnlike (D.scope old.now) out
+        (These edits.entry.then edits.entry.axioms) edits.entry.changes.now edits.entry.own.now edits.entry.edited.now) }
 {
     let taken = take_again(rt, alloc, keys, new, edits.then, edits.axioms)?;
     compare(alloc, keys, old, new, &taken, edits)
-}
-
-/// Looks again at a source with edits: it is read, the library is taken of it again, and it and all other assertions are compared.
-///
-/// # Errors
-///
-/// Why it isn't as it should be; want of memory.
-pub fn look_again(
-    rt: &(impl Threads + Sync),
-    alloc: Global,
-    keys: RandomState,
-    old: &Scopes<'_>,
-    out: &[u8],
-    edits: Edits<'_, '_>,
-) -> Result<(), Unlike>
-    requires { length edits.own.now ≡ length old.now.stand.scope.assertions }
-    ensures looked { OnOk result (IsLookedAt old.now.stand.scope out.now edits.entry.changes.now edits.entry.own.now
-        (seen_words edits.entry.then.now) edits.entry.edited.now) }
-    ensures unlike { IfErr result (IsUnlike old.now.stand.scope out.now (These edits.entry.then edits.entry.axioms)
-        edits.entry.changes.now edits.entry.own.now edits.entry.edited.now) }
-{
-    let new = read_again(alloc, keys, out)?;
-    // For the proof: what is read is whole.
-    sources_are_whole();
-    look_over(rt, alloc, keys, old, &new, edits)
 }

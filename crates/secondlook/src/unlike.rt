@@ -1,13 +1,10 @@
 //! Why a source with edits isn't as it should be.
 
-use mmtext::{FaultKind, TextFault};
 use std::alloc::AllocError;
 
 /// Why a source with edits isn't as it should be: the first of these that holds.
 #[derive(Clone, Copy)]
 pub enum Unlike {
-    /// The text declares no source: its fault.
-    Unread(TextFault),
     /// No library is taken of it by the labels that the assertions of the edited one have then.
     Untaken,
     /// Another library than the edited one is taken: its assertions read otherwise.
@@ -29,22 +26,5 @@ impl From<AllocError> for Unlike {
 
     fn from(_error: AllocError) -> Unlike {
         Unlike::NoMemory
-    }
-}
-
-impl From<TextFault> for Unlike {
-    ghost use Rattle.std.specs.Prelude.{◌≢◌, ℕ, List};
-    ghost use Rattle.mmtext.specs.declared.fault.FaultKind.TheVariants.{NoMemory as OutOfMemory};
-    ghost use Rattle.source.specs.Faults.{FaultySource};
-    ghost use Rattle.secondlook.specs.Differing.{IsFaulty};
-
-    // so is a text whose fault it is
-    ghost from_gives = { λ fault why. (text : List ℕ) → (fault.kind ≢ OutOfMemory → FaultySource text fault) → IsFaulty text why };
-
-    fn from(fault: TextFault) -> Unlike {
-        if fault.kind == FaultKind::NoMemory {
-            return Unlike::NoMemory;
-        }
-        Unlike::Unread(fault)
     }
 }

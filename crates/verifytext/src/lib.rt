@@ -25,5 +25,5 @@ mod wording;
 pub use answering::{Verdict, answer_verify};
 pub use following::{Follow, Unfollowed};
 pub use refusal::Refusal;
-pub use verifying_text::{Verified, verify};
+pub use verifying_text::{Verified, verify, verify_read};
 pub use wording::refusal_line;

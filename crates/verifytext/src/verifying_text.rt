@@ -1,6 +1,8 @@
 //! Checks all proofs of a source, from its text.
 
-ghost use Rattle.std.specs.Prelude.{IfOk, IfErr};
+ghost use Rattle.std.specs.Prelude.{ℕ, List, IfOk, IfErr};
+ghost use Rattle.source.specs.Sources.{DeclaresText};
+ghost use Rattle.source.specs.Whole.{IsWhole};
 ghost use Rattle.verifytext.specs.Verdicts.{IsVerifiedText, IsRefused};
 
 use crate::refusal::Refusal;
@@ -23,6 +25,33 @@ pub struct Verified {
     pub unfinished: usize,
 }
 
+/// Checks all proofs of a source that was read, by so many threads beside one another, or as many as there are processors: as [`verify`]
+/// does of its text. Who follows is told how far it is, but not that it is at its end.
+///
+/// # Errors
+///
+/// The first theorem in the order of the source whose proof has a fault, with its first step at fault; or want of memory at any time.
+pub fn verify_read<'a>(
+    rt: &(impl Threads + Sync),
+    alloc: Global,
+    keys: RandomState,
+    scopes: &Scopes<'a>,
+    workers: Option<usize>,
+    follow: &(impl Follow + Sync),
+) -> Result<Verified, Refusal<'a>>
+    requires { IsWhole scopes.now.stand.scope }
+    ensures verified { (text : List ℕ) → DeclaresText text scopes.now.stand.scope → IfOk result (IsVerifiedText text) }
+    ensures refused { (text : List ℕ) → DeclaresText text scopes.now.stand.scope → IfErr result (IsRefused text) }
+{
+    let assertions = scopes.assertions();
+    follow.begin_assertions(assertions);
+    let unfinished = check_source(rt, alloc, keys, workers, scopes, follow)?;
+    Ok(Verified {
+        assertions,
+        unfinished,
+    })
+}
+
 /// Reads a source, and checks its proofs. Who follows is told how far it is, but not that it is at its end.
 fn verify_text<'a>(
     rt: &(impl Threads + Sync),
@@ -37,14 +66,9 @@ fn verify_text<'a>(
 {
     follow.begin_reading();
     let scopes = read_source(alloc, Scopes::new(alloc, keys), text)?;
+    // For the proof: what is read is whole.
     sources_are_whole();
-    let assertions = scopes.assertions();
-    follow.begin_assertions(assertions);
-    let unfinished = check_source(rt, alloc, keys, workers, &scopes, follow)?;
-    Ok(Verified {
-        assertions,
-        unfinished,
-    })
+    verify_read(rt, alloc, keys, &scopes, workers, follow)
 }
 
 /// Checks all proofs of a source in the whole language, by so many threads beside one another, or as many as there are processors.

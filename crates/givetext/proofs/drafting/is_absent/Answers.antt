@@ -2,7 +2,7 @@
 use Rattle.std.proofs.Common.{◌∙◌, sym, ap}
 use mathlib.Core.Bool.{not}
 use Rattle.giving.proofs.Finding.{text_found}
-use Rattle.givetext.proofs.call.is_absent.Goals as goal
+use Rattle.givetext.proofs.drafting.is_absent.Goals as goal
 
 pub returns : goal.returns
 returns c = λ holds.

@@ -7,7 +7,7 @@ use Rattle.source.specs.Scopes.{is_in}
 use Rattle.giving.specs.Staying.{Change}
 use Rattle.sourceediting.specs.Following.{label_then}
 use Rattle.sourceediting.specs.Views.{seen_followed}
-use Rattle.givetext.proofs.call.takes_name.Goals as goal
+use Rattle.givetext.proofs.drafting.takes_name.Goals as goal
 
 pub returns : goal.returns
 returns g c = λ holds.

@@ -12,7 +12,7 @@ use Rattle.sourceediting.specs.Following.{label_then}
 use Rattle.sourceediting.specs.Views.{seen_followed, seen_living}
 use Rattle.sourceediting.proofs.Marks.{firsts, firsts_marked}
 use Rattle.givetext.specs.Parts.{TakesName}
-use Rattle.givetext.proofs.call.are_free.Goals as goal
+use Rattle.givetext.proofs.drafting.are_free.Goals as goal
 
 pub returns-then-takes_name : goal.returns-then-takes_name
 returns-then-takes_name g c = λ taken entries edited own source.

@@ -7,7 +7,7 @@ use Rattle.givetext.specs.Causes.{known_of}
 use Rattle.mmtext.specs.Words.{Word}
 use Rattle.source.specs.Views.{seen_words}
 use Rattle.secondlook.specs.Looked.{IsLookedAt}
-use Rattle.givetext.proofs.call.look_at.Goals as goal
+use Rattle.givetext.proofs.looking.look_at.Goals as goal
 
 pub returns-in-Ok-clause-looked : goal.returns-in-Ok-clause-looked
 returns-in-Ok-clause-looked g c =

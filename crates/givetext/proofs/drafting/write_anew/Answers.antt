@@ -15,7 +15,7 @@ use Rattle.givetext.specs.Causes.{known_of, edited_assertions}
 use Rattle.givetext.specs.Given.{edition}
 use Rattle.givetext.proofs.Stopped.{told_cause, edits_cause}
 use Rattle.sourceediting.specs.Written.{IsWrittenAnew}
-use Rattle.givetext.proofs.call.write_anew.Goals as goal
+use Rattle.givetext.proofs.drafting.write_anew.Goals as goal
 
 pub returns-clause-written : goal.returns-clause-written
 returns-clause-written c =

@@ -1,0 +1,50 @@
+-- Which descriptions scripts give to what they add, and where these go.
+use Rattle.std.specs.Prelude.{◌≡◌, ℕ, Bool, false, List, [], ◌∷◌, filter, filter_map, find, map, reverse, zip, slice_get}
+use Rattle.std.specs.Prelude.{Option, None, is_some, if◌then◌else◌}
+use Rattle.std.specs.List.{flat_map}
+use Rattle.std.specs.Option.{option_map, unwrap_or}
+use Rattle.std.specs.Str.{bytes_eq}
+use Rattle.mmtext.specs.Text.{Token}
+use Rattle.giving.specs.Staying.{Change}
+use Rattle.transaction.specs.declared.outcome.Outcome.{Outcome}
+use Rattle.checking.specs.Checks.{Bytes}
+use Rattle.describing.specs.Described.{IsDescribed}
+use Rattle.expanding.specs.Forms.{Part, AreParts}
+use Rattle.expanding.specs.Descriptions.{Description, descriptions}
+use Rattle.sourceediting.specs.Following.{Followed, Following, label_then}
+use Rattle.edittext.specs.Undone.{is_done}
+
+-- those in the text of a script, of which these are the words by the source
+abbrev pub IsDescriptive : Bytes → List Token → List Description → Type 0
+IsDescriptive text words ds = (parts : List Part) × AreParts words parts × (ds ≡ descriptions text parts)
+
+-- so it is of each script
+abbrev pub AreDescriptive : List Bytes → List (List Token) → List (List Description) → Type 0
+AreDescriptive texts [] [] = Unit {0}
+AreDescriptive (text ∷ texts) (words ∷ scripts) (ds ∷ all) = IsDescriptive text words ds × AreDescriptive texts scripts all
+AreDescriptive _ _ _ = ⊥
+
+-- a transaction of a script, from 0, was done
+abbrev pub was_done : List Outcome → ℕ → Bool
+was_done row k = unwrap_or (option_map is_done (slice_get row k)) false
+
+-- the labels and comments of those that were done
+abbrev pub done_of : List Outcome → List Description → List Change
+done_of row ds = map (λ d. (d.label, d.comment)) (filter (λ d. was_done row d.transaction) ds)
+
+-- of scripts: the last first, so that of several for a label the last counts
+abbrev pub done_descriptions : List (List Outcome) → List (List Description) → List Change
+done_descriptions rows all = reverse (flat_map (λ p. done_of p.0 p.1) (zip rows all))
+
+-- an assertion that was added is described under the label that it has in the end
+abbrev pub description_then : List Change → Followed → Option Change
+description_then ds x =
+    if is_some x.source then None else option_map (λ d. (label_then x, d.1)) (find (λ d. bytes_eq x.first d.0) ds)
+
+abbrev pub descriptions_then : List Change → Following → List Change
+descriptions_then ds f = filter_map (description_then ds) f.living
+
+-- a text in which each stands in front of its assertion; where there are none, it stays
+abbrev pub IsDescribedBy : List Change → Bytes → Bytes → Type 0
+IsDescribedBy [] edits out = out ≡ edits
+IsDescribedBy (d ∷ ds) edits out = IsDescribed (d ∷ ds) edits out

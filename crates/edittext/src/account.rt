@@ -1,0 +1,12 @@
+//! What is told of a run of scripts beside what it prints.
+
+/// What is told of a run.
+#[derive(Debug, Drop)]
+pub struct Account {
+    /// A line for each transaction that wasn't done, by the scripts and in their order.
+    pub undone: Vec<String>,
+    /// A line for each place at which a comment of what is printed speaks of an assertion that was deleted.
+    pub spoken: Vec<String>,
+    /// What became of each transaction, a line of JSON each. None where it isn't asked for.
+    pub replies: Option<Vec<u8>>,
+}
