@@ -17,8 +17,8 @@ abbrev pub whole : Parts → List ℕ
 whole p = p.front ++ (p.label ++ p.back)
 
 -- the bytes of a word as it reads
-abbrev pub bytes_of : Reading → List ℕ
-bytes_of r = r.front.now ++ (r.middle.now ++ r.back.now)
+abbrev pub text_of : Reading → List ℕ
+text_of r = r.front.now ++ (r.middle.now ++ r.back.now)
 
 -- the tokens from a place of a text on
 abbrev pub tokens_at : List ℕ → ℕ → List Token

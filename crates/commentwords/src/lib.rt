@@ -6,7 +6,7 @@ mod reading;
 mod spoken;
 mod standing;
 
-pub use parted::Parted;
+pub use parted::{Parted, changed};
 pub use reading::Reading;
 pub use spoken::spoken_of;
 pub use standing::Standing;

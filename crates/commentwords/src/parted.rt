@@ -19,8 +19,8 @@ pub struct Parted<'w> {
     pub back: &'w [u8],
 }
 
-/// A label as it reads then.
-pub(crate) fn changed<'w>(changes: &'w Changes<'_>, label: &'w [u8]) -> &'w [u8]
+/// A label as it reads with changed labels.
+pub fn changed<'w>(changes: &'w Changes<'_>, label: &'w [u8]) -> &'w [u8]
     ensures { result.now ≡ changed changes.now label.now }
 {
     match changes.text_for(label) {

@@ -1,7 +1,7 @@
 //! How a word reads.
 
 ghost use Rattle.std.specs.Prelude.{◌≡◌, ◌++◌, OnOk};
-ghost use Rattle.commentwords.specs.Views.{bytes_of};
+ghost use Rattle.commentwords.specs.Views.{text_of};
 
 use std::alloc::AllocError;
 
@@ -16,7 +16,7 @@ pub struct Reading<'w> {
 impl<'w> Reading<'w> {
     /// A word that reads so.
     pub fn of(word: &'w [u8]) -> Reading<'w>
-        ensures { bytes_of result ≡ word.now }
+        ensures { text_of result ≡ word.now }
     {
         Reading {
             front: b"".as_slice(),
@@ -31,7 +31,7 @@ impl<'w> Reading<'w> {
     ///
     /// Want of memory.
     pub fn put(self, out: &mut Vec<u8>) -> Result<(), AllocError>
-        ensures { OnOk result (out.new.items ≡ out.old.items ++ bytes_of self.entry) }
+        ensures { OnOk result (out.new.items ≡ out.old.items ++ text_of self.entry) }
     {
         out.extend_from_slice(self.front)?;
         out.extend_from_slice(self.middle)?;

@@ -3,7 +3,7 @@
 ghost use Rattle.std.specs.Prelude.{◌≡◌, IfSome};
 ghost use Rattle.std.specs.Option.{option_map};
 ghost use Rattle.commentwords.specs.Words.{at_first, leads_across, behind_described, behind_first, behind_word, parted, word_then};
-ghost use Rattle.commentwords.specs.Views.{seen_parts, whole, bytes_of};
+ghost use Rattle.commentwords.specs.Views.{seen_parts, whole, text_of};
 
 use crate::parted::{Parted, changed};
 use crate::reading::Reading;
@@ -116,7 +116,7 @@ impl Standing {
 
     /// A word as it reads with changed labels.
     pub fn word_then<'w>(self, changes: &'w Changes<'_>, word: &'w [u8]) -> Reading<'w>
-        ensures { bytes_of result ≡ word_then changes.now self word.now }
+        ensures { text_of result ≡ word_then changes.now self word.now }
     {
         match self.parted(word) {
             None => Reading::of(word),
