@@ -1,4 +1,3 @@
-mod Across
 mod Placed
 pub mod Standing
 mod Commented

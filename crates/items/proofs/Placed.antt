@@ -5,11 +5,12 @@ use mathlib.Core.Bool.{not}
 use Rattle.std.specs.Str.{bytes_eq}
 use Rattle.mmtext.specs.Words.{Word}
 use Rattle.giving.specs.Staying.{Change}
-use Rattle.items.specs.declared.comments.Standing.{Standing}
+use Rattle.commentwords.specs.declared.standing.Standing.{Standing}
+use Rattle.commentwords.specs.Words.{word_then, behind_word, at_first}
 use Rattle.items.specs.declared.part.Part.{Part}
 use Rattle.items.specs.declared.place.Place.{Place}
 use Rattle.items.specs.Items.{outside}
-use Rattle.items.specs.Renaming.{reworded, word_then, behind_word, at_first, first_or}
+use Rattle.items.specs.Renaming.{reworded, first_or}
 use Rattle.items.specs.Machine.{part_then, place_then, TakesWord, TakesSaid}
 
 module _ (cs : List Change) (part : Part) (s : Standing) (w : Word) (ws : List Word) where

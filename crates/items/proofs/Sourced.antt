@@ -1,6 +1,6 @@
 -- What declares something is items, one behind the other.
 use Rattle.std.proofs.Common.{◌≡◌, ◌∙◌, Bool, true, false, cond, List, [], ◌∷◌, ◌++◌, All, codes, refl, sym, ap, inl, inr, append_assoc, append-nil, length}
-use Rattle.std.specs.Prelude.{◌||◌, nat_le, ℕ}
+use Rattle.std.specs.Prelude.{nat_le, ℕ}
 use Rattle.std.specs.List.{list_all}
 use Rattle.std.specs.Str.{bytes_eq}
 use Rattle.std.proofs.lemmas.Bool.{cases_Bool, and_parts, or_from}

@@ -1,11 +1,11 @@
--- Items with changed labels: labels of assertions, where these are stated, where proofs name them, and behind ~ in comments; all else
--- stays.
-use Rattle.std.specs.Prelude.{Bool, false, ◌&&◌, ◌==◌, List, [], ◌∷◌, map, zip, drop, Option, Some, None, if◌then◌else◌, codes}
-use mathlib.Core.Bool.{not}
+-- Items with changed labels: labels of assertions, where these are stated, where proofs name them, and where words of comments speak of
+-- them; all else stays.
+use Rattle.std.specs.Prelude.{List, [], ◌∷◌, map, zip, drop, Option, Some, None, if◌then◌else◌, codes}
 use Rattle.std.specs.Str.{bytes_eq}
 use Rattle.mmtext.specs.Words.{Word}
 use Rattle.giving.specs.Staying.{Change, changed}
-use Rattle.items.specs.declared.comments.Standing.{Standing}
+use Rattle.commentwords.specs.declared.standing.Standing.{Standing}
+use Rattle.commentwords.specs.Words.{at_first, behind_word, word_then}
 use Rattle.items.specs.Items.{Item, words, said, asserts}
 
 -- ---- in statements, of the words outside of comments
@@ -29,26 +29,6 @@ symbols_then cs (w ∷ ws) = if bytes_eq w (codes "$=") then w ∷ proof_then cs
 abbrev pub said_then : List Change → List Word → List Word
 said_then cs (label ∷ mark ∷ ws) = if asserts mark then changed cs label ∷ mark ∷ symbols_then cs ws else label ∷ mark ∷ ws
 said_then cs ws = ws
-
--- ---- in comments: a label stands right behind ~, outside of the symbols between backquotes (section 4.4.1)
-
--- an odd number of backquotes: the word leads from words to symbols, or back
-abbrev pub leads_across : Word → Bool
-leads_across [] = false
-leads_across (b ∷ bs) = if b == 96 then not (leads_across bs) else leads_across bs
-
--- where the words of a comment stand: among symbols, or right behind ~
-abbrev pub behind_word : Standing → Word → Standing
-behind_word s w = record {
-  among_symbols = if leads_across w then not s.among_symbols else s.among_symbols;
-  behind_tilde = not s.among_symbols && not s.behind_tilde && bytes_eq w (codes "~");
-}
-
-abbrev pub at_first : Standing
-at_first = record { among_symbols = false; behind_tilde = false }
-
-abbrev pub word_then : List Change → Standing → Word → Word
-word_then cs s w = if s.behind_tilde then changed cs w else w
 
 -- ---- items
 

@@ -12,8 +12,9 @@ use mmtext::next_token;
 use std::alloc::{AllocError, Global};
 
 /// The text of a source with changed labels, and with other proofs of some theorems, which are named by their labels before. A label
-/// changes in front of `$a` and `$p`, in proofs, but among the letters of a compressed one, and behind `~` in comments. Every other byte
-/// stays. None where the text isn't items, one behind the other, or where a proof is for an assertion that has none.
+/// changes in front of `$a` and `$p`, in proofs, but among the letters of a compressed one, and where a word of a comment speaks of it
+/// (crate `commentwords`). Every other byte stays. None where the text isn't items, one behind the other, or where a proof is for an
+/// assertion that has none.
 ///
 /// It costs about as much as the source has bytes.
 ///

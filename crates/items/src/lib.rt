@@ -2,7 +2,6 @@
 #![tactic(auto)]
 
 mod call;
-mod comments;
 mod indentation;
 mod part;
 mod place;

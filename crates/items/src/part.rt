@@ -2,9 +2,9 @@
 //! behind them (Metamath book, section 4.2.8 and appendix B).
 
 ghost use Rattle.std.specs.Prelude.{◌≡◌};
-ghost use Rattle.giving.specs.Staying.{changed};
 ghost use Rattle.items.specs.Machine.{TakesSaid};
 
+use commentwords::changed;
 use giving::Changes;
 
 /// Which part of a statement is next, outside of comments.
@@ -22,16 +22,6 @@ pub(crate) enum Part {
     Steps,
     /// What stays: letters, and all words of a statement that is no assertion.
     Fixed,
-}
-
-/// A label as it reads then.
-fn changed<'w>(changes: &'w Changes<'_>, label: &'w [u8]) -> &'w [u8]
-    ensures { result.now ≡ changed changes.now label.now }
-{
-    match changes.text_for(label) {
-        Some(new) => new,
-        None => label,
-    }
 }
 
 impl Part {

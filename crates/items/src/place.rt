@@ -1,10 +1,11 @@
 //! A place among the words of an item, in a comment or outside of them, and how the next word reads with changed labels.
 
 ghost use Rattle.std.specs.Prelude.{◌≡◌, None, Some};
+ghost use Rattle.commentwords.specs.Views.{text_of};
 ghost use Rattle.items.specs.Machine.{TakesWord};
 
-use crate::comments::Standing;
 use crate::part::Part;
+use commentwords::{Reading, Standing};
 use giving::Changes;
 
 /// Before a word of an item.
@@ -34,12 +35,12 @@ impl Place {
         changes: &'w Changes<'_>,
         standing: Standing,
         word: &'w [u8],
-    ) -> (&'w [u8], Place)
+    ) -> (Reading<'w>, Place)
         requires { self.comment ≡ Some standing }
-        ensures { TakesWord changes.now self word.now result.0.now result.1 }
+        ensures { TakesWord changes.now self word.now (text_of result.0) result.1 }
     {
         if word == b"$)".as_slice() {
-            return (word, Place::at(self.part));
+            return (Reading::of(word), Place::at(self.part));
         }
         let place = Place {
             comment: Some(standing.behind(word)),
@@ -49,24 +50,24 @@ impl Place {
     }
 
     /// A word outside of comments as it reads then, and the place behind it.
-    fn take_outside<'w>(self, changes: &'w Changes<'_>, word: &'w [u8]) -> (&'w [u8], Place)
+    fn take_outside<'w>(self, changes: &'w Changes<'_>, word: &'w [u8]) -> (Reading<'w>, Place)
         requires { self.comment ≡ None }
-        ensures { TakesWord changes.now self word.now result.0.now result.1 }
+        ensures { TakesWord changes.now self word.now (text_of result.0) result.1 }
     {
         if word == b"$(".as_slice() {
             let place = Place {
                 comment: Some(Standing::at_first()),
                 part: self.part,
             };
-            return (word, place);
+            return (Reading::of(word), place);
         }
         let (now, part) = self.part.take(changes, word);
-        (now, Place::at(part))
+        (Reading::of(now), Place::at(part))
     }
 
     /// The next word as it reads then, and the place behind it.
-    pub(crate) fn take<'w>(self, changes: &'w Changes<'_>, word: &'w [u8]) -> (&'w [u8], Place)
-        ensures { TakesWord changes.now self word.now result.0.now result.1 }
+    pub(crate) fn take<'w>(self, changes: &'w Changes<'_>, word: &'w [u8]) -> (Reading<'w>, Place)
+        ensures { TakesWord changes.now self word.now (text_of result.0) result.1 }
     {
         match self.comment {
             Some(standing) => self.take_in(changes, standing, word),

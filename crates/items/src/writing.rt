@@ -38,8 +38,8 @@ pub(crate) fn put_reworded<'w>(
             return Ok(());
         };
         out.extend_from_slice(&text[at..token.place])?;
-        let (word, behind) = place.take(changes, token.text);
-        out.extend_from_slice(word)?;
+        let (reading, behind) = place.take(changes, token.text);
+        reading.put(out)?;
         place = behind;
         at = token.place + token.text.len();
     }

@@ -2,6 +2,7 @@
 use Rattle.std.proofs.Common.{◌∙◌, ◌++◌, sym, ap, append-nil, arith, drop}
 use Rattle.mmtext.specs.Text.{tokens_from}
 use Rattle.mmtext.specs.Views.{seen}
+use Rattle.commentwords.specs.Views.{text_of}
 use Rattle.items.specs.Items.{bytes_of}
 use Rattle.items.specs.Reading.{IsFirst, end_of}
 use Rattle.items.specs.Machine.{rest_then}
@@ -58,9 +59,9 @@ loop-at-preserved c =
             one.0,
             one.2,
             put.2 ∙ ap (λ y. c.loop-at.out.items ++ bytes_of (rest_then cs c.loop-at.place y)) one.1
-                ∙ word_put cs c.loop-at.place c.take.result.1 c.loop-at.out.items _ t.text c.take.result.0.now one.0 c.take.ensures
+                ∙ word_put cs c.loop-at.place c.take.result.1 c.loop-at.out.items _ t.text (text_of c.take.result.0) one.0 c.take.ensures
                 ∙ ap (λ out. out ++ bytes_of (rest_then cs c.take.result.1 one.0))
-                (sym (c.in_ok-extend_from_slice-2.ensures.items ∙ ap (λ o. o ++ c.take.result.0.now)
+                (sym (c.in_ok-put.ensures ∙ ap (λ o. o ++ (text_of c.take.result.0))
                 c.in_ok-extend_from_slice.ensures.items)),
           );
     }

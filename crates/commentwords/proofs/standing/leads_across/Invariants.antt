@@ -1,7 +1,7 @@
 -- What the loop of `leads_across` keeps.
 use Rattle.std.proofs.Common.{◌≡◌, take}
-use Rattle.items.specs.Renaming.{leads_across}
-use Rattle.items.proofs.comments.leads_across.Given as goal
+use Rattle.commentwords.specs.Words.{leads_across}
+use Rattle.commentwords.proofs.standing.leads_across.Given as goal
 
 -- whether the bytes so far lead across
 abbrev pub invariant-loop-byte : goal.invariant-loop-byte

@@ -3,7 +3,7 @@ use Rattle.std.proofs.Common.{◌≡◌, ◌∙◌, ℕ, ◌+◌, ◌<◌, Bool,
 use Rattle.std.specs.Prelude.{◌==◌}
 use mathlib.Core.Bool.{not}
 use Rattle.std.proofs.lemmas.List.{take_more}
-use Rattle.items.specs.Renaming.{leads_across}
+use Rattle.commentwords.specs.Words.{leads_across}
 
 abbrev pub turned : Bool → Bool → Bool
 turned b across = cond b (not across) across

@@ -2,10 +2,10 @@
 use Rattle.std.proofs.Common.{◌≡◌, ◌∙◌, true, false, take, get_or, sym, ap, rules, tests}
 use Rattle.std.specs.Prelude.{◌==◌}
 use mathlib.Core.Bool.{not}
-use Rattle.items.specs.Renaming.{leads_across}
-use Rattle.items.proofs.Across.{turned, across_more}
-use Rattle.items.proofs.comments.leads_across.Goals as goal
-use Rattle.items.proofs.comments.leads_across.Goals.{then-byte-eq96, else-byte-eq96}
+use Rattle.commentwords.specs.Words.{leads_across}
+use Rattle.commentwords.proofs.Across.{turned, across_more}
+use Rattle.commentwords.proofs.standing.leads_across.Goals as goal
+use Rattle.commentwords.proofs.standing.leads_across.Goals.{then-byte-eq96, else-byte-eq96}
 
 pub loop-byte-preserved : goal.loop-byte-preserved
 loop-byte-preserved c =

@@ -1,0 +1,2 @@
+mod Across
+mod Unquoted

@@ -1,0 +1,12 @@
+//! Which words of a comment speak of labels, how these words read with changed labels, and where a text speaks of some labels.
+#![tactic(auto)]
+
+mod parted;
+mod reading;
+mod spoken;
+mod standing;
+
+pub use parted::{Parted, changed};
+pub use reading::Reading;
+pub use spoken::spoken_of;
+pub use standing::Standing;
