@@ -1,0 +1,3 @@
+mod Lines
+mod Bytes
+mod Described

@@ -1,0 +1,31 @@
+-- What is left to show of `describe`.
+use Rattle.std.proofs.Common.{◌∙◌, ◌++◌, sym, ap, subst, arith}
+use Rattle.std.proofs.lemmas.List.{take_rest}
+use Rattle.describing.proofs.Described.{AreDescribed, none_described, one_described, all_described}
+use Rattle.describing.proofs.call.describe.Goals as goal
+
+pub loop-item-init : goal.loop-item-init
+loop-item-init c = record {
+  within = omega arith;
+  put =
+      subst (AreDescribed c.args.descriptions.now c.args.text.now 0) (sym c.in_ok-out.ensures.items)
+      (none_described c.args.descriptions.now c.args.text.now);
+  divided = c.requires;
+}
+
+pub loop-item-preserved : goal.loop-item-preserved
+loop-item-preserved c =
+    let is = c.in-Some.ensures.item in
+    record {
+      within = c.in-Some.ensures.within;
+      put =
+          one_described c.args.descriptions.now c.args.text.now c.loop-item.at c.in-Some.item c.loop-item.out.items
+          c.put_item.new.out.items c.loop-item.invariant.put is (c.in_ok-put_item.ensures is);
+      divided = c.in-Some.ensures.divided c.loop-item.invariant.divided;
+    }
+
+pub returns : goal.returns
+returns c =
+    all_described c.args.descriptions.now c.args.text.now c.loop-item.at c.loop-item.out.items c.extend_from_slice.new.self.items
+    c.loop-item.invariant.put (c.in_default.ensures.divided c.loop-item.invariant.divided)
+    (c.in_ok-extend_from_slice.ensures.items ∙ ap (λ rest. c.loop-item.out.items ++ rest) (take_rest c.args.text.now c.loop-item.at))
