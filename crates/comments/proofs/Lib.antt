@@ -1,4 +1,3 @@
-mod Across
 mod WordsRead
 mod Opened
 mod Passed

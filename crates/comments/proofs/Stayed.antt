@@ -1,5 +1,5 @@
 -- The comments of a source and of a text, compared.
-use Rattle.std.proofs.Common.{◌≡◌, ◌∙◌, ℕ, ◌<◌, Bool, true, false, cond, List, [], ◌∷◌, map, length, get_or, Vec, Global, refl, sym, ap, subst, inl, inr}
+use Rattle.std.proofs.Common.{◌≡◌, ◌∙◌, ℕ, ◌<◌, Bool, true, false, List, [], ◌∷◌, map, length, get_or, Vec, Global, refl, sym, ap, subst, inl, inr}
 use Rattle.std.specs.Prelude.{All, IsTrue, IsPermutation}
 use Rattle.std.proofs.lemmas.List.Elements.{All-head}
 use Rattle.std.proofs.lemmas.List.Sorted.{IsPermutation-map, IsPermutation-sym, IsPermutation-trans}
@@ -10,25 +10,17 @@ use Rattle.std.proofs.lemmas.List.{get_or-map}
 use Rattle.mmtext.specs.Words.{Word}
 use Rattle.comments.proofs.InOrder.{same_sorted}
 use Rattle.source.specs.Scopes.{is_in}
-use Rattle.giving.specs.Staying.{Change, changed}
+use Rattle.giving.specs.Staying.{Change}
 use Rattle.source.specs.Flags.{kept}
-use Rattle.comments.specs.declared.reading.Standing.{Standing}
-use Rattle.comments.specs.Comments.{Comment, comments, behind_word, words_then, at_first, reading, reading_then}
+use Rattle.commentwords.specs.Words.{at_first}
+use Rattle.commentwords.proofs.Unchanged.{words_same}
+use Rattle.comments.specs.Comments.{Comment, comments, reading, reading_then}
 use Rattle.comments.specs.Deleted.{IsOfDeleted}
 use Rattle.comments.specs.Kept.{AreKept, AreLost}
 use Rattle.comments.specs.Walks.{seen_texts, AreTexts}
 use Rattle.comments.proofs.KeptBy.{kept_all}
 
 -- ---- where nothing changes, and nothing is gone
-
-same_either : (b : Bool) (w : Word) → cond b (changed [] w) w ≡ w
-same_either true w = refl
-same_either false w = refl
-
-words_same : (s : Standing) (ws : List Word) → words_then [] s ws ≡ ws
-words_same s [] = refl
-words_same s (w ∷ ws) =
-    ap (λ v. v ∷ words_then [] (behind_word s w) ws) (same_either s.behind_tilde w) ∙ ap (λ vs. w ∷ vs) (words_same (behind_word s w) ws)
 
 reads_same : (xs : List Comment) → map (reading_then []) xs ≡ map (λ c. reading c.words) xs
 reads_same [] = refl

@@ -3,8 +3,9 @@ use Rattle.std.proofs.Common.{◌≡◌, ◌∙◌, ℕ, List, [], ◌∷◌, �
 use Rattle.std.proofs.lemmas.List.{flat_map_more}
 use Rattle.mmtext.specs.Words.{Word}
 use Rattle.giving.specs.Staying.{Change}
-use Rattle.comments.specs.declared.reading.Standing.{Standing}
-use Rattle.comments.specs.Comments.{behind_word, word_then, words_then, at_first, with_space, reading}
+use Rattle.commentwords.specs.declared.standing.Standing.{Standing}
+use Rattle.commentwords.specs.Words.{behind_word, word_then, words_then, at_first}
+use Rattle.comments.specs.Comments.{with_space, reading}
 use Rattle.comments.specs.Gathered.{standing_behind}
 
 standing-push : (s : Standing) (ws : List Word) (w : Word) → standing_behind s (ws ++ w ∷ []) ≡ behind_word (standing_behind s ws) w

@@ -3,9 +3,10 @@ use Rattle.std.specs.Prelude.{◌≡◌, ◌≤◌, ℕ, false, List, [], ◌∷
 use Rattle.mmtext.specs.Words.{Word}
 use Rattle.mmtext.specs.Text.{Token}
 use Rattle.giving.specs.Staying.{Change}
-use Rattle.comments.specs.declared.reading.Standing.{Standing}
+use Rattle.commentwords.specs.declared.standing.Standing.{Standing}
+use Rattle.commentwords.specs.Words.{behind_word, words_then, at_first}
 use Rattle.comments.specs.declared.passing.Gathered.{Gathered}
-use Rattle.comments.specs.Comments.{behind_word, words_then, at_first, reading}
+use Rattle.comments.specs.Comments.{reading}
 use Rattle.comments.specs.Outside.{tokens_at}
 use Rattle.comments.specs.Passing.{IsPassing, IsClosed}
 

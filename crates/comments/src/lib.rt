@@ -6,7 +6,6 @@ mod inside;
 mod keeping;
 mod outside;
 mod passing;
-mod reading;
 mod walking;
 
 pub use keeping::are_kept;

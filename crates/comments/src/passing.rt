@@ -1,12 +1,13 @@
 //! Comments, from the byte behind their `$(` on: they are passed over, or read.
 
-ghost use Rattle.std.specs.Prelude.{◌≡◌, ◌≤◌, length, true, false, [], Some, IfOk, IfSome, IfNone, MatchOption};
-ghost use Rattle.comments.specs.Comments.{comments_from};
+ghost use Rattle.std.specs.Prelude.{◌≡◌, ◌≤◌, ◌++◌, length, true, false, [], Some, IfOk, IfSome, IfNone, MatchOption, OnOk};
+ghost use Rattle.commentwords.specs.Words.{word_then};
+ghost use Rattle.comments.specs.Comments.{comments_from, with_space};
 ghost use Rattle.comments.specs.Outside.{tokens_at};
 ghost use Rattle.comments.specs.Passing.{IsClosed};
 ghost use Rattle.comments.specs.Gathered.{IsGathered};
 
-use crate::reading::{Standing, put_word};
+use commentwords::Standing;
 use giving::Changes;
 use mmtext::next_token;
 use std::alloc::{AllocError, Global};
@@ -36,6 +37,20 @@ pub(crate) struct Gathered {
     pub text: Vec<u8>,
     /// The byte behind its `$)`.
     pub end: usize,
+}
+
+/// A word of a comment goes behind those that were read, as it reads with changed labels, with a space behind it.
+fn put_word(
+    out: &mut Vec<u8>,
+    changes: &Changes<'_>,
+    standing: Standing,
+    word: &[u8],
+) -> Result<(), AllocError>
+    ensures { OnOk result (out.new.items ≡ out.old.items ++ with_space (word_then changes.now standing word.now)) }
+{
+    standing.word_then(changes, word).put(out)?;
+    out.push(b' ')?;
+    Ok(())
 }
 
 /// Reads a comment. None where it has no `$)`.

@@ -1,2 +1,3 @@
 mod Across
 mod Unquoted
+pub mod Unchanged
