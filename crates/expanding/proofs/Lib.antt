@@ -9,3 +9,8 @@ pub mod Gaps
 pub mod PartsRanked
 pub mod Placing
 mod AskedWords
+pub mod Commanding
+pub mod Looking
+pub mod Barring
+pub mod Gathered
+pub mod Fronting

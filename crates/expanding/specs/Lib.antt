@@ -6,3 +6,9 @@ pub mod Asking
 pub mod Ranking
 pub mod Refusals
 pub mod Views
+pub mod Commands
+pub mod Barred
+pub mod Bars
+pub mod Watches
+pub mod Descriptions
+pub mod InFront

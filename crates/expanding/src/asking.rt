@@ -93,7 +93,10 @@ fn put_behind<'a, D: Declared<'a>>(
 }
 
 /// The words of a script, without their places.
-fn spoken_in<'a>(alloc: Global, script: &[Token<'a>]) -> Result<Vec<&'a [u8]>, AllocError>
+pub(crate) fn spoken_in<'a>(
+    alloc: Global,
+    script: &[Token<'a>],
+) -> Result<Vec<&'a [u8]>, AllocError>
     ensures { IfOk result (λ words. seen_words words.items ≡ spoken_in (map seen script.now)) }
 {
     let mut words = Vec::new(alloc);

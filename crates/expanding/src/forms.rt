@@ -6,6 +6,7 @@ ghost use Rattle.mmtext.specs.Text.{Token as Word};
 ghost use Rattle.mmtext.specs.Views.{seen};
 ghost use Rattle.expanding.specs.Words.{says};
 ghost use Rattle.expanding.specs.Forms.{up_to, unit_length, is_beside, place_length, behind_word, begins_with, words_before_place, beginning_of, AreParts, Part};
+ghost use Rattle.expanding.specs.Descriptions.{unit_of};
 ghost use Rattle.expanding.specs.Views.{front_words, place_words};
 
 use mmtext::Token;
@@ -147,4 +148,12 @@ pub(crate) fn beginning_of(part: &[Token<'_>]) -> Option<usize>
         return Some(first.place);
     }
     None
+}
+
+/// The words of the assertion that a command `add` has.
+pub(crate) fn unit_of<'w, 'a>(part: &'w [Token<'a>]) -> &'w [Token<'a>]
+    ensures { map seen result.now ≡ unit_of (map seen part.now) }
+{
+    let words = behind(part, 1);
+    behind(words, place_length(words))
 }

@@ -3,7 +3,13 @@
 #![tactic(auto)]
 
 mod asking;
+mod barred;
+mod bars;
+mod commands;
+mod described;
 mod forms;
+mod in_front;
+mod labels;
 mod laid;
 mod lines;
 mod misfit;
@@ -13,6 +19,8 @@ mod star;
 mod words;
 
 pub use asking::{Asked, asked_of};
+pub use barred::{Barred, barred_of};
+pub use described::{Described, described_in};
 pub use laid::Laid;
 pub use lines::{line_at, lines_of};
 pub use misfit::Misfit;

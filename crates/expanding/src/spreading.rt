@@ -31,7 +31,7 @@ fn is_among(labels: &[&[u8]], label: &[u8]) -> bool
 }
 
 /// The labels that stand in a proof.
-fn labels_in<'p, 'a>(proof: &'p ProofWords<'a>) -> &'p [&'a [u8]]
+pub(crate) fn labels_in<'p, 'a>(proof: &'p ProofWords<'a>) -> &'p [&'a [u8]]
     ensures { seen_words result.now ≡ labels_in (seen_proof proof.now) }
 {
     match proof {
@@ -40,7 +40,7 @@ fn labels_in<'p, 'a>(proof: &'p ProofWords<'a>) -> &'p [&'a [u8]]
 }
 
 /// Whether the proof of the assertion at a place names a label.
-fn cites<'a, D: Declared<'a>>(declared: &D, place: usize, label: &[u8]) -> bool
+pub(crate) fn cites<'a, D: Declared<'a>>(declared: &D, place: usize, label: &[u8]) -> bool
     ensures { result ≡ cites label.now (option_and_then (λ a. a.proof) (slice_get (D.scope declared.now).assertions place)) }
 {
     match declared.proof(place) {
