@@ -1,4 +1,4 @@
--- The lines of what wasn't done: one more transaction, one more script.
+-- What is told of transactions: one more of them, one more script.
 use Rattle.std.proofs.Common.{◌≡◌, ◌<◌, ◌+◌, ℕ, suc, true, false, List, [], ◌∷◌, ◌++◌, length, map, take, codes, Some}
 use Rattle.std.proofs.Common.{refl, sym, ap, ◌∙◌, append_assoc, arith}
 use Rattle.std.specs.Prelude.{slice_get}
@@ -13,7 +13,7 @@ use Rattle.expanding.proofs.Citing.{take_next}
 
 -- ---- what each of a list has
 
-pub each_more : {A : Type 0} (F : ℕ → A → List Bytes) (n : ℕ) (xs : List A) (x : A)
+pub each_more : {A B : Type 0} (F : ℕ → A → List B) (n : ℕ) (xs : List A) (x : A)
     → each_from F n (xs ++ x ∷ []) ≡ each_from F n xs ++ F (n + length xs) x
 each_more F n [] x = append-nil (F n x) ∙ ap (λ k. F k x) (omega arith)
 each_more F n (y ∷ ys) x =
@@ -22,14 +22,14 @@ each_more F n (y ∷ ys) x =
     ∙ ap (λ k. (F n y ++ each_from F (suc n) ys) ++ F k x) (omega arith)
 
 -- of a view of the list
-pub each_seen : {A B : Type 0} (I : A → B) (F : ℕ → B → List Bytes) (n : ℕ) (xs : List A)
+pub each_seen : {A B C : Type 0} (I : A → B) (F : ℕ → B → List C) (n : ℕ) (xs : List A)
     → each_from F n (map I xs) ≡ each_from (λ k x. F k (I x)) n xs
 each_seen I F n [] = refl
 each_seen I F n (x ∷ xs) = ap (λ ls. F n (I x) ++ ls) (each_seen I F (suc n) xs)
 
 -- one more
-pub each_next : {A : Type 0} (F : ℕ → A → List Bytes) (xs : List A) (k : ℕ) (x : A) → slice_get xs k ≡ Some x → k < length xs
-    → (start before now : List Bytes) → now ≡ before ++ F k x → before ≡ start ++ each_from F 0 (take k xs)
+pub each_next : {A B : Type 0} (F : ℕ → A → List B) (xs : List A) (k : ℕ) (x : A) → slice_get xs k ≡ Some x → k < length xs
+    → (start before now : List B) → now ≡ before ++ F k x → before ≡ start ++ each_from F 0 (take k xs)
     → now ≡ start ++ each_from F 0 (take (k + 1) xs)
 each_next F xs k x at within start before now next first =
     let long = length-take-le k xs (omega arith) in

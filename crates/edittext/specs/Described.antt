@@ -1,7 +1,7 @@
 -- Which descriptions scripts give to what they add, and where these go.
-use Rattle.std.specs.Prelude.{◌≡◌, ℕ, Bool, false, List, [], ◌∷◌, filter, filter_map, find, map, reverse, zip, slice_get}
+use Rattle.std.specs.Prelude.{◌≡◌, ℕ, suc, Bool, false, List, [], ◌∷◌, filter, filter_map, find, map, reverse, slice_get, slice_index_or}
 use Rattle.std.specs.Prelude.{Option, None, is_some, if◌then◌else◌}
-use Rattle.std.specs.List.{flat_map}
+use Rattle.std.specs.List.{flat_map, zip}
 use Rattle.std.specs.Option.{option_map, unwrap_or}
 use Rattle.std.specs.Str.{bytes_eq}
 use Rattle.mmtext.specs.Text.{Token}
@@ -18,11 +18,15 @@ use Rattle.edittext.specs.Undone.{is_done}
 abbrev pub IsDescriptive : Bytes → List Token → List Description → Type 0
 IsDescriptive text words ds = (parts : List Part) × AreParts words parts × (ds ≡ descriptions text parts)
 
--- so it is of each script
+-- so it is of each script from the n-th on, from 0
+abbrev pub AreDescriptiveFrom : List Bytes → ℕ → List (List Token) → List (List Description) → Type 0
+AreDescriptiveFrom texts n [] [] = Unit {0}
+AreDescriptiveFrom texts n (words ∷ scripts) (ds ∷ all) =
+    IsDescriptive (slice_index_or texts n []) words ds × AreDescriptiveFrom texts (suc n) scripts all
+AreDescriptiveFrom texts n _ _ = ⊥
+
 abbrev pub AreDescriptive : List Bytes → List (List Token) → List (List Description) → Type 0
-AreDescriptive texts [] [] = Unit {0}
-AreDescriptive (text ∷ texts) (words ∷ scripts) (ds ∷ all) = IsDescriptive text words ds × AreDescriptive texts scripts all
-AreDescriptive _ _ _ = ⊥
+AreDescriptive texts scripts all = AreDescriptiveFrom texts 0 scripts all
 
 -- a transaction of a script, from 0, was done
 abbrev pub was_done : List Outcome → ℕ → Bool

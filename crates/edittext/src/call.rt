@@ -8,6 +8,7 @@ ghost use Rattle.source.specs.Whole.{IsWhole};
 ghost use Rattle.transaction.specs.Closings.{lists_of};
 ghost use Rattle.checking.specs.Tasks.{IsWithin};
 ghost use Rattle.jobs.specs.Jobs.{IsWorked, room_of};
+ghost use Rattle.reports.specs.Reports.{AreReportable};
 ghost use Rattle.edittext.specs.Edited.{IsTakenFor, edit_room};
 ghost use Rattle.edittext.specs.Refusals.{IsFaultyLine, IsToldBy, IsUntakenBy, IsUnbegunLine, IsWorkLine, IsStoppedLine, IsFaultyThenLine};
 ghost use Rattle.expanding.specs.Views.{seen_scripts};
@@ -153,9 +154,12 @@ pub(crate) fn run_over(
     requires fit { All (All (All (CommandFits database.now.prelude))) scripts.now }
     ensures done { IfOk result (λ e. IsWorked database.now order.entry.workers
         (room_of (edit_room order.entry.room) database.now scripts.now) scripts.now (lists_of e.outcomes.items) e.history e.library) }
+    ensures reportable { IfOk result (λ e. AreReportable database.now.prelude (lists_of e.outcomes.items)) }
     ensures refused { IfErr result (IsToldBy (IsWorkLine (map (λ p. p.now) order.entry.paths.now) database.now order.entry.workers
         (room_of (edit_room order.entry.room) database.now scripts.now))) }
 {
+    // For the proof: the database has a spelling.
+    let _spelled = database.assertions();
     let plan = plan_of(order.workers, order.room);
     match work(rt, alloc, keys, database, scripts, plan, watch) {
         Ok(edited) => Ok(edited),

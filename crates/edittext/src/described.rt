@@ -1,12 +1,12 @@
 //! Which descriptions scripts give to what they add, and under which labels these go into the source.
 
-ghost use Rattle.std.specs.Prelude.{◌≡◌, ◌++◌, IfOk, OnOk, length, map, option_map};
-ghost use Rattle.mmtext.specs.Views.{seen};
+ghost use Rattle.std.specs.Prelude.{◌≡◌, ◌++◌, IfOk, OnOk, map, option_map};
 ghost use Rattle.source.specs.Views.{seen_pairs};
 ghost use Rattle.transaction.specs.Closings.{lists_of};
 ghost use Rattle.expanding.specs.Views.{seen_scripts};
+ghost use Rattle.expanding.specs.InFront.{seen_described};
 ghost use Rattle.sourceediting.specs.Views.{seen_followed, seen_following};
-ghost use Rattle.edittext.specs.Described.{AreDescriptive, IsDescriptive, was_done, done_of, done_descriptions};
+ghost use Rattle.edittext.specs.Described.{AreDescriptive, was_done, done_of, done_descriptions};
 ghost use Rattle.edittext.specs.Described.{description_then, descriptions_then};
 ghost use Rattle.edittext.specs.Undone.{is_done};
 ghost use Rattle.edittext.specs.Views.{seen_texts, seen_descriptions};
@@ -27,7 +27,6 @@ pub(crate) fn descriptions_of<'a>(
     texts: &'a [Vec<u8>],
     scripts: &[Vec<Token<'a>>],
 ) -> Result<Vec<Vec<Described<'a>>>, AllocError>
-    requires { length texts.now ≡ length scripts.now }
     ensures { IfOk result (λ all. AreDescriptive (seen_texts texts.now) (seen_scripts scripts.now) (seen_descriptions all.items)) }
 {
     let mut all = Vec::new(alloc);
