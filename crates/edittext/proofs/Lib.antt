@@ -1,4 +1,5 @@
 pub mod Expanding
 pub mod Undoing
+pub mod Describing
 pub mod Lines
 pub mod Beginning

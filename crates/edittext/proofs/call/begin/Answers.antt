@@ -9,7 +9,7 @@ use Rattle.checking.specs.Checks.{AreScripts}
 use Rattle.expanding.specs.declared.laid.Laid.{Laid}
 use Rattle.edittext.specs.Expanded.{AreRanked, texts_of}
 use Rattle.edittext.specs.Edited.{IsSpreadOf}
-use Rattle.edittext.specs.Refusals.{IsWordlessLine, IsMisfitLine, IsUnbegunLine, IsCrowdedBy, IsUnreadBy}
+use Rattle.edittext.specs.Refusals.{IsWordlessLine, IsMisfitLine, IsBarredBy, IsUnbegunLine, IsCrowdedBy, IsUnreadBy}
 use Rattle.expanding.specs.Views.{seen_scripts}
 use Rattle.edittext.specs.Views.{seen_texts, AreLaid}
 use Rattle.edittext.proofs.Expanding.{begun_at}
@@ -22,13 +22,29 @@ returns-in_err-spread-clause-refused g c =
     let texts = seen_texts c.args.texts.now in
     let paths = map (λ p. p.now) c.args.order.paths.now in
     let path = c.args.order.path.now in
-    let p = err_from_is_err_and c.from_residual.result c.from_residual.ensures.1 in
+    let p = err_from_is_err_and c.from_residual-in_err-spread.result c.from_residual-in_err-spread.ensures.1 in
     rw (p.1, p.2) (told_more
     (λ line. IsWordlessLine paths texts line ⊎ IsMisfitLine paths s texts line) (IsUnbegunLine path paths s texts)
     (λ line h. elim h [
       | inl w ↦ inl w
       | inr m ↦ inr (inl m)
     ]) c.in_err-spread.field-0.0 c.in_err-spread.ensures.refused)
+
+pub returns-in_err-are_free-clause-refused : goal.returns-in_err-are_free-clause-refused
+returns-in_err-are_free-clause-refused g c =
+    let s = g.D.Declared.scope c.args.declared.now in
+    let texts = seen_texts c.args.texts.now in
+    let paths = map (λ p. p.now) c.args.order.paths.now in
+    let path = c.args.order.path.now in
+    let scripts = c.as_slice-spread.result.now in
+    let spread =
+    subst (λ (ts : List (Vec CodeToken Global)). IsSpreadOf s texts (seen_scripts ts)) (sym c.as_slice-spread.ensures.value)
+    c.in_ok-spread.ensures.spread in
+    let p = err_from_is_err_and c.from_residual-in_err-are_free.result c.from_residual-in_err-are_free.ensures.1 in
+    rw (p.1, p.2) (told_more
+    (IsBarredBy paths s texts (seen_scripts scripts)) (IsUnbegunLine path paths s texts)
+    (λ line h. inr (inr (inl (record { spread = seen_scripts scripts; of_source = spread; cause = h }))))
+    c.in_err-are_free.field-0.0 c.in_err-are_free.ensures)
 
 pub returns-in_err-laid-clause-refused : goal.returns-in_err-laid-clause-refused
 returns-in_err-laid-clause-refused g c =
@@ -43,7 +59,7 @@ returns-in_err-laid-clause-refused g c =
     let p = err_from_is_err_and c.from_residual-in_err-laid.result c.from_residual-in_err-laid.ensures.1 in
     rw (p.1, p.2) (told_more
     (IsCrowdedBy paths s texts c.as_slice.result.now (seen_scripts scripts)) (IsUnbegunLine path paths s texts)
-    (λ line h. inr (inr (inr (inl (record {
+    (λ line h. inr (inr (inr (inr (inl (record {
       over = record {
         spread = seen_scripts scripts;
         of_source = spread;
@@ -51,7 +67,7 @@ returns-in_err-laid-clause-refused g c =
         for_scripts = c.in_ok-taken.ensures.taken;
       };
       cause = subst (λ (flags : List Bool). IsCrowdedBy paths s texts flags (seen_scripts scripts) line) c.as_slice.ensures.value h;
-    }))))) c.in_err-laid.field-0.0 c.in_err-laid.ensures.refused)
+    })))))) c.in_err-laid.field-0.0 c.in_err-laid.ensures.refused)
 
 pub returns-in_err-scripts-clause-refused : goal.returns-in_err-scripts-clause-refused
 returns-in_err-scripts-clause-refused g c =
@@ -69,7 +85,7 @@ returns-in_err-scripts-clause-refused g c =
     let p = err_from_is_err_and c.from_residual-in_err-scripts.result c.from_residual-in_err-scripts.ensures.1 in
     rw (p.1, p.2) (told_more
     (IsUnreadBy paths c.prelude.result.now texts outs) (IsUnbegunLine path paths s texts)
-    (λ line h. inr (inr (inr (inr (record {
+    (λ line h. inr (inr (inr (inr (inr (record {
       with_ranks = record {
         over = record {
           spread = seen_scripts scripts;
@@ -83,7 +99,7 @@ returns-in_err-scripts-clause-refused g c =
             ranked.3;
       };
       cause = subst (λ (t : Tables). IsUnreadBy paths t texts outs line) c.prelude.ensures h;
-    }))))) c.in_err-scripts.field-0.0 (c.in_err-scripts.ensures.refused outs laid))
+    })))))) c.in_err-scripts.field-0.0 (c.in_err-scripts.ensures.refused outs laid))
 
 pub returns-clause-begun : goal.returns-clause-begun
 returns-clause-begun g c =
@@ -106,5 +122,6 @@ returns-clause-begun g c =
           ranked.3;
       beginnings = begun_at outs c.in_ok-laid.laid.items ranked.2;
       ordered = subst (λ (t : Tables). AreScripts t (texts_of outs) made) c.prelude.ensures (c.in_ok-scripts.ensures.scripts outs laid);
+      descriptive = c.in_ok-descriptions.ensures;
       fit = subst (λ (t : Tables). All (All (All (CommandFits t))) made) c.prelude.ensures c.in_ok-scripts.ensures.fit;
     }
