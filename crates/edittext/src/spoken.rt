@@ -1,6 +1,10 @@
 //! Where comments of the source with the edits speak of assertions that were deleted.
 
 ghost use Rattle.std.specs.Prelude.{◌≡◌, ◌++◌, codes, IfOk, map, string_bytes};
+ghost use mathlib.Core.Bool.{not};
+ghost use Rattle.std.specs.Fmt.{decimal};
+ghost use Rattle.source.specs.Scopes.{is_in};
+ghost use Rattle.checking.specs.FaultLines.{shown_label};
 ghost use Rattle.mmtext.specs.Views.{seen};
 ghost use Rattle.source.specs.Views.{seen_words};
 ghost use Rattle.commentwords.specs.Spoken.{spoken_in};
@@ -9,11 +13,19 @@ ghost use Rattle.edittext.specs.Accounts.{lost, spoken_line};
 
 use commentwords::spoken_of;
 use expanding::lines_of;
+use giving::Changes;
 use mmtext::Token;
 use replylines::shown;
 use sourceediting::{Following, marked};
 use std::alloc::{AllocError, Global};
 use std::hash::RandomState;
+
+/// Whether a label is none of these.
+fn is_lost(living: &Changes<'_>, label: &[u8]) -> bool
+    ensures { result ≡ not (is_in (map (λ c. c.0) living.now) label.now) }
+{
+    living.text_for(label).is_none()
+}
 
 /// The labels in the source of assertions that were deleted, which no other has in the end.
 fn lost_of<'x>(
@@ -27,7 +39,7 @@ fn lost_of<'x>(
     let living = marked(alloc, keys, then.as_slice())?;
     let mut made = Vec::new(alloc);
     for label in following.gone.as_slice() {
-        if living.text_for(label).is_none() {
+        if is_lost(&living, label) {
             made.push(*label)?;
         }
     }
