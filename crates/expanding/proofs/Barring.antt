@@ -180,7 +180,8 @@ module _ (s : Scope) (scripts : List (List Token)) (cs : List Command) where
   deletion_bars : (c : Command) (label : Token) → IsDeletion s cs c.words label
       → bar_of s (asked scripts) cs c ≡ Some (record { script = c.script; label = label; reach = None })
   deletion_bars c label h =
-      rw (h.deletes, h.keeps_label) (there_is (record { script = c.script; label = label; reach = None }) (assertion_at s label.text) h.declared)
+      let b : Bar = record { script = c.script; label = label; reach = None } in
+      rw (h.deletes, h.keeps_label) (there_is b (assertion_at s label.text) h.declared)
 
   no_deletion : (p : Part) (m : Token × Token) → move_of p ≡ Some m → delete_of p ≡ None
   no_deletion [] m h = refl

@@ -115,7 +115,8 @@ pub put_one : (found : List Described) (d : Described) (o : Option Description) 
 put_one found d o is =
     map-append seen_described found (d ∷ []) ∙ ap (λ x. map seen_described found ++ listed x) is
 
-pub put_none : (found : List Described) (o : Option Description) → None ≡ o → map seen_described found ≡ map seen_described found ++ listed o
+pub put_none : (found : List Described) (o : Option Description) → None ≡ o
+    → map seen_described found ≡ map seen_described found ++ listed o
 put_none found o is = sym (append-nil (map seen_described found)) ∙ ap (λ x. map seen_described found ++ listed x) is
 
 pub begun_more : (b : Bool) (n m : ℕ) → m ≡ from_bool b → n + m ≡ cond b (suc n) n

@@ -36,15 +36,16 @@ loop-part-preserved c =
     let next = part_next seen_part fs n xs i d (map seen_described found) (descriptions_behind fs 0 (map seen_part xs)) lt
     c.loop-part.invariant.told in
     let left : ℕ → List Description = λ k. descriptions_behind fs k (map seen_part (drop (i + 1) xs)) in
-    let all : map seen_described c.match-description_of.found.items ≡ map seen_described found ++ listed (description_of fs (begun_behind n p - 1) p) = (
+    let told = description_of fs (begun_behind n p - 1) p in
+    let all : map seen_described c.match-description_of.found.items ≡ map seen_described found ++ listed told = (
     elim c.match-description_of.branch [
       | in-Some+in_ok-push w ↦
           ap (λ v. map seen_described v.items) w.found-is
           ∙ (ap (map seen_described) w.in_ok-push.ensures.items
-          ∙ put_one found _ (description_of fs (begun_behind n p - 1) p) (ap (option_map seen_described) (sym w.in-Some.is) ∙ is))
+          ∙ put_one found _ told (ap (option_map seen_described) (sym w.in-Some.is) ∙ is))
       | in_default w ↦
           ap (λ v. map seen_described v.items) w.found-is
-          ∙ put_none found (description_of fs (begun_behind n p - 1) p)
+          ∙ put_none found told
           (no_view seen_described c.description_of.result w.in_default.not-Some ∙ is)
     ]
     ) in
