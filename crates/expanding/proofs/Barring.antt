@@ -1,7 +1,7 @@
 -- What the code finds is a bar, and where it finds none there is none.
 use Rattle.std.proofs.Common.{◌≡◌, ◌∙◌, ◌⊎◌, inl, inr, ℕ, ◌<◌, ◌≤◌, Bool, true, false, cond, List, [], ◌∷◌, length, map, Option, Some, None}
 use Rattle.std.proofs.Common.{refl, sym, ap, subst, arith, ltb, get_or, suc, zero}
-use Rattle.std.specs.Prelude.{◌&&◌, ◌||◌, ◌==◌, nat_lt, nat_le, find, filter, filter_map, slice_get, Contains, IsTrue}
+use Rattle.std.specs.Prelude.{◌&&◌, ◌||◌, ◌==◌, nat_lt, nat_le, find, filter, filter_map, slice_get, Contains, IfSome, IfNone}
 use Rattle.std.specs.List.{cons_option}
 use Rattle.std.specs.Option.{option_map, option_and_then, is_some, is_none}
 use Rattle.std.specs.Str.{bytes_eq}
@@ -180,7 +180,8 @@ module _ (s : Scope) (scripts : List (List Token)) (cs : List Command) where
   deletion_bars : (c : Command) (label : Token) → IsDeletion s cs c.words label
       → bar_of s (asked scripts) cs c ≡ Some (record { script = c.script; label = label; reach = None })
   deletion_bars c label h =
-      rw (h.deletes, h.keeps_label) (there_is (record { script = c.script; label = label; reach = None }) (assertion_at s label.text) h.declared)
+      let b : Bar = record { script = c.script; label = label; reach = None } in
+      rw (h.deletes, h.keeps_label) (there_is b (assertion_at s label.text) h.declared)
 
   no_deletion : (p : Part) (m : Token × Token) → move_of p ≡ Some m → delete_of p ≡ None
   no_deletion [] m h = refl
@@ -264,13 +265,15 @@ module _ (s : Scope) (scripts : List (List Token)) (cs : List Command) where
           ),
         )
 
+    asks_not : (r : Bool) (x : Barred) → r ≡ false → cond r None (Some x) ≡ None → ⊥
+    asks_not true x stays h = cc
+    asks_not false x stays h = cc
+
     some_barred : (a : Assertion) (o : Option Bar) → is_in (asked scripts) a.label ≡ false → is_some o ≡ true
         → barred_by (asked scripts) o a ≡ None → ⊥
     some_barred a None stays some h = cc
     some_barred a (Some b) stays some h =
-        let e : cond (is_in (asked scripts) a.label) None (Some (record { script = b.script; label = b.label; by = a.label }))
-        ≡ Some (record { script = b.script; label = b.label; by = a.label }) = rw stays refl in
-        cc
+        asks_not (is_in (asked scripts) a.label) (record { script = b.script; label = b.label; by = a.label }) stays h
 
     pub is_none_barred : IsBarredNowhere s (asked scripts) cs → (script : ℕ) (label : Token) (by : Word)
         → IsBarred s scripts script label by → ⊥
@@ -289,6 +292,16 @@ module _ (s : Scope) (scripts : List (List Token)) (cs : List Command) where
         let none = nowhere h.place (slice_get_within s.assertions h.place a h.held.there) in
         some_barred a (find (bars_there s cs h.place) bars) stays some
         (ap (option_and_then (barred_by (asked scripts) (find (bars_there s cs h.place) bars))) (sym h.held.there) ∙ none)
+
+-- ---- what a value is, if there is one
+
+pub some_weaker : {T : Type 0} (o : Option T) (P Q : T → Type 0) → ((x : T) → P x → Q x) → IfSome o P → IfSome o Q
+some_weaker None P Q f h = h
+some_weaker (Some x) P Q f h = f x h
+
+pub none_weaker : {T : Type 0} (o : Option T) (P Q : Type 0) → (P → Q) → IfNone o P → IfNone o Q
+none_weaker None P Q f h = f h
+none_weaker (Some x) P Q f h = h
 
 -- ---- a proof that names none of the labels
 

@@ -1,7 +1,8 @@
 -- Comments right in front of words, and descriptions: one more word, one more part.
-use Rattle.std.proofs.Common.{◌≡◌, ◌∙◌, ℕ, suc, ◌+◌, ◌-◌, ◌<◌, Bool, true, false, cond, List, [], ◌∷◌, ◌++◌, length, map, drop, get_or, Option, Some, None}
+use Rattle.std.proofs.Common.{◌≡◌, ◌∙◌, ℕ, suc, ◌+◌, ◌-◌, ◌<◌, ◌≤◌, Bool, true, false, cond, List, [], ◌∷◌, ◌++◌, length, map, drop, get_or, Option, Some, None}
 use Rattle.std.proofs.Common.{refl, sym, ap, subst, arith, append_assoc, add-one}
-use Rattle.std.specs.Prelude.{◌==◌, find, if◌then◌else◌}
+use Rattle.std.specs.Prelude.{◌==◌, find, if◌then◌else◌, codes}
+use Rattle.std.specs.Int.{from_bool}
 use Rattle.std.specs.Option.{option_map, option_or, is_some}
 use Rattle.std.specs.Borrow.{Bor}
 use Rattle.std.specs.HashMap as hash
@@ -98,18 +99,30 @@ pub part_next : {A : Type 0} (view : A → Part) (fs : List Front) (begun : ℕ)
     (all : List Description) → i < length xs → before ++ descriptions_behind fs begun (map view (drop i xs)) ≡ all
     → let p = view (get_or xs i d) in
     (before ++ listed (description_of fs (begun_behind begun p - 1) p))
-    ++ descriptions_behind fs (begun_behind begun p) (map view (drop (suc i) xs))
+    ++ descriptions_behind fs (begun_behind begun p) (map view (drop (i + 1) xs))
     ≡ all
 part_next view fs begun xs i d before all within is =
     let p = view (get_or xs i d) in
+    let more : suc i ≡ i + 1 = omega arith in
     append_assoc before (listed (description_of fs (begun_behind begun p - 1) p))
-    (descriptions_behind fs (begun_behind begun p) (map view (drop (suc i) xs)))
-    ∙ (ap (λ us. before ++ descriptions_behind fs begun (map view us)) (sym (drop-cons xs i d within)) ∙ is)
+    (descriptions_behind fs (begun_behind begun p) (map view (drop (i + 1) xs)))
+    ∙ (ap (λ k. before ++ (listed (description_of fs (begun_behind begun p - 1) p)
+    ++ descriptions_behind fs (begun_behind begun p) (map view (drop k xs)))) (sym more)
+    ∙ (ap (λ us. before ++ descriptions_behind fs begun (map view us)) (sym (drop-cons xs i d within)) ∙ is))
 
 pub put_one : (found : List Described) (d : Described) (o : Option Description) → Some (seen_described d) ≡ o
     → map seen_described (found ++ d ∷ []) ≡ map seen_described found ++ listed o
 put_one found d o is =
     map-append seen_described found (d ∷ []) ∙ ap (λ x. map seen_described found ++ listed x) is
 
-pub put_none : (found : List Described) (o : Option Description) → None ≡ o → map seen_described found ≡ map seen_described found ++ listed o
+pub put_none : (found : List Described) (o : Option Description) → None ≡ o
+    → map seen_described found ≡ map seen_described found ++ listed o
 put_none found o is = sym (append-nil (map seen_described found)) ∙ ap (λ x. map seen_described found ++ listed x) is
+
+pub begun_more : (b : Bool) (n m : ℕ) → m ≡ from_bool b → n + m ≡ cond b (suc n) n
+begun_more true n m is = let one : m ≡ 1 = is in omega arith
+begun_more false n m is = let none : m ≡ 0 = is in omega arith
+
+pub begun_few : (b : Bool) (n i : ℕ) → n ≤ i → cond b (suc n) n ≤ suc i
+begun_few true n i few = omega arith
+begun_few false n i few = omega arith

@@ -1,5 +1,6 @@
--- A `delete` or a `move` that a theorem of the source forbids, which no script gives another proof or another place. So it is certain before
--- any script runs that the command can't be done, or that the source doesn't verify with what is done.
+-- A `delete` or a `move` that a theorem of the source forbids, which no script gives another proof or another place. So it is certain,
+-- before any script runs, that the source can't verify once the command is done: a proof cites what stands in front of it (Metamath book,
+-- section 4.2.8).
 use Rattle.std.specs.Prelude.{◌≡◌, ◌<◌, ◌≤◌, ◌⊎◌, ℕ, Bool, false, ◌&&◌, ◌||◌, List, [], ◌∷◌, filter, length, Contains, IsTrue, Option, Some, None}
 use Rattle.std.specs.Prelude.{is_some, slice_get, if◌then◌else◌, codes}
 use Rattle.std.specs.List.{flat_map}
@@ -40,7 +41,7 @@ words_if begins p = if begins then spoken_in p else []
 abbrev pub words_of : Word → List Command → List Word
 words_of verb cs = flat_map (λ c. words_if (begins_with verb c.words) c.words) cs
 
--- a label may be one that a command takes from its assertion or gives to another
+-- a label is a word of a `rename`, which may take it from its assertion, or of a `delete`
 abbrev pub is_renamed : List Command → Word → Bool
 is_renamed cs w = is_in (words_of (codes "rename") cs) w
 
@@ -65,8 +66,8 @@ pub record IsDeletion (s : Scope) (cs : List Command) (p : Part) (label : Token)
   pub declared : IsTrue (is_some (assertion_at s label.text))
   pub keeps_label : is_renamed cs label.text ≡ false
 
--- the command alone moves an assertion of the source, behind another that stays, and so behind the one at a place, which stood behind it. Both
--- keep their labels. The place behind which it is put counts too
+-- the command alone moves an assertion of the source, behind another that stays where it is; both keep their labels. So it comes to stand
+-- behind what is at a place, behind which it didn't stand: also where that is the other one
 pub record IsMoveBehind (s : Scope) (scripts : List (List Token)) (cs : List Command) (p : Part) (label : Token) (place : ℕ)
     : Type 0 where
   pub mark : Token

@@ -148,11 +148,11 @@ impl<'w, 'a> Watch<'w, 'a> {
     }
 }
 
-/// A `delete` or `move L behind M` that a theorem of the source forbids, which no script gives another proof or another place: it cites what
-/// is deleted, or it cites L, which stands in front of it, and does not stand behind M. So the scripts can't be done, or what comes of them
-/// doesn't verify.
+/// A `delete` or `move L behind M` that a theorem of the source forbids, if there is one: one that no script gives another proof or another
+/// place, and that cites what is deleted; or that cites L, stands behind L, and doesn't stand behind M. The first such theorem is told, with
+/// the first command that it forbids.
 ///
-/// The commands are those of scripts behind `spread`. The proofs of the source are gone through once, with a look-up for each label that they
+/// The scripts are the words behind `spread`. The proofs of the source are gone through once, with a look-up for each label that they
 /// name, and not at all where no script deletes an assertion or moves one behind another.
 ///
 /// # Errors

@@ -86,8 +86,8 @@ fn description_of<'a>(
     })
 }
 
-/// The descriptions of what a script adds, in order: of each assertion the comment right in front of its label, or else right in front of the
-/// `${` with which it begins. The words are those of the script behind `spread`, with their places in its text.
+/// The descriptions of what a script adds, in order: of each assertion the comment right in front of its label, or else right in front of
+/// the `${` with which it begins. The words are those of the script behind `spread`, with their places in its text.
 ///
 /// The text is gone through once, with a look-up or two for each `add`. The map draws its hashes from the keys.
 ///
