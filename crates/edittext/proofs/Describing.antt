@@ -4,8 +4,8 @@ use Rattle.std.specs.Prelude.{slice_get, slice_index_or}
 use Rattle.std.proofs.lemmas.List.{length-take-le}
 use Rattle.mmtext.specs.Text.{Token}
 use Rattle.checking.specs.Checks.{Bytes}
-use Rattle.expanding.specs.Descriptions.{Description}
-use Rattle.edittext.specs.Described.{IsDescriptive, AreDescriptiveFrom, AreDescriptive}
+use Rattle.expanding.specs.Descriptions.{Description, IsDescriptive}
+use Rattle.edittext.specs.Described.{AreDescriptiveFrom, AreDescriptive}
 use Rattle.expanding.proofs.Citing.{take_next}
 
 pub descriptive_more : (texts : List Bytes) (n : ℕ) (scripts : List (List Token)) (all : List (List Description)) (words : List Token)

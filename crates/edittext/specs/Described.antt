@@ -9,16 +9,11 @@ use Rattle.giving.specs.Staying.{Change}
 use Rattle.transaction.specs.declared.outcome.Outcome.{Outcome}
 use Rattle.checking.specs.Checks.{Bytes}
 use Rattle.describing.specs.Described.{IsDescribed}
-use Rattle.expanding.specs.Forms.{Part, AreParts}
-use Rattle.expanding.specs.Descriptions.{Description, descriptions}
+use Rattle.expanding.specs.Descriptions.{Description, IsDescriptive}
 use Rattle.sourceediting.specs.Following.{Followed, Following, label_then}
 use Rattle.edittext.specs.Undone.{is_done}
 
--- those in the text of a script, of which these are the words by the source
-abbrev pub IsDescriptive : Bytes → List Token → List Description → Type 0
-IsDescriptive text words ds = (parts : List Part) × AreParts words parts × (ds ≡ descriptions text parts)
-
--- so it is of each script from the n-th on, from 0
+-- those in the texts of scripts from the n-th on, from 0, of which these are the words by the source
 abbrev pub AreDescriptiveFrom : List Bytes → ℕ → List (List Token) → List (List Description) → Type 0
 AreDescriptiveFrom texts n [] [] = Unit {0}
 AreDescriptiveFrom texts n (words ∷ scripts) (ds ∷ all) =

@@ -1,10 +1,10 @@
 -- The descriptions of what scripts add: a comment right in front of an assertion (Metamath book, section 4.1.2).
-use Rattle.std.specs.Prelude.{ℕ, suc, Bool, ◌+◌, ◌-◌, ◌||◌, nat_eq, List, [], ◌∷◌, ◌++◌, take, drop, find, length, Option, Some, None, if◌then◌else◌, codes}
+use Rattle.std.specs.Prelude.{◌≡◌, ℕ, suc, Bool, ◌+◌, ◌-◌, ◌||◌, nat_eq, List, [], ◌∷◌, ◌++◌, take, drop, find, length, Option, Some, None, if◌then◌else◌, codes}
 use Rattle.std.specs.Option.{option_map}
 use Rattle.mmtext.specs.Text.{Token, tokens}
 use Rattle.mmtext.specs.Words.{Word}
 use Rattle.expanding.specs.Words.{says}
-use Rattle.expanding.specs.Forms.{Part, begins_with, place_length}
+use Rattle.expanding.specs.Forms.{Part, AreParts, begins_with, place_length}
 
 -- ---- comments
 
@@ -102,3 +102,7 @@ descriptions_behind fs begun (p ∷ ps) =
 -- those of a script with a text, in order
 abbrev pub descriptions : List ℕ → List Part → List Description
 descriptions text ps = descriptions_behind (fronts text) 0 ps
+
+-- a script with a text and these words has these descriptions
+abbrev pub IsDescriptive : List ℕ → List Token → List Description → Type 0
+IsDescriptive text words ds = (parts : List Part) × AreParts words parts × (ds ≡ descriptions text parts)

@@ -3,8 +3,8 @@
 ghost use Rattle.std.specs.Prelude.{◌≡◌, ℕ, IfOk, List, map, codes};
 ghost use Rattle.std.specs.Option.{option_map};
 ghost use Rattle.mmtext.specs.Views.{seen};
-ghost use Rattle.expanding.specs.Forms.{AreParts, Part};
-ghost use Rattle.expanding.specs.Descriptions.{Front, comment_at, comment_of, descriptions, description_of, is_assertion_mark, label_in, unit_of};
+ghost use Rattle.expanding.specs.Forms.{Part};
+ghost use Rattle.expanding.specs.Descriptions.{Front, comment_at, comment_of, IsDescriptive, description_of, is_assertion_mark, label_in, unit_of};
 ghost use Rattle.expanding.specs.InFront.{FindsFronts, seen_described};
 
 use crate::commands::parts_in;
@@ -100,8 +100,7 @@ pub fn described_in<'a>(
     text: &'a [u8],
     words: &[Token<'a>],
 ) -> Result<Vec<Described<'a>>, AllocError>
-    ensures { (parts : List Part) → AreParts (map seen words.now) parts
-        → IfOk result (λ found. map seen_described found.items ≡ descriptions text.now parts) }
+    ensures { IfOk result (λ found. IsDescriptive text.now (map seen words.now) (map seen_described found.items)) }
 {
     let fronts = fronts_of(alloc, keys, text)?;
     let parts = parts_in(alloc, words)?;

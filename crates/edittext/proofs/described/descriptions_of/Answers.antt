@@ -7,12 +7,10 @@ use Rattle.mmtext.specs.Text.{Token}
 use Rattle.mmtext.specs.Views.{seen}
 use Rattle.mmtext.specs.declared.token.Token.{Token as CodeToken}
 use Rattle.checking.specs.Checks.{Bytes}
-use Rattle.expanding.specs.Forms.{AreParts}
-use Rattle.expanding.specs.Descriptions.{descriptions}
+use Rattle.expanding.specs.Descriptions.{IsDescriptive}
 use Rattle.expanding.specs.InFront.{seen_described}
 use Rattle.expanding.specs.declared.described.Described.{Described}
 use Rattle.expanding.specs.Views.{seen_scripts}
-use Rattle.edittext.specs.Described.{IsDescriptive}
 use Rattle.edittext.specs.Views.{seen_texts, seen_descriptions}
 use Rattle.edittext.proofs.Describing.{descriptive_next}
 use Rattle.edittext.proofs.Expanding.{get_seen}

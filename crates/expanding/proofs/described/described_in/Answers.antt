@@ -6,11 +6,10 @@ use Rattle.std.specs.Int.{from_bool}
 use Rattle.std.specs.Option.{option_map}
 use Rattle.mmtext.specs.declared.token.Token.{Token}
 use Rattle.mmtext.specs.Views.{seen}
-use Rattle.expanding.specs.Forms.{Part, AreParts, begins_with}
+use Rattle.expanding.specs.Forms.{AreParts, begins_with}
 use Rattle.expanding.specs.Bars.{seen_part}
-use Rattle.expanding.specs.Descriptions.{Description, fronts, descriptions, descriptions_behind, description_of, begun_behind, listed}
+use Rattle.expanding.specs.Descriptions.{Description, fronts, descriptions_behind, description_of, begun_behind, listed}
 use Rattle.expanding.specs.InFront.{seen_described}
-use Rattle.expanding.proofs.Commanding.{parts_same}
 use Rattle.expanding.proofs.Fronting.{part_next, put_one, put_none, begun_more, begun_few}
 use Rattle.expanding.proofs.Gathered.{no_view}
 use Rattle.expanding.proofs.described.described_in.Goals as goal
@@ -57,15 +56,16 @@ loop-part-preserved c =
     }
 
 pub returns : goal.returns
-returns c = λ parts are.
+returns c =
     let fs = fronts c.args.text.now in
     let xs = c.as_slice-part-items.result.now in
     let cut : AreParts (map seen c.args.words.now) (map seen_part xs) =
     subst (λ ys. AreParts (map seen c.args.words.now) (map seen_part ys)) (sym c.as_slice-part-items.ensures.value)
     c.in_ok-parts.ensures in
-    let same : map seen_part xs ≡ parts = parts_same (map seen_part xs) (map seen c.args.words.now) parts cut are in
     let none = drop_all c.loop-part.part-index xs c.loop-part-test.false in
-    let found = map seen_described c.loop-part.found.items in
-    sym (append-nil found)
-    ∙ (ap (λ ys. found ++ descriptions_behind fs c.loop-part.begun (map seen_part ys)) (sym none)
-    ∙ (c.loop-part.invariant.told ∙ ap (descriptions c.args.text.now) same))
+    let found = map seen_described c.loop-part.found.items in (
+      map seen_part xs,
+      cut,
+      sym (append-nil found)
+          ∙ (ap (λ ys. found ++ descriptions_behind fs c.loop-part.begun (map seen_part ys)) (sym none) ∙ c.loop-part.invariant.told),
+    )
