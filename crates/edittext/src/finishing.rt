@@ -158,6 +158,16 @@ fn describe_added(
     Ok(Some(describe(alloc, &placed, text)?))
 }
 
+/// The bytes of a text, if there is one.
+fn bytes_of(text: &Option<Vec<u8>>) -> Option<&[u8]>
+    ensures { option_map (λ t. t.now) result ≡ option_map (λ t. t.items) text.now }
+{
+    match text {
+        Some(text) => Some(text.as_slice()),
+        None => None,
+    }
+}
+
 /// The source with the edits of a run.
 #[derive(Drop)]
 pub(crate) struct Finished {
@@ -196,8 +206,7 @@ pub(crate) fn finish<'x, 'a: 'x>(
     look_at(rt, alloc, keys, path, old, &new, source, &draft, run)?;
     let text = draft.text.as_slice();
     let described = describe_added(alloc, keys, descriptions, &draft.following, text)?;
-    let other = described.as_ref().map(|out| out.as_slice());
-    check(rt, alloc, keys, path, &new, other, follow)?;
+    check(rt, alloc, keys, path, &new, bytes_of(&described), follow)?;
     drop(new);
     let Draft {
         text, following, ..
