@@ -1,6 +1,7 @@
 //! Which words of a comment speak of labels, how these words read with changed labels, and where a text speaks of some labels.
 #![tactic(auto)]
 
+pub mod laws;
 mod parted;
 mod reading;
 mod spoken;
