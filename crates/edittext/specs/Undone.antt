@@ -4,14 +4,13 @@ use Rattle.std.specs.Prelude.{map, slice_get, slice_index_or, string_bytes}
 use Rattle.std.specs.List.{list_all}
 use Rattle.std.specs.declared.alloc.Global.{Global}
 use Rattle.std.specs.Fmt.{decimal}
-use Rattle.checking.specs.FaultLines.{shown_label}
 use Rattle.library.specs.declared.command.Command.{Command}
-use Rattle.library.specs.declared.command.Command.TheVariants as command
 use Rattle.library.specs.Reasons.{printed_reason}
 use Rattle.transaction.specs.declared.outcome.Outcome.{Outcome}
 use Rattle.transaction.specs.declared.outcome.Outcome.TheVariants.{Committed, Read, Refused, Conflict, StoreFull, NumbersUsed, TooManyCommands, NoMemory}
 use Rattle.checking.specs.Checks.{Bytes, Orders}
 use Rattle.expanding.specs.Lines.{line_at}
+use Rattle.replylines.specs.CommandTexts.{command_text}
 
 -- ---- one transaction
 
@@ -23,18 +22,6 @@ is_done _ = false
 
 abbrev pub all_done : List (List Outcome) → Bool
 all_done rows = list_all (list_all is_done) rows
-
--- a command's word, and the labels that it speaks of
-abbrev pub command_text : Command → Bytes
-command_text (command.Add rank a) = codes "add " ++ shown_label a.label
-command_text (command.Reprove label steps) = codes "reprove " ++ shown_label label
-command_text (command.Replace label old new) =
-    codes "replace " ++ (shown_label label ++ (codes " " ++ (shown_label old ++ (codes " " ++ shown_label new))))
-command_text (command.Rename old new) = codes "rename " ++ (shown_label old ++ (codes " " ++ shown_label new))
-command_text (command.Move label rank) = codes "move " ++ shown_label label
-command_text (command.Delete label) = codes "delete " ++ shown_label label
-command_text (command.Show label) = codes "show " ++ shown_label label
-command_text command.List = codes "list"
 
 -- a command is refused for a reason
 abbrev pub refused_text : Option Command → Bytes → Bytes

@@ -5,52 +5,15 @@ ghost use Rattle.std.specs.Fmt.{decimal};
 ghost use Rattle.transaction.specs.Closings.{lists_of};
 ghost use Rattle.expanding.specs.Lines.{line_at};
 ghost use Rattle.library.specs.Reasons.{printed_reason};
-ghost use Rattle.edittext.specs.Undone.{IsUndoneText, command_text, refused_text, undone_of, all_undone};
+ghost use Rattle.edittext.specs.Undone.{IsUndoneText, refused_text, undone_of, all_undone};
 ghost use Rattle.edittext.specs.Views.{seen_texts, beginnings_of};
 
-use crate::telling::{path_at, shown, text_at};
+use crate::telling::{path_at, text_at};
 use expanding::{Laid, lines_of};
 use library::{Command, Reason, Script, Transaction};
+use replylines::command_text;
 use std::alloc::{AllocError, Global};
 use transaction::Outcome;
-
-/// A command's word, and the labels that it speaks of.
-fn command_text(alloc: Global, command: &Command) -> Result<String, AllocError>
-    ensures { IfOk result (λ text. string_bytes text ≡ command_text command.now) }
-{
-    match command {
-        Command::Add { assertion, .. } => {
-            let label = shown(assertion.label.as_slice());
-            format!(in alloc; "add {label}")
-        }
-        Command::Reprove { label, .. } => {
-            let label = shown(label.as_slice());
-            format!(in alloc; "reprove {label}")
-        }
-        Command::Replace { label, old, new } => {
-            let (label, old) = (shown(label.as_slice()), shown(old.as_slice()));
-            let new = shown(new.as_slice());
-            format!(in alloc; "replace {label} {old} {new}")
-        }
-        Command::Rename { old, new } => {
-            let (old, new) = (shown(old.as_slice()), shown(new.as_slice()));
-            format!(in alloc; "rename {old} {new}")
-        }
-        Command::Move { label, .. } => {
-            let label = shown(label.as_slice());
-            format!(in alloc; "move {label}")
-        }
-        Command::Delete { label } => {
-            let label = shown(label.as_slice());
-            format!(in alloc; "delete {label}")
-        }
-        Command::Show { label } => {
-            let label = shown(label.as_slice());
-            format!(in alloc; "show {label}")
-        }
-        Command::List => format!(in alloc; "list"),
-    }
-}
 
 /// That a command, if it is there, is refused for a reason.
 fn refused_text(

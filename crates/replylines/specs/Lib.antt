@@ -1,0 +1,2 @@
+pub mod CommandTexts
+pub mod ReplyLines
