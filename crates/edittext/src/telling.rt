@@ -2,7 +2,7 @@
 
 ghost use Rattle.std.specs.Prelude.{◌≡◌, ◌≢◌, ◌+◌, ◌^◌, ◌<◌, ◌++◌, [], codes, IfOk, map, slice_index_or, string_bytes};
 ghost use Rattle.mmtext.specs.declared.fault.FaultKind.TheVariants.{NoMemory as OutOfMemory};
-ghost use Rattle.checking.specs.FaultLines.{line_of, shown_label};
+ghost use Rattle.checking.specs.FaultLines.{line_of};
 ghost use Rattle.checking.specs.declared.fault.Fault.TheVariants.{Text, NoMemory as NoMemoryOfRun};
 ghost use Rattle.expanding.specs.declared.misfit.Misfit.TheVariants.{NoMemory as NoMemoryOfMisfit};
 ghost use Rattle.givetext.specs.Refusals.{refusal_text};
@@ -18,6 +18,7 @@ use checking::Fault;
 use expanding::{Misfit, line_at};
 use givetext::refusal_text;
 use mmtext::{FaultKind, TextFault};
+use replylines::shown;
 use std::alloc::{AllocError, Global};
 use taketext::refusal_line as taking_line;
 use verifytext::refusal_line as verifying_line;
@@ -113,16 +114,6 @@ pub(crate) fn unread(
     }
     let file = script + 1;
     unworked(alloc, paths, &Fault::Text { file, fault })
-}
-
-/// A label as it is printed: itself, where it is text, as each label of a script is.
-pub(crate) fn shown(label: &[u8]) -> &str
-    ensures { result.now ≡ shown_label label.now }
-{
-    match str::from_utf8(label) {
-        Ok(text) => text,
-        Err(_) => "?",
-    }
 }
 
 /// Why a word of a script doesn't fit a source.

@@ -7,7 +7,7 @@ use Rattle.mmsyntax.specs.Tables.{Tables}
 use Rattle.library.specs.Reasons.{printed_reason}
 use Rattle.library.specs.declared.command.Command.{Command}
 use Rattle.library.specs.declared.command.Reply.{Reply}
-use Rattle.library.specs.declared.command.Reply.TheVariants.{Done, Shown, Listed}
+use Rattle.library.specs.declared.command.Reply.TheVariants.{Done}
 use Rattle.historytext.specs.Layout.{reply_text}
 use Rattle.checking.specs.FaultLines.{shown_label}
 use Rattle.transaction.specs.declared.outcome.Outcome.{Outcome}

@@ -6,7 +6,7 @@ ghost use Rattle.reports.specs.Reports.{IsReportable};
 ghost use Rattle.replylines.specs.ReplyLines.{committed_data, read_data, refused_data, undone_data};
 ghost use Rattle.replylines.specs.ReplyLines.{said_command, reply_data, reply_line};
 
-use crate::commands::command_text;
+use crate::naming::command_text;
 use crate::replies::replies_value;
 use library::Command;
 use mmsyntax::Prelude;

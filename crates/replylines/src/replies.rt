@@ -6,7 +6,7 @@ ghost use Rattle.serde_json.specs.View.{view};
 ghost use Rattle.library.specs.Fitting.{ReplyFits};
 ghost use Rattle.replylines.specs.ReplyLines.{told_reply, replies_data};
 
-use crate::commands::shown;
+use crate::naming::shown;
 use historytext::put_reply;
 use library::Reply;
 use mmsyntax::Prelude;

@@ -1,7 +1,7 @@
 -- What is left to show of `shown`.
 use Rattle.std.proofs.Common.{◌∙◌, sym}
 use Rattle.checking.proofs.Shown.{shown_text, shown_otherwise}
-use Rattle.edittext.proofs.telling.shown.Goals as goal
+use Rattle.replylines.proofs.naming.shown.Goals as goal
 
 pub returns-in-Ok : goal.returns-in-Ok
 returns-in-Ok c =
