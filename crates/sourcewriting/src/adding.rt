@@ -3,6 +3,7 @@
 ghost use Rattle.std.specs.Prelude.{◌≡◌, IfOk, map};
 ghost use Rattle.sourcewriting.specs.Indentations.{IsIndentation};
 
+use crate::grouping::grouped;
 use crate::layout::{Layout, proof_indentation};
 use crate::listing::{Names, put_nodes};
 use crate::shared::Shared;
@@ -179,19 +180,31 @@ fn words_of<'x>(
     Ok(made)
 }
 
-/// Puts the `$d` of pairs. Whether they could be written.
+/// The words of variables.
+fn words_of_variables<'x>(
+    alloc: Global,
+    words: &SymbolWords<'x>,
+    variables: &[u32],
+) -> Result<Vec<&'x [u8]>, AllocError> {
+    let mut made = Vec::new(alloc);
+    for variable in variables {
+        made.push(words.word(Symbol::Var(*variable)))?;
+    }
+    Ok(made)
+}
+
+/// Puts the `$d` of pairs, one for each list of variables of which each two make a pair. Whether they could be written.
 fn put_pairs(
     alloc: Global,
     out: &mut Vec<u8>,
     words: &SymbolWords<'_>,
     pairs: &[(u32, u32)],
 ) -> Result<bool, AllocError> {
-    for (one, other) in pairs {
-        let both = [
-            words.word(Symbol::Var(*one)),
-            words.word(Symbol::Var(*other)),
-        ];
-        if !put_statement(alloc, out, IN_BLOCK, b"", b"$d", both.as_slice(), b"$.")? {
+    let groups = grouped(alloc, pairs)?;
+    for group in groups.as_slice() {
+        let variables = words_of_variables(alloc, words, group.as_slice())?;
+        let variables = variables.as_slice();
+        if !put_statement(alloc, out, IN_BLOCK, b"", b"$d", variables, b"$.")? {
             return Ok(false);
         }
     }
