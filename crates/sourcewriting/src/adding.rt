@@ -15,11 +15,18 @@ use source::Declared;
 use std::alloc::{AllocError, Global};
 use std::hash::RandomState;
 
-/// What the lines of a statement begin with that stands in a block.
+/// What the first line of a statement begins with that stands in a block.
 const IN_BLOCK: &[u8] = b"    ";
 
-/// What they begin with otherwise.
+/// What it begins with otherwise.
 const OUTSIDE: &[u8] = b"  ";
+
+/// The white space that the first line of a statement begins with. Its other lines stand as those of a proof: two columns deeper.
+fn statement_indentation(in_block: bool) -> &'static [u8]
+    ensures { IsIndentation result.now }
+{
+    if in_block { IN_BLOCK } else { OUTSIDE }
+}
 
 /// An assertion of a library, and how it is to stand in the source.
 #[derive(Clone, Copy)]
@@ -36,13 +43,6 @@ impl Statement<'_> {
     /// Whether it stands in a block of its own.
     fn is_block(&self) -> bool {
         !(self.assertion.hyps.as_slice().is_empty() && self.assertion.pairs.as_slice().is_empty())
-    }
-
-    /// What the lines of its statement begin with.
-    fn indentation(&self) -> &'static [u8]
-        ensures { IsIndentation result.now }
-    {
-        if self.is_block() { IN_BLOCK } else { OUTSIDE }
     }
 
     /// What stands in front of it: an empty line, and the keyword of its block.
@@ -145,19 +145,19 @@ impl<'x> SymbolWords<'x> {
 fn put_statement(
     alloc: Global,
     out: &mut Vec<u8>,
-    indentation: &[u8],
+    in_block: bool,
     label: &[u8],
     keyword: &[u8],
     symbols: &[&[u8]],
     end: &[u8],
-) -> Result<bool, AllocError>
-    requires { IsIndentation indentation.now }
-{
-    let mut layout = Layout::new(alloc, indentation);
+) -> Result<bool, AllocError> {
+    let mut layout = Layout::new(alloc, statement_indentation(in_block));
     if !label.is_empty() {
         layout.put_word(label);
+        layout.indent(proof_indentation(in_block));
     }
     layout.put_word(keyword);
+    layout.indent(proof_indentation(in_block));
     layout.put_words(symbols);
     layout.put_word(end);
     let Some(text) = layout.into_text()? else {
@@ -204,7 +204,7 @@ fn put_pairs(
     for group in groups.as_slice() {
         let variables = words_of_variables(alloc, words, group.as_slice())?;
         let variables = variables.as_slice();
-        if !put_statement(alloc, out, IN_BLOCK, b"", b"$d", variables, b"$.")? {
+        if !put_statement(alloc, out, true, b"", b"$d", variables, b"$.")? {
             return Ok(false);
         }
     }
@@ -251,7 +251,7 @@ fn put_premises(
     for (expression, label) in premises.iter().zip(labels) {
         let symbols = words_of(alloc, words, expression.as_slice())?;
         let (symbols, label) = (symbols.as_slice(), label.as_slice());
-        if !put_statement(alloc, out, IN_BLOCK, label, b"$e", symbols, b"$.")? {
+        if !put_statement(alloc, out, true, label, b"$e", symbols, b"$.")? {
             return Ok(false);
         }
     }
@@ -268,11 +268,10 @@ fn put_said(
     let symbols = words_of(alloc, words, statement.assertion.statement.as_slice())?;
     let symbols = symbols.as_slice();
     let (keyword, end) = statement.keywords();
-    let indentation = statement.indentation();
     put_statement(
         alloc,
         out,
-        indentation,
+        statement.is_block(),
         statement.label,
         keyword,
         symbols,
