@@ -15,5 +15,6 @@ mod Walked
 mod Lettered
 mod Printed
 mod Numbering
+mod Groups
 mod Stacks
 pub mod Leading

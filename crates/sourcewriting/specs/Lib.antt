@@ -1,4 +1,6 @@
 pub mod Forms
+pub mod Groups
+pub mod Grouping
 pub mod Indentations
 pub mod Laid
 pub mod Letters

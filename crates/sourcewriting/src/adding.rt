@@ -3,6 +3,7 @@
 ghost use Rattle.std.specs.Prelude.{◌≡◌, IfOk, map};
 ghost use Rattle.sourcewriting.specs.Indentations.{IsIndentation};
 
+use crate::grouping::grouped;
 use crate::layout::{Layout, proof_indentation};
 use crate::listing::{Names, put_nodes};
 use crate::shared::Shared;
@@ -14,11 +15,18 @@ use source::Declared;
 use std::alloc::{AllocError, Global};
 use std::hash::RandomState;
 
-/// What the lines of a statement begin with that stands in a block.
+/// What the first line of a statement begins with that stands in a block.
 const IN_BLOCK: &[u8] = b"    ";
 
-/// What they begin with otherwise.
+/// What it begins with otherwise.
 const OUTSIDE: &[u8] = b"  ";
+
+/// The white space that the first line of a statement begins with. Its other lines stand as those of a proof: two columns deeper.
+fn statement_indentation(in_block: bool) -> &'static [u8]
+    ensures { IsIndentation result.now }
+{
+    if in_block { IN_BLOCK } else { OUTSIDE }
+}
 
 /// An assertion of a library, and how it is to stand in the source.
 #[derive(Clone, Copy)]
@@ -35,13 +43,6 @@ impl Statement<'_> {
     /// Whether it stands in a block of its own.
     fn is_block(&self) -> bool {
         !(self.assertion.hyps.as_slice().is_empty() && self.assertion.pairs.as_slice().is_empty())
-    }
-
-    /// What the lines of its statement begin with.
-    fn indentation(&self) -> &'static [u8]
-        ensures { IsIndentation result.now }
-    {
-        if self.is_block() { IN_BLOCK } else { OUTSIDE }
     }
 
     /// What stands in front of it: an empty line, and the keyword of its block.
@@ -144,19 +145,19 @@ impl<'x> SymbolWords<'x> {
 fn put_statement(
     alloc: Global,
     out: &mut Vec<u8>,
-    indentation: &[u8],
+    in_block: bool,
     label: &[u8],
     keyword: &[u8],
     symbols: &[&[u8]],
     end: &[u8],
-) -> Result<bool, AllocError>
-    requires { IsIndentation indentation.now }
-{
-    let mut layout = Layout::new(alloc, indentation);
+) -> Result<bool, AllocError> {
+    let mut layout = Layout::new(alloc, statement_indentation(in_block));
     if !label.is_empty() {
         layout.put_word(label);
+        layout.indent(proof_indentation(in_block));
     }
     layout.put_word(keyword);
+    layout.indent(proof_indentation(in_block));
     layout.put_words(symbols);
     layout.put_word(end);
     let Some(text) = layout.into_text()? else {
@@ -179,19 +180,31 @@ fn words_of<'x>(
     Ok(made)
 }
 
-/// Puts the `$d` of pairs. Whether they could be written.
+/// The words of variables.
+fn words_of_variables<'x>(
+    alloc: Global,
+    words: &SymbolWords<'x>,
+    variables: &[u32],
+) -> Result<Vec<&'x [u8]>, AllocError> {
+    let mut made = Vec::new(alloc);
+    for variable in variables {
+        made.push(words.word(Symbol::Var(*variable)))?;
+    }
+    Ok(made)
+}
+
+/// Puts the `$d` of pairs, one for each list of variables of which each two make a pair. Whether they could be written.
 fn put_pairs(
     alloc: Global,
     out: &mut Vec<u8>,
     words: &SymbolWords<'_>,
     pairs: &[(u32, u32)],
 ) -> Result<bool, AllocError> {
-    for (one, other) in pairs {
-        let both = [
-            words.word(Symbol::Var(*one)),
-            words.word(Symbol::Var(*other)),
-        ];
-        if !put_statement(alloc, out, IN_BLOCK, b"", b"$d", both.as_slice(), b"$.")? {
+    let groups = grouped(alloc, pairs)?;
+    for group in groups.as_slice() {
+        let variables = words_of_variables(alloc, words, group.as_slice())?;
+        let variables = variables.as_slice();
+        if !put_statement(alloc, out, true, b"", b"$d", variables, b"$.")? {
             return Ok(false);
         }
     }
@@ -238,7 +251,7 @@ fn put_premises(
     for (expression, label) in premises.iter().zip(labels) {
         let symbols = words_of(alloc, words, expression.as_slice())?;
         let (symbols, label) = (symbols.as_slice(), label.as_slice());
-        if !put_statement(alloc, out, IN_BLOCK, label, b"$e", symbols, b"$.")? {
+        if !put_statement(alloc, out, true, label, b"$e", symbols, b"$.")? {
             return Ok(false);
         }
     }
@@ -255,11 +268,10 @@ fn put_said(
     let symbols = words_of(alloc, words, statement.assertion.statement.as_slice())?;
     let symbols = symbols.as_slice();
     let (keyword, end) = statement.keywords();
-    let indentation = statement.indentation();
     put_statement(
         alloc,
         out,
-        indentation,
+        statement.is_block(),
         statement.label,
         keyword,
         symbols,

@@ -54,7 +54,7 @@ pub fn indentation_like(old: Option<&[u8]>, in_block: bool) -> &[u8]
     }
 }
 
-/// Words in lines, each of which has the same indentation. Want of memory, and a word that can't stand there, are told at its end.
+/// Words in lines with their indentation. Want of memory, and a word that can't stand there, are told at its end.
 #[derive(Drop)]
 pub(crate) struct Layout<'i> {
     text: Vec<u8>,
@@ -166,6 +166,13 @@ impl<'i> Layout<'i> {
     {
         self.expect(is_label_token(label));
         self.put_word(label);
+    }
+
+    /// Other spaces, with which each line begins from here on.
+    pub(crate) fn indent(&mut self, indentation: &'i [u8])
+        ensures { self.new ≡ record self.old { indentation = indentation.entry } }
+    {
+        self.indentation = indentation;
     }
 
     /// Puts words.

@@ -5,6 +5,7 @@
 #![tactic(auto)]
 
 mod adding;
+mod grouping;
 mod layout;
 mod lettering;
 mod letters;
