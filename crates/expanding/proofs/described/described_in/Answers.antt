@@ -1,12 +1,12 @@
 -- What is left to show of `described_in`.
-use Rattle.std.proofs.Common.{◌≡◌, ◌≤◌, ◌∙◌, ◌+◌, ◌++◌, ◌-◌, [], List, Bor, ℕ, suc, length, map, drop, get_or, refl, sym, ap, subst, arith}
+use Rattle.std.proofs.Common.{◌≡◌, ◌≤◌, ◌∙◌, ◌+◌, ◌++◌, ◌-◌, [], List, Bor, ℕ, suc, map, drop, get_or, sym, ap, subst, arith}
 use Rattle.std.proofs.lemmas.List.{drop_all, append-nil}
 use Rattle.std.specs.Prelude.{codes}
 use Rattle.std.specs.Int.{from_bool}
 use Rattle.std.specs.Option.{option_map}
 use Rattle.mmtext.specs.declared.token.Token.{Token}
 use Rattle.mmtext.specs.Views.{seen}
-use Rattle.expanding.specs.Forms.{Part, AreParts, begins_with}
+use Rattle.expanding.specs.Forms.{AreParts, begins_with}
 use Rattle.expanding.specs.Bars.{seen_part}
 use Rattle.expanding.specs.Descriptions.{Description, fronts, descriptions, descriptions_behind, description_of, begun_behind, listed}
 use Rattle.expanding.specs.InFront.{seen_described}
