@@ -1,7 +1,7 @@
 -- What the code finds is a bar, and where it finds none there is none.
-use Rattle.std.proofs.Common.{◌≡◌, ◌∙◌, ◌⊎◌, inl, inr, ℕ, ◌<◌, ◌≤◌, Bool, true, false, cond, List, [], ◌∷◌, length, map, Option, Some, None}
-use Rattle.std.proofs.Common.{refl, sym, ap, subst, arith, ltb, get_or, suc, zero}
-use Rattle.std.specs.Prelude.{◌&&◌, ◌||◌, ◌==◌, nat_lt, nat_le, find, filter, filter_map, slice_get, Contains, IfSome, IfNone}
+use Rattle.std.proofs.Common.{◌≡◌, ◌∙◌, ◌⊎◌, inl, inr, ℕ, Bool, true, false, cond, List, [], ◌∷◌, map, Option, Some, None}
+use Rattle.std.proofs.Common.{refl, sym, ap, subst, arith, suc, zero}
+use Rattle.std.specs.Prelude.{◌&&◌, ◌||◌, nat_lt, nat_le, find, filter_map, slice_get, Contains, IfSome, IfNone}
 use Rattle.std.specs.List.{cons_option}
 use Rattle.std.specs.Option.{option_map, option_and_then, is_some, is_none}
 use Rattle.std.specs.Str.{bytes_eq}
@@ -10,16 +10,15 @@ use Rattle.std.proofs.lemmas.Option.{slice_get_within}
 use Rattle.mmtext.specs.Text.{Token}
 use Rattle.mmtext.specs.Words.{Word}
 use Rattle.mmsyntax.proofs.Names.{bytes_eq-same}
-use Rattle.source.specs.Statements.{Proof}
 use Rattle.source.specs.Scopes.{Assertion, Scope, is_in}
 use Rattle.expanding.specs.Forms.{Part}
 use Rattle.expanding.specs.Asking.{asked}
 use Rattle.expanding.specs.Spreading.{assertion_at, cites}
 use Rattle.expanding.specs.Commands.{Command, command_of, AreCommands}
-use Rattle.expanding.specs.Barred.{delete_of, move_of, is_renamed, is_deleted, IsMovedOnce, Holds, IsDeletion, IsMoveBehind, IsBarred}
-use Rattle.expanding.specs.Bars.{Bar, bar_of, bar_of_delete, bar_of_move, bar_of_labels, bars_of, is_lost, reach_between, reaches, is_moved_once}
+use Rattle.expanding.specs.Barred.{delete_of, move_of, is_renamed, IsDeletion, IsMoveBehind, IsBarred}
+use Rattle.expanding.specs.Bars.{Bar, bar_of, bar_of_labels, bars_of, is_lost, reach_between, reaches, is_moved_once}
 use Rattle.expanding.specs.Bars.{bars_there, proof_at, names_any}
-use Rattle.expanding.specs.Watches.{Barred, label_of, barred_by, barred_at, IsBarredSomewhere, IsBarredNowhere}
+use Rattle.expanding.specs.Watches.{Barred, label_of, barred_by, IsBarredSomewhere, IsBarredNowhere}
 use Rattle.expanding.proofs.Commanding.{commands_same}
 use Rattle.expanding.proofs.Looking.{uncited}
 

@@ -1,7 +1,7 @@
 -- Comments right in front of words, and descriptions: one more word, one more part.
 use Rattle.std.proofs.Common.{◌≡◌, ◌∙◌, ℕ, suc, ◌+◌, ◌-◌, ◌<◌, ◌≤◌, Bool, true, false, cond, List, [], ◌∷◌, ◌++◌, length, map, drop, get_or, Option, Some, None}
-use Rattle.std.proofs.Common.{refl, sym, ap, subst, arith, append_assoc, add-one}
-use Rattle.std.specs.Prelude.{◌==◌, find, if◌then◌else◌, codes}
+use Rattle.std.proofs.Common.{refl, sym, ap, subst, arith, append_assoc}
+use Rattle.std.specs.Prelude.{◌==◌, find, if◌then◌else◌}
 use Rattle.std.specs.Int.{from_bool}
 use Rattle.std.specs.Option.{option_map, option_or, is_some}
 use Rattle.std.specs.Borrow.{Bor}
@@ -13,11 +13,11 @@ use Rattle.std.proofs.lemmas.Bool.{eqb-true}
 use Rattle.mmsyntax.proofs.Sound.{eqb-sym}
 use Rattle.std.proofs.lemmas.List.{append-nil, map-append}
 use Rattle.std.proofs.lemmas.List.Folds.{find-append}
-use Rattle.mmtext.specs.Text.{Token, tokens_from}
+use Rattle.mmtext.specs.Text.{Token}
 use Rattle.mmtext.specs.Views.{seen}
 use Rattle.mmtext.specs.declared.token.Token.{Token as CodeToken}
 use Rattle.expanding.specs.Forms.{Part}
-use Rattle.expanding.specs.Descriptions.{Front, front_at, fronts_behind, opened_at, closed_at, comment_at, is_assertion_mark, label_in}
+use Rattle.expanding.specs.Descriptions.{Front, front_at, fronts_behind, opened_at, closed_at, is_assertion_mark, label_in}
 use Rattle.expanding.specs.Descriptions.{Description, description_of, listed, begun_behind, descriptions_behind}
 use Rattle.expanding.specs.InFront.{looks_up, FindsFronts, seen_described}
 use Rattle.expanding.specs.declared.described.Described.{Described}

@@ -1,5 +1,5 @@
 -- Labels that are looked up.
-use Rattle.std.proofs.Common.{◌≡◌, ◌∙◌, Bool, true, false, cond, List, [], ◌∷◌, map, Option, Some, None, refl, sym, ap, subst}
+use Rattle.std.proofs.Common.{◌≡◌, Bool, true, false, cond, List, [], ◌∷◌, map, Option, Some, None, refl, ap}
 use Rattle.std.specs.Prelude.{find, ◌||◌}
 use Rattle.std.specs.List.{list_any}
 use Rattle.std.specs.Option.{option_map, is_some}
@@ -7,8 +7,8 @@ use Rattle.std.specs.Str.{bytes_eq}
 use Rattle.std.specs.Borrow.{Bor}
 use Rattle.std.proofs.Common.{ℕ}
 use Rattle.mmtext.specs.Words.{Word}
-use Rattle.mmsyntax.proofs.Names.{bytes_eq-same, bytes_eq-sym, same_bytes}
-use Rattle.source.specs.Statements.{Proof, normal, compressed}
+use Rattle.mmsyntax.proofs.Names.{same_bytes}
+use Rattle.source.specs.Statements.{Proof}
 use Rattle.source.specs.Scopes.{is_in}
 use Rattle.source.specs.Whole.{labels_in}
 use Rattle.giving.specs.Staying.{Change}

@@ -1,7 +1,6 @@
 -- What is left to show of `is_moved_once`.
-use Rattle.std.proofs.Common.{◌∙◌, ap, map}
+use Rattle.std.proofs.Common.{◌∙◌, ap}
 use Rattle.std.specs.Prelude.{◌==◌}
-use Rattle.mmtext.specs.Views.{seen}
 use Rattle.expanding.specs.Barred.{moves}
 use Rattle.expanding.specs.Commands.{Command}
 use Rattle.expanding.specs.Bars.{seen_command}

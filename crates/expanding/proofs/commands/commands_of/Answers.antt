@@ -1,5 +1,5 @@
 -- What is left to show of `commands_of`.
-use Rattle.std.proofs.Common.{◌≡◌, ◌∙◌, ◌<◌, ◌≤◌, ◌+◌, ◌++◌, ◌∷◌, [], refl, length, map, take, sym, ap, ap₂, subst, arith}
+use Rattle.std.proofs.Common.{◌≡◌, ◌∙◌, ◌<◌, ◌≤◌, ◌+◌, ◌++◌, ◌∷◌, [], refl, length, map, take, sym, ap, subst, arith}
 use Rattle.std.proofs.lemmas.List.{length-map, length-take-le, map-append}
 use Rattle.mmtext.specs.Views.{seen}
 use Rattle.expanding.specs.Commands.{AreCommands, command_of}

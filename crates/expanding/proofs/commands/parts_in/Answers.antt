@@ -1,8 +1,8 @@
 -- What is left to show of `parts_in`.
-use Rattle.std.proofs.Common.{◌∙◌, ◌+◌, ◌++◌, ◌∷◌, [], refl, length, map, take, drop, sym, ap, subst, arith}
+use Rattle.std.proofs.Common.{◌++◌, ◌∷◌, [], refl, map, take, sym, ap, subst, arith}
 use Rattle.std.proofs.lemmas.List.{drop_all, append-nil}
 use Rattle.mmtext.specs.Views.{seen}
-use Rattle.expanding.specs.Forms.{Part, AreParts}
+use Rattle.expanding.specs.Forms.{AreParts}
 use Rattle.expanding.specs.Bars.{seen_part}
 use Rattle.expanding.proofs.Commanding.{part_more}
 use Rattle.expanding.proofs.Parted.{more_within, some_first, part_first, words_behind}

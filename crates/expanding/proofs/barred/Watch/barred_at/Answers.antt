@@ -1,5 +1,5 @@
 -- What is left to show of `barred_at`.
-use Rattle.std.proofs.Common.{◌≡◌, ◌∙◌, false, map, sym, ap, rules}
+use Rattle.std.proofs.Common.{◌≡◌, ◌∙◌, false, sym, ap, rules}
 use Rattle.std.specs.Prelude.{slice_get}
 use Rattle.std.specs.Option.{option_and_then}
 use Rattle.expanding.specs.Bars.{holds, bars_of, names_any, proof_at}
