@@ -26,7 +26,8 @@ put_ok (Ok x) new made old e = e
 put_ok (Err x) new made old e = tt
 
 -- its first token begins before it ends
-pub begins_before : (text : List ℕ) (at end : ℕ) (x : Item) (t : Token) → Stands text at x end → at < end → IsFirst text at t → t.place ≤ end
+pub begins_before : (text : List ℕ) (at end : ℕ) (x : Item) (t : Token) → Stands text at x end → at < end → IsFirst text at t
+    → t.place ≤ end
 begins_before text at end x t h lt first =
     let left = one_left text at end x t h lt first in
     let rest = stands_later text (end_of t) end left.0 left.2 in

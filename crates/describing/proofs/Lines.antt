@@ -26,7 +26,8 @@ pub at_last_line : (space : List ℕ) (i : ℕ) → i < length space → get_or 
 at_last_line space i inside here after =
     let many : suffix_len (λ b. not (is_line_feed b)) space ≡ length space - (i + 1) =
     suffix_len_is (λ b. not (is_line_feed b)) space (i + 1) 0 (omega arith) (λ k le lt. ap not (no_feed (get_or space k 0) (after k le lt)))
-    (λ pos. ap (λ j. not (is_line_feed (get_or space j 0))) (let e : i + 1 - 1 ≡ i = omega arith in e) ∙ ap not (feed (get_or space i 0) here))
+    (λ pos.
+    ap (λ j. not (is_line_feed (get_or space j 0))) (let e : i + 1 - 1 ≡ i = omega arith in e) ∙ ap not (feed (get_or space i 0) here))
     in
     let behind : i + 1 ≡ length space - suffix_len (λ b. not (is_line_feed b)) space = omega (arith, many, inside) in
     take_rest space i

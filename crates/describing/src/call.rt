@@ -9,9 +9,9 @@ use giving::Changes;
 use items::read_item;
 use std::alloc::{AllocError, Global};
 
-/// The text of a source with comments in front of some of its assertions, which are named by their labels: each comment, `$(` to `$)`, stands
-/// where the label stood, and the label in a line of its own behind it, as far indented as before. Every other byte stays. A comment for a
-/// label that no assertion of the source has is put nowhere.
+/// The text of a source with comments in front of some of its assertions, which are named by their labels: each comment, `$(` to `$)`,
+/// stands where the label stood, and the label in a line of its own behind it, as far indented as before. Every other byte stays. A comment
+/// for a label that no assertion of the source has is put nowhere.
 ///
 /// It costs about as much as the source and the comments have bytes.
 ///

@@ -18,9 +18,11 @@ descriptive_more texts n [] [] words ds are one =
 descriptive_more texts n [] (x ∷ all) words ds are one = absurd are
 descriptive_more texts n (x ∷ scripts) [] words ds are one = absurd are
 descriptive_more texts n (x ∷ scripts) (y ∷ all) words ds are one =
-    let next : n + suc (length scripts) ≡ suc n + length scripts = omega arith in
-    (are.0, descriptive_more texts (suc n) scripts all words ds are.1
-    (subst (λ k. IsDescriptive (slice_index_or texts k []) words ds) next one))
+    let next : n + suc (length scripts) ≡ suc n + length scripts = omega arith in (
+      are.0,
+      descriptive_more texts (suc n) scripts all words ds are.1
+          (subst (λ k. IsDescriptive (slice_index_or texts k []) words ds) next one),
+    )
 
 pub descriptive_next : (texts : List Bytes) (scripts : List (List Token)) (k : ℕ) (words : List Token)
     (all more : List (List Description)) (ds : List Description)

@@ -72,9 +72,7 @@ fn account_of(
     let undone = undone(alloc, paths, texts, laid, scripts, outcomes)?;
     let prelude = begun.taken.database.prelude();
     let asked = order.with_replies;
-    let replies = replies_if(
-        alloc, asked, prelude, paths, texts, laid, scripts, outcomes,
-    )?;
+    let replies = replies_if(alloc, asked, prelude, paths, texts, laid, scripts, outcomes)?;
     Ok(Account {
         undone,
         spoken: Vec::new(alloc),

@@ -27,7 +27,9 @@ fn barred_line(
 {
     let line = line_at(text, barred.word.place);
     let (label, by) = (shown(barred.word.text), shown(barred.by));
-    format!(in alloc; "{path}:{line}: {label} can't leave its place: {by} cites it, and no script moves that or gives it another proof")
+    format!(in alloc;
+        "{path}:{line}: {label} can't leave its place: {by} cites it, and no script moves that or gives it another proof"
+    )
 }
 
 /// No assertion that scripts can't change forbids a command of theirs. The paths are those of the source and of the scripts.
@@ -44,7 +46,10 @@ pub(crate) fn are_free<'a, D: Declared<'a>>(
 {
     match barred_of(alloc, keys, declared, scripts)? {
         Some(barred) => {
-            let (path, text) = (path_at(paths, barred.script + 1), text_at(texts, barred.script));
+            let (path, text) = (
+                path_at(paths, barred.script + 1),
+                text_at(texts, barred.script),
+            );
             Err(Unedited::Refused(barred_line(alloc, path, text, &barred)?))
         }
         None => Ok(()),

@@ -209,7 +209,9 @@ pub(crate) fn finish<'x, 'a: 'x>(
     check(rt, alloc, keys, path, &new, bytes_of(&described), follow)?;
     drop(new);
     let Draft {
-        text, following, ..
+        text,
+        following,
+        ..
     } = draft;
     let out = described.unwrap_or(text);
     let spoken = spoken_lines(alloc, keys, path, &following, out.as_slice())?;

@@ -32,7 +32,15 @@ fn put_replies(
 {
     for (k, outcome) in outcomes.iter().enumerate() {
         let commands = commands_at(script, k);
-        put_line(alloc, out, prelude, path, line_at(lines, k), commands, outcome)?;
+        put_line(
+            alloc,
+            out,
+            prelude,
+            path,
+            line_at(lines, k),
+            commands,
+            outcome,
+        )?;
     }
     Ok(())
 }
@@ -86,7 +94,5 @@ pub(crate) fn replies_if(
     if !asked {
         return Ok(None);
     }
-    Ok(Some(replies_in(
-        alloc, prelude, paths, texts, laid, scripts, rows,
-    )?))
+    Ok(Some(replies_in(alloc, prelude, paths, texts, laid, scripts, rows)?))
 }

@@ -187,13 +187,7 @@ pub fn draft_edits<'x, 'a: 'x>(
     let changes = Changes::new(alloc, keys, following.changes(alloc)?)?;
     are_free(alloc, keys, old, &following, &changes)?;
     let own = own_of(alloc, keys, old, taken)?;
-    are_uncited(
-        alloc,
-        keys,
-        old,
-        own.as_slice(),
-        following.gone.as_slice(),
-    )?;
+    are_uncited(alloc, keys, old, own.as_slice(), following.gone.as_slice())?;
     let flags = own.as_slice();
     let text = write_anew(
         alloc, keys, old, source, taken, replayed, &following, &changes, flags,

@@ -77,11 +77,7 @@ fn put_at<W: World>(
 
 /// Writes what became of the transactions to the file at a path, if there is one and it was told: the status where that can't be done, which
 /// is said.
-fn put_replies<W: World>(
-    world: &mut W,
-    path: Option<&str>,
-    replies: Option<&Vec<u8>>,
-) -> Option<u8>
+fn put_replies<W: World>(world: &mut W, path: Option<&str>, replies: Option<&Vec<u8>>) -> Option<u8>
     ensures { (es : List Event) × Adds (W.done world.old) (W.done world.new) es
         × ArePutReplies (option_map (λ p. p.now) path) (option_map (λ text. text.now) replies) es result }
 {
@@ -111,7 +107,14 @@ fn tell_printed<W: World>(
     if let Some(status) = put_replies(world, outputs.replies, account.replies.as_ref()) {
         return status;
     }
-    put_at(world, alloc, outputs.place, source, undone_status(undone), out)
+    put_at(
+        world,
+        alloc,
+        outputs.place,
+        source,
+        undone_status(undone),
+        out,
+    )
 }
 
 /// Tells what became of the transactions, where no source is printed.

@@ -1,6 +1,6 @@
 -- The $d of an assertion that is put into a source: lists of variables, each of which restricts each pair of its variables.
-use Rattle.std.specs.Prelude.{◌≡◌, ◌==◌, ◌&&◌, ◌||◌, ℕ, Bool, true, List, [], ◌∷◌, ◌++◌, map}
-use Rattle.std.specs.List.{flat_map, list_any, list_all}
+use Rattle.std.specs.Prelude.{◌≡◌, ◌==◌, ◌&&◌, ◌||◌, ℕ, Bool, List, [], ◌∷◌, ◌++◌, map}
+use Rattle.std.specs.List.{flat_map, list_any}
 use Rattle.std.specs.declared.alloc.Global.{Global}
 use Rattle.std.specs.Prelude.{Vec}
 

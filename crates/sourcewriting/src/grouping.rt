@@ -46,7 +46,9 @@ fn variables_of(alloc: Global, pairs: &[(u32, u32)]) -> Result<Vec<u32>, AllocEr
 fn has_all(pairs: &[(u32, u32)], group: &[u32], variable: u32) -> bool
     ensures { result ≡ list_all (λ w. has_pair pairs.now w variable) group.now }
 {
-    group.iter().all(|member| has_pair(pairs, *member, variable))
+    group
+        .iter()
+        .all(|member| has_pair(pairs, *member, variable))
 }
 
 /// The list that begins with a pair: each variable follows that has a pair with all before it.

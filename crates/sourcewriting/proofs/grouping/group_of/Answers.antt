@@ -1,7 +1,6 @@
 -- What is left to show of `group_of`.
-use Rattle.std.proofs.Common.{◌≡◌, ◌∙◌, ◌++◌, ◌∷◌, [], sym, ap, subst}
+use Rattle.std.proofs.Common.{◌∙◌, sym, ap, subst}
 use Rattle.std.specs.List.{list_all}
-use Rattle.sourcewriting.specs.Groups.{has_pair}
 use Rattle.sourcewriting.specs.Grouping.{IsGroupOf}
 use Rattle.sourcewriting.proofs.Groups.{group_begun, group_more}
 use Rattle.sourcewriting.proofs.grouping.group_of.Goals.{then-has_all+in_ok-push, else-has_all}
