@@ -1,6 +1,6 @@
 //! The commands of scripts, in order.
 
-ghost use Rattle.std.specs.Prelude.{◌≡◌, ◌++◌, IfOk, OnOk, map, codes};
+ghost use Rattle.std.specs.Prelude.{◌≡◌, ◌++◌, IfOk, OnOk, map};
 ghost use Rattle.mmtext.specs.Views.{seen};
 ghost use Rattle.source.specs.Views.{seen_words};
 ghost use Rattle.expanding.specs.Forms.{AreParts};

@@ -1,6 +1,6 @@
 //! The descriptions of what scripts add: a comment right in front of an assertion.
 
-ghost use Rattle.std.specs.Prelude.{◌≡◌, ℕ, IfOk, List, map, codes};
+ghost use Rattle.std.specs.Prelude.{◌≡◌, IfOk, List, map};
 ghost use Rattle.std.specs.Option.{option_map};
 ghost use Rattle.mmtext.specs.Views.{seen};
 ghost use Rattle.expanding.specs.Forms.{Part};

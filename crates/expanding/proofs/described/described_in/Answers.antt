@@ -29,13 +29,13 @@ loop-part-preserved c =
     let begun : n + c.from-begun.result ≡ begun_behind n p =
     begun_more (begins_with (codes "begin") p) n c.from-begun.result (c.from-begun.ensures ∙ ap from_bool begins) in
     let few : begun_behind n p ≤ suc i = begun_few (begins_with (codes "begin") p) n i c.loop-part.invariant.few in
-    let is : option_map seen_described c.description_of.result ≡ description_of fs (begun_behind n p - 1) p =
+    let told = description_of fs (begun_behind n p - 1) p in
+    let is : option_map seen_described c.description_of.result ≡ told =
     c.description_of.ensures fs c.loop-part.invariant.finds
     ∙ ap (λ k. description_of fs k p) (c.saturating_sub-transaction.ensures ∙ ap (λ k. k - 1) begun) in
     let next = part_next seen_part fs n xs i d (map seen_described found) (descriptions_behind fs 0 (map seen_part xs)) lt
     c.loop-part.invariant.told in
     let left : ℕ → List Description = λ k. descriptions_behind fs k (map seen_part (drop (i + 1) xs)) in
-    let told = description_of fs (begun_behind n p - 1) p in
     let all : map seen_described c.match-description_of.found.items ≡ map seen_described found ++ listed told = (
     elim c.match-description_of.branch [
       | in-Some+in_ok-push w ↦
