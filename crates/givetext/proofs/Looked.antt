@@ -1,7 +1,6 @@
 -- A source with edits that was looked at.
 use Rattle.std.proofs.Common.{ℕ, Bool, List, map, subst}
 use Rattle.std.specs.Prelude.{All, IsTrue}
-use Rattle.mmtext.specs.Words.{Word}
 use Rattle.source.specs.Scopes.{Scope}
 use Rattle.source.specs.Sources.{DeclaresText}
 use Rattle.taking.specs.Reasons.{Choice}

@@ -1,5 +1,5 @@
 -- What is left to show of `draft_edits`.
-use Rattle.std.proofs.Common.{◌∙◌, Bool, List, length, map, ap, subst, refl}
+use Rattle.std.proofs.Common.{◌∙◌, Bool, List, length, ap, subst, refl}
 use Rattle.std.specs.Prelude.{All, IsTrue}
 use Rattle.mmtext.specs.Words.{Word}
 use Rattle.source.specs.Views.{seen_words}
@@ -10,15 +10,15 @@ use Rattle.sourceediting.specs.Refusals.{IsCitedCause}
 use Rattle.sourceediting.specs.Views.{seen_following}
 use Rattle.std.proofs.lemmas.Result.{err_from_is_err_and}
 use Rattle.intake.specs.Intakes.{axioms_of}
-use Rattle.givetext.specs.Causes.{known_of, IsTextThen}
+use Rattle.givetext.specs.Causes.{known_of}
 use Rattle.givetext.proofs.Stopped.{stopped, told_cause, cited_cause}
 use Rattle.givetext.proofs.drafting.draft_edits.Goals as goal
 
 pub are_uncited-requires : goal.are_uncited-requires
-are_uncited-requires g c κs = ((refl, tt), ap length c.as_slice-2.ensures.value ∙ c.in_ok-own.ensures.many)
+are_uncited-requires c κs = ((refl, tt), ap length c.as_slice-2.ensures.value ∙ c.in_ok-own.ensures.many)
 
 pub returns-clause-drafted : goal.returns-clause-drafted
-returns-clause-drafted g c choice are =
+returns-clause-drafted c choice are =
     let old = c.args.old.now.stand.scope in
     let taken = c.args.taken.now in
     let replayed = c.args.replayed.now in
@@ -41,7 +41,7 @@ returns-clause-drafted g c choice are =
     }
 
 pub returns-in_err-are_free-clause-refused : goal.returns-in_err-are_free-clause-refused
-returns-in_err-are_free-clause-refused g c = λ choice are.
+returns-in_err-are_free-clause-refused c = λ choice are.
     let old = c.args.old.now.stand.scope in
     let taken = c.args.taken.now in
     let replayed = c.args.replayed.now in
@@ -55,7 +55,7 @@ returns-in_err-are_free-clause-refused g c = λ choice are.
     (c.in_err-are_free.ensures taken replayed.entries replayed.edited own c.args.source.now))
 
 pub returns-in_err-text-clause-refused : goal.returns-in_err-text-clause-refused
-returns-in_err-text-clause-refused g c = λ choice are.
+returns-in_err-text-clause-refused c = λ choice are.
     let old = c.args.old.now.stand.scope in
     let taken = c.args.taken.now in
     let replayed = c.args.replayed.now in
@@ -68,7 +68,7 @@ returns-in_err-text-clause-refused g c = λ choice are.
     (c.as_slice-flags.ensures.value ∙ c.in_ok-own.ensures.flags choice are) c.in_err-text.field-0.0 c.in_err-text.ensures.refused)
 
 pub returns-in_err-are_uncited-clause-refused : goal.returns-in_err-are_uncited-clause-refused
-returns-in_err-are_uncited-clause-refused g c = λ choice are.
+returns-in_err-are_uncited-clause-refused c = λ choice are.
     let old = c.args.old.now.stand.scope in
     let taken = c.args.taken.now in
     let replayed = c.args.replayed.now in

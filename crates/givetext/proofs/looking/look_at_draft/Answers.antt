@@ -1,15 +1,12 @@
 -- What is left to show of `look_at_draft`.
-use Rattle.std.proofs.Common.{List, ℕ, ap, map, subst}
+use Rattle.std.proofs.Common.{List, ℕ, ap, subst}
 use Rattle.mmtext.specs.Words.{Word}
 use Rattle.source.specs.Views.{seen_words}
 use Rattle.comments.specs.Kept.{AreKept}
-use Rattle.sourceediting.specs.Following.{label_then}
 use Rattle.sourceediting.specs.Views.{seen_following}
-use Rattle.std.proofs.lemmas.Result.{err_from_is_err_and, OnOk-weaker}
-use Rattle.givetext.specs.Drafts.{known_in}
-use Rattle.givetext.specs.Parts.{IsEdited, IsLoss}
+use Rattle.std.proofs.lemmas.Result.{err_from_is_err_and, on_ok_weaker}
 use Rattle.givetext.proofs.Looked.{edited_by}
-use Rattle.givetext.proofs.Stopped.{draft_stopped, lost_cause}
+use Rattle.givetext.proofs.Stopped.{draft_stopped}
 use Rattle.givetext.proofs.looking.look_at_draft.Goals as goal
 
 pub returns-clause-edited : goal.returns-clause-edited
@@ -18,8 +15,7 @@ returns-clause-edited g c choice taken is =
     let source = c.args.source.now in
     let replayed = c.args.replayed.now in
     let old = c.args.old.now.stand.scope in
-    OnOk-weaker c.keep_comments.result (AreKept d.changes (seen_words c.as_slice-gone.result.now) source c.as_slice-text.result.now)
-    (IsEdited source old choice taken replayed.entries replayed.edited d.text.items)
+    on_ok_weaker c.keep_comments.result
     (λ kept. edited_by source old choice taken replayed.entries replayed.edited d is
     (subst (λ (text : List ℕ). AreKept d.changes (seen_following d.following).gone source text) c.as_slice-text.ensures.value
     (subst (λ (ws : List Word). AreKept d.changes ws source c.as_slice-text.result.now) (ap seen_words c.as_slice-gone.ensures.value) kept))
