@@ -1,16 +1,19 @@
 -- From scripts that edit a source, and what is told of that, to what a command line does.
-use Rattle.std.proofs.Common.{◌≡◌, ◌<◌, ◌-◌, ◌++◌, ◌∷◌, [], ℕ, Bool, true, false, All, List, Option, Some, None, ap, arith, codes, drop, inl, inr, length, map, refl, slice_index_or, subst, sym, take, Result}
+use Rattle.std.proofs.Common.{◌≡◌, ◌<◌, ◌-◌, ◌++◌, ◌∷◌, [], ℕ, Bool, true, false, All, List, Option, Some, None, ap, ap₂, arith, codes, drop, inl, inr, length, map, refl, slice_index_or, subst, sym, take, Result}
 use Rattle.std.proofs.lemmas.List.{take_rest}
 use Rattle.std.proofs.lemmas.List.Elements.{All-cons, All-nil}
-use Rattle.std.specs.Prelude.{if◌then◌else◌, is_some}
+use Rattle.std.specs.Prelude.{is_some, Vec}
+use Rattle.std.specs.Option.{unwrap_or}
+use Rattle.std.specs.declared.alloc.Global.{Global}
+use Rattle.std.proofs.lemmas.List.{append-nil}
 use Rattle.clap.specs.Words.{Row, Text}
 use Rattle.commandline.specs.EditOrders.{IsEditOrder}
 use Rattle.commandline.specs.declared.edit_order.Outputs.{Outputs}
 use Rattle.edittext.specs.Answers.{IsEditAnswer}
 use Rattle.edittext.specs.Edited.{edit_room}
 use Rattle.edittext.specs.declared.answering.Told.{Told}
-use Rattle.program.specs.Events.{Bytes, Event, IsQuiet, compares}
-use Rattle.program.specs.Conduct.{EndsBy, AreCompared, Clash, clashes, IsAnsweredEdit, IsEditDone, IsEditFollowed, IsEditTold, IsMatched, IsSaid}
+use Rattle.program.specs.Events.{Bytes, Event, IsQuiet, compares, writes}
+use Rattle.program.specs.Conduct.{EndsBy, AreCompared, ArePutReplies, AreRepliesThen, Clash, IsFoundOr, IsSaved, clashes, IsAnsweredEdit, IsEditDone, IsEditFollowed, IsEditTold, IsMatched, IsSaid}
 use Rattle.program.proofs.Behind.{EndsBy-behind, EndsBy-weaker}
 
 -- a list with something in it, by that and what stands behind
@@ -29,16 +32,18 @@ edit_answered keyed paths texts path source others scripts workers room o partia
     → IsAnsweredEdit keyed ps workers room o partial (source ∷ scripts) es status) (sym named) (λ own. inl (told, own, is)) answer)
 
 -- asking where paths lead is quiet
+found_is_quiet : (same : Bool) (line : Bytes) (P : List Event → Option Bytes → Type 0)
+    → ((es : List Event) (found : Option Bytes) → P es found → All IsQuiet es)
+    → (es : List Event) (found : Option Bytes) → IsFoundOr same line P es found → All IsQuiet es
+found_is_quiet true line P quiet es found is = subst (λ (done : List Event). All IsQuiet done) (sym is.0) (All-nil IsQuiet)
+found_is_quiet false line P quiet es found is = quiet es found is
+
 compared_is_quiet : (xs : List Clash) (es : List Event) (line : Option Bytes) → AreCompared xs es line → All IsQuiet es
 compared_is_quiet [] es line is = subst (λ (done : List Event). All IsQuiet done) (sym is.0) (All-nil IsQuiet)
 compared_is_quiet (x ∷ xs) es line is =
     subst (λ (done : List Event). All IsQuiet done) (sym is.2)
-    (All-cons IsQuiet (compares x.one x.other is.0) is.1 tt (behind_is_quiet x xs is.0 is.1 line is.4))
-
-behind_is_quiet : (x : Clash) (xs : List Clash) (same : Bool) (rest : List Event) (line : Option Bytes)
-    → (if same then (rest ≡ []) × (line ≡ Some x.line) else AreCompared xs rest line) → All IsQuiet rest
-behind_is_quiet x xs true rest line is = subst (λ (done : List Event). All IsQuiet done) (sym is.0) (All-nil IsQuiet)
-behind_is_quiet x xs false rest line is = compared_is_quiet xs rest line is
+    (All-cons IsQuiet (compares x.one x.other is.0) is.1 tt
+    (found_is_quiet is.0 x.line (AreCompared xs) (compared_is_quiet xs) is.1 line is.4))
 
 -- something would go over the source, or two texts to one file
 pub over_source : (keyed : Bool) (paths : List Bytes) (source : Bytes) (scripts : List Bytes) (workers : ℕ) (room : Option ℕ)
@@ -85,3 +90,60 @@ pub edit_ordered : {E : Type 0} (keyed : Bool) (found : Option (Text × List Row
 edit_ordered keyed found paths workers room outputs partial es r order ends =
     EndsBy-weaker (IsEditDone keyed paths workers room outputs partial) (IsMatched keyed found) es r
     (λ status is. inr (inr (inr (inr (inl (paths, workers, room, outputs, partial, order, is)))))) ends
+
+-- ---- comparisons, one behind another
+
+found_more : (same : Bool) (line : Bytes) (P Q : List Event → Option Bytes → Type 0) (es : List Event) (found : Option Bytes)
+    → (P es found → Q es found) → IsFoundOr same line P es found → IsFoundOr same line Q es found
+found_more true line P Q es found f is = is
+found_more false line P Q es found f is = f is
+
+-- what is found among some is found among these and others
+pub compared_found : (xs ys : List Clash) (es : List Event) (line : Bytes) → AreCompared xs es (Some line)
+    → AreCompared (xs ++ ys) es (Some line)
+compared_found [] ys es line is = absurd (let none = is.1 in cc)
+compared_found (x ∷ xs) ys es line is = (
+  is.0,
+  is.1,
+  is.2,
+  is.3,
+  found_more is.0 x.line (AreCompared xs) (AreCompared (xs ++ ys)) is.1 (Some line) (compared_found xs ys is.1 line) is.4,
+)
+
+more_behind : (same : Bool) (x : Clash) (xs ys : List Clash) (rest fs : List Event) (found : Option Bytes)
+    → (AreCompared xs rest None → AreCompared (xs ++ ys) (rest ++ fs) found) → IsFoundOr same x.line (AreCompared xs) rest None
+    → IsFoundOr same x.line (AreCompared (xs ++ ys)) (rest ++ fs) found
+more_behind true x xs ys rest fs found f is = absurd (let none = is.1 in cc)
+more_behind false x xs ys rest fs found f is = f is
+
+-- what isn't found among some is found among others behind them, or isn't
+pub compared_none : (xs ys : List Clash) (es fs : List Event) (found : Option Bytes) → AreCompared xs es None → AreCompared ys fs found
+    → AreCompared (xs ++ ys) (es ++ fs) found
+compared_none [] ys es fs found is next = subst (λ (before : List Event). AreCompared ys (before ++ fs) found) (sym is.0) next
+compared_none (x ∷ xs) ys es fs found is next = (
+  is.0,
+  is.1 ++ fs,
+  ap (λ (before : List Event). before ++ fs) is.2,
+  is.3,
+  more_behind is.0 x xs ys is.1 fs found (λ rest. compared_none xs ys is.1 fs found rest next) is.4,
+)
+
+-- ---- what became of the transactions
+
+pub put_failed : (path : Option Bytes) (text : Option (Vec ℕ Global)) (p bytes : Bytes) (t : Vec ℕ Global) (whole : Bool)
+    (rest : List Event) (status : ℕ)
+    → path ≡ Some p → text ≡ Some t → bytes ≡ t.items → whole ≡ false → IsSaved p 1 whole rest status
+    → ArePutReplies path text (writes p bytes whole ∷ rest) (Some status)
+put_failed path text p bytes t whole rest status at of same failed saved =
+    subst (λ (o : Option Bytes). ArePutReplies o text (writes p bytes whole ∷ rest) (Some status)) (sym at)
+    (subst (λ (o : Option (Vec ℕ Global)). ArePutReplies (Some p) o (writes p bytes whole ∷ rest) (Some status)) (sym of) (
+      rest,
+      ap₂ (λ (b : Bytes) (k : Bool). writes p b k ∷ rest) same failed,
+      subst (λ (k : Bool). IsSaved p 1 k rest status) failed saved,
+    ))
+
+pub undone_told : (path : Option Bytes) (text : Option (Vec ℕ Global)) (es : List Event) (failed : Option ℕ)
+    → ArePutReplies path text es failed
+    → AreRepliesThen path text (λ more told. (more ≡ []) × (told ≡ 3)) es (unwrap_or failed 3)
+undone_told path text es None put = inr (es, [], sym (append-nil es), put, (refl, refl))
+undone_told path text es (Some status) put = inl put

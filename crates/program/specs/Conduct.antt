@@ -1,6 +1,6 @@
 -- What the program does for a command line, event by event, and the status that it ends with.
 use Rattle.std.specs.Prelude.{◌≡◌, ◌≢◌, ◌⊎◌, ℕ, Bool, true, false, List, [], ◌∷◌, ◌++◌, Option, Some, None, Result, Ok, Err, All, codes, length}
-use Rattle.std.specs.Prelude.{String, Vec, map, slice_get, string_bytes, is_some, if◌then◌else◌}
+use Rattle.std.specs.Prelude.{String, Vec, map, slice_get, string_bytes, is_some}
 use Rattle.std.specs.Option.{option_map}
 use Rattle.std.specs.declared.alloc.Global.{Global}
 use Rattle.clap.specs.declared.error.Error.{Error}
@@ -319,12 +319,17 @@ clashes o source =
     ++ (clash (codes "--replies names SOURCE") (replies_path o) (Some source)
     ++ clash (codes "--replies and --output name one file") (replies_path o) (file_of o.place))
 
+-- it was found, with this line, and nothing follows; or this follows
+abbrev pub IsFoundOr : Bool → Bytes → (List Event → Option Bytes → Type 0) → List Event → Option Bytes → Type 0
+IsFoundOr true line P es found = (es ≡ []) × (found ≡ Some line)
+IsFoundOr false line P es found = P es found
+
 -- it is asked of each whether the paths lead to one file, up to the first that do: its line; equal paths always do
 abbrev pub AreCompared : List Clash → List Event → Option Bytes → Type 0
 AreCompared [] es line = (es ≡ []) × (line ≡ None)
 AreCompared (x ∷ xs) es line =
     (same : Bool) × (rest : List Event) × (es ≡ compares x.one x.other same ∷ rest) × (x.one ≡ x.other → same ≡ true)
-    × (if same then (rest ≡ []) × (line ≡ Some x.line) else AreCompared xs rest line)
+    × IsFoundOr same x.line (AreCompared xs) rest line
 
 -- it would, which is said, and no file is read; or it wouldn't, and this follows
 abbrev pub IsApartThen : Outputs → Bytes → (List Event → ℕ → Type 0) → List Event → ℕ → Type 0

@@ -79,7 +79,7 @@ fn put_at<W: World>(
 /// is said.
 fn put_replies<W: World>(world: &mut W, path: Option<&str>, replies: Option<&Vec<u8>>) -> Option<u8>
     ensures { (es : List Event) × Adds (W.done world.old) (W.done world.new) es
-        × ArePutReplies (option_map (λ p. p.now) path) (option_map (λ text. text.now) replies) es result }
+        × ArePutReplies (option_map (λ p. p.now) path.entry) (option_map (λ text. text.now) replies.entry) es result }
 {
     let (path, text) = (path?, replies?);
     let saved = world.write(path, text.as_slice());
@@ -220,7 +220,7 @@ fn edit_files<R: Threads + Wait + Sync, W: World, V: Watch + Follow + Sync>(
 /// Whether two paths, if both are there, lead to one file.
 fn is_one<W: World>(world: &mut W, one: Option<&str>, other: Option<&str>) -> bool
     ensures { (line : Bytes) → (es : List Event) × Adds (W.done world.old) (W.done world.new) es
-        × AreCompared (clash line (option_map (λ p. p.now) one) (option_map (λ p. p.now) other)) es (then_some result line) }
+        × AreCompared (clash line (option_map (λ p. p.now) one.entry) (option_map (λ p. p.now) other.entry)) es (then_some result line) }
 {
     match (one, other) {
         (Some(one), Some(other)) => world.is_one_file(one, other),

@@ -1,7 +1,5 @@
-use Rattle.std.proofs.Common.{◌≡◌, ◌++◌, ◌∷◌, [], ℕ, List, Bor, Option, Some, None, ap, codes, map, refl, subst, sym}
+use Rattle.std.proofs.Common.{◌++◌, ◌∷◌, [], ℕ, List, Bor, map, refl}
 use Rattle.std.specs.Prelude.{is_some}
-use Rattle.std.specs.Option.{option_map}
-use Rattle.program.specs.Conduct.{AreCompared, clashes}
 use Rattle.program.specs.Events.{says}
 use Rattle.program.proofs.Behind.{adds_more}
 use Rattle.program.proofs.EditedThen.{apart, first_and_rest, over_source}
