@@ -1,5 +1,6 @@
 -- What is begun with, and the run over it.
-use Rattle.std.proofs.Common.{◌≡◌, ℕ, List}
+use Rattle.std.proofs.Common.{◌≡◌, ◌∙◌, ℕ, Bool, List, map, ap, sym, Vec, Global}
+use Rattle.std.specs.Prelude.{String, string_bytes}
 use Rattle.source.specs.Scopes.{Scope}
 use Rattle.source.specs.Sources.{DeclaresText}
 use Rattle.transaction.specs.Closings.{lists_of}
@@ -8,7 +9,11 @@ use Rattle.jobs.specs.Jobs.{Room, IsWorked, room_of}
 use Rattle.editing.specs.declared.editing.Edited.{Edited}
 use Rattle.edittext.specs.declared.call.Begun.{Begun as CodeBegun}
 use Rattle.edittext.specs.Edited.{Begun, Run}
+use Rattle.edittext.specs.Undone.{all_undone}
+use Rattle.edittext.specs.Accounts.{IsAccount, all_replies, told_if}
+use Rattle.edittext.specs.Finished.{IsFirstAccount}
 use Rattle.edittext.specs.Views.{IsBegun}
+use Rattle.edittext.specs.declared.account.Account.{Account}
 use Rattle.edittext.proofs.Lines.{worked_as}
 
 module _ (source : Bytes) (texts : List Bytes) (s : Scope) (b : CodeBegun) (d : DeclaresText source s) (is : IsBegun s texts b) where
@@ -35,3 +40,19 @@ module _ (source : Bytes) (texts : List Bytes) (s : Scope) (b : CodeBegun) (d : 
     edited = e.library;
     worked = worked_as b.taken.database workers room ss b.scripts.items same e worked;
   }
+
+  -- what is told of it
+  pub accounted : (paths : List Bytes) (workers : ℕ) (room : Room) (ss : List Orders) (e : Edited) (same : ss ≡ b.scripts.items)
+      (w : IsWorked b.taken.database workers (room_of room b.taken.database ss) ss (lists_of e.outcomes.items) e.history e.library)
+      (asked : Bool) (a : Account) → IsFirstAccount paths texts b (lists_of e.outcomes.items) asked a
+      → (spoken : Vec (String Global) Global) (told : List Bytes) → map string_bytes spoken.items ≡ told
+      → IsAccount paths (run_of workers room ss e same w) asked told (record { undone = a.undone; spoken = spoken; replies = a.replies })
+  accounted paths workers room ss e same w asked a first spoken told said =
+      let rows = lists_of e.outcomes.items in
+      record {
+        undone = first.undone ∙ ap (λ bs. all_undone paths texts bs b.scripts.items rows) (sym is.beginnings);
+        spoken = said;
+        replies =
+            first.replies
+            ∙ ap (λ bs. told_if asked (all_replies b.taken.database.prelude paths texts bs b.scripts.items rows)) (sym is.beginnings);
+      }

@@ -29,9 +29,10 @@ pub descriptive_next : (texts : List Bytes) (scripts : List (List Token)) (k : �
     → slice_get scripts k ≡ Some words → k < length scripts → AreDescriptive texts (take k scripts) all
     → IsDescriptive (slice_index_or texts k []) words ds → more ≡ all ++ ds ∷ []
     → AreDescriptive texts (take (k + 1) scripts) more
-descriptive_next texts scripts k words all more ds at within are one is =
+descriptive_next texts scripts k words all more ds found within are one is =
     let long = length-take-le k scripts (omega (arith, within)) in
-    let here = subst (λ n. IsDescriptive (slice_index_or texts n []) words ds) (sym long) one in
-    subst (λ ss. AreDescriptive texts ss more) (sym (take_next scripts k words at))
-    (subst (λ (found : List (List Description)). AreDescriptive texts (take k scripts ++ words ∷ []) found) (sym is)
+    let at : k ≡ 0 + length (take k scripts) = omega (arith, long) in
+    let here = subst (λ n. IsDescriptive (slice_index_or texts n []) words ds) at one in
+    subst (λ ss. AreDescriptive texts ss more) (sym (take_next scripts k words found))
+    (subst (λ (made : List (List Description)). AreDescriptive texts (take k scripts ++ words ∷ []) made) (sym is)
     (descriptive_more texts 0 (take k scripts) all words ds are here))

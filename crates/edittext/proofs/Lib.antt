@@ -1,6 +1,8 @@
 pub mod Expanding
 pub mod Undoing
 pub mod Describing
-pub mod Finishing
+pub mod Unwrapped
 pub mod Lines
 pub mod Beginning
+pub mod Chosen
+pub mod Picked

@@ -75,7 +75,7 @@ abbrev pub told_if : Bool → Bytes → Option Bytes
 told_if asked text = if asked then Some text else None
 
 pub record IsAccount {source : Bytes} {texts : List Bytes} {workers : ℕ} {room : Room} {rows : List (List Outcome)}
-    (paths : List Bytes) (run : Run source texts workers room rows) (asked : Bool) (spoken : List Bytes) (a : Account) : Type 0 where
+    (paths : List Bytes) (run : Run source texts workers room rows) (asked : Bool) (told : List Bytes) (a : Account) : Type 0 where
   pub undone : map string_bytes a.undone.items ≡ undone_by paths run
-  pub spoken : map string_bytes a.spoken.items ≡ spoken
+  pub spoken : map string_bytes a.spoken.items ≡ told
   pub replies : option_map (λ text. text.items) a.replies ≡ told_if asked (replies_by paths run)

@@ -19,7 +19,7 @@ use Rattle.edittext.specs.Accounts.{lost, spoken_line, all_replies, told_if}
 use Rattle.edittext.specs.Views.{beginnings_of}
 use Rattle.edittext.specs.declared.account.Account.{Account}
 use Rattle.edittext.specs.declared.call.Begun.{Begun as CodeBegun}
-use Rattle.edittext.specs.declared.finishing.Finished.{Finished}
+use Rattle.edittext.specs.declared.completing.Finished.{Finished}
 
 -- what is told of a run, before the source with its edits is written
 pub record IsFirstAccount (paths texts : List Bytes) (b : CodeBegun) (rows : List (List Outcome)) (asked : Bool) (a : Account)

@@ -12,8 +12,8 @@ ghost use Rattle.edittext.specs.Views.{seen_texts};
 
 use crate::account::Account;
 use crate::call::{Begun, begin, read_old, run_over};
+use crate::completing::{Finished, finish};
 use crate::described::done_descriptions;
-use crate::finishing::{Finished, finish};
 use crate::replying::replies_if;
 use crate::undone::{may_print, undone};
 use crate::unedited::Unedited;

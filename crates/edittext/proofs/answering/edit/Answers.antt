@@ -1,17 +1,19 @@
 -- What is left to show of `edit`.
-use Rattle.std.proofs.Common.{◌∙◌, rules, refl, List, map, inl, inr, ap, subst, sym}
-use Rattle.std.specs.Prelude.{IfErr, IfOk}
-use Rattle.givetext.specs.Parts.{IsEdited}
-use Rattle.verifytext.specs.Verdicts.{IsVerifiedText}
+use Rattle.std.proofs.Common.{◌≡◌, ◌∙◌, [], rules, refl, List, length, map, inl, inr, ap, subst, sym}
+use Rattle.std.specs.Prelude.{IfErr, IfOk, string_bytes}
+use Rattle.std.proofs.lemmas.List.{length-map}
 use Rattle.std.proofs.lemmas.Result.{err_from_is_err_and}
+use Rattle.source.specs.Views.{seen_pairs}
+use Rattle.giving.specs.Staying.{Change}
 use Rattle.transaction.specs.Closings.{lists_of}
 use Rattle.jobs.specs.Jobs.{room_of}
 use Rattle.checking.specs.Checks.{Orders}
+use Rattle.edittext.specs.Described.{IsDescribedBy, done_descriptions, descriptions_then}
 use Rattle.edittext.specs.Edited.{edit_room}
-use Rattle.edittext.specs.Undone.{all_undone}
-use Rattle.edittext.specs.Refusals.{IsToldBy, IsUneditedLine, IsUnbegunLine, IsWorkLine, IsStoppedLine, IsFaultyThenLine}
-use Rattle.edittext.specs.Views.{seen_texts, beginnings_of}
-use Rattle.edittext.proofs.Beginning.{begun_of, run_of}
+use Rattle.edittext.specs.Finished.{IsFinished, IsFirstAccount}
+use Rattle.edittext.specs.Refusals.{IsToldBy, IsUneditedLine, IsUnbegunLine, IsWorkLine, IsStoppedOrFaulty}
+use Rattle.edittext.specs.Views.{seen_texts, seen_descriptions}
+use Rattle.edittext.proofs.Beginning.{begun_of, run_of, accounted}
 use Rattle.edittext.proofs.Lines.{told_more}
 use Rattle.edittext.proofs.answering.edit.Goals as goal
 
@@ -53,6 +55,11 @@ returns-in_err-outcomes-clause-refused g c =
       cause = subst (λ (ss : List Orders). IsWorkLine paths db workers (room_of room db ss) line) same h;
     })))) c.in_err-outcomes.field-0.0 c.in_err-outcomes.ensures.refused)
 
+pub finish-requires-clause-chosen : goal.finish-requires-clause-chosen
+finish-requires-clause-chosen g c κs within =
+    let library = c.in_ok-begun.ensures.begun.for_scripts.library in
+    ap length (sym library.chosen_are) ∙ length-map c.in_ok-old.old.stand.scope.assertions _
+
 pub returns-then-not-may_print-clause-told : goal.returns-then-not-may_print-clause-told
 returns-then-not-may_print-clause-told g c =
     let source = c.args.source.now in
@@ -60,22 +67,25 @@ returns-then-not-may_print-clause-told g c =
     let paths = map (λ p. p.now) c.args.order.paths.now in
     let workers = c.args.order.workers in
     let room = edit_room c.args.order.room in
+    let asked = c.args.order.with_replies in
+    let s = c.in_ok-old.old.stand.scope in
     let begun = c.in_ok-begun.begun in
     let is = c.in_ok-begun.ensures.begun in
+    let d = c.in_ok-old.ensures.declares in
+    let ss = c.as_slice-scripts.result.now in
     let same = c.as_slice-scripts.ensures.value in
     let e = c.in_ok-outcomes.field-0 in
-    let run =
-    run_of source texts c.in_ok-old.old.stand.scope begun c.in_ok-old.ensures.declares is workers room c.as_slice-scripts.result.now e same
-    c.in_ok-outcomes.ensures.done in
-    let lines =
-    c.in_ok-lines.ensures
-    ∙ ap (λ ls. all_undone paths texts (beginnings_of ls) c.as_slice-scripts.result.now (lists_of c.as_slice.result.now))
-    c.as_slice-laid.ensures.value
-    ∙ ap (λ (ss : List Orders). all_undone paths texts (beginnings_of begun.laid.items) ss (lists_of c.as_slice.result.now)) same
-    ∙ ap (λ rs. all_undone paths texts (beginnings_of begun.laid.items) begun.scripts.items (lists_of rs)) c.as_slice.ensures.value
-    ∙ ap (λ bs. all_undone paths texts bs begun.scripts.items (lists_of e.outcomes.items)) (sym is.beginnings) in
-    let undone = c.if-not-may_print.ensures.some refl in
-    (lists_of e.outcomes.items, run, lines, λ none. undone.0 (c.as_slice-2.ensures.value ∙ none), undone.1)
+    let account = c.in_ok-account.account in
+    let first = subst (λ rs. IsFirstAccount paths texts begun (lists_of rs) asked account) c.as_slice-rows.ensures.value
+    c.in_ok-account.ensures in
+    let undone = c.if-not-may_print.ensures.some refl in (
+      lists_of e.outcomes.items,
+      run_of source texts s begun d is workers room ss e same c.in_ok-outcomes.ensures.done,
+      accounted source texts s begun d is paths workers room ss e same c.in_ok-outcomes.ensures.done asked account first account.spoken []
+          (ap (map string_bytes) first.none_spoken),
+      λ none. undone.0 (c.as_slice.ensures.value ∙ none),
+      undone.1,
+    )
 
 pub returns-in_err-out-clause-refused : goal.returns-in_err-out-clause-refused
 returns-in_err-out-clause-refused g c =
@@ -89,90 +99,88 @@ returns-in_err-out-clause-refused g c =
     let begun = c.in_ok-begun.begun in
     let is = c.in_ok-begun.ensures.begun in
     let e = c.in_ok-outcomes.field-0 in
+    let rows = lists_of e.outcomes.items in
     let run =
     run_of source texts s begun c.in_ok-old.ensures.declares is workers room c.as_slice-scripts.result.now e
     c.as_slice-scripts.ensures.value
     c.in_ok-outcomes.ensures.done in
     let library = is.for_scripts.library in
     let choice = library.taken.choice in
+    let given = seen_pairs c.as_slice-described.result.now in
+    let descriptions = seen_descriptions begun.descriptions.items in
+    let same : given ≡ done_descriptions rows descriptions =
+    ap seen_pairs c.as_slice-described.ensures.value
+    ∙ c.in_ok-done.ensures
+    ∙ ap (λ rs. done_descriptions (lists_of rs) (seen_descriptions c.as_slice-2.result.now)) c.as_slice-rows.ensures.value
+    ∙ ap (λ ds. done_descriptions rows (seen_descriptions ds)) c.as_slice-2.ensures.value in
     let p = err_from_is_err_and c.from_residual-in_err-out.result c.from_residual-in_err-out.ensures.1 in
     rw (p.1, p.2) (told_more
-    (IsStoppedLine path source s choice begun.taken e.history e.library)
+    (IsStoppedOrFaulty path source s choice begun.taken e.history e.library given)
     (IsUneditedLine path paths source texts workers room)
-    (λ line h. inr (inr (inr (inl (record { rows = lists_of e.outcomes.items; run = run; cause = h })))))
+    (λ line h. elim h [
+      | inl stopped ↦ inr (inr (inr (inl (record { rows = rows; run = run; cause = stopped }))))
+      | inr f ↦ inr (inr (inr (inr (record {
+        rows = rows;
+        run = run;
+        edits = f.0;
+        source_then = f.2;
+        descriptions = descriptions;
+        are_descriptive = is.descriptive;
+        out = f.1;
+        described = subst (λ (ds : List Change). IsDescribedBy (descriptions_then ds f.2.followed) f.0 f.1) same f.3;
+        cause = f.4;
+      }))))
+    ])
     c.in_err-out.field-0.0
-    (subst (λ r. IfErr r (IsToldBy (IsStoppedLine path source s choice begun.taken e.history e.library))) c.in_err-out.was
-    (c.give_back.ensures.refused choice library.chosen_are)))
-
-pub returns-in_err-look_at-clause-refused : goal.returns-in_err-look_at-clause-refused
-returns-in_err-look_at-clause-refused g c =
-    let source = c.args.source.now in
-    let texts = seen_texts c.args.texts.now in
-    let paths = map (λ p. p.now) c.args.order.paths.now in
-    let path = c.args.order.path.now in
-    let workers = c.args.order.workers in
-    let room = edit_room c.args.order.room in
-    let s = c.in_ok-old.old.stand.scope in
-    let begun = c.in_ok-begun.begun in
-    let is = c.in_ok-begun.ensures.begun in
-    let e = c.in_ok-outcomes.field-0 in
-    let run =
-    run_of source texts s begun c.in_ok-old.ensures.declares is workers room c.as_slice-scripts.result.now e
-    c.as_slice-scripts.ensures.value
-    c.in_ok-outcomes.ensures.done in
-    let library = is.for_scripts.library in
-    let choice = library.taken.choice in
-    let then' = subst (λ r. IfOk r (λ out. IsEdited source s choice begun.taken e.history e.library out.items)) c.in_ok-out.was
-    (c.give_back.ensures.edited choice library.chosen_are) in
-    let p = err_from_is_err_and c.from_residual-in_err-look_at.result c.from_residual-in_err-look_at.ensures.1 in
-    rw (p.1, p.2) (told_more
-    (IsFaultyThenLine path c.in_ok-out.out.items)
-    (IsUneditedLine path paths source texts workers room)
-    (λ line h. inr (inr (inr (inr (record {
-      rows = lists_of e.outcomes.items;
-      run = run;
-      out = c.in_ok-out.out.items;
-      source_then = then';
-      cause = h;
-    })))))
-    c.in_err-look_at.field-0.0
-    (subst (λ out. IsToldBy (IsFaultyThenLine path out) c.in_err-look_at.field-0.0) c.as_slice-3.ensures.value
-    c.in_err-look_at.ensures.refused))
+    (subst (λ r. IfErr r (IsToldBy (IsStoppedOrFaulty path source s choice begun.taken e.history e.library given))) c.in_err-out.was
+    (c.finish.ensures.refused choice library.chosen_are)))
 
 pub returns-clause-told : goal.returns-clause-told
 returns-clause-told g c =
     let source = c.args.source.now in
     let texts = seen_texts c.args.texts.now in
     let paths = map (λ p. p.now) c.args.order.paths.now in
+    let path = c.args.order.path.now in
     let workers = c.args.order.workers in
     let room = edit_room c.args.order.room in
+    let asked = c.args.order.with_replies in
     let s = c.in_ok-old.old.stand.scope in
     let begun = c.in_ok-begun.begun in
     let is = c.in_ok-begun.ensures.begun in
-    let same = c.as_slice-scripts.ensures.value in
+    let d = c.in_ok-old.ensures.declares in
+    let ss = c.as_slice-scripts.result.now in
+    let whole = c.as_slice-scripts.ensures.value in
     let e = c.in_ok-outcomes.field-0 in
-    let run =
-    run_of source texts s begun c.in_ok-old.ensures.declares is workers room c.as_slice-scripts.result.now e same
-    c.in_ok-outcomes.ensures.done in
-    let lines =
-    c.in_ok-lines.ensures
-    ∙ ap (λ ls. all_undone paths texts (beginnings_of ls) c.as_slice-scripts.result.now (lists_of c.as_slice.result.now))
-    c.as_slice-laid.ensures.value
-    ∙ ap (λ (ss : List Orders). all_undone paths texts (beginnings_of begun.laid.items) ss (lists_of c.as_slice.result.now)) same
-    ∙ ap (λ rs. all_undone paths texts (beginnings_of begun.laid.items) begun.scripts.items (lists_of rs)) c.as_slice.ensures.value
-    ∙ ap (λ bs. all_undone paths texts bs begun.scripts.items (lists_of e.outcomes.items)) (sym is.beginnings) in
+    let rows = lists_of e.outcomes.items in
     let library = is.for_scripts.library in
     let choice = library.taken.choice in
-    let then' = subst (λ r. IfOk r (λ out. IsEdited source s choice begun.taken e.history e.library out.items)) c.in_ok-out.was
-    (c.give_back.ensures.edited choice library.chosen_are) in
-    let much = c.in_ok-look_at.field-0 in (
-      lists_of e.outcomes.items,
+    let given = seen_pairs c.as_slice-described.result.now in
+    let descriptions = seen_descriptions begun.descriptions.items in
+    let same : given ≡ done_descriptions rows descriptions =
+    ap seen_pairs c.as_slice-described.ensures.value
+    ∙ c.in_ok-done.ensures
+    ∙ ap (λ rs. done_descriptions (lists_of rs) (seen_descriptions c.as_slice-2.result.now)) c.as_slice-rows.ensures.value
+    ∙ ap (λ ds. done_descriptions rows (seen_descriptions ds)) c.as_slice-2.ensures.value in
+    let f = c.in_ok-out.field-0 in
+    let finished = subst (λ r. IfOk r (IsFinished path source s choice begun.taken e.history e.library given)) c.in_ok-out.was
+    (c.finish.ensures.finished choice library.chosen_are) in
+    let account = c.in_ok-account.account in
+    let first = subst (λ rs. IsFirstAccount paths texts begun (lists_of rs) asked account) c.as_slice-rows.ensures.value
+    c.in_ok-account.ensures in (
+      rows,
       record {
-        run = run;
-        source_then = then';
-        much = much;
-        verifies = subst (λ out. IsVerifiedText out much) c.as_slice-3.ensures.value c.in_ok-look_at.ensures.verified;
+        run = run_of source texts s begun d is workers room ss e whole c.in_ok-outcomes.ensures.done;
+        edits = finished.edits;
+        source_then = finished.is_edited;
+        descriptions = descriptions;
+        are_descriptive = is.descriptive;
+        described =
+            subst (λ (ds : List Change). IsDescribedBy (descriptions_then ds finished.is_edited.followed) finished.edits f.out.items) same
+            finished.described;
+        much = finished.much;
+        verifies = finished.verifies;
       },
-      lines,
-      λ whole. sym c.as_slice-2.ensures.value ∙ c.if-not-may_print.ensures.whole refl whole,
+      accounted source texts s begun d is paths workers room ss e whole c.in_ok-outcomes.ensures.done asked account first f.spoken _
+          finished.spoken,
+      λ all. sym c.as_slice.ensures.value ∙ c.if-not-may_print.ensures.whole refl all,
     )

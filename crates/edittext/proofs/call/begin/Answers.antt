@@ -22,7 +22,7 @@ returns-in_err-spread-clause-refused g c =
     let texts = seen_texts c.args.texts.now in
     let paths = map (λ p. p.now) c.args.order.paths.now in
     let path = c.args.order.path.now in
-    let p = err_from_is_err_and c.from_residual-in_err-spread.result c.from_residual-in_err-spread.ensures.1 in
+    let p = err_from_is_err_and c.from_residual.result c.from_residual.ensures.1 in
     rw (p.1, p.2) (told_more
     (λ line. IsWordlessLine paths texts line ⊎ IsMisfitLine paths s texts line) (IsUnbegunLine path paths s texts)
     (λ line h. elim h [

@@ -1,9 +1,7 @@
 -- What is left to show of `descriptions_of`.
-use Rattle.std.proofs.Common.{◌≡◌, ◌∙◌, ◌<◌, [], List, length, map, refl, sym, ap, subst, arith, Vec, Global}
-use Rattle.std.specs.Prelude.{slice_index_or}
+use Rattle.std.proofs.Common.{◌≡◌, ◌∙◌, List, length, map, refl, ap, subst, arith, Vec, Global}
 use Rattle.std.proofs.lemmas.List.{map-append, length-map}
 use Rattle.std.proofs.lemmas.Option.{slice_get_read}
-use Rattle.mmtext.specs.Text.{Token}
 use Rattle.mmtext.specs.Views.{seen}
 use Rattle.mmtext.specs.declared.token.Token.{Token as CodeToken}
 use Rattle.checking.specs.Checks.{Bytes}
@@ -29,9 +27,9 @@ loop-place-preserved c =
     let own = c.in_ok-described_in.ensures in
     let own_words : c.as_slice.result.now ≡ words.items = c.as_slice.ensures.value in
     let one : IsDescriptive c.text_at-text.result.now (map seen c.as_slice.result.now) (map seen_described found.items) = own in
-    descriptive_next texts (seen_scripts scripts) k (view words) (seen_descriptions c.loop-place.all.items) _ (map seen_described found.items)
-    (get_seen view scripts k words at) (omega (arith, within, c.loop-place-test.true)) c.loop-place.invariant
-    (subst (λ (text : Bytes). IsDescriptive text (view words) (map seen_described found.items)) c.text_at-text.ensures
+    descriptive_next texts (seen_scripts scripts) k (view words) (seen_descriptions c.loop-place.all.items) _
+    (map seen_described found.items) (get_seen view scripts k words at) (omega (arith, within, c.loop-place-test.true))
+    c.loop-place.invariant (subst (λ (text : Bytes). IsDescriptive text (view words) (map seen_described found.items)) c.text_at-text.ensures
     (subst (λ (ts : List CodeToken). IsDescriptive c.text_at-text.result.now (map seen ts) (map seen_described found.items)) own_words one))
     (ap seen_descriptions c.in_ok-push.ensures.items
     ∙ map-append (λ (ds : Vec Described Global). map seen_described ds.items) c.loop-place.all.items _)

@@ -1,10 +1,9 @@
 -- What is left to show of `put_replies`.
-use Rattle.std.proofs.Common.{◌≡◌, ◌∙◌, ◌++◌, [], ℕ, List, length, refl, ap}
+use Rattle.std.proofs.Common.{◌∙◌, ◌++◌, [], ℕ, List, length, refl, ap}
 use Rattle.std.specs.Prelude.{slice_index_or}
 use Rattle.std.proofs.lemmas.Option.{slice_get_read}
 use Rattle.library.specs.declared.command.Command.{Command}
 use Rattle.transaction.specs.declared.outcome.Outcome.{Outcome}
-use Rattle.reports.specs.Reports.{IsReportable}
 use Rattle.replylines.specs.ReplyLines.{reply_line}
 use Rattle.edittext.proofs.Undoing.{each_next}
 use Rattle.edittext.proofs.replying.put_replies.Goals as goal

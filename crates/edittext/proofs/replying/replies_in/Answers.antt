@@ -1,13 +1,16 @@
 -- What is left to show of `replies_in`.
-use Rattle.std.proofs.Common.{◌≡◌, ◌∙◌, ◌+◌, ◌++◌, [], ℕ, suc, List, length, map, take, refl, sym, ap, add-one, Vec, Global}
+use Rattle.std.proofs.Common.{◌≡◌, ◌∙◌, ◌+◌, ◌++◌, [], ℕ, suc, List, length, map, take, refl, sym, ap, subst, arith, add-one, Vec, Global}
 use Rattle.std.specs.Prelude.{All, slice_index_or}
-use Rattle.std.proofs.lemmas.Option.{slice_get_read}
+use Rattle.std.proofs.lemmas.List.{length-map}
+use Rattle.std.proofs.lemmas.Option.{slice_get_read, get_or_from_slice_get}
 use Rattle.transaction.specs.declared.outcome.Outcome.{Outcome}
+use Rattle.transaction.specs.Closings.{lists_of}
 use Rattle.checking.specs.Checks.{Bytes, Orders}
 use Rattle.expanding.specs.Lines.{line_at}
 use Rattle.reports.specs.Reports.{IsReportable}
 use Rattle.edittext.specs.Accounts.{replies_of}
 use Rattle.edittext.specs.Views.{seen_texts, beginnings_of}
+use Rattle.edittext.proofs.Expanding.{get_seen}
 use Rattle.edittext.proofs.Undoing.{each_seen, each_next}
 use Rattle.edittext.proofs.replying.replies_in.Goals as goal
 
@@ -41,3 +44,16 @@ loop-n-preserved c =
     each_next (λ k r. G k (I r)) rows n row at c.loop-n-test.true [] before _ (c.in_ok-put_replies.ensures ∙ ap (λ ls. before ++ ls) one)
     (c.loop-n.invariant ∙ each_seen I G 0 (take n rows))
     ∙ sym (each_seen I G 0 (take (n + 1) rows))
+
+pub put_replies-requires : goal.put_replies-requires
+put_replies-requires c =
+    let rows = c.args.rows.now in
+    let n = c.loop-n.n in
+    let row = c.index-rows-n.result in
+    let view = λ (r : Vec Outcome Global). r.items in
+    let at = slice_get_read rows (length rows) n row refl c.loop-n-test.true c.index-rows-n.is in
+    let here : slice_index_or (lists_of rows) n [] ≡ row.items =
+    get_or_from_slice_get (lists_of rows) n row.items [] (get_seen view rows n row at) in
+    let long : length (lists_of rows) ≡ length rows = length-map rows view in
+    subst (All (IsReportable c.args.prelude.now)) (here ∙ sym c.as_slice-in-loop-n.ensures.value)
+    (c.requires n [] (omega (arith, long, c.loop-n-test.true)))

@@ -1,6 +1,6 @@
 //! The source with the edits of a run: it is written, looked at, verified, and described.
 
-ghost use Rattle.std.specs.Prelude.{◌≡◌, IfOk, IfErr, OnOk, length, map, string_bytes};
+ghost use Rattle.std.specs.Prelude.{◌≡◌, IfOk, IfErr, List, OnOk, length, map, string_bytes};
 ghost use Rattle.items.specs.Divided.{IsDivided};
 ghost use Rattle.source.specs.Scopes.{Assertion, is_in};
 ghost use Rattle.source.specs.Sources.{DeclaresText};
@@ -123,9 +123,9 @@ fn check<'o>(
 ) -> Result<Verified, Unedited>
     requires { IsWhole new.now.stand.scope }
     ensures verified { (text : Bytes) → DeclaresText text new.now.stand.scope
-        → IfOk result (IsVerifiedText (unwrap_or (option_map (λ t. t.now) other) text)) }
+        → IfOk result (IsVerifiedText (unwrap_or (option_map (λ t. t.now) other.entry) text)) }
     ensures refused { (text : Bytes) → DeclaresText text new.now.stand.scope
-        → IfErr result (IsToldBy (IsFaultyThenLine path.now (unwrap_or (option_map (λ t. t.now) other) text))) }
+        → IfErr result (IsToldBy (IsFaultyThenLine path.now (unwrap_or (option_map (λ t. t.now) other.entry) text))) }
 {
     let verified = match other {
         Some(text) => verify(rt, alloc, keys, text, None, follow),

@@ -5,7 +5,7 @@ use Rattle.givetext.specs.Refusals.{refusal_text}
 use Rattle.givetext.specs.declared.refusal.Refusal.TheVariants.{NoMemory}
 use Rattle.edittext.specs.Refusals.{IsStoppedLine}
 use Rattle.edittext.proofs.Lines.{told_more}
-use Rattle.edittext.proofs.finishing.look_at.Goals as goal
+use Rattle.edittext.proofs.completing.look_at.Goals as goal
 
 pub returns-in_ok-ungiven-in-Err-clause-refused : goal.returns-in_ok-ungiven-in-Err-clause-refused
 returns-in_ok-ungiven-in-Err-clause-refused g c =

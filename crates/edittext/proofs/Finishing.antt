@@ -1,8 +1,0 @@
--- The source with the edits of a run: what is printed of it.
-use Rattle.std.proofs.Common.{◌≡◌, ℕ, List, Option, Some, None, refl, Vec, Global}
-use Rattle.std.specs.Option.{option_map, unwrap_or}
-
-pub unwrapped : (o : Option (Vec ℕ Global)) (v : Vec ℕ Global)
-    → (unwrap_or o v).items ≡ unwrap_or (option_map (λ (t : Vec ℕ Global). t.items) o) v.items
-unwrapped None v = refl
-unwrapped (Some t) v = refl
