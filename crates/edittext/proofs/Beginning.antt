@@ -1,6 +1,7 @@
 -- What is begun with, and the run over it.
-use Rattle.std.proofs.Common.{◌≡◌, ◌∙◌, ℕ, Bool, List, map, ap, sym, Vec, Global}
+use Rattle.std.proofs.Common.{◌≡◌, ◌∙◌, ℕ, Bool, List, map, ap, subst, sym, Vec, Global}
 use Rattle.std.specs.Prelude.{String, string_bytes}
+use Rattle.mmsyntax.specs.Tables.{Contents}
 use Rattle.source.specs.Scopes.{Scope}
 use Rattle.source.specs.Sources.{DeclaresText}
 use Rattle.transaction.specs.Closings.{lists_of}
@@ -9,12 +10,19 @@ use Rattle.jobs.specs.Jobs.{Room, IsWorked, room_of}
 use Rattle.editing.specs.declared.editing.Edited.{Edited}
 use Rattle.edittext.specs.declared.call.Begun.{Begun as CodeBegun}
 use Rattle.edittext.specs.Edited.{Begun, Run}
-use Rattle.edittext.specs.Undone.{all_undone}
-use Rattle.edittext.specs.Accounts.{IsAccount, all_replies, told_if}
+use Rattle.editscripts.specs.Undone.{all_undone}
+use Rattle.edittext.specs.Accounts.{IsAccount}
+use Rattle.editscripts.specs.Replies.{all_replies, told_if}
 use Rattle.edittext.specs.Finished.{IsFirstAccount}
 use Rattle.edittext.specs.Views.{IsBegun}
 use Rattle.edittext.specs.declared.account.Account.{Account}
-use Rattle.edittext.proofs.Lines.{worked_as}
+
+-- scripts that were run are those that were read
+pub worked_as : (db : Contents) (workers : ℕ) (room : Room) (ss scripts : List Orders) → ss ≡ scripts → (e : Edited)
+    → IsWorked db workers (room_of room db ss) ss (lists_of e.outcomes.items) e.history e.library
+    → IsWorked db workers (room_of room db scripts) scripts (lists_of e.outcomes.items) e.history e.library
+worked_as db workers room ss scripts same e w =
+    subst (λ (k : List Orders). IsWorked db workers (room_of room db k) k (lists_of e.outcomes.items) e.history e.library) same w
 
 module _ (source : Bytes) (texts : List Bytes) (s : Scope) (b : CodeBegun) (d : DeclaresText source s) (is : IsBegun s texts b) where
   abbrev pub begun_of : Begun source texts

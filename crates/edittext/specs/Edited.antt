@@ -21,8 +21,10 @@ use Rattle.verifytext.specs.declared.verifying_text.Verified.{Verified}
 use Rattle.verifytext.specs.Verdicts.{IsVerifiedText}
 use Rattle.expanding.specs.Asking.{spoken, asked}
 use Rattle.expanding.specs.Descriptions.{Description}
-use Rattle.edittext.specs.Described.{AreDescriptive, IsDescribedBy, done_descriptions, descriptions_then}
-use Rattle.edittext.specs.Expanded.{AreWordsOf, AreSpread, RankedScript, AreRanked, texts_of}
+use Rattle.editscripts.specs.Described.{AreDescriptive, done_descriptions}
+use Rattle.editedsource.specs.Described.{IsDescribedBy, descriptions_then}
+use Rattle.editscripts.specs.Expanded.{RankedScript, AreRanked, texts_of}
+use Rattle.editscripts.specs.Expanded.{IsSpreadOf}
 
 -- the room of a run that is given one, or isn't
 abbrev pub edit_room : Option ℕ → Room
@@ -41,12 +43,6 @@ pub record IsTakenFor (s : Scope) (scripts : List (List Token)) (t : Taken) : Ty
   pub wish : Wish
   pub by : IsAskedBy s scripts wish
   pub library : IsLibraryOf s wish t
-
--- these are the words of scripts by the source
-pub record IsSpreadOf (s : Scope) (texts : List Bytes) (scripts : List (List Token)) : Type 0 where
-  pub words : List (List Token)
-  pub are_words : AreWordsOf texts words
-  pub are_spread : AreSpread s words scripts
 
 -- these, and the library that is taken for them
 pub record Asked (s : Scope) (texts : List Bytes) : Type 0 where

@@ -1,6 +1,3 @@
-pub mod Expanded
-pub mod Undone
-pub mod Described
 pub mod Edited
 pub mod Refusals
 pub mod Views

@@ -10,17 +10,18 @@ ghost use Rattle.checking.specs.Tasks.{IsWithin};
 ghost use Rattle.jobs.specs.Jobs.{IsWorked, room_of};
 ghost use Rattle.reports.specs.Reports.{AreReportable};
 ghost use Rattle.edittext.specs.Edited.{IsTakenFor, edit_room};
-ghost use Rattle.edittext.specs.Refusals.{IsFaultyLine, IsToldBy, IsUntakenBy, IsUnbegunLine, IsWorkLine, IsStoppedLine, IsFaultyThenLine};
+ghost use Rattle.edittext.specs.Refusals.{IsFaultyLine, IsUntakenBy, IsUnbegunLine, IsWorkLine};
+ghost use Rattle.editscripts.specs.Refusals.{IsToldBy};
+ghost use Rattle.editedsource.specs.Refusals.{IsStoppedLine, IsFaultyThenLine};
 ghost use Rattle.expanding.specs.Views.{seen_scripts};
-ghost use Rattle.edittext.specs.Views.{seen_texts, IsBegun};
+ghost use Rattle.editscripts.specs.Views.{seen_texts};
+ghost use Rattle.edittext.specs.Views.{IsBegun};
 
 use crate::answering::EditOrder;
-use crate::barring::are_free;
-use crate::described::descriptions_of;
-use crate::expanded::{rank_all, read_all, spread_of};
-use crate::telling::{untaken, unworked};
-use crate::unedited::Unedited;
 use choosing::{Wish, wanted_of};
+use editscripts::{
+    Unedited, are_free, descriptions_of, rank_all, read_all, spread_of, untaken, unworked,
+};
 use expanding::{Described, Laid, asked_of};
 use following::Follow;
 use intake::{Taken, take_declared};

@@ -3,16 +3,7 @@
 
 mod account;
 mod answering;
-mod barring;
 mod call;
-mod completing;
-mod described;
-mod expanded;
-mod replying;
-mod spoken;
-mod telling;
-mod undone;
-mod unedited;
 
 pub use account::Account;
 pub use answering::{EditOrder, Told, answer_edit};

@@ -8,13 +8,17 @@ use Rattle.giving.specs.Staying.{Change}
 use Rattle.transaction.specs.Closings.{lists_of}
 use Rattle.jobs.specs.Jobs.{room_of}
 use Rattle.checking.specs.Checks.{Orders}
-use Rattle.edittext.specs.Described.{IsDescribedBy, done_descriptions, descriptions_then}
+use Rattle.editedsource.specs.Described.{IsDescribedBy, descriptions_then}
+use Rattle.editscripts.specs.Described.{done_descriptions}
 use Rattle.edittext.specs.Edited.{edit_room}
-use Rattle.edittext.specs.Finished.{IsFinished, IsFirstAccount}
-use Rattle.edittext.specs.Refusals.{IsToldBy, IsUneditedLine, IsUnbegunLine, IsWorkLine, IsStoppedOrFaulty}
-use Rattle.edittext.specs.Views.{seen_texts, seen_descriptions}
+use Rattle.editedsource.specs.Finished.{IsFinished}
+use Rattle.edittext.specs.Finished.{IsFirstAccount}
+use Rattle.editscripts.specs.Refusals.{IsToldBy}
+use Rattle.editedsource.specs.Refusals.{IsStoppedOrFaulty}
+use Rattle.edittext.specs.Refusals.{IsUneditedLine, IsUnbegunLine, IsWorkLine}
+use Rattle.editscripts.specs.Views.{seen_texts, seen_descriptions}
 use Rattle.edittext.proofs.Beginning.{begun_of, run_of, accounted}
-use Rattle.edittext.proofs.Lines.{told_more}
+use Rattle.editscripts.proofs.Lines.{told_more}
 use Rattle.edittext.proofs.answering.edit.Goals as goal
 
 pub begin-requires-sync-typeof-rt : goal.begin-requires-sync-typeof-rt

@@ -7,13 +7,14 @@ use Rattle.mmsyntax.specs.Tables.{Tables}
 use Rattle.library.specs.Fitting.{CommandFits}
 use Rattle.checking.specs.Checks.{AreScripts}
 use Rattle.expanding.specs.declared.laid.Laid.{Laid}
-use Rattle.edittext.specs.Expanded.{AreRanked, texts_of}
-use Rattle.edittext.specs.Edited.{IsSpreadOf}
-use Rattle.edittext.specs.Refusals.{IsWordlessLine, IsMisfitLine, IsBarredBy, IsUnbegunLine, IsCrowdedBy, IsUnreadBy}
+use Rattle.editscripts.specs.Expanded.{AreRanked, texts_of}
+use Rattle.editscripts.specs.Expanded.{IsSpreadOf}
+use Rattle.editscripts.specs.Refusals.{IsWordlessLine, IsMisfitLine, IsBarredBy, IsCrowdedBy, IsUnreadBy}
+use Rattle.edittext.specs.Refusals.{IsUnbegunLine}
 use Rattle.expanding.specs.Views.{seen_scripts}
-use Rattle.edittext.specs.Views.{seen_texts, AreLaid}
-use Rattle.edittext.proofs.Expanding.{begun_at}
-use Rattle.edittext.proofs.Lines.{told_more}
+use Rattle.editscripts.specs.Views.{seen_texts, AreLaid}
+use Rattle.editscripts.proofs.Expanding.{begun_at}
+use Rattle.editscripts.proofs.Lines.{told_more}
 use Rattle.edittext.proofs.call.begin.Goals as goal
 
 pub returns-in_err-spread-clause-refused : goal.returns-in_err-spread-clause-refused

@@ -5,7 +5,7 @@ use Rattle.intake.specs.declared.refusal.Refusal.TheVariants as untaken
 use Rattle.mmtext.specs.declared.fault.FaultKind.TheVariants.{NoMemory}
 use Rattle.taketext.specs.Refusals.{refusal_line}
 use Rattle.edittext.specs.Refusals.{IsFaultyLine}
-use Rattle.edittext.proofs.Lines.{told_more}
+use Rattle.editscripts.proofs.Lines.{told_more}
 use Rattle.edittext.proofs.call.read_old.Goals as goal
 
 pub returns-in_ok-untaken-in-Err-clause-refused : goal.returns-in_ok-untaken-in-Err-clause-refused

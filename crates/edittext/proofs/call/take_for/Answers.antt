@@ -9,7 +9,7 @@ use Rattle.choosing.specs.Spoken.{wanted_labels, axiom_labels}
 use Rattle.expanding.specs.Asking.{spoken, asked}
 use Rattle.edittext.specs.Refusals.{IsUntakenBy}
 use Rattle.expanding.specs.Views.{seen_scripts}
-use Rattle.edittext.proofs.Lines.{told_more}
+use Rattle.editscripts.proofs.Lines.{told_more}
 use Rattle.edittext.proofs.call.take_for.Goals as goal
 
 pub returns-in-Ok-clause-taken : goal.returns-in-Ok-clause-taken

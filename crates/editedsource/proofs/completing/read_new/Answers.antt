@@ -1,0 +1,18 @@
+-- What is left to show of `read_new`.
+use Rattle.std.proofs.Common.{◌≡◌, ◌++◌, codes}
+use Rattle.std.specs.Prelude.{◌≢◌}
+use Rattle.givetext.specs.Refusals.{refusal_text}
+use Rattle.givetext.specs.declared.refusal.Refusal.TheVariants.{NoMemory}
+use Rattle.editedsource.specs.Refusals.{IsStoppedLine}
+use Rattle.editscripts.proofs.Lines.{told_more}
+use Rattle.editedsource.proofs.completing.read_new.Goals as goal
+
+pub returns-in_ok-ungiven-in-Err-clause-refused : goal.returns-in_ok-ungiven-in-Err-clause-refused
+returns-in_ok-ungiven-in-Err-clause-refused g c =
+    λ source choice taken entries edited is.
+    let path = c.args.path.now in
+    let why = c.in-Err.why in
+    told_more (λ line. (why ≢ NoMemory) × (line ≡ path ++ (codes ": " ++ refusal_text why)))
+    (IsStoppedLine path source (g.D.Declared.scope c.args.old.now) choice taken entries edited)
+    (λ line h. record { why = why; stopped = c.in-Err.ensures.refused source choice taken entries edited is h.0; told = h.0; says = h.1 })
+    c.in_ok-ungiven-in-Err.field-0 c.in_ok-ungiven-in-Err.ensures

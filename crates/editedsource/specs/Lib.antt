@@ -1,0 +1,4 @@
+pub mod Described
+pub mod Gone
+pub mod Refusals
+pub mod Finished

@@ -1,0 +1,220 @@
+//! The source with the edits of a run: it is written, looked at, verified, and described.
+
+ghost use Rattle.std.specs.Prelude.{◌≡◌, IfOk, IfErr, List, OnOk, length, map, string_bytes};
+ghost use Rattle.items.specs.Divided.{IsDivided};
+ghost use Rattle.source.specs.Scopes.{Assertion, is_in};
+ghost use Rattle.source.specs.Sources.{DeclaresText};
+ghost use Rattle.source.specs.Views.{seen_pairs};
+ghost use Rattle.source.specs.Whole.{IsWhole};
+ghost use Rattle.std.specs.Option.{option_map, unwrap_or};
+ghost use Rattle.taking.specs.Reasons.{Choice};
+ghost use Rattle.intake.specs.declared.taken.Taken.{Taken as TakenOf};
+ghost use Rattle.library.specs.declared.history.Entry.{Entry};
+ghost use Rattle.library.specs.Library.{Listed};
+ghost use Rattle.checking.specs.Checks.{Bytes};
+ghost use Rattle.givetext.specs.Drafts.{IsDraft};
+ghost use Rattle.givetext.specs.Parts.{IsEdited};
+ghost use Rattle.verifytext.specs.Verdicts.{IsVerifiedText};
+ghost use Rattle.sourceediting.specs.Views.{seen_following};
+ghost use Rattle.editedsource.specs.Described.{IsDescribedBy, descriptions_then};
+ghost use Rattle.editedsource.specs.Finished.{IsFinished};
+ghost use Rattle.editscripts.specs.Refusals.{IsToldBy};
+ghost use Rattle.editedsource.specs.Refusals.{IsStoppedLine, IsFaultyThenLine, IsStoppedOrFaulty};
+
+use crate::placing::descriptions_then;
+use crate::spoken::spoken_lines;
+use crate::telling::{ungiven, unverified};
+use describing::describe;
+use editscripts::Unedited;
+use following::Follow;
+use givetext::{Draft, Replayed, draft_edits, look_at_draft, read_draft};
+use giving::Changes;
+use intake::Taken;
+use scopes::Scopes;
+use source::Declared;
+use source::laws::sources_are_whole;
+use sourceediting::Following;
+use std::alloc::{AllocError, Global};
+use std::hash::RandomState;
+use std::thread::Threads;
+use verifytext::{Verified, verify, verify_read};
+
+/// The source with the edits of a history, before it is looked at.
+fn draft_of<'x, 'a: 'x>(
+    alloc: Global,
+    keys: RandomState,
+    path: &str,
+    old: &Scopes<'a>,
+    source: &[u8],
+    taken: &'x Taken<'a>,
+    run: &'x Replayed,
+) -> Result<Draft<'x>, Unedited>
+    requires chosen { length taken.now.chosen.items ≡ length old.now.stand.scope.assertions }
+    requires declares { DeclaresText source.now old.now.stand.scope }
+    ensures drafted { (choice : Choice) → map (λ (x : Assertion). is_in choice.chosen x.label) old.now.stand.scope.assertions
+        ≡ taken.now.chosen.items
+        → IfOk result (IsDraft source.now old.now.stand.scope choice taken.now run.now.entries run.now.edited) }
+    ensures refused { (choice : Choice) → map (λ (x : Assertion). is_in choice.chosen x.label) old.now.stand.scope.assertions
+        ≡ taken.now.chosen.items
+        → IfErr result (IsToldBy (IsStoppedLine path.now source.now old.now.stand.scope choice taken.now run.now.entries run.now.edited)) }
+    ensures own { IfOk result (λ draft. length draft.own.items ≡ length old.now.stand.scope.assertions) }
+{
+    match draft_edits(alloc, keys, old, source, taken, run) {
+        Ok(draft) => Ok(draft),
+        Err(why) => Err(ungiven(alloc, path, &why)?),
+    }
+}
+
+/// What it declares.
+fn read_new<'o, 'a, D: Declared<'a>>(
+    alloc: Global,
+    keys: RandomState,
+    path: &str,
+    old: &D,
+    draft: &'o Draft<'_>,
+) -> Result<Scopes<'o>, Unedited>
+    requires { length draft.now.own.items ≡ length (D.scope old.now).assertions }
+    ensures declares { IfOk result (λ s. DeclaresText draft.now.text.items s.stand.scope) }
+    ensures refused { (source : Bytes) (choice : Choice) (taken : TakenOf) (entries : List Entry) (edited : Listed)
+        → IsDraft source (D.scope old.now) choice taken entries edited draft.now
+        → IfErr result (IsToldBy (IsStoppedLine path.now source (D.scope old.now) choice taken entries edited)) }
+{
+    match read_draft(alloc, keys, old, draft) {
+        Ok(new) => Ok(new),
+        Err(why) => Err(ungiven(alloc, path, &why)?),
+    }
+}
+
+/// It is looked at again.
+fn look_at<'o>(
+    rt: &(impl Threads + Sync),
+    alloc: Global,
+    keys: RandomState,
+    path: &str,
+    old: &Scopes<'_>,
+    new: &Scopes<'o>,
+    source: &[u8],
+    draft: &Draft<'_>,
+    run: &Replayed,
+) -> Result<(), Unedited>
+    requires own { length draft.now.own.items ≡ length old.now.stand.scope.assertions }
+    requires declares { DeclaresText draft.now.text.items new.now.stand.scope }
+    ensures edited { (choice : Choice) (taken : TakenOf)
+        → IsDraft source.now old.now.stand.scope choice taken run.now.entries run.now.edited draft.now
+        → OnOk result (IsEdited source.now old.now.stand.scope choice taken run.now.entries run.now.edited draft.now.text.items) }
+    ensures refused { (choice : Choice) (taken : TakenOf)
+        → IsDraft source.now old.now.stand.scope choice taken run.now.entries run.now.edited draft.now
+        → IfErr result (IsToldBy (IsStoppedLine path.now source.now old.now.stand.scope choice taken run.now.entries run.now.edited)) }
+{
+    match look_at_draft(rt, alloc, keys, old, new, source, draft, run) {
+        Ok(()) => Ok(()),
+        Err(why) => Err(ungiven(alloc, path, &why)?),
+    }
+}
+
+/// What is printed verifies: what was read, or another text.
+fn check<'o>(
+    rt: &(impl Threads + Sync),
+    alloc: Global,
+    keys: RandomState,
+    path: &str,
+    new: &Scopes<'o>,
+    other: Option<&[u8]>,
+    follow: &(impl Follow + Sync),
+) -> Result<Verified, Unedited>
+    requires { IsWhole new.now.stand.scope }
+    ensures verified { (text : Bytes) → DeclaresText text new.now.stand.scope
+        → IfOk result (IsVerifiedText (unwrap_or (option_map (λ t. t.now) other.entry) text)) }
+    ensures refused { (text : Bytes) → DeclaresText text new.now.stand.scope
+        → IfErr result (IsToldBy (IsFaultyThenLine path.now (unwrap_or (option_map (λ t. t.now) other.entry) text))) }
+{
+    let verified = match other {
+        Some(text) => verify(rt, alloc, keys, text, None, follow),
+        None => verify_read(rt, alloc, keys, new, None, follow),
+    };
+    match verified {
+        Ok(much) => Ok(much),
+        Err(why) => Err(unverified(alloc, path, why)?),
+    }
+}
+
+/// A text with these descriptions in front of what was added. None where it stays.
+fn describe_added(
+    alloc: Global,
+    keys: RandomState,
+    descriptions: &[(&[u8], &[u8])],
+    following: &Following<'_>,
+    text: &[u8],
+) -> Result<Option<Vec<u8>>, AllocError>
+    requires { IsDivided text.now }
+    ensures { IfOk result (λ made. IsDescribedBy (descriptions_then (seen_pairs descriptions.now) (seen_following following.now))
+        text.now (unwrap_or (option_map (λ out. out.items) made) text.now)) }
+{
+    let given = Changes::new(alloc, keys, Vec::from_slice(alloc, descriptions)?)?;
+    let pairs = descriptions_then(alloc, &given, following)?;
+    if pairs.is_empty() {
+        return Ok(None);
+    }
+    let placed = Changes::new(alloc, keys, pairs)?;
+    Ok(Some(describe(alloc, &placed, text)?))
+}
+
+/// The bytes of a text, if there is one.
+fn bytes_of(text: &Option<Vec<u8>>) -> Option<&[u8]>
+    ensures { option_map (λ t. t.now) result ≡ option_map (λ t. t.items) text.now }
+{
+    match text {
+        Some(text) => Some(text.as_slice()),
+        None => None,
+    }
+}
+
+/// The source with the edits of a run.
+#[derive(Drop)]
+pub struct Finished {
+    /// Its text.
+    pub out: Vec<u8>,
+    /// A line for each place at which a comment of it speaks of an assertion that was deleted.
+    pub spoken: Vec<String>,
+}
+
+/// The source with the edits of a run, in which these descriptions stand in front of what was added, once it was looked at and verified.
+pub fn finish<'x, 'a: 'x>(
+    rt: &(impl Threads + Sync),
+    alloc: Global,
+    keys: RandomState,
+    path: &str,
+    old: &Scopes<'a>,
+    source: &[u8],
+    taken: &'x Taken<'a>,
+    run: &'x Replayed,
+    descriptions: &[(&[u8], &[u8])],
+    follow: &(impl Follow + Sync),
+) -> Result<Finished, Unedited>
+    requires chosen { length taken.now.chosen.items ≡ length old.now.stand.scope.assertions }
+    requires declares { DeclaresText source.now old.now.stand.scope }
+    ensures finished { (choice : Choice) → map (λ (x : Assertion). is_in choice.chosen x.label) old.now.stand.scope.assertions
+        ≡ taken.now.chosen.items → IfOk result (IsFinished path.now source.now old.now.stand.scope choice taken.now run.now.entries
+        run.now.edited (seen_pairs descriptions.now)) }
+    ensures refused { (choice : Choice) → map (λ (x : Assertion). is_in choice.chosen x.label) old.now.stand.scope.assertions
+        ≡ taken.now.chosen.items → IfErr result (IsToldBy (IsStoppedOrFaulty path.now source.now old.now.stand.scope choice taken.now
+        run.now.entries run.now.edited (seen_pairs descriptions.now))) }
+{
+    let draft = draft_of(alloc, keys, path, old, source, taken, run)?;
+    let new = read_new(alloc, keys, path, old, &draft)?;
+    // For the proof: what is read is whole.
+    sources_are_whole();
+    look_at(rt, alloc, keys, path, old, &new, source, &draft, run)?;
+    let text = draft.text.as_slice();
+    let described = describe_added(alloc, keys, descriptions, &draft.following, text)?;
+    check(rt, alloc, keys, path, &new, bytes_of(&described), follow)?;
+    drop(new);
+    let Draft {
+        text,
+        following,
+        ..
+    } = draft;
+    let out = described.unwrap_or(text);
+    let spoken = spoken_lines(alloc, keys, path, &following, out.as_slice())?;
+    Ok(Finished { out, spoken })
+}

@@ -1,0 +1,5 @@
+pub mod Expanding
+pub mod Undoing
+pub mod Describing
+pub mod Chosen
+pub mod Lines

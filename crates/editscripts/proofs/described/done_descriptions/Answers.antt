@@ -1,0 +1,57 @@
+-- What is left to show of `done_descriptions`.
+use Rattle.std.proofs.Common.{rules, ◌≡◌, ◌∙◌, ◌++◌, ◌∷◌, [], ℕ, List, length, length-append, map, take, reverse, sym, ap, Bor, Vec, Global}
+use Rattle.std.specs.List.{flat_map, zip}
+use Rattle.std.specs.Slice.Iter.{iter_rest}
+use Rattle.std.specs.Iterator.Adapters.{zip_first, zip_second}
+use Rattle.std.proofs.lemmas.Slice.Zip.{zip_turn, zip_end}
+use Rattle.giving.specs.Staying.{Change}
+use Rattle.source.specs.Views.{seen_pairs}
+use Rattle.transaction.specs.Closings.{lists_of}
+use Rattle.transaction.specs.declared.outcome.Outcome.{Outcome}
+use Rattle.expanding.specs.Descriptions.{Description}
+use Rattle.expanding.specs.InFront.{seen_described}
+use Rattle.expanding.specs.declared.described.Described.{Described}
+use Rattle.editscripts.specs.Described.{done_of}
+use Rattle.editscripts.specs.Views.{seen_descriptions}
+use Rattle.editscripts.proofs.Chosen.{flat_zip_next, zip_all, reverse_map}
+use Rattle.editscripts.proofs.described.done_descriptions.Goals as goal
+
+pub loop-row-preserved : goal.loop-row-preserved
+loop-row-preserved c =
+    let rows = c.args.rows.now in
+    let all = c.args.all.now in
+    let first : iter_rest (zip_first c.into_iter-row-iterator.result) ≡ rows = search rules in
+    let second : iter_rest (zip_second c.into_iter-row-iterator.result) ≡ all = search rules in
+    let turn = zip_turn rows all c.loop-row.yielded c.into_iter-row-iterator.result c.loop-row.row-iterator c.next.new.self c.next.result
+    first second c.loop-row.yielded_by (c.in-Some.row, c.in-Some.described) c.in-Some.is c.next.ensures.steps in
+    let n = length c.loop-row.yielded in
+    let row = c.in-Some.row.now in
+    let described = c.in-Some.described.now in
+    let I = λ (r : Vec Outcome Global). r.items in
+    let J = λ (ds : Vec Described Global). map seen_described ds.items in
+    let F : List Outcome × List Description → List Change = λ p. done_of p.0 p.1 in
+    let pairs = zip (lists_of rows) (seen_descriptions all) in
+    let before = flat_map F (take n pairs) in
+    let given = c.as_slice-in-loop-row.result.now in
+    c.in_ok-put_done.ensures
+    ∙ ap (λ (l : List Change). l ++ done_of c.as_slice.result.now (map seen_described given)) c.loop-row.invariant
+    ∙ ap (λ (r : List Outcome). before ++ done_of r (map seen_described given)) c.as_slice.ensures.value
+    ∙ ap (λ (ds : List Described). before ++ done_of row.items (map seen_described ds)) c.as_slice-in-loop-row.ensures.value
+    ∙ sym (flat_zip_next F I J rows all n row described turn.0 turn.1 (turn.2 row) (turn.3 described))
+    ∙ ap (λ k. flat_map F (take k pairs)) (sym (length-append c.loop-row.yielded ((c.in-Some.row, c.in-Some.described) ∷ [])))
+
+pub returns : goal.returns
+returns c =
+    let rows = c.args.rows.now in
+    let all = c.args.all.now in
+    let first : iter_rest (zip_first c.into_iter-row-iterator.result) ≡ rows = search rules in
+    let second : iter_rest (zip_second c.into_iter-row-iterator.result) ≡ all = search rules in
+    let end = zip_end rows all c.loop-row.yielded c.into_iter-row-iterator.result c.loop-row.row-iterator c.next.new.self c.next.result
+    first second c.loop-row.yielded_by c.in-None.is c.next.ensures.steps in
+    let I = λ (r : Vec Outcome Global). r.items in
+    let J = λ (ds : Vec Described Global). map seen_described ds.items in
+    let F : List Outcome × List Description → List Change = λ p. done_of p.0 p.1 in
+    let view : Bor (List ℕ) × Bor (List ℕ) → Change = λ p. (p.0.now, p.1.now) in
+    ap seen_pairs c.reverse.ensures.items
+    ∙ reverse_map view c.loop-row.made.items
+    ∙ ap reverse (c.loop-row.invariant ∙ ap (flat_map F) (zip_all I J rows all (length c.loop-row.yielded) end))

@@ -1,0 +1,11 @@
+-- What the loop of `replies_in` keeps: what became of the transactions of the scripts so far.
+use Rattle.std.proofs.Common.{◌≡◌, take, map}
+use Rattle.transaction.specs.Closings.{lists_of}
+use Rattle.editscripts.specs.Replies.{all_replies}
+use Rattle.editscripts.specs.Views.{seen_texts, beginnings_of}
+use Rattle.editscripts.proofs.replying.replies_in.Given as goal
+
+abbrev pub invariant-loop-n : goal.invariant-loop-n
+invariant-loop-n l =
+    l.out.items
+    ≡ all_replies l.prelude (map (λ p. p.now) l.paths) (seen_texts l.texts) (beginnings_of l.laid) l.scripts (lists_of (take l.n l.rows))

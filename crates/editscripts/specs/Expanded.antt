@@ -1,0 +1,42 @@
+-- The scripts of a keeper on the way to those that are run: their words, these without the forms that a source does away with, and these
+-- with the ranks of the library that is taken for them.
+use Rattle.std.specs.Prelude.{◌≡◌, ℕ, Bool, List, [], ◌∷◌, ◌++◌, map}
+use Rattle.std.specs.List.{AllZip}
+use Rattle.mmtext.specs.Text.{Token}
+use Rattle.mmtext.specs.Laws.{Says}
+use Rattle.source.specs.Scopes.{Scope}
+use Rattle.checking.specs.Checks.{Bytes}
+use Rattle.expanding.specs.Words.{word_language, text_of}
+use Rattle.expanding.specs.Spreading.{IsSpread}
+use Rattle.expanding.specs.Ranking.{IsRanked}
+
+-- these are the words of each text outside of its comments
+abbrev pub AreWordsOf : List Bytes → List (List Token) → Type 0
+AreWordsOf texts scripts = AllZip (Says word_language) texts scripts
+
+-- and these those of each by the source
+abbrev pub AreSpread : Scope → List (List Token) → List (List Token) → Type 0
+AreSpread s scripts outs = AllZip (IsSpread s) scripts outs
+
+-- the words of a script with ranks, and the places where its transactions begin
+pub record RankedScript : Type 0 where
+  pub words : List Token
+  pub beginnings : List ℕ
+
+-- so is each, behind the scripts before it, which put something at these gaps; flags say which assertions of the source are taken
+abbrev pub AreRanked : Scope → List Bool → List ℕ → List (List Token) → List RankedScript → List ℕ → Type 0
+AreRanked s flags earlier [] [] after = after ≡ earlier
+AreRanked s flags earlier [] (out ∷ outs) after = ⊥
+AreRanked s flags earlier (ts ∷ scripts) [] after = ⊥
+AreRanked s flags earlier (ts ∷ scripts) (out ∷ outs) after =
+    (gaps : List ℕ) × IsRanked s flags earlier ts out.words gaps out.beginnings × AreRanked s flags (earlier ++ gaps) scripts outs after
+
+-- their texts
+abbrev pub texts_of : List RankedScript → List Bytes
+texts_of outs = map (λ out. text_of out.words) outs
+
+-- these are the words of scripts by the source
+pub record IsSpreadOf (s : Scope) (texts : List Bytes) (scripts : List (List Token)) : Type 0 where
+  pub words : List (List Token)
+  pub are_words : AreWordsOf texts words
+  pub are_spread : AreSpread s words scripts

@@ -1,0 +1,6 @@
+pub mod Expanded
+pub mod Undone
+pub mod Described
+pub mod Replies
+pub mod Views
+pub mod Refusals

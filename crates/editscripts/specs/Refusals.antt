@@ -1,0 +1,114 @@
+-- Why scripts can't be read over a source, and the line that says so.
+use Rattle.std.specs.Prelude.{◌≡◌, ◌≢◌, ◌+◌, ℕ, Bool, List, [], ◌++◌, length, take, Some, codes, slice_get, slice_index_or, string_bytes}
+use Rattle.std.specs.Fmt.{decimal}
+use Rattle.mmtext.specs.Text.{Token}
+use Rattle.mmtext.specs.Languages.{Faulty}
+use Rattle.mmtext.specs.declared.fault.TextFault.{TextFault}
+use Rattle.mmtext.specs.declared.fault.FaultKind.TheVariants.{NoMemory as OutOfMemory}
+use Rattle.source.specs.Scopes.{Scope}
+use Rattle.checking.specs.declared.fault.Fault.TheVariants as fault
+use Rattle.checking.specs.Checks.{Bytes, Orders, AreScripts}
+use Rattle.checking.specs.FaultLines.{shown_label, line_of}
+use Rattle.scripts.specs.ScriptFaults.{FaultyScript}
+use Rattle.expanding.specs.declared.misfit.Misfit.{Misfit}
+use Rattle.expanding.specs.declared.misfit.Misfit.TheVariants as misfit
+use Rattle.expanding.specs.Lines.{line_at}
+use Rattle.expanding.specs.Words.{word_language, text_of, place_at}
+use Rattle.expanding.specs.Refusals.{IsUnspread, IsUnranked}
+use Rattle.expanding.specs.Barred.{IsBarred}
+use Rattle.mmsyntax.specs.Tables.{Tables}
+use Rattle.editscripts.specs.declared.unedited.Unedited.{Unedited}
+use Rattle.editscripts.specs.declared.unedited.Unedited.TheVariants as unedited
+use Rattle.editscripts.specs.Expanded.{AreWordsOf, AreSpread, RankedScript, AreRanked, texts_of}
+
+-- a script has another byte than one may have, or a comment that isn't closed; those before it have words
+pub record IsWordlessLine (paths texts : List Bytes) (line : Bytes) : Type 0 where
+  pub script : ℕ
+  pub before : List (List Token)
+  pub are_words : AreWordsOf (take script texts) before
+  pub text : Bytes
+  pub at : slice_get texts script ≡ Some text
+  pub found : TextFault
+  pub faulty : Faulty word_language text found
+  pub says : line ≡ line_of paths (fault.Text (script + 1) found)
+
+-- the word that doesn't fit, and why
+abbrev pub misfit_place : Misfit → ℕ
+misfit_place (misfit.Unknown t) = t.place
+misfit_place (misfit.Numbered t) = t.place
+misfit_place (misfit.NotAlone t) = t.place
+misfit_place (misfit.Crowded t) = t.place
+misfit_place misfit.NoMemory = 0
+
+abbrev pub misfit_text : Misfit → Bytes
+misfit_text (misfit.Unknown t) = codes "the source has no assertion " ++ shown_label t.text.now
+misfit_text (misfit.Numbered t) = codes "a rank has no meaning for a source"
+misfit_text (misfit.NotAlone t) = codes "replace * stands beside another command"
+misfit_text (misfit.Crowded t) = codes "over 99 are put at one place"
+misfit_text misfit.NoMemory = codes "no memory"
+
+-- `PATH:LINE: ` and that
+abbrev pub misfit_line : Bytes → Bytes → Misfit → Bytes
+misfit_line path text m = path ++ (codes ":" ++ (decimal (line_at text (misfit_place m)) ++ (codes ": " ++ misfit_text m)))
+
+-- a word of a script doesn't fit the source; those before it fit
+pub record IsMisfitLine (paths : List Bytes) (s : Scope) (texts : List Bytes) (line : Bytes) : Type 0 where
+  pub words : List (List Token)
+  pub are_words : AreWordsOf texts words
+  pub script : ℕ
+  pub before : List (List Token)
+  pub are_spread : AreSpread s (take script words) before
+  pub ts : List Token
+  pub at : slice_get words script ≡ Some ts
+  pub why : Misfit
+  pub unspread : IsUnspread s ts why
+  pub told : why ≢ misfit.NoMemory
+  pub says : line ≡ misfit_line (slice_index_or paths (script + 1) []) (slice_index_or texts script []) why
+
+-- a theorem forbids a command of a script, whatever becomes of the others
+abbrev pub barred_line : Bytes → Bytes → Token → Bytes → Bytes
+barred_line path text t by =
+    path ++ (codes ":" ++ (decimal (line_at text t.place)
+    ++ (codes ": " ++ (shown_label t.text ++ (codes " can't leave its place: "
+    ++ (shown_label by ++ codes " cites it, and no script moves that or gives it another proof"))))))
+
+pub record IsBarredBy (paths : List Bytes) (s : Scope) (texts : List Bytes) (scripts : List (List Token)) (line : Bytes) : Type 0 where
+  pub script : ℕ
+  pub label : Token
+  pub by : Bytes
+  pub barred : IsBarred s scripts script label by
+  pub says : line ≡ barred_line (slice_index_or paths (script + 1) []) (slice_index_or texts script []) label by
+
+-- a script puts too many at one place, of a source of which flags say which assertions are taken; those before it don't
+pub record IsCrowdedBy (paths : List Bytes) (s : Scope) (texts : List Bytes) (flags : List Bool) (scripts : List (List Token))
+    (line : Bytes) : Type 0 where
+  pub script : ℕ
+  pub before : List RankedScript
+  pub gaps : List ℕ
+  pub are_ranked : AreRanked s flags [] (take script scripts) before gaps
+  pub ts : List Token
+  pub at : slice_get scripts script ≡ Some ts
+  pub why : Misfit
+  pub unranked : IsUnranked s flags gaps ts why
+  pub told : why ≢ misfit.NoMemory
+  pub says : line ≡ misfit_line (slice_index_or paths (script + 1) []) (slice_index_or texts script []) why
+
+-- a script isn't read over a library, though those before it are: its first fault is told at the word of the keeper's text for which the
+-- word stands that has it
+pub record IsUnreadBy (paths : List Bytes) (prelude : Tables) (texts : List Bytes) (scripts : List RankedScript) (line : Bytes)
+    : Type 0 where
+  pub script : ℕ
+  pub before : List Orders
+  pub ordered : AreScripts prelude (texts_of (take script scripts)) before
+  pub ranked : RankedScript
+  pub at : slice_get scripts script ≡ Some ranked
+  pub found : TextFault
+  pub faulty : FaultyScript prelude (text_of ranked.words) found
+  pub told : found.kind ≢ OutOfMemory
+  pub says : line ≡ line_of paths
+      (fault.Text (script + 1) (record found { place = place_at ranked.words (length (slice_index_or texts script [])) found.place }))
+
+-- what is told, where it isn't want of memory
+abbrev pub IsToldBy : (Bytes → Type 0) → Unedited → Type 0
+IsToldBy P (unedited.Refused line) = P (string_bytes line)
+IsToldBy P unedited.NoMemory = Unit {0}

@@ -1,0 +1,139 @@
+//! Scripts on the way to those that are run: their words, these by the source, and the text of these with ranks.
+
+ghost use Rattle.std.specs.Prelude.{◌≡◌, ◌⊎◌, ℕ, All, List, [], IfOk, IfErr, length, map};
+ghost use Rattle.library.specs.Fitting.{CommandFits};
+ghost use Rattle.checking.specs.Checks.{AreScripts};
+ghost use Rattle.editscripts.specs.Expanded.{AreWordsOf, AreSpread, RankedScript, AreRanked, texts_of};
+ghost use Rattle.editscripts.specs.Expanded.{IsSpreadOf};
+ghost use Rattle.editscripts.specs.Refusals.{IsToldBy, IsWordlessLine, IsMisfitLine, IsCrowdedBy, IsUnreadBy};
+ghost use Rattle.expanding.specs.Views.{seen_scripts};
+ghost use Rattle.editscripts.specs.Views.{seen_texts, AreLaid};
+
+use crate::telling::{misfit, path_at, text_at, unread};
+use crate::unedited::Unedited;
+use expanding::{Laid, Ranker, spread, words_in};
+use library::Script;
+use mmsyntax::Prelude;
+use mmtext::{TextFault, Token};
+use scripts::read_script;
+use source::Declared;
+use std::alloc::Global;
+
+/// The words of scripts that stand outside of comments.
+fn words_of<'a>(
+    alloc: Global,
+    paths: &[&str],
+    texts: &'a [Vec<u8>],
+) -> Result<Vec<Vec<Token<'a>>>, Unedited>
+    ensures words { IfOk result (λ scripts. AreWordsOf (seen_texts texts.now) (seen_scripts scripts.items)) }
+    ensures refused { IfErr result (IsToldBy (IsWordlessLine (map (λ p. p.now) paths.now) (seen_texts texts.now))) }
+{
+    let mut scripts = Vec::new(alloc);
+    for (place, text) in texts.iter().enumerate() {
+        match words_in(alloc, text.as_slice()) {
+            Ok(words) => scripts.push(words)?,
+            Err(fault) => return Err(unread(alloc, paths, place, fault)?),
+        }
+    }
+    Ok(scripts)
+}
+
+/// The words of scripts by the source, which has done away with the forms that speak of it.
+fn spread_all<'a, D: Declared<'a>>(
+    alloc: Global,
+    paths: &[&str],
+    declared: &D,
+    texts: &[Vec<u8>],
+    scripts: &[Vec<Token<'a>>],
+) -> Result<Vec<Vec<Token<'a>>>, Unedited>
+    requires { AreWordsOf (seen_texts texts.now) (seen_scripts scripts.now) }
+    ensures spread { IfOk result (λ outs. AreSpread (D.scope declared.now) (seen_scripts scripts.now) (seen_scripts outs.items)) }
+    ensures refused { IfErr result (IsToldBy (IsMisfitLine (map (λ p. p.now) paths.now) (D.scope declared.now) (seen_texts texts.now))) }
+{
+    let mut outs = Vec::new(alloc);
+    for (place, words) in scripts.iter().enumerate() {
+        match spread(alloc, declared, words.as_slice()) {
+            Ok(out) => outs.push(out)?,
+            Err(why) => {
+                let (path, text) = (path_at(paths, place + 1), text_at(texts, place));
+                return Err(misfit(alloc, path, text, why)?);
+            }
+        }
+    }
+    Ok(outs)
+}
+
+/// The words of scripts by the source, outside of comments.
+pub fn spread_of<'a, D: Declared<'a>>(
+    alloc: Global,
+    paths: &[&str],
+    declared: &D,
+    texts: &'a [Vec<u8>],
+) -> Result<Vec<Vec<Token<'a>>>, Unedited>
+    ensures spread { IfOk result (λ outs. IsSpreadOf (D.scope declared.now) (seen_texts texts.now) (seen_scripts outs.items)) }
+    ensures refused { IfErr result (IsToldBy (λ line. IsWordlessLine (map (λ p. p.now) paths.now) (seen_texts texts.now) line
+        ⊎ IsMisfitLine (map (λ p. p.now) paths.now) (D.scope declared.now) (seen_texts texts.now) line)) }
+{
+    let words = words_of(alloc, paths, texts)?;
+    spread_all(alloc, paths, declared, texts, words.as_slice())
+}
+
+/// The texts of scripts with the ranks of a library that is taken of the source, as flags say of each of its assertions.
+pub fn rank_all<'w, 'a, D: Declared<'a>>(
+    alloc: Global,
+    paths: &[&str],
+    declared: &D,
+    texts: &[Vec<u8>],
+    flags: &[bool],
+    scripts: &[Vec<Token<'w>>],
+) -> Result<Vec<Laid>, Unedited>
+    requires { length flags.now ≡ length (D.scope declared.now).assertions }
+    ensures ranked { IfOk result (λ laid. (outs : List RankedScript) × (gaps : List ℕ) × AreLaid outs laid.items
+        × AreRanked (D.scope declared.now) flags.now [] (seen_scripts scripts.now) outs gaps) }
+    ensures refused { IfErr result (IsToldBy (IsCrowdedBy
+        (map (λ p. p.now) paths.now) (D.scope declared.now) (seen_texts texts.now) flags.now (seen_scripts scripts.now))) }
+{
+    let mut ranker = Ranker::new(alloc, flags)?;
+    let mut all = Vec::new(alloc);
+    for (place, words) in scripts.iter().enumerate() {
+        match ranker.rank(alloc, declared, words.as_slice()) {
+            Ok(laid) => all.push(laid)?,
+            Err(why) => {
+                let (path, text) = (path_at(paths, place + 1), text_at(texts, place));
+                return Err(misfit(alloc, path, text, why)?);
+            }
+        }
+    }
+    Ok(all)
+}
+
+/// Reads the texts of scripts over a library. A fault is told at the word of the keeper's text for which the word stands that has it.
+pub fn read_all(
+    alloc: Global,
+    paths: &[&str],
+    texts: &[Vec<u8>],
+    prelude: &Prelude,
+    all: &[Laid],
+) -> Result<Vec<Script>, Unedited>
+    ensures scripts { (outs : List RankedScript) → AreLaid outs all.now
+        → IfOk result (λ scripts. AreScripts prelude.now (texts_of outs) scripts.items) }
+    ensures fit { IfOk result (λ scripts. All (All (All (CommandFits prelude.now))) scripts.items) }
+    ensures refused { (outs : List RankedScript) → AreLaid outs all.now
+        → IfErr result (IsToldBy (IsUnreadBy (map (λ p. p.now) paths.now) prelude.now (seen_texts texts.now) outs)) }
+{
+    let mut scripts = Vec::new(alloc);
+    for (place, laid) in all.iter().enumerate() {
+        match read_script(alloc, prelude, laid.text.as_slice()) {
+            Ok(script) => scripts.push(script)?,
+            Err(fault) => {
+                let end = text_at(texts, place).len();
+                let told = TextFault {
+                    place: laid.place_of(end, fault.place),
+                    kind: fault.kind,
+                };
+                return Err(unread(alloc, paths, place, told)?);
+            }
+        }
+    }
+    Ok(scripts)
+}

@@ -1,0 +1,19 @@
+//! The scripts of an edit, before and behind their run: on the way to those that are run, with the descriptions that they give and what a
+//! theorem forbids them; and what became of each of their transactions.
+#![tactic(auto)]
+
+mod barring;
+mod described;
+mod expanded;
+mod lacking;
+mod replying;
+mod telling;
+mod unedited;
+
+pub use barring::are_free;
+pub use described::{descriptions_of, done_descriptions};
+pub use expanded::{rank_all, read_all, spread_of};
+pub use lacking::{may_print, undone};
+pub use replying::replies_if;
+pub use telling::{untaken, unworked};
+pub use unedited::Unedited;

@@ -1,0 +1,126 @@
+//! The line of each cause for which a source isn't edited.
+
+ghost use Rattle.std.specs.Prelude.{◌≡◌, ◌≢◌, ◌+◌, ◌^◌, ◌<◌, ◌++◌, [], codes, IfOk, map, slice_index_or, string_bytes};
+ghost use Rattle.mmtext.specs.declared.fault.FaultKind.TheVariants.{NoMemory as OutOfMemory};
+ghost use Rattle.checking.specs.FaultLines.{line_of};
+ghost use Rattle.checking.specs.declared.fault.Fault.TheVariants.{Text, NoMemory as NoMemoryOfRun};
+ghost use Rattle.expanding.specs.declared.misfit.Misfit.TheVariants.{NoMemory as NoMemoryOfMisfit};
+ghost use Rattle.intake.specs.declared.refusal.Refusal.TheVariants.{NoMemory as NoMemoryOfTake};
+ghost use Rattle.taketext.specs.Refusals.{refusal_line as taking_line};
+ghost use Rattle.editscripts.specs.Refusals.{IsToldBy, misfit_line, misfit_place, misfit_text};
+
+use crate::unedited::Unedited;
+use checking::Fault;
+use expanding::{Misfit, line_at};
+use mmtext::{FaultKind, TextFault};
+use replylines::shown;
+use std::alloc::{AllocError, Global};
+use taketext::refusal_line as taking_line;
+
+/// That no library is taken.
+pub fn untaken(
+    alloc: Global,
+    path: &str,
+    why: &intake::Refusal<'_, '_>,
+) -> Result<Unedited, AllocError>
+    ensures { IfOk result (IsToldBy (λ line. (why.now ≢ NoMemoryOfTake) × (line ≡ taking_line path.now why.now))) }
+{
+    match why {
+        intake::Refusal::NoMemory => Ok(Unedited::NoMemory),
+        _ => Ok(Unedited::Refused(taking_line(alloc, path, why)?)),
+    }
+}
+
+/// That a script isn't read, or the scripts aren't run. The paths are those of the source and of the scripts.
+pub fn unworked(alloc: Global, paths: &[&str], fault: &Fault) -> Result<Unedited, AllocError>
+    ensures { IfOk result (IsToldBy (λ line. (fault.now ≢ NoMemoryOfRun) × (line ≡ line_of (map (λ p. p.now) paths.now) fault.now))) }
+{
+    match fault {
+        Fault::NoMemory => Ok(Unedited::NoMemory),
+        _ => Ok(Unedited::Refused(fault.line(alloc, paths)?)),
+    }
+}
+
+/// The path at a place, from 0; none is empty.
+pub(crate) fn path_at<'p>(paths: &[&'p str], place: usize) -> &'p str
+    ensures { result.now ≡ slice_index_or (map (λ p. p.now) paths.now) place [] }
+{
+    match paths.get(place) {
+        Some(path) => *path,
+        None => "",
+    }
+}
+
+/// The text at a place, from 0; none is empty.
+pub(crate) fn text_at(texts: &[Vec<u8>], place: usize) -> &[u8]
+    ensures { result.now ≡ slice_index_or (map (λ t. t.items) texts.now) place [] }
+{
+    match texts.get(place) {
+        Some(text) => text.as_slice(),
+        None => b"",
+    }
+}
+
+/// That the text of a script has a fault. Scripts count from 0.
+pub(crate) fn unread(
+    alloc: Global,
+    paths: &[&str],
+    script: usize,
+    fault: TextFault,
+) -> Result<Unedited, AllocError>
+    requires { script + 1 < 2 ^ 64 }
+    ensures { IfOk result (IsToldBy (λ line. (fault.kind ≢ OutOfMemory)
+        × (line ≡ line_of (map (λ p. p.now) paths.now) (Text (script + 1) fault)))) }
+{
+    if fault.kind == FaultKind::NoMemory {
+        return Ok(Unedited::NoMemory);
+    }
+    let file = script + 1;
+    unworked(alloc, paths, &Fault::Text { file, fault })
+}
+
+/// Why a word of a script doesn't fit a source.
+fn misfit_text(alloc: Global, why: Misfit<'_>) -> Result<String, AllocError>
+    ensures { IfOk result (λ text. string_bytes text ≡ misfit_text why.entry) }
+{
+    match why {
+        Misfit::Unknown(label) => {
+            let label = shown(label.text);
+            format!(in alloc; "the source has no assertion {label}")
+        }
+        Misfit::Numbered(_) => format!(in alloc; "a rank has no meaning for a source"),
+        Misfit::NotAlone(_) => format!(in alloc; "replace * stands beside another command"),
+        Misfit::Crowded(_) => format!(in alloc; "over 99 are put at one place"),
+        Misfit::NoMemory => format!(in alloc; "no memory"),
+    }
+}
+
+/// The byte of the script at which that word stands; for want of memory the first.
+fn misfit_place(why: Misfit<'_>) -> usize
+    ensures { result ≡ misfit_place why.entry }
+{
+    match why {
+        Misfit::Unknown(word)
+        | Misfit::Numbered(word)
+        | Misfit::NotAlone(word)
+        | Misfit::Crowded(word) => word.place,
+        Misfit::NoMemory => 0,
+    }
+}
+
+/// That a word of a script doesn't fit the source.
+pub(crate) fn misfit(
+    alloc: Global,
+    path: &str,
+    text: &[u8],
+    why: Misfit<'_>,
+) -> Result<Unedited, AllocError>
+    ensures { IfOk result (IsToldBy (λ line. (why.entry ≢ NoMemoryOfMisfit) × (line ≡ misfit_line path.now text.now why.entry))) }
+{
+    if let Misfit::NoMemory = why {
+        return Ok(Unedited::NoMemory);
+    }
+    let line = line_at(text, misfit_place(why));
+    let said = misfit_text(alloc, why)?;
+    Ok(Unedited::Refused(format!(in alloc; "{path}:{line}: {said}")?))
+}

@@ -1,7 +1,0 @@
--- What the loop of `put_replies` keeps: what became of the transactions so far.
-use Rattle.std.proofs.Common.{◌≡◌, ◌++◌, take}
-use Rattle.edittext.specs.Accounts.{replies_of}
-use Rattle.edittext.proofs.replying.put_replies.Given as goal
-
-abbrev pub invariant-loop-k : goal.invariant-loop-k
-invariant-loop-k l = l.out.items ≡ l.fn.out.items ++ replies_of l.prelude l.path l.lines l.script (take l.k l.outcomes)
