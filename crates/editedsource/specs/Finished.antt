@@ -15,8 +15,8 @@ use Rattle.editedsource.specs.Described.{IsDescribedBy, descriptions_then}
 use Rattle.editedsource.specs.Gone.{lost, spoken_line}
 use Rattle.editedsource.specs.declared.completing.Finished.{Finished}
 
--- it has the edits of a history over the library that was taken by a choice, and these descriptions of what was added; it verifies, and where
--- it speaks of what was deleted is told
+-- it has the edits of a history over the library that was taken by a choice, and these descriptions of what was added; it verifies, and
+-- where it speaks of what was deleted is told
 pub record IsFinished (path source : Bytes) (old : Scope) (choice : Choice) (taken : Taken) (entries : List Entry) (edited : Listed)
     (descriptions : List Change) (f : Finished) : Type 0 where
   pub edits : Bytes

@@ -1,5 +1,5 @@
--- What is told of a run of scripts: which transactions weren't done, of which labels that are gone a comment speaks, and what became of each
--- transaction.
+-- What is told of a run of scripts: which transactions weren't done, of which labels that are gone a comment speaks, and what became of
+-- each transaction.
 use Rattle.std.specs.Prelude.{◌≡◌, ℕ, Bool, List, map, string_bytes}
 use Rattle.std.specs.Option.{option_map}
 use Rattle.commentwords.specs.Spoken.{spoken_in}

@@ -24,7 +24,8 @@ first_and_rest {X} {Y} f (x ∷ xs) d some = ap (λ (rest : List X). f x ∷ map
 
 pub edit_answered : (keyed : Bool) (paths texts : List Bytes) (path source : Bytes) (others scripts : List Bytes) (workers : ℕ)
     (room : Option ℕ) (o : Outputs) (partial : Bool) (told : Told) (es : List Event) (status : ℕ)
-    → paths ≡ path ∷ others → texts ≡ source ∷ scripts → IsEditAnswer path paths source scripts workers (edit_room room) partial (is_some o.replies) told
+    → paths ≡ path ∷ others → texts ≡ source ∷ scripts
+    → IsEditAnswer path paths source scripts workers (edit_room room) partial (is_some o.replies) told
     → IsEditTold o path told es status → IsAnsweredEdit keyed paths workers room o partial texts es status
 edit_answered keyed paths texts path source others scripts workers room o partial told es status named are answer is =
     subst (λ (ts : List Bytes). IsAnsweredEdit keyed paths workers room o partial ts es status) (sym are)

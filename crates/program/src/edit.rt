@@ -75,8 +75,8 @@ fn put_at<W: World>(
     }
 }
 
-/// Writes what became of the transactions to the file at a path, if there is one and it was told: the status where that can't be done, which
-/// is said.
+/// Writes what became of the transactions to the file at a path, if there is one and it was told: the status where that can't be done,
+/// which is said.
 fn put_replies<W: World>(world: &mut W, path: Option<&str>, replies: Option<&Vec<u8>>) -> Option<u8>
     ensures { (es : List Event) × Adds (W.done world.old) (W.done world.new) es
         × ArePutReplies (option_map (λ p. p.now) path.entry) (option_map (λ text. text.now) replies.entry) es result }

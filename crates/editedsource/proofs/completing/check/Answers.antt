@@ -18,7 +18,8 @@ returns-in-Ok-clause-verified g c text declares =
           (subst (λ r. IfOk r (IsVerifiedText w.in-Some.text.now)) (sym w.verified-is ∙ c.in-Ok.is) w.verify-verified.ensures.verified)
       | in-None w ↦
           rw w.in-None.is
-          (subst (λ r. IfOk r (IsVerifiedText text)) (sym w.verified-is ∙ c.in-Ok.is) (w.verify_read-verified.ensures.verified text declares))
+          (subst (λ r. IfOk r (IsVerifiedText text)) (sym w.verified-is ∙ c.in-Ok.is)
+          (w.verify_read-verified.ensures.verified text declares))
     ]
 
 pub returns-in_ok-unverified-in-Err-clause-refused : goal.returns-in_ok-unverified-in-Err-clause-refused

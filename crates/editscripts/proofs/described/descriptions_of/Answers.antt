@@ -29,7 +29,8 @@ loop-place-preserved c =
     let one : IsDescriptive c.text_at-text.result.now (map seen c.as_slice.result.now) (map seen_described found.items) = own in
     descriptive_next texts (seen_scripts scripts) k (view words) (seen_descriptions c.loop-place.all.items) _
     (map seen_described found.items) (get_seen view scripts k words at) (omega (arith, within, c.loop-place-test.true))
-    c.loop-place.invariant (subst (λ (text : Bytes). IsDescriptive text (view words) (map seen_described found.items)) c.text_at-text.ensures
+    c.loop-place.invariant
+    (subst (λ (text : Bytes). IsDescriptive text (view words) (map seen_described found.items)) c.text_at-text.ensures
     (subst (λ (ts : List CodeToken). IsDescriptive c.text_at-text.result.now (map seen ts) (map seen_described found.items)) own_words one))
     (ap seen_descriptions c.in_ok-push.ensures.items
     ∙ map-append (λ (ds : Vec Described Global). map seen_described ds.items) c.loop-place.all.items _)

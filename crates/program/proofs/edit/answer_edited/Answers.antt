@@ -15,7 +15,8 @@ returns-in-Ok g c =
     let are = first_and_rest (λ (t : Vec ℕ Global). t.items) texts source some
     ∙ ap (λ (t : Vec ℕ Global). t.items ∷ map (λ (u : Vec ℕ Global). u.items) (take (length texts - 1) (drop 1 texts)))
     (sym c.index-texts-0.is) in
-    let answer = rw (← sym c.is_some.ensures) at (rw c.as_slice-source.ensures.value at (rw c.as_slice-paths.ensures.value at c.in-Ok.ensures)) in (
+    let asked = rw c.as_slice-source.ensures.value at (rw c.as_slice-paths.ensures.value at c.in-Ok.ensures) in
+    let answer = rw (← sym c.is_some.ensures) at asked in (
       told.0,
       told.1,
       edit_answered (is_some c.args.keys) _ _ _ source.items _ _ order.workers order.room c.args.outputs order.partial c.in-Ok.told told.0

@@ -29,6 +29,6 @@ returns g c =
     let texts = map (λ (t : Vec ℕ Global). t.items) c.read_all.new.texts.items in (
       read.0 ++ rest.0,
       adds_more read.1 rest.1,
-      all_read (IsAnsweredEdit (is_some c.args.keys) paths order.workers order.room c.args.outputs order.partial) paths _ texts read.0 rest.0
-          c.answer_edited.result same read.2.0 read.2.1 (rw c.as_slice-2.ensures.value at rest.2),
+      all_read (IsAnsweredEdit (is_some c.args.keys) paths order.workers order.room c.args.outputs order.partial) paths _ texts read.0
+          rest.0 c.answer_edited.result same read.2.0 read.2.1 (rw c.as_slice-2.ensures.value at rest.2),
     )

@@ -1,0 +1,3 @@
+$c wff $.
+c $a wff $.
+d $p wff $= c $.

@@ -1,0 +1,1 @@
+$c wff |- $. $v x y z $. wx $f wff x $. wy $f wff y $. u $p z $= wx $.

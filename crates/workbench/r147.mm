@@ -1,0 +1,1 @@
+$c wff $. a!b $a wff $.

@@ -1,0 +1,1 @@
+$c wff $. wff $a wff $.

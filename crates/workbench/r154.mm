@@ -1,0 +1,1 @@
+$c wff $. a $p wff $= b! $.

@@ -1,0 +1,1 @@
+$c wff $. $v x $. wx $f wff wff $.

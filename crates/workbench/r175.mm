@@ -1,0 +1,1 @@
+$c wff $. ${ a $a wff $. $} ${ a $e wff $. b $a wff $. $}

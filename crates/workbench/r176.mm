@@ -1,0 +1,1 @@
+$c wff $. ${ h $e wff $. a $a wff $. $} ${ h $e wff $. b $a wff $. $}

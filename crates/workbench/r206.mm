@@ -1,0 +1,6 @@
+$c wff |- $.
+$v x y $.
+wx $f wff x $.
+wy $f wff y $.
+id $a |- x y x $.
+wc $a wff $.

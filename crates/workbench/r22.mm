@@ -1,0 +1,2 @@
+$c wff $.
+we $a wff $

@@ -1,0 +1,1 @@
+$c wff $. $v x $. u $a wff $.

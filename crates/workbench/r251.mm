@@ -1,0 +1,2 @@
+$c wff $. $v x $.
+u $a wff $.

@@ -1,0 +1,1 @@
+$c wff $. a $a wff $. b $p wff $= a $.

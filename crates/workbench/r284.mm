@@ -1,0 +1,1 @@
+$c wff $. $v x $. wx $f wff x $. d $a wff x x $. p $p wff x $= wx d d d d d d d d d d d d d d d $.

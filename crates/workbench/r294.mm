@@ -1,0 +1,1 @@
+$c wff |- $. $v x $. wx $f wff x $. ax $a |- x $. t $p |- x $= wx ax $.

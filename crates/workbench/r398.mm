@@ -1,0 +1,5 @@
+$c wff |- $.
+$v x y $.
+wx $f wff x $.
+wy $f wff y $.
+id $a wff $.

@@ -1,0 +1,1 @@
+$c wff $. we $a wff $.
