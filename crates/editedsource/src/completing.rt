@@ -14,7 +14,7 @@ ghost use Rattle.library.specs.Library.{Listed};
 ghost use Rattle.checking.specs.Checks.{Bytes};
 ghost use Rattle.givetext.specs.Drafts.{IsDraft};
 ghost use Rattle.givetext.specs.Parts.{IsEdited};
-ghost use Rattle.verifytext.specs.Verdicts.{IsVerifiedText};
+ghost use Rattle.verifytext.specs.Verdicts.{IsVerifiedText, IsRefused};
 ghost use Rattle.sourceediting.specs.Views.{seen_following};
 ghost use Rattle.editedsource.specs.Described.{IsDescribedBy, descriptions_then};
 ghost use Rattle.editedsource.specs.Finished.{IsFinished};
@@ -37,7 +37,7 @@ use sourceediting::Following;
 use std::alloc::{AllocError, Global};
 use std::hash::RandomState;
 use std::thread::Threads;
-use verifytext::{Verified, verify, verify_read};
+use verifytext::{Refusal, Verified, verify, verify_read};
 
 /// The source with the edits of a history, before it is looked at.
 fn draft_of<'x, 'a: 'x>(
@@ -112,6 +112,24 @@ fn look_at<'o>(
     }
 }
 
+/// What was read verifies. Who follows is told how far it is.
+fn verify_followed<'o>(
+    rt: &(impl Threads + Sync),
+    alloc: Global,
+    keys: RandomState,
+    new: &Scopes<'o>,
+    follow: &(impl Follow + Sync),
+) -> Result<Verified, Refusal<'o>>
+    requires { IsWhole new.now.stand.scope }
+    ensures verified { (text : Bytes) → DeclaresText text new.now.stand.scope → IfOk result (IsVerifiedText text) }
+    ensures refused { (text : Bytes) → DeclaresText text new.now.stand.scope → IfErr result (IsRefused text) }
+{
+    follow.begin_reading();
+    let verified = verify_read(rt, alloc, keys, new, None, follow);
+    follow.end();
+    verified
+}
+
 /// What is printed verifies: what was read, or another text.
 fn check<'o>(
     rt: &(impl Threads + Sync),
@@ -130,7 +148,7 @@ fn check<'o>(
 {
     let verified = match other {
         Some(text) => verify(rt, alloc, keys, text, None, follow),
-        None => verify_read(rt, alloc, keys, new, None, follow),
+        None => verify_followed(rt, alloc, keys, new, follow),
     };
     match verified {
         Ok(much) => Ok(much),

@@ -19,7 +19,7 @@ returns-in-Ok-clause-verified g c text declares =
       | in-None w ↦
           rw w.in-None.is
           (subst (λ r. IfOk r (IsVerifiedText text)) (sym w.verified-is ∙ c.in-Ok.is)
-          (w.verify_read-verified.ensures.verified text declares))
+          (w.verify_followed-verified.ensures.verified text declares))
     ]
 
 pub returns-in_ok-unverified-in-Err-clause-refused : goal.returns-in_ok-unverified-in-Err-clause-refused
@@ -36,5 +36,5 @@ returns-in_ok-unverified-in-Err-clause-refused g c text declares =
           (subst (λ r. IfErr r (IsRefused w.in-Some.text.now)) (sym w.verified-is ∙ c.in-Err.is) w.verify-verified.ensures.refused))
       | in-None w ↦
           rw w.in-None.is (told text
-          (subst (λ r. IfErr r (IsRefused text)) (sym w.verified-is ∙ c.in-Err.is) (w.verify_read-verified.ensures.refused text declares)))
+          (subst (λ r. IfErr r (IsRefused text)) (sym w.verified-is ∙ c.in-Err.is) (w.verify_followed-verified.ensures.refused text declares)))
     ]
