@@ -36,5 +36,6 @@ returns-in_ok-unverified-in-Err-clause-refused g c text declares =
           (subst (λ r. IfErr r (IsRefused w.in-Some.text.now)) (sym w.verified-is ∙ c.in-Err.is) w.verify-verified.ensures.refused))
       | in-None w ↦
           rw w.in-None.is (told text
-          (subst (λ r. IfErr r (IsRefused text)) (sym w.verified-is ∙ c.in-Err.is) (w.verify_followed-verified.ensures.refused text declares)))
+          (subst (λ r. IfErr r (IsRefused text)) (sym w.verified-is ∙ c.in-Err.is)
+          (w.verify_followed-verified.ensures.refused text declares)))
     ]
