@@ -202,27 +202,29 @@ pub fn finish<'x, 'a: 'x>(
     alloc: Global,
     keys: RandomState,
     path: &str,
-    old: &Scopes<'a>,
+    old: Scopes<'a>,
     source: &[u8],
     taken: &'x Taken<'a>,
     run: &'x Replayed,
     descriptions: &[(&[u8], &[u8])],
     follow: &(impl Follow + Sync),
 ) -> Result<Finished, Unedited>
-    requires chosen { length taken.now.chosen.items ≡ length old.now.stand.scope.assertions }
-    requires declares { DeclaresText source.now old.now.stand.scope }
-    ensures finished { (choice : Choice) → map (λ (x : Assertion). is_in choice.chosen x.label) old.now.stand.scope.assertions
-        ≡ taken.now.chosen.items → IfOk result (IsFinished path.now source.now old.now.stand.scope choice taken.now run.now.entries
+    requires chosen { length taken.now.chosen.items ≡ length old.stand.scope.assertions }
+    requires declares { DeclaresText source.now old.stand.scope }
+    ensures finished { (choice : Choice) → map (λ (x : Assertion). is_in choice.chosen x.label) old.entry.stand.scope.assertions
+        ≡ taken.now.chosen.items → IfOk result (IsFinished path.now source.now old.entry.stand.scope choice taken.now run.now.entries
         run.now.edited (seen_pairs descriptions.now)) }
-    ensures refused { (choice : Choice) → map (λ (x : Assertion). is_in choice.chosen x.label) old.now.stand.scope.assertions
-        ≡ taken.now.chosen.items → IfErr result (IsToldBy (IsStoppedOrFaulty path.now source.now old.now.stand.scope choice taken.now
+    ensures refused { (choice : Choice) → map (λ (x : Assertion). is_in choice.chosen x.label) old.entry.stand.scope.assertions
+        ≡ taken.now.chosen.items → IfErr result (IsToldBy (IsStoppedOrFaulty path.now source.now old.entry.stand.scope choice taken.now
         run.now.entries run.now.edited (seen_pairs descriptions.now))) }
 {
-    let draft = draft_of(alloc, keys, path, old, source, taken, run)?;
-    let new = read_new(alloc, keys, path, old, &draft)?;
+    let draft = draft_of(alloc, keys, path, &old, source, taken, run)?;
+    let new = read_new(alloc, keys, path, &old, &draft)?;
     // For the proof: what is read is whole.
     sources_are_whole();
-    look_at(rt, alloc, keys, path, old, &new, source, &draft, run)?;
+    look_at(rt, alloc, keys, path, &old, &new, source, &draft, run)?;
+    // Its tables are as large as those of the new text, which is verified without them.
+    drop(old);
     let text = draft.text.as_slice();
     let described = describe_added(alloc, keys, descriptions, &draft.following, text)?;
     check(rt, alloc, keys, path, &new, bytes_of(&described), follow)?;

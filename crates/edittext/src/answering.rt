@@ -117,7 +117,7 @@ fn edit<'a>(
     let done = done_descriptions(alloc, rows, begun.descriptions.as_slice())?;
     let (path, described) = (order.path, done.as_slice());
     let Finished { out, spoken } = finish(
-        rt, alloc, keys, path, &old, source, taken, &run, described, follow,
+        rt, alloc, keys, path, old, source, taken, &run, described, follow,
     )?;
     Ok(Told::Printed(out, Account { spoken, ..account }))
 }

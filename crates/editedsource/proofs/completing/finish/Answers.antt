@@ -35,7 +35,7 @@ pub returns-clause-finished : goal.returns-clause-finished
 returns-clause-finished g c choice are =
     let path = c.args.path.now in
     let source = c.args.source.now in
-    let old = c.args.old.now.stand.scope in
+    let old = c.args.old.stand.scope in
     let taken = c.args.taken.now in
     let run = c.args.run.now in
     let ds = seen_pairs c.args.descriptions.now in
@@ -74,7 +74,7 @@ pub returns-in_err-new-clause-refused : goal.returns-in_err-new-clause-refused
 returns-in_err-new-clause-refused g c choice are =
     let path = c.args.path.now in
     let source = c.args.source.now in
-    let old = c.args.old.now.stand.scope in
+    let old = c.args.old.stand.scope in
     let taken = c.args.taken.now in
     let run = c.args.run.now in
     let ds = seen_pairs c.args.descriptions.now in
@@ -92,7 +92,7 @@ pub returns-in_err-check-clause-refused : goal.returns-in_err-check-clause-refus
 returns-in_err-check-clause-refused g c choice are =
     let path = c.args.path.now in
     let source = c.args.source.now in
-    let old = c.args.old.now.stand.scope in
+    let old = c.args.old.stand.scope in
     let taken = c.args.taken.now in
     let run = c.args.run.now in
     let ds = seen_pairs c.args.descriptions.now in
