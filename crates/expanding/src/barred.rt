@@ -149,8 +149,8 @@ impl<'w, 'a> Watch<'w, 'a> {
 }
 
 /// A `delete` or `move L behind M` that a theorem of the source forbids, if there is one: one that no script gives another proof or another
-/// place, and that cites what is deleted; or that cites L, stands behind L, and doesn't stand behind M. The first such theorem is told, with
-/// the first command that it forbids.
+/// place, and that cites what is deleted; or that cites L, stands behind L, and doesn't stand behind M. The first such theorem is told,
+/// with the first command that it forbids.
 ///
 /// The scripts are the words behind `spread`. The proofs of the source are gone through once, with a look-up for each label that they
 /// name, and not at all where no script deletes an assertion or moves one behind another.

@@ -94,18 +94,21 @@ impl Draft {
         })
     }
 
+    /// The prelude of the library.
     pub fn prelude(&self) -> &Prelude
         ensures { result.now ≡ self.now.setting.prelude }
     {
         &self.prelude
     }
 
+    /// How many assertions the library may have at a time.
     pub fn slots(&self) -> usize
         ensures { result ≡ self.now.setting.slots }
     {
         self.slots
     }
 
+    /// How many assertions the library has now.
     pub fn assertion_count(&self) -> usize
         ensures { result ≡ length (now_in self.now) }
     {

@@ -61,7 +61,7 @@ split p (b ∷ bs) t ts h =
     (λ goes_on u vs. begins_there (suc p) bs goes_on u vs) h
 
 -- the first token of a text from a place on
-first_bytes : (text : List ℕ) (at : ℕ) (t : Token) → IsFirst text at t
+pub first_bytes : (text : List ℕ) (at : ℕ) (t : Token) → IsFirst text at t
     → drop at text ≡ (slice_range text at t.place ++ t.text) ++ drop (end_of t) text
 first_bytes text at t first =
     let s = split at (drop at text) t (tokens_at text (end_of t)) first.next in
@@ -76,7 +76,7 @@ first_bytes text at t first =
 -- ---- items
 
 -- the bytes of a text from a place on are those of an item that stands there, and those behind it
-bytes_stand : (text : List ℕ) (at end : ℕ) (x : Item) → Stands text at x end → drop at text ≡ bytes_of x ++ drop end text
+pub bytes_stand : (text : List ℕ) (at end : ℕ) (x : Item) → Stands text at x end → drop at text ≡ bytes_of x ++ drop end text
 bytes_stand text at end [] h = ap (λ k. drop k text) h
 bytes_stand text at end (p ∷ ps) h =
     first_bytes text at h.0 h.1

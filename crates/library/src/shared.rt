@@ -56,6 +56,7 @@ impl<T> SharedList<T> {
         Ok(SharedList { items })
     }
 
+    /// The items, in order.
     pub fn as_slice(&self) -> &[T]
         ensures { result.now ≡ self.now }
     {

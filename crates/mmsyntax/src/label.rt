@@ -64,6 +64,7 @@ impl Label {
         Ok(())
     }
 
+    /// The label's bytes.
     pub fn as_slice(&self) -> &[u8]
         ensures { result.now ≡ self.now }
     {

@@ -25,12 +25,14 @@ impl<T: Drop> Drop for Sequence<T> {
 }
 
 impl<T> Sequence<T> {
+    /// The list of these items.
     pub fn from_vec(items: Vec<T>) -> Self
         ensures { result ≡ items.items }
     {
         Sequence { items }
     }
 
+    /// The items, in order, without a copy.
     pub fn into_vec(self) -> Vec<T>
         ensures { result.items ≡ self }
     {
@@ -38,6 +40,7 @@ impl<T> Sequence<T> {
         items
     }
 
+    /// The items, in order.
     pub fn as_slice(&self) -> &[T]
         ensures { result.now ≡ self.now }
     {

@@ -60,6 +60,7 @@ impl Drop for SymbolTable {
 }
 
 impl SymbolTable {
+    /// A table in which nothing is declared. Its map draws its hashes from these keys.
     #[tactic(auto, unfolding(crate::specs::Tables::meaning))]
     pub fn new(alloc: Global, keys: RandomState) -> Self
         ensures { result ≡ record { constants = []; variables = []; floats = [] } }
@@ -86,18 +87,21 @@ impl SymbolTable {
         self.names.get(word).copied()
     }
 
+    /// The constants, in the order of their declarations.
     pub fn constants(&self) -> &[Label]
         ensures { result.now ≡ self.now.constants }
     {
         self.constants.as_slice()
     }
 
+    /// The variables, in the order of their declarations.
     pub fn variables(&self) -> &[Label]
         ensures { result.now ≡ self.now.variables }
     {
         self.variables.as_slice()
     }
 
+    /// The `$f`, in the order of the text.
     pub fn floats(&self) -> &[Float]
         ensures { result.now ≡ self.now.floats }
     {

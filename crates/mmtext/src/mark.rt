@@ -51,6 +51,7 @@ pub fn contains_dollar(word: &[u8]) -> bool
     word.contains(&b'$')
 }
 
+/// Whether a `.` stands in a word.
 pub fn contains_dot(word: &[u8]) -> bool
     ensures { result ≡ has_dot word.now }
 {

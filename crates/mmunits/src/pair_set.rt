@@ -40,6 +40,7 @@ impl Model for PairSet {
 }
 
 impl PairSet {
+    /// A set without a pair. Its tables draw their hashes from these keys.
     pub fn new(alloc: Global, keys: RandomState) -> Self
         ensures { result ≡ [] }
     {

@@ -116,9 +116,9 @@ fn each_alone(alloc: Global, pairs: &[(u32, u32)]) -> Result<Vec<Vec<u32>>, Allo
     Ok(groups)
 }
 
-/// The pairs of variables of an assertion as lists of variables, for a `$d` each: of each two in a list there is a pair, and each pair is in
-/// a list. Of up to 100 pairs the first that is in no list begins the next one, which then takes each variable, as they come up, that has a
-/// pair with all in it; of more, each makes a list.
+/// The pairs of variables of an assertion as lists of variables, for a `$d` each: of each two in a list there is a pair, and each pair is
+/// in a list. Of up to 100 pairs the first that is in no list begins the next one, which then takes each variable, as they come up, that
+/// has a pair with all in it; of more, each makes a list.
 ///
 /// # Errors
 ///

@@ -36,6 +36,8 @@ pub(crate) fn begin<L: Law>(words: &Words<L>, seat: &mut Place<L>) -> u64
     ensures seat { IsSameSeat seat.old seat.new }
     ensures told { Sampled L.terms seat.old.me result seat.new.me }
 {
+    // A load, since a run that only reads is to leave the clock as it is: with an advance all readers would meet at this word. It stands
+    // in front of the first look: a place that is sampled behind one may be above a commit that changed what that look allowed to be read.
     words.load::<Begin<L>>(seat, CLOCK)
 }
 
@@ -47,6 +49,7 @@ pub(crate) fn look<L: Law>(words: &Words<L>, seat: &mut Place<L>, cell: usize) -
     ensures seat { IsSameSeat seat.old seat.new }
     ensures told { Looks L.terms cell seat.old.me result seat.new.me }
 {
+    // A load, since a reader takes no lock. It stands in front of the load of the value: without it a value above the place would be used.
     words.load::<Look<L>>(seat, 2 * cell + FIRST_LOCK)
 }
 
@@ -58,6 +61,7 @@ pub(crate) fn load<L: Law>(words: &Words<L>, seat: &mut Place<L>, cell: usize, w
     ensures seat { IsSameSeat seat.old seat.new }
     ensures told { Loads L.terms seat.old.me result seat.new.me }
 {
+    // It stands between two looks at the lock word: behind the second, it could find the value of a commit that came after both.
     words.load::<Load<L>>(seat, 2 * cell + FIRST_VALUE)
 }
 
@@ -75,6 +79,8 @@ pub(crate) fn relook<L: Law>(
     ensures seat { IsSameSeat seat.old seat.new }
     ensures told { Relooks L.terms seat.old.me result seat.new.me }
 {
+    // Versions only grow, so the word of the first look comes back after no commit: where it stands here, the value was its value. Without
+    // this look a commit that locks and stores between the first look and the load would be read, with a version above the place.
     words.load::<Relook<L>>(seat, 2 * cell + FIRST_LOCK)
 }
 
@@ -96,6 +102,8 @@ pub(crate) fn take<L: Law, G: Said<L::Note>>(
     ensures seat { IsSameSeat seat.old seat.new }
     ensures told { Takes L.terms cell value word seat.old.me result seat.new.me }
 {
+    // An exchange: with a load and a store two runs could hold one cell. It compares with the word that the read has seen, so it also fails
+    // where the cell has changed since. It is one try and no loop, since a run whose cell has changed can't commit any more.
     words.compare_exchange::<Take<L, G>>(seat, 2 * cell + FIRST_LOCK, word, word + 1)
 }
 
@@ -115,6 +123,8 @@ pub(crate) fn draw<L: Law, G: Said<L::Note>>(
     ensures seat { IsSameSeat seat.old seat.new }
     ensures told { Draws L.terms (Some note.now) seat.old.me result seat.new.me }
 {
+    // A fetch-and-add: with a load and a store two runs could draw one number. It stands behind the last lock and in front of the first
+    // check: a run that drew before it held its cells could be missed by a reader whose place is its number.
     words.fetch_add::<Draw<L, G>>(seat, CLOCK, 1)
 }
 
@@ -128,6 +138,8 @@ pub(crate) fn check<L: Law>(words: &Words<L>, seat: &mut Place<L>, cell: usize) 
     ensures seat { IsSameSeat seat.old seat.new }
     ensures told { Checks L.terms cell seat.old.me result seat.new.me }
 {
+    // It stands behind the draw: a run with a smaller number held its cells before it drew, so this look sees its lock or its version.
+    // In front of the draw, such a run could still come between the check and the number.
     words.load::<Check<L>>(seat, 2 * cell + FIRST_LOCK)
 }
 
@@ -140,6 +152,7 @@ pub(crate) fn store<L: Law>(words: &Words<L>, seat: &mut Place<L>, cell: usize, 
     ensures seat { IsSameSeat seat.old seat.new }
     ensures told { Stores L.terms cell seat.old.me seat.new.me }
 {
+    // A store and no exchange: while a run holds the cell, each try of another to take it fails.
     words.store::<Store<L>>(seat, 2 * cell + FIRST_VALUE, value);
 }
 
@@ -151,6 +164,8 @@ pub(crate) fn release<L: Law>(words: &Words<L>, seat: &mut Place<L>, cell: usize
     ensures seat { IsSameSeat seat.old seat.new }
     ensures told { Releases L.terms cell seat.old.me seat.new.me }
 {
+    // A store, since nobody else changes the lock word of a held cell. It stands behind the store of the value: released earlier, the old
+    // value would be read under the new version.
     words.store::<Release<L>>(seat, 2 * cell + FIRST_LOCK, word);
 }
 
@@ -167,6 +182,8 @@ pub(crate) fn recall<L: Law, G: Said<L::Note>>(
     ensures seat { IsSameSeat seat.old seat.new }
     ensures told { Recalls L.terms (Some note.now) seat.old.me seat.new.me }
 {
+    // A load of a word that nobody writes: a seat learns of the history, and notes its own call, at a step of its own. This one changes
+    // nothing and meets nobody; with another word it would be an event of the machine.
     words.load::<Recall<L, G>>(seat, SPARE);
 }
 
@@ -176,6 +193,7 @@ pub(crate) fn refresh<L: Law>(words: &Words<L>, seat: &mut Place<L>)
     ensures seat { IsSameSeat seat.old seat.new }
     ensures told { Refreshes L.terms seat.old.me seat.new.me }
 {
+    // The same load as `recall`'s, for the same reason; it notes no call.
     words.load::<Refresh<L>>(seat, SPARE);
 }
 
@@ -185,6 +203,7 @@ pub(crate) fn tell<L: Law>(words: &Words<L>, seat: &mut Place<L>, other: &mut Pl
     ensures seat { IsSameSeat seat.old seat.new × (seat.new.me ≡ (told_by seat.old.me.0 (witness other.old.me.0), seat.old.me.1)) }
     ensures other { IsSameSeat other.old other.new × (other.new.me ≡ other.old.me) }
 {
+    // A view changes at a step alone, so both calls load a word and ignore it. `other` is asked first: its view is told as it is then.
     let token = words.table.shared.split_seat::<Tell>(other);
     words.table.shared.join_seat::<Tell>(seat, token);
 }

@@ -27,6 +27,8 @@ pub(crate) fn advance<L: Law, G: Said<L::Note>>(
     ensures seat { IsSameSeat seat.old seat.new }
     ensures told { Advances L.terms range.now seat.old.me result seat.new.me }
 {
+    // A fetch-and-add: with a load and a store two seats could take one range. A seat whose range doesn't fit has advanced the tail too:
+    // an exchange in a loop would keep these words, but a seat could wait for others then.
     let count = range.len().min(words.room + 1);
     words.fetch_add::<Advance<L, G>>(seat, 2 * words.cells + TAIL, count as u64)
 }
@@ -40,6 +42,7 @@ pub(crate) fn fill<L: Law>(words: &Words<L>, seat: &mut Place<L>, offset: usize,
     ensures seat { IsSameSeat seat.old seat.new }
     ensures told { Fills L.terms seat.old.me seat.new.me }
 {
+    // A store, since just the seat that took the range knows of it: no cell leads there before all its words are stored.
     words.store::<Fill<L>>(seat, 2 * words.cells + STORE + offset, word);
 }
 
@@ -50,5 +53,6 @@ pub(crate) fn fetch_word<L: Law>(words: &Words<L>, seat: &mut Place<L>, offset: 
     ensures seat { IsSameSeat seat.old seat.new }
     ensures told { Fetches L.terms offset seat.old.me result seat.new.me }
 {
+    // One load without a look at a lock word: a word of the store is written once, before any cell leads to it.
     words.load::<Fetch<L>>(seat, 2 * words.cells + STORE + offset)
 }
