@@ -1,13 +1,12 @@
 -- The bytes of an item that stands in a text.
-use Rattle.std.proofs.Common.{◌≡◌, ◌∙◌, ℕ, suc, ◌+◌, ◌-◌, ◌≤◌, Bool, true, false, cond, List, [], ◌∷◌, ◌++◌, length, drop, take}
-use Rattle.std.proofs.Common.{refl, sym, ap, subst, arith, append_assoc}
+use Rattle.std.proofs.Common.{◌≡◌, ◌∙◌, ℕ, ◌≤◌, List, ◌++◌, drop, sym, ap, arith, append_assoc}
 use Rattle.std.specs.Prelude.{slice_range}
-use Rattle.std.proofs.lemmas.List.{drop-drop, append_cancel_left, append_cancel_right}
+use Rattle.std.proofs.lemmas.List.{append_cancel_left, append_cancel_right}
 use Rattle.std.proofs.lemmas.List.Folds.{drop_split}
-use Rattle.mmtext.specs.Text.{Token, is_white, ends_token, with_byte, tokens_from}
-use Rattle.items.specs.Items.{Piece, Item, bytes_of}
+use Rattle.mmtext.specs.Text.{Token}
+use Rattle.items.specs.Items.{Item, bytes_of}
 use Rattle.items.specs.Reading.{tokens_at, IsFirst, end_of, Stands}
-use Rattle.items.proofs.Places.{begins_there, first_place}
+use Rattle.items.proofs.Places.{first_place}
 use Rattle.items.proofs.Reworded.{stands_later}
 use Rattle.items.proofs.Spelled.{first_bytes, bytes_stand}
 
