@@ -10,4 +10,4 @@ mod roles;
 
 pub use form::{ProofForm, ProofTree};
 pub use frames::Frames;
-pub use reading::read_proof;
+pub use reading::{read_given, read_proof};

@@ -20,7 +20,7 @@ use std::alloc::{AllocError, Global};
 use std::hash::RandomState;
 use taking::{StepPlaces, decode};
 
-/// The tree of what the steps of the finished proof of the assertion at a place count: nothing where they denote none.
+/// The tree of what the steps of a proof of the assertion at a place count: nothing where they denote none.
 fn tree_of<'a, D: Declared<'a>, P: StepPlaces>(
     alloc: Global,
     keys: RandomState,
@@ -33,16 +33,13 @@ fn tree_of<'a, D: Declared<'a>, P: StepPlaces>(
     requires whole { IsWhole (D.scope declared.now) }
     requires within { place < length (D.scope declared.now).assertions }
     requires holds { Holds (D.scope declared.now).assertions frames.old }
-    requires counted { At (D.scope declared.now).assertions place
-        (λ x. (proof : Proof) → x.proof ≡ Some proof → IsCounted x.hypotheses proof counted) }
-    requires finished { At (D.scope declared.now).assertions place
-        (λ x. (proof : Proof) → x.proof ≡ Some proof → is_unfinished proof ≡ false) }
     requires known { At (D.scope declared.now).assertions place
         (λ x. All (IsKnown (take place (D.scope declared.now).assertions) x.active) (seen_words counted.labels.items)) }
     ensures holds { Holds (D.scope declared.now).assertions frames.new }
-    ensures tree { IfOk result (λ tree. At (D.scope declared.now).assertions place (λ x. (proof : Proof) → x.proof ≡ Some proof
-        → MatchOption tree (denoted (take place (D.scope declared.now).assertions) x ≡ None)
-        (IsTree (P.places places.now) (take place (D.scope declared.now).assertions) x))) }
+    ensures tree { IfOk result (λ tree. At (D.scope declared.now).assertions place (λ x. (proof : Proof)
+        → IsCounted x.hypotheses proof counted.entry → is_unfinished proof ≡ false
+        → MatchOption tree (denoted (take place (D.scope declared.now).assertions) (record x { proof = Some proof }) ≡ None)
+        (IsTree (P.places places.now) (take place (D.scope declared.now).assertions) (record x { proof = Some proof })))) }
 {
     let mandatory = declared.mandatory(alloc, place)?;
     let roles = Roles::new(alloc, keys, mandatory)?;
@@ -66,8 +63,15 @@ fn tree_of<'a, D: Declared<'a>, P: StepPlaces>(
     }))
 }
 
-/// The tree that a finished proof of the assertion at a place denotes, if it denotes one.
-fn read_finished<'a, D: Declared<'a>, P: StepPlaces>(
+/// The tree that a finished proof with these words denotes as the proof of the assertion at a place, if it denotes one: its nodes are named
+/// by the steps that they have in a library. The source may have another proof there, or none.
+///
+/// It costs what [`read_proof`] does. After an error nothing is said of the frames.
+///
+/// # Errors
+///
+/// Want of memory, as of [`read_proof`].
+pub fn read_given<'a, D: Declared<'a>, P: StepPlaces>(
     alloc: Global,
     keys: RandomState,
     declared: &D,
@@ -79,14 +83,14 @@ fn read_finished<'a, D: Declared<'a>, P: StepPlaces>(
     requires whole { IsWhole (D.scope declared.now) }
     requires within { place < length (D.scope declared.now).assertions }
     requires holds { Holds (D.scope declared.now).assertions frames.old }
-    requires proof { At (D.scope declared.now).assertions place (λ x. x.proof ≡ Some (seen_proof proof.now)) }
     requires finished { is_unfinished (seen_proof proof.now) ≡ false }
     requires known { At (D.scope declared.now).assertions place
         (λ x. All (IsKnown (take place (D.scope declared.now).assertions) x.active) (counted_labels x.hypotheses (seen_proof proof.now))) }
     ensures holds { Holds (D.scope declared.now).assertions frames.new }
     ensures tree { IfOk result (λ tree. At (D.scope declared.now).assertions place (λ x. MatchOption tree
-        (denoted (take place (D.scope declared.now).assertions) x ≡ None)
-        (IsTree (P.places places.now) (take place (D.scope declared.now).assertions) x))) }
+        (denoted (take place (D.scope declared.now).assertions) (record x { proof = Some (seen_proof proof.now) }) ≡ None)
+        (IsTree (P.places places.now) (take place (D.scope declared.now).assertions)
+        (record x { proof = Some (seen_proof proof.now) })))) }
 {
     let mandatory = declared.mandatory(alloc, place)?;
     let Some(counted) = count_labels(alloc, mandatory, proof)? else {
@@ -125,7 +129,7 @@ pub fn read_proof<'a, D: Declared<'a>, P: StepPlaces>(
     if is_unfinished(proof) {
         return Ok(ProofForm::Unfinished);
     }
-    let tree = read_finished(alloc, keys, declared, frames, places, place, proof)?;
+    let tree = read_given(alloc, keys, declared, frames, places, place, proof)?;
     match tree {
         Some(tree) => Ok(ProofForm::Tree(tree)),
         // A finished proof denotes a tree in each source.

@@ -4,6 +4,7 @@ use Rattle.std.specs.Prelude.{All, IfSome, ℕ}
 use Rattle.std.specs.Borrow.{Bor}
 use Rattle.source.specs.declared.letters.Code.{Code}
 use Rattle.mmtext.specs.Words.{Word}
+use Rattle.source.specs.Scopes.{Assertion}
 use Rattle.source.specs.Proofs.{Tree}
 use Rattle.source.specs.Views.{seen_words, seen_hypotheses}
 use Rattle.taking.specs.declared.named.Named.{Named}
@@ -44,7 +45,8 @@ name_labels-requires g c =
     )
 
 pub returns-in_default-clause-tree : goal.returns-in_default-clause-tree
-returns-in_default-clause-tree g c = λ x at. λ proof is.
+returns-in_default-clause-tree g c = λ x at. λ proof counted finished.
+    let y : Assertion = record x { proof = Some proof } in
     let xs = (g.D.Declared.scope c.args.declared.now).assertions in
     let m = g.P.StepPlaces.places c.args.places.now in
     let named = c.in_ok-named.named.items in
@@ -58,12 +60,13 @@ returns-in_default-clause-tree g c = λ x at. λ proof is.
     (subst (λ (cs : List Code). AreDecoded named cs c.in_ok-proof.field-0) c.as_slice-3.ensures
     (subst (λ (ns : List Named). AreDecoded ns c.as_slice-3.result.now c.in_ok-proof.field-0) c.as_slice-2.ensures.value
     c.in_ok-proof.ensures.decoded)) in
-    tree_is_none m (take c.args.place xs) x ws named codes
-    (counted_denoted (take c.args.place xs) x proof c.args.counted is (c.requires.counted x at proof is)) names
-    (counted_there x.hypotheses proof c.args.counted (c.requires.counted x at proof is) (c.requires.finished x at proof is)) decoded
+    tree_is_none m (take c.args.place xs) y ws named codes
+    (counted_denoted (take c.args.place xs) y proof c.args.counted refl counted) names
+    (counted_there x.hypotheses proof c.args.counted counted finished) decoded
 
 pub returns-clause-tree : goal.returns-clause-tree
-returns-clause-tree g c = λ x at. λ proof is.
+returns-clause-tree g c = λ x at. λ proof counted finished.
+    let y : Assertion = record x { proof = Some proof } in
     let xs = (g.D.Declared.scope c.args.declared.now).assertions in
     let m = g.P.StepPlaces.places c.args.places.now in
     let named = c.in_ok-named.named.items in
@@ -87,7 +90,7 @@ returns-clause-tree g c = λ x at. λ proof is.
     (λ (o : Option DecodedProof). IfSome o (λ d. (labels : List Word) (t : Tree) → tree_of labels d ≡ Some t
     → AreLabelsOf labels d.nodes t))
     c.in-Some.is c.in_ok-proof.ensures.cites in
-    tree_is m (take c.args.place xs) x codes (record { labels = c.args.counted.labels; named = c.in_ok-named.named; proof = made })
+    tree_is m (take c.args.place xs) y codes (record { labels = c.args.counted.labels; named = c.in_ok-named.named; proof = made })
     made.within
-    (counted_denoted (take c.args.place xs) x proof c.args.counted is (c.requires.counted x at proof is)) names whole
-    (counted_there x.hypotheses proof c.args.counted (c.requires.counted x at proof is) (c.requires.finished x at proof is)) decoded cites
+    (counted_denoted (take c.args.place xs) y proof c.args.counted refl counted) names whole
+    (counted_there x.hypotheses proof c.args.counted counted finished) decoded cites
