@@ -7,6 +7,8 @@ pub mod Ranking
 pub mod Refusals
 pub mod Views
 pub mod Commands
+pub mod Cuts
+pub mod Discouraged
 pub mod Barred
 pub mod Bars
 pub mod Watches

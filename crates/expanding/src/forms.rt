@@ -12,7 +12,7 @@ ghost use Rattle.expanding.specs.Views.{front_words, place_words};
 use mmtext::Token;
 
 /// The place of the first word that is this one.
-fn first_place(last: &[u8], words: &[Token<'_>]) -> Option<usize>
+pub(crate) fn first_place(last: &[u8], words: &[Token<'_>]) -> Option<usize>
     ensures { result ≡ position (λ t. bytes_eq t.text.now last.now) words.now }
 {
     words.iter().position(|word| word.text == last)
@@ -93,7 +93,7 @@ fn behind_word(word: Token<'_>, words: &[Token<'_>]) -> usize
 }
 
 /// How many words the first part of words has, of which there is one.
-pub(crate) fn part_length(words: &[Token<'_>]) -> usize
+pub fn part_length(words: &[Token<'_>]) -> usize
     ensures within { result ≤ length words.now }
     ensures part { (ps : List Part) → AreParts (drop result (map seen words.now)) ps → map seen words.now ≢ []
         → (result ≢ 0) × AreParts (map seen words.now) (take result (map seen words.now) ∷ ps) }

@@ -31,7 +31,7 @@ pub struct Laid {
 
 impl Laid {
     /// No words.
-    pub(crate) fn new(alloc: Global) -> Laid
+    pub fn new(alloc: Global) -> Laid
         ensures laid { IsLaid [] result }
         ensures beginnings { result.beginnings.items ≡ [] }
     {
@@ -54,7 +54,11 @@ impl Laid {
     }
 
     /// Puts a word, which stands for the word of a script at a place.
-    fn put_word(&mut self, word: &[u8], place: usize) -> Result<(), AllocError>
+    ///
+    /// # Errors
+    ///
+    /// Want of memory.
+    pub fn put_word(&mut self, word: &[u8], place: usize) -> Result<(), AllocError>
         ensures laid { OnOk result ((ts : List Word) → IsLaid ts self.old → IsLaid (ts ++ word_at place word.now ∷ []) self.new) }
         ensures beginnings { OnOk result (self.new.beginnings.items ≡ self.old.beginnings.items) }
     {
@@ -80,7 +84,11 @@ impl Laid {
     }
 
     /// Puts words of the script.
-    pub(crate) fn put_words(&mut self, words: &[Token<'_>]) -> Result<(), AllocError>
+    ///
+    /// # Errors
+    ///
+    /// Want of memory.
+    pub fn put_words(&mut self, words: &[Token<'_>]) -> Result<(), AllocError>
         ensures laid { OnOk result ((ts : List Word) → IsLaid ts self.old → IsLaid (ts ++ map seen words.now) self.new) }
         ensures beginnings { OnOk result (self.new.beginnings.items ≡ self.old.beginnings.items) }
     {
@@ -88,6 +96,27 @@ impl Laid {
             self.put_word(word.text, word.place)?;
         }
         Ok(())
+    }
+
+    /// The words, each with the place in the script of the word for which it stands.
+    ///
+    /// # Errors
+    ///
+    /// Want of memory.
+    pub fn words(&self, alloc: Global) -> Result<Vec<Token<'_>>, AllocError>
+        ensures { (ts : List Word) → IsLaid ts self.now → IfOk result (λ words. map seen words.items ≡ ts) }
+    {
+        let mut words = Vec::with_capacity(alloc, self.words.len())?;
+        let mut at = 0;
+        for word in self.words.as_slice() {
+            let end = (at + word.length).min(self.text.len());
+            words.push(Token {
+                place: word.place,
+                text: &self.text[at.min(end)..end],
+            })?;
+            at = end + 1;
+        }
+        Ok(words)
     }
 
     /// The byte of the script at which the word stands in which, or behind which, a byte of the text stands; behind all of them `end`, the

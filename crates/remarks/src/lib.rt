@@ -1,0 +1,7 @@
+//! What the comments in front of the assertions of a source discourage.
+#![tactic(auto)]
+
+mod phrases;
+mod reading;
+
+pub use reading::{Remarks, read_remarks};
