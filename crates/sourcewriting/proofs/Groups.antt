@@ -214,7 +214,7 @@ pub all_grouped : (ps : List (ℕ × ℕ)) (groups : List (List ℕ)) → AreGro
 all_grouped ps groups g = λ x y.
     same_test (has_pair (restricted groups) x y) (has_pair ps x y) (g.sound x y)
     (all_among (restricted groups) ps
-      (subst (λ qs. All (λ p. has_pair (restricted groups) p.0 p.1 ≡ true) qs) (take-length ps) g.there) x y)
+    (subst (λ qs. All (λ p. has_pair (restricted groups) p.0 p.1 ≡ true) qs) (take-length ps) g.there) x y)
 
 grouped_next : (ps : List (ℕ × ℕ)) (i : ℕ) (d : ℕ × ℕ) (old new : List (List ℕ)) → i < length ps
     → ((x y : ℕ) → has_pair (restricted new) x y ≡ true → has_pair ps x y ≡ true)

@@ -36,7 +36,7 @@ returns-clause-drafted c choice are =
           subst (λ (ws : List Word). All (λ x. IsTrue (names_none ws x.proof)) (others own old.assertions))
           (ap seen_words c.as_slice-3.ensures.value)
           (subst
-            (λ (fs : List Bool). All (λ x. IsTrue (names_none (seen_words c.as_slice-3.result.now) x.proof)) (others fs old.assertions))
+          (λ (fs : List Bool). All (λ x. IsTrue (names_none (seen_words c.as_slice-3.result.now) x.proof)) (others fs old.assertions))
           c.as_slice-2.ensures.value c.in_ok-are_uncited.ensures.uncited);
       written = c.in_ok-text.ensures.written;
     }
