@@ -1,0 +1,4 @@
+pub mod Places
+pub mod Proofs
+pub mod Pasted
+pub mod Views
