@@ -57,6 +57,10 @@ room_rule = record (new_rule (codes "room")) {
 abbrev pub partial_rule : Rule
 partial_rule = flag_rule (codes "partial")
 
+-- `--force`
+abbrev pub force_rule : Rule
+force_rule = flag_rule (codes "force")
+
 -- `--output FILE`
 abbrev pub output_rule : Rule
 output_rule = option_rule (codes "output") Set
@@ -130,11 +134,11 @@ give_app = with_rule (with_rule (with_rule (new_app (codes "give")) source_rule)
 abbrev pub verify_app : App
 verify_app = with_rule (with_rule (new_app (codes "verify")) checkers_rule) source_rule
 
--- `edit [--workers N] [--room W] [--output FILE] [--in-place] [--replies FILE] [--partial] SOURCE SCRIPT..`
+-- `edit [--workers N] [--room W] [--output FILE] [--in-place] [--replies FILE] [--partial] [--force] SOURCE SCRIPT..`
 abbrev pub edit_app : App
-edit_app = with_rule (with_rule (with_rule (with_rule (with_rule (with_rule
+edit_app = with_rule (with_rule (with_rule (with_rule (with_rule (with_rule (with_rule
     (with_rule (with_rule (new_app (codes "edit")) workers_rule) room_rule) output_rule) in_place_rule) replies_rule) partial_rule)
-    source_rule) scripts_rule
+    force_rule) source_rule) scripts_rule
 
 -- the program, before it has subcommands: it has a version, and wants one of them
 abbrev pub bare_app : App

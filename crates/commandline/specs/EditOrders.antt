@@ -5,6 +5,7 @@ use Rattle.std.specs.Str.{bytes_eq}
 use Rattle.clap.specs.Words.{Row, Text, all_of, first_of}
 use Rattle.commandline.specs.declared.edit_order.Place.{Place}
 use Rattle.commandline.specs.declared.edit_order.Outputs.{Outputs}
+use Rattle.commandline.specs.declared.edit_order.Allowed.{Allowed}
 use Rattle.commandline.specs.declared.edit_order.Place.TheVariants.{Printed, File, Source}
 use Rattle.commandline.specs.Orders.{HasLimits, all_listed, rows_in}
 
@@ -38,12 +39,16 @@ AreOutputsGiven rows (Some o) =
     × (option_map (λ path. path.now) o.replies ≡ first_of (codes "replies") rows)
 AreOutputsGiven rows None = IsPlaceGiven (first_of (codes "output") rows) (is_flagged (first_of (codes "in-place") rows)) None
 
--- the paths of its source and of its scripts, its numbers, where all goes, and whether a part of the transactions is enough for the edited
--- source
+-- a part of the transactions is enough with `--partial`, and what comments discourage may be done with `--force`
+pub record IsAllowed (rows : List Row) (allowed : Allowed) : Type 0 where
+  pub part : allowed.partial ≡ is_flagged (first_of (codes "partial") rows)
+  pub forced : allowed.force ≡ is_flagged (first_of (codes "force") rows)
+
+-- the paths of its source and of its scripts, its numbers, where all goes, and what is allowed
 pub record IsEditOrder (found : Option (Text × List Row)) (paths : List Text) (workers : ℕ) (room : Option ℕ) (outputs : Option Outputs)
-    (partial : Bool) : Type 0 where
+    (allowed : Allowed) : Type 0 where
   pub source : Text
   pub asked : AsksToEdit found source workers room
   pub read : paths ≡ source ∷ all_listed (all_of (codes "SCRIPT") (rows_in found))
   pub put : AreOutputsGiven (rows_in found) outputs
-  pub part : partial ≡ is_flagged (first_of (codes "partial") (rows_in found))
+  pub allows : IsAllowed (rows_in found) allowed

@@ -260,7 +260,7 @@ fn verify_line<'a>(alloc: Global) -> Result<Command<'a>, AllocError>
     with_argument(line, file(alloc, "SOURCE", SOURCE))
 }
 
-/// `mmrefactor edit [--workers N] [--room W] [--in-place | --output FILE] [--replies FILE] [--partial] SOURCE SCRIPT..`.
+/// `mmrefactor edit [--workers N] [--room W] [--in-place | --output FILE] [--replies FILE] [--partial] [--force] SOURCE SCRIPT..`.
 fn edit_line<'a>(alloc: Global) -> Result<Command<'a>, AllocError>
     ensures { IfOk result (IsLine edit_app) }
 {
@@ -299,6 +299,12 @@ fn edit_line<'a>(alloc: Global) -> Result<Command<'a>, AllocError>
         "Prints the database also where some transaction was not done; the status is 3 then",
     );
     let line = with_argument(line, partial);
+    let force = flag(
+        alloc,
+        "force",
+        "Also does what comments of SOURCE discourage: proof modification, new usage",
+    );
+    let line = with_argument(line, force);
     let line = with_argument(line, file(alloc, "SOURCE", SOURCE));
     with_argument(line, scripts(alloc))
 }
@@ -306,7 +312,7 @@ fn edit_line<'a>(alloc: Global) -> Result<Command<'a>, AllocError>
 /// The command lines that the program takes: `mmrefactor check DB`, `mmrefactor run [--workers N] [--room W] [--history FILE] DB
 /// SCRIPT..`, `mmrefactor replay DB HISTORY`, `mmrefactor take [--for LABEL].. [--from LABEL --to LABEL] SOURCE`, `mmrefactor give SOURCE
 /// LIBRARY HISTORY`, `mmrefactor verify [--workers N] SOURCE` and `mmrefactor edit [--workers N] [--room W] [--in-place | --output FILE]
-/// [--replies FILE] [--partial] SOURCE SCRIPT..`.
+/// [--replies FILE] [--partial] [--force] SOURCE SCRIPT..`.
 ///
 /// That `--from` and `--to` go together, and not with `--for`, and that `--in-place` does not go with `--output`, is no rule of these
 /// lines.

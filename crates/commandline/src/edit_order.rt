@@ -2,7 +2,7 @@
 
 ghost use Rattle.std.specs.Prelude.{◌≡◌, codes, ℕ, IfOk, IfSome, IsNone, Option, map};
 ghost use Rattle.clap.specs.Words.{Text, first_of, found_of, rows_of, subcommand_rows_of};
-ghost use Rattle.commandline.specs.EditOrders.{AreOutputsGiven, AsksToEdit, IsEditOrder, IsPlaceGiven, is_flagged};
+ghost use Rattle.commandline.specs.EditOrders.{AreOutputsGiven, AsksToEdit, IsAllowed, IsEditOrder, IsPlaceGiven, is_flagged};
 
 use crate::order::{limits_in, put_all, subcommand_in, text_in, texts_in};
 use clap::ArgMatches;
@@ -28,6 +28,15 @@ pub struct Outputs<'a> {
     pub replies: Option<&'a str>,
 }
 
+/// What is allowed to an edit that isn't without being asked for.
+#[derive(Clone, Copy, Debug)]
+pub struct Allowed {
+    /// The source is printed also where not all transactions were done.
+    pub partial: bool,
+    /// Scripts may do what comments of the source discourage.
+    pub force: bool,
+}
+
 /// What a command line asks to edit.
 #[derive(Drop)]
 pub struct EditOrder<'a> {
@@ -39,8 +48,8 @@ pub struct EditOrder<'a> {
     pub room: Option<usize>,
     /// Where the edited source and what became of the transactions go. None where `--output` and `--in-place` are both given.
     pub outputs: Option<Outputs<'a>>,
-    /// Whether the source is printed also where not all transactions were done.
-    pub partial: bool,
+    /// What is allowed to it.
+    pub allowed: Allowed,
 }
 
 /// Whether a flag is given.
@@ -77,6 +86,16 @@ fn outputs_in<'a>(of: &ArgMatches<'a>) -> Option<Outputs<'a>>
     })
 }
 
+/// What is allowed.
+fn allowed_in(of: &ArgMatches<'_>) -> Allowed
+    ensures { IsAllowed (rows_of (found_of of.now)) result }
+{
+    Allowed {
+        partial: flag_in(of, "partial"),
+        force: flag_in(of, "force"),
+    }
+}
+
 /// The order to edit that a command line gives. None where it asks for another job, or for none.
 ///
 /// # Errors
@@ -87,7 +106,7 @@ pub fn edit_of<'a>(
     matches: &ArgMatches<'a>,
 ) -> Result<Option<EditOrder<'a>>, AllocError>
     ensures some { IfOk result (λ given. IfSome given (λ order. IsEditOrder (subcommand_rows_of matches.now)
-        (map (λ p. p.now) order.paths.items) order.workers order.room order.outputs order.partial)) }
+        (map (λ p. p.now) order.paths.items) order.workers order.room order.outputs order.allowed)) }
     ensures none { IfOk result (λ given. IsNone given → (path : Text) (workers : ℕ) (room : Option ℕ)
         → AsksToEdit (subcommand_rows_of matches.now) path workers room → ⊥) }
 {
@@ -110,6 +129,6 @@ pub fn edit_of<'a>(
         workers,
         room,
         outputs: outputs_in(of),
-        partial: flag_in(of, "partial"),
+        allowed: allowed_in(of),
     }))
 }

@@ -1,5 +1,5 @@
--- The scripts of a keeper on the way to those that are run: their words, these without the forms that a source does away with, and these
--- with the ranks of the library that is taken for them.
+-- The scripts of a keeper on the way to those that are run: their words, these without the forms that a source does away with, these with
+-- the proofs of the library that is taken for them, and these with its ranks.
 use Rattle.std.specs.Prelude.{◌≡◌, ℕ, Bool, List, [], ◌∷◌, ◌++◌, map}
 use Rattle.std.specs.List.{AllZip}
 use Rattle.mmtext.specs.Text.{Token}
@@ -9,6 +9,9 @@ use Rattle.checking.specs.Checks.{Bytes}
 use Rattle.expanding.specs.Words.{word_language, text_of}
 use Rattle.expanding.specs.Spreading.{IsSpread}
 use Rattle.expanding.specs.Ranking.{IsRanked}
+use Rattle.mmsyntax.specs.Tables.{Contents}
+use Rattle.pasting.specs.Places.{places_in}
+use Rattle.pasting.specs.Pasted.{IsPasted}
 
 -- these are the words of each text outside of its comments
 abbrev pub AreWordsOf : List Bytes → List (List Token) → Type 0
@@ -17,6 +20,10 @@ AreWordsOf texts scripts = AllZip (Says word_language) texts scripts
 -- and these those of each by the source
 abbrev pub AreSpread : Scope → List (List Token) → List (List Token) → Type 0
 AreSpread s scripts outs = AllZip (IsSpread s) scripts outs
+
+-- and these with the proofs of the library that is taken, as flags say which assertions of the source are
+abbrev pub ArePasted : Scope → List Bool → Contents → List (List Token) → List (List Token) → Type 0
+ArePasted s flags db scripts outs = AllZip (IsPasted (places_in s flags db) db.prelude s) scripts outs
 
 -- the words of a script with ranks, and the places where its transactions begin
 pub record RankedScript : Type 0 where

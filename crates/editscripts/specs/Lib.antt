@@ -4,3 +4,4 @@ pub mod Described
 pub mod Replies
 pub mod Views
 pub mod Refusals
+pub mod Encouraged

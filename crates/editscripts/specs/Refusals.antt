@@ -1,5 +1,5 @@
 -- Why scripts can't be read over a source, and the line that says so.
-use Rattle.std.specs.Prelude.{◌≡◌, ◌≢◌, ◌+◌, ℕ, Bool, List, [], ◌++◌, length, take, Some, codes, slice_get, slice_index_or, string_bytes}
+use Rattle.std.specs.Prelude.{◌≡◌, ◌≢◌, ◌⊎◌, ◌+◌, ℕ, Bool, List, [], ◌++◌, length, take, Some, codes, slice_get, slice_index_or, string_bytes}
 use Rattle.std.specs.Fmt.{decimal}
 use Rattle.mmtext.specs.Text.{Token}
 use Rattle.mmtext.specs.Languages.{Faulty}
@@ -16,10 +16,12 @@ use Rattle.expanding.specs.Lines.{line_at}
 use Rattle.expanding.specs.Words.{word_language, text_of, place_at}
 use Rattle.expanding.specs.Refusals.{IsUnspread, IsUnranked}
 use Rattle.expanding.specs.Barred.{IsBarred}
-use Rattle.mmsyntax.specs.Tables.{Tables}
+use Rattle.mmsyntax.specs.Tables.{Tables, Contents}
+use Rattle.pasting.specs.Places.{places_in}
+use Rattle.pasting.specs.Pasted.{PasteFault, HasPasteFault}
 use Rattle.editscripts.specs.declared.unedited.Unedited.{Unedited}
 use Rattle.editscripts.specs.declared.unedited.Unedited.TheVariants as unedited
-use Rattle.editscripts.specs.Expanded.{AreWordsOf, AreSpread, RankedScript, AreRanked, texts_of}
+use Rattle.editscripts.specs.Expanded.{AreWordsOf, AreSpread, ArePasted, RankedScript, AreRanked, texts_of}
 
 -- a script has another byte than one may have, or a comment that isn't closed; those before it have words
 pub record IsWordlessLine (paths texts : List Bytes) (line : Bytes) : Type 0 where
@@ -79,6 +81,19 @@ pub record IsBarredBy (paths : List Bytes) (s : Scope) (texts : List Bytes) (scr
   pub barred : IsBarred s scripts script label by
   pub says : line ≡ barred_line (slice_index_or paths (script + 1) []) (slice_index_or texts script []) label by
 
+-- a compressed proof of a script is none at its theorem; the scripts before it have proofs of the library
+pub record IsUnpastedBy (paths : List Bytes) (s : Scope) (flags : List Bool) (db : Contents) (scripts : List (List Token)) (line : Bytes)
+    : Type 0 where
+  pub script : ℕ
+  pub before : List (List Token)
+  pub are_pasted : ArePasted s flags db (take script scripts) before
+  pub ts : List Token
+  pub at : slice_get scripts script ≡ Some ts
+  pub found : PasteFault
+  pub faulty : HasPasteFault (places_in s flags db) s ts found
+  pub told : found.kind ≢ OutOfMemory
+  pub says : line ≡ line_of paths (fault.Text (script + 1) (record { place = found.at.place; kind = found.kind }))
+
 -- a script puts too many at one place, of a source of which flags say which assertions are taken; those before it don't
 pub record IsCrowdedBy (paths : List Bytes) (s : Scope) (texts : List Bytes) (flags : List Bool) (scripts : List (List Token))
     (line : Bytes) : Type 0 where
@@ -92,6 +107,17 @@ pub record IsCrowdedBy (paths : List Bytes) (s : Scope) (texts : List Bytes) (fl
   pub unranked : IsUnranked s flags gaps ts why
   pub told : why ≢ misfit.NoMemory
   pub says : line ≡ misfit_line (slice_index_or paths (script + 1) []) (slice_index_or texts script []) why
+
+-- scripts have no texts over a library that is taken of the source
+pub record IsCrowdedThen (paths : List Bytes) (s : Scope) (texts : List Bytes) (flags : List Bool) (db : Contents)
+    (scripts : List (List Token)) (line : Bytes) : Type 0 where
+  pub pasted : List (List Token)
+  pub are_pasted : ArePasted s flags db scripts pasted
+  pub crowded : IsCrowdedBy paths s texts flags pasted line
+
+abbrev pub IsUnlaidBy : List Bytes → Scope → List Bytes → List Bool → Contents → List (List Token) → Bytes → Type 0
+IsUnlaidBy paths s texts flags db scripts line =
+    IsUnpastedBy paths s flags db scripts line ⊎ IsCrowdedThen paths s texts flags db scripts line
 
 -- a script isn't read over a library, though those before it are: its first fault is told at the word of the keeper's text for which the
 -- word stands that has it

@@ -1,23 +1,29 @@
 //! Scripts on the way to those that are run: their words, these by the source, and the text of these with ranks.
 
 ghost use Rattle.std.specs.Prelude.{◌≡◌, ◌⊎◌, ℕ, All, List, [], IfOk, IfErr, length, map};
+ghost use Rattle.std.specs.List.{AllZip};
+ghost use Rattle.mmtext.specs.Text.{Token as Word};
+ghost use Rattle.source.specs.Whole.{IsWhole};
 ghost use Rattle.library.specs.Fitting.{CommandFits};
 ghost use Rattle.checking.specs.Checks.{AreScripts};
-ghost use Rattle.editscripts.specs.Expanded.{AreWordsOf, AreSpread, RankedScript, AreRanked, texts_of};
+ghost use Rattle.editscripts.specs.Expanded.{AreWordsOf, AreSpread, ArePasted, RankedScript, AreRanked, texts_of};
 ghost use Rattle.editscripts.specs.Expanded.{IsSpreadOf};
-ghost use Rattle.editscripts.specs.Refusals.{IsToldBy, IsWordlessLine, IsMisfitLine, IsCrowdedBy, IsUnreadBy};
-ghost use Rattle.expanding.specs.Views.{seen_scripts};
+ghost use Rattle.editscripts.specs.Refusals.{IsToldBy, IsWordlessLine, IsMisfitLine, IsUnpastedBy, IsCrowdedBy, IsUnlaidBy, IsUnreadBy};
+ghost use Rattle.expanding.specs.Views.{seen_scripts, IsLaid};
+ghost use Rattle.pasting.specs.Views.{IsNarrow};
 ghost use Rattle.editscripts.specs.Views.{seen_texts, AreLaid};
 
 use crate::telling::{misfit, path_at, text_at, unread};
 use crate::unedited::Unedited;
 use expanding::{Laid, Ranker, spread, words_in};
 use library::Script;
-use mmsyntax::Prelude;
+use mmsyntax::{Database, Prelude};
 use mmtext::{TextFault, Token};
+use pasting::{Paster, Unpasted};
 use scripts::read_script;
 use source::Declared;
-use std::alloc::Global;
+use std::alloc::{AllocError, Global};
+use std::hash::RandomState;
 
 /// The words of scripts that stand outside of comments.
 fn words_of<'a>(
@@ -78,8 +84,79 @@ pub fn spread_of<'a, D: Declared<'a>>(
     spread_all(alloc, paths, declared, texts, words.as_slice())
 }
 
+/// The words of scripts with the proofs of a library that is taken of the source, as flags say of each of its assertions, in the stead of
+/// those that they write in the source's own words.
+fn paste_all<'w, 'a, D: Declared<'a>>(
+    alloc: Global,
+    keys: RandomState,
+    paths: &[&str],
+    declared: &D,
+    database: &Database,
+    flags: &[bool],
+    scripts: &[Vec<Token<'w>>],
+) -> Result<Vec<Laid>, Unedited>
+    requires whole { IsWhole (D.scope declared.now) }
+    requires flags { length flags.now ≡ length (D.scope declared.now).assertions }
+    requires narrow { IsNarrow (D.scope declared.now) flags.now }
+    ensures pasted { IfOk result (λ laid. (outs : List (List Word)) × AllZip IsLaid outs laid.items
+        × ArePasted (D.scope declared.now) flags.now database.now (seen_scripts scripts.now) outs) }
+    ensures refused { IfErr result (IsToldBy (IsUnpastedBy
+        (map (λ p. p.now) paths.now) (D.scope declared.now) flags.now database.now (seen_scripts scripts.now))) }
+{
+    let mut paster = Paster::new(alloc, keys, declared, database, flags)?;
+    let mut all = Vec::new(alloc);
+    for (script, words) in scripts.iter().enumerate() {
+        match paster.paste(alloc, keys, declared, words.as_slice()) {
+            Ok(laid) => all.push(laid)?,
+            Err(Unpasted::NoMemory) => return Err(Unedited::NoMemory),
+            Err(Unpasted::Faulty(word, kind)) => {
+                let place = word.place;
+                return Err(unread(alloc, paths, script, TextFault { place, kind })?);
+            }
+        }
+    }
+    Ok(all)
+}
+
+/// The words of texts that remember them.
+fn words_laid<'l>(alloc: Global, all: &'l [Laid]) -> Result<Vec<Vec<Token<'l>>>, AllocError>
+    ensures { (outs : List (List Word)) → AllZip IsLaid outs all.now → IfOk result (λ words. seen_scripts words.items ≡ outs) }
+{
+    let mut words = Vec::with_capacity(alloc, all.len())?;
+    for laid in all {
+        words.push(laid.words(alloc)?)?;
+    }
+    Ok(words)
+}
+
+/// The texts of scripts over a library that is taken of the source, as flags say of each of its assertions: with its proofs in the stead of
+/// those that they write in the source's own words, and with its ranks.
+pub fn lay_all<'w, 'a, D: Declared<'a>>(
+    alloc: Global,
+    keys: RandomState,
+    paths: &[&str],
+    declared: &D,
+    texts: &[Vec<u8>],
+    database: &Database,
+    flags: &[bool],
+    scripts: &[Vec<Token<'w>>],
+) -> Result<Vec<Laid>, Unedited>
+    requires whole { IsWhole (D.scope declared.now) }
+    requires flags { length flags.now ≡ length (D.scope declared.now).assertions }
+    requires narrow { IsNarrow (D.scope declared.now) flags.now }
+    ensures laid { IfOk result (λ laid. (pasted : List (List Word)) × (outs : List RankedScript) × (gaps : List ℕ)
+        × ArePasted (D.scope declared.now) flags.now database.now (seen_scripts scripts.now) pasted × AreLaid outs laid.items
+        × AreRanked (D.scope declared.now) flags.now [] pasted outs gaps) }
+    ensures refused { IfErr result (IsToldBy (IsUnlaidBy
+        (map (λ p. p.now) paths.now) (D.scope declared.now) (seen_texts texts.now) flags.now database.now (seen_scripts scripts.now))) }
+{
+    let pasted = paste_all(alloc, keys, paths, declared, database, flags, scripts)?;
+    let words = words_laid(alloc, pasted.as_slice())?;
+    rank_all(alloc, paths, declared, texts, flags, words.as_slice())
+}
+
 /// The texts of scripts with the ranks of a library that is taken of the source, as flags say of each of its assertions.
-pub fn rank_all<'w, 'a, D: Declared<'a>>(
+fn rank_all<'w, 'a, D: Declared<'a>>(
     alloc: Global,
     paths: &[&str],
     declared: &D,

@@ -4,6 +4,7 @@
 
 mod barring;
 mod described;
+mod discouraging;
 mod expanded;
 mod lacking;
 mod replying;
@@ -12,7 +13,8 @@ mod unedited;
 
 pub use barring::are_free;
 pub use described::{descriptions_of, done_descriptions};
-pub use expanded::{rank_all, read_all, spread_of};
+pub use discouraging::are_encouraged;
+pub use expanded::{lay_all, read_all, spread_of};
 pub use lacking::{may_print, undone};
 pub use replying::replies_if;
 pub use telling::{untaken, unworked};

@@ -24,13 +24,16 @@ pub worked_as : (db : Contents) (workers : ℕ) (room : Room) (ss scripts : List
 worked_as db workers room ss scripts same e w =
     subst (λ (k : List Orders). IsWorked db workers (room_of room db k) k (lists_of e.outcomes.items) e.history e.library) same w
 
-module _ (source : Bytes) (texts : List Bytes) (s : Scope) (b : CodeBegun) (d : DeclaresText source s) (is : IsBegun s texts b) where
+module _ (source : Bytes) (texts : List Bytes) (s : Scope) (force : Bool) (b : CodeBegun) (d : DeclaresText source s)
+    (is : IsBegun source s texts force b) where
   abbrev pub begun_of : Begun source texts
   begun_of = record {
     old = s;
     declares = d;
     with_ranks = record {
       over = record { spread = is.spread; of_source = is.of_source; taken = b.taken; for_scripts = is.for_scripts };
+      pasted = is.pasted;
+      are_pasted = is.are_pasted;
       ranked = is.ranked;
       gaps = is.gaps;
       are_ranked = is.are_ranked;

@@ -1,5 +1,5 @@
 -- What a source becomes that scripts edit.
-use Rattle.std.specs.Prelude.{◌≡◌, ℕ, List, [], Option, is_none, unwrap_or}
+use Rattle.std.specs.Prelude.{◌≡◌, ℕ, Bool, false, List, [], Option, is_none, unwrap_or}
 use Rattle.mmtext.specs.Text.{Token}
 use Rattle.source.specs.Scopes.{Scope}
 use Rattle.source.specs.Sources.{DeclaresText}
@@ -22,8 +22,9 @@ use Rattle.verifytext.specs.Verdicts.{IsVerifiedText}
 use Rattle.expanding.specs.Asking.{spoken, asked}
 use Rattle.expanding.specs.Descriptions.{Description}
 use Rattle.editscripts.specs.Described.{AreDescriptive, done_descriptions}
+use Rattle.editscripts.specs.Encouraged.{AreEncouraged}
 use Rattle.editedsource.specs.Described.{IsDescribedBy, descriptions_then}
-use Rattle.editscripts.specs.Expanded.{RankedScript, AreRanked, texts_of}
+use Rattle.editscripts.specs.Expanded.{ArePasted, RankedScript, AreRanked, texts_of}
 use Rattle.editscripts.specs.Expanded.{IsSpreadOf}
 
 -- the room of a run that is given one, or isn't
@@ -51,12 +52,14 @@ pub record Asked (s : Scope) (texts : List Bytes) : Type 0 where
   pub taken : Taken
   pub for_scripts : IsTakenFor s spread taken
 
--- and their words with the ranks of that library
+-- and their words with the proofs of that library, and with its ranks
 pub record Ranked (s : Scope) (texts : List Bytes) : Type 0 where
   pub over : Asked s texts
+  pub pasted : List (List Token)
+  pub are_pasted : ArePasted s over.taken.chosen.items over.taken.database over.spread pasted
   pub ranked : List RankedScript
   pub gaps : List ℕ
-  pub are_ranked : AreRanked s over.taken.chosen.items [] over.spread ranked gaps
+  pub are_ranked : AreRanked s over.taken.chosen.items [] pasted ranked gaps
 
 -- the library of a source that scripts ask for, and the scripts as they are read over it
 pub record Begun (source : Bytes) (texts : List Bytes) : Type 0 where
@@ -79,6 +82,11 @@ pub record Run (source : Bytes) (texts : List Bytes) (workers : ℕ) (room : Roo
   pub edited : Listed
   pub worked :
       IsWorked (taken_of begun).database workers (room_of room (taken_of begun).database begun.scripts) begun.scripts rows entries edited
+
+-- its scripts do nothing that comments of the source discourage, unless that is forced
+abbrev pub IsEncouragedRun : {source : Bytes} {texts : List Bytes} {workers : ℕ} {room : Room} {rows : List (List Outcome)}
+    → Bool → Run source texts workers room rows → Type 0
+IsEncouragedRun {source} force r = force ≡ false → AreEncouraged source r.begun.old r.begun.with_ranks.over.spread
 
 -- the text is the source with the edits of that history
 abbrev pub IsSourceThen : {source : Bytes} {texts : List Bytes} {workers : ℕ} {room : Room} {rows : List (List Outcome)}

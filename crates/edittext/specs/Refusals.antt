@@ -1,5 +1,5 @@
 -- Why a source isn't edited, and the line that says so.
-use Rattle.std.specs.Prelude.{◌≡◌, ◌≢◌, ◌⊎◌, ℕ, List}
+use Rattle.std.specs.Prelude.{◌≡◌, ◌≢◌, ◌⊎◌, ℕ, Bool, List}
 use Rattle.mmtext.specs.Text.{Token}
 use Rattle.mmtext.specs.declared.fault.TextFault.{TextFault}
 use Rattle.source.specs.Scopes.{Scope}
@@ -23,7 +23,8 @@ use Rattle.editscripts.specs.Described.{AreDescriptive, done_descriptions}
 use Rattle.editedsource.specs.Described.{IsDescribedBy, descriptions_then}
 use Rattle.edittext.specs.Edited.{IsAskedBy, Asked, Ranked, Begun, taken_of, choice_of, Run, IsSourceThen}
 use Rattle.editscripts.specs.Expanded.{IsSpreadOf}
-use Rattle.editscripts.specs.Refusals.{IsWordlessLine, IsMisfitLine, IsBarredBy, IsCrowdedBy, IsUnreadBy}
+use Rattle.editscripts.specs.Encouraged.{IsDiscouragedBy}
+use Rattle.editscripts.specs.Refusals.{IsWordlessLine, IsMisfitLine, IsBarredBy, IsUnlaidBy, IsUnreadBy}
 use Rattle.editedsource.specs.Refusals.{IsStoppedLine, IsFaultyThenLine}
 
 -- the text of the source has a fault
@@ -39,6 +40,13 @@ pub record IsBarredLine (paths : List Bytes) (s : Scope) (texts : List Bytes) (l
   pub of_source : IsSpreadOf s texts spread
   pub cause : IsBarredBy paths s texts spread line
 
+-- scripts do what comments of the source discourage, and it isn't forced
+pub record IsDiscouragedLine (paths : List Bytes) (source : Bytes) (s : Scope) (texts : List Bytes) (force : Bool) (line : Bytes)
+    : Type 0 where
+  pub spread : List (List Token)
+  pub of_source : IsSpreadOf s texts spread
+  pub cause : IsDiscouragedBy paths source s texts force spread line
+
 -- no library is taken of what the source declares by the wish of the scripts
 pub record IsUntakenBy (path : Bytes) (s : Scope) (scripts : List (List Token)) (line : Bytes) : Type 0 where
   pub wish : Wish
@@ -53,21 +61,22 @@ pub record IsUntakenLine (path : Bytes) (s : Scope) (texts : List Bytes) (line :
   pub of_source : IsSpreadOf s texts spread
   pub cause : IsUntakenBy path s spread line
 
-pub record IsCrowdedLine (paths : List Bytes) (s : Scope) (texts : List Bytes) (line : Bytes) : Type 0 where
+pub record IsUnlaidLine (paths : List Bytes) (s : Scope) (texts : List Bytes) (line : Bytes) : Type 0 where
   pub over : Asked s texts
-  pub cause : IsCrowdedBy paths s texts over.taken.chosen.items over.spread line
+  pub cause : IsUnlaidBy paths s texts over.taken.chosen.items over.taken.database over.spread line
 
 pub record IsUnreadLine (paths : List Bytes) (s : Scope) (texts : List Bytes) (line : Bytes) : Type 0 where
   pub with_ranks : Ranked s texts
   pub cause : IsUnreadBy paths with_ranks.over.taken.database.prelude texts with_ranks.ranked line
 
 -- why scripts aren't begun over what a source declares
-abbrev pub IsUnbegunLine : Bytes → List Bytes → Scope → List Bytes → Bytes → Type 0
-IsUnbegunLine path paths s texts line =
+abbrev pub IsUnbegunLine : Bytes → List Bytes → Bytes → Scope → List Bytes → Bool → Bytes → Type 0
+IsUnbegunLine path paths source s texts force line =
     IsWordlessLine paths texts line
     ⊎ (IsMisfitLine paths s texts line
     ⊎ (IsBarredLine paths s texts line
-    ⊎ (IsUntakenLine path s texts line ⊎ (IsCrowdedLine paths s texts line ⊎ IsUnreadLine paths s texts line))))
+    ⊎ (IsDiscouragedLine paths source s texts force line
+    ⊎ (IsUntakenLine path s texts line ⊎ (IsUnlaidLine paths s texts line ⊎ IsUnreadLine paths s texts line)))))
 
 -- ---- the run, and what becomes of the source
 
@@ -103,9 +112,9 @@ pub record IsUnverifiedLine (path source : Bytes) (texts : List Bytes) (workers 
   pub cause : IsFaultyThenLine path out line
 
 -- why nothing is printed; the path of the source is the first of all
-abbrev pub IsUneditedLine : Bytes → List Bytes → Bytes → List Bytes → ℕ → Room → Bytes → Type 0
-IsUneditedLine path paths source texts workers room line =
+abbrev pub IsUneditedLine : Bytes → List Bytes → Bytes → List Bytes → ℕ → Room → Bool → Bytes → Type 0
+IsUneditedLine path paths source texts workers room force line =
     IsFaultyLine path source line
-    ⊎ (((s : Scope) × DeclaresText source s × IsUnbegunLine path paths s texts line)
+    ⊎ (((s : Scope) × DeclaresText source s × IsUnbegunLine path paths source s texts force line)
     ⊎ (IsUnworkedLine paths source texts workers room line
     ⊎ (IsUngivenLine path source texts workers room line ⊎ IsUnverifiedLine path source texts workers room line)))

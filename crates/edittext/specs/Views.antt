@@ -1,24 +1,28 @@
 -- Of the code's inside, apart from the rules: how contracts see scripts on the way to those that are run, and what is begun with.
-use Rattle.std.specs.Prelude.{◌≡◌, ℕ, List, [], map, All}
+use Rattle.std.specs.Prelude.{◌≡◌, ℕ, Bool, false, List, [], map, All}
 use Rattle.mmtext.specs.Text.{Token}
 use Rattle.source.specs.Scopes.{Scope}
 use Rattle.library.specs.Fitting.{CommandFits}
 use Rattle.checking.specs.Checks.{Bytes, AreScripts}
 use Rattle.edittext.specs.declared.call.Begun.{Begun as CodeBegun}
-use Rattle.editscripts.specs.Expanded.{RankedScript, AreRanked, texts_of}
+use Rattle.editscripts.specs.Expanded.{ArePasted, RankedScript, AreRanked, texts_of}
 use Rattle.editscripts.specs.Expanded.{IsSpreadOf}
 use Rattle.edittext.specs.Edited.{IsTakenFor}
 use Rattle.editscripts.specs.Described.{AreDescriptive}
+use Rattle.editscripts.specs.Encouraged.{AreEncouraged}
 use Rattle.editscripts.specs.Views.{beginnings_of, seen_descriptions}
 
 -- the library that scripts ask of a source, and the scripts as they are read over it
-pub record IsBegun (s : Scope) (texts : List Bytes) (b : CodeBegun) : Type 0 where
+pub record IsBegun (source : Bytes) (s : Scope) (texts : List Bytes) (force : Bool) (b : CodeBegun) : Type 0 where
   pub spread : List (List Token)
   pub of_source : IsSpreadOf s texts spread
+  pub encouraged : force ≡ false → AreEncouraged source s spread
   pub for_scripts : IsTakenFor s spread b.taken
+  pub pasted : List (List Token)
+  pub are_pasted : ArePasted s b.taken.chosen.items b.taken.database spread pasted
   pub ranked : List RankedScript
   pub gaps : List ℕ
-  pub are_ranked : AreRanked s b.taken.chosen.items [] spread ranked gaps
+  pub are_ranked : AreRanked s b.taken.chosen.items [] pasted ranked gaps
   pub beginnings : map (λ out. out.beginnings) ranked ≡ beginnings_of b.laid.items
   pub ordered : AreScripts b.taken.database.prelude (texts_of ranked) b.scripts.items
   pub descriptive : AreDescriptive texts spread (seen_descriptions b.descriptions.items)

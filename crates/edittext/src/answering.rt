@@ -36,6 +36,8 @@ pub struct EditOrder<'o> {
     pub workers: usize,
     /// For how many words the store of the run has room, at most 16,777,216, if that is given.
     pub room: Option<usize>,
+    /// Whether scripts may do what comments of the source discourage.
+    pub force: bool,
     /// Whether the source is printed also where not all transactions were done.
     pub partial: bool,
     /// Whether it is told what became of each transaction.
@@ -90,14 +92,15 @@ fn edit<'a>(
 ) -> Result<Told, Unedited>
     requires { IsWithin order.workers order.room }
     ensures told { IfOk result (IsEditAnswer order.entry.path.now (map (λ p. p.now) order.entry.paths.now) source.now
-        (map (λ t. t.items) texts.now) order.entry.workers (edit_room order.entry.room) order.entry.partial order.entry.with_replies) }
+        (map (λ t. t.items) texts.now) order.entry.workers (edit_room order.entry.room) order.entry.force order.entry.partial
+        order.entry.with_replies) }
     ensures refused { IfErr result (IsToldBy (IsUneditedLine order.entry.path.now (map (λ p. p.now) order.entry.paths.now) source.now
-        (map (λ t. t.items) texts.now) order.entry.workers (edit_room order.entry.room))) }
+        (map (λ t. t.items) texts.now) order.entry.workers (edit_room order.entry.room) order.entry.force)) }
 {
     let old = read_old(alloc, keys, order.path, source, follow)?;
     // For the proof: what is read is whole.
     sources_are_whole();
-    let begun = begin(rt, alloc, keys, order, &old, texts, follow)?;
+    let begun = begin(rt, alloc, keys, order, source, &old, texts, follow)?;
     Follow::end(follow);
     let (taken, scripts) = (&begun.taken, begun.scripts.as_slice());
     let Edited {
@@ -142,7 +145,8 @@ pub fn answer_edit(
 ) -> Result<Told, AllocError>
     requires { IsWithin order.workers order.room }
     ensures { IfOk result (IsEditAnswer order.entry.path.now (map (λ p. p.now) order.entry.paths.now) source.now
-        (map (λ t. t.items) texts.now) order.entry.workers (edit_room order.entry.room) order.entry.partial order.entry.with_replies) }
+        (map (λ t. t.items) texts.now) order.entry.workers (edit_room order.entry.room) order.entry.force order.entry.partial
+        order.entry.with_replies) }
 {
     let told = edit(rt, alloc, keys, order, source, texts, follow);
     Follow::end(follow);

@@ -20,7 +20,8 @@ ghost use Rattle.edittext.specs.Views.{IsBegun};
 use crate::answering::EditOrder;
 use choosing::{Wish, wanted_of};
 use editscripts::{
-    Unedited, are_free, descriptions_of, rank_all, read_all, spread_of, untaken, unworked,
+    Unedited, are_encouraged, are_free, descriptions_of, lay_all, read_all, spread_of, untaken,
+    unworked,
 };
 use expanding::{Described, Laid, asked_of};
 use following::Follow;
@@ -103,30 +104,32 @@ pub(crate) fn begin<'a, D: Declared<'a>>(
     alloc: Global,
     keys: RandomState,
     order: EditOrder<'_>,
+    source: &'a [u8],
     declared: &D,
     texts: &'a [Vec<u8>],
     follow: &impl Follow,
 ) -> Result<Begun<'a>, Unedited>
-    requires { IsWhole (D.scope declared.now) }
-    ensures begun { IfOk result (IsBegun (D.scope declared.now) (seen_texts texts.now)) }
-    ensures refused { IfErr result (IsToldBy (IsUnbegunLine
-        order.entry.path.now (map (λ p. p.now) order.entry.paths.now) (D.scope declared.now) (seen_texts texts.now))) }
+    requires whole { IsWhole (D.scope declared.now) }
+    requires declares { DeclaresText source.now (D.scope declared.now) }
+    ensures begun { IfOk result (IsBegun source.now (D.scope declared.now) (seen_texts texts.now) order.entry.force) }
+    ensures refused { IfErr result (IsToldBy (IsUnbegunLine order.entry.path.now (map (λ p. p.now) order.entry.paths.now) source.now
+        (D.scope declared.now) (seen_texts texts.now) order.entry.force)) }
 {
     let spread = spread_of(alloc, order.paths, declared, texts)?;
     let spread = spread.as_slice();
-    are_free(alloc, keys, order.paths, declared, texts, spread)?;
+    let (paths, force) = (order.paths, order.force);
+    are_free(alloc, keys, paths, declared, texts, spread)?;
+    are_encouraged(alloc, keys, paths, source, declared, texts, force, spread)?;
     let taken = take_for(rt, alloc, keys, order.path, declared, spread, follow)?;
-    let laid = rank_all(
-        alloc,
-        order.paths,
-        declared,
-        texts,
-        taken.chosen.as_slice(),
-        spread,
+    let (database, flags) = (&taken.database, taken.chosen.as_slice());
+    // For the proof: the library has a spelling, so what is taken is as narrow.
+    let _spelled = database.assertions();
+    let laid = lay_all(
+        alloc, keys, paths, declared, texts, database, flags, spread,
     )?;
     let scripts = read_all(
         alloc,
-        order.paths,
+        paths,
         texts,
         taken.database.prelude(),
         laid.as_slice(),

@@ -8,6 +8,7 @@ use Rattle.std.specs.declared.alloc.Global.{Global}
 use Rattle.std.proofs.lemmas.List.{append-nil}
 use Rattle.clap.specs.Words.{Row, Text}
 use Rattle.commandline.specs.EditOrders.{IsEditOrder}
+use Rattle.commandline.specs.declared.edit_order.Allowed.{Allowed}
 use Rattle.commandline.specs.declared.edit_order.Outputs.{Outputs}
 use Rattle.edittext.specs.Answers.{IsEditAnswer}
 use Rattle.edittext.specs.Edited.{edit_room}
@@ -23,14 +24,15 @@ first_and_rest f [] d some = absurd (omega arith)
 first_and_rest {X} {Y} f (x ∷ xs) d some = ap (λ (rest : List X). f x ∷ map f rest) (sym (take_rest (x ∷ xs) 1))
 
 pub edit_answered : (keyed : Bool) (paths texts : List Bytes) (path source : Bytes) (others scripts : List Bytes) (workers : ℕ)
-    (room : Option ℕ) (o : Outputs) (partial : Bool) (told : Told) (es : List Event) (status : ℕ)
+    (room : Option ℕ) (o : Outputs) (allowed : Allowed) (told : Told) (es : List Event) (status : ℕ)
     → paths ≡ path ∷ others → texts ≡ source ∷ scripts
-    → IsEditAnswer path paths source scripts workers (edit_room room) partial (is_some o.replies) told
-    → IsEditTold o path told es status → IsAnsweredEdit keyed paths workers room o partial texts es status
-edit_answered keyed paths texts path source others scripts workers room o partial told es status named are answer is =
-    subst (λ (ts : List Bytes). IsAnsweredEdit keyed paths workers room o partial ts es status) (sym are)
-    (subst (λ (ps : List Bytes). IsEditAnswer path ps source scripts workers (edit_room room) partial (is_some o.replies) told
-    → IsAnsweredEdit keyed ps workers room o partial (source ∷ scripts) es status) (sym named) (λ own. inl (told, own, is)) answer)
+    → IsEditAnswer path paths source scripts workers (edit_room room) allowed.force allowed.partial (is_some o.replies) told
+    → IsEditTold o path told es status → IsAnsweredEdit keyed paths workers room o allowed texts es status
+edit_answered keyed paths texts path source others scripts workers room o allowed told es status named are answer is =
+    subst (λ (ts : List Bytes). IsAnsweredEdit keyed paths workers room o allowed ts es status) (sym are)
+    (subst (λ (ps : List Bytes). IsEditAnswer path ps source scripts workers (edit_room room) allowed.force allowed.partial
+    (is_some o.replies) told
+    → IsAnsweredEdit keyed ps workers room o allowed (source ∷ scripts) es status) (sym named) (λ own. inl (told, own, is)) answer)
 
 -- asking where paths lead is quiet
 found_is_quiet : (same : Bool) (line : Bytes) (P : List Event → Option Bytes → Type 0)
@@ -48,11 +50,11 @@ compared_is_quiet (x ∷ xs) es line is =
 
 -- something would go over the source, or two texts to one file
 pub over_source : (keyed : Bool) (paths : List Bytes) (source : Bytes) (scripts : List Bytes) (workers : ℕ) (room : Option ℕ)
-    (given : Option Outputs) (o : Outputs) (partial : Bool) (asked rest : List Event) (line : Bytes) (status : ℕ)
+    (given : Option Outputs) (o : Outputs) (allowed : Allowed) (asked rest : List Event) (line : Bytes) (status : ℕ)
     → paths ≡ source ∷ scripts → given ≡ Some o → AreCompared (clashes o source) asked (Some line) → IsSaid line rest status
-    → IsEditDone keyed paths workers room given partial (asked ++ rest) status
-over_source keyed paths source scripts workers room given o partial asked rest line status named is compared said =
-    subst (λ (p : Option Outputs). IsEditDone keyed paths workers room p partial (asked ++ rest) status) (sym is) (
+    → IsEditDone keyed paths workers room given allowed (asked ++ rest) status
+over_source keyed paths source scripts workers room given o allowed asked rest line status named is compared said =
+    subst (λ (p : Option Outputs). IsEditDone keyed paths workers room p allowed (asked ++ rest) status) (sym is) (
       source,
       scripts,
       named,
@@ -61,14 +63,14 @@ over_source keyed paths source scripts workers room given o partial asked rest l
 
 -- nothing would
 pub apart : {E : Type 0} (keyed : Bool) (paths : List Bytes) (source : Bytes) (scripts : List Bytes) (workers : ℕ) (room : Option ℕ)
-    (given : Option Outputs) (o : Outputs) (partial : Bool) (asked rest : List Event) (r : Result ℕ E)
+    (given : Option Outputs) (o : Outputs) (allowed : Allowed) (asked rest : List Event) (r : Result ℕ E)
     → paths ≡ source ∷ scripts → given ≡ Some o → AreCompared (clashes o source) asked None
-    → EndsBy (IsEditFollowed keyed paths workers room o partial) rest r
-    → EndsBy (IsEditDone keyed paths workers room given partial) (asked ++ rest) r
-apart keyed paths source scripts workers room given o partial asked rest r named is compared ends =
-    EndsBy-behind (IsEditFollowed keyed paths workers room o partial) (IsEditDone keyed paths workers room given partial) asked rest r
+    → EndsBy (IsEditFollowed keyed paths workers room o allowed) rest r
+    → EndsBy (IsEditDone keyed paths workers room given allowed) (asked ++ rest) r
+apart keyed paths source scripts workers room given o allowed asked rest r named is compared ends =
+    EndsBy-behind (IsEditFollowed keyed paths workers room o allowed) (IsEditDone keyed paths workers room given allowed) asked rest r
     (compared_is_quiet (clashes o source) asked None compared)
-    (λ status follows. subst (λ (p : Option Outputs). IsEditDone keyed paths workers room p partial (asked ++ rest) status) (sym is) (
+    (λ status follows. subst (λ (p : Option Outputs). IsEditDone keyed paths workers room p allowed (asked ++ rest) status) (sym is) (
       source,
       scripts,
       named,
@@ -77,20 +79,20 @@ apart keyed paths source scripts workers room given o partial asked rest r named
     ends
 
 -- two places are asked for
-pub two_places : (keyed : Bool) (paths : List Bytes) (workers : ℕ) (room : Option ℕ) (given : Option Outputs) (partial : Bool)
+pub two_places : (keyed : Bool) (paths : List Bytes) (workers : ℕ) (room : Option ℕ) (given : Option Outputs) (allowed : Allowed)
     (es : List Event) (status : ℕ)
     → given ≡ None → IsSaid (codes "--in-place and --output do not go together") es status
-    → IsEditDone keyed paths workers room given partial es status
-two_places keyed paths workers room given partial es status is said =
-    subst (λ (p : Option Outputs). IsEditDone keyed paths workers room p partial es status) (sym is) said
+    → IsEditDone keyed paths workers room given allowed es status
+two_places keyed paths workers room given allowed es status is said =
+    subst (λ (p : Option Outputs). IsEditDone keyed paths workers room p allowed es status) (sym is) said
 
 pub edit_ordered : {E : Type 0} (keyed : Bool) (found : Option (Text × List Row)) (paths : List Bytes) (workers : ℕ) (room : Option ℕ)
-    (outputs : Option Outputs) (partial : Bool) (es : List Event) (r : Result ℕ E)
-    → IsEditOrder found paths workers room outputs partial → EndsBy (IsEditDone keyed paths workers room outputs partial) es r
+    (outputs : Option Outputs) (allowed : Allowed) (es : List Event) (r : Result ℕ E)
+    → IsEditOrder found paths workers room outputs allowed → EndsBy (IsEditDone keyed paths workers room outputs allowed) es r
     → EndsBy (IsMatched keyed found) es r
-edit_ordered keyed found paths workers room outputs partial es r order ends =
-    EndsBy-weaker (IsEditDone keyed paths workers room outputs partial) (IsMatched keyed found) es r
-    (λ status is. inr (inr (inr (inr (inl (paths, workers, room, outputs, partial, order, is)))))) ends
+edit_ordered keyed found paths workers room outputs allowed es r order ends =
+    EndsBy-weaker (IsEditDone keyed paths workers room outputs allowed) (IsMatched keyed found) es r
+    (λ status is. inr (inr (inr (inr (inl (paths, workers, room, outputs, allowed, order, is)))))) ends
 
 -- ---- comparisons, one behind another
 

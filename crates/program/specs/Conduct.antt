@@ -26,6 +26,7 @@ use Rattle.commandline.specs.TakeOrders.{AsksToTake, IsTakeOrder}
 use Rattle.commandline.specs.GiveOrders.{AsksToGive}
 use Rattle.commandline.specs.VerifyOrders.{AsksToVerify}
 use Rattle.commandline.specs.EditOrders.{AsksToEdit, IsEditOrder}
+use Rattle.commandline.specs.declared.edit_order.Allowed.{Allowed}
 use Rattle.commandline.specs.declared.edit_order.Outputs.{Outputs}
 use Rattle.commandline.specs.declared.edit_order.Place.{Place}
 use Rattle.commandline.specs.declared.edit_order.Place.TheVariants as place
@@ -281,21 +282,21 @@ IsEditTold o source (edited.Undone account) es status = IsUndoneTold o account e
 IsEditTold o source (edited.Refused line) es status = IsSaid (string_bytes line) es status
 
 -- what is answered is told, for a source in the first of the files, and scripts in the others
-abbrev pub IsEditAnswered : List Bytes → ℕ → Option ℕ → Outputs → Bool → List Bytes → List Event → ℕ → Type 0
-IsEditAnswered (path ∷ scripts) workers room o partial (source ∷ texts) es status =
-    (told : Edited) × IsEditAnswer path (path ∷ scripts) source texts workers (edit_room room) partial (is_some o.replies) told
-    × IsEditTold o path told es status
-IsEditAnswered _ workers room o partial _ es status = ⊥
+abbrev pub IsEditAnswered : List Bytes → ℕ → Option ℕ → Outputs → Allowed → List Bytes → List Event → ℕ → Type 0
+IsEditAnswered (path ∷ scripts) workers room o allowed (source ∷ texts) es status =
+    (told : Edited) × IsEditAnswer path (path ∷ scripts) source texts workers (edit_room room) allowed.force allowed.partial
+    (is_some o.replies) told × IsEditTold o path told es status
+IsEditAnswered _ workers room o allowed _ es status = ⊥
 
 -- so it is; or the system gives no random numbers, which is said
-abbrev pub IsAnsweredEdit : Bool → List Bytes → ℕ → Option ℕ → Outputs → Bool → List Bytes → List Event → ℕ → Type 0
-IsAnsweredEdit keyed paths workers room o partial texts es status =
-    IsEditAnswered paths workers room o partial texts es status ⊎ IsUnkeyed keyed es status
+abbrev pub IsAnsweredEdit : Bool → List Bytes → ℕ → Option ℕ → Outputs → Allowed → List Bytes → List Event → ℕ → Type 0
+IsAnsweredEdit keyed paths workers room o allowed texts es status =
+    IsEditAnswered paths workers room o allowed texts es status ⊎ IsUnkeyed keyed es status
 
 -- the files are read, and then the scripts edit the source
-abbrev pub IsEditFollowed : Bool → List Bytes → ℕ → Option ℕ → Outputs → Bool → List Event → ℕ → Type 0
-IsEditFollowed keyed paths workers room o partial es status =
-    AreReadThen paths (IsAnsweredEdit keyed paths workers room o partial) es status
+abbrev pub IsEditFollowed : Bool → List Bytes → ℕ → Option ℕ → Outputs → Allowed → List Event → ℕ → Type 0
+IsEditFollowed keyed paths workers room o allowed es status =
+    AreReadThen paths (IsAnsweredEdit keyed paths workers room o allowed) es status
 
 -- two paths that are not to lead to one file, and the line that says that they do
 pub record Clash : Type 0 where
@@ -340,11 +341,11 @@ IsApartThen o source P es status =
 
 -- a source, in the first of the files, is edited, unless that would go over it; or it is to go to two places, which is said, and no file is
 -- read
-abbrev pub IsEditDone : Bool → List Bytes → ℕ → Option ℕ → Option Outputs → Bool → List Event → ℕ → Type 0
-IsEditDone keyed paths workers room (Some o) partial es status =
+abbrev pub IsEditDone : Bool → List Bytes → ℕ → Option ℕ → Option Outputs → Allowed → List Event → ℕ → Type 0
+IsEditDone keyed paths workers room (Some o) allowed es status =
     (source : Bytes) × (scripts : List Bytes) × (paths ≡ source ∷ scripts)
-    × IsApartThen o source (IsEditFollowed keyed paths workers room o partial) es status
-IsEditDone keyed paths workers room None partial es status = IsSaid (codes "--in-place and --output do not go together") es status
+    × IsApartThen o source (IsEditFollowed keyed paths workers room o allowed) es status
+IsEditDone keyed paths workers room None allowed es status = IsSaid (codes "--in-place and --output do not go together") es status
 
 -- ---- a command line
 
@@ -381,8 +382,8 @@ IsVerifyOrdered keyed found es status =
 -- a subcommand with an order to edit, which is done
 abbrev pub IsEditOrdered : Bool → Option (Text × List Row) → List Event → ℕ → Type 0
 IsEditOrdered keyed found es status =
-    (paths : List Bytes) × (workers : ℕ) × (room : Option ℕ) × (outputs : Option Outputs) × (partial : Bool)
-    × IsEditOrder found paths workers room outputs partial × IsEditDone keyed paths workers room outputs partial es status
+    (paths : List Bytes) × (workers : ℕ) × (room : Option ℕ) × (outputs : Option Outputs) × (allowed : Allowed)
+    × IsEditOrder found paths workers room outputs allowed × IsEditDone keyed paths workers room outputs allowed es status
 
 -- no subcommand, or one that asks for no task, and for nothing to take, to give back, to verify or to edit
 abbrev pub IsUnasked : Option (Text × List Row) → List Event → ℕ → Type 0

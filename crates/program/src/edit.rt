@@ -163,7 +163,7 @@ fn answer_edited<R: Threads + Wait + Sync, W: World, V: Watch + Follow + Sync>(
     requires many { length texts.now ≡ length order.now.paths.items }
     ensures { (es : List Event) × Adds (W.done world.old) (W.done world.new) es
         × EndsBy (IsAnsweredEdit (is_some keys) (map (λ p. p.now) order.now.paths.items) order.now.workers order.now.room outputs.entry
-        order.now.partial (map (λ t. t.items) texts.now)) es result }
+        order.now.allowed (map (λ t. t.items) texts.now)) es result }
 {
     let Some(keys) = keys else {
         return Ok(refuse(world, "no random numbers"));
@@ -175,7 +175,8 @@ fn answer_edited<R: Threads + Wait + Sync, W: World, V: Watch + Follow + Sync>(
         paths,
         workers: order.workers,
         room: order.room,
-        partial: order.partial,
+        force: order.allowed.force,
+        partial: order.allowed.partial,
         with_replies: outputs.replies.is_some(),
     };
     let (source, scripts) = (texts[0].as_slice(), &texts[1..]);
@@ -199,7 +200,7 @@ fn edit_files<R: Threads + Wait + Sync, W: World, V: Watch + Follow + Sync>(
     requires any { 0 < length order.now.paths.items }
     ensures { (es : List Event) × Adds (W.done world.old) (W.done world.new) es
         × EndsBy (IsEditFollowed (is_some keys) (map (λ p. p.now) order.now.paths.items) order.now.workers order.now.room outputs.entry
-        order.now.partial) es result }
+        order.now.allowed) es result }
 {
     let mut texts = Vec::new(alloc);
     if let Err(unread) = read_all(world, alloc, order.paths.as_slice(), &mut texts) {
@@ -272,7 +273,7 @@ fn edit_apart<R: Threads + Wait + Sync, W: World, V: Watch + Follow + Sync>(
     requires placed { order.now.outputs ≡ Some outputs }
     ensures { (es : List Event) × Adds (W.done world.old) (W.done world.new) es
         × EndsBy (IsEditDone (is_some keys) (map (λ p. p.now) order.now.paths.items) order.now.workers order.now.room order.now.outputs
-        order.now.partial) es result }
+        order.now.allowed) es result }
 {
     let paths = order.paths.as_slice();
     if let Some(line) = clash(world, outputs, paths[0]) {
@@ -294,7 +295,7 @@ pub(crate) fn follow_edit<R: Threads + Wait + Sync, W: World, V: Watch + Follow 
     requires any { 0 < length order.now.paths.items }
     ensures { (es : List Event) × Adds (W.done world.old) (W.done world.new) es
         × EndsBy (IsEditDone (is_some keys) (map (λ p. p.now) order.now.paths.items) order.now.workers order.now.room order.now.outputs
-        order.now.partial) es result }
+        order.now.allowed) es result }
 {
     match order.outputs {
         Some(outputs) => edit_apart(rt, alloc, world, keys, order, outputs, watch),

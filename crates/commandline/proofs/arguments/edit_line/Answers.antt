@@ -1,7 +1,7 @@
 use Rattle.std.proofs.Common.{rules, codes}
 use Rattle.std.proofs.lemmas.Result.{IfOk-weaker}
 use Rattle.clap.specs.Words.{App, new_app, with_rule}
-use Rattle.commandline.specs.CommandLine.{IsLine, workers_rule, room_rule, output_rule, in_place_rule, replies_rule, partial_rule, source_rule, scripts_rule}
+use Rattle.commandline.specs.CommandLine.{IsLine, workers_rule, room_rule, output_rule, in_place_rule, replies_rule, partial_rule, force_rule, source_rule, scripts_rule}
 use Rattle.commandline.proofs.Lines.{adds_argument}
 use Rattle.commandline.proofs.arguments.edit_line.Goals as goal
 
@@ -26,6 +26,9 @@ with_replies = with_rule with_in_place replies_rule
 abbrev with_partial : App
 with_partial = with_rule with_replies partial_rule
 
+abbrev with_force : App
+with_force = with_rule with_partial force_rule
+
 pub returns : goal.returns
 returns c =
     let bare : IsLine bare_edit c.after_help.result = search rules in
@@ -36,5 +39,6 @@ returns c =
     let in_place = c.with_argument-line-3.ensures with_output in_place_rule output c.flag-in_place.ensures in
     let replies = c.with_argument-line-4.ensures with_in_place replies_rule in_place c.option-replies.ensures in
     let partial = c.with_argument-line-5.ensures with_replies partial_rule replies c.flag-partial.ensures in
-    let source = c.with_argument-line-6.ensures with_partial source_rule partial c.file.ensures in
-    c.with_argument.ensures (with_rule with_partial source_rule) scripts_rule source c.scripts.ensures
+    let force = c.with_argument-line-6.ensures with_partial force_rule partial c.flag-force.ensures in
+    let source = c.with_argument-line-7.ensures with_force source_rule force c.file.ensures in
+    c.with_argument.ensures (with_rule with_force source_rule) scripts_rule source c.scripts.ensures

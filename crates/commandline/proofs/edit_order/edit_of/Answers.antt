@@ -12,5 +12,5 @@ pub returns-clause-some : goal.returns-clause-some
 returns-clause-some c =
     let named : c.in-Some.name.now ≡ codes "edit" = search rules in
     edits_so (subcommand_rows_of c.args.matches.now) c.in-Some.name.now (rows_of (found_of c.in-Some.of.now)) c.in-Some-text_in.path.now _
-    c.in-Some-limits_in.workers c.in-Some-limits_in.room c.outputs_in.result c.flag_in.result c.in-Some.ensures named
-    c.in-Some-text_in.ensures c.in-Some-limits_in.ensures.some (search rules) c.outputs_in.ensures c.flag_in.ensures
+    c.in-Some-limits_in.workers c.in-Some-limits_in.room c.outputs_in.result c.allowed_in.result c.in-Some.ensures named
+    c.in-Some-text_in.ensures c.in-Some-limits_in.ensures.some (search rules) c.outputs_in.ensures c.allowed_in.ensures

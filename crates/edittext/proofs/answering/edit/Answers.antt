@@ -24,7 +24,7 @@ use Rattle.edittext.proofs.answering.edit.Goals as goal
 pub begin-requires-sync-typeof-rt : goal.begin-requires-sync-typeof-rt
 begin-requires-sync-typeof-rt g c κs within =
     let d = c.in_ok-old.ensures.declares in
-    (search rules, ((refl, tt), c.sources_are_whole.ensures d.statements c.in_ok-old.old.stand.scope d.declared))
+    (search rules, ((refl, tt), (c.sources_are_whole.ensures d.statements c.in_ok-old.old.stand.scope d.declared, d)))
 
 pub returns-in_err-begun-clause-refused : goal.returns-in_err-begun-clause-refused
 returns-in_err-begun-clause-refused g c =
@@ -34,8 +34,8 @@ returns-in_err-begun-clause-refused g c =
     let path = c.args.order.path.now in
     let s = c.in_ok-old.old.stand.scope in
     let p = err_from_is_err_and c.from_residual-in_err-begun.result c.from_residual-in_err-begun.ensures.1 in
-    rw (p.1, p.2) (told_more (IsUnbegunLine path paths s texts)
-    (IsUneditedLine path paths source texts c.args.order.workers (edit_room c.args.order.room))
+    rw (p.1, p.2) (told_more (IsUnbegunLine path paths source s texts c.args.order.force)
+    (IsUneditedLine path paths source texts c.args.order.workers (edit_room c.args.order.room) c.args.order.force)
     (λ line h. inr (inl (s, c.in_ok-old.ensures.declares, h))) c.in_err-begun.field-0.0 c.in_err-begun.ensures.refused)
 
 pub returns-in_err-outcomes-clause-refused : goal.returns-in_err-outcomes-clause-refused
@@ -48,12 +48,12 @@ returns-in_err-outcomes-clause-refused g c =
     let room = edit_room c.args.order.room in
     let begun = c.in_ok-begun.begun in
     let db = begun.taken.database in
-    let b = begun_of source texts c.in_ok-old.old.stand.scope begun c.in_ok-old.ensures.declares c.in_ok-begun.ensures.begun in
+    let b = begun_of source texts c.in_ok-old.old.stand.scope c.args.order.force begun c.in_ok-old.ensures.declares c.in_ok-begun.ensures.begun in
     let same = c.as_slice-scripts.ensures.value in
     let p = err_from_is_err_and c.from_residual-in_err-outcomes.result c.from_residual-in_err-outcomes.ensures.1 in
     rw (p.1, p.2) (told_more
     (IsWorkLine paths db workers (room_of room db c.as_slice-scripts.result.now))
-    (IsUneditedLine path paths source texts workers room)
+    (IsUneditedLine path paths source texts workers room c.args.order.force)
     (λ line h. inr (inr (inl (record {
       begun = b;
       cause = subst (λ (ss : List Orders). IsWorkLine paths db workers (room_of room db ss) line) same h;
@@ -84,11 +84,12 @@ returns-then-not-may_print-clause-told g c =
     c.in_ok-account.ensures in
     let undone = c.if-not-may_print.ensures.some refl in (
       lists_of e.outcomes.items,
-      run_of source texts s begun d is workers room ss e same c.in_ok-outcomes.ensures.done,
-      accounted source texts s begun d is paths workers room ss e same c.in_ok-outcomes.ensures.done asked account first account.spoken []
+      run_of source texts s c.args.order.force begun d is workers room ss e same c.in_ok-outcomes.ensures.done,
+      accounted source texts s c.args.order.force begun d is paths workers room ss e same c.in_ok-outcomes.ensures.done asked account first account.spoken []
           (ap (map string_bytes) first.none_spoken),
       λ none. undone.0 (c.as_slice.ensures.value ∙ none),
       undone.1,
+      is.encouraged,
     )
 
 pub returns-in_err-out-clause-refused : goal.returns-in_err-out-clause-refused
@@ -105,7 +106,7 @@ returns-in_err-out-clause-refused g c =
     let e = c.in_ok-outcomes.field-0 in
     let rows = lists_of e.outcomes.items in
     let run =
-    run_of source texts s begun c.in_ok-old.ensures.declares is workers room c.as_slice-scripts.result.now e
+    run_of source texts s c.args.order.force begun c.in_ok-old.ensures.declares is workers room c.as_slice-scripts.result.now e
     c.as_slice-scripts.ensures.value
     c.in_ok-outcomes.ensures.done in
     let library = is.for_scripts.library in
@@ -120,7 +121,7 @@ returns-in_err-out-clause-refused g c =
     let p = err_from_is_err_and c.from_residual-in_err-out.result c.from_residual-in_err-out.ensures.1 in
     rw (p.1, p.2) (told_more
     (IsStoppedOrFaulty path source s choice begun.taken e.history e.library given)
-    (IsUneditedLine path paths source texts workers room)
+    (IsUneditedLine path paths source texts workers room c.args.order.force)
     (λ line h. elim h [
       | inl stopped ↦ inr (inr (inr (inl (record { rows = rows; run = run; cause = stopped }))))
       | inr f ↦ inr (inr (inr (inr (record {
@@ -173,7 +174,7 @@ returns-clause-told g c =
     c.in_ok-account.ensures in (
       rows,
       record {
-        run = run_of source texts s begun d is workers room ss e whole c.in_ok-outcomes.ensures.done;
+        run = run_of source texts s c.args.order.force begun d is workers room ss e whole c.in_ok-outcomes.ensures.done;
         edits = finished.edits;
         source_then = finished.is_edited;
         descriptions = descriptions;
@@ -184,7 +185,8 @@ returns-clause-told g c =
         much = finished.much;
         verifies = finished.verifies;
       },
-      accounted source texts s begun d is paths workers room ss e whole c.in_ok-outcomes.ensures.done asked account first f.spoken _
+      accounted source texts s c.args.order.force begun d is paths workers room ss e whole c.in_ok-outcomes.ensures.done asked account first f.spoken _
           finished.spoken,
       λ all. sym c.as_slice.ensures.value ∙ c.if-not-may_print.ensures.whole refl all,
+      is.encouraged,
     )

@@ -12,5 +12,5 @@ returns-in-Ok-Some g c =
       done.0,
       done.1,
       edit_ordered (is_some c.args.keys) (subcommand_rows_of c.args.matches.now) (map (λ (p : Bor (List ℕ)). p.now) order.paths.items)
-          order.workers order.room order.outputs order.partial done.0 c.follow_edit.result asked done.2,
+          order.workers order.room order.outputs order.allowed done.0 c.follow_edit.result asked done.2,
     )

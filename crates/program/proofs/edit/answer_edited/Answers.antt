@@ -19,6 +19,6 @@ returns-in-Ok g c =
     let answer = rw (← sym c.is_some.ensures) at asked in (
       told.0,
       told.1,
-      edit_answered (is_some c.args.keys) _ _ _ source.items _ _ order.workers order.room c.args.outputs order.partial c.in-Ok.told told.0
+      edit_answered (is_some c.args.keys) _ _ _ source.items _ _ order.workers order.room c.args.outputs order.allowed c.in-Ok.told told.0
           c.tell_edited.result named are answer told.2,
     )

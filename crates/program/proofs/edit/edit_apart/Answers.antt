@@ -13,7 +13,7 @@ returns-in-Some g c =
     let named = first_and_rest (λ (p : Bor (List ℕ)). p.now) order.paths.items (record { ref_ptr = (0, 0); now = [] }) c.requires.any in (
       asked.0 ++ says c.in-Some.line.now ∷ [],
       adds_more asked.1 c.refuse.ensures.said,
-      over_source (is_some c.args.keys) paths _ _ order.workers order.room order.outputs c.args.outputs order.partial asked.0 _
+      over_source (is_some c.args.keys) paths _ _ order.workers order.room order.outputs c.args.outputs order.allowed asked.0 _
           c.in-Some.line.now c.refuse.result named c.requires.placed asked.2 (refl, c.refuse.ensures.status),
     )
 
@@ -26,6 +26,6 @@ returns g c =
     let named = first_and_rest (λ (p : Bor (List ℕ)). p.now) order.paths.items (record { ref_ptr = (0, 0); now = [] }) c.requires.any in (
       asked.0 ++ rest.0,
       adds_more asked.1 rest.1,
-      apart (is_some c.args.keys) paths _ _ order.workers order.room order.outputs c.args.outputs order.partial asked.0 rest.0
+      apart (is_some c.args.keys) paths _ _ order.workers order.room order.outputs c.args.outputs order.allowed asked.0 rest.0
           c.edit_files.result named c.requires.placed asked.2 rest.2,
     )

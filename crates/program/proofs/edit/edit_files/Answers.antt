@@ -15,7 +15,7 @@ returns-in-Err g c =
     let paths = map (λ (p : Bor (List ℕ)). p.now) order.paths.items in (
       read.0 ++ told.0,
       adds_more read.1 told.1,
-      one_unread (IsAnsweredEdit (is_some c.args.keys) paths order.workers order.room c.args.outputs order.partial) paths _ _
+      one_unread (IsAnsweredEdit (is_some c.args.keys) paths order.workers order.room c.args.outputs order.allowed) paths _ _
           c.in-Err.unread read.0 told.0 c.tell_unread.result same read.2 told.2,
     )
 
@@ -29,6 +29,6 @@ returns g c =
     let texts = map (λ (t : Vec ℕ Global). t.items) c.read_all.new.texts.items in (
       read.0 ++ rest.0,
       adds_more read.1 rest.1,
-      all_read (IsAnsweredEdit (is_some c.args.keys) paths order.workers order.room c.args.outputs order.partial) paths _ texts read.0
+      all_read (IsAnsweredEdit (is_some c.args.keys) paths order.workers order.room c.args.outputs order.allowed) paths _ texts read.0
           rest.0 c.answer_edited.result same read.2.0 read.2.1 (rw c.as_slice-2.ensures.value at rest.2),
     )

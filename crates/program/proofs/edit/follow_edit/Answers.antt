@@ -10,6 +10,6 @@ returns-in-None g c =
     let paths = map (λ (p : Bor (List ℕ)). p.now) order.paths.items in (
       says (codes "--in-place and --output do not go together") ∷ [],
       c.refuse.ensures.said,
-      two_places (is_some c.args.keys) paths order.workers order.room order.outputs order.partial _ c.refuse.result c.in-None.is
+      two_places (is_some c.args.keys) paths order.workers order.room order.outputs order.allowed _ c.refuse.result c.in-None.is
           (refl, c.refuse.ensures.status),
     )

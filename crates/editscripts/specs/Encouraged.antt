@@ -1,0 +1,49 @@
+-- Scripts that do nothing that comments of the source discourage, and the line that says of others what they do so.
+use Rattle.std.specs.Prelude.{◌≡◌, ◌+◌, ℕ, Bool, false, List, [], ◌++◌, Some, None, codes, slice_index_or}
+use Rattle.std.specs.Fmt.{decimal}
+use Rattle.mmtext.specs.Text.{Token}
+use Rattle.mmtext.specs.Words.{Word}
+use Rattle.source.specs.Scopes.{Scope}
+use Rattle.checking.specs.Checks.{Bytes}
+use Rattle.checking.specs.FaultLines.{shown_label}
+use Rattle.remarks.specs.Remarks.{AreRemarks}
+use Rattle.expanding.specs.Lines.{line_at}
+use Rattle.expanding.specs.Discouraged.{Remarked, Discouraged, modifies, uses, AreDiscouraged}
+
+-- the labels of which comments of a source discourage something
+pub record Remarks (source : Bytes) : Type 0 where
+  pub modifications : List Word
+  pub usages : List Word
+  pub are_remarks : AreRemarks source modifications usages
+
+abbrev pub remarked_in : {source : Bytes} → Remarks source → Remarked
+remarked_in r = record { modification = r.modifications; usage = r.usages }
+
+-- the scripts do none of it
+pub record AreEncouraged (source : Bytes) (s : Scope) (scripts : List (List Token)) : Type 0 where
+  pub remarks : Remarks source
+  pub none : AreDiscouraged s (remarked_in remarks) scripts None
+
+-- they do, first with this word: `PATH:LINE: LABEL: ` and the words of the comment
+abbrev pub discouraged_word : Discouraged → Token
+discouraged_word (modifies t) = t
+discouraged_word (uses t) = t
+
+abbrev pub discouraged_text : Discouraged → Bytes
+discouraged_text (modifies t) = codes ": proof modification is discouraged"
+discouraged_text (uses t) = codes ": new usage is discouraged"
+
+abbrev pub discouraged_line : Bytes → Bytes → Discouraged → Bytes
+discouraged_line path text d =
+    path ++ (codes ":" ++ (decimal (line_at text (discouraged_word d).place)
+    ++ (codes ": " ++ (shown_label (discouraged_word d).text ++ discouraged_text d))))
+
+-- scripts aren't run that do what is discouraged, unless that is forced
+pub record IsDiscouragedBy (paths : List Bytes) (source : Bytes) (s : Scope) (texts : List Bytes) (force : Bool) (scripts : List (List Token))
+    (line : Bytes) : Type 0 where
+  pub unforced : force ≡ false
+  pub remarks : Remarks source
+  pub script : ℕ
+  pub what : Discouraged
+  pub first : AreDiscouraged s (remarked_in remarks) scripts (Some (script, what))
+  pub says : line ≡ discouraged_line (slice_index_or paths (script + 1) []) (slice_index_or texts script []) what

@@ -1,0 +1,28 @@
+-- What is taken of a source has no more constants and `$f` than a library.
+use Rattle.std.proofs.Common.{◌≡◌, ◌∙◌, ◌≤◌, List, length, filter, sym, ap, subst}
+use Rattle.std.specs.List.{list_any}
+use Rattle.mmsyntax.specs.Layout.{HasSpelling}
+use Rattle.mmsyntax.specs.declared.limits.TheConstants.{MOST_DECLARED}
+use Rattle.mmsyntax.proofs.Canonical.{sound_tables}
+use Rattle.mmsyntax.proofs.Declarable.{declarable}
+use Rattle.source.specs.Scopes.{Assertion, Scope}
+use Rattle.taking.specs.Names.{is_symbol_of, has_float_labelled}
+use Rattle.choosing.specs.declared.wish.Wish.{Wish}
+use Rattle.intake.specs.declared.taken.Taken.{Taken}
+use Rattle.intake.specs.Intakes.{IsLibraryOf}
+use Rattle.intake.proofs.Libraries.{chosen_kept}
+use Rattle.pasting.specs.Views.{IsNarrow}
+
+pub narrow_taken : (s : Scope) (w : Wish) (t : Taken) → IsLibraryOf s w t → HasSpelling t.database → IsNarrow s t.chosen.items
+narrow_taken s w t library spelled =
+    let places = library.taken.takes.has_places in
+    let sound = sound_tables t.database.prelude (declarable t.database spelled).prelude in
+    let kept = chosen_kept s library.taken.choice t.chosen.items library.chosen_are in
+    record {
+      constants =
+          subst (λ (xs : List Assertion). length (filter (λ v. list_any (is_symbol_of v) xs) s.constants) ≤ MOST_DECLARED) (sym kept)
+          (subst (λ n. n ≤ MOST_DECLARED) (places.as_many_constants ∙ ap length places.constants) sound.constants_fit);
+      floats =
+          subst (λ (xs : List Assertion). length (filter (λ v. list_any (has_float_labelled v) xs) s.labels) ≤ MOST_DECLARED) (sym kept)
+          (subst (λ n. n ≤ MOST_DECLARED) (places.as_many_floats ∙ ap length places.floats) sound.floats_fit);
+    }
