@@ -27,6 +27,7 @@ mod running;
 // on sessions
 mod gates;
 mod meeting;
+mod whole;
 
 // with memory refused
 mod again;
@@ -77,6 +78,7 @@ fn make_on_sessions(
 ) -> Result<bool, Fail> {
     match name {
         "conflicted_tries_take_no_further_word" => meeting::took_no_further_word(rt),
+        "a_library_is_opened_edited_and_exported" => whole::is_one_library(rt),
         _ => gates::make(rt, name),
     }
 }

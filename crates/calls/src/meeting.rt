@@ -167,7 +167,7 @@ fn has_its_words_alone<R: Threads + Sync>(
 }
 
 /// Takes the last of the sessions.
-fn last_of(library: &Library, sessions: &mut Vec<Session>) -> Result<Session, Fail>
+pub(crate) fn last_of(library: &Library, sessions: &mut Vec<Session>) -> Result<Session, Fail>
     requires { All (IsSessionOf library.now) sessions.old.items }
     ensures own { IfOk result (IsSessionOf library.now) }
     ensures others { All (IsSessionOf library.now) sessions.new.items }

@@ -32,6 +32,11 @@ zipped_next R I J xs k x ys zs y at all one more =
     (subst (λ vs. AllZip R (take k (map I xs) ++ I x ∷ []) vs) (sym right)
     (all_zipped_more R (take k (map I xs)) (map J ys) (I x) (J y) all one))
 
+pub zipped_more_at : {B D : Type 0} (R : B → D → Type 0) (xs : List B) (k : ℕ) (x : B) (ys : List D) (y : D)
+    → slice_get xs k ≡ Some x → AllZip R (take k xs) ys → R x y → AllZip R (take (k + 1) xs) (ys ++ y ∷ [])
+zipped_more_at R xs k x ys y at all one =
+    subst (λ us. AllZip R us (ys ++ y ∷ [])) (sym (take_next xs k x at)) (all_zipped_more R (take k xs) ys x y all one)
+
 pub zipped_all : {A B D : Type 0} (R : B → D → Type 0) (I : A → B) (xs : List A) (k : ℕ) (ys : List D) → length xs ≤ k
     → AllZip R (take k (map I xs)) ys → AllZip R (map I xs) ys
 zipped_all R I xs k ys long all = subst (λ us. AllZip R us ys) (take_all k (map I xs) (omega (arith, length-map xs I))) all

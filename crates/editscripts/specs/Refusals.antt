@@ -17,6 +17,7 @@ use Rattle.expanding.specs.Words.{word_language, text_of, place_at}
 use Rattle.expanding.specs.Refusals.{IsUnspread, IsUnranked}
 use Rattle.expanding.specs.Barred.{IsBarred}
 use Rattle.mmsyntax.specs.Tables.{Tables, Contents}
+use Rattle.taking.specs.Names.{Map}
 use Rattle.pasting.specs.Places.{places_in}
 use Rattle.pasting.specs.Pasted.{PasteFault, HasPasteFault}
 use Rattle.editscripts.specs.declared.unedited.Unedited.{Unedited}
@@ -81,7 +82,14 @@ pub record IsBarredBy (paths : List Bytes) (s : Scope) (texts : List Bytes) (scr
   pub barred : IsBarred s scripts script label by
   pub says : line ≡ barred_line (slice_index_or paths (script + 1) []) (slice_index_or texts script []) label by
 
--- a compressed proof of a script is none at its theorem; the scripts before it have proofs of the library
+-- the first compressed proof of a script that is none at its theorem
+pub record IsPasteFaultLine (paths : List Bytes) (m : Map) (s : Scope) (ts : List Token) (script : ℕ) (line : Bytes) : Type 0 where
+  pub found : PasteFault
+  pub faulty : HasPasteFault m s ts found
+  pub told : found.kind ≢ OutOfMemory
+  pub says : line ≡ line_of paths (fault.Text (script + 1) (record { place = found.at.place; kind = found.kind }))
+
+-- a script has such a proof; those before it have proofs of the library
 pub record IsUnpastedBy (paths : List Bytes) (s : Scope) (flags : List Bool) (db : Contents) (scripts : List (List Token)) (line : Bytes)
     : Type 0 where
   pub script : ℕ
@@ -89,10 +97,7 @@ pub record IsUnpastedBy (paths : List Bytes) (s : Scope) (flags : List Bool) (db
   pub are_pasted : ArePasted s flags db (take script scripts) before
   pub ts : List Token
   pub at : slice_get scripts script ≡ Some ts
-  pub found : PasteFault
-  pub faulty : HasPasteFault (places_in s flags db) s ts found
-  pub told : found.kind ≢ OutOfMemory
-  pub says : line ≡ line_of paths (fault.Text (script + 1) (record { place = found.at.place; kind = found.kind }))
+  pub cause : IsPasteFaultLine paths (places_in s flags db) s ts script line
 
 -- a script puts too many at one place, of a source of which flags say which assertions are taken; those before it don't
 pub record IsCrowdedBy (paths : List Bytes) (s : Scope) (texts : List Bytes) (flags : List Bool) (scripts : List (List Token))

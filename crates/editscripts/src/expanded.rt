@@ -13,13 +13,13 @@ ghost use Rattle.expanding.specs.Views.{seen_scripts, IsLaid};
 ghost use Rattle.pasting.specs.Views.{IsNarrow};
 ghost use Rattle.editscripts.specs.Views.{seen_texts, AreLaid};
 
-use crate::telling::{misfit, path_at, text_at, unread};
+use crate::telling::{misfit, path_at, text_at, unpasted, unread};
 use crate::unedited::Unedited;
 use expanding::{Laid, Ranker, spread, words_in};
 use library::Script;
 use mmsyntax::{Database, Prelude};
 use mmtext::{TextFault, Token};
-use pasting::{Paster, Unpasted};
+use pasting::Paster;
 use scripts::read_script;
 use source::Declared;
 use std::alloc::{AllocError, Global};
@@ -108,11 +108,7 @@ fn paste_all<'w, 'a, D: Declared<'a>>(
     for (script, words) in scripts.iter().enumerate() {
         match paster.paste(alloc, keys, declared, words.as_slice()) {
             Ok(laid) => all.push(laid)?,
-            Err(Unpasted::NoMemory) => return Err(Unedited::NoMemory),
-            Err(Unpasted::Faulty(word, kind)) => {
-                let place = word.place;
-                return Err(unread(alloc, paths, script, TextFault { place, kind })?);
-            }
+            Err(why) => return Err(unpasted(alloc, paths, script, why)?),
         }
     }
     Ok(all)

@@ -7,12 +7,18 @@ ghost use Rattle.checking.specs.declared.fault.Fault.TheVariants.{Text, NoMemory
 ghost use Rattle.expanding.specs.declared.misfit.Misfit.TheVariants.{NoMemory as NoMemoryOfMisfit};
 ghost use Rattle.intake.specs.declared.refusal.Refusal.TheVariants.{NoMemory as NoMemoryOfTake};
 ghost use Rattle.taketext.specs.Refusals.{refusal_line as taking_line};
-ghost use Rattle.editscripts.specs.Refusals.{IsToldBy, misfit_line, misfit_place, misfit_text};
+ghost use Rattle.std.specs.Prelude.{List};
+ghost use Rattle.mmtext.specs.Text.{Token as Word};
+ghost use Rattle.source.specs.Scopes.{Scope};
+ghost use Rattle.taking.specs.Names.{Map};
+ghost use Rattle.pasting.specs.Views.{IsUnpasted};
+ghost use Rattle.editscripts.specs.Refusals.{IsToldBy, IsPasteFaultLine, misfit_line, misfit_place, misfit_text};
 
 use crate::unedited::Unedited;
 use checking::Fault;
 use expanding::{Misfit, line_at};
 use mmtext::{FaultKind, TextFault};
+use pasting::Unpasted;
 use replylines::shown;
 use std::alloc::{AllocError, Global};
 use taketext::refusal_line as taking_line;
@@ -77,6 +83,26 @@ pub(crate) fn unread(
     }
     let file = script + 1;
     unworked(alloc, paths, &Fault::Text { file, fault })
+}
+
+/// That a compressed proof of a script is none at its theorem. Scripts count from 0.
+pub(crate) fn unpasted(
+    alloc: Global,
+    paths: &[&str],
+    script: usize,
+    why: Unpasted<'_>,
+) -> Result<Unedited, AllocError>
+    requires { script + 1 < 2 ^ 64 }
+    ensures { (m : Map) (s : Scope) (ts : List Word) → IsUnpasted m s ts why.entry
+        → IfOk result (IsToldBy (λ line. IsPasteFaultLine (map (λ p. p.now) paths.now) m s ts script line)) }
+{
+    match why {
+        Unpasted::NoMemory => Ok(Unedited::NoMemory),
+        Unpasted::Faulty(word, kind) => {
+            let place = word.place;
+            unread(alloc, paths, script, TextFault { place, kind })
+        }
+    }
 }
 
 /// Why a word of a script doesn't fit a source.

@@ -1,0 +1,64 @@
+-- What is left to show of `paste_all`.
+use Rattle.std.proofs.Common.{◌≡◌, ◌∙◌, ◌+◌, ◌++◌, ◌∷◌, [], List, length, map, refl, ap, subst, sym, Vec, Global}
+use Rattle.std.specs.List.{AllZip}
+use Rattle.std.proofs.lemmas.Option.{slice_get_read}
+use Rattle.std.proofs.lemmas.Slice.Zip.{all_zipped_more}
+use Rattle.mmtext.specs.Text.{Token}
+use Rattle.mmtext.specs.Views.{seen}
+use Rattle.mmtext.specs.declared.token.Token.{Token as CodeToken}
+use Rattle.pasting.specs.Places.{places_in}
+use Rattle.pasting.specs.Pasted.{IsPasted}
+use Rattle.pasting.specs.Views.{IsUnpasted}
+use Rattle.expanding.specs.Views.{IsLaid, seen_scripts}
+use Rattle.editscripts.specs.Expanded.{ArePasted}
+use Rattle.editscripts.specs.Refusals.{IsUnpastedBy, IsPasteFaultLine}
+use Rattle.editscripts.proofs.Expanding.{get_seen, zipped_more_at}
+use Rattle.editscripts.proofs.Lines.{told_more}
+use Rattle.editscripts.proofs.expanded.paste_all.Goals as goal
+
+pub returns-in-Err-clause-refused : goal.returns-in-Err-clause-refused
+returns-in-Err-clause-refused g c =
+    let s = g.D.Declared.scope c.args.declared.now in
+    let flags = c.args.flags.now in
+    let db = c.args.database.now in
+    let scripts = c.args.scripts.now in
+    let paths = map (λ p. p.now) c.args.paths.now in
+    let k = c.loop-script.script in
+    let words = c.index-scripts-script.result in
+    let at = slice_get_read scripts (length scripts) k words refl c.loop-script-test.true c.index-scripts-script.is in
+    let kept = c.loop-script.invariant in
+    let why = c.in-Err.why in
+    let m = places_in s flags db in
+    let unpasted = subst (λ ts. IsUnpasted m s (map seen ts) why) c.as_slice.ensures.value (c.in-Err.ensures.faulty flags db kept.3) in
+    told_more (λ line. IsPasteFaultLine paths m s (map seen words.items) k line) (IsUnpastedBy paths s flags db (seen_scripts scripts))
+    (λ line h. record {
+      script = k;
+      before = kept.0;
+      are_pasted = kept.2;
+      ts = map seen words.items;
+      at = get_seen (λ (ts : Vec CodeToken Global). map seen ts.items) scripts k words at;
+      cause = h;
+    })
+    c.in_ok-unpasted-in-Err.field-0 (c.in_ok-unpasted-in-Err.ensures m s (map seen words.items) unpasted)
+
+pub loop-script-preserved : goal.loop-script-preserved
+loop-script-preserved g c =
+    let s = g.D.Declared.scope c.args.declared.now in
+    let flags = c.args.flags.now in
+    let db = c.args.database.now in
+    let scripts = c.args.scripts.now in
+    let k = c.loop-script.script in
+    let words = c.index-scripts-script.result in
+    let at = slice_get_read scripts (length scripts) k words refl c.loop-script-test.true c.index-scripts-script.is in
+    let kept = c.loop-script.invariant in
+    let laid = c.in-Ok.laid in
+    let now = c.in-Ok.ensures.pasted flags db kept.3 in
+    let out = now.0 in
+    let one = subst (λ ts. IsPasted (places_in s flags db) db.prelude s (map seen ts) out) c.as_slice.ensures.value now.3 in (
+      kept.0 ++ out ∷ [],
+      subst (λ ls. AllZip IsLaid (kept.0 ++ out ∷ []) ls) (sym c.in_ok-push-in-Ok.ensures.items)
+          (all_zipped_more IsLaid kept.0 c.loop-script.all.items out laid kept.1 now.1),
+      zipped_more_at (IsPasted (places_in s flags db) db.prelude s) (seen_scripts scripts) k (map seen words.items) kept.0 out
+          (get_seen (λ (ts : Vec CodeToken Global). map seen ts.items) scripts k words at) kept.2 one,
+      now.2,
+    )
