@@ -14,3 +14,4 @@ pub mod Looking
 pub mod Barring
 pub mod Gathered
 pub mod Fronting
+pub mod Cutting

@@ -34,8 +34,9 @@ pub fn cut_of<'w, 'a>(part: &'w [Token<'a>]) -> Option<Cut<'w, 'a>>
 pub(crate) fn brought<'w, 'a>(part: &'w [Token<'a>]) -> &'w [Token<'a>]
     ensures { map seen result.now ≡ brought (map seen part.now) }
 {
+    let (none, _) = part.split_at(0);
     match cut_of(part) {
-        None => &part[..0],
+        None => none,
         Some(cut) => cut.proof,
     }
 }

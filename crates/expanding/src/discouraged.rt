@@ -12,7 +12,7 @@ ghost use Rattle.expanding.specs.Views.{seen_scripts, seen_discouraged, seen_fou
 
 use crate::commands::{Command, commands_of};
 use crate::cuts::brought;
-use crate::forms::begins_with;
+use crate::forms::{begins_with, behind};
 use crate::labels::{holds, labels_of};
 use crate::spreading::cites;
 use giving::Changes;
@@ -53,14 +53,14 @@ fn citing_words<'w, 'a>(part: &'w [Token<'a>]) -> &'w [Token<'a>]
     ensures { map seen result.now ≡ citing_words (map seen part.now) }
 {
     if begins_with(part, b"replace") {
-        return &part[part.len().min(3)..];
+        return behind(part, 3);
     }
     brought(part)
 }
 
 /// The place in the source of an assertion with a label, if there is a label.
 fn place_if<'d, D: Declared<'d>>(declared: &D, label: Option<Token<'_>>) -> Option<usize>
-    ensures { result ≡ place_if (D.scope declared.now) (option_map seen label) }
+    ensures { result ≡ place_if (D.scope declared.now) (option_map seen label.entry) }
 {
     declared.place_of(label?.text)
 }
@@ -78,7 +78,7 @@ fn cites_not<'d, D: Declared<'d>>(declared: &D, place: Option<usize>, label: &[u
 impl<'a> Remarks<'a> {
     /// The theorem that gets another proof, if its comment discourages that.
     fn modified(&self, label: Option<Token<'a>>) -> Option<Discouraged<'a>>
-        ensures { (r : Remarked) → HoldsRemarks r self.now → option_map seen_discouraged result ≡ modified r (option_map seen label) }
+        ensures { (r : Remarked) → HoldsRemarks r self.now → option_map seen_discouraged result ≡ modified r (option_map seen label.entry) }
     {
         let label = label?;
         holds(&self.modification, label.text).then_some(Discouraged::Modifies(label))

@@ -65,7 +65,7 @@ fn place_length(words: &[Token<'_>]) -> usize
 }
 
 /// The words behind so many.
-fn behind<'w, 'a>(words: &'w [Token<'a>], many: usize) -> &'w [Token<'a>]
+pub(crate) fn behind<'w, 'a>(words: &'w [Token<'a>], many: usize) -> &'w [Token<'a>]
     ensures { result.now ≡ drop many words.now }
 {
     &words[many.min(words.len())..]

@@ -107,14 +107,12 @@ impl Laid {
         ensures { (ts : List Word) → IsLaid ts self.now → IfOk result (λ words. map seen words.items ≡ ts) }
     {
         let mut words = Vec::with_capacity(alloc, self.words.len())?;
-        let mut at = 0;
+        let mut rest = self.text.as_slice();
         for word in self.words.as_slice() {
-            let end = (at + word.length).min(self.text.len());
-            words.push(Token {
-                place: word.place,
-                text: &self.text[at.min(end)..end],
-            })?;
-            at = end + 1;
+            let (text, behind) = rest.split_at(word.length.min(rest.len()));
+            let place = word.place;
+            words.push(Token { place, text })?;
+            rest = &behind[behind.len().min(1)..];
         }
         Ok(words)
     }
