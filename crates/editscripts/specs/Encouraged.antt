@@ -39,8 +39,8 @@ discouraged_line path text d =
     ++ (codes ": " ++ (shown_label (discouraged_word d).text ++ discouraged_text d))))
 
 -- scripts aren't run that do what is discouraged, unless that is forced
-pub record IsDiscouragedBy (paths : List Bytes) (source : Bytes) (s : Scope) (texts : List Bytes) (force : Bool) (scripts : List (List Token))
-    (line : Bytes) : Type 0 where
+pub record IsDiscouragedBy (paths : List Bytes) (source : Bytes) (s : Scope) (texts : List Bytes) (force : Bool)
+    (scripts : List (List Token)) (line : Bytes) : Type 0 where
   pub unforced : force ≡ false
   pub remarks : Remarks source
   pub script : ℕ

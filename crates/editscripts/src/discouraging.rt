@@ -38,7 +38,8 @@ fn discouraged_line(
     }
 }
 
-/// No command of scripts does what comments of the source discourage, or it is forced. The paths are those of the source and of the scripts.
+/// No command of scripts does what comments of the source discourage, or it is forced. The paths are those of the source and of the
+/// scripts.
 ///
 /// The comments of the source are read once, if it isn't forced.
 pub fn are_encouraged<'a, D: Declared<'a>>(

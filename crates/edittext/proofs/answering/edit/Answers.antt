@@ -48,7 +48,9 @@ returns-in_err-outcomes-clause-refused g c =
     let room = edit_room c.args.order.room in
     let begun = c.in_ok-begun.begun in
     let db = begun.taken.database in
-    let b = begun_of source texts c.in_ok-old.old.stand.scope c.args.order.force begun c.in_ok-old.ensures.declares c.in_ok-begun.ensures.begun in
+    let b =
+    begun_of source texts c.in_ok-old.old.stand.scope c.args.order.force begun c.in_ok-old.ensures.declares
+    c.in_ok-begun.ensures.begun in
     let same = c.as_slice-scripts.ensures.value in
     let p = err_from_is_err_and c.from_residual-in_err-outcomes.result c.from_residual-in_err-outcomes.ensures.1 in
     rw (p.1, p.2) (told_more
@@ -85,8 +87,8 @@ returns-then-not-may_print-clause-told g c =
     let undone = c.if-not-may_print.ensures.some refl in (
       lists_of e.outcomes.items,
       run_of source texts s c.args.order.force begun d is workers room ss e same c.in_ok-outcomes.ensures.done,
-      accounted source texts s c.args.order.force begun d is paths workers room ss e same c.in_ok-outcomes.ensures.done asked account first account.spoken []
-          (ap (map string_bytes) first.none_spoken),
+      accounted source texts s c.args.order.force begun d is paths workers room ss e same c.in_ok-outcomes.ensures.done asked account first
+          account.spoken [] (ap (map string_bytes) first.none_spoken),
       λ none. undone.0 (c.as_slice.ensures.value ∙ none),
       undone.1,
       is.encouraged,
@@ -185,8 +187,8 @@ returns-clause-told g c =
         much = finished.much;
         verifies = finished.verifies;
       },
-      accounted source texts s c.args.order.force begun d is paths workers room ss e whole c.in_ok-outcomes.ensures.done asked account first f.spoken _
-          finished.spoken,
+      accounted source texts s c.args.order.force begun d is paths workers room ss e whole c.in_ok-outcomes.ensures.done asked account first
+          f.spoken _ finished.spoken,
       λ all. sym c.as_slice.ensures.value ∙ c.if-not-may_print.ensures.whole refl all,
       is.encouraged,
     )

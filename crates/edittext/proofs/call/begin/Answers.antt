@@ -83,7 +83,8 @@ lay_all-requires g c =
         (
           subst (λ (fs : List Bool). length fs ≡ length s.assertions) (sym c.as_slice.ensures.value)
               (ap length (sym library.chosen_are) ∙ length-map s.assertions _),
-          subst (λ (fs : List Bool). IsNarrow s fs) (sym c.as_slice.ensures.value) (narrow_taken s c.in_ok-taken.ensures.taken.wish c.in_ok-taken.taken library c.assertions.ensures.sound),
+          subst (λ (fs : List Bool). IsNarrow s fs) (sym c.as_slice.ensures.value)
+              (narrow_taken s c.in_ok-taken.ensures.taken.wish c.in_ok-taken.taken library c.assertions.ensures.sound),
         ),
       ),
     )
