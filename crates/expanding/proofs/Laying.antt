@@ -44,7 +44,8 @@ module _ (ws : List Stretch) (i : ℕ) (end left : ℕ) where
 -- as the code goes through them, with so many bytes left
 abbrev pub left_in : List Stretch → List ℕ → List Token
 left_in [] rest = []
-left_in (w ∷ ws) rest = let n = min w.length (length rest) in record { place = w.place; text = take n rest } ∷ left_in ws (drop 1 (drop n rest))
+left_in (w ∷ ws) rest =
+    let n = min w.length (length rest) in record { place = w.place; text = take n rest } ∷ left_in ws (drop 1 (drop n rest))
 
 pub left_laid : (ws : List Stretch) (ts : List Token) → seen_stretches ws ≡ map stretch_of ts → left_in ws (text_of ts) ≡ ts
 left_laid [] [] e = refl

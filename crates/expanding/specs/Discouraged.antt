@@ -1,6 +1,6 @@
--- Commands of scripts that do what comments of the source discourage. The program metamath asks for `/OVERRIDE` then (its `help discouraged`):
--- where the comment in front of a theorem says `(Proof modification is discouraged.)`, before it gets another proof; and where that of an
--- assertion says `(New usage is discouraged.)`, before a proof cites it that didn't.
+-- Commands of scripts that do what comments of the source discourage. The program metamath asks for `/OVERRIDE` then (its
+-- `help discouraged`): where the comment in front of a theorem says `(Proof modification is discouraged.)`, before it gets another proof;
+-- and where that of an assertion says `(New usage is discouraged.)`, before a proof cites it that didn't.
 use Rattle.std.specs.Prelude.{◌≡◌, ℕ, Bool, ◌&&◌, ◌||◌, List, ◌∷◌, drop, find, Option, Some, None, is_some, slice_get, if◌then◌else◌, codes}
 use Rattle.std.specs.Option.{option_map, option_and_then}
 use mathlib.Core.Bool.{not}
