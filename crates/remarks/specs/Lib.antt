@@ -1,1 +1,2 @@
 pub mod Remarks
+pub mod Views

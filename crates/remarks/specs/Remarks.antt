@@ -1,6 +1,7 @@
 -- What the comment right in front of an assertion discourages. The program metamath has two phrases for it (its `help discouraged`):
 -- `(Proof modification is discouraged.)` and `(New usage is discouraged.)`.
-use Rattle.std.specs.Prelude.{◌≡◌, ◌&&◌, ◌||◌, ℕ, Bool, false, List, [], ◌∷◌, ◌++◌, starts_with, ends_with, nat_eq, if◌then◌else◌, codes}
+use Rattle.std.specs.Prelude.{◌≡◌, ◌&&◌, ◌||◌, ℕ, Bool, false, List, [], ◌∷◌, ◌++◌, nat_eq, if◌then◌else◌, codes}
+use Rattle.std.specs.List.{starts_with, ends_with}
 use Rattle.std.specs.Str.{bytes_eq}
 use Rattle.mmtext.specs.Words.{Word}
 use Rattle.items.specs.Items.{Item, words, label_of, Spells}

@@ -1,6 +1,7 @@
 //! What the comments in front of the assertions of a source discourage.
 #![tactic(auto)]
 
+mod comments;
 mod phrases;
 mod reading;
 

@@ -1,8 +1,8 @@
 //! The phrases by which a comment discourages something.
 
-ghost use Rattle.std.specs.Prelude.{◌≡◌, map};
-ghost use Rattle.source.specs.Views.{seen_words};
-ghost use Rattle.remarks.specs.Remarks.{Phrase as PhraseWords, modification, usage, begins_phrase, says_phrase};
+ghost use Rattle.std.specs.Prelude.{◌≡◌, ◌∷◌, []};
+ghost use Rattle.remarks.specs.Remarks.{begins_phrase};
+ghost use Rattle.remarks.specs.Views.{phrase_of, behind_window};
 
 /// What a comment may discourage.
 #[derive(Clone, Copy, Debug, PartialEq, Eq)]
@@ -11,4 +11,76 @@ pub(crate) enum Phrase {
     Modification,
     /// A proof that cites the assertion anew: `(New usage is discouraged.)`.
     Usage,
+}
+
+impl Phrase {
+    /// The first word of the phrase.
+    fn first(self) -> &'static [u8]
+        ensures { result.now ≡ (phrase_of self).first }
+    {
+        match self {
+            Phrase::Modification => b"(Proof".as_slice(),
+            Phrase::Usage => b"(New".as_slice(),
+        }
+    }
+
+    /// Its second word.
+    fn second(self) -> &'static [u8]
+        ensures { result.now ≡ (phrase_of self).second }
+    {
+        match self {
+            Phrase::Modification => b"modification".as_slice(),
+            Phrase::Usage => b"usage".as_slice(),
+        }
+    }
+}
+
+/// The last three words in front of a word, in order. An empty one stands for a word that isn't there: no phrase begins with it.
+#[derive(Clone, Copy)]
+pub(crate) struct Window<'s> {
+    /// The first of them.
+    pub first: &'s [u8],
+    /// The second.
+    pub second: &'s [u8],
+    /// The last.
+    pub third: &'s [u8],
+}
+
+impl<'s> Window<'s> {
+    /// No words.
+    pub fn new() -> Window<'static>
+        ensures first { result.first.now ≡ [] }
+        ensures second { result.second.now ≡ [] }
+        ensures third { result.third.now ≡ [] }
+    {
+        let none = b"".as_slice();
+        Window {
+            first: none,
+            second: none,
+            third: none,
+        }
+    }
+
+    /// Those behind one more word.
+    pub fn behind(self, word: &'s [u8]) -> Window<'s>
+        ensures first { result.first.now ≡ self.entry.second.now }
+        ensures second { result.second.now ≡ self.entry.third.now }
+        ensures third { result.third.now ≡ word.now }
+    {
+        Window {
+            first: self.second,
+            second: self.third,
+            third: word,
+        }
+    }
+
+    /// Whether these words and one more are a phrase. It looks at the last word first, since few words end a phrase.
+    pub fn ends(self, phrase: Phrase, word: &[u8]) -> bool
+        ensures { result ≡ begins_phrase (phrase_of phrase) (behind_window self.entry (word.now ∷ [])) }
+    {
+        word.starts_with(b"discouraged.)")
+            && self.third == b"is".as_slice()
+            && self.second == phrase.second()
+            && self.first.ends_with(phrase.first())
+    }
 }

@@ -1,0 +1,3 @@
+mod Heard
+mod ByKind
+mod Read
