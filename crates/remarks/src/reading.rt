@@ -22,7 +22,7 @@ pub struct Remarks<'s> {
 }
 
 impl<'s> Remarks<'s> {
-    /// Puts the label of an assertion where the comment in front of it discourages something; another item has none.
+    /// Puts the label of an assertion into each list that the comment in front of the assertion asks for. Another item has no label.
     fn put(&mut self, front: Remark, item: Item<'s>) -> Result<(), AllocError>
         ensures modification { OnOk result ((x : Pieces) → IsOfKind item.entry.kind x → seen_words self.new.modification.items
             ≡ seen_words self.old.modification.items ++ (if front.modification then label_of x else [])) }
