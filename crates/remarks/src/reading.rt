@@ -44,7 +44,7 @@ impl<'s> Remarks<'s> {
 
 /// What the comments right in front of the assertions of a source discourage.
 ///
-/// It goes once through the text, and costs about as much as that has bytes.
+/// The text is gone through once, and the comments between its statements once more: this costs about as much as the text has bytes.
 ///
 /// # Errors
 ///
