@@ -20,7 +20,7 @@ pub(crate) struct Remark {
 }
 
 impl Remark {
-    /// Nothing.
+    /// Nothing is discouraged.
     pub fn nothing() -> Remark
         ensures modification { result.modification ≡ false }
         ensures usage { result.usage ≡ false }
@@ -31,7 +31,7 @@ impl Remark {
         }
     }
 
-    /// What is discouraged by so much of a comment, and one more word behind its last three.
+    /// What so much of a comment discourages with one more word, behind its last three.
     fn with(self, window: Window<'_>, word: &[u8]) -> Remark
         ensures modification { result.modification
             ≡ (self.modification || begins_phrase modification (behind_window window.entry (word.now ∷ []))) }
@@ -44,7 +44,7 @@ impl Remark {
     }
 }
 
-/// What the words of an item say that begins behind a byte of a text. Each is looked at once, with the three in front of it.
+/// What the words of an item say that begins behind a byte of a text. Each word is looked at once, with the three in front of it.
 fn said_in(text: &[u8], from: usize, item: Item<'_>) -> Remark
     requires within { item.end ≤ length text.now }
     requires stands { IsItemAt text.now from item }
@@ -64,7 +64,7 @@ fn said_in(text: &[u8], from: usize, item: Item<'_>) -> Remark
     remark
 }
 
-/// What an item discourages that begins behind a byte of a text: nothing, unless it is a comment.
+/// What an item discourages that begins behind a byte of a text: nothing, unless the item is a comment.
 pub(crate) fn remark_of(text: &[u8], from: usize, item: Item<'_>) -> Remark
     requires within { item.end ≤ length text.now }
     requires stands { IsItemAt text.now from item }

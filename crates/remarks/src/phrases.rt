@@ -35,14 +35,14 @@ impl Phrase {
     }
 }
 
-/// The last three words in front of a word, in order. An empty one stands for a word that isn't there: no phrase begins with it.
+/// The last three words in front of a word, in order. An empty word stands where none is: no phrase begins with an empty word.
 #[derive(Clone, Copy)]
 pub(crate) struct Window<'s> {
-    /// The first of them.
+    /// The first word.
     pub first: &'s [u8],
-    /// The second.
+    /// The second word.
     pub second: &'s [u8],
-    /// The last.
+    /// The last word.
     pub third: &'s [u8],
 }
 
@@ -61,7 +61,7 @@ impl<'s> Window<'s> {
         }
     }
 
-    /// Those behind one more word.
+    /// The last three words in front of the word behind one more.
     pub fn behind(self, word: &'s [u8]) -> Window<'s>
         ensures first { result.first.now ≡ self.entry.second.now }
         ensures second { result.second.now ≡ self.entry.third.now }
@@ -74,7 +74,7 @@ impl<'s> Window<'s> {
         }
     }
 
-    /// Whether these words and one more are a phrase. It looks at the last word first, since few words end a phrase.
+    /// Whether these words and one more are a phrase. The last word is tested first, since few words can end a phrase.
     pub fn ends(self, phrase: Phrase, word: &[u8]) -> bool
         ensures { result ≡ begins_phrase (phrase_of phrase) (behind_window self.entry (word.now ∷ [])) }
     {

@@ -22,7 +22,7 @@ pub struct Remarks<'s> {
 }
 
 impl<'s> Remarks<'s> {
-    /// Puts the label of an assertion where the comment in front of it discourages something; another item has none.
+    /// Puts the label of an assertion into each list that the comment in front of the assertion asks for. Another item has no label.
     fn put(&mut self, front: Remark, item: Item<'s>) -> Result<(), AllocError>
         ensures modification { OnOk result ((x : Pieces) → IsOfKind item.entry.kind x → seen_words self.new.modification.items
             ≡ seen_words self.old.modification.items ++ (if front.modification then label_of x else [])) }
@@ -44,7 +44,7 @@ impl<'s> Remarks<'s> {
 
 /// What the comments right in front of the assertions of a source discourage.
 ///
-/// It goes once through the text, and costs about as much as that has bytes.
+/// The text is gone through once, and the comments between its statements once more: this costs about as much as the text has bytes.
 ///
 /// # Errors
 ///
