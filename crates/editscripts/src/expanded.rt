@@ -86,7 +86,7 @@ pub fn spread_of<'a, D: Declared<'a>>(
 
 /// The words of scripts with the proofs of a library that is taken of the source, as flags say of each of its assertions, in the stead of
 /// those that they write in the source's own words.
-fn paste_all<'w, 'a, D: Declared<'a>>(
+fn paste_all<'w: 'a, 'a, D: Declared<'a>>(
     alloc: Global,
     keys: RandomState,
     paths: &[&str],
@@ -127,7 +127,7 @@ fn words_laid<'l>(alloc: Global, all: &'l [Laid]) -> Result<Vec<Vec<Token<'l>>>,
 
 /// The texts of scripts over a library that is taken of the source, as flags say of each of its assertions: with its proofs in the stead of
 /// those that they write in the source's own words, and with its ranks.
-pub fn lay_all<'w, 'a, D: Declared<'a>>(
+pub fn lay_all<'w: 'a, 'a, D: Declared<'a>>(
     alloc: Global,
     keys: RandomState,
     paths: &[&str],

@@ -1,11 +1,9 @@
--- Words as a proof of an assertion of a source, as they would stand there: normal (Metamath book, section 4.1.4) or compressed (appendix B);
--- and the proof of a library that lists the same tree.
-use Rattle.std.specs.Prelude.{ℕ, suc, Bool, nat_le, List, [], ◌∷◌, map, take, drop, find, position, Option, Some, None, is_some, if◌then◌else◌}
+-- Words as a proof of an assertion of a source, as they would stand there: normal (Metamath book, section 4.1.4) or compressed
+-- (appendix B); and the proof of a library that lists the same tree.
+use Rattle.std.specs.Prelude.{ℕ, suc, Bool, false, nat_le, List, [], ◌∷◌, take, drop, find, position, Option, Some, None, is_some, if◌then◌else◌}
 use Rattle.std.specs.Prelude.{codes}
 use mathlib.Core.Bool.{not}
-use Rattle.std.specs.Str.{bytes_eq}
 use Rattle.mmtext.specs.Text.{Token}
-use Rattle.mmtext.specs.Words.{Word}
 use Rattle.mmtext.specs.declared.fault.FaultKind.{FaultKind}
 use Rattle.mmtext.specs.declared.fault.FaultKind.TheVariants.{BadToken, OutOfProfile, TooLong, UnknownLabel}
 use Rattle.mmsyntax.specs.declared.statement.Step.{Step}

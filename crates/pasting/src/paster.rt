@@ -79,8 +79,9 @@ impl<'p, 'a> Paster<'p, 'a> {
         })
     }
 
-    /// Puts a part, with a proof of the library where it gives one in the words of the source. After an error nothing is said of this.
-    fn put_part<'w, D: Declared<'a>>(
+    /// Puts a part, with a proof of the library where it gives one in the words of the source. After an error nothing is said of the
+    /// paster.
+    fn put_part<'w: 'a, D: Declared<'a>>(
         &mut self,
         alloc: Global,
         keys: RandomState,
@@ -90,7 +91,7 @@ impl<'p, 'a> Paster<'p, 'a> {
     ) -> Result<(), Unpasted<'w>>
         requires whole { IsWhole (D.scope declared.now) }
         requires holds { Holds (D.scope declared.now).assertions self.old.frames }
-        ensures same { OnOk result ((self.new.sites.now ≡ self.old.sites.now) × (self.new.database.now ≡ self.old.database.now)
+        ensures same { OnOk result ((self.new.sites ≡ self.old.sites) × (self.new.database.now ≡ self.old.database.now)
             × Holds (D.scope declared.now).assertions self.new.frames) }
         ensures pasted { let m = places_by self.old in
             OnOk result ((ts : List Word) → IsLaid ts laid.old
@@ -134,12 +135,13 @@ impl<'p, 'a> Paster<'p, 'a> {
     /// The words of a script, with the steps of the library in the stead of each proof that it gives to a theorem of the source in the
     /// source's own words.
     ///
-    /// A proof costs as much as its words and letters and its listing, and the frames of the assertions that it cites.
+    /// A proof costs as much as its words and letters and its listing, and the frames of the assertions that it cites. The words outlive
+    /// those of the source, since the tree of a proof has labels of both.
     ///
     /// # Errors
     ///
     /// The first compressed proof that is none at its theorem; want of memory. No more scripts can be pasted then.
-    pub fn paste<'w, D: Declared<'a>>(
+    pub fn paste<'w: 'a, D: Declared<'a>>(
         &mut self,
         alloc: Global,
         keys: RandomState,

@@ -45,8 +45,9 @@ fn given_by_tree<'w>(
     }
 }
 
-/// What words say as the proof of the theorem at a place, in front of the `$.` that ends them. After an error nothing is said of the frames.
-pub(crate) fn given<'w, 'a, D: Declared<'a>>(
+/// What words say as the proof of the theorem at a place, in front of the `$.` that ends them. The words outlive those of the source, since
+/// the tree of a proof has labels of both. After an error nothing is said of the frames.
+pub(crate) fn given<'w: 'a, 'a, D: Declared<'a>>(
     alloc: Global,
     keys: RandomState,
     declared: &D,

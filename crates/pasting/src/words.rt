@@ -1,12 +1,12 @@
 //! Words as a proof in the words of a source.
 
-ghost use Rattle.std.specs.Prelude.{◌≡◌, ◌==◌, IfOk, map, option_map, position};
+ghost use Rattle.std.specs.Prelude.{◌≡◌, ◌==◌, ◌<◌, IfOk, IfSome, None, Some, drop, length, map, option_map, position, if◌then◌else◌};
 ghost use Rattle.std.specs.List.{list_any};
+ghost use Rattle.std.specs.Str.{bytes_eq};
 ghost use Rattle.mmtext.specs.Views.{seen};
 ghost use Rattle.source.specs.Scopes.{is_unknown};
 ghost use Rattle.source.specs.Proofs.{is_unfinished};
 ghost use Rattle.source.specs.Views.{seen_proof, seen_words};
-ghost use Rattle.expanding.specs.Words.{says};
 ghost use Rattle.expanding.specs.Asking.{spoken_in};
 ghost use Rattle.pasting.specs.Proofs.{is_compressed, closing_in, labels_of, proof_of};
 
@@ -24,11 +24,29 @@ pub(crate) fn is_compressed(words: &[Token<'_>]) -> bool
     }
 }
 
+/// The words behind the `(` that begins a compressed proof.
+fn behind_opening<'t, 'w>(words: &'t [Token<'w>]) -> Option<&'t [Token<'w>]>
+    ensures { option_map (λ ws. map seen ws.now) result
+        ≡ (if is_compressed (map seen words.now) then Some (drop 1 (map seen words.now)) else None) }
+{
+    let (first, behind) = words.split_first()?;
+    (first.text == b"(".as_slice()).then_some(behind)
+}
+
+/// The place of the first word with a text.
+fn first_place(words: &[Token<'_>], text: &[u8]) -> Option<usize>
+    ensures value { result ≡ position (λ t. bytes_eq t.text.now text.now) words.now }
+    ensures within { IfSome result (λ place. place < length words.now) }
+{
+    words.iter().position(|word| word.text == text)
+}
+
 /// The place of the `)` that ends the labels of a compressed proof.
 fn closing_in(words: &[Token<'_>]) -> Option<usize>
-    ensures { result ≡ closing_in (map seen words.now) }
+    ensures value { result ≡ closing_in (map seen words.now) }
+    ensures within { IfSome result (λ place. place < length words.now) }
 {
-    words.iter().position(|word| word.text == b")".as_slice())
+    first_place(words, b")")
 }
 
 /// Words without their places.
@@ -46,10 +64,9 @@ fn texts_of<'w>(alloc: Global, words: &[Token<'w>]) -> Result<Vec<&'w [u8]>, All
 pub(crate) fn labels_of<'t, 'w>(words: &'t [Token<'w>]) -> &'t [Token<'w>]
     ensures { map seen result.now ≡ labels_of (map seen words.now) }
 {
-    if !is_compressed(words) {
+    let Some(behind) = behind_opening(words) else {
         return words;
-    }
-    let behind = &words[1..];
+    };
     match closing_in(behind) {
         None => &behind[..0],
         Some(end) => &behind[..end],
@@ -63,10 +80,9 @@ pub(crate) fn proof_of<'w>(
 ) -> Result<Option<ProofWords<'w>>, AllocError>
     ensures { IfOk result (λ proof. option_map seen_proof proof ≡ proof_of (map seen words.now)) }
 {
-    if !is_compressed(words) {
+    let Some(behind) = behind_opening(words) else {
         return Ok(Some(ProofWords::Normal(texts_of(alloc, words)?)));
-    }
-    let behind = &words[1..];
+    };
     let Some(end) = closing_in(behind) else {
         return Ok(None);
     };
@@ -82,6 +98,13 @@ fn is_missing(word: &[u8]) -> bool
     word == b"?".as_slice()
 }
 
+/// Whether one of these labels is `?`.
+fn have_missing(words: &[&[u8]]) -> bool
+    ensures { result ≡ list_any (λ w. is_unknown w.now) words.now }
+{
+    words.iter().any(|word| is_missing(word))
+}
+
 /// Whether a `?` stands among the letters of a word.
 fn has_missing(word: &[u8]) -> bool
     ensures { result ≡ list_any (λ b. b == 63) word.now }
@@ -89,12 +112,19 @@ fn has_missing(word: &[u8]) -> bool
     word.contains(&b'?')
 }
 
+/// Whether a `?` stands among the letters of these words.
+fn have_missing_letters(words: &[&[u8]]) -> bool
+    ensures { result ≡ list_any (λ w. list_any (λ b. b == 63) w.now) words.now }
+{
+    words.iter().any(|word| has_missing(word))
+}
+
 /// Whether a step of a proof isn't there.
 pub(crate) fn is_unfinished(proof: &ProofWords<'_>) -> bool
     ensures { result ≡ is_unfinished (seen_proof proof.now) }
 {
     match proof {
-        ProofWords::Normal(words) => words.iter().any(|word| is_missing(word)),
-        ProofWords::Compressed(_, letters) => letters.iter().any(|word| has_missing(word)),
+        ProofWords::Normal(words) => have_missing(words.as_slice()),
+        ProofWords::Compressed(_, letters) => have_missing_letters(letters.as_slice()),
     }
 }
