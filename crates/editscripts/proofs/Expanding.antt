@@ -71,12 +71,16 @@ some_and : {A : Type 0} (P : A → Type 0) (o : Option A) → IsSomeAnd o P → 
 some_and P None h = absurd h
 some_and P (Some x) h = (x, refl, h)
 
+pub zipped_at : {A B : Type 0} (R : A → B → Type 0) (xs : List A) (ys : List B) (k : ℕ) (y : B) → AllZip R xs ys → slice_get ys k ≡ Some y
+    → (x : A) × (slice_get xs k ≡ Some x) × R x y
+zipped_at {A} {B} R xs ys k y h at =
+    some_and (λ x. R x y) (slice_get xs k)
+    (subst (λ (found : Option B). MatchOption found (Unit {0}) (λ z. IsSomeAnd (slice_get xs k) (λ x. R x z))) at
+    (AllZip-right R xs ys h k))
+
 pub laid_at : (outs : List RankedScript) (all : List Laid) (k : ℕ) (l : Laid) → AreLaid outs all → slice_get all k ≡ Some l
     → (o : RankedScript) × (slice_get outs k ≡ Some o) × IsLaidOf o l
-laid_at outs all k l h at =
-    some_and (λ o. IsLaidOf o l) (slice_get outs k)
-    (subst (λ (found : Option Laid). MatchOption found (Unit {0}) (λ y. IsSomeAnd (slice_get outs k) (λ o. IsLaidOf o y))) at
-    (AllZip-right IsLaidOf outs all h k))
+laid_at outs all k l h at = zipped_at IsLaidOf outs all k l h at
 
 pub begun_at : (outs : List RankedScript) (all : List Laid) → AreLaid outs all → map (λ o. o.beginnings) outs ≡ beginnings_of all
 begun_at [] [] h = refl
@@ -107,5 +111,8 @@ pub laid_next : (outs : List RankedScript) (all more : List Laid) (o : RankedScr
 laid_next outs all more o l h one is =
     subst (λ ls. AreLaid (outs ++ o ∷ []) ls) (sym is) (all_zipped_more IsLaidOf outs all o l h one)
 
+pub zipped_long : {A B : Type 0} (R : A → B → Type 0) (xs : List A) (ys : List B) → AllZip R xs ys → length xs ≡ length ys
+zipped_long R xs ys h = sym (AllZip-long R xs ys h)
+
 pub laid_long : (outs : List RankedScript) (all : List Laid) → AreLaid outs all → length outs ≡ length all
-laid_long outs all h = sym (AllZip-long IsLaidOf outs all h)
+laid_long outs all h = zipped_long IsLaidOf outs all h

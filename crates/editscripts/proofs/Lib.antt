@@ -3,3 +3,4 @@ pub mod Undoing
 pub mod Describing
 pub mod Chosen
 pub mod Lines
+pub mod Within

@@ -1,16 +1,14 @@
 -- What is left to show of `paste_all`.
-use Rattle.std.proofs.Common.{◌≡◌, ◌∙◌, ◌+◌, ◌++◌, ◌∷◌, [], List, length, map, refl, ap, subst, sym, Vec, Global}
+use Rattle.std.proofs.Common.{◌++◌, ◌∷◌, [], length, map, refl, subst, sym, Vec, Global}
 use Rattle.std.specs.List.{AllZip}
 use Rattle.std.proofs.lemmas.Option.{slice_get_read}
 use Rattle.std.proofs.lemmas.Slice.Zip.{all_zipped_more}
-use Rattle.mmtext.specs.Text.{Token}
 use Rattle.mmtext.specs.Views.{seen}
 use Rattle.mmtext.specs.declared.token.Token.{Token as CodeToken}
 use Rattle.pasting.specs.Places.{places_in}
 use Rattle.pasting.specs.Pasted.{IsPasted}
 use Rattle.pasting.specs.Views.{IsUnpasted}
 use Rattle.expanding.specs.Views.{IsLaid, seen_scripts}
-use Rattle.editscripts.specs.Expanded.{ArePasted}
 use Rattle.editscripts.specs.Refusals.{IsUnpastedBy, IsPasteFaultLine}
 use Rattle.editscripts.proofs.Expanding.{get_seen, zipped_more_at}
 use Rattle.editscripts.proofs.Lines.{told_more}

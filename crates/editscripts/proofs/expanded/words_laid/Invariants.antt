@@ -7,4 +7,4 @@ use Rattle.editscripts.proofs.expanded.words_laid.Given as goal
 
 abbrev pub invariant-loop-laid : goal.invariant-loop-laid
 invariant-loop-laid l =
-    (outs : List (List Token)) → AllZip IsLaid outs l.laid-items → seen_scripts l.words.items ≡ take l.laid-index outs
+    (outs : List (List Token)) → AllZip IsLaid outs l.all → seen_scripts l.words.items ≡ take l.laid-index outs
