@@ -124,9 +124,7 @@ pub(crate) fn begin<'a, D: Declared<'a>>(
     let (database, flags) = (&taken.database, taken.chosen.as_slice());
     // For the proof: the library has a spelling, so what is taken is as narrow.
     let _spelled = database.assertions();
-    let laid = lay_all(
-        alloc, keys, paths, declared, texts, database, flags, spread,
-    )?;
+    let laid = lay_all(alloc, keys, paths, declared, texts, database, flags, spread)?;
     let scripts = read_all(
         alloc,
         paths,

@@ -77,14 +77,14 @@ lay_all-requires g c =
     let library = c.in_ok-taken.ensures.taken.library in
     let flags = c.in_ok-taken.taken.chosen.items in
     λ _. (
-      (refl, tt),
+      (refl, (refl, tt)),
       (
         c.requires.whole,
         (
-          subst (λ (fs : List Bool). length fs ≡ length s.assertions) (sym c.as_slice.ensures.value)
+          subst (λ (fs : List Bool). length fs ≡ length s.assertions) (sym c.as_slice-flags.ensures.value)
               (ap length (sym library.chosen_are) ∙ length-map s.assertions _),
-          subst (λ (fs : List Bool). IsNarrow s fs) (sym c.as_slice.ensures.value)
-              (narrow_taken s c.in_ok-taken.ensures.taken.wish c.in_ok-taken.taken library c.assertions.ensures.sound),
+          subst (λ (fs : List Bool). IsNarrow s fs) (sym c.as_slice-flags.ensures.value)
+              (narrow_taken s c.in_ok-taken.ensures.taken.wish c.in_ok-taken.taken library c.assertions-spelled.ensures.sound),
         ),
       ),
     )
@@ -103,7 +103,7 @@ returns-in_err-laid-clause-refused g c =
     c.in_ok-spread.ensures.spread in
     let p = err_from_is_err_and c.from_residual-in_err-laid.result c.from_residual-in_err-laid.ensures.1 in
     rw (p.1, p.2) (told_more
-    (IsUnlaidBy paths s texts c.as_slice.result.now db (seen_scripts scripts)) (IsUnbegunLine path paths source s texts c.args.order.force)
+    (IsUnlaidBy paths s texts c.as_slice-flags.result.now db (seen_scripts scripts)) (IsUnbegunLine path paths source s texts c.args.order.force)
     (λ line h. inr (inr (inr (inr (inr (inl (record {
       over = record {
         spread = seen_scripts scripts;
@@ -111,7 +111,7 @@ returns-in_err-laid-clause-refused g c =
         taken = c.in_ok-taken.taken;
         for_scripts = c.in_ok-taken.ensures.taken;
       };
-      cause = subst (λ (flags : List Bool). IsUnlaidBy paths s texts flags db (seen_scripts scripts) line) c.as_slice.ensures.value h;
+      cause = subst (λ (flags : List Bool). IsUnlaidBy paths s texts flags db (seen_scripts scripts) line) c.as_slice-flags.ensures.value h;
     }))))))) c.in_err-laid.field-0.0 c.in_err-laid.ensures.refused)
 
 pub returns-in_err-scripts-clause-refused : goal.returns-in_err-scripts-clause-refused
@@ -128,7 +128,7 @@ returns-in_err-scripts-clause-refused g c =
     c.in_ok-spread.ensures.spread in
     let made = c.in_ok-laid.ensures.laid in
     let outs = made.1 in
-    let laid = subst (λ (ls : List Laid). AreLaid outs ls) (sym c.as_slice-2.ensures.value) made.4 in
+    let laid = subst (λ (ls : List Laid). AreLaid outs ls) (sym c.as_slice.ensures.value) made.4 in
     let p = err_from_is_err_and c.from_residual-in_err-scripts.result c.from_residual-in_err-scripts.ensures.1 in
     rw (p.1, p.2) (told_more
     (IsUnreadBy paths c.prelude.result.now texts outs) (IsUnbegunLine path paths source s texts c.args.order.force)
@@ -141,10 +141,10 @@ returns-in_err-scripts-clause-refused g c =
           for_scripts = c.in_ok-taken.ensures.taken;
         };
         pasted = made.0;
-        are_pasted = subst (λ (flags : List Bool). ArePasted s flags db (seen_scripts scripts) made.0) c.as_slice.ensures.value made.3;
+        are_pasted = subst (λ (flags : List Bool). ArePasted s flags db (seen_scripts scripts) made.0) c.as_slice-flags.ensures.value made.3;
         ranked = outs;
         gaps = made.2;
-        are_ranked = subst (λ (flags : List Bool). AreRanked s flags [] made.0 outs made.2) c.as_slice.ensures.value made.5;
+        are_ranked = subst (λ (flags : List Bool). AreRanked s flags [] made.0 outs made.2) c.as_slice-flags.ensures.value made.5;
       };
       cause = subst (λ (t : Tables). IsUnreadBy paths t texts outs line) c.prelude.ensures h;
     }))))))) c.in_err-scripts.field-0.0 (c.in_err-scripts.ensures.refused outs laid))
@@ -158,7 +158,7 @@ returns-clause-begun g c =
     let made = c.in_ok-laid.ensures.laid in
     let outs = made.1 in
     let ordered = c.in_ok-scripts.scripts.items in
-    let laid = subst (λ (ls : List Laid). AreLaid outs ls) (sym c.as_slice-2.ensures.value) made.4 in
+    let laid = subst (λ (ls : List Laid). AreLaid outs ls) (sym c.as_slice.ensures.value) made.4 in
     record {
       spread = seen_scripts scripts;
       of_source =
@@ -167,10 +167,10 @@ returns-clause-begun g c =
       encouraged = c.in_ok-are_encouraged.ensures.encouraged;
       for_scripts = c.in_ok-taken.ensures.taken;
       pasted = made.0;
-      are_pasted = subst (λ (flags : List Bool). ArePasted s flags db (seen_scripts scripts) made.0) c.as_slice.ensures.value made.3;
+      are_pasted = subst (λ (flags : List Bool). ArePasted s flags db (seen_scripts scripts) made.0) c.as_slice-flags.ensures.value made.3;
       ranked = outs;
       gaps = made.2;
-      are_ranked = subst (λ (flags : List Bool). AreRanked s flags [] made.0 outs made.2) c.as_slice.ensures.value made.5;
+      are_ranked = subst (λ (flags : List Bool). AreRanked s flags [] made.0 outs made.2) c.as_slice-flags.ensures.value made.5;
       beginnings = begun_at outs c.in_ok-laid.laid.items made.4;
       ordered = subst (λ (t : Tables). AreScripts t (texts_of outs) ordered) c.prelude.ensures (c.in_ok-scripts.ensures.scripts outs laid);
       descriptive = c.in_ok-descriptions.ensures;
