@@ -22,7 +22,8 @@ found_holds P test [] all = tt
 found_holds P test (x ∷ xs) all =
     found_one P (test x) x (find test xs) (All-head P x xs all) (found_holds P test xs (All-tail P x xs all))
 
-script_of : (k : ℕ) (o : Option Discouraged) (n : ℕ) (d : Discouraged) → option_map {U = ℕ × Discouraged} (λ e. (k, e)) o ≡ Some (n, d) → k ≡ n
+script_of : (k : ℕ) (o : Option Discouraged) (n : ℕ) (d : Discouraged)
+    → option_map {U = ℕ × Discouraged} (λ e. (k, e)) o ≡ Some (n, d) → k ≡ n
 script_of k None n d is = absurd cc
 script_of k (Some x) n d is = let same : (k, x) ≡ (n, d) = cc in ap (λ (p : ℕ × Discouraged). p.0) same
 

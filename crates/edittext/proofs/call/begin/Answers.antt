@@ -103,7 +103,8 @@ returns-in_err-laid-clause-refused g c =
     c.in_ok-spread.ensures.spread in
     let p = err_from_is_err_and c.from_residual-in_err-laid.result c.from_residual-in_err-laid.ensures.1 in
     rw (p.1, p.2) (told_more
-    (IsUnlaidBy paths s texts c.as_slice-flags.result.now db (seen_scripts scripts)) (IsUnbegunLine path paths source s texts c.args.order.force)
+    (IsUnlaidBy paths s texts c.as_slice-flags.result.now db (seen_scripts scripts))
+    (IsUnbegunLine path paths source s texts c.args.order.force)
     (λ line h. inr (inr (inr (inr (inr (inl (record {
       over = record {
         spread = seen_scripts scripts;
@@ -141,7 +142,8 @@ returns-in_err-scripts-clause-refused g c =
           for_scripts = c.in_ok-taken.ensures.taken;
         };
         pasted = made.0;
-        are_pasted = subst (λ (flags : List Bool). ArePasted s flags db (seen_scripts scripts) made.0) c.as_slice-flags.ensures.value made.3;
+        are_pasted =
+            subst (λ (flags : List Bool). ArePasted s flags db (seen_scripts scripts) made.0) c.as_slice-flags.ensures.value made.3;
         ranked = outs;
         gaps = made.2;
         are_ranked = subst (λ (flags : List Bool). AreRanked s flags [] made.0 outs made.2) c.as_slice-flags.ensures.value made.5;
