@@ -21,10 +21,11 @@ use std::thread::{Threads, join};
 use transaction::{Library, Look, Outcome, Session};
 
 /// Two transactions, of which neither gets in the other's way for long.
-const SCRIPT: &[u8] = b"begin add 200 wf $a wff $. commit begin rename we wg commit";
+const SCRIPT: &[u8] =
+    b"begin add 200 t $p wff $= we $. commit begin add 300 u $p wff $= we $. commit";
 
 /// The library behind both, whichever was first.
-const BEHIND: &[u8] = b"$c wff $.\nwg $a wff $.\nwf $a wff $.\n";
+const BEHIND: &[u8] = b"$c wff $.\nwe $a wff $.\nt $p wff $= we $.\nu $p wff $= we $.\n";
 
 /// A session submits a transaction: it tries until it meets no other. The session comes back with what became of it.
 fn submitted<R: Wait>(
@@ -81,14 +82,15 @@ pub(crate) fn is_one_library(
     let other = last_of(&library, &mut sessions)?;
     let (mut one, mut other) = both_submit(rt, alloc, &library, one, other, first, second);
     one.learn(&library, &mut other);
-    let has_seen_both = match one.snapshot(alloc, &library) {
-        Look::Read { place, .. } => place == 2,
-        _ => false,
+    let place = match one.snapshot(alloc, &library) {
+        Look::Read { place, .. } => place,
+        _ => 0,
     };
     sessions.push(one)?;
     sessions.push(other)?;
     let (history, after) = finish(alloc, library, sessions)?;
     let mut text = Vec::new(alloc);
     export(alloc, &after, &mut text)?;
-    Ok(has_seen_both && history.as_slice().len() == 2 && text.as_slice() == BEHIND)
+    let entries = history.as_slice().len() as u64;
+    Ok(place == entries && text.as_slice() == BEHIND)
 }
