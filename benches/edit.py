@@ -84,7 +84,7 @@ def rows(options, sources, folder):
         script = pathlib.Path(folder) / f"{source.stem}.edits"
         script.write_text(text)
         program = shlex.split(options.program)
-        edits = [[*program, "edit", "--workers", it, str(source), str(script)] for it in workers]
+        edits = [[*program, "edit", "--force", "--workers", it, str(source), str(script)] for it in workers]
         verify, *found = measured([[*program, "verify", str(source)], *edits], options.rounds)
         row = [source.name, renames, proofs, f"{verify[0]:.1f}", *(f"{it[0]:.1f}" for it in found)]
         row += [f"{it[0] / verify[0]:.2f}" for it in found]
