@@ -27,7 +27,7 @@ use Rattle.leaving.specs.Leaving.{open_behind}
 use Rattle.arranging.specs.declared.coming.Coming.{Coming}
 use Rattle.arranging.specs.Parts.{Edited, parts, unit_of, part_of, known_labels}
 use Rattle.arranging.specs.Groups.{IsWritten}
-use Rattle.arranging.specs.Arranged.{labels_of, AsItStood, IsParted, IsFrom, label_in_source}
+use Rattle.arranging.specs.Arranged.{labels_asserted, AsItStood, IsParted, IsFrom, label_in_source}
 use Rattle.arranging.specs.Arranged.{ends_described, IsDescription}
 use Rattle.arranging.specs.Sections.{IsUnder}
 use Rattle.arranging.specs.Places.{IsFree, IsWhole, MayCome}
@@ -65,7 +65,7 @@ flat : {A : Type 0} (f : A → List Word) (xs : List A) → flat_map f xs ≡ fl
 flat f xs = sym (flat_map-map (λ ws. ws) f xs)
 
 pub labels_between : (text : List ℕ) (at : ℕ) (fs : List Found) (xs : List Item) (a b : ℕ) → AreFound text at fs xs
-    → labels_of (slice_range xs a b) ≡ flat_map label_in (slice_range fs a b)
+    → labels_asserted (slice_range xs a b) ≡ flat_map label_in (slice_range fs a b)
 labels_between text at fs xs a b h =
     flat label_of (slice_range xs a b)
     ∙ (ap (λ ls. flat_map (λ ws. ws) ls) (range_map label_of xs a b
@@ -138,7 +138,7 @@ module _ (e : Edited) (old : List Item) (ps : List Part) (are : ps ≡ parts e o
         subst (λ qs. P qs (parts e (unit_of old c))) (front ∙ front_is c.first)
         (subst (P before) (between ∙ parts_between c.first c.end) is)
 
-    pub stood : IsTrue (is_in e.moved label) → labels_of (unit_of old c) ≡ label ∷ [] → open_behind 0 (take c.first ps) ≡ Some 0
+    pub stood : IsTrue (is_in e.moved label) → labels_asserted (unit_of old c) ≡ label ∷ [] → open_behind 0 (take c.first ps) ≡ Some 0
         → c.front.now ≡ [] → c.back.now ≡ [] → IsWhole before unit → AsItStood e old label c
     stood moved alone outermost no_front no_back whole = record {
       moved = moved;

@@ -18,8 +18,8 @@ use Rattle.arranging.specs.Groups.{IsWritten}
 use Rattle.arranging.specs.Sections.{IsUnder}
 use Rattle.arranging.specs.Named.{IsNamedFrom}
 
-abbrev pub labels_of : List Item → List Word
-labels_of xs = flat_map label_of xs
+abbrev pub labels_asserted : List Item → List Word
+labels_asserted xs = flat_map label_of xs
 
 -- ---- what is put in
 
@@ -36,7 +36,7 @@ IsDescription before ps = (ps ≡ Description ∷ []) ⊎ ((ps ≡ []) × (ends_
 -- an assertion that stands alone, outermost or in a block: it goes with what describes it, or with the block, and nothing else is written
 pub record AsItStood (e : Edited) (old : List Item) (label : Word) (c : Coming) : Type 0 where
   pub moved : IsTrue (is_in e.moved label)
-  pub alone : labels_of (unit_of old c) ≡ label ∷ []
+  pub alone : labels_asserted (unit_of old c) ≡ label ∷ []
   pub outermost : open_behind 0 (parts e (take c.first old)) ≡ Some 0
   pub whole : IsBlock (parts e (unit_of old c)) ⊎ ((x : Part) × (ps : List Part) × (parts e (unit_of old c) ≡ ps ++ x ∷ [])
       × IsDescription (parts e (take c.first old)) ps)

@@ -6,7 +6,7 @@ use Rattle.items.specs.Items.{Piece, Item}
 use Rattle.items.specs.Layout.{column, is_laid_out}
 use Rattle.arranging.specs.declared.lines.Part.{Part}
 use Rattle.arranging.specs.declared.lines.Part.TheVariants.{Statement, Proof, Letters}
-use Rattle.arranging.specs.declared.lines.Place.{Place}
+use Rattle.arranging.specs.declared.lines.LinePlace.{LinePlace}
 use Rattle.arranging.specs.Lines.{is_in_lines}
 
 abbrev pub piece : List ℕ → Word → Piece
@@ -19,11 +19,11 @@ part_in_lines at Proof ps = is_laid_out at false ps
 part_in_lines at Letters ps = is_laid_out at true ps
 
 -- words from a place on are laid out
-abbrev pub AreLaidFrom : Place → Item → Type 0
+abbrev pub AreLaidFrom : LinePlace → Item → Type 0
 AreLaidFrom p ps = IsTrue (part_in_lines p.column p.part ps)
 
 -- one word more is laid out, and leads to a place
-abbrev pub LaysWord : Place → List ℕ → Word → Place → Type 0
+abbrev pub LaysWord : LinePlace → List ℕ → Word → LinePlace → Type 0
 LaysWord old space word new = (ps : Item) → AreLaidFrom new ps → AreLaidFrom old (piece space word ∷ ps)
 
 abbrev pub are_letters : Part → Bool

@@ -14,7 +14,7 @@ use crate::describing::parts_of;
 use crate::layout::layout_of;
 use crate::naming::first_misnamed;
 use crate::printing::Source;
-use giving::Changes;
+use giving::LabelMap;
 use items::Item;
 use leaving::{Part, goes_of};
 use std::alloc::{AllocError, Global};
@@ -23,17 +23,17 @@ use std::alloc::{AllocError, Global};
 #[derive(Clone, Copy)]
 pub struct Edits<'e> {
     /// The labels that change, with their new ones.
-    pub changes: &'e Changes<'e>,
+    pub changes: &'e LabelMap<'e>,
     /// The proofs that change, by the labels of their theorems.
-    pub proofs: &'e Changes<'e>,
+    pub proofs: &'e LabelMap<'e>,
     /// The labels of the assertions that are deleted.
-    pub gone: &'e Changes<'e>,
+    pub gone: &'e LabelMap<'e>,
     /// Those of the assertions that stand elsewhere then.
-    pub moving: &'e Changes<'e>,
+    pub moving: &'e LabelMap<'e>,
     /// Those of the assertions that were moved.
-    pub moved: &'e Changes<'e>,
+    pub moved: &'e LabelMap<'e>,
     /// Those in the source of all that live in the library.
-    pub library: &'e Changes<'e>,
+    pub library: &'e LabelMap<'e>,
 }
 
 /// What becomes of a source with edits.

@@ -5,13 +5,13 @@ ghost use Rattle.source.specs.Scopes.{is_in};
 ghost use Rattle.leaving.specs.Leaving.{open_behind, IsBlock};
 ghost use Rattle.items.specs.Items.{Item as Pieces};
 ghost use Rattle.arranging.specs.Parts.{Edited};
-ghost use Rattle.arranging.specs.Arranged.{AsItStood, IsParted, IsFrom, IsDescription, ends_described, labels_of, label_in_source};
+ghost use Rattle.arranging.specs.Arranged.{AsItStood, IsParted, IsFrom, IsDescription, ends_described, labels_asserted, label_in_source};
 ghost use Rattle.arranging.specs.Places.{AreDepths, IsFree, IsKnown, IsKnownOf, IsWhole, MayCome};
 
 use crate::coming::Coming;
 use crate::group::is_written;
 use crate::sections::first_kept;
-use giving::Changes;
+use giving::LabelMap;
 use items::{Item, Kind};
 use leaving::Part;
 use std::alloc::{AllocError, Global};
@@ -110,11 +110,11 @@ fn depths_of(alloc: Global, parts: &[Part]) -> Result<Vec<Option<usize>>, AllocE
 /// What is known of the items of a source.
 pub(crate) struct Checker<'c> {
     /// The labels of those that stand elsewhere then.
-    pub moving: &'c Changes<'c>,
+    pub moving: &'c LabelMap<'c>,
     /// Those that were moved.
-    pub moved: &'c Changes<'c>,
+    pub moved: &'c LabelMap<'c>,
     /// Those of all that live in the library.
-    pub library: &'c Changes<'c>,
+    pub library: &'c LabelMap<'c>,
     pub text: &'c [u8],
     pub items: &'c [Item<'c>],
     pub parts: &'c [Part],
@@ -144,9 +144,9 @@ impl<'c> Checker<'c> {
     /// What is known of items, each of which plays a part.
     pub(crate) fn new(
         alloc: Global,
-        moving: &'c Changes<'c>,
-        moved: &'c Changes<'c>,
-        library: &'c Changes<'c>,
+        moving: &'c LabelMap<'c>,
+        moved: &'c LabelMap<'c>,
+        library: &'c LabelMap<'c>,
         text: &'c [u8],
         items: &'c [Item<'c>],
         parts: &'c [Part],
@@ -178,7 +178,7 @@ impl<'c> Checker<'c> {
     /// Whether the only assertion among items, from a place up to another, has this label.
     fn is_alone(&self, first: usize, end: usize, label: &[u8]) -> bool
         ensures { (e : Edited) (source : List ℕ) (old : List Pieces) → IsKnown e source old self.now
-            → IsTrue result → labels_of (slice_range old first end) ≡ label.now ∷ [] }
+            → IsTrue result → labels_asserted (slice_range old first end) ≡ label.now ∷ [] }
     {
         let Some(items) = self.items.get(first..end) else {
             return false;

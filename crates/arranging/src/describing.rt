@@ -6,14 +6,14 @@ ghost use Rattle.items.specs.Items.{Item as Pieces, IsComment};
 ghost use Rattle.items.specs.Reading.{AreFound, AreItems, IsOfKind, Stands};
 ghost use Rattle.arranging.specs.Parts.{fate_of, is_heading, is_rule, part_of, known_labels};
 
-use giving::Changes;
+use giving::LabelMap;
 use items::{Item, Kind};
 use leaving::{Fate, Part};
 use mmtext::next_token;
 use std::alloc::{AllocError, Global};
 
 /// What becomes of the assertion with a label.
-fn fate_of(gone: &Changes<'_>, moving: &Changes<'_>, label: &[u8]) -> Fate
+fn fate_of(gone: &LabelMap<'_>, moving: &LabelMap<'_>, label: &[u8]) -> Fate
     ensures { result ≡ fate_of (known_labels gone.now) (known_labels moving.now) label.now }
 {
     if gone.text_for(label).is_some() {
@@ -56,8 +56,8 @@ fn is_heading(text: &[u8], from: usize) -> bool
 
 /// Which part an item plays that begins behind a byte of a text.
 fn part_of(
-    gone: &Changes<'_>,
-    moving: &Changes<'_>,
+    gone: &LabelMap<'_>,
+    moving: &LabelMap<'_>,
     text: &[u8],
     from: usize,
     kind: Kind<'_>,
@@ -83,8 +83,8 @@ fn part_of(
 /// Want of memory.
 pub fn parts_of(
     alloc: Global,
-    gone: &Changes<'_>,
-    moving: &Changes<'_>,
+    gone: &LabelMap<'_>,
+    moving: &LabelMap<'_>,
     source: &[u8],
     items: &[Item<'_>],
 ) -> Result<Vec<Part>, AllocError>

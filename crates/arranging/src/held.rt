@@ -8,7 +8,7 @@ ghost use Rattle.arranging.specs.Held.{IsHeldBehind};
 use crate::checking::Checker;
 use crate::coming::Coming;
 use crate::describing::parts_of;
-use giving::Changes;
+use giving::LabelMap;
 use items::{Item, Kind};
 use std::alloc::{AllocError, Global};
 
@@ -36,7 +36,7 @@ pub(crate) fn is_labelled(items: &[Item<'_>], place: usize, label: &[u8]) -> boo
 /// Want of memory.
 pub fn is_held_behind(
     alloc: Global,
-    none: &Changes<'_>,
+    none: &LabelMap<'_>,
     source: &[u8],
     items: &[Item<'_>],
     coming: Coming<'_>,

@@ -71,21 +71,21 @@ impl Part {
 
 /// A place among the words of a statement.
 #[derive(Clone, Copy)]
-pub(crate) struct Place {
+pub(crate) struct LinePlace {
     /// The column behind the last word, counted from 0.
     pub column: usize,
     /// Which words stand next.
     pub part: Part,
 }
 
-impl Place {
+impl LinePlace {
     /// The place behind a word. None where it isn't laid out.
-    fn take(self, space: &[u8], word: &[u8]) -> Option<Place>
+    fn take(self, space: &[u8], word: &[u8]) -> Option<LinePlace>
         ensures { IfSome result (LaysWord self space.now word.now) }
     {
         let column = placed(self.column, self.part.are_letters(), space, word)?;
         let part = self.part.behind(word);
-        Some(Place { column, part })
+        Some(LinePlace { column, part })
     }
 }
 
@@ -95,7 +95,7 @@ pub(crate) fn is_in_lines(text: &[u8], from: usize, end: usize) -> bool
     requires within { end ≤ length text.now }
     ensures { (x : Pieces) → Stands text.now from x end → IsTrue result → IsTrue (is_in_lines 79 x) }
 {
-    let mut place = Place {
+    let mut place = LinePlace {
         column: COLUMNS,
         part: Part::Statement,
     };

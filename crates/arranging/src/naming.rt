@@ -7,12 +7,12 @@ ghost use Rattle.arranging.specs.Named.{BeginsWith, IsNamedFrom};
 
 use crate::coming::Coming;
 use crate::held::is_labelled;
-use giving::Changes;
+use giving::LabelMap;
 use items::read_items;
 use std::alloc::{AllocError, Global};
 
 /// The label that an assertion of the source has then.
-fn label_then<'c>(changes: &'c Changes<'_>, label: &'c [u8]) -> &'c [u8]
+fn label_then<'c>(changes: &'c LabelMap<'_>, label: &'c [u8]) -> &'c [u8]
     ensures { result.now ≡ changed changes.now label.now }
 {
     match changes.text_for(label) {
@@ -34,7 +34,7 @@ fn begins_with(alloc: Global, text: &[u8], label: &[u8]) -> Result<bool, AllocEr
 /// Whether one of the source goes as it stood, or is written anew under the label that it has then.
 fn is_named_then(
     alloc: Global,
-    changes: &Changes<'_>,
+    changes: &LabelMap<'_>,
     coming: Coming<'_>,
 ) -> Result<bool, AllocError>
     ensures { IfOk result (λ yes. IsTrue yes → IsNamedFrom changes.now coming.entry (label_in_source coming.entry)) }
@@ -51,7 +51,7 @@ fn is_named_then(
 /// The number of the first of these that doesn't, if one doesn't.
 pub(crate) fn first_misnamed(
     alloc: Global,
-    changes: &Changes<'_>,
+    changes: &LabelMap<'_>,
     comings: &[Coming<'_>],
 ) -> Result<Option<usize>, AllocError>
     ensures named { IfOk result (λ made. IfNone made (All (λ c. IsNamedFrom changes.now c (label_in_source c)) comings.now)) }

@@ -12,7 +12,7 @@ ghost use Rattle.arranging.specs.Arranged.{Says, ReadThen, IsTextOf, IsLayout};
 ghost use Rattle.arranging.specs.Printing.{SaysNext};
 
 use crate::coming::{Coming, Placed};
-use giving::Changes;
+use giving::LabelMap;
 use items::{Item, put_item};
 use std::alloc::{AllocError, Global};
 
@@ -23,9 +23,9 @@ pub(crate) struct Source<'s> {
     /// Its items.
     pub items: &'s [Item<'s>],
     /// The labels that change.
-    pub changes: &'s Changes<'s>,
+    pub changes: &'s LabelMap<'s>,
     /// The proofs that change, by the labels of their theorems.
-    pub proofs: &'s Changes<'s>,
+    pub proofs: &'s LabelMap<'s>,
 }
 
 impl Source<'_> {

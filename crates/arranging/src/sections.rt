@@ -16,7 +16,7 @@ ghost use Rattle.arranging.specs.Places.{IsKnown, IsFirstKept, end_behind};
 
 use crate::checking::{Checker, is_block};
 use crate::coming::{Coming, Why};
-use giving::Changes;
+use giving::LabelMap;
 use items::{Item, Kind};
 use leaving::{Fate, Part};
 use mmtext::{Token, next_token};
@@ -40,7 +40,7 @@ fn has_moving(parts: &[Part]) -> bool
 // ---- what keeps its place
 
 /// Whether an item is an assertion of the library that keeps its place.
-fn keeps(library: &Changes<'_>, moving: &Changes<'_>, item: Item<'_>) -> bool
+fn keeps(library: &LabelMap<'_>, moving: &LabelMap<'_>, item: Item<'_>) -> bool
     ensures { (e : Edited) (x : Pieces) → e.library ≡ known_labels library.now → e.moving ≡ known_labels moving.now
         → IsOfKind item.entry.kind x → result ≡ keeps e x }
 {
@@ -54,8 +54,8 @@ fn keeps(library: &Changes<'_>, moving: &Changes<'_>, item: Item<'_>) -> bool
 
 /// How many items stand in front of the first assertion of the library that keeps its place, if one does.
 pub(crate) fn first_kept(
-    library: &Changes<'_>,
-    moving: &Changes<'_>,
+    library: &LabelMap<'_>,
+    moving: &LabelMap<'_>,
     items: &[Item<'_>],
 ) -> Option<usize>
     ensures { (e : Edited) (text : List ℕ) (old : List Pieces) → e.library ≡ known_labels library.now → e.moving ≡ known_labels moving.now

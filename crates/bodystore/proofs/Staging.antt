@@ -13,7 +13,7 @@ use Rattle.std.specs.declared.random_state.RandomState.{RandomState}
 use Rattle.std.proofs.lemmas.Bool.{cases_Bool, cond-true, cond-false}
 use Rattle.std.proofs.lemmas.Map.Lookups.{exact_bytes}
 use Rattle.std.proofs.lemmas.Map.Text.{is_eq-slice_cmp}
-use Rattle.ranges.specs.declared.range.Range.{Range as Place}
+use Rattle.ranges.specs.declared.range.Range.{Range as Span}
 use Rattle.ranges.specs.Ranges.{Has}
 use Rattle.mmsyntax.proofs.Names.{after_update, bytes_eq-sym, same_bytes}
 use Rattle.bodystore.specs.Stages.{staged_in, range_at}
@@ -67,12 +67,12 @@ noting_keeps ranges stage words start has are = record {
       ];
 }
 
-start_of : (words : List ℕ) (o : Option ℕ) (r : Place) → option_map (range_at words) o ≡ Some r
+start_of : (words : List ℕ) (o : Option ℕ) (r : Span) → option_map (range_at words) o ≡ Some r
     → (o ≡ Some r.start) × (r.len ≡ length words)
 start_of words None r is = absurd (cc is)
 start_of words (Some start) r is =
     let own : record { start = start; len = length words } ≡ r = cc in
-    (ap (λ (p : Place). Some p.start) own, ap (λ (p : Place). p.len) (sym own))
+    (ap (λ (p : Span). Some p.start) own, ap (λ (p : Span). p.len) (sym own))
 
 pub found_is_staged : FoundIsStaged
 found_is_staged ranges stage words r are is =

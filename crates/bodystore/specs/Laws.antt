@@ -2,7 +2,7 @@
 use Rattle.std.specs.Prelude.{◌≡◌, ◌≢◌, ℕ, Some, List, [], length}
 use Rattle.std.specs.Option.{option_map}
 use Rattle.std.specs.FinMap.{empty, get, insert}
-use Rattle.ranges.specs.declared.range.Range.{Range as Place}
+use Rattle.ranges.specs.declared.range.Range.{Range as Span}
 use Rattle.ranges.specs.Ranges.{Range, Has, Within}
 use Rattle.mmsyntax.specs.Tables.{Tables}
 use Rattle.mmsyntax.specs.Layout.{IsSoundPrelude}
@@ -50,6 +50,6 @@ NotingKeepsStaged =
 -- what a stage finds is one of the ranges, with just the words
 abbrev pub FoundIsStaged : Type 0
 FoundIsStaged =
-    (ranges : List Range) (stage : Staged) (words : List ℕ) (found : Place) → AreStaged ranges stage
+    (ranges : List Range) (stage : Staged) (words : List ℕ) (found : Span) → AreStaged ranges stage
     → option_map (range_at words) (get stage words) ≡ Some found
     → Has (record { start = found.start; words = words }) ranges × (found.len ≡ length words)

@@ -6,7 +6,7 @@ use Rattle.std.specs.FinMap.{FinMap, get, from_entries}
 use Rattle.std.specs.HashMap.{HashMap}
 use Rattle.std.specs.declared.alloc.Global.{Global}
 use Rattle.std.specs.declared.random_state.RandomState.{RandomState}
-use Rattle.ranges.specs.declared.range.Range.{Range as Place}
+use Rattle.ranges.specs.declared.range.Range.{Range as Span}
 use Rattle.ranges.specs.Ranges.{Range, Has}
 
 -- from the words of each staged range to where it starts
@@ -18,7 +18,7 @@ abbrev pub staged_in : HashMap (Vec ℕ Global) ℕ RandomState → Staged
 staged_in m = from_entries (map (λ e. (e.0.items, e.1)) m.entries)
 
 -- the range of these words that starts at a place
-abbrev pub range_at : List ℕ → ℕ → Place
+abbrev pub range_at : List ℕ → ℕ → Span
 range_at words start = record { start = start; len = length words }
 
 -- each staged range is one of the ranges, with just its words

@@ -6,7 +6,7 @@ use Rattle.std.proofs.Math.Bridge.{le_prop}
 use Rattle.std.proofs.Math.Logic.{∥∥₁_elim}
 use Rattle.library.specs.declared.library.Ranked.{Ranked}
 use Rattle.ranges.specs.Ranges.{Range, Has, Names, AreOfOneStore, word_of}
-use Rattle.ranges.specs.declared.range.Range.{Range as Place}
+use Rattle.ranges.specs.declared.range.Range.{Range as Span}
 use Rattle.ranges.proofs.Words.{names_one}
 use Rattle.cells.specs.State.{State, HasBody, most_words}
 use Rattle.cells.specs.Sight.{Sight, Matches, Suits, Onward, Looks, Reads, KnowsRange, after}
@@ -58,21 +58,21 @@ body_same st next cell words ranges same b =
 
 -- ---- ranges that a run knows
 
-pub knows_later : {O : Type 0} → (s t : Sight O) (range : Place) (words : List ℕ) → Onward s t → KnowsRange s range words
+pub knows_later : {O : Type 0} → (s t : Sight O) (range : Span) (words : List ℕ) → Onward s t → KnowsRange s range words
     → KnowsRange t range words
 knows_later s t range words on k =
     record { finished = on.ranges (record { start = range.start; words = words }) k.finished; len = k.len }
 
 module _ {O : Type 0} (s : Sight O) (st : State) (matches : Matches s st) where
   -- the words of a known range are those of the body of the cell that names it
-  pub words_known : (range : Place) (cell : ℕ) (words body : List ℕ) → KnowsRange s range words
+  pub words_known : (range : Span) (cell : ℕ) (words body : List ℕ) → KnowsRange s range words
       → (after s st).value cell ≡ range.start * 2 ^ 25 + range.len → HasBody (after s st) cell body → words ≡ body
   words_known range cell words body k e b =
       one_named st.ranges (record { start = range.start; words = words }) (record { start = b.start; words = body }) matches.store
       (matches.has _ k.finished) b.finished (ap (λ (n : ℕ). range.start * 2 ^ 25 + n) (sym k.len) ∙ (sym e ∙ b.named))
 
   -- a cell that names a known range has its words as a body
-  pub body_known : (range : Place) (cell : ℕ) (words : List ℕ) → KnowsRange s range words
+  pub body_known : (range : Span) (cell : ℕ) (words : List ℕ) → KnowsRange s range words
       → (after s st).value cell ≡ range.start * 2 ^ 25 + range.len → words ≢ [] → HasBody (after s st) cell words
   body_known range cell words k e some = record {
     start = range.start;
@@ -85,7 +85,7 @@ module _ {O : Type 0} (s : Sight O) (st : State) (matches : Matches s st) where
 
 module _ {O : Type 0} (s : Sight O) (grounded : ∥ ((st : State) × (lib : List Ranked) × Suits s st lib) ∥₁) where
   -- a word that is not 0 and names a range: where it starts, and how many words it has
-  pub named_known : (word : ℕ) (range : Place) → word ≢ 0 → Names s.ranges word → range.start ≡ word / 2 ^ 25 → range.len ≡ word % 2 ^ 25
+  pub named_known : (word : ℕ) (range : Span) → word ≢ 0 → Names s.ranges word → range.start ≡ word / 2 ^ 25 → range.len ≡ word % 2 ^ 25
       → (words : List ℕ) × KnowsRange s range words
   named_known word range ne (inl e) a b = absurd (ne e)
   named_known word range ne (inr (r, h, e)) a b =
@@ -103,7 +103,7 @@ value_later r s t cell v st reads looks m =
     reads.value st (matches_back s t st looks.onward m) ∙ ap (λ (x : State). x.value cell) (sym (after_looks s t st looks))
 
 -- the words of the range that a cell names
-pub are_words : {O : Type 0} → (s : Sight O) (st : State) (range : Place) (cell word : ℕ) (words : List ℕ) → Matches s st
+pub are_words : {O : Type 0} → (s : Sight O) (st : State) (range : Span) (cell word : ℕ) (words : List ℕ) → Matches s st
     → KnowsRange s range words
     → word ≡ (after s st).value cell → word ≢ 0 → word ≡ range.start * 2 ^ 25 + range.len → AreWordsOf (after s st) cell words
 are_words s st range cell word words m k read some is = record {
@@ -116,7 +116,7 @@ pub no_words : (st : State) (cell : ℕ) → st.value cell ≡ 0 → AreWordsOf 
 no_words st cell e = record { body = λ words b. absurd (no_body st cell words b e); none = λ h. refl }
 
 -- a cell that names a known range has a body just where that has its words
-pub same_words : {O : Type 0} → (s : Sight O) (st : State) (range : Place) (cell word : ℕ) (words body : List ℕ) → Matches s st
+pub same_words : {O : Type 0} → (s : Sight O) (st : State) (range : Span) (cell word : ℕ) (words body : List ℕ) → Matches s st
     → KnowsRange s range words
     → word ≡ (after s st).value cell → word ≡ range.start * 2 ^ 25 + range.len → body ≢ [] → (words ≡ body) ↔ HasBody (after s st) cell body
 same_words s st range cell word words body m k read is some = (
@@ -127,7 +127,7 @@ same_words s st range cell word words body m k read is some = (
 -- ---- the first word
 
 -- a cell that holds 0 has no body, and a range without words is none
-pub no_first : {O : Type 0} → (s : Sight O) (st : State) (range : Place) (cell word w : ℕ) (words more : List ℕ) → Matches s st
+pub no_first : {O : Type 0} → (s : Sight O) (st : State) (range : Span) (cell word w : ℕ) (words more : List ℕ) → Matches s st
     → KnowsRange s range words
     → word ≡ (after s st).value cell → word ≡ range.start * 2 ^ 25 + range.len → HasBody (after s st) cell (w ∷ more) → range.len ≡ 0 → ⊥
 no_first s st range cell word w words more m k read is b none =
@@ -137,7 +137,7 @@ no_first s st range cell word w words more m k read is b none =
     omega (arith, few, long)
 
 -- the first word of a known range is that of the body
-pub first_known : {O : Type 0} → (s : Sight O) (st : State) (range : Place) (cell word w first : ℕ) (words more : List ℕ) → Matches s st
+pub first_known : {O : Type 0} → (s : Sight O) (st : State) (range : Span) (cell word w first : ℕ) (words more : List ℕ) → Matches s st
     → KnowsRange s range words
     → word ≡ (after s st).value cell → word ≡ range.start * 2 ^ 25 + range.len → HasBody (after s st) cell (w ∷ more)
     → slice_get words 0 ≡ Some first → first ≡ w

@@ -13,15 +13,15 @@ use Rattle.library.specs.Edits.{is_labelled, has, clashes, without}
 use Rattle.library.proofs.Filtered.{contains_mapped, contains_unmapped}
 use Rattle.library.proofs.Places.{is_labelled-own, has_somewhere}
 use Rattle.library.proofs.Clashing.{clashes_without_at, clashes_without_somewhere}
-use Rattle.ranges.specs.declared.range.Range.{Range as Place}
+use Rattle.ranges.specs.declared.range.Range.{Range as Span}
 use Rattle.cells.specs.State.{State}
 use Rattle.cells.specs.Slots.{name_cell, hash, bucket}
 use Rattle.cells.specs.Shows.{Held, IsNamed, Shows}
 use Rattle.cells.specs.Sight.{Sight, Matches, Views, Looks, KnowsRange, after}
-use Rattle.cells.specs.Lookups.{TellsStanding}
-use Rattle.cells.specs.Clashing.{IsInTheWay, StandsAt, TellsStandingAt, IsClearIn, TellsStandingIn}
-use Rattle.cells.specs.declared.labels.Standing.{Standing}
-use Rattle.cells.specs.declared.labels.Standing.TheVariants.{Free, Taken, Clashing}
+use Rattle.cells.specs.Lookups.{TellsAvailability}
+use Rattle.cells.specs.Clashing.{IsInTheWay, StandsAt, TellsAvailabilityAt, IsClearIn, TellsAvailabilityIn}
+use Rattle.cells.specs.declared.labels.Availability.{Availability}
+use Rattle.cells.specs.declared.labels.Availability.TheVariants.{Free, Taken, Clashing}
 use Rattle.cells.specs.Footprints.{ReadsWhere, IsAlong, IsOfLook, IsOfClash}
 use Rattle.cells.proofs.Along.{where_same, where_trans}
 use Rattle.cells.proofs.Sights.{for_each_later, looks_refl}
@@ -82,7 +82,7 @@ unnamed_free own label slots st i zero = λ name named way. no_body st (name_cel
 
 -- ---- the words of a name
 
-module _ {O : Type 0} (s : Sight O) (st : State) (matches : Matches s st) (range : Place) (slot word : ℕ) (words own label : List ℕ)
+module _ {O : Type 0} (s : Sight O) (st : State) (matches : Matches s st) (range : Span) (slot word : ℕ) (words own label : List ℕ)
     (k : KnowsRange s range words) (read : word ≡ (after s st).value (name_cell slot)) (is : word ≡ range.start * 2 ^ 25 + range.len) where
   named_words : (name : List ℕ) → IsNamed s.setting.slots (after s st) slot name → words ≡ name
   named_words name named = words_known s st matches range (name_cell slot) words name k (sym read ∙ is) named.body
@@ -137,14 +137,14 @@ module _ {O : Type 0} (s : Sight O) (own label : List ℕ) where
   -- no slot
   pub clear_in : (slots b : ℕ) → slots ≡ s.setting.slots
       → ((st : State) (lib : List Ranked) → Views s st lib → (i : ℕ) → IsInTheWayIn b own label slots (after s st) i → ⊥)
-      → TellsStandingIn s b own label Free
+      → TellsAvailabilityIn s b own label Free
   clear_in slots b is none = λ st lib v i name named of way.
       none st lib v i (subst (λ (n : ℕ). IsInTheWayIn b own label n (after s st) i) (sym is) (name, named, of, way))
 
-  taken : (i : ℕ) → TellsStandingAt s i own label Taken → TellsStanding s own label Taken
+  taken : (i : ℕ) → TellsAvailabilityAt s i own label Taken → TellsAvailability s own label Taken
   taken i named = λ st lib v. named_has s.setting.slots (after s st) lib v.shows v.matches.store i label (named st v.matches)
 
-  clashing : (i : ℕ) → TellsStandingAt s i own label Clashing → TellsStanding s own label Clashing
+  clashing : (i : ℕ) → TellsAvailabilityAt s i own label Clashing → TellsAvailability s own label Clashing
   clashing i clashes_there = λ st lib v.
       let d = clashes_there st v.matches in
       let h = holder s.setting.slots (after s st) lib v.shows v.matches.store i d.0 d.1 in
@@ -155,26 +155,26 @@ module _ {O : Type 0} (s : Sight O) (own label : List ℕ) where
       (free_apart lib label e v.verifies.library.apart at y, clashes_without_at lib own label e at other y)
 
   -- a slot tells it that isn't free
-  pub told_at : (b i : ℕ) (met : Standing) → met ≢ Free → TellsStandingAt s i own label met → TellsStandingIn s b own label met
+  pub told_at : (b i : ℕ) (met : Availability) → met ≢ Free → TellsAvailabilityAt s i own label met → TellsAvailabilityIn s b own label met
   told_at b i Free other told = absurd (other refl)
   told_at b i Taken other told = taken i told
   told_at b i Clashing other told = clashing i told
 
   -- and a bucket too
-  pub told_in : (b : ℕ) (met : Standing) → met ≢ Free → TellsStandingIn s b own label met → TellsStanding s own label met
+  pub told_in : (b : ℕ) (met : Availability) → met ≢ Free → TellsAvailabilityIn s b own label met → TellsAvailability s own label met
   told_in b Free other told = absurd (other refl)
   told_in b Taken other told = told
   told_in b Clashing other told = told
 
-  pub told_last : (b : ℕ) (met : Standing) → (TellsStandingIn s b own label Free → TellsStanding s own label Free)
-      → TellsStandingIn s b own label met → TellsStanding s own label met
+  pub told_last : (b : ℕ) (met : Availability) → (TellsAvailabilityIn s b own label Free → TellsAvailability s own label Free)
+      → TellsAvailabilityIn s b own label met → TellsAvailability s own label met
   told_last b Free clear told = clear told
   told_last b Taken clear told = told
   told_last b Clashing clear told = told
 
 -- a bucket that is clear stays so while nothing is written
-pub clear_later : {O : Type 0} → (r s : Sight O) (b : ℕ) (own label : List ℕ) → Looks r s → TellsStandingIn r b own label Free
-    → TellsStandingIn s b own label Free
+pub clear_later : {O : Type 0} → (r s : Sight O) (b : ℕ) (own label : List ℕ) → Looks r s → TellsAvailabilityIn r b own label Free
+    → TellsAvailabilityIn s b own label Free
 clear_later r s b own label looks clear =
     subst (λ (n : ℕ). (st : State) (lib : List Ranked) → Views s st lib → IsClearIn b own label n (after s st)) (sym (same_slots r s looks))
     (for_each_later r s (λ st lib. IsClearIn b own label r.setting.slots st) looks clear)
@@ -191,11 +191,11 @@ named_of slots st lib shows e at =
 
 module _ {O : Type 0} (s : Sight O) (own label : List ℕ) where
   abbrev ClearIn : ℕ → Type 0
-  ClearIn b = TellsStandingIn s b own label Free
+  ClearIn b = TellsAvailabilityIn s b own label Free
 
   -- nothing is in the way in the three buckets
   pub all_clear : ClearIn (bucket s.setting.slots label) → ClearIn (hash s.setting.slots label)
-      → ((trunk label ≡ own) ⊎ ClearIn (bucket s.setting.slots (trunk label))) → TellsStanding s own label Free
+      → ((trunk label ≡ own) ⊎ ClearIn (bucket s.setting.slots (trunk label))) → TellsAvailability s own label Free
   all_clear first below last = λ st lib v.
       let slots = s.setting.slots in (
         false_from_ne_true (has lib label) (λ y.
@@ -219,7 +219,7 @@ module _ {O : Type 0} (s : Sight O) (own label : List ℕ) where
       )
 
   -- in the one of a label that is no L.k
-  pub plain_clear : trunk label ≡ label → ClearIn (bucket s.setting.slots label) → TellsStanding s own label Free
+  pub plain_clear : trunk label ≡ label → ClearIn (bucket s.setting.slots label) → TellsAvailability s own label Free
   plain_clear whole first =
       all_clear first (subst ClearIn (ap (hash s.setting.slots) whole) first)
       (inr (subst ClearIn (ap (bucket s.setting.slots) (sym whole)) first))

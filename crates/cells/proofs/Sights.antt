@@ -6,7 +6,7 @@ use Rattle.std.proofs.lemmas.Bool.Decides.{Decides-eqb}
 use Rattle.library.specs.declared.library.Ranked.{Ranked}
 use Rattle.ranges.specs.Pairs.{written}
 use Rattle.ranges.specs.Ranges.{Has, Within}
-use Rattle.ranges.specs.declared.range.Range.{Range as Place}
+use Rattle.ranges.specs.declared.range.Range.{Range as Span}
 use Rattle.ranges.proofs.Grown.{within_refl, within_trans}
 use Rattle.bodystore.specs.Stages.{Staged}
 use Rattle.cells.specs.State.{State, FitsReads, with_writes, value_or, with_value}
@@ -103,7 +103,7 @@ writes_cell cell v s t w =
     same_is_same n = (Decides-eqb n n).1 refl
 
 -- to stage words takes at most these
-pub stages_take : {O : Type 0} → (words : List ℕ) (range : Place) (s t : Sight O) → Stages words range s t → TakesAtMost (length words) s t
+pub stages_take : {O : Type 0} → (words : List ℕ) (range : Span) (s t : Sight O) → Stages words range s t → TakesAtMost (length words) s t
 stages_take words range s t f = go (get s.staged words) refl
   where
     go : (found : Option ℕ) → get s.staged words ≡ found → TakesAtMost (length words) s t

@@ -4,7 +4,7 @@ use Rattle.std.proofs.Math.Bridge.{le_prop}
 use Rattle.std.proofs.Math.Logic.{∥∥₁_elim}
 use Rattle.library.specs.declared.library.Ranked.{Ranked}
 use Rattle.ranges.specs.Ranges.{Range, Has, AreOfOneStore}
-use Rattle.ranges.specs.declared.range.Range.{Range as Place}
+use Rattle.ranges.specs.declared.range.Range.{Range as Span}
 use Rattle.cells.specs.State.{State, most_words}
 use Rattle.cells.specs.Sight.{Sight, Suits, Stages}
 use Rattle.cells.proofs.Bodies.{short}
@@ -17,7 +17,7 @@ low ranges r store h some = at r.words some (store.0 r h)
     at (w ∷ ws) some within = let z = within 0 (omega arith) in omega (arith, z)
 
 module _ {O : Type 0} (r s : Sight O) (grounded : ∥ ((st : State) × (lib : List Ranked) × Suits s st lib) ∥₁) (words : List ℕ)
-    (range : Place)
+    (range : Span)
     (staged : Stages words range r s) where
   pub staged_start : words ≢ [] → range.start < 2 ^ 25
   staged_start some =

@@ -13,8 +13,8 @@ use Rattle.cells.specs.State.{State, HasBody}
 use Rattle.cells.specs.Slots.{name_cell}
 use Rattle.cells.specs.Shows.{IsNamed, Holds, IsEmpty, IsStoredAs, AreStoredAs}
 use Rattle.cells.specs.Sight.{Sight, Matches, Views, after, ForEachState}
-use Rattle.cells.specs.declared.labels.Standing.{Standing}
-use Rattle.cells.specs.declared.labels.Standing.TheVariants.{Free, Taken, Clashing}
+use Rattle.cells.specs.declared.labels.Availability.{Availability}
+use Rattle.cells.specs.declared.labels.Availability.TheVariants.{Free, Taken, Clashing}
 
 -- what is so of every state that may be under the run and of every library that verifies and that it shows with what the run keeps aside
 abbrev pub ForEach : {O : Type 0} → Sight O → (State → List Ranked → Type 0) → Type 0
@@ -46,10 +46,10 @@ Finds s label None = ForEach s (λ st lib. found lib label ≡ None)
 Finds s label (Some i) = (i < s.setting.slots) × ForEach s (λ st lib. IsFoundAt s.setting.slots st lib label i)
 
 -- how the label stands to those of the library, that of one with the label `own` left out of those with which it may clash
-abbrev pub TellsStanding : {O : Type 0} → Sight O → List ℕ → List ℕ → Standing → Type 0
-TellsStanding s own label Free = ForEach s (λ st lib. (has lib label ≡ false) × (clashes (without own lib) label ≡ false))
-TellsStanding s own label Taken = ForEach s (λ st lib. has lib label ≡ true)
-TellsStanding s own label Clashing = ForEach s (λ st lib. (has lib label ≡ false) × (clashes (without own lib) label ≡ true))
+abbrev pub TellsAvailability : {O : Type 0} → Sight O → List ℕ → List ℕ → Availability → Type 0
+TellsAvailability s own label Free = ForEach s (λ st lib. (has lib label ≡ false) × (clashes (without own lib) label ≡ false))
+TellsAvailability s own label Taken = ForEach s (λ st lib. has lib label ≡ true)
+TellsAvailability s own label Clashing = ForEach s (λ st lib. (has lib label ≡ false) × (clashes (without own lib) label ≡ true))
 
 -- whether the slot holds an assertion of the library: if not, it is empty
 abbrev pub IfFull : {O : Type 0} → Sight O → ℕ → Bool → Type 0

@@ -5,7 +5,7 @@ use Rattle.library.specs.declared.library.Ranked.{Ranked}
 use Rattle.library.specs.Library.{Setting, Verifies}
 use Rattle.ranges.specs.Pairs.{Pairs, written}
 use Rattle.ranges.specs.Ranges.{Range, Has, Within, Names, AreOfOneStore}
-use Rattle.ranges.specs.declared.range.Range.{Range as Place}
+use Rattle.ranges.specs.declared.range.Range.{Range as Span}
 use Rattle.bodystore.specs.Stages.{Staged}
 use Rattle.cells.specs.declared.halt.Halt.{Halt}
 use Rattle.cells.specs.declared.halt.Halt.TheVariants.{Conflict, StoreFull, NoMemory}
@@ -144,18 +144,18 @@ pub record Writes {O : Type 0} (cell v : ℕ) (old new : Sight O) : Type 0 where
   pub halted : new.halted ≡ old.halted
 
 -- the words had this range: it is taken again, and no word of the store
-pub record TakesAgain {O : Type 0} (start : ℕ) (range : Place) (old new : Sight O) : Type 0 where
+pub record TakesAgain {O : Type 0} (start : ℕ) (range : Span) (old new : Sight O) : Type 0 where
   pub start_is : range.start ≡ start
   pub taken : new.taken ≡ old.taken
   pub staged : new.staged ≡ old.staged
 
 -- the words had none: just they are taken, and the range is staged besides, if there is memory for it and the cells keep what is staged
-pub record TakesAnew {O : Type 0} (words : List ℕ) (range : Place) (old new : Sight O) : Type 0 where
+pub record TakesAnew {O : Type 0} (words : List ℕ) (range : Span) (old new : Sight O) : Type 0 where
   pub taken : new.taken ≡ old.taken + length words
   pub staged : (new.staged ≡ old.staged) ⊎ (new.staged ≡ insert old.staged words range.start)
 
 -- the words are those of a finished range: one that was staged, where there was one, else a new one
-pub record Stages {O : Type 0} (words : List ℕ) (range : Place) (old new : Sight O) : Type 0 where
+pub record Stages {O : Type 0} (words : List ℕ) (range : Span) (old new : Sight O) : Type 0 where
   pub onward : Onward old new
   pub writes : new.writes ≡ old.writes
   pub finished : Has (record { start = range.start; words = words }) new.ranges
@@ -171,6 +171,6 @@ IsCaused s StoreFull = s.full ≡ true
 IsCaused s NoMemory = Unit {0}
 
 -- the range is one that the run knows, with these words
-pub record KnowsRange {O : Type 0} (s : Sight O) (range : Place) (words : List ℕ) : Type 0 where
+pub record KnowsRange {O : Type 0} (s : Sight O) (range : Span) (words : List ℕ) : Type 0 where
   pub finished : Has (record { start = range.start; words = words }) s.ranges
   pub len : range.len ≡ length words

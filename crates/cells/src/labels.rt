@@ -5,8 +5,8 @@ ghost use Rattle.mmsyntax.specs.Dotted.{clash};
 ghost use Rattle.cells.specs.Sight.{Sight, IsCaused, Looks, KnowsRange, ReadsWithin, ReadsNothing};
 ghost use Rattle.cells.specs.Slots.{name_cell};
 ghost use Rattle.cells.specs.Footprints.{ReadsWhere, IsAlong, IsOfLook, IsOfClash};
-ghost use Rattle.cells.specs.Lookups.{TellsStanding};
-ghost use Rattle.cells.specs.Clashing.{TellsStandingAt, TellsStandingIn};
+ghost use Rattle.cells.specs.Lookups.{TellsAvailability};
+ghost use Rattle.cells.specs.Clashing.{TellsAvailabilityAt, TellsAvailabilityIn};
 
 use crate::cells::Cells;
 use crate::halt::Halt;
@@ -17,7 +17,7 @@ use ranges::Range;
 
 /// How a label stands to those that a library has.
 #[derive(Debug, Drop, Clone, Copy)]
-pub enum Standing {
+pub enum Availability {
     /// No assertion has it, and it clashes with that of none.
     Free,
     /// An assertion has it.
@@ -35,9 +35,9 @@ pub enum Standing {
 /// # Errors
 ///
 /// The run halts. What was kept aside stays.
-pub fn standing_of<C: Cells>(cells: &mut C, own: &[u8], label: &[u8]) -> Result<Standing, Halt>
+pub fn availability_of<C: Cells>(cells: &mut C, own: &[u8], label: &[u8]) -> Result<Availability, Halt>
     ensures looks { Looks (C.sight cells.old) (C.sight cells.new) }
-    ensures ok { IfOk result (λ standing. TellsStanding (C.sight cells.new) own.now label.now standing) }
+    ensures ok { IfOk result (λ standing. TellsAvailability (C.sight cells.new) own.now label.now standing) }
     ensures halts { IfErr result (IsCaused (C.sight cells.new)) }
     ensures reads { ReadsWhere (λ st c. IsOfLook (C.sight cells.old).setting.slots label.now st c
         ⊎ IsOfClash (C.sight cells.old).setting.slots own.now label.now st c) (C.sight cells.old) (C.sight cells.new) }
@@ -45,35 +45,35 @@ pub fn standing_of<C: Cells>(cells: &mut C, own: &[u8], label: &[u8]) -> Result<
     let slots = slot_count(cells);
     let front = trunk(label);
     let first = bucket(label, slots);
-    let met = standing_in(cells, first, own, label)?;
-    let Standing::Free = met else {
+    let met = availability_in(cells, first, own, label)?;
+    let Availability::Free = met else {
         return Ok(met);
     };
     // The labels `L.k` of a label L that is no `L.k` itself lie in the bucket of L.
     if front == label {
         return Ok(met);
     }
-    let met = standing_in(cells, hash(label, slots), own, label)?;
-    let Standing::Free = met else {
+    let met = availability_in(cells, hash(label, slots), own, label)?;
+    let Availability::Free = met else {
         return Ok(met);
     };
     let last = bucket(front, slots);
     if front == own || last == first {
         return Ok(met);
     }
-    standing_in(cells, last, own, label)
+    availability_in(cells, last, own, label)
 }
 
 /// How the label stands to those in the chain of a bucket.
-fn standing_in<C: Cells>(
+fn availability_in<C: Cells>(
     cells: &mut C,
     chain: usize,
     own: &[u8],
     label: &[u8],
-) -> Result<Standing, Halt>
+) -> Result<Availability, Halt>
     requires { chain < (C.sight cells.old).setting.slots }
     ensures looks { Looks (C.sight cells.old) (C.sight cells.new) }
-    ensures ok { IfOk result (λ standing. TellsStandingIn (C.sight cells.new) chain own.now label.now standing) }
+    ensures ok { IfOk result (λ standing. TellsAvailabilityIn (C.sight cells.new) chain own.now label.now standing) }
     ensures halts { IfErr result (IsCaused (C.sight cells.new)) }
     ensures reads { ReadsWhere (IsAlong (C.sight cells.old).setting.slots chain) (C.sight cells.old) (C.sight cells.new) }
 {
@@ -81,45 +81,45 @@ fn standing_in<C: Cells>(
     let mut word = cells.read(bucket_cell(slots, chain))?;
     for _ in 0..slots {
         let Some(slot) = link(word, slots) else {
-            return Ok(Standing::Free);
+            return Ok(Availability::Free);
         };
-        let met = standing_at(cells, slot, own, label)?;
-        let Standing::Free = met else {
+        let met = availability_at(cells, slot, own, label)?;
+        let Availability::Free = met else {
             return Ok(met);
         };
         word = cells.read(next_cell(slots, slot))?;
     }
-    Ok(Standing::Free)
+    Ok(Availability::Free)
 }
 
 /// How the label stands to that of a slot.
-fn standing_at<C: Cells>(
+fn availability_at<C: Cells>(
     cells: &mut C,
     slot: usize,
     own: &[u8],
     label: &[u8],
-) -> Result<Standing, Halt>
+) -> Result<Availability, Halt>
     requires { slot < (C.sight cells.old).setting.slots }
     ensures looks { Looks (C.sight cells.old) (C.sight cells.new) }
-    ensures ok { IfOk result (λ standing. TellsStandingAt (C.sight cells.new) slot own.now label.now standing) }
+    ensures ok { IfOk result (λ standing. TellsAvailabilityAt (C.sight cells.new) slot own.now label.now standing) }
     ensures halts { IfErr result (IsCaused (C.sight cells.new)) }
     ensures reads { ReadsWithin (λ c. c ≡ name_cell slot) (C.sight cells.old) (C.sight cells.new) }
 {
     let word = cells.read(name_cell(slot))?;
     if word == 0 || label.is_empty() {
-        return Ok(Standing::Free);
+        return Ok(Availability::Free);
     }
     let range = range_of(cells, word);
     if has_words(cells, range, label) {
-        return Ok(Standing::Taken);
+        return Ok(Availability::Taken);
     }
     if !clashes(cells, range, label) {
-        return Ok(Standing::Free);
+        return Ok(Availability::Free);
     }
     if has_words(cells, range, own) {
-        return Ok(Standing::Free);
+        return Ok(Availability::Free);
     }
-    Ok(Standing::Clashing)
+    Ok(Availability::Clashing)
 }
 
 /// Whether the label clashes with the words of the range.

@@ -19,7 +19,7 @@ pub use counts::{count_in, count_out, only_in};
 pub use ending::{CommandError, RunError};
 pub use finding::{find, free_slot};
 pub use halt::Halt;
-pub use labels::{Standing, standing_of};
+pub use labels::{Availability, availability_of};
 pub use places::{
     bucket, bucket_cell, citers_cell, is_range_cell, link, name_cell, next_cell, proof_cell,
     rank_cell, slot_count, statement_cell,

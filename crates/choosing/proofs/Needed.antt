@@ -18,7 +18,7 @@ use Rattle.taking.specs.declared.named.Named.{Named}
 use Rattle.taking.specs.Names.{Map}
 use Rattle.taking.specs.Nodes.{counted}
 use Rattle.taking.specs.Nodes as nodes
-use Rattle.taking.specs.Reasons.{labels_of, needed, needed_by, needed_by_tree}
+use Rattle.taking.specs.Reasons.{labels_cited, needed, needed_by, needed_by_tree}
 use Rattle.taking.specs.Settings.{is_float}
 use Rattle.prooftrees.specs.declared.form.ProofTree.{ProofTree}
 use Rattle.prooftrees.specs.declared.form.ProofForm.{ProofForm}
@@ -62,13 +62,14 @@ module _ (m : Map) (earlier : List Assertion) (x : Assertion) (t : ProofTree) (k
   long_needs_nothing long =
       let e = number in
       let h : 16384 < size whole.tree = omega arith in
-      needs ∙ cond-true (nat_lt 16384 (size whole.tree)) [] (labels_of whole.tree) (grind (arith, nat_tests))
+      needs ∙ cond-true (nat_lt 16384 (size whole.tree)) [] (labels_cited whole.tree) (grind (arith, nat_tests))
 
   pub short_needs : k ≤ 16384 → (w : Word) → is_named (seen_words t.labels.items) t.proof.nodes w ≡ is_in (needed earlier x) w
   short_needs short w =
       let e = number in
       let h : size whole.tree ≤ 16384 = omega arith in
-      sym (ap (λ ws. is_in ws w) (needs ∙ cond-false (nat_lt 16384 (size whole.tree)) [] (labels_of whole.tree) (grind (arith, nat_tests)))
+      sym (ap (λ ws. is_in ws w)
+      (needs ∙ cond-false (nat_lt 16384 (size whole.tree)) [] (labels_cited whole.tree) (grind (arith, nat_tests)))
       ∙ whole.cites (bytes_eq w))
 
 -- ---- what nodes name is there

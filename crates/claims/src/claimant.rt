@@ -5,14 +5,14 @@ ghost use Rattle.claims.specs.Claims.{IsClaimantOf, Claims, Ends};
 
 use crate::numbers::Numbers;
 use crate::plays::Claim;
-use crate::rule::Place;
+use crate::rule::TableSeat;
 use std::marker::Model;
 
 /// One of those who claim numbers. Contracts see the table, the count, the numbers that it claimed, and whether it was told that there are
 /// no more.
 #[derive(Drop)]
 pub struct Claimant {
-    pub(crate) seat: Place,
+    pub(crate) seat: TableSeat,
     pub(crate) ended: bool,
 }
 

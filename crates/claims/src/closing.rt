@@ -7,7 +7,7 @@ ghost use Rattle.claims.specs.Rule.{gathered};
 use crate::claimant::Claimant;
 use crate::numbers::Numbers;
 use crate::plays::Gather;
-use crate::rule::Place;
+use crate::rule::TableSeat;
 
 impl Numbers {
     /// Takes the numbers back from all claimants: each was claimed once, and all were where a claimant was told so. Contracts alone see it.
@@ -28,7 +28,7 @@ impl Numbers {
 }
 
 /// Gives what all these claimants have to the one of this seat, the last of them first.
-fn gather_all(numbers: &Numbers, seat: &mut Place, claimants: &mut Vec<Claimant>)
+fn gather_all(numbers: &Numbers, seat: &mut TableSeat, claimants: &mut Vec<Claimant>)
     requires table { seat.old.table_id ≡ numbers.now.table }
     requires own { All (IsClaimantOf numbers.now) claimants.old.items }
     ensures same { (seat.new.table_id ≡ seat.old.table_id) × (seat.new.id ≡ seat.old.id) }

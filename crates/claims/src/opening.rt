@@ -7,7 +7,7 @@ ghost use Rattle.claims.specs.Rule.{dealer};
 use crate::claimant::Claimant;
 use crate::numbers::Numbers;
 use crate::plays::Deal;
-use crate::rule::{Place, Sizes};
+use crate::rule::{TableSeat, Sizes};
 use atomic_table::Table;
 use std::alloc::{AllocError, Global};
 
@@ -38,7 +38,7 @@ impl Numbers {
 fn deal_all(
     alloc: Global,
     numbers: &Numbers,
-    seat: &mut Place,
+    seat: &mut TableSeat,
     claimants: usize,
 ) -> Result<Vec<Claimant>, AllocError>
     requires table { seat.old.table_id ≡ numbers.now.table }

@@ -26,4 +26,4 @@ impl TableRule<(), View, Sizes> for Rule {
 pub(crate) type Board = Table<(), View, Sizes, Rule, Global>;
 
 /// A seat at the table.
-pub(crate) type Place = Seat<(), View>;
+pub(crate) type TableSeat = Seat<(), View>;

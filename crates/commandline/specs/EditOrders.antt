@@ -3,10 +3,10 @@ use Rattle.std.specs.Prelude.{◌≡◌, ℕ, Bool, true, false, List, ◌∷◌
 use Rattle.std.specs.Option.{option_map}
 use Rattle.std.specs.Str.{bytes_eq}
 use Rattle.clap.specs.Words.{Row, Text, all_of, first_of}
-use Rattle.commandline.specs.declared.edit_order.Place.{Place}
+use Rattle.commandline.specs.declared.edit_order.Destination.{Destination}
 use Rattle.commandline.specs.declared.edit_order.Outputs.{Outputs}
 use Rattle.commandline.specs.declared.edit_order.Allowed.{Allowed}
-use Rattle.commandline.specs.declared.edit_order.Place.TheVariants.{Printed, File, Source}
+use Rattle.commandline.specs.declared.edit_order.Destination.TheVariants.{Printed, File, Source}
 use Rattle.commandline.specs.Orders.{HasLimits, all_listed, rows_in}
 
 -- a flag is given: its text is `true`
@@ -26,7 +26,7 @@ AsksToEdit None path workers room = ⊥
 
 -- where the edited source goes, by the file of `--output` and the flag `--in-place`: it is printed where neither is given, and there is no
 -- place where both are
-abbrev pub IsPlaceGiven : Option Text → Bool → Option Place → Type 0
+abbrev pub IsPlaceGiven : Option Text → Bool → Option Destination → Type 0
 IsPlaceGiven output in_place (Some Printed) = (output ≡ None) × (in_place ≡ false)
 IsPlaceGiven output in_place (Some (File path)) = (output ≡ Some path.now) × (in_place ≡ false)
 IsPlaceGiven output in_place (Some Source) = (output ≡ None) × (in_place ≡ true)

@@ -10,7 +10,7 @@ use std::alloc::{AllocError, Global};
 
 /// Where an edited source goes.
 #[derive(Clone, Copy)]
-pub enum Place<'a> {
+pub enum Destination<'a> {
     /// To the standard output.
     Printed,
     /// Into the file at this path.
@@ -23,7 +23,7 @@ pub enum Place<'a> {
 #[derive(Clone, Copy)]
 pub struct Outputs<'a> {
     /// Where the edited source goes.
-    pub place: Place<'a>,
+    pub place: Destination<'a>,
     /// The path of the file that tells what became of each transaction, if it is asked for.
     pub replies: Option<&'a str>,
 }
@@ -63,14 +63,14 @@ fn flag_in(of: &ArgMatches<'_>, id: &str) -> bool
 }
 
 /// Where the edited source goes. None where two places are given.
-fn place_in<'a>(of: &ArgMatches<'a>) -> Option<Place<'a>>
+fn place_in<'a>(of: &ArgMatches<'a>) -> Option<Destination<'a>>
     ensures { IsPlaceGiven (first_of (codes "output") (rows_of (found_of of.now)))
         (is_flagged (first_of (codes "in-place") (rows_of (found_of of.now)))) result }
 {
     match (text_in(of, "output"), flag_in(of, "in-place")) {
-        (None, false) => Some(Place::Printed),
-        (Some(path), false) => Some(Place::File(path)),
-        (None, true) => Some(Place::Source),
+        (None, false) => Some(Destination::Printed),
+        (Some(path), false) => Some(Destination::File(path)),
+        (None, true) => Some(Destination::Source),
         (Some(_), true) => None,
     }
 }

@@ -9,7 +9,7 @@ mod take_order;
 mod verify_order;
 
 pub use arguments::command_line;
-pub use edit_order::{Allowed, EditOrder, Outputs, Place, edit_of};
+pub use edit_order::{Allowed, Destination, EditOrder, Outputs, edit_of};
 pub use give_order::{GiveOrder, give_of};
 pub use order::{Order, order_of};
 pub use take_order::{TakeOrder, take_of};

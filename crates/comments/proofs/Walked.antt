@@ -10,7 +10,7 @@ use Rattle.mmtext.specs.Words.{Word}
 use Rattle.mmtext.specs.Text.{Token, tokens}
 use Rattle.giving.specs.Staying.{Change}
 use Rattle.source.specs.Flags.{kept}
-use Rattle.comments.specs.declared.walking.Walk.{Walk}
+use Rattle.comments.specs.declared.walking.SourceWalk.{SourceWalk}
 use Rattle.comments.specs.Comments.{Comment, stands_between, comments_from, comments, reading_then}
 use Rattle.comments.specs.Deleted.{IsOfDeleted}
 use Rattle.comments.specs.Outside.{in_comment_behind, EndBy}
@@ -96,7 +96,7 @@ left_both fs gs xs ys many =
     ap (λ bs. kept bs (xs ++ ys)) (map-append not fs gs) ∙ kept-append (map not fs) (map not gs) xs ys (length-map fs not ∙ many)
 
 module _ (cs : List Change) (gone : List Word) (source : List ℕ) where
-  pub nothing_walked : (w : Walk) → w.stating ≡ false → w.until ≡ 0 → w.texts.items ≡ [] → IsWalked cs gone source (tokens source) 0 w
+  pub nothing_walked : (w : SourceWalk) → w.stating ≡ false → w.until ≡ 0 → w.texts.items ≡ [] → IsWalked cs gone source (tokens source) 0 w
   nothing_walked w stating until texts = record {
     front = [];
     all = refl;
@@ -110,7 +110,7 @@ module _ (cs : List Change) (gone : List Word) (source : List ℕ) where
     block = inl (omega arith);
   }
 
-  module _ (ys left : List Token) (t : Token) (at : ℕ) (le : at ≤ t.place + length t.text) (next : ys ≡ t ∷ left) (old new : Walk)
+  module _ (ys left : List Token) (t : Token) (at : ℕ) (le : at ≤ t.place + length t.text) (next : ys ≡ t ∷ left) (old new : SourceWalk)
       (h : IsWalked cs gone source ys at old) where
     -- a token outside of comments
     pub walked_outside : bytes_eq t.text (codes "$(") ≡ false → new.stating ≡ not (stands_between t.text)
@@ -195,7 +195,7 @@ module _ (cs : List Change) (gone : List Word) (source : List ℕ) where
           old.stating c block_then stays)
 
 -- where no comment is left
-pub texts_walked : (cs : List Change) (gone : List Word) (source : List ℕ) (left : List Token) (at : ℕ) (w : Walk)
+pub texts_walked : (cs : List Change) (gone : List Word) (source : List ℕ) (left : List Token) (at : ℕ) (w : SourceWalk)
     → IsWalked cs gone source left at w → comments_from w.stating None left ≡ [] → AreTexts cs gone source (seen_texts w.texts.items)
 texts_walked cs gone source left at w h none =
     let all : h.so_far ≡ comments source = sym (h.splits ∙ ap (λ ys. h.so_far ++ ys) none ∙ append-nil h.so_far) in record {

@@ -6,7 +6,7 @@ use Rattle.mmtext.specs.Words.{Word}
 use Rattle.mmtext.specs.Text.{Token, tokens}
 use Rattle.giving.specs.Staying.{Change}
 use Rattle.source.specs.Flags.{kept}
-use Rattle.comments.specs.declared.walking.Walk.{Walk}
+use Rattle.comments.specs.declared.walking.SourceWalk.{SourceWalk}
 use Rattle.comments.specs.Comments.{Comment, comments_from, comments, reading_then}
 use Rattle.comments.specs.Deleted.{IsInFront, IsOfDeleted}
 use Rattle.comments.specs.Outside.{tokens_at, in_comment_behind}
@@ -34,7 +34,7 @@ MayStay cs gone false words left end until old new =
     (new ≡ old ++ reading_then cs (comment_of words left) ∷ []) ⊎ ((new ≡ old) × ((end < until) ⊎ IsInFront gone (comment_of words left)))
 
 -- a comment was taken, up to its end
-pub record IsCommentTaken (cs : List Change) (gone : List Word) (source : List ℕ) (from : ℕ) (old new : Walk) (end : ℕ) : Type 0 where
+pub record IsCommentTaken (cs : List Change) (gone : List Word) (source : List ℕ) (from : ℕ) (old new : SourceWalk) (end : ℕ) : Type 0 where
   pub words : List Word
   pub closed : IsClosed old.stating words (tokens_at source from) (tokens_at source end) end
   pub stating : new.stating ≡ old.stating
@@ -47,7 +47,7 @@ pub record IsCommentTaken (cs : List Change) (gone : List Word) (source : List �
 -- ---- the walk
 
 -- before the tokens that are left, which stand in no comment, from a place on: of the comments so far those that stay were read
-pub record IsWalked (cs : List Change) (gone : List Word) (source : List ℕ) (left : List Token) (at : ℕ) (w : Walk) : Type 0 where
+pub record IsWalked (cs : List Change) (gone : List Word) (source : List ℕ) (left : List Token) (at : ℕ) (w : SourceWalk) : Type 0 where
   pub front : List Token
   pub all : tokens source ≡ front ++ left
   pub closed : in_comment_behind false front ≡ false

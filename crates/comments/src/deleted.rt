@@ -8,11 +8,11 @@ ghost use Rattle.comments.specs.Blocks.{IsBlockEnd};
 
 use crate::inside::{Inside, asserts, is_gone};
 use crate::outside::next_outside;
-use giving::Changes;
+use giving::LabelMap;
 use mmtext::next_token;
 
 /// Whether a comment that ends at a byte of the text stands right in front of the statement of an assertion that was deleted.
-pub(crate) fn is_in_front(text: &[u8], at: usize, gone: &Changes<'_>) -> bool
+pub(crate) fn is_in_front(text: &[u8], at: usize, gone: &LabelMap<'_>) -> bool
     requires { at ≤ length text.now }
     ensures { IsTrue result → (words : List (List ℕ)) → IsInFront (labels_in gone.now)
         (record { words = words; behind = tokens_at text.now at }) }
@@ -31,7 +31,7 @@ pub(crate) fn is_in_front(text: &[u8], at: usize, gone: &Changes<'_>) -> bool
 
 /// Where a block ends whose assertions were all deleted, from the byte behind its `${` on: the byte behind its `$}`. None where one of
 /// them wasn't deleted, none stands in it, or it isn't closed. It costs as much as there is up to the first that wasn't deleted.
-pub(crate) fn end_of_deleted(text: &[u8], from: usize, gone: &Changes<'_>) -> Option<usize>
+pub(crate) fn end_of_deleted(text: &[u8], from: usize, gone: &LabelMap<'_>) -> Option<usize>
     requires { from ≤ length text.now }
     ensures { IfSome result (IsBlockEnd (labels_in gone.now) (tokens_at text.now from)) }
 {

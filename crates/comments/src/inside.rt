@@ -5,7 +5,7 @@ ghost use Rattle.mmtext.specs.Text.{Token};
 ghost use Rattle.comments.specs.Deleted.{asserts, open_behind};
 ghost use Rattle.comments.specs.Insides.{labels_in, IsGoneLabel, IsReadInside, EndsInside, LeadsInside};
 
-use giving::Changes;
+use giving::LabelMap;
 
 /// Whether a word is `$a` or `$p`.
 pub(crate) fn asserts(word: &[u8]) -> bool
@@ -28,7 +28,7 @@ fn depth_behind(depth: usize, word: &[u8]) -> Option<usize>
 }
 
 /// Whether there is a word, and it is a label that is gone.
-pub(crate) fn is_gone(gone: &Changes<'_>, word: Option<&[u8]>) -> bool
+pub(crate) fn is_gone(gone: &LabelMap<'_>, word: Option<&[u8]>) -> bool
     ensures { IsTrue result → IsGoneLabel (labels_in gone.now) word.entry }
 {
     match word {
@@ -68,7 +68,7 @@ impl<'s> Inside<'s> {
     }
 
     /// One more word: whether each assertion so far was deleted.
-    pub(crate) fn take(&mut self, gone: &Changes<'_>, word: &'s [u8]) -> bool
+    pub(crate) fn take(&mut self, gone: &LabelMap<'_>, word: &'s [u8]) -> bool
         ensures { IsTrue result → LeadsInside (labels_in gone.now) self.old word.now self.new }
     {
         let is_mark = asserts(word);

@@ -5,7 +5,7 @@ ghost use Rattle.comments.specs.Kept.{AreKept, AreLost};
 ghost use Rattle.comments.specs.Walks.{seen_texts};
 
 use crate::walking::comment_texts;
-use giving::Changes;
+use giving::LabelMap;
 use std::alloc::{AllocError, Global};
 use std::hash::RandomState;
 
@@ -37,15 +37,15 @@ fn are_equal(ones: &[Vec<u8>], others: &[Vec<u8>]) -> bool
 pub fn are_kept(
     alloc: Global,
     keys: RandomState,
-    changes: &Changes<'_>,
-    gone: &Changes<'_>,
+    changes: &LabelMap<'_>,
+    gone: &LabelMap<'_>,
     source: &[u8],
     out: &[u8],
 ) -> Result<bool, AllocError>
     ensures kept { IfOk result (λ kept. IsTrue kept → AreKept changes.now (map (λ c. c.0) gone.now) source.now out.now) }
     ensures lost { IfOk result (λ kept. kept ≡ false → AreLost changes.now (map (λ c. c.0) gone.now) source.now out.now) }
 {
-    let nothing = Changes::new(alloc, keys, Vec::new(alloc))?;
+    let nothing = LabelMap::new(alloc, keys, Vec::new(alloc))?;
     let mut wanted = comment_texts(alloc, changes, gone, source)?;
     let mut there = comment_texts(alloc, &nothing, &nothing, out)?;
     wanted.sort_unstable();

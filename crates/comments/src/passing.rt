@@ -7,8 +7,8 @@ ghost use Rattle.comments.specs.Outside.{tokens_at};
 ghost use Rattle.comments.specs.Passing.{IsClosed};
 ghost use Rattle.comments.specs.Gathered.{IsGathered};
 
-use commentwords::Standing;
-use giving::Changes;
+use commentwords::CommentPlace;
+use giving::LabelMap;
 use mmtext::next_token;
 use std::alloc::{AllocError, Global};
 
@@ -42,8 +42,8 @@ pub(crate) struct Gathered {
 /// A word of a comment goes behind those that were read, as it reads with changed labels, with a space behind it.
 fn put_word(
     out: &mut Vec<u8>,
-    changes: &Changes<'_>,
-    standing: Standing,
+    changes: &LabelMap<'_>,
+    standing: CommentPlace,
     word: &[u8],
 ) -> Result<(), AllocError>
     ensures { OnOk result (out.new.items ≡ out.old.items ++ with_space (word_then changes.now standing word.now)) }
@@ -60,7 +60,7 @@ fn put_word(
 /// Want of memory.
 pub(crate) fn read_comment(
     alloc: Global,
-    changes: &Changes<'_>,
+    changes: &LabelMap<'_>,
     text: &[u8],
     from: usize,
 ) -> Result<Option<Gathered>, AllocError>
@@ -69,7 +69,7 @@ pub(crate) fn read_comment(
         (IsGathered changes.now text.now from)) }
 {
     let mut read = Vec::new(alloc);
-    let mut standing = Standing::at_first();
+    let mut standing = CommentPlace::at_first();
     let mut at = from;
     while let Some(token) = next_token(text, at) {
         at = token.place + token.text.len();

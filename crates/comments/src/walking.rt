@@ -10,7 +10,7 @@ ghost use Rattle.comments.specs.Walks.{MayEnd, IsCommentTaken, IsWalked, seen_te
 
 use crate::deleted::{end_of_deleted, is_in_front};
 use crate::passing::{Gathered, end_of_comment, read_comment};
-use giving::Changes;
+use giving::LabelMap;
 use mmtext::next_token;
 use std::alloc::{AllocError, Global};
 
@@ -22,7 +22,7 @@ fn stands_between(word: &[u8]) -> bool
 }
 
 /// Up to where a deleted block stands behind a word that ends at a byte of the source, where up to `until` one stood before it.
-fn until_behind(until: usize, gone: &Changes<'_>, source: &[u8], word: &[u8], end: usize) -> usize
+fn until_behind(until: usize, gone: &LabelMap<'_>, source: &[u8], word: &[u8], end: usize) -> usize
     requires { end ≤ length source.now }
     ensures { MayEnd (labels_in gone.now) word.now (tokens_at source.now end) until result }
 {
@@ -37,7 +37,7 @@ fn until_behind(until: usize, gone: &Changes<'_>, source: &[u8], word: &[u8], en
 
 /// How far a source was walked over, outside of comments.
 #[derive(Drop)]
-pub(crate) struct Walk {
+pub(crate) struct SourceWalk {
     /// Whether a statement is open.
     pub stating: bool,
     /// Up to this byte a block stands whose assertions were deleted; 0 where none was found so far.
@@ -46,12 +46,12 @@ pub(crate) struct Walk {
     pub texts: Vec<Vec<u8>>,
 }
 
-impl Walk {
+impl SourceWalk {
     /// Before any token.
-    fn new(alloc: Global) -> Walk
+    fn new(alloc: Global) -> SourceWalk
         ensures { (cs : List Change) (gone : List (List ℕ)) (source : List ℕ) → IsWalked cs gone source (tokens source) 0 result }
     {
-        Walk {
+        SourceWalk {
             stating: false,
             until: 0,
             texts: Vec::new(alloc),
@@ -62,8 +62,8 @@ impl Walk {
     fn take_comment(
         &mut self,
         alloc: Global,
-        changes: &Changes<'_>,
-        gone: &Changes<'_>,
+        changes: &LabelMap<'_>,
+        gone: &LabelMap<'_>,
         source: &[u8],
         from: usize,
     ) -> Result<Option<usize>, AllocError>
@@ -94,13 +94,13 @@ impl Walk {
 /// Want of memory.
 pub(crate) fn comment_texts(
     alloc: Global,
-    changes: &Changes<'_>,
-    gone: &Changes<'_>,
+    changes: &LabelMap<'_>,
+    gone: &LabelMap<'_>,
     source: &[u8],
 ) -> Result<Vec<Vec<u8>>, AllocError>
     ensures { IfOk result (λ texts. AreTexts changes.now (labels_in gone.now) source.now (seen_texts texts.items)) }
 {
-    let mut walk = Walk::new(alloc);
+    let mut walk = SourceWalk::new(alloc);
     let mut at = 0;
     while let Some(token) = next_token(source, at) {
         let end = token.place + token.text.len();

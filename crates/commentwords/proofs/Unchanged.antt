@@ -4,8 +4,8 @@ use Rattle.std.specs.Prelude.{◌==◌, position}
 use Rattle.std.specs.Option.{option_map}
 use Rattle.std.proofs.lemmas.List.{take-append-drop}
 use Rattle.mmtext.specs.Words.{Word}
-use Rattle.commentwords.specs.declared.standing.Standing.{Standing}
-use Rattle.commentwords.specs.declared.standing.Standing.TheVariants.{AtFirst, Described, Typeset, MarkedUp}
+use Rattle.commentwords.specs.declared.comment_place.CommentPlace.{CommentPlace}
+use Rattle.commentwords.specs.declared.comment_place.CommentPlace.TheVariants.{AtFirst, Described, Typeset, MarkedUp}
 use Rattle.commentwords.specs.Words.{is_quote, label_up_to, unquoted, behind_word, relabelled, word_then, words_then}
 use Rattle.commentwords.proofs.Unquoted.{parts_at}
 
@@ -21,7 +21,7 @@ unquoted_same : (w : Word) → relabelled [] w (unquoted w) ≡ w
 unquoted_same [] = refl
 unquoted_same (b ∷ bs) = marked_same b bs (is_quote b)
 
-word_same : (s : Standing) (w : Word) → word_then [] s w ≡ w
+word_same : (s : CommentPlace) (w : Word) → word_then [] s w ≡ w
 word_same AtFirst w = refl
 word_same (Described among_symbols true) w = append-nil w
 word_same (Described among_symbols false) w = refl
@@ -29,7 +29,7 @@ word_same (Typeset true) w = unquoted_same w
 word_same (Typeset false) w = refl
 word_same MarkedUp w = unquoted_same w
 
-pub words_same : (s : Standing) (ws : List Word) → words_then [] s ws ≡ ws
+pub words_same : (s : CommentPlace) (ws : List Word) → words_then [] s ws ≡ ws
 words_same s [] = refl
 words_same s (w ∷ ws) =
     ap (λ v. v ∷ words_then [] (behind_word s w) ws) (word_same s w) ∙ ap (λ vs. w ∷ vs) (words_same (behind_word s w) ws)

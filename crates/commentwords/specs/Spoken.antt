@@ -4,7 +4,7 @@ use Rattle.std.specs.Str.{bytes_eq}
 use Rattle.mmtext.specs.Words.{Word}
 use Rattle.mmtext.specs.Text.{Token, tokens}
 use Rattle.source.specs.Scopes.{is_in}
-use Rattle.commentwords.specs.declared.standing.Standing.{Standing}
+use Rattle.commentwords.specs.declared.comment_place.CommentPlace.{CommentPlace}
 use Rattle.commentwords.specs.Words.{Parts, at_first, behind_word, parted}
 
 -- the label of a word that begins at a place of a text, as a token of its own
@@ -13,7 +13,7 @@ label_from place None = []
 label_from place (Some p) = record { place = place + length p.front; text = p.label } ∷ []
 
 -- those of tokens, before which no comment is open, or one whose words stand so: $( opens one, and $) closes it (section 4.1.2)
-abbrev pub labels_from : Option Standing → List Token → List Token
+abbrev pub labels_from : Option CommentPlace → List Token → List Token
 labels_from comment [] = []
 labels_from None (t ∷ ts) = if bytes_eq t.text (codes "$(") then labels_from (Some at_first) ts else labels_from None ts
 labels_from (Some s) (t ∷ ts) =

@@ -3,7 +3,7 @@ use Rattle.std.specs.Prelude.{◌≡◌, ℕ, List, [], ◌∷◌, ◌++◌, dro
 use Rattle.mmtext.specs.Text.{Token, tokens_from}
 use Rattle.mmtext.specs.declared.token.Token.{Token as CodeToken}
 use Rattle.mmtext.specs.Views.{seen}
-use Rattle.commentwords.specs.declared.standing.Standing.{Standing}
+use Rattle.commentwords.specs.declared.comment_place.CommentPlace.{CommentPlace}
 use Rattle.commentwords.specs.declared.parted.Parted.{Parted}
 use Rattle.commentwords.specs.declared.reading.Reading.{Reading}
 use Rattle.commentwords.specs.Words.{Parts}
@@ -30,5 +30,5 @@ seen_if None = []
 seen_if (Some t) = seen t ∷ []
 
 -- one token more speaks of this label, if of one, and leads there
-abbrev pub TakesToken : Option Standing → Token → Option CodeToken → Option Standing → Type 0
+abbrev pub TakesToken : Option CommentPlace → Token → Option CodeToken → Option CommentPlace → Type 0
 TakesToken old t label new = (ts : List Token) → labels_from old (t ∷ ts) ≡ seen_if label ++ labels_from new ts

@@ -5,9 +5,9 @@ pub mod laws;
 mod parted;
 mod reading;
 mod spoken;
-mod standing;
+mod comment_place;
 
 pub use parted::{Parted, changed};
 pub use reading::Reading;
 pub use spoken::spoken_of;
-pub use standing::Standing;
+pub use comment_place::CommentPlace;

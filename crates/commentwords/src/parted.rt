@@ -6,7 +6,7 @@ ghost use Rattle.giving.specs.Staying.{changed};
 ghost use Rattle.commentwords.specs.Words.{is_quote, unquoted};
 ghost use Rattle.commentwords.specs.Views.{seen_parts, whole};
 
-use giving::Changes;
+use giving::LabelMap;
 
 /// A word that speaks of a label: its three parts make the word, one behind the other.
 #[derive(Clone, Copy)]
@@ -20,7 +20,7 @@ pub struct Parted<'w> {
 }
 
 /// A label as it reads with changed labels.
-pub fn changed<'w>(changes: &'w Changes<'_>, label: &'w [u8]) -> &'w [u8]
+pub fn changed<'w>(changes: &'w LabelMap<'_>, label: &'w [u8]) -> &'w [u8]
     ensures { result.now ≡ changed changes.now label.now }
 {
     match changes.text_for(label) {

@@ -7,13 +7,13 @@ ghost use Rattle.commentwords.specs.Spoken.{label_from, spoken_in};
 ghost use Rattle.commentwords.specs.Words.{parted};
 ghost use Rattle.commentwords.specs.Views.{seen_if, TakesToken};
 
-use crate::standing::Standing;
-use giving::Changes;
+use crate::comment_place::CommentPlace;
+use giving::LabelMap;
 use mmtext::{Token, next_token};
 use std::alloc::{AllocError, Global};
 
 /// The label of which a token of a comment speaks.
-fn label_of<'a>(standing: Standing, token: Token<'a>) -> Option<Token<'a>>
+fn label_of<'a>(standing: CommentPlace, token: Token<'a>) -> Option<Token<'a>>
     requires { token.place + length token.text.now ≤ usize.MAX }
     ensures { seen_if result ≡ label_from token.entry.place (parted standing token.entry.text.now) }
 {
@@ -25,12 +25,12 @@ fn label_of<'a>(standing: Standing, token: Token<'a>) -> Option<Token<'a>>
 }
 
 /// The label of which a token speaks, if it does, and where the words stand behind it, if a comment is open there.
-fn take<'a>(comment: Option<Standing>, token: Token<'a>) -> (Option<Token<'a>>, Option<Standing>)
+fn take<'a>(comment: Option<CommentPlace>, token: Token<'a>) -> (Option<Token<'a>>, Option<CommentPlace>)
     requires { token.place + length token.text.now ≤ usize.MAX }
     ensures { TakesToken comment (seen token.entry) result.0 result.1 }
 {
     match comment {
-        None if token.text == b"$(".as_slice() => (None, Some(Standing::at_first())),
+        None if token.text == b"$(".as_slice() => (None, Some(CommentPlace::at_first())),
         None => (None, None),
         Some(_) if token.text == b"$)".as_slice() => (None, None),
         Some(standing) => (label_of(standing, token), Some(standing.behind(token.text))),
@@ -38,7 +38,7 @@ fn take<'a>(comment: Option<Standing>, token: Token<'a>) -> (Option<Token<'a>>, 
 }
 
 /// Whether a label is one of these.
-fn is_one_of(labels: &Changes<'_>, label: &[u8]) -> bool
+fn is_one_of(labels: &LabelMap<'_>, label: &[u8]) -> bool
     ensures { result ≡ is_in (map (λ c. c.0) labels.now) label.now }
 {
     labels.text_for(label).is_some()
@@ -47,7 +47,7 @@ fn is_one_of(labels: &Changes<'_>, label: &[u8]) -> bool
 /// A label goes behind those that were found, if it is one of these.
 fn put_label<'a>(
     found: &mut Vec<Token<'a>>,
-    labels: &Changes<'_>,
+    labels: &LabelMap<'_>,
     label: Option<Token<'a>>,
 ) -> Result<(), AllocError>
     ensures { OnOk result (map seen found.new.items ≡ map seen found.old.items
@@ -70,7 +70,7 @@ fn put_label<'a>(
 /// Want of memory.
 pub fn spoken_of<'a>(
     alloc: Global,
-    labels: &Changes<'_>,
+    labels: &LabelMap<'_>,
     text: &'a [u8],
 ) -> Result<Vec<Token<'a>>, AllocError>
     ensures { IfOk result (λ found. map seen found.items ≡ spoken_in (map (λ c. c.0) labels.now) text.now) }

@@ -5,7 +5,7 @@ ghost use Rattle.items.specs.Divided.{IsDivided};
 ghost use Rattle.describing.specs.Described.{IsDescribed};
 
 use crate::putting::put_item;
-use giving::Changes;
+use giving::LabelMap;
 use items::read_item;
 use std::alloc::{AllocError, Global};
 
@@ -20,7 +20,7 @@ use std::alloc::{AllocError, Global};
 /// Want of memory.
 pub fn describe(
     alloc: Global,
-    descriptions: &Changes<'_>,
+    descriptions: &LabelMap<'_>,
     text: &[u8],
 ) -> Result<Vec<u8>, AllocError>
     requires { IsDivided text.now }

@@ -7,7 +7,7 @@ ghost use Rattle.items.specs.Reading.{IsItemAt, IsOfKind};
 ghost use Rattle.items.specs.Rewriting.{text_for};
 ghost use Rattle.describing.specs.Described.{described, line_begin, with_comment};
 
-use giving::Changes;
+use giving::LabelMap;
 use items::{Item, Kind};
 use mmtext::next_token;
 use std::alloc::AllocError;
@@ -23,7 +23,7 @@ fn line_begin(space: &[u8]) -> &[u8]
 }
 
 /// The comment for an item, if there is one: by its label, which only an assertion has.
-fn comment_for<'c>(descriptions: &Changes<'c>, item: Item<'_>) -> Option<&'c [u8]>
+fn comment_for<'c>(descriptions: &LabelMap<'c>, item: Item<'_>) -> Option<&'c [u8]>
     ensures { (x : Pieces) → IsOfKind item.entry.kind x
         → option_map (λ c. c.now) result ≡ option_map (λ c. c.1) (text_for descriptions.now (label_of x)) }
 {
@@ -60,7 +60,7 @@ fn put_with(
 /// Puts an item that begins behind a byte of a text: with a comment, if there is one for the label of its assertion.
 pub(crate) fn put_item(
     out: &mut Vec<u8>,
-    descriptions: &Changes<'_>,
+    descriptions: &LabelMap<'_>,
     text: &[u8],
     from: usize,
     item: Item<'_>,

@@ -28,7 +28,7 @@ use describing::describe;
 use editscripts::Unedited;
 use following::Follow;
 use givetext::{Draft, Replayed, draft_edits, look_at_draft, read_draft};
-use giving::Changes;
+use giving::LabelMap;
 use intake::Taken;
 use scopes::Scopes;
 use source::Declared;
@@ -168,12 +168,12 @@ fn describe_added(
     ensures { IfOk result (λ made. IsDescribedBy (descriptions_then (seen_pairs descriptions.now) (seen_following following.now))
         text.now (unwrap_or (option_map (λ out. out.items) made) text.now)) }
 {
-    let given = Changes::new(alloc, keys, Vec::from_slice(alloc, descriptions)?)?;
+    let given = LabelMap::new(alloc, keys, Vec::from_slice(alloc, descriptions)?)?;
     let pairs = descriptions_then(alloc, &given, following)?;
     if pairs.is_empty() {
         return Ok(None);
     }
-    let placed = Changes::new(alloc, keys, pairs)?;
+    let placed = LabelMap::new(alloc, keys, pairs)?;
     Ok(Some(describe(alloc, &placed, text)?))
 }
 

@@ -5,13 +5,13 @@ ghost use Rattle.source.specs.Views.{seen_pairs};
 ghost use Rattle.sourceediting.specs.Views.{seen_followed, seen_following};
 ghost use Rattle.editedsource.specs.Described.{description_then, descriptions_then};
 
-use giving::Changes;
+use giving::LabelMap;
 use sourceediting::{Followed, Following};
 use std::alloc::{AllocError, Global};
 
 /// The description of an assertion that was added, and its label in the end.
 fn description_then<'x>(
-    descriptions: &Changes<'x>,
+    descriptions: &LabelMap<'x>,
     followed: &Followed<'x>,
 ) -> Option<(&'x [u8], &'x [u8])>
     ensures { option_map (λ d. (d.0.now, d.1.now)) result ≡ description_then descriptions.now (seen_followed followed.entry.now) }
@@ -26,7 +26,7 @@ fn description_then<'x>(
 /// The descriptions of what was added, under the labels in the end.
 pub(crate) fn descriptions_then<'x>(
     alloc: Global,
-    descriptions: &Changes<'x>,
+    descriptions: &LabelMap<'x>,
     following: &Following<'x>,
 ) -> Result<Vec<(&'x [u8], &'x [u8])>, AllocError>
     ensures { IfOk result (λ made. seen_pairs made.items ≡ descriptions_then descriptions.now (seen_following following.now)) }

@@ -13,7 +13,7 @@ ghost use Rattle.editedsource.specs.Gone.{lost, spoken_line};
 
 use commentwords::spoken_of;
 use expanding::lines_of;
-use giving::Changes;
+use giving::LabelMap;
 use mmtext::Token;
 use replylines::shown;
 use sourceediting::{Following, marked};
@@ -21,7 +21,7 @@ use std::alloc::{AllocError, Global};
 use std::hash::RandomState;
 
 /// Whether a label is none of these.
-fn is_lost(living: &Changes<'_>, label: &[u8]) -> bool
+fn is_lost(living: &LabelMap<'_>, label: &[u8]) -> bool
     ensures { result ≡ not (is_in (map (λ c. c.0) living.now) label.now) }
 {
     living.text_for(label).is_none()

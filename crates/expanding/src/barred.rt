@@ -16,9 +16,9 @@ ghost use Rattle.expanding.specs.Views.{seen_scripts};
 use crate::asking::asked_of;
 use crate::bars::{Bar, Said, bars_of, bars_there, said_of};
 use crate::commands::{Command, commands_of};
-use crate::labels::{holds, labels_of};
+use crate::labels::{holds, label_set};
 use crate::spreading::labels_in;
-use giving::Changes;
+use giving::LabelMap;
 use mmtext::Token;
 use source::Declared;
 use std::alloc::{AllocError, Global};
@@ -47,7 +47,7 @@ fn labels_in_bars<'a>(alloc: Global, bars: &[Bar<'a>]) -> Result<Vec<&'a [u8]>, 
 }
 
 /// Whether one of some labels is one of others: a look-up for each.
-fn names_one(labels: &Changes<'_>, cited: &[&[u8]]) -> bool
+fn names_one(labels: &LabelMap<'_>, cited: &[&[u8]]) -> bool
     ensures { result ≡ list_any (λ w. holds labels.now w.now) cited.now }
 {
     cited.iter().any(|label| holds(labels, label))
@@ -60,7 +60,7 @@ struct Watch<'w, 'a> {
     said: Said<'a>,
     bars: Vec<Bar<'a>>,
     /// The labels that these name.
-    labels: Changes<'a>,
+    labels: LabelMap<'a>,
 }
 
 /// The commands that a theorem may forbid, by all commands and the labels of those whose proofs or places these ask for.
@@ -76,7 +76,7 @@ fn watch_of<'w, 'a, D: Declared<'a>>(
     let said = said_of(alloc, keys, asked, commands.as_slice())?;
     let bars = bars_of(alloc, declared, &said, commands.as_slice())?;
     let named = labels_in_bars(alloc, bars.as_slice())?;
-    let labels = labels_of(alloc, keys, named.as_slice())?;
+    let labels = label_set(alloc, keys, named.as_slice())?;
     Ok(Watch {
         commands,
         said,

@@ -10,9 +10,9 @@ ghost use Rattle.expanding.specs.Barred.{delete_of, move_of, moves};
 ghost use Rattle.expanding.specs.Bars.{seen_command, seen_bar, bar_of_delete, bar_of_move, bar_of, bars_of, is_moved_once, reaches, bars_there, is_lost, IsSaid};
 
 use crate::commands::{Command, words_of};
-use crate::labels::{holds, labels_of};
+use crate::labels::{holds, label_set};
 use crate::spreading::cites;
-use giving::Changes;
+use giving::LabelMap;
 use mmtext::Token;
 use source::Declared;
 use std::alloc::{AllocError, Global};
@@ -33,11 +33,11 @@ pub(crate) struct Bar<'a> {
 #[derive(Drop)]
 pub(crate) struct Said<'a> {
     /// Whose proofs or places they ask for.
-    pub asked: Changes<'a>,
+    pub asked: LabelMap<'a>,
     /// The words of their commands `rename`.
-    renamed: Changes<'a>,
+    renamed: LabelMap<'a>,
     /// And of their commands `delete`.
-    deleted: Changes<'a>,
+    deleted: LabelMap<'a>,
 }
 
 /// What scripts say of labels, of which these are those whose proofs or places they ask for.
@@ -52,9 +52,9 @@ pub(crate) fn said_of<'a>(
     let renames = words_of(alloc, b"rename", commands)?;
     let deletes = words_of(alloc, b"delete", commands)?;
     Ok(Said {
-        asked: labels_of(alloc, keys, asked)?,
-        renamed: labels_of(alloc, keys, renames.as_slice())?,
-        deleted: labels_of(alloc, keys, deletes.as_slice())?,
+        asked: label_set(alloc, keys, asked)?,
+        renamed: label_set(alloc, keys, renames.as_slice())?,
+        deleted: label_set(alloc, keys, deletes.as_slice())?,
     })
 }
 

@@ -13,9 +13,9 @@ ghost use Rattle.expanding.specs.Views.{seen_scripts, seen_discouraged, seen_fou
 use crate::commands::{Command, commands_of};
 use crate::cuts::brought;
 use crate::forms::{begins_with, behind};
-use crate::labels::{holds, labels_of};
+use crate::labels::{holds, label_set};
 use crate::spreading::cites;
-use giving::Changes;
+use giving::LabelMap;
 use mmtext::Token;
 use source::Declared;
 use std::alloc::{AllocError, Global};
@@ -33,8 +33,8 @@ pub enum Discouraged<'a> {
 /// The labels of assertions of which comments of the source discourage something, to be looked up.
 #[derive(Drop)]
 struct Remarks<'a> {
-    modification: Changes<'a>,
-    usage: Changes<'a>,
+    modification: LabelMap<'a>,
+    usage: LabelMap<'a>,
 }
 
 /// The label of the theorem that a command gives another proof.
@@ -174,8 +174,8 @@ pub fn discouraged_of<'a, 'd, D: Declared<'d>>(
 {
     let commands = commands_of(alloc, scripts)?;
     let remarks = Remarks {
-        modification: labels_of(alloc, keys, modification)?,
-        usage: labels_of(alloc, keys, usage)?,
+        modification: label_set(alloc, keys, modification)?,
+        usage: label_set(alloc, keys, usage)?,
     };
     Ok(remarks.first_discouraged(declared, commands.as_slice()))
 }

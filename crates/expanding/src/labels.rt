@@ -6,7 +6,7 @@ ghost use Rattle.source.specs.Scopes.{is_in};
 ghost use Rattle.source.specs.Views.{seen_words, seen_pairs};
 ghost use Rattle.expanding.specs.Bars.{holds};
 
-use giving::Changes;
+use giving::LabelMap;
 use std::alloc::{AllocError, Global};
 use std::hash::RandomState;
 
@@ -22,18 +22,18 @@ fn pairs_of<'a>(alloc: Global, labels: &[&'a [u8]]) -> Result<Vec<(&'a [u8], &'a
 }
 
 /// Labels, to be looked up.
-pub(crate) fn labels_of<'a>(
+pub(crate) fn label_set<'a>(
     alloc: Global,
     keys: RandomState,
     labels: &[&'a [u8]],
-) -> Result<Changes<'a>, AllocError>
+) -> Result<LabelMap<'a>, AllocError>
     ensures { IfOk result (λ made. (w : Word) → holds made w ≡ is_in (seen_words labels.now) w) }
 {
-    Changes::new(alloc, keys, pairs_of(alloc, labels)?)
+    LabelMap::new(alloc, keys, pairs_of(alloc, labels)?)
 }
 
 /// Whether a word is one of some labels: one look-up.
-pub(crate) fn holds(labels: &Changes<'_>, word: &[u8]) -> bool
+pub(crate) fn holds(labels: &LabelMap<'_>, word: &[u8]) -> bool
     ensures { result ≡ holds labels.now word.now }
 {
     labels.text_for(word).is_some()

@@ -20,7 +20,7 @@ use Rattle.taking.specs.Says.{both}
 use Rattle.taking.specs.Settings.{is_float}
 use Rattle.taking.specs.Lengths.{how_many, TakesEnough, TakeEnough}
 use Rattle.taking.specs.Listings.{joined, own_step, step_in, premise_labels, listing, listings}
-use Rattle.taking.specs.Reasons.{Choice, is_left_out, labels_of, labels_of_each}
+use Rattle.taking.specs.Reasons.{Choice, is_left_out, labels_cited, labels_cited_by_each}
 use Rattle.taking.proofs.Values.{mapped}
 use Rattle.gathering.specs.Outcomes.{HasStepsFor}
 
@@ -127,7 +127,7 @@ module _ (m : Map) (choice : Choice) (s : Scope) (x : Assertion) (n : ℕ) (know
 
   mutual
     pub listing_there : (t : Tree) → TakesEnough (take n s.assertions) x.active t
-        → list_any (is_left_out (take n s.assertions) choice.chosen) (labels_of t) ≡ false
+        → list_any (is_left_out (take n s.assertions) choice.chosen) (labels_cited t) ≡ false
         → is_some (listing m (take n s.assertions) x.active t) ≡ true
     listing_there (node w trees) enough cites =
         let parts = or_parts (is_left_out (take n s.assertions) choice.chosen w) _ cites in
@@ -136,11 +136,11 @@ module _ (m : Map) (choice : Choice) (s : Scope) (x : Assertion) (n : ℕ) (know
         (step_in m x.active w) takes.0 takes.1 (listings_there trees enough.1 parts.1) (has_step w takes.0 takes.1 parts.0)
 
     listings_there : (ts : Trees) → TakeEnough (take n s.assertions) x.active ts
-        → list_any (is_left_out (take n s.assertions) choice.chosen) (labels_of_each ts) ≡ false
+        → list_any (is_left_out (take n s.assertions) choice.chosen) (labels_cited_by_each ts) ≡ false
         → is_some (listings m (take n s.assertions) x.active ts) ≡ true
     listings_there none enough cites = refl
     listings_there (some t ts) enough cites =
-        let parts = or_parts _ _ (sym (list_any-append (is_left_out (take n s.assertions) choice.chosen) (labels_of t)
-        (labels_of_each ts)) ∙ cites) in
+        let parts = or_parts _ _ (sym (list_any-append (is_left_out (take n s.assertions) choice.chosen) (labels_cited t)
+        (labels_cited_by_each ts)) ∙ cites) in
         both_there (listing m (take n s.assertions) x.active t) (listings m (take n s.assertions) x.active ts)
         (listing_there t enough.0 parts.0) (listings_there ts enough.1 parts.1)

@@ -14,7 +14,7 @@ ghost use Rattle.givetext.specs.Parts.{IsLoss};
 use crate::refusal::Refusal;
 use crate::standing::first_behind;
 use comments::are_kept;
-use giving::Changes;
+use giving::LabelMap;
 use mmsyntax::Label;
 use mmtext::{FaultKind, TextFault};
 use secondlook::Unlike;
@@ -65,7 +65,7 @@ pub(crate) fn unread<'a, D: Declared<'a>>(
     keys: RandomState,
     declared: &D,
     out: &[u8],
-    changes: &Changes<'_>,
+    changes: &LabelMap<'_>,
     own: &[bool],
     fault: TextFault,
 ) -> Result<Refusal, AllocError>
@@ -113,7 +113,7 @@ pub(crate) fn unprinted<'a, D: Declared<'a>>(
 pub(crate) fn keep_comments(
     alloc: Global,
     keys: RandomState,
-    changes: &Changes<'_>,
+    changes: &LabelMap<'_>,
     gone: &[&[u8]],
     source: &[u8],
     out: &[u8],

@@ -18,7 +18,7 @@ ghost use Rattle.givetext.specs.Parts.{IsStopped, TakesName};
 ghost use Rattle.givetext.specs.declared.refusal.Refusal.TheVariants.{NoMemory};
 
 use crate::refusal::Refusal;
-use giving::Changes;
+use giving::LabelMap;
 use intake::Taken;
 use library::{Entry, History, PlainLibrary};
 use mmsyntax::Label;
@@ -49,7 +49,7 @@ fn is_called(followed: &Followed<'_>, label: &[u8]) -> bool
 }
 
 /// Whether a label isn't one of some.
-fn is_absent(labels: &Changes<'_>, label: &[u8]) -> bool
+fn is_absent(labels: &LabelMap<'_>, label: &[u8]) -> bool
     ensures { IsTrue result → is_in (map (λ c. c.0) labels.now) label.now ≡ false }
 {
     labels.text_for(label).is_none()
@@ -59,8 +59,8 @@ fn is_absent(labels: &Changes<'_>, label: &[u8]) -> bool
 fn takes_name<'a, D: Declared<'a>>(
     declared: &D,
     followed: &Followed<'_>,
-    changes: &Changes<'_>,
-    gone: &Changes<'_>,
+    changes: &LabelMap<'_>,
+    gone: &LabelMap<'_>,
 ) -> bool
     ensures { IsTrue result → TakesName (D.scope declared.now) (seen_followed followed.entry.now) changes.now gone.now }
 {
@@ -77,7 +77,7 @@ fn are_free<'a, D: Declared<'a>>(
     keys: RandomState,
     declared: &D,
     following: &Following<'_>,
-    changes: &Changes<'_>,
+    changes: &LabelMap<'_>,
 ) -> Result<(), Refusal>
     ensures { (taken : Taken) (entries : List Entry) (edited : Listed) (own : List Bool) (source : List ℕ) → IfErr result (IsJustified
         (known_of (D.scope declared.now) taken entries edited (seen_following following.now) changes.now own) source) }
@@ -119,7 +119,7 @@ fn write_anew(
     taken: &Taken<'_>,
     replayed: &Replayed,
     following: &Following<'_>,
-    changes: &Changes<'_>,
+    changes: &LabelMap<'_>,
     own: &[bool],
 ) -> Result<Vec<u8>, Refusal>
     requires { DeclaresText source.now old.now.stand.scope }
@@ -154,7 +154,7 @@ pub struct Draft<'x> {
     /// What becomes of the assertions of the library.
     pub following: Following<'x>,
     /// The labels of the source that change, with their new ones.
-    pub changes: Changes<'x>,
+    pub changes: LabelMap<'x>,
     /// Of each assertion of the source: whether it is the library's, with its proof.
     pub own: Vec<bool>,
 }
@@ -184,7 +184,7 @@ pub fn draft_edits<'x, 'a: 'x>(
     ensures own { IfOk result (λ draft. length draft.own.items ≡ length old.now.stand.scope.assertions) }
 {
     let following = follow_edits(alloc, old, taken, replayed.entries.as_slice())?;
-    let changes = Changes::new(alloc, keys, following.changes(alloc)?)?;
+    let changes = LabelMap::new(alloc, keys, following.changes(alloc)?)?;
     are_free(alloc, keys, old, &following, &changes)?;
     let own = own_of(alloc, keys, old, taken)?;
     are_uncited(alloc, keys, old, own.as_slice(), following.gone.as_slice())?;

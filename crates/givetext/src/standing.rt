@@ -7,16 +7,16 @@ ghost use Rattle.source.specs.Scopes.{Assertion};
 ghost use Rattle.givetext.specs.Causes.{Cites, StandInOrder};
 ghost use Rattle.givetext.specs.Parts.{AreInOrder, AreNumbers, NamesLater};
 
-use giving::Changes;
+use giving::LabelMap;
 use items::{Item, Kind, read_items};
 use source::Declared;
-use sourceediting::labels_of;
+use sourceediting::proof_labels;
 use std::alloc::{AllocError, Global};
 use std::collections::HashMap;
 use std::hash::RandomState;
 
 /// The label that an assertion of the source has then.
-fn label_then<'c>(changes: &'c Changes<'_>, label: &'c [u8]) -> &'c [u8]
+fn label_then<'c>(changes: &'c LabelMap<'_>, label: &'c [u8]) -> &'c [u8]
     ensures { result.now ≡ changed changes.now label.now }
 {
     match changes.text_for(label) {
@@ -39,7 +39,7 @@ fn are_in_order(places: &HashMap<&[u8], usize, RandomState>, first: &[u8], secon
 /// the edits.
 fn first_behind_at<'a, D: Declared<'a>>(
     declared: &D,
-    changes: &Changes<'_>,
+    changes: &LabelMap<'_>,
     places: &HashMap<&[u8], usize, RandomState>,
     place: usize,
 ) -> Option<&'a [u8]>
@@ -47,7 +47,7 @@ fn first_behind_at<'a, D: Declared<'a>>(
         → slice_get (D.scope declared.now).assertions place ≡ Some x → IfSome result (λ w. NamesLater changes.now fs w.now x) }
 {
     let citing = label_then(changes, declared.label(place)?);
-    for label in labels_of(declared.proof(place)?) {
+    for label in proof_labels(declared.proof(place)?) {
         if are_in_order(places, citing, label_then(changes, label)) {
             return Some(*label);
         }
@@ -78,7 +78,7 @@ pub(crate) fn first_behind<'c, 'a: 'c, D: Declared<'a>>(
     alloc: Global,
     keys: RandomState,
     declared: &D,
-    changes: &'c Changes<'_>,
+    changes: &'c LabelMap<'_>,
     own: &[bool],
     out: &[u8],
 ) -> Result<Option<(&'c [u8], &'c [u8])>, AllocError>

@@ -5,7 +5,7 @@ ghost use Rattle.std.specs.Option.{option_map};
 ghost use Rattle.source.specs.Views.{seen_words, seen_proof, seen_hypothesis, seen_hypotheses, seen_pairs};
 ghost use Rattle.giving.specs.Staying.{changed, proof_changed};
 
-use crate::changes::Changes;
+use crate::label_map::LabelMap;
 use source::{HypothesisWords, ProofWords};
 
 /// Whether a word is another.
@@ -31,7 +31,7 @@ pub(crate) fn are_words(one: &[&[u8]], other: &[&[u8]]) -> bool
 }
 
 /// Whether labels read so once they are changed.
-fn are_changed(changes: &Changes<'_>, old: &[&[u8]], new: &[&[u8]]) -> bool
+fn are_changed(changes: &LabelMap<'_>, old: &[&[u8]], new: &[&[u8]]) -> bool
     ensures { IsTrue result ↔ (map (changed changes.now) (seen_words old.now) ≡ seen_words new.now) }
 {
     if old.len() != new.len() {
@@ -46,7 +46,7 @@ fn are_changed(changes: &Changes<'_>, old: &[&[u8]], new: &[&[u8]]) -> bool
 }
 
 /// Whether proofs are the same but for changed labels.
-fn is_proof(changes: &Changes<'_>, old: &ProofWords<'_>, new: &ProofWords<'_>) -> bool
+fn is_proof(changes: &LabelMap<'_>, old: &ProofWords<'_>, new: &ProofWords<'_>) -> bool
     ensures { IsTrue result ↔ (proof_changed changes.now (seen_proof old.now) ≡ seen_proof new.now) }
 {
     match (old, new) {
@@ -65,7 +65,7 @@ fn is_proof(changes: &Changes<'_>, old: &ProofWords<'_>, new: &ProofWords<'_>) -
 
 /// Whether there are proofs that are the same but for changed labels, or none.
 pub(crate) fn has_proof(
-    changes: &Changes<'_>,
+    changes: &LabelMap<'_>,
     old: Option<&ProofWords<'_>>,
     new: Option<&ProofWords<'_>>,
 ) -> bool

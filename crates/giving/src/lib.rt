@@ -2,8 +2,8 @@
 #![tactic(auto)]
 
 mod alike;
-mod changes;
+mod label_map;
 mod staying;
 
-pub use changes::Changes;
+pub use label_map::LabelMap;
 pub use staying::first_not_staying;

@@ -5,7 +5,7 @@ ghost use Rattle.giving.specs.Staying.{others, IsFirstNotStaying};
 ghost use Rattle.giving.specs.Places.{StaysThere, SayTheSame, ArePlacesOfOthers};
 
 use crate::alike::{are_hypotheses, are_pairs, are_words, has_proof};
-use crate::changes::Changes;
+use crate::label_map::LabelMap;
 use source::Declared;
 use std::alloc::{AllocError, Global};
 
@@ -41,7 +41,7 @@ fn says_same<'a, D: Declared<'a>, E: Declared<'a>>(
 /// Whether the assertion at a place stays as one of another source.
 fn stays<'a, D: Declared<'a>, E: Declared<'a>>(
     alloc: Global,
-    changes: &Changes<'_>,
+    changes: &LabelMap<'_>,
     old: &D,
     new: &E,
     place: usize,
@@ -85,7 +85,7 @@ fn places_of_others(alloc: Global, chosen: &[bool]) -> Result<Vec<usize>, AllocE
 /// Want of memory for lists.
 pub fn first_not_staying<'a, D: Declared<'a>, E: Declared<'a>>(
     alloc: Global,
-    changes: &Changes<'_>,
+    changes: &LabelMap<'_>,
     old: &D,
     new: &E,
     chosen: &[bool],

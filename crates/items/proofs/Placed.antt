@@ -5,15 +5,15 @@ use mathlib.Core.Bool.{not}
 use Rattle.std.specs.Str.{bytes_eq}
 use Rattle.mmtext.specs.Words.{Word}
 use Rattle.giving.specs.Staying.{Change}
-use Rattle.commentwords.specs.declared.standing.Standing.{Standing}
+use Rattle.commentwords.specs.declared.comment_place.CommentPlace.{CommentPlace}
 use Rattle.commentwords.specs.Words.{word_then, behind_word, at_first}
 use Rattle.items.specs.declared.part.Part.{Part}
-use Rattle.items.specs.declared.place.Place.{Place}
+use Rattle.items.specs.declared.place.WordPlace.{WordPlace}
 use Rattle.items.specs.Items.{outside}
 use Rattle.items.specs.Renaming.{reworded, first_or}
 use Rattle.items.specs.Machine.{part_then, place_then, TakesWord, TakesSaid}
 
-module _ (cs : List Change) (part : Part) (s : Standing) (w : Word) (ws : List Word) where
+module _ (cs : List Change) (part : Part) (s : CommentPlace) (w : Word) (ws : List Word) where
   in_comment : (closes : Bool) → bytes_eq w (codes "$)") ≡ closes
       → reworded cs (Some s) (part_then cs part (outside true (w ∷ ws))) (w ∷ ws)
       ≡ cond closes (w ∷ reworded cs None (part_then cs part (outside (not closes) ws)) ws)
@@ -32,26 +32,26 @@ module _ (cs : List Change) (part : Part) (s : Standing) (w : Word) (ws : List W
       (first_or w (part_then cs part (cond b (outside true ws) (w ∷ outside false ws)))
       ∷ reworded cs None (drop 1 (part_then cs part (cond b (outside true ws) (w ∷ outside false ws)))) ws)) e
 
-module _ (cs : List Change) (old new : Place) (w : Word) where
-  from_place : (comment : Option Standing) → old.comment ≡ comment → (ws : List Word)
+module _ (cs : List Change) (old new : WordPlace) (w : Word) where
+  from_place : (comment : Option CommentPlace) → old.comment ≡ comment → (ws : List Word)
       → place_then cs old ws ≡ reworded cs comment (part_then cs old.part (outside (is_some comment) ws)) ws
   from_place comment e ws = ap (λ o. reworded cs o (part_then cs old.part (outside (is_some o) ws)) ws) e
 
-  to_place : (comment : Option Standing) (part : Part) → new.comment ≡ comment → new.part ≡ part → (ws : List Word)
+  to_place : (comment : Option CommentPlace) (part : Part) → new.comment ≡ comment → new.part ≡ part → (ws : List Word)
       → place_then cs new ws ≡ reworded cs comment (part_then cs part (outside (is_some comment) ws)) ws
   to_place comment part e f ws =
       ap (λ o. reworded cs o (part_then cs new.part (outside (is_some o) ws)) ws) e
       ∙ ap (λ p. reworded cs comment (part_then cs p (outside (is_some comment) ws)) ws) f
 
   -- $) closes a comment
-  pub closes : (s : Standing) → old.comment ≡ Some s → bytes_eq w (codes "$)") ≡ true → new.comment ≡ None → new.part ≡ old.part
+  pub closes : (s : CommentPlace) → old.comment ≡ Some s → bytes_eq w (codes "$)") ≡ true → new.comment ≡ None → new.part ≡ old.part
       → TakesWord cs old w w new
   closes s is closing comment part ws =
       from_place (Some s) is (w ∷ ws) ∙ in_comment cs old.part s w ws true closing
       ∙ ap (λ vs. w ∷ vs) (sym (to_place None old.part comment part ws))
 
   -- another word of it
-  pub goes_on : (s : Standing) → old.comment ≡ Some s → bytes_eq w (codes "$)") ≡ false → new.comment ≡ Some (behind_word s w)
+  pub goes_on : (s : CommentPlace) → old.comment ≡ Some s → bytes_eq w (codes "$)") ≡ false → new.comment ≡ Some (behind_word s w)
       → new.part ≡ old.part → TakesWord cs old w (word_then cs s w) new
   goes_on s is closing comment part ws =
       from_place (Some s) is (w ∷ ws) ∙ in_comment cs old.part s w ws false closing

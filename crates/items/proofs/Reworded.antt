@@ -2,7 +2,7 @@
 use Rattle.std.proofs.Common.{◌≡◌, ◌∙◌, ℕ, ◌<◌, ◌≤◌, List, [], ◌∷◌, ◌++◌, refl, sym, ap, ap₂, subst, arith, append_assoc}
 use Rattle.mmtext.specs.Text.{Token}
 use Rattle.giving.specs.Staying.{Change}
-use Rattle.items.specs.declared.place.Place.{Place}
+use Rattle.items.specs.declared.place.WordPlace.{WordPlace}
 use Rattle.items.specs.Items.{Item, bytes_of, words}
 use Rattle.items.specs.Renaming.{with_words}
 use Rattle.items.specs.Reading.{tokens_at, IsFirst, piece_at, end_of, Stands}
@@ -47,7 +47,7 @@ one_left text at end (p ∷ ps) t h lt first =
     )
 
 -- a word of it is put
-pub word_put : (cs : List Change) (old new : Place) (out space word now : List ℕ) (left : Item)
+pub word_put : (cs : List Change) (old new : WordPlace) (out space word now : List ℕ) (left : Item)
     → TakesWord cs old word now new
     → out ++ bytes_of (rest_then cs old (record { space = space; word = word } ∷ left))
     ≡ ((out ++ space) ++ now) ++ bytes_of (rest_then cs new left)
@@ -58,7 +58,7 @@ word_put cs old new out space word now left takes =
     ∙ (sym (append_assoc out space (now ++ rest)) ∙ sym (append_assoc (out ++ space) now rest)))
 
 -- at places alike all reads alike
-pub from_start : (cs : List Change) (one other : Place) (x : Item) → one.comment ≡ other.comment → one.part ≡ other.part
+pub from_start : (cs : List Change) (one other : WordPlace) (x : Item) → one.comment ≡ other.comment → one.part ≡ other.part
     → rest_then cs one x ≡ rest_then cs other x
 from_start cs one other x comment part =
     ap₂ (λ c p. rest_then cs (record { comment = c; part = p }) x) comment part

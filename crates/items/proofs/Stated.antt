@@ -6,7 +6,7 @@ use Rattle.mmtext.specs.Words.{Word}
 use Rattle.mmtext.proofs.Marks.{same_word}
 use Rattle.giving.specs.Staying.{Change, changed}
 use Rattle.items.specs.declared.part.Part.TheVariants.{Label, Fixed}
-use Rattle.items.specs.declared.place.Place.{Place}
+use Rattle.items.specs.declared.place.WordPlace.{WordPlace}
 use Rattle.items.specs.Items.{Item, words, said, asserts, label_among, label_of, IsComment, outside}
 use Rattle.items.specs.Renaming.{said_then, proof_then, symbols_then, renamed, with_words, reworded}
 use Rattle.items.specs.Machine.{label_then, rest_then}
@@ -45,10 +45,10 @@ as_other cs (label ∷ mark ∷ ws) has = stays cs label mark ws (asserts mark) 
 
 -- ---- items
 
-abbrev pub at_label : Place
+abbrev pub at_label : WordPlace
 at_label = record { comment = None; part = Label }
 
-abbrev pub at_fixed : Place
+abbrev pub at_fixed : WordPlace
 at_fixed = record { comment = None; part = Fixed }
 
 pub assertion_reads : (cs : List Change) (x : Item) (l : Word) → label_of x ≡ l ∷ [] → rest_then cs at_label x ≡ renamed cs x

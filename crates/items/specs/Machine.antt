@@ -4,7 +4,7 @@ use Rattle.mmtext.specs.Words.{Word}
 use Rattle.giving.specs.Staying.{Change, changed}
 use Rattle.items.specs.declared.part.Part.{Part}
 use Rattle.items.specs.declared.part.Part.TheVariants.{Label, Symbols, Proof, Labels, Steps, Fixed}
-use Rattle.items.specs.declared.place.Place.{Place}
+use Rattle.items.specs.declared.place.WordPlace.{WordPlace}
 use Rattle.items.specs.Items.{Item, outside, words}
 use Rattle.items.specs.Renaming.{labels_then, proof_then, symbols_then, reworded, with_words}
 
@@ -22,15 +22,15 @@ part_then cs Steps ws = map (changed cs) ws
 part_then cs Fixed ws = ws
 
 -- the words of an item from a place in it on
-abbrev pub place_then : List Change → Place → List Word → List Word
+abbrev pub place_then : List Change → WordPlace → List Word → List Word
 place_then cs p ws = reworded cs p.comment (part_then cs p.part (outside (is_some p.comment) ws)) ws
 
 -- the same pieces with these words
-abbrev pub rest_then : List Change → Place → Item → Item
+abbrev pub rest_then : List Change → WordPlace → Item → Item
 rest_then cs p x = with_words x (place_then cs p (words x))
 
 -- one word more reads so, and leads to a place
-abbrev pub TakesWord : List Change → Place → Word → Word → Place → Type 0
+abbrev pub TakesWord : List Change → WordPlace → Word → Word → WordPlace → Type 0
 TakesWord cs old w v new = (ws : List Word) → place_then cs old (w ∷ ws) ≡ v ∷ place_then cs new ws
 
 abbrev pub TakesSaid : List Change → Part → Word → Word → Part → Type 0

@@ -4,7 +4,7 @@ use Rattle.std.specs.Prelude.{List, [], ◌∷◌, map, zip, drop, Option, Some,
 use Rattle.std.specs.Str.{bytes_eq}
 use Rattle.mmtext.specs.Words.{Word}
 use Rattle.giving.specs.Staying.{Change, changed}
-use Rattle.commentwords.specs.declared.standing.Standing.{Standing}
+use Rattle.commentwords.specs.declared.comment_place.CommentPlace.{CommentPlace}
 use Rattle.commentwords.specs.Words.{at_first, behind_word, word_then}
 use Rattle.items.specs.Items.{Item, words, said, asserts}
 
@@ -38,7 +38,7 @@ first_or w [] = w
 first_or w (v ∷ vs) = v
 
 -- words of an item, in a comment or outside of them: outside stand these words then, one by one
-abbrev pub reworded : List Change → Option Standing → List Word → List Word → List Word
+abbrev pub reworded : List Change → Option CommentPlace → List Word → List Word → List Word
 reworded cs place others [] = []
 reworded cs None others (w ∷ ws) =
     if bytes_eq w (codes "$(") then w ∷ reworded cs (Some at_first) others ws else first_or w others ∷ reworded cs None (drop 1 others) ws

@@ -3,7 +3,7 @@ use Rattle.std.specs.Prelude.{◌≡◌, ℕ, Bool, true, false, List, ◌∷◌
 use Rattle.std.specs.Option.{option_map}
 use Rattle.mmtext.specs.Words.{Word}
 use Rattle.giving.specs.Staying.{Change}
-use Rattle.items.specs.declared.indentation.Walk.{Walk}
+use Rattle.items.specs.declared.indentation.StatementPlace.{StatementPlace}
 use Rattle.items.specs.declared.indentation.Next.{Next}
 use Rattle.items.specs.declared.indentation.Next.TheVariants.{Goes, Ends}
 use Rattle.items.specs.Items.{Item, Spells}
@@ -15,11 +15,11 @@ abbrev pub from_part : Bool → Item → Option (List ℕ)
 from_part true ps = first_of (indents (up_to (codes "$.") ps))
 from_part false ps = first_of (indents (up_to (codes "$.") (behind (codes "$=") ps)))
 
-abbrev pub found_from : Walk → Item → Option (List ℕ)
+abbrev pub found_from : StatementPlace → Item → Option (List ℕ)
 found_from w ps = from_part w.in_proof (plain w.is_open ps)
 
 -- one word more leads on, or to the end
-abbrev pub LeadsTo : Walk → List ℕ → Word → Next → Type 0
+abbrev pub LeadsTo : StatementPlace → List ℕ → Word → Next → Type 0
 LeadsTo w space word (Goes next) = (ps : Item) → found_from w (record { space = space; word = word } ∷ ps) ≡ found_from next ps
 LeadsTo w space word (Ends found) =
     (ps : Item) → found_from w (record { space = space; word = word } ∷ ps) ≡ option_map (λ i. i.now) found

@@ -7,7 +7,7 @@ ghost use Rattle.items.specs.Rewriting.{IsRewritten};
 
 use crate::reading::read_item;
 use crate::writing::put_item;
-use giving::Changes;
+use giving::LabelMap;
 use mmtext::next_token;
 use std::alloc::{AllocError, Global};
 
@@ -23,8 +23,8 @@ use std::alloc::{AllocError, Global};
 /// Want of memory.
 pub fn rewrite(
     alloc: Global,
-    changes: &Changes<'_>,
-    proofs: &Changes<'_>,
+    changes: &LabelMap<'_>,
+    proofs: &LabelMap<'_>,
     source: &[u8],
 ) -> Result<Option<Vec<u8>>, AllocError>
     ensures rewritten { IfOk result (λ made. IfSome made (λ out. IsRewritten changes.now proofs.now source.now out.items)) }

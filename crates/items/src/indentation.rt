@@ -11,7 +11,7 @@ ghost use Rattle.items.specs.Indentations.{indentation_of, indented};
 ghost use Rattle.items.specs.Walking.{AreIndentations, LeadsTo};
 
 use crate::reading::{Item, Kind, read_item};
-use giving::Changes;
+use giving::LabelMap;
 use mmtext::next_token;
 use std::alloc::{AllocError, Global};
 use std::hash::RandomState;
@@ -33,7 +33,7 @@ pub fn indent(space: &[u8]) -> Option<&[u8]>
 
 /// Where a word of a statement stands.
 #[derive(Clone, Copy)]
-pub(crate) struct Walk {
+pub(crate) struct StatementPlace {
     /// Whether it stands in a comment.
     pub is_open: bool,
     /// Whether `$=` is in front of it.
@@ -44,12 +44,12 @@ pub(crate) struct Walk {
 #[derive(Clone, Copy)]
 pub(crate) enum Next<'s> {
     /// More of it.
-    Goes(Walk),
+    Goes(StatementPlace),
     /// The indentation of its proof is known, or that there is none.
     Ends(Option<&'s [u8]>),
 }
 
-impl Walk {
+impl StatementPlace {
     /// What stands behind a word, in front of which this white space is.
     fn take<'s>(self, space: &'s [u8], word: &[u8]) -> Next<'s>
         ensures { LeadsTo self space.now word.now result }
@@ -57,15 +57,15 @@ impl Walk {
         let in_proof = self.in_proof;
         if self.is_open {
             let is_open = word != b"$)".as_slice();
-            return Next::Goes(Walk { is_open, in_proof });
+            return Next::Goes(StatementPlace { is_open, in_proof });
         }
         if word == b"$(".as_slice() {
             let is_open = true;
-            return Next::Goes(Walk { is_open, in_proof });
+            return Next::Goes(StatementPlace { is_open, in_proof });
         }
         if !in_proof {
             let in_proof = word == b"$=".as_slice();
-            return Next::Goes(Walk {
+            return Next::Goes(StatementPlace {
                 is_open: false,
                 in_proof,
             });
@@ -87,7 +87,7 @@ fn indentation(text: &[u8], from: usize, end: usize) -> Option<&[u8]>
     requires within { end ≤ length text.now }
     ensures { (x : Pieces) → Stands text.now from x end → option_map (λ i. i.now) result ≡ indentation_of x }
 {
-    let mut walk = Walk {
+    let mut walk = StatementPlace {
         is_open: false,
         in_proof: false,
     };
@@ -131,7 +131,7 @@ pub fn indentations<'s>(
     alloc: Global,
     keys: RandomState,
     source: &'s [u8],
-) -> Result<Option<Changes<'s>>, AllocError>
+) -> Result<Option<LabelMap<'s>>, AllocError>
     ensures indentations { IfOk result (λ made. IfSome made (AreIndentations source.now)) }
     ensures all { IsDivided source.now → IfOk result IsSome }
 {
@@ -146,5 +146,5 @@ pub fn indentations<'s>(
     if next_token(source, at).is_some() {
         return Ok(None);
     }
-    Ok(Some(Changes::new(alloc, keys, pairs)?))
+    Ok(Some(LabelMap::new(alloc, keys, pairs)?))
 }

@@ -5,7 +5,7 @@ ghost use Rattle.std.specs.Prelude.{◌≡◌};
 ghost use Rattle.items.specs.Machine.{TakesSaid};
 
 use commentwords::changed;
-use giving::Changes;
+use giving::LabelMap;
 
 /// Which part of a statement is next, outside of comments.
 #[derive(Clone, Copy)]
@@ -26,7 +26,7 @@ pub(crate) enum Part {
 
 impl Part {
     /// A word of this part as it reads then, and the part behind it.
-    pub(crate) fn take<'w>(self, changes: &'w Changes<'_>, word: &'w [u8]) -> (&'w [u8], Part)
+    pub(crate) fn take<'w>(self, changes: &'w LabelMap<'_>, word: &'w [u8]) -> (&'w [u8], Part)
         ensures { TakesSaid changes.now self word.now result.0.now result.1 }
     {
         match self {

@@ -3,7 +3,7 @@
 ghost use Rattle.std.specs.Prelude.{◌≡◌, ◌≤◌, ◌∷◌, ◌++◌, ℕ, [], length, false, None, IfOk, IfSome, IsTrue, MatchOption, OnOk, codes};
 ghost use Rattle.std.specs.Str.{bytes_eq};
 ghost use Rattle.mmtext.specs.Words.{Word};
-ghost use Rattle.items.specs.declared.place.Place.{Place};
+ghost use Rattle.items.specs.declared.place.WordPlace.{WordPlace};
 ghost use Rattle.items.specs.Bare.{IsBare, has_proof};
 ghost use Rattle.items.specs.Items.{Item as Pieces, bytes_of, label_of, IsStatement};
 ghost use Rattle.items.specs.Reading.{Stands, IsFrontTo, IsItemAt};
@@ -11,16 +11,16 @@ ghost use Rattle.items.specs.Machine.{rest_then, IsPut};
 ghost use Rattle.items.specs.Rewriting.{HasProofText, ReadsThen};
 
 use crate::part::Part;
-use crate::place::Place;
+use crate::place::WordPlace;
 use crate::reading::{Item, Kind, end_of_comment};
-use giving::Changes;
+use giving::LabelMap;
 use mmtext::next_token;
 use std::alloc::AllocError;
 
 /// Puts what stands in a text from a byte up to another, behind a token each, with changed labels: it begins with this part of a statement.
 pub(crate) fn put_reworded<'w>(
     out: &mut Vec<u8>,
-    changes: &'w Changes<'_>,
+    changes: &'w LabelMap<'_>,
     text: &'w [u8],
     from: usize,
     end: usize,
@@ -28,10 +28,10 @@ pub(crate) fn put_reworded<'w>(
 ) -> Result<(), AllocError>
     requires order { from ≤ end }
     requires within { end ≤ length text.now }
-    ensures { OnOk result ((x : Pieces) → Stands text.now from x end → (place : Place) → place.comment ≡ None → place.part ≡ part
+    ensures { OnOk result ((x : Pieces) → Stands text.now from x end → (place : WordPlace) → place.comment ≡ None → place.part ≡ part
         → out.new.items ≡ out.old.items ++ bytes_of (rest_then changes.now place x)) }
 {
-    let mut place = Place::at(part);
+    let mut place = WordPlace::at(part);
     let mut at = from;
     while at < end {
         let Some(token) = next_token(text, at) else {
@@ -73,7 +73,7 @@ fn end_of_front(text: &[u8], from: usize) -> Option<usize>
 /// `$=` and `$.`. Whether it has a `$=`.
 fn put_reproved(
     out: &mut Vec<u8>,
-    changes: &Changes<'_>,
+    changes: &LabelMap<'_>,
     proof: &[u8],
     text: &[u8],
     from: usize,
@@ -102,8 +102,8 @@ fn put_reproved(
 /// changed labels. Whether it could be put: no text is for an axiom.
 pub fn put_item(
     out: &mut Vec<u8>,
-    changes: &Changes<'_>,
-    proofs: &Changes<'_>,
+    changes: &LabelMap<'_>,
+    proofs: &LabelMap<'_>,
     text: &[u8],
     from: usize,
     item: Item<'_>,

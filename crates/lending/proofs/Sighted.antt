@@ -10,7 +10,7 @@ use Rattle.std.proofs.lemmas.Bool.{cases_Bool, cond-false}
 use Rattle.std.proofs.lemmas.Map.Text.{is_eq-slice_cmp}
 use mathlib.Core.Logic.{dite}
 use native.Mathlib.Decide.{ℕ_discrete}
-use Rattle.ranges.specs.declared.range.Range.{Range as Place}
+use Rattle.ranges.specs.declared.range.Range.{Range as Span}
 use Rattle.ranges.specs.Pairs.{written}
 use Rattle.tlwords.specs.declared.log.Slot.{Slot}
 use Rattle.tlwords.specs.declared.outcome.Conflict.{Conflict}
@@ -158,7 +158,7 @@ none_staged stage words e = go (get stage words) refl
     go None is = is
     go (Some start) is = absurd (let clash = ap (option_map (range_at words)) (sym is) ∙ e in cc clash)
 
-pub stages_sight : {A E : Type 0} (l : Lending) (words : List ℕ) (range : Place) (r : Going Given Note) (next : Staged) (made : Result A E)
+pub stages_sight : {A E : Type 0} (l : Lending) (words : List ℕ) (range : Span) (r : Going Given Note) (next : Staged) (made : Result A E)
     → HasStaged library_terms words range.start l.going r → get l.staged words ≡ None
     → OnOk made (next ≡ insert l.staged words range.start) → OnErr made (next ≡ l.staged)
     → range.len ≡ length words → Stages words range (lent_sight l) (lent_sight (record l { going = r; staged = next }))
@@ -194,7 +194,7 @@ stages_nothing l words start r next h =
     (record { asked = λ c was. was })
 
 -- words that were staged are taken again
-pub again_sight : (l : Lending) (stage : Staged) (over : Option Conflict) → IsLent l stage over → (words : List ℕ) (range : Place)
+pub again_sight : (l : Lending) (stage : Staged) (over : Option Conflict) → IsLent l stage over → (words : List ℕ) (range : Span)
     → l.staged ≡ stage → option_map (range_at words) (get stage words) ≡ Some range → Stages words range (lent_sight l) (lent_sight l)
 again_sight l stage over i words range own found =
     let is = found_is_staged l.going.known.seen.ranges stage words range i.staged found in
@@ -212,7 +212,7 @@ again_sight l stage over i words range own found =
       anew = λ none. absurd (let clash : Some range.start ≡ None = sym at ∙ sym (ap (λ (m : Staged). get m words) own) ∙ none in cc);
     }
   where
-    staged_at : (stage : Staged) (words : List ℕ) (range : Place) → option_map (range_at words) (get stage words) ≡ Some range
+    staged_at : (stage : Staged) (words : List ℕ) (range : Span) → option_map (range_at words) (get stage words) ≡ Some range
         → get stage words ≡ Some range.start
     staged_at stage words range e = go (get stage words) refl
       where
@@ -221,7 +221,7 @@ again_sight l stage over i words range own found =
         go (Some start) is =
             let same : Some (range_at words start) ≡ Some range = ap (option_map (range_at words)) (sym is) ∙ e in
             let place : range_at words start ≡ range = cc in
-            is ∙ ap (λ (p : Place). Some p.start) place
+            is ∙ ap (λ (p : Span). Some p.start) place
 
 -- ---- a cell is read
 

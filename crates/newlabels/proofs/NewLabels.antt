@@ -10,8 +10,8 @@ use Rattle.library.specs.Library.{Setting}
 use Rattle.library.specs.Edits.{Tests, Edited, tested, where_so, has, clashes, without, bad_label, label_taken, label_clashes, label_tests}
 use Rattle.library.proofs.Clashing.{without-absent}
 use Rattle.cells.specs.Sight.{Sight, Looks}
-use Rattle.cells.specs.Lookups.{TellsStanding}
-use Rattle.cells.specs.declared.labels.Standing.TheVariants.{Free, Taken, Clashing}
+use Rattle.cells.specs.Lookups.{TellsAvailability}
+use Rattle.cells.specs.declared.labels.Availability.TheVariants.{Free, Taken, Clashing}
 use Rattle.cells.proofs.Sights.{setting_kept}
 use Rattle.newlabels.specs.Naming.{PassesAsNew, FailsAsNew}
 use Rattle.groundwork.proofs.Refusing.{first_refuses, first_passes}
@@ -67,15 +67,15 @@ lawful_later s t prelude label is looks h =
     (subst (λ (x : Tables). is_lawful_label x label ≡ true) is h)
 
 module _ {O : Type 0} (s : Sight O) (own label : List ℕ) (lawful : is_lawful_label s.setting.prelude label ≡ true) where
-  pub taken_refuses : TellsStanding s own label Taken → FailsAsNew s own label reason.LabelTaken
+  pub taken_refuses : TellsAvailability s own label Taken → FailsAsNew s own label reason.LabelTaken
   taken_refuses taken = λ st lib v more edited. fails_taken s.setting lib own label more edited lawful (taken st lib v)
 
-  pub clash_refuses : TellsStanding s own label Clashing → FailsAsNew s own label reason.LabelClashes
+  pub clash_refuses : TellsAvailability s own label Clashing → FailsAsNew s own label reason.LabelClashes
   clash_refuses clashing = λ st lib v more edited.
       let told = clashing st lib v in
       fails_clash s.setting lib own label more edited lawful told.0 told.1
 
-  pub new_passes : TellsStanding s own label Free → PassesAsNew s own label
+  pub new_passes : TellsAvailability s own label Free → PassesAsNew s own label
   new_passes free =
       record {
         some = lawful_some s.setting.prelude label lawful;

@@ -6,7 +6,7 @@ ghost use Rattle.cells.specs.Footprints.{ReadsWhere};
 ghost use Rattle.groundwork.specs.Footprints.{IsOfNewLabel};
 ghost use Rattle.newlabels.specs.Naming.{PassesAsNew, TellsNotNew};
 
-use cells::{Cells, CommandError, Standing, standing_of};
+use cells::{Cells, CommandError, Availability, availability_of};
 use library::Reason;
 use mmsyntax::{Prelude, is_lawful_label};
 
@@ -31,9 +31,9 @@ pub(crate) fn test_new_label<C: Cells>(
     if !is_lawful_label(prelude, label) {
         return Err(Reason::BadLabel.into());
     }
-    match standing_of(cells, own, label)? {
-        Standing::Taken => Err(Reason::LabelTaken.into()),
-        Standing::Clashing => Err(Reason::LabelClashes.into()),
-        Standing::Free => Ok(()),
+    match availability_of(cells, own, label)? {
+        Availability::Taken => Err(Reason::LabelTaken.into()),
+        Availability::Clashing => Err(Reason::LabelClashes.into()),
+        Availability::Free => Ok(()),
     }
 }

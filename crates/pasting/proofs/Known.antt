@@ -19,7 +19,7 @@ use Rattle.source.specs.Whole.{IsAssertionWhole, labels_in}
 use Rattle.prooftrees.specs.Counted.{counted_labels}
 use Rattle.prooftrees.specs.Names.{IsKnown}
 use Rattle.expanding.specs.Asking.{spoken_in}
-use Rattle.pasting.specs.Proofs.{is_compressed, closing_in, compressed_at, proof_of, labels_at, labels_of, is_unnamed}
+use Rattle.pasting.specs.Proofs.{is_compressed, closing_in, compressed_at, proof_of, labels_at, labels_among, is_unnamed}
 
 -- ---- the words of a proof that are labels
 
@@ -36,7 +36,7 @@ by_form : (ts : List Token) (b : Bool) (proof : Proof)
 by_form ts true proof e = by_place (drop 1 ts) (closing_in (drop 1 ts)) proof e
 by_form ts false proof e = let same : normal (spoken_in ts) ≡ proof = cc in ap labels_in (sym same)
 
-labels_are : (ts : List Token) (proof : Proof) → proof_of ts ≡ Some proof → labels_in proof ≡ spoken_in (labels_of ts)
+labels_are : (ts : List Token) (proof : Proof) → proof_of ts ≡ Some proof → labels_in proof ≡ spoken_in (labels_among ts)
 labels_are ts proof e = by_form ts (is_compressed ts) proof e
 
 -- ---- each of them names what is there
@@ -86,11 +86,11 @@ counted_by P hs (normal ws) mandatory named = named
 counted_by P hs (compressed labels letters) mandatory named = all_append P (map label_of hs) labels mandatory named
 
 pub counted_known : (s : Scope) (earlier : List Assertion) (x : Assertion) → IsAssertionWhole s earlier x
-    → (ts : List Token) (proof : Proof) → proof_of ts ≡ Some proof → find (is_unnamed earlier x) (labels_of ts) ≡ None
+    → (ts : List Token) (proof : Proof) → proof_of ts ≡ Some proof → find (is_unnamed earlier x) (labels_among ts) ≡ None
     → All (IsKnown earlier x.active) (counted_labels x.hypotheses proof)
 counted_known s earlier x whole ts proof is none =
     All-from_recursion (IsKnown earlier x.active) (counted_labels x.hypotheses proof)
     (counted_by (IsKnown earlier x.active) x.hypotheses proof
     (subst (λ (hs : List Hypothesis). AllByRecursion (IsKnown earlier x.active) (map label_of hs)) whole.mandatory
     (kept_known earlier x.active (is_mandatory x.active x.statement) [] x.active refl))
-    (subst (AllByRecursion (IsKnown earlier x.active)) (sym (labels_are ts proof is)) (all_named earlier x (labels_of ts) none)))
+    (subst (AllByRecursion (IsKnown earlier x.active)) (sym (labels_are ts proof is)) (all_named earlier x (labels_among ts) none)))

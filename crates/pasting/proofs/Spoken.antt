@@ -4,7 +4,7 @@ use Rattle.std.proofs.Common.{Option, Some, None, refl, sym, ap}
 use Rattle.mmtext.specs.Text.{Token}
 use Rattle.source.specs.Statements.{normal}
 use Rattle.expanding.specs.Asking.{spoken_in}
-use Rattle.pasting.specs.Proofs.{is_compressed, closing_in, labels_at, labels_of, compressed_at, proof_of}
+use Rattle.pasting.specs.Proofs.{is_compressed, closing_in, labels_at, labels_among, compressed_at, proof_of}
 
 -- ---- words behind an opening parenthesis, or not
 
@@ -18,7 +18,7 @@ unsplit ws true e = absurd cc
 unsplit ws false e = refl
 
 module _ (ws : List Token) (none : None ≡ cond (is_compressed ws) (Some (drop 1 ws)) None) where
-  pub labels_unopened : ws ≡ labels_of ws
+  pub labels_unopened : ws ≡ labels_among ws
   labels_unopened =
       sym (ap (λ (c : Bool). cond c (labels_at (drop 1 ws) (closing_in (drop 1 ws))) ws) (unsplit ws (is_compressed ws) none))
 
@@ -28,7 +28,7 @@ module _ (ws : List Token) (none : None ≡ cond (is_compressed ws) (Some (drop 
       (unsplit ws (is_compressed ws) none))
 
 module _ (ws b : List Token) (some : Some b ≡ cond (is_compressed ws) (Some (drop 1 ws)) None) (o : Option ℕ) (is : closing_in b ≡ o) where
-  pub labels_opened : labels_at b o ≡ labels_of ws
+  pub labels_opened : labels_at b o ≡ labels_among ws
   labels_opened =
       let p = split ws b (is_compressed ws) some in
       sym (ap (λ (c : Bool). cond c (labels_at (drop 1 ws) (closing_in (drop 1 ws))) ws) p.0

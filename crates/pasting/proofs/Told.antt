@@ -10,11 +10,11 @@ use Rattle.source.specs.Statements.{Proof}
 use Rattle.source.specs.Scopes.{Assertion}
 use Rattle.source.specs.Proofs.{Tree, denoted, is_unfinished}
 use Rattle.taking.specs.Names.{Map}
-use Rattle.pasting.specs.Proofs.{faulty, proof_of, labels_of, is_unnamed, given_by_tree, given_by_labels, given_by_proof, given}
+use Rattle.pasting.specs.Proofs.{faulty, proof_of, labels_among, is_unnamed, given_by_tree, given_by_labels, given_by_proof, given}
 
 module _ (m : Map) (earlier : List Assertion) (x : Assertion) (last : Token) (proof : Proof) where
   pub told_by_tree : (ws : List CodeToken) (first : CodeToken) → Some first ≡ slice_get ws 0 → proof_of (map seen ws) ≡ Some proof
-      → is_unfinished proof ≡ false → find (is_unnamed earlier x) (labels_of (map seen ws)) ≡ None → (o : Option Tree)
+      → is_unfinished proof ≡ false → find (is_unnamed earlier x) (labels_among (map seen ws)) ≡ None → (o : Option Tree)
       → denoted earlier (record x { proof = Some proof }) ≡ o
       → given_by_tree m earlier x (seen first) last o ≡ given m earlier x (map seen ws) last
   told_by_tree [] first at is finished none o denotes = absurd cc
@@ -24,14 +24,14 @@ module _ (m : Map) (earlier : List Assertion) (x : Assertion) (last : Token) (pr
       ap (λ (v : CodeToken). given_by_tree m earlier x (seen v) last o) same
       ∙ sym (ap (given_by_proof m earlier x (seen w) ts last) is
       ∙ cond-false (is_unfinished proof) (faulty (seen w) OutOfProfile)
-      (given_by_labels m earlier x (seen w) last proof (find (is_unnamed earlier x) (labels_of ts))) finished
+      (given_by_labels m earlier x (seen w) last proof (find (is_unnamed earlier x) (labels_among ts))) finished
       ∙ ap (given_by_labels m earlier x (seen w) last proof) none
       ∙ ap (given_by_tree m earlier x (seen w) last) denotes)
 
 -- what was found of its labels
 pub none_found : (earlier : List Assertion) (x : Assertion) (ws : List CodeToken) (labels : List Token) (o : Option Token)
-    → labels ≡ labels_of (map seen ws) → o ≡ find (is_unnamed earlier x) labels → o ≡ None
-    → find (is_unnamed earlier x) (labels_of (map seen ws)) ≡ None
+    → labels ≡ labels_among (map seen ws) → o ≡ find (is_unnamed earlier x) labels → o ≡ None
+    → find (is_unnamed earlier x) (labels_among (map seen ws)) ≡ None
 none_found earlier x ws labels o are is none = ap (find (is_unnamed earlier x)) (sym are) ∙ sym is ∙ none
 
 -- what is so of a result for each assertion there

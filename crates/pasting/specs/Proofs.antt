@@ -39,8 +39,8 @@ abbrev pub labels_at : List Token → Option ℕ → List Token
 labels_at ts None = []
 labels_at ts (Some n) = take n ts
 
-abbrev pub labels_of : List Token → List Token
-labels_of ts = if is_compressed ts then labels_at (drop 1 ts) (closing_in (drop 1 ts)) else ts
+abbrev pub labels_among : List Token → List Token
+labels_among ts = if is_compressed ts then labels_at (drop 1 ts) (closing_in (drop 1 ts)) else ts
 
 -- ---- what they say there
 
@@ -74,7 +74,7 @@ abbrev pub given_by_proof : Map → List Assertion → Assertion → Token → L
 given_by_proof m earlier x first ts last None = faulty last BadToken
 given_by_proof m earlier x first ts last (Some proof) =
     if is_unfinished proof then faulty first OutOfProfile
-    else given_by_labels m earlier x first last proof (find (is_unnamed earlier x) (labels_of ts))
+    else given_by_labels m earlier x first last proof (find (is_unnamed earlier x) (labels_among ts))
 
 -- words say this as the proof of an assertion behind earlier ones, in front of the word that ends them
 abbrev pub given : Map → List Assertion → Assertion → List Token → Token → Given

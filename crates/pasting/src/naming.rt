@@ -24,7 +24,7 @@ fn label_of<'a>(hypothesis: &HypothesisWords<'a>) -> &'a [u8]
 }
 
 /// The labels of hypotheses.
-fn labels_of<'a>(
+fn hypothesis_labels<'a>(
     alloc: Global,
     hypotheses: Vec<&HypothesisWords<'a>>,
 ) -> Result<Vec<&'a [u8]>, AllocError>
@@ -79,7 +79,7 @@ pub(crate) fn first_unnamed<'w, 'a, D: Declared<'a>>(
     ensures { IfOk result (λ found. (x : Theorem) → slice_get (D.scope declared.now).assertions place ≡ Some x
         → option_map seen found ≡ find (is_unnamed (take place (D.scope declared.now).assertions) x) (map seen words.now)) }
 {
-    let active = labels_of(alloc, declared.active(alloc, place)?)?;
+    let active = hypothesis_labels(alloc, declared.active(alloc, place)?)?;
     for word in words {
         if !is_named(declared, active.as_slice(), place, word.text) {
             return Ok(Some(*word));

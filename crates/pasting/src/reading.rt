@@ -16,7 +16,7 @@ ghost use Rattle.pasting.specs.Views.{seen_given};
 use crate::given::Given;
 use crate::naming::first_unnamed;
 use crate::placing::Placed;
-use crate::words::{is_unfinished, labels_of, proof_of};
+use crate::words::{is_unfinished, labels_among, proof_of};
 use mmsyntax::MOST_STEPS;
 use mmtext::{FaultKind, Token};
 use prooftrees::{Frames, ProofTree, read_given};
@@ -74,7 +74,7 @@ pub(crate) fn given<'w: 'a, 'a, D: Declared<'a>>(
     if is_unfinished(&proof) {
         return Ok(Given::Faulty(*first, FaultKind::OutOfProfile));
     }
-    if let Some(word) = first_unnamed(alloc, declared, place, labels_of(words))? {
+    if let Some(word) = first_unnamed(alloc, declared, place, labels_among(words))? {
         return Ok(Given::Faulty(word, FaultKind::UnknownLabel));
     }
     match read_given(alloc, keys, declared, frames, placed, place, &proof)? {

@@ -8,7 +8,7 @@ ghost use Rattle.source.specs.Scopes.{is_unknown};
 ghost use Rattle.source.specs.Proofs.{is_unfinished};
 ghost use Rattle.source.specs.Views.{seen_proof, seen_words};
 ghost use Rattle.expanding.specs.Asking.{spoken_in};
-ghost use Rattle.pasting.specs.Proofs.{is_compressed, closing_in, labels_of, proof_of};
+ghost use Rattle.pasting.specs.Proofs.{is_compressed, closing_in, labels_among, proof_of};
 
 use mmtext::Token;
 use source::ProofWords;
@@ -61,8 +61,8 @@ fn texts_of<'w>(alloc: Global, words: &[Token<'w>]) -> Result<Vec<&'w [u8]>, All
 }
 
 /// The words of a proof that are labels: those in parentheses, where it is compressed.
-pub(crate) fn labels_of<'t, 'w>(words: &'t [Token<'w>]) -> &'t [Token<'w>]
-    ensures { map seen result.now ≡ labels_of (map seen words.now) }
+pub(crate) fn labels_among<'t, 'w>(words: &'t [Token<'w>]) -> &'t [Token<'w>]
+    ensures { map seen result.now ≡ labels_among (map seen words.now) }
 {
     let Some(behind) = behind_opening(words) else {
         return words;

@@ -10,7 +10,7 @@ use Rattle.derivation.specs.Derivation.{Checks}
 use Rattle.library.specs.declared.library.Ranked.{Ranked}
 use Rattle.library.specs.Library.{Setting, IsSetting, Verifies, label_of, citable}
 use Rattle.ranges.specs.Ranges.{Range}
-use Rattle.ranges.specs.declared.range.Range.{Range as Place}
+use Rattle.ranges.specs.declared.range.Range.{Range as Span}
 use Rattle.cells.specs.State.{State}
 use Rattle.cells.specs.Shows.{Held, Holds, ShowsHeld}
 use Rattle.plaincells.specs.Plain.{plain_state, ShowsSome, HoldNames, names}
@@ -58,7 +58,7 @@ none_verifies s h =
       checks = All-nil (λ (e : Ranked). Checks (citable s [] e.rank) s.prelude e.assertion);
     }
 
-pub zeros_show : (s : Setting) (n : ℕ) (places : List Place) → IsSetting s → ShowsSome s (replicate n 0) [] places
+pub zeros_show : (s : Setting) (n : ℕ) (places : List Span) → IsSetting s → ShowsSome s (replicate n 0) [] places
 zeros_show s n places h = ([], (shows_none s.slots (plain_state (replicate n 0) [] places) (zeros_at n)).0, none_verifies s h)
 
 pub zeros_name : (slots n : ℕ) (ranges : List Range) → HoldNames slots (replicate n 0) ranges

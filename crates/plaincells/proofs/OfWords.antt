@@ -6,7 +6,7 @@ use Rattle.std.proofs.lemmas.List.{append-nil}
 use Rattle.std.proofs.lemmas.Option.{slice_get_within, get_or_from_slice_get}
 use Rattle.library.specs.declared.library.Ranked.{Ranked}
 use Rattle.ranges.specs.Ranges.{Range, Has, Within, Names, IsStored, range_named, ranges_named}
-use Rattle.ranges.specs.declared.range.Range.{Range as Place}
+use Rattle.ranges.specs.declared.range.Range.{Range as Span}
 use Rattle.ranges.proofs.Grown.{names_grow}
 use Rattle.ranges.proofs.Named.{is_named, named_stored}
 use Rattle.cells.specs.State.{most_words}
@@ -21,7 +21,7 @@ use Rattle.plaincells.proofs.Widened.{shows_widened}
 
 -- ---- one cell more
 
-module _ (slots : ℕ) (values : List ℕ) (count : ℕ) (places : List Place) (by : AreNamedBy slots values count places) where
+module _ (slots : ℕ) (values : List ℕ) (count : ℕ) (places : List Span) (by : AreNamedBy slots values count places) where
   -- a cell that is no range cell, or holds 0, names none
   pub none_more : ((v : ℕ) → slice_get values count ≡ Some v → is_ranged slots count ≡ true → v ≢ 0 → ⊥)
       → AreNamedBy slots values (count + 1) places
@@ -34,7 +34,7 @@ module _ (slots : ℕ) (values : List ℕ) (count : ℕ) (places : List Place) (
         ];
       }
 
-  pub one_more : (v : ℕ) (r : Place) → slice_get values count ≡ Some v → is_ranged slots count ≡ true → v ≢ 0 → IsPlaceOf v r
+  pub one_more : (v : ℕ) (r : Span) → slice_get values count ≡ Some v → is_ranged slots count ≡ true → v ≢ 0 → IsPlaceOf v r
       → AreNamedBy slots values (count + 1) (places ++ r ∷ [])
   one_more v r at ranged some is =
       record {
@@ -57,10 +57,10 @@ module _ (slots : ℕ) (values : List ℕ) (count : ℕ) (places : List Place) (
 
 -- ---- all that are named
 
-place_is : (store : List ℕ) (v : ℕ) (r : Place) → IsPlaceOf v r → range_in store r ≡ range_named store v
+place_is : (store : List ℕ) (v : ℕ) (r : Span) → IsPlaceOf v r → range_in store r ≡ range_named store v
 place_is store v r is = λ i. record { start = is.0 i; words = take (is.1 i) (drop (is.0 i) store) }
 
-module _ (slots : ℕ) (values store : List ℕ) (short : length store ≤ most_words) (places : List Place)
+module _ (slots : ℕ) (values store : List ℕ) (short : length store ≤ most_words) (places : List Span)
     (by : AreNamedBy slots values (length values) places) where
   abbrev named : List Range
   named = ranges_named (is_ranged slots) store values

@@ -11,7 +11,7 @@ use Rattle.std.proofs.lemmas.Option.{slice_get-get_or}
 use Rattle.library.specs.Library.{Setting}
 use Rattle.ranges.specs.Pairs.{Pairs}
 use Rattle.ranges.specs.Ranges.{Range, Has, Names}
-use Rattle.ranges.specs.declared.range.Range.{Range as Place}
+use Rattle.ranges.specs.declared.range.Range.{Range as Span}
 use Rattle.ranges.proofs.Grown.{within_refl}
 use Rattle.cells.specs.State.{FitsReads, most_words}
 use Rattle.cells.specs.Slots.{is_ranged}
@@ -24,7 +24,7 @@ use Rattle.plaincells.proofs.Stores.{of_one_store, within_staged, has_staged, ho
 use Rattle.plaincells.proofs.Widened.{shows_widened}
 
 -- a state of these values may be the one under the run, where the run began with them
-pub plain_matches : (s : Setting) (room : ℕ) (values : List ℕ) (log : Pairs) (store : List ℕ) (places : List Place) (full : Bool)
+pub plain_matches : (s : Setting) (room : ℕ) (values : List ℕ) (log : Pairs) (store : List ℕ) (places : List Span) (full : Bool)
     → length store ≤ most_words
     → Matches (plain_sight s room values log store places full) (plain_state (undone values log) store places)
 plain_matches s room values log store places full short =
@@ -35,21 +35,21 @@ plain_matches s room values log store places full short =
     }
 
 -- and it shows what they show
-pub plain_began : (s : Setting) (room : ℕ) (values : List ℕ) (log : Pairs) (store : List ℕ) (places : List Place)
+pub plain_began : (s : Setting) (room : ℕ) (values : List ℕ) (log : Pairs) (store : List ℕ) (places : List Span)
     → length store ≤ most_words
     → ShowsSome s (undone values log) store places → BeganWithSome s room values log store places
 plain_began s room values log store places short b =
     (b.0, λ full. record { matches = plain_matches s room values log store places full short; shows = b.1; verifies = b.2 })
 
 -- what the run began with stays as it was
-pub began_on : (s : Setting) (room : ℕ) (values values' : List ℕ) (log log' : Pairs) (store store' : List ℕ) (places places' : List Place)
+pub began_on : (s : Setting) (room : ℕ) (values values' : List ℕ) (log log' : Pairs) (store store' : List ℕ) (places places' : List Span)
     → length store' ≤ most_words
     → (ShowsSome s (undone values log) store places → ShowsSome s (undone values' log') store' places')
     → ∥ BeganWithSome s room values log store places ∥₁ → ∥ BeganWithSome s room values' log' store' places' ∥₁
 began_on s room values values' log log' store store' places places' short on began =
     ∥∥₁_map began (λ b. plain_began s room values' log' store' places' short (on (b.0, (b.1 false).shows, (b.1 false).verifies)))
 
-pub began_same : (s : Setting) (room : ℕ) (values values' : List ℕ) (log log' : Pairs) (store : List ℕ) (places : List Place)
+pub began_same : (s : Setting) (room : ℕ) (values values' : List ℕ) (log log' : Pairs) (store : List ℕ) (places : List Span)
     → length store ≤ most_words → undone values' log' ≡ undone values log
     → ∥ BeganWithSome s room values log store places ∥₁ → ∥ BeganWithSome s room values' log' store places ∥₁
 began_same s room values values' log log' store places short same began =
@@ -86,7 +86,7 @@ read_logged values log cell v e =
     ap (λ xs. read_at_first xs (log ++ (cell, v) ∷ [])) (undone_logged values log (log ++ (cell, v) ∷ []) cell v true e refl)
     ∙ read_at_first-push (undone values log) log (cell, v)
 
-pub plain_reads : (s : Setting) (room : ℕ) (values : List ℕ) (log : Pairs) (store : List ℕ) (places : List Place) (full : Bool) (cell v : ℕ)
+pub plain_reads : (s : Setting) (room : ℕ) (values : List ℕ) (log : Pairs) (store : List ℕ) (places : List Span) (full : Bool) (cell v : ℕ)
     → cell < length values → v ≡ get_or values cell 0 → HoldNames s.slots values (ranges_in store places)
     → Reads cell v (plain_sight s room values log store places full) (plain_sight s room values (log ++ (cell, v) ∷ []) store places full)
 plain_reads s room values log store places full cell v lt e hold =
@@ -123,7 +123,7 @@ plain_reads s room values log store places full cell v lt e hold =
     more = read_logged values log cell v e
 
 -- and no other
-pub plain_asks : (s : Setting) (room : ℕ) (values : List ℕ) (log : Pairs) (store : List ℕ) (places : List Place) (full : Bool) (cell v : ℕ)
+pub plain_asks : (s : Setting) (room : ℕ) (values : List ℕ) (log : Pairs) (store : List ℕ) (places : List Span) (full : Bool) (cell v : ℕ)
     → v ≡ get_or values cell 0
     → ReadsWithin (λ c. c ≡ cell) (plain_sight s room values log store places full)
     (plain_sight s room values (log ++ (cell, v) ∷ []) store places full)
@@ -145,11 +145,11 @@ plain_asks s room values log store places full cell v e = record { asked = eithe
 -- ---- a cell is written
 
 -- a cell that was read is one of the log
-pub plain_undone : (s : Setting) (room : ℕ) (values : List ℕ) (log : Pairs) (store : List ℕ) (places : List Place) (full : Bool)
+pub plain_undone : (s : Setting) (room : ℕ) (values : List ℕ) (log : Pairs) (store : List ℕ) (places : List Span) (full : Bool)
     (cell v : ℕ) → WasRead (plain_sight s room values log store places full) cell → undone (set values cell v) log ≡ undone values log
 plain_undone s room values log store places full cell v read = undone_write values (undone values log) log cell v read.0 read.1
 
-pub plain_writes : (s : Setting) (room : ℕ) (values : List ℕ) (log : Pairs) (store : List ℕ) (places : List Place) (full : Bool)
+pub plain_writes : (s : Setting) (room : ℕ) (values : List ℕ) (log : Pairs) (store : List ℕ) (places : List Span) (full : Bool)
     (cell v : ℕ) → cell < length values
     → WasRead (plain_sight s room values log store places full) cell
     → Writes cell v (plain_sight s room values log store places full) (plain_sight s room (set values cell v) log store places full)
@@ -178,7 +178,7 @@ hold_set slots values ranges cell v lt hold named c w at ranged = go (cases_eq c
 
 -- ---- words are staged
 
-pub plain_stages : (s : Setting) (room : ℕ) (values : List ℕ) (log : Pairs) (store words : List ℕ) (places : List Place) (full : Bool)
+pub plain_stages : (s : Setting) (room : ℕ) (values : List ℕ) (log : Pairs) (store words : List ℕ) (places : List Span) (full : Bool)
     → LieInStore store places
     → Stages words (behind store words) (plain_sight s room values log store places full)
     (plain_sight s room values log (store ++ words) (places ++ behind store words ∷ []) full)
@@ -201,7 +201,7 @@ plain_stages s room values log store words places full lie =
     }
 
 -- the values show what they showed
-pub shows_staged : (s : Setting) (values store words : List ℕ) (places : List Place) → LieInStore store places
+pub shows_staged : (s : Setting) (values store words : List ℕ) (places : List Span) → LieInStore store places
     → ShowsSome s values store places → ShowsSome s values (store ++ words) (places ++ behind store words ∷ [])
 shows_staged s values store words places lie h = (
   h.0,
@@ -213,19 +213,19 @@ shows_staged s values store words places lie h = (
 )
 
 -- a store with the words, or without them
-pub staged_or_not : (P : List ℕ → List Place → Type 0) (ok : Bool) (store words store' : List ℕ) (places places' : List Place)
+pub staged_or_not : (P : List ℕ → List Span → Type 0) (ok : Bool) (store words store' : List ℕ) (places places' : List Span)
     → store' ≡ (if ok then store ++ words else store) → places' ≡ (if ok then places ++ behind store words ∷ [] else places)
     → P (store ++ words) (places ++ behind store words ∷ []) → P store places → P store' places'
 staged_or_not P true store words store' places places' e f p q = subst (λ x. P x places') (sym e) (subst (P (store ++ words)) (sym f) p)
 staged_or_not P false store words store' places places' e f p q = subst (λ x. P x places') (sym e) (subst (P store) (sym f) q)
 
-pub hold_staged : (slots : ℕ) (values store words : List ℕ) (places : List Place) → LieInStore store places
+pub hold_staged : (slots : ℕ) (values store words : List ℕ) (places : List Span) → LieInStore store places
     → HoldNames slots values (ranges_in store places)
     → HoldNames slots values (ranges_in (store ++ words) (places ++ behind store words ∷ []))
 hold_staged slots values store words places lie hold =
     hold_more slots values (ranges_in store places) _ (within_staged store words places lie) hold
 
-pub began_staged : (s : Setting) (room : ℕ) (values : List ℕ) (log : Pairs) (store words : List ℕ) (places : List Place)
+pub began_staged : (s : Setting) (room : ℕ) (values : List ℕ) (log : Pairs) (store words : List ℕ) (places : List Span)
     → LieInStore store places
     → length (store ++ words) ≤ most_words → ∥ BeganWithSome s room values log store places ∥₁
     → ∥ BeganWithSome s room values log (store ++ words) (places ++ behind store words ∷ []) ∥₁

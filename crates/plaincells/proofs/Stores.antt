@@ -7,7 +7,7 @@ use Rattle.std.proofs.lemmas.List.{map-append, take-append-le, drop-append-le}
 use Rattle.std.proofs.Math.Seq.{drop-append_seam, take-length}
 use Rattle.std.proofs.lemmas.Option.{slice_get_within, slice_get-get_or, get_or_from_slice_get}
 use Rattle.ranges.specs.Ranges.{Range, Has, Within, Names, AreOfOneStore, IsStored, word_of}
-use Rattle.ranges.specs.declared.range.Range.{Range as Place}
+use Rattle.ranges.specs.declared.range.Range.{Range as Span}
 use Rattle.ranges.proofs.Grown.{names_grow}
 use Rattle.ranges.proofs.Stored.{stored_coherent, below_tail}
 use Rattle.plaincells.specs.Plain.{range_in, ranges_in, behind, LieInStore, names, HoldNames}
@@ -32,19 +32,19 @@ slice_get-part store start len i w h =
     (slice_get-get_or store (start + i) 0 within ∙ ap (λ (x : ℕ). Some x) (sym same ∙ at), within)
 
 -- a place that lies in the store has as many words as it says
-pub length-range_in : (store : List ℕ) (r : Place) → r.start + r.len ≤ length store → length (range_in store r).words ≡ r.len
+pub length-range_in : (store : List ℕ) (r : Span) → r.start + r.len ≤ length store → length (range_in store r).words ≡ r.len
 length-range_in store r lt = grind (arith, common_steps)
 
 -- ---- the ranges
 
 -- a range is that of one of the places
-pub place_of : (store : List ℕ) (places : List Place) (x : Range) → Has x (ranges_in store places)
-    → (i : ℕ) × (r : Place) × (slice_get places i ≡ Some r) × (x ≡ range_in store r)
+pub place_of : (store : List ℕ) (places : List Span) (x : Range) → Has x (ranges_in store places)
+    → (i : ℕ) × (r : Span) × (slice_get places i ≡ Some r) × (x ≡ range_in store r)
 place_of store [] x h = absurd h
 place_of store (r ∷ places) x (inl e) = (zero, r, refl, e)
 place_of store (r ∷ places) x (inr h) = let f = place_of store places x h in (suc f.0, f.1, f.2, f.3)
 
-pub stored_in : (store : List ℕ) (places : List Place) (x : Range) → Has x (ranges_in store places) → IsStored (length store) store x
+pub stored_in : (store : List ℕ) (places : List Span) (x : Range) → Has x (ranges_in store places) → IsStored (length store) store x
 stored_in store places x h i w at =
     let f = place_of store places x h in
     let there : slice_get (range_in store f.1).words i ≡ Some w = subst (λ (y : Range). slice_get y.words i ≡ Some w) f.3 at in
@@ -53,7 +53,7 @@ stored_in store places x h i w at =
     (slice_get-part store f.1.start f.1.len i w there)
 
 -- they are of one store
-pub of_one_store : (room : ℕ) (store : List ℕ) (places : List Place) → length store ≤ room → AreOfOneStore room (ranges_in store places)
+pub of_one_store : (room : ℕ) (store : List ℕ) (places : List Span) → length store ≤ room → AreOfOneStore room (ranges_in store places)
 of_one_store room store places fits = (
   λ x h i lt. let b = below_tail (length store) store x i (stored_in store places x h) lt in omega (arith, b, fits),
   stored_coherent (length store) store (ranges_in store places) (stored_in store places),
@@ -61,10 +61,10 @@ of_one_store room store places fits = (
 
 -- ---- more of the store
 
-lie_later : (store : List ℕ) (r : Place) (places : List Place) → LieInStore store (r ∷ places) → LieInStore store places
+lie_later : (store : List ℕ) (r : Span) (places : List Span) → LieInStore store (r ∷ places) → LieInStore store places
 lie_later store r places lie i q at = lie (suc i) q at
 
-range_in-more : (store more : List ℕ) (r : Place) → r.start + r.len ≤ length store → range_in (store ++ more) r ≡ range_in store r
+range_in-more : (store more : List ℕ) (r : Span) → r.start + r.len ≤ length store → range_in (store ++ more) r ≡ range_in store r
 range_in-more store more r lt =
     let before : r.start ≤ length store = omega arith in
     let rest : r.len ≤ length (drop r.start store) = omega (arith, length-drop r.start store) in
@@ -73,7 +73,7 @@ range_in-more store more r lt =
     λ i. record { start = r.start; words = words i }
 
 -- what lies in the store stays as it is
-pub ranges_in-more : (store more : List ℕ) (places : List Place) → LieInStore store places
+pub ranges_in-more : (store more : List ℕ) (places : List Span) → LieInStore store places
     → ranges_in (store ++ more) places ≡ ranges_in store places
 ranges_in-more store more [] lie = refl
 ranges_in-more store more (r ∷ places) lie =
@@ -88,7 +88,7 @@ range_in-behind store words =
     λ i. record { start = length store; words = made i }
 
 -- words that are put behind the store are one range more
-pub ranges_in-staged : (store words : List ℕ) (places : List Place) → LieInStore store places
+pub ranges_in-staged : (store words : List ℕ) (places : List Span) → LieInStore store places
     → ranges_in (store ++ words) (places ++ behind store words ∷ [])
     ≡ ranges_in store places ++ record { start = length store; words = words } ∷ []
 ranges_in-staged store words places lie =
@@ -96,29 +96,29 @@ ranges_in-staged store words places lie =
     map-append (range_in (store ++ words)) places (behind store words ∷ [])
     ∙ (λ i. ranges_in-more store words places lie i ++ one i ∷ [])
 
-pub within_staged : (store words : List ℕ) (places : List Place) → LieInStore store places
+pub within_staged : (store words : List ℕ) (places : List Span) → LieInStore store places
     → Within (ranges_in store places) (ranges_in (store ++ words) (places ++ behind store words ∷ []))
 within_staged store words places lie x h =
     subst (Has x) (sym (ranges_in-staged store words places lie)) (has_front x (ranges_in store places) _ h)
 
-pub has_staged : (store words : List ℕ) (places : List Place) → LieInStore store places
+pub has_staged : (store words : List ℕ) (places : List Span) → LieInStore store places
     → Has (record { start = length store; words = words }) (ranges_in (store ++ words) (places ++ behind store words ∷ []))
 has_staged store words places lie =
     subst (Has (record { start = length store; words = words })) (sym (ranges_in-staged store words places lie))
     (has_last (record { start = length store; words = words }) (ranges_in store places))
 
-pub lie_more : (store more : List ℕ) (places : List Place) → LieInStore store places → LieInStore (store ++ more) places
+pub lie_more : (store more : List ℕ) (places : List Span) → LieInStore store places → LieInStore (store ++ more) places
 lie_more store more places lie i r at = let l = lie i r at in (l.0, omega (arith, l.1, length-append store more))
 
-lie_push : (store : List ℕ) (places : List Place) (r : Place) → LieInStore store places → (0 < r.len) × (r.start + r.len ≤ length store)
+lie_push : (store : List ℕ) (places : List Span) (r : Span) → LieInStore store places → (0 < r.len) × (r.start + r.len ≤ length store)
     → LieInStore store (places ++ r ∷ [])
 lie_push store [] r lie l zero q at =
-    subst (λ (x : Place). (0 < x.len) × (x.start + x.len ≤ length store)) (let e : r ≡ q = cc in e) l
+    subst (λ (x : Span). (0 < x.len) × (x.start + x.len ≤ length store)) (let e : r ≡ q = cc in e) l
 lie_push store [] r lie l (suc i) q at = absurd cc
 lie_push store (x ∷ places) r lie l zero q at = lie zero q at
 lie_push store (x ∷ places) r lie l (suc i) q at = lie_push store places r (lie_later store x places lie) l i q at
 
-pub lie_staged : (store words : List ℕ) (places : List Place) → 0 < length words → LieInStore store places
+pub lie_staged : (store words : List ℕ) (places : List Span) → 0 < length words → LieInStore store places
     → LieInStore (store ++ words) (places ++ behind store words ∷ [])
 lie_staged store words places some lie =
     lie_push (store ++ words) places (behind store words) (lie_more store words places lie) (some, omega (arith, length-append store words))
@@ -126,7 +126,7 @@ lie_staged store words places some lie =
 -- ---- the words of a range
 
 -- a range that is known lies in the store, with its words
-pub known_words : (store : List ℕ) (places : List Place) (start len : ℕ) (words : List ℕ) → LieInStore store places
+pub known_words : (store : List ℕ) (places : List Span) (start len : ℕ) (words : List ℕ) → LieInStore store places
     → Has (record { start = start; words = words }) (ranges_in store places) → len ≡ length words
     → (start + len ≤ length store) × ((i : ℕ) → i < len → slice_get words i ≡ Some (get_or store (start + i) 0))
     × (words ≡ take len (drop start store))

@@ -28,8 +28,8 @@ use Rattle.commandline.specs.VerifyOrders.{AsksToVerify}
 use Rattle.commandline.specs.EditOrders.{AsksToEdit, IsEditOrder}
 use Rattle.commandline.specs.declared.edit_order.Allowed.{Allowed}
 use Rattle.commandline.specs.declared.edit_order.Outputs.{Outputs}
-use Rattle.commandline.specs.declared.edit_order.Place.{Place}
-use Rattle.commandline.specs.declared.edit_order.Place.TheVariants as place
+use Rattle.commandline.specs.declared.edit_order.Destination.{Destination}
+use Rattle.commandline.specs.declared.edit_order.Destination.TheVariants as place
 use Rattle.edittext.specs.Answers.{IsEditAnswer}
 use Rattle.edittext.specs.Edited.{edit_room}
 use Rattle.edittext.specs.declared.account.Account.{Account}
@@ -239,7 +239,7 @@ IsSaved path well false es status = IsSaid (path ++ codes ": cannot write") es s
 
 -- the source with the edits goes where it is to go, and the status is this: it is printed, it is written to a file, or it is put in place
 -- of what the source's file has; or it can't be
-abbrev pub IsPutAt : Place → Bytes → ℕ → Bytes → List Event → ℕ → Type 0
+abbrev pub IsPutAt : Destination → Bytes → ℕ → Bytes → List Event → ℕ → Type 0
 IsPutAt place.Printed source well out es status = IsPrintedWith well out es status
 IsPutAt (place.File path) source well out es status =
     (whole : Bool) × (rest : List Event) × (es ≡ writes path.now out whole ∷ rest) × IsSaved path.now well whole rest status
@@ -305,7 +305,7 @@ pub record Clash : Type 0 where
   pub line : Bytes
 
 -- the edited source goes to a file
-abbrev pub file_of : Place → Option Bytes
+abbrev pub file_of : Destination → Option Bytes
 file_of (place.File path) = Some path.now
 file_of _ = None
 

@@ -10,7 +10,7 @@ ghost use Rattle.program.specs.Conduct.{IsAnsweredEdit, IsEditFollowed, AreCompa
 
 use crate::conduct::{print_with, read_all, refuse, tell_unread};
 use crate::world::{Trouble, World};
-use commandline::{EditOrder, Outputs, Place};
+use commandline::{Destination, EditOrder, Outputs};
 use edittext::{Account, Told, answer_edit};
 use following::Follow;
 use jobs::Watch;
@@ -54,7 +54,7 @@ fn tell_saved<W: World>(world: &mut W, path: &str, status: u8, saved: Result<(),
 fn put_at<W: World>(
     world: &mut W,
     alloc: Global,
-    place: Place<'_>,
+    place: Destination<'_>,
     source: &str,
     status: u8,
     out: &[u8],
@@ -63,12 +63,12 @@ fn put_at<W: World>(
         × IsPutAt place.entry source.now status out.now es result }
 {
     match place {
-        Place::Printed => print_with(world, status, out),
-        Place::File(path) => {
+        Destination::Printed => print_with(world, status, out),
+        Destination::File(path) => {
             let saved = world.write(path, out);
             tell_saved(world, path, status, saved)
         }
-        Place::Source => {
+        Destination::Source => {
             let saved = world.replace(alloc, source, out);
             tell_saved(world, source, status, saved)
         }
@@ -230,12 +230,12 @@ fn is_one<W: World>(world: &mut W, one: Option<&str>, other: Option<&str>) -> bo
 }
 
 /// The path of the file that the edited source goes to, if it goes to one.
-fn file_of<'a>(place: Place<'a>) -> Option<&'a str>
+fn file_of<'a>(place: Destination<'a>) -> Option<&'a str>
     ensures { option_map (λ p. p.now) result ≡ file_of place.entry }
 {
     match place {
-        Place::File(path) => Some(path),
-        Place::Printed | Place::Source => None,
+        Destination::File(path) => Some(path),
+        Destination::Printed | Destination::Source => None,
     }
 }
 

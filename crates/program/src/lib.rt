@@ -14,7 +14,7 @@ mod whole;
 mod world;
 
 pub use commandline::{
-    EditOrder, GiveOrder, Order, Place, TakeOrder, VerifyOrder, edit_of, give_of, order_of,
+    Destination, EditOrder, GiveOrder, Order, TakeOrder, VerifyOrder, edit_of, give_of, order_of,
     take_of, verify_of,
 };
 pub use conduct::obey;

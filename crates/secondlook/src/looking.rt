@@ -18,7 +18,7 @@ use crate::edited::is_edited;
 use crate::own::own_of;
 use crate::unlike::Unlike;
 use choosing::Wish;
-use giving::{Changes, first_not_staying};
+use giving::{LabelMap, first_not_staying};
 use intake::{Refusal, Taken, Unfollowed, take_declared};
 use library::PlainLibrary;
 use source::Declared;
@@ -61,7 +61,7 @@ fn take_again<'o, D: Declared<'o>>(
 /// Every other assertion of the source stays.
 fn stay<'a, D: Declared<'a>, E: Declared<'a>>(
     alloc: Global,
-    changes: &Changes<'_>,
+    changes: &LabelMap<'_>,
     old: &D,
     new: &E,
     chosen: &[bool],
@@ -84,7 +84,7 @@ fn stay<'a, D: Declared<'a>, E: Declared<'a>>(
 #[derive(Clone, Copy)]
 pub struct Edits<'e, 'x> {
     /// The labels that change, with their new ones.
-    pub changes: &'e Changes<'x>,
+    pub changes: &'e LabelMap<'x>,
     /// Of each assertion of the source: whether it is the library's, with its proof.
     pub own: &'e [bool],
     /// The labels of the library's assertions in the source then.

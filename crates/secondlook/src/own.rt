@@ -7,7 +7,7 @@ ghost use Rattle.intake.specs.Intakes.{axioms_of};
 ghost use Rattle.sourceediting.specs.Following.{own_flags};
 ghost use Rattle.sourceediting.specs.Marked.{marked};
 
-use giving::Changes;
+use giving::LabelMap;
 use intake::Taken;
 use source::Declared;
 use std::alloc::{AllocError, Global};
@@ -23,14 +23,14 @@ pub fn told_of<'x>(
     alloc: Global,
     keys: RandomState,
     axioms: &[(&'x [u8], Reason)],
-) -> Result<Changes<'x>, AllocError>
+) -> Result<LabelMap<'x>, AllocError>
     ensures { IfOk result (λ made. made ≡ marked (map (λ p. p.0.now) axioms.now)) }
 {
     let mut pairs = Vec::new(alloc);
     for (label, _) in axioms {
         pairs.push((*label, *label))?;
     }
-    Changes::new(alloc, keys, pairs)
+    LabelMap::new(alloc, keys, pairs)
 }
 
 /// Of each assertion of a source: whether it was taken, and not as an axiom for some reason.

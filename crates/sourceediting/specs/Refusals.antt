@@ -10,7 +10,7 @@ use Rattle.giving.specs.Staying.{Change}
 use Rattle.items.specs.Items.{Item}
 use Rattle.items.specs.Bare.{IsItemOf, has_proof}
 use Rattle.arranging.specs.declared.coming.Coming.{Coming}
-use Rattle.arranging.specs.Arranged.{label_in_source, labels_of}
+use Rattle.arranging.specs.Arranged.{label_in_source, labels_asserted}
 use Rattle.arranging.specs.Held.{IsHeldBehind}
 use Rattle.sourceediting.specs.declared.refusal.Refusal.{Refusal}
 use Rattle.sourceediting.specs.declared.refusal.Refusal.TheVariants as refusal
@@ -79,7 +79,7 @@ pub record IsBareIn (living : List Followed) (edited : List Unit') (source : Lis
   pub stands : IsItemOf source item
   pub bare : has_proof item ≡ false
   pub label : Word
-  pub labelled : labels_of (item ∷ []) ≡ label ∷ []
+  pub labelled : labels_asserted (item ∷ []) ≡ label ∷ []
   pub opened : List Unit'
   pub listed : HasAnotherListing opened edited living label
 

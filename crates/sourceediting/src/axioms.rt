@@ -9,7 +9,7 @@ ghost use Rattle.sourceediting.specs.Views.{seen_followed, seen_living};
 
 use crate::citing::marked;
 use crate::following::Followed;
-use giving::Changes;
+use giving::LabelMap;
 use library::{PlainLibrary, Ranked};
 use mmsyntax::{Assertion, Kind};
 use std::alloc::{AllocError, Global};
@@ -39,7 +39,7 @@ fn axiom_labels<'x>(alloc: Global, entries: &'x [Ranked]) -> Result<Vec<&'x [u8]
 }
 
 /// The label of an assertion in the source then, if it is one of these axioms.
-fn axiom_label<'h>(axioms: &Changes<'_>, followed: &Followed<'h>) -> Option<&'h [u8]>
+fn axiom_label<'h>(axioms: &LabelMap<'_>, followed: &Followed<'h>) -> Option<&'h [u8]>
     ensures { option_map (λ w. w.now) result ≡ axiom_label (map (λ c. c.0) axioms.now) (seen_followed followed.entry.now) }
 {
     match axioms.text_for(followed.now) {
@@ -51,7 +51,7 @@ fn axiom_label<'h>(axioms: &Changes<'_>, followed: &Followed<'h>) -> Option<&'h 
 /// The labels in the source then of those of a library's assertions that have one of these labels in the library, in their order.
 fn labels_among<'h>(
     alloc: Global,
-    axioms: &Changes<'_>,
+    axioms: &LabelMap<'_>,
     living: &[Followed<'h>],
 ) -> Result<Vec<&'h [u8]>, AllocError>
     ensures { IfOk result (λ made. seen_words made.items

@@ -13,7 +13,7 @@ ghost use Rattle.sourceediting.specs.Refusals.{names, IsCitedCause};
 ghost use Rattle.sourceediting.specs.declared.refusal.Refusal.TheVariants.{StillCited};
 
 use crate::refusal::Refusal;
-use giving::Changes;
+use giving::LabelMap;
 use mmsyntax::Label;
 use source::{Declared, ProofWords};
 use std::alloc::{AllocError, Global};
@@ -28,18 +28,18 @@ pub fn marked<'x>(
     alloc: Global,
     keys: RandomState,
     labels: &[&'x [u8]],
-) -> Result<Changes<'x>, AllocError>
+) -> Result<LabelMap<'x>, AllocError>
     ensures { IfOk result (λ made. made ≡ marked (seen_words labels.now)) }
 {
     let mut pairs = Vec::new(alloc);
     for label in labels {
         pairs.push((*label, *label))?;
     }
-    Changes::new(alloc, keys, pairs)
+    LabelMap::new(alloc, keys, pairs)
 }
 
 /// The labels that stand in a proof.
-pub fn labels_of<'p, 'a>(proof: &'p ProofWords<'a>) -> &'p [&'a [u8]]
+pub fn proof_labels<'p, 'a>(proof: &'p ProofWords<'a>) -> &'p [&'a [u8]]
     ensures { seen_words result.now ≡ labels_in (seen_proof proof.now) }
 {
     match proof {
@@ -49,7 +49,7 @@ pub fn labels_of<'p, 'a>(proof: &'p ProofWords<'a>) -> &'p [&'a [u8]]
 }
 
 /// The first of these labels that is one of those that are gone.
-fn first_gone<'a>(gone: &Changes<'_>, labels: &[&'a [u8]]) -> Option<&'a [u8]>
+fn first_gone<'a>(gone: &LabelMap<'_>, labels: &[&'a [u8]]) -> Option<&'a [u8]>
     ensures some { is_some result ≡ list_any (is_in (map (λ c. c.0) gone.now)) (seen_words labels.now) }
     ensures gone { IfSome result (λ w. IsTrue (is_in (map (λ c. c.0) gone.now) w.now)) }
     ensures among { IfSome result (λ w. IsTrue (is_in (seen_words labels.now) w.now)) }
@@ -75,7 +75,7 @@ fn still_cited(alloc: Global, label: &[u8], by: &[u8]) -> Result<Refusal, AllocE
 /// The first label of one that is gone which the proof of the assertion at a place names.
 fn first_gone_at<'a, D: Declared<'a>>(
     declared: &D,
-    gone: &Changes<'_>,
+    gone: &LabelMap<'_>,
     place: usize,
 ) -> Option<&'a [u8]>
     ensures some { IfSome (slice_get (D.scope declared.now).assertions place) (λ x. is_some result
@@ -84,7 +84,7 @@ fn first_gone_at<'a, D: Declared<'a>>(
     ensures named { IfSome (slice_get (D.scope declared.now).assertions place) (λ x. IfSome result (λ w. IsTrue (names w.now x.proof))) }
 {
     match declared.proof(place) {
-        Some(proof) => first_gone(gone, labels_of(proof)),
+        Some(proof) => first_gone(gone, proof_labels(proof)),
         None => None,
     }
 }

@@ -15,7 +15,7 @@ use crate::holding::{Held, held_behind};
 use crate::outline::{Outline, Stretch};
 use crate::refusal::Refusal;
 use arranging::{Coming, Why};
-use giving::Changes;
+use giving::LabelMap;
 use items::Item;
 use leaving::Part;
 use library::Ranked;
@@ -121,7 +121,7 @@ fn staying_by_now<'x>(
     alloc: Global,
     keys: RandomState,
     living: &[Followed<'x>],
-    moving: &Changes<'_>,
+    moving: &LabelMap<'_>,
 ) -> Result<HashMap<&'x [u8], &'x [u8], RandomState>, AllocError> {
     let mut labels = HashMap::with_hasher(alloc, keys);
     for followed in living {
@@ -163,7 +163,7 @@ fn staying_of(
     keys: RandomState,
     known: &Known<'_>,
     living: &[Followed<'_>],
-    moving: &Changes<'_>,
+    moving: &LabelMap<'_>,
     entries: &[Ranked],
 ) -> Result<Vec<Option<Staying>>, AllocError> {
     let labels = staying_by_now(alloc, keys, living, moving)?;
@@ -319,7 +319,7 @@ pub(crate) fn puts_of<'t>(
     keys: RandomState,
     known: &Known<'_>,
     living: &[Followed<'_>],
-    moving: &Changes<'_>,
+    moving: &LabelMap<'_>,
     entries: &[Ranked],
     texts: &'t Texts<'_>,
 ) -> Result<Puts<'t>, Refusal>

@@ -1,11 +1,11 @@
 //! Which assertions are to stand elsewhere in a source: those that were moved, and of a block in the middle of which something is put those
 //! in front of it or those behind it.
 
-use crate::citing::labels_of;
+use crate::citing::proof_labels;
 use crate::following::Followed;
 use crate::outline::Outline;
 use crate::rearranging::Rearranged;
-use giving::Changes;
+use giving::LabelMap;
 use library::Ranked;
 use source::Declared;
 use std::alloc::{AllocError, Global};
@@ -21,9 +21,9 @@ type Member<'x> = (&'x [u8], &'x [u8]);
 /// Those that are to stand elsewhere.
 pub(crate) struct Moving<'x> {
     /// Their labels in the source, with those in the library now.
-    pub labels: Changes<'x>,
+    pub labels: LabelMap<'x>,
     /// The same of those that go in front of the block that they leave.
-    pub in_front: Changes<'x>,
+    pub in_front: LabelMap<'x>,
 }
 
 // Proved once: a derived drop is written out at each exit of a function that holds such a value.
@@ -37,7 +37,7 @@ impl<'x> Drop for Moving<'x> {
 }
 
 /// Whether one of these has one of these labels in the source.
-fn have_one(members: &[Member<'_>], labels: &Changes<'_>) -> bool {
+fn have_one(members: &[Member<'_>], labels: &LabelMap<'_>) -> bool {
     for (source, _) in members {
         if labels.text_for(source).is_some() {
             return true;
@@ -115,7 +115,7 @@ impl<'x> Row<'x> {
 
     /// Whether those in front go in front of the block: where no theorem that was taken as an axiom is among them, and those behind are
     /// more, or can't go behind it.
-    fn front_leaves(&self, told: &Changes<'_>, cited: &Changes<'_>) -> bool {
+    fn front_leaves(&self, told: &LabelMap<'_>, cited: &LabelMap<'_>) -> bool {
         let back = self.back();
         !have_one(self.front(), told)
             && (self.last < back.len() || have_one(back, told) || have_one(back, cited))
@@ -152,7 +152,7 @@ fn has_another_order(opened: &Places<'_>, entries: &[Ranked]) -> bool {
 }
 
 /// How far the assertions of the edited library were walked over, in its order.
-struct Walk<'x> {
+struct LibraryWalk<'x> {
     /// Those that were moved.
     moved: Vec<Member<'x>>,
     /// The blocks among whose members something is put.
@@ -161,9 +161,9 @@ struct Walk<'x> {
 }
 
 // Proved once: a derived drop is written out at each exit of a function that holds such a value.
-impl<'x> Drop for Walk<'x> {
+impl<'x> Drop for LibraryWalk<'x> {
     fn drop(self) {
-        let Walk {
+        let LibraryWalk {
             moved: _,
             parted: _,
             row: _,
@@ -174,8 +174,8 @@ impl<'x> Drop for Walk<'x> {
 /// Those of these rows that leave them, and of these those that go in front of their block.
 fn part<'x>(
     rows: &[Row<'x>],
-    told: &Changes<'_>,
-    cited: &Changes<'_>,
+    told: &LabelMap<'_>,
+    cited: &LabelMap<'_>,
     leaving: &mut Vec<Member<'x>>,
     in_front: &mut Vec<Member<'x>>,
 ) -> Result<(), AllocError> {
@@ -190,10 +190,10 @@ fn part<'x>(
     Ok(())
 }
 
-impl<'x> Walk<'x> {
+impl<'x> LibraryWalk<'x> {
     /// Before any assertion.
-    fn new(alloc: Global) -> Walk<'x> {
-        Walk {
+    fn new(alloc: Global) -> LibraryWalk<'x> {
+        LibraryWalk {
             moved: Vec::new(alloc),
             parted: Vec::new(alloc),
             row: Row::new(alloc, None),
@@ -260,10 +260,10 @@ impl<'x> Walk<'x> {
         self,
         alloc: Global,
         keys: RandomState,
-        told: &Changes<'_>,
-        cited: &Changes<'_>,
+        told: &LabelMap<'_>,
+        cited: &LabelMap<'_>,
     ) -> Result<Moving<'x>, AllocError> {
-        let Walk {
+        let LibraryWalk {
             moved: mut leaving,
             parted,
             row: _,
@@ -271,8 +271,8 @@ impl<'x> Walk<'x> {
         let mut in_front = Vec::new(alloc);
         part(parted.as_slice(), told, cited, &mut leaving, &mut in_front)?;
         drop(parted);
-        let labels = Changes::new(alloc, keys, leaving)?;
-        let in_front = Changes::new(alloc, keys, in_front)?;
+        let labels = LabelMap::new(alloc, keys, leaving)?;
+        let in_front = LabelMap::new(alloc, keys, in_front)?;
         Ok(Moving { labels, in_front })
     }
 }
@@ -284,11 +284,11 @@ fn walk_over<'x>(
     outline: &Outline<'_>,
     places: &Places<'_>,
     edits: &Rearranged<'x>,
-) -> Result<Walk<'x>, AllocError> {
+) -> Result<LibraryWalk<'x>, AllocError> {
     let entries = edits.planned.edited.entries();
     let opened = opened_by_now(alloc, keys, edits.planned.living)?;
     let is_other = has_another_order(&opened, entries);
-    let mut walk = Walk::new(alloc);
+    let mut walk = LibraryWalk::new(alloc);
     for entry in entries {
         let place = opened.get(entry.assertion.label.as_slice());
         let followed = place.and_then(|place| edits.planned.living.get(*place));
@@ -358,7 +358,7 @@ fn cited_in<'a, D: Declared<'a>>(
             continue;
         }
         if let Some(proof) = declared.proof(place) {
-            push_labels(&mut pairs, labels_of(proof))?;
+            push_labels(&mut pairs, proof_labels(proof))?;
         }
     }
     Ok(pairs)
@@ -373,10 +373,10 @@ fn cited_beside<'a, D: Declared<'a>>(
     places: &Places<'_>,
     parted: &[Row<'_>],
     own: &[bool],
-) -> Result<Changes<'a>, AllocError> {
+) -> Result<LabelMap<'a>, AllocError> {
     let blocks = are_parted(alloc, outline, parted)?;
     let pairs = cited_in(alloc, declared, outline, places, blocks.as_slice(), own)?;
-    Changes::new(alloc, keys, pairs)
+    LabelMap::new(alloc, keys, pairs)
 }
 
 /// The assertions of a source that are to stand elsewhere.

@@ -15,7 +15,7 @@ pub(crate) struct Stretch {
 
 /// An assertion of a source.
 #[derive(Clone, Copy)]
-pub(crate) struct Standing<'s> {
+pub(crate) struct Outlined<'s> {
     pub label: &'s [u8],
     /// So many items stand in front of it.
     pub place: usize,
@@ -36,13 +36,13 @@ struct Block {
 /// The assertions and the outermost blocks of a source, each in order.
 #[derive(Drop)]
 pub(crate) struct Outline<'s> {
-    pub assertions: Vec<Standing<'s>>,
+    pub assertions: Vec<Outlined<'s>>,
     blocks: Vec<Block>,
 }
 
 /// How far items were walked over.
 #[derive(Drop)]
-struct Walk<'s> {
+struct ItemWalk<'s> {
     outline: Outline<'s>,
     /// How many blocks are open.
     depth: usize,
@@ -50,7 +50,7 @@ struct Walk<'s> {
     is_described: bool,
 }
 
-impl<'s> Walk<'s> {
+impl<'s> ItemWalk<'s> {
     /// A block opens in front of which so many items stand.
     fn open(&mut self, place: usize) -> Result<(), AllocError> {
         if self.depth == 0 {
@@ -82,7 +82,7 @@ impl<'s> Walk<'s> {
         } else {
             None
         };
-        self.outline.assertions.push(Standing {
+        self.outline.assertions.push(Outlined {
             label,
             place,
             first: place.saturating_sub(usize::from(self.is_described)),
@@ -115,7 +115,7 @@ pub(crate) fn outline_of<'s>(
     items: &[Item<'s>],
     parts: &[Part],
 ) -> Result<Outline<'s>, AllocError> {
-    let mut walk = Walk {
+    let mut walk = ItemWalk {
         outline: Outline {
             assertions: Vec::new(alloc),
             blocks: Vec::new(alloc),
@@ -126,7 +126,7 @@ pub(crate) fn outline_of<'s>(
     for (place, (item, part)) in items.iter().zip(parts).enumerate() {
         walk.take(item.kind, *part, place)?;
     }
-    let Walk { outline, .. } = walk;
+    let ItemWalk { outline, .. } = walk;
     Ok(outline)
 }
 
@@ -150,7 +150,7 @@ impl<'s> Outline<'s> {
     }
 
     /// The outermost block that an assertion stands in.
-    fn block_of(&self, standing: &Standing<'_>) -> Option<&Block> {
+    fn block_of(&self, standing: &Outlined<'_>) -> Option<&Block> {
         self.blocks.get(standing.block?)
     }
 
@@ -160,7 +160,7 @@ impl<'s> Outline<'s> {
     }
 
     /// The outermost block that an assertion stands in, or else itself with what describes it.
-    pub(crate) fn whole(&self, standing: &Standing<'_>) -> Stretch {
+    pub(crate) fn whole(&self, standing: &Outlined<'_>) -> Stretch {
         match self.block_of(standing) {
             Some(block) => block.stretch,
             None => Stretch {
@@ -171,7 +171,7 @@ impl<'s> Outline<'s> {
     }
 
     /// Whether no other assertion stands in the outermost block that an assertion stands in.
-    pub(crate) fn is_alone(&self, standing: &Standing<'_>) -> bool {
+    pub(crate) fn is_alone(&self, standing: &Outlined<'_>) -> bool {
         match self.block_of(standing) {
             Some(block) => block.assertions <= 1,
             None => true,

@@ -22,7 +22,7 @@ ghost use Rattle.sourceediting.specs.declared.refusal.Refusal.TheVariants.{Unwri
 
 use crate::following::Followed;
 use crate::refusal::Refusal;
-use giving::Changes;
+use giving::LabelMap;
 use library::{PlainLibrary, Ranked};
 use mmframes::frame_of;
 use mmsyntax::{Assertion, Database, Float, Label, Prelude, Proof, StepRef};
@@ -51,7 +51,7 @@ pub struct Planned<'x> {
     /// Of each assertion of the source: whether it is the library's, with its proof.
     pub own: &'x [bool],
     /// The labels of theorems that were taken as axioms.
-    pub told: &'x Changes<'x>,
+    pub told: &'x LabelMap<'x>,
 }
 
 /// The assertions of the library at the opening, by their labels then.
@@ -86,7 +86,7 @@ pub(crate) fn edited_by_label<'x>(
 }
 
 /// A label as it reads then.
-fn changed_in<'x>(changes: &Changes<'x>, label: &'x [u8]) -> &'x [u8]
+fn changed_in<'x>(changes: &LabelMap<'x>, label: &'x [u8]) -> &'x [u8]
     ensures { result.now ≡ changed changes.now label.now }
 {
     match changes.text_for(label) {
@@ -98,7 +98,7 @@ fn changed_in<'x>(changes: &Changes<'x>, label: &'x [u8]) -> &'x [u8]
 /// The labels of the library's `$f` in the source.
 fn floats_in_source<'x>(
     alloc: Global,
-    changes: &Changes<'x>,
+    changes: &LabelMap<'x>,
     floats: &'x [Float],
 ) -> Result<Vec<&'x [u8]>, AllocError>
     ensures { IfOk result (λ made. seen_words made.items ≡ map (λ f. changed changes.now f.label) floats.now) }
@@ -231,7 +231,7 @@ pub(crate) fn names_of<'x, D: Declared<'x>>(
 }
 
 /// Whether a step is another one with a changed label.
-fn is_step(changes: &Changes<'_>, old: StepRef<'_>, new: StepRef<'_>) -> bool
+fn is_step(changes: &LabelMap<'_>, old: StepRef<'_>, new: StepRef<'_>) -> bool
     ensures { IsTrue result ↔ (step_then changes.now (seen_step old.entry) ≡ seen_step new.entry) }
 {
     match (old, new) {
@@ -245,7 +245,7 @@ fn is_step(changes: &Changes<'_>, old: StepRef<'_>, new: StepRef<'_>) -> bool
 }
 
 /// Whether a proof is another one with changed labels.
-fn is_proof(changes: &Changes<'_>, old: &Proof, new: &Proof) -> bool
+fn is_proof(changes: &LabelMap<'_>, old: &Proof, new: &Proof) -> bool
     ensures { IsTrue result ↔ (map (step_then changes.now) old.now ≡ new.now) }
 {
     if old.len() != new.len() {
@@ -264,7 +264,7 @@ fn changes_in_library<'x>(
     alloc: Global,
     keys: RandomState,
     living: &[Followed<'x>],
-) -> Result<Changes<'x>, AllocError>
+) -> Result<LabelMap<'x>, AllocError>
     ensures { IfOk result (λ made. made ≡ changes_in_library (seen_living living.now)) }
 {
     let mut pairs = Vec::new(alloc);
@@ -273,7 +273,7 @@ fn changes_in_library<'x>(
             pairs.push(change)?;
         }
     }
-    Changes::new(alloc, keys, pairs)
+    LabelMap::new(alloc, keys, pairs)
 }
 
 /// A proof of an assertion of the edited library that can't be written.
@@ -289,7 +289,7 @@ fn other_proof<'x, D: Declared<'x>>(
     keys: RandomState,
     declared: &D,
     names: &Names<'x>,
-    indentations: &Changes<'_>,
+    indentations: &LabelMap<'_>,
     source: &'x [u8],
     new: &Assertion,
 ) -> Result<Vec<u8>, Refusal>
@@ -336,7 +336,7 @@ pub(crate) fn other_proofs<'x, D: Declared<'x>>(
     declared: &D,
     edited: &ByLabel<'x>,
     names: &Names<'x>,
-    indentations: &Changes<'_>,
+    indentations: &LabelMap<'_>,
     planned: &Planned<'x>,
 ) -> Result<Vec<(&'x [u8], Vec<u8>)>, Refusal>
     requires labelled { AreLabelled edited.now (map (λ r. r.assertion) planned.now.edited.now.entries) }

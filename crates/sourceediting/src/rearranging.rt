@@ -18,11 +18,11 @@ use crate::filling::{Known, Piece, Puts, Texts, puts_of};
 use crate::following::Followed;
 use crate::holding::unplaced;
 use crate::moving::{Moving, moving_of};
-use crate::outline::{Standing, Stretch, outline_of};
+use crate::outline::{Outlined, Stretch, outline_of};
 use crate::planning::{ByLabel, Planned, labelled, unwritten};
 use crate::refusal::Refusal;
 use arranging::{Edits, Outcome, arrange, parts_of};
-use giving::Changes;
+use giving::LabelMap;
 use items::{Item, read_items, rewrite};
 use mmsyntax::Assertion;
 use source::{Declared, ProofWords};
@@ -41,9 +41,9 @@ pub(crate) struct Rearranged<'x> {
     /// What the steps of proofs name.
     pub names: &'x Names<'x>,
     /// The labels of the source that change.
-    pub changes: &'x Changes<'x>,
+    pub changes: &'x LabelMap<'x>,
     /// The proofs that change.
-    pub proofs: &'x Changes<'x>,
+    pub proofs: &'x LabelMap<'x>,
 }
 
 /// Whether the proof of an assertion of a source is compressed.
@@ -94,7 +94,7 @@ fn parted<'x, 'a, D: Declared<'a>>(
     keys: RandomState,
     declared: &D,
     known: &Known<'x>,
-    standing: &Standing<'x>,
+    standing: &Outlined<'x>,
     assertion: &Assertion,
     is_in_front: bool,
     words: &SymbolWords<'x>,
@@ -282,7 +282,7 @@ fn arranged(
     keys: RandomState,
     source: &[u8],
     items: &[Item<'_>],
-    moving: &Changes<'_>,
+    moving: &LabelMap<'_>,
     puts: &Puts<'_>,
     edits: &Rearranged<'_>,
 ) -> Result<Vec<u8>, Refusal>

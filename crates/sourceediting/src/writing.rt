@@ -14,7 +14,7 @@ use crate::commands::keep_places;
 use crate::planning::{ByLabel, Planned, edited_by_label, names_of, other_proofs};
 use crate::rearranging::{Rearranged, rearrange, rewritten};
 use crate::refusal::Refusal;
-use giving::Changes;
+use giving::LabelMap;
 use items::indentations;
 use library::Entry;
 use source::Declared;
@@ -27,14 +27,14 @@ fn by_label<'x>(
     alloc: Global,
     keys: RandomState,
     proofs: &'x [(&'x [u8], Vec<u8>)],
-) -> Result<Changes<'x>, AllocError>
+) -> Result<LabelMap<'x>, AllocError>
     ensures { IfOk result (λ made. made ≡ seen_proofs proofs.now) }
 {
     let mut pairs = Vec::new(alloc);
     for (label, text) in proofs {
         pairs.push((*label, text.as_slice()))?;
     }
-    Changes::new(alloc, keys, pairs)
+    LabelMap::new(alloc, keys, pairs)
 }
 
 /// The source with these edits, which a history makes.
@@ -70,7 +70,7 @@ fn write_over<'e, D: Declared<'e>>(
     source: &'e [u8],
     planned: &Planned<'e>,
     entries: &[Entry],
-    changes: &'e Changes<'e>,
+    changes: &'e LabelMap<'e>,
     edited: &ByLabel<'e>,
     names: &Names<'e>,
 ) -> Result<Vec<u8>, Refusal>
@@ -113,7 +113,7 @@ pub fn write_edits<'e, D: Declared<'e>>(
     source: &'e [u8],
     planned: &Planned<'e>,
     entries: &[Entry],
-    changes: &'e Changes<'e>,
+    changes: &'e LabelMap<'e>,
 ) -> Result<Vec<u8>, Refusal>
     requires { DeclaresText source.now (D.scope declared.now) }
     ensures written { IfOk result (λ out. IsWrittenAnew (all_commands entries.now) (seen_living planned.now.living.now)

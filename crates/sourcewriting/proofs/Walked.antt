@@ -9,7 +9,7 @@ use Rattle.taking.proofs.Turned.{turned_cons}
 use Rattle.sourcewriting.specs.declared.shared.Shared.{Shared}
 use Rattle.sourcewriting.specs.declared.walking.Put.{Put}
 use Rattle.sourcewriting.specs.declared.walking.Task.{Task}
-use Rattle.sourcewriting.specs.declared.walking.Walk.{Walk}
+use Rattle.sourcewriting.specs.declared.walking.NodeWalk.{NodeWalk}
 use Rattle.sourcewriting.specs.Nodes.{arguments_in}
 use Rattle.sourcewriting.specs.Readable.{written_then}
 use Rattle.sourcewriting.specs.Walked.{Walked, unwalked, visit, IsPut, IsPutOnce, IsPutAgain, ArePut, Find, AreTasks, IsWalking, WalksOn}
@@ -326,7 +326,7 @@ pub next_is : (s : Shared) (puts : List Put) (opened : List Bool) (t : Task) (ts
 next_is s puts opened t ts b e w = subst (λ b. IsWalking s puts opened (record { node = t.node; is_end = b } ∷ ts)) e w
 
 -- where a node is put
-pub put_walks : (s : Shared) (old new : Walk) (t : Task) (again : Bool) → new ≡ record old { puts = new.puts }
+pub put_walks : (s : Shared) (old new : NodeWalk) (t : Task) (again : Bool) → new ≡ record old { puts = new.puts }
     → new.puts.items ≡ old.puts.items ++ record { node = t.node; is_again = again } ∷ []
     → (IsWalking s old.puts.items old.opened.items (t ∷ reverse old.tasks.items)
     → IsWalking s (old.puts.items ++ record { node = t.node; is_again = again } ∷ []) old.opened.items (reverse old.tasks.items))
@@ -334,12 +334,12 @@ pub put_walks : (s : Shared) (old new : Walk) (t : Task) (again : Bool) → new 
 put_walks s old new t again same is step w =
     let one = subst (λ ps. IsWalking s ps old.opened.items (reverse old.tasks.items)) (sym is) (step w) in
     let two = subst (λ (fs : Vec Bool Global). IsWalking s new.puts.items fs.items (reverse old.tasks.items))
-    (sym (ap (λ (w : Walk). w.opened) same)) one in
+    (sym (ap (λ (w : NodeWalk). w.opened) same)) one in
     subst (λ (ts : Vec Task Global). IsWalking s new.puts.items new.opened.items (reverse ts.items))
-    (sym (ap (λ (w : Walk). w.tasks) same)) two
+    (sym (ap (λ (w : NodeWalk). w.tasks) same)) two
 
 -- where it is opened
-pub open_walks : (s : Shared) (old new : Walk) (t : Task) (args : List ℕ) → new.puts ≡ old.puts
+pub open_walks : (s : Shared) (old new : NodeWalk) (t : Task) (args : List ℕ) → new.puts ≡ old.puts
     → new.opened.items ≡ set old.opened.items t.node true
     → new.tasks.items ≡ old.tasks.items ++ record { node = t.node; is_end = true } ∷ reverse (map visit args)
     → (IsWalking s old.puts.items old.opened.items (t ∷ reverse old.tasks.items)

@@ -4,7 +4,7 @@ use mathlib.Core.Bool.{not}
 use Rattle.sourcewriting.specs.declared.shared.Shared.{Shared}
 use Rattle.sourcewriting.specs.declared.walking.Put.{Put}
 use Rattle.sourcewriting.specs.declared.walking.Task.{Task}
-use Rattle.sourcewriting.specs.declared.walking.Walk.{Walk}
+use Rattle.sourcewriting.specs.declared.walking.NodeWalk.{NodeWalk}
 use Rattle.sourcewriting.specs.Nodes.{arguments_in}
 use Rattle.sourcewriting.specs.Readable.{written_then}
 
@@ -68,7 +68,7 @@ abbrev pub visit : ℕ → Task
 visit n = record { node = n; is_end = false }
 
 -- no more than this is left to do
-abbrev pub work_left : Shared → Walk → ℕ
+abbrev pub work_left : Shared → NodeWalk → ℕ
 work_left s w = count_by not w.opened.items * suc (suc (length s.arguments.items)) + length w.tasks.items
 
 -- how far a walk came, with what is left to do
@@ -82,7 +82,7 @@ pub record IsWalking (s : Shared) (puts : List Put) (opened : List Bool) (tasks 
       → (slice_get state.written n ≡ Some true) ⊎ Contains tasks (record { node = n; is_end = true })
   pub shut : (n : ℕ) → slice_get opened n ≡ Some false → slice_get state.written n ≡ Some false
 
-abbrev pub WalksOn : Shared → Walk → Task → Walk → Type 0
+abbrev pub WalksOn : Shared → NodeWalk → Task → NodeWalk → Type 0
 WalksOn s old t new =
     IsWalking s old.puts.items old.opened.items (t ∷ reverse old.tasks.items)
     → IsWalking s new.puts.items new.opened.items (reverse new.tasks.items)

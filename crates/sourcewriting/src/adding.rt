@@ -8,7 +8,7 @@ use crate::layout::{Layout, proof_indentation};
 use crate::listing::{Names, put_nodes};
 use crate::shared::Shared;
 use crate::wording::{put_compressed, put_normal};
-use giving::Changes;
+use giving::LabelMap;
 use mmframes::frame_of;
 use mmsyntax::{Assertion, Expr, Kind, Label, Prelude, Symbol, SymbolWord};
 use source::Declared;
@@ -69,7 +69,7 @@ pub struct SymbolWords<'x> {
 }
 
 /// What a name of the library is in the source.
-fn in_source<'x>(changed: &Changes<'x>, name: &'x Label) -> &'x [u8] {
+fn in_source<'x>(changed: &LabelMap<'x>, name: &'x Label) -> &'x [u8] {
     let name = name.as_slice();
     changed.text_for(name).unwrap_or(name)
 }
@@ -77,7 +77,7 @@ fn in_source<'x>(changed: &Changes<'x>, name: &'x Label) -> &'x [u8] {
 /// The words of constants in the source.
 fn constant_words<'x>(
     alloc: Global,
-    changed: &Changes<'x>,
+    changed: &LabelMap<'x>,
     constants: &'x [Label],
 ) -> Result<Vec<&'x [u8]>, AllocError> {
     let mut words = Vec::new(alloc);
@@ -90,7 +90,7 @@ fn constant_words<'x>(
 /// The words of the variables of `$f` in the source.
 fn variable_words<'x>(
     alloc: Global,
-    changed: &Changes<'x>,
+    changed: &LabelMap<'x>,
     prelude: &'x Prelude,
 ) -> Result<Vec<&'x [u8]>, AllocError> {
     let mut words = Vec::new(alloc);
@@ -106,14 +106,14 @@ pub fn names_in_source<'x>(
     alloc: Global,
     keys: RandomState,
     names: &'x [(&'x [u8], Label)],
-) -> Result<Changes<'x>, AllocError>
+) -> Result<LabelMap<'x>, AllocError>
     ensures { IfOk result (λ made. made ≡ map (λ p. (p.1, p.0.now)) names.now) }
 {
     let mut pairs = Vec::new(alloc);
     for (source, library) in names {
         pairs.push((library.as_slice(), *source))?;
     }
-    Changes::new(alloc, keys, pairs)
+    LabelMap::new(alloc, keys, pairs)
 }
 
 /// The words of a library's symbols in the source, over its prelude, where these names were changed.

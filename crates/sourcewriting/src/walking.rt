@@ -23,7 +23,7 @@ pub(crate) struct Put {
 
 /// How far the nodes of a proof were walked through.
 #[derive(Drop)]
-struct Walk {
+struct NodeWalk {
     /// Those that were put.
     puts: Vec<Put>,
     /// Of each node, whether its arguments are walked through, or were.
@@ -32,9 +32,9 @@ struct Walk {
     tasks: Vec<Task>,
 }
 
-impl Walk {
+impl NodeWalk {
     /// Nothing is put, and a node is walked through next.
-    fn new(alloc: Global, nodes: usize, root: usize) -> Result<Walk, AllocError>
+    fn new(alloc: Global, nodes: usize, root: usize) -> Result<NodeWalk, AllocError>
         ensures puts { IfOk result (λ made. made.puts.items ≡ []) }
         ensures opened { IfOk result (λ made. made.opened.items ≡ replicate nodes false) }
         ensures tasks { IfOk result (λ made. made.tasks.items ≡ record { node = root; is_end = false } ∷ []) }
@@ -45,7 +45,7 @@ impl Walk {
             node: root,
             is_end: false,
         })?;
-        Ok(Walk {
+        Ok(NodeWalk {
             puts: Vec::new(alloc),
             opened,
             tasks,
@@ -108,10 +108,10 @@ pub(crate) fn puts_of(
     ensures { AreNodes shared.now → root < length shared.now.nodes.items → IfOk result (λ puts. (end : Walked)
         × ArePut shared.now puts.items (unwalked (length shared.now.nodes.items)) end) }
 {
-    let mut walk = Walk::new(alloc, shared.len(), root)?;
+    let mut walk = NodeWalk::new(alloc, shared.len(), root)?;
     while let Some(task) = walk.tasks.pop() {
         walk.take(shared, task)?;
     }
-    let Walk { puts, .. } = walk;
+    let NodeWalk { puts, .. } = walk;
     Ok(puts)
 }

@@ -9,7 +9,7 @@ use Rattle.taking.specs.declared.named.Named.{Named}
 use Rattle.taking.specs.Settings.{Setting, AreNamed}
 use Rattle.taking.specs.Nodes.{Shared, AreBelow}
 use Rattle.taking.specs.Walks.{TakesAll}
-use Rattle.taking.specs.Reasons.{labels_of}
+use Rattle.taking.specs.Reasons.{labels_cited}
 use Rattle.taking.specs.Decoding.{grown, stack_on, trees_at, AreCovered}
 use Rattle.mmsyntax.proofs.Distinct.{all_append, all_left, all_right}
 use Rattle.taking.proofs.Values.{all_more}
@@ -80,6 +80,6 @@ module _ (named : List Named) (ns : List Shared) (es ms : List ℕ) (n place : �
   covered_stand a = λ labels test.
       over_entries labels test ns (take n es) (drop n es) place front
       (subst
-      (λ (fs : List ℕ). list_any test (flat_map labels_of (trees_at labels ns fs))
+      (λ (fs : List ℕ). list_any test (flat_map labels_cited (trees_at labels ns fs))
       ≡ list_any (λ m. test (slice_index_or labels m.named [])) ns)
       (sym (take-append-drop n es)) (a labels test))

@@ -11,7 +11,7 @@ use Rattle.std.proofs.lemmas.Grind.{flat_map-append}
 use Rattle.mmtext.specs.Words.{Word}
 use Rattle.source.specs.Proofs.{Tree, node, over}
 use Rattle.taking.specs.Nodes.{Shared, trees, values, values_behind}
-use Rattle.taking.specs.Reasons.{labels_of, labels_of_each}
+use Rattle.taking.specs.Reasons.{labels_cited, labels_cited_by_each}
 use Rattle.taking.specs.Decoding.{trees_at}
 use Rattle.taking.proofs.Stacked.{kept_trees, new_tree}
 
@@ -36,14 +36,14 @@ or_turned false false false = refl
 
 -- ---- labels
 
-each_label : (ts : List Tree) → labels_of_each (over ts) ≡ flat_map labels_of ts
+each_label : (ts : List Tree) → labels_cited_by_each (over ts) ≡ flat_map labels_cited ts
 each_label [] = refl
-each_label (t ∷ ts) = ap (λ ws. labels_of t ++ ws) (each_label ts)
+each_label (t ∷ ts) = ap (λ ws. labels_cited t ++ ws) (each_label ts)
 
 module _ (labels : List Word) (test : Word → Bool) where
   -- a test passes for a label of these trees
   labelled : List Tree → Bool
-  labelled ts = list_any test (flat_map labels_of ts)
+  labelled ts = list_any test (flat_map labels_cited ts)
 
   -- or for what one of these nodes names
   names : List Shared → Bool
@@ -52,35 +52,35 @@ module _ (labels : List Word) (test : Word → Bool) where
   labelled_both : (ts us : List Tree) → labelled (ts ++ us) ≡ (labelled ts || labelled us)
   unfolding labelled
   labelled_both ts us =
-      ap (list_any test) (flat_map-append labels_of ts us) ∙ list_any-append test (flat_map labels_of ts) (flat_map labels_of us)
+      ap (list_any test) (flat_map-append labels_cited ts us) ∙ list_any-append test (flat_map labels_cited ts) (flat_map labels_cited us)
 
   labelled_node : (w : Word) (ts : List Tree) → labelled (node w (over ts) ∷ []) ≡ ((test w || labelled ts) || false)
   unfolding labelled
   labelled_node w ts =
-      ap (list_any test) (append-nil (labels_of (node w (over ts))))
+      ap (list_any test) (append-nil (labels_cited (node w (over ts))))
       ∙ ap (λ ws. test w || list_any test ws) (each_label ts)
-      ∙ sym (or-false (test w || list_any test (flat_map labels_of ts)))
+      ∙ sym (or-false (test w || list_any test (flat_map labels_cited ts)))
 
   -- ---- each label is one that a node names
 
-  labelled_at : (ts : List Tree) (k : ℕ) (t : Tree) → slice_get ts k ≡ Some t → list_any test (labels_of t) ≡ true → labelled ts ≡ true
+  labelled_at : (ts : List Tree) (k : ℕ) (t : Tree) → slice_get ts k ≡ Some t → list_any test (labels_cited t) ≡ true → labelled ts ≡ true
   unfolding labelled
   labelled_at [] k t at h = absurd cc
   labelled_at (u ∷ us) zero t at h =
       let e : u ≡ t = cc in
-      list_any-append test (labels_of u) (flat_map labels_of us)
-      ∙ or_left (list_any test (labels_of u)) (list_any test (flat_map labels_of us)) (ap (λ x. list_any test (labels_of x)) e ∙ h)
+      list_any-append test (labels_cited u) (flat_map labels_cited us)
+      ∙ or_left (list_any test (labels_cited u)) (list_any test (flat_map labels_cited us)) (ap (λ x. list_any test (labels_cited x)) e ∙ h)
   labelled_at (u ∷ us) (suc k) t at h =
-      list_any-append test (labels_of u) (flat_map labels_of us)
-      ∙ or_right (list_any test (labels_of u)) (list_any test (flat_map labels_of us)) (labelled_at us k t at h)
+      list_any-append test (labels_cited u) (flat_map labels_cited us)
+      ∙ or_right (list_any test (labels_cited u)) (list_any test (flat_map labels_cited us)) (labelled_at us k t at h)
 
   one_got : (ts : List Tree) (k : ℕ) (o : Option Tree) (us : List Tree) → slice_get ts k ≡ o → (labelled us ≡ true → labelled ts ≡ true)
       → labelled (cons_option o us) ≡ true → labelled ts ≡ true
   unfolding labelled
   one_got ts k None us at rest h = rest h
   one_got ts k (Some t) us at rest h =
-      or_either (list_any test (labels_of t)) (labelled us) (labelled ts) (labelled_at ts k t at) rest
-      (sym (list_any-append test (labels_of t) (flat_map labels_of us)) ∙ h)
+      or_either (list_any test (labels_cited t)) (labelled us) (labelled ts) (labelled_at ts k t at) rest
+      (sym (list_any-append test (labels_cited t) (flat_map labels_cited us)) ∙ h)
 
   labelled_got : (ts : List Tree) (ks : List ℕ) → labelled (filter_map (slice_get ts) ks) ≡ true → labelled ts ≡ true
   unfolding labelled
@@ -115,8 +115,9 @@ module _ (labels : List Word) (test : Word → Bool) where
 
   -- an entry that is a node already
   pub again : (ns : List Shared) (es : List ℕ) (k : ℕ)
-      → list_any test (flat_map labels_of (trees_at labels ns es)) ≡ list_any (λ n. test (slice_index_or labels n.named [])) ns
-      → list_any test (flat_map labels_of (trees_at labels ns (es ++ k ∷ []))) ≡ list_any (λ n. test (slice_index_or labels n.named [])) ns
+      → list_any test (flat_map labels_cited (trees_at labels ns es)) ≡ list_any (λ n. test (slice_index_or labels n.named [])) ns
+      → list_any test (flat_map labels_cited (trees_at labels ns (es ++ k ∷ [])))
+        ≡ list_any (λ n. test (slice_index_or labels n.named [])) ns
   unfolding labelled names
   again ns es k h =
       ap labelled (filter_map-append (slice_get (trees labels ns)) es (k ∷ []))
@@ -125,8 +126,9 @@ module _ (labels : List Word) (test : Word → Bool) where
 
   -- a node over entries
   pub over_entries : (ns : List Shared) (front args : List ℕ) (place : ℕ) → AllByRecursion (λ k. k < length ns) front
-      → list_any test (flat_map labels_of (trees_at labels ns (front ++ args))) ≡ list_any (λ n. test (slice_index_or labels n.named [])) ns
-      → list_any test (flat_map labels_of (trees_at labels (ns ++ record { named = place; arguments = args } ∷ []) (front ++ length ns
+      → list_any test (flat_map labels_cited (trees_at labels ns (front ++ args)))
+        ≡ list_any (λ n. test (slice_index_or labels n.named [])) ns
+      → list_any test (flat_map labels_cited (trees_at labels (ns ++ record { named = place; arguments = args } ∷ []) (front ++ length ns
       ∷ [])))
       ≡ list_any (λ n. test (slice_index_or labels n.named [])) (ns ++ record { named = place; arguments = args } ∷ [])
   unfolding labelled names
@@ -149,10 +151,10 @@ module _ (labels : List Word) (test : Word → Bool) where
 
   -- one entry alone
   pub alone : (ns : List Shared) (es : List ℕ) (root : ℕ) (t : Tree) → es ≡ root ∷ [] → slice_get (trees labels ns) root ≡ Some t
-      → list_any test (flat_map labels_of (trees_at labels ns es)) ≡ list_any (λ n. test (slice_index_or labels n.named [])) ns
-      → list_any test (labels_of t) ≡ list_any (λ n. test (slice_index_or labels n.named [])) ns
+      → list_any test (flat_map labels_cited (trees_at labels ns es)) ≡ list_any (λ n. test (slice_index_or labels n.named [])) ns
+      → list_any test (labels_cited t) ≡ list_any (λ n. test (slice_index_or labels n.named [])) ns
   alone ns es root t one at h =
-      sym (ap (λ ks. list_any test (flat_map labels_of (trees_at labels ns ks))) one
-      ∙ ap (λ o. list_any test (flat_map labels_of (cons_option o []))) at
-      ∙ ap (list_any test) (append-nil (labels_of t)))
+      sym (ap (λ ks. list_any test (flat_map labels_cited (trees_at labels ns ks))) one
+      ∙ ap (λ o. list_any test (flat_map labels_cited (cons_option o []))) at
+      ∙ ap (list_any test) (append-nil (labels_cited t)))
       ∙ h

@@ -10,7 +10,7 @@ use Rattle.taking.specs.declared.named.Named.{Named}
 use Rattle.taking.specs.declared.decoded.DecodedProof.{DecodedProof}
 use Rattle.taking.specs.Settings.{Setting, AreNamed}
 use Rattle.taking.specs.Nodes.{Shared, trees}
-use Rattle.taking.specs.Reasons.{labels_of}
+use Rattle.taking.specs.Reasons.{labels_cited}
 
 -- the tree of a decoded proof
 abbrev pub tree_of : List Word → DecodedProof → Option Tree
@@ -27,4 +27,4 @@ AreDecoded named codes made =
 -- the nodes name just the labels of a tree: a test passes for one of these just where it passes for what one of the nodes names
 abbrev pub AreLabelsOf : List Word → List Shared → Tree → Type 0
 AreLabelsOf labels nodes t = (test : Word → Bool)
-    → list_any test (labels_of t) ≡ list_any (λ n. test (slice_index_or labels n.named [])) nodes
+    → list_any test (labels_cited t) ≡ list_any (λ n. test (slice_index_or labels n.named [])) nodes

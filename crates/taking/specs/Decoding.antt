@@ -14,7 +14,7 @@ use Rattle.taking.specs.declared.decoder.Decoder.{Decoder}
 use Rattle.taking.specs.Settings.{Setting, AreNamed}
 use Rattle.taking.specs.Nodes.{Shared, trees, AreBelow}
 use Rattle.taking.specs.Walks.{TakesAll}
-use Rattle.taking.specs.Reasons.{labels_of}
+use Rattle.taking.specs.Reasons.{labels_cited}
 
 -- what a label makes of trees
 abbrev pub grown : Word → List Tree → Tree
@@ -36,7 +36,7 @@ stack_of labels d = stack_on labels d.nodes d.entries.items d.marked.items
 abbrev pub AreCovered : List Shared → List ℕ → Type 0
 AreCovered ns entries =
     (labels : List Word) (test : Word → Bool)
-    → list_any test (flat_map labels_of (trees_at labels ns entries)) ≡ list_any (λ n. test (slice_index_or labels n.named [])) ns
+    → list_any test (flat_map labels_cited (trees_at labels ns entries)) ≡ list_any (λ n. test (slice_index_or labels n.named [])) ns
 
 -- each entry is a node, each node takes as much as what it names asks for, and is below an entry
 pub record StandsOn (named : List Named) (d : Decoder) : Type 0 where

@@ -22,19 +22,19 @@ pub record Choice : Type 0 where
 
 abbrev mutual
   -- the labels of a tree
-  pub labels_of : Tree → List Word
-  labels_of (node w trees) = w ∷ labels_of_each trees
+  pub labels_cited : Tree → List Word
+  labels_cited (node w trees) = w ∷ labels_cited_by_each trees
 
-  pub labels_of_each : Trees → List Word
-  labels_of_each none = []
-  labels_of_each (some t ts) = labels_of t ++ labels_of_each ts
+  pub labels_cited_by_each : Trees → List Word
+  labels_cited_by_each none = []
+  labels_cited_by_each (some t ts) = labels_cited t ++ labels_cited_by_each ts
 
 -- an assertion that isn't chosen has the label
 abbrev pub is_left_out : List Assertion → List Word → Word → Bool
 is_left_out earlier chosen w = list_any (λ a. bytes_eq w a.label) earlier && not (is_in chosen w)
 
 abbrev pub cites_left_out : List Assertion → List Word → Tree → Bool
-cites_left_out earlier chosen tree = list_any (is_left_out earlier chosen) (labels_of tree)
+cites_left_out earlier chosen tree = list_any (is_left_out earlier chosen) (labels_cited tree)
 
 -- ---- reasons, the first that holds: unfinished, too long, in front of the choice, citing what isn't chosen, with too long an expression
 
@@ -63,7 +63,7 @@ reason choice earlier x = reason_of choice earlier x x.proof
 -- ---- what a proof needs: the labels of its tree, unless its theorem is taken as an axiom for what it is
 abbrev pub needed_by_tree : Option Tree → List Word
 needed_by_tree None = []
-needed_by_tree (Some tree) = if nat_lt MOST_STEPS (size tree) then [] else labels_of tree
+needed_by_tree (Some tree) = if nat_lt MOST_STEPS (size tree) then [] else labels_cited tree
 
 abbrev pub needed_by : List Assertion → Assertion → Option Proof → List Word
 needed_by earlier x None = []

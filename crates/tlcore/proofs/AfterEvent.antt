@@ -12,14 +12,14 @@ use Rattle.tlcore.proofs.Lists.{get-set_cases}
 abbrev pub Others : List Seat → ℕ → List Held → Option ℕ → Type 0
 Others ts s ks n =
     (q : ℕ) (u : Seat) → q ≢ s → slice_get ts q ≡ Some u
-    → ((c : ℕ) (k l : Held) → find_held c ks ≡ Some k → find_held c u.held ≡ Some l → ⊥) × (number_at u.place ≡ n → n ≡ None)
+    → ((c : ℕ) (k l : Held) → find_held c ks ≡ Some k → find_held c u.held ≡ Some l → ⊥) × (number_at u.phase ≡ n → n ≡ None)
 
 pub others-own : (o : List ℕ) (w : World) (s : ℕ) (t : Seat) → Consistent o w → slice_get w.seats s ≡ Some t
-    → Others w.seats s t.held (number_at t.place)
+    → Others w.seats s t.held (number_at t.phase)
 others-own o w s t I e q u ne f =
-    (λ c k l a b. ne (sym (I.held_apart s q t u c k l e f a b)), λ p. alone (number_at t.place) refl p)
+    (λ c k l a b. ne (sym (I.held_apart s q t u c k l e f a b)), λ p. alone (number_at t.phase) refl p)
   where
-    alone : (n : Option ℕ) → number_at t.place ≡ n → number_at u.place ≡ n → n ≡ None
+    alone : (n : Option ℕ) → number_at t.phase ≡ n → number_at u.phase ≡ n → n ≡ None
     alone None a b = refl
     alone (Some i) a b = absurd (ne (sym (I.numbers_apart s q t u i e f a b)))
 
@@ -27,7 +27,7 @@ module _ (o : List ℕ) (w : World) (s : ℕ) (t z : Seat) (ys : List Cell) (g :
   pub Consistent-step : Consistent o w → slice_get w.seats s ≡ Some t → Frame o w.cells ys w.history g ks n → Others w.seats s ks n
       → m ≡ length g → CellsOk o ys g → HistoryOk o g → SeatOk o ys g z
       → ((c : ℕ) (k : Held) → find_held c z.held ≡ Some k → (l : Held) × (find_held c ks ≡ Some l))
-      → ((i : ℕ) → number_at z.place ≡ Some i → n ≡ Some i)
+      → ((i : ℕ) → number_at z.phase ≡ Some i → n ≡ Some i)
       → Consistent o (record { clock = m; cells = ys; seats = slice_set w.seats s z; history = g })
   Consistent-step I e f others clock cells history seat held number =
       record {
@@ -60,15 +60,15 @@ module _ (o : List ℕ) (w : World) (s : ℕ) (t z : Seat) (ys : List Cell) (g :
       taken_number : (i : ℕ) → n ≡ Some i → n ≡ None → ⊥
       taken_number i p q = cc
 
-      number_case : (a b : ℕ) (x y : Seat) (i : ℕ) → number_at x.place ≡ Some i → number_at y.place ≡ Some i
+      number_case : (a b : ℕ) (x y : Seat) (i : ℕ) → number_at x.phase ≡ Some i → number_at y.phase ≡ Some i
           → ((a ≡ s) × (x ≡ z)) ⊎ ((a ≢ s) × (slice_get w.seats a ≡ Some x))
           → ((b ≡ s) × (y ≡ z)) ⊎ ((b ≢ s) × (slice_get w.seats b ≡ Some y)) → a ≡ b
       number_case a b x y i h j (inl p) (inl r) = p.0 ∙ sym r.0
       number_case a b x y i h j (inl p) (inr r) =
-          let q : n ≡ Some i = number i (ap (λ (v : Seat). number_at v.place) (sym p.1) ∙ h) in
+          let q : n ≡ Some i = number i (ap (λ (v : Seat). number_at v.phase) (sym p.1) ∙ h) in
           absurd (taken_number i q ((others b y r.0 r.1).1 (j ∙ sym q)))
       number_case a b x y i h j (inr p) (inl r) =
-          let q : n ≡ Some i = number i (ap (λ (v : Seat). number_at v.place) (sym r.1) ∙ j) in
+          let q : n ≡ Some i = number i (ap (λ (v : Seat). number_at v.phase) (sym r.1) ∙ j) in
           absurd (taken_number i q ((others a x p.0 p.1).1 (h ∙ sym q)))
       number_case a b x y i h j (inr p) (inr r) = I.numbers_apart a b x y i p.1 r.1 h j
 
@@ -85,9 +85,9 @@ Frame-refl o xs h ks n =
 pub Consistent-seat : (o : List ℕ) (w : World) (s : ℕ) (t z : Seat) → Consistent o w → slice_get w.seats s ≡ Some t
     → SeatOk o w.cells w.history z
     → ((c : ℕ) (k : Held) → find_held c z.held ≡ Some k → (l : Held) × (find_held c t.held ≡ Some l))
-    → ((i : ℕ) → number_at z.place ≡ Some i → number_at t.place ≡ Some i)
+    → ((i : ℕ) → number_at z.phase ≡ Some i → number_at t.phase ≡ Some i)
     → Consistent o (with_seat w s z)
 Consistent-seat o w s t z I e ok held number =
-    Consistent-step o w s t z w.cells w.history w.clock t.held (number_at t.place) I e
-    (Frame-refl o w.cells w.history t.held (number_at t.place))
+    Consistent-step o w s t z w.cells w.history w.clock t.held (number_at t.phase) I e
+    (Frame-refl o w.cells w.history t.held (number_at t.phase))
     (others-own o w s t I e) I.clock I.cells I.history ok held number

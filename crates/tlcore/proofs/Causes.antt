@@ -3,8 +3,8 @@ use Rattle.std.proofs.Common.{Bool, List, None, Option, Some, [], ap, arith, eq-
 use Rattle.std.proofs.lemmas.Bool.{both_ways}
 use Rattle.std.proofs.lemmas.Option.{none-some}
 use Rattle.tlcore.specs.History.{Will, deed, value, version}
-use Rattle.tlcore.specs.Seats.{Checking, Held, Idle, Loaded, Looked, Place, Reading, Seat, Storing, Taking, all_below, find_held, is_held, is_nil, is_settled, passes, settled_below, with_stored, without}
-use Rattle.tlcore.specs.Machine.{Action, Begin, Cell, World, begun, given, next, placed, saw, with_seat}
+use Rattle.tlcore.specs.Seats.{Checking, Held, Idle, Loaded, Looked, Phase, Reading, Seat, Storing, Taking, all_below, find_held, is_held, is_nil, is_settled, passes, settled_below, with_stored, without}
+use Rattle.tlcore.specs.Machine.{Action, Begin, Cell, World, begun, given, next, in_phase, saw, with_seat}
 use Rattle.tlcore.specs.Schedules.{Event, run}
 use Rattle.tlcore.specs.Conflicts.{ConflictsHaveCause, HeldByOther, HeldMeanwhile, NoBegin, cell_of}
 use Rattle.tlcore.specs.Invariant.{Consistent, Holds, Invariant, IsOld}
@@ -58,7 +58,7 @@ due_free c u ks b k d e = go (is_held c ks) (nat_lt c u) (both_left (not (is_set
 module _ (o : List ℕ) (w : World) (s : ℕ) (t : Seat) (I : Consistent o w) (e : slice_get w.seats s ≡ Some t) (calm : t.conflicted
     ≡ false) where
   abbrev Cause : Action → Type 0
-  Cause a = (c : ℕ) × (cell_of a ≡ Some c) × ((L : ℕ) → Active L w.cells t c t.place → ⊥)
+  Cause a = (c : ℕ) × (cell_of a ≡ Some c) × ((L : ℕ) → Active L w.cells t c t.phase → ⊥)
 
   seat_now : (z u : Seat) → slice_get (slice_set w.seats s z) s ≡ Some u → u.conflicted ≡ true → z.conflicted ≡ true
   seat_now z u f g =
@@ -70,8 +70,8 @@ module _ (o : List ℕ) (w : World) (s : ℕ) (t : Seat) (I : Consistent o w) (e
       → Cause a
   no_conflict z u a m f g = absurd (both_ways z.conflicted m (seat_now z u f g))
 
-  active_at : (L c : ℕ) (p : Place) → t.place ≡ p → Active L w.cells t c t.place → Active L w.cells t c p
-  active_at L c p q a = subst (λ (y : Place). Active L w.cells t c y) q a
+  active_at : (L c : ℕ) (p : Phase) → t.phase ≡ p → Active L w.cells t c t.phase → Active L w.cells t c p
+  active_at L c p q a = subst (λ (y : Phase). Active L w.cells t c y) q a
 
   stale : (L c : ℕ) (x : Cell) → Steady L w.cells t.rv t.held t.reads c → slice_get w.cells c ≡ Some x
       → ((k : Held) → find_held c t.held ≡ Some k → ⊥) → passes x.lock t.rv ≡ false → ⊥
@@ -80,22 +80,22 @@ module _ (o : List ℕ) (w : World) (s : ℕ) (t : Seat) (I : Consistent o w) (e
 
   row_cause : (a : Action) (v : World) (u : Seat) → Row w s t a v → slice_get v.seats s ≡ Some u → u.conflicted ≡ true → Cause a
   row_cause a v u (begins p) f g = no_conflict (begun w t) u a refl f g
-  row_cause a v u (looks {c} {x} p h m) f g = no_conflict (placed (saw t c x.lock) (Looked c x.lock)) u a calm f g
+  row_cause a v u (looks {c} {x} p h m) f g = no_conflict (in_phase (saw t c x.lock) (Looked c x.lock)) u a calm f g
   row_cause a v u (look_conflicts {c} {x} p h m) f g =
       (c, refl, λ L b. stale L c x (active_at L c Reading p b) h (λ k i. none_held o w s t I e Reading p (λ y. y) c (k, i)) m)
-  row_cause a v u (loads {c} {word} {x} p h) f g = no_conflict (placed t (Loaded c word x.value)) u a calm f g
+  row_cause a v u (loads {c} {word} {x} p h) f g = no_conflict (in_phase t (Loaded c word x.value)) u a calm f g
   row_cause a v u (relooks {c} {word} {v = y} {x} p h m) f g =
-      no_conflict (record (saw t c x.lock) { place = Reading; reads = record { cell = c; word = word; value = y } ∷ t.reads }) u a calm f g
+      no_conflict (record (saw t c x.lock) { phase = Reading; reads = record { cell = c; word = word; value = y } ∷ t.reads }) u a calm f g
   row_cause a v u (relook_conflicts {c} {word} {v = y} {x} p h m) f g = (c, refl, go)
     where
-      go : (L : ℕ) → Active L w.cells t c t.place → ⊥
+      go : (L : ℕ) → Active L w.cells t c t.phase → ⊥
       go L b =
           let st : Steady L w.cells t.rv t.held t.reads c × (c ≡ c → word ≡ L) = active_at L c (Loaded c word y) p b in
           other_numbers x.lock word m
           (st.0.lock x h (λ k i. none_held o w s t I e (Loaded c word y) p (λ q. q.0) c (k, i)) ∙ sym (st.1 refl))
   row_cause a v u (takes {c} {v = y} {r} {x} p i h m) f g =
       no_conflict (record (saw t c x.lock) {
-        place = Taking;
+        phase = Taking;
         held =
             record { cell = c; word = r.word; value = y; stored = false } ∷ t.held;
         locked = c ∷ t.locked;
@@ -105,30 +105,30 @@ module _ (o : List ℕ) (w : World) (s : ℕ) (t : Seat) (I : Consistent o w) (e
       at_last : (L : ℕ) → Steady L w.cells t.rv t.held t.reads c → ((k : Held) → find_held c t.held ≡ Some k → ⊥) → ⊥
       at_last L st n = other_numbers x.lock r.word m (st.lock x h n ∙ sym (st.words r i))
 
-      go : (L : ℕ) → Active L w.cells t c t.place → (t.place ≡ Reading) ⊎ ((t.place ≡ Taking) × (all_below c t.held ≡ true)) → ⊥
+      go : (L : ℕ) → Active L w.cells t c t.phase → (t.phase ≡ Reading) ⊎ ((t.phase ≡ Taking) × (all_below c t.held ≡ true)) → ⊥
       go L b (inl q) = at_last L (active_at L c Reading q b) (λ k j. none_held o w s t I e Reading q (λ y. y) c (k, j))
       go L b (inr q) = at_last L (active_at L c Taking q.0 b) (λ k j. below_free c t.held k q.1 j)
-  row_cause a v u (draws p) f g = no_conflict (placed t (Checking w.clock 0)) u a calm f g
-  row_cause a v u (checks {i} {u = n} {c} {x} p d h m) f g = no_conflict (placed (saw t c x.lock) (Checking i (suc c))) u a calm f g
+  row_cause a v u (draws p) f g = no_conflict (in_phase t (Checking w.clock 0)) u a calm f g
+  row_cause a v u (checks {i} {u = n} {c} {x} p d h m) f g = no_conflict (in_phase (saw t c x.lock) (Checking i (suc c))) u a calm f g
   row_cause a v u (check_conflicts {i} {u = n} {c} {x} p d h m) f g = (
     c,
     refl,
     λ L b. stale L c x (active_at L c (Checking i n) p b) h
         (λ k j. due_free c n t.held (settled_below c t.held n t.reads) k d j) m,
   )
-  row_cause a v u (stores {i} {c} p h j) f g = no_conflict (record t { place = Storing i; held = with_stored c t.held }) u a calm f g
+  row_cause a v u (stores {i} {c} p h j) f g = no_conflict (record t { phase = Storing i; held = with_stored c t.held }) u a calm f g
   row_cause a v u (releases_done {i} {c} p h st j) f g =
-      no_conflict (record t { place = (if is_nil (without c t.held) then Idle else t.place); held = without c t.held }) u a calm f g
+      no_conflict (record t { phase = (if is_nil (without c t.held) then Idle else t.phase); held = without c t.held }) u a calm f g
   row_cause a v u (releases_failed {c} p h j) f g =
-      no_conflict (record t { place = (if is_nil (without c t.held) then Idle else t.place); held = without c t.held }) u a calm f g
+      no_conflict (record t { phase = (if is_nil (without c t.held) then Idle else t.phase); held = without c t.held }) u a calm f g
   row_cause a v u (releases_void {i} {c} p h j) f g =
-      no_conflict (record t { place = (if is_nil (without c t.held) then Idle else t.place); held = without c t.held }) u a calm f g
+      no_conflict (record t { phase = (if is_nil (without c t.held) then Idle else t.phase); held = without c t.held }) u a calm f g
 
 -- ---- over a run
 
 -- the seat runs, and the lock word of the cell is L since its run began
 abbrev pub Since : ℕ → World → ℕ → ℕ → Type 0
-Since L w s c = (t : Seat) × (slice_get w.seats s ≡ Some t) × Active L w.cells t c t.place
+Since L w s c = (t : Seat) × (slice_get w.seats s ≡ Some t) × Active L w.cells t c t.phase
 
 sooner : (w v : World) (e : Event) (es : List Event) (s c : ℕ) → next w e.0 e.1 ≡ Some v → HeldMeanwhile v es s c
     → HeldMeanwhile w (e ∷ es) s c
@@ -164,7 +164,7 @@ since_run o L s c (e ∷ es) w v I nb r b =
             let g : Some row.0 ≡ Some b.0 = sym f ∙ b.1 in
             let h : row.0 ≡ b.0 = cc in
             let d : Row w s row.0 e.1 m.0 = subst (λ (y : ℕ). Row w y row.0 e.1 m.0) q row.2 in
-            own_step o L w s c row.0 I.consistent f (subst (λ (y : Seat). Active L w.cells y c y.place) (sym h) b.2) e.1 m.0 (nb.0 q) d
+            own_step o L w s c row.0 I.consistent f (subst (λ (y : Seat). Active L w.cells y c y.phase) (sym h) b.2) e.1 m.0 (nb.0 q) d
 
         go : (e.0 ≡ s) ⊎ (e.0 ≢ s) → HeldMeanwhile w (e ∷ es) s c ⊎ Since L v s c
         go (inl q) = on (own q)
@@ -260,7 +260,7 @@ schedule_causes o n front es s a w w1 before after r0 b nb r1 st t u f g calm me
         subst (λ (y : World). HeldByOther y s c ⊎ ((L : ℕ) × Since L y s c)) (sym is)
         (begin_since o w s first.0 first.1 (subst (Invariant o) is J) c)
 
-    go : (c : ℕ) × (cell_of a ≡ Some c) × ((L : ℕ) → Active L before.cells t c t.place → ⊥)
+    go : (c : ℕ) × (cell_of a ≡ Some c) × ((L : ℕ) → Active L before.cells t c t.phase → ⊥)
         → (c : ℕ) × (cell_of a ≡ Some c) × HeldMeanwhile w1 es s c
     go k = (k.0, k.1, by (starts k.0))
       where
@@ -269,7 +269,7 @@ schedule_causes o n front es s a w w1 before after r0 b nb r1 st t u f g calm me
         last L (inr y) =
             let p : Some (y.0) ≡ Some t = sym y.1 ∙ f in
             let q : y.0 ≡ t = cc in
-            absurd (k.2 L (subst (λ (z : Seat). Active L before.cells z k.0 z.place) q y.2))
+            absurd (k.2 L (subst (λ (z : Seat). Active L before.cells z k.0 z.phase) q y.2))
 
         by : HeldByOther w1 s k.0 ⊎ ((L : ℕ) × Since L w1 s k.0) → HeldMeanwhile w1 es s k.0
         by (inl y) = at_once w1 es s k.0 y

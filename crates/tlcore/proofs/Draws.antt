@@ -4,8 +4,8 @@ use Rattle.std.proofs.Common.{sym, true, ℕ, ◌*◌, ◌++◌, ◌<◌, ◌∙
 use Rattle.tlcore.specs.History.{Deed, Did, Done, WordsEntry, Grows, IsOne, Nothing, One, Open, Will, deed, deed_in, deed_of, value, value_after}
 use Rattle.tlcore.specs.History.{value_over, version, version_after, version_over}
 use Rattle.ranges.specs.Pairs.{written}
-use Rattle.tlcore.specs.Seats.{Checking, Held, Place, Read, Seat, Taking, find_held, is_held, number_at, reads_of, writes_of}
-use Rattle.tlcore.specs.Machine.{Cell, World, drawn, placed}
+use Rattle.tlcore.specs.Seats.{Checking, Held, Phase, Read, Seat, Taking, find_held, is_held, number_at, reads_of, writes_of}
+use Rattle.tlcore.specs.Machine.{Cell, World, drawn, in_phase}
 use Rattle.tlcore.specs.Invariant.{CellsOk, Consistent, HeldOk, HeldShows, HistoryOk, ReadsOk, SeatOk, SettledOk, done_at}
 use Rattle.tlcore.proofs.AfterEvent.{Consistent-step, Others}
 use Rattle.tlcore.proofs.Deeds.{did, value-same, version-same}
@@ -65,7 +65,7 @@ module _ (o : List ℕ) (h : List WordsEntry) (rs ws : List (ℕ × ℕ)) where
             ∙ value-same (deed h c) (deed g c) (slice_index o c) (length h) (λ i l. ap did (deed_before c i l)));
       }
 
-module _ (o : List ℕ) (w : World) (s : ℕ) (t : Seat) (I : Consistent o w) (e : slice_get w.seats s ≡ Some t) (p : t.place ≡ Taking) where
+module _ (o : List ℕ) (w : World) (s : ℕ) (t : Seat) (I : Consistent o w) (e : slice_get w.seats s ≡ Some t) (p : t.phase ≡ Taking) where
   abbrev entry : WordsEntry
   entry = record { status = Open; reads = reads_of t.reads; writes = writes_of t.held }
 
@@ -115,7 +115,7 @@ module _ (o : List ℕ) (w : World) (s : ℕ) (t : Seat) (I : Consistent o w) (e
   draw_others : Others w.seats s t.held (Some w.clock)
   draw_others z u ne g = (
     λ c k l a b. ne (sym (I.held_apart s z t u c k l e g a b)),
-    λ a. absurd (late (number_within o w.cells w.history u u.place w.clock (I.seats z u g).place a)),
+    λ a. absurd (late (number_within o w.cells w.history u u.phase w.clock (I.seats z u g).phase a)),
   )
     where
       late : w.clock < length w.history → ⊥
@@ -124,7 +124,7 @@ module _ (o : List ℕ) (w : World) (s : ℕ) (t : Seat) (I : Consistent o w) (e
   -- a held cell is locked
   held_locked : (c : ℕ) (k : Held) → find_held c t.held ≡ Some k → (v : ℕ) (x : Cell) → slice_get w.cells c ≡ Some x → x.lock ≡ 2 * v → ⊥
   held_locked c k f v x g j =
-      let r : (y : Cell) × (slice_get w.cells c ≡ Some y) × HeldOk o w.history t.rv t.place c k y = q.held c k f in
+      let r : (y : Cell) × (slice_get w.cells c ≡ Some y) × HeldOk o w.history t.rv t.phase c k y = q.held c k f in
       let i : Some x ≡ Some r.0 = sym g ∙ r.1 in
       let y : x ≡ r.0 = cc in
       let z : x.lock ≡ suc k.word = ap (λ (a : Cell). a.lock) y ∙ r.2.locked in
@@ -162,9 +162,9 @@ module _ (o : List ℕ) (w : World) (s : ℕ) (t : Seat) (I : Consistent o w) (e
     where
       held : (k : Held) → find_held r.cell t.held ≡ Some k → IsOne o later w.clock r.cell r.value
       held k f =
-          let d : (x : Cell) × (slice_get w.cells r.cell ≡ Some x) × HeldOk o w.history t.rv t.place r.cell k x = q.held r.cell k f in
+          let d : (x : Cell) × (slice_get w.cells r.cell ≡ Some x) × HeldOk o w.history t.rv t.phase r.cell k x = q.held r.cell k f in
           let sh : HeldShows o w.history None r.cell k d.0 =
-          subst (λ (y : Place). HeldShows o w.history (done_at y) r.cell k d.0) p d.2.shows in
+          subst (λ (y : Phase). HeldShows o w.history (done_at y) r.cell k d.0) p d.2.shows in
           let l : t.rv ≤ length w.history = q.rv in
           let one : IsOne o w.history w.clock r.cell r.value =
           one_on o w.history r.cell t.rv w.clock r.value a.0.1 (omega (arith, sh.0, d.2.old.1, d.2.old.2)) (omega (arith, I.clock))
@@ -179,10 +179,10 @@ module _ (o : List ℕ) (w : World) (s : ℕ) (t : Seat) (I : Consistent o w) (e
       go (inl b) = let k : (k : Held) × (find_held r.cell t.held ≡ Some k) = is_held-find r.cell t.held b in held k.0 k.1
       go (inr b) = let l : r.cell < 0 = less_numbers r.cell 0 b in absurd (omega arith)
 
-  draw_seat : SeatOk o w.cells later (placed t (Checking w.clock 0))
+  draw_seat : SeatOk o w.cells later (in_phase t (Checking w.clock 0))
   draw_seat =
       record {
-        place = record {
+        phase = record {
           entry = entry;
           here = ap (slice_get later) I.clock ∙ get-append_seam w.history entry;
           status = refl;
@@ -194,8 +194,8 @@ module _ (o : List ℕ) (w : World) (s : ℕ) (t : Seat) (I : Consistent o w) (e
         rv = omega (arith, q.rv, grows.0);
         reads = ReadsOk-kept o w.history later t.rv t.reads grows q.rv q.reads;
         held = λ c k f.
-            let d : (x : Cell) × (slice_get w.cells c ≡ Some x) × HeldOk o w.history t.rv t.place c k x = q.held c k f in
-            let sh : HeldShows o w.history None c k d.0 = subst (λ (y : Place). HeldShows o w.history (done_at y) c k d.0) p d.2.shows in (
+            let d : (x : Cell) × (slice_get w.cells c ≡ Some x) × HeldOk o w.history t.rv t.phase c k x = q.held c k f in
+            let sh : HeldShows o w.history None c k d.0 = subst (λ (y : Phase). HeldShows o w.history (done_at y) c k d.0) p d.2.shows in (
               d.0,
               d.1,
               record {
@@ -211,7 +211,7 @@ module _ (o : List ℕ) (w : World) (s : ℕ) (t : Seat) (I : Consistent o w) (e
       taking_none : (i : ℕ) → None ≡ Some i → ⊥
       taking_none i y = cc
 
-      own : (c : ℕ) (k : Held) (x : Cell) → HeldOk o w.history t.rv t.place c k x → (i u : ℕ) → deed later c i ≡ Will u
+      own : (c : ℕ) (k : Held) (x : Cell) → HeldOk o w.history t.rv t.phase c k x → (i u : ℕ) → deed later c i ≡ Will u
           → (deed later c i ≡ deed w.history c i) ⊎ ((i ≡ length w.history)
           × (deed later c i ≡ deed_of Open (written c (writes_of t.held))))
           → Some w.clock ≡ Some i
@@ -220,6 +220,6 @@ module _ (o : List ℕ) (w : World) (s : ℕ) (t : Seat) (I : Consistent o w) (e
 
   pub drawn_keeps : Consistent o (drawn w s t)
   drawn_keeps =
-      Consistent-step o w s t (placed t (Checking w.clock 0)) w.cells later (suc w.clock) t.held (Some w.clock) I e
+      Consistent-step o w s t (in_phase t (Checking w.clock 0)) w.cells later (suc w.clock) t.held (Some w.clock) I e
       draw_frame draw_others (ap suc I.clock ∙ sym (length-append_one w.history entry)) draw_cells draw_history draw_seat
       (λ c k f. (k, f)) (λ i f. f)

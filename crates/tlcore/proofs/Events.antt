@@ -1,10 +1,10 @@
 -- Each lawful event keeps the invariant, and the history grows.
 use Rattle.std.proofs.Common.{List, None, Some, [], ap, arith, inl, inr, refl, slice_get, subst, suc, sym, true, ℕ, ◌||◌, ◌≡◌, ◌⊎◌}
 use Rattle.tlcore.specs.History.{WordsEntry, Grows, One, Open}
-use Rattle.tlcore.specs.Seats.{Checking, Loaded, Place, Reading, Seat, Taking, all_below, all_settled, is_next, number_at, reads_of}
+use Rattle.tlcore.specs.Seats.{Checking, Loaded, Phase, Reading, Seat, Taking, all_below, all_settled, is_next, number_at, reads_of}
 use Rattle.tlcore.specs.Seats.{writes_of}
 use Rattle.tlcore.specs.Machine.{Action, World, begun, with_seat}
-use Rattle.tlcore.specs.Invariant.{CheckingOk, Consistent, PlaceOk, done_at}
+use Rattle.tlcore.specs.Invariant.{CheckingOk, Consistent, PhaseOk, done_at}
 use Rattle.tlcore.specs.Laws.{EachEventKeeps}
 use Rattle.tlcore.proofs.Draws.{drawn_keeps}
 use Rattle.tlcore.proofs.Growth.{Grows-append, Grows-refl}
@@ -24,12 +24,12 @@ abbrev Kept : List ℕ → World → World → Type 0
 Kept o w v = Consistent o v × Grows w.history v.history
 
 -- the reads of a run that has drawn, once none is left to check, or where nobody drew in between
-drawn_one : (o : List ℕ) (w : World) (s : ℕ) (t : Seat) (i u : ℕ) → Consistent o w → slice_get w.seats s ≡ Some t → t.place ≡ Checking i u
+drawn_one : (o : List ℕ) (w : World) (s : ℕ) (t : Seat) (i u : ℕ) → Consistent o w → slice_get w.seats s ≡ Some t → t.phase ≡ Checking i u
     → (is_next t i || all_settled t.held u t.reads) ≡ true → One o w.history i (reads_of t.reads)
 drawn_one o w s t i u I e p b = either (one_of (is_next t i) (all_settled t.held u t.reads) b)
   where
     r : CheckingOk o w.history t i u
-    r = subst (λ (y : Place). PlaceOk o w.cells w.history t y) p (I.seats s t e).place
+    r = subst (λ (y : Phase). PhaseOk o w.cells w.history t y) p (I.seats s t e).phase
 
     either : (is_next t i ≡ true) ⊎ (all_settled t.held u t.reads ≡ true) → One o w.history i (reads_of t.reads)
     either (inl b) =
@@ -43,12 +43,12 @@ module _ (o : List ℕ) (w : World) (s : ℕ) (t : Seat) (I : Consistent o w) (e
   same : (v : World) → v.history ≡ w.history → Consistent o v → Kept o w v
   same v a b = (b, subst (λ (h : List WordsEntry). Grows w.history h) (sym a) (Grows-refl w.history))
 
-  empty_at : (p : Place) → t.place ≡ p → (PlaceOk o w.cells w.history t p → t.held ≡ []) → t.held ≡ []
-  empty_at p a f = f (subst (λ (y : Place). PlaceOk o w.cells w.history t y) a (I.seats s t e).place)
+  empty_at : (p : Phase) → t.phase ≡ p → (PhaseOk o w.cells w.history t p → t.held ≡ []) → t.held ≡ []
+  empty_at p a f = f (subst (λ (y : Phase). PhaseOk o w.cells w.history t y) a (I.seats s t e).phase)
 
   -- a run that takes cells has no number
-  free_of : (c : ℕ) → (t.place ≡ Reading) ⊎ ((t.place ≡ Taking) × (all_below c t.held ≡ true))
-      → (done_at t.place ≡ None) × (number_at t.place ≡ None)
+  free_of : (c : ℕ) → (t.phase ≡ Reading) ⊎ ((t.phase ≡ Taking) × (all_below c t.held ≡ true))
+      → (done_at t.phase ≡ None) × (number_at t.phase ≡ None)
   free_of c (inl p) = (ap done_at p, ap number_at p)
   free_of c (inr p) = (ap done_at p.0, ap number_at p.0)
 

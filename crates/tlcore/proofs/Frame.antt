@@ -2,10 +2,10 @@
 use Rattle.std.proofs.Common.{List, None, Option, Some, [], ap, arith, inl, inr, length, refl, slice_get, slice_set, subst, sym, ℕ, ◌*◌}
 use Rattle.std.proofs.Common.{◌<◌, ◌∙◌, ◌∷◌, ◌≡◌, ◌≢◌, ◌≤◌, ◌⊎◌}
 use Rattle.tlcore.specs.History.{WordsEntry, Grows, Will, deed, value, version}
-use Rattle.tlcore.specs.Seats.{Checking, Failing, Held, Idle, Loaded, Looked, Place, Read, Reading, Seat, Storing, Taking, Voiding}
+use Rattle.tlcore.specs.Seats.{Checking, Failing, Held, Idle, Loaded, Looked, Phase, Read, Reading, Seat, Storing, Taking, Voiding}
 use Rattle.tlcore.specs.Seats.{find_held, number_at}
 use Rattle.tlcore.specs.Machine.{Cell}
-use Rattle.tlcore.specs.Invariant.{HeldOk, HeldShows, PlaceOk, ReadsOk, SeatOk, SettledOk, done_at}
+use Rattle.tlcore.specs.Invariant.{HeldOk, HeldShows, PhaseOk, ReadsOk, SeatOk, SettledOk, done_at}
 use Rattle.tlcore.proofs.Growth.{IsOne-kept, WasWritten-kept}
 use Rattle.tlcore.proofs.Lists.{get-set_cases, get-set_other, get_within}
 use Rattle.tlcore.proofs.Stays.{Stays}
@@ -57,7 +57,7 @@ pub HeldShows-kept : (o : List ℕ) (xs ys : List Cell) (h g : List WordsEntry) 
 HeldShows-kept o xs ys h g None c k x u p = (omega (arith, u.same_version, p.0), p.1 ∙ sym u.same_value, p.2)
 HeldShows-kept o xs ys h g (Some i) c k x u p = (u.same_version ∙ p.0, u.same_value ∙ p.1, p.2)
 
-pub HeldOk-kept : (o : List ℕ) (xs ys : List Cell) (h g : List WordsEntry) (rv : ℕ) (p : Place) (c : ℕ) (k : Held) (x : Cell) → Grows h g
+pub HeldOk-kept : (o : List ℕ) (xs ys : List Cell) (h g : List WordsEntry) (rv : ℕ) (p : Phase) (c : ℕ) (k : Held) (x : Cell) → Grows h g
     → Untouched o xs ys h g c → HeldOk o h rv p c k x → HeldOk o g rv p c k x
 HeldOk-kept o xs ys h g rv p c k x r u q =
     record {
@@ -75,18 +75,18 @@ module _ (o : List ℕ) (xs ys : List Cell) (h g : List WordsEntry) (ks : List H
       let up : version h c ≤ version g c = (f.evolves c).up in
       (omega arith, λ q. e (omega arith) ∙ sym ((f.evolves c).same_value (omega arith)))
 
-  PlaceOk-kept : (t : Seat) (p : Place) → (number_at p ≡ n → n ≡ None) → PlaceOk o xs h t p → PlaceOk o ys g t p
-  PlaceOk-kept t Idle a q = q
-  PlaceOk-kept t Reading a q = q
-  PlaceOk-kept t (Looked c word) a q =
+  PhaseOk-kept : (t : Seat) (p : Phase) → (number_at p ≡ n → n ≡ None) → PhaseOk o xs h t p → PhaseOk o ys g t p
+  PhaseOk-kept t Idle a q = q
+  PhaseOk-kept t Reading a q = q
+  PhaseOk-kept t (Looked c word) a q =
       let up : version h c ≤ version g c = (f.evolves c).up in
       let l : word ≤ 2 * version h c = q.2 in
       (q.0, q.1, omega arith, λ e. (f.evolves c).word (omega arith) (q.3 (omega arith)))
-  PlaceOk-kept t (Loaded c word v) a q =
+  PhaseOk-kept t (Loaded c word v) a q =
       let r : (word ≤ 2 * version g c) × (word ≡ 2 * version g c → v ≡ value o g c) = looked_kept c word v q.2 q.3 in
       (q.0, q.1, r.0, r.1)
-  PlaceOk-kept t Taking a q = tt
-  PlaceOk-kept t (Checking i u) a q =
+  PhaseOk-kept t Taking a q = tt
+  PhaseOk-kept t (Checking i u) a q =
       let l : i < length h = get_within h i q.entry q.here in
       record {
         entry = q.entry;
@@ -100,30 +100,30 @@ module _ (o : List ℕ) (xs ys : List Cell) (h g : List WordsEntry) (ks : List H
     where
       absurd_some : (i : ℕ) (n : Option ℕ) → n ≡ None → n ≡ Some i → ⊥
       absurd_some i n x y = cc
-  PlaceOk-kept t (Storing i) a q = (q.0, f.entries i q.0 (λ e. absurd_some (a (sym e)) e) q.1, q.2)
+  PhaseOk-kept t (Storing i) a q = (q.0, f.entries i q.0 (λ e. absurd_some (a (sym e)) e) q.1, q.2)
     where
       absurd_some : n ≡ None → n ≡ Some i → ⊥
       absurd_some x y = cc
-  PlaceOk-kept t Failing a q = tt
-  PlaceOk-kept t (Voiding i) a q = (q.0, f.entries i q.0 (λ e. absurd_some (a (sym e)) e) q.1, q.2)
+  PhaseOk-kept t Failing a q = tt
+  PhaseOk-kept t (Voiding i) a q = (q.0, f.entries i q.0 (λ e. absurd_some (a (sym e)) e) q.1, q.2)
     where
       absurd_some : n ≡ None → n ≡ Some i → ⊥
       absurd_some x y = cc
 
   -- another seat keeps what it has
-  pub SeatOk-kept : (t : Seat) → (number_at t.place ≡ n → n ≡ None)
+  pub SeatOk-kept : (t : Seat) → (number_at t.phase ≡ n → n ≡ None)
       → ((c : ℕ) (k l : Held) → find_held c ks ≡ Some k → find_held c t.held ≡ Some l → ⊥) → SeatOk o xs h t → SeatOk o ys g t
   SeatOk-kept t a d q =
       let up : length h ≤ length g = f.grows.0 in
       let l : t.rv ≤ length h = q.rv in
       record {
-        place = PlaceOk-kept t t.place a q.place;
+        phase = PhaseOk-kept t t.phase a q.phase;
         rv = omega arith;
         reads = ReadsOk-kept o h g t.rv t.reads f.grows l q.reads;
         held = λ c k e.
             let u : Untouched o xs ys h g c = f.same c (λ m r. d c m k r e) in
-            let b : (x : Cell) × (slice_get xs c ≡ Some x) × HeldOk o h t.rv t.place c k x = q.held c k e in
-            (b.0, u.cell ∙ b.1, HeldOk-kept o xs ys h g t.rv t.place c k b.0 f.grows u b.2);
+            let b : (x : Cell) × (slice_get xs c ≡ Some x) × HeldOk o h t.rv t.phase c k x = q.held c k e in
+            (b.0, u.cell ∙ b.1, HeldOk-kept o xs ys h g t.rv t.phase c k b.0 f.grows u b.2);
       }
 
 -- ---- one cell of the seat is set

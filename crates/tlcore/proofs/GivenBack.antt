@@ -2,9 +2,9 @@
 use Rattle.std.proofs.Common.{Bool, List, None, Some, [], ap, arith, false, if◌then◌else◌, inl, inr, length, refl, slice_get, slice_set}
 use Rattle.std.proofs.Common.{subst, sym, true, ℕ, ◌*◌, ◌∙◌, ◌≡◌, ◌≢◌, ◌⊎◌}
 use Rattle.tlcore.specs.History.{WordsEntry, Grows, Will, deed, value, version}
-use Rattle.tlcore.specs.Seats.{Held, Idle, Place, Seat, find_held, is_nil, number_at, without}
+use Rattle.tlcore.specs.Seats.{Held, Idle, Phase, Seat, find_held, is_nil, number_at, without}
 use Rattle.tlcore.specs.Machine.{Cell, World, release}
-use Rattle.tlcore.specs.Invariant.{CellsOk, Consistent, HeldOk, HistoryOk, PlaceOk, SeatOk}
+use Rattle.tlcore.specs.Invariant.{CellsOk, Consistent, HeldOk, HistoryOk, PhaseOk, SeatOk}
 use Rattle.tlcore.proofs.AfterEvent.{Consistent-step, others-own}
 use Rattle.tlcore.proofs.Frame.{Frame, HeldOk-kept, ReadsOk-kept, Untouched, set_frame}
 use Rattle.tlcore.proofs.Lists.{get-set_cases, get-set_other, known}
@@ -17,7 +17,7 @@ module _ (o : List ℕ) (w : World) (s : ℕ) (t : Seat) (c word : ℕ) (k : Hel
     (I : Consistent o w) (e : slice_get w.seats s ≡ Some t) (f : find_held c t.held ≡ Some k) (j : slice_get w.cells c ≡ Some x)
     (grows : Grows w.history g) (stays : Stays o w.history g) (len : length g ≡ length w.history)
     (will : (d i u : ℕ) → deed g d i ≡ Will u → deed w.history d i ≡ Will u)
-    (entries : (i : ℕ) (e : WordsEntry) → (number_at t.place ≡ Some i → ⊥) → slice_get w.history i ≡ Some e → slice_get g i ≡ Some e)
+    (entries : (i : ℕ) (e : WordsEntry) → (number_at t.phase ≡ Some i → ⊥) → slice_get w.history i ≡ Some e → slice_get g i ≡ Some e)
     (shows : (v : ℕ) → word ≡ 2 * v → (v ≡ version w.history c) × (x.value ≡ value o w.history c))
     (keeps : ((y : Cell) → slice_get w.cells c ≡ Some y → y.value ≡ value o w.history c) → x.value ≡ value o w.history c)
     (none : (i u : ℕ) → deed g c i ≡ Will u → ⊥)
@@ -43,14 +43,14 @@ module _ (o : List ℕ) (w : World) (s : ℕ) (t : Seat) (c word : ℕ) (k : Hel
           I.cells d v y n.1 b in
           (r.0 ∙ sym (stays.of_version d), r.1 ∙ sym (stays.of_value d), λ i u a. r.2 i u (will d i u a))
 
-  release_frame : Frame o w.cells xs w.history g t.held (number_at t.place)
-  release_frame = set_frame o w.cells w.history g t.held (number_at t.place) c (record x { lock = word }) grows stays will entries k f keeps
+  release_frame : Frame o w.cells xs w.history g t.held (number_at t.phase)
+  release_frame = set_frame o w.cells w.history g t.held (number_at t.phase) c (record x { lock = word }) grows stays will entries k f keeps
 
   held_after : (d : ℕ) (l : Held) → find_held d (without c t.held) ≡ Some l
-      → (y : Cell) × (slice_get xs d ≡ Some y) × HeldOk o g t.rv t.place d l y
+      → (y : Cell) × (slice_get xs d ≡ Some y) × HeldOk o g t.rv t.phase d l y
   held_after d l a =
       let b : (d ≢ c) × (find_held d t.held ≡ Some l) = without-find c d t.held l a in
-      let z : (y : Cell) × (slice_get w.cells d ≡ Some y) × HeldOk o w.history t.rv t.place d l y = q.held d l b.1 in
+      let z : (y : Cell) × (slice_get w.cells d ≡ Some y) × HeldOk o w.history t.rv t.phase d l y = q.held d l b.1 in
       let un : Untouched o w.cells xs w.history g d = record {
         cell = get-set_other w.cells c d (record x { lock = word }) b.0;
         same_version = stays.of_version d;
@@ -58,22 +58,22 @@ module _ (o : List ℕ) (w : World) (s : ℕ) (t : Seat) (c word : ℕ) (k : Hel
             stays.of_value d;
         will = will d;
       } in
-      (z.0, un.cell ∙ z.1, HeldOk-kept o w.cells xs w.history g t.rv t.place d l z.0 grows un z.2)
+      (z.0, un.cell ∙ z.1, HeldOk-kept o w.cells xs w.history g t.rv t.phase d l z.0 grows un z.2)
 
-  pub release_to : (p : Place) → PlaceOk o xs g (record t { place = p; held = without c t.held }) p
-      → (p ≡ t.place) ⊎ ((p ≡ Idle) × (without c t.held ≡ []))
+  pub release_to : (p : Phase) → PhaseOk o xs g (record t { phase = p; held = without c t.held }) p
+      → (p ≡ t.phase) ⊎ ((p ≡ Idle) × (without c t.held ≡ []))
       → Consistent o (record {
         clock = w.clock;
         cells = xs;
         seats =
-            slice_set w.seats s (record t { place = p; held = without c t.held });
+            slice_set w.seats s (record t { phase = p; held = without c t.held });
         history = g;
       })
   release_to p ok same =
-      Consistent-step o w s t (record t { place = p; held = without c t.held }) xs g w.clock t.held (number_at t.place) I e
+      Consistent-step o w s t (record t { phase = p; held = without c t.held }) xs g w.clock t.held (number_at t.phase) I e
       release_frame (others-own o w s t I e) (I.clock ∙ sym len) release_cells history
       (record {
-        place = ok;
+        phase = ok;
         rv = omega (arith, q.rv, len);
         reads = ReadsOk-kept o w.history g t.rv t.reads grows q.rv q.reads;
         held = λ d l a. held_as d l a same;
@@ -81,17 +81,17 @@ module _ (o : List ℕ) (w : World) (s : ℕ) (t : Seat) (c word : ℕ) (k : Hel
       (λ d l a. let b : (d ≢ c) × (find_held d t.held ≡ Some l) = without-find c d t.held l a in (l, b.1))
       (λ i a. number i a same)
     where
-      held_as : (d : ℕ) (l : Held) → find_held d (without c t.held) ≡ Some l → (p ≡ t.place) ⊎ ((p ≡ Idle) × (without c t.held ≡ []))
+      held_as : (d : ℕ) (l : Held) → find_held d (without c t.held) ≡ Some l → (p ≡ t.phase) ⊎ ((p ≡ Idle) × (without c t.held ≡ []))
           → (y : Cell) × (slice_get xs d ≡ Some y) × HeldOk o g t.rv p d l y
-      held_as d l a (inl b) = let z : (y : Cell) × (slice_get xs d ≡ Some y) × HeldOk o g t.rv t.place d l y = held_after d l a in
-          (z.0, z.1, subst (λ (m : Place). HeldOk o g t.rv m d l z.0) (sym b) z.2)
+      held_as d l a (inl b) = let z : (y : Cell) × (slice_get xs d ≡ Some y) × HeldOk o g t.rv t.phase d l y = held_after d l a in
+          (z.0, z.1, subst (λ (m : Phase). HeldOk o g t.rv m d l z.0) (sym b) z.2)
       held_as d l a (inr b) = absurd (empty_held (without c t.held) b.1 d l a)
 
-      number : (i : ℕ) → number_at p ≡ Some i → (p ≡ t.place) ⊎ ((p ≡ Idle) × (without c t.held ≡ [])) → number_at t.place ≡ Some i
+      number : (i : ℕ) → number_at p ≡ Some i → (p ≡ t.phase) ⊎ ((p ≡ Idle) × (without c t.held ≡ [])) → number_at t.phase ≡ Some i
       number i a (inl b) = ap number_at (sym b) ∙ a
       number i a (inr b) = let m : None ≡ Some i = ap number_at (sym b.0) ∙ a in cc
 
-  pub release_goes : PlaceOk o xs g (record t { place = t.place; held = without c t.held }) t.place
+  pub release_goes : PhaseOk o xs g (record t { phase = t.phase; held = without c t.held }) t.phase
       → Consistent o (release w s t c word x g)
   release_goes ok = go (known (is_nil (without c t.held)))
     where
@@ -102,7 +102,7 @@ module _ (o : List ℕ) (w : World) (s : ℕ) (t : Seat) (c word : ℕ) (k : Hel
             clock = w.clock;
             cells = xs;
             seats = slice_set w.seats s (record t {
-              place = Idle;
+              phase = Idle;
               held =
                   without c t.held;
             });
@@ -112,8 +112,8 @@ module _ (o : List ℕ) (w : World) (s : ℕ) (t : Seat) (c word : ℕ) (k : Hel
             clock = w.clock;
             cells = xs;
             seats = slice_set w.seats s (record t {
-              place =
-                  (if v then Idle else t.place);
+              phase =
+                  (if v then Idle else t.phase);
               held = without c t.held;
             });
             history = g;
@@ -123,18 +123,18 @@ module _ (o : List ℕ) (w : World) (s : ℕ) (t : Seat) (c word : ℕ) (k : Hel
             clock = w.clock;
             cells = xs;
             seats = slice_set w.seats s (record t {
-              place = t.place;
+              phase = t.phase;
               held =
                   without c t.held;
             });
             history = g;
-          }) = release_to t.place ok (inl refl) in
+          }) = release_to t.phase ok (inl refl) in
           subst (λ (v : Bool). Consistent o (record {
             clock = w.clock;
             cells = xs;
             seats = slice_set w.seats s (record t {
-              place =
-                  (if v then Idle else t.place);
+              phase =
+                  (if v then Idle else t.phase);
               held = without c t.held;
             });
             history = g;

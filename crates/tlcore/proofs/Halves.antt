@@ -23,7 +23,7 @@ halves o w I c v x f (inl e) =
     by (inr p) q = inr (p.0, p.1, q ∙ p.2, p.3)
 halves o w I c v x f (inr e) =
     let h : (s : ℕ) × (t : Seat) × (slice_get w.seats s ≡ Some t) × Holds t c = I.locked_are_held c v x f e in
-    let b : (y : Cell) × (slice_get w.cells c ≡ Some y) × HeldOk o w.history (h.1).rv (h.1).place c h.3.0 y =
+    let b : (y : Cell) × (slice_get w.cells c ≡ Some y) × HeldOk o w.history (h.1).rv (h.1).phase c h.3.0 y =
     (I.consistent.seats h.0 h.1 h.2).held c h.3.0 h.3.1 in
     let p : Some b.0 ≡ Some x = sym b.1 ∙ f in
     let q : b.0 ≡ x = cc in

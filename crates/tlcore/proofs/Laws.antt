@@ -2,7 +2,7 @@
 use Rattle.std.proofs.Common.{Bool, List, Option, Some, [], ap, arith, eq-eqb, false, inl, inr, length, not, refl, slice_get, subst, sym}
 use Rattle.std.proofs.Common.{true, ℕ, ◌&&◌, ◌*◌, ◌++◌, ◌==◌, ◌||◌, ◌∙◌, ◌∷◌, ◌≡◌, ◌⊎◌}
 use Rattle.tlcore.specs.History.{Void, settle, value, wv}
-use Rattle.tlcore.specs.Seats.{Checking, Failing, Held, Idle, Loaded, Looked, Place, Read, Reading, Seat, Storing, Taking, Voiding}
+use Rattle.tlcore.specs.Seats.{Checking, Failing, Held, Idle, Loaded, Looked, Phase, Read, Reading, Seat, Storing, Taking, Voiding}
 use Rattle.tlcore.specs.Seats.{all_below, all_settled, find_held, find_read, idle, is_due, is_next, number_at}
 use Rattle.tlcore.specs.Machine.{Action, Begin, Cell, Check, Draw, Load, Look, Release, Relook, Store, Take, World, act, begun, check}
 use Rattle.tlcore.specs.Machine.{drawn, given, load, look, next, only_if, release, relook, store, take_cell, with_seat}
@@ -21,12 +21,12 @@ pub only_is : {B : Type 0} (b : Bool) (x : Option B) → b ≡ true → only_if 
 only_is b x e = ap (λ y. only_if y x) e
 
 -- a lawful event of the seat t, by its row
-next_is : (w v : World) (s : ℕ) (t : Seat) (p : Place) (a : Action) → slice_get w.seats s ≡ Some t → t.place ≡ p → act w s t p a ≡ Some v
+next_is : (w v : World) (s : ℕ) (t : Seat) (p : Phase) (a : Action) → slice_get w.seats s ≡ Some t → t.phase ≡ p → act w s t p a ≡ Some v
     → next w s a ≡ Some v
 next_is w v s t p a e q n =
-    given_is (slice_get w.seats s) (λ t. act w s t t.place a) t e ∙ (ap (λ (y : Place). act w s t y a) q ∙ n)
+    given_is (slice_get w.seats s) (λ t. act w s t t.phase a) t e ∙ (ap (λ (y : Phase). act w s t y a) q ∙ n)
 
-leads : (o : List ℕ) (w v : World) (s : ℕ) (t : Seat) (p : Place) (a : Action) → Invariant o w → slice_get w.seats s ≡ Some t → t.place ≡ p
+leads : (o : List ℕ) (w v : World) (s : ℕ) (t : Seat) (p : Phase) (a : Action) → Invariant o w → slice_get w.seats s ≡ Some t → t.phase ≡ p
     → act w s t p a ≡ Some v → Leads o w s a v
 leads o w v s t p a I e q n =
     let l : next w s a ≡ Some v = next_is w v s t p a e q n in
@@ -141,11 +141,11 @@ module _ (o : List ℕ) (w : World) (I : Invariant o w) where
   idle_holds : (t : Seat) (c : ℕ) (k : Held) → t ≡ idle → find_held c t.held ≡ Some k → ⊥
   idle_holds t c k e f = let q : find_held c (idle).held ≡ Some k = subst (λ (y : Seat). find_held c y.held ≡ Some k) e f in cc
 
-  idle_number : (t : Seat) (i : ℕ) → t ≡ idle → number_at t.place ≡ Some i → ⊥
-  idle_number t i e f = let q : number_at (idle).place ≡ Some i = subst (λ (y : Seat). number_at y.place ≡ Some i) e f in cc
+  idle_number : (t : Seat) (i : ℕ) → t ≡ idle → number_at t.phase ≡ Some i → ⊥
+  idle_number t i e f = let q : number_at (idle).phase ≡ Some i = subst (λ (y : Seat). number_at y.phase ≡ Some i) e f in cc
 
   idle_seat : SeatOk o w.cells w.history idle
-  idle_seat = record { place = refl; rv = omega arith; reads = tt; held = λ c k f. cc }
+  idle_seat = record { phase = refl; rv = omega arith; reads = tt; held = λ c k f. cc }
 
   seats_ok : (s : ℕ) (t : Seat) → slice_get (w.seats ++ idle ∷ []) s ≡ Some t → SeatOk o w.cells w.history t
   seats_ok s t e = go (seat_cases s t e)

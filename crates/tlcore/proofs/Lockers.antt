@@ -5,7 +5,7 @@ use Rattle.std.specs.List.{list_any}
 use Rattle.std.proofs.lemmas.List.Folds.{list_any-append}
 use Rattle.tlcore.specs.Seats.{Checking, Failing, Held, Idle, Loaded, Looked, Reading, Seat, Storing, Taking, Voiding, find_held, is_nil}
 use Rattle.tlcore.specs.Seats.{with_stored, without}
-use Rattle.tlcore.specs.Machine.{Action, World, begun, conflict, next, placed, saw}
+use Rattle.tlcore.specs.Machine.{Action, World, begun, conflict, next, in_phase, saw}
 use Rattle.tlcore.specs.Schedules.{Event, run}
 use Rattle.tlcore.specs.Invariant.{Holds}
 use Rattle.tlcore.specs.Conflicts.{HasLocked, HoldersHaveLocked}
@@ -63,30 +63,30 @@ nothing_held : (c : ℕ) (k : Held) → find_held c [] ≡ Some k → ⊥
 nothing_held c k e = cc
 
 module _ (w : World) (s : ℕ) (t : Seat) where
-  released : (c : ℕ) → HasLocked t (record t { place = (if is_nil (without c t.held) then Idle else t.place); held = without c t.held })
+  released : (c : ℕ) → HasLocked t (record t { phase = (if is_nil (without c t.held) then Idle else t.phase); held = without c t.held })
   released c =
-      locks_none t (record t { place = (if is_nil (without c t.held) then Idle else t.place); held = without c t.held }) refl
+      locks_none t (record t { phase = (if is_nil (without c t.held) then Idle else t.phase); held = without c t.held }) refl
       (λ d h. let m = without-find c d t.held h.0 h.1 in (h.0, m.1))
 
   row_locks : (a : Action) (v : World) → Row w s t a v → Locks w s t v
   row_locks a v (begins p) = (begun w t, refl, locks_none t (begun w t) refl (λ c h. absurd (nothing_held c h.0 h.1)))
   row_locks a v (looks {c} {x} p f m) =
-      (placed (saw t c x.lock) (Looked c x.lock), refl, locks_none t (placed (saw t c x.lock) (Looked c x.lock)) refl (λ d h. h))
+      (in_phase (saw t c x.lock) (Looked c x.lock), refl, locks_none t (in_phase (saw t c x.lock) (Looked c x.lock)) refl (λ d h. h))
   row_locks a v (look_conflicts {c} {x} p f m) =
       (conflict (saw t c x.lock) Idle, refl, locks_none t (conflict (saw t c x.lock) Idle) refl (λ d h. h))
   row_locks a v (loads {c} {word} {x} p f) =
-      (placed t (Loaded c word x.value), refl, locks_none t (placed t (Loaded c word x.value)) refl (λ d h. h))
+      (in_phase t (Loaded c word x.value), refl, locks_none t (in_phase t (Loaded c word x.value)) refl (λ d h. h))
   row_locks a v (relooks {c} {word} {v = u} {x} p f m) = (
-    record (saw t c x.lock) { place = Reading; reads = record { cell = c; word = word; value = u } ∷ t.reads },
+    record (saw t c x.lock) { phase = Reading; reads = record { cell = c; word = word; value = u } ∷ t.reads },
     refl,
-    locks_none t (record (saw t c x.lock) { place = Reading; reads = record { cell = c; word = word; value = u } ∷ t.reads }) refl
+    locks_none t (record (saw t c x.lock) { phase = Reading; reads = record { cell = c; word = word; value = u } ∷ t.reads }) refl
         (λ d h. h),
   )
   row_locks a v (relook_conflicts {c} {x = x} p f m) =
       (conflict (saw t c x.lock) Idle, refl, locks_none t (conflict (saw t c x.lock) Idle) refl (λ d h. h))
   row_locks a v (takes {c} {v = u} {r} {x} p g f m) = (
     record (saw t c x.lock) {
-      place = Taking;
+      phase = Taking;
       held = record { cell = c; word = r.word; value = u; stored = false } ∷ t.held;
       locked =
           c ∷ t.locked;
@@ -104,23 +104,23 @@ module _ (w : World) (s : ℕ) (t : Seat) where
     refl,
     locks_none t (conflict (saw t c x.lock) (if is_nil t.held then Idle else Failing)) refl (λ d h. h),
   )
-  row_locks a v (draws p) = (placed t (Checking w.clock 0), refl, locks_none t (placed t (Checking w.clock 0)) refl (λ d h. h))
+  row_locks a v (draws p) = (in_phase t (Checking w.clock 0), refl, locks_none t (in_phase t (Checking w.clock 0)) refl (λ d h. h))
   row_locks a v (checks {i} {u} {c} {x} p d f m) =
-      (placed (saw t c x.lock) (Checking i (suc c)), refl, locks_none t (placed (saw t c x.lock) (Checking i (suc c))) refl (λ d h. h))
+      (in_phase (saw t c x.lock) (Checking i (suc c)), refl, locks_none t (in_phase (saw t c x.lock) (Checking i (suc c))) refl (λ d h. h))
   row_locks a v (check_conflicts {i} {c = c} {x} p d f m) =
       (conflict (saw t c x.lock) (Voiding i), refl, locks_none t (conflict (saw t c x.lock) (Voiding i)) refl (λ d h. h))
   row_locks a v (stores {i} {c} {k} {x} p g f) = (
-    record t { place = Storing i; held = with_stored c t.held },
+    record t { phase = Storing i; held = with_stored c t.held },
     refl,
-    locks_none t (record t { place = Storing i; held = with_stored c t.held }) refl
+    locks_none t (record t { phase = Storing i; held = with_stored c t.held }) refl
         (λ d h. let m = stored-find c d t.held h.0 h.1 in (m.0, m.1)),
   )
   row_locks a v (releases_done {i} {c} {k} {x} p g st f) =
-      (record t { place = (if is_nil (without c t.held) then Idle else t.place); held = without c t.held }, refl, released c)
+      (record t { phase = (if is_nil (without c t.held) then Idle else t.phase); held = without c t.held }, refl, released c)
   row_locks a v (releases_failed {c} {k} {x} p g f) =
-      (record t { place = (if is_nil (without c t.held) then Idle else t.place); held = without c t.held }, refl, released c)
+      (record t { phase = (if is_nil (without c t.held) then Idle else t.phase); held = without c t.held }, refl, released c)
   row_locks a v (releases_void {i} {c} {k} {x} p g f) =
-      (record t { place = (if is_nil (without c t.held) then Idle else t.place); held = without c t.held }, refl, released c)
+      (record t { phase = (if is_nil (without c t.held) then Idle else t.phase); held = without c t.held }, refl, released c)
 
 -- ---- a schedule
 

@@ -2,10 +2,10 @@
 use Rattle.std.proofs.Common.{List, Some, [], ap, false, if◌then◌else◌, inl, inr, refl, slice_get, slice_set, subst, suc, sym, true, ℕ, ◌*◌}
 use Rattle.std.proofs.Common.{◌==◌, ◌∙◌, ◌∷◌, ◌≡◌, ◌≢◌, ◌⊎◌}
 use Rattle.tlcore.specs.History.{WordsEntry, Void, settle}
-use Rattle.tlcore.specs.Seats.{Checking, Failing, Held, Idle, Loaded, Looked, Place, Reading, Seat, Storing, Taking, Voiding, find_held}
+use Rattle.tlcore.specs.Seats.{Checking, Failing, Held, Idle, Loaded, Looked, Phase, Reading, Seat, Storing, Taking, Voiding, find_held}
 use Rattle.tlcore.specs.Seats.{is_nil, with_stored, without}
-use Rattle.tlcore.specs.Machine.{Action, Cell, World, begun, conflict, placed, saw, with_seat}
-use Rattle.tlcore.specs.Invariant.{Consistent, HeldOk, Holds, LockedAreHeld, PlaceOk}
+use Rattle.tlcore.specs.Machine.{Action, Cell, World, begun, conflict, in_phase, saw, with_seat}
+use Rattle.tlcore.specs.Invariant.{Consistent, HeldOk, Holds, LockedAreHeld, PhaseOk}
 use Rattle.tlcore.proofs.Lists.{equal_numbers, get-set_cases, get-set_other, get-set_same, known, odd_even, other_numbers, same_or_not}
 use Rattle.tlcore.proofs.Quiet.{empty_held}
 use Rattle.tlcore.proofs.Rows.{Row, begins, check_conflicts, checks, draws, loads, look_conflicts, looks, releases_done, releases_failed}
@@ -49,8 +49,8 @@ module _ (o : List ℕ) (w : World) (s : ℕ) (t : Seat) (I : Consistent o w) (e
   seat_moves : (z : Seat) → ((c : ℕ) → Holds t c → Holds z c) → Moves w s t (with_seat w s z)
   seat_moves z f = (z, refl, λ c y g. inl (y, g, refl, f c))
 
-  pub none_held : (p : Place) → t.place ≡ p → (PlaceOk o w.cells w.history t p → t.held ≡ []) → (c : ℕ) → Holds t c → ⊥
-  none_held p a f c h = empty_held t.held (f (subst (λ (y : Place). PlaceOk o w.cells w.history t y) a (I.seats s t e).place)) c h.0 h.1
+  pub none_held : (p : Phase) → t.phase ≡ p → (PhaseOk o w.cells w.history t p → t.held ≡ []) → (c : ℕ) → Holds t c → ⊥
+  none_held p a f c h = empty_held t.held (f (subst (λ (y : Phase). PhaseOk o w.cells w.history t y) a (I.seats s t e).phase)) c h.0 h.1
 
   gives : (z : Seat) (d word : ℕ) (x : Cell) (g : List WordsEntry) (u : ℕ) → z.held ≡ without d t.held → word ≡ 2 * u → (k : Held)
       → find_held d t.held ≡ Some k
@@ -70,21 +70,21 @@ module _ (o : List ℕ) (w : World) (s : ℕ) (t : Seat) (I : Consistent o w) (e
 
   old_word : (c : ℕ) (k : Held) → find_held c t.held ≡ Some k → (u : ℕ) × (k.word ≡ 2 * u)
   old_word c k f =
-      let b : (y : Cell) × (slice_get w.cells c ≡ Some y) × HeldOk o w.history t.rv t.place c k y = (I.seats s t e).held c k f in
+      let b : (y : Cell) × (slice_get w.cells c ≡ Some y) × HeldOk o w.history t.rv t.phase c k y = (I.seats s t e).held c k f in
       (b.2.old.0, b.2.old.1)
 
   pub row_moves : (a : Action) (v : World) → Row w s t a v → Moves w s t v
   row_moves a v (begins (inl p)) = seat_moves (begun w t) (λ c h. absurd (none_held Idle p (λ y. y) c h))
   row_moves a v (begins (inr p)) = seat_moves (begun w t) (λ c h. absurd (none_held Reading p (λ y. y) c h))
-  row_moves a v (looks {c} {x} p f m) = seat_moves (placed (saw t c x.lock) (Looked c x.lock)) (λ d h. h)
+  row_moves a v (looks {c} {x} p f m) = seat_moves (in_phase (saw t c x.lock) (Looked c x.lock)) (λ d h. h)
   row_moves a v (look_conflicts {c} {x} p f m) = seat_moves (conflict (saw t c x.lock) Idle) (λ d h. h)
-  row_moves a v (loads {c} {word} {x} p f) = seat_moves (placed t (Loaded c word x.value)) (λ d h. h)
+  row_moves a v (loads {c} {word} {x} p f) = seat_moves (in_phase t (Loaded c word x.value)) (λ d h. h)
   row_moves a v (relooks {c} {word} {v = u} {x} p f m) =
-      seat_moves (record (saw t c x.lock) { place = Reading; reads = record { cell = c; word = word; value = u } ∷ t.reads }) (λ d h. h)
+      seat_moves (record (saw t c x.lock) { phase = Reading; reads = record { cell = c; word = word; value = u } ∷ t.reads }) (λ d h. h)
   row_moves a v (relook_conflicts {c} {x = x} p f m) = seat_moves (conflict (saw t c x.lock) Idle) (λ d h. h)
   row_moves a v (takes {c} {v = u} {r} {x} p g f m) = (
     record (saw t c x.lock) {
-      place = Taking;
+      phase = Taking;
       held = record { cell = c; word = r.word; value = u; stored = false } ∷ t.held;
       locked =
           c ∷ t.locked;
@@ -95,7 +95,7 @@ module _ (o : List ℕ) (w : World) (s : ℕ) (t : Seat) (I : Consistent o w) (e
     where
       z : Seat
       z = record (saw t c x.lock) {
-        place = Taking;
+        phase = Taking;
         held = record { cell = c; word = r.word; value = u; stored = false } ∷ t.held;
         locked =
             c ∷ t.locked;
@@ -103,7 +103,7 @@ module _ (o : List ℕ) (w : World) (s : ℕ) (t : Seat) (I : Consistent o w) (e
 
       more : (d : ℕ) → Holds t d → ((c == d) ≡ true) ⊎ ((c == d) ≡ false)
           → Holds (record (saw t c x.lock) {
-            place = Taking;
+            phase = Taking;
             held =
                 record { cell = c; word = r.word; value = u; stored = false } ∷ t.held;
             locked = c ∷ t.locked;
@@ -113,7 +113,7 @@ module _ (o : List ℕ) (w : World) (s : ℕ) (t : Seat) (I : Consistent o w) (e
 
       here : (d : ℕ) → d ≡ c → ((c == d) ≡ true) ⊎ ((c == d) ≡ false)
           → Holds (record (saw t c x.lock) {
-            place = Taking;
+            phase = Taking;
             held =
                 record { cell = c; word = r.word; value = u; stored = false } ∷ t.held;
             locked = c ∷ t.locked;
@@ -123,7 +123,7 @@ module _ (o : List ℕ) (w : World) (s : ℕ) (t : Seat) (I : Consistent o w) (e
 
       go : (d : ℕ) (y : Cell) → ((d ≡ c) × (y ≡ record x { lock = suc r.word })) ⊎ ((d ≢ c) × (slice_get w.cells d ≡ Some y))
           → CellMoves w t (record (saw t c x.lock) {
-            place = Taking;
+            phase = Taking;
             held =
                 record { cell = c; word = r.word; value = u; stored = false } ∷ t.held;
             locked = c ∷ t.locked;
@@ -132,33 +132,33 @@ module _ (o : List ℕ) (w : World) (s : ℕ) (t : Seat) (I : Consistent o w) (e
       go d y (inr q) = inl (y, q.1, refl, λ h. more d h (known (c == d)))
   row_moves a v (take_conflicts {c} {x = x} p g f m) =
       seat_moves (conflict (saw t c x.lock) (if is_nil t.held then Idle else Failing)) (λ d h. h)
-  row_moves a v (draws p) = (placed t (Checking w.clock 0), refl, λ c y g. inl (y, g, refl, λ h. h))
-  row_moves a v (checks {i} {u} {c} {x} p d f m) = seat_moves (placed (saw t c x.lock) (Checking i (suc c))) (λ d h. h)
+  row_moves a v (draws p) = (in_phase t (Checking w.clock 0), refl, λ c y g. inl (y, g, refl, λ h. h))
+  row_moves a v (checks {i} {u} {c} {x} p d f m) = seat_moves (in_phase (saw t c x.lock) (Checking i (suc c))) (λ d h. h)
   row_moves a v (check_conflicts {i} {c = c} {x} p d f m) = seat_moves (conflict (saw t c x.lock) (Voiding i)) (λ d h. h)
   row_moves a v (stores {i} {c} {k} {x} p g f) = (
-    record t { place = Storing i; held = with_stored c t.held },
+    record t { phase = Storing i; held = with_stored c t.held },
     refl,
     λ d y h. go d y
         (get-set_cases w.cells c d (record x { value = k.value }) y h),
   )
     where
-      on : (d : ℕ) → Holds t d → Holds (record t { place = Storing i; held = with_stored c t.held }) d
+      on : (d : ℕ) → Holds t d → Holds (record t { phase = Storing i; held = with_stored c t.held }) d
       on d h = stored-held c d t.held h.0 h.1
 
       go : (d : ℕ) (y : Cell) → ((d ≡ c) × (y ≡ record x { value = k.value })) ⊎ ((d ≢ c) × (slice_get w.cells d ≡ Some y))
-          → CellMoves w t (record t { place = Storing i; held = with_stored c t.held }) d y
+          → CellMoves w t (record t { phase = Storing i; held = with_stored c t.held }) d y
       go d y (inl q) = inl (x, ap (slice_get w.cells) q.0 ∙ f, ap (λ (b : Cell). b.lock) q.1, on d)
       go d y (inr q) = inl (y, q.1, refl, on d)
   row_moves a v (releases_done {i} {c} {k} {x} p g st f) =
-      gives (record t { place = (if is_nil (without c t.held) then Idle else t.place); held = without c t.held }) c (2 * suc i) x w.history
+      gives (record t { phase = (if is_nil (without c t.held) then Idle else t.phase); held = without c t.held }) c (2 * suc i) x w.history
       (suc i) refl refl k g
   row_moves a v (releases_failed {c} {k} {x} p g f) =
       let b : (u : ℕ) × (k.word ≡ 2 * u) = old_word c k g in
-      gives (record t { place = (if is_nil (without c t.held) then Idle else t.place); held = without c t.held }) c k.word x w.history b.0
+      gives (record t { phase = (if is_nil (without c t.held) then Idle else t.phase); held = without c t.held }) c k.word x w.history b.0
       refl b.1 k g
   row_moves a v (releases_void {i} {c} {k} {x} p g f) =
       let b : (u : ℕ) × (k.word ≡ 2 * u) = old_word c k g in
-      gives (record t { place = (if is_nil (without c t.held) then Idle else t.place); held = without c t.held }) c k.word x
+      gives (record t { phase = (if is_nil (without c t.held) then Idle else t.phase); held = without c t.held }) c k.word x
       (settle w.history i Void) b.0 refl b.1 k g
 
 -- ---- each locked cell is held

@@ -2,11 +2,11 @@
 use Rattle.std.proofs.Common.{List, None, Option, Some, [], ap, arith, inl, inr, length, refl, slice_get, slice_index, slice_set, subst}
 use Rattle.std.proofs.Common.{suc, sym, zero, ℕ, ◌*◌, ◌<◌, ◌∙◌, ◌∷◌, ◌≡◌, ◌≢◌, ◌⊎◌}
 use Rattle.tlcore.specs.History.{Done, WordsEntry, Grows, Open, Will, deed, value, version}
-use Rattle.tlcore.specs.Seats.{Held, Place, Seat, find_held, idle, number_at, reads_of}
+use Rattle.tlcore.specs.Seats.{Held, Phase, Seat, find_held, idle, number_at, reads_of}
 use Rattle.tlcore.specs.Machine.{Action, Cell, World, given, next, store}
 use Rattle.tlcore.specs.Schedules.{Event, opened, run, seated, start}
 use Rattle.tlcore.specs.Opacity.{Always, AtEachEvent, DoneAreOne, HistoryGrows, NowAndLater, ReadsAreOne, StoresAreDone, WordsShow}
-use Rattle.tlcore.specs.Invariant.{CheckingOk, Consistent, Invariant, PlaceOk, SeatOk}
+use Rattle.tlcore.specs.Invariant.{CheckingOk, Consistent, Invariant, PhaseOk, SeatOk}
 use Rattle.tlcore.specs.Laws.{Keeps}
 use Rattle.tlcore.proofs.Events.{event_keeps}
 use Rattle.tlcore.proofs.Growth.{Grows-refl, Grows-trans, One-kept}
@@ -56,12 +56,12 @@ start_consistent vs n =
           let m : find_held c (idle).held ≡ Some k = subst (λ (y : Seat). find_held c y.held ≡ Some k) (seated_idle n s t a) f in
           cc;
       numbers_apart = λ s z t u i a b f g.
-          let m : number_at (idle).place ≡ Some i = subst (λ (y : Seat). number_at y.place ≡ Some i) (seated_idle n s t a) f in
+          let m : number_at (idle).phase ≡ Some i = subst (λ (y : Seat). number_at y.phase ≡ Some i) (seated_idle n s t a) f in
           cc;
     }
   where
     idle_ok : SeatOk vs (opened vs) [] idle
-    idle_ok = record { place = refl; rv = omega arith; reads = tt; held = λ c k f. cc }
+    idle_ok = record { phase = refl; rv = omega arith; reads = tt; held = λ c k f. cc }
 
 -- the opening world meets the invariant
 pub start_ok : (vs : List ℕ) (n : ℕ) → Invariant vs (start vs n)
@@ -108,7 +108,7 @@ words_show o w I = record {
 abbrev pub Wrote : World → Seat → World → Type 0
 Wrote w t v =
     (c : ℕ) (x y : Cell) → slice_get w.cells c ≡ Some x → slice_get v.cells c ≡ Some y → y.value ≢ x.value
-    → (i : ℕ) × (e : WordsEntry) × (number_at t.place ≡ Some i) × (slice_get v.history i ≡ Some e) × (e.status ≡ Done)
+    → (i : ℕ) × (e : WordsEntry) × (number_at t.phase ≡ Some i) × (slice_get v.history i ≡ Some e) × (e.status ≡ Done)
 
 module _ (o : List ℕ) (w : World) (s : ℕ) (t : Seat) (I : Consistent o w) (e : slice_get w.seats s ≡ Some t) where
   -- no value word changes
@@ -133,7 +133,7 @@ module _ (o : List ℕ) (w : World) (s : ℕ) (t : Seat) (I : Consistent o w) (e
           let m : y ≡ x = cc in
           ap (λ (r : Cell). r.value) m
 
-  written_by : (i c : ℕ) (k : Held) (x : Cell) (d : WordsEntry) → number_at t.place ≡ Some i → slice_get w.history i ≡ Some d
+  written_by : (i c : ℕ) (k : Held) (x : Cell) (d : WordsEntry) → number_at t.phase ≡ Some i → slice_get w.history i ≡ Some d
       → Wrote w t (store w s t i c k x)
   written_by i c k x d n h a y z f g m = (i, record d { status = Done }, n, get-settle_same w.history i Done d h, refl)
 
@@ -150,11 +150,11 @@ module _ (o : List ℕ) (w : World) (s : ℕ) (t : Seat) (I : Consistent o w) (e
   row_wrote a v (checks p d f m) = quiet v refl
   row_wrote a v (check_conflicts p d f m) = quiet v refl
   row_wrote a v (stores {i} {c} {k} {x} (inl p) f g) =
-      let r : CheckingOk o w.history t i p.0 = subst (λ (y : Place). PlaceOk o w.cells w.history t y) p.1 (I.seats s t e).place in
+      let r : CheckingOk o w.history t i p.0 = subst (λ (y : Phase). PhaseOk o w.cells w.history t y) p.1 (I.seats s t e).phase in
       written_by i c k x r.entry (ap number_at p.1) r.here
   row_wrote a v (stores {i} {c} {k} {x} (inr p) f g) =
       let r : (d : WordsEntry) × (slice_get w.history i ≡ Some d) × (d.status ≡ Done) =
-      subst (λ (y : Place). PlaceOk o w.cells w.history t y) p (I.seats s t e).place in
+      subst (λ (y : Phase). PhaseOk o w.cells w.history t y) p (I.seats s t e).phase in
       written_by i c k x r.0 (ap number_at p) r.1
   row_wrote a v (releases_done {i} {c} {x = x} p f st g) = locks v c x (2 * suc i) g refl
   row_wrote a v (releases_failed {c} {k} {x} p f g) = locks v c x k.word g refl
@@ -186,7 +186,7 @@ next_wrote o w v s a t I e n =
 pub stores_are_done : (o : List ℕ) (w v later : World) (s : ℕ) (a : Action) → Consistent o w → next w s a ≡ Some v
     → Grows v.history later.history → StoresAreDone w s v later
 stores_are_done o w v later s a I n g c x y t f j m e =
-    let b : (i : ℕ) × (d : WordsEntry) × (number_at t.place ≡ Some i) × (slice_get v.history i ≡ Some d) × (d.status ≡ Done) =
+    let b : (i : ℕ) × (d : WordsEntry) × (number_at t.phase ≡ Some i) × (slice_get v.history i ≡ Some d) × (d.status ≡ Done) =
     next_wrote o w v s a t I e n c x y f j m in
     let d : (f : WordsEntry) × (slice_get later.history b.0 ≡ Some f) × (f.status ≡ Done) =
     done_stays v.history later.history b.0 b.1 g b.3 b.4 in

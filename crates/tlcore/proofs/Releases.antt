@@ -3,9 +3,9 @@ use Rattle.std.proofs.Common.{List, None, Option, Some, ap, arith, inl, inr, len
 use Rattle.std.proofs.Common.{◌*◌, ◌<◌, ◌∙◌, ◌≡◌, ◌≢◌, ◌⊎◌}
 use Rattle.tlcore.specs.History.{Done, WordsEntry, Grows, One, Open, Status, Void, Will, deed, deed_of, settle, value}
 use Rattle.ranges.specs.Pairs.{written}
-use Rattle.tlcore.specs.Seats.{Failing, Held, Place, Seat, Storing, Voiding, find_held, number_at, without}
+use Rattle.tlcore.specs.Seats.{Failing, Held, Phase, Seat, Storing, Voiding, find_held, number_at, without}
 use Rattle.tlcore.specs.Machine.{Cell, World, release}
-use Rattle.tlcore.specs.Invariant.{Consistent, HeldOk, HistoryOk, PlaceOk, SeatOk}
+use Rattle.tlcore.specs.Invariant.{Consistent, HeldOk, HistoryOk, PhaseOk, SeatOk}
 use Rattle.tlcore.proofs.Deeds.{did}
 use Rattle.tlcore.proofs.GivenBack.{release_goes}
 use Rattle.tlcore.proofs.Growth.{Grows-refl, Grows-settle, One-kept}
@@ -38,30 +38,30 @@ open_or_void Void n m = refl
 open_or_void Done n m = absurd (n refl)
 
 -- the held cell as the step finds it
-found_cell : (o : List ℕ) (xs : List Cell) (h : List WordsEntry) (rv : ℕ) (p r : Place) (c : ℕ) (k : Held) (x : Cell) → r ≡ p
+found_cell : (o : List ℕ) (xs : List Cell) (h : List WordsEntry) (rv : ℕ) (p r : Phase) (c : ℕ) (k : Held) (x : Cell) → r ≡ p
     → slice_get xs c ≡ Some x → (y : Cell) × (slice_get xs c ≡ Some y) × HeldOk o h rv r c k y → HeldOk o h rv p c k x
 found_cell o xs h rv p r c k x e f a =
     let b : Some a.0 ≡ Some x = sym a.1 ∙ f in
     let d : a.0 ≡ x = cc in
-    subst (λ (y : Place). HeldOk o h rv y c k x) e (subst (λ (y : Cell). HeldOk o h rv r c k y) d a.2)
+    subst (λ (y : Phase). HeldOk o h rv y c k x) e (subst (λ (y : Cell). HeldOk o h rv r c k y) d a.2)
 
 module _ (o : List ℕ) (w : World) (s : ℕ) (t : Seat) (c : ℕ) (k : Held) (x : Cell)
     (I : Consistent o w) (e : slice_get w.seats s ≡ Some t) (f : find_held c t.held ≡ Some k) (j : slice_get w.cells c ≡ Some x) where
   q : SeatOk o w.cells w.history t
   q = I.seats s t e
 
-  pub release_done : (i : ℕ) → t.place ≡ Storing i → k.stored ≡ true → Consistent o (release w s t c (2 * suc i) x w.history)
+  pub release_done : (i : ℕ) → t.phase ≡ Storing i → k.stored ≡ true → Consistent o (release w s t c (2 * suc i) x w.history)
   release_done i p st =
       release_goes o w s t c (2 * suc i) k x w.history I e f j (Grows-refl w.history) (Stays-refl o w.history) refl
       (λ d m u a. a) (λ m a n b. b) (λ v a. (omega (arith, a, b.shows.0), shown)) (λ a. shown) none I.history
-      (subst (λ (y : Place). PlaceOk o (slice_set w.cells c (record x { lock = 2 * suc i })) w.history
-      (record t { place = t.place; held = without c t.held }) y) (sym p) r)
+      (subst (λ (y : Phase). PhaseOk o (slice_set w.cells c (record x { lock = 2 * suc i })) w.history
+      (record t { phase = t.phase; held = without c t.held }) y) (sym p) r)
     where
       r : (d : WordsEntry) × (slice_get w.history i ≡ Some d) × (d.status ≡ Done)
-      r = subst (λ (y : Place). PlaceOk o w.cells w.history t y) p q.place
+      r = subst (λ (y : Phase). PhaseOk o w.cells w.history t y) p q.phase
 
       b : HeldOk o w.history t.rv (Storing i) c k x
-      b = found_cell o w.cells w.history t.rv (Storing i) t.place c k x p j (q.held c k f)
+      b = found_cell o w.cells w.history t.rv (Storing i) t.phase c k x p j (q.held c k f)
 
       shown : x.value ≡ value o w.history c
       shown = b.shows.2 st ∙ sym b.shows.1
@@ -73,28 +73,28 @@ module _ (o : List ℕ) (w : World) (s : ℕ) (t : Seat) (c : ℕ) (k : Held) (x
           done_will (written c (r.0).writes) u (ap (λ (z : Status). deed_of z (written c (r.0).writes)) (sym r.2)
           ∙ (sym (deed_now w.history i c r.0 r.1) ∙ (ap (deed w.history c) l ∙ a)))
 
-  pub release_failed : t.place ≡ Failing → Consistent o (release w s t c k.word x w.history)
+  pub release_failed : t.phase ≡ Failing → Consistent o (release w s t c k.word x w.history)
   release_failed p =
       release_goes o w s t c k.word k x w.history I e f j (Grows-refl w.history) (Stays-refl o w.history) refl
       (λ d m u a. a) (λ m a n b. b) (λ v a. (omega (arith, a, b.shows.0), b.shows.1)) (λ a. b.shows.1) none I.history
-      (subst (λ (y : Place). PlaceOk o (slice_set w.cells c (record x { lock = k.word })) w.history
-      (record t { place = t.place; held = without c t.held }) y) (sym p) tt)
+      (subst (λ (y : Phase). PhaseOk o (slice_set w.cells c (record x { lock = k.word })) w.history
+      (record t { phase = t.phase; held = without c t.held }) y) (sym p) tt)
     where
       b : HeldOk o w.history t.rv Failing c k x
-      b = found_cell o w.cells w.history t.rv Failing t.place c k x p j (q.held c k f)
+      b = found_cell o w.cells w.history t.rv Failing t.phase c k x p j (q.held c k f)
 
       none : (m u : ℕ) → deed w.history c m ≡ Will u → ⊥
       none m u a = let n : None ≡ Some m = b.mine m u a in cc
 
-  module _ (i : ℕ) (p : t.place ≡ Voiding i) where
+  module _ (i : ℕ) (p : t.phase ≡ Voiding i) where
     abbrev later : List WordsEntry
     later = settle w.history i Void
 
     r : (d : WordsEntry) × (slice_get w.history i ≡ Some d) × (d.status ≢ Done)
-    r = subst (λ (y : Place). PlaceOk o w.cells w.history t y) p q.place
+    r = subst (λ (y : Phase). PhaseOk o w.cells w.history t y) p q.phase
 
     b : HeldOk o w.history t.rv (Voiding i) c k x
-    b = found_cell o w.cells w.history t.rv (Voiding i) t.place c k x p j (q.held c k f)
+    b = found_cell o w.cells w.history t.rv (Voiding i) t.phase c k x p j (q.held c k f)
 
     pub void_grows : Grows w.history later
     void_grows = Grows-settle w.history i Void (λ d a n. at_entry d (sym r.1 ∙ a) n)
@@ -143,8 +143,8 @@ module _ (o : List ℕ) (w : World) (s : ℕ) (t : Seat) (c : ℕ) (k : Held) (x
         (alike_stays o w.history later (length-settle w.history i Void) void_deed) (length-settle w.history i Void)
         void_awaits (λ m a n d. get-settle_other w.history i m Void (λ y. n (ap number_at p ∙ ap (λ (v : ℕ). Some v) (sym y))) ∙ d)
         (λ v a. (omega (arith, a, b.shows.0), b.shows.1)) (λ a. b.shows.1) none void_history
-        (subst (λ (y : Place). PlaceOk o (slice_set w.cells c (record x { lock = k.word })) later
-        (record t { place = t.place; held = without c t.held }) y) (sym p)
+        (subst (λ (y : Phase). PhaseOk o (slice_set w.cells c (record x { lock = k.word })) later
+        (record t { phase = t.phase; held = without c t.held }) y) (sym p)
         (record (r.0) { status = Void }, get-settle_same w.history i Void r.0 r.1, λ z. void_done z))
       where
         void_done : Void ≡ Done → ⊥

@@ -3,10 +3,10 @@ use Rattle.std.proofs.Common.{Bool, None, Option, Some, ap, false, if◌then◌e
 use Rattle.std.proofs.Common.{◌&&◌, ◌*◌, ◌==◌, ◌||◌, ◌∙◌, ◌∷◌, ◌≡◌, ◌⊎◌}
 use Rattle.std.specs.Prelude.{IfSome}
 use Rattle.tlcore.specs.History.{Void, settle}
-use Rattle.tlcore.specs.Seats.{Checking, Failing, Held, Idle, Loaded, Looked, Place, Read, Reading, Seat, Storing, Taking, Voiding}
+use Rattle.tlcore.specs.Seats.{Checking, Failing, Held, Idle, Loaded, Looked, Phase, Read, Reading, Seat, Storing, Taking, Voiding}
 use Rattle.tlcore.specs.Seats.{all_below, all_settled, find_held, find_read, is_due, is_next, is_nil, passes}
 use Rattle.tlcore.specs.Machine.{Action, Begin, Cell, Check, Draw, Load, Look, Release, Relook, Store, Take, World, act, begun, check}
-use Rattle.tlcore.specs.Machine.{conflict, drawn, given, load, look, next, only_if, placed, release, relook, saw, store, take_cell, taken}
+use Rattle.tlcore.specs.Machine.{conflict, drawn, given, load, look, next, only_if, in_phase, release, relook, saw, store, take_cell, taken}
 use Rattle.tlcore.specs.Machine.{with_seat}
 use Rattle.tlcore.proofs.Lists.{both_right, equal_numbers, known}
 
@@ -25,65 +25,65 @@ some_keeps P (Some b) v h e = let q : b ≡ v = cc in subst P q h
 
 -- the action of the seat t leads from w to a world: one row for each outcome
 pub data Row (w : World) (s : ℕ) (t : Seat) : Action → World → Type 0 where
-  begins : (t.place ≡ Idle) ⊎ (t.place ≡ Reading) → Row w s t Begin (with_seat w s (begun w t))
-  looks : {c : ℕ} {x : Cell} → t.place ≡ Reading → slice_get w.cells c ≡ Some x → passes x.lock t.rv ≡ true
-      → Row w s t (Look c) (with_seat w s (placed (saw t c x.lock) (Looked c x.lock)))
-  look_conflicts : {c : ℕ} {x : Cell} → t.place ≡ Reading → slice_get w.cells c ≡ Some x → passes x.lock t.rv ≡ false
+  begins : (t.phase ≡ Idle) ⊎ (t.phase ≡ Reading) → Row w s t Begin (with_seat w s (begun w t))
+  looks : {c : ℕ} {x : Cell} → t.phase ≡ Reading → slice_get w.cells c ≡ Some x → passes x.lock t.rv ≡ true
+      → Row w s t (Look c) (with_seat w s (in_phase (saw t c x.lock) (Looked c x.lock)))
+  look_conflicts : {c : ℕ} {x : Cell} → t.phase ≡ Reading → slice_get w.cells c ≡ Some x → passes x.lock t.rv ≡ false
       → Row w s t (Look c) (with_seat w s (conflict (saw t c x.lock) Idle))
-  loads : {c word : ℕ} {x : Cell} → t.place ≡ Looked c word → slice_get w.cells c ≡ Some x → Row w s t (Load c) (load w s t c word x)
-  relooks : {c word v : ℕ} {x : Cell} → t.place ≡ Loaded c word v → slice_get w.cells c ≡ Some x → (x.lock == word) ≡ true
+  loads : {c word : ℕ} {x : Cell} → t.phase ≡ Looked c word → slice_get w.cells c ≡ Some x → Row w s t (Load c) (load w s t c word x)
+  relooks : {c word v : ℕ} {x : Cell} → t.phase ≡ Loaded c word v → slice_get w.cells c ≡ Some x → (x.lock == word) ≡ true
       → Row w s t (Relook c) (with_seat w s (record (saw t c x.lock) {
-        place = Reading;
+        phase = Reading;
         reads =
             record { cell = c; word = word; value = v } ∷ t.reads;
       }))
-  relook_conflicts : {c word v : ℕ} {x : Cell} → t.place ≡ Loaded c word v → slice_get w.cells c ≡ Some x → (x.lock == word) ≡ false
+  relook_conflicts : {c word v : ℕ} {x : Cell} → t.phase ≡ Loaded c word v → slice_get w.cells c ≡ Some x → (x.lock == word) ≡ false
       → Row w s t (Relook c) (with_seat w s (conflict (saw t c x.lock) Idle))
-  takes : {c v : ℕ} {r : Read} {x : Cell} → (t.place ≡ Reading) ⊎ ((t.place ≡ Taking) × (all_below c t.held ≡ true))
+  takes : {c v : ℕ} {r : Read} {x : Cell} → (t.phase ≡ Reading) ⊎ ((t.phase ≡ Taking) × (all_below c t.held ≡ true))
       → find_read c t.reads ≡ Some r → slice_get w.cells c ≡ Some x → (x.lock == r.word) ≡ true
       → Row w s t (Take c v) (taken w s t c v r.word x)
-  take_conflicts : {c v : ℕ} {r : Read} {x : Cell} → (t.place ≡ Reading) ⊎ ((t.place ≡ Taking) × (all_below c t.held ≡ true))
+  take_conflicts : {c v : ℕ} {r : Read} {x : Cell} → (t.phase ≡ Reading) ⊎ ((t.phase ≡ Taking) × (all_below c t.held ≡ true))
       → find_read c t.reads ≡ Some r → slice_get w.cells c ≡ Some x → (x.lock == r.word) ≡ false
       → Row w s t (Take c v) (with_seat w s (conflict (saw t c x.lock) (if is_nil t.held then Idle else Failing)))
-  draws : t.place ≡ Taking → Row w s t Draw (drawn w s t)
-  checks : {i u c : ℕ} {x : Cell} → t.place ≡ Checking i u → is_due t u c ≡ true → slice_get w.cells c ≡ Some x → passes x.lock t.rv ≡ true
-      → Row w s t (Check c) (with_seat w s (placed (saw t c x.lock) (Checking i (suc c))))
-  check_conflicts : {i u c : ℕ} {x : Cell} → t.place ≡ Checking i u → is_due t u c ≡ true → slice_get w.cells c ≡ Some x
+  draws : t.phase ≡ Taking → Row w s t Draw (drawn w s t)
+  checks : {i u c : ℕ} {x : Cell} → t.phase ≡ Checking i u → is_due t u c ≡ true → slice_get w.cells c ≡ Some x → passes x.lock t.rv ≡ true
+      → Row w s t (Check c) (with_seat w s (in_phase (saw t c x.lock) (Checking i (suc c))))
+  check_conflicts : {i u c : ℕ} {x : Cell} → t.phase ≡ Checking i u → is_due t u c ≡ true → slice_get w.cells c ≡ Some x
       → passes x.lock t.rv ≡ false → Row w s t (Check c) (with_seat w s (conflict (saw t c x.lock) (Voiding i)))
   stores : {i c : ℕ} {k : Held} {x : Cell}
-      → ((u : ℕ) × (t.place ≡ Checking i u) × ((is_next t i || all_settled t.held u t.reads) ≡ true)) ⊎ (t.place ≡ Storing i)
+      → ((u : ℕ) × (t.phase ≡ Checking i u) × ((is_next t i || all_settled t.held u t.reads) ≡ true)) ⊎ (t.phase ≡ Storing i)
       → find_held c t.held ≡ Some k → slice_get w.cells c ≡ Some x
       → Row w s t (Store c) (store w s t i c k x)
-  releases_done : {i c : ℕ} {k : Held} {x : Cell} → t.place ≡ Storing i → find_held c t.held ≡ Some k → k.stored ≡ true
+  releases_done : {i c : ℕ} {k : Held} {x : Cell} → t.phase ≡ Storing i → find_held c t.held ≡ Some k → k.stored ≡ true
       → slice_get w.cells c ≡ Some x → Row w s t (Release c) (release w s t c (2 * suc i) x w.history)
-  releases_failed : {c : ℕ} {k : Held} {x : Cell} → t.place ≡ Failing → find_held c t.held ≡ Some k → slice_get w.cells c ≡ Some x
+  releases_failed : {c : ℕ} {k : Held} {x : Cell} → t.phase ≡ Failing → find_held c t.held ≡ Some k → slice_get w.cells c ≡ Some x
       → Row w s t (Release c) (release w s t c k.word x w.history)
-  releases_void : {i c : ℕ} {k : Held} {x : Cell} → t.place ≡ Voiding i → find_held c t.held ≡ Some k → slice_get w.cells c ≡ Some x
+  releases_void : {i c : ℕ} {k : Held} {x : Cell} → t.phase ≡ Voiding i → find_held c t.held ≡ Some k → slice_get w.cells c ≡ Some x
       → Row w s t (Release c) (release w s t c k.word x (settle w.history i Void))
 
 module _ (w : World) (s : ℕ) (t : Seat) where
-  look_row : (c : ℕ) (x : Cell) → t.place ≡ Reading → slice_get w.cells c ≡ Some x
+  look_row : (c : ℕ) (x : Cell) → t.phase ≡ Reading → slice_get w.cells c ≡ Some x
       → (passes x.lock t.rv ≡ true) ⊎ (passes x.lock t.rv ≡ false) → Row w s t (Look c) (look w s t c x)
   look_row c x p f (inl m) = rw m (looks p f m)
   look_row c x p f (inr m) = rw m (look_conflicts p f m)
 
-  relook_row : (c word v : ℕ) (x : Cell) → t.place ≡ Loaded c word v → slice_get w.cells c ≡ Some x
+  relook_row : (c word v : ℕ) (x : Cell) → t.phase ≡ Loaded c word v → slice_get w.cells c ≡ Some x
       → ((x.lock == word) ≡ true) ⊎ ((x.lock == word) ≡ false) → Row w s t (Relook c) (relook w s t c word v x)
   relook_row c word v x p f (inl m) = rw m (relooks p f m)
   relook_row c word v x p f (inr m) = rw m (relook_conflicts p f m)
 
-  check_row : (i u c : ℕ) (x : Cell) → t.place ≡ Checking i u → is_due t u c ≡ true → slice_get w.cells c ≡ Some x
+  check_row : (i u c : ℕ) (x : Cell) → t.phase ≡ Checking i u → is_due t u c ≡ true → slice_get w.cells c ≡ Some x
       → (passes x.lock t.rv ≡ true) ⊎ (passes x.lock t.rv ≡ false) → Row w s t (Check c) (check w s t i c x)
   check_row i u c x p d f (inl m) =
       subst (λ (y : Bool). Row w s t (Check c)
-      (with_seat w s (if y then placed (saw t c x.lock) (Checking i (suc c)) else conflict (saw t c x.lock) (Voiding i))))
+      (with_seat w s (if y then in_phase (saw t c x.lock) (Checking i (suc c)) else conflict (saw t c x.lock) (Voiding i))))
       (sym m) (checks p d f m)
   check_row i u c x p d f (inr m) =
       subst (λ (y : Bool). Row w s t (Check c)
-      (with_seat w s (if y then placed (saw t c x.lock) (Checking i (suc c)) else conflict (saw t c x.lock) (Voiding i))))
+      (with_seat w s (if y then in_phase (saw t c x.lock) (Checking i (suc c)) else conflict (saw t c x.lock) (Voiding i))))
       (sym m) (check_conflicts p d f m)
 
-  take_row : (c v : ℕ) (r : Read) (x : Cell) → (t.place ≡ Reading) ⊎ ((t.place ≡ Taking) × (all_below c t.held ≡ true))
+  take_row : (c v : ℕ) (r : Read) (x : Cell) → (t.phase ≡ Reading) ⊎ ((t.phase ≡ Taking) × (all_below c t.held ≡ true))
       → find_read c t.reads ≡ Some r → slice_get w.cells c ≡ Some x
       → ((x.lock == r.word) ≡ true) ⊎ ((x.lock == r.word) ≡ false) → Row w s t (Take c v) (take_cell w s t c v r.word x)
   take_row c v r x p g f (inl m) =
@@ -93,7 +93,7 @@ module _ (w : World) (s : ℕ) (t : Seat) where
       subst (λ (y : Bool). Row w s t (Take c v) (if y then taken w s t c v r.word x else with_seat w s
       (conflict (saw t c x.lock) (if is_nil t.held then Idle else Failing)))) (sym m) (take_conflicts p g f m)
 
-  take_rows : (c v : ℕ) → (t.place ≡ Reading) ⊎ ((t.place ≡ Taking) × (all_below c t.held ≡ true))
+  take_rows : (c v : ℕ) → (t.phase ≡ Reading) ⊎ ((t.phase ≡ Taking) × (all_below c t.held ≡ true))
       → IfSome (given (find_read c t.reads) (λ r. given (slice_get w.cells c) (λ x. Some (take_cell w s t c v r.word x))))
       (Row w s t (Take c v))
   take_rows c v p =
@@ -101,7 +101,7 @@ module _ (w : World) (s : ℕ) (t : Seat) where
       (λ r g. given_keeps (Row w s t (Take c v)) (slice_get w.cells c) (λ x. Some (take_cell w s t c v r.word x))
       (λ x f. take_row c v r x p g f (known (x.lock == r.word))))
 
-  act_rows : (p : Place) (a : Action) → t.place ≡ p → IfSome (act w s t p a) (Row w s t a)
+  act_rows : (p : Phase) (a : Action) → t.phase ≡ p → IfSome (act w s t p a) (Row w s t a)
   act_rows Idle Begin q = begins (inl q)
   act_rows Reading Begin q = begins (inr q)
   act_rows Reading (Look c) q =
@@ -160,7 +160,7 @@ pub row_of : (w v : World) (s : ℕ) (a : Action) → next w s a ≡ Some v → 
 row_of w v s a e =
     some_keeps (λ (u : World). (t : Seat) × (slice_get w.seats s ≡ Some t) × Row w s t a u) (next w s a) v
     (given_keeps (λ (u : World). (t : Seat) × (slice_get w.seats s ≡ Some t) × Row w s t a u) (slice_get w.seats s)
-    (λ t. act w s t t.place a) (λ t f. with_found t f (act w s t t.place a) (act_rows w s t t.place a refl))) e
+    (λ t. act w s t t.phase a) (λ t f. with_found t f (act w s t t.phase a) (act_rows w s t t.phase a refl))) e
   where
     with_found : (t : Seat) → slice_get w.seats s ≡ Some t → (x : Option World) → IfSome x (Row w s t a)
         → IfSome x (λ (u : World). (t : Seat) × (slice_get w.seats s ≡ Some t) × Row w s t a u)

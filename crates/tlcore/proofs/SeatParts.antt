@@ -3,10 +3,10 @@ use Rattle.std.proofs.Common.{List, None, Some, [], ap, arith, false, inl, inr, 
 use Rattle.std.proofs.Common.{true, ℕ, ◌%◌, ◌/◌, ◌<◌, ◌==◌, ◌∙◌, ◌∷◌, ◌≡◌, ◌≢◌, ◌≤◌, ◌⊎◌}
 use Rattle.tlcore.specs.History.{WordsEntry, IsOne, One, Will, deed, value, version}
 use Rattle.ranges.specs.Pairs.{written}
-use Rattle.tlcore.specs.Seats.{Checking, Failing, Held, Idle, Loaded, Looked, Place, Read, Reading, Seat, Storing, Taking, Voiding}
+use Rattle.tlcore.specs.Seats.{Checking, Failing, Held, Idle, Loaded, Looked, Phase, Read, Reading, Seat, Storing, Taking, Voiding}
 use Rattle.tlcore.specs.Seats.{find_held, find_read, is_held, is_nil, number_at, passes, reads_of, with_stored, without, writes_of}
 use Rattle.tlcore.specs.Machine.{Cell}
-use Rattle.tlcore.specs.Invariant.{CellsOk, IsOld, PlaceOk, ReadsOk}
+use Rattle.tlcore.specs.Invariant.{CellsOk, IsOld, PhaseOk, ReadsOk}
 use Rattle.tlcore.proofs.Deeds.{value-settled}
 use Rattle.tlcore.proofs.Lists.{at_most_numbers, both_left, both_right, equal_numbers, get_within, known, other_numbers}
 
@@ -156,7 +156,7 @@ is_nil-nil (x ∷ ks) e = cc
 -- ---- numbers and cells
 
 -- a number that a run has drawn is that of an entry
-pub number_within : (o : List ℕ) (xs : List Cell) (h : List WordsEntry) (t : Seat) (p : Place) (i : ℕ) → PlaceOk o xs h t p
+pub number_within : (o : List ℕ) (xs : List Cell) (h : List WordsEntry) (t : Seat) (p : Phase) (i : ℕ) → PhaseOk o xs h t p
     → number_at p ≡ Some i → i < length h
 number_within o xs h t Idle i q e = cc
 number_within o xs h t Reading i q e = cc

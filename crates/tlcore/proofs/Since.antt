@@ -1,9 +1,9 @@
 -- Since the beginning of a run the lock word of a cell stays as it is, or another seat holds the cell.
 use Rattle.std.proofs.Common.{Bool, List, None, Some, ap, false, if◌then◌else◌, inl, inr, refl, slice_get, slice_set, subst, suc, sym, true}
 use Rattle.std.proofs.Common.{ℕ, ◌*◌, ◌==◌, ◌∙◌, ◌∷◌, ◌≡◌, ◌≢◌, ◌⊎◌}
-use Rattle.tlcore.specs.Seats.{Checking, Failing, Held, Idle, Loaded, Looked, Place, Read, Reading, Seat, Storing, Taking, Voiding}
+use Rattle.tlcore.specs.Seats.{Checking, Failing, Held, Idle, Loaded, Looked, Phase, Read, Reading, Seat, Storing, Taking, Voiding}
 use Rattle.tlcore.specs.Seats.{all_below, find_held, find_read, is_nil, with_stored, without}
-use Rattle.tlcore.specs.Machine.{Action, Begin, Cell, World, conflict, placed, saw}
+use Rattle.tlcore.specs.Machine.{Action, Begin, Cell, World, conflict, in_phase, saw}
 use Rattle.tlcore.specs.Conflicts.{HeldByOther}
 use Rattle.tlcore.specs.Invariant.{Consistent, IsOld}
 use Rattle.tlcore.proofs.Lists.{equal_numbers, get-set_cases, get-set_same, known, option_known, other_numbers}
@@ -18,7 +18,7 @@ pub record Steady (L : ℕ) (xs : List Cell) (rv : ℕ) (ks : List Held) (rs : L
   pub words : (r : Read) → find_read c rs ≡ Some r → r.word ≡ L
 
 -- while the run reads, takes or checks, the cell is steady, and a look at it has found L
-abbrev pub Active : ℕ → List Cell → Seat → ℕ → Place → Type 0
+abbrev pub Active : ℕ → List Cell → Seat → ℕ → Phase → Type 0
 Active L xs t c Idle = Unit {0}
 Active L xs t c Reading = Steady L xs t.rv t.held t.reads c
 Active L xs t c (Looked d x) = Steady L xs t.rv t.held t.reads c × (d ≡ c → x ≡ L)
@@ -39,7 +39,7 @@ module _ (L : ℕ) (xs ys : List Cell) (t : Seat) (c : ℕ)
         words = b.words;
       }
 
-  active_cells : (p : Place) → Active L xs t c p → Active L ys t c p
+  active_cells : (p : Phase) → Active L xs t c p → Active L ys t c p
   active_cells Idle b = tt
   active_cells Reading b = steady_cells b
   active_cells (Looked d x) b = (steady_cells b.0, b.1)
@@ -52,17 +52,17 @@ module _ (L : ℕ) (xs ys : List Cell) (t : Seat) (c : ℕ)
 
 -- an event of another seat
 pub other_step : (L : ℕ) (w v : World) (s z c : ℕ) (t d : Seat) → z ≢ s → slice_get w.seats z ≡ Some d → Moves w z d v
-    → slice_get w.seats s ≡ Some t → Active L w.cells t c t.place
-    → HeldByOther w s c ⊎ (HeldByOther v s c ⊎ Active L v.cells t c t.place)
+    → slice_get w.seats s ≡ Some t → Active L w.cells t c t.phase
+    → HeldByOther w s c ⊎ (HeldByOther v s c ⊎ Active L v.cells t c t.phase)
 other_step L w v s z c t d n e m f a = go (option_known (slice_get v.cells c))
   where
     at_z : slice_get v.seats z ≡ Some m.0
     at_z = ap (λ (l : List Seat). slice_get l z) m.1 ∙ get-set_same w.seats z m.0 d e
 
     by : (y : Cell) → slice_get v.cells c ≡ Some y → CellMoves w d m.0 c y
-        → HeldByOther w s c ⊎ (HeldByOther v s c ⊎ Active L v.cells t c t.place)
+        → HeldByOther w s c ⊎ (HeldByOther v s c ⊎ Active L v.cells t c t.phase)
     by y g (inl b) =
-        inr (inr (active_cells L w.cells v.cells t c (λ q h. (b.0, b.1, same q y (sym h ∙ g) ∙ b.2)) t.place a))
+        inr (inr (active_cells L w.cells v.cells t c (λ q h. (b.0, b.1, same q y (sym h ∙ g) ∙ b.2)) t.phase a))
       where
         same : (q y : Cell) → Some q ≡ Some y → q.lock ≡ y.lock
         same q y h = let k : q ≡ y = cc in ap (λ (r : Cell). r.lock) k
@@ -70,53 +70,53 @@ other_step L w v s z c t d n e m f a = go (option_known (slice_get v.cells c))
     by y g (inr (inr b)) = inl (z, d, b.0.0, n, e, b.0.1)
 
     go : ((y : Cell) × (slice_get v.cells c ≡ Some y)) ⊎ (slice_get v.cells c ≡ None)
-        → HeldByOther w s c ⊎ (HeldByOther v s c ⊎ Active L v.cells t c t.place)
+        → HeldByOther w s c ⊎ (HeldByOther v s c ⊎ Active L v.cells t c t.phase)
     go (inl y) = by y.0 y.1 (m.2 c y.0 y.1)
-    go (inr y) = inr (inr (active_cells L w.cells v.cells t c (λ q h. absurd (none_cell q (sym y ∙ h))) t.place a))
+    go (inr y) = inr (inr (active_cells L w.cells v.cells t c (λ q h. absurd (none_cell q (sym y ∙ h))) t.phase a))
       where
         none_cell : (q : Cell) → None ≡ Some q → ⊥
         none_cell q h = cc
 
 -- an event of the seat itself
 module _ (o : List ℕ) (L : ℕ) (w : World) (s c : ℕ) (t : Seat) (I : Consistent o w) (e : slice_get w.seats s ≡ Some t)
-    (a : Active L w.cells t c t.place) where
-  at_place : (p : Place) → t.place ≡ p → Active L w.cells t c p
-  at_place p q = subst (λ (y : Place). Active L w.cells t c y) q a
+    (a : Active L w.cells t c t.phase) where
+  at_phase : (p : Phase) → t.phase ≡ p → Active L w.cells t c p
+  at_phase p q = subst (λ (y : Phase). Active L w.cells t c y) q a
 
-  quiet_case : (b : Bool) (xs : List Cell) (z : Seat) (p q : Place) → Active L xs z c p → Active L xs z c q
+  quiet_case : (b : Bool) (xs : List Cell) (z : Seat) (p q : Phase) → Active L xs z c p → Active L xs z c q
       → Active L xs z c (if b then p else q)
   quiet_case true xs z p q x y = x
   quiet_case false xs z p q x y = y
 
-  taking_steady : (d : ℕ) → (t.place ≡ Reading) ⊎ ((t.place ≡ Taking) × (all_below d t.held ≡ true))
+  taking_steady : (d : ℕ) → (t.phase ≡ Reading) ⊎ ((t.phase ≡ Taking) × (all_below d t.held ≡ true))
       → Steady L w.cells t.rv t.held t.reads c
-  taking_steady d (inl p) = at_place Reading p
-  taking_steady d (inr p) = at_place Taking p.0
+  taking_steady d (inl p) = at_phase Reading p
+  taking_steady d (inr p) = at_phase Taking p.0
 
   after_seat : (z : Seat) → slice_get (slice_set w.seats s z) s ≡ Some z
   after_seat z = get-set_same w.seats s z t e
 
   pub own_step : (b : Action) (v : World) → b ≢ Begin → Row w s t b v
-      → (z : Seat) × (slice_get v.seats s ≡ Some z) × Active L v.cells z c z.place
+      → (z : Seat) × (slice_get v.seats s ≡ Some z) × Active L v.cells z c z.phase
   own_step b v n (begins p) = absurd (n refl)
   own_step b v n (looks {c = d} {x} p f m) =
-      let st : Steady L w.cells t.rv t.held t.reads c = at_place Reading p in (
-        placed (saw t d x.lock) (Looked d x.lock),
-        after_seat (placed (saw t d x.lock) (Looked d x.lock)),
+      let st : Steady L w.cells t.rv t.held t.reads c = at_phase Reading p in (
+        in_phase (saw t d x.lock) (Looked d x.lock),
+        after_seat (in_phase (saw t d x.lock) (Looked d x.lock)),
         (st, λ q. st.lock x (ap (slice_get w.cells) (sym q) ∙ f) (λ k h. none_held o w s t I e Reading p (λ y. y) c (k, h))),
       )
   own_step b v n (look_conflicts {c = d} {x} p f m) = (conflict (saw t d x.lock) Idle, after_seat (conflict (saw t d x.lock) Idle), tt)
   own_step b v n (loads {c = d} {word} {x} p f) =
-      let st : Steady L w.cells t.rv t.held t.reads c × (d ≡ c → word ≡ L) = at_place (Looked d word) p in
-      (placed t (Loaded d word x.value), after_seat (placed t (Loaded d word x.value)), (st.0, st.1))
+      let st : Steady L w.cells t.rv t.held t.reads c × (d ≡ c → word ≡ L) = at_phase (Looked d word) p in
+      (in_phase t (Loaded d word x.value), after_seat (in_phase t (Loaded d word x.value)), (st.0, st.1))
   own_step b v n (relooks {c = d} {word} {v = u} {x} p f m) = (
-    record (saw t d x.lock) { place = Reading; reads = record { cell = d; word = word; value = u } ∷ t.reads },
-    after_seat (record (saw t d x.lock) { place = Reading; reads = record { cell = d; word = word; value = u } ∷ t.reads }),
+    record (saw t d x.lock) { phase = Reading; reads = record { cell = d; word = word; value = u } ∷ t.reads },
+    after_seat (record (saw t d x.lock) { phase = Reading; reads = record { cell = d; word = word; value = u } ∷ t.reads }),
     record { old = st.0.old; lock = st.0.lock; words = λ r g. go r g (known (d == c)) },
   )
     where
       st : Steady L w.cells t.rv t.held t.reads c × (d ≡ c → word ≡ L)
-      st = at_place (Loaded d word u) p
+      st = at_phase (Loaded d word u) p
 
       go : (r : Read) → find_read c (record { cell = d; word = word; value = u } ∷ t.reads) ≡ Some r
           → ((d == c) ≡ true) ⊎ ((d == c) ≡ false) → r.word ≡ L
@@ -129,13 +129,13 @@ module _ (o : List ℕ) (L : ℕ) (w : World) (s c : ℕ) (t : Seat) (I : Consis
       (conflict (saw t d x.lock) Idle, after_seat (conflict (saw t d x.lock) Idle), tt)
   own_step b v n (takes {c = d} {v = u} {r} {x} p g f m) = (
     record (saw t d x.lock) {
-      place = Taking;
+      phase = Taking;
       held = record { cell = d; word = r.word; value = u; stored = false } ∷ t.held;
       locked =
           d ∷ t.locked;
     },
     after_seat (record (saw t d x.lock) {
-      place = Taking;
+      phase = Taking;
       held =
           record { cell = d; word = r.word; value = u; stored = false } ∷ t.held;
       locked = d ∷ t.locked;
@@ -167,39 +167,39 @@ module _ (o : List ℕ) (L : ℕ) (w : World) (s c : ℕ) (t : Seat) (I : Consis
     quiet_case (is_nil t.held) w.cells (conflict (saw t d x.lock) (if is_nil t.held then Idle else Failing)) Idle Failing tt tt,
   )
   own_step b v n (draws p) =
-      let st : Steady L w.cells t.rv t.held t.reads c = at_place Taking p in
-      (placed t (Checking w.clock 0), after_seat (placed t (Checking w.clock 0)), st)
+      let st : Steady L w.cells t.rv t.held t.reads c = at_phase Taking p in
+      (in_phase t (Checking w.clock 0), after_seat (in_phase t (Checking w.clock 0)), st)
   own_step b v n (checks {i} {u} {c = d} {x} p q f m) =
-      let st : Steady L w.cells t.rv t.held t.reads c = at_place (Checking i u) p in
-      (placed (saw t d x.lock) (Checking i (suc d)), after_seat (placed (saw t d x.lock) (Checking i (suc d))), st)
+      let st : Steady L w.cells t.rv t.held t.reads c = at_phase (Checking i u) p in
+      (in_phase (saw t d x.lock) (Checking i (suc d)), after_seat (in_phase (saw t d x.lock) (Checking i (suc d))), st)
   own_step b v n (check_conflicts {i} {c = d} {x} p q f m) =
       (conflict (saw t d x.lock) (Voiding i), after_seat (conflict (saw t d x.lock) (Voiding i)), tt)
   own_step b v n (stores {i} {c = d} p g f) = (
-    record t { place = Storing i; held = with_stored d t.held },
-    after_seat (record t { place = Storing i; held = with_stored d t.held }),
+    record t { phase = Storing i; held = with_stored d t.held },
+    after_seat (record t { phase = Storing i; held = with_stored d t.held }),
     tt,
   )
   own_step b v n (releases_done {i} {c = d} {k} {x} p g st f) = (
-    record t { place = (if is_nil (without d t.held) then Idle else t.place); held = without d t.held },
-    after_seat (record t { place = (if is_nil (without d t.held) then Idle else t.place); held = without d t.held }),
+    record t { phase = (if is_nil (without d t.held) then Idle else t.phase); held = without d t.held },
+    after_seat (record t { phase = (if is_nil (without d t.held) then Idle else t.phase); held = without d t.held }),
     quiet_case (is_nil (without d t.held)) (slice_set w.cells d (record x { lock = 2 * suc i }))
-        (record t { place = (if is_nil (without d t.held) then Idle else t.place); held = without d t.held }) Idle t.place tt
-        (subst (λ (y : Place). Active L (slice_set w.cells d (record x { lock = 2 * suc i }))
-        (record t { place = (if is_nil (without d t.held) then Idle else t.place); held = without d t.held }) c y) (sym p) tt),
+        (record t { phase = (if is_nil (without d t.held) then Idle else t.phase); held = without d t.held }) Idle t.phase tt
+        (subst (λ (y : Phase). Active L (slice_set w.cells d (record x { lock = 2 * suc i }))
+        (record t { phase = (if is_nil (without d t.held) then Idle else t.phase); held = without d t.held }) c y) (sym p) tt),
   )
   own_step b v n (releases_failed {c = d} {k} {x} p g f) = (
-    record t { place = (if is_nil (without d t.held) then Idle else t.place); held = without d t.held },
-    after_seat (record t { place = (if is_nil (without d t.held) then Idle else t.place); held = without d t.held }),
+    record t { phase = (if is_nil (without d t.held) then Idle else t.phase); held = without d t.held },
+    after_seat (record t { phase = (if is_nil (without d t.held) then Idle else t.phase); held = without d t.held }),
     quiet_case (is_nil (without d t.held)) (slice_set w.cells d (record x { lock = k.word }))
-        (record t { place = (if is_nil (without d t.held) then Idle else t.place); held = without d t.held }) Idle t.place tt
-        (subst (λ (y : Place). Active L (slice_set w.cells d (record x { lock = k.word }))
-        (record t { place = (if is_nil (without d t.held) then Idle else t.place); held = without d t.held }) c y) (sym p) tt),
+        (record t { phase = (if is_nil (without d t.held) then Idle else t.phase); held = without d t.held }) Idle t.phase tt
+        (subst (λ (y : Phase). Active L (slice_set w.cells d (record x { lock = k.word }))
+        (record t { phase = (if is_nil (without d t.held) then Idle else t.phase); held = without d t.held }) c y) (sym p) tt),
   )
   own_step b v n (releases_void {i} {c = d} {k} {x} p g f) = (
-    record t { place = (if is_nil (without d t.held) then Idle else t.place); held = without d t.held },
-    after_seat (record t { place = (if is_nil (without d t.held) then Idle else t.place); held = without d t.held }),
+    record t { phase = (if is_nil (without d t.held) then Idle else t.phase); held = without d t.held },
+    after_seat (record t { phase = (if is_nil (without d t.held) then Idle else t.phase); held = without d t.held }),
     quiet_case (is_nil (without d t.held)) (slice_set w.cells d (record x { lock = k.word }))
-        (record t { place = (if is_nil (without d t.held) then Idle else t.place); held = without d t.held }) Idle t.place tt
-        (subst (λ (y : Place). Active L (slice_set w.cells d (record x { lock = k.word }))
-        (record t { place = (if is_nil (without d t.held) then Idle else t.place); held = without d t.held }) c y) (sym p) tt),
+        (record t { phase = (if is_nil (without d t.held) then Idle else t.phase); held = without d t.held }) Idle t.phase tt
+        (subst (λ (y : Phase). Active L (slice_set w.cells d (record x { lock = k.word }))
+        (record t { phase = (if is_nil (without d t.held) then Idle else t.phase); held = without d t.held }) c y) (sym p) tt),
   )

@@ -20,10 +20,10 @@ words_fit w s t I e l c r f =
     omega (arith, b.1.1, b.1.2, q.rv, l)
 
 pub numbers_fit : (w : World) (s : ℕ) (t : Seat) → MeetsInvariant w → slice_get w.seats s ≡ Some t → length w.history < 4611686018427387904
-    → (before : ℕ) → t.place ≡ Storing before → before < 4611686018427387904
+    → (before : ℕ) → t.phase ≡ Storing before → before < 4611686018427387904
 numbers_fit w s t I e l i p =
     let q : SeatOk I.0 w.cells w.history t = I.1.consistent.seats s t e in
-    let b : i < length w.history = number_within I.0 w.cells w.history t t.place i q.place (ap number_at p) in
+    let b : i < length w.history = number_within I.0 w.cells w.history t t.phase i q.phase (ap number_at p) in
     omega (arith, b, l)
 
 pub acts_next :
@@ -31,8 +31,8 @@ pub acts_next :
     (g : List WordsEntry)
     → slice_get ss s ≡ Some t → Acts xs t h a b ys z g
     → MatchBool b (next (world_of xs ss h) s a ≡ Some (world_of ys (slice_set ss s z) g)) (next (world_of xs ss h) s a ≡ None)
-acts_next xs ss h s t a true ys z g e k = ap (λ (y : Option Seat). given y (λ t. act (world_of xs ss h) s t t.place a)) e ∙ k ss s
-acts_next xs ss h s t a false ys z g e k = ap (λ (y : Option Seat). given y (λ t. act (world_of xs ss h) s t t.place a)) e ∙ k ss s
+acts_next xs ss h s t a true ys z g e k = ap (λ (y : Option Seat). given y (λ t. act (world_of xs ss h) s t t.phase a)) e ∙ k ss s
+acts_next xs ss h s t a false ys z g e k = ap (λ (y : Option Seat). given y (λ t. act (world_of xs ss h) s t t.phase a)) e ∙ k ss s
 
 get_past : {A : Type 0} (xs : List A) (i : ℕ) → length xs ≤ i → slice_get xs i ≡ None
 get_past [] i l = refl
@@ -41,7 +41,7 @@ get_past (x ∷ xs) (suc i) l = get_past xs i (omega arith)
 
 pub next_past : (xs : List Cell) (ss : List Seat) (h : List WordsEntry) (s : ℕ) (a : Action) → length ss ≤ s
     → next (world_of xs ss h) s a ≡ None
-next_past xs ss h s a l = ap (λ (y : Option Seat). given y (λ t. act (world_of xs ss h) s t t.place a)) (get_past ss s l)
+next_past xs ss h s a l = ap (λ (y : Option Seat). given y (λ t. act (world_of xs ss h) s t t.phase a)) (get_past ss s l)
 
 pub reachable_next : (w v : World) (s : ℕ) (a : Action) → MeetsInvariant w → next w s a ≡ Some v → MeetsInvariant v
 reachable_next w v s a I e = (I.0, (event_keeps I.0 w v s a I.1 e).invariant)

@@ -4,9 +4,9 @@ use Rattle.std.proofs.lemmas.Bool.{true≢false}
 use Rattle.std.proofs.lemmas.Option.{none-some}
 use Rattle.tlcore.specs.History.{Did, Done, WordsEntry, Grows, Nothing, One, Status, Will, deed, deed_of, settle, value, value_after, version, version_after}
 use Rattle.ranges.specs.Pairs.{written}
-use Rattle.tlcore.specs.Seats.{Checking, Held, Place, Read, Seat, Storing, all_settled, find_held, is_settled, number_at, reads_of, with_stored}
+use Rattle.tlcore.specs.Seats.{Checking, Held, Phase, Read, Seat, Storing, all_settled, find_held, is_settled, number_at, reads_of, with_stored}
 use Rattle.tlcore.specs.Machine.{Cell, World, store}
-use Rattle.tlcore.specs.Invariant.{CellsOk, CheckingOk, Consistent, HeldOk, HistoryOk, IsOld, PlaceOk, SeatOk, SettledOk}
+use Rattle.tlcore.specs.Invariant.{CellsOk, CheckingOk, Consistent, HeldOk, HistoryOk, IsOld, PhaseOk, SeatOk, SettledOk}
 use Rattle.tlcore.proofs.AfterEvent.{Consistent-step, Others, others-own}
 use Rattle.tlcore.proofs.Deeds.{did, value-newest, value-same, version-same}
 use Rattle.tlcore.proofs.Frame.{Evolves, Frame, ReadsOk-kept, Untouched, Untouched-evolves}
@@ -24,7 +24,7 @@ all_one o h i u ks (r ∷ rs) a b = (
 )
 
 module _ (o : List ℕ) (w : World) (s : ℕ) (t : Seat) (i u c : ℕ) (k : Held) (x : Cell)
-    (I : Consistent o w) (e : slice_get w.seats s ≡ Some t) (p : t.place ≡ Checking i u) (alls : One o w.history i (reads_of t.reads))
+    (I : Consistent o w) (e : slice_get w.seats s ≡ Some t) (p : t.phase ≡ Checking i u) (alls : One o w.history i (reads_of t.reads))
     (f : find_held c t.held ≡ Some k) (g : slice_get w.cells c ≡ Some x) where
   abbrev xs : List Cell
   xs = slice_set w.cells c (record x { value = k.value })
@@ -36,7 +36,7 @@ module _ (o : List ℕ) (w : World) (s : ℕ) (t : Seat) (i u c : ℕ) (k : Held
   q = I.seats s t e
 
   r : CheckingOk o w.history t i u
-  r = subst (λ (y : Place). PlaceOk o w.cells w.history t y) p q.place
+  r = subst (λ (y : Phase). PhaseOk o w.cells w.history t y) p q.phase
 
   within : i < length w.history
   within = get_within w.history i r.entry r.here
@@ -52,8 +52,8 @@ module _ (o : List ℕ) (w : World) (s : ℕ) (t : Seat) (i u c : ℕ) (k : Held
 
   held_ok : (d : ℕ) (l : Held) → find_held d t.held ≡ Some l
       → (y : Cell) × (slice_get w.cells d ≡ Some y) × HeldOk o w.history t.rv (Checking i u) d l y
-  held_ok d l a = let b : (y : Cell) × (slice_get w.cells d ≡ Some y) × HeldOk o w.history t.rv t.place d l y = q.held d l a in
-      (b.0, b.1, subst (λ (z : Place). HeldOk o w.history t.rv z d l b.0) p b.2)
+  held_ok d l a = let b : (y : Cell) × (slice_get w.cells d ≡ Some y) × HeldOk o w.history t.rv t.phase d l y = q.held d l a in
+      (b.0, b.1, subst (λ (z : Phase). HeldOk o w.history t.rv z d l b.0) p b.2)
 
   -- a cell that isn't held keeps its deeds
   deed_free : (d j : ℕ) → ((l : Held) → find_held d t.held ≡ Some l → ⊥) → deed later d j ≡ deed w.history d j
@@ -161,10 +161,10 @@ module _ (o : List ℕ) (w : World) (s : ℕ) (t : Seat) (i u c : ℕ) (k : Held
           let l : j < length w.history = get_within w.history j d b.1 in
           One-kept o w.history later j d.reads first_grows (omega arith) (I.history j d b.1 st)
 
-  store_seat : SeatOk o xs later (record t { place = Storing i; held = with_stored c t.held })
+  store_seat : SeatOk o xs later (record t { phase = Storing i; held = with_stored c t.held })
   store_seat =
       record {
-        place = (record (r.entry) { status = Done }, get-settle_same w.history i Done r.entry r.here, refl);
+        phase = (record (r.entry) { status = Done }, get-settle_same w.history i Done r.entry r.here, refl);
         rv = omega (arith, q.rv, len);
         reads = ReadsOk-kept o w.history later t.rv t.reads first_grows q.rv q.reads;
         held = λ d l a. go d l (stored-find c d t.held l a) (same_or_not c d);
@@ -219,12 +219,12 @@ module _ (o : List ℕ) (w : World) (s : ℕ) (t : Seat) (i u c : ℕ) (k : Held
 
   pub first_store_keeps : Consistent o (store w s t i c k x)
   first_store_keeps =
-      Consistent-step o w s t (record t { place = Storing i; held = with_stored c t.held }) xs later w.clock t.held (Some i) I e
+      Consistent-step o w s t (record t { phase = Storing i; held = with_stored c t.held }) xs later w.clock t.held (Some i) I e
       store_frame (others o w s t I e (Some i) (ap number_at p)) (I.clock ∙ sym len) store_cells store_history store_seat
       (λ d l a. let b : (m : Held) × (find_held d t.held ≡ Some m) × (l.word ≡ m.word) × (l.value ≡ m.value) × (d ≢ c → l ≡ m) =
       stored-find c d t.held l a in (b.0, b.1))
       (λ j a. a)
     where
       others : (o : List ℕ) (w : World) (s : ℕ) (t : Seat) → Consistent o w → slice_get w.seats s ≡ Some t → (n : Option ℕ)
-          → number_at t.place ≡ n → Others w.seats s t.held n
+          → number_at t.phase ≡ n → Others w.seats s t.held n
       others o w s t I e n b = subst (λ (y : Option ℕ). Others w.seats s t.held y) b (others-own o w s t I e)

@@ -1,9 +1,9 @@
 -- A further store of a value keeps what the parts say of each other.
 use Rattle.std.proofs.Common.{List, Option, Some, ap, arith, inl, inr, slice_get, slice_set, subst, suc, sym, ℕ, ◌∙◌, ◌≡◌, ◌≢◌, ◌⊎◌}
 use Rattle.tlcore.specs.History.{Done, WordsEntry, Will, deed, settle, value, version}
-use Rattle.tlcore.specs.Seats.{Held, Place, Seat, Storing, find_held, number_at, with_stored}
+use Rattle.tlcore.specs.Seats.{Held, Phase, Seat, Storing, find_held, number_at, with_stored}
 use Rattle.tlcore.specs.Machine.{Cell, World, store}
-use Rattle.tlcore.specs.Invariant.{CellsOk, Consistent, HeldOk, IsOld, PlaceOk, SeatOk}
+use Rattle.tlcore.specs.Invariant.{CellsOk, Consistent, HeldOk, IsOld, PhaseOk, SeatOk}
 use Rattle.tlcore.proofs.AfterEvent.{Consistent-step, Others, others-own}
 use Rattle.tlcore.proofs.Frame.{Frame, set_frame}
 use Rattle.tlcore.proofs.Growth.{Grows-refl}
@@ -13,7 +13,7 @@ use Rattle.tlcore.proofs.Settling.{settle_same}
 use Rattle.tlcore.proofs.Stays.{Stays-refl}
 
 module _ (o : List ℕ) (w : World) (s : ℕ) (t : Seat) (i c : ℕ) (k : Held) (x : Cell)
-    (I : Consistent o w) (e : slice_get w.seats s ≡ Some t) (p : t.place ≡ Storing i)
+    (I : Consistent o w) (e : slice_get w.seats s ≡ Some t) (p : t.phase ≡ Storing i)
     (f : find_held c t.held ≡ Some k) (g : slice_get w.cells c ≡ Some x) where
   abbrev xs : List Cell
   xs = slice_set w.cells c (record x { value = k.value })
@@ -22,12 +22,12 @@ module _ (o : List ℕ) (w : World) (s : ℕ) (t : Seat) (i c : ℕ) (k : Held) 
   q = I.seats s t e
 
   r : (d : WordsEntry) × (slice_get w.history i ≡ Some d) × (d.status ≡ Done)
-  r = subst (λ (y : Place). PlaceOk o w.cells w.history t y) p q.place
+  r = subst (λ (y : Phase). PhaseOk o w.cells w.history t y) p q.phase
 
   held_ok : (d : ℕ) (l : Held) → find_held d t.held ≡ Some l
       → (y : Cell) × (slice_get w.cells d ≡ Some y) × HeldOk o w.history t.rv (Storing i) d l y
-  held_ok d l a = let b : (y : Cell) × (slice_get w.cells d ≡ Some y) × HeldOk o w.history t.rv t.place d l y = q.held d l a in
-      (b.0, b.1, subst (λ (z : Place). HeldOk o w.history t.rv z d l b.0) p b.2)
+  held_ok d l a = let b : (y : Cell) × (slice_get w.cells d ≡ Some y) × HeldOk o w.history t.rv t.phase d l y = q.held d l a in
+      (b.0, b.1, subst (λ (z : Phase). HeldOk o w.history t.rv z d l b.0) p b.2)
 
   again_frame : Frame o w.cells xs w.history w.history t.held (Some i)
   again_frame =
@@ -48,10 +48,10 @@ module _ (o : List ℕ) (w : World) (s : ℕ) (t : Seat) (i c : ℕ) (k : Held) 
           absurd (odd_even z.2.old.0 v (omega (arith, l, j, z.2.old.1)))
       go (inr n) = I.cells d v y n.1 j
 
-  again_seat : SeatOk o xs w.history (record t { place = Storing i; held = with_stored c t.held })
+  again_seat : SeatOk o xs w.history (record t { phase = Storing i; held = with_stored c t.held })
   again_seat =
       record {
-        place = r;
+        phase = r;
         rv = q.rv;
         reads = q.reads;
         held = λ d l a. go d l (stored-find c d t.held l a) (same_or_not c d);
@@ -96,13 +96,13 @@ module _ (o : List ℕ) (w : World) (s : ℕ) (t : Seat) (i c : ℕ) (k : Held) 
         clock = w.clock;
         cells = xs;
         seats = slice_set w.seats s (record t {
-          place =
+          phase =
               Storing i;
           held = with_stored c t.held;
         });
         history = h;
       })) (sym again_same)
-      (Consistent-step o w s t (record t { place = Storing i; held = with_stored c t.held }) xs w.history w.clock t.held (Some i) I e
+      (Consistent-step o w s t (record t { phase = Storing i; held = with_stored c t.held }) xs w.history w.clock t.held (Some i) I e
       again_frame others I.clock again_cells I.history again_seat
       (λ d l a. let b : (m : Held) × (find_held d t.held ≡ Some m) × (l.word ≡ m.word) × (l.value ≡ m.value) × (d ≢ c → l ≡ m) =
       stored-find c d t.held l a in (b.0, b.1))

@@ -10,12 +10,12 @@ use Rattle.tlcore.proofs.Deeds.{version-deed}
 use Rattle.tlcore.proofs.Frame.{set_frame}
 use Rattle.tlcore.proofs.Growth.{Grows-refl}
 use Rattle.tlcore.proofs.Lists.{equal_numbers, get-set_cases, get-set_other, get-set_same, known, odd_even, other_numbers}
-use Rattle.tlcore.proofs.Quiet.{Consistent-place, conflict_keeps, held_place}
+use Rattle.tlcore.proofs.Quiet.{Consistent-phase, conflict_keeps, held_phase}
 use Rattle.tlcore.proofs.SeatParts.{is_nil-nil}
 use Rattle.tlcore.proofs.Stays.{Stays-refl}
 
 module _ (o : List ℕ) (w : World) (s : ℕ) (t : Seat) (c v word : ℕ) (x : Cell)
-    (I : Consistent o w) (e : slice_get w.seats s ≡ Some t) (nd : done_at t.place ≡ None) (nn : number_at t.place ≡ None)
+    (I : Consistent o w) (e : slice_get w.seats s ≡ Some t) (nd : done_at t.phase ≡ None) (nn : number_at t.phase ≡ None)
     (old : IsOld word t.rv) (f : slice_get w.cells c ≡ Some x) (m : x.lock ≡ word) where
   new : Held
   new = record { cell = c; word = word; value = v; stored = false }
@@ -53,7 +53,7 @@ module _ (o : List ℕ) (w : World) (s : ℕ) (t : Seat) (c v word : ℕ) (x : C
       go : (d : ℕ) (k l : Held) → find_held d u.held ≡ Some l
           → ((d ≡ c) × (k ≡ record { cell = c; word = word; value = v; stored = false })) ⊎ ((d ≢ c) × (find_held d t.held ≡ Some k)) → ⊥
       go d k l b (inl p) =
-          let r : (y : Cell) × (slice_get w.cells d ≡ Some y) × HeldOk o w.history u.rv u.place d l y = (I.seats q u g).held d l b in
+          let r : (y : Cell) × (slice_get w.cells d ≡ Some y) × HeldOk o w.history u.rv u.phase d l y = (I.seats q u g).held d l b in
           let j : slice_get w.cells c ≡ Some r.0 = subst (λ (a : ℕ). slice_get w.cells a ≡ Some r.0) p.0 r.1 in
           let i : Some x ≡ Some r.0 = sym f ∙ j in
           let y : x ≡ r.0 = cc in
@@ -72,14 +72,14 @@ module _ (o : List ℕ) (w : World) (s : ℕ) (t : Seat) (c v word : ℕ) (x : C
       go (inr p) = I.cells d u y p.1 j
 
   take_seat : SeatOk o (slice_set w.cells c (record x { lock = suc word })) w.history (record (saw t c x.lock) {
-    place = Taking;
+    phase = Taking;
     held =
         record { cell = c; word = word; value = v; stored = false } ∷ t.held;
     locked = c ∷ t.locked;
   })
   take_seat =
       record {
-        place = tt;
+        phase = tt;
         rv = (I.seats s t e).rv;
         reads = (I.seats s t e).reads;
         held = λ d k g. go d k (held_now d k g);
@@ -102,16 +102,16 @@ module _ (o : List ℕ) (w : World) (s : ℕ) (t : Seat) (c v word : ℕ) (x : C
             })),
       )
       go d k (inr p) =
-          let r : (y : Cell) × (slice_get w.cells d ≡ Some y) × HeldOk o w.history t.rv t.place d k y = (I.seats s t e).held d k p.1 in (
+          let r : (y : Cell) × (slice_get w.cells d ≡ Some y) × HeldOk o w.history t.rv t.phase d k y = (I.seats s t e).held d k p.1 in (
             r.0,
             get-set_other w.cells c d (record x { lock = suc word }) p.0 ∙ r.1,
-            held_place o w.history t.rv t.place Taking d k r.0 (sym nd) (sym nn) r.2,
+            held_phase o w.history t.rv t.phase Taking d k r.0 (sym nd) (sym nn) r.2,
           )
 
   pub taken_keeps : Consistent o (taken w s t c v word x)
   taken_keeps =
       Consistent-step o w s t (record (saw t c x.lock) {
-        place = Taking;
+        phase = Taking;
         held =
             record { cell = c; word = word; value = v; stored = false } ∷ t.held;
         locked = c ∷ t.locked;
@@ -138,7 +138,7 @@ module _ (o : List ℕ) (w : World) (s : ℕ) (t : Seat) (c v word : ℕ) (x : C
 
 -- a lost exchange
 pub lost_keeps : (o : List ℕ) (w : World) (s : ℕ) (t : Seat) (c word : ℕ) → Consistent o w → slice_get w.seats s ≡ Some t
-    → done_at t.place ≡ None → number_at t.place ≡ None
+    → done_at t.phase ≡ None → number_at t.phase ≡ None
     → Consistent o (with_seat w s (conflict (saw t c word) (if is_nil t.held then Idle else Failing)))
 lost_keeps o w s t c word I e nd nn = go (known (is_nil t.held))
   where
@@ -149,4 +149,4 @@ lost_keeps o w s t c word I e nd nn = go (known (is_nil t.held))
         conflict_keeps o w s t c word I e (is_nil-nil t.held m) in rw m r
     go (inr m) =
         let r : Consistent o (with_seat w s (conflict (saw t c word) Failing)) =
-        Consistent-place o w s t Failing true (Some (c, word)) I e (sym nd) (sym nn) tt in rw m r
+        Consistent-phase o w s t Failing true (Some (c, word)) I e (sym nd) (sym nn) tt in rw m r

@@ -2,7 +2,7 @@
 -- o are the opening values, xs the cells, h the history, c a cell, t a seat.
 use Rattle.std.specs.Prelude.{◌≡◌, ◌≢◌, ℕ, suc, ◌*◌, ◌≤◌, true, false, Option, Some, None, List, [], ◌∷◌, length, slice_get}
 use Rattle.tlcore.specs.History.{Open, Done, WordsEntry, wv, Will, deed, version, value, IsVersionOf, IsOne, One}
-use Rattle.tlcore.specs.Seats.{Read, Held, Place, Idle, Reading, Looked, Loaded, Taking, Checking, Storing, Failing, Voiding, Seat}
+use Rattle.tlcore.specs.Seats.{Read, Held, Phase, Idle, Reading, Looked, Loaded, Taking, Checking, Storing, Failing, Voiding, Seat}
 use Rattle.tlcore.specs.Seats.{number_at, reads_of, find_held, writes_of, is_settled}
 use Rattle.tlcore.specs.Machine.{Cell, World}
 
@@ -32,7 +32,7 @@ ReadsOk o h rv (r ∷ rs) = (IsOld r.word rv × IsOne o h rv r.cell r.value) × 
 -- ---- the cells that a seat holds
 
 -- the index of the run's entry where that entry is Done
-abbrev pub done_at : Place → Option ℕ
+abbrev pub done_at : Phase → Option ℕ
 done_at (Storing i) = Some i
 done_at Idle = None
 done_at Reading = None
@@ -48,8 +48,8 @@ abbrev pub HeldShows : List ℕ → List WordsEntry → Option ℕ → ℕ → H
 HeldShows o h None c k x = (k.word ≡ 2 * version h c) × (x.value ≡ value o h c) × (k.stored ≡ false)
 HeldShows o h (Some i) c k x = (version h c ≡ wv i) × (value o h c ≡ k.value) × (k.stored ≡ true → x.value ≡ k.value)
 
--- p is the place of the seat that holds the cell c as k says, and x the cell's words
-pub record HeldOk (o : List ℕ) (h : List WordsEntry) (rv : ℕ) (p : Place) (c : ℕ) (k : Held) (x : Cell) : Type 0 where
+-- p is the phase of the seat that holds the cell c as k says, and x the cell's words
+pub record HeldOk (o : List ℕ) (h : List WordsEntry) (rv : ℕ) (p : Phase) (c : ℕ) (k : Held) (x : Cell) : Type 0 where
   -- the lock word is the one seen at the read, and locked
   pub locked : x.lock ≡ suc k.word
   pub old : IsOld k.word rv
@@ -59,7 +59,7 @@ pub record HeldOk (o : List ℕ) (h : List WordsEntry) (rv : ℕ) (p : Place) (c
   -- no Open entry but the run's own writes the cell
   pub mine : (i v : ℕ) → deed h c i ≡ Will v → number_at p ≡ Some i
 
--- ---- the place of a seat
+-- ---- the phase of a seat
 
 -- the reads that need no check any more are of the version just before the entry at i
 abbrev pub SettledOk : List ℕ → List WordsEntry → ℕ → List Held → ℕ → List Read → Type 0
@@ -76,29 +76,29 @@ pub record CheckingOk (o : List ℕ) (h : List WordsEntry) (t : Seat) (i upto : 
   pub after : t.rv ≤ i
   pub settled : SettledOk o h i t.held upto t.reads
 
--- what the place of the seat tells. The word that a look has found stays at most twice the version, and where it is twice the
+-- what the phase of the seat tells. The word that a look has found stays at most twice the version, and where it is twice the
 -- version still, the value word shows the value (Looked), or what was loaded is the value (Loaded)
-abbrev pub PlaceOk : List ℕ → List Cell → List WordsEntry → Seat → Place → Type 0
-PlaceOk o xs h t Idle = t.held ≡ []
-PlaceOk o xs h t Reading = t.held ≡ []
-PlaceOk o xs h t (Looked c word) =
+abbrev pub PhaseOk : List ℕ → List Cell → List WordsEntry → Seat → Phase → Type 0
+PhaseOk o xs h t Idle = t.held ≡ []
+PhaseOk o xs h t Reading = t.held ≡ []
+PhaseOk o xs h t (Looked c word) =
     (t.held ≡ []) × IsOld word t.rv × (word ≤ 2 * version h c)
     × (word ≡ 2 * version h c → (x : Cell) → slice_get xs c ≡ Some x → x.value ≡ value o h c)
-PlaceOk o xs h t (Loaded c word v) =
+PhaseOk o xs h t (Loaded c word v) =
     (t.held ≡ []) × IsOld word t.rv × (word ≤ 2 * version h c) × (word ≡ 2 * version h c → v ≡ value o h c)
-PlaceOk o xs h t Taking = Unit {0}
-PlaceOk o xs h t (Checking i upto) = CheckingOk o h t i upto
-PlaceOk o xs h t (Storing i) = (e : WordsEntry) × (slice_get h i ≡ Some e) × (e.status ≡ Done)
-PlaceOk o xs h t Failing = Unit {0}
-PlaceOk o xs h t (Voiding i) = (e : WordsEntry) × (slice_get h i ≡ Some e) × (e.status ≢ Done)
+PhaseOk o xs h t Taking = Unit {0}
+PhaseOk o xs h t (Checking i upto) = CheckingOk o h t i upto
+PhaseOk o xs h t (Storing i) = (e : WordsEntry) × (slice_get h i ≡ Some e) × (e.status ≡ Done)
+PhaseOk o xs h t Failing = Unit {0}
+PhaseOk o xs h t (Voiding i) = (e : WordsEntry) × (slice_get h i ≡ Some e) × (e.status ≢ Done)
 
 -- what holds of each seat
 pub record SeatOk (o : List ℕ) (xs : List Cell) (h : List WordsEntry) (t : Seat) : Type 0 where
-  pub place : PlaceOk o xs h t t.place
+  pub phase : PhaseOk o xs h t t.phase
   pub rv : t.rv ≤ length h
   pub reads : ReadsOk o h t.rv t.reads
   pub held : (c : ℕ) (k : Held) → find_held c t.held ≡ Some k
-      → (x : Cell) × (slice_get xs c ≡ Some x) × HeldOk o h t.rv t.place c k x
+      → (x : Cell) × (slice_get xs c ≡ Some x) × HeldOk o h t.rv t.phase c k x
 
 -- ---- all seats
 
@@ -112,7 +112,7 @@ HeldApart ts =
 abbrev pub NumbersApart : List Seat → Type 0
 NumbersApart ts =
     (s z : ℕ) (t u : Seat) (i : ℕ) → slice_get ts s ≡ Some t → slice_get ts z ≡ Some u
-    → number_at t.place ≡ Some i → number_at u.place ≡ Some i → s ≡ z
+    → number_at t.phase ≡ Some i → number_at u.phase ≡ Some i → s ≡ z
 
 -- the seat holds the cell
 abbrev pub Holds : Seat → ℕ → Type 0

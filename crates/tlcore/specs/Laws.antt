@@ -27,35 +27,35 @@ pub record Leads (o : List ℕ) (w : World) (s : ℕ) (a : Action) (v : World) :
 abbrev pub BeginLeads : Type 0
 BeginLeads =
     (o : List ℕ) (w : World) (s : ℕ) (t : Seat) → Invariant o w → slice_get w.seats s ≡ Some t
-    → (t.place ≡ Idle) ⊎ (t.place ≡ Reading)
+    → (t.phase ≡ Idle) ⊎ (t.phase ≡ Reading)
     → Leads o w s Begin (with_seat w s (begun w t))
 
 -- Look: the run is reading
 abbrev pub LookLeads : Type 0
 LookLeads =
     (o : List ℕ) (w : World) (s : ℕ) (t : Seat) (c : ℕ) (x : Cell) → Invariant o w → slice_get w.seats s ≡ Some t
-    → t.place ≡ Reading → slice_get w.cells c ≡ Some x
+    → t.phase ≡ Reading → slice_get w.cells c ≡ Some x
     → Leads o w s (Look c) (look w s t c x)
 
 -- Load: after a look at this cell that passed
 abbrev pub LoadLeads : Type 0
 LoadLeads =
     (o : List ℕ) (w : World) (s : ℕ) (t : Seat) (c word : ℕ) (x : Cell) → Invariant o w → slice_get w.seats s ≡ Some t
-    → t.place ≡ Looked c word → slice_get w.cells c ≡ Some x
+    → t.phase ≡ Looked c word → slice_get w.cells c ≡ Some x
     → Leads o w s (Load c) (load w s t c word x)
 
 -- Relook: after the load of this cell
 abbrev pub RelookLeads : Type 0
 RelookLeads =
     (o : List ℕ) (w : World) (s : ℕ) (t : Seat) (c word value : ℕ) (x : Cell) → Invariant o w → slice_get w.seats s ≡ Some t
-    → t.place ≡ Loaded c word value → slice_get w.cells c ≡ Some x
+    → t.phase ≡ Loaded c word value → slice_get w.cells c ≡ Some x
     → Leads o w s (Relook c) (relook w s t c word value x)
 
 -- Take: of a cell that was read, above each cell that is held
 abbrev pub TakeLeads : Type 0
 TakeLeads =
     (o : List ℕ) (w : World) (s : ℕ) (t : Seat) (c value : ℕ) (r : Read) (x : Cell) → Invariant o w → slice_get w.seats s ≡ Some t
-    → (t.place ≡ Reading) ⊎ ((t.place ≡ Taking) × (all_below c t.held ≡ true))
+    → (t.phase ≡ Reading) ⊎ ((t.phase ≡ Taking) × (all_below c t.held ≡ true))
     → find_read c t.reads ≡ Some r → slice_get w.cells c ≡ Some x
     → Leads o w s (Take c value) (take_cell w s t c value r.word x)
 
@@ -63,14 +63,14 @@ TakeLeads =
 abbrev pub DrawLeads : Type 0
 DrawLeads =
     (o : List ℕ) (w : World) (s : ℕ) (t : Seat) → Invariant o w → slice_get w.seats s ≡ Some t
-    → t.place ≡ Taking
+    → t.phase ≡ Taking
     → Leads o w s Draw (drawn w s t)
 
 -- Check: of the least cell that was read and is neither held nor checked, and not where rv + 1 = wv
 abbrev pub CheckLeads : Type 0
 CheckLeads =
     (o : List ℕ) (w : World) (s : ℕ) (t : Seat) (i upto c : ℕ) (r : Read) (x : Cell) → Invariant o w → slice_get w.seats s ≡ Some t
-    → t.place ≡ Checking i upto → is_next t i ≡ false → is_due t upto c ≡ true
+    → t.phase ≡ Checking i upto → is_next t i ≡ false → is_due t upto c ≡ true
     → find_read c t.reads ≡ Some r → slice_get w.cells c ≡ Some x
     → Leads o w s (Check c) (check w s t i c x)
 
@@ -78,7 +78,7 @@ CheckLeads =
 abbrev pub StoreLeads : Type 0
 StoreLeads =
     (o : List ℕ) (w : World) (s : ℕ) (t : Seat) (i c : ℕ) (k : Held) (x : Cell) → Invariant o w → slice_get w.seats s ≡ Some t
-    → ((upto : ℕ) × (t.place ≡ Checking i upto) × ((is_next t i || all_settled t.held upto t.reads) ≡ true)) ⊎ (t.place ≡ Storing i)
+    → ((upto : ℕ) × (t.phase ≡ Checking i upto) × ((is_next t i || all_settled t.held upto t.reads) ≡ true)) ⊎ (t.phase ≡ Storing i)
     → find_held c t.held ≡ Some k → slice_get w.cells c ≡ Some x
     → Leads o w s (Store c) (store w s t i c k x)
 
@@ -86,21 +86,21 @@ StoreLeads =
 abbrev pub ReleaseLeads : Type 0
 ReleaseLeads =
     (o : List ℕ) (w : World) (s : ℕ) (t : Seat) (i c : ℕ) (k : Held) (x : Cell) → Invariant o w → slice_get w.seats s ≡ Some t
-    → t.place ≡ Storing i → find_held c t.held ≡ Some k → k.stored ≡ true → slice_get w.cells c ≡ Some x
+    → t.phase ≡ Storing i → find_held c t.held ≡ Some k → k.stored ≡ true → slice_get w.cells c ≡ Some x
     → Leads o w s (Release c) (release w s t c (2 * wv i) x w.history)
 
 -- after a conflict before the draw
 abbrev pub ReleaseFailedLeads : Type 0
 ReleaseFailedLeads =
     (o : List ℕ) (w : World) (s : ℕ) (t : Seat) (c : ℕ) (k : Held) (x : Cell) → Invariant o w → slice_get w.seats s ≡ Some t
-    → t.place ≡ Failing → find_held c t.held ≡ Some k → slice_get w.cells c ≡ Some x
+    → t.phase ≡ Failing → find_held c t.held ≡ Some k → slice_get w.cells c ≡ Some x
     → Leads o w s (Release c) (release w s t c k.word x w.history)
 
 -- after a check that met a conflict
 abbrev pub ReleaseVoidLeads : Type 0
 ReleaseVoidLeads =
     (o : List ℕ) (w : World) (s : ℕ) (t : Seat) (i c : ℕ) (k : Held) (x : Cell) → Invariant o w → slice_get w.seats s ≡ Some t
-    → t.place ≡ Voiding i → find_held c t.held ≡ Some k → slice_get w.cells c ≡ Some x
+    → t.phase ≡ Voiding i → find_held c t.held ≡ Some k → slice_get w.cells c ≡ Some x
     → Leads o w s (Release c) (release w s t c k.word x (settle w.history i Void))
 
 -- ---- beside the events

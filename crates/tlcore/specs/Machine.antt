@@ -5,7 +5,7 @@
 use Rattle.std.specs.Prelude.{ℕ, suc, ◌*◌, Bool, true, false, not, ◌&&◌, ◌||◌, if◌then◌else◌, ◌==◌, Option, Some, None, List, [], ◌∷◌, ◌++◌}
 use Rattle.std.specs.Prelude.{slice_get, slice_set}
 use Rattle.tlcore.specs.History.{Open, Void, Done, WordsEntry, wv, settle}
-use Rattle.tlcore.specs.Seats.{Held, Place, Idle, Reading, Looked, Loaded, Taking, Checking, Storing, Failing, Voiding, Seat, passes}
+use Rattle.tlcore.specs.Seats.{Held, Phase, Idle, Reading, Looked, Loaded, Taking, Checking, Storing, Failing, Voiding, Seat, passes}
 use Rattle.tlcore.specs.Seats.{find_read, reads_of, find_held, is_nil, all_below, without, with_stored, writes_of, all_settled, is_due, is_next}
 pub use Rattle.tlcore.specs.declared.cells.Cell.{Cell}
 pub use Rattle.tlcore.specs.declared.actions.Action.{Action}
@@ -22,13 +22,13 @@ pub record World : Type 0 where
 abbrev pub with_seat : World → ℕ → Seat → World
 with_seat w s t = record w { seats = slice_set w.seats s t }
 
--- the seat goes on to the place p
-abbrev pub placed : Seat → Place → Seat
-placed t p = record t { place = p }
+-- the seat goes on to the phase p
+abbrev pub in_phase : Seat → Phase → Seat
+in_phase t p = record t { phase = p }
 
--- the seat met a conflict, and goes on to the place p
-abbrev pub conflict : Seat → Place → Seat
-conflict t p = record t { place = p; conflicted = true }
+-- the seat met a conflict, and goes on to the phase p
+abbrev pub conflict : Seat → Phase → Seat
+conflict t p = record t { phase = p; conflicted = true }
 
 -- a look at the cell c, a check or a take of it has found this lock word
 abbrev pub saw : Seat → ℕ → ℕ → Seat
@@ -40,7 +40,7 @@ saw t c word = record t { looked = Some (c, word) }
 abbrev pub begun : World → Seat → Seat
 begun w t =
     record {
-      place = Reading;
+      phase = Reading;
       rv = w.clock;
       reads = [];
       held = [];
@@ -53,18 +53,18 @@ begun w t =
 -- Look (step 2): the lock word is to be free and of version at most rv
 abbrev pub look : World → ℕ → Seat → ℕ → Cell → World
 look w s t c x =
-    with_seat w s (if passes x.lock t.rv then placed (saw t c x.lock) (Looked c x.lock) else conflict (saw t c x.lock) Idle)
+    with_seat w s (if passes x.lock t.rv then in_phase (saw t c x.lock) (Looked c x.lock) else conflict (saw t c x.lock) Idle)
 
 -- Load (step 2): the value word
 abbrev pub load : World → ℕ → Seat → ℕ → ℕ → Cell → World
-load w s t c word x = with_seat w s (placed t (Loaded c word x.value))
+load w s t c word x = with_seat w s (in_phase t (Loaded c word x.value))
 
 -- Relook (step 2, post-validation): the lock word is to be unchanged
 abbrev pub relook : World → ℕ → Seat → ℕ → ℕ → ℕ → Cell → World
 relook w s t c word value x =
     with_seat w s
     (if x.lock == word
-    then record (saw t c x.lock) { place = Reading; reads = record { cell = c; word = word; value = value } ∷ t.reads }
+    then record (saw t c x.lock) { phase = Reading; reads = record { cell = c; word = word; value = value } ∷ t.reads }
     else conflict (saw t c x.lock) Idle)
 
 -- the cell is locked and held
@@ -74,7 +74,7 @@ taken w s t c value word x =
       cells = slice_set w.cells c (record x { lock = suc word });
       seats =
           slice_set w.seats s (record (saw t c x.lock) {
-            place = Taking;
+            phase = Taking;
             held =
                 record { cell = c; word = word; value = value; stored = false } ∷ t.held;
             locked = c ∷ t.locked;
@@ -93,21 +93,21 @@ abbrev pub drawn : World → ℕ → Seat → World
 drawn w s t =
     record w {
       clock = suc w.clock;
-      seats = slice_set w.seats s (placed t (Checking w.clock 0));
+      seats = slice_set w.seats s (in_phase t (Checking w.clock 0));
       history = w.history ++ record { status = Open; reads = reads_of t.reads; writes = writes_of t.held } ∷ [];
     }
 
 -- Check (step 5): the lock word of a cell that was read is to be free and of version at most rv still
 abbrev pub check : World → ℕ → Seat → ℕ → ℕ → Cell → World
 check w s t i c x =
-    with_seat w s (if passes x.lock t.rv then placed (saw t c x.lock) (Checking i (suc c)) else conflict (saw t c x.lock) (Voiding i))
+    with_seat w s (if passes x.lock t.rv then in_phase (saw t c x.lock) (Checking i (suc c)) else conflict (saw t c x.lock) (Voiding i))
 
 -- Store (step 6): the value word; the first store makes the entry Done
 abbrev pub store : World → ℕ → Seat → ℕ → ℕ → Held → Cell → World
 store w s t i c k x =
     record w {
       cells = slice_set w.cells c (record x { value = k.value });
-      seats = slice_set w.seats s (record t { place = Storing i; held = with_stored c t.held });
+      seats = slice_set w.seats s (record t { phase = Storing i; held = with_stored c t.held });
       history = settle w.history i Done;
     }
 
@@ -116,7 +116,7 @@ abbrev pub release : World → ℕ → Seat → ℕ → ℕ → Cell → List Wo
 release w s t c word x history =
     record w {
       cells = slice_set w.cells c (record x { lock = word });
-      seats = slice_set w.seats s (record t { place = (if is_nil (without c t.held) then Idle else t.place); held = without c t.held });
+      seats = slice_set w.seats s (record t { phase = (if is_nil (without c t.held) then Idle else t.phase); held = without c t.held });
       history = history;
     }
 
@@ -132,8 +132,8 @@ abbrev pub only_if : {B : Type 0} → Bool → Option B → Option B
 only_if true x = x
 only_if false x = None
 
--- the table of steps: the action at the place where the seat stands. An action that has no row there isn't lawful
-abbrev pub act : World → ℕ → Seat → Place → Action → Option World
+-- the table of steps: the action at the phase where the seat stands. An action that has no row there isn't lawful
+abbrev pub act : World → ℕ → Seat → Phase → Action → Option World
 act w s t Idle Begin = Some (with_seat w s (begun w t))
 act w s t Reading Begin = Some (with_seat w s (begun w t))
 act w s t Reading (Look c) = given (slice_get w.cells c) (λ x. Some (look w s t c x))
@@ -166,4 +166,4 @@ act w s t _ _ = None
 
 -- the world after the event of the seat s, or None where it isn't lawful
 abbrev pub next : World → ℕ → Action → Option World
-next w s a = given (slice_get w.seats s) (λ t. act w s t t.place a)
+next w s a = given (slice_get w.seats s) (λ t. act w s t t.phase a)

@@ -52,7 +52,7 @@ abbrev pub StoresAreDone : World → ℕ → World → World → Type 0
 StoresAreDone before s after later =
     (c : ℕ) (x y : Cell) (t : Seat)
     → slice_get before.cells c ≡ Some x → slice_get after.cells c ≡ Some y → y.value ≢ x.value → slice_get before.seats s ≡ Some t
-    → (i : ℕ) × (e : WordsEntry) × (number_at t.place ≡ Some i) × (slice_get later.history i ≡ Some e) × (e.status ≡ Done)
+    → (i : ℕ) × (e : WordsEntry) × (number_at t.phase ≡ Some i) × (slice_get later.history i ≡ Some e) × (e.status ≡ Done)
 
 -- the half of each lock word, free or locked, is 0 or the number of a Done entry that writes the cell
 abbrev pub HalvesWereWritten : List ℕ → World → Type 0

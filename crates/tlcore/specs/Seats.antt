@@ -8,14 +8,14 @@ use Rattle.std.specs.List.{find, filter, list_any, list_all}
 use Rattle.tlcore.specs.History.{wv}
 pub use Rattle.tlcore.specs.declared.seats.Read.{Read}
 pub use Rattle.tlcore.specs.declared.seats.Held.{Held}
-pub use Rattle.tlcore.specs.declared.seats.Place.{Place}
-pub use Rattle.tlcore.specs.declared.seats.Place.TheVariants.{Idle, Reading, Looked, Loaded, Taking, Checking, Storing, Failing, Voiding}
+pub use Rattle.tlcore.specs.declared.seats.Phase.{Phase}
+pub use Rattle.tlcore.specs.declared.seats.Phase.TheVariants.{Idle, Reading, Looked, Loaded, Taking, Checking, Storing, Failing, Voiding}
 
 -- conflicted: the seat's last run met a conflict, and no Begin of the seat came since. clocks: what its loads of the clock found, the
 -- newest first. locked: the cells that it has locked, in all its runs, the newest first. looked: the cell and the lock word that its last
 -- look, check or take since the last load of the clock found
 pub record Seat : Type 0 where
-  pub place : Place
+  pub phase : Phase
   pub rv : ℕ
   pub reads : List Read
   pub held : List Held
@@ -26,10 +26,10 @@ pub record Seat : Type 0 where
 
 -- a seat that never ran
 abbrev pub idle : Seat
-idle = record { place = Idle; rv = 0; reads = []; held = []; conflicted = false; clocks = []; locked = []; looked = None }
+idle = record { phase = Idle; rv = 0; reads = []; held = []; conflicted = false; clocks = []; locked = []; looked = None }
 
 -- the index of the entry that the run has drawn
-abbrev pub number_at : Place → Option ℕ
+abbrev pub number_at : Phase → Option ℕ
 number_at Idle = None
 number_at Reading = None
 number_at (Looked c x) = None
@@ -41,7 +41,7 @@ number_at Failing = None
 number_at (Voiding i) = Some i
 
 -- no run, or one outside a read that holds no cell
-abbrev pub is_resting : Place → Bool
+abbrev pub is_resting : Phase → Bool
 is_resting Idle = true
 is_resting Reading = true
 is_resting (Looked c word) = false
@@ -53,7 +53,7 @@ is_resting Failing = false
 is_resting (Voiding i) = false
 
 -- a run outside a read that holds no cell
-abbrev pub is_reading : Place → Bool
+abbrev pub is_reading : Phase → Bool
 is_reading Idle = false
 is_reading Reading = true
 is_reading (Looked c word) = false

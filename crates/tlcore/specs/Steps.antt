@@ -14,8 +14,8 @@ world_of xs ts h = record { clock = length h; cells = xs; seats = ts; history = 
 abbrev pub Acts : List Cell → Seat → List WordsEntry → Action → Bool → List Cell → Seat → List WordsEntry → Type 0
 Acts xs t h a b ys z g =
     (ts : List Seat) (s : ℕ)
-    → MatchBool b (act (world_of xs ts h) s t t.place a ≡ Some (world_of ys (slice_set ts s z) g))
-    (act (world_of xs ts h) s t t.place a ≡ None)
+    → MatchBool b (act (world_of xs ts h) s t t.phase a ≡ Some (world_of ys (slice_set ts s z) g))
+    (act (world_of xs ts h) s t t.phase a ≡ None)
 
 -- the event of the seat s is lawful in w where b says so, and then leads to v
 abbrev pub IsNext : World → ℕ → Action → Bool → World → Type 0

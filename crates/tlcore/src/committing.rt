@@ -11,7 +11,7 @@ ghost use Rattle.tlcore.specs.Steps.{Acts, Releases};
 
 use crate::cells::Cell;
 use crate::entries::{Entry, Status, settle};
-use crate::seats::{Held, Place, Seat};
+use crate::seats::{Held, Phase, Seat};
 use crate::sets::{
     all_below, all_settled, find_held, find_read, is_held, passes, read_pairs, settled_below,
     stored, without, write_pairs,
@@ -28,9 +28,9 @@ pub fn take(
     requires { (r : ReadValue) → find_read_of cell seat.old.reads ≡ Some r → r.word < 18446744073709551615 }
     ensures { IfOk result (λ b. (h : List WordsEntry) → Acts cells.old seat.old h (Take cell value) b cells.new seat.new h) }
 {
-    match seat.place {
-        Place::Reading => {}
-        Place::Taking => {
+    match seat.phase {
+        Phase::Reading => {}
+        Phase::Taking => {
             if !all_below(cell, &seat.held) {
                 return Ok(false);
             }
@@ -56,12 +56,12 @@ pub fn take(
         )?;
         seat.locked.insert(0, cell)?;
         cells[cell].lock = read.word + 1;
-        seat.place = Place::Taking;
+        seat.phase = Phase::Taking;
     } else {
-        seat.place = if seat.held.is_empty() {
-            Place::Idle
+        seat.phase = if seat.held.is_empty() {
+            Phase::Idle
         } else {
-            Place::Failing
+            Phase::Failing
         };
         seat.conflicted = true;
     }
@@ -77,7 +77,7 @@ pub fn draw(
 ) -> Result<bool, AllocError>
     ensures { IfOk result (λ b. Acts cells.now seat.old history.old.items Draw b cells.now seat.new history.new.items) }
 {
-    let Place::Taking = seat.place else {
+    let Phase::Taking = seat.phase else {
         return Ok(false);
     };
     let entry = history.len();
@@ -88,7 +88,7 @@ pub fn draw(
         reads,
         writes,
     })?;
-    seat.place = Place::Checking { entry, upto: 0 };
+    seat.phase = Phase::Checking { entry, upto: 0 };
     Ok(true)
 }
 
@@ -96,8 +96,8 @@ pub fn draw(
 pub fn check(cells: &[Cell], seat: &mut Seat, cell: usize) -> bool
     ensures { (h : List WordsEntry) → Acts cells.now seat.old h (Check cell) result cells.now seat.new h }
 {
-    match seat.place {
-        Place::Checking { entry, upto } => {
+    match seat.phase {
+        Phase::Checking { entry, upto } => {
             if seat.rv == entry as u64
                 || is_held(cell, &seat.held)
                 || cell < upto
@@ -111,12 +111,12 @@ pub fn check(cells: &[Cell], seat: &mut Seat, cell: usize) -> bool
             let word = cells[cell].lock;
             seat.looked = Some((cell, word));
             if passes(word, seat.rv) {
-                seat.place = Place::Checking {
+                seat.phase = Phase::Checking {
                     entry,
                     upto: cell + 1,
                 };
             } else {
-                seat.place = Place::Voiding { entry };
+                seat.phase = Phase::Voiding { entry };
                 seat.conflicted = true;
             }
             true
@@ -135,15 +135,15 @@ pub fn store(
 ) -> Result<bool, AllocError>
     ensures { IfOk result (λ b. Acts cells.old seat.old history.old (Store cell) b cells.new seat.new history.new) }
 {
-    let entry = match seat.place {
-        Place::Checking { entry, upto } => {
+    let entry = match seat.phase {
+        Phase::Checking { entry, upto } => {
             // Where rv + 1 = wv nobody drew a number in between, so nothing is to be checked.
             if seat.rv != entry as u64 && !all_settled(&seat.held, upto, &seat.reads) {
                 return Ok(false);
             }
             entry
         }
-        Place::Storing { entry } => entry,
+        Phase::Storing { entry } => entry,
         _ => return Ok(false),
     };
     let Some(held) = find_held(cell, &seat.held) else {
@@ -153,7 +153,7 @@ pub fn store(
         return Ok(false);
     }
     seat.held = stored(alloc, cell, &seat.held)?;
-    seat.place = Place::Storing { entry };
+    seat.phase = Phase::Storing { entry };
     cells[cell].value = held.value;
     settle(history, entry, Status::Done);
     Ok(true)
@@ -174,7 +174,7 @@ fn give_back(
     cells[cell].lock = word;
     seat.held = without(alloc, cell, &seat.held)?;
     if seat.held.is_empty() {
-        seat.place = Place::Idle;
+        seat.phase = Phase::Idle;
     }
     Ok(())
 }
@@ -187,7 +187,7 @@ pub fn release(
     history: &mut [Entry],
     cell: usize,
 ) -> Result<bool, AllocError>
-    requires { (entry : ℕ) → seat.old.place ≡ Place.Storing entry → entry < 4611686018427387904 }
+    requires { (entry : ℕ) → seat.old.phase ≡ Phase.Storing entry → entry < 4611686018427387904 }
     ensures { IfOk result (λ b. Acts cells.old seat.old history.old (Release cell) b cells.new seat.new history.new) }
 {
     let Some(held) = find_held(cell, &seat.held) else {
@@ -196,19 +196,19 @@ pub fn release(
     if cell >= cells.len() {
         return Ok(false);
     }
-    match seat.place {
-        Place::Storing { entry } => {
+    match seat.phase {
+        Phase::Storing { entry } => {
             if !held.stored {
                 return Ok(false);
             }
             give_back(alloc, cells, seat, cell, 2 * (entry as u64 + 1))?;
             Ok(true)
         }
-        Place::Failing => {
+        Phase::Failing => {
             give_back(alloc, cells, seat, cell, held.word)?;
             Ok(true)
         }
-        Place::Voiding { entry } => {
+        Phase::Voiding { entry } => {
             give_back(alloc, cells, seat, cell, held.word)?;
             settle(history, entry, Status::Void);
             Ok(true)

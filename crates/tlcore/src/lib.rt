@@ -25,5 +25,5 @@ pub use crate::cells::Cell;
 pub use crate::entries::Status;
 pub use crate::machine::{World, step};
 pub use crate::schedules::{Ran, run_schedule};
-pub use crate::seats::{Held, Place, Read};
+pub use crate::seats::{Held, Phase, Read};
 pub use crate::theorem::{every_event, every_schedule};

@@ -14,7 +14,7 @@ use crate::cells::Cell;
 use crate::committing::{check, draw, release, store, take};
 use crate::entries::{Entry, Status};
 use crate::reading::{begin, load, look, relook};
-use crate::seats::{Place, Seat};
+use crate::seats::{Phase, Seat};
 use crate::sets::find_read;
 use std::alloc::{AllocError, Global};
 use std::marker::Model;
@@ -168,7 +168,7 @@ fn idle_seats(alloc: Global, seats: usize) -> Result<Vec<Seat>, AllocError>
     let mut all = Vec::new(alloc);
     for _i in 0..seats {
         all.push(Seat {
-            place: Place::Idle,
+            phase: Phase::Idle,
             rv: 0,
             reads: Vec::new(alloc),
             held: Vec::new(alloc),
@@ -217,7 +217,7 @@ fn act(
     action: Action,
 ) -> Result<bool, AllocError>
     requires words { (c : ℕ) (r : ReadValue) → find_read_of c seat.old.reads ≡ Some r → r.word < 18446744073709551615 }
-    requires numbers { (entry : ℕ) → seat.old.place ≡ Place.Storing entry → entry < 4611686018427387904 }
+    requires numbers { (entry : ℕ) → seat.old.phase ≡ Phase.Storing entry → entry < 4611686018427387904 }
     ensures { IfOk result (λ b. Acts cells.old.items seat.old history.old.items action b cells.new.items seat.new history.new.items) }
 {
     match action {

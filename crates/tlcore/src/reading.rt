@@ -10,7 +10,7 @@ ghost use Rattle.tlcore.specs.Steps.{Acts};
 
 use crate::cells::Cell;
 use crate::entries::Entry;
-use crate::seats::{Place, Read, Seat};
+use crate::seats::{Phase, Read, Seat};
 use crate::sets::passes;
 use std::alloc::{AllocError, Global};
 
@@ -23,12 +23,12 @@ pub fn begin(
 ) -> Result<bool, AllocError>
     ensures { IfOk result (λ b. Acts cells.now seat.old history.now Begin b cells.now seat.new history.now) }
 {
-    match seat.place {
-        Place::Idle | Place::Reading => {
+    match seat.phase {
+        Phase::Idle | Phase::Reading => {
             let clock = history.len() as u64;
             seat.clocks.insert(0, clock)?;
             seat.looked = None;
-            seat.place = Place::Reading;
+            seat.phase = Phase::Reading;
             seat.rv = clock;
             seat.reads = Vec::new(alloc);
             seat.held = Vec::new(alloc);
@@ -43,17 +43,17 @@ pub fn begin(
 pub fn look(cells: &[Cell], seat: &mut Seat, cell: usize) -> bool
     ensures { (h : List WordsEntry) → Acts cells.now seat.old h (Look cell) result cells.now seat.new h }
 {
-    match seat.place {
-        Place::Reading => {
+    match seat.phase {
+        Phase::Reading => {
             if cell >= cells.len() {
                 return false;
             }
             let word = cells[cell].lock;
             seat.looked = Some((cell, word));
             if passes(word, seat.rv) {
-                seat.place = Place::Looked { cell, word };
+                seat.phase = Phase::Looked { cell, word };
             } else {
-                seat.place = Place::Idle;
+                seat.phase = Phase::Idle;
                 seat.conflicted = true;
             }
             true
@@ -66,12 +66,12 @@ pub fn look(cells: &[Cell], seat: &mut Seat, cell: usize) -> bool
 pub fn load(cells: &[Cell], seat: &mut Seat, cell: usize) -> bool
     ensures { (h : List WordsEntry) → Acts cells.now seat.old h (Load cell) result cells.now seat.new h }
 {
-    match seat.place {
-        Place::Looked { cell: looked, word } => {
+    match seat.phase {
+        Phase::Looked { cell: looked, word } => {
             if looked != cell || cell >= cells.len() {
                 return false;
             }
-            seat.place = Place::Loaded {
+            seat.phase = Phase::Loaded {
                 cell,
                 word,
                 value: cells[cell].value,
@@ -86,8 +86,8 @@ pub fn load(cells: &[Cell], seat: &mut Seat, cell: usize) -> bool
 pub fn relook(cells: &[Cell], seat: &mut Seat, cell: usize) -> Result<bool, AllocError>
     ensures { IfOk result (λ b. (h : List WordsEntry) → Acts cells.now seat.old h (Relook cell) b cells.now seat.new h) }
 {
-    match seat.place {
-        Place::Loaded {
+    match seat.phase {
+        Phase::Loaded {
             cell: loaded,
             word,
             value,
@@ -98,9 +98,9 @@ pub fn relook(cells: &[Cell], seat: &mut Seat, cell: usize) -> Result<bool, Allo
             seat.looked = Some((cell, cells[cell].lock));
             if cells[cell].lock == word {
                 seat.reads.insert(0, Read { cell, word, value })?;
-                seat.place = Place::Reading;
+                seat.phase = Phase::Reading;
             } else {
-                seat.place = Place::Idle;
+                seat.phase = Phase::Idle;
                 seat.conflicted = true;
             }
             Ok(true)

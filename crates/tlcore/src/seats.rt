@@ -32,7 +32,7 @@ pub struct Held {
 
 /// Where a seat stands in its run. An `entry` is the index of the run's entry in the history, from 0: its number less one.
 #[derive(Clone, Copy)]
-pub enum Place {
+pub enum Phase {
     /// The seat runs nothing.
     Idle,
     /// The run is outside a read, and holds no cell.
@@ -57,7 +57,7 @@ pub enum Place {
 #[derive(Drop)]
 pub struct Seat {
     /// Where the seat stands.
-    pub place: Place,
+    pub phase: Phase,
     /// The place of the run: the clock as its `Begin` found it.
     pub rv: u64,
     /// The read set, the newest read first.
@@ -80,7 +80,7 @@ impl Model for Seat {
     ghost Value = { SeatValue };
 
     ghost view = { λ a. record {
-      place = a.place;
+      phase = a.phase;
       rv = a.rv;
       reads = a.reads.items;
       held = a.held.items;
@@ -98,7 +98,7 @@ impl Seat {
         ensures { IfOk result (λ t. t ≡ self.now) }
     {
         Ok(Seat {
-            place: self.place,
+            phase: self.phase,
             rv: self.rv,
             reads: self.reads.clone()?,
             held: self.held.clone()?,

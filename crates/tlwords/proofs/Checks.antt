@@ -6,10 +6,10 @@ use Rattle.std.specs.List.{list_all}
 use Rattle.std.proofs.lemmas.Bool.{or_left, or_right}
 use Rattle.std.specs.Option.{option_map}
 use Rattle.tlcore.specs.Seats.{Seat, find_read, is_held, is_settled, settled_below, all_settled, is_due, is_next, passes}
-use Rattle.tlcore.specs.Machine.{placed, conflict, saw}
+use Rattle.tlcore.specs.Machine.{in_phase, conflict, saw}
 use Rattle.tlcore.proofs.Lists.{option_known, get_within}
 use Rattle.tlcore.specs.declared.seats.Read.{Read}
-use Rattle.tlcore.specs.declared.seats.Place.TheVariants.{Checking, Voiding}
+use Rattle.tlcore.specs.declared.seats.Phase.TheVariants.{Checking, Voiding}
 use Rattle.tlwords.specs.declared.log.Slot.{Slot}
 use Rattle.tlwords.specs.Terms.{Terms}
 use Rattle.tlwords.specs.Views.{View}
@@ -65,10 +65,10 @@ unwanted_keeps slots c r e = go (was_read slots c) (value_kept slots c) r e
 
 module _ {S N : Type 0} (terms : Terms S N) (slots : List Slot) (i : ℕ) (m : Mine S N)
     (k : IsKeptOf m.0.seat slots) where
-  pub check_starts : m.0.seat.place ≡ Checking i 0 → Goes terms m (placed m.0.seat (Checking i 0)) m
-  check_starts e = goes_start terms m (placed m.0.seat (Checking i 0)) (λ j. let t : Seat = record m.0.seat { place = sym e j } in t)
+  pub check_starts : m.0.seat.phase ≡ Checking i 0 → Goes terms m (in_phase m.0.seat (Checking i 0)) m
+  check_starts e = goes_start terms m (in_phase m.0.seat (Checking i 0)) (λ j. let t : Seat = record m.0.seat { phase = sym e j } in t)
 
-  pub check_skips : m.0.seat.place ≡ Checking i 0 → i ≡ m.0.seat.rv → Passes terms i m m
+  pub check_skips : m.0.seat.phase ≡ Checking i 0 → i ≡ m.0.seat.rv → Passes terms i m m
   check_skips e n =
       record {
         upto = 0;
@@ -93,19 +93,19 @@ module _ {S N : Type 0} (terms : Terms S N) (slots : List Slot) (i : ℕ) (m : M
         ∙ held_yes slots 0 0 (length slots) x v.0 (omega arith) (read_within slots x r) v.1))
         (λ (a : x < low). or_right (is_held x m.0.seat.held) (nat_lt x low) (lt_yes x low a)) (le_cases low x)
 
-    module _ (r : Mine S N) (g : Goes terms m (placed m.0.seat (Checking i low)) r) where
+    module _ (r : Mine S N) (g : Goes terms m (in_phase m.0.seat (Checking i low)) r) where
       pub check_place : (c : ℕ) → low ≤ c → is_wanted slots false c ≡ true → NoneWanted slots false low c → i ≢ m.0.seat.rv
-          → (j : ℕ) × (upto : ℕ) × (r.0.seat.place ≡ Checking j upto) × (is_next r.0.seat j ≡ false) × (is_due r.0.seat upto c ≡ true)
+          → (j : ℕ) × (upto : ℕ) × (r.0.seat.phase ≡ Checking j upto) × (is_next r.0.seat j ≡ false) × (is_due r.0.seat upto c ≡ true)
       check_place c l w front ne = (
         i,
         low,
-        ap (λ (t : Seat). t.place) at,
+        ap (λ (t : Seat). t.phase) at,
         ap (λ (t : Seat). is_next t i) at ∙ ne_eqb (suc m.0.seat.rv) (suc i) (λ e. ne (omega (arith, e))),
         ap (λ (t : Seat). is_due t low c) at ∙ (λ j. not (open_still j) && rest j),
       )
         where
-          at : r.0.seat ≡ record (placed m.0.seat (Checking i low)) { looked = r.0.seat.looked }
-          at = goes_seat terms m r (placed m.0.seat (Checking i low)) g
+          at : r.0.seat ≡ record (in_phase m.0.seat (Checking i low)) { looked = r.0.seat.looked }
+          at = goes_seat terms m r (in_phase m.0.seat (Checking i low)) g
 
           open_still : is_settled m.0.seat.held low c ≡ false
           open_still =
@@ -129,28 +129,28 @@ module _ {S N : Type 0} (terms : Terms S N) (slots : List Slot) (i : ℕ) (m : M
 
       module _ (c n : ℕ) (s : Mine S N) (t : Checks terms c r n s) where
         looks : s.0 ≡ record r.0 { seen = s.0.seen; seat = after_check r.0.seat i c n }
-        looks = t.is i low (ap (λ (t : Seat). t.place) (goes_seat terms m r (placed m.0.seat (Checking i low)) g))
+        looks = t.is i low (ap (λ (t : Seat). t.phase) (goes_seat terms m r (in_phase m.0.seat (Checking i low)) g))
 
-        pub check_goes : n % 2 ≡ 0 → n / 2 ≤ m.0.seat.rv → Goes terms m (placed m.0.seat (Checking i (c + 1))) s
+        pub check_goes : n % 2 ≡ 0 → n / 2 ≤ m.0.seat.rv → Goes terms m (in_phase m.0.seat (Checking i (c + 1))) s
         check_goes even l =
-            goes_by terms (λ (t : Seat). after_check t i c n) (λ _. Some (c, n)) m r s (placed m.0.seat (Checking i low))
-            (placed m.0.seat (Checking i (c + 1))) g t.sees looks
-            (λ o. if_true (passes n m.0.seat.rv) (placed (saw m.0.seat c n) (Checking i (suc c))) (conflict (saw m.0.seat c n) (Voiding i))
-            (passes_true n m.0.seat.rv even l)
-            ∙ ap (λ (x : ℕ). placed (saw m.0.seat c n) (Checking i x)) (let a : suc c ≡ c + 1 = omega arith in a))
+            goes_by terms (λ (t : Seat). after_check t i c n) (λ _. Some (c, n)) m r s (in_phase m.0.seat (Checking i low))
+            (in_phase m.0.seat (Checking i (c + 1))) g t.sees looks
+            (λ o. if_true (passes n m.0.seat.rv) (in_phase (saw m.0.seat c n) (Checking i (suc c)))
+            (conflict (saw m.0.seat c n) (Voiding i)) (passes_true n m.0.seat.rv even l)
+            ∙ ap (λ (x : ℕ). in_phase (saw m.0.seat c n) (Checking i x)) (let a : suc c ≡ c + 1 = omega arith in a))
 
         pub check_fails : (w : ℕ) (b : Option ℕ) → b ≡ Some w → word_seen slots c ≡ Some w → HasCause m.0.seat.rv n
             → FailsTheCheck terms slots i (record { cell = c; word = n; before = b }) m s
         check_fails w b is f cause =
             record {
-              goes = goes_by terms (λ (t : Seat). after_check t i c n) (λ _. Some (c, n)) m r s (placed m.0.seat (Checking i low))
+              goes = goes_by terms (λ (t : Seat). after_check t i c n) (λ _. Some (c, n)) m r s (in_phase m.0.seat (Checking i low))
                   (conflict m.0.seat (Voiding i)) g t.sees looks
-                  (λ o. if_false (passes n m.0.seat.rv) (placed (saw m.0.seat c n) (Checking i (suc c)))
+                  (λ o. if_false (passes n m.0.seat.rv) (in_phase (saw m.0.seat c n) (Checking i (suc c)))
                   (conflict (saw m.0.seat c n) (Voiding i)) (passes_false n m.0.seat.rv cause));
               meets = record {
                 looked = ap (λ (v : View S N). v.seat.looked) looks
                     ∙ if_known (λ (z : Seat). z.looked ≡ Some (c, n)) (passes n r.0.seat.rv)
-                    (placed (saw r.0.seat c n) (Checking i (suc c)))
+                    (in_phase (saw r.0.seat c n) (Checking i (suc c)))
                     (conflict (saw r.0.seat c n) (Voiding i)) (λ _. refl) (λ _. refl);
                 written = t.written;
                 before = f ∙ sym is;

@@ -12,8 +12,8 @@ use Rattle.atomic_table.proofs.Lists.{exchanged}
 use Rattle.tlcore.specs.History.{WordsEntry, wv, settle}
 use Rattle.tlcore.specs.Seats.{Seat, number_at, passes, reads_of, writes_of, find_read, find_held, all_below, all_settled, is_due, is_next}
 use Rattle.tlcore.specs.Seats.{is_nil, without, with_stored}
-use Rattle.tlcore.specs.Machine.{World, with_seat, placed, conflict, saw, taken, take_cell, drawn, check, store, release}
-use Rattle.tlcore.specs.Invariant.{PlaceOk, CheckingOk}
+use Rattle.tlcore.specs.Machine.{World, with_seat, in_phase, conflict, saw, taken, take_cell, drawn, check, store, release}
+use Rattle.tlcore.specs.Invariant.{PhaseOk, CheckingOk}
 use Rattle.tlcore.specs.declared.actions.Action.TheVariants.{Take, Draw, Check, Store, Release}
 use Rattle.tlcore.specs.Laws.{Leads}
 use Rattle.tlcore.proofs.Laws.{take_leads, draw_leads, check_leads, store_leads, release_leads, release_failed_leads, release_void_leads}
@@ -24,8 +24,8 @@ use Rattle.tlcore.specs.declared.entries.Status.TheVariants.{Open, Done, Void}
 use Rattle.tlcore.specs.declared.cells.Cell.{Cell}
 use Rattle.tlcore.specs.declared.seats.Read.{Read}
 use Rattle.tlcore.specs.declared.seats.Held.{Held}
-use Rattle.tlcore.specs.declared.seats.Place.{Place}
-use Rattle.tlcore.specs.declared.seats.Place.TheVariants.{Idle, Reading, Taking, Checking, Storing, Failing, Voiding}
+use Rattle.tlcore.specs.declared.seats.Phase.{Phase}
+use Rattle.tlcore.specs.declared.seats.Phase.TheVariants.{Idle, Reading, Taking, Checking, Storing, Failing, Voiding}
 use Rattle.tlcore.proofs.Words.{landed_not_open, void_not_open, is_looking, not_looking}
 use Rattle.ranges.specs.Ranges.{Range, Has, Names}
 use Rattle.tlwords.specs.Terms.{Terms, Permits}
@@ -45,15 +45,15 @@ use Rattle.tlwords.proofs.ReadSteps.{if_known, lock_back, value_back, no_number,
 use Rattle.tlwords.proofs.Once.{number_drawn, drawn_below, has_snoc}
 use Rattle.tlwords.proofs.RunSteps.{if_true, if_false}
 
-place_known : (P : Place → Type 0) (b : Bool) (x y : Place) → (b ≡ true → P x) → (b ≡ false → P y) → P (if b then x else y)
-place_known P true x y f g = f refl
-place_known P false x y f g = g refl
+phase_known : (P : Phase → Type 0) (b : Bool) (x y : Phase) → (b ≡ true → P x) → (b ≡ false → P y) → P (if b then x else y)
+phase_known P true x y f g = f refl
+phase_known P false x y f g = g refl
 
 -- ---- Take
 
 module _ {S N : Type 0} (terms : Terms S N) (setting : S) (base : List ℕ) (room : ℕ) where
   pub takes : (opened : Start) (slots id c value old new : ℕ) (me : Mine S N) (y : S) → me.0.setting ≡ Some y → c < length me.0.base
-      → (me.0.seat.place ≡ Reading) ⊎ ((me.0.seat.place ≡ Taking) × (all_below c me.0.seat.held ≡ true))
+      → (me.0.seat.phase ≡ Reading) ⊎ ((me.0.seat.phase ≡ Taking) × (all_below c me.0.seat.held ≡ true))
       → (d : Read) → find_read c me.0.seat.reads ≡ Some d → d.word ≡ old → new ≡ old + 1 → 1 ≤ me.0.rights
       → Allows (Ruled terms setting base room opened) slots id me (lock_at c) (λ n. either (eqb n old) new n)
       (bare (took terms value) (step slots (lock_at c) old new none) me)
@@ -77,15 +77,15 @@ module _ {S N : Type 0} (terms : Terms S N) (setting : S) (base : List ℕ) (roo
       let f : Suits terms setting base room h r.owner v = r.suits id v at in
       let held : ℕ → Seat = λ k.
       record (saw t c k) {
-        place = Taking;
+        phase = Taking;
         held = record { cell = c; word = old; value = value; stored = false } ∷ t.held;
         locked = c ∷
             t.locked;
       } in
       let lost : ℕ → Seat = λ k. conflict (saw t c k) (if is_nil t.held then Idle else Failing) in
-      let none_now : (k : ℕ) → number_at t.place ≡ Some k → ⊥ = λ k a.
-      ⊎_elim (λ (b : t.place ≡ Reading). no_number t.place Reading k b refl a)
-      (λ (b : (t.place ≡ Taking) × (all_below c t.held ≡ true)). no_number t.place Taking k b.0 refl a) p in
+      let none_now : (k : ℕ) → number_at t.phase ≡ Some k → ⊥ = λ k a.
+      ⊎_elim (λ (b : t.phase ≡ Reading). no_number t.phase Reading k b refl a)
+      (λ (b : (t.phase ≡ Taking) × (all_below c t.held ≡ true)). no_number t.phase Taking k b.0 refl a) p in
       let P : ℕ → Seat → Type 0 = λ k z.
       Rule terms setting base room ranges (slice_set ws (lock_at c) k) (slice_set vs id (record v { seen = h; seat = z }))
       × Sees terms v (record v { seen = h; seat = z }) in
@@ -114,9 +114,9 @@ module _ {S N : Type 0} (terms : Terms S N) (setting : S) (base : List ℕ) (roo
       subst (λ (z : Seat). P n z) (sym (if_false (n == old) (held n) (lost n) (ne_eqb n old miss)))
       (quiet terms setting base room ranges ws vs r id v at (lock_at c) (lost n) v.told keep' f.told
       (λ k a. absurd (none_now k a))
-      (λ k a. absurd (place_known (λ (z : Place). number_at z ≡ Some k → ⊥) (is_nil t.held) Idle Failing
+      (λ k a. absurd (phase_known (λ (z : Phase). number_at z ≡ Some k → ⊥) (is_nil t.held) Idle Failing
       (λ _ b. no_number Idle Idle k refl refl b) (λ _ b. no_number Failing Failing k refl refl b) a))
-      (place_known (λ (z : Place). LookIsFresh w.history (conflict (saw t c n) z)) (is_nil t.held) Idle Failing
+      (phase_known (λ (z : Phase). LookIsFresh w.history (conflict (saw t c n) z)) (is_nil t.held) Idle Failing
       (λ _ d o a b. absurd (not_looking Idle refl d o a b)) (λ _ d o a b. absurd (not_looking Failing refl d o a b)))
       (λ _ b. b) (record v { seen = h; seat = lost n }) refl)) in (
         lock_within ws w r.words_are c x.0 x.1,
@@ -200,7 +200,7 @@ module _ {S N : Type 0} (terms : Terms S N) (setting : S) (base : List ℕ) (roo
           absurd (omega (arith, w, g, len))
       go (inr p) (inr q) = last p q
 
-  pub draws : (opened : Start) (slots id : ℕ) (me : Mine S N) (y : S) (note : N) → me.0.setting ≡ Some y → me.0.seat.place ≡ Taking
+  pub draws : (opened : Start) (slots id : ℕ) (me : Mine S N) (y : S) (note : N) → me.0.setting ≡ Some y → me.0.seat.phase ≡ Taking
       → Permits terms y me.0.seen.ranges (reads_of me.0.seat.reads) (writes_of me.0.seat.held) note → writes_of me.0.seat.held ≢ []
       → length me.0.drawn + 1 ≤ 2 ^ 40 * me.0.rights
       → Allows (Ruled terms setting base room opened) slots id me clock_at (λ n. (n + 1) % 2 ^ 64)
@@ -232,8 +232,8 @@ module _ {S N : Type 0} (terms : Terms S N) (setting : S) (base : List ℕ) (roo
             ∙ a,
         λ x has. has,
       ) in
-      let z : Seat = placed t (Checking n 0) in
-      let zz : z ≡ placed t (Checking w.clock 0) = ap (λ (k : ℕ). placed t (Checking k 0)) is in
+      let z : Seat = in_phase t (Checking n 0) in
+      let zz : z ≡ in_phase t (Checking w.clock 0) = ap (λ (k : ℕ). in_phase t (Checking k 0)) is in
       let u : View S N = record v { seen = h; seat = z; note = Some note; drawn = v.drawn ++ suc n ∷ [] } in
       let owner : ℕ → ℕ = λ i. std.cond (eqb i (suc n)) v.name (r.owner i) in
       let old : (i : ℕ) → i ≤ length w.history → owner i ≡ r.owner i = λ i l.
@@ -257,7 +257,7 @@ module _ {S N : Type 0} (terms : Terms S N) (setting : S) (base : List ℕ) (roo
         told = told_grows setting base g h r.owner owner v.told grow old f.told;
         mine = agree_grows terms setting base g h v.mine grow f.mine;
         settled = λ i has. ⊎_elim
-            (λ (a : Has (suc i) v.drawn). ⊎_elim (λ (b : number_at t.place ≡ Some i). absurd (no_number t.place Taking i p refl b))
+            (λ (a : Has (suc i) v.drawn). ⊎_elim (λ (b : number_at t.phase ≡ Some i). absurd (no_number t.phase Taking i p refl b))
             (λ (b : IsSettled w.history i). inr (settled_grows w.history world.history i lead.keeps.grows b)) (f.settled i a))
             (λ (a : suc i ≡ suc n). let b : n ≡ i = omega (arith, a) in inl (ap (λ (k : ℕ). Some k) b))
             (has_snoc (suc i) v.drawn (suc n) has);
@@ -284,7 +284,7 @@ module _ {S N : Type 0} (terms : Terms S N) (setting : S) (base : List ℕ) (roo
       let sound : Sound terms u =
       sound_of terms setting base room ranges world notes owner id u lead.keeps.invariant (omega (arith, count, same, len)) entries
       r.opening r.lie suit
-      (get-set_same w.seats id (placed t (Checking w.clock 0)) t e ∙ ap (λ (k : Seat). Some k) (sym zz)) refl in
+      (get-set_same w.seats id (in_phase t (Checking w.clock 0)) t e ∙ ap (λ (k : Seat). Some k) (sym zz)) refl in
       let before : length v.seen.history ≤ length w.history = f.own.grows.0.0 in (
         (let l = word_count ws w r.words_are in omega (arith, l)),
         u,
@@ -313,7 +313,7 @@ checking_is i upto j other e = cc
 
 module _ {S N : Type 0} (terms : Terms S N) (setting : S) (base : List ℕ) (room : ℕ) where
   pub checks : (opened : Start) (slots id c i upto : ℕ) (me : Mine S N) (y : S) → me.0.setting ≡ Some y → c < length me.0.base
-      → me.0.seat.place ≡ Checking i upto → is_next me.0.seat i ≡ false → is_due me.0.seat upto c ≡ true
+      → me.0.seat.phase ≡ Checking i upto → is_next me.0.seat i ≡ false → is_due me.0.seat upto c ≡ true
       → (d : Read) → find_read c me.0.seat.reads ≡ Some d
       → Allows (Ruled terms setting base room opened) slots id me (lock_at c) (λ n. n)
       (bare (checked terms) (step slots (lock_at c) 0 0 none) me)
@@ -335,16 +335,16 @@ module _ {S N : Type 0} (terms : Terms S N) (setting : S) (base : List ℕ) (roo
       let z : Seat = after_check t i c n in
       let u : View S N = record v { seen = h; seat = z } in
       let f : Suits terms setting base room h r.owner v = r.suits id v at in
-      let number : number_at z.place ≡ Some i = if_known (λ (z : Seat). number_at z.place ≡ Some i) (passes n t.rv)
-      (placed (saw t c n) (Checking i (suc c))) (conflict (saw t c n) (Voiding i)) (λ _. refl) (λ _. refl) in
-      let was : number_at t.place ≡ Some i = ap number_at p in
+      let number : number_at z.phase ≡ Some i = if_known (λ (z : Seat). number_at z.phase ≡ Some i) (passes n t.rv)
+      (in_phase (saw t c n) (Checking i (suc c))) (conflict (saw t c n) (Voiding i)) (λ _. refl) (λ _. refl) in
+      let was : number_at t.phase ≡ Some i = ap number_at p in
       let q : Rule terms setting base room ranges (slice_set ws (lock_at c) n) (slice_set vs id u) × Sees terms v u =
       quiet terms setting base room ranges ws vs r id v at (lock_at c) z v.told keep f.told
       (λ k a. number ∙ (sym was ∙ a)) (λ k a. was ∙ (sym number ∙ a))
-      (if_known (λ (z : Seat). LookIsFresh w.history z) (passes n t.rv) (placed (saw t c n) (Checking i (suc c)))
+      (if_known (λ (z : Seat). LookIsFresh w.history z) (passes n t.rv) (in_phase (saw t c n) (Checking i (suc c)))
       (conflict (saw t c n) (Voiding i))
       (λ _ d o a b. absurd (not_looking (Checking i (suc c)) refl d o a b)) (λ _ d o a b. absurd (not_looking (Voiding i) refl d o a b)))
-      (λ _ b. if_known (λ (z : Seat). z.held ≡ []) (passes n t.rv) (placed (saw t c n) (Checking i (suc c)))
+      (λ _ b. if_known (λ (z : Seat). z.held ≡ []) (passes n t.rv) (in_phase (saw t c n) (Checking i (suc c)))
       (conflict (saw t c n) (Voiding i)) (λ _. b) (λ _. b)) u refl in (
         lock_within ws w r.words_are c x.0 x.1,
         u,
@@ -372,7 +372,7 @@ module _ {S N : Type 0} (terms : Terms S N) (setting : S) (base : List ℕ) (roo
   stores_go : (ranges : List Range) (ws : List ℕ) (vs : List (View S N)) (r : Rule terms setting base room ranges ws vs) (id : ℕ)
       (v : View S N) → get_elem? vs id ≡ some v
       → (c i : ℕ) (k : Held) (x : Cell) (mine : List (Call N)) → slice_get (r.world).cells c ≡ Some x
-      → Follows base r.world (store r.world id v.seat i c k x) → number_at v.seat.place ≡ Some i
+      → Follows base r.world (store r.world id v.seat i c k x) → number_at v.seat.phase ≡ Some i
       → (terms.ranged setting c ≡ true → Names ranges k.value)
       → (Agree terms setting base (record { history = settle (r.world).history i Done; notes = r.notes; ranges = ranges }) v.mine
       → Agree terms setting base (record { history = settle (r.world).history i Done; notes = r.notes; ranges = ranges }) mine)
@@ -402,8 +402,8 @@ module _ {S N : Type 0} (terms : Terms S N) (setting : S) (base : List ℕ) (roo
       (λ _ b. ap (with_stored c) b))
 
   pub stores : (opened : Start) (slots id c i value : ℕ) (k : Held) (me : Mine S N) (y : S) → me.0.setting ≡ Some y → c < length me.0.base
-      → ((upto : ℕ) × (me.0.seat.place ≡ Checking i upto) × ((is_next me.0.seat i || all_settled me.0.seat.held upto
-      me.0.seat.reads) ≡ true)) ⊎ (me.0.seat.place ≡ Storing i)
+      → ((upto : ℕ) × (me.0.seat.phase ≡ Checking i upto) × ((is_next me.0.seat i || all_settled me.0.seat.held upto
+      me.0.seat.reads) ≡ true)) ⊎ (me.0.seat.phase ≡ Storing i)
       → find_held c me.0.seat.held ≡ Some k → k.value ≡ value
       → Allows (Ruled terms setting base room opened) slots id me (value_at c) (λ _. value)
       (λ _. bare (stored terms) (step slots (value_at c) value 0 none) me value)
@@ -418,10 +418,10 @@ module _ {S N : Type 0} (terms : Terms S N) (setting : S) (base : List ℕ) (roo
       let lead : Leads base w id (Store c) (store w id t i c k x.0) = store_leads base w id t i c k x.0 r.invariant e (inl p) holds x.1 in
       let h : Seen N = record { history = settle w.history i Done; notes = r.notes; ranges = ranges } in
       let f : Suits terms setting base room (now terms setting base room ranges ws vs r) r.owner v = r.suits id v at in
-      let number : number_at t.place ≡ Some i = ap number_at p.1 in
+      let number : number_at t.phase ≡ Some i = ap number_at p.1 in
       let noted : (n : N) × (v.note ≡ Some n) × (slice_get r.notes i ≡ Some n) = f.noted i number in
-      let ok : CheckingOk base w.history t i p.0 = subst (λ (z : Place). PlaceOk base w.cells w.history t z) p.1
-      ((r.invariant).consistent.seats id t e).place in
+      let ok : CheckingOk base w.history t i p.0 = subst (λ (z : Phase). PhaseOk base w.cells w.history t z) p.1
+      ((r.invariant).consistent.seats id t e).phase in
       let done : IsDone h i (work_of t noted.0) = record {
         entry = record ok.entry { status = Done };
         here = get-settle_same w.history i Done ok.entry ok.here;
@@ -467,7 +467,7 @@ module _ {S N : Type 0} (terms : Terms S N) (setting : S) (base : List ℕ) (roo
       let e : slice_get w.seats id ≡ Some t = seat_at terms setting base room ranges ws vs r id v at in
       let lead : Leads base w id (Store c) (store w id t i c k x.0) = store_leads base w id t i c k x.0 r.invariant e (inr p) holds x.1 in
       let h : Seen N = record { history = settle w.history i Done; notes = r.notes; ranges = ranges } in
-      let number : number_at t.place ≡ Some i = ap number_at p in
+      let number : number_at t.phase ≡ Some i = ap number_at p in
       let u : View S N = record v { seen = h; seat = after_store t i c } in
       let q : Rule terms setting base room ranges (slice_set ws (value_at c) k.value) (slice_set vs id u) × Sees terms v u =
       stores_go ranges ws vs r id v at c i k x.0 v.mine x.1 (by_event lead) number
@@ -505,8 +505,8 @@ module _ {S N : Type 0} (terms : Terms S N) (setting : S) (base : List ℕ) (roo
       (v : View S N) → get_elem? vs id ≡ some v
       → (c word : ℕ) (x : Cell) (h : List WordsEntry) → slice_get (r.world).cells c ≡ Some x
       → Follows base r.world (release r.world id v.seat c word x h) → length h ≡ length (r.world).history
-      → ((i : ℕ) → number_at v.seat.place ≡ Some i → IsSettled h i)
-      → ((d word value : ℕ) → is_looking v.seat.place ≡ false)
+      → ((i : ℕ) → number_at v.seat.phase ≡ Some i → IsSettled h i)
+      → ((d word value : ℕ) → is_looking v.seat.phase ≡ false)
       → Rule terms setting base room ranges (slice_set ws (lock_at c) word)
       (slice_set vs id (record v { seen = record { history = h; notes = r.notes; ranges = ranges }; seat = after_release v.seat c }))
       × Sees terms v (record v { seen = record { history = h; notes = r.notes; ranges = ranges }; seat = after_release v.seat c })
@@ -523,10 +523,10 @@ module _ {S N : Type 0} (terms : Terms S N) (setting : S) (base : List ℕ) (roo
       (named_locked terms setting base room ranges ws vs r c word x f) stays refl
       (lock_is_set ws w r.words_are c word x f) (length-slice_set w.cells c (record x { lock = word })) len (λ a. a) told
       (λ i a. inr (ends i a))
-      (λ i a. place_known (λ (z : Place). number_at z ≡ Some i → number_at t.place ≡ Some i) (is_nil (without c t.held)) Idle t.place
+      (λ i a. phase_known (λ (z : Phase). number_at z ≡ Some i → number_at t.phase ≡ Some i) (is_nil (without c t.held)) Idle t.phase
       (λ _ b. absurd (no_number Idle Idle i refl refl b)) (λ _ b. b) a)
-      (place_known (λ (z : Place). LookIsFresh h (record t { place = z; held = without c t.held })) (is_nil (without c t.held)) Idle t.place
-      (λ _ d o a b. absurd (not_looking Idle refl d o a b)) (λ _ d o a b. absurd (not_looking t.place (free d o a) d o a b)))
+      (phase_known (λ (z : Phase). LookIsFresh h (record t { phase = z; held = without c t.held })) (is_nil (without c t.held)) Idle t.phase
+      (λ _ d o a b. absurd (not_looking Idle refl d o a b)) (λ _ d o a b. absurd (not_looking t.phase (free d o a) d o a b)))
       (λ _ b. ap (without c) b)
 
   pub releases : (opened : Start) (slots id c new : ℕ) (k : Held) (me : Mine S N) (y : S) → me.0.setting ≡ Some y → c < length me.0.base
@@ -544,7 +544,7 @@ module _ {S N : Type 0} (terms : Terms S N) (setting : S) (base : List ℕ) (roo
       let lead : Leads base w id (Release c) (release w id t c (2 * wv p.0) x.0 w.history) = release_leads base w id t p.0 c k x.0
       r.invariant e p.1 holds p.2 x.1 in
       let ok : (e : WordsEntry) × (slice_get w.history p.0 ≡ Some e) × (e.status ≡ Done) =
-      subst (λ (z : Place). PlaceOk base w.cells w.history t z) p.1 ((r.invariant).consistent.seats id t e).place in
+      subst (λ (z : Phase). PhaseOk base w.cells w.history t z) p.1 ((r.invariant).consistent.seats id t e).phase in
       let u : View S N = record v { seen = record { history = w.history; notes = r.notes; ranges = ranges }; seat = after_release t c } in
       let q : Rule terms setting base room ranges (slice_set ws (lock_at c) (2 * wv p.0)) (slice_set vs id u) × Sees terms v u =
       releases_go ranges ws vs r id v at c (2 * wv p.0) x.0 w.history x.1 (by_event lead) refl
@@ -571,7 +571,7 @@ module _ {S N : Type 0} (terms : Terms S N) (setting : S) (base : List ℕ) (roo
       let u : View S N = record v { seen = record { history = w.history; notes = r.notes; ranges = ranges }; seat = after_release t c } in
       let q : Rule terms setting base room ranges (slice_set ws (lock_at c) k.word) (slice_set vs id u) × Sees terms v u =
       releases_go ranges ws vs r id v at c k.word x.0 w.history x.1 (by_event lead) refl
-      (λ j a. absurd (no_number t.place Failing j p.0 refl a)) (λ d o a. ap is_looking p.0) in (
+      (λ j a. absurd (no_number t.phase Failing j p.0 refl a)) (λ d o a. ap is_looking p.0) in (
         lock_within ws w r.words_are c x.0 x.1,
         u,
         (refl, refl, refl),
@@ -591,7 +591,7 @@ module _ {S N : Type 0} (terms : Terms S N) (setting : S) (base : List ℕ) (roo
       let lead : Leads base w id (Release c) (release w id t c k.word x.0 h) = release_void_leads base w id t p.0 c k x.0 r.invariant e
       p.1 holds x.1 in
       let ok : (e : WordsEntry) × (slice_get w.history p.0 ≡ Some e) × (e.status ≢ Done) =
-      subst (λ (z : Place). PlaceOk base w.cells w.history t z) p.1 ((r.invariant).consistent.seats id t e).place in
+      subst (λ (z : Phase). PhaseOk base w.cells w.history t z) p.1 ((r.invariant).consistent.seats id t e).phase in
       let there : slice_get h p.0 ≡ Some (record ok.0 { status = Void }) = get-settle_same w.history p.0 Void ok.0 ok.1 in
       let u : View S N = record v { seen = record { history = h; notes = r.notes; ranges = ranges }; seat = after_release t c } in
       let q : Rule terms setting base room ranges (slice_set ws (lock_at c) k.word) (slice_set vs id u) × Sees terms v u =

@@ -275,10 +275,10 @@ module _ {S N : Type 0} (terms : Terms S N) (setting : S) (base : List ℕ) (roo
       let y : (y : Cell) × (slice_get w.cells c ≡ Some y) × (y.lock ≡ x.lock) × (y.value ≡ x.value) = cell_same c x f in
       let lock : x.lock ≡ suc (2 * (x.lock / 2)) = omega (arith, odd) in
       let b = (k.invariant).locked_are_held c (x.lock / 2) y.0 y.1 (y.2 ∙ lock) in
-      record { index = b.0; seat = b.1; here = b.2; holds = b.3; busy = busy b.0 b.1 b.2 b.3 (is_resting b.1.place) refl }
+      record { index = b.0; seat = b.1; here = b.2; holds = b.3; busy = busy b.0 b.1 b.2 b.3 (is_resting b.1.phase) refl }
     where
-      busy : (id : ℕ) (t : Seat) → slice_get w.seats id ≡ Some t → Holds t c → (v : Bool) → is_resting t.place ≡ v
-          → is_resting t.place ≡ false
+      busy : (id : ℕ) (t : Seat) → slice_get w.seats id ≡ Some t → Holds t c → (v : Bool) → is_resting t.phase ≡ v
+          → is_resting t.phase ≡ false
       busy id t at holds true rest = absurd (nothing_held t c (rests_unheld base w id t k.invariant at rest) holds)
       busy id t at holds false rest = rest
 
@@ -493,7 +493,7 @@ module _ {S N : Type 0} (terms : Terms S N) (setting : S) (base : List ℕ) (roo
       omega (arith, l, a, b)
 
   pub closes_all : (table : TableId) (id : ℕ) (x : View S N) (gs : List (Gone S N)) → get_elem? s.views id ≡ some
-      (record x { gone = gs }) → is_resting x.seat.place ≡ true
+      (record x { gone = gs }) → is_resting x.seat.phase ≡ true
       → x.rights ≡ 1
       → (us : List (Known S N)) → gs ≡ map gone_known us → ClosesAll terms setting base opened.store opened.sessions
       (us ++ known_of table x ∷ []) closed

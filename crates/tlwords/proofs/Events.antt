@@ -5,13 +5,13 @@ use native.Mathlib.Decide.{ℕ_discrete}
 use Rattle.std.proofs.lemmas.List.{set-get_or, get_or_append_left, set-append_left}
 use Rattle.tlcore.specs.History.{WordsEntry, wv, settle}
 use Rattle.tlcore.specs.Seats.{Seat, is_next, is_nil, all_settled, number_at}
-use Rattle.tlcore.specs.Machine.{World, with_seat, begun, placed, conflict, saw, taken, drawn, store, release}
+use Rattle.tlcore.specs.Machine.{World, with_seat, begun, in_phase, conflict, saw, taken, drawn, store, release}
 use Rattle.tlcore.specs.Laws.{Leads}
 use Rattle.tlcore.specs.declared.actions.Action.{Action}
 use Rattle.tlcore.specs.declared.actions.Action.TheVariants.{Begin, Look, Load, Relook, Take, Draw, Check, Store, Release}
 use Rattle.tlcore.specs.declared.cells.Cell.{Cell}
 use Rattle.tlcore.specs.declared.entries.Status.TheVariants.{Void}
-use Rattle.tlcore.specs.declared.seats.Place.TheVariants.{Idle, Loaded, Taking, Checking, Storing, Failing}
+use Rattle.tlcore.specs.declared.seats.Phase.TheVariants.{Idle, Loaded, Taking, Checking, Storing, Failing}
 use Rattle.tlcore.proofs.Laws.{begin_leads, look_leads, load_leads, relook_leads, take_leads, draw_leads, check_leads, store_leads, release_leads, release_failed_leads, release_void_leads}
 use Rattle.tlwords.specs.Terms.{Terms}
 use Rattle.tlwords.specs.Views.{View}
@@ -110,10 +110,10 @@ module _ {S N : Type 0} (terms : Terms S N) (setting : S) (base : List ℕ) (roo
   loads_are m r at c word has place t =
       let w : World = at.rule.kept.world in
       let x = here_cell m r at c has in
-      quiet m r at (Load c) (value_at c) (placed m.0.seat (Loaded c word (x.0).value))
+      quiet m r at (Load c) (value_at c) (in_phase m.0.seat (Loaded c word (x.0).value))
       (value_within at.rule.front w at.rule.kept.words_are c x.0 x.1)
       (load_leads base w at.seat m.0.seat c word x.0 at.rule.kept.invariant (here_seat m r at) place x.1)
-      (ap (λ (v : View S N). v.seat) (t.is c word place) ∙ ap (λ (n : ℕ). placed m.0.seat (Loaded c word n)) (value_is m r at c x.0 x.1))
+      (ap (λ (v : View S N). v.seat) (t.is c word place) ∙ ap (λ (n : ℕ). in_phase m.0.seat (Loaded c word n)) (value_is m r at c x.0 x.1))
 
   pub relooks_are : RelookIsEvent terms setting base room opened
   relooks_are m r at c word value has place t =
@@ -143,7 +143,7 @@ module _ {S N : Type 0} (terms : Terms S N) (setting : S) (base : List ℕ) (roo
       let l = lock_within at.rule.front w at.rule.kept.words_are c x.0 x.1 in
       let lead = take_leads base w at.seat s c value d x.0 at.rule.kept.invariant (here_seat m r at) place read x.1 in
       let held : ℕ → Seat = λ k. record (saw s c k) {
-        place = Taking;
+        phase = Taking;
         held =
             record { cell = c; word = d.word; value = value; stored = false } ∷ s.held;
         locked = c ∷ s.locked;
@@ -184,18 +184,18 @@ module _ {S N : Type 0} (terms : Terms S N) (setting : S) (base : List ℕ) (roo
       (ap (λ (l : List ℕ). slice_set l clock_at ((n + 1) % 2 ^ 64)) at.rule.kept.words_are
       ∙ ap (λ (k : ℕ). front_of k (paired w.cells)) wrap)
       (ap (λ (t : Seat). slice_set w.seats at.seat t)
-      (ap (λ (v : View S N). v.seat) (t.is note refl) ∙ ap (λ (k : ℕ). placed m.0.seat (Checking k 0)) is))
+      (ap (λ (v : View S N). v.seat) (t.is note refl) ∙ ap (λ (k : ℕ). in_phase m.0.seat (Checking k 0)) is))
 
   pub stores_are : StoreIsEvent terms setting base room opened
   stores_are m r at i c k has may holds t =
       let w : World = at.rule.kept.world in
       let x = here_cell m r at c has in
       let seat : r.0.seat ≡ after_store m.0.seat i c = ⊎_elim
-      (λ (p : (upto : ℕ) × (m.0.seat.place ≡ Checking i upto)
+      (λ (p : (upto : ℕ) × (m.0.seat.phase ≡ Checking i upto)
       × ((is_next m.0.seat i || all_settled m.0.seat.held upto m.0.seat.reads) ≡ true)).
       let noted = (at.rule.kept.suits at.seat m.0 at.here).noted i (ap number_at p.1) in
       ap (λ (v : View S N). v.seat) (t.first i p.0 noted.0 p.1 noted.1).1)
-      (λ (p : m.0.seat.place ≡ Storing i). ap (λ (v : View S N). v.seat) (t.next i p)) may in
+      (λ (p : m.0.seat.phase ≡ Storing i). ap (λ (v : View S N). v.seat) (t.next i p)) may in
       event m r at (Store c) (value_at c) k.value (store w at.seat m.0.seat i c k x.0)
       (value_within at.rule.front w at.rule.kept.words_are c x.0 x.1)
       (store_leads base w at.seat m.0.seat i c k x.0 at.rule.kept.invariant (here_seat m r at) may holds x.1)

@@ -7,7 +7,7 @@ use Rattle.atomic_table.specs.Seated.{TableId}
 use Rattle.atomic_table.specs.declared.shared.Seat.{Seat as TableSeat}
 use Rattle.tlcore.proofs.Growth.{get_exists}
 use Rattle.ranges.specs.Ranges.{Has}
-use Rattle.ranges.specs.declared.range.Range.{Range as Place}
+use Rattle.ranges.specs.declared.range.Range.{Range as Span}
 use Rattle.tlwords.specs.declared.log.Slot.{Slot}
 use Rattle.tlwords.specs.declared.mode.Mode.{Mode}
 use Rattle.tlwords.specs.declared.outcome.Conflict.{Conflict}
@@ -58,7 +58,7 @@ module _ {S N : Type 0} (terms : Terms S N) where
         }
 
   -- one word more of a range was fetched
-  pub fetched_more : (range : Place) (k word : ℕ) (m r q : Mine S N) (before now after : List ℕ) → k < range.len
+  pub fetched_more : (range : Span) (k word : ℕ) (m r q : Mine S N) (before now after : List ℕ) → k < range.len
       → Fetched terms range k m r before now → Fetches terms (range.start + k) r word q → after ≡ now ++ word ∷ []
       → Fetched terms range (k + 1) m q before after
   fetched_more range k word m r q before now after l f s push =
@@ -155,7 +155,7 @@ module _ {S N : Type 0} (terms : Terms S N) (table : TableId) (cells words count
 module _ {S N : Type 0} (terms : Terms S N) (table : TableId) (cells words count place : ℕ) (mode : Mode) (over : Option Conflict)
     (full : Bool)
     (slots : List Slot) (p q : TableSeat (Unit {0}) (View S N)) (i : Runs table cells words p slots mode count place (is_some over) full)
-    (same : IsSameSeat p q) (range : Place) (before after : List ℕ) (f : Fetched terms range range.len p.me q.me before after) where
+    (same : IsSameSeat p q) (range : Span) (before after : List ℕ) (f : Fetched terms range range.len p.me q.me before after) where
   runs_same : q.me ≡ p.me → Runs table cells words q slots mode count place (is_some over) full
   runs_same e =
       record {

@@ -7,15 +7,15 @@ use Rattle.tlcore.specs.History.{WordsEntry, Deed, Nothing, Will, Did, wv, value
 use Rattle.ranges.specs.Pairs.{written}
 use Rattle.tlcore.specs.History.{deed_of, version, value}
 use Rattle.tlcore.specs.Seats.{Seat, number_at, find_held}
-use Rattle.tlcore.specs.Invariant.{PlaceOk, HeldOk, HeldShows, CheckingOk, done_at}
+use Rattle.tlcore.specs.Invariant.{PhaseOk, HeldOk, HeldShows, CheckingOk, done_at}
 use Rattle.tlcore.proofs.Lists.{get-set_cases, equal_numbers, known}
 use Rattle.tlcore.proofs.SeatParts.{written-held}
 use Rattle.tlcore.proofs.Settling.{deed_now}
 use Rattle.tlcore.specs.declared.entries.Status.TheVariants.{Done}
 use Rattle.tlcore.specs.declared.cells.Cell.{Cell}
 use Rattle.tlcore.specs.declared.seats.Held.{Held}
-use Rattle.tlcore.specs.declared.seats.Place.{Place}
-use Rattle.tlcore.specs.declared.seats.Place.TheVariants.{Checking, Storing}
+use Rattle.tlcore.specs.declared.seats.Phase.{Phase}
+use Rattle.tlcore.specs.declared.seats.Phase.TheVariants.{Checking, Storing}
 use Rattle.ranges.specs.Ranges.{Range, Has, Names}
 use Rattle.ranges.specs.Pairs.{Pairs}
 use Rattle.tlwords.specs.Terms.{Terms, Permits}
@@ -90,7 +90,7 @@ module _ {S N : Type 0} (terms : Terms S N) (setting : S) (base : List ℕ) (roo
 
     -- what a seat that has drawn is to store in a range cell names a range
     pub held_named : (id : ℕ) (v : View S N) → get_elem? vs id ≡ some v → (c i : ℕ) (k : Held)
-        → ((upto : ℕ) × (v.seat.place ≡ Checking i upto)) ⊎ (v.seat.place ≡ Storing i) → find_held c v.seat.held ≡ Some k
+        → ((upto : ℕ) × (v.seat.phase ≡ Checking i upto)) ⊎ (v.seat.phase ≡ Storing i) → find_held c v.seat.held ≡ Some k
         → terms.ranged setting c ≡ true → Names ranges k.value
     held_named id v at c i k (inl p) holds =
         let t : Seat = v.seat in
@@ -98,7 +98,7 @@ module _ {S N : Type 0} (terms : Terms S N) (setting : S) (base : List ℕ) (roo
         let f : Suits terms setting base room (now terms setting base room ranges ws vs r) r.owner v = r.suits id v at in
         let noted : (n : N) × (v.note ≡ Some n) × (slice_get r.notes i ≡ Some n) = f.noted i (ap number_at p.1) in
         let ok : CheckingOk base (r.world).history t i p.0 =
-        subst (λ (z : Place). PlaceOk base (r.world).cells (r.world).history t z) p.1 ((r.invariant).consistent.seats id t e).place in
+        subst (λ (z : Phase). PhaseOk base (r.world).cells (r.world).history t z) p.1 ((r.invariant).consistent.seats id t e).phase in
         let wrote : written c (ok.entry).writes ≡ Some k.value =
         ap (λ (ps : Pairs). written c ps) ok.writes ∙ written-held c t.held k holds in
         written_named i c k.value ok.entry noted.0 ok.here noted.2 wrote
@@ -109,11 +109,11 @@ module _ {S N : Type 0} (terms : Terms S N) (setting : S) (base : List ℕ) (roo
         let f : Suits terms setting base room (now terms setting base room ranges ws vs r) r.owner v = r.suits id v at in
         let noted : (n : N) × (v.note ≡ Some n) × (slice_get r.notes i ≡ Some n) = f.noted i (ap number_at p) in
         let ok : (e : WordsEntry) × (slice_get h i ≡ Some e) × (e.status ≡ Done) =
-        subst (λ (z : Place). PlaceOk base (r.world).cells h t z) p ((r.invariant).consistent.seats id t e).place in
-        let b : (x : Cell) × (slice_get (r.world).cells c ≡ Some x) × HeldOk base h t.rv t.place c k x =
+        subst (λ (z : Phase). PhaseOk base (r.world).cells h t z) p ((r.invariant).consistent.seats id t e).phase in
+        let b : (x : Cell) × (slice_get (r.world).cells c ≡ Some x) × HeldOk base h t.rv t.phase c k x =
         ((r.invariant).consistent.seats id t e).held c k holds in
         let shows : (version h c ≡ wv i) × (value base h c ≡ k.value) × (k.stored ≡ true → (b.0).value ≡ k.value) =
-        subst (λ (z : Place). HeldShows base h (done_at z) c k b.0) p b.2.shows in
+        subst (λ (z : Phase). HeldShows base h (done_at z) c k b.0) p b.2.shows in
         let did : deed h c i ≡ Did k.value =
         newest_did (deed h c) (slice_index base c) (length h) i shows.0 ∙ ap (λ (z : ℕ). Did z) shows.1 in
         let is : deed_of Done (written c (ok.0).writes) ≡ Did k.value =

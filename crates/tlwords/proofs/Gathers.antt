@@ -8,11 +8,11 @@ use Rattle.atomic_table.specs.Table.{Joins}
 use Rattle.atomic_table.proofs.Lists.{at_set, set_else}
 use Rattle.tlcore.specs.Seats.{Seat, idle, number_at, find_held}
 use Rattle.tlcore.specs.Machine.{World, with_seat}
-use Rattle.tlcore.specs.Invariant.{Invariant, SeatOk, PlaceOk, Holds}
+use Rattle.tlcore.specs.Invariant.{Invariant, SeatOk, PhaseOk, Holds}
 use Rattle.tlcore.proofs.Lists.{get-set_cases, get-set_other, same_or_not}
 use Rattle.tlcore.specs.Seats.{is_resting}
-use Rattle.tlcore.specs.declared.seats.Place.{Place}
-use Rattle.tlcore.specs.declared.seats.Place.TheVariants.{Idle, Reading}
+use Rattle.tlcore.specs.declared.seats.Phase.{Phase}
+use Rattle.tlcore.specs.declared.seats.Phase.TheVariants.{Idle, Reading}
 use Rattle.tlcore.proofs.Words.{resting_at}
 use Rattle.ranges.specs.Ranges.{Range, Has}
 use Rattle.tlwords.specs.Terms.{Terms}
@@ -50,9 +50,9 @@ rested base w s t I at unheld = record {
         (get-set_cases w.seats s z idle v q))
         (get-set_cases w.seats s x idle u p);
     numbers_apart = λ x z u v i p q a b. ⊎_elim
-        (λ (f : (x ≡ s) × (u ≡ idle)). absurd (none-some i (sym (ap (λ (u : Seat). number_at u.place) f.1) ∙ a)))
+        (λ (f : (x ≡ s) × (u ≡ idle)). absurd (none-some i (sym (ap (λ (u : Seat). number_at u.phase) f.1) ∙ a)))
         (λ (f : (x ≢ s) × (slice_get w.seats x ≡ Some u)). ⊎_elim
-        (λ (g : (z ≡ s) × (v ≡ idle)). absurd (none-some i (sym (ap (λ (u : Seat). number_at u.place) g.1) ∙ b)))
+        (λ (g : (z ≡ s) × (v ≡ idle)). absurd (none-some i (sym (ap (λ (u : Seat). number_at u.phase) g.1) ∙ b)))
         (λ (g : (z ≢ s) × (slice_get w.seats z ≡ Some v)). I.consistent.numbers_apart x z u v i f.1 g.1 a b)
         (get-set_cases w.seats s z idle v q))
         (get-set_cases w.seats s x idle u p);
@@ -72,11 +72,11 @@ rested base w s t I at unheld = record {
     idle_ok = record { place = refl; rv = omega arith; reads = tt; held = λ c k e. absurd (cc) }
 
 pub rests_unheld : (base : List ℕ) (w : World) (s : ℕ) (t : Seat) → Invariant base w → slice_get w.seats s ≡ Some t
-    → is_resting t.place ≡ true → t.held ≡ []
+    → is_resting t.phase ≡ true → t.held ≡ []
 rests_unheld base w s t I at rest =
-    let place : PlaceOk base w.cells w.history t t.place = (I.consistent.seats s t at).place in
-    ⊎_elim (λ (p : t.place ≡ Idle). subst (λ (z : Place). PlaceOk base w.cells w.history t z) p place)
-    (λ (p : t.place ≡ Reading). subst (λ (z : Place). PlaceOk base w.cells w.history t z) p place) (resting_at t.place rest)
+    let phase : PhaseOk base w.cells w.history t t.phase = (I.consistent.seats s t at).phase in
+    ⊎_elim (λ (p : t.phase ≡ Idle). subst (λ (z : Phase). PhaseOk base w.cells w.history t z) p phase)
+    (λ (p : t.phase ≡ Reading). subst (λ (z : Phase). PhaseOk base w.cells w.history t z) p phase) (resting_at t.phase rest)
 
 -- ---- totals of two views that change
 
@@ -195,7 +195,7 @@ module _ {S N : Type 0} (terms : Terms S N) (setting : S) (base : List ℕ) (roo
       }
 
     -- the pass w, which is at rest, is given up to v
-    pub gives_up : w.rights ≡ 1 → is_resting w.seat.place ≡ true → w.gone ≡ []
+    pub gives_up : w.rights ≡ 1 → is_resting w.seat.phase ≡ true → w.gone ≡ []
         → Joins (Ruled terms setting base room opened) id v other w (given_up v w) nobody
     gives_up one rest alone s r at apart there =
         let ranges : List Range = r.ranges in

@@ -154,7 +154,7 @@ module _ {S N : Type 0} (terms : Terms S N) (setting : S) (base : List ℕ) (roo
         ranges = λ x e.
             subst (λ (g : Seen N). AreOfOneStore v.room g.ranges) (sym is)
             (subst (λ (k : ℕ). AreOfOneStore k ranges) (sym (f.room_is x e)) lie);
-        settled = λ i has. subst (λ (g : Seen N). (number_at v.seat.place ≡ Some i) ⊎ IsSettled g.history i) (sym is) (f.settled i has);
+        settled = λ i has. subst (λ (g : Seen N). (number_at v.seat.phase ≡ Some i) ⊎ IsSettled g.history i) (sym is) (f.settled i has);
       }
 
   module _ (ranges : List Range) (ws : List ℕ) (vs : List (View S N)) (r : Rule ranges ws vs) where
@@ -233,8 +233,8 @@ module _ {S N : Type 0} (terms : Terms S N) (setting : S) (base : List ℕ) (roo
         → (Agree terms setting base (record { history = world.history; notes = r.notes; ranges = ranges }) v.mine
         → Agree terms setting base (record { history = world.history; notes = r.notes; ranges = ranges }) mine)
         → IsTold setting base (record { history = world.history; notes = r.notes; ranges = ranges }) r.owner told
-        → ((i : ℕ) → number_at v.seat.place ≡ Some i → (number_at z.place ≡ Some i) ⊎ IsSettled world.history i)
-        → ((i : ℕ) → number_at z.place ≡ Some i → number_at v.seat.place ≡ Some i)
+        → ((i : ℕ) → number_at v.seat.phase ≡ Some i → (number_at z.phase ≡ Some i) ⊎ IsSettled world.history i)
+        → ((i : ℕ) → number_at z.phase ≡ Some i → number_at v.seat.phase ≡ Some i)
         → LookIsFresh world.history z → (v.rights ≡ 0 → v.seat.held ≡ [] → z.held ≡ [])
         → Rule ranges after (slice_set vs id (after_step v world z mine told)) × Sees terms v (after_step v world z mine told)
     goes id v at after world z mine told named keeps seats words cells len calls is_told settles noted look unheld =
@@ -249,7 +249,7 @@ module _ {S N : Type 0} (terms : Terms S N) (setting : S) (base : List ℕ) (roo
           room_is = f.room_is;
           told = is_told;
           mine = calls (agree_grows terms setting base now later v.mine grow f.mine);
-          settled = λ i has. ⊎_elim (λ (p : number_at v.seat.place ≡ Some i). settles i p)
+          settled = λ i has. ⊎_elim (λ (p : number_at v.seat.phase ≡ Some i). settles i p)
               (λ (p : IsSettled (r.world).history i). inr (settled_grows (r.world).history world.history i keeps.grows p))
               (f.settled i has);
           noted = λ i p. f.noted i (noted i p);

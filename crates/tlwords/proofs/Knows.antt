@@ -9,7 +9,7 @@ use Rattle.std.specs.Option.{option_map}
 use Rattle.atomic_table.specs.Seated.{TableId}
 use Rattle.atomic_table.specs.declared.shared.Seat.{Seat as TableSeat}
 use Rattle.tlcore.specs.Seats.{Seat, find_read, is_nil, is_reading, is_resting, number_at, reads_of}
-use Rattle.tlcore.specs.declared.seats.Place.{Place}
+use Rattle.tlcore.specs.declared.seats.Phase.{Phase}
 use Rattle.tlcore.specs.declared.seats.Read.{Read}
 use Rattle.tlcore.specs.History.{One}
 use Rattle.tlcore.proofs.Words.{reading_at, resting_at}
@@ -40,7 +40,7 @@ abbrev pub rest_of : {S N : Type 0} → View S N → Option Staging × List (Gon
 rest_of v = (v.staging, v.gone)
 
 -- a seat that rests has drawn no number for a run
-not_drawing : {A : Type 0} (p : Place) (i : ℕ) → is_resting p ≡ true → (number_at p ≡ Some i) ⊎ A → A
+not_drawing : {A : Type 0} (p : Phase) (i : ℕ) → is_resting p ≡ true → (number_at p ≡ Some i) ⊎ A → A
 not_drawing p i e (inr a) = a
 not_drawing p i e (inl q) =
     absurd (none-some i (sym (⊎_elim (λ r. ap number_at r) (λ r. ap number_at r) (resting_at p e)) ∙ q))
@@ -76,9 +76,9 @@ few_by n count e l = omega (arith, e, l)
 
 module _ {S N : Type 0} (terms : Terms S N) where
   pub left_fits : (m : Mine S N) (count place : ℕ) (o : Bool) → IsRunOf m count place o → IsPassOf m count
-  left_fits m count place o f = (f.0, rests m.0.seat.place o f.1, f.2, f.3, f.4)
+  left_fits m count place o f = (f.0, rests m.0.seat.phase o f.1, f.2, f.3, f.4)
     where
-      rests : (p : Place) (o : Bool) → (if o then is_resting p else is_reading p) ≡ true → is_resting p ≡ true
+      rests : (p : Phase) (o : Bool) → (if o then is_resting p else is_reading p) ≡ true → is_resting p ≡ true
       rests p true e = e
       rests p false e = ap is_resting (reading_at p e)
 
@@ -91,7 +91,7 @@ module _ {S N : Type 0} (terms : Terms S N) where
         opening = s.opening;
         ranges = s.ranges;
         few = few_by (length r.0.drawn) count f.3 f.4;
-        settled = λ i has. not_drawing r.0.seat.place i f.1 (s.settled i has);
+        settled = λ i has. not_drawing r.0.seat.phase i f.1 (s.settled i has);
       }
 
   pub stands_of : (table : TableId) (r : Mine S N) (mode : Mode) (count place : ℕ) (over : Option Conflict) (slots : List Slot)
@@ -118,7 +118,7 @@ module _ {S N : Type 0} (terms : Terms S N) where
       (p q : TableSeat (Unit {0}) (View S N)) (i : Runs table cells words p slots mode count place over full) (same : IsSameSeat p q)
       (t : Seat) (o : Option (ℕ × ℕ)) (taken added : ℕ)
       (is : q.me.0 ≡ record p.me.0 { seen = q.me.0.seen; seat = t; full = o; taken = taken; added = added }) (s : Sound terms q.me.0) where
-    pub runs_on : (after : List Slot) (stopped refused : Bool) → (if stopped then is_resting t.place else is_reading t.place) ≡ true
+    pub runs_on : (after : List Slot) (stopped refused : Bool) → (if stopped then is_resting t.phase else is_reading t.phase) ≡ true
         → t.rv ≡ p.me.0.seat.rv → is_nil t.held ≡ is_nil p.me.0.seat.held → IsKeptOf (noted mode t) after → length after ≡ length slots
         → is_some o ≡ refused → Runs table cells words q after mode count place stopped refused
     runs_on after stopped refused at rv held kept size fl =
@@ -144,7 +144,7 @@ module _ {S N : Type 0} (terms : Terms S N) where
   module _ (mode : Mode) (slots : List Slot) (x : N) (p q : TableSeat (Unit {0}) (View S N)) (same : IsSameSeat p q) (count place now : ℕ)
       (fits : IsRunOf p.me count place false) (s : Sees terms p.me.0 q.me.0) (t : Seat) (note : Option N) (ds : List ℕ) (cs : List (Call N))
       (is : q.me.0 ≡ record p.me.0 { seen = q.me.0.seen; seat = t; note = note; drawn = ds; mine = cs })
-      (rests : is_resting t.place ≡ true) (many : length ds ≡ now) (few : now ≤ 2 ^ 40) where
+      (rests : is_resting t.phase ≡ true) (many : length ds ≡ now) (few : now ≤ 2 ^ 40) where
     pub concludes : (o : Outcome) → (Knows terms (known_of q.table_id q.me.0)
         → Ends terms x (going_of p.table_id p.me.0 place mode None slots) (known_of q.table_id q.me.0) o) → Concludes terms x mode place
         slots now p q o

@@ -11,7 +11,7 @@ use Rattle.tlcore.specs.Machine.{World}
 use Rattle.tlcore.specs.Invariant.{SeatOk}
 use Rattle.tlcore.proofs.Laws.{idle_seat_keeps}
 use Rattle.tlcore.proofs.SeatParts.{ReadsOk-one}
-use Rattle.tlcore.specs.declared.seats.Place.TheVariants.{Idle}
+use Rattle.tlcore.specs.declared.seats.Phase.TheVariants.{Idle}
 use Rattle.tlcore.proofs.Words.{is_looking, not_looking}
 use Rattle.ranges.specs.Ranges.{Range, Has}
 use Rattle.tlwords.specs.Terms.{Terms, Permits}
@@ -164,15 +164,15 @@ module _ {S N : Type 0} (terms : Terms S N) (setting : S) (base : List ℕ) (roo
       → ((x : S) → v.setting ≡ Some x → v.room ≡ room) → IsTold setting base g owner (tells v) → IsTold setting base g owner v.told
       → Suits terms setting base room g owner v
   blank_suits g owner v idles calls undrawn none_gone same_room own told =
-      let place : v.seat.place ≡ Idle = ap (λ (t : Seat). t.place) idles in
+      let place : v.seat.phase ≡ Idle = ap (λ (t : Seat). t.phase) idles in
       record {
         own = own;
         room_is = same_room;
         told = told;
         mine = subst (λ (cs : List (Call N)). Agree terms setting base g cs) (sym calls) tt;
         settled = λ i has. absurd (subst (λ (ns : List ℕ). Has (suc i) ns) undrawn has);
-        noted = λ i a. absurd (no_number v.seat.place Idle i place refl a);
-        look = λ c word value a. absurd (not_looking v.seat.place (ap is_looking place) c word value a);
+        noted = λ i a. absurd (no_number v.seat.phase Idle i place refl a);
+        look = λ c word value a. absurd (not_looking v.seat.phase (ap is_looking place) c word value a);
         few = let a : length v.drawn ≡ 0 = ap length undrawn in omega (arith, a);
         unheld = λ _. ap (λ (t : Seat). t.held) idles;
         gone = λ x has. absurd (subst (λ (gs : List (Gone S N)). Has x gs) none_gone has);

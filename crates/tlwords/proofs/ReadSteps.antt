@@ -8,7 +8,7 @@ use Rattle.std.proofs.lemmas.List.{set-get_or}
 use Rattle.atomic_table.specs.Table.{step, Allows}
 use Rattle.tlcore.specs.History.{WordsEntry, IsVersionOf, Will, deed, version, version_after, value}
 use Rattle.tlcore.specs.Seats.{Seat, number_at, passes}
-use Rattle.tlcore.specs.Machine.{World, with_seat, begun, placed, conflict, saw, look, load, relook}
+use Rattle.tlcore.specs.Machine.{World, with_seat, begun, in_phase, conflict, saw, look, load, relook}
 use Rattle.tlcore.specs.Invariant.{Invariant, IsOld}
 use Rattle.tlcore.specs.declared.actions.Action.TheVariants.{Begin, Look, Load, Relook}
 use Rattle.tlcore.specs.Laws.{Leads}
@@ -17,8 +17,8 @@ use Rattle.tlcore.proofs.Halves.{halves}
 use Rattle.tlcore.proofs.Laws.{begin_leads, look_leads, load_leads, relook_leads}
 use Rattle.tlcore.proofs.SeatParts.{passes-old}
 use Rattle.tlcore.specs.declared.cells.Cell.{Cell}
-use Rattle.tlcore.specs.declared.seats.Place.{Place}
-use Rattle.tlcore.specs.declared.seats.Place.TheVariants.{Idle, Reading, Looked, Loaded}
+use Rattle.tlcore.specs.declared.seats.Phase.{Phase}
+use Rattle.tlcore.specs.declared.seats.Phase.TheVariants.{Idle, Reading, Looked, Loaded}
 use Rattle.tlcore.proofs.Words.{not_looking, looked_same, loaded_same, looked_not_loaded}
 use Rattle.ranges.specs.Ranges.{Range, Names}
 use Rattle.tlwords.specs.Terms.{Terms}
@@ -34,7 +34,7 @@ use Rattle.tlwords.proofs.Lifts.{lifted}
 use Rattle.tlwords.proofs.Keeps.{Rule, now, seat_at, after_step, goes, untold_is}
 
 -- a place without a number
-pub no_number : (p q : Place) (i : ℕ) → p ≡ q → number_at q ≡ None → number_at p ≡ Some i → ⊥
+pub no_number : (p q : Phase) (i : ℕ) → p ≡ q → number_at q ≡ None → number_at p ≡ Some i → ⊥
 no_number p q i e n s = let b : None ≡ Some i = sym n ∙ (sym (ap number_at e) ∙ s) in cc
 
 -- ---- tests and halves
@@ -54,13 +54,13 @@ value_back c = omega arith
 
 -- ---- looks
 
-looked_fresh : (h : List WordsEntry) (t : Seat) (c word : ℕ) → IsFresh h t.rv c word → LookIsFresh h (placed t (Looked c word))
+looked_fresh : (h : List WordsEntry) (t : Seat) (c word : ℕ) → IsFresh h t.rv c word → LookIsFresh h (in_phase t (Looked c word))
 looked_fresh h t c word f d other value (inl p) =
     let e : (c ≡ d) × (word ≡ other) = looked_same c word d other p in
     subst (λ (z : ℕ × ℕ). IsFresh h t.rv z.0 z.1) (λ j. (e.0 j, e.1 j)) f
 looked_fresh h t c word f d other value (inr p) = absurd (looked_not_loaded c word d other value p)
 
-loaded_fresh : (h : List WordsEntry) (t : Seat) (c word seen : ℕ) → IsFresh h t.rv c word → LookIsFresh h (placed t (Loaded c word seen))
+loaded_fresh : (h : List WordsEntry) (t : Seat) (c word seen : ℕ) → IsFresh h t.rv c word → LookIsFresh h (in_phase t (Loaded c word seen))
 loaded_fresh h t c word seen f d other value (inl p) = absurd (looked_not_loaded d other c word seen (sym p))
 loaded_fresh h t c word seen f d other value (inr p) =
     let e : (c ≡ d) × (word ≡ other) = loaded_same c word seen d other value p in
@@ -115,8 +115,8 @@ module _ {S N : Type 0} (terms : Terms S N) (setting : S) (base : List ℕ) (roo
       (v : View S N) → get_elem? vs id ≡ some v
       → (i : ℕ) (z : Seat) (told : Told S N)
       → Follows base r.world (with_seat r.world id z) → IsTold setting base (now terms setting base room ranges ws vs r) r.owner told
-      → ((k : ℕ) → number_at v.seat.place ≡ Some k → number_at z.place ≡ Some k)
-      → ((k : ℕ) → number_at z.place ≡ Some k → number_at v.seat.place ≡ Some k)
+      → ((k : ℕ) → number_at v.seat.phase ≡ Some k → number_at z.phase ≡ Some k)
+      → ((k : ℕ) → number_at z.phase ≡ Some k → number_at v.seat.phase ≡ Some k)
       → LookIsFresh (r.world).history z → (v.rights ≡ 0 → v.seat.held ≡ [] → z.held ≡ [])
       → (w : View S N) → w ≡ after_step terms setting base room ranges ws vs r v (r.world) z v.mine told
       → Rule terms setting base room ranges (slice_set ws i (slice_index ws i)) (slice_set vs id w) × Sees terms v w
@@ -127,7 +127,7 @@ module _ {S N : Type 0} (terms : Terms S N) (setting : S) (base : List ℕ) (roo
       (with_seat r.world id z) z v.mine told r.named stays refl
       (set-get_or ws i 0 ∙ r.words_are) refl refl (λ a. a) is_told (λ k p. inl (on k p)) back look unheld)
 
-  pub samples : (opened : Start) (slots id : ℕ) (me : Mine S N) → (me.0.seat.place ≡ Idle) ⊎ (me.0.seat.place ≡ Reading)
+  pub samples : (opened : Start) (slots id : ℕ) (me : Mine S N) → (me.0.seat.phase ≡ Idle) ⊎ (me.0.seat.phase ≡ Reading)
       → Allows (Ruled terms setting base room opened) slots id me clock_at (λ n. n) (bare (sampled terms) (step slots clock_at 0 0 none) me)
   samples opened slots id me p =
       lifted terms setting base room opened slots id clock_at me (λ n. n)
@@ -144,8 +144,8 @@ module _ {S N : Type 0} (terms : Terms S N) (setting : S) (base : List ℕ) (roo
       let u : View S N = record v { seen = h; seat = began v.seat n; told = untold } in
       let q : Rule terms setting base room ranges (slice_set ws clock_at n) (slice_set vs id u) × Sees terms v u =
       quiet ranges ws vs r id v at clock_at (began v.seat n) untold keep (untold_is setting base h r.owner)
-      (λ k a. absurd (⊎_elim (λ (b : v.seat.place ≡ Idle). no_number v.seat.place Idle k b refl a)
-      (λ (b : v.seat.place ≡ Reading). no_number v.seat.place Reading k b refl a) p))
+      (λ k a. absurd (⊎_elim (λ (b : v.seat.phase ≡ Idle). no_number v.seat.phase Idle k b refl a)
+      (λ (b : v.seat.phase ≡ Reading). no_number v.seat.phase Reading k b refl a) p))
       (λ k a. absurd (no_number Reading Reading k refl refl a))
       (λ c word value a. absurd (not_looking Reading refl c word value a)) (λ _ _. refl) u refl in
       let f = r.suits id v at in (
@@ -166,7 +166,7 @@ module _ {S N : Type 0} (terms : Terms S N) (setting : S) (base : List ℕ) (roo
       )
 
   pub looks : (opened : Start) (slots id c : ℕ) (me : Mine S N) (y : S) → me.0.setting ≡ Some y → c < length me.0.base
-      → me.0.seat.place ≡ Reading
+      → me.0.seat.phase ≡ Reading
       → Allows (Ruled terms setting base room opened) slots id me (lock_at c) (λ n. n)
       (bare (looked terms) (step slots (lock_at c) 0 0 none) me)
   looks opened slots id c me y set l p =
@@ -188,14 +188,14 @@ module _ {S N : Type 0} (terms : Terms S N) (setting : S) (base : List ℕ) (roo
       let rv : t.rv ≤ length w.history = ((r.invariant).consistent.seats id t e).rv in
       let q : Rule terms setting base room ranges (slice_set ws (lock_at c) n) (slice_set vs id u) × Sees terms v u =
       quiet ranges ws vs r id v at (lock_at c) (after_look t c n) v.told keep f.told
-      (λ k a. absurd (no_number t.place Reading k p refl a))
-      (λ k a. absurd (if_known (λ (z : Seat). number_at z.place ≡ Some k
-      → ⊥) (passes n t.rv) (placed (saw t c n) (Looked c n)) (conflict (saw t c n) Idle)
+      (λ k a. absurd (no_number t.phase Reading k p refl a))
+      (λ k a. absurd (if_known (λ (z : Seat). number_at z.phase ≡ Some k
+      → ⊥) (passes n t.rv) (in_phase (saw t c n) (Looked c n)) (conflict (saw t c n) Idle)
       (λ _ b. no_number (Looked c n) (Looked c n) k refl refl b) (λ _ b. no_number Idle Idle k refl refl b) a))
-      (if_known (λ (z : Seat). LookIsFresh w.history z) (passes n t.rv) (placed (saw t c n) (Looked c n)) (conflict (saw t c n) Idle)
+      (if_known (λ (z : Seat). LookIsFresh w.history z) (passes n t.rv) (in_phase (saw t c n) (Looked c n)) (conflict (saw t c n) Idle)
       (λ b. looked_fresh w.history (saw t c n) c n (pass_fresh base w c n t.rv x.0 r.invariant x.1 is rv b))
       (λ _ d word value a. absurd (not_looking Idle refl d word value a)))
-      (λ _ b. if_known (λ (z : Seat). z.held ≡ []) (passes n t.rv) (placed (saw t c n) (Looked c n)) (conflict (saw t c n) Idle) (λ _. b)
+      (λ _ b. if_known (λ (z : Seat). z.held ≡ []) (passes n t.rv) (in_phase (saw t c n) (Looked c n)) (conflict (saw t c n) Idle) (λ _. b)
       (λ _. b)) u refl in (
         lock_within ws w r.words_are c x.0 x.1,
         u,
@@ -206,7 +206,7 @@ module _ {S N : Type 0} (terms : Terms S N) (setting : S) (base : List ℕ) (roo
       )
 
   pub loads : (opened : Start) (slots id c word : ℕ) (me : Mine S N) (y : S) → me.0.setting ≡ Some y → c < length me.0.base
-      → me.0.seat.place ≡ Looked c word
+      → me.0.seat.phase ≡ Looked c word
       → Allows (Ruled terms setting base room opened) slots id me (value_at c) (λ n. n)
       (bare (loaded terms) (step slots (value_at c) 0 0 none) me)
   loads opened slots id c word me y set l p =
@@ -220,15 +220,15 @@ module _ {S N : Type 0} (terms : Terms S N) (setting : S) (base : List ℕ) (roo
       let is : n ≡ (x.0).value = value_word ws w r.words_are c x.0 x.1 in
       let e : slice_get w.seats id ≡ Some t = seat_at terms setting base room ranges ws vs r id v at in
       let lead : Leads base w id (Load c) (load w id t c word x.0) = load_leads base w id t c word x.0 r.invariant e p x.1 in
-      let z : Seat = placed t (Loaded c word n) in
+      let z : Seat = in_phase t (Loaded c word n) in
       let keep : Follows base w (with_seat w id z) =
-      subst (λ (k : ℕ). Follows base w (with_seat w id (placed t (Loaded c word k)))) (sym is) (by_event lead) in
+      subst (λ (k : ℕ). Follows base w (with_seat w id (in_phase t (Loaded c word k)))) (sym is) (by_event lead) in
       let h : Seen N = record { history = w.history; notes = r.notes; ranges = ranges } in
       let u : View S N = record v { seen = h; seat = z } in
       let f : Suits terms setting base room h r.owner v = r.suits id v at in
       let q : Rule terms setting base room ranges (slice_set ws (value_at c) n) (slice_set vs id u) × Sees terms v u =
       quiet ranges ws vs r id v at (value_at c) z v.told keep f.told
-      (λ k a. absurd (no_number t.place (Looked c word) k p refl a))
+      (λ k a. absurd (no_number t.phase (Looked c word) k p refl a))
       (λ k a. absurd (no_number (Loaded c word n) (Loaded c word n) k refl refl a))
       (loaded_fresh w.history t c word n (f.look c word 0 (inl p))) (λ _ b. b) u refl in (
         value_within ws w r.words_are c x.0 x.1,
@@ -245,12 +245,12 @@ module _ {S N : Type 0} (terms : Terms S N) (setting : S) (base : List ℕ) (roo
               subst (λ (k : ℕ). Names ranges k) (sym is) (r.named c x.0 x.1 at_setting);
           is = λ d other a.
               let b : (c ≡ d) × (word ≡ other) = looked_same c word d other (sym p ∙ a) in
-              ap (λ (k : ℕ × ℕ). let m : View S N = record v { seen = h; seat = placed t (Loaded k.0 k.1 n) } in m) (λ j. (b.0 j, b.1 j));
+              ap (λ (k : ℕ × ℕ). let m : View S N = record v { seen = h; seat = in_phase t (Loaded k.0 k.1 n) } in m) (λ j. (b.0 j, b.1 j));
         },
       )
 
   pub relooks : (opened : Start) (slots id c word value : ℕ) (me : Mine S N) (y : S) → me.0.setting ≡ Some y → c < length me.0.base
-      → me.0.seat.place ≡ Loaded c word value
+      → me.0.seat.phase ≡ Loaded c word value
       → Allows (Ruled terms setting base room opened) slots id me (lock_at c) (λ n. n)
       (bare (relooked terms) (step slots (lock_at c) 0 0 none) me)
   relooks opened slots id c word value me y set l p =
@@ -272,16 +272,16 @@ module _ {S N : Type 0} (terms : Terms S N) (setting : S) (base : List ℕ) (roo
       let u : View S N = record v { seen = h; seat = z } in
       let f : Suits terms setting base room h r.owner v = r.suits id v at in
       let rv : t.rv ≤ length w.history = ((r.invariant).consistent.seats id t e).rv in
-      let reads : Seat = record (saw t c n) { place = Reading; reads = record { cell = c; word = word; value = value } ∷ t.reads } in
+      let reads : Seat = record (saw t c n) { phase = Reading; reads = record { cell = c; word = word; value = value } ∷ t.reads } in
       let q : Rule terms setting base room ranges (slice_set ws (lock_at c) n) (slice_set vs id u) × Sees terms v u =
       quiet ranges ws vs r id v at (lock_at c) z v.told keep f.told
-      (λ k a. absurd (no_number t.place (Loaded c word value) k p refl a))
-      (λ k a. absurd (if_known (λ (z : Seat). number_at z.place ≡ Some k → ⊥) (n == word) reads (conflict (saw t c n) Idle)
+      (λ k a. absurd (no_number t.phase (Loaded c word value) k p refl a))
+      (λ k a. absurd (if_known (λ (z : Seat). number_at z.phase ≡ Some k → ⊥) (n == word) reads (conflict (saw t c n) Idle)
       (λ _ b. no_number Reading Reading k refl refl b) (λ _ b. no_number Idle Idle k refl refl b) a))
       (if_known (λ (z : Seat). LookIsFresh w.history z) (n == word) reads (conflict (saw t c n) Idle)
       (λ _ d o a b. absurd (not_looking Reading refl d o a b)) (λ _ d o a b. absurd (not_looking Idle refl d o a b)))
       (λ _ b. if_known (λ (z : Seat). z.held ≡ []) (n == word) reads (conflict (saw t c n) Idle) (λ _. b) (λ _. b)) u refl in
-      let same : (d other found : ℕ) → t.place ≡ Loaded d other found → Loaded c word value ≡ Loaded d other found =
+      let same : (d other found : ℕ) → t.phase ≡ Loaded d other found → Loaded c word value ≡ Loaded d other found =
       λ d other found a. sym p ∙ a in
       let half : IsVersionOf w.history c (n / 2) = half_written ranges ws vs r c n x.0 x.1 is in
       let fresh : IsFresh w.history t.rv c word = f.look c word value (inr p) in

@@ -7,8 +7,8 @@ use Rattle.atomic_table.specs.Seated.{TableId}
 use Rattle.atomic_table.specs.declared.shared.Seat.{Seat as TableSeat}
 use Rattle.tlcore.specs.History.{IsVersionOf}
 use Rattle.tlcore.specs.Seats.{Seat, passes, is_reading, is_resting}
-use Rattle.tlcore.specs.Machine.{placed, conflict, saw}
-use Rattle.tlcore.specs.declared.seats.Place.TheVariants.{Idle, Reading, Looked, Loaded}
+use Rattle.tlcore.specs.Machine.{in_phase, conflict, saw}
+use Rattle.tlcore.specs.declared.seats.Phase.TheVariants.{Idle, Reading, Looked, Loaded}
 use Rattle.ranges.specs.Ranges.{Has, Names}
 use Rattle.ranges.proofs.Grown.{names_grow}
 use Rattle.tlwords.specs.declared.log.Slot.{Slot}
@@ -59,32 +59,32 @@ module _ {S N : Type 0} (terms : Terms S N) (c place : ℕ) (m0 m1 : Mine S N) (
     p.written,
     cause,
     p.is ∙ ap (λ (t : Seat). let v : View S N = record m0.0 { seen = m1.0.seen; seat = t } in v)
-        (if_false (passes a m0.0.seat.rv) (placed (saw m0.0.seat c a) (Looked c a)) (conflict (saw m0.0.seat c a) Idle)
+        (if_false (passes a m0.0.seat.rv) (in_phase (saw m0.0.seat c a) (Looked c a)) (conflict (saw m0.0.seat c a) Idle)
         (passes_false a m0.0.seat.rv (subst (λ (n : ℕ). HasCause n a) (sym rv) cause))),
   )
 
   module _ (even : a % 2 ≡ 0) (low : a / 2 ≤ place) where
-    looked_is : m1.0 ≡ record m0.0 { seen = m1.0.seen; seat = placed (saw m0.0.seat c a) (Looked c a) }
+    looked_is : m1.0 ≡ record m0.0 { seen = m1.0.seen; seat = in_phase (saw m0.0.seat c a) (Looked c a) }
     looked_is =
         p.is ∙ ap (λ (t : Seat). let v : View S N = record m0.0 { seen = m1.0.seen; seat = t } in v)
-        (if_true (passes a m0.0.seat.rv) (placed (saw m0.0.seat c a) (Looked c a)) (conflict (saw m0.0.seat c a) Idle)
+        (if_true (passes a m0.0.seat.rv) (in_phase (saw m0.0.seat c a) (Looked c a)) (conflict (saw m0.0.seat c a) Idle)
         (passes_true a m0.0.seat.rv even (omega (arith, low, rv))))
 
-    looked_place : m1.0.seat.place ≡ Looked c a
-    looked_place = ap (λ (v : View S N). v.seat.place) looked_is
+    looked_place : m1.0.seat.phase ≡ Looked c a
+    looked_place = ap (λ (v : View S N). v.seat.phase) looked_is
 
     module _ (m2 : Mine S N) (b : ℕ) (q : Loads terms m1 b m2) (m3 : Mine S N) (d : ℕ) (r : Relooks terms m2 d m3) where
-      loaded_is : m2.0 ≡ record m0.0 { seen = m2.0.seen; seat = placed (saw m0.0.seat c a) (Loaded c a b) }
+      loaded_is : m2.0 ≡ record m0.0 { seen = m2.0.seen; seat = in_phase (saw m0.0.seat c a) (Loaded c a b) }
       loaded_is =
           q.is c a looked_place
-          ∙ ap (λ (v : View S N). let u : View S N = record v { seen = m2.0.seen; seat = placed v.seat (Loaded c a b) } in u) looked_is
+          ∙ ap (λ (v : View S N). let u : View S N = record v { seen = m2.0.seen; seat = in_phase v.seat (Loaded c a b) } in u) looked_is
 
-      loaded_place : m2.0.seat.place ≡ Loaded c a b
-      loaded_place = ap (λ (v : View S N). v.seat.place) loaded_is
+      loaded_place : m2.0.seat.phase ≡ Loaded c a b
+      loaded_place = ap (λ (v : View S N). v.seat.phase) loaded_is
 
       relooked_is : m3.0 ≡ record m0.0 {
         seen = m3.0.seen;
-        seat = after_relook (placed (saw m0.0.seat c a) (Loaded c a b)) c a b d;
+        seat = after_relook (in_phase (saw m0.0.seat c a) (Loaded c a b)) c a b d;
       }
       relooked_is =
           r.is c a b loaded_place
@@ -103,7 +103,7 @@ module _ {S N : Type 0} (terms : Terms S N) (c place : ℕ) (m0 m1 : Mine S N) (
       -- the seat after a second look that found this word, where it passed
       abbrev reads : ℕ → Seat
       reads k =
-          record (saw m0.0.seat c k) { place = Reading; reads = record { cell = c; word = a; value = b } ∷ m0.0.seat.reads }
+          record (saw m0.0.seat c k) { phase = Reading; reads = record { cell = c; word = a; value = b } ∷ m0.0.seat.reads }
 
       pub read_steps : d ≡ a → Sees terms m0.0 m3.0
           × ((x : S) → m0.0.setting ≡ Some x → terms.ranged x c ≡ true → Names m3.0.seen.ranges b)
@@ -144,14 +144,14 @@ module _ {S N : Type 0} (terms : Terms S N) (table : TableId) (cells words count
         seen = q.me.0.seen;
         seat =
             record (saw p.me.0.seat c word) {
-              place = Reading;
+              phase = Reading;
               reads = record { cell = c; word = word; value = value } ∷
                   p.me.0.seat.reads;
             };
       })
       (after : List Slot) (n : Notes mode slots after c word) where
     abbrev t : Seat
-    t = record (saw p.me.0.seat c word) { place = Reading; reads = record { cell = c; word = word; value = value } ∷ p.me.0.seat.reads }
+    t = record (saw p.me.0.seat c word) { phase = Reading; reads = record { cell = c; word = word; value = value } ∷ p.me.0.seat.reads }
 
     pub read_runs : Runs table cells words q after mode count place (is_some over) full
     read_runs =

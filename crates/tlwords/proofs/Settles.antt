@@ -3,14 +3,14 @@ use Rattle.std.proofs.Common.{◌≡◌, ◌≢◌, ℕ, suc, ◌+◌, ◌*◌, 
 use Rattle.std.proofs.Common.{is_some, Option, Some, None, List, [], ◌∷◌, ◌++◌, length, sym, refl, ap, ◌∙◌, subst, arith}
 use Rattle.atomic_table.specs.declared.shared.Seat.{Seat as TableSeat}
 use Rattle.tlcore.specs.Seats.{Seat, is_nil, reads_of, writes_of}
-use Rattle.tlcore.specs.Machine.{placed, conflict}
+use Rattle.tlcore.specs.Machine.{in_phase, conflict}
 use Rattle.tlcore.proofs.Growth.{WasWritten-kept}
 use Rattle.tlcore.proofs.Lists.{known, length-append_one}
 use Rattle.tlcore.proofs.SeatParts.{is_nil-nil}
 use Rattle.tlcore.specs.declared.seats.Held.{Held}
 use Rattle.tlcore.specs.declared.seats.Read.{Read}
-use Rattle.tlcore.specs.declared.seats.Place.{Place}
-use Rattle.tlcore.specs.declared.seats.Place.TheVariants.{Idle, Taking, Reading, Checking, Storing, Voiding}
+use Rattle.tlcore.specs.declared.seats.Phase.{Phase}
+use Rattle.tlcore.specs.declared.seats.Phase.TheVariants.{Idle, Taking, Reading, Checking, Storing, Voiding}
 use Rattle.ranges.specs.Pairs.{Pairs, written}
 use Rattle.tlwords.specs.declared.log.Log.{Log}
 use Rattle.tlwords.specs.declared.log.Slot.{Slot}
@@ -91,9 +91,9 @@ module _ (slots : List Slot) where
       (some (sym (held_writes slots d (length slots)) ∙ ap writes_of (is_nil-nil (held_in slots d 0 (length slots)) p))))
       (λ (p : is_nil (held_in slots d 0 (length slots)) ≡ false). p) (known (is_nil (held_in slots d 0 (length slots))))
 
-holds : (t : Seat) (p : Place) (ks : List Held) → t.place ≡ p → t.held ≡ ks → is_nil ks ≡ false → t ≡ holding t p Idle ks
+holds : (t : Seat) (p : Phase) (ks : List Held) → t.phase ≡ p → t.held ≡ ks → is_nil ks ≡ false → t ≡ holding t p Idle ks
 holds t p ks e f n =
-    λ j. let z : Seat = record t { place = (e ∙ sym (ap (λ (b : Bool). if b then Idle else p) n)) j; held = f j } in z
+    λ j. let z : Seat = record t { phase = (e ∙ sym (ap (λ (b : Bool). if b then Idle else p) n)) j; held = f j } in z
 
 one_more : (ns : List ℕ) (n : ℕ) → length (ns ++ n ∷ []) ≡ length ns + 1
 one_more ns n = let e : length (ns ++ n ∷ []) ≡ suc (length ns) = length-append_one ns n in omega (arith, e)
@@ -101,13 +101,13 @@ one_more ns n = let e : length (ns ++ n ∷ []) ≡ suc (length ns) = length-app
 -- the seat of a run that is over, once it has locked these cells, after this last look
 abbrev over_seat : Seat → Bool → List ℕ → Option (ℕ × ℕ) → Seat
 over_seat t conflicted cells looked =
-    record t { place = Idle; held = []; conflicted = conflicted; locked = cells ++ t.locked; looked = looked }
+    record t { phase = Idle; held = []; conflicted = conflicted; locked = cells ++ t.locked; looked = looked }
 
 -- a view whose run has ended with this work in the entry at n
 abbrev ended : {S N : Type 0} → Mine S N → ℕ → Work N → View S N → View S N
 ended u n w v = record v {
   seen = u.0.seen;
-  seat = record v.seat { place = Idle; held = []; looked = u.0.seat.looked };
+  seat = record v.seat { phase = Idle; held = []; looked = u.0.seat.looked };
   mine = v.mine ++ Committed (suc n) w ∷ [];
 }
 
@@ -165,7 +165,7 @@ module _ {S N : Type 0} (terms : Terms S N) (slots : List Slot) (x : N) (p : Tab
         let t : Seat = over_seat m.0.seat true (cells_of (writes_below slots k.cell)) q.me.0.seat.looked in
         let is : q.me.0 ≡ record m.0 { seen = q.me.0.seen; seat = t } =
         back.goes.is ∙ (ap (λ (v : View S N). let w : View S N =
-        record v { seen = q.me.0.seen; seat = record v.seat { place = Idle; held = []; looked = q.me.0.seat.looked } } in w) f.goes.is
+        record v { seen = q.me.0.seen; seat = record v.seat { phase = Idle; held = []; looked = q.me.0.seat.looked } } in w) f.goes.is
         ∙ ap (λ (ps : Pairs). let w : View S N =
         record m.0 { seen = q.me.0.seen; seat = over_seat m.0.seat true (cells_of ps) q.me.0.seat.looked } in w)
         (held_writes slots 0 k.cell)) in
@@ -181,8 +181,8 @@ module _ {S N : Type 0} (terms : Terms S N) (slots : List Slot) (x : N) (p : Tab
     taken_seat : l.0.seat ≡ record (locking m.0.seat Taking Reading all) { looked = l.0.seat.looked }
     taken_seat = goes_seat terms m l (locking m.0.seat Taking Reading all) a
 
-    pub taken_place : l.0.seat.place ≡ Taking
-    taken_place = ap (λ (t : Seat). t.place) taken_seat ∙ ap (λ (b : Bool). if b then Reading else Taking) (some_held slots 0 some)
+    pub taken_place : l.0.seat.phase ≡ Taking
+    taken_place = ap (λ (t : Seat). t.phase) taken_seat ∙ ap (λ (b : Bool). if b then Reading else Taking) (some_held slots 0 some)
 
     pub taken_writes : writes_of l.0.seat.held ≡ writes_kept slots
     taken_writes = ap (λ (t : Seat). writes_of t.held) taken_seat ∙ held_writes slots 0 (length slots)
@@ -200,14 +200,14 @@ module _ {S N : Type 0} (terms : Terms S N) (slots : List Slot) (x : N) (p : Tab
     module _ (r : Mine S N) (n : ℕ) (d : Draws terms (Some x) l n r) where
       drawn_is : r.0 ≡ record m.0 {
         seen = r.0.seen;
-        seat = record (locking m.0.seat Taking Reading all) { place = Checking n 0; looked = l.0.seat.looked };
+        seat = record (locking m.0.seat Taking Reading all) { phase = Checking n 0; looked = l.0.seat.looked };
         note = Some x;
         drawn = m.0.drawn ++ suc n ∷ [];
       }
       drawn_is = d.is x refl ∙ ap (λ (v : View S N). let w : View S N =
-          record v { seen = r.0.seen; seat = placed v.seat (Checking n 0); note = Some x; drawn = v.drawn ++ suc n ∷ [] } in w) a.is
+          record v { seen = r.0.seen; seat = in_phase v.seat (Checking n 0); note = Some x; drawn = v.drawn ++ suc n ∷ [] } in w) a.is
 
-      drawn_seat : r.0.seat ≡ record (locking m.0.seat Taking Reading all) { place = Checking n 0; looked = l.0.seat.looked }
+      drawn_seat : r.0.seat ≡ record (locking m.0.seat Taking Reading all) { phase = Checking n 0; looked = l.0.seat.looked }
       drawn_seat = ap (λ (v : View S N). v.seat) drawn_is
 
       sees_drawn : Sees terms m.0 r.0
@@ -234,9 +234,9 @@ module _ {S N : Type 0} (terms : Terms S N) (slots : List Slot) (x : N) (p : Tab
             let h : s.0.seat.held ≡ held_in slots 0 0 high =
             ap (λ (t : Seat). t.held) failed_seat ∙ (ap (λ (t : Seat). t.held) drawn_seat ∙ sym (ap (held_in slots 0 0) same)) in
             let start : s.0.seat ≡ holding s.0.seat (Voiding n) Idle (held_in slots 0 0 high) =
-            holds s.0.seat (Voiding n) (held_in slots 0 0 high) (ap (λ (t : Seat). t.place) failed_seat) h full in
+            holds s.0.seat (Voiding n) (held_in slots 0 0 high) (ap (λ (t : Seat). t.phase) failed_seat) h full in
             record {
-              place = Voiding n;
+              phase = Voiding n;
               done = 0;
               gives = inl (refl, inr (n, refl));
               start = start;
@@ -253,7 +253,7 @@ module _ {S N : Type 0} (terms : Terms S N) (slots : List Slot) (x : N) (p : Tab
             let ds : List ℕ = m.0.drawn ++ number ∷ [] in
             let is : q.me.0 ≡ record m.0 { seen = q.me.0.seen; seat = t; note = Some x; drawn = ds } =
             back.goes.is ∙ (ap (λ (v : View S N). let w : View S N =
-            record v { seen = q.me.0.seen; seat = record v.seat { place = Idle; held = []; looked = q.me.0.seat.looked } } in w) f.goes.is
+            record v { seen = q.me.0.seen; seat = record v.seat { phase = Idle; held = []; looked = q.me.0.seat.looked } } in w) f.goes.is
             ∙ (ap (λ (v : View S N). let w : View S N =
             record v { seen = q.me.0.seen; seat = over_seat v.seat true [] q.me.0.seat.looked } in w) drawn_is
             ∙ (λ j. let w : View S N = record m.0 {
@@ -270,14 +270,14 @@ module _ {S N : Type 0} (terms : Terms S N) (slots : List Slot) (x : N) (p : Tab
               n,
               number_is,
               later,
-              back.void n (ap (λ (t : Seat). t.place) failed_seat),
+              back.void n (ap (λ (t : Seat). t.phase) failed_seat),
               λ j. known_of (same.0 j) (is j),
             ))
 
       -- the check passed
       module _ (s : Mine S N) (b : Passes terms n r s) where
-        passed_seat : s.0.seat ≡ record (placed r.0.seat (Checking n b.upto)) { looked = s.0.seat.looked }
-        passed_seat = goes_seat terms r s (placed r.0.seat (Checking n b.upto)) b.goes
+        passed_seat : s.0.seat ≡ record (in_phase r.0.seat (Checking n b.upto)) { looked = s.0.seat.looked }
+        passed_seat = goes_seat terms r s (in_phase r.0.seat (Checking n b.upto)) b.goes
 
         passed_reads : s.0.seat.reads ≡ m.0.seat.reads
         passed_reads = ap (λ (t : Seat). t.reads) passed_seat ∙ ap (λ (t : Seat). t.reads) drawn_seat
@@ -290,9 +290,9 @@ module _ {S N : Type 0} (terms : Terms S N) (slots : List Slot) (x : N) (p : Tab
               let h : z.0.seat.held ≡ held_in slots high 0 high =
               ap (λ (v : View S N). v.seat.held) c.is ∙ sym (ap (λ (h : ℕ). held_in slots h 0 h) same) in
               let start : z.0.seat ≡ holding z.0.seat (Storing n) Idle (held_in slots high 0 high) =
-              holds z.0.seat (Storing n) (held_in slots high 0 high) (ap (λ (v : View S N). v.seat.place) c.is) h full in
+              holds z.0.seat (Storing n) (held_in slots high 0 high) (ap (λ (v : View S N). v.seat.phase) c.is) h full in
               record {
-                place = Storing n;
+                phase = Storing n;
                 done = high;
                 gives = inr (refl, (n, refl, ap (λ (w : ℕ). Some w) new));
                 start = start;
@@ -316,7 +316,7 @@ module _ {S N : Type 0} (terms : Terms S N) (slots : List Slot) (x : N) (p : Tab
                 mine = m.0.mine ++ Committed number (work_kept m.0.seat slots x) ∷ [];
               } =
               back.goes.is ∙ (ap (λ (v : View S N). let w : View S N =
-              record v { seen = q.me.0.seen; seat = record v.seat { place = Idle; held = []; looked = q.me.0.seat.looked } } in w) c.is
+              record v { seen = q.me.0.seen; seat = record v.seat { phase = Idle; held = []; looked = q.me.0.seat.looked } } in w) c.is
               ∙ (ap (ended q.me n (work_kept s.0.seat slots x)) b.goes.is ∙ (ap (ended q.me n (work_kept s.0.seat slots x)) drawn_is
               ∙ (λ j. let w : View S N = record m.0 {
                 seen = q.me.0.seen;

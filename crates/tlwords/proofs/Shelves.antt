@@ -9,7 +9,7 @@ use Rattle.tlcore.proofs.Lists.{get-set_same, get-set_other, get_within, length-
 use Rattle.ranges.proofs.Stored.{stored_coherent, stored_on, below_tail}
 use Rattle.ranges.specs.Ranges.{Range, Has, IsStored, AreOfOneStore}
 use Rattle.tlwords.specs.Views.{Staging, Gone, View}
-use Rattle.tlwords.specs.Rule.{total_of, IsTaken, IsApart, IsLeft, rights_of, moved_of, added_of, Adds, IsTail, Shelf}
+use Rattle.tlwords.specs.Rule.{total_of, IsBeingFilled, IsApart, IsLeft, rights_of, moved_of, added_of, Adds, IsTail, Shelf}
 use Rattle.tlwords.proofs.Keeps.{total_set, moves_of}
 
 -- the two have no word in common
@@ -21,8 +21,8 @@ one_staging o s t p q = let b : Some s ≡ Some t = sym p ∙ q in cc
 
 -- ---- a tail and words that go on
 
-pub taken_on : (low room tail later : ℕ) (store : List ℕ) (s : Staging) → tail ≤ later → IsTaken low room tail store s
-    → IsTaken low room later store s
+pub taken_on : (low room tail later : ℕ) (store : List ℕ) (s : Staging) → tail ≤ later → IsBeingFilled low room tail store s
+    → IsBeingFilled low room later store s
 taken_on low room tail later store s l f =
     let b : s.start + length s.words ≤ tail = f.below in
     record { behind = f.behind; inside = f.inside; below = omega (arith, b, l); left = f.left; stored = f.stored }
@@ -38,13 +38,14 @@ total_snoc f (v ∷ vs) u = let r : total_of f (vs ++ u ∷ []) ≡ total_of f v
 module _ {S N : Type 0} where
   -- what the change of one seat leaves the others
   pub record Others (low room tail : ℕ) (ranges : List Range) (store : List ℕ) (vs : List (View S N)) (id : ℕ) : Type 0 where
-    pub taken : (j : ℕ) (u : View S N) (t : Staging) → j ≢ id → get_elem? vs j ≡ some u → u.staging ≡ Some t → IsTaken low room tail store t
+    pub taken : (j : ℕ) (u : View S N) (t : Staging) → j ≢ id → get_elem? vs j ≡ some u → u.staging ≡ Some t
+        → IsBeingFilled low room tail store t
     pub apart : (j : ℕ) (u : View S N) (t : Staging) (r : Range) → j ≢ id → get_elem? vs j ≡ some u → u.staging ≡ Some t → Has r ranges
         → IsApart t r
 
   -- what the seat itself has then
   pub record Own (low room tail : ℕ) (ranges : List Range) (store : List ℕ) (vs : List (View S N)) (id : ℕ) (s : Staging) : Type 0 where
-    pub taken : IsTaken low room tail store s
+    pub taken : IsBeingFilled low room tail store s
     pub apart : (r : Range) → Has r ranges → IsApart s r
     pub alone : (j : ℕ) (u : View S N) (t : Staging) → j ≢ id → get_elem? vs j ≡ some u → u.staging ≡ Some t → AreApart s t
 
@@ -401,7 +402,7 @@ module _ {S N : Type 0} where
     abbrev pub with_word : List ℕ
     with_word = slice_set store (s.start + s.done) word
 
-    mine : IsTaken (length opened) room tail store s
+    mine : IsBeingFilled (length opened) room tail store s
     mine = h.taken id v s at staging
 
     long : length with_word ≡ room
@@ -430,9 +431,9 @@ module _ {S N : Type 0} where
         )
 
     others_taken : (j : ℕ) (u : View S N) (t : Staging) → j ≢ id → get_elem? vs j ≡ some u → u.staging ≡ Some t
-        → IsTaken (length opened) room tail with_word t
+        → IsBeingFilled (length opened) room tail with_word t
     others_taken j u t other at_u e =
-        let f : IsTaken (length opened) room tail store t = h.taken j u t at_u e in
+        let f : IsBeingFilled (length opened) room tail store t = h.taken j u t at_u e in
         let left : s.done < length s.words = mine.left in
         let more : t.done < length t.words = f.left in
         record {

@@ -3,7 +3,7 @@ use Rattle.std.proofs.Common.{◌≡◌, ◌≢◌, ℕ, suc, ◌+◌, ◌<◌, 
 use Rattle.std.proofs.Common.{refl, ap, ◌∙◌, subst, arith}
 use Rattle.tlcore.specs.Seats.{find_held, is_next, all_settled, with_stored, reads_of, writes_of}
 use Rattle.tlcore.specs.declared.seats.Held.{Held}
-use Rattle.tlcore.specs.declared.seats.Place.TheVariants.{Checking, Storing}
+use Rattle.tlcore.specs.declared.seats.Phase.TheVariants.{Checking, Storing}
 use Rattle.tlwords.specs.declared.log.Slot.{Slot}
 use Rattle.tlwords.specs.Terms.{Terms}
 use Rattle.tlwords.specs.Seen.{Work, Committed, IsDone}
@@ -27,7 +27,7 @@ module _ {S N : Type 0} (terms : Terms S N) (slots : List Slot) (i : ℕ) (x : N
   abbrev pub StoresSoFar : ℕ → Mine S N → Type 0
   StoresSoFar low r = ((r ≡ m) × NoneKept slots 0 low) ⊎ StoresTo terms slots i work low m r
 
-  module _ (upto : ℕ) (at : m.0.seat.place ≡ Checking i upto) (held : m.0.seat.held ≡ held_in slots 0 0 (length slots)) (low : ℕ)
+  module _ (upto : ℕ) (at : m.0.seat.phase ≡ Checking i upto) (held : m.0.seat.held ≡ held_in slots 0 0 (length slots)) (low : ℕ)
       (r : Mine S N)
       (so : StoresSoFar low r) where
     pub store_same : (r.0.setting ≡ m.0.setting) × (length r.0.base ≡ length m.0.base)
@@ -38,7 +38,7 @@ module _ {S N : Type 0} (terms : Terms S N) (slots : List Slot) (i : ℕ) (x : N
     pub store_place : (is_next m.0.seat i || all_settled m.0.seat.held upto m.0.seat.reads) ≡ true → (j : ℕ) × MayStore r.0.seat j
     store_place may = ⊎_elim
         (λ (p : (r ≡ m) × NoneKept slots 0 low). subst (λ (z : Mine S N). (j : ℕ) × MayStore z.0.seat j) (sym p.0) (i, inl (upto, at, may)))
-        (λ (p : StoresTo terms slots i work low m r). (i, inr (ap (λ (v : View S N). v.seat.place) p.is))) so
+        (λ (p : StoresTo terms slots i work low m r). (i, inr (ap (λ (v : View S N). v.seat.phase) p.is))) so
 
     module _ (c v : ℕ) (b : c < length slots) (e : value_kept slots c ≡ Some v) where
       pub store_held : (k : Held) × (find_held c r.0.seat.held ≡ Some k) × (k.value ≡ v)
@@ -82,7 +82,7 @@ module _ {S N : Type 0} (terms : Terms S N) (slots : List Slot) (i : ℕ) (x : N
                 is = f.1 ∙ (λ j. let w : View S N = record m.0 {
                   seen = s.0.seen;
                   seat = record m.0.seat {
-                    place = Storing i;
+                    phase = Storing i;
                     held =
                         (ap (with_stored c) held ∙ held_stored slots 0 0 (length slots) c (omega arith)
                         (unkept_both slots 0 low c before unkept))
@@ -96,7 +96,7 @@ module _ {S N : Type 0} (terms : Terms S N) (slots : List Slot) (i : ℕ) (x : N
           next : StoresTo terms slots i work low m r → StoresTo terms slots i work (suc c) m s
           next p =
               let e : s.0 ≡ record r.0 { seen = s.0.seen; seat = after_store r.0.seat i c } =
-              t.next i (ap (λ (v : View S N). v.seat.place) p.is) in
+              t.next i (ap (λ (v : View S N). v.seat.phase) p.is) in
               record {
                 sees = record {
                   own = seen_trans m.0.seen r.0.seen s.0.seen p.sees.own t.sees.own;
@@ -108,7 +108,7 @@ module _ {S N : Type 0} (terms : Terms S N) (slots : List Slot) (i : ℕ) (x : N
                     ∙ (λ j. let w : View S N = record m.0 {
                       seen = s.0.seen;
                       seat = record m.0.seat {
-                        place = Storing i;
+                        phase = Storing i;
                         held = held_stored slots low 0 (length slots) c l unkept j;
                         looked = sym (ap (λ (v : View S N). v.seat.looked) e) j;
                       };
@@ -126,7 +126,7 @@ module _ {S N : Type 0} (terms : Terms S N) (slots : List Slot) (i : ℕ) (x : N
           is = p.is ∙ (λ j. let w : View S N = record m.0 {
             seen = r.0.seen;
             seat = record m.0.seat {
-              place = Storing i;
+              phase = Storing i;
               held = held_done slots low (length slots) 0 (length slots) (omega arith) unkept j;
               looked = r.0.seat.looked;
             };

@@ -8,7 +8,7 @@ use Rattle.tlcore.specs.Machine.{conflict, saw}
 use Rattle.tlcore.proofs.Lists.{known}
 use Rattle.tlcore.specs.declared.seats.Read.{Read}
 use Rattle.tlcore.specs.declared.seats.Held.{Held}
-use Rattle.tlcore.specs.declared.seats.Place.TheVariants.{Idle, Reading, Taking, Failing}
+use Rattle.tlcore.specs.declared.seats.Phase.TheVariants.{Idle, Reading, Taking, Failing}
 use Rattle.tlwords.specs.declared.log.Slot.{Slot}
 use Rattle.tlwords.specs.declared.words.Words.{Words}
 use Rattle.tlwords.specs.Terms.{Terms}
@@ -122,14 +122,14 @@ module _ {S N : Type 0} (terms : Terms S N) where
     Before = Goes terms m (locking m.0.seat Taking Reading (held_in slots 0 0 low)) r
 
     pub take_place : Before → (c : ℕ) → low ≤ c
-        → (r.0.seat.place ≡ Reading) ⊎ ((r.0.seat.place ≡ Taking) × (all_below c r.0.seat.held ≡ true))
+        → (r.0.seat.phase ≡ Reading) ⊎ ((r.0.seat.phase ≡ Taking) × (all_below c r.0.seat.held ≡ true))
     take_place g c l = go (known (is_nil (held_in slots 0 0 low)))
       where
         go : (is_nil (held_in slots 0 0 low) ≡ true) ⊎ (is_nil (held_in slots 0 0 low) ≡ false)
-            → (r.0.seat.place ≡ Reading) ⊎ ((r.0.seat.place ≡ Taking) × (all_below c r.0.seat.held ≡ true))
-        go (inl e) = inl (ap (λ (v : View S N). v.seat.place) g.is ∙ ap (λ (b : Bool). if b then Reading else Taking) e)
+            → (r.0.seat.phase ≡ Reading) ⊎ ((r.0.seat.phase ≡ Taking) × (all_below c r.0.seat.held ≡ true))
+        go (inl e) = inl (ap (λ (v : View S N). v.seat.phase) g.is ∙ ap (λ (b : Bool). if b then Reading else Taking) e)
         go (inr e) = inr (
-          ap (λ (v : View S N). v.seat.place) g.is
+          ap (λ (v : View S N). v.seat.phase) g.is
               ∙ ap (λ (b : Bool). if b then Reading else Taking) e,
           ap (λ (v : View S N). all_below c v.seat.held) g.is
               ∙ held_below slots 0 0 low c l,
@@ -139,7 +139,7 @@ module _ {S N : Type 0} (terms : Terms S N) where
       -- the seat after the take, where it found the word and where it didn't
       abbrev hit : Seat
       hit = record (saw m.0.seat c n) {
-        place = Taking;
+        phase = Taking;
         held = record { cell = c; word = w; value = v; stored = false } ∷ held_in slots 0 0 low;
         locked = c ∷ (cells_of (writes_of (held_in slots 0 0 low)) ++ m.0.seat.locked);
       }
@@ -171,7 +171,7 @@ module _ {S N : Type 0} (terms : Terms S N) where
             meets = record {
               looked = ap (λ (v : View S N). v.seat.looked) t.is ∙ if_known (λ (z : Seat). z.looked ≡ Some (c, n)) (n == w)
                   (record (saw r.0.seat c n) {
-                    place = Taking;
+                    phase = Taking;
                     held = record { cell = c; word = w; value = v; stored = false } ∷ r.0.seat.held;
                     locked = c ∷ r.0.seat.locked;
                   })

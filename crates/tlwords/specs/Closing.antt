@@ -64,7 +64,7 @@ pub record IsHeldIn (w : World) (c : ℕ) : Type 0 where
   pub seat : Seat
   pub here : slice_get w.seats index ≡ Some seat
   pub holds : Holds seat c
-  pub busy : is_resting seat.place ≡ false
+  pub busy : is_resting seat.phase ≡ false
 
 -- how many seats hold a cell
 abbrev pub holders_in : World → ℕ

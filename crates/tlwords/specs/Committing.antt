@@ -5,10 +5,10 @@ use Rattle.std.specs.Prelude.{◌∷◌, ◌++◌, length, ◌⊎◌}
 use Rattle.atomic_table.specs.declared.shared.Seat.{Seat as TableSeat}
 use Rattle.tlcore.specs.History.{IsVersionOf, wv}
 use Rattle.tlcore.specs.Seats.{Seat, is_nil, writes_of, is_next, all_settled}
-use Rattle.tlcore.specs.Machine.{placed, conflict}
+use Rattle.tlcore.specs.Machine.{in_phase, conflict}
 use Rattle.tlcore.specs.declared.seats.Held.{Held}
-use Rattle.tlcore.specs.declared.seats.Place.{Place}
-use Rattle.tlcore.specs.declared.seats.Place.TheVariants.{Idle, Checking, Storing, Failing, Voiding}
+use Rattle.tlcore.specs.declared.seats.Phase.{Phase}
+use Rattle.tlcore.specs.declared.seats.Phase.TheVariants.{Idle, Checking, Storing, Failing, Voiding}
 use Rattle.tlwords.specs.declared.log.Log.{Log}
 use Rattle.tlwords.specs.declared.log.Slot.{Slot}
 use Rattle.tlwords.specs.declared.mode.Mode.{Mode}
@@ -48,11 +48,11 @@ held_in slots done low zero = []
 held_in slots done low (suc n) = with_held slots done low n (value_kept slots n) (held_in slots done low n)
 
 -- a run at the place p that holds these cells, or is idle where it holds none
-abbrev pub holding : Seat → Place → Place → List Held → Seat
-holding t p none ks = record t { place = (if is_nil ks then none else p); held = ks }
+abbrev pub holding : Seat → Phase → Phase → List Held → Seat
+holding t p none ks = record t { phase = (if is_nil ks then none else p); held = ks }
 
 -- such a run, which has locked all these cells since it was at t
-abbrev pub locking : Seat → Place → Place → List Held → Seat
+abbrev pub locking : Seat → Phase → Phase → List Held → Seat
 locking t p none ks = record (holding t p none ks) { locked = cells_of (writes_of ks) ++ t.locked }
 
 module _ {S N : Type 0} (terms : Terms S N) where
@@ -85,7 +85,7 @@ module _ {S N : Type 0} (terms : Terms S N) where
   -- the check passed, or wasn't needed
   pub record Passes (i : ℕ) (m r : Mine S N) : Type 0 where
     pub upto : ℕ
-    pub goes : Goes m (placed m.0.seat (Checking i upto)) r
+    pub goes : Goes m (in_phase m.0.seat (Checking i upto)) r
     pub may : (is_next m.0.seat i || all_settled m.0.seat.held upto m.0.seat.reads) ≡ true
 
   -- the values of the cells below `low` are stored, at least one
@@ -94,27 +94,27 @@ module _ {S N : Type 0} (terms : Terms S N) where
     pub done : IsDone r.0.seen i w
     pub is : r.0 ≡ record m.0 {
       seen = r.0.seen;
-      seat = record m.0.seat { place = Storing i; held = held_in slots low 0 (length slots); looked = r.0.seat.looked };
+      seat = record m.0.seat { phase = Storing i; held = held_in slots low 0 (length slots); looked = r.0.seat.looked };
       mine = m.0.mine ++ Committed (wv i) w ∷ [];
     }
 
   -- the cells below `low` are released. Each gets its former word back, or the new one once all values are stored
   pub record Releasing (slots : List Slot) (high : ℕ) (new : Option ℕ) (low : ℕ) (m r : Mine S N) : Type 0 where
-    pub place : Place
+    pub phase : Phase
     pub done : ℕ
     pub gives :
-        ((new ≡ None) × ((place ≡ Failing) ⊎ ((i : ℕ) × (place ≡ Voiding i))))
-        ⊎ ((done ≡ high) × ((i : ℕ) × (place ≡ Storing i) × (new ≡ Some (2 * wv i))))
-    pub start : m.0.seat ≡ holding m.0.seat place Idle (held_in slots done 0 high)
-    pub goes : Goes m (holding m.0.seat place Idle (held_in slots done low high)) r
+        ((new ≡ None) × ((phase ≡ Failing) ⊎ ((i : ℕ) × (phase ≡ Voiding i))))
+        ⊎ ((done ≡ high) × ((i : ℕ) × (phase ≡ Storing i) × (new ≡ Some (2 * wv i))))
+    pub start : m.0.seat ≡ holding m.0.seat phase Idle (held_in slots done 0 high)
+    pub goes : Goes m (holding m.0.seat phase Idle (held_in slots done low high)) r
     pub looked : r.0.seat.looked ≡ m.0.seat.looked
-    pub void : (i : ℕ) → place ≡ Voiding i → (r ≡ m) ⊎ IsVoid r.0.seen i
+    pub void : (i : ℕ) → phase ≡ Voiding i → (r ≡ m) ⊎ IsVoid r.0.seen i
 
   -- nothing is held any more
   pub record ReleasesAll (m r : Mine S N) : Type 0 where
-    pub goes : Goes m (record m.0.seat { place = Idle; held = [] }) r
+    pub goes : Goes m (record m.0.seat { phase = Idle; held = [] }) r
     pub looked : r.0.seat.looked ≡ m.0.seat.looked
-    pub void : (i : ℕ) → m.0.seat.place ≡ Voiding i → IsVoid r.0.seen i
+    pub void : (i : ℕ) → m.0.seat.phase ≡ Voiding i → IsVoid r.0.seen i
 
   -- a commit with this note has ended so, of a run in this mode at this place that kept this; its pass has drawn so many numbers
   pub record Concludes (n : N) (mode : Mode) (place : ℕ) (slots : List Slot) (count : ℕ) (p q : TableSeat (Unit {0}) (View S N))

@@ -15,7 +15,7 @@ use Rattle.tlcore.specs.declared.actions.Action.{Action}
 use Rattle.tlcore.specs.declared.actions.Action.TheVariants.{Begin, Look, Load, Relook, Take, Draw, Check, Store, Release}
 use Rattle.tlcore.specs.declared.seats.Read.{Read}
 use Rattle.tlcore.specs.declared.seats.Held.{Held}
-use Rattle.tlcore.specs.declared.seats.Place.TheVariants.{Idle, Reading, Looked, Loaded, Taking, Checking}
+use Rattle.tlcore.specs.declared.seats.Phase.TheVariants.{Idle, Reading, Looked, Loaded, Taking, Checking}
 use Rattle.tlwords.specs.Terms.{Terms}
 use Rattle.tlwords.specs.Views.{View}
 use Rattle.tlwords.specs.Layout.{clock_at, lock_at, value_at, words_of, shelf_of}
@@ -48,7 +48,7 @@ module _ {S N : Type 0} (terms : Terms S N) (setting : S) (base : List ℕ) (roo
   -- Begin (step 1): a load of the clock
   abbrev pub ClockLoadIsEvent : Type 0
   ClockLoadIsEvent =
-      (m r : Mine S N) (at : Moment m r) → (m.0.seat.place ≡ Idle) ⊎ (m.0.seat.place ≡ Reading)
+      (m r : Mine S N) (at : Moment m r) → (m.0.seat.phase ≡ Idle) ⊎ (m.0.seat.phase ≡ Reading)
       → Sampled terms m (found m r at clock_at) r
       → IsEvent m r at Begin clock_at (found m r at clock_at)
 
@@ -59,21 +59,21 @@ module _ {S N : Type 0} (terms : Terms S N) (setting : S) (base : List ℕ) (roo
   -- Look (step 2): a load of the cell's lock word
   abbrev pub LookIsEvent : Type 0
   LookIsEvent =
-      (m r : Mine S N) (at : Moment m r) (c : ℕ) → HasCell m c → m.0.seat.place ≡ Reading
+      (m r : Mine S N) (at : Moment m r) (c : ℕ) → HasCell m c → m.0.seat.phase ≡ Reading
       → Looks terms c m (found m r at (lock_at c)) r
       → IsEvent m r at (Look c) (lock_at c) (found m r at (lock_at c))
 
   -- Load (step 2): a load of the cell's value word
   abbrev pub LoadIsEvent : Type 0
   LoadIsEvent =
-      (m r : Mine S N) (at : Moment m r) (c word : ℕ) → HasCell m c → m.0.seat.place ≡ Looked c word
+      (m r : Mine S N) (at : Moment m r) (c word : ℕ) → HasCell m c → m.0.seat.phase ≡ Looked c word
       → Loads terms m (found m r at (value_at c)) r
       → IsEvent m r at (Load c) (value_at c) (found m r at (value_at c))
 
   -- Relook (step 2): a load of the cell's lock word
   abbrev pub RelookIsEvent : Type 0
   RelookIsEvent =
-      (m r : Mine S N) (at : Moment m r) (c word value : ℕ) → HasCell m c → m.0.seat.place ≡ Loaded c word value
+      (m r : Mine S N) (at : Moment m r) (c word value : ℕ) → HasCell m c → m.0.seat.phase ≡ Loaded c word value
       → Relooks terms m (found m r at (lock_at c)) r
       → IsEvent m r at (Relook c) (lock_at c) (found m r at (lock_at c))
 
@@ -81,7 +81,7 @@ module _ {S N : Type 0} (terms : Terms S N) (setting : S) (base : List ℕ) (roo
   abbrev pub TakeIsEvent : Type 0
   TakeIsEvent =
       (m r : Mine S N) (at : Moment m r) (c value : ℕ) (d : Read) → HasCell m c
-      → (m.0.seat.place ≡ Reading) ⊎ ((m.0.seat.place ≡ Taking) × (all_below c m.0.seat.held ≡ true))
+      → (m.0.seat.phase ≡ Reading) ⊎ ((m.0.seat.phase ≡ Taking) × (all_below c m.0.seat.held ≡ true))
       → find_read c m.0.seat.reads ≡ Some d → Takes terms c value d.word m (found m r at (lock_at c)) r
       → IsEvent m r at (Take c value) (lock_at c)
       (if found m r at (lock_at c) == d.word then d.word + 1 else found m r at (lock_at c))
@@ -89,13 +89,13 @@ module _ {S N : Type 0} (terms : Terms S N) (setting : S) (base : List ℕ) (roo
   -- Draw (step 4): a fetch-and-add of 1 to the clock, as a word of 64 bits
   abbrev pub DrawIsEvent : Type 0
   DrawIsEvent =
-      (m r : Mine S N) (at : Moment m r) (note : N) → m.0.seat.place ≡ Taking → Draws terms (Some note) m (found m r at clock_at) r
+      (m r : Mine S N) (at : Moment m r) (note : N) → m.0.seat.phase ≡ Taking → Draws terms (Some note) m (found m r at clock_at) r
       → IsEvent m r at Draw clock_at ((found m r at clock_at + 1) % 2 ^ 64)
 
   -- Check (step 5): a load of the cell's lock word
   abbrev pub CheckIsEvent : Type 0
   CheckIsEvent =
-      (m r : Mine S N) (at : Moment m r) (i upto c : ℕ) (d : Read) → HasCell m c → m.0.seat.place ≡ Checking i upto
+      (m r : Mine S N) (at : Moment m r) (i upto c : ℕ) (d : Read) → HasCell m c → m.0.seat.phase ≡ Checking i upto
       → is_next m.0.seat i ≡ false → is_due m.0.seat upto c ≡ true → find_read c m.0.seat.reads ≡ Some d
       → Checks terms c m (found m r at (lock_at c)) r
       → IsEvent m r at (Check c) (lock_at c) (found m r at (lock_at c))

@@ -4,10 +4,10 @@ use Rattle.atomic_table.specs.Table.{Me, Step}
 use Rattle.atomic_table.specs.declared.shared.Seat.{Seat as TableSeat}
 use Rattle.tlcore.specs.History.{WordsEntry, IsVersionOf, wv}
 use Rattle.tlcore.specs.Seats.{Seat, passes, reads_of, writes_of, is_nil, is_next, all_settled, without, with_stored}
-use Rattle.tlcore.specs.Machine.{placed, conflict, saw}
+use Rattle.tlcore.specs.Machine.{in_phase, conflict, saw}
 use Rattle.tlcore.specs.declared.entries.Status.TheVariants.{Void}
 use Rattle.tlcore.specs.declared.seats.Held.{Held}
-use Rattle.tlcore.specs.declared.seats.Place.TheVariants.{Idle, Reading, Looked, Loaded, Taking, Checking, Storing, Failing, Voiding}
+use Rattle.tlcore.specs.declared.seats.Phase.TheVariants.{Idle, Reading, Looked, Loaded, Taking, Checking, Storing, Failing, Voiding}
 use Rattle.ranges.specs.Ranges.{Range, Has, Names}
 use Rattle.tlwords.specs.Terms.{Terms}
 use Rattle.tlwords.specs.Seen.{Work, Committed, Answered, SeenGrows, IsDone}
@@ -25,7 +25,7 @@ work_of t n = record { reads = reads_of t.reads; writes = writes_of t.held; note
 abbrev pub began : Seat → ℕ → Seat
 began t place =
     record {
-      place = Reading;
+      phase = Reading;
       rv = place;
       reads = [];
       held = [];
@@ -37,13 +37,13 @@ began t place =
 
 -- after a look at the cell that found this word
 abbrev pub after_look : Seat → ℕ → ℕ → Seat
-after_look t c word = if passes word t.rv then placed (saw t c word) (Looked c word) else conflict (saw t c word) Idle
+after_look t c word = if passes word t.rv then in_phase (saw t c word) (Looked c word) else conflict (saw t c word) Idle
 
 -- after the second look, where the first found `word` and `value` was loaded, and this one found n
 abbrev pub after_relook : Seat → ℕ → ℕ → ℕ → ℕ → Seat
 after_relook t c word value n =
     if n == word
-    then record (saw t c n) { place = Reading; reads = record { cell = c; word = word; value = value } ∷ t.reads }
+    then record (saw t c n) { phase = Reading; reads = record { cell = c; word = word; value = value } ∷ t.reads }
     else conflict (saw t c n) Idle
 
 -- after a try to take the cell from the word `word`, which found n
@@ -51,7 +51,7 @@ abbrev pub after_take : Seat → ℕ → ℕ → ℕ → ℕ → Seat
 after_take t c value word n =
     if n == word
     then record (saw t c n) {
-      place = Taking;
+      phase = Taking;
       held = record { cell = c; word = word; value = value; stored = false } ∷ t.held;
       locked = c ∷ t.locked;
     }
@@ -60,26 +60,26 @@ after_take t c value word n =
 -- after a check of the cell that found this word
 abbrev pub after_check : Seat → ℕ → ℕ → ℕ → Seat
 after_check t i c word =
-    if passes word t.rv then placed (saw t c word) (Checking i (suc c)) else conflict (saw t c word) (Voiding i)
+    if passes word t.rv then in_phase (saw t c word) (Checking i (suc c)) else conflict (saw t c word) (Voiding i)
 
 -- after the store of the cell's value
 abbrev pub after_store : Seat → ℕ → ℕ → Seat
-after_store t i c = record t { place = Storing i; held = with_stored c t.held }
+after_store t i c = record t { phase = Storing i; held = with_stored c t.held }
 
 -- after the release of the cell
 abbrev pub after_release : Seat → ℕ → Seat
-after_release t c = record t { place = (if is_nil (without c t.held) then Idle else t.place); held = without c t.held }
+after_release t c = record t { phase = (if is_nil (without c t.held) then Idle else t.phase); held = without c t.held }
 
 -- what a release gives back: after a store twice the run's number, and after a conflict the word that the take found
 abbrev pub GivesBack : Seat → Held → ℕ → Type 0
 GivesBack t k word =
-    ((i : ℕ) × (t.place ≡ Storing i) × (k.stored ≡ true) × (word ≡ 2 * wv i))
-    ⊎ (((t.place ≡ Failing) × (word ≡ k.word)) ⊎ ((i : ℕ) × (t.place ≡ Voiding i) × (word ≡ k.word)))
+    ((i : ℕ) × (t.phase ≡ Storing i) × (k.stored ≡ true) × (word ≡ 2 * wv i))
+    ⊎ (((t.phase ≡ Failing) × (word ≡ k.word)) ⊎ ((i : ℕ) × (t.phase ≡ Voiding i) × (word ≡ k.word)))
 
 -- when a store is lawful: the check has passed, or isn't needed
 abbrev pub MayStore : Seat → ℕ → Type 0
 MayStore t i =
-    ((upto : ℕ) × (t.place ≡ Checking i upto) × ((is_next t i || all_settled t.held upto t.reads) ≡ true)) ⊎ (t.place ≡ Storing i)
+    ((upto : ℕ) × (t.phase ≡ Checking i upto) × ((is_next t i || all_settled t.held upto t.reads) ≡ true)) ⊎ (t.phase ≡ Storing i)
 
 module _ {S N : Type 0} (terms : Terms S N) where
   -- the whole history so far was seen
@@ -106,18 +106,18 @@ module _ {S N : Type 0} (terms : Terms S N) where
   -- Load: in a range cell it finds 0 or a word that names a finished range
   pub record Loads (m : Mine S N) (n : ℕ) (r : Mine S N) : Type 0 where
     pub sees : Sees m.0 r.0
-    pub named : (x : S) (c word : ℕ) → m.0.setting ≡ Some x → m.0.seat.place ≡ Looked c word → terms.ranged x c ≡ true
+    pub named : (x : S) (c word : ℕ) → m.0.setting ≡ Some x → m.0.seat.phase ≡ Looked c word → terms.ranged x c ≡ true
         → Names r.0.seen.ranges n
-    pub is : (c word : ℕ) → m.0.seat.place ≡ Looked c word
-        → r.0 ≡ record m.0 { seen = r.0.seen; seat = placed m.0.seat (Loaded c word n) }
+    pub is : (c word : ℕ) → m.0.seat.phase ≡ Looked c word
+        → r.0 ≡ record m.0 { seen = r.0.seen; seat = in_phase m.0.seat (Loaded c word n) }
 
   -- Relook
   pub record Relooks (m : Mine S N) (n : ℕ) (r : Mine S N) : Type 0 where
     pub sees : Sees m.0 r.0
-    pub written : (c word value : ℕ) → m.0.seat.place ≡ Loaded c word value → IsVersionOf r.0.seen.history c (n / 2)
+    pub written : (c word value : ℕ) → m.0.seat.phase ≡ Loaded c word value → IsVersionOf r.0.seen.history c (n / 2)
     -- another word than that of the first look is locked, or of a version above the place
-    pub missed : (c word value : ℕ) → m.0.seat.place ≡ Loaded c word value → n ≢ word → n % 2 ≡ 0 → m.0.seat.rv < n / 2
-    pub is : (c word value : ℕ) → m.0.seat.place ≡ Loaded c word value
+    pub missed : (c word value : ℕ) → m.0.seat.phase ≡ Loaded c word value → n ≢ word → n % 2 ≡ 0 → m.0.seat.rv < n / 2
+    pub is : (c word value : ℕ) → m.0.seat.phase ≡ Loaded c word value
         → r.0 ≡ record m.0 { seen = r.0.seen; seat = after_relook m.0.seat c word value n }
 
   -- Take, from the word `word`
@@ -133,19 +133,19 @@ module _ {S N : Type 0} (terms : Terms S N) where
     pub later : length m.0.seen.history ≤ n
     pub few : n ≤ 2 ^ 46
     pub is : (x : N) → note ≡ Some x
-        → r.0 ≡ record m.0 { seen = r.0.seen; seat = placed m.0.seat (Checking n 0); note = Some x; drawn = m.0.drawn ++ suc n ∷ [] }
+        → r.0 ≡ record m.0 { seen = r.0.seen; seat = in_phase m.0.seat (Checking n 0); note = Some x; drawn = m.0.drawn ++ suc n ∷ [] }
 
   -- Check
   pub record Checks (c : ℕ) (m : Mine S N) (n : ℕ) (r : Mine S N) : Type 0 where
     pub sees : Sees m.0 r.0
     pub written : IsVersionOf r.0.seen.history c (n / 2)
-    pub is : (i upto : ℕ) → m.0.seat.place ≡ Checking i upto
+    pub is : (i upto : ℕ) → m.0.seat.phase ≡ Checking i upto
         → r.0 ≡ record m.0 { seen = r.0.seen; seat = after_check m.0.seat i c n }
 
   -- Store: the first one makes the entry Done, and the call is one of the pass
   pub record Stores (c : ℕ) (m r : Mine S N) : Type 0 where
     pub sees : Sees m.0 r.0
-    pub first : (i upto : ℕ) (x : N) → m.0.seat.place ≡ Checking i upto → m.0.note ≡ Some x
+    pub first : (i upto : ℕ) (x : N) → m.0.seat.phase ≡ Checking i upto → m.0.note ≡ Some x
         → IsDone r.0.seen i (work_of m.0.seat x)
         × (r.0 ≡ record m.0 {
           seen = r.0.seen;
@@ -153,12 +153,12 @@ module _ {S N : Type 0} (terms : Terms S N) where
           mine =
               m.0.mine ++ Committed (suc i) (work_of m.0.seat x) ∷ [];
         })
-    pub next : (i : ℕ) → m.0.seat.place ≡ Storing i → r.0 ≡ record m.0 { seen = r.0.seen; seat = after_store m.0.seat i c }
+    pub next : (i : ℕ) → m.0.seat.phase ≡ Storing i → r.0 ≡ record m.0 { seen = r.0.seen; seat = after_store m.0.seat i c }
 
   -- Release: after a failed check the entry is Void
   pub record Releases (c : ℕ) (m r : Mine S N) : Type 0 where
     pub sees : Sees m.0 r.0
-    pub void : (i : ℕ) → m.0.seat.place ≡ Voiding i → (e : WordsEntry) × (slice_get r.0.seen.history i ≡ Some e) × (e.status ≡ Void)
+    pub void : (i : ℕ) → m.0.seat.phase ≡ Voiding i → (e : WordsEntry) × (slice_get r.0.seen.history i ≡ Some e) × (e.status ≡ Void)
     pub is : r.0 ≡ record m.0 { seen = r.0.seen; seat = after_release m.0.seat c }
 
   -- a load of the spare word, where a run that wrote nothing ends

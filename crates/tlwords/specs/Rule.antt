@@ -12,7 +12,7 @@ use Rattle.tlcore.specs.Machine.{World, next, with_seat}
 use Rattle.tlcore.specs.declared.actions.Action.{Action}
 use Rattle.tlcore.specs.Schedules.{start}
 use Rattle.tlcore.specs.declared.cells.Cell.{Cell}
-use Rattle.tlcore.specs.declared.seats.Place.TheVariants.{Looked, Loaded}
+use Rattle.tlcore.specs.declared.seats.Phase.TheVariants.{Looked, Loaded}
 use Rattle.tlcore.specs.Invariant.{Invariant}
 use Rattle.ranges.specs.Ranges.{Range, Has, Names, IsStored, AreOfOneStore}
 use Rattle.tlwords.specs.declared.rule.Opening.{Opening}
@@ -35,7 +35,7 @@ IsFresh h rv c word = (word ≡ 2 * version_after (deed h c) rv) × NoneWill (de
 -- the same of the seat's look, until its second look
 abbrev pub LookIsFresh : List WordsEntry → Seat → Type 0
 LookIsFresh h t =
-    (c word value : ℕ) → (t.place ≡ Looked c word) ⊎ (t.place ≡ Loaded c word value) → IsFresh h t.rv c word
+    (c word value : ℕ) → (t.phase ≡ Looked c word) ⊎ (t.phase ≡ Loaded c word value) → IsFresh h t.rv c word
 
 -- each entry, an Open one too, is lawful and writes something
 abbrev pub EntriesAre : {S N : Type 0} → Terms S N → S → Seen N → Type 0
@@ -51,7 +51,7 @@ pub data Reached (base : List ℕ) : World → Type 0 where
   at_opening : (seats : ℕ) → Reached base (start base seats)
   by_step : {w v : World} (s : ℕ) (a : Action) → Reached base w → next w s a ≡ Some v → Reached base v
   by_joining : {w : World} → Reached base w → Reached base (record w { seats = w.seats ++ idle ∷ [] })
-  by_leaving : {w : World} (s : ℕ) (t : Seat) → Reached base w → slice_get w.seats s ≡ Some t → is_resting t.place ≡ true
+  by_leaving : {w : World} (s : ℕ) (t : Seat) → Reached base w → slice_get w.seats s ≡ Some t → is_resting t.phase ≡ true
       → Reached base (with_seat w s idle)
 
 -- ---- the store
@@ -63,7 +63,7 @@ pub record Start : Type 0 where
 
 -- a seat's range lies in the store, behind the opening's words, which are so many, and below the tail; its first words are stored, but not
 -- all
-pub record IsTaken (opened room tail : ℕ) (store : List ℕ) (s : Staging) : Type 0 where
+pub record IsBeingFilled (opened room tail : ℕ) (store : List ℕ) (s : Staging) : Type 0 where
   pub behind : opened ≤ s.start
   pub inside : s.start + length s.words ≤ room
   pub below : s.start + length s.words ≤ tail
@@ -113,8 +113,8 @@ module _ {S N : Type 0} where
     pub room_is : (x : S) → v.setting ≡ Some x → v.room ≡ room
     pub told : IsTold setting base now owner v.told
     pub mine : Agree terms setting base now v.mine
-    pub settled : (i : ℕ) → Has (suc i) v.drawn → (number_at v.seat.place ≡ Some i) ⊎ IsSettled now.history i
-    pub noted : (i : ℕ) → number_at v.seat.place ≡ Some i → (n : N) × (v.note ≡ Some n) × (slice_get now.notes i ≡ Some n)
+    pub settled : (i : ℕ) → Has (suc i) v.drawn → (number_at v.seat.phase ≡ Some i) ⊎ IsSettled now.history i
+    pub noted : (i : ℕ) → number_at v.seat.phase ≡ Some i → (n : N) × (v.note ≡ Some n) × (slice_get now.notes i ≡ Some n)
     pub look : LookIsFresh now.history v.seat
     -- 2^40 numbers for each part of the right to draw; a seat that has none holds no cell
     pub few : length v.drawn ≤ 2 ^ 40 * v.rights
@@ -169,7 +169,7 @@ module _ {S N : Type 0} where
     pub tail_is : IsTail (length opened) room tail views
     pub finished : (r : Range) → Has r ranges → IsStored tail store r
     pub taken : (j : ℕ) (v : View S N) (s : Staging) → get_elem? views j ≡ some v → v.staging ≡ Some s
-        → IsTaken (length opened) room tail store s
+        → IsBeingFilled (length opened) room tail store s
     pub apart : (j : ℕ) (v : View S N) (s : Staging) (r : Range) → get_elem? views j ≡ some v → v.staging ≡ Some s → Has r ranges
         → IsApart s r
     pub alone : (j k : ℕ) (u v : View S N) (s t : Staging) → j ≢ k → get_elem? views j ≡ some u → get_elem? views k ≡ some v

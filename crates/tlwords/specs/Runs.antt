@@ -10,7 +10,7 @@ use Rattle.tlwords.specs.declared.log.Slot.{Slot}
 use Rattle.tlwords.specs.declared.mode.Mode.{Mode}
 use Rattle.tlwords.specs.declared.mode.Mode.TheVariants.{Reading, Writing}
 use Rattle.tlwords.specs.declared.words.Words.{Words}
-use Rattle.ranges.specs.declared.range.Range.{Range as Place}
+use Rattle.ranges.specs.declared.range.Range.{Range as Span}
 use Rattle.ranges.specs.Ranges.{Range, Has, AreOfOneStore}
 use Rattle.tlwords.specs.Terms.{Terms}
 use Rattle.tlwords.specs.Views.{View, fresh}
@@ -72,12 +72,12 @@ module _ {S N : Type 0} where
 
   abbrev pub IsPassOf : Mine S N → ℕ → Type 0
   IsPassOf m count =
-      (is_some m.0.setting ≡ true) × (is_resting m.0.seat.place ≡ true) × (m.0.rights ≡ 1) × (length m.0.drawn ≡ count) × (count ≤ 2 ^ 40)
+      (is_some m.0.setting ≡ true) × (is_resting m.0.seat.phase ≡ true) × (m.0.rights ≡ 1) × (length m.0.drawn ≡ count) × (count ≤ 2 ^ 40)
 
   -- o is true where the run met a conflict
   abbrev pub IsRunOf : Mine S N → ℕ → ℕ → Bool → Type 0
   IsRunOf m count place o =
-      (is_some m.0.setting ≡ true) × ((if o then is_resting m.0.seat.place else is_reading m.0.seat.place) ≡ true) × (m.0.rights ≡ 1)
+      (is_some m.0.setting ≡ true) × ((if o then is_resting m.0.seat.phase else is_reading m.0.seat.phase) ≡ true) × (m.0.rights ≡ 1)
       × (length m.0.drawn ≡ count) × (count ≤ 2 ^ 40) × (m.0.seat.rv ≡ place) × (is_nil m.0.seat.held ≡ true)
 
   -- the opening's passes
@@ -137,7 +137,7 @@ module _ {S N : Type 0} (terms : Terms S N) where
     pub is : r.0 ≡ record m.0 { seen = r.0.seen; staging = None }
 
   -- the first so many words of a range were fetched, one after another, and stand behind others
-  pub record Fetched (range : Place) (count : ℕ) (m r : Mine S N) (before after : List ℕ) : Type 0 where
+  pub record Fetched (range : Span) (count : ℕ) (m r : Mine S N) (before after : List ℕ) : Type 0 where
     pub moves : (r ≡ m) ⊎ Sees terms m.0 r.0
     pub is : r.0 ≡ record m.0 { seen = r.0.seen }
     pub words : (words : List ℕ) → Has (record { start = range.start; words = words }) m.0.seen.ranges → length words ≡ range.len

@@ -105,7 +105,7 @@ module _ {S N : Type 0} where
     pub opening : (x : S) → v.setting ≡ Some x → Opened terms x v.seen.ranges v.base
     pub ranges : (x : S) → v.setting ≡ Some x → AreOfOneStore v.room v.seen.ranges
     -- each number that was drawn is that of the run, or its entry is Done or Void
-    pub settled : (i : ℕ) → Has (suc i) v.drawn → (number_at v.seat.place ≡ Some i) ⊎ IsSettled v.seen.history i
+    pub settled : (i : ℕ) → Has (suc i) v.drawn → (number_at v.seat.phase ≡ Some i) ⊎ IsSettled v.seen.history i
 
 -- a seat that is given up, and knows what it tells at most
 abbrev pub nobody : {S N : Type 0} → View S N

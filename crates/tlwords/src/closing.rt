@@ -15,7 +15,7 @@ use crate::law::Law;
 use crate::layout::{CLOCK, FIRST_LOCK, FIRST_VALUE, STORE, TAIL};
 use crate::passes::Pass;
 use crate::plays::GiveUp;
-use crate::rule::{Board, Place};
+use crate::rule::{Board, TableSeat};
 use crate::words::Words;
 use atomic_table::Closed;
 use std::alloc::{AllocError, Global};
@@ -110,7 +110,7 @@ fn end<L: Law>(words: Words<L>, passes: Vec<Pass<L>>) -> Closed<(), Global>
 }
 
 // Gives all these passes up to the one of this seat, the last of them first.
-fn give_up_all<L: Law>(table: &Board<L>, seat: &mut Place<L>, passes: &mut Vec<Pass<L>>)
+fn give_up_all<L: Law>(table: &Board<L>, seat: &mut TableSeat<L>, passes: &mut Vec<Pass<L>>)
     requires seat { (seat.old.table_id ≡ table.now.shared.table_id) × (0 < table.now.shared.table_id.words) }
     requires passes { All (λ p. p.home.table ≡ table.now.shared.table_id) passes.old.items }
     ensures seat { IsSameSeat seat.old seat.new }

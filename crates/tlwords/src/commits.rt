@@ -3,7 +3,7 @@
 
 ghost use Rattle.std.specs.Prelude.{◌≡◌, ◌≢◌, ℕ, ◌^◌, ◌<◌, ◌≤◌, ◌||◌, Some, None, [], length, true, false, IfOk, IfErr};
 ghost use Rattle.tlcore.specs.Seats.{is_next, all_settled};
-ghost use Rattle.tlcore.specs.declared.seats.Place.TheVariants.{Reading as AtReading, Taking, Checking};
+ghost use Rattle.tlcore.specs.declared.seats.Phase.TheVariants.{Reading as AtReading, Taking, Checking};
 ghost use Rattle.tlwords.specs.Plays.{IsSameSeat};
 ghost use Rattle.tlwords.specs.Runs.{IsKeptOf, noted, IsRunOf, IsSeated};
 ghost use Rattle.tlwords.specs.declared.mode.Mode.TheVariants.{Reading, Writing};
@@ -18,15 +18,15 @@ use crate::law::Law;
 use crate::log::{Log, Touched};
 use crate::mode::Mode;
 use crate::outcome::{Conflict, Outcome};
-use crate::rule::Place;
+use crate::rule::TableSeat;
 use crate::steps::{check, draw, passes, recall, release, store, take};
 use crate::words::Words;
 use std::marker::Brand;
 
 // Locks the cells to be written, in ascending order. An error is the try that failed; the smaller cells are locked still.
-fn take_all<L: Law>(words: &Words<L>, seat: &mut Place<L>, log: &Log) -> Result<(), Conflict>
+fn take_all<L: Law>(words: &Words<L>, seat: &mut TableSeat<L>, log: &Log) -> Result<(), Conflict>
     requires planned { IsPlanned words.now seat.old log.now }
-    requires run { (seat.old.me.0.seat.place ≡ AtReading) × (seat.old.me.0.seat.held ≡ []) × (1 ≤ seat.old.me.0.rights) }
+    requires run { (seat.old.me.0.seat.phase ≡ AtReading) × (seat.old.me.0.seat.held ≡ []) × (1 ≤ seat.old.me.0.rights) }
     ensures seat { IsSameSeat seat.old seat.new }
     ensures ok { IfOk result (λ _. Goes L.terms seat.old.me (locking seat.old.me.0.seat Taking AtReading
         (held_in log.now.slots 0 0 (length log.now.slots))) seat.new.me) }
@@ -50,13 +50,13 @@ fn take_all<L: Law>(words: &Words<L>, seat: &mut Place<L>, log: &Log) -> Result<
 // number is the next one after its place.
 fn check_all<L: Law>(
     words: &Words<L>,
-    seat: &mut Place<L>,
+    seat: &mut TableSeat<L>,
     log: &mut Log,
     place: u64,
     index: u64,
 ) -> Result<(), Conflict>
     requires planned { IsPlanned words.now seat.old log.old }
-    requires run { (seat.old.me.0.seat.place ≡ Checking index 0) × (seat.old.me.0.seat.rv ≡ place)
+    requires run { (seat.old.me.0.seat.phase ≡ Checking index 0) × (seat.old.me.0.seat.rv ≡ place)
         × (seat.old.me.0.seat.held ≡ held_in log.old.slots 0 0 (length log.old.slots)) }
     ensures log { (log.new.slots ≡ log.old.slots) × (log.new.writes ≡ log.old.writes) }
     ensures seat { IsSameSeat seat.old seat.new }
@@ -82,9 +82,9 @@ fn check_all<L: Law>(
 }
 
 // Stores the values, in ascending order of their cells.
-fn store_all<L: Law>(words: &Words<L>, seat: &mut Place<L>, log: &Log, index: u64, note: &L::Note)
+fn store_all<L: Law>(words: &Words<L>, seat: &mut TableSeat<L>, log: &Log, index: u64, note: &L::Note)
     requires planned { IsPlanned words.now seat.old log.now }
-    requires run { (upto : ℕ) × (seat.old.me.0.seat.place ≡ Checking index upto)
+    requires run { (upto : ℕ) × (seat.old.me.0.seat.phase ≡ Checking index upto)
         × ((is_next seat.old.me.0.seat index || all_settled seat.old.me.0.seat.held upto seat.old.me.0.seat.reads) ≡ true) }
     requires held { (seat.old.me.0.seat.held ≡ held_in log.now.slots 0 0 (length log.now.slots)) × (seat.old.me.0.note ≡ Some note.now) }
     requires writes { writes_kept log.now.slots ≢ [] }
@@ -101,7 +101,7 @@ fn store_all<L: Law>(words: &Words<L>, seat: &mut Place<L>, log: &Log, index: u6
 // Sets the lock words of the cells below `high` that are held, in ascending order: each to its former value, or to the new one.
 fn release_all<L: Law>(
     words: &Words<L>,
-    seat: &mut Place<L>,
+    seat: &mut TableSeat<L>,
     log: &Log,
     high: usize,
     new: Option<u64>,
@@ -127,7 +127,7 @@ const MOST_NUMBERS: u64 = 1 << 40;
 // Ends a run that is to write something, of a pass that may draw a number: locks, draws, checks, stores and gives the locks back.
 fn settle<L: Law>(
     words: &Words<L>,
-    seat: &mut Place<L>,
+    seat: &mut TableSeat<L>,
     log: &mut Log,
     count: &mut u64,
     place: u64,
@@ -166,7 +166,7 @@ fn settle<L: Law>(
 // Ends a run in Writing mode that hasn't met a conflict, and makes what it wrote an entry of the history.
 fn finish<L: Law>(
     words: &Words<L>,
-    seat: &mut Place<L>,
+    seat: &mut TableSeat<L>,
     log: &mut Log,
     count: &mut u64,
     place: u64,
@@ -194,7 +194,7 @@ fn finish<L: Law>(
 /// Ends a run that hasn't met a conflict. The count is that of the numbers drawn.
 pub(crate) fn conclude<L: Law>(
     words: &Words<L>,
-    seat: &mut Place<L>,
+    seat: &mut TableSeat<L>,
     log: &mut Log,
     count: &mut u64,
     place: u64,

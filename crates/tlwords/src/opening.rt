@@ -17,7 +17,7 @@ use crate::layout::{HEAD, STORE, UNUSED};
 use crate::log::Log;
 use crate::passes::Pass;
 use crate::plays::Deal;
-use crate::rule::{Opening, Place};
+use crate::rule::{Opening, TableSeat};
 use crate::words::Words;
 use atomic_table::Table;
 use std::alloc::{AllocError, Global};
@@ -224,7 +224,7 @@ fn cell_words(alloc: Global, values: &[u64], capacity: usize) -> Result<Vec<u64>
 fn deal_all<L: Law>(
     alloc: Global,
     words: &Words<L>,
-    seat: &mut Place<L>,
+    seat: &mut TableSeat<L>,
     setting: &L::Setting,
     values: &[u64],
     store: &[u64],

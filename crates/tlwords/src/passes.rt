@@ -7,13 +7,13 @@ ghost use Rattle.tlwords.specs.Runs.{Rests};
 
 use crate::law::Law;
 use crate::log::Log;
-use crate::rule::Place;
+use crate::rule::TableSeat;
 use std::marker::Model;
 
 /// What a session runs its transactions with, one after another. Contracts see what it knows: what it has seen, its calls, and the numbers
 /// that it drew.
 pub struct Pass<L: Law> {
-    pub(crate) seat: Place<L>,
+    pub(crate) seat: TableSeat<L>,
     pub(crate) log: Log,
     pub(crate) count: u64,
     pub(crate) full: bool,
@@ -42,7 +42,7 @@ impl<L: Law> Drop for Pass<L> {
 }
 
 impl<L: Law> Pass<L> {
-    pub(crate) fn into_parts(self) -> (Place<L>, Log, u64, bool)
+    pub(crate) fn into_parts(self) -> (TableSeat<L>, Log, u64, bool)
         ensures known { known_of result.0.table_id result.0.me.0 ≡ self }
         ensures rests { Rests result.0 result.1.slots result.2 result.3 }
     {

@@ -64,4 +64,4 @@ pub(crate) type Board<L> = Table<
 >;
 
 /// A seat at the table.
-pub(crate) type Place<L> = Seat<(), View<<L as Law>::Setting, <L as Law>::Note>>;
+pub(crate) type TableSeat<L> = Seat<(), View<<L as Law>::Setting, <L as Law>::Note>>;

@@ -16,7 +16,7 @@ use crate::log::{Log, Slot};
 use crate::mode::Mode;
 use crate::outcome::{Conflict, Outcome};
 use crate::passes::Pass;
-use crate::rule::Place;
+use crate::rule::TableSeat;
 use crate::steps::{self, load, look, passes, relook};
 use crate::words::Words;
 use std::marker::Model;
@@ -24,7 +24,7 @@ use std::marker::Model;
 /// A transaction as it goes. Contracts see what its pass knows, its place, what it has read and what it keeps of the cells.
 pub struct Run<'w, L: Law> {
     pub(crate) words: &'w Words<L>,
-    pub(crate) seat: Place<L>,
+    pub(crate) seat: TableSeat<L>,
     pub(crate) log: Log,
     pub(crate) count: u64,
     pub(crate) place: u64,

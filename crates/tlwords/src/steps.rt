@@ -8,7 +8,7 @@ ghost use Rattle.tlcore.specs.History.{wv};
 ghost use Rattle.tlwords.specs.Terms.{Permits};
 ghost use Rattle.tlcore.specs.declared.seats.Read.{Read};
 ghost use Rattle.tlcore.specs.declared.seats.Held.{Held};
-ghost use Rattle.tlcore.specs.declared.seats.Place.TheVariants.{Idle, Reading, Looked, Loaded, Taking, Checking, Storing, Failing, Voiding};
+ghost use Rattle.tlcore.specs.declared.seats.Phase.TheVariants.{Idle, Reading, Looked, Loaded, Taking, Checking, Storing, Failing, Voiding};
 ghost use Rattle.tlwords.specs.Runs.{HasCause, IsSeated};
 ghost use Rattle.tlwords.specs.Plays.{IsSameSeat, GivesBack, MayStore, Sampled, Looks, Loads, Relooks, Takes, Draws, Checks, Stores};
 ghost use Rattle.tlwords.specs.Plays.{Releases, Recalls, Refreshes, told_by, witness};
@@ -18,7 +18,7 @@ use crate::layout::{CLOCK, FIRST_LOCK, FIRST_VALUE, SPARE};
 use crate::plays::{
     Begin, Check, Draw, Load, Look, Recall, Refresh, Release, Relook, Said, Store, Take, Tell,
 };
-use crate::rule::Place;
+use crate::rule::TableSeat;
 use crate::words::Words;
 
 /// Whether a run at this place goes on after a look that found this lock word: it is free, and of no version above the place.
@@ -30,9 +30,9 @@ pub(crate) fn passes(word: u64, place: u64) -> bool
 }
 
 /// Samples the clock as the place of a new run.
-pub(crate) fn begin<L: Law>(words: &Words<L>, seat: &mut Place<L>) -> u64
+pub(crate) fn begin<L: Law>(words: &Words<L>, seat: &mut TableSeat<L>) -> u64
     requires table { seat.old.table_id ≡ words.now.table.shared.table_id }
-    requires place { (seat.old.me.0.seat.place ≡ Idle) ⊎ (seat.old.me.0.seat.place ≡ Reading) }
+    requires phase { (seat.old.me.0.seat.phase ≡ Idle) ⊎ (seat.old.me.0.seat.phase ≡ Reading) }
     ensures seat { IsSameSeat seat.old seat.new }
     ensures told { Sampled L.terms seat.old.me result seat.new.me }
 {
@@ -42,10 +42,10 @@ pub(crate) fn begin<L: Law>(words: &Words<L>, seat: &mut Place<L>) -> u64
 }
 
 /// First look at the cell's lock word.
-pub(crate) fn look<L: Law>(words: &Words<L>, seat: &mut Place<L>, cell: usize) -> u64
+pub(crate) fn look<L: Law>(words: &Words<L>, seat: &mut TableSeat<L>, cell: usize) -> u64
     requires seated { IsSeated words.now seat.old }
     requires cell { cell < words.now.cells }
-    requires place { seat.old.me.0.seat.place ≡ Reading }
+    requires phase { seat.old.me.0.seat.phase ≡ Reading }
     ensures seat { IsSameSeat seat.old seat.new }
     ensures told { Looks L.terms cell seat.old.me result seat.new.me }
 {
@@ -54,10 +54,10 @@ pub(crate) fn look<L: Law>(words: &Words<L>, seat: &mut Place<L>, cell: usize) -
 }
 
 /// Load of the cell's value word, after a look that found this lock word.
-pub(crate) fn load<L: Law>(words: &Words<L>, seat: &mut Place<L>, cell: usize, word: u64) -> u64
+pub(crate) fn load<L: Law>(words: &Words<L>, seat: &mut TableSeat<L>, cell: usize, word: u64) -> u64
     requires seated { IsSeated words.now seat.old }
     requires cell { cell < words.now.cells }
-    requires place { seat.old.me.0.seat.place ≡ Looked cell word }
+    requires phase { seat.old.me.0.seat.phase ≡ Looked cell word }
     ensures seat { IsSameSeat seat.old seat.new }
     ensures told { Loads L.terms seat.old.me result seat.new.me }
 {
@@ -68,14 +68,14 @@ pub(crate) fn load<L: Law>(words: &Words<L>, seat: &mut Place<L>, cell: usize, w
 /// Second look at the cell's lock word, after the load of this value.
 pub(crate) fn relook<L: Law>(
     words: &Words<L>,
-    seat: &mut Place<L>,
+    seat: &mut TableSeat<L>,
     cell: usize,
     word: u64,
     value: u64,
 ) -> u64
     requires seated { IsSeated words.now seat.old }
     requires cell { cell < words.now.cells }
-    requires place { seat.old.me.0.seat.place ≡ Loaded cell word value }
+    requires phase { seat.old.me.0.seat.phase ≡ Loaded cell word value }
     ensures seat { IsSameSeat seat.old seat.new }
     ensures told { Relooks L.terms seat.old.me result seat.new.me }
 {
@@ -87,7 +87,7 @@ pub(crate) fn relook<L: Law>(
 /// One try to lock the cell, from the word that its read has seen. The value is the one to be stored.
 pub(crate) fn take<L: Law, G: Said<L::Note>>(
     words: &Words<L>,
-    seat: &mut Place<L>,
+    seat: &mut TableSeat<L>,
     cell: usize,
     word: u64,
     value: u64,
@@ -95,7 +95,7 @@ pub(crate) fn take<L: Law, G: Said<L::Note>>(
     requires seated { IsSeated words.now seat.old }
     requires cell { cell < words.now.cells }
     requires said { G.value ≡ value }
-    requires place { (seat.old.me.0.seat.place ≡ Reading) ⊎ ((seat.old.me.0.seat.place ≡ Taking)
+    requires phase { (seat.old.me.0.seat.phase ≡ Reading) ⊎ ((seat.old.me.0.seat.phase ≡ Taking)
         × (all_below cell seat.old.me.0.seat.held ≡ true)) }
     requires read { (d : Read) × (find_read cell seat.old.me.0.seat.reads ≡ Some d) × (d.word ≡ word) }
     requires room { (word + 1 < 2 ^ 64) × (1 ≤ seat.old.me.0.rights) }
@@ -110,14 +110,14 @@ pub(crate) fn take<L: Law, G: Said<L::Note>>(
 /// Advances the clock. The run's number is one more than the result.
 pub(crate) fn draw<L: Law, G: Said<L::Note>>(
     words: &Words<L>,
-    seat: &mut Place<L>,
+    seat: &mut TableSeat<L>,
     note: &L::Note,
 ) -> u64
     requires seated { IsSeated words.now seat.old }
     requires lawful { (y : L.Setting) → seat.old.me.0.setting ≡ Some y
         → Permits L.terms y seat.old.me.0.seen.ranges (reads_of seat.old.me.0.seat.reads) (writes_of seat.old.me.0.seat.held) note.now }
     requires said { G.note ≡ Some note.now }
-    requires place { seat.old.me.0.seat.place ≡ Taking }
+    requires phase { seat.old.me.0.seat.phase ≡ Taking }
     requires writes { writes_of seat.old.me.0.seat.held ≢ [] }
     requires room { length seat.old.me.0.drawn + 1 ≤ 2 ^ 40 * seat.old.me.0.rights }
     ensures seat { IsSameSeat seat.old seat.new }
@@ -129,10 +129,10 @@ pub(crate) fn draw<L: Law, G: Said<L::Note>>(
 }
 
 /// Look at the lock word of a cell that was read and isn't held, after the draw.
-pub(crate) fn check<L: Law>(words: &Words<L>, seat: &mut Place<L>, cell: usize) -> u64
+pub(crate) fn check<L: Law>(words: &Words<L>, seat: &mut TableSeat<L>, cell: usize) -> u64
     requires seated { IsSeated words.now seat.old }
     requires cell { cell < words.now.cells }
-    requires place { (i : ℕ) × (upto : ℕ) × (seat.old.me.0.seat.place ≡ Checking i upto) × (is_next seat.old.me.0.seat i ≡ false)
+    requires phase { (i : ℕ) × (upto : ℕ) × (seat.old.me.0.seat.phase ≡ Checking i upto) × (is_next seat.old.me.0.seat i ≡ false)
         × (is_due seat.old.me.0.seat upto cell ≡ true) }
     requires read { (d : Read) × (find_read cell seat.old.me.0.seat.reads ≡ Some d) }
     ensures seat { IsSameSeat seat.old seat.new }
@@ -144,10 +144,10 @@ pub(crate) fn check<L: Law>(words: &Words<L>, seat: &mut Place<L>, cell: usize) 
 }
 
 /// Store of the value of a cell that the run holds.
-pub(crate) fn store<L: Law>(words: &Words<L>, seat: &mut Place<L>, cell: usize, value: u64)
+pub(crate) fn store<L: Law>(words: &Words<L>, seat: &mut TableSeat<L>, cell: usize, value: u64)
     requires seated { IsSeated words.now seat.old }
     requires cell { cell < words.now.cells }
-    requires place { (i : ℕ) × MayStore seat.old.me.0.seat i }
+    requires phase { (i : ℕ) × MayStore seat.old.me.0.seat i }
     requires held { (k : Held) × (find_held cell seat.old.me.0.seat.held ≡ Some k) × (k.value ≡ value) }
     ensures seat { IsSameSeat seat.old seat.new }
     ensures told { Stores L.terms cell seat.old.me seat.new.me }
@@ -157,7 +157,7 @@ pub(crate) fn store<L: Law>(words: &Words<L>, seat: &mut Place<L>, cell: usize, 
 }
 
 /// Store of the lock word of a cell that the run holds.
-pub(crate) fn release<L: Law>(words: &Words<L>, seat: &mut Place<L>, cell: usize, word: u64)
+pub(crate) fn release<L: Law>(words: &Words<L>, seat: &mut TableSeat<L>, cell: usize, word: u64)
     requires seated { IsSeated words.now seat.old }
     requires cell { cell < words.now.cells }
     requires held { (k : Held) × (find_held cell seat.old.me.0.seat.held ≡ Some k) × GivesBack seat.old.me.0.seat k word }
@@ -172,7 +172,7 @@ pub(crate) fn release<L: Law>(words: &Words<L>, seat: &mut Place<L>, cell: usize
 /// Adds a call that wrote nothing to those of the pass, by a load of the spare word.
 pub(crate) fn recall<L: Law, G: Said<L::Note>>(
     words: &Words<L>,
-    seat: &mut Place<L>,
+    seat: &mut TableSeat<L>,
     note: &L::Note,
 )
     requires seated { IsSeated words.now seat.old }
@@ -188,7 +188,7 @@ pub(crate) fn recall<L: Law, G: Said<L::Note>>(
 }
 
 /// Sees the history so far, by a load of the spare word.
-pub(crate) fn refresh<L: Law>(words: &Words<L>, seat: &mut Place<L>)
+pub(crate) fn refresh<L: Law>(words: &Words<L>, seat: &mut TableSeat<L>)
     requires table { seat.old.table_id ≡ words.now.table.shared.table_id }
     ensures seat { IsSameSeat seat.old seat.new }
     ensures told { Refreshes L.terms seat.old.me seat.new.me }
@@ -198,7 +198,7 @@ pub(crate) fn refresh<L: Law>(words: &Words<L>, seat: &mut Place<L>)
 }
 
 /// Tells one seat what another has seen, by two loads of the spare word. It is to sample the clock next.
-pub(crate) fn tell<L: Law>(words: &Words<L>, seat: &mut Place<L>, other: &mut Place<L>)
+pub(crate) fn tell<L: Law>(words: &Words<L>, seat: &mut TableSeat<L>, other: &mut TableSeat<L>)
     requires table { (seat.old.table_id ≡ words.now.table.shared.table_id) × (other.old.table_id ≡ words.now.table.shared.table_id) }
     ensures seat { IsSameSeat seat.old seat.new × (seat.new.me ≡ (told_by seat.old.me.0 (witness other.old.me.0), seat.old.me.1)) }
     ensures other { IsSameSeat other.old other.new × (other.new.me ≡ other.old.me) }

@@ -10,7 +10,7 @@ ghost use Rattle.tlwords.specs.Runs.{Finishes, Fetched, IsSeated};
 ghost use Rattle.tlwords.specs.Calls.{HasLoaded, HasLoadedSome, HasStaged, IsRefused};
 
 use crate::law::Law;
-use crate::rule::Place;
+use crate::rule::TableSeat;
 use crate::runs::Run;
 use crate::store_steps::{advance, fetch_word, fill};
 use crate::words::Words;
@@ -117,7 +117,7 @@ impl<'w, L: Law> Run<'w, L> {
 }
 
 // Puts the words of a range of the store behind others, for which there is room.
-fn fetch_all<L: Law>(words: &Words<L>, seat: &mut Place<L>, range: Range, fetched: &mut Vec<u64>)
+fn fetch_all<L: Law>(words: &Words<L>, seat: &mut TableSeat<L>, range: Range, fetched: &mut Vec<u64>)
     requires seated { IsSeated words.now seat.old }
     requires room { words.now.room ≡ seat.old.me.0.room }
     requires within { (i : ℕ) → i < range.len → range.start + i < words.now.room }
@@ -132,7 +132,7 @@ fn fetch_all<L: Law>(words: &Words<L>, seat: &mut Place<L>, range: Range, fetche
 }
 
 // Stores the words of the range that the seat has taken, from the first to the last.
-fn fill_all<L: Law>(words: &Words<L>, seat: &mut Place<L>, start: usize, range: &[u64])
+fn fill_all<L: Law>(words: &Words<L>, seat: &mut TableSeat<L>, start: usize, range: &[u64])
     requires seated { IsSeated words.now seat.old }
     requires sizes { (words.now.room ≡ seat.old.me.0.room) × (start + length range.now ≤ words.now.room) }
     requires some_words { range.now ≢ [] }

@@ -9,14 +9,14 @@ ghost use Rattle.tlwords.specs.Runs.{IsSeated};
 use crate::law::Law;
 use crate::layout::{STORE, TAIL};
 use crate::plays::{Advance, Fetch, Fill, Said};
-use crate::rule::Place;
+use crate::rule::TableSeat;
 use crate::words::Words;
 
 /// Advances the tail of the store by the number of these words, or by the room and one where that is less, so that it never wraps. The
 /// result is the tail before.
 pub(crate) fn advance<L: Law, G: Said<L::Note>>(
     words: &Words<L>,
-    seat: &mut Place<L>,
+    seat: &mut TableSeat<L>,
     range: &[u64],
 ) -> u64
     requires seated { IsSeated words.now seat.old }
@@ -34,7 +34,7 @@ pub(crate) fn advance<L: Law, G: Said<L::Note>>(
 }
 
 /// Stores the next word of the range that the seat has taken, at this index of the store.
-pub(crate) fn fill<L: Law>(words: &Words<L>, seat: &mut Place<L>, offset: usize, word: u64)
+pub(crate) fn fill<L: Law>(words: &Words<L>, seat: &mut TableSeat<L>, offset: usize, word: u64)
     requires seated { IsSeated words.now seat.old }
     requires sizes { (words.now.room ≡ seat.old.me.0.room) × (offset < words.now.room) }
     requires staging { (s : Staging) × (seat.old.me.0.staging ≡ Some s) × (offset ≡ s.start + s.done)
@@ -47,7 +47,7 @@ pub(crate) fn fill<L: Law>(words: &Words<L>, seat: &mut Place<L>, offset: usize,
 }
 
 /// Loads the word of the store at this index.
-pub(crate) fn fetch_word<L: Law>(words: &Words<L>, seat: &mut Place<L>, offset: usize) -> u64
+pub(crate) fn fetch_word<L: Law>(words: &Words<L>, seat: &mut TableSeat<L>, offset: usize) -> u64
     requires seated { IsSeated words.now seat.old }
     requires sizes { (words.now.room ≡ seat.old.me.0.room) × (offset < words.now.room) }
     ensures seat { IsSameSeat seat.old seat.new }

@@ -9,7 +9,7 @@ ghost use Rattle.tlwords.specs.Layout.{store_at};
 ghost use Rattle.tlwords.specs.Rule.{IsRuled};
 
 use crate::law::Law;
-use crate::rule::{Board, Place};
+use crate::rule::{Board, TableSeat};
 use crate::view::View;
 use atomic_table::Play;
 
@@ -55,7 +55,7 @@ impl<L: Law> Words<L> {
     /// A load of the word at this index, as a step that tells what `M` says.
     pub(crate) fn load<M: Play<(), View<L::Setting, L::Note>>>(
         &self,
-        seat: &mut Place<L>,
+        seat: &mut TableSeat<L>,
         index: usize,
     ) -> u64
         requires table { seat.old.table_id ≡ self.now.table.shared.table_id }
@@ -71,7 +71,7 @@ impl<L: Law> Words<L> {
     /// A store to the word at this index, as such a step.
     pub(crate) fn store<M: Play<(), View<L::Setting, L::Note>>>(
         &self,
-        seat: &mut Place<L>,
+        seat: &mut TableSeat<L>,
         index: usize,
         new: u64,
     )
@@ -88,7 +88,7 @@ impl<L: Law> Words<L> {
     /// A fetch-and-add to the word at this index, as such a step.
     pub(crate) fn fetch_add<M: Play<(), View<L::Setting, L::Note>>>(
         &self,
-        seat: &mut Place<L>,
+        seat: &mut TableSeat<L>,
         index: usize,
         count: u64,
     ) -> u64
@@ -105,7 +105,7 @@ impl<L: Law> Words<L> {
     /// One try to have `new` in place of `old` in the word at this index, as such a step.
     pub(crate) fn compare_exchange<M: Play<(), View<L::Setting, L::Note>>>(
         &self,
-        seat: &mut Place<L>,
+        seat: &mut TableSeat<L>,
         index: usize,
         old: u64,
         new: u64,

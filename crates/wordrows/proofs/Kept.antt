@@ -6,17 +6,17 @@ use Rattle.std.proofs.lemmas.List.Elements.{All-weaker}
 use Rattle.ranges.specs.Ranges.{Range, Has, Within, Names, AreOfOneStore}
 use Rattle.ranges.specs.Pairs.{Pairs}
 use Rattle.tlwords.specs.declared.log.Slot.{Slot}
-use Rattle.ranges.specs.declared.range.Range.{Range as Place}
+use Rattle.ranges.specs.declared.range.Range.{Range as Span}
 use Rattle.tlwords.specs.Runs.{value_kept}
 use Rattle.tlwords.specs.Commits.{with_write, writes_below, writes_kept}
 use Rattle.wordrows.specs.Seats.{IsThere}
 
 -- ---- ranges that were seen are seen later
 
-there_later : (ranges more : List Range) → Within ranges more → (p : Place) → IsThere ranges p → IsThere more p
+there_later : (ranges more : List Range) → Within ranges more → (p : Span) → IsThere ranges p → IsThere more p
 there_later ranges more within p (words, has, len) = (words, within (record { start = p.start; words = words }) has, len)
 
-pub all_later : (ranges more : List Range) (ps : List Place) → Within ranges more → All (IsThere ranges) ps → All (IsThere more) ps
+pub all_later : (ranges more : List Range) (ps : List Span) → Within ranges more → All (IsThere ranges) ps → All (IsThere more) ps
 all_later ranges more ps within all = All-weaker (IsThere ranges) (IsThere more) (there_later ranges more within) ps all
 
 -- ---- what is written was kept
@@ -42,7 +42,7 @@ written_kept slots c v h = written_below slots (length slots) c v h
 -- ---- a word that names a range
 
 -- the word of a place that is there names a range
-pub place_named : (ranges : List Range) (p : Place) (word : ℕ) → IsThere ranges p → word ≡ p.start * 2 ^ 25 + p.len → Names ranges word
+pub place_named : (ranges : List Range) (p : Span) (word : ℕ) → IsThere ranges p → word ≡ p.start * 2 ^ 25 + p.len → Names ranges word
 place_named ranges p word (words, has, len) is =
     inr (record { start = p.start; words = words }, has, is ∙ ap (λ (n : ℕ). p.start * 2 ^ 25 + n) (sym len))
 
@@ -50,7 +50,7 @@ few_inside : (room start n : ℕ) → room ≤ 2 ^ 24 → ((i : ℕ) → i < n �
 few_inside room start n small inside = let at = inside (2 ^ 24) in grind (arith, at)
 
 -- the place that such a word names is there
-pub named_there : (room name : ℕ) (ranges : List Range) (p : Place) → room ≤ 2 ^ 24 → AreOfOneStore room ranges → Names ranges name
+pub named_there : (room name : ℕ) (ranges : List Range) (p : Span) → room ≤ 2 ^ 24 → AreOfOneStore room ranges → Names ranges name
     → p.start ≡ name / 2 ^ 25 → p.len ≡ name % 2 ^ 25 → p.len ≢ 0 → IsThere ranges p
 named_there room name ranges p small store (inl e) from long some = absurd (some (omega arith))
 named_there room name ranges p small store (inr (r, has, e)) from long some =

@@ -12,7 +12,7 @@ use Rattle.tlwords.specs.declared.mode.Mode.TheVariants.{Reading, Writing}
 use Rattle.tlwords.specs.declared.outcome.Conflict.{Conflict}
 use Rattle.tlwords.specs.declared.outcome.Outcome.{Outcome}
 use Rattle.tlwords.specs.declared.outcome.Outcome.TheVariants.{Committed as EndsDone, Read as EndsRead, Conflict as EndsConflict, NumbersUsed}
-use Rattle.ranges.specs.declared.range.Range.{Range as Place}
+use Rattle.ranges.specs.declared.range.Range.{Range as Span}
 use Rattle.tlwords.specs.declared.words.Words.{Words}
 use Rattle.tlwords.specs.Callers.{home_of}
 use Rattle.tlwords.specs.Terms.{Terms}
@@ -85,10 +85,10 @@ module _ {L : Type 0} (words : Words L Bool ℕ) where
       }
 
   -- the pass knows of one more range
-  pub runs_there : (p : Playing) (ranges : Vec Place Global) (range : Place) → ranges.items ≡ p.ranges.items ++ range ∷ []
+  pub runs_there : (p : Playing) (ranges : Vec Span Global) (range : Span) → ranges.items ≡ p.ranges.items ++ range ∷ []
       → IsThere p.run.known.seen.ranges range → RunsAt words p → RunsAt words (record p { ranges = ranges })
   runs_there p ranges range more is old =
-      let P : Place → Type 0 = IsThere p.run.known.seen.ranges in
+      let P : Span → Type 0 = IsThere p.run.known.seen.ranges in
       record {
         home = old.home;
         mode = old.mode;
@@ -111,7 +111,7 @@ module _ {L : Type 0} (words : Words L Bool ℕ) where
         kept = old.kept;
       }
 
-  pub runs_same_there : (p : Playing) (ranges : Vec Place Global) → ranges.items ≡ p.ranges.items → RunsAt words p
+  pub runs_same_there : (p : Playing) (ranges : Vec Span Global) → ranges.items ≡ p.ranges.items → RunsAt words p
       → RunsAt words (record p { ranges = ranges })
   runs_same_there p ranges same old =
       record {
@@ -270,13 +270,13 @@ module _ {L : Type 0} (words : Words L Bool ℕ) where
       }
 
   -- its pass is at rest again
-  pub rests_later : (p : Playing) (r : Known Bool ℕ) (ranges : Vec Place Global) → r.home ≡ p.run.known.home
+  pub rests_later : (p : Playing) (r : Known Bool ℕ) (ranges : Vec Span Global) → r.home ≡ p.run.known.home
       → Within p.run.known.seen.ranges r.seen.ranges → ranges ≡ p.ranges → RunsAt words p
       → RestsAt words (record { pass = r; ranges = ranges })
   rests_later p r ranges home within same old =
       record {
         opening = home ∙ old.home;
-        there = subst (λ (v : Vec Place Global). All (IsThere r.seen.ranges) v.items) (sym same)
+        there = subst (λ (v : Vec Span Global). All (IsThere r.seen.ranges) v.items) (sym same)
             (all_later p.run.known.seen.ranges r.seen.ranges p.ranges.items within old.there);
       }
 
@@ -284,7 +284,7 @@ module _ {L : Type 0} (words : Words L Bool ℕ) where
 
 module _ {L : Type 0} (words : Words L Bool ℕ) where
   -- a pass at rest knows more, and of the same ranges
-  pub rests_known : (r : Resting) (k : Known Bool ℕ) (ranges : Vec Place Global) → k.home ≡ r.pass.home
+  pub rests_known : (r : Resting) (k : Known Bool ℕ) (ranges : Vec Span Global) → k.home ≡ r.pass.home
       → Within r.pass.seen.ranges k.seen.ranges
       → ranges.items ≡ r.ranges.items → RestsAt words r → RestsAt words (record { pass = k; ranges = ranges })
   rests_known r k ranges home within same old =
@@ -295,7 +295,7 @@ module _ {L : Type 0} (words : Words L Bool ℕ) where
       }
 
   -- it has learnt of another one, and of its ranges
-  pub rests_taught : (r other : Resting) (k : Known Bool ℕ) (ranges : Vec Place Global) → k.home ≡ r.pass.home
+  pub rests_taught : (r other : Resting) (k : Known Bool ℕ) (ranges : Vec Span Global) → k.home ≡ r.pass.home
       → Within r.pass.seen.ranges k.seen.ranges
       → Within other.pass.seen.ranges k.seen.ranges → ranges.items ≡ r.ranges.items ++ other.ranges.items → RestsAt words r
       → RestsAt words other

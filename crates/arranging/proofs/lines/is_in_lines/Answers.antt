@@ -7,10 +7,10 @@ use Rattle.items.proofs.Places.{first_place}
 use Rattle.items.proofs.Reworded.{nothing_left, one_left}
 use Rattle.arranging.specs.LinesInside.{part_in_lines, AreLaidFrom}
 use Rattle.arranging.specs.declared.lines.Part.TheVariants.{Statement, Proof, Letters}
-use Rattle.arranging.specs.declared.lines.Place.{Place}
+use Rattle.arranging.specs.declared.lines.LinePlace.{LinePlace}
 use Rattle.arranging.proofs.lines.is_in_lines.Goals as goal
 
-nothing_laid : (p : Place) → AreLaidFrom p []
+nothing_laid : (p : LinePlace) → AreLaidFrom p []
 nothing_laid p =
     elim p.part as (λ q. IsTrue (part_in_lines p.column q [])) [ Statement ↦ refl | Proof ↦ refl | Letters ↦ refl ]
 

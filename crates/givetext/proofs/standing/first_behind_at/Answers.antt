@@ -20,7 +20,7 @@ pub returns-then-are_in_order : goal.returns-then-are_in_order
 returns-then-are_in_order g c = λ fs x are at.
     let xs : List Assertion = (g.D.Declared.scope c.args.declared.now).assertions in
     let changes = c.args.changes.now in
-    let labels = c.labels_of-label-items.result.now in
+    let labels = c.proof_labels-label-items.result.now in
     let k = c.loop-label.label-index in
     let d : Bor (List ℕ) = record { ref_ptr = (0, 0); now = [] } in
     let w = (get_or labels k d).now in
@@ -34,7 +34,7 @@ returns-then-are_in_order g c = λ fs x are at.
     ap (option_map (λ (p : Bor ProofWords). seen_proof p.now)) (sym c.in_ok-proof.was) ∙ c.proof.ensures
     ∙ ap (option_and_then (λ (a : Assertion). a.proof)) at in
     let mine : own.now ≡ x.label = label_is own c.label.result x _ c.in_ok-label.was c.label.ensures at in (
-      subst (λ o. IsTrue (names w o)) has (subst (λ ws. IsTrue (is_in ws w)) c.labels_of-label-items.ensures among),
+      subst (λ o. IsTrue (names w o)) has (subst (λ ws. IsTrue (is_in ws w)) c.proof_labels-label-items.ensures among),
       subst (λ l. AreInOrder fs l (changed changes w)) (c.label_then-citing.ensures ∙ ap (changed changes) mine)
           (subst (AreInOrder fs c.label_then-citing.result.now) c.label_then.ensures
           (c.are_in_order.ensures fs are c.if-are_in_order.true)),

@@ -2,14 +2,14 @@
 use Rattle.std.proofs.Common.{◌≡◌, ◌∙◌, [], None, true, false, arith, drop, refl, sym, ap}
 use Rattle.mmtext.specs.Text.{tokens_from}
 use Rattle.mmtext.specs.Views.{seen}
-use Rattle.items.specs.declared.indentation.Walk.{Walk}
+use Rattle.items.specs.declared.indentation.StatementPlace.{StatementPlace}
 use Rattle.items.specs.Reading.{IsFirst, end_of}
 use Rattle.items.specs.Walking.{from_part, found_from}
 use Rattle.items.proofs.Places.{first_place}
 use Rattle.items.proofs.Reworded.{nothing_left, something_left, one_left}
 use Rattle.items.proofs.indentation.indentation.Goals as goal
 
-nothing_found : (w : Walk) → found_from w [] ≡ None
+nothing_found : (w : StatementPlace) → found_from w [] ≡ None
 nothing_found w = elim w.in_proof as (λ b. from_part b [] ≡ None) [ true ↦ refl | false ↦ refl ]
 
 pub slice_bounds-take-count : goal.slice_bounds-take-count

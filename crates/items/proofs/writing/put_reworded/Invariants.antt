@@ -1,6 +1,6 @@
 -- What the loop of `put_reworded` keeps.
 use Rattle.std.proofs.Common.{◌≡◌, ◌-◌, ◌≤◌, ◌++◌, None, length}
-use Rattle.items.specs.declared.place.Place.{Place}
+use Rattle.items.specs.declared.place.WordPlace.{WordPlace}
 use Rattle.items.specs.Items.{Item, bytes_of}
 use Rattle.items.specs.Reading.{Stands}
 use Rattle.items.specs.Machine.{rest_then}
@@ -11,7 +11,7 @@ abbrev pub invariant-loop-at : goal.invariant-loop-at
 invariant-loop-at l = record {
   within : l.at ≤ length l.text;
   inside : l.end ≤ length l.text;
-  put : (x : Item) → Stands l.text l.from x l.end → (start : Place) → start.comment ≡ None → start.part ≡ l.fn.part
+  put : (x : Item) → Stands l.text l.from x l.end → (start : WordPlace) → start.comment ≡ None → start.part ≡ l.fn.part
       → (left : Item) × Stands l.text l.at left l.end
       × (l.initial.out.items ++ bytes_of (rest_then l.changes start x) ≡ l.out.items ++ bytes_of (rest_then l.changes l.place left));
 }

@@ -37,8 +37,8 @@ read_given-requires g c =
               sym c.is_unfinished.ensures ∙ c.if-is_unfinished.false,
               λ x at.
                   counted_known s earlier x (whole_at s c.args.place x c.requires.whole at) (map seen words) own is
-                  (none_found earlier x words (map seen c.labels_of.result.now) (option_map seen c.in_ok-word.field-0) c.labels_of.ensures
-                  (c.in_ok-word.ensures x at) (ap (option_map seen) c.in_default-3.is)),
+                  (none_found earlier x words (map seen c.labels_among.result.now) (option_map seen c.in_ok-word.field-0)
+                  c.labels_among.ensures (c.in_ok-word.ensures x at) (ap (option_map seen) c.in_default-3.is)),
             ),
           ),
         ),
@@ -80,6 +80,6 @@ returns-in-Some-4-clause-given g c =
     (λ t told. told
     ∙ told_by_tree m earlier x last own words c.in-Some.first.now c.in-Some.ensures.value
     (sym c.in_ok-proof.ensures ∙ ap (option_map seen_proof) c.in-Some-2.is) (sym c.is_unfinished.ensures ∙ c.if-is_unfinished.false)
-    (none_found earlier x words (map seen c.labels_of.result.now) (option_map seen c.in_ok-word.field-0) c.labels_of.ensures
+    (none_found earlier x words (map seen c.labels_among.result.now) (option_map seen c.in_ok-word.field-0) c.labels_among.ensures
     (c.in_ok-word.ensures x at) (ap (option_map seen) c.in_default-3.is)) (Some tree.tree) tree.denotes)
     (c.given_by_tree.ensures m earlier y last tree))

@@ -1,6 +1,6 @@
 use Rattle.std.proofs.Common.{arith, refl, sym, subst, ◌∙◌, ◌≤◌, ◌+◌, length, false}
-use Rattle.tlcore.specs.Machine.{placed}
-use Rattle.tlcore.specs.declared.seats.Place.TheVariants.{Checking}
+use Rattle.tlcore.specs.Machine.{in_phase}
+use Rattle.tlcore.specs.declared.seats.Phase.TheVariants.{Checking}
 use Rattle.tlwords.specs.Runs.{HasCause}
 use Rattle.tlwords.specs.Walks.{low_of, IsPlan}
 use Rattle.tlwords.specs.Committing.{Goes}
@@ -87,7 +87,7 @@ loop-i-preserved g c =
     c.index-read.ensures in
     let m = c.args.seat.now.me in (
       seat_trans c.args.seat.now c.loop-i.seat c.check-word.new.seat c.loop-i.invariant.0 c.check-word.ensures.seat,
-      subst (λ k. Goes g.L.Law.terms m (placed m.0.seat (Checking c.args.index k)) c.check-word.new.seat.me)
+      subst (λ k. Goes g.L.Law.terms m (in_phase m.0.seat (Checking c.args.index k)) c.check-word.new.seat.me)
           {x = t.cell + 1} {y = low_of ws (c.loop-i.i + 1)}
           (sym (plan_next c.args.log.now.slots false ws p c.loop-i.i _ _ t c.loop-i-test.true c.len-i-end.ensures
           c.plan_checks.new.self.checks.ok.0

@@ -1,7 +1,7 @@
 use Rattle.std.proofs.Common.{arith, refl, sym, subst, ◌≤◌, ◌+◌, length, List, [], true}
 use Rattle.tlcore.specs.Seats.{Seat}
 use Rattle.tlcore.specs.declared.seats.Held.{Held}
-use Rattle.tlcore.specs.declared.seats.Place.TheVariants.{Reading, Taking}
+use Rattle.tlcore.specs.declared.seats.Phase.TheVariants.{Reading, Taking}
 use Rattle.tlwords.specs.Walks.{low_of}
 use Rattle.tlwords.specs.Committing.{held_in, locking, Goes}
 use Rattle.tlwords.proofs.Held.{held_on}
@@ -14,7 +14,7 @@ pub loop-i-init : goal.loop-i-init
 loop-i-init g c = (
   (refl, refl, refl),
   goes_start g.L.Law.terms c.args.seat.now.me (locking c.args.seat.now.me.0.seat Taking Reading [])
-      (λ j. let t : Seat = record c.args.seat.now.me.0.seat { place = sym c.requires.run.0 j; held = sym c.requires.run.1 j } in t),
+      (λ j. let t : Seat = record c.args.seat.now.me.0.seat { phase = sym c.requires.run.0 j; held = sym c.requires.run.1 j } in t),
 )
 
 pub take-found-requires-clause-seated : goal.take-found-requires-clause-seated

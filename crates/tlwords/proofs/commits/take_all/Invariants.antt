@@ -1,5 +1,5 @@
 use Rattle.std.specs.Prelude.{None, []}
-use Rattle.tlcore.specs.declared.seats.Place.TheVariants.{Reading, Taking}
+use Rattle.tlcore.specs.declared.seats.Phase.TheVariants.{Reading, Taking}
 use Rattle.tlwords.specs.Plays.{IsSameSeat}
 use Rattle.tlwords.specs.Committing.{held_in, locking, Goes}
 use Rattle.tlwords.specs.Walks.{low_of}

@@ -44,7 +44,7 @@ invariant_of-pass g c =
     record {
       fits = (
         ap (λ v. is_some v.setting) new,
-        ap (λ v. is_resting v.seat.place) new,
+        ap (λ v. is_resting v.seat.phase) new,
         ap (λ v. v.rights) new,
         ap (λ v. length v.drawn) new,
         omega arith,

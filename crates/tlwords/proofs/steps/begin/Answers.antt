@@ -3,4 +3,4 @@ use Rattle.tlwords.proofs.steps.begin.Goals as goal
 
 pub load-requires-clause-rule : goal.load-requires-clause-rule
 load-requires-clause-rule g c =
-    samples g.L.Law.terms _ _ _ _ _ _ _ c.requires.place
+    samples g.L.Law.terms _ _ _ _ _ _ _ c.requires.phase

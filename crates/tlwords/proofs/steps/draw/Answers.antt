@@ -3,5 +3,5 @@ use Rattle.tlwords.proofs.steps.draw.Goals as goal
 
 pub fetch_add-requires-clause-rule : goal.fetch_add-requires-clause-rule
 fetch_add-requires-clause-rule g c =
-    rw c.requires.said (draws g.L.Law.terms _ _ _ _ _ _ _ _ _ c.requires.seated.setting.1 c.requires.place (c.requires.lawful _
+    rw c.requires.said (draws g.L.Law.terms _ _ _ _ _ _ _ _ _ c.requires.seated.setting.1 c.requires.phase (c.requires.lawful _
     c.requires.seated.setting.1) c.requires.writes c.requires.room)

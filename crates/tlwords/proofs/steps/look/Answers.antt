@@ -6,7 +6,7 @@ use Rattle.tlwords.proofs.steps.look.Goals as goal
 pub load-requires-clause-rule : goal.load-requires-clause-rule
 load-requires-clause-rule g c =
     looks g.L.Law.terms _ _ _ _ _ _ _ _ c.requires.seated.setting.0 c.requires.seated.setting.1 (let a = c.requires.cell in let b =
-    c.requires.seated.cells in omega arith) c.requires.place
+    c.requires.seated.cells in omega arith) c.requires.phase
 
 pub returns-clause-told : goal.returns-clause-told
 returns-clause-told g c =

@@ -1,5 +1,5 @@
 use Rattle.std.proofs.Common.{◌≡◌, ◌+◌, ◌-◌, ◌≤◌, ◌++◌, ℕ, List, length, take, drop, sym, ap, ◌∙◌, arith}
-use Rattle.ranges.specs.declared.range.Range.{Range as Place}
+use Rattle.ranges.specs.declared.range.Range.{Range as Span}
 use Rattle.cells.specs.Sight.{KnowsRange}
 use Rattle.plaincells.specs.PlainViews.{cells_sight}
 use Rattle.plaincells.specs.declared.plain.PlainCells.{PlainCells}
@@ -7,7 +7,7 @@ use Rattle.plaincells.proofs.Stores.{known_words}
 use Rattle.plaincells.proofs.plain.PlainCellsCells.load_all.Goals as goal
 
 -- where a range that is known ends
-ends : (p : PlainCells) (r : Place) (words : List ℕ) → KnowsRange (cells_sight p) r words
+ends : (p : PlainCells) (r : Span) (words : List ℕ) → KnowsRange (cells_sight p) r words
     → (r.start + r.len ≤ length p.store.items) × (r.start + r.len ≤ 16777216)
 ends p r words known =
     let w = known_words p.store.items p.ranges.items r.start r.len words p.lie known.finished known.len in

@@ -1,6 +1,6 @@
 use Rattle.std.proofs.Common.{◌≡◌, ◌≤◌, ℕ, List, [], ◌∷◌, ◌++◌, length, is_ok, true, sym, subst, arith, length-append}
 use Rattle.std.proofs.lemmas.Grind.{common_steps}
-use Rattle.ranges.specs.declared.range.Range.{Range as Place}
+use Rattle.ranges.specs.declared.range.Range.{Range as Span}
 use Rattle.cells.specs.Sight.{Stages}
 use Rattle.cells.proofs.Halting.{looks_full, nothing_full}
 use Rattle.library.specs.Library.{Setting}
@@ -35,7 +35,7 @@ invariant_of-self-2 c =
     let words = c.args.words.now in
     let n : length old ≡ c.len.result = grind (arith, common_steps) in
     let fits : length (old ++ words) ≤ p.room = omega (arith, length-append old words, n, p.stored, c.if-words-self.false) in
-    let either = λ (P : List ℕ → List Place → Type 0) (yes : P (old ++ words) (places ++ behind old words ∷ [])) (no : P old places).
+    let either = λ (P : List ℕ → List Span → Type 0) (yes : P (old ++ words) (places ++ behind old words ∷ [])) (no : P old places).
     staged_or_not P (is_ok c.put_behind.result) old words c.put_behind.new.store.items places c.put_behind.new.ranges.items
     c.put_behind.ensures.store c.put_behind.ensures.ranges yes no in
     record {
