@@ -35,7 +35,11 @@ pub enum Availability {
 /// # Errors
 ///
 /// The run halts. What was kept aside stays.
-pub fn availability_of<C: Cells>(cells: &mut C, own: &[u8], label: &[u8]) -> Result<Availability, Halt>
+pub fn availability_of<C: Cells>(
+    cells: &mut C,
+    own: &[u8],
+    label: &[u8],
+) -> Result<Availability, Halt>
     ensures looks { Looks (C.sight cells.old) (C.sight cells.new) }
     ensures ok { IfOk result (λ standing. TellsAvailability (C.sight cells.new) own.now label.now standing) }
     ensures halts { IfErr result (IsCaused (C.sight cells.new)) }

@@ -7,7 +7,7 @@ ghost use Rattle.claims.specs.Rule.{dealer};
 use crate::claimant::Claimant;
 use crate::numbers::Numbers;
 use crate::plays::Deal;
-use crate::rule::{TableSeat, Sizes};
+use crate::rule::{Sizes, TableSeat};
 use atomic_table::Table;
 use std::alloc::{AllocError, Global};
 

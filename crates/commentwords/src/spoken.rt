@@ -25,7 +25,10 @@ fn label_of<'a>(standing: CommentPlace, token: Token<'a>) -> Option<Token<'a>>
 }
 
 /// The label of which a token speaks, if it does, and where the words stand behind it, if a comment is open there.
-fn take<'a>(comment: Option<CommentPlace>, token: Token<'a>) -> (Option<Token<'a>>, Option<CommentPlace>)
+fn take<'a>(
+    comment: Option<CommentPlace>,
+    token: Token<'a>,
+) -> (Option<Token<'a>>, Option<CommentPlace>)
     requires { token.place + length token.text.now ≤ usize.MAX }
     ensures { TakesToken comment (seen token.entry) result.0 result.1 }
 {

@@ -5,7 +5,7 @@ ghost use Rattle.commentwords.specs.Views.{text_of};
 ghost use Rattle.items.specs.Machine.{TakesWord};
 
 use crate::part::Part;
-use commentwords::{Reading, CommentPlace};
+use commentwords::{CommentPlace, Reading};
 use giving::LabelMap;
 
 /// Before a word of an item.
@@ -66,7 +66,11 @@ impl WordPlace {
     }
 
     /// The next word as it reads then, and the place behind it.
-    pub(crate) fn take<'w>(self, changes: &'w LabelMap<'_>, word: &'w [u8]) -> (Reading<'w>, WordPlace)
+    pub(crate) fn take<'w>(
+        self,
+        changes: &'w LabelMap<'_>,
+        word: &'w [u8],
+    ) -> (Reading<'w>, WordPlace)
         ensures { TakesWord changes.now self word.now (text_of result.0) result.1 }
     {
         match self.comment {

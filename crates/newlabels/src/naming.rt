@@ -6,7 +6,7 @@ ghost use Rattle.cells.specs.Footprints.{ReadsWhere};
 ghost use Rattle.groundwork.specs.Footprints.{IsOfNewLabel};
 ghost use Rattle.newlabels.specs.Naming.{PassesAsNew, TellsNotNew};
 
-use cells::{Cells, CommandError, Availability, availability_of};
+use cells::{Availability, Cells, CommandError, availability_of};
 use library::Reason;
 use mmsyntax::{Prelude, is_lawful_label};
 

@@ -19,7 +19,7 @@ mod refusal;
 mod writing;
 
 pub use axioms::axioms_then;
-pub use citing::{are_uncited, proof_labels, marked};
+pub use citing::{are_uncited, marked, proof_labels};
 pub use following::{Followed, Following, opening_of};
 pub use planning::Planned;
 pub use refusal::Refusal;

@@ -117,7 +117,7 @@ module _ (labels : List Word) (test : Word → Bool) where
   pub again : (ns : List Shared) (es : List ℕ) (k : ℕ)
       → list_any test (flat_map labels_cited (trees_at labels ns es)) ≡ list_any (λ n. test (slice_index_or labels n.named [])) ns
       → list_any test (flat_map labels_cited (trees_at labels ns (es ++ k ∷ [])))
-        ≡ list_any (λ n. test (slice_index_or labels n.named [])) ns
+      ≡ list_any (λ n. test (slice_index_or labels n.named [])) ns
   unfolding labelled names
   again ns es k h =
       ap labelled (filter_map-append (slice_get (trees labels ns)) es (k ∷ []))
@@ -127,7 +127,7 @@ module _ (labels : List Word) (test : Word → Bool) where
   -- a node over entries
   pub over_entries : (ns : List Shared) (front args : List ℕ) (place : ℕ) → AllByRecursion (λ k. k < length ns) front
       → list_any test (flat_map labels_cited (trees_at labels ns (front ++ args)))
-        ≡ list_any (λ n. test (slice_index_or labels n.named [])) ns
+      ≡ list_any (λ n. test (slice_index_or labels n.named [])) ns
       → list_any test (flat_map labels_cited (trees_at labels (ns ++ record { named = place; arguments = args } ∷ []) (front ++ length ns
       ∷ [])))
       ≡ list_any (λ n. test (slice_index_or labels n.named [])) (ns ++ record { named = place; arguments = args } ∷ [])

@@ -82,7 +82,13 @@ fn check_all<L: Law>(
 }
 
 // Stores the values, in ascending order of their cells.
-fn store_all<L: Law>(words: &Words<L>, seat: &mut TableSeat<L>, log: &Log, index: u64, note: &L::Note)
+fn store_all<L: Law>(
+    words: &Words<L>,
+    seat: &mut TableSeat<L>,
+    log: &Log,
+    index: u64,
+    note: &L::Note,
+)
     requires planned { IsPlanned words.now seat.old log.now }
     requires run { (upto : ℕ) × (seat.old.me.0.seat.phase ≡ Checking index upto)
         × ((is_next seat.old.me.0.seat index || all_settled seat.old.me.0.seat.held upto seat.old.me.0.seat.reads) ≡ true) }

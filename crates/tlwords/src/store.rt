@@ -117,7 +117,12 @@ impl<'w, L: Law> Run<'w, L> {
 }
 
 // Puts the words of a range of the store behind others, for which there is room.
-fn fetch_all<L: Law>(words: &Words<L>, seat: &mut TableSeat<L>, range: Range, fetched: &mut Vec<u64>)
+fn fetch_all<L: Law>(
+    words: &Words<L>,
+    seat: &mut TableSeat<L>,
+    range: Range,
+    fetched: &mut Vec<u64>,
+)
     requires seated { IsSeated words.now seat.old }
     requires room { words.now.room ≡ seat.old.me.0.room }
     requires within { (i : ℕ) → i < range.len → range.start + i < words.now.room }

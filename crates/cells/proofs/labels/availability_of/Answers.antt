@@ -141,7 +141,7 @@ returns-then-eq-2-clause-reads g c =
 pub returns-clause-looks : goal.returns-clause-looks
 returns-clause-looks g c =
     looks_trans _ _ _ (looks_trans _ _ _ c.availability_in.ensures.looks c.availability_in-2.ensures.looks)
-      c.availability_in-3.ensures.looks
+    c.availability_in-3.ensures.looks
 
 pub returns-clause-ok : goal.returns-clause-ok
 returns-clause-ok g c =
