@@ -78,7 +78,8 @@ unreachable-requires g c =
     (sym (ap (option_map (λ p. seen_proof p.now)) c.in-Some.is) ∙ c.proof.ensures) in
     let none : denoted (take c.args.place s.assertions) x ≡ None =
     subst (λ (o : Option ProofTree). MatchOption o (denoted (take c.args.place s.assertions) x ≡ None) (IsTree m (take c.args.place
-    s.assertions) x)) c.in-None.is (own_tree m (take c.args.place s.assertions) x own c.in_ok-tree.tree is (c.in_ok-tree.ensures.tree x there.1)) in
+    s.assertions) x)) c.in-None.is
+    (own_tree m (take c.args.place s.assertions) x own c.in_ok-tree.tree is (c.in_ok-tree.ensures.tree x there.1)) in
     tree_there s (take c.args.place s.assertions) x own (whole_at s c.args.place x c.requires.whole there.1) is
     (sym c.is_unfinished.ensures ∙ c.if-is_unfinished.false) none
 
