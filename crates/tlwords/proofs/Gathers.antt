@@ -69,7 +69,7 @@ rested base w s t I at unheld = record {
 }
   where
     idle_ok : SeatOk base w.cells w.history idle
-    idle_ok = record { place = refl; rv = omega arith; reads = tt; held = λ c k e. absurd (cc) }
+    idle_ok = record { phase = refl; rv = omega arith; reads = tt; held = λ c k e. absurd (cc) }
 
 pub rests_unheld : (base : List ℕ) (w : World) (s : ℕ) (t : Seat) → Invariant base w → slice_get w.seats s ≡ Some t
     → is_resting t.phase ≡ true → t.held ≡ []

@@ -37,8 +37,8 @@ check-word-requires-clause-cell g c =
     let p = c.requires.planned.cells in
     omega arith
 
-pub check-word-requires-clause-place : goal.check-word-requires-clause-place
-check-word-requires-clause-place g c =
+pub check-word-requires-clause-phase : goal.check-word-requires-clause-phase
+check-word-requires-clause-phase g c =
     let ws = c.plan_checks.new.self.checks.items in
     let t = c.index-read.result.now in
     let p : IsPlan c.args.log.now.slots false ws = subst (λ x. IsPlan x false ws) c.plan_checks.ensures.same.0 c.plan_checks.ensures.plan in

@@ -105,8 +105,8 @@ draw-index-requires-clause-lawful g c =
     c.requires.writes
     _ c.in_default.ensures.ok c.requires.lawful
 
-pub draw-index-requires-clause-place : goal.draw-index-requires-clause-place
-draw-index-requires-clause-place g c =
+pub draw-index-requires-clause-phase : goal.draw-index-requires-clause-phase
+draw-index-requires-clause-phase g c =
     taken_place g.L.Law.terms c.args.log.now.slots c.args.note.now c.args.seat.now _ c.args.place c.requires.run c.requires.planned.kept
     c.requires.writes
     _ c.in_default.ensures.ok

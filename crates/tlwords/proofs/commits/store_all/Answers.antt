@@ -27,8 +27,8 @@ store-requires-clause-cell g c =
     let p = c.requires.planned.cells in
     omega arith
 
-pub store-requires-clause-place : goal.store-requires-clause-place
-store-requires-clause-place g c =
+pub store-requires-clause-phase : goal.store-requires-clause-phase
+store-requires-clause-phase g c =
     let ws = c.args.log.now.writes.items in
     store_place g.L.Law.terms c.args.log.now.slots c.args.index c.args.note.now c.args.seat.now.me _ c.requires.run.1 c.requires.held.0
     (low_of ws c.loop-i.i) _

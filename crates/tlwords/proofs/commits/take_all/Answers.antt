@@ -32,8 +32,8 @@ take-found-requires-clause-cell g c =
     let p = c.requires.planned.cells in
     omega arith
 
-pub take-found-requires-clause-place : goal.take-found-requires-clause-place
-take-found-requires-clause-place g c =
+pub take-found-requires-clause-phase : goal.take-found-requires-clause-phase
+take-found-requires-clause-phase g c =
     let ws = c.args.log.now.writes.items in
     let t = c.index.result.now in
     let s = plan_at c.args.log.now.slots true ws c.requires.planned.plan c.loop-i.i _ _ t c.loop-i-test.true c.len-i-end.ensures

@@ -11,8 +11,8 @@ use Rattle.tlwords.proofs.runs.begin.Goals as goal
 pub begin-place-requires-clause-table : goal.begin-place-requires-clause-table
 begin-place-requires-clause-table g c = ap (λ k. k.home.table) c.into_parts-seat.ensures.known ∙ ap (λ h. h.table) c.requires.opening
 
-pub begin-place-requires-clause-place : goal.begin-place-requires-clause-place
-begin-place-requires-clause-place g c = resting_at _ c.into_parts-seat.ensures.rests.fits.1
+pub begin-place-requires-clause-phase : goal.begin-place-requires-clause-phase
+begin-place-requires-clause-phase g c = resting_at _ c.into_parts-seat.ensures.rests.fits.1
 
 pub invariant_of-result : goal.invariant_of-result
 invariant_of-result g c =
