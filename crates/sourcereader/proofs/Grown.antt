@@ -61,17 +61,12 @@ theorem_grows p label e t m h = refl
 
 -- ---- rows of proofs that don't end
 
--- behind $= a step stands, and no (
-pub proof_begins : (p : Position) (label : Word) (e ws : List Word) (t : Token) (m : Mark) → ws ≡ [] → bytes_eq t.text (codes "(") ≡ false
-    → proof_row p label e ws t m ≡ next_step p label e ws t
-proof_begins p label e [] t m none h = ap (λ b. cond b (to p (in_labels label e [])) (next_step p label e [] t)) h
-proof_begins p label e (w ∷ ws) t m none h = absurd cc
-
-pub proof_grows : (p : Position) (label : Word) (e ws : List Word) (t : Token) (m : Mark) → (ws ≡ [] → ⊥) → (m ≡ mark.End → ⊥)
-    → proof_row p label e ws t m ≡ next_step p label e ws t
-proof_grows p label e [] t m some h = absurd (some refl)
-proof_grows p label e (w ∷ ws) t mark.End some h = absurd (h refl)
-proof_grows p label e (w ∷ ws) t m some h = refl
+-- a step that isn't the ( behind $=
+pub proof_grows : (p : Position) (label : Word) (e ws : List Word) (t : Token) (m : Mark) → (ws ≡ [] → bytes_eq t.text (codes "(") ≡ false)
+    → (m ≡ mark.End → ws ≡ []) → proof_row p label e ws t m ≡ next_step p label e ws t
+proof_grows p label e [] t m other h = ap (λ b. cond b (to p (in_labels label e [])) (next_step p label e [] t)) (other refl)
+proof_grows p label e (w ∷ ws) t mark.End other h = absurd (let none : w ∷ ws ≡ [] = h refl in cc)
+proof_grows p label e (w ∷ ws) t m other h = refl
 
 pub labels_grow : (p : Position) (label : Word) (e ws : List Word) (t : Token) → bytes_eq t.text (codes ")") ≡ false
     → labels_row p label e ws t ≡ tested t (cited_tests p.stand.scope e t.text) (to p (in_labels label e (ws ++ t.text ∷ [])))

@@ -1,7 +1,8 @@
--- Words without $: where they lead in an expression, which grows where it lies.
+-- Words without $: where they lead in an expression or a proof, which grows where it lies.
 use Rattle.std.proofs.Common.{◌≡◌, true, false, List, [], ◌∷◌, ◌++◌, Option, Some, None, Result, Ok, Err}
 use Rattle.std.proofs.Common.{refl, sym, ap, subst, ◌∙◌, Bool}
-use Rattle.std.specs.Prelude.{OnOk}
+use Rattle.std.specs.Prelude.{OnOk, codes}
+use Rattle.std.specs.Str.{bytes_eq}
 use Rattle.mmtext.specs.declared.fault.FaultKind.{FaultKind}
 use Rattle.mmtext.specs.declared.fault.TextFault.{TextFault}
 use Rattle.mmtext.specs.declared.fault.Stop.{Stop}
@@ -10,16 +11,19 @@ use Rattle.mmtext.specs.declared.mark.Mark.TheVariants as mark
 use Rattle.mmtext.specs.Words.{Word, has_dollar}
 use Rattle.mmtext.specs.Text.{Token}
 use Rattle.mmtext.specs.Takings.{TakesWord}
+use Rattle.mmtext.specs.Views.{Fails}
 use Rattle.mmtext.proofs.Marks.{mark_plain}
 use Rattle.mmsyntax.specs.Rows.{first_fault}
 use Rattle.source.specs.Scopes.{Stand}
-use Rattle.source.specs.Tests.{symbol_tests}
-use Rattle.source.specs.Faults.{Place, in_hypothesis, in_axiom, in_theorem, Position, Next, faulted, tested, in_place, row}
+use Rattle.source.specs.Tests.{symbol_tests, step_tests, cited_tests, letter_tests}
+use Rattle.source.specs.Faults.{Place, in_hypothesis, in_axiom, in_theorem, in_steps, in_labels, in_letters, Position, Next}
+use Rattle.source.specs.Faults.{faulted, tested, in_place, row}
 use Rattle.source.specs.Faults.{source_language}
 use Rattle.sourcereader.specs.declared.place.Place.{Place as CodePlace}
 use Rattle.sourcereader.specs.Standing.{IsCounted, IsReadySource}
 use Rattle.sourcereader.specs.Takings.{one_more, TakesItem}
 use Rattle.sourcereader.specs.Views.{standing_at, seen_at}
+use Rattle.sourcereader.proofs.Grown.{proof_grows, labels_grow, letters_grow}
 use Rattle.sourcereader.proofs.Runs.{StandsAt, OkStands, row_at, row_stands}
 
 -- ---- one more word
@@ -94,6 +98,35 @@ pub theorem_taken : (s : Stand) (label : Word) (t : Token) (old new : List Word)
 theorem_taken s label t old new r h =
     item_taken s (λ e. in_theorem label e) _ t old new r
     (λ d. row_plain (standing_at s (in_theorem label old)) t d ∙ theorem_word s label old t) h
+
+pub steps_taken : (s : Stand) (label : Word) (e : List Word) (t : Token) (old new : List Word) (r : Result Bool Stop)
+    → (old ≡ [] → bytes_eq t.text (codes "(") ≡ false) → TakesItem t (first_fault (step_tests s.scope old t.text)) old new r
+    → TakesWord source_language (standing_at s (in_steps label e old)) t (standing_at s (in_steps label e new)) r
+steps_taken s label e t old new r other h =
+    let here = standing_at s (in_steps label e old) in
+    item_taken s (λ ws. in_steps label e ws) _ t old new r
+    (λ d. row_plain here t d ∙ proof_grows here label e old t mark.Plain other (λ is. absurd (cc))) h
+
+pub labels_taken : (s : Stand) (label : Word) (e : List Word) (t : Token) (old new : List Word) (r : Result Bool Stop)
+    → bytes_eq t.text (codes ")") ≡ false → TakesItem t (first_fault (cited_tests s.scope e t.text)) old new r
+    → TakesWord source_language (standing_at s (in_labels label e old)) t (standing_at s (in_labels label e new)) r
+labels_taken s label e t old new r other h =
+    let here = standing_at s (in_labels label e old) in
+    item_taken s (λ ws. in_labels label e ws) _ t old new r (λ d. row_plain here t d ∙ labels_grow here label e old t other) h
+
+pub letters_taken : (s : Stand) (label : Word) (e ws : List Word) (t : Token) (old new : List Word) (r : Result Bool Stop)
+    → TakesItem t (first_fault (letter_tests s.scope e ws old t.text)) old new r
+    → TakesWord source_language (standing_at s (in_letters label e ws old)) t (standing_at s (in_letters label e ws new)) r
+letters_taken s label e ws t old new r h =
+    let here = standing_at s (in_letters label e ws old) in
+    item_taken s (λ ls. in_letters label e ws ls) _ t old new r
+    (λ d. row_plain here t d ∙ letters_grow here label e ws old t mark.Plain (λ is. absurd (cc))) h
+
+-- a word that can't be put behind others
+pub fails_item : (why : Stop) (t : Token) (o : Option FaultKind) (old new : List Word) → has_dollar t.text ≡ false
+    → Fails why (one_more t old o) → TakesItem t o old new (Err why)
+fails_item stop.Memory t o old new d h = tt
+fails_item (stop.Fault f) t o old new d h = (d, h)
 
 -- what is so of a place is so of that where the word was taken
 pub ready_after : (s : Stand) (marks : List Bool) (p q : CodePlace) (t : Token) (r : Result Bool Stop) → StandsAt (seen_at s p)

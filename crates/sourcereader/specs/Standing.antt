@@ -50,16 +50,17 @@ pub record IsNumbered (s : Scope) (e : List Word) (n : Numbered) : Type 0 where
 
 -- what is marked and counted in the proof of an expression
 abbrev pub IsCountedProof : Scope → List Bool → List Word → ProofPlace → Type 0
-IsCountedProof s marks e (proof.InSteps steps c) = (marks ≡ mandatory_marks s e) × CountsSteps s (seen_words steps.items) c
+IsCountedProof s marks e (proof.InSteps p) = (marks ≡ mandatory_marks s e) × CountsSteps s (seen_words p.steps.items) p.entries
 IsCountedProof s marks e (proof.InLabels n) = (marks ≡ mandatory_marks s e) × IsNumbered s e n
-IsCountedProof s marks e (proof.InLetters n letters c) =
-    (marks ≡ mandatory_marks s e) × IsNumbered s e n × CountsLetters s e (seen_words n.labels.items) (seen_words letters.items) c
+IsCountedProof s marks e (proof.InLetters p) =
+    (marks ≡ mandatory_marks s e) × IsNumbered s e p.numbered
+    × CountsLetters s e (seen_words p.numbered.labels.items) (seen_words p.letters.items) p.entries
 
 -- in an assertion the hypotheses are marked that are mandatory for its symbols so far, and what is counted of a proof is so
 abbrev pub IsCounted : Scope → List Bool → CodePlace → Type 0
 IsCounted s marks (code.InAxiom label e) = marks ≡ mandatory_marks s (seen_words e.items)
 IsCounted s marks (code.InTheorem label e) = marks ≡ mandatory_marks s (seen_words e.items)
-IsCounted s marks (code.InProof x p) = IsCountedProof s marks (seen_words x.expression.items) p
+IsCounted s marks (code.InProof o) = IsCountedProof s marks (seen_words o.theorem.expression.items) o.place
 IsCounted s marks _ = Unit {0}
 
 -- what is so of what a reader of sources keeps

@@ -15,9 +15,9 @@ use Rattle.sourcereader.specs.declared.place.ProofPlace.TheVariants as proof
 
 -- a place of the code in a proof
 abbrev pub seen_proof_place : Word → List Word → ProofPlace → Place
-seen_proof_place label e (proof.InSteps steps entries) = in_steps label e (seen_words steps.items)
+seen_proof_place label e (proof.InSteps p) = in_steps label e (seen_words p.steps.items)
 seen_proof_place label e (proof.InLabels n) = in_labels label e (seen_words n.labels.items)
-seen_proof_place label e (proof.InLetters n letters entries) = in_letters label e (seen_words n.labels.items) (seen_words letters.items)
+seen_proof_place label e (proof.InLetters p) = in_letters label e (seen_words p.numbered.labels.items) (seen_words p.letters.items)
 
 -- a place of the code
 abbrev pub seen_place : CodePlace → Place
@@ -28,11 +28,11 @@ seen_place (code.InVariables some) = in_variables some
 seen_place (code.InDistinct vs) = in_distinct (seen_words vs.items)
 seen_place (code.FloatType label) = float_type label.now
 seen_place (code.FloatVariable label c) = float_variable label.now c.now
-seen_place (code.FloatEnd label c v) = float_end label.now c.now v.now
+seen_place (code.FloatEnd f) = float_end f.label.now f.type_code.now f.variable.now
 seen_place (code.InHypothesis label e) = in_hypothesis label.now (seen_words e.items)
 seen_place (code.InAxiom label e) = in_axiom label.now (seen_words e.items)
 seen_place (code.InTheorem label e) = in_theorem label.now (seen_words e.items)
-seen_place (code.InProof x p) = seen_proof_place x.label.now (seen_words x.expression.items) p
+seen_place (code.InProof o) = seen_proof_place o.theorem.label.now (seen_words o.theorem.expression.items) o.place
 
 -- a place beside what stands there
 abbrev pub standing_at : Stand → Place → Position

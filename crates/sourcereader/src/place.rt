@@ -21,7 +21,7 @@ pub(crate) enum Place<'a> {
     /// Behind the type.
     FloatVariable(&'a [u8], &'a [u8]),
     /// Behind the variable.
-    FloatEnd(&'a [u8], &'a [u8], &'a [u8]),
+    FloatEnd(OpenFloat<'a>),
     /// Behind a label, `$e` and symbols.
     InHypothesis(&'a [u8], Vec<&'a [u8]>),
     /// Behind a label, `$a` and symbols.
@@ -29,7 +29,22 @@ pub(crate) enum Place<'a> {
     /// Behind a label, `$p` and symbols.
     InTheorem(&'a [u8], Vec<&'a [u8]>),
     /// Behind a label, `$p`, symbols and `$=`.
-    InProof(Theorem<'a>, ProofPlace<'a>),
+    InProof(OpenProof<'a>),
+}
+
+/// A `$p` up to a word of its proof.
+#[derive(Drop)]
+pub(crate) struct OpenProof<'a> {
+    pub theorem: Theorem<'a>,
+    pub place: ProofPlace<'a>,
+}
+
+/// A `$f` up to its end.
+#[derive(Clone, Copy)]
+pub(crate) struct OpenFloat<'a> {
+    pub label: &'a [u8],
+    pub type_code: &'a [u8],
+    pub variable: &'a [u8],
 }
 
 /// The label and the symbols of a `$p`.
@@ -42,12 +57,29 @@ pub(crate) struct Theorem<'a> {
 /// What was read of the proof that a token stands in.
 #[derive(Drop)]
 pub(crate) enum ProofPlace<'a> {
-    /// Behind steps, and the entries that they left.
-    InSteps(Vec<&'a [u8]>, Entries),
+    /// Behind steps.
+    InSteps(NormalProof<'a>),
     /// Behind `(` and labels.
     InLabels(Numbered<'a>),
-    /// Behind `)` and words of letters, and the entries that they left.
-    InLetters(Numbered<'a>, Vec<&'a [u8]>, Entries),
+    /// Behind `)` and words of letters.
+    InLetters(CompressedProof<'a>),
+}
+
+/// A normal proof up to a step.
+#[derive(Drop)]
+pub(crate) struct NormalProof<'a> {
+    pub steps: Vec<&'a [u8]>,
+    /// What the steps left.
+    pub entries: Entries,
+}
+
+/// A compressed proof up to a word of letters.
+#[derive(Drop)]
+pub(crate) struct CompressedProof<'a> {
+    pub numbered: Numbered<'a>,
+    pub letters: Vec<&'a [u8]>,
+    /// What the letters left.
+    pub entries: Entries,
 }
 
 /// What the numbers of letters count in front of marked subproofs.

@@ -7,19 +7,17 @@ ghost use Rattle.mmtext.specs.Laws.{IsRead};
 ghost use Rattle.source.specs.Sources.{DeclaresText};
 ghost use Rattle.source.specs.Scopes.{outset};
 ghost use Rattle.source.specs.Faults.{in_place, row, source_language};
-ghost use Rattle.sourcereader.specs.Standing.{HasPassed, IsCounted, IsCountedProof, IsReadySource};
+ghost use Rattle.sourcereader.specs.Standing.{HasPassed, IsCounted, IsReadySource};
 ghost use Rattle.sourcereader.specs.Views.{seen_place, seen_proof_place, seen_at, Leads};
-ghost use Rattle.source.specs.Views.{seen_words};
 ghost use Rattle.sourcereader.specs.declared.place.Place.TheVariants.{AtStart, InProof};
 
 use crate::keeping::{KeepsPlace, SourceReader};
-use crate::place::{Place, ProofPlace, Theorem};
+use crate::place::{OpenProof, Place, ProofPlace};
 use crate::proof_rows::{labels, letters, steps};
 use crate::rows::{
     axiom, constant, distinct, float_end, hypothesis, keyword, start, theorem, type_code,
     typed_variable, variable,
 };
-use crate::words::take_word;
 use mmtext::{Mark, Reader, Stop, TextFault, Token, read};
 use source::Standing;
 use std::alloc::Global;
@@ -31,26 +29,22 @@ pub const MOST_BYTES: usize = 268_435_456;
 fn proof_place_by_mark<'a, S: Standing<'a>>(
     alloc: Global,
     standing: &mut S,
-    theorem: Theorem<'a>,
-    place: ProofPlace<'a>,
+    begun: OpenProof<'a>,
     token: Token<'a>,
     mark: Mark,
 ) -> Result<Place<'a>, Stop>
-    requires stands { HasPassed (S.stand standing.old).scope (seen_place (InProof theorem place)) }
-    requires counted { IsCountedProof (S.stand standing.old).scope (S.marks standing.old) (seen_words theorem.expression.items) place }
-    ensures leads { let here = seen_at (S.stand standing.old) (InProof theorem.entry place.entry) in
+    requires stands { HasPassed (S.stand standing.old).scope (seen_place (InProof begun)) }
+    requires counted { IsCounted (S.stand standing.old).scope (S.marks standing.old) (InProof begun) }
+    ensures leads { let here = seen_at (S.stand standing.old) (InProof begun.entry) in
         Leads (S.stand standing.new) result (in_place here here.place (seen token.entry) mark) }
     ensures counted { IfOk result (λ p. IsCounted (S.stand standing.new).scope (S.marks standing.new) p) }
 {
+    let OpenProof { theorem, place } = begun;
     match place {
-        ProofPlace::InSteps(words, entries) => {
-            steps(alloc, standing, theorem, words, entries, token, mark)
-        }
+        ProofPlace::InSteps(normal) => steps(alloc, standing, theorem, normal, token, mark),
         ProofPlace::InLabels(numbered) => labels(alloc, standing, theorem, numbered, token),
-        ProofPlace::InLetters(numbered, words, entries) => {
-            letters(
-                alloc, standing, theorem, numbered, words, entries, token, mark,
-            )
+        ProofPlace::InLetters(compressed) => {
+            letters(alloc, standing, theorem, compressed, token, mark)
         }
     }
 }
@@ -76,17 +70,13 @@ fn place_by_mark<'a, S: Standing<'a>>(
         Place::InDistinct(variables) => distinct(alloc, standing, variables, token, mark),
         Place::FloatType(label) => type_code(standing, label, token),
         Place::FloatVariable(label, code) => typed_variable(standing, label, code, token),
-        Place::FloatEnd(label, code, word) => {
-            float_end(alloc, standing, label, code, word, token, mark)
-        }
+        Place::FloatEnd(float) => float_end(alloc, standing, float, token, mark),
         Place::InHypothesis(label, words) => {
             hypothesis(alloc, standing, label, words, token, mark)
         }
         Place::InAxiom(label, words) => axiom(alloc, standing, label, words, token, mark),
         Place::InTheorem(label, words) => theorem(alloc, standing, label, words, token, mark),
-        Place::InProof(theorem, place) => {
-            proof_place_by_mark(alloc, standing, theorem, place, token, mark)
-        }
+        Place::InProof(begun) => proof_place_by_mark(alloc, standing, begun, token, mark),
     }
 }
 
@@ -106,7 +96,7 @@ fn next_place<'a, S: Standing<'a>>(
     place_by_mark(alloc, standing, place, token, mark)
 }
 
-impl<'a, S: Standing<'a>, P: KeepsPlace<'a>> Reader<'a> for SourceReader<S, P> {
+impl<'a, S: Standing<'a>, P: KeepsPlace<'a, S>> Reader<'a> for SourceReader<S, P> {
     ghost use Rattle.source.specs.Scopes.{Scope};
     ghost use Rattle.source.specs.Faults.{Position, source_language};
     ghost use Rattle.sourcereader.specs.Standing.{IsReadySource};
@@ -131,10 +121,7 @@ impl<'a, S: Standing<'a>, P: KeepsPlace<'a>> Reader<'a> for SourceReader<S, P> {
     }
 
     fn take_word(&mut self, _alloc: Global, token: Token<'a>) -> Result<bool, Stop> {
-        let mut here = self.place.replace(Place::AtStart);
-        let taken = take_word(&mut self.standing, &mut here, token);
-        drop(self.place.replace(here));
-        taken
+        self.place.take_word(&mut self.standing, token)
     }
 
     fn take(&mut self, alloc: Global, token: Token<'a>, mark: Mark) -> Result<(), Stop> {
@@ -157,7 +144,7 @@ impl<'a, S: Standing<'a>, P: KeepsPlace<'a>> Reader<'a> for SourceReader<S, P> {
 }
 
 /// What stands behind a text, read from a place at its start.
-fn read_from<'a, S: Standing<'a>, P: KeepsPlace<'a>>(
+fn read_from<'a, S: Standing<'a>, P: KeepsPlace<'a, S>>(
     alloc: Global,
     standing: S,
     place: P,

@@ -14,7 +14,7 @@ ghost use Rattle.sourcereader.specs.Standing.{HasPassed, IsCounted};
 ghost use Rattle.sourcereader.specs.Takings.{one_more};
 ghost use Rattle.sourcereader.specs.Views.{standing_at, Leads};
 
-use crate::place::{Place, ProofPlace, Theorem};
+use crate::place::{NormalProof, OpenFloat, OpenProof, Place, ProofPlace, Theorem};
 use mmtext::{FaultKind, Mark, Stop, Token, fault_at, is_label_token};
 use source::{Entries, Standing};
 use std::alloc::Global;
@@ -198,7 +198,14 @@ pub(crate) fn typed_variable<'a, S: Standing<'a>>(
 {
     match standing.float_fault(token.text) {
         Some(kind) => Err(fault_at(token, kind)),
-        None => Ok(Place::FloatEnd(label, type_code, token.text)),
+        None => {
+            let float = OpenFloat {
+                label,
+                type_code,
+                variable: token.text,
+            };
+            Ok(Place::FloatEnd(float))
+        }
     }
 }
 
@@ -206,21 +213,20 @@ pub(crate) fn typed_variable<'a, S: Standing<'a>>(
 pub(crate) fn float_end<'a, S: Standing<'a>>(
     alloc: Global,
     standing: &mut S,
-    label: &'a [u8],
-    type_code: &'a [u8],
-    variable: &'a [u8],
+    float: OpenFloat<'a>,
     token: Token<'a>,
     mark: Mark,
 ) -> Result<Place<'a>, Stop>
-    requires { HasPassed (S.stand standing.old).scope (float_end label.now type_code.now variable.now) }
-    ensures leads { let place = float_end label.entry.now type_code.entry.now variable.entry.now in Leads (S.stand standing.new) result
+    requires { HasPassed (S.stand standing.old).scope (float_end float.label.now float.type_code.now float.variable.now) }
+    ensures leads { let f = float.entry in let place = float_end f.label.now f.type_code.now f.variable.now in
+        Leads (S.stand standing.new) result
         (in_place (standing_at (S.stand standing.old) place) place (seen token.entry) mark) }
     ensures counted { IfOk result (λ p. IsCounted (S.stand standing.new).scope (S.marks standing.new) p) }
 {
     if mark != Mark::End {
         return Err(fault_at(token, FaultKind::BadToken));
     }
-    standing.declare_float(alloc, label, type_code, variable)?;
+    standing.declare_float(alloc, float.label, float.type_code, float.variable)?;
     Ok(Place::AtStart)
 }
 
@@ -303,8 +309,13 @@ pub(crate) fn theorem<'a, S: Standing<'a>>(
     ensures counted { IfOk result (λ p. IsCounted (S.stand standing.new).scope (S.marks standing.new) p) }
 {
     if mark == Mark::Proof && !expression.is_empty() {
-        let place = ProofPlace::InSteps(Vec::new(alloc), Entries::new());
-        return Ok(Place::InProof(Theorem { label, expression }, place));
+        let normal = NormalProof {
+            steps: Vec::new(alloc),
+            entries: Entries::new(),
+        };
+        let place = ProofPlace::InSteps(normal);
+        let theorem = Theorem { label, expression };
+        return Ok(Place::InProof(OpenProof { theorem, place }));
     }
     let expression = with_symbol(standing, expression, token)?;
     Ok(Place::InTheorem(label, expression))

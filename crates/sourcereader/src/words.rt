@@ -1,4 +1,4 @@
-//! Symbols of expressions, which grow where they lie.
+//! Symbols of expressions and words of proofs, which grow where they lie.
 
 ghost use Rattle.std.specs.Prelude.{◌≡◌, OnOk};
 ghost use Rattle.mmtext.specs.Takings.{TakesWord};
@@ -11,8 +11,10 @@ ghost use Rattle.source.specs.Views.{seen_words};
 ghost use Rattle.sourcereader.specs.Standing.{IsCounted, IsReadySource};
 ghost use Rattle.sourcereader.specs.Takings.{TakesItem};
 ghost use Rattle.sourcereader.specs.Views.{seen_at};
+ghost use Rattle.sourcereader.specs.declared.place.Place.TheVariants.{InProof};
 
-use crate::place::Place;
+use crate::place::{OpenProof, Place, ProofPlace};
+use crate::proof_rows::{put_label, put_letters, put_step};
 use mmtext::{Stop, Token, contains_dollar, fault_at};
 use source::Standing;
 
@@ -39,7 +41,39 @@ fn take_symbol<'a, S: Standing<'a>>(
     Ok(true)
 }
 
-/// A word where it stands, if that is an expression: whether it was taken.
+/// A word in a proof where it stands, if it goes on there: whether it was taken.
+fn take_in_proof<'a, S: Standing<'a>>(
+    standing: &S,
+    begun: &mut OpenProof<'a>,
+    token: Token<'a>,
+) -> Result<bool, Stop>
+    requires { IsCounted (S.stand standing.now).scope (S.marks standing.now) (InProof begun.old) }
+    ensures counted { OnOk result (IsCounted (S.stand standing.now).scope (S.marks standing.now) (InProof begun.new)) }
+    ensures taken { let s = S.stand standing.now in
+        TakesWord source_language (seen_at s (InProof begun.old)) (seen token.entry) (seen_at s (InProof begun.new)) result }
+{
+    if contains_dollar(token.text) {
+        return Ok(false);
+    }
+    match &mut begun.place {
+        ProofPlace::InSteps(normal) => {
+            if normal.steps.is_empty() && token.text == b"(".as_slice() {
+                return Ok(false);
+            }
+            put_step(standing, normal, token)?;
+        }
+        ProofPlace::InLabels(numbered) => {
+            if token.text == b")".as_slice() {
+                return Ok(false);
+            }
+            put_label(standing, &begun.theorem, numbered, token)?;
+        }
+        ProofPlace::InLetters(compressed) => put_letters(compressed, token)?,
+    }
+    Ok(true)
+}
+
+/// A word where it stands, if that is an expression or a proof: whether it was taken.
 fn take_in_place<'a, S: Standing<'a>>(
     standing: &mut S,
     place: &mut Place<'a>,
@@ -55,11 +89,12 @@ fn take_in_place<'a, S: Standing<'a>>(
         Place::InHypothesis(_, words) => take_symbol(standing, words, token),
         Place::InAxiom(_, words) => take_symbol(standing, words, token),
         Place::InTheorem(_, words) => take_symbol(standing, words, token),
+        Place::InProof(begun) => take_in_proof(standing, begun, token),
         _ => Ok(false),
     }
 }
 
-/// Takes a word without `$` where it stands, if that is an expression: whether it did.
+/// Takes a word without `$` where it stands, if that is an expression or a proof: whether it did.
 pub(crate) fn take_word<'a, S: Standing<'a>>(
     standing: &mut S,
     place: &mut Place<'a>,
