@@ -12,7 +12,7 @@ pub on_unwritten : (P Q : Word → Type 0) → ((label : Word) → P label → Q
 on_unwritten P Q f (refusal.StillCited label by) h = tt
 on_unwritten P Q f (refusal.InFront label next name) h = tt
 on_unwritten P Q f (refusal.Unwritten label) h = f label h
-on_unwritten P Q f (refusal.Unplaced label) h = tt
+on_unwritten P Q f (refusal.Unplaced label next side) h = tt
 on_unwritten P Q f refusal.Bare h = tt
 on_unwritten P Q f refusal.NoMemory h = tt
 
