@@ -14,8 +14,8 @@ returns c = λ holds.
     let are = c.requires.items.1 in
     let labelled = c.is_labelled.ensures source items are c.if-not-is_labelled.false in
     let spelled = found_spell source c.args.items.now items are in
-    let parts : c.as_slice-2.result.now ≡ map (part_of [] []) items =
-    c.as_slice-2.ensures.value
+    let parts : c.as_slice-parts.result.now ≡ map (part_of [] []) items =
+    c.as_slice-parts.ensures.value
     ∙ (c.in_ok-parts.ensures items are
     ∙ ap (λ (cs : List Change). map (part_of (known_labels cs) (known_labels cs)) items) c.requires.none) in record {
       items = items;
