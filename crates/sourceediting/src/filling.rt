@@ -3,7 +3,7 @@
 //! there, and so does what is put behind it. None stands in front of what declares a symbol that it mentions, nor between a description
 //! and what that describes.
 
-ghost use Rattle.std.specs.Prelude.{◌≡◌, ◌⊎◌, ◌+◌, ℕ, IfErr, IfOk, IfSome, OnOk, Some, length, map};
+ghost use Rattle.std.specs.Prelude.{◌≡◌, ◌<◌, ◌⊎◌, ◌+◌, ℕ, IfErr, IfOk, IfSome, OnOk, Some, length, map};
 ghost use Rattle.items.specs.Reading.{AreItems};
 ghost use Rattle.sourceediting.specs.Filled.{ArePuts, IsFilledTo};
 ghost use Rattle.sourceediting.specs.Refusals.{HasCause};

@@ -321,9 +321,7 @@ fn otherwise(
     ensures refused { IfErr result (HasCause (seen_living living.now) (map (λ r. r.assertion) entries.now) source.now) }
 {
     let (coming, number) = (puts.comings[number], puts.numbers[number]);
-    let why = unplaced(
-        alloc, keys, source, items, living, entries, coming, number,
-    )?;
+    let why = unplaced(alloc, keys, source, items, living, entries, coming, number)?;
     match why {
         Some(why) => Err(why),
         None => without_comings(alloc, edits, source, items),
