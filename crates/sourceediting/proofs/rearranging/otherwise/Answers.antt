@@ -6,4 +6,5 @@ use Rattle.sourceediting.proofs.rearranging.otherwise.Goals as goal
 
 pub returns-in-None-clause-refused : goal.returns-in-None-clause-refused
 returns-in-None-clause-refused c =
-    c.without_comings.ensures.refused (seen_living c.args.living.now) (map (λ (r : Ranked). r.assertion) c.args.entries.now) c.requires.listed
+    let edited = map (λ (r : Ranked). r.assertion) c.args.entries.now in
+    c.without_comings.ensures.refused (seen_living c.args.living.now) edited c.requires.listed
