@@ -1,3 +1,4 @@
+mod Beside
 mod FirstWords
 mod Printed
 mod Depths

@@ -6,6 +6,7 @@ pub mod Arranged
 pub mod Places
 pub mod Printing
 pub mod Held
+pub mod Headed
 pub mod Lines
 pub mod LinesInside
 pub mod Named

@@ -94,7 +94,7 @@ fn is_whole(before: &[Part], parts: &[Part]) -> bool
 }
 
 /// How many blocks are open in front of each item, and behind the last; none from where one is closed that wasn't opened.
-fn depths_of(alloc: Global, parts: &[Part]) -> Result<Vec<Option<usize>>, AllocError>
+pub(crate) fn depths_of(alloc: Global, parts: &[Part]) -> Result<Vec<Option<usize>>, AllocError>
     ensures { IfOk result (λ made. AreDepths parts.now made.items) }
 {
     let mut depths = Vec::with_capacity(alloc, parts.len())?;

@@ -81,10 +81,10 @@ fn part_of(
 /// # Errors
 ///
 /// Want of memory.
-pub fn parts_of(
+pub fn parts_of<'c>(
     alloc: Global,
-    gone: &LabelMap<'_>,
-    moving: &LabelMap<'_>,
+    gone: &LabelMap<'c>,
+    moving: &LabelMap<'c>,
     source: &[u8],
     items: &[Item<'_>],
 ) -> Result<Vec<Part>, AllocError>

@@ -32,7 +32,7 @@ module _ (k : Known) (source : List ℕ) where
   cited_cause (edits.StillCited label by) h = h
   cited_cause (edits.InFront label next name) h = absurd h
   cited_cause (edits.Unwritten label) h = absurd h
-  cited_cause (edits.Unplaced label) h = absurd h
+  cited_cause (edits.Unplaced label next side) h = absurd h
   cited_cause edits.Bare h = absurd h
   cited_cause edits.NoMemory h = tt
 
@@ -42,7 +42,7 @@ module _ (k : Known) (source : List ℕ) where
   edits_cause (edits.StillCited label by) h unwritten = absurd h
   edits_cause (edits.InFront label next name) h unwritten = h
   edits_cause (edits.Unwritten label) h unwritten = (h, unwritten)
-  edits_cause (edits.Unplaced label) h unwritten = h
+  edits_cause (edits.Unplaced label next side) h unwritten = h
   edits_cause edits.Bare h unwritten = h
   edits_cause edits.NoMemory h unwritten = h
 

@@ -3,6 +3,8 @@ use Rattle.std.specs.Prelude.{ℕ, zero, List, [], ◌∷◌, ◌++◌, Option, 
 use Rattle.mmtext.specs.FaultNames.{printed_fault}
 use Rattle.checking.specs.FaultLines.{fault_text, file_of}
 use Rattle.taketext.specs.Refusals.{shown}
+use Rattle.arranging.specs.declared.headed.Side.{Side}
+use Rattle.arranging.specs.declared.headed.Side.TheVariants.{Behind, InFront}
 use Rattle.sourceediting.specs.declared.refusal.Refusal.{Refusal as Unwritten}
 use Rattle.sourceediting.specs.declared.refusal.Refusal.TheVariants as edits
 use Rattle.givetext.specs.declared.answering.Paths.{Paths}
@@ -32,6 +34,11 @@ path_of paths History = slice_index_or paths 2 []
 abbrev pub seen_paths : Paths → List (List ℕ)
 seen_paths p = p.source.now ∷ p.library.now ∷ p.history.now ∷ []
 
+-- a side of an assertion
+abbrev pub side_text : Side → List ℕ
+side_text Behind = codes "behind"
+side_text InFront = codes "in front of"
+
 -- why edits can't be written
 abbrev pub edits_text : Unwritten → List ℕ
 edits_text (edits.StillCited label by) =
@@ -39,7 +46,9 @@ edits_text (edits.StillCited label by) =
 edits_text (edits.InFront label next name) =
     shown label ++ (codes " can't stand in front of " ++ (shown next ++ (codes ": " ++ (shown name ++ codes " is declared behind that"))))
 edits_text (edits.Unwritten label) = codes "the proof of " ++ (shown label ++ codes " can't be written")
-edits_text (edits.Unplaced label) = shown label ++ codes " can't stand at its place"
+edits_text (edits.Unplaced label next side) =
+    shown label ++ (codes " can't stand " ++ (side_text side ++ (codes " " ++ (shown next
+    ++ (codes ": a heading stands " ++ (side_text side ++ codes " that in its block"))))))
 edits_text edits.Bare = codes "an axiom of the source would have a proof"
 edits_text edits.NoMemory = codes "no memory"
 

@@ -3,10 +3,11 @@
 ghost use Rattle.std.specs.Prelude.{◌≡◌, IfOk, string_bytes};
 ghost use Rattle.checking.specs.FaultLines.{file_of};
 ghost use Rattle.taketext.specs.Refusals.{shown};
-ghost use Rattle.givetext.specs.Refusals.{edits_text, text_at_fault, path_of, refusal_line, refusal_text, replayed_file, seen_paths};
+ghost use Rattle.givetext.specs.Refusals.{edits_text, side_text, text_at_fault, path_of, refusal_line, refusal_text, replayed_file, seen_paths};
 
 use crate::answering::Paths;
 use crate::refusal::Refusal;
+use arranging::Side;
 use checking::Fault;
 use sourceediting::Refusal as Unwritten;
 use std::alloc::{AllocError, Global};
@@ -65,6 +66,16 @@ fn path_of<'p>(paths: Paths<'p>, file: File) -> &'p str
     }
 }
 
+/// A side of an assertion.
+fn side_text(side: Side) -> &'static str
+    ensures { result.now ≡ side_text side }
+{
+    match side {
+        Side::Behind => "behind",
+        Side::InFront => "in front of",
+    }
+}
+
 /// What a refusal says of edits that can't be written.
 fn edits_text(alloc: Global, why: &Unwritten) -> Result<String, AllocError>
     ensures { IfOk result (λ text. string_bytes text ≡ edits_text why.now) }
@@ -85,9 +96,12 @@ fn edits_text(alloc: Global, why: &Unwritten) -> Result<String, AllocError>
             let label = shown(label.as_slice());
             format!(in alloc; "the proof of {label} can't be written")
         }
-        Unwritten::Unplaced(label) => {
-            let label = shown(label.as_slice());
-            format!(in alloc; "{label} can't stand at its place")
+        Unwritten::Unplaced { label, next, side } => {
+            let (label, next) = (shown(label.as_slice()), shown(next.as_slice()));
+            let side = side_text(*side);
+            format!(in alloc;
+                "{label} can't stand {side} {next}: a heading stands {side} that in its block"
+            )
         }
         Unwritten::Bare => format!(in alloc; "an axiom of the source would have a proof"),
         Unwritten::NoMemory => format!(in alloc; "no memory"),

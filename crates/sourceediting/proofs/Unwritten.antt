@@ -1,18 +1,17 @@
 -- What is known of a proof that can't be written.
-use Rattle.std.proofs.Common.{◌≡◌, ℕ, List, [], true, false, Some, None, refl, arith}
+use Rattle.std.proofs.Common.{◌≡◌, true, false, Some, None, refl}
 use Rattle.std.specs.Prelude.{Option, IsSomeAnd, Result, Ok, Err, IfErr}
 use Rattle.mmtext.specs.Words.{Word}
 use Rattle.sourceediting.specs.declared.refusal.Refusal.{Refusal}
 use Rattle.sourceediting.specs.declared.refusal.Refusal.TheVariants as refusal
-use Rattle.sourceediting.specs.Following.{Followed}
-use Rattle.sourceediting.specs.Refusals.{HasCause, OnUnwritten}
+use Rattle.sourceediting.specs.Refusals.{OnUnwritten}
 
 -- where more is known
 pub on_unwritten : (P Q : Word → Type 0) → ((label : Word) → P label → Q label) → (r : Refusal) → OnUnwritten P r → OnUnwritten Q r
 on_unwritten P Q f (refusal.StillCited label by) h = tt
 on_unwritten P Q f (refusal.InFront label next name) h = tt
 on_unwritten P Q f (refusal.Unwritten label) h = f label h
-on_unwritten P Q f (refusal.Unplaced label) h = tt
+on_unwritten P Q f (refusal.Unplaced label next side) h = tt
 on_unwritten P Q f refusal.Bare h = tt
 on_unwritten P Q f refusal.NoMemory h = tt
 

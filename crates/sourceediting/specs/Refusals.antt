@@ -1,5 +1,5 @@
 -- Why the edits of a history are not written into a source.
-use Rattle.std.specs.Prelude.{◌≡◌, ◌<◌, ◌⊎◌, ℕ, Bool, false, List, [], ◌∷◌, All, Contains, Option, Some, None, IsTrue, slice_get}
+use Rattle.std.specs.Prelude.{◌≡◌, ◌<◌, ◌≤◌, ◌+◌, ◌⊎◌, ℕ, Bool, true, false, List, [], ◌∷◌, All, Contains, Option, Some, None, IsTrue, slice_get}
 use Rattle.mmtext.specs.Words.{Word}
 use Rattle.mmsyntax.specs.declared.statement.Assertion.{Assertion as Unit'}
 use Rattle.source.specs.Statements.{Proof}
@@ -12,6 +12,9 @@ use Rattle.items.specs.Bare.{IsItemOf, has_proof}
 use Rattle.arranging.specs.declared.coming.Coming.{Coming}
 use Rattle.arranging.specs.Arranged.{label_in_source, labels_asserted}
 use Rattle.arranging.specs.Held.{IsHeldBehind}
+use Rattle.arranging.specs.declared.headed.Side.{Side}
+use Rattle.arranging.specs.declared.headed.Side.TheVariants.{Behind, InFront}
+use Rattle.arranging.specs.Headed.{IsHeaded}
 use Rattle.sourceediting.specs.declared.refusal.Refusal.{Refusal}
 use Rattle.sourceediting.specs.declared.refusal.Refusal.TheVariants as refusal
 use Rattle.sourceediting.specs.Entries.{Edition, assertions_of}
@@ -61,11 +64,35 @@ pub record IsInFront (living : List Followed) (edited : List Unit') (source : Li
   pub stays : IsKnownAs living next (Some neighbour)
   pub held : IsHeldBehind source coming neighbour name
 
--- ---- what is put in can't stand at its place
+-- ---- what is put in can't stand beside its neighbour
 
--- an assertion of the edited library has this label
-abbrev pub IsUnplaced : List Unit' → Word → Type 0
-IsUnplaced edited label = (number : ℕ) × IsNumbered edited number label
+-- an assertion with this label now was added, or was given another rank
+pub record IsPut (living : List Followed) (label : Word) : Type 0 where
+  pub followed : Followed
+  pub lives : Contains living followed
+  pub now : followed.now ≡ label
+  pub put : (followed.moved ≡ true) ⊎ (followed.source ≡ None)
+
+-- so was each of the edited library, from a number up to another
+abbrev pub ArePut : List Followed → List Unit' → ℕ → ℕ → Type 0
+ArePut living edited from to = (k : ℕ) (label : Word) → from ≤ k → k < to → IsNumbered edited k label → IsPut living label
+
+-- one with a number stands on this side of its neighbour: behind it, and each from there up to itself was put in; or in front of it, and
+-- each in front of the neighbour was
+abbrev pub IsBeside : List Followed → List Unit' → ℕ → ℕ → Side → Type 0
+IsBeside living edited number next Behind = (next < number) × ArePut living edited (next + 1) (number + 1)
+IsBeside living edited number next InFront = (number < next) × ArePut living edited 0 next
+
+-- in the source the neighbour has a heading on that side, in the block around it: what is put in would stand outermost, under another one
+pub record IsUnplaced (living : List Followed) (edited : List Unit') (source : List ℕ) (label next : Word) (side : Side) : Type 0 where
+  pub number : ℕ
+  pub is_put : IsNumbered edited number label
+  pub place : ℕ
+  pub is_next : IsNumbered edited place next
+  pub beside : IsBeside living edited number place side
+  pub neighbour : Word
+  pub stays : IsKnownAs living next (Some neighbour)
+  pub headed : IsHeaded source neighbour side
 
 -- ---- an assertion that has no proof is to have another one
 
@@ -108,7 +135,7 @@ abbrev pub HasCause : List Followed → List Unit' → List ℕ → Refusal → 
 HasCause living edited source (refusal.StillCited label by) = ⊥
 HasCause living edited source (refusal.InFront label next name) = IsInFront living edited source label next name
 HasCause living edited source (refusal.Unwritten label) = (a : Unit') × Contains edited a × (a.label ≡ label)
-HasCause living edited source (refusal.Unplaced label) = IsUnplaced edited label
+HasCause living edited source (refusal.Unplaced label next side) = IsUnplaced living edited source label next side
 HasCause living edited source refusal.Bare = IsBareIn living edited source
 HasCause living edited source refusal.NoMemory = Unit {0}
 

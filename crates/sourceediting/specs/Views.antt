@@ -11,6 +11,9 @@ use Rattle.giving.specs.Staying.{Change}
 use Rattle.std.specs.Option.{option_map}
 use Rattle.source.specs.Scopes.{Hypothesis, Scope}
 use Rattle.source.specs.Views.{seen_words}
+use Rattle.arranging.specs.declared.call.Edits.{Edits}
+use Rattle.arranging.specs.declared.coming.Coming.{Coming}
+use Rattle.arranging.specs.Parts.{Edited, known_labels}
 use Rattle.sourcewriting.specs.declared.listing.Cited.{Cited}
 use Rattle.sourcewriting.specs.declared.listing.Names.{Names}
 use Rattle.sourcewriting.specs.Counting.{IsCountOf, Takes}
@@ -76,3 +79,13 @@ pub record AreCitedNow (s : Scope) (e : Edition) (living : List Followed) (m : H
 abbrev pub AreStepsOf : Scope → Edition → List Followed → Names → Type 0
 AreStepsOf s e living m =
     (premises : ℕ) (step : Step) (n : ℕ) → StepTakesThen s e living premises step n → StepTakes s m premises step n
+
+-- the edits of a source, with what is put in
+abbrev pub edited_of : Edits → List Coming → Edited
+edited_of x comings = record {
+  gone = known_labels x.gone.now;
+  moving = known_labels x.moving.now;
+  moved = known_labels x.moved.now;
+  library = known_labels x.library.now;
+  comings = comings;
+}

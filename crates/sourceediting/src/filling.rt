@@ -3,7 +3,7 @@
 //! there, and so does what is put behind it. None stands in front of what declares a symbol that it mentions, nor between a description
 //! and what that describes.
 
-ghost use Rattle.std.specs.Prelude.{◌≡◌, ◌⊎◌, ◌+◌, ℕ, IfErr, IfOk, IfSome, OnOk, Some, length, map};
+ghost use Rattle.std.specs.Prelude.{◌≡◌, ◌<◌, ◌⊎◌, ◌+◌, ℕ, IfErr, IfOk, IfSome, OnOk, Some, length, map};
 ghost use Rattle.items.specs.Reading.{AreItems};
 ghost use Rattle.sourceediting.specs.Filled.{ArePuts, IsFilledTo};
 ghost use Rattle.sourceediting.specs.Refusals.{HasCause};
@@ -228,7 +228,7 @@ impl<'t> Filling<'t> {
     {
         let (at, why) = match first {
             Some(first) => (known.apart(first.whole.first), Why::First(first.place)),
-            None => (known.items.len(), Why::Alone),
+            None => (known.apart(known.items.len()), Why::Alone),
         };
         Filling {
             comings: Vec::new(alloc),
@@ -284,17 +284,21 @@ impl<'t> Filling<'t> {
         Ok(())
     }
 
-    /// One that stays, in front of which something may be put in at this place. The one that can't stand in front of it, if one can't.
-    fn pass(&mut self, staying: Staying, apart: usize) -> Option<Held<'t>>
-        ensures filled { (count : ℕ) → IsFilledTo count self.old → IsFilledTo count self.new }
-        ensures held { IfSome result (λ h. (self.old.held ≡ Some h) × (self.new.comings ≡ self.old.comings)) }
+    /// The one that was put in farther behind, and would have to stand in front of one that stays, if there is one.
+    fn held_before(&self, staying: Staying) -> Option<Held<'t>>
+        ensures { IfSome result (λ h. self.now.held ≡ Some h) }
+    {
+        match self.held {
+            Some(held) if staying.whole.first < held.needed.from => Some(held),
+            _ => None,
+        }
+    }
+
+    /// One that stays, in front of which something may be put in at this place.
+    fn pass(&mut self, staying: Staying, apart: usize)
+        ensures { (count : ℕ) → IsFilledTo count self.old → IsFilledTo count self.new }
     {
         let whole = staying.whole;
-        if let Some(held) = self.held
-            && whole.first < held.needed.from
-        {
-            return Some(held);
-        }
         if let Some(first) = self.waiting {
             let place = self.at.max(apart);
             put_in_front(self.comings.as_mut_slice(), first, place, whole);
@@ -305,8 +309,32 @@ impl<'t> Filling<'t> {
             self.at = whole.end;
             self.why = Why::Behind(staying.place);
         }
-        None
     }
+}
+
+/// Why one that was put in can't stand in front of one that stays, which has this number in the library. None where it can.
+fn refused_before(
+    alloc: Global,
+    keys: RandomState,
+    known: &Known<'_>,
+    living: &[Followed<'_>],
+    entries: &[Ranked],
+    filling: &Filling<'_>,
+    number: usize,
+    staying: Staying,
+) -> Result<Option<Refusal>, AllocError>
+    requires items { AreItems known.now.text.now known.now.items.items }
+    requires within { number < length entries.now }
+    requires filled { IsFilledTo number filling.now }
+    ensures { IfOk result (λ made. IfSome made
+        (HasCause (seen_living living.now) (map (λ r. r.assertion) entries.now) known.now.text.now)) }
+{
+    let Some(held) = filling.held_before(staying) else {
+        return Ok(None);
+    };
+    let comings = filling.comings.as_slice();
+    let next = (number, staying.place);
+    held_behind(alloc, keys, known, living, entries, comings, held, next)
 }
 
 /// What is put in, in the order of its places.
@@ -334,12 +362,13 @@ pub(crate) fn puts_of<'t>(
         if let Some(piece) = texts.get(label) {
             filling.put(number, piece)?;
         } else if let Some(Some(staying)) = places.get(number) {
-            let apart = known.apart(staying.whole.first);
-            if let Some(held) = filling.pass(*staying, apart) {
-                let comings = filling.comings.as_slice();
-                let next = (number, staying.place);
-                return Err(held_behind(alloc, keys, known, living, entries, comings, held, next)?);
+            let why = refused_before(
+                alloc, keys, known, living, entries, &filling, number, *staying,
+            )?;
+            if let Some(why) = why {
+                return Err(why);
             }
+            filling.pass(*staying, known.apart(staying.whole.first));
         }
     }
     let Filling {

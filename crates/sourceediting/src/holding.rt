@@ -6,7 +6,6 @@ ghost use Rattle.mmtext.specs.Words.{Word};
 ghost use Rattle.items.specs.Reading.{AreItems};
 ghost use Rattle.arranging.specs.Arranged.{label_in_source};
 ghost use Rattle.arranging.specs.Held.{IsHeldBehind};
-ghost use Rattle.sourceediting.specs.Following.{Followed as FollowedOf};
 ghost use Rattle.sourceediting.specs.Refusals.{HasCause, IsKnownAs};
 ghost use Rattle.sourceediting.specs.Views.{seen_followed, seen_living};
 
@@ -32,7 +31,7 @@ pub(crate) struct Held<'t> {
 }
 
 /// What became of the assertion with this label now, if one lives.
-fn known_as<'x>(living: &[Followed<'x>], label: &[u8]) -> Option<Followed<'x>>
+pub(crate) fn known_as<'x>(living: &[Followed<'x>], label: &[u8]) -> Option<Followed<'x>>
     ensures { IfSome result (λ f. Contains (seen_living living.now) (seen_followed f) × (f.now.now ≡ label.now)) }
 {
     for followed in living {
@@ -44,7 +43,7 @@ fn known_as<'x>(living: &[Followed<'x>], label: &[u8]) -> Option<Followed<'x>>
 }
 
 /// Whether a label is there as the other one is.
-fn is_same(one: Option<&[u8]>, other: Option<&[u8]>) -> bool
+pub(crate) fn is_same(one: Option<&[u8]>, other: Option<&[u8]>) -> bool
     ensures { IsTrue result → option_map (λ w. w.now) one.entry ≡ option_map (λ w. w.now) other.entry }
 {
     match (one, other) {
@@ -97,21 +96,8 @@ fn is_held(
     )
 }
 
-/// The assertion with this number among those of the library can't stand at its place.
-pub(crate) fn unplaced(
-    alloc: Global,
-    entries: &[Ranked],
-    number: usize,
-) -> Result<Refusal, AllocError>
-    requires { number < length entries.now }
-    ensures { (living : List FollowedOf) (text : List ℕ)
-        → IfOk result (HasCause living (map (λ r. r.assertion) entries.now) text) }
-{
-    let entry = &entries[number];
-    Ok(Refusal::Unplaced(entry.assertion.label.copy(alloc)?))
-}
-
-/// One that was put in can't stand in front of the next one that stays, which has this number in the library and stands at this place.
+/// One that was put in can't stand in front of the next one that stays, which has this number in the library and stands at this place. None
+/// where nothing that it mentions is declared behind that.
 pub(crate) fn held_behind(
     alloc: Global,
     keys: RandomState,
@@ -121,12 +107,13 @@ pub(crate) fn held_behind(
     comings: &[Coming<'_>],
     held: Held<'_>,
     next: (usize, usize),
-) -> Result<Refusal, AllocError>
+) -> Result<Option<Refusal>, AllocError>
     requires items { AreItems known.now.text.now known.now.items.items }
     requires order { held.number < next.0 }
     requires within { next.0 < length entries.now }
     requires comes { held.coming < length comings.now }
-    ensures { IfOk result (HasCause (seen_living living.now) (map (λ r. r.assertion) entries.now) known.now.text.now) }
+    ensures { IfOk result (λ made. IfSome made
+        (HasCause (seen_living living.now) (map (λ r. r.assertion) entries.now) known.now.text.now)) }
 {
     let (number, place) = next;
     let (first, second) = (&entries[held.number], &entries[number]);
@@ -143,11 +130,11 @@ pub(crate) fn held_behind(
         labels,
         place,
     )? {
-        return unplaced(alloc, entries, held.number);
+        return Ok(None);
     }
-    Ok(Refusal::InFront {
+    Ok(Some(Refusal::InFront {
         label: label.copy(alloc)?,
         next: next.copy(alloc)?,
         name: Label::from_slice(alloc, held.needed.name)?,
-    })
+    }))
 }

@@ -5,6 +5,7 @@
 #![tactic(auto)]
 
 mod axioms;
+mod beside;
 mod citing;
 mod commands;
 mod declaring;

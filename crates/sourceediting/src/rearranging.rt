@@ -1,7 +1,8 @@
 //! A source with the edits of a history that adds, moves or deletes: what is put in, and how it is put there.
 
-ghost use Rattle.std.specs.Prelude.{◌≡◌, ℕ, List, Contains, IfOk, IfErr, length, map};
+ghost use Rattle.std.specs.Prelude.{◌≡◌, ◌<◌, [], ℕ, List, Contains, IfOk, IfErr, length, map};
 ghost use Rattle.source.specs.Views.{seen_words};
+ghost use Rattle.arranging.specs.Arranged.{IsArranged};
 ghost use Rattle.items.specs.Divided.{IsDivided};
 ghost use Rattle.items.specs.Reading.{AreItems};
 ghost use Rattle.items.specs.Rewriting.{IsRewritten};
@@ -9,14 +10,14 @@ ghost use Rattle.mmsyntax.specs.declared.statement.Assertion.{Assertion as Asser
 ghost use Rattle.sourceediting.specs.Following.{Followed as FollowedOf};
 ghost use Rattle.sourceediting.specs.Filled.{ArePuts};
 ghost use Rattle.sourceediting.specs.Refusals.{HasCause, AreListedAnew, OnUnwritten};
-ghost use Rattle.sourceediting.specs.Views.{seen_living, AreLabelled};
+ghost use Rattle.sourceediting.specs.Views.{edited_of, seen_living, AreLabelled};
 ghost use Rattle.sourceediting.specs.Written.{IsRearranged, moved_in, sources_of};
 
+use crate::beside::unplaced;
 use crate::citing::marked;
 use crate::declaring::declarations_of;
 use crate::filling::{Known, Piece, Puts, Texts, puts_of};
 use crate::following::Followed;
-use crate::holding::unplaced;
 use crate::moving::{Moving, moving_of};
 use crate::outline::{Outlined, Stretch, outline_of};
 use crate::planning::{ByLabel, Planned, labelled, unwritten};
@@ -24,6 +25,7 @@ use crate::refusal::Refusal;
 use arranging::{Edits, Outcome, arrange, parts_of};
 use giving::LabelMap;
 use items::{Item, read_items, rewrite};
+use library::Ranked;
 use mmsyntax::Assertion;
 use source::{Declared, ProofWords};
 use sourcewriting::{Names, Statement, SymbolWords, Written, assertion_text, symbol_words};
@@ -276,6 +278,56 @@ fn sources_of<'x>(alloc: Global, living: &[Followed<'x>]) -> Result<Vec<&'x [u8]
     Ok(sources)
 }
 
+/// The source with the edits, where nothing is put in. So it reads where something can't stand at its place and no cause is found: whoever
+/// looks at it again finds another library.
+fn without_comings(
+    alloc: Global,
+    edits: Edits<'_>,
+    source: &[u8],
+    items: &[Item<'_>],
+) -> Result<Vec<u8>, Refusal>
+    requires { AreItems source.now items.now }
+    ensures arranged { IfOk result (λ out. IsArranged edits.entry.changes.now edits.entry.proofs.now
+        (edited_of edits.entry []) source.now out.items) }
+    ensures refused { (living : List FollowedOf) (edited : List AssertionOf) → AreListedAnew living edited edits.entry.proofs.now
+        → IfErr result (HasCause living edited source.now) }
+{
+    match arrange(alloc, edits, source, items, &[])? {
+        Outcome::Text(out) => Ok(out),
+        Outcome::Misplaced(_) => unreachable!(),
+        Outcome::Bare => Err(Refusal::Bare),
+    }
+}
+
+/// Where what is put in with a number, counted from 0, can't stand at its place: why it can't stand beside its neighbour, or else the
+/// source where nothing is put in.
+fn otherwise(
+    alloc: Global,
+    keys: RandomState,
+    edits: Edits<'_>,
+    source: &[u8],
+    items: &[Item<'_>],
+    living: &[Followed<'_>],
+    entries: &[Ranked],
+    puts: &Puts<'_>,
+    number: usize,
+) -> Result<Vec<u8>, Refusal>
+    requires items { AreItems source.now items.now }
+    requires numbered { ArePuts (length entries.now) puts.now }
+    requires within { number < length puts.now.comings.items }
+    requires listed { AreListedAnew (seen_living living.now) (map (λ r. r.assertion) entries.now) edits.proofs.now }
+    ensures arranged { IfOk result (λ out. IsArranged edits.entry.changes.now edits.entry.proofs.now
+        (edited_of edits.entry []) source.now out.items) }
+    ensures refused { IfErr result (HasCause (seen_living living.now) (map (λ r. r.assertion) entries.now) source.now) }
+{
+    let (coming, number) = (puts.comings[number], puts.numbers[number]);
+    let why = unplaced(alloc, keys, source, items, living, entries, coming, number)?;
+    match why {
+        Some(why) => Err(why),
+        None => without_comings(alloc, edits, source, items),
+    }
+}
+
 /// The source with the edits, of which these are the items, and this is put in.
 fn arranged(
     alloc: Global,
@@ -296,10 +348,11 @@ fn arranged(
         (map (λ r. r.assertion) edits.now.planned.edited.now.entries) source.now) }
 {
     let entries = edits.planned.edited.entries();
+    let living = edits.planned.living;
     let gone = marked(alloc, keys, edits.planned.gone)?;
-    let moved = moved_in(alloc, edits.planned.living)?;
+    let moved = moved_in(alloc, living)?;
     let moved = marked(alloc, keys, moved.as_slice())?;
-    let library = sources_of(alloc, edits.planned.living)?;
+    let library = sources_of(alloc, living)?;
     let library = marked(alloc, keys, library.as_slice())?;
     let edits = Edits {
         changes: edits.changes,
@@ -311,7 +364,9 @@ fn arranged(
     };
     match arrange(alloc, edits, source, items, puts.comings.as_slice())? {
         Outcome::Text(out) => Ok(out),
-        Outcome::Misplaced(number) => Err(unplaced(alloc, entries, puts.numbers[number])?),
+        Outcome::Misplaced(number) => otherwise(
+            alloc, keys, edits, source, items, living, entries, puts, number,
+        ),
         Outcome::Bare => Err(Refusal::Bare),
     }
 }

@@ -1,5 +1,6 @@
 //! Why the edits of a history are not written into a source.
 
+use arranging::Side;
 use mmsyntax::Label;
 use std::alloc::{AllocError, AllocFailed};
 
@@ -25,8 +26,16 @@ pub enum Refusal {
     },
     /// The proof of a theorem of the edited library, by its label there, can't be written.
     Unwritten(Label),
-    /// An assertion that is put in, by its label in the library, can't stand at its place.
-    Unplaced(Label),
+    /// An assertion that is put in can't stand beside its neighbour in the library, which keeps its place in the source: a heading stands
+    /// on that side of the neighbour, in the block around it.
+    Unplaced {
+        /// The label in the library of what is put in.
+        label: Label,
+        /// That of its neighbour.
+        next: Label,
+        /// The side of the neighbour that it would stand on.
+        side: Side,
+    },
     /// An assertion that has no proof in the source is to have another one.
     Bare,
     /// Memory ran out.

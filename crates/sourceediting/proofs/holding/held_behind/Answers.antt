@@ -5,9 +5,6 @@ use Rattle.sourceediting.specs.Views.{seen_living}
 use Rattle.sourceediting.proofs.Numbered.{numbered, in_front}
 use Rattle.sourceediting.proofs.holding.held_behind.Goals as goal
 
-pub returns-then-not-branch : goal.returns-then-not-branch
-returns-then-not-branch c = c.unplaced.ensures (seen_living c.args.living.now) c.args.known.now.text.now
-
 pub returns : goal.returns
 returns c =
     let rs = c.args.entries.now in
