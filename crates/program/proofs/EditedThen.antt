@@ -1,4 +1,4 @@
--- From scripts that edit a source, and what is told of that, to what a command line does.
+-- From scripts that edit a source to what is told of that.
 use Rattle.std.proofs.Common.{◌≡◌, ◌<◌, ◌-◌, ◌++◌, ◌∷◌, [], ℕ, Bool, true, false, All, List, Option, Some, None, ap, ap₂, arith, codes, drop, inl, inr, length, map, refl, slice_index_or, subst, sym, take, Result}
 use Rattle.std.proofs.lemmas.List.{take_rest}
 use Rattle.std.proofs.lemmas.List.Elements.{All-cons, All-nil}
@@ -6,16 +6,16 @@ use Rattle.std.specs.Prelude.{is_some, Vec}
 use Rattle.std.specs.Option.{unwrap_or}
 use Rattle.std.specs.declared.alloc.Global.{Global}
 use Rattle.std.proofs.lemmas.List.{append-nil}
-use Rattle.clap.specs.Words.{Row, Text}
-use Rattle.commandline.specs.EditOrders.{IsEditOrder}
 use Rattle.commandline.specs.declared.edit_order.Allowed.{Allowed}
 use Rattle.commandline.specs.declared.edit_order.Outputs.{Outputs}
+use Rattle.conduct.specs.Ending.{EndsBy}
+use Rattle.conduct.specs.Telling.{IsSaid}
+use Rattle.conduct.proofs.Behind.{EndsBy-behind}
 use Rattle.edittext.specs.Answers.{IsEditAnswer}
 use Rattle.edittext.specs.Edited.{edit_room}
 use Rattle.edittext.specs.declared.answering.Told.{Told}
-use Rattle.program.specs.Events.{Bytes, Event, IsQuiet, compares, writes}
-use Rattle.program.specs.Conduct.{EndsBy, AreCompared, ArePutReplies, AreRepliesThen, Clash, IsFoundOr, IsSaved, clashes, IsAnsweredEdit, IsEditDone, IsEditFollowed, IsEditTold, IsMatched, IsSaid}
-use Rattle.program.proofs.Behind.{EndsBy-behind, EndsBy-weaker}
+use Rattle.outside.specs.Events.{Bytes, Event, IsQuiet, compares, writes}
+use Rattle.program.specs.Edits.{AreCompared, ArePutReplies, AreRepliesThen, Clash, IsFoundOr, IsSaved, clashes, IsAnsweredEdit, IsEditDone, IsEditFollowed, IsEditTold}
 
 -- a list with something in it, by that and what stands behind
 pub first_and_rest : {X Y : Type 0} (f : X → Y) (xs : List X) (d : X) → 0 < length xs
@@ -85,14 +85,6 @@ pub two_places : (keyed : Bool) (paths : List Bytes) (workers : ℕ) (room : Opt
     → IsEditDone keyed paths workers room given allowed es status
 two_places keyed paths workers room given allowed es status is said =
     subst (λ (p : Option Outputs). IsEditDone keyed paths workers room p allowed es status) (sym is) said
-
-pub edit_ordered : {E : Type 0} (keyed : Bool) (found : Option (Text × List Row)) (paths : List Bytes) (workers : ℕ) (room : Option ℕ)
-    (outputs : Option Outputs) (allowed : Allowed) (es : List Event) (r : Result ℕ E)
-    → IsEditOrder found paths workers room outputs allowed → EndsBy (IsEditDone keyed paths workers room outputs allowed) es r
-    → EndsBy (IsMatched keyed found) es r
-edit_ordered keyed found paths workers room outputs allowed es r order ends =
-    EndsBy-weaker (IsEditDone keyed paths workers room outputs allowed) (IsMatched keyed found) es r
-    (λ status is. inr (inr (inr (inr (inl (paths, workers, room, outputs, allowed, order, is)))))) ends
 
 -- ---- comparisons, one behind another
 

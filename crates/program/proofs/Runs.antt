@@ -2,10 +2,10 @@
 use Rattle.std.proofs.Common.{◌≡◌, ◌∷◌, [], ℕ, Bool, List, Option, Some, Result, Ok, Err, refl, subst, sym}
 use Rattle.std.specs.Result.{result_map_both}
 use Rattle.clap.specs.Words.{Text}
-use Rattle.program.specs.declared.world.Trouble.{Trouble}
-use Rattle.program.specs.Events.{Adds, Bytes, Event, says}
-use Rattle.program.specs.Output.{AreDone}
-use Rattle.program.specs.Conduct.{IsRun, Obeys, no_words}
+use Rattle.outside.specs.declared.world.Trouble.{Trouble}
+use Rattle.outside.specs.Events.{Adds, Bytes, Event, says}
+use Rattle.outside.specs.Output.{AreDone}
+use Rattle.program.specs.Obeying.{IsRun, Obeys, no_words}
 
 -- from a standard output with nothing on it
 pub done_at_first : (holds before : Bytes → Option Bytes) (old new : Option Bytes) (es : List Event)

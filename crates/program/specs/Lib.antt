@@ -1,3 +1,2 @@
-pub mod Events
-pub mod Output
-pub mod Conduct
+pub mod Edits
+pub mod Obeying

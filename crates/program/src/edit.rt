@@ -4,16 +4,17 @@ ghost use Rattle.std.specs.Prelude.{is_some, ◌≡◌, ◌<◌, List, Some, is_
 ghost use Rattle.std.specs.Option.{option_map};
 ghost use Rattle.std.specs.Bool.{then_some};
 ghost use Rattle.checking.specs.Tasks.{IsWithin};
-ghost use Rattle.program.specs.Events.{Bytes, Event, Adds};
-ghost use Rattle.program.specs.Conduct.{EndsBy, all_said, undone_status, IsSaved, IsPutAt, ArePutReplies, IsPrintedTold, IsUndoneTold, IsEditTold};
-ghost use Rattle.program.specs.Conduct.{IsAnsweredEdit, IsEditFollowed, AreCompared, clash, clashes, file_of, IsEditDone};
+ghost use Rattle.conduct.specs.Ending.{EndsBy};
+ghost use Rattle.outside.specs.Events.{Bytes, Event, Adds};
+ghost use Rattle.program.specs.Edits.{all_said, undone_status, IsSaved, IsPutAt, ArePutReplies, IsPrintedTold, IsUndoneTold, IsEditTold};
+ghost use Rattle.program.specs.Edits.{IsAnsweredEdit, IsEditFollowed, AreCompared, clash, clashes, file_of, IsEditDone};
 
-use crate::conduct::{print_with, read_all, refuse, tell_unread};
-use crate::world::{Trouble, World};
 use commandline::{Destination, EditOrder, Outputs};
+use conduct::{Means, print_with, read_all, refuse, tell_unread};
 use edittext::{Account, Told, answer_edit};
 use following::Follow;
 use jobs::Watch;
+use outside::{Trouble, World};
 use std::alloc::{AllocError, Global};
 use std::hash::RandomState;
 use std::sync::Wait;
@@ -149,14 +150,12 @@ fn tell_edited<W: World>(
 /// Edits the source by the scripts, of which these are the texts, the source's first, and tells the answer, of which all goes where it is
 /// to go. It may wait.
 fn answer_edited<R: Threads + Wait + Sync, W: World, V: Watch + Follow + Sync>(
-    rt: &R,
-    alloc: Global,
+    means: &Means<'_, R, V>,
     world: &mut W,
     keys: Option<RandomState>,
     order: &EditOrder<'_>,
     outputs: Outputs<'_>,
     texts: &[Vec<u8>],
-    watch: &V,
 ) -> Result<u8, AllocError>
     requires within { IsWithin order.now.workers order.now.room }
     requires any { 0 < length order.now.paths.items }
@@ -180,7 +179,8 @@ fn answer_edited<R: Threads + Wait + Sync, W: World, V: Watch + Follow + Sync>(
         with_replies: outputs.replies.is_some(),
     };
     let (source, scripts) = (texts[0].as_slice(), &texts[1..]);
-    match answer_edit(rt, alloc, keys, asked, source, scripts, watch) {
+    let (rt, alloc) = (means.rt, means.alloc);
+    match answer_edit(rt, alloc, keys, asked, source, scripts, means.watch) {
         Ok(told) => Ok(tell_edited(world, alloc, outputs, path, &told)),
         Err(_) => Err(AllocError),
     }
@@ -188,13 +188,11 @@ fn answer_edited<R: Threads + Wait + Sync, W: World, V: Watch + Follow + Sync>(
 
 /// Reads the files of an order, and edits the source. Who watches is told of the run, and how far the work on the source is. It may wait.
 fn edit_files<R: Threads + Wait + Sync, W: World, V: Watch + Follow + Sync>(
-    rt: &R,
-    alloc: Global,
+    means: &Means<'_, R, V>,
     world: &mut W,
     keys: Option<RandomState>,
     order: &EditOrder<'_>,
     outputs: Outputs<'_>,
-    watch: &V,
 ) -> Result<u8, AllocError>
     requires within { IsWithin order.now.workers order.now.room }
     requires any { 0 < length order.now.paths.items }
@@ -202,20 +200,11 @@ fn edit_files<R: Threads + Wait + Sync, W: World, V: Watch + Follow + Sync>(
         × EndsBy (IsEditFollowed (is_some keys) (map (λ p. p.now) order.now.paths.items) order.now.workers order.now.room outputs.entry
         order.now.allowed) es result }
 {
-    let mut texts = Vec::new(alloc);
-    if let Err(unread) = read_all(world, alloc, order.paths.as_slice(), &mut texts) {
+    let mut texts = Vec::new(means.alloc);
+    if let Err(unread) = read_all(world, means.alloc, order.paths.as_slice(), &mut texts) {
         return tell_unread(world, unread);
     }
-    answer_edited(
-        rt,
-        alloc,
-        world,
-        keys,
-        order,
-        outputs,
-        texts.as_slice(),
-        watch,
-    )
+    answer_edited(means, world, keys, order, outputs, texts.as_slice())
 }
 
 /// Whether two paths, if both are there, lead to one file.
@@ -260,13 +249,11 @@ fn clash<W: World>(world: &mut W, outputs: Outputs<'_>, source: &str) -> Option<
 /// Edits the source of an order, unless something would be written over it, or two texts to one file. Who watches is told of the run, and
 /// how far the work on the source is. It may wait.
 fn edit_apart<R: Threads + Wait + Sync, W: World, V: Watch + Follow + Sync>(
-    rt: &R,
-    alloc: Global,
+    means: &Means<'_, R, V>,
     world: &mut W,
     keys: Option<RandomState>,
     order: &EditOrder<'_>,
     outputs: Outputs<'_>,
-    watch: &V,
 ) -> Result<u8, AllocError>
     requires within { IsWithin order.now.workers order.now.room }
     requires any { 0 < length order.now.paths.items }
@@ -279,17 +266,15 @@ fn edit_apart<R: Threads + Wait + Sync, W: World, V: Watch + Follow + Sync>(
     if let Some(line) = clash(world, outputs, paths[0]) {
         return Ok(refuse(world, line));
     }
-    edit_files(rt, alloc, world, keys, order, outputs, watch)
+    edit_files(means, world, keys, order, outputs)
 }
 
 /// Does what an order to edit asks for. Who watches is told of the run, and how far the work on the source is. It may wait.
 pub(crate) fn follow_edit<R: Threads + Wait + Sync, W: World, V: Watch + Follow + Sync>(
-    rt: &R,
-    alloc: Global,
+    means: &Means<'_, R, V>,
     world: &mut W,
     keys: Option<RandomState>,
     order: &EditOrder<'_>,
-    watch: &V,
 ) -> Result<u8, AllocError>
     requires within { IsWithin order.now.workers order.now.room }
     requires any { 0 < length order.now.paths.items }
@@ -298,7 +283,7 @@ pub(crate) fn follow_edit<R: Threads + Wait + Sync, W: World, V: Watch + Follow 
         order.now.allowed) es result }
 {
     match order.outputs {
-        Some(outputs) => edit_apart(rt, alloc, world, keys, order, outputs, watch),
+        Some(outputs) => edit_apart(means, world, keys, order, outputs),
         None => Ok(refuse(world, "--in-place and --output do not go together")),
     }
 }

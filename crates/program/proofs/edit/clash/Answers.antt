@@ -1,6 +1,6 @@
 use Rattle.std.proofs.Common.{◌++◌, Some, None, codes}
-use Rattle.program.specs.Conduct.{clash, file_of, replies_path}
-use Rattle.program.proofs.Behind.{adds_more}
+use Rattle.program.specs.Edits.{clash, file_of, replies_path}
+use Rattle.conduct.proofs.Behind.{adds_more}
 use Rattle.program.proofs.EditedThen.{compared_found, compared_none}
 use Rattle.program.proofs.edit.clash.Goals as goal
 

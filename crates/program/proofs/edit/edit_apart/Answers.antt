@@ -1,7 +1,7 @@
 use Rattle.std.proofs.Common.{◌++◌, ◌∷◌, [], ℕ, List, Bor, map, refl}
 use Rattle.std.specs.Prelude.{is_some}
-use Rattle.program.specs.Events.{says}
-use Rattle.program.proofs.Behind.{adds_more}
+use Rattle.outside.specs.Events.{says}
+use Rattle.conduct.proofs.Behind.{adds_more}
 use Rattle.program.proofs.EditedThen.{apart, first_and_rest, over_source}
 use Rattle.program.proofs.edit.edit_apart.Goals as goal
 

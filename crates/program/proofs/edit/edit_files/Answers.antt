@@ -1,9 +1,9 @@
 use Rattle.std.proofs.Common.{◌++◌, ap, ℕ, List, Bor, map}
 use Rattle.std.specs.Prelude.{is_some, Vec}
 use Rattle.std.specs.declared.alloc.Global.{Global}
-use Rattle.program.specs.Conduct.{IsAnsweredEdit}
-use Rattle.program.proofs.Behind.{adds_more}
-use Rattle.program.proofs.Followed.{all_read, one_unread}
+use Rattle.program.specs.Edits.{IsAnsweredEdit}
+use Rattle.conduct.proofs.Behind.{adds_more}
+use Rattle.conduct.proofs.Followed.{all_read, one_unread}
 use Rattle.program.proofs.edit.edit_files.Goals as goal
 
 pub returns-in-Err : goal.returns-in-Err

@@ -1,6 +1,6 @@
 use Rattle.std.proofs.Common.{◌∷◌, [], ℕ, List, Bor, codes, map, refl}
 use Rattle.std.specs.Prelude.{is_some}
-use Rattle.program.specs.Events.{says}
+use Rattle.outside.specs.Events.{says}
 use Rattle.program.proofs.EditedThen.{two_places}
 use Rattle.program.proofs.edit.follow_edit.Goals as goal
 

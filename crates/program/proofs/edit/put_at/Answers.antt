@@ -1,7 +1,7 @@
 use Rattle.std.proofs.Common.{◌∷◌, refl}
 use Rattle.std.specs.Prelude.{is_ok}
-use Rattle.program.specs.Events.{replaces, writes}
-use Rattle.program.proofs.Behind.{adds_more}
+use Rattle.outside.specs.Events.{replaces, writes}
+use Rattle.conduct.proofs.Behind.{adds_more}
 use Rattle.program.proofs.edit.put_at.Goals as goal
 
 pub returns-in-File : goal.returns-in-File

@@ -1,8 +1,8 @@
 use Rattle.std.proofs.Common.{◌∷◌, ◌∙◌, ap, sym}
 use Rattle.std.specs.Prelude.{is_ok}
 use Rattle.std.specs.Option.{option_map}
-use Rattle.program.specs.Events.{writes}
-use Rattle.program.proofs.Behind.{adds_more}
+use Rattle.outside.specs.Events.{writes}
+use Rattle.conduct.proofs.Behind.{adds_more}
 use Rattle.program.proofs.EditedThen.{put_failed}
 use Rattle.program.proofs.edit.put_replies.Goals as goal
 

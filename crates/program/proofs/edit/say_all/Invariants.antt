@@ -1,6 +1,6 @@
 use Rattle.std.proofs.Common.{take}
-use Rattle.program.specs.Events.{Adds}
-use Rattle.program.specs.Conduct.{all_said}
+use Rattle.outside.specs.Events.{Adds}
+use Rattle.program.specs.Edits.{all_said}
 use Rattle.program.proofs.edit.say_all.Given as goal
 
 abbrev pub invariant-loop-line : goal.invariant-loop-line

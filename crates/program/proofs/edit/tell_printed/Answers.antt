@@ -1,6 +1,6 @@
 use Rattle.std.proofs.Common.{◌++◌, ◌∙◌, ℕ, ap, inl, inr, refl, subst}
-use Rattle.program.specs.Conduct.{IsPutAt, all_said, undone_status}
-use Rattle.program.proofs.Behind.{adds_more}
+use Rattle.program.specs.Edits.{IsPutAt, all_said, undone_status}
+use Rattle.conduct.proofs.Behind.{adds_more}
 use Rattle.program.proofs.edit.tell_printed.Goals as goal
 
 pub returns-in-Some : goal.returns-in-Some

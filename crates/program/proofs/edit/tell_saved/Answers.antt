@@ -1,6 +1,6 @@
 use Rattle.std.proofs.Common.{◌∷◌, ◌++◌, [], codes, inl, inr, refl}
-use Rattle.program.specs.Events.{says}
-use Rattle.program.proofs.Behind.{adds_nothing}
+use Rattle.outside.specs.Events.{says}
+use Rattle.conduct.proofs.Behind.{adds_nothing}
 use Rattle.program.proofs.edit.tell_saved.Goals as goal
 
 pub returns-in-Ok : goal.returns-in-Ok

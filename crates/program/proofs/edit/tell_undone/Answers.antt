@@ -1,6 +1,6 @@
 use Rattle.std.proofs.Common.{◌≡◌, ◌++◌, [], ℕ, refl, subst, sym}
-use Rattle.program.specs.Conduct.{AreRepliesThen, all_said, replies_path}
-use Rattle.program.proofs.Behind.{adds_more}
+use Rattle.program.specs.Edits.{AreRepliesThen, all_said, replies_path}
+use Rattle.conduct.proofs.Behind.{adds_more}
 use Rattle.program.proofs.EditedThen.{undone_told}
 use Rattle.program.proofs.edit.tell_undone.Goals as goal
 

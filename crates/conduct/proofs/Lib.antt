@@ -1,0 +1,4 @@
+pub mod Behind
+pub mod Followed
+pub mod Taken
+pub mod GivenBack

@@ -1,0 +1,29 @@
+use Rattle.std.specs.Prelude.{is_some}
+use Rattle.std.proofs.Common.{◌∷◌, ◌++◌, [], Some, None, codes, inl, refl}
+use Rattle.conduct.specs.Verifies.{IsAnsweredVerify}
+use Rattle.outside.specs.Events.{reads, says}
+use Rattle.conduct.proofs.Behind.{adds_more, one_read, read_then}
+use Rattle.conduct.proofs.verify.follow_verify.Goals as goal
+
+pub returns-in-Ok : goal.returns-in-Ok
+returns-in-Ok g c =
+    let rest = c.answer_source.ensures in
+    let source = c.in-Ok.source.items in
+    let path = c.args.order.path.now in (
+      reads path (Some source) ∷ rest.0,
+      adds_more c.in-Ok.ensures rest.1,
+      read_then (IsAnsweredVerify (is_some c.args.keys) path) path source rest.0 c.answer_source.result
+          (rw c.as_slice.ensures.value at rest.2),
+    )
+
+pub returns-in-Err-NoMemory : goal.returns-in-Err-NoMemory
+returns-in-Err-NoMemory g c =
+    (reads c.args.order.path.now None ∷ [], c.in-Err-NoMemory.ensures, one_read c.args.order.path.now None)
+
+pub returns-in-Err-Refused : goal.returns-in-Err-Refused
+returns-in-Err-Refused g c =
+    let path = c.args.order.path.now in (
+      reads path None ∷ says (path ++ codes ": cannot read") ∷ [],
+      adds_more c.in-Err-Refused.ensures c.say_of.ensures,
+      inl (refl, refl),
+    )

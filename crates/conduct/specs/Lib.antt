@@ -1,0 +1,7 @@
+pub mod Telling
+pub mod Ending
+pub mod Reading
+pub mod Jobs
+pub mod Takes
+pub mod Gives
+pub mod Verifies

@@ -1,0 +1,125 @@
+//! How a job is done: the files of its order are read, and what is answered is told.
+
+ghost use Rattle.std.specs.Prelude.{is_some, List, Option, Some, map, option_map};
+ghost use Rattle.commandline.specs.Orders.{AsksWithin};
+ghost use Rattle.conduct.specs.Ending.{EndsBy};
+ghost use Rattle.conduct.specs.Jobs.{IsWritten, IsTold, IsJobAnswered, IsAnswered, IsFollowed};
+ghost use Rattle.jobs.specs.Jobs.{AreWithin};
+ghost use Rattle.outside.specs.Events.{Event, Adds};
+
+use crate::means::Means;
+use crate::reading::{read_all, tell_unread};
+use crate::telling::{print_out, refuse};
+use commandline::Order;
+use jobs::{Answered, Job, RunOptions, Watch, answer, job_of, options_of};
+use outside::{Trouble, World};
+use std::alloc::AllocError;
+use std::hash::RandomState;
+use std::sync::Wait;
+use std::thread::Threads;
+
+/// Writes the history of a run to its file, and then prints what the run prints.
+fn save_and_print<W: World>(world: &mut W, path: &str, history: &[u8], out: &[u8]) -> u8
+    ensures { (es : List Event) × Adds (W.done world.old) (W.done world.new) es
+        × IsWritten (Some path.now) history.now out.now es result }
+{
+    match world.write(path, history) {
+        Ok(()) => print_out(world, out),
+        Err(Trouble::NoMemory) => refuse(world, "no memory"),
+        Err(Trouble::Refused) => {
+            world.say_of(path, "cannot write");
+            1
+        }
+    }
+}
+
+/// Tells an answer: what is printed, behind the history where a file is named for it, or the line of the fault.
+fn tell<W: World>(world: &mut W, history: Option<&str>, told: &Answered) -> u8
+    ensures { (es : List Event) × Adds (W.done world.old) (W.done world.new) es
+        × IsTold (option_map (λ s. s.now) history.entry) told.now es result }
+{
+    match told {
+        Answered::Refused(line) => refuse(world, line.as_str()),
+        Answered::Done(printed) => match history {
+            Some(path) => save_and_print(
+                world,
+                path,
+                printed.history.as_slice(),
+                printed.out.as_slice(),
+            ),
+            None => print_out(world, printed.out.as_slice()),
+        },
+    }
+}
+
+/// Does a job on the files of an order, and tells the answer. It may wait.
+fn answer_job<R: Threads + Wait + Sync, W: World, V: Watch + Sync>(
+    means: &Means<'_, R, V>,
+    world: &mut W,
+    keys: RandomState,
+    order: &Order<'_>,
+    job: &Job,
+    options: RunOptions,
+) -> Result<u8, AllocError>
+    requires { AreWithin job.now }
+    ensures { (es : List Event) × Adds (W.done world.old) (W.done world.new) es × EndsBy (IsJobAnswered
+        (map (λ p. p.now) order.now.paths.items) (option_map (λ s. s.now) order.now.history) options job.now) es result }
+{
+    let paths = order.paths.as_slice();
+    match answer(
+        means.rt,
+        means.alloc,
+        keys,
+        job,
+        options,
+        paths,
+        means.watch,
+    ) {
+        Ok(told) => Ok(tell(world, order.history, &told)),
+        Err(_) => Err(AllocError),
+    }
+}
+
+/// Does the job of an order on the texts of its files, and tells the answer. It may wait.
+fn answer_texts<R: Threads + Wait + Sync, W: World, V: Watch + Sync>(
+    means: &Means<'_, R, V>,
+    world: &mut W,
+    keys: Option<RandomState>,
+    order: &Order<'_>,
+    texts: Vec<Vec<u8>>,
+) -> Result<u8, AllocError>
+    requires { AsksWithin order.now.task }
+    ensures { (es : List Event) × Adds (W.done world.old) (W.done world.new) es × EndsBy (IsAnswered (is_some keys) order.now.task
+        (map (λ p. p.now) order.now.paths.items) (option_map (λ s. s.now) order.now.history) (map (λ t. t.items) texts.items)) es result }
+{
+    let Some(job) = job_of(order.task, texts) else {
+        return Ok(refuse(world, "the command line cannot be read"));
+    };
+    let Some(keys) = keys else {
+        return Ok(refuse(world, "no random numbers"));
+    };
+    let options = options_of(order.task);
+    answer_job(means, world, keys, order, &job, options)
+}
+
+/// Does what an order asks for: checks, runs or replays. Who watches is told of a run. It may wait.
+///
+/// # Errors
+///
+/// Memory ran out, before anything was written, printed or said.
+pub fn follow_order<R: Threads + Wait + Sync, W: World, V: Watch + Sync>(
+    means: &Means<'_, R, V>,
+    world: &mut W,
+    keys: Option<RandomState>,
+    order: &Order<'_>,
+) -> Result<u8, AllocError>
+    requires { AsksWithin order.now.task }
+    ensures { (es : List Event) × Adds (W.done world.old) (W.done world.new) es × EndsBy (IsFollowed (is_some keys) order.now.task
+        (map (λ p. p.now) order.now.paths.items) (option_map (λ s. s.now) order.now.history)) es result }
+{
+    let mut texts = Vec::new(means.alloc);
+    if let Err(unread) = read_all(world, means.alloc, order.paths.as_slice(), &mut texts) {
+        return tell_unread(world, unread);
+    }
+    answer_texts(means, world, keys, order, texts)
+}

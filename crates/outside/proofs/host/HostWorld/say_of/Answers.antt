@@ -1,0 +1,5 @@
+use Rattle.outside.proofs.Standing.{adds_line}
+use Rattle.outside.proofs.host.HostWorld.say_of.Goals as goal
+
+pub returns : goal.returns
+returns g c = adds_line _ _ _

@@ -1,0 +1,67 @@
+//! What lies outside of the program: files, and the standard output and error.
+
+use std::alloc::Global;
+
+/// Why a file is not read or written.
+#[derive(Clone, Copy, Debug, PartialEq, Eq)]
+pub enum Trouble {
+    /// Memory ran out.
+    NoMemory,
+    /// The system refuses it.
+    Refused,
+}
+
+/// What the program does on the outside. Contracts see all that was done, in order.
+pub trait World {
+    ghost use Rattle.std.specs.Prelude.{◌≡◌, ◌++◌, ◌∷◌, [], List, Option, None, codes, is_ok, true};
+    ghost use Rattle.outside.specs.Events.{Event, Adds, bytes_of, reads, compares, writes, replaces, prints, says, shows};
+
+    /// Whether just this was done so far, as far as what lies outside tells.
+    ghost done: { Self → List Event → Type 0 };
+
+    /// Reads the file at a path.
+    ///
+    /// # Errors
+    ///
+    /// The file can't be read, or there is no memory for it.
+    fn read(&mut self, alloc: Global, path: &str) -> Result<Vec<u8>, Trouble>
+        ensures { Adds (done self.old) (done self.new) (reads path.now (bytes_of result) ∷ []) };
+
+    /// Whether two paths lead to one file, as far as the system tells. A path leads where it leads itself, though nothing is there.
+    fn is_one_file(&mut self, one: &str, other: &str) -> bool
+        ensures told { Adds (done self.old) (done self.new) (compares one.now other.now result ∷ []) }
+        ensures same { one.now ≡ other.now → result ≡ true };
+
+    /// Writes a text to the file at a path, in place of what it had.
+    ///
+    /// # Errors
+    ///
+    /// The file can't be written whole, or there is no memory for that: what it has then is not said.
+    fn write(&mut self, path: &str, text: &[u8]) -> Result<(), Trouble>
+        ensures { Adds (done self.old) (done self.new) (writes path.now text.now (is_ok result) ∷ []) };
+
+    /// Puts a text in place of what the file at a path has: at any time that has the one or the other whole.
+    ///
+    /// # Errors
+    ///
+    /// The text can't be put there, or there is no memory for that: the file has what it had.
+    fn replace(&mut self, alloc: Global, path: &str, text: &[u8]) -> Result<(), Trouble>
+        ensures { Adds (done self.old) (done self.new) (replaces path.now text.now (is_ok result) ∷ []) };
+
+    /// Prints a text on the standard output, and answers whether it was printed whole.
+    fn print(&mut self, text: &[u8]) -> bool
+        ensures { Adds (done self.old) (done self.new) (prints text.now result ∷ []) };
+
+    /// Says a line on the standard error, if that takes it.
+    fn say(&mut self, line: &str)
+        ensures { Adds (done self.old) (done self.new) (says line.now ∷ []) };
+
+    /// Says a line of the file at a path on the standard error, behind the path and a colon, if that takes it.
+    fn say_of(&mut self, path: &str, line: &str)
+        ensures { Adds (done self.old) (done self.new) (says (path.now ++ (codes ": " ++ line.now)) ∷ []) };
+
+    /// Shows what the parser of command lines says, help and the version on the standard output, all else on the standard error, and
+    /// answers whether it was shown whole.
+    fn show(&mut self, error: &clap::Error) -> bool
+        ensures { Adds (done self.old) (done self.new) (shows error.now result ∷ []) };
+}

@@ -1,8 +1,0 @@
-use Rattle.program.proofs.Standing.{adds_compare}
-use Rattle.program.proofs.host.HostWorld.is_one_file.Goals as goal
-
-pub returns-then-eq-clause-told : goal.returns-then-eq-clause-told
-returns-then-eq-clause-told g c = adds_compare _ _ _ _ _
-
-pub returns-else-eq-clause-told : goal.returns-else-eq-clause-told
-returns-else-eq-clause-told g c = adds_compare _ _ _ _ _

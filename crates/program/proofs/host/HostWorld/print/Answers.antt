@@ -1,7 +1,0 @@
-use Rattle.program.proofs.Standing.{adds_print}
-use Rattle.program.proofs.host.HostWorld.print.Goals as goal
-
-pub returns : goal.returns
-returns g c =
-    let wrote = c.write_whole.ensures in
-    adds_print _ _ _ c.args.text.now c.write_whole.result _ c.is_ok.ensures.value wrote.whole wrote.front

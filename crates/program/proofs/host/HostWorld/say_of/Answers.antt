@@ -1,5 +1,0 @@
-use Rattle.program.proofs.Standing.{adds_line}
-use Rattle.program.proofs.host.HostWorld.say_of.Goals as goal
-
-pub returns : goal.returns
-returns g c = adds_line _ _ _

@@ -1,5 +1,0 @@
-use Rattle.program.proofs.Standing.{adds_shown}
-use Rattle.program.proofs.host.HostWorld.show.Goals as goal
-
-pub returns : goal.returns
-returns g c = adds_shown _ _ _ _ _

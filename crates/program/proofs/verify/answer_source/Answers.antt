@@ -1,7 +1,0 @@
-use Rattle.std.proofs.Common.{inl}
-use Rattle.program.proofs.verify.answer_source.Goals as goal
-
-pub returns-in-Ok : goal.returns-in-Ok
-returns-in-Ok g c =
-    let told = c.tell_verdict.ensures in
-    (told.0, told.1, inl (c.in-Ok.told, c.in-Ok.ensures, told.2))
