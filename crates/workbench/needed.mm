@@ -1,1 +1,0 @@
-$c wff $. a $a wff $. c $a wff $. ${ x $e wff $. y $e wff $. b $a wff $. $}

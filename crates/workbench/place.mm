@@ -1,3 +1,0 @@
-$c wff $.
-c $a wff $.
-d $p wff $= c $.

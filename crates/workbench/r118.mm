@@ -1,1 +1,0 @@
-$c wff |- $. $v x y z $. wx $f wff x $. wy $f wff y $. ${ h.1 $e wff $. u $a wff $. $} v $p wff $= h.1 $.

@@ -1,1 +1,0 @@
-$c wff |- $. $v x y z $. wx $f wff x $. wy $f wff y $. $c a.0 .1 a. $. wz $f wff z $.

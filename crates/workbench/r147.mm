@@ -1,1 +1,0 @@
-$c wff $. a!b $a wff $.

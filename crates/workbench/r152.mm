@@ -1,1 +1,0 @@
-$c wff $. wff $a wff $.

@@ -1,1 +1,0 @@
-$c wff $. $v x $. wx $f x x $.

@@ -1,1 +1,0 @@
-$c wff $. $v x y $. wx $f wff x $. wy $f wff y $. ${ $d x y $. a $a wff $. $} ${ $d x y $. b $a wff $. $}

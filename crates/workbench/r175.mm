@@ -1,1 +1,0 @@
-$c wff $. ${ a $a wff $. $} ${ a $e wff $. b $a wff $. $}

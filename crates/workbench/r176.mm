@@ -1,1 +1,0 @@
-$c wff $. ${ h $e wff $. a $a wff $. $} ${ h $e wff $. b $a wff $. $}

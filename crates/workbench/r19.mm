@@ -1,2 +1,0 @@
-$c wff $.
-we $a wf

@@ -1,6 +1,0 @@
-$c wff |- $.
-$v x y $.
-wx $f wff x $.
-wy $f wff y $.
-id $a |- x y x $.
-wc $a wff $.

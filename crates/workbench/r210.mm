@@ -1,1 +1,0 @@
-$v x $. $c wff $. $v y z q $. wy $f wff y $. $c a $. wz $f wff z $. wx $f wff x $. ${ $d x y $. $d x z y $. u $a a x $. $}

@@ -1,1 +1,0 @@
-$c wff $. ${ a $e wff $. b $e wff wff $. u $a wff $. $} ${ a.b $e wff wff $. c $e wff $. v $p wff $= c a.b u $. $}

@@ -1,2 +1,0 @@
-$c wff $. $v x $.
-u $a wff $.

@@ -1,1 +1,0 @@
-$c wff $. a $p wff $= b $.

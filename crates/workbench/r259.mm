@@ -1,1 +1,0 @@
-$c wff $. a $a wff $. b $p wff $= b $.

@@ -1,1 +1,0 @@
-$c wff $. b $p wff $= a $. a $a wff $.

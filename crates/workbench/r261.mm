@@ -1,1 +1,0 @@
-$c wff $. a $a wff $. b $p wff $= a a $. c $p wff $= c $.

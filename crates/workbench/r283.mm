@@ -1,1 +1,0 @@
-$c wff $. $v x $. wx $f wff x $. d $a wff x x $. p $p wff x $= wx d d d d d d d d d d d d d d d d $.

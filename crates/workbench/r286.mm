@@ -1,3 +1,0 @@
-$c wff |- # $. $v x y z $. wx $f wff x $. wy $f wff y $. wz $f wff z $.
-${ $d x y $. ax $a |- x # y $. $} we $a wff $.
-t $p |- x # y $= wx wy ax $.

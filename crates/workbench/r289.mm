@@ -1,3 +1,0 @@
-$c wff |- # $. $v x y z $. wx $f wff x $. wy $f wff y $. wz $f wff z $.
-${ $d x y $. ax $a |- x # y $. $} we $a wff $.
-${ $d x y $. t $p |- y # x $= wy wx ax $. $}

@@ -1,1 +1,0 @@
-$c wff |- $. $v x $. wx $f wff x $. ax $a |- x $. t $p |- wff x $= wx ax $.

@@ -1,1 +1,0 @@
-$c wff $. $v x $. a $a wff x $.

@@ -1,1 +1,0 @@
-$c wff |- # $. $v x y $. wx $f wff x $. wy $f wff y $. ${ $d x y $. ax $a |- x # y $. $} we $a wff $.

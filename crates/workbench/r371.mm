@@ -1,1 +1,0 @@
-$c wff $. we $a wff $.

@@ -1,1 +1,0 @@
-$c wff $. a $a wff $. ${ x $e wff $. y $e wff $. b $a wff $. $} t $p wff $= a a b $.

@@ -1,1 +1,0 @@
-$c wff |- $. $v x y z $. wx $f wff x $. wy $f wff y $. ${ $d x z $.
