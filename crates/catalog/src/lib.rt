@@ -17,5 +17,5 @@ pub use listing::list_lines;
 pub use notes::{Note, drop_notes, take_all_back};
 pub use places::{Places, entry_at, find_entry, find_label, open_entries, open_frames};
 pub use testing::{
-    cites, cites_not_below, cites_unknown, count_citers, has_citer_below, proof_fault,
+    Lower, cites, cites_not_below, cites_unknown, count_citers, has_citer_below, proof_fault,
 };

@@ -172,12 +172,16 @@ pub fn cites_not_below(
 
 /// The assertions of lower rank than one, which its proof may cite.
 #[derive(Drop)]
-struct Lower<'a> {
-    prelude: &'a Prelude,
-    entries: &'a [Option<Ranked>],
-    frames: &'a [Frame],
-    places: &'a Places,
-    rank: u32,
+pub struct Lower<'a> {
+    pub prelude: &'a Prelude,
+    /// The assertions of all ranks, each at its place.
+    pub entries: &'a [Option<Ranked>],
+    /// The frame of each assertion, at its place.
+    pub frames: &'a [Frame],
+    /// The places of labels.
+    pub places: &'a Places,
+    /// The rank that is above theirs.
+    pub rank: u32,
     ghost indexed: { IsIndex places.now entries.now },
     ghost framed: { AreFramed prelude.now entries.now frames.now },
 }
@@ -200,34 +204,22 @@ impl Frames for Lower<'_> {
     }
 }
 
-/// The fault of the proof of a theorem of a rank, over the assertions of lower rank, if it has one.
+/// The fault of the proof of a theorem over the assertions of lower rank, if it has one.
 ///
 /// # Errors
 ///
 /// Want of memory.
 pub fn proof_fault(
     alloc: Global,
-    prelude: &Prelude,
-    entries: &[Option<Ranked>],
-    frames: &[Frame],
-    places: &Places,
-    rank: u32,
+    lower: &Lower<'_>,
     assertion: &Assertion,
 ) -> Result<Option<ProofFault>, AllocError>
-    requires indexed { IsIndex places.now entries.now }
-    requires framed { AreFramed prelude.now entries.now frames.now }
-    requires theorem { assertion.now.kind ≡ Theorem }
+    requires { assertion.now.kind ≡ Theorem }
     ensures { (slots : ℕ) → IfOk result (λ fault. option_map reason.ProofFails fault
-        ≡ proof_fails (record { prelude = prelude.now; slots = slots }) (living entries.now) rank assertion.now) }
+        ≡ proof_fails (record { prelude = lower.now.prelude.now; slots = slots }) (living lower.now.entries.now) lower.now.rank
+        assertion.now) }
 {
-    let lower = Lower {
-        prelude,
-        entries,
-        frames,
-        places,
-        rank,
-    };
-    match check(alloc, lower.prelude, &lower, assertion) {
+    match check(alloc, lower.prelude, lower, assertion) {
         Ok(()) => Ok(None),
         Err(fault) => match fault.kind {
             ProofFaultKind::NoMemory => Err(AllocError),

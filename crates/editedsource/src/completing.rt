@@ -27,9 +27,8 @@ use crate::telling::{ungiven, unverified};
 use describing::describe;
 use editscripts::Unedited;
 use following::Follow;
-use givetext::{Draft, Replayed, draft_edits, look_at_draft, read_draft};
+use givetext::{Draft, EditedLibrary, draft_edits, look_at_draft, read_draft};
 use giving::LabelMap;
-use intake::Taken;
 use scopes::Scopes;
 use source::Declared;
 use source::laws::sources_are_whole;
@@ -39,29 +38,40 @@ use std::hash::RandomState;
 use std::thread::Threads;
 use verifytext::{Refusal, Verified, verify, verify_read};
 
+/// What goes into a source.
+#[derive(Clone, Copy)]
+pub struct SourceEdit<'x, 'a> {
+    /// The path of the source, as lines have it.
+    pub path: &'x str,
+    /// The library that was taken of it, with the history of a run over it.
+    pub library: EditedLibrary<'x, 'a>,
+    /// The labels under which assertions are added, each with the comment that describes it.
+    pub descriptions: &'x [(&'x [u8], &'x [u8])],
+}
+
 /// The source with the edits of a history, before it is looked at.
 fn draft_of<'x, 'a: 'x>(
     alloc: Global,
     keys: RandomState,
-    path: &str,
     old: &Scopes<'a>,
-    source: &[u8],
-    taken: &'x Taken<'a>,
-    run: &'x Replayed,
+    edit: &SourceEdit<'x, 'a>,
 ) -> Result<Draft<'x>, Unedited>
-    requires chosen { length taken.now.chosen.items ≡ length old.now.stand.scope.assertions }
-    requires declares { DeclaresText source.now old.now.stand.scope }
-    ensures drafted { (choice : Choice) → map (λ (x : Assertion). is_in choice.chosen x.label) old.now.stand.scope.assertions
-        ≡ taken.now.chosen.items
-        → IfOk result (IsDraft source.now old.now.stand.scope choice taken.now run.now.entries run.now.edited) }
-    ensures refused { (choice : Choice) → map (λ (x : Assertion). is_in choice.chosen x.label) old.now.stand.scope.assertions
-        ≡ taken.now.chosen.items
-        → IfErr result (IsToldBy (IsStoppedLine path.now source.now old.now.stand.scope choice taken.now run.now.entries run.now.edited)) }
+    requires chosen { length edit.now.library.taken.now.chosen.items ≡ length old.now.stand.scope.assertions }
+    requires declares { DeclaresText edit.now.library.source.now old.now.stand.scope }
+    ensures drafted { let library = edit.now.library in let run = library.replayed.now in
+        (choice : Choice) → map (λ (x : Assertion). is_in choice.chosen x.label) old.now.stand.scope.assertions
+        ≡ library.taken.now.chosen.items
+        → IfOk result (IsDraft library.source.now old.now.stand.scope choice library.taken.now run.entries run.edited) }
+    ensures refused { let library = edit.now.library in let run = library.replayed.now in
+        (choice : Choice) → map (λ (x : Assertion). is_in choice.chosen x.label) old.now.stand.scope.assertions
+        ≡ library.taken.now.chosen.items
+        → IfErr result (IsToldBy (IsStoppedLine edit.now.path.now library.source.now old.now.stand.scope choice library.taken.now
+        run.entries run.edited)) }
     ensures own { IfOk result (λ draft. length draft.own.items ≡ length old.now.stand.scope.assertions) }
 {
-    match draft_edits(alloc, keys, old, source, taken, run) {
+    match draft_edits(alloc, keys, old, &edit.library) {
         Ok(draft) => Ok(draft),
-        Err(why) => Err(ungiven(alloc, path, &why)?),
+        Err(why) => Err(ungiven(alloc, edit.path, &why)?),
     }
 }
 
@@ -90,25 +100,26 @@ fn look_at<'o>(
     rt: &(impl Threads + Sync),
     alloc: Global,
     keys: RandomState,
-    path: &str,
     old: &Scopes<'_>,
     new: &Scopes<'o>,
-    source: &[u8],
+    edit: &SourceEdit<'_, '_>,
     draft: &Draft<'_>,
-    run: &Replayed,
 ) -> Result<(), Unedited>
     requires own { length draft.now.own.items ≡ length old.now.stand.scope.assertions }
     requires declares { DeclaresText draft.now.text.items new.now.stand.scope }
-    ensures edited { (choice : Choice) (taken : TakenOf)
-        → IsDraft source.now old.now.stand.scope choice taken run.now.entries run.now.edited draft.now
-        → OnOk result (IsEdited source.now old.now.stand.scope choice taken run.now.entries run.now.edited draft.now.text.items) }
-    ensures refused { (choice : Choice) (taken : TakenOf)
-        → IsDraft source.now old.now.stand.scope choice taken run.now.entries run.now.edited draft.now
-        → IfErr result (IsToldBy (IsStoppedLine path.now source.now old.now.stand.scope choice taken run.now.entries run.now.edited)) }
+    ensures edited { let library = edit.now.library in let run = library.replayed.now in
+        (choice : Choice) (taken : TakenOf)
+        → IsDraft library.source.now old.now.stand.scope choice taken run.entries run.edited draft.now
+        → OnOk result (IsEdited library.source.now old.now.stand.scope choice taken run.entries run.edited draft.now.text.items) }
+    ensures refused { let library = edit.now.library in let run = library.replayed.now in
+        (choice : Choice) (taken : TakenOf)
+        → IsDraft library.source.now old.now.stand.scope choice taken run.entries run.edited draft.now
+        → IfErr result (IsToldBy (IsStoppedLine edit.now.path.now library.source.now old.now.stand.scope choice taken
+        run.entries run.edited)) }
 {
-    match look_at_draft(rt, alloc, keys, old, new, source, draft, run) {
+    match look_at_draft(rt, alloc, keys, old, new, &edit.library, draft) {
         Ok(()) => Ok(()),
-        Err(why) => Err(ungiven(alloc, path, &why)?),
+        Err(why) => Err(ungiven(alloc, edit.path, &why)?),
     }
 }
 
@@ -201,33 +212,41 @@ pub fn finish<'x, 'a: 'x>(
     rt: &(impl Threads + Sync),
     alloc: Global,
     keys: RandomState,
-    path: &str,
     old: Scopes<'a>,
-    source: &[u8],
-    taken: &'x Taken<'a>,
-    run: &'x Replayed,
-    descriptions: &[(&[u8], &[u8])],
+    edit: &SourceEdit<'x, 'a>,
     follow: &(impl Follow + Sync),
 ) -> Result<Finished, Unedited>
-    requires chosen { length taken.now.chosen.items ≡ length old.stand.scope.assertions }
-    requires declares { DeclaresText source.now old.stand.scope }
-    ensures finished { (choice : Choice) → map (λ (x : Assertion). is_in choice.chosen x.label) old.entry.stand.scope.assertions
-        ≡ taken.now.chosen.items → IfOk result (IsFinished path.now source.now old.entry.stand.scope choice taken.now run.now.entries
-        run.now.edited (seen_pairs descriptions.now)) }
-    ensures refused { (choice : Choice) → map (λ (x : Assertion). is_in choice.chosen x.label) old.entry.stand.scope.assertions
-        ≡ taken.now.chosen.items → IfErr result (IsToldBy (IsStoppedOrFaulty path.now source.now old.entry.stand.scope choice taken.now
-        run.now.entries run.now.edited (seen_pairs descriptions.now))) }
+    requires chosen { length edit.now.library.taken.now.chosen.items ≡ length old.stand.scope.assertions }
+    requires declares { DeclaresText edit.now.library.source.now old.stand.scope }
+    ensures finished { let library = edit.now.library in let run = library.replayed.now in
+        (choice : Choice) → map (λ (x : Assertion). is_in choice.chosen x.label) old.entry.stand.scope.assertions
+        ≡ library.taken.now.chosen.items
+        → IfOk result (IsFinished edit.now.path.now library.source.now old.entry.stand.scope choice library.taken.now
+        run.entries run.edited (seen_pairs edit.now.descriptions.now)) }
+    ensures refused { let library = edit.now.library in let run = library.replayed.now in
+        (choice : Choice) → map (λ (x : Assertion). is_in choice.chosen x.label) old.entry.stand.scope.assertions
+        ≡ library.taken.now.chosen.items
+        → IfErr result (IsToldBy (IsStoppedOrFaulty edit.now.path.now library.source.now old.entry.stand.scope choice library.taken.now
+        run.entries run.edited (seen_pairs edit.now.descriptions.now))) }
 {
-    let draft = draft_of(alloc, keys, path, &old, source, taken, run)?;
-    let new = read_new(alloc, keys, path, &old, &draft)?;
+    let draft = draft_of(alloc, keys, &old, edit)?;
+    let new = read_new(alloc, keys, edit.path, &old, &draft)?;
     // For the proof: what is read is whole.
     sources_are_whole();
-    look_at(rt, alloc, keys, path, &old, &new, source, &draft, run)?;
+    look_at(rt, alloc, keys, &old, &new, edit, &draft)?;
     // Its tables are as large as those of the new text, which is verified without them.
     drop(old);
     let text = draft.text.as_slice();
-    let described = describe_added(alloc, keys, descriptions, &draft.following, text)?;
-    check(rt, alloc, keys, path, &new, bytes_of(&described), follow)?;
+    let described = describe_added(alloc, keys, edit.descriptions, &draft.following, text)?;
+    check(
+        rt,
+        alloc,
+        keys,
+        edit.path,
+        &new,
+        bytes_of(&described),
+        follow,
+    )?;
     drop(new);
     let Draft {
         text,
@@ -235,6 +254,6 @@ pub fn finish<'x, 'a: 'x>(
         ..
     } = draft;
     let out = described.unwrap_or(text);
-    let spoken = spoken_lines(alloc, keys, path, &following, out.as_slice())?;
+    let spoken = spoken_lines(alloc, keys, edit.path, &following, out.as_slice())?;
     Ok(Finished { out, spoken })
 }

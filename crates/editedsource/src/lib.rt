@@ -6,4 +6,4 @@ mod placing;
 mod spoken;
 mod telling;
 
-pub use completing::{Finished, finish};
+pub use completing::{Finished, SourceEdit, finish};

@@ -8,6 +8,7 @@ ghost use Rattle.library.specs.Reasons.{printed_reason};
 ghost use Rattle.editscripts.specs.Undone.{IsUndoneText, refused_text, undone_of, all_undone};
 ghost use Rattle.editscripts.specs.Views.{seen_texts, beginnings_of};
 
+use crate::run::RunScripts;
 use crate::telling::{path_at, text_at};
 use expanding::{Laid, lines_of};
 use library::{Command, Reason, Script, Transaction};
@@ -125,22 +126,16 @@ pub(crate) fn transactions_at(scripts: &[Script], place: usize) -> &[Transaction
     }
 }
 
-/// A line for each transaction that wasn't done, by the scripts and in their order. The paths are those of the source and of the scripts.
-pub fn undone(
-    alloc: Global,
-    paths: &[&str],
-    texts: &[Vec<u8>],
-    laid: &[Laid],
-    scripts: &[Script],
-    rows: &[Vec<Outcome>],
-) -> Result<Vec<String>, AllocError>
-    ensures { IfOk result (λ said. map string_bytes said.items ≡ all_undone
-        (map (λ p. p.now) paths.now) (seen_texts texts.now) (beginnings_of laid.now) scripts.now (lists_of rows.now)) }
+/// A line for each transaction that wasn't done, by the scripts and in their order.
+pub fn undone(alloc: Global, run: &RunScripts<'_>) -> Result<Vec<String>, AllocError>
+    ensures { let r = run.now in IfOk result (λ said. map string_bytes said.items ≡ all_undone
+        (map (λ p. p.now) r.paths.now) (seen_texts r.texts.now) (beginnings_of r.laid.now) r.scripts.now (lists_of r.rows.now)) }
 {
+    let rows = run.rows;
     let mut said = Vec::new(alloc);
     for (n, row) in rows.iter().enumerate() {
-        let lines = lines_at(alloc, texts, laid, n)?;
-        let (path, script) = (path_at(paths, n + 1), transactions_at(scripts, n));
+        let lines = lines_at(alloc, run.texts, run.laid, n)?;
+        let (path, script) = (path_at(run.paths, n + 1), transactions_at(run.scripts, n));
         put_undone(
             alloc,
             &mut said,

@@ -8,6 +8,7 @@ mod discouraging;
 mod expanded;
 mod lacking;
 mod replying;
+mod run;
 mod telling;
 mod unedited;
 
@@ -17,5 +18,6 @@ pub use discouraging::are_encouraged;
 pub use expanded::{lay_all, read_all, spread_of};
 pub use lacking::{may_print, undone};
 pub use replying::replies_if;
+pub use run::RunScripts;
 pub use telling::{untaken, unworked};
 pub use unedited::Unedited;

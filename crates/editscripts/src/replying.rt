@@ -8,9 +8,9 @@ ghost use Rattle.editscripts.specs.Replies.{replies_of, all_replies, told_if};
 ghost use Rattle.editscripts.specs.Views.{seen_texts, beginnings_of};
 
 use crate::lacking::{commands_at, line_at, lines_at, transactions_at};
+use crate::run::RunScripts;
 use crate::telling::path_at;
-use expanding::Laid;
-use library::{Script, Transaction};
+use library::Transaction;
 use mmsyntax::Prelude;
 use replylines::put_line;
 use std::alloc::{AllocError, Global};
@@ -45,24 +45,17 @@ fn put_replies(
     Ok(())
 }
 
-/// What became of the transactions of scripts, in their order. The paths are those of the source and of the scripts.
-fn replies_in(
-    alloc: Global,
-    prelude: &Prelude,
-    paths: &[&str],
-    texts: &[Vec<u8>],
-    laid: &[Laid],
-    scripts: &[Script],
-    rows: &[Vec<Outcome>],
-) -> Result<Vec<u8>, AllocError>
-    requires { AreReportable prelude.now (lists_of rows.now) }
-    ensures { IfOk result (λ out. out.items ≡ all_replies prelude.now
-        (map (λ p. p.now) paths.now) (seen_texts texts.now) (beginnings_of laid.now) scripts.now (lists_of rows.now)) }
+/// What became of the transactions of scripts, in their order.
+fn replies_in(alloc: Global, prelude: &Prelude, run: &RunScripts<'_>) -> Result<Vec<u8>, AllocError>
+    requires { AreReportable prelude.now (lists_of run.now.rows.now) }
+    ensures { let r = run.now in IfOk result (λ out. out.items ≡ all_replies prelude.now
+        (map (λ p. p.now) r.paths.now) (seen_texts r.texts.now) (beginnings_of r.laid.now) r.scripts.now (lists_of r.rows.now)) }
 {
+    let rows = run.rows;
     let mut out = Vec::new(alloc);
     for (n, row) in rows.iter().enumerate() {
-        let lines = lines_at(alloc, texts, laid, n)?;
-        let (path, script) = (path_at(paths, n + 1), transactions_at(scripts, n));
+        let lines = lines_at(alloc, run.texts, run.laid, n)?;
+        let (path, script) = (path_at(run.paths, n + 1), transactions_at(run.scripts, n));
         put_replies(
             alloc,
             &mut out,
@@ -81,18 +74,14 @@ pub fn replies_if(
     alloc: Global,
     asked: bool,
     prelude: &Prelude,
-    paths: &[&str],
-    texts: &[Vec<u8>],
-    laid: &[Laid],
-    scripts: &[Script],
-    rows: &[Vec<Outcome>],
+    run: &RunScripts<'_>,
 ) -> Result<Option<Vec<u8>>, AllocError>
-    requires { AreReportable prelude.now (lists_of rows.now) }
-    ensures { IfOk result (λ told. option_map (λ out. out.items) told ≡ told_if asked (all_replies prelude.now
-        (map (λ p. p.now) paths.now) (seen_texts texts.now) (beginnings_of laid.now) scripts.now (lists_of rows.now))) }
+    requires { AreReportable prelude.now (lists_of run.now.rows.now) }
+    ensures { let r = run.now in IfOk result (λ told. option_map (λ out. out.items) told ≡ told_if asked (all_replies prelude.now
+        (map (λ p. p.now) r.paths.now) (seen_texts r.texts.now) (beginnings_of r.laid.now) r.scripts.now (lists_of r.rows.now))) }
 {
     if !asked {
         return Ok(None);
     }
-    Ok(Some(replies_in(alloc, prelude, paths, texts, laid, scripts, rows)?))
+    Ok(Some(replies_in(alloc, prelude, run)?))
 }

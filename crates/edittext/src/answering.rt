@@ -1,6 +1,6 @@
 //! The answer of the program where scripts edit a source.
 
-ghost use Rattle.std.specs.Prelude.{IfOk, IfErr, map};
+ghost use Rattle.std.specs.Prelude.{◌≡◌, IfOk, IfErr, map};
 ghost use Rattle.transaction.specs.Closings.{lists_of};
 ghost use Rattle.reports.specs.Reports.{AreReportable};
 ghost use Rattle.checking.specs.Tasks.{IsWithin};
@@ -13,10 +13,11 @@ ghost use Rattle.editscripts.specs.Views.{seen_texts};
 
 use crate::account::Account;
 use crate::call::{Begun, begin, read_old, run_over};
-use editedsource::{Finished, finish};
-use editscripts::{Unedited, done_descriptions, may_print, replies_if, undone};
+use editedsource::{Finished, SourceEdit, finish};
+use editscripts::{RunScripts, Unedited, done_descriptions, may_print, replies_if, undone};
 use following::Follow;
-use givetext::Replayed;
+use givetext::{EditedLibrary, Replayed};
+use intake::Taken;
 use jobs::{Edited, Watch};
 use source::laws::sources_are_whole;
 use std::alloc::{AllocError, Global};
@@ -67,12 +68,16 @@ fn account_of(
     ensures { IfOk result (IsFirstAccount (map (λ p. p.now) order.entry.paths.now) (seen_texts texts.now) begun.now (lists_of outcomes.now)
         order.entry.with_replies) }
 {
-    let (laid, scripts) = (begun.laid.as_slice(), begun.scripts.as_slice());
-    let paths = order.paths;
-    let undone = undone(alloc, paths, texts, laid, scripts, outcomes)?;
+    let run = RunScripts {
+        paths: order.paths,
+        texts,
+        laid: begun.laid.as_slice(),
+        scripts: begun.scripts.as_slice(),
+        rows: outcomes,
+    };
+    let undone = undone(alloc, &run)?;
     let prelude = begun.taken.database.prelude();
-    let asked = order.with_replies;
-    let replies = replies_if(alloc, asked, prelude, paths, texts, laid, scripts, outcomes)?;
+    let replies = replies_if(alloc, order.with_replies, prelude, &run)?;
     Ok(Account {
         undone,
         spoken: Vec::new(alloc),
@@ -118,11 +123,36 @@ fn edit<'a>(
         edited: library,
     };
     let done = done_descriptions(alloc, rows, begun.descriptions.as_slice())?;
-    let (path, described) = (order.path, done.as_slice());
-    let Finished { out, spoken } = finish(
-        rt, alloc, keys, path, old, source, taken, &run, described, follow,
-    )?;
+    let described = done.as_slice();
+    let edit = edit_of(order.path, source, taken, &run, described);
+    let Finished { out, spoken } = finish(rt, alloc, keys, old, &edit, follow)?;
     Ok(Told::Printed(out, Account { spoken, ..account }))
+}
+
+/// What goes into a source: the edits of a run over the library that was taken of it, and these descriptions.
+fn edit_of<'x, 'a>(
+    path: &'x str,
+    source: &'x [u8],
+    taken: &'x Taken<'a>,
+    replayed: &'x Replayed,
+    descriptions: &'x [(&'x [u8], &'x [u8])],
+) -> SourceEdit<'x, 'a>
+    ensures path { result.path.now ≡ path.entry.now }
+    ensures source { result.library.source.now ≡ source.entry.now }
+    ensures taken { result.library.taken.now ≡ taken.entry.now }
+    ensures replayed { result.library.replayed.now ≡ replayed.entry.now }
+    ensures descriptions { result.descriptions.now ≡ descriptions.entry.now }
+{
+    let library = EditedLibrary {
+        source,
+        taken,
+        replayed,
+    };
+    SourceEdit {
+        path,
+        library,
+        descriptions,
+    }
 }
 
 /// Edits the source in the text of a file by scripts, and gives what the program answers.

@@ -16,6 +16,7 @@ ghost use Rattle.gathering.specs.Gatherings.{told_in};
 ghost use Rattle.gathering.specs.Outcomes.{HasStepsFor};
 ghost use Rattle.gathering.specs.Placed.{map_of, tables_of, symbols_by};
 
+use crate::flags::Flags;
 use crate::places::Placed;
 use crate::proving::{Outcome, outcome_at};
 use crate::saying::{placed_expression, placed_premises, restrictions};
@@ -122,29 +123,27 @@ fn with_outcome(mut assertion: Assertion, outcome: Outcome) -> One
 
 /// What is taken of the chosen assertion at a place.
 ///
-/// Flags say of each assertion whether it is chosen, whether it stands in front of the choice, and whether its proof has too long an
-/// expression. After an error nothing is said of the frames.
+/// After an error nothing is said of the frames.
 fn taken_at<'a, D: Declared<'a>>(
     alloc: Global,
     keys: RandomState,
     declared: &D,
     frames: &mut Frames,
     placed: &Placed<'_, 'a>,
-    chosen: &[bool],
-    front: &[bool],
-    long: &[bool],
+    flags: Flags<'_>,
     place: usize,
 ) -> Result<One, AllocError>
     requires whole { IsWhole (D.scope declared.now) }
     requires within { place < length (D.scope declared.now).assertions }
     requires frames { Holds (D.scope declared.now).assertions frames.old }
-    requires chosen { length chosen.now ≡ length (D.scope declared.now).assertions }
-    requires front { length front.now ≡ length (D.scope declared.now).assertions }
-    requires long { length long.now ≡ length (D.scope declared.now).assertions }
+    requires chosen { length flags.chosen.now ≡ length (D.scope declared.now).assertions }
+    requires front { length flags.front.now ≡ length (D.scope declared.now).assertions }
+    requires long { length flags.long.now ≡ length (D.scope declared.now).assertions }
     requires known { IfSome (slice_get (D.scope declared.now).assertions place)
         (HasAllPlaces (map_of placed.now.sites.now placed.now.names.now) (tables_of placed.now.sites.now placed.now.names.now)) }
     ensures frames { IfOk result (λ _. Holds (D.scope declared.now).assertions frames.new) }
-    ensures made { (choice : Choice) → AreFlags (D.scope declared.now) choice chosen.now front.now long.now
+    ensures made { (choice : Choice)
+        → AreFlags (D.scope declared.now) choice flags.entry.chosen.now flags.entry.front.now flags.entry.long.now
         → IfSome (slice_get (D.scope declared.now).assertions place) (λ x.
         HasStepsFor (map_of placed.now.sites.now placed.now.names.now) choice (D.scope declared.now) x
         → IfOk result (IsMade (map_of placed.now.sites.now placed.now.names.now)
@@ -152,9 +151,7 @@ fn taken_at<'a, D: Declared<'a>>(
         (take place (D.scope declared.now).assertions) x)) }
 {
     let assertion = stated(alloc, keys, declared, placed, place)?;
-    let outcome = outcome_at(
-        alloc, keys, declared, frames, placed, chosen, front, long, place,
-    )?;
+    let outcome = outcome_at(alloc, keys, declared, frames, placed, flags, place)?;
     Ok(with_outcome(assertion, outcome))
 }
 
@@ -182,8 +179,7 @@ fn put<'a>(gathered: &mut Gathered<'a>, label: Option<&'a [u8]>, one: One) -> Re
 
 /// What is taken of the chosen assertions of a source, in their order.
 ///
-/// Flags say of each assertion whether it is chosen, whether it stands in front of the choice, and whether its proof has too long an
-/// expression. Who follows is told of each that was taken. After an error nothing is said of the frames.
+/// Who follows is told of each that was taken. After an error nothing is said of the frames.
 ///
 /// # Errors
 ///
@@ -194,35 +190,34 @@ pub fn gather<'a, D: Declared<'a>>(
     declared: &D,
     frames: &mut Frames,
     placed: &Placed<'_, 'a>,
-    chosen: &[bool],
-    front: &[bool],
-    long: &[bool],
+    flags: Flags<'_>,
     follow: &impl Follow,
 ) -> Result<Gathered<'a>, AllocError>
     requires whole { IsWhole (D.scope declared.now) }
     requires frames { Holds (D.scope declared.now).assertions frames.old }
-    requires chosen { length chosen.now ≡ length (D.scope declared.now).assertions }
-    requires front { length front.now ≡ length (D.scope declared.now).assertions }
-    requires long { length long.now ≡ length (D.scope declared.now).assertions }
-    requires sites { AreSites (D.scope declared.now) (kept chosen.now (D.scope declared.now).assertions) placed.now.sites.now }
+    requires chosen { length flags.chosen.now ≡ length (D.scope declared.now).assertions }
+    requires front { length flags.front.now ≡ length (D.scope declared.now).assertions }
+    requires long { length flags.long.now ≡ length (D.scope declared.now).assertions }
+    requires sites { AreSites (D.scope declared.now) (kept flags.chosen.now (D.scope declared.now).assertions) placed.now.sites.now }
     requires labels { length placed.now.names.now.labels ≡ length placed.now.sites.now.labels }
     requires floats { length placed.now.names.now.floats ≡ length placed.now.sites.now.floats }
     ensures frames { IfOk result (λ _. Holds (D.scope declared.now).assertions frames.new) }
-    ensures taken { (choice : Choice) → AreFlags (D.scope declared.now) choice chosen.now front.now long.now → IfOk result (λ g.
+    ensures taken { (choice : Choice)
+        → AreFlags (D.scope declared.now) choice flags.entry.chosen.now flags.entry.front.now flags.entry.long.now → IfOk result (λ g.
         AreTaken (map_of placed.now.sites.now placed.now.names.now) (tables_of placed.now.sites.now placed.now.names.now) choice []
         (D.scope declared.now).assertions g.assertions.items) }
-    ensures told { (choice : Choice) → AreFlags (D.scope declared.now) choice chosen.now front.now long.now → IfOk result (λ g.
+    ensures told { (choice : Choice)
+        → AreFlags (D.scope declared.now) choice flags.entry.chosen.now flags.entry.front.now flags.entry.long.now → IfOk result (λ g.
         taken_as_axioms choice [] (D.scope declared.now).assertions ≡ told_in g.axioms.items) }
 {
+    let chosen = flags.chosen;
     let mut gathered = Gathered {
         assertions: Vec::new(alloc),
         axioms: Vec::new(alloc),
     };
     for place in 0..declared.assertions() {
         if chosen[place] {
-            let one = taken_at(
-                alloc, keys, declared, frames, placed, chosen, front, long, place,
-            )?;
+            let one = taken_at(alloc, keys, declared, frames, placed, flags, place)?;
             put(&mut gathered, declared.label(place), one)?;
             follow.pass_assertion();
         }

@@ -2,9 +2,11 @@
 #![tactic(auto)]
 
 mod assembling;
+mod flags;
 mod places;
 mod proving;
 mod saying;
 
 pub use assembling::{Gathered, gather};
+pub use flags::Flags;
 pub use places::Placed;

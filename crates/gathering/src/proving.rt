@@ -13,6 +13,7 @@ ghost use Rattle.prooftrees.specs.Forms.{IsForm};
 ghost use Rattle.prooftrees.specs.declared.form.ProofForm.TheVariants.{Tree};
 ghost use Rattle.gathering.specs.Outcomes.{IsOutcome, HasStepsFor};
 
+use crate::flags::Flags;
 use mmsyntax::{MOST_STEPS, Proof};
 use prooftrees::{Frames, ProofForm, ProofTree, read_proof};
 use source::Declared;
@@ -74,23 +75,27 @@ fn cites_left_out<'a, D: Declared<'a>>(
 fn outcome_of_tree<'a, D: Declared<'a>>(
     alloc: Global,
     declared: &D,
-    chosen: &[bool],
-    front: &[bool],
-    long: &[bool],
+    flags: Flags<'_>,
     place: usize,
     tree: &ProofTree<'a>,
 ) -> Result<Outcome, AllocError>
     requires whole { All (TakesAll tree.now.named.items) tree.now.proof.nodes }
     requires labelled { length tree.now.labels.items ≡ length tree.now.named.items }
     requires within { place < length (D.scope declared.now).assertions }
-    requires chosen { length chosen.now ≡ length (D.scope declared.now).assertions }
-    requires front { length front.now ≡ length (D.scope declared.now).assertions }
-    requires long { length long.now ≡ length (D.scope declared.now).assertions }
-    ensures { (m : Map) (choice : Choice) → AreFlags (D.scope declared.now) choice chosen.now front.now long.now
+    requires chosen { length flags.chosen.now ≡ length (D.scope declared.now).assertions }
+    requires front { length flags.front.now ≡ length (D.scope declared.now).assertions }
+    requires long { length flags.long.now ≡ length (D.scope declared.now).assertions }
+    ensures { (m : Map) (choice : Choice)
+        → AreFlags (D.scope declared.now) choice flags.entry.chosen.now flags.entry.front.now flags.entry.long.now
         → IfSome (slice_get (D.scope declared.now).assertions place) (λ x. HasStepsFor m choice (D.scope declared.now) x
         → IsForm m (take place (D.scope declared.now).assertions) x (Tree tree.now)
         → IfOk result (IsOutcome m choice (take place (D.scope declared.now).assertions) x)) }
 {
+    let Flags {
+        chosen,
+        front,
+        long,
+    } = flags;
     let root = tree.proof.root;
     if tree.proof.nodes.size(root) > MOST_STEPS {
         return Ok(Outcome::AsAxiom(Reason::TooLong));
@@ -113,27 +118,25 @@ fn outcome_of_tree<'a, D: Declared<'a>>(
 
 /// What becomes of the proof of the assertion at a place, where the steps of what is chosen are known.
 ///
-/// Flags say of each assertion whether it is chosen, whether it stands in front of the choice, and whether its proof has too long an
-/// expression. After an error nothing is said of the frames.
+/// After an error nothing is said of the frames.
 pub(crate) fn outcome_at<'a, D: Declared<'a>, P: StepPlaces>(
     alloc: Global,
     keys: RandomState,
     declared: &D,
     frames: &mut Frames,
     places: &P,
-    chosen: &[bool],
-    front: &[bool],
-    long: &[bool],
+    flags: Flags<'_>,
     place: usize,
 ) -> Result<Outcome, AllocError>
     requires whole { IsWhole (D.scope declared.now) }
     requires within { place < length (D.scope declared.now).assertions }
     requires frames { Holds (D.scope declared.now).assertions frames.old }
-    requires chosen { length chosen.now ≡ length (D.scope declared.now).assertions }
-    requires front { length front.now ≡ length (D.scope declared.now).assertions }
-    requires long { length long.now ≡ length (D.scope declared.now).assertions }
+    requires chosen { length flags.chosen.now ≡ length (D.scope declared.now).assertions }
+    requires front { length flags.front.now ≡ length (D.scope declared.now).assertions }
+    requires long { length flags.long.now ≡ length (D.scope declared.now).assertions }
     ensures frames { IfOk result (λ _. Holds (D.scope declared.now).assertions frames.new) }
-    ensures outcome { (choice : Choice) → AreFlags (D.scope declared.now) choice chosen.now front.now long.now
+    ensures outcome { (choice : Choice)
+        → AreFlags (D.scope declared.now) choice flags.entry.chosen.now flags.entry.front.now flags.entry.long.now
         → IfSome (slice_get (D.scope declared.now).assertions place) (λ x.
         HasStepsFor (P.places places.now) choice (D.scope declared.now) x
         → IfOk result (IsOutcome (P.places places.now) choice (take place (D.scope declared.now).assertions) x)) }
@@ -141,8 +144,6 @@ pub(crate) fn outcome_at<'a, D: Declared<'a>, P: StepPlaces>(
     match read_proof(alloc, keys, declared, frames, places, place)? {
         ProofForm::Absent => Ok(Outcome::Axiom),
         ProofForm::Unfinished => Ok(Outcome::AsAxiom(Reason::Unfinished)),
-        ProofForm::Tree(tree) => outcome_of_tree(
-            alloc, declared, chosen, front, long, place, &tree,
-        ),
+        ProofForm::Tree(tree) => outcome_of_tree(alloc, declared, flags, place, &tree),
     }
 }

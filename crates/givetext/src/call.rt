@@ -14,7 +14,7 @@ ghost use Rattle.givetext.specs.Given.{IsTakenText, IsGiven};
 ghost use Rattle.givetext.specs.Parts.{IsEdited, IsReplayRefusal, IsSourceRefusal, IsStopped, IsTakingRefusal, IsUntakenBy};
 ghost use Rattle.givetext.specs.declared.refusal.Refusal.TheVariants.{NoMemory};
 
-use crate::drafting::{Draft, Replayed, draft_edits};
+use crate::drafting::{Draft, EditedLibrary, Replayed, draft_edits};
 use crate::looking::{look_at_draft, read_draft};
 use crate::refusal::Refusal;
 use checking::{Fault, replay_library};
@@ -107,23 +107,24 @@ fn give_edits<'x, 'a: 'x>(
     alloc: Global,
     keys: RandomState,
     old: &Scopes<'a>,
-    source: &[u8],
-    taken: &'x Taken<'a>,
-    replayed: &'x Replayed,
+    edits: &EditedLibrary<'x, 'a>,
 ) -> Result<Vec<u8>, Refusal>
-    requires chosen { length taken.now.chosen.items ≡ length old.now.stand.scope.assertions }
-    requires declares { DeclaresText source.now old.now.stand.scope }
-    ensures edited { (choice : Choice) → map (λ (x : Assertion). is_in choice.chosen x.label) old.now.stand.scope.assertions
-        ≡ taken.now.chosen.items
-        → IfOk result (λ out. IsEdited source.now old.now.stand.scope choice taken.now replayed.now.entries replayed.now.edited out.items) }
-    ensures refused { (choice : Choice) → map (λ (x : Assertion). is_in choice.chosen x.label) old.now.stand.scope.assertions
-        ≡ taken.now.chosen.items
+    requires chosen { length edits.now.taken.now.chosen.items ≡ length old.now.stand.scope.assertions }
+    requires declares { DeclaresText edits.now.source.now old.now.stand.scope }
+    ensures edited { let run = edits.now.replayed.now in
+        (choice : Choice) → map (λ (x : Assertion). is_in choice.chosen x.label) old.now.stand.scope.assertions
+        ≡ edits.now.taken.now.chosen.items
+        → IfOk result (λ out.
+        IsEdited edits.now.source.now old.now.stand.scope choice edits.now.taken.now run.entries run.edited out.items) }
+    ensures refused { let run = edits.now.replayed.now in
+        (choice : Choice) → map (λ (x : Assertion). is_in choice.chosen x.label) old.now.stand.scope.assertions
+        ≡ edits.now.taken.now.chosen.items
         → IfErr result (λ why. why ≢ NoMemory
-        → IsStopped source.now old.now.stand.scope choice taken.now replayed.now.entries replayed.now.edited why) }
+        → IsStopped edits.now.source.now old.now.stand.scope choice edits.now.taken.now run.entries run.edited why) }
 {
-    let draft = draft_edits(alloc, keys, old, source, taken, replayed)?;
+    let draft = draft_edits(alloc, keys, old, edits)?;
     let new = read_draft(alloc, keys, old, &draft)?;
-    look_at_draft(rt, alloc, keys, old, &new, source, &draft, replayed)?;
+    look_at_draft(rt, alloc, keys, old, &new, edits, &draft)?;
     drop(new);
     let Draft { text, .. } = draft;
     Ok(text)
@@ -147,5 +148,10 @@ pub(crate) fn give(
     sources_are_whole();
     let taken = take_old(rt, alloc, keys, &old, source, library, follow)?;
     let replayed = replay_over(rt, alloc, keys, library, history)?;
-    give_edits(rt, alloc, keys, &old, source, &taken, &replayed)
+    let edits = EditedLibrary {
+        source,
+        taken: &taken,
+        replayed: &replayed,
+    };
+    give_edits(rt, alloc, keys, &old, &edits)
 }

@@ -38,6 +38,17 @@ pub struct Replayed {
     pub edited: PlainLibrary,
 }
 
+/// A library that was taken of a source, with a history that was done over it.
+#[derive(Clone, Copy)]
+pub struct EditedLibrary<'x, 'a> {
+    /// The text of the source.
+    pub source: &'x [u8],
+    /// The library as it was taken.
+    pub taken: &'x Taken<'a>,
+    /// The history, with the library behind it.
+    pub replayed: &'x Replayed,
+}
+
 /// Whether an assertion has a label in the source.
 fn is_called(followed: &Followed<'_>, label: &[u8]) -> bool
     ensures { (seen_followed followed.entry.now).source ≡ Some label.now → IsTrue result }
@@ -115,35 +126,35 @@ fn write_anew(
     alloc: Global,
     keys: RandomState,
     old: &Scopes<'_>,
-    source: &[u8],
-    taken: &Taken<'_>,
-    replayed: &Replayed,
+    edits: &EditedLibrary<'_, '_>,
     following: &Following<'_>,
     changes: &LabelMap<'_>,
     own: &[bool],
 ) -> Result<Vec<u8>, Refusal>
-    requires { DeclaresText source.now old.now.stand.scope }
-    ensures written { IfOk result (λ out. IsWrittenAnew (all_commands replayed.now.entries) (seen_following following.now).living
-        (seen_following following.now).gone (AreOtherProofs source.now old.now.stand.scope
-        (edition taken.now replayed.now.edited) (seen_following following.now).living)
-        changes.now source.now out.items) }
-    ensures refused { IfErr result (IsJustified (known_of old.now.stand.scope taken.now replayed.now.entries replayed.now.edited
-        (seen_following following.now) changes.now own.now) source.now) }
+    requires { DeclaresText edits.now.source.now old.now.stand.scope }
+    ensures written { let run = edits.now.replayed.now in
+        IfOk result (λ out. IsWrittenAnew (all_commands run.entries) (seen_following following.now).living
+        (seen_following following.now).gone (AreOtherProofs edits.now.source.now old.now.stand.scope
+        (edition edits.now.taken.now run.edited) (seen_following following.now).living)
+        changes.now edits.now.source.now out.items) }
+    ensures refused { let run = edits.now.replayed.now in
+        IfErr result (IsJustified (known_of old.now.stand.scope edits.now.taken.now run.entries run.edited
+        (seen_following following.now) changes.now own.now) edits.now.source.now) }
 {
-    let told = told_of(alloc, keys, taken.axioms.as_slice())?;
+    let told = told_of(alloc, keys, edits.taken.axioms.as_slice())?;
     let living = following.living.as_slice();
     let gone = following.gone.as_slice();
     let planned = Planned {
-        database: &taken.database,
-        names: taken.names.as_slice(),
-        edited: &replayed.edited,
+        database: &edits.taken.database,
+        names: edits.taken.names.as_slice(),
+        edited: &edits.replayed.edited,
         living,
         gone,
         own,
         told: &told,
     };
-    let entries = replayed.entries.as_slice();
-    Ok(write_edits(alloc, keys, old, source, &planned, entries, changes)?)
+    let entries = edits.replayed.entries.as_slice();
+    Ok(write_edits(alloc, keys, old, edits.source, &planned, entries, changes)?)
 }
 
 /// The source with the edits of a history, before it is looked at again.
@@ -168,30 +179,28 @@ pub fn draft_edits<'x, 'a: 'x>(
     alloc: Global,
     keys: RandomState,
     old: &Scopes<'a>,
-    source: &[u8],
-    taken: &'x Taken<'a>,
-    replayed: &'x Replayed,
+    edits: &EditedLibrary<'x, 'a>,
 ) -> Result<Draft<'x>, Refusal>
-    requires chosen { length taken.now.chosen.items ≡ length old.now.stand.scope.assertions }
-    requires declares { DeclaresText source.now old.now.stand.scope }
-    ensures drafted { (choice : Choice) → map (λ (x : Assertion). is_in choice.chosen x.label) old.now.stand.scope.assertions
-        ≡ taken.now.chosen.items
-        → IfOk result (IsDraft source.now old.now.stand.scope choice taken.now replayed.now.entries replayed.now.edited) }
-    ensures refused { (choice : Choice) → map (λ (x : Assertion). is_in choice.chosen x.label) old.now.stand.scope.assertions
-        ≡ taken.now.chosen.items
+    requires chosen { length edits.now.taken.now.chosen.items ≡ length old.now.stand.scope.assertions }
+    requires declares { DeclaresText edits.now.source.now old.now.stand.scope }
+    ensures drafted { let run = edits.now.replayed.now in
+        (choice : Choice) → map (λ (x : Assertion). is_in choice.chosen x.label) old.now.stand.scope.assertions
+        ≡ edits.now.taken.now.chosen.items
+        → IfOk result (IsDraft edits.now.source.now old.now.stand.scope choice edits.now.taken.now run.entries run.edited) }
+    ensures refused { let run = edits.now.replayed.now in
+        (choice : Choice) → map (λ (x : Assertion). is_in choice.chosen x.label) old.now.stand.scope.assertions
+        ≡ edits.now.taken.now.chosen.items
         → IfErr result (λ why. why ≢ NoMemory
-        → IsStopped source.now old.now.stand.scope choice taken.now replayed.now.entries replayed.now.edited why) }
+        → IsStopped edits.now.source.now old.now.stand.scope choice edits.now.taken.now run.entries run.edited why) }
     ensures own { IfOk result (λ draft. length draft.own.items ≡ length old.now.stand.scope.assertions) }
 {
-    let following = follow_edits(alloc, old, taken, replayed.entries.as_slice())?;
+    let following = follow_edits(alloc, old, edits.taken, edits.replayed.entries.as_slice())?;
     let changes = LabelMap::new(alloc, keys, following.changes(alloc)?)?;
     are_free(alloc, keys, old, &following, &changes)?;
-    let own = own_of(alloc, keys, old, taken)?;
+    let own = own_of(alloc, keys, old, edits.taken)?;
     are_uncited(alloc, keys, old, own.as_slice(), following.gone.as_slice())?;
     let flags = own.as_slice();
-    let text = write_anew(
-        alloc, keys, old, source, taken, replayed, &following, &changes, flags,
-    )?;
+    let text = write_anew(alloc, keys, old, edits, &following, &changes, flags)?;
     Ok(Draft {
         text,
         following,

@@ -12,7 +12,7 @@ mod refusing;
 mod standing;
 
 pub use answering::{Paths, Returned, answer_give};
-pub use drafting::{Draft, Replayed, draft_edits};
+pub use drafting::{Draft, EditedLibrary, Replayed, draft_edits};
 pub use looking::{look_at_draft, read_draft};
 pub use refusal::Refusal;
 pub use refusing::refusal_text;

@@ -15,7 +15,7 @@ ghost use Rattle.givetext.specs.Parts.{IsEdited, IsStopped};
 ghost use Rattle.givetext.specs.declared.refusal.Refusal.TheVariants.{NoMemory};
 
 use crate::again::{keep_comments, unprinted, unread};
-use crate::drafting::{Draft, Replayed};
+use crate::drafting::{Draft, EditedLibrary};
 use crate::refusal::Refusal;
 use library::PlainLibrary;
 use scopes::Scopes;
@@ -104,22 +104,23 @@ pub fn look_at_draft<'o>(
     keys: RandomState,
     old: &Scopes<'_>,
     new: &Scopes<'o>,
-    source: &[u8],
+    edits: &EditedLibrary<'_, '_>,
     draft: &Draft<'_>,
-    replayed: &Replayed,
 ) -> Result<(), Refusal>
     requires own { length draft.now.own.items ≡ length old.now.stand.scope.assertions }
     requires declares { DeclaresText draft.now.text.items new.now.stand.scope }
-    ensures edited { (choice : Choice) (taken : Taken)
-        → IsDraft source.now old.now.stand.scope choice taken replayed.now.entries replayed.now.edited draft.now
+    ensures edited { let run = edits.now.replayed.now in
+        (choice : Choice) (taken : Taken)
+        → IsDraft edits.now.source.now old.now.stand.scope choice taken run.entries run.edited draft.now
         → OnOk result
-        (IsEdited source.now old.now.stand.scope choice taken replayed.now.entries replayed.now.edited draft.now.text.items) }
-    ensures refused { (choice : Choice) (taken : Taken)
-        → IsDraft source.now old.now.stand.scope choice taken replayed.now.entries replayed.now.edited draft.now
+        (IsEdited edits.now.source.now old.now.stand.scope choice taken run.entries run.edited draft.now.text.items) }
+    ensures refused { let run = edits.now.replayed.now in
+        (choice : Choice) (taken : Taken)
+        → IsDraft edits.now.source.now old.now.stand.scope choice taken run.entries run.edited draft.now
         → IfErr result (λ why. why ≢ NoMemory
-        → IsStopped source.now old.now.stand.scope choice taken replayed.now.entries replayed.now.edited why) }
+        → IsStopped edits.now.source.now old.now.stand.scope choice taken run.entries run.edited why) }
 {
-    look_at(rt, alloc, keys, old, new, draft, &replayed.edited)?;
+    look_at(rt, alloc, keys, old, new, draft, &edits.replayed.edited)?;
     let (gone, text) = (draft.following.gone.as_slice(), draft.text.as_slice());
-    keep_comments(alloc, keys, &draft.changes, gone, source, text)
+    keep_comments(alloc, keys, &draft.changes, gone, edits.source, text)
 }

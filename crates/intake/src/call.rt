@@ -21,7 +21,7 @@ use following::Follow;
 use gathering::Placed;
 use prooftrees::Frames;
 use scopes::Scopes;
-use sites::{LibraryNames, Sites, name_all, sites_of};
+use sites::{LibraryNames, Sites, SourceNames, name_all, sites_of};
 use source::Declared;
 use source::laws::sources_are_whole;
 use sourcereader::read_source;
@@ -84,15 +84,13 @@ fn names_for<'a, 'w, D: Declared<'a>>(
     ensures few { IfOk result (λ _. length sites.now.floats ≤ MOST_DECLARED) }
     ensures refused { (w : WishOf) → HasSites (D.scope declared.now) w sites.now → IfErr result (IsRefusedOf (D.scope declared.now) w) }
 {
-    match name_all(
-        alloc,
-        keys,
-        declared,
-        sites.constants(),
-        sites.variables(),
-        sites.floats(),
-        sites.labels(),
-    ) {
+    let words = SourceNames {
+        constants: sites.constants(),
+        variables: sites.variables(),
+        floats: sites.floats(),
+        labels: sites.labels(),
+    };
+    match name_all(alloc, keys, declared, words) {
         Ok(names) => Ok(names),
         Err(Unnamed::NoFreshName(word)) => Err(Refusal::NoFreshName(word)),
         Err(Unnamed::NoMemory) => Err(Refusal::NoMemory),

@@ -26,7 +26,7 @@ use crate::rounds::Round;
 use crate::taken::Taken;
 use derivation::{ProofFault, ProofFaultKind};
 use drafts::{Draft, Limit, Undeclared, declare};
-use gathering::Gathered;
+use gathering::{Gathered, Placed};
 use mmsyntax::{Assertion, Database, Label, Sequence};
 use proofcheck::check_all;
 use sites::{LibraryNames, Sites};
@@ -190,28 +190,27 @@ fn with_proofs<'a, 'w>(
     Err(Refusal::Proof(label, fault))
 }
 
-/// The library of what was gathered of a source by sites and names, where flags say which assertions were chosen; or the place of the first
-/// theorem whose proof has too long an expression.
+/// The library of what was gathered of a source by the places that it has, where flags say which assertions were chosen; or the place of
+/// the first theorem whose proof has too long an expression.
 pub(crate) fn library_of<'a, 'w>(
     rt: &(impl Threads + Sync),
     alloc: Global,
     keys: RandomState,
-    sites: &Sites<'a>,
-    names: &LibraryNames,
+    placed: &Placed<'_, 'a>,
     gathered: Gathered<'a>,
     chosen: &[bool],
 ) -> Result<Round<'a>, Refusal<'a, 'w>>
-    requires { AreAsMany sites.now names.now }
-    ensures taken { (s : Scope) (w : Wish) → IsGathered s w sites.now names.now gathered.entry chosen.now
+    requires { AreAsMany placed.now.sites.now placed.now.names.now }
+    ensures taken { (s : Scope) (w : Wish) → IsGathered s w placed.now.sites.now placed.now.names.now gathered.entry chosen.now
         → IfOk result (IsLibraryRound s w) }
-    ensures long { IfOk result (IsLongRound (lists_of sites.now names.now gathered.entry.assertions.items)) }
-    ensures refused { (s : Scope) (w : Wish) → IsGathered s w sites.now names.now gathered.entry chosen.now
+    ensures long { IfOk result (IsLongRound (lists_of placed.now.sites.now placed.now.names.now gathered.entry.assertions.items)) }
+    ensures refused { (s : Scope) (w : Wish) → IsGathered s w placed.now.sites.now placed.now.names.now gathered.entry chosen.now
         → IfErr result (IsRefusedOf s w) }
 {
-    let changed = changed_names(alloc, sites, names)?;
-    let draft = draft_of(alloc, sites, names, gathered.assertions)?;
+    let changed = changed_names(alloc, placed.sites, placed.names)?;
+    let draft = draft_of(alloc, placed.sites, placed.names, gathered.assertions)?;
     match declare(alloc, keys, draft) {
         Ok(database) => with_proofs(rt, alloc, database, gathered.axioms, changed, chosen),
-        Err(why) => Err(undeclared(sites, why)),
+        Err(why) => Err(undeclared(placed.sites, why)),
     }
 }

@@ -21,7 +21,7 @@ use crate::refusal::Refusal;
 use crate::taken::Taken;
 use choosing::Selection;
 use following::Follow;
-use gathering::{Placed, gather};
+use gathering::{Flags, Placed, gather};
 use prooftrees::Frames;
 use sites::Sites;
 use source::Declared;
@@ -63,42 +63,30 @@ fn take_round<'a, 'w, D: Declared<'a>>(
     declared: &D,
     frames: &mut Frames,
     placed: &Placed<'_, 'a>,
-    chosen: &[bool],
-    front: &[bool],
-    long: &[bool],
+    flags: Flags<'_>,
     follow: &impl Follow,
 ) -> Result<Round<'a>, Refusal<'a, 'w>>
     requires whole { IsWhole (D.scope declared.now) }
     requires frames { Holds (D.scope declared.now).assertions frames.old }
-    requires chosen { length chosen.now ≡ length (D.scope declared.now).assertions }
-    requires front { length front.now ≡ length (D.scope declared.now).assertions }
-    requires long { length long.now ≡ length (D.scope declared.now).assertions }
-    requires sites { AreSites (D.scope declared.now) (kept chosen.now (D.scope declared.now).assertions) placed.now.sites.now }
+    requires chosen { length flags.chosen.now ≡ length (D.scope declared.now).assertions }
+    requires front { length flags.front.now ≡ length (D.scope declared.now).assertions }
+    requires long { length flags.long.now ≡ length (D.scope declared.now).assertions }
+    requires sites { AreSites (D.scope declared.now) (kept flags.chosen.now (D.scope declared.now).assertions) placed.now.sites.now }
     requires many { AreAsMany placed.now.sites.now placed.now.names.now }
     requires named { AreNamedWell (D.scope declared.now) placed.now.sites.now.constants placed.now.sites.now.variables
         placed.now.sites.now.floats placed.now.sites.now.labels placed.now.names.now }
     ensures frames { IfOk result (λ _. Holds (D.scope declared.now).assertions frames.new) }
     ensures taken { (w : Wish) → AreChosen (D.scope declared.now) w (map_of placed.now.sites.now placed.now.names.now)
-        (tables_of placed.now.sites.now placed.now.names.now) chosen.now front.now long.now
+        (tables_of placed.now.sites.now placed.now.names.now) flags.entry.chosen.now flags.entry.front.now flags.entry.long.now
         → IfOk result (IsLibraryRound (D.scope declared.now) w) }
     ensures long { IfOk result (IsLongRoundOf (D.scope declared.now) (map_of placed.now.sites.now placed.now.names.now)
-        (tables_of placed.now.sites.now placed.now.names.now) chosen.now front.now long.now) }
+        (tables_of placed.now.sites.now placed.now.names.now) flags.entry.chosen.now flags.entry.front.now flags.entry.long.now) }
     ensures refused { (w : Wish) → AreChosen (D.scope declared.now) w (map_of placed.now.sites.now placed.now.names.now)
-        (tables_of placed.now.sites.now placed.now.names.now) chosen.now front.now long.now
+        (tables_of placed.now.sites.now placed.now.names.now) flags.entry.chosen.now flags.entry.front.now flags.entry.long.now
         → IfErr result (IsRefusedOf (D.scope declared.now) w) }
 {
-    let gathered = gather(
-        alloc, keys, declared, frames, placed, chosen, front, long, follow,
-    )?;
-    library_of(
-        rt,
-        alloc,
-        keys,
-        placed.sites,
-        placed.names,
-        gathered,
-        chosen,
-    )
+    let gathered = gather(alloc, keys, declared, frames, placed, flags, follow)?;
+    library_of(rt, alloc, keys, placed, gathered, flags.chosen)
 }
 
 /// The flag is set of the assertion that has a place in the library.
@@ -149,9 +137,12 @@ pub(crate) fn take_placed<'a, 'w, D: Declared<'a>>(
     let mut is_first = true;
     loop {
         let follow = Following { follow, is_first };
-        match take_round(
-            rt, alloc, keys, declared, frames, placed, chosen, front, &long, &follow,
-        )? {
+        let flags = Flags {
+            chosen,
+            front,
+            long: &long,
+        };
+        match take_round(rt, alloc, keys, declared, frames, placed, flags, &follow)? {
             Round::Library(taken) => return Ok(taken),
             Round::Long(place) => set_flag(declared, placed.sites, place, &mut long),
         }

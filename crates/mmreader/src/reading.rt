@@ -15,7 +15,8 @@ use mmsyntax::{Assertion, Database, MOST_BYTES, Prelude, Sequence, SymbolTable};
 use mmtext::{Mark, Reader, Stop, TextFault, Token, read};
 use mmunits::Units;
 use statementreader::{
-    Place, Recent, Scope, UnitPlace, is_outermost, next_prelude_place, next_unit_place, take_word,
+    MarkedToken, Place, Recent, Scope, UnitPlace, is_outermost, next_prelude_place,
+    next_unit_place, take_word,
 };
 use std::alloc::Global;
 use std::hash::RandomState;
@@ -37,18 +38,18 @@ fn next_place<'a>(
     symbols: &mut SymbolTable,
     units: &mut Units,
     place: Place<'a>,
-    token: Token<'a>,
-    mark: Mark,
+    marked: MarkedToken<'a>,
 ) -> Result<Place<'a>, Stop>
     requires stands { SuitsPlace (known_of symbols.old units.old) (seen_place place) }
-    requires mark { mark ≡ mark_of token.text.now }
-    ensures leads { Leads symbols.new units.new result (row (seen_position symbols.old units.old place.entry) (seen token.entry)) }
+    requires mark { marked.mark ≡ mark_of marked.token.text.now }
+    ensures leads { Leads symbols.new units.new result
+        (row (seen_position symbols.old units.old place.entry) (seen marked.entry.token)) }
     ensures stands { IfOk result (λ p. SuitsPlace (known_of symbols.new units.new) (seen_place p)) }
     ensures kept { IsUnitPlace place.entry → symbols.new ≡ symbols.old }
 {
     match place {
-        Place::Prelude(place) => next_prelude_place(alloc, symbols, units, place, token, mark),
-        Place::Unit(place) => next_unit_place(alloc, symbols, units, place, token, mark),
+        Place::Prelude(place) => next_prelude_place(alloc, symbols, units, place, marked),
+        Place::Unit(place) => next_unit_place(alloc, symbols, units, place, marked),
     }
 }
 
@@ -59,20 +60,19 @@ fn advance<'a>(
     units: &mut Units,
     recent: &mut Recent<'a>,
     place: &mut Place<'a>,
-    token: Token<'a>,
-    mark: Mark,
+    marked: MarkedToken<'a>,
 ) -> Result<(), Stop>
     requires stands { SuitsPlace (known_of symbols.old units.old) (seen_place place.old) }
     requires knows { RecallsTrue symbols.old recent.old }
-    requires mark { mark ≡ mark_of token.text.now }
+    requires mark { marked.mark ≡ mark_of marked.token.text.now }
     ensures leads { Gives (λ _. seen_position symbols.new units.new place.new) result
-        (row (seen_position symbols.old units.old place.old) (seen token.entry)) }
+        (row (seen_position symbols.old units.old place.old) (seen marked.entry.token)) }
     ensures stands { OnOk result (SuitsPlace (known_of symbols.new units.new) (seen_place place.new)) }
     ensures knows { OnOk result (RecallsTrue symbols.new recent.new) }
 {
     recent.keep_at(place);
     let here = mem::replace(place, Place::Unit(UnitPlace::AtClose));
-    let next = next_place(alloc, symbols, units, here, token, mark)?;
+    let next = next_place(alloc, symbols, units, here, marked)?;
     drop(mem::replace(place, next));
     Ok(())
 }
@@ -117,8 +117,7 @@ impl<'a> Reader<'a> for DatabaseReader<'a> {
             &mut self.units,
             &mut self.recent,
             &mut self.place,
-            token,
-            mark,
+            MarkedToken { token, mark },
         )
     }
 

@@ -1,11 +1,10 @@
 //! Those who check the assertions of a database beside one another.
 
 ghost use Rattle.std.specs.Prelude.{◌≡◌, ◌≢◌, ◌<◌, ◌≤◌, [], None, All, map, IfOk, OnOk, IfErr, length, vec_capacity};
-ghost use Rattle.mmframes.specs.Frames.{frame};
 ghost use Rattle.derivation.specs.Databases.{ChecksAt, HasFaultAt};
 ghost use Rattle.claims.specs.Claims.{IsClaimantOf, AreClaimed};
 ghost use Rattle.proofcheck.specs.Reports.{FoundAmong, earlier, earliest};
-ghost use Rattle.proofcheck.specs.Checkers.{checker_of, IsReady, HasChecked};
+ghost use Rattle.proofcheck.specs.Checkers.{checker_of, IsFramed, IsReady, HasChecked};
 
 use crate::earlier::Earlier;
 use crate::labels::Places;
@@ -31,42 +30,37 @@ pub(crate) struct Checker {
     pub(crate) found: Option<(usize, ProofFault)>,
 }
 
+/// A database made ready to be checked: with the frames of its assertions, and with their places by their labels.
+#[derive(Clone, Copy)]
+pub(crate) struct Framed<'a> {
+    pub(crate) db: &'a Database,
+    pub(crate) frames: &'a [Frame],
+    pub(crate) places: &'a Places<'a>,
+}
+
 /// Checks the assertion at a place over those before it.
-fn check_at(
-    alloc: Global,
-    db: &Database,
-    frames: &[Frame],
-    places: &Places,
-    i: usize,
-) -> Result<(), ProofFault>
-    requires place { i < length db.now.assertions }
-    requires frames { frames.now ≡ map (frame db.now.prelude) db.now.assertions }
-    requires places { places.now ≡ db.now.assertions }
-    ensures yes { OnOk result (ChecksAt db.now i) }
-    ensures fault { IfErr result (λ fault. fault.kind ≢ ProofFaultKind.NoMemory → HasFaultAt db.now i fault) }
+fn check_at(alloc: Global, framed: &Framed<'_>, i: usize) -> Result<(), ProofFault>
+    requires place { i < length framed.now.db.now.assertions }
+    requires framed { IsFramed framed.now }
+    ensures yes { OnOk result (ChecksAt framed.now.db.now i) }
+    ensures fault { IfErr result (λ fault. fault.kind ≢ ProofFaultKind.NoMemory → HasFaultAt framed.now.db.now i fault) }
 {
     let earlier = Earlier {
-        frames,
-        places,
+        frames: framed.frames,
+        places: framed.places,
         limit: i,
     };
+    let db = framed.db;
     check(alloc, db.prelude(), &earlier, &db.assertions()[i])
 }
 
 /// What is found at one place.
-fn found_at(
-    alloc: Global,
-    db: &Database,
-    frames: &[Frame],
-    places: &Places,
-    place: usize,
-) -> Option<(usize, ProofFault)>
-    requires place { place < length db.now.assertions }
-    requires frames { frames.now ≡ map (frame db.now.prelude) db.now.assertions }
-    requires places { places.now ≡ db.now.assertions }
-    ensures { FoundAmong db.now (λ k. k ≡ place) result }
+fn found_at(alloc: Global, framed: &Framed<'_>, place: usize) -> Option<(usize, ProofFault)>
+    requires place { place < length framed.now.db.now.assertions }
+    requires framed { IsFramed framed.now }
+    ensures { FoundAmong framed.now.db.now (λ k. k ≡ place) result }
 {
-    match check_at(alloc, db, frames, places, place) {
+    match check_at(alloc, framed, place) {
         Ok(()) => None,
         Err(fault) => Some((place + 1, fault)),
     }
@@ -74,23 +68,15 @@ fn found_at(
 
 /// Checks the assertions that the checker claims, one after another, until all are claimed. Behind a fault it goes on claiming, and checks
 /// nothing more: each place that it claims is behind those that it claimed before.
-fn check_claimed(
-    alloc: Global,
-    db: &Database,
-    frames: &[Frame],
-    places: &Places,
-    numbers: &Numbers,
-    checker: &mut Checker,
-)
+fn check_claimed(alloc: Global, framed: &Framed<'_>, numbers: &Numbers, checker: &mut Checker)
     requires ready { IsReady numbers.now checker.old }
-    requires count { numbers.now.count ≡ length db.now.assertions }
-    requires frames { frames.now ≡ map (frame db.now.prelude) db.now.assertions }
-    requires places { places.now ≡ db.now.assertions }
-    ensures { HasChecked db.now numbers.now checker.new }
+    requires count { numbers.now.count ≡ length framed.now.db.now.assertions }
+    requires framed { IsFramed framed.now }
+    ensures { HasChecked framed.now.db.now numbers.now checker.new }
 {
     while let Some(place) = checker.claimant.claim(numbers) {
         if checker.found.is_none() {
-            checker.found = found_at(alloc, db, frames, places, place);
+            checker.found = found_at(alloc, framed, place);
         }
     }
 }
@@ -99,29 +85,25 @@ fn check_claimed(
 fn check_beside(
     rt: &(impl Threads + Sync),
     alloc: Global,
-    db: &Database,
-    frames: &[Frame],
-    places: &Places,
+    framed: &Framed<'_>,
     numbers: &Numbers,
     checkers: &mut [Checker],
 )
     requires ready { All (IsReady numbers.now) checkers.old }
-    requires count { numbers.now.count ≡ length db.now.assertions }
-    requires frames { frames.now ≡ map (frame db.now.prelude) db.now.assertions }
-    requires places { places.now ≡ db.now.assertions }
+    requires count { numbers.now.count ≡ length framed.now.db.now.assertions }
+    requires framed { IsFramed framed.now }
     ensures many { length checkers.new ≡ length checkers.old }
-    ensures checked { All (HasChecked db.now numbers.now) checkers.new }
+    ensures checked { All (HasChecked framed.now.db.now numbers.now) checkers.new }
 {
     par_for_each_mut(
         rt,
         checkers,
         |_place: usize, checker: &mut Checker|
             requires { IsReady numbers.now checker.now
-                × (numbers.now.count ≡ length db.now.assertions)
-                × (frames.now ≡ map (frame db.now.prelude) db.now.assertions)
-                × (places.now ≡ db.now.assertions) }
-            ensures { HasChecked db.entry.now numbers.entry.now checker.new }
-        { check_claimed(alloc, db, frames, places, numbers, checker) },
+                × (numbers.now.count ≡ length framed.now.db.now.assertions)
+                × IsFramed framed.now }
+            ensures { HasChecked framed.entry.now.db.now numbers.entry.now checker.new }
+        { check_claimed(alloc, framed, numbers, checker) },
     );
 }
 
@@ -201,27 +183,16 @@ fn first_found(
 pub(crate) fn check_shared(
     rt: &(impl Threads + Sync),
     alloc: Global,
-    db: &Database,
-    frames: &[Frame],
-    places: &Places,
+    framed: &Framed<'_>,
 ) -> Result<Option<(usize, ProofFault)>, AllocError>
-    requires frames { frames.now ≡ map (frame db.now.prelude) db.now.assertions }
-    requires places { places.now ≡ db.now.assertions }
-    ensures { IfOk result (FoundAmong db.now (λ k. k < length db.now.assertions)) }
+    requires { IsFramed framed.now }
+    ensures { IfOk result (FoundAmong framed.now.db.now (λ k. k < length framed.now.db.now.assertions)) }
 {
-    let count = db.assertions().len();
+    let count = framed.db.assertions().len();
     let many = count_checkers(rt, count);
     let (numbers, claimants) = Numbers::open(alloc, count, many)?;
     let mut checkers = checkers_of(alloc, claimants)?;
     let spent = Vec::with_capacity(alloc, many)?;
-    check_beside(
-        rt,
-        alloc,
-        db,
-        frames,
-        places,
-        &numbers,
-        checkers.as_mut_slice(),
-    );
+    check_beside(rt, alloc, framed, &numbers, checkers.as_mut_slice());
     Ok(first_found(numbers, checkers, spent))
 }

@@ -4,7 +4,7 @@ ghost use Rattle.std.specs.Prelude.{◌≡◌, ◌≢◌, ℕ, map, IfOk, OnOk, 
 ghost use Rattle.mmframes.specs.Frames.{frame};
 ghost use Rattle.derivation.specs.Databases.{AllCheck, IsFirstFault};
 
-use crate::checkers::check_shared;
+use crate::checkers::{Framed, check_shared};
 use crate::labels::Places;
 use derivation::{ProofFault, ProofFaultKind};
 use mmframes::frame_of;
@@ -64,7 +64,12 @@ pub fn check_all(
     let Ok(places) = Places::new(alloc, db.prelude().keys(), db.assertions()) else {
         return Err(no_memory());
     };
-    let Ok(found) = check_shared(rt, alloc, db, frames.as_slice(), &places) else {
+    let framed = Framed {
+        db,
+        frames: frames.as_slice(),
+        places: &places,
+    };
+    let Ok(found) = check_shared(rt, alloc, &framed) else {
         return Err(no_memory());
     };
     match found {

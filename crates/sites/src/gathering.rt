@@ -136,29 +136,25 @@ fn have_room(constants: &Indexed<'_>, floats: &Indexed<'_>) -> bool
     constants.len() <= MOST_DECLARED && floats.len() <= MOST_DECLARED
 }
 
-/// The sites of the constants and the `$f` that have places, and of the assertions that flags choose.
-fn sited<'a, D: Declared<'a>>(
+/// The sites of the constants, the `$f` and the assertions that have places.
+fn sited<'a>(
     alloc: Global,
-    keys: RandomState,
-    declared: &D,
-    chosen: &[bool],
     used: &Used<'a>,
     constants: Indexed<'a>,
     floats: Indexed<'a>,
+    labels: Indexed<'a>,
 ) -> Result<Sites<'a>, AllocError>
-    requires flags { length chosen.now ≡ length (D.scope declared.now).assertions }
-    requires room { HasRoom constants floats }
+    requires { HasRoom constants floats }
     ensures { IfOk result (λ made. made ≡ record {
       constants = constants.entry;
       floats = floats.entry;
       types = filter_map (type_at (noted used.now) constants.entry) floats.entry;
       variables = filter_map (variable_at (noted used.now)) floats.entry;
-      labels = map (λ x. x.label) (kept chosen.now (D.scope declared.now).assertions);
+      labels = labels.entry;
     }) }
 {
     let types = type_places(alloc, used, &constants, floats.words())?;
     let variables = variables(alloc, used, floats.words())?;
-    let labels = Indexed::new(alloc, keys, chosen_labels(alloc, declared, chosen)?)?;
     Ok(Sites::new(constants, floats, types, variables, labels))
 }
 
@@ -186,7 +182,9 @@ fn sites_from<'a, D: Declared<'a>>(
     if !have_room(&constants, &floats) {
         return Ok(None);
     }
-    let sites = sited(alloc, keys, declared, chosen, used, constants, floats)?;
+    let words = chosen_labels(alloc, declared, chosen)?;
+    let chosen = Indexed::new(alloc, keys, words)?;
+    let sites = sited(alloc, used, constants, floats, chosen)?;
     Ok(Some(sites))
 }
 

@@ -14,5 +14,5 @@ mod used;
 pub use active::Active;
 pub use gathering::sites_of;
 pub use given::active_at;
-pub use names::{LibraryNames, name_all};
+pub use names::{LibraryNames, SourceNames, name_all};
 pub use sites::Sites;

@@ -26,8 +26,19 @@ pub struct LibraryNames {
     pub labels: Sequence<Label>,
 }
 
-/// The names in a library of constants, of variables and labels of `$f`, and of labels of assertions of a source: no label of an assertion
-/// is L.k beside another L.
+/// The names in a source, by the same places.
+#[derive(Clone, Copy)]
+pub struct SourceNames<'s, 'a> {
+    pub constants: &'s [&'a [u8]],
+    /// Those of the variables of `$f`.
+    pub variables: &'s [&'a [u8]],
+    /// The labels of `$f`.
+    pub floats: &'s [&'a [u8]],
+    /// The labels of assertions.
+    pub labels: &'s [&'a [u8]],
+}
+
+/// The names in a library of what has these in a source: no label of an assertion is L.k beside another L.
 ///
 /// # Errors
 ///
@@ -36,21 +47,16 @@ pub fn name_all<'a, D: Declared<'a>>(
     alloc: Global,
     keys: RandomState,
     declared: &D,
-    constants: &[&'a [u8]],
-    variables: &[&'a [u8]],
-    floats: &[&'a [u8]],
-    labels: &[&'a [u8]],
+    words: SourceNames<'_, 'a>,
 ) -> Result<LibraryNames, Unnamed<'a>>
-    ensures names { IfOk result (AreNamedWell (D.scope declared.now) (seen_words constants.now) (seen_words variables.now)
-        (seen_words floats.now) (seen_words labels.now)) }
+    ensures names { IfOk result (AreNamedWell (D.scope declared.now) (seen_words words.entry.constants.now)
+        (seen_words words.entry.variables.now) (seen_words words.entry.floats.now) (seen_words words.entry.labels.now)) }
     ensures apart { IfOk result (λ names. ClashNowhere names.labels) }
-    ensures refused { IfErr result (AreUnnamed (D.scope declared.now) (seen_words constants.now) (seen_words variables.now)
-        (seen_words floats.now) (seen_words labels.now)) }
+    ensures refused { IfErr result (AreUnnamed (D.scope declared.now) (seen_words words.entry.constants.now)
+        (seen_words words.entry.variables.now) (seen_words words.entry.floats.now) (seen_words words.entry.labels.now)) }
 {
-    let mut names = Free::new(alloc, keys, declared, labels)?;
-    named_by(
-        alloc, keys, &mut names, constants, variables, floats, labels,
-    )
+    let mut names = Free::new(alloc, keys, declared, words.labels)?;
+    named_by(alloc, keys, &mut names, words)
 }
 
 /// The same by free names: none was given yet, and the L of each label L.k among the labels is taken. They are borrowed, so that no way out
@@ -59,27 +65,24 @@ fn named_by<'a, D: Declared<'a>>(
     alloc: Global,
     keys: RandomState,
     names: &mut Free<'_, 'a, D>,
-    constants: &[&'a [u8]],
-    variables: &[&'a [u8]],
-    floats: &[&'a [u8]],
-    labels: &[&'a [u8]],
+    words: SourceNames<'_, 'a>,
 ) -> Result<LibraryNames, Unnamed<'a>>
-    requires trunks { HasTrunks names.old.trunks (seen_words labels.now) }
+    requires trunks { HasTrunks names.old.trunks (seen_words words.labels.now) }
     requires given { HasNothing names.old.given }
-    ensures names { IfOk result (AreNamedWell (D.scope names.old.declared.now) (seen_words constants.now) (seen_words variables.now)
-        (seen_words floats.now) (seen_words labels.now)) }
+    ensures names { IfOk result (AreNamedWell (D.scope names.old.declared.now) (seen_words words.entry.constants.now)
+        (seen_words words.entry.variables.now) (seen_words words.entry.floats.now) (seen_words words.entry.labels.now)) }
     ensures apart { IfOk result (λ names. ClashNowhere names.labels) }
-    ensures refused { IfErr result (AreUnnamed (D.scope names.old.declared.now) (seen_words constants.now) (seen_words variables.now)
-        (seen_words floats.now) (seen_words labels.now)) }
+    ensures refused { IfErr result (AreUnnamed (D.scope names.old.declared.now) (seen_words words.entry.constants.now)
+        (seen_words words.entry.variables.now) (seen_words words.entry.floats.now) (seen_words words.entry.labels.now)) }
 {
-    let changes = constants_changing(alloc, constants)?;
-    let constants = library_names(alloc, names, changes.as_slice(), constants)?;
-    let changes = variables_changing(alloc, keys, variables)?;
-    let variables = library_names(alloc, names, changes.as_slice(), variables)?;
-    let changes = floats_changing(alloc, floats)?;
-    let floats = library_names(alloc, names, changes.as_slice(), floats)?;
-    let changes = labels_changing(alloc, keys, labels)?;
-    let labels = library_names(alloc, names, changes.as_slice(), labels)?;
+    let changes = constants_changing(alloc, words.constants)?;
+    let constants = library_names(alloc, names, changes.as_slice(), words.constants)?;
+    let changes = variables_changing(alloc, keys, words.variables)?;
+    let variables = library_names(alloc, names, changes.as_slice(), words.variables)?;
+    let changes = floats_changing(alloc, words.floats)?;
+    let floats = library_names(alloc, names, changes.as_slice(), words.floats)?;
+    let changes = labels_changing(alloc, keys, words.labels)?;
+    let labels = library_names(alloc, names, changes.as_slice(), words.labels)?;
     Ok(LibraryNames {
         constants,
         variables,

@@ -32,6 +32,14 @@ pub(crate) struct Checker {
     pub(crate) found: Option<(usize, ProofFault)>,
 }
 
+/// The assertions of a source made ready to be checked: with numbers of words, and with the frames over these.
+#[derive(Clone, Copy)]
+pub(crate) struct Framed<'s, 'a> {
+    pub(crate) table: &'s Table<'a>,
+    pub(crate) frames: &'s [Frame],
+    pub(crate) declared: &'s Scopes<'a>,
+}
+
 /// What is found at one place, by who has these numbers of words, or none as memory was wanting. After a fault nothing is said of them.
 fn found_at<'a, D: Declared<'a>>(
     alloc: Global,
@@ -49,10 +57,7 @@ fn found_at<'a, D: Declared<'a>>(
     let Some(table) = own else {
         return Some((place, fault(ProofFaultKind::NoMemory)));
     };
-    let Some(statement) = declared.statement(place) else {
-        unreachable!()
-    };
-    match check_theorem(alloc, table, frames, declared, place, statement) {
+    match check_theorem(alloc, table, frames, declared, place) {
         Ok(()) => None,
         Err(fault) => Some((place, fault)),
     }
@@ -60,48 +65,44 @@ fn found_at<'a, D: Declared<'a>>(
 
 /// Checks the assertions that the checker claims, one after another, until all are claimed. Behind a fault it goes on claiming, and checks
 /// nothing more: each place that it claims is behind those that it claimed before. Who follows is told of each.
-fn check_claimed<'a, D: Declared<'a>>(
+fn check_claimed(
     alloc: Global,
-    table: &Table<'a>,
-    frames: &[Frame],
-    declared: &D,
+    framed: &Framed<'_, '_>,
     numbers: &Numbers,
     checker: &mut Checker,
     follow: &impl Follow,
 )
-    requires whole { IsWhole (D.scope declared.now) }
-    requires knows { Knows (D.scope declared.now).assertions frames.now table.now }
-    requires count { numbers.now.count ≡ length (D.scope declared.now).assertions }
+    requires whole { IsWhole framed.now.declared.now.stand.scope }
+    requires knows { Knows framed.now.declared.now.stand.scope.assertions framed.now.frames.now framed.now.table.now }
+    requires count { numbers.now.count ≡ length framed.now.declared.now.stand.scope.assertions }
     requires ready { IsReady numbers.now checker.old }
-    ensures { HasChecked (D.scope declared.now).assertions numbers.now checker.new }
+    ensures { HasChecked framed.now.declared.now.stand.scope.assertions numbers.now checker.new }
 {
-    let mut own = table.copy(alloc).ok();
+    let mut own = framed.table.copy(alloc).ok();
     while let Some(place) = checker.claimant.claim(numbers) {
         follow.pass_assertion();
         if checker.found.is_none() {
-            checker.found = found_at(alloc, &mut own, frames, declared, place);
+            checker.found = found_at(alloc, &mut own, framed.frames, framed.declared, place);
         }
     }
 }
 
 /// Checks by each of these checkers, each on a thread of its own.
-fn check_beside<'a>(
+fn check_beside(
     rt: &(impl Threads + Sync),
     alloc: Global,
-    table: &Table<'a>,
-    frames: &[Frame],
-    declared: &Scopes<'a>,
+    framed: &Framed<'_, '_>,
     numbers: &Numbers,
     checkers: &mut [Checker],
     follow: &(impl Follow + Sync),
 )
     requires some { 0 < length checkers.old }
-    requires whole { IsWhole declared.now.stand.scope }
-    requires knows { Knows declared.now.stand.scope.assertions frames.now table.now }
-    requires count { numbers.now.count ≡ length declared.now.stand.scope.assertions }
+    requires whole { IsWhole framed.now.declared.now.stand.scope }
+    requires knows { Knows framed.now.declared.now.stand.scope.assertions framed.now.frames.now framed.now.table.now }
+    requires count { numbers.now.count ≡ length framed.now.declared.now.stand.scope.assertions }
     requires ready { All (IsReady numbers.now) checkers.old }
     ensures many { length checkers.new ≡ length checkers.old }
-    ensures checked { All (HasChecked declared.now.stand.scope.assertions numbers.now) checkers.new }
+    ensures checked { All (HasChecked framed.now.declared.now.stand.scope.assertions numbers.now) checkers.new }
 {
     let threads = checkers.len();
     thread::for_each_mut(
@@ -109,12 +110,12 @@ fn check_beside<'a>(
         checkers,
         threads,
         &|_place: usize, checker: &mut Checker|
-            requires { IsWhole declared.now.stand.scope
-                × Knows declared.now.stand.scope.assertions frames.now table.now
-                × (numbers.now.count ≡ length declared.now.stand.scope.assertions)
+            requires { IsWhole framed.now.declared.now.stand.scope
+                × Knows framed.now.declared.now.stand.scope.assertions framed.now.frames.now framed.now.table.now
+                × (numbers.now.count ≡ length framed.now.declared.now.stand.scope.assertions)
                 × IsReady numbers.now checker.now }
-            ensures { HasChecked declared.entry.now.stand.scope.assertions numbers.entry.now checker.new }
-        { check_claimed(alloc, table, frames, declared, numbers, checker, follow) },
+            ensures { HasChecked framed.entry.now.declared.now.stand.scope.assertions numbers.entry.now checker.new }
+        { check_claimed(alloc, framed, numbers, checker, follow) },
     );
 }
 
@@ -194,33 +195,23 @@ fn first_found(
 /// # Errors
 ///
 /// Want of memory before any proof is checked.
-pub(crate) fn check_shared<'a>(
+pub(crate) fn check_shared(
     rt: &(impl Threads + Sync),
     alloc: Global,
     workers: Option<usize>,
-    table: &Table<'a>,
-    frames: &[Frame],
-    declared: &Scopes<'a>,
+    framed: &Framed<'_, '_>,
     follow: &(impl Follow + Sync),
 ) -> Result<Option<(usize, ProofFault)>, AllocError>
-    requires whole { IsWhole declared.now.stand.scope }
-    requires knows { Knows declared.now.stand.scope.assertions frames.now table.now }
-    ensures { IfOk result (IsFoundAmong declared.now.stand.scope.assertions (λ k. k < length declared.now.stand.scope.assertions)) }
+    requires whole { IsWhole framed.now.declared.now.stand.scope }
+    requires knows { Knows framed.now.declared.now.stand.scope.assertions framed.now.frames.now framed.now.table.now }
+    ensures { let xs = framed.now.declared.now.stand.scope.assertions in IfOk result (IsFoundAmong xs (λ k. k < length xs)) }
 {
+    let declared = framed.declared;
     let count = declared.assertions();
     let many = count_checkers(rt, workers, count);
     let (numbers, claimants) = Numbers::open(alloc, count, many)?;
     let mut checkers = checkers_of(alloc, claimants)?;
     let spent = Vec::with_capacity(alloc, many)?;
-    check_beside(
-        rt,
-        alloc,
-        table,
-        frames,
-        declared,
-        &numbers,
-        checkers.as_mut_slice(),
-        follow,
-    );
+    check_beside(rt, alloc, framed, &numbers, checkers.as_mut_slice(), follow);
     Ok(first_found(numbers, checkers, spent))
 }

@@ -11,7 +11,7 @@ ghost use Rattle.sourcecheck.specs.Frames.{IsFrameOf, AreFrames};
 ghost use Rattle.sourcecheck.specs.Answers.{IsRefusedAt, IsRefusedIn};
 ghost use Rattle.sourcecheck.specs.Checkers.{IsFoundAmong, FailsAt};
 
-use crate::checkers::check_shared;
+use crate::checkers::{Framed, check_shared};
 use crate::counting::is_unfinished;
 use crate::frame::Frame;
 use crate::framing::frame_of;
@@ -104,15 +104,12 @@ fn first_fault<'a>(
 {
     let mut table = Table::new(alloc, keys);
     let frames = frames_of(alloc, &mut table, declared)?;
-    check_shared(
-        rt,
-        alloc,
-        workers,
-        &table,
-        frames.as_slice(),
+    let framed = Framed {
+        table: &table,
+        frames: frames.as_slice(),
         declared,
-        follow,
-    )
+    };
+    check_shared(rt, alloc, workers, &framed, follow)
 }
 
 /// Whether the proof of the assertion at a place is unfinished.

@@ -2,7 +2,6 @@
 
 ghost use Rattle.std.specs.Prelude.{◌≡◌, ◌<◌, ◌≤◌, false, length, map, OnOk, Some, slice_get, take};
 ghost use Rattle.std.specs.List.{list_any};
-ghost use Rattle.std.specs.Option.{option_map};
 ghost use Rattle.source.specs.Scopes.{Assertion};
 ghost use Rattle.source.specs.Letters.{is_absent};
 ghost use Rattle.source.specs.Proofs.{step_of, is_unfinished};
@@ -29,14 +28,13 @@ pub(crate) fn fault(kind: ProofFaultKind) -> ProofFault
     ProofFault { step: 0, kind }
 }
 
-/// Checks the steps of a finished proof of the assertion at a place, with this statement. After an error nothing is said of the table.
+/// Checks the steps of a finished proof of the assertion at a place. After an error nothing is said of the table.
 fn check_counted<'a, D: Declared<'a>>(
     alloc: Global,
     table: &mut Table<'a>,
     frames: &[Frame],
     declared: &D,
     place: usize,
-    statement: &[&'a [u8]],
     counted: Counted<'a>,
 ) -> Result<(), ProofFault>
     requires sound { IsSound table.old }
@@ -44,14 +42,15 @@ fn check_counted<'a, D: Declared<'a>>(
     requires within { place < length (D.scope declared.now).assertions }
     requires many { place ≤ length frames.now }
     requires frames { Lasts (words_of table.old) (λ name. AreFrames name (take place (D.scope declared.now).assertions) frames.now) }
-    requires statement { option_map (λ a. a.statement) (slice_get (D.scope declared.now).assertions place)
-        ≡ Some (seen_words statement.now) }
     ensures keeps { OnOk result (Keeps table.old table.new) }
     ensures tells { (x : Assertion) → slice_get (D.scope declared.now).assertions place ≡ Some x
         → list_any is_absent counted.entry.codes ≡ false
         → Tells (take place (D.scope declared.now).assertions) x (map (step_of (seen_words counted.entry.labels.items)) counted.entry.codes)
         result }
 {
+    let Some(statement) = declared.statement(place) else {
+        unreachable!()
+    };
     let Ok(wanted) = table.numbers(alloc, statement) else {
         return Err(fault(ProofFaultKind::NoMemory));
     };
@@ -75,14 +74,13 @@ fn check_counted<'a, D: Declared<'a>>(
     )
 }
 
-/// Checks a finished proof of the assertion at a place, with this statement. After an error nothing is said of the table.
+/// Checks a finished proof of the assertion at a place. After an error nothing is said of the table.
 fn check_proof<'a, D: Declared<'a>>(
     alloc: Global,
     table: &mut Table<'a>,
     frames: &[Frame],
     declared: &D,
     place: usize,
-    statement: &[&'a [u8]],
     proof: &ProofWords<'a>,
 ) -> Result<(), ProofFault>
     requires sound { IsSound table.old }
@@ -90,8 +88,6 @@ fn check_proof<'a, D: Declared<'a>>(
     requires within { place < length (D.scope declared.now).assertions }
     requires many { place ≤ length frames.now }
     requires frames { Lasts (words_of table.old) (λ name. AreFrames name (take place (D.scope declared.now).assertions) frames.now) }
-    requires statement { option_map (λ a. a.statement) (slice_get (D.scope declared.now).assertions place)
-        ≡ Some (seen_words statement.now) }
     ensures keeps { OnOk result (Keeps table.old table.new) }
     ensures tells { (x : Assertion) → slice_get (D.scope declared.now).assertions place ≡ Some x
         → is_unfinished (seen_proof proof.now) ≡ false
@@ -103,14 +99,12 @@ fn check_proof<'a, D: Declared<'a>>(
     match count_labels(alloc, mandatory, proof) {
         Err(_) => Err(fault(ProofFaultKind::NoMemory)),
         Ok(None) => Err(fault(ProofFaultKind::UnknownStep)),
-        Ok(Some(counted)) => check_counted(
-            alloc, table, frames, declared, place, statement, counted,
-        ),
+        Ok(Some(counted)) => check_counted(alloc, table, frames, declared, place, counted),
     }
 }
 
-/// Checks the assertion at a place, with this statement, over the frames of those before it: of an axiom, and of a theorem whose proof is
-/// unfinished, nothing is asked. After an error nothing is said of the table.
+/// Checks the assertion at a place over the frames of those before it: of an axiom, and of a theorem whose proof is unfinished, nothing is
+/// asked. After an error nothing is said of the table.
 ///
 /// # Errors
 ///
@@ -122,15 +116,12 @@ pub(crate) fn check_theorem<'a, D: Declared<'a>>(
     frames: &[Frame],
     declared: &D,
     place: usize,
-    statement: &[&'a [u8]],
 ) -> Result<(), ProofFault>
     requires sound { IsSound table.old }
     requires whole { IsWhole (D.scope declared.now) }
     requires within { place < length (D.scope declared.now).assertions }
     requires many { place ≤ length frames.now }
     requires frames { Lasts (words_of table.old) (λ name. AreFrames name (take place (D.scope declared.now).assertions) frames.now) }
-    requires statement { option_map (λ a. a.statement) (slice_get (D.scope declared.now).assertions place)
-        ≡ Some (seen_words statement.now) }
     ensures keeps { OnOk result (Keeps table.old table.new) }
     ensures tells { (x : Assertion) → slice_get (D.scope declared.now).assertions place ≡ Some x
         → TellsAssertion (take place (D.scope declared.now).assertions) x result }
@@ -141,5 +132,5 @@ pub(crate) fn check_theorem<'a, D: Declared<'a>>(
     if is_unfinished(proof) {
         return Ok(());
     }
-    check_proof(alloc, table, frames, declared, place, statement, proof)
+    check_proof(alloc, table, frames, declared, place, proof)
 }

@@ -330,7 +330,7 @@ unit_place (code.Prelude (prelude.InConstants b)) h = h
 unit_place (code.Prelude (prelude.InVariables b)) h = h
 unit_place (code.Prelude (prelude.FloatType label)) h = h
 unit_place (code.Prelude (prelude.FloatVariable label i)) h = h
-unit_place (code.Prelude (prelude.FloatEnd label i w v)) h = h
+unit_place (code.Prelude (prelude.FloatEnd f)) h = h
 unit_place (code.Unit p) h = tt
 
 -- the row of a unit before its end, by the mark of the token

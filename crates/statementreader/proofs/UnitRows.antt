@@ -50,9 +50,9 @@ in_unit_place (unit.AtStart s) = tt
 in_unit_place unit.AtClose = tt
 in_unit_place (unit.AfterLabel s t) = tt
 in_unit_place (unit.InDistinct b vs) = tt
-in_unit_place (unit.InHypothesis b label e) = tt
-in_unit_place (unit.InAxiom s label e) = tt
-in_unit_place (unit.InTheorem s label e) = tt
+in_unit_place (unit.InHypothesis h) = tt
+in_unit_place (unit.InAxiom a) = tt
+in_unit_place (unit.InTheorem a) = tt
 in_unit_place (unit.InProof p) = tt
 
 -- outside of $c, $v and $f, what stands doesn't speak of the prelude

@@ -32,7 +32,7 @@ seen_prelude_place (prelude.InConstants b) = in_constants b
 seen_prelude_place (prelude.InVariables b) = in_variables b
 seen_prelude_place (prelude.FloatType label) = float_type label.now
 seen_prelude_place (prelude.FloatVariable label i) = float_variable label.now i
-seen_prelude_place (prelude.FloatEnd label i w v) = float_end label.now i w.now v
+seen_prelude_place (prelude.FloatEnd f) = float_end f.label.now f.type_code f.word.now f.variable
 
 -- a place elsewhere
 abbrev pub seen_unit_place : UnitPlace → Place
@@ -40,10 +40,11 @@ seen_unit_place (unit.AtStart s) = at_start (seen_scope s)
 seen_unit_place unit.AtClose = at_close
 seen_unit_place (unit.AfterLabel s t) = after_label (seen_scope s) (seen t)
 seen_unit_place (unit.InDistinct b vs) = in_distinct b vs.items
-seen_unit_place (unit.InHypothesis b label e) = in_hypothesis b label.now e.items
-seen_unit_place (unit.InAxiom s label e) = in_axiom (seen_scope s) label.now e.items
-seen_unit_place (unit.InTheorem s label e) = in_theorem (seen_scope s) label.now e.items
-seen_unit_place (unit.InProof p) = in_proof (seen_scope p.scope) p.label.now p.expression.items p.steps.value
+seen_unit_place (unit.InHypothesis h) = in_hypothesis h.block h.label.now h.expression.items
+seen_unit_place (unit.InAxiom a) = in_axiom (seen_scope a.scope) a.label.now a.expression.items
+seen_unit_place (unit.InTheorem a) = in_theorem (seen_scope a.scope) a.label.now a.expression.items
+seen_unit_place (unit.InProof p) =
+    in_proof (seen_scope p.assertion.scope) p.assertion.label.now p.assertion.expression.items p.steps.value
 
 -- a place of the code
 abbrev pub seen_place : CodePlace → Place

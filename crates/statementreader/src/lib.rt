@@ -12,10 +12,13 @@ mod unit_rows;
 mod units;
 mod words;
 
-pub use place::{Place, PreludePlace, Scope, Theorem, UnitPlace, is_outermost};
+pub use place::{
+    MarkedToken, OpenAssertion, OpenFloat, OpenHypothesis, Place, PreludePlace, Scope, Theorem,
+    UnitPlace, is_outermost,
+};
 pub use prelude_rows::next_prelude_place;
 pub use recent::Recent;
-pub use steps::{Named, named_step, push_named, recalled_named_step};
+pub use steps::{Named, StepPlace, named_step, push_named, recalled_named_step};
 pub use unit_reader::{UnitProgress, UnitReader};
 pub use unit_rows::next_unit_place;
 pub use units::read_assertion;

@@ -4,15 +4,34 @@ ghost use Rattle.std.specs.Prelude.{◌≡◌};
 ghost use Rattle.statementreader.specs.Views.{seen_place, seen_behind, is_outermost};
 
 use mmsyntax::{Proof, SymbolWord};
-use mmtext::Token;
+use mmtext::{Mark, Token};
 use mmunits::Block;
 use std::alloc::Global;
+
+/// A token, and what it is by itself.
+#[derive(Clone, Copy)]
+pub struct MarkedToken<'a> {
+    pub token: Token<'a>,
+    pub mark: Mark,
+}
 
 /// Outermost, or in a block that holds this much.
 #[derive(Drop)]
 pub enum Scope<'a> {
     Outside,
     Inside(Block<'a>),
+}
+
+/// A `$f` up to its end.
+#[derive(Clone, Copy)]
+pub struct OpenFloat<'a> {
+    pub label: &'a [u8],
+    /// The place of its type among the constants, counted from 0.
+    pub type_code: u32,
+    /// The variable as it stands.
+    pub word: &'a [u8],
+    /// The place of the variable, counted from 0.
+    pub variable: u32,
 }
 
 /// What was read of the `$c`, `$v` or `$f` that a token stands in.
@@ -26,8 +45,24 @@ pub enum PreludePlace<'a> {
     FloatType(&'a [u8]),
     /// Behind the type.
     FloatVariable(&'a [u8], u32),
-    /// Behind the variable, which is kept as it stands and by its place.
-    FloatEnd(&'a [u8], u32, &'a [u8], u32),
+    /// Behind the variable.
+    FloatEnd(OpenFloat<'a>),
+}
+
+/// A `$e` up to a symbol of its expression.
+#[derive(Drop)]
+pub struct OpenHypothesis<'a> {
+    pub block: Block<'a>,
+    pub label: &'a [u8],
+    pub expression: Vec<SymbolWord>,
+}
+
+/// A `$a` or `$p` up to a symbol of its expression.
+#[derive(Drop)]
+pub struct OpenAssertion<'a> {
+    pub scope: Scope<'a>,
+    pub label: &'a [u8],
+    pub expression: Vec<SymbolWord>,
 }
 
 /// What was read of the assertion or of the block that a token stands in.
@@ -42,11 +77,11 @@ pub enum UnitPlace<'a> {
     /// Behind `$d` and variables, each by its `$f`.
     InDistinct(Block<'a>, Vec<u32>),
     /// Behind a label, `$e` and symbols.
-    InHypothesis(Block<'a>, &'a [u8], Vec<SymbolWord>),
+    InHypothesis(OpenHypothesis<'a>),
     /// Behind a label, `$a` and symbols.
-    InAxiom(Scope<'a>, &'a [u8], Vec<SymbolWord>),
+    InAxiom(OpenAssertion<'a>),
     /// Behind a label, `$p` and symbols.
-    InTheorem(Scope<'a>, &'a [u8], Vec<SymbolWord>),
+    InTheorem(OpenAssertion<'a>),
     /// Behind `$=` and steps.
     InProof(Theorem<'a>),
 }
@@ -54,9 +89,7 @@ pub enum UnitPlace<'a> {
 /// A `$p` up to a step of its proof.
 #[derive(Drop)]
 pub struct Theorem<'a> {
-    pub scope: Scope<'a>,
-    pub label: &'a [u8],
-    pub expression: Vec<SymbolWord>,
+    pub assertion: OpenAssertion<'a>,
     /// On the heap: a place moves with each token.
     pub steps: Box<Proof, Global>,
 }

@@ -11,7 +11,7 @@ ghost use Rattle.statementreader.specs.Views.{seen_prelude_place, Leads};
 ghost use Rattle.mmsyntax.specs.declared.symbols.Name.TheVariants.{Variable};
 
 use crate::labels::symbol_fault;
-use crate::place::{Place, PreludePlace, Scope, UnitPlace};
+use crate::place::{MarkedToken, OpenFloat, Place, PreludePlace, Scope, UnitPlace};
 use mmsyntax::{Name, SymbolTable};
 use mmtext::{FaultKind, Mark, Stop, Token, contains_dollar, fault_at};
 use mmunits::Units;
@@ -23,19 +23,19 @@ fn constant<'a>(
     symbols: &mut SymbolTable,
     units: &Units,
     some: bool,
-    token: Token<'a>,
-    mark: Mark,
+    marked: MarkedToken<'a>,
 ) -> Result<Place<'a>, Stop>
-    ensures { Leads symbols.new units.now result (constant_row (known_of symbols.old units.now) some (seen token.entry) mark) }
+    ensures { Leads symbols.new units.now result
+        (constant_row (known_of symbols.old units.now) some (seen marked.entry.token) marked.entry.mark) }
 {
-    if some && mark == Mark::End {
+    if some && marked.mark == Mark::End {
         return Ok(Place::Unit(UnitPlace::AtStart(Scope::Outside)));
     }
     let count = symbols.constants().len();
-    if let Some(kind) = symbol_fault(symbols, units, count, token.text) {
-        return Err(fault_at(token, kind));
+    if let Some(kind) = symbol_fault(symbols, units, count, marked.token.text) {
+        return Err(fault_at(marked.token, kind));
     }
-    symbols.add_constant(alloc, token.text)?;
+    symbols.add_constant(alloc, marked.token.text)?;
     Ok(Place::Prelude(PreludePlace::InConstants(true)))
 }
 
@@ -45,19 +45,19 @@ fn variable<'a>(
     symbols: &mut SymbolTable,
     units: &Units,
     some: bool,
-    token: Token<'a>,
-    mark: Mark,
+    marked: MarkedToken<'a>,
 ) -> Result<Place<'a>, Stop>
-    ensures { Leads symbols.new units.now result (variable_row (known_of symbols.old units.now) some (seen token.entry) mark) }
+    ensures { Leads symbols.new units.now result
+        (variable_row (known_of symbols.old units.now) some (seen marked.entry.token) marked.entry.mark) }
 {
-    if some && mark == Mark::End {
+    if some && marked.mark == Mark::End {
         return Ok(Place::Unit(UnitPlace::AtStart(Scope::Outside)));
     }
     let count = symbols.variables().len();
-    if let Some(kind) = symbol_fault(symbols, units, count, token.text) {
-        return Err(fault_at(token, kind));
+    if let Some(kind) = symbol_fault(symbols, units, count, marked.token.text) {
+        return Err(fault_at(marked.token, kind));
     }
-    symbols.add_variable(alloc, token.text)?;
+    symbols.add_variable(alloc, marked.token.text)?;
     Ok(Place::Prelude(PreludePlace::InVariables(true)))
 }
 
@@ -97,8 +97,13 @@ fn float_variable<'a>(
     }
     match symbols.look_up(token.text) {
         Some(Name::Variable(i, None)) => {
-            let place = PreludePlace::FloatEnd(label, type_code, token.text, i);
-            Ok(Place::Prelude(place))
+            let float = OpenFloat {
+                label,
+                type_code,
+                word: token.text,
+                variable: i,
+            };
+            Ok(Place::Prelude(PreludePlace::FloatEnd(float)))
         }
         Some(Name::Variable(_, Some(_))) => Err(fault_at(token, FaultKind::RepeatedLabel)),
         _ => Err(fault_at(token, FaultKind::UnknownSymbol)),
@@ -110,22 +115,25 @@ fn float_end<'a>(
     alloc: Global,
     symbols: &mut SymbolTable,
     units: &Units,
-    label: &'a [u8],
-    type_code: u32,
-    variable_word: &'a [u8],
-    variable: u32,
-    token: Token<'a>,
-    mark: Mark,
+    float: OpenFloat<'a>,
+    marked: MarkedToken<'a>,
 ) -> Result<Place<'a>, Stop>
-    requires free { IsFree (known_of symbols.old units.now) label.now }
-    requires variable { meaning symbols.old variable_word.now ≡ Some (Variable variable None) }
+    requires free { IsFree (known_of symbols.old units.now) float.label.now }
+    requires variable { meaning symbols.old float.word.now ≡ Some (Variable float.variable None) }
     ensures { Leads symbols.new units.now result
-        (float_end_row (known_of symbols.old units.now) label.entry.now type_code variable (seen token.entry) mark) }
+        (float_end_row (known_of symbols.old units.now) float.entry.label.now float.entry.type_code float.entry.variable
+        (seen marked.entry.token) marked.entry.mark) }
 {
-    if mark != Mark::End {
-        return Err(fault_at(token, FaultKind::BadToken));
+    if marked.mark != Mark::End {
+        return Err(fault_at(marked.token, FaultKind::BadToken));
     }
-    symbols.add_float(alloc, label, type_code, variable_word, variable)?;
+    symbols.add_float(
+        alloc,
+        float.label,
+        float.type_code,
+        float.word,
+        float.variable,
+    )?;
     Ok(Place::Unit(UnitPlace::AtStart(Scope::Outside)))
 }
 
@@ -135,20 +143,19 @@ pub fn next_prelude_place<'a>(
     symbols: &mut SymbolTable,
     units: &Units,
     place: PreludePlace<'a>,
-    token: Token<'a>,
-    mark: Mark,
+    marked: MarkedToken<'a>,
 ) -> Result<Place<'a>, Stop>
     requires { SuitsPlace (known_of symbols.old units.now) (seen_prelude_place place) }
     ensures { Leads symbols.new units.now result
-        (in_place (known_of symbols.old units.now) (seen_prelude_place place.entry) (seen token.entry) mark) }
+        (in_place (known_of symbols.old units.now) (seen_prelude_place place.entry) (seen marked.entry.token) marked.entry.mark) }
 {
     match place {
-        PreludePlace::InConstants(some) => constant(alloc, symbols, units, some, token, mark),
-        PreludePlace::InVariables(some) => variable(alloc, symbols, units, some, token, mark),
-        PreludePlace::FloatType(label) => float_type(symbols, units, label, token),
-        PreludePlace::FloatVariable(label, i) => float_variable(symbols, units, label, i, token),
-        PreludePlace::FloatEnd(label, i, word, v) => {
-            float_end(alloc, symbols, units, label, i, word, v, token, mark)
+        PreludePlace::InConstants(some) => constant(alloc, symbols, units, some, marked),
+        PreludePlace::InVariables(some) => variable(alloc, symbols, units, some, marked),
+        PreludePlace::FloatType(label) => float_type(symbols, units, label, marked.token),
+        PreludePlace::FloatVariable(label, i) => {
+            float_variable(symbols, units, label, i, marked.token)
         }
+        PreludePlace::FloatEnd(float) => float_end(alloc, symbols, units, float, marked),
     }
 }

@@ -120,6 +120,13 @@ pub enum Named {
     Assertion,
 }
 
+/// Where a step stands: behind so many steps of the proof of the assertion with a label.
+#[derive(Clone, Copy)]
+pub struct StepPlace<'l> {
+    pub label: &'l [u8],
+    pub count: usize,
+}
+
 /// What a word names in the proof of the assertion with a label, where it is the label of no `$f` and names, if any, the hypothesis at a
 /// place; or why it names nothing.
 fn label_named(label: &[u8], hypothesis: Option<u32>, word: &[u8]) -> Result<Named, FaultKind>
@@ -139,27 +146,26 @@ fn label_named(label: &[u8], hypothesis: Option<u32>, word: &[u8]) -> Result<Nam
     Ok(Named::Assertion)
 }
 
-/// What a word names as a step behind `count` steps of a proof of the assertion with a label, where it names, if any, the hypothesis at a
-/// place, counted from 0, of at most 1,000; or why it names nothing. No assertion is looked up.
+/// What a word names as a step, where it names, if any, the hypothesis at a place, counted from 0, of at most 1,000; or why it names
+/// nothing. No assertion is looked up.
 pub fn named_step(
     symbols: &SymbolTable,
-    label: &[u8],
+    step: StepPlace<'_>,
     hypothesis: Option<u32>,
-    count: usize,
     word: &[u8],
 ) -> Result<Named, FaultKind>
     requires { (n : ℕ) → hypothesis ≡ Some n → n < MOST_HYPOTHESES }
-    ensures named { step_or_fault word.now result ≡ unless_faulty (first_fault (step_tests count word.now))
-        (step_named label.now word.now (float_named (meaning symbols.now word.now)) hypothesis) }
+    ensures named { step_or_fault word.now result ≡ unless_faulty (first_fault (step_tests step.entry.count word.now))
+        (step_named step.entry.label.now word.now (float_named (meaning symbols.now word.now)) hypothesis) }
     ensures small { IfOk result IsSmallNamed }
 {
-    if let Some(kind) = step_fault(count, word) {
+    if let Some(kind) = step_fault(step.count, word) {
         return Err(kind);
     }
     if let Some(j) = float_named(symbols.look_up(word)) {
         return Ok(Named::Float(j));
     }
-    label_named(label, hypothesis, word)
+    label_named(step.label, hypothesis, word)
 }
 
 /// The step that a word is by what it names.
@@ -213,41 +219,40 @@ pub fn push_named(
     Ok(())
 }
 
-/// What a word names as a step behind `count` steps of a proof of the assertion with a label, or why it names nothing.
+/// What a word names as a step, or why it names nothing.
 #[tactic(auto, unfolding(mmsyntax::specs::Steps::step_of))]
 pub(crate) fn step_at(
     symbols: &SymbolTable,
-    label: &[u8],
+    step: StepPlace<'_>,
     scope: &Scope<'_>,
-    count: usize,
     word: &[u8],
 ) -> Result<Named, FaultKind>
-    ensures named { step_or_fault word.now result ≡ step_of symbols.now label.now (block_of (seen_scope scope.now)).hyps count word.now }
+    ensures named { step_or_fault word.now result
+        ≡ step_of symbols.now step.entry.label.now (block_of (seen_scope scope.now)).hyps step.entry.count word.now }
     ensures small { IfOk result IsSmallNamed }
 {
-    named_step(symbols, label, hypothesis_in(scope, word), count, word)
+    named_step(symbols, step, hypothesis_in(scope, word), word)
 }
 
 /// As [`named_step`], of a word of which all is known.
 fn name_by_recall(
     symbols: &SymbolTable,
-    label: &[u8],
+    step: StepPlace<'_>,
     hypothesis: Option<u32>,
-    count: usize,
     known: &Recalled<'_>,
 ) -> Result<Named, FaultKind>
     requires known { IsTrueOf symbols.now known.now }
     requires few { (n : ℕ) → hypothesis ≡ Some n → n < MOST_HYPOTHESES }
-    ensures named { step_or_fault known.now.word.now result ≡ unless_faulty (first_fault (step_tests count known.now.word.now))
-        (step_named label.now known.now.word.now (float_named (meaning symbols.now known.now.word.now)) hypothesis) }
+    ensures named { step_or_fault known.now.word.now result ≡ unless_faulty (first_fault (step_tests step.entry.count known.now.word.now))
+        (step_named step.entry.label.now known.now.word.now (float_named (meaning symbols.now known.now.word.now)) hypothesis) }
     ensures small { IfOk result IsSmallNamed }
 {
-    if !known.is_label || count >= MOST_STEPS {
-        return named_step(symbols, label, hypothesis, count, known.word);
+    if !known.is_label || step.count >= MOST_STEPS {
+        return named_step(symbols, step, hypothesis, known.word);
     }
     match float_named(known.name) {
         Some(j) => Ok(Named::Float(j)),
-        None => label_named(label, hypothesis, known.word),
+        None => label_named(step.label, hypothesis, known.word),
     }
 }
 
@@ -256,20 +261,19 @@ pub fn recalled_named_step<'a>(
     alloc: Global,
     symbols: &SymbolTable,
     recent: &mut Recent<'a>,
-    label: &[u8],
+    step: StepPlace<'_>,
     hypothesis: Option<u32>,
-    count: usize,
     word: &'a [u8],
 ) -> Result<Result<Named, FaultKind>, AllocError>
     requires knows { RecallsTrue symbols.now recent.old }
     requires few { (n : ℕ) → hypothesis ≡ Some n → n < MOST_HYPOTHESES }
     ensures knows { RecallsTrue symbols.now recent.new }
-    ensures named { IfOk result (λ r. step_or_fault word.now r ≡ unless_faulty (first_fault (step_tests count word.now))
-        (step_named label.now word.now (float_named (meaning symbols.now word.now)) hypothesis)) }
+    ensures named { IfOk result (λ r. step_or_fault word.now r ≡ unless_faulty (first_fault (step_tests step.entry.count word.now))
+        (step_named step.entry.label.now word.now (float_named (meaning symbols.now word.now)) hypothesis)) }
     ensures small { IfOk result (λ r. IfOk r IsSmallNamed) }
 {
     let place = recent.look_up(alloc, symbols, word)?;
-    Ok(name_by_recall(symbols, label, hypothesis, count, recent.at(place)))
+    Ok(name_by_recall(symbols, step, hypothesis, recent.at(place)))
 }
 
 /// What a word names as a step by what is known of it, or why it names nothing. Of a `$f` the block isn't asked.

@@ -9,7 +9,7 @@ ghost use Rattle.statementreader.specs.UnitReadings.{nothing_read, position_of, 
 ghost use Rattle.statementreader.specs.UnitViews.{IsProgress, Progresses, TakesInUnit};
 ghost use Rattle.statementreader.specs.Recalls.{RecallsTrue};
 
-use crate::place::{Place, Scope, UnitPlace};
+use crate::place::{MarkedToken, Place, Scope, UnitPlace};
 use crate::recent::Recent;
 use crate::unit_rows::next_unit_place;
 use crate::units::is_behind_unit;
@@ -100,8 +100,11 @@ impl<'a> UnitReader<'a> {
         ensures { Progresses prelude.now result (row (position_of prelude.now self.entry) (seen token.entry)) }
     {
         let UnitReader { mut units, place } = self;
-        let mark = mark_word(token.text);
-        match next_unit_place(alloc, prelude.symbols(), &mut units, place, token, mark) {
+        let marked = MarkedToken {
+            token,
+            mark: mark_word(token.text),
+        };
+        match next_unit_place(alloc, prelude.symbols(), &mut units, place, marked) {
             Ok(place) => Ok(progress(units, place)),
             Err(stop) => {
                 drop(units);

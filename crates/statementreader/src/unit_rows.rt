@@ -1,6 +1,6 @@
 //! Reading assertions and blocks: one function for each place in them.
 
-ghost use Rattle.std.specs.Prelude.{◌≡◌, ◌<◌, length, IfOk};
+ghost use Rattle.std.specs.Prelude.{◌≡◌, ◌<◌, [], length, IfOk};
 ghost use Rattle.mmsyntax.specs.Rows.{symbol_of, with_hypothesis_label, with_assertion};
 ghost use Rattle.mmsyntax.specs.Blocks.{with_distinct, distinct_of, with_hypothesis, assertion_of, theorem_of};
 ghost use Rattle.mmsyntax.specs.Faults.{outermost_row, block_row, close_row, keyword_row, distinct_row, hypothesis_row, axiom_row};
@@ -15,8 +15,11 @@ ghost use Rattle.statementreader.specs.Views.{seen_scope, seen_behind, seen_unit
 ghost use Rattle.mmsyntax.specs.declared.limits.TheConstants.{MOST_HYPOTHESES};
 
 use crate::labels::{assertion_label_fault, float_label_fault, hypothesis_label_fault, symbol_at};
-use crate::place::{Behind, Place, PreludePlace, Scope, Theorem, UnitPlace};
-use crate::steps::{push_named, restrict, step_at};
+use crate::place::{
+    Behind, MarkedToken, OpenAssertion, OpenHypothesis, Place, PreludePlace, Scope, Theorem,
+    UnitPlace,
+};
+use crate::steps::{StepPlace, push_named, restrict, step_at};
 use mmsyntax::{Assertion, Kind, Label, Proof, Sequence, SymbolTable, SymbolWord};
 use mmtext::{FaultKind, Mark, Stop, Token, fault_at, is_label_token};
 use mmunits::{Block, Units};
@@ -27,12 +30,12 @@ fn outermost<'a>(
     alloc: Global,
     symbols: &SymbolTable,
     units: &Units,
-    token: Token<'a>,
-    mark: Mark,
+    marked: MarkedToken<'a>,
 ) -> Result<Place<'a>, Stop>
-    ensures { Leads symbols.now units.now result (outermost_row (known_of symbols.now units.now) (seen token.entry) mark) }
+    ensures { Leads symbols.now units.now result
+        (outermost_row (known_of symbols.now units.now) (seen marked.entry.token) marked.entry.mark) }
 {
-    match mark {
+    match marked.mark {
         Mark::Constants if !units.is_prelude_closed() => {
             Ok(Place::Prelude(PreludePlace::InConstants(false)))
         }
@@ -44,12 +47,12 @@ fn outermost<'a>(
             Ok(Place::Unit(UnitPlace::AtStart(Scope::Inside(block))))
         }
         Mark::Constants | Mark::Variables | Mark::Disjoint => {
-            Err(fault_at(token, FaultKind::OutOfProfile))
+            Err(fault_at(marked.token, FaultKind::OutOfProfile))
         }
-        Mark::Plain if is_label_token(token.text) => {
-            Ok(Place::Unit(UnitPlace::AfterLabel(Scope::Outside, token)))
+        Mark::Plain if is_label_token(marked.token.text) => {
+            Ok(Place::Unit(UnitPlace::AfterLabel(Scope::Outside, marked.token)))
         }
-        _ => Err(fault_at(token, FaultKind::BadToken)),
+        _ => Err(fault_at(marked.token, FaultKind::BadToken)),
     }
 }
 
@@ -59,20 +62,20 @@ fn in_block<'a>(
     symbols: &SymbolTable,
     units: &Units,
     block: Block<'a>,
-    token: Token<'a>,
-    mark: Mark,
+    marked: MarkedToken<'a>,
 ) -> Result<Place<'a>, Stop>
-    ensures { Leads symbols.now units.now result (block_row (known_of symbols.now units.now) block.entry (seen token.entry) mark) }
+    ensures { Leads symbols.now units.now result
+        (block_row (known_of symbols.now units.now) block.entry (seen marked.entry.token) marked.entry.mark) }
 {
-    match mark {
+    match marked.mark {
         Mark::Disjoint => Ok(Place::Unit(UnitPlace::InDistinct(block, Vec::new(alloc)))),
         Mark::Constants | Mark::Variables | Mark::Opening => {
-            Err(fault_at(token, FaultKind::OutOfProfile))
+            Err(fault_at(marked.token, FaultKind::OutOfProfile))
         }
-        Mark::Plain if is_label_token(token.text) => {
-            Ok(Place::Unit(UnitPlace::AfterLabel(Scope::Inside(block), token)))
+        Mark::Plain if is_label_token(marked.token.text) => {
+            Ok(Place::Unit(UnitPlace::AfterLabel(Scope::Inside(block), marked.token)))
         }
-        _ => Err(fault_at(token, FaultKind::BadToken)),
+        _ => Err(fault_at(marked.token, FaultKind::BadToken)),
     }
 }
 
@@ -82,15 +85,14 @@ fn at_start<'a>(
     symbols: &SymbolTable,
     units: &Units,
     scope: Scope<'a>,
-    token: Token<'a>,
-    mark: Mark,
+    marked: MarkedToken<'a>,
 ) -> Result<Place<'a>, Stop>
     ensures { Leads symbols.now units.now result
-        (in_place (known_of symbols.now units.now) (at_start (seen_scope scope.entry)) (seen token.entry) mark) }
+        (in_place (known_of symbols.now units.now) (at_start (seen_scope scope.entry)) (seen marked.entry.token) marked.entry.mark) }
 {
     match scope {
-        Scope::Outside => outermost(alloc, symbols, units, token, mark),
-        Scope::Inside(block) => in_block(alloc, symbols, units, block, token, mark),
+        Scope::Outside => outermost(alloc, symbols, units, marked),
+        Scope::Inside(block) => in_block(alloc, symbols, units, block, marked),
     }
 }
 
@@ -98,18 +100,20 @@ fn at_start<'a>(
 fn at_close<'a>(
     symbols: &SymbolTable,
     units: &Units,
-    token: Token<'a>,
-    mark: Mark,
+    marked: MarkedToken<'a>,
 ) -> Result<Place<'a>, Stop>
-    ensures { Leads symbols.now units.now result (close_row (known_of symbols.now units.now) (seen token.entry) mark) }
+    ensures { Leads symbols.now units.now result (close_row (known_of symbols.now units.now) (seen marked.entry.token) marked.entry.mark) }
 {
-    match mark {
+    match marked.mark {
         Mark::Closing => Ok(Place::Unit(UnitPlace::AtStart(Scope::Outside))),
         Mark::Constants | Mark::Variables | Mark::Opening | Mark::Disjoint => {
-            Err(fault_at(token, FaultKind::OutOfProfile))
+            Err(fault_at(marked.token, FaultKind::OutOfProfile))
         }
-        Mark::Plain if is_label_token(token.text) => Err(fault_at(token, FaultKind::OutOfProfile)),
-        _ => Err(fault_at(token, FaultKind::BadToken)),
+        Mark::Plain if is_label_token(marked.token.text) => Err(fault_at(
+            marked.token,
+            FaultKind::OutOfProfile,
+        )),
+        _ => Err(fault_at(marked.token, FaultKind::BadToken)),
     }
 }
 
@@ -154,9 +158,26 @@ fn hypothesis_keyword<'a>(
     match hypothesis_label_fault(symbols, units, &block, label.text) {
         Some(kind) => Err(fault_at(label, kind)),
         None => {
-            let place = UnitPlace::InHypothesis(block, label.text, Vec::new(alloc));
-            Ok(Place::Unit(place))
+            let begun = OpenHypothesis {
+                block,
+                label: label.text,
+                expression: Vec::new(alloc),
+            };
+            Ok(Place::Unit(UnitPlace::InHypothesis(begun)))
         }
+    }
+}
+
+/// A `$a` or `$p` before its expression.
+fn open_assertion<'a>(alloc: Global, scope: Scope<'a>, label: &'a [u8]) -> OpenAssertion<'a>
+    ensures scope { result.scope ≡ scope.entry }
+    ensures label { result.label.now ≡ label.entry.now }
+    ensures empty { result.expression.items ≡ [] }
+{
+    OpenAssertion {
+        scope,
+        label,
+        expression: Vec::new(alloc),
     }
 }
 
@@ -167,21 +188,21 @@ fn keyword<'a>(
     units: &Units,
     scope: Scope<'a>,
     label: Token<'a>,
-    token: Token<'a>,
-    mark: Mark,
+    marked: MarkedToken<'a>,
 ) -> Result<Place<'a>, Stop>
     ensures { Leads symbols.now units.now result
-        (keyword_row (known_of symbols.now units.now) (seen_scope scope.entry) (seen label.entry) (seen token.entry) mark) }
+        (keyword_row (known_of symbols.now units.now) (seen_scope scope.entry) (seen label.entry)
+        (seen marked.entry.token) marked.entry.mark) }
 {
-    match mark {
-        Mark::Floating => float_keyword(symbols, units, scope, label, token),
-        Mark::Essential => hypothesis_keyword(alloc, symbols, units, scope, label, token),
+    match marked.mark {
+        Mark::Floating => float_keyword(symbols, units, scope, label, marked.token),
+        Mark::Essential => hypothesis_keyword(alloc, symbols, units, scope, label, marked.token),
         Mark::Axiom => {
             match assertion_label_fault(symbols, units, label.text) {
                 Some(kind) => Err(fault_at(label, kind)),
                 None => {
-                    let place = UnitPlace::InAxiom(scope, label.text, Vec::new(alloc));
-                    Ok(Place::Unit(place))
+                    let begun = open_assertion(alloc, scope, label.text);
+                    Ok(Place::Unit(UnitPlace::InAxiom(begun)))
                 }
             }
         }
@@ -189,12 +210,12 @@ fn keyword<'a>(
             match assertion_label_fault(symbols, units, label.text) {
                 Some(kind) => Err(fault_at(label, kind)),
                 None => {
-                    let place = UnitPlace::InTheorem(scope, label.text, Vec::new(alloc));
-                    Ok(Place::Unit(place))
+                    let begun = open_assertion(alloc, scope, label.text);
+                    Ok(Place::Unit(UnitPlace::InTheorem(begun)))
                 }
             }
         }
-        _ => Err(fault_at(token, FaultKind::BadToken)),
+        _ => Err(fault_at(marked.token, FaultKind::BadToken)),
     }
 }
 
@@ -204,21 +225,20 @@ fn distinct<'a>(
     units: &Units,
     mut block: Block<'a>,
     mut variables: Vec<u32>,
-    token: Token<'a>,
-    mark: Mark,
+    marked: MarkedToken<'a>,
 ) -> Result<Place<'a>, Stop>
     ensures { Leads symbols.now units.now result
-        (distinct_row (known_of symbols.now units.now) block.entry variables.items (seen token.entry) mark) }
+        (distinct_row (known_of symbols.now units.now) block.entry variables.items (seen marked.entry.token) marked.entry.mark) }
 {
-    if mark == Mark::End && variables.len() > 1 {
+    if marked.mark == Mark::End && variables.len() > 1 {
         return Ok(Place::Unit(UnitPlace::AtStart(Scope::Inside(block))));
     }
-    match restrict(symbols, &mut block, &variables, token.text)? {
+    match restrict(symbols, &mut block, &variables, marked.token.text)? {
         Ok(j) => {
             variables.push(j)?;
             Ok(Place::Unit(UnitPlace::InDistinct(block, variables)))
         }
-        Err(kind) => Err(fault_at(token, kind)),
+        Err(kind) => Err(fault_at(marked.token, kind)),
     }
 }
 
@@ -245,15 +265,18 @@ fn end_hypothesis<'a>(
     alloc: Global,
     symbols: &SymbolTable,
     units: &mut Units,
-    mut block: Block<'a>,
-    label: &'a [u8],
-    expression: Vec<SymbolWord>,
+    hypothesis: OpenHypothesis<'a>,
 ) -> Result<Place<'a>, Stop>
-    requires { length block.hyps < MOST_HYPOTHESES }
-    ensures { Leads symbols.now units.new result
-        (at (with_hypothesis_label (known_of symbols.now units.old) label.entry.now)
-        (at_start (inside (with_hypothesis block.entry label.entry.now expression.items)))) }
+    requires { length hypothesis.block.hyps < MOST_HYPOTHESES }
+    ensures { let h = hypothesis.entry in Leads symbols.now units.new result
+        (at (with_hypothesis_label (known_of symbols.now units.old) h.label.now)
+        (at_start (inside (with_hypothesis h.block h.label.now h.expression.items)))) }
 {
+    let OpenHypothesis {
+        mut block,
+        label,
+        expression,
+    } = hypothesis;
     units.add_hypothesis_label(alloc, label)?;
     block.add_hypothesis(alloc, label, Sequence::from_vec(expression))?;
     Ok(Place::Unit(UnitPlace::AtStart(Scope::Inside(block))))
@@ -264,21 +287,19 @@ fn hypothesis<'a>(
     alloc: Global,
     symbols: &SymbolTable,
     units: &mut Units,
-    block: Block<'a>,
-    label: &'a [u8],
-    expression: Vec<SymbolWord>,
-    token: Token<'a>,
-    mark: Mark,
+    mut hypothesis: OpenHypothesis<'a>,
+    marked: MarkedToken<'a>,
 ) -> Result<Place<'a>, Stop>
-    requires { length block.hyps < MOST_HYPOTHESES }
-    ensures { Leads symbols.now units.new result
-        (hypothesis_row (known_of symbols.now units.old) block.entry label.entry.now expression.items (seen token.entry) mark) }
+    requires { length hypothesis.block.hyps < MOST_HYPOTHESES }
+    ensures { let h = hypothesis.entry in Leads symbols.now units.new result
+        (hypothesis_row (known_of symbols.now units.old) h.block h.label.now h.expression.items
+        (seen marked.entry.token) marked.entry.mark) }
 {
-    if mark == Mark::End && !expression.is_empty() {
-        return end_hypothesis(alloc, symbols, units, block, label, expression);
+    if marked.mark == Mark::End && !hypothesis.expression.is_empty() {
+        return end_hypothesis(alloc, symbols, units, hypothesis);
     }
-    let expression = with_symbol(symbols, expression, token)?;
-    Ok(Place::Unit(UnitPlace::InHypothesis(block, label, expression)))
+    hypothesis.expression = with_symbol(symbols, hypothesis.expression, marked.token)?;
+    Ok(Place::Unit(UnitPlace::InHypothesis(hypothesis)))
 }
 
 /// Where a text goes on behind the assertion of a scope.
@@ -291,17 +312,21 @@ fn behind(scope: &Scope<'_>) -> Behind
     }
 }
 
-/// The assertion of a scope.
-fn assertion_in(
+/// An assertion behind its end.
+fn whole_assertion(
     alloc: Global,
-    scope: Scope<'_>,
-    label: &[u8],
+    assertion: OpenAssertion<'_>,
     kind: Kind,
-    symbols: Vec<SymbolWord>,
     steps: Proof,
 ) -> Result<Assertion, AllocError>
-    ensures { IfOk result (λ a. a ≡ assertion_of (block_of (seen_scope scope.entry)) label.now kind symbols.items steps) }
+    ensures { let a = assertion.entry in
+        IfOk result (λ w. w ≡ assertion_of (block_of (seen_scope a.scope)) a.label.now kind a.expression.items steps) }
 {
+    let OpenAssertion {
+        scope,
+        label,
+        expression,
+    } = assertion;
     let (pairs, hyps) = match scope {
         Scope::Outside => (Vec::new(alloc), Vec::new(alloc)),
         Scope::Inside(block) => block.into_parts(alloc)?,
@@ -311,7 +336,7 @@ fn assertion_in(
         kind,
         pairs: Sequence::from_vec(pairs),
         hyps: Sequence::from_vec(hyps),
-        statement: Sequence::from_vec(symbols),
+        statement: Sequence::from_vec(expression),
         proof: steps,
     })
 }
@@ -321,19 +346,17 @@ fn end_assertion<'a>(
     alloc: Global,
     symbols: &SymbolTable,
     units: &mut Units,
-    scope: Scope<'a>,
-    label: &[u8],
+    assertion: OpenAssertion<'a>,
     kind: Kind,
-    expression: Vec<SymbolWord>,
     steps: Proof,
 ) -> Result<Place<'a>, Stop>
-    ensures { Leads symbols.now units.new result
+    ensures { let a = assertion.entry in Leads symbols.now units.new result
         (at (with_assertion (known_of symbols.now units.old)
-        (assertion_of (block_of (seen_scope scope.entry)) label.now kind expression.items steps)) (behind (seen_scope scope.entry))) }
+        (assertion_of (block_of (seen_scope a.scope)) a.label.now kind a.expression.items steps)) (behind (seen_scope a.scope))) }
 {
-    let next = behind(&scope);
-    let assertion = assertion_in(alloc, scope, label, kind, expression, steps)?;
-    units.add_assertion(alloc, assertion)?;
+    let next = behind(&assertion.scope);
+    let whole = whole_assertion(alloc, assertion, kind, steps)?;
+    units.add_assertion(alloc, whole)?;
     Ok(next.place())
 }
 
@@ -342,30 +365,19 @@ fn axiom_symbol<'a>(
     alloc: Global,
     symbols: &SymbolTable,
     units: &mut Units,
-    scope: Scope<'a>,
-    label: &'a [u8],
-    expression: Vec<SymbolWord>,
-    token: Token<'a>,
-    mark: Mark,
+    mut assertion: OpenAssertion<'a>,
+    marked: MarkedToken<'a>,
 ) -> Result<Place<'a>, Stop>
-    ensures { Leads symbols.now units.new result
-        (axiom_row (known_of symbols.now units.old) (seen_scope scope.entry) label.entry.now expression.items (seen token.entry) mark) }
+    ensures { let a = assertion.entry in Leads symbols.now units.new result
+        (axiom_row (known_of symbols.now units.old) (seen_scope a.scope) a.label.now a.expression.items
+        (seen marked.entry.token) marked.entry.mark) }
 {
-    if mark == Mark::End && !expression.is_empty() {
+    if marked.mark == Mark::End && !assertion.expression.is_empty() {
         let steps = Proof::new(alloc);
-        return end_assertion(
-            alloc,
-            symbols,
-            units,
-            scope,
-            label,
-            Kind::Axiom,
-            expression,
-            steps,
-        );
+        return end_assertion(alloc, symbols, units, assertion, Kind::Axiom, steps);
     }
-    let expression = with_symbol(symbols, expression, token)?;
-    Ok(Place::Unit(UnitPlace::InAxiom(scope, label, expression)))
+    assertion.expression = with_symbol(symbols, assertion.expression, marked.token)?;
+    Ok(Place::Unit(UnitPlace::InAxiom(assertion)))
 }
 
 /// A symbol of a `$p`, or the `$=` behind one.
@@ -373,26 +385,22 @@ fn theorem_symbol<'a>(
     alloc: Global,
     symbols: &SymbolTable,
     units: &Units,
-    scope: Scope<'a>,
-    label: &'a [u8],
-    expression: Vec<SymbolWord>,
-    token: Token<'a>,
-    mark: Mark,
+    mut assertion: OpenAssertion<'a>,
+    marked: MarkedToken<'a>,
 ) -> Result<Place<'a>, Stop>
-    ensures { Leads symbols.now units.now result
-        (theorem_row (known_of symbols.now units.now) (seen_scope scope.entry) label.entry.now expression.items (seen token.entry) mark) }
+    ensures { let a = assertion.entry in Leads symbols.now units.now result
+        (theorem_row (known_of symbols.now units.now) (seen_scope a.scope) a.label.now a.expression.items
+        (seen marked.entry.token) marked.entry.mark) }
 {
-    if mark == Mark::Proof && !expression.is_empty() {
-        let theorem = Theorem {
-            scope,
-            label,
-            expression,
+    if marked.mark == Mark::Proof && !assertion.expression.is_empty() {
+        let begun = Theorem {
+            assertion,
             steps: Box::new(alloc, Proof::new(alloc))?,
         };
-        return Ok(Place::Unit(UnitPlace::InProof(theorem)));
+        return Ok(Place::Unit(UnitPlace::InProof(begun)));
     }
-    let expression = with_symbol(symbols, expression, token)?;
-    Ok(Place::Unit(UnitPlace::InTheorem(scope, label, expression)))
+    assertion.expression = with_symbol(symbols, assertion.expression, marked.token)?;
+    Ok(Place::Unit(UnitPlace::InTheorem(assertion)))
 }
 
 /// Behind a `$p` with its proof.
@@ -402,27 +410,14 @@ fn end_theorem<'a>(
     units: &mut Units,
     theorem: Theorem<'a>,
 ) -> Result<Place<'a>, Stop>
-    ensures { Leads symbols.now units.new result
+    ensures { let a = theorem.entry.assertion in Leads symbols.now units.new result
         (at (with_assertion (known_of symbols.now units.old)
-        (theorem_of (block_of (seen_scope theorem.entry.scope)) theorem.entry.label.now theorem.entry.expression.items
-        theorem.entry.steps.value)) (behind (seen_scope theorem.entry.scope))) }
+        (theorem_of (block_of (seen_scope a.scope)) a.label.now a.expression.items theorem.entry.steps.value))
+        (behind (seen_scope a.scope))) }
 {
-    let Theorem {
-        scope,
-        label,
-        expression,
-        steps,
-    } = theorem;
-    end_assertion(
-        alloc,
-        symbols,
-        units,
-        scope,
-        label,
-        Kind::Theorem,
-        expression,
-        Box::into_inner(steps),
-    )
+    let Theorem { assertion, steps } = theorem;
+    let steps = Box::into_inner(steps);
+    end_assertion(alloc, symbols, units, assertion, Kind::Theorem, steps)
 }
 
 /// A step of a proof.
@@ -433,12 +428,15 @@ fn next_step<'a>(
     mut theorem: Theorem<'a>,
     token: Token<'a>,
 ) -> Result<Place<'a>, Stop>
-    ensures { Leads symbols.now units.now result
-        (next_step (known_of symbols.now units.now) (seen_scope theorem.entry.scope) theorem.entry.label.now theorem.entry.expression.items
-        theorem.entry.steps.value (seen token.entry)) }
+    ensures { let a = theorem.entry.assertion in Leads symbols.now units.now result
+        (next_step (known_of symbols.now units.now) (seen_scope a.scope) a.label.now a.expression.items theorem.entry.steps.value
+        (seen token.entry)) }
 {
-    let count = theorem.steps.len();
-    match step_at(symbols, theorem.label, &theorem.scope, count, token.text) {
+    let step = StepPlace {
+        label: theorem.assertion.label,
+        count: theorem.steps.len(),
+    };
+    match step_at(symbols, step, &theorem.assertion.scope, token.text) {
         Ok(named) => {
             push_named(alloc, &mut theorem.steps, named, token.text)?;
             Ok(Place::Unit(UnitPlace::InProof(theorem)))
@@ -453,17 +451,16 @@ fn proof_step<'a>(
     symbols: &SymbolTable,
     units: &mut Units,
     theorem: Theorem<'a>,
-    token: Token<'a>,
-    mark: Mark,
+    marked: MarkedToken<'a>,
 ) -> Result<Place<'a>, Stop>
-    ensures { Leads symbols.now units.new result
-        (proof_row (known_of symbols.now units.old) (seen_scope theorem.entry.scope) theorem.entry.label.now theorem.entry.expression.items
-        theorem.entry.steps.value (seen token.entry) mark) }
+    ensures { let a = theorem.entry.assertion in Leads symbols.now units.new result
+        (proof_row (known_of symbols.now units.old) (seen_scope a.scope) a.label.now a.expression.items theorem.entry.steps.value
+        (seen marked.entry.token) marked.entry.mark) }
 {
-    if mark == Mark::End && !theorem.steps.is_empty() {
+    if marked.mark == Mark::End && !theorem.steps.is_empty() {
         return end_theorem(alloc, symbols, units, theorem);
     }
-    next_step(alloc, symbols, units, theorem, token)
+    next_step(alloc, symbols, units, theorem, marked.token)
 }
 
 /// Where a token leads that stands in no `$c`, `$v` or `$f`.
@@ -472,31 +469,24 @@ pub fn next_unit_place<'a>(
     symbols: &SymbolTable,
     units: &mut Units,
     place: UnitPlace<'a>,
-    token: Token<'a>,
-    mark: Mark,
+    marked: MarkedToken<'a>,
 ) -> Result<Place<'a>, Stop>
     requires { SuitsPlace (known_of symbols.now units.old) (seen_unit_place place) }
     ensures { Leads symbols.now units.new result
-        (in_place (known_of symbols.now units.old) (seen_unit_place place.entry) (seen token.entry) mark) }
+        (in_place (known_of symbols.now units.old) (seen_unit_place place.entry) (seen marked.entry.token) marked.entry.mark) }
 {
     match place {
-        UnitPlace::AtStart(scope) => at_start(alloc, symbols, units, scope, token, mark),
-        UnitPlace::AtClose => at_close(symbols, units, token, mark),
+        UnitPlace::AtStart(scope) => at_start(alloc, symbols, units, scope, marked),
+        UnitPlace::AtClose => at_close(symbols, units, marked),
         UnitPlace::AfterLabel(scope, label) => {
-            keyword(alloc, symbols, units, scope, label, token, mark)
+            keyword(alloc, symbols, units, scope, label, marked)
         }
         UnitPlace::InDistinct(block, variables) => {
-            distinct(symbols, units, block, variables, token, mark)
+            distinct(symbols, units, block, variables, marked)
         }
-        UnitPlace::InHypothesis(block, label, expression) => {
-            hypothesis(alloc, symbols, units, block, label, expression, token, mark)
-        }
-        UnitPlace::InAxiom(scope, label, expression) => {
-            axiom_symbol(alloc, symbols, units, scope, label, expression, token, mark)
-        }
-        UnitPlace::InTheorem(scope, label, expression) => {
-            theorem_symbol(alloc, symbols, units, scope, label, expression, token, mark)
-        }
-        UnitPlace::InProof(theorem) => proof_step(alloc, symbols, units, theorem, token, mark),
+        UnitPlace::InHypothesis(begun) => hypothesis(alloc, symbols, units, begun, marked),
+        UnitPlace::InAxiom(begun) => axiom_symbol(alloc, symbols, units, begun, marked),
+        UnitPlace::InTheorem(begun) => theorem_symbol(alloc, symbols, units, begun, marked),
+        UnitPlace::InProof(theorem) => proof_step(alloc, symbols, units, theorem, marked),
     }
 }

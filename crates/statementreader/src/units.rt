@@ -13,7 +13,7 @@ ghost use Rattle.statementreader.specs.Readers.{IsReadyUnit};
 ghost use Rattle.mmunits.specs.Views.{known_of};
 ghost use Rattle.statementreader.specs.Views.{seen_place, seen_position, IsUnitPlace, Leads};
 
-use crate::place::{Place, Scope, UnitPlace, is_outermost};
+use crate::place::{MarkedToken, Place, Scope, UnitPlace, is_outermost};
 use crate::unit_rows::next_unit_place;
 use mmsyntax::{Assertion, MOST_BYTES, Prelude, SymbolTable};
 use mmtext::{FaultKind, Mark, Reader, Stop, TextFault, Token, fault_at, read};
@@ -43,21 +43,20 @@ fn place_by_row<'a>(
     symbols: &SymbolTable,
     units: &mut Units,
     place: Place<'a>,
-    token: Token<'a>,
-    mark: Mark,
+    marked: MarkedToken<'a>,
 ) -> Result<Place<'a>, Stop>
     requires stands { SuitsPlace (known_of symbols.now units.old) (seen_place place) }
     requires unit { IsUnitPlace place }
-    requires mark { mark ≡ mark_of token.text.now }
-    ensures { Leads symbols.now units.new result (unit_row (seen_position symbols.now units.old place.entry) (seen token.entry)) }
+    requires mark { marked.mark ≡ mark_of marked.token.text.now }
+    ensures { Leads symbols.now units.new result (unit_row (seen_position symbols.now units.old place.entry) (seen marked.entry.token)) }
 {
     if is_behind_unit(units, &place) {
         drop(place);
-        return Err(fault_at(token, FaultKind::BadToken));
+        return Err(fault_at(marked.token, FaultKind::BadToken));
     }
     match place {
         Place::Prelude(_) => unreachable!(),
-        Place::Unit(place) => next_unit_place(alloc, symbols, units, place, token, mark),
+        Place::Unit(place) => next_unit_place(alloc, symbols, units, place, marked),
     }
 }
 
@@ -67,15 +66,15 @@ fn next_place<'a>(
     symbols: &SymbolTable,
     units: &mut Units,
     place: Place<'a>,
-    token: Token<'a>,
-    mark: Mark,
+    marked: MarkedToken<'a>,
 ) -> Result<Place<'a>, Stop>
     requires ready { IsReadyUnit place units.old }
-    requires mark { mark ≡ mark_of token.text.now }
-    ensures leads { Leads symbols.now units.new result (unit_row (seen_position symbols.now units.old place.entry) (seen token.entry)) }
+    requires mark { marked.mark ≡ mark_of marked.token.text.now }
+    ensures leads { Leads symbols.now units.new result
+        (unit_row (seen_position symbols.now units.old place.entry) (seen marked.entry.token)) }
     ensures ready { IfOk result (λ p. IsReadyUnit p units.new) }
 {
-    place_by_row(alloc, symbols, units, place, token, mark)
+    place_by_row(alloc, symbols, units, place, marked)
 }
 
 /// Goes from a place to where a token leads.
@@ -84,17 +83,16 @@ fn advance<'a>(
     symbols: &SymbolTable,
     units: &mut Units,
     place: &mut Place<'a>,
-    token: Token<'a>,
-    mark: Mark,
+    marked: MarkedToken<'a>,
 ) -> Result<(), Stop>
     requires ready { IsReadyUnit place.old units.old }
-    requires mark { mark ≡ mark_of token.text.now }
+    requires mark { marked.mark ≡ mark_of marked.token.text.now }
     ensures leads { Gives (λ _. seen_position symbols.now units.new place.new) result
-        (unit_row (seen_position symbols.now units.old place.old) (seen token.entry)) }
+        (unit_row (seen_position symbols.now units.old place.old) (seen marked.entry.token)) }
     ensures ready { OnOk result (IsReadyUnit place.new units.new) }
 {
     let here = mem::replace(place, Place::Unit(UnitPlace::AtClose));
-    let next = next_place(alloc, symbols, units, here, token, mark)?;
+    let next = next_place(alloc, symbols, units, here, marked)?;
     drop(mem::replace(place, next));
     Ok(())
 }
@@ -145,8 +143,7 @@ impl<'a> Reader<'a> for AssertionReader<'a> {
             self.symbols,
             &mut self.units,
             &mut self.place,
-            token,
-            mark,
+            MarkedToken { token, mark },
         )
     }
 

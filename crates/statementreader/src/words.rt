@@ -14,7 +14,7 @@ ghost use Rattle.statementreader.specs.Views.{seen_scope, seen_unit_place, seen_
 use crate::labels::symbol_named;
 use crate::place::{Place, Scope, Theorem, UnitPlace};
 use crate::recent::{Recalled, Recent};
-use crate::steps::{Named, push_named_near, recalled_step, step_at};
+use crate::steps::{Named, StepPlace, push_named_near, recalled_step, step_at};
 use mmsyntax::{MOST_STEPS, SymbolTable, SymbolWord};
 use mmtext::{FaultKind, Stop, Token, fault_at};
 use std::alloc::Global;
@@ -24,20 +24,19 @@ use std::alloc::Global;
 #[tactic(auto, unfolding(mmsyntax::specs::Steps::step_of))]
 fn known_step(
     symbols: &SymbolTable,
-    label: &[u8],
+    step: StepPlace<'_>,
     scope: &Scope<'_>,
-    count: usize,
     known: &Recalled<'_>,
 ) -> Result<Named, FaultKind>
     requires { IsTrueOf symbols.now known.now }
     ensures named { step_or_fault known.now.word.now result
-        ≡ step_of symbols.now label.now (block_of (seen_scope scope.now)).hyps count known.now.word.now }
+        ≡ step_of symbols.now step.entry.label.now (block_of (seen_scope scope.now)).hyps step.entry.count known.now.word.now }
     ensures small { IfOk result IsSmallNamed }
 {
-    if !known.is_label || count >= MOST_STEPS {
-        return step_at(symbols, label, scope, count, known.word);
+    if !known.is_label || step.count >= MOST_STEPS {
+        return step_at(symbols, step, scope, known.word);
     }
-    recalled_step(label, scope, known)
+    recalled_step(step.label, scope, known)
 }
 
 /// Puts the symbol that a word is behind others. A word with a `$` is left: whether it had none.
@@ -80,8 +79,8 @@ fn take_step<'a>(
     ensures knows { RecallsTrue symbols.now recent.new }
     ensures kept { theorem.new ≡ record theorem.old { steps = theorem.new.steps } }
     ensures taken { TakesItem (seen token.entry) theorem.old.steps.value theorem.new.steps.value
-        (step_of symbols.now theorem.old.label.now (block_of (seen_scope theorem.old.scope)).hyps (length theorem.old.steps.value)
-        token.entry.text.now) result }
+        (step_of symbols.now theorem.old.assertion.label.now (block_of (seen_scope theorem.old.assertion.scope)).hyps
+        (length theorem.old.steps.value) token.entry.text.now) result }
 {
     let place = recent.look_up(alloc, symbols, token.text)?;
     let known = recent.at(place);
@@ -89,8 +88,11 @@ fn take_step<'a>(
         return Ok(false);
     }
     let hint = known.cited_at;
-    let count = theorem.steps.len();
-    match known_step(symbols, theorem.label, &theorem.scope, count, known) {
+    let step = StepPlace {
+        label: theorem.assertion.label,
+        count: theorem.steps.len(),
+    };
+    match known_step(symbols, step, &theorem.assertion.scope, known) {
         Ok(named) => {
             let cited_at = push_named_near(alloc, &mut theorem.steps, hint, named, token.text)?;
             recent.note(place, cited_at);
@@ -118,14 +120,14 @@ pub(crate) fn take_unit_word<'a>(
     ensures stands { (k : Known) → SuitsPlace k (seen_unit_place place.old) → SuitsPlace k (seen_unit_place place.new) }
 {
     match place {
-        UnitPlace::InHypothesis(_, _, expression) => {
-            take_symbol(alloc, symbols, recent, expression, token)
+        UnitPlace::InHypothesis(hypothesis) => {
+            take_symbol(alloc, symbols, recent, &mut hypothesis.expression, token)
         }
-        UnitPlace::InAxiom(_, _, expression) => {
-            take_symbol(alloc, symbols, recent, expression, token)
+        UnitPlace::InAxiom(assertion) => {
+            take_symbol(alloc, symbols, recent, &mut assertion.expression, token)
         }
-        UnitPlace::InTheorem(_, _, expression) => {
-            take_symbol(alloc, symbols, recent, expression, token)
+        UnitPlace::InTheorem(assertion) => {
+            take_symbol(alloc, symbols, recent, &mut assertion.expression, token)
         }
         UnitPlace::InProof(theorem) => { take_step(alloc, symbols, recent, theorem, token) }
         _ => Ok(false),

@@ -13,7 +13,7 @@ use crate::frames::Frames;
 use crate::node::node;
 use crate::stack::Stack;
 use crate::substitutes::Conclusion;
-use crate::thesis::Thesis;
+use crate::thesis::{Proving, Thesis};
 use derivation::{ProofFault, ProofFaultKind};
 use mmsyntax::{Assertion, Expr, Frame, Kind, Label, Prelude, Symbol, SymbolWord, WordStep};
 use std::alloc::{AllocError, Global};
@@ -21,22 +21,21 @@ use std::alloc::{AllocError, Global};
 /// Puts what a citation of the frame gives in the place of the last expressions, which it takes.
 fn cite<'a>(
     alloc: Global,
-    prelude: &Prelude,
-    thesis: &Thesis,
+    proving: Proving<'_, '_>,
     frame: &'a Frame,
     stack: &mut Stack<'a>,
     made: &mut Vec<SymbolWord>,
 ) -> Result<(), ProofFaultKind>
-    ensures ok { OnOk result (GivesOnLast prelude.now thesis.now frame.now stack.old stack.new) }
+    ensures ok { OnOk result (GivesOnLast proving.entry.prelude.now proving.entry.thesis.now frame.now stack.old stack.new) }
     ensures err { IfErr result (λ kind. kind ≢ ProofFaultKind.NoMemory →
-        FailsOnLast prelude.now thesis.now frame.now stack.old kind) }
+        FailsOnLast proving.entry.prelude.now proving.entry.thesis.now frame.now stack.old kind) }
 {
     let count = frame.floats.as_slice().len() + frame.hyps.as_slice().len();
     if stack.len() < count {
         return Err(ProofFaultKind::StackShort);
     }
     let base = stack.len() - count;
-    let conclusion = node(alloc, prelude, thesis, frame, &stack.last(count), made)?;
+    let conclusion = node(alloc, proving, frame, &stack.last(count), made)?;
     stack.truncate(base);
     match conclusion {
         Conclusion::Unchanged(statement) => stack.lend(statement),
@@ -62,22 +61,21 @@ fn frames_of<'a, F: Frames>(
 /// Takes one step, whose label is one of those with these frames. What a citation makes is put together in `made`.
 fn take_step<'a>(
     alloc: Global,
-    prelude: &Prelude,
+    proving: Proving<'_, 'a>,
     frames: &[Option<&'a Frame>],
-    thesis: &Thesis<'a>,
     stack: &mut Stack<'a>,
     made: &mut Vec<SymbolWord>,
     step: WordStep,
 ) -> Result<(), ProofFaultKind>
     requires { IsWithin (length frames.now) step }
     ensures ok { OnOk result ((lib : Citable) (labels : List (List ℕ)) → map option_copied frames.now ≡ map lib labels →
-        Moves lib prelude.now thesis.now stack.old (step_in labels step) stack.new) }
+        Moves lib proving.entry.prelude.now proving.entry.thesis.now stack.old (step_in labels step) stack.new) }
     ensures err { IfErr result (λ kind. kind ≢ ProofFaultKind.NoMemory →
         (lib : Citable) (labels : List (List ℕ)) → map option_copied frames.now ≡ map lib labels →
-        StepFails lib prelude.now thesis.now stack.old (step_in labels step) kind) }
+        StepFails lib proving.entry.prelude.now proving.entry.thesis.now stack.old (step_in labels step) kind) }
 {
     match step {
-        WordStep::Float(i) => match prelude.floats().get(i as usize) {
+        WordStep::Float(i) => match proving.prelude.floats().get(i as usize) {
             None => Err(ProofFaultKind::UnknownStep),
             Some(float) => {
                 stack.push_two(
@@ -87,13 +85,13 @@ fn take_step<'a>(
                 Ok(())
             }
         },
-        WordStep::Hyp(k) => match thesis.assertion().hyps.as_slice().get(k as usize) {
+        WordStep::Hyp(k) => match proving.thesis.assertion().hyps.as_slice().get(k as usize) {
             None => Err(ProofFaultKind::UnknownStep),
             Some(hyp) => stack.lend(hyp.as_slice()),
         },
         WordStep::Cite(n) => match frames[n as usize] {
             None => Err(ProofFaultKind::UnknownStep),
-            Some(frame) => cite(alloc, prelude, thesis, frame, stack, made),
+            Some(frame) => cite(alloc, proving, frame, stack, made),
         },
     }
 }
@@ -139,11 +137,15 @@ fn check_steps<'a, F: Frames>(
     };
     let cited = found.as_slice();
     let thesis = Thesis::new(assertion);
+    let proving = Proving {
+        prelude,
+        thesis: &thesis,
+    };
     let mut stack = Stack::new(alloc);
     let mut made = Vec::new(alloc);
     for done in 0..count {
         let step = steps.step(done);
-        match take_step(alloc, prelude, cited, &thesis, &mut stack, &mut made, step) {
+        match take_step(alloc, proving, cited, &mut stack, &mut made, step) {
             Ok(()) => {}
             Err(kind) => return Err(ProofFault {
                 step: done + 1,

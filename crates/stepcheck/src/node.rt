@@ -8,7 +8,7 @@ ghost use Rattle.stepcheck.specs.Conclusions.{concluded};
 use crate::pairs::pairs_fit;
 use crate::stack::Args;
 use crate::substitutes::{Conclusion, Substitution, are_substituted, conclude};
-use crate::thesis::Thesis;
+use crate::thesis::Proving;
 use derivation::ProofFaultKind;
 use mmsyntax::{Frame, Prelude, Symbol, SymbolWord};
 use std::alloc::Global;
@@ -48,18 +48,19 @@ fn have_types(prelude: &Prelude, floats: &[u32], args: &Args) -> bool
 /// Makes what a citation of the frame gives over these expressions, one for each mandatory hypothesis; or tells the first test that fails.
 pub(crate) fn node<'a>(
     alloc: Global,
-    prelude: &Prelude,
-    thesis: &Thesis,
+    proving: Proving<'_, '_>,
     frame: &'a Frame,
     args: &Args,
     made: &mut Vec<SymbolWord>,
 ) -> Result<Conclusion<'a>, ProofFaultKind>
     requires { length args.now ≡ arity frame.now }
-    ensures ok { IfOk result (λ e. Gives prelude.now thesis.now frame.now args.now (concluded e made.new.items)) }
-    ensures err { IfErr result (λ kind. kind ≢ ProofFaultKind.NoMemory → FailsTest prelude.now thesis.now frame.now args.now kind) }
+    ensures ok { IfOk result (λ e.
+        Gives proving.entry.prelude.now proving.entry.thesis.now frame.now args.now (concluded e made.new.items)) }
+    ensures err { IfErr result (λ kind. kind ≢ ProofFaultKind.NoMemory →
+        FailsTest proving.entry.prelude.now proving.entry.thesis.now frame.now args.now kind) }
 {
     let floats = frame.floats.as_slice();
-    if !have_types(prelude, floats, args) {
+    if !have_types(proving.prelude, floats, args) {
         return Err(ProofFaultKind::WrongType);
     }
     let substitution = Substitution::new(floats, args);
@@ -67,7 +68,7 @@ pub(crate) fn node<'a>(
     if !are_substituted(&substitution, frame.hyps.as_slice(), &logical) {
         return Err(ProofFaultKind::HypothesisDiffers);
     }
-    if !pairs_fit(alloc, thesis, &substitution, frame.pairs.as_slice())? {
+    if !pairs_fit(alloc, proving.thesis, &substitution, frame.pairs.as_slice())? {
         return Err(ProofFaultKind::NotDisjoint);
     }
     conclude(&substitution, frame.statement.as_slice(), made)

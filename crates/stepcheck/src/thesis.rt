@@ -3,7 +3,7 @@
 ghost use Rattle.std.specs.Prelude.{◌≡◌, ◌<◌, IfSome, length, slice_index_or};
 ghost use Rattle.derivation.specs.Lookups.{IsPlaceOfPair};
 
-use mmsyntax::Assertion;
+use mmsyntax::{Assertion, Prelude};
 use std::marker::Model;
 
 /// How many pairs are looked at before all are.
@@ -27,6 +27,13 @@ impl<'a> Model for Thesis<'a> {
     ghost view = { λ t. t.assertion.now };
 
     ghost invariant = { λ t. t.ascends ≡ true → ArePairsSorted t.assertion.now.pairs };
+}
+
+/// What the steps of a proof are taken for: an assertion, over a prelude.
+#[derive(Clone, Copy)]
+pub(crate) struct Proving<'s, 'a> {
+    pub(crate) prelude: &'s Prelude,
+    pub(crate) thesis: &'s Thesis<'a>,
 }
 
 /// The place of a pair among the few from a place on, if it is found there.

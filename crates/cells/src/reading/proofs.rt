@@ -62,8 +62,12 @@ pub fn proof<C: Cells>(alloc: Global, cells: &mut C, slot: usize) -> Result<Proo
             // nor such a step
             return Ok(Proof::new(alloc));
         }
-        let hint = hints.exchange(step, i as u32) as usize;
-        let word = word_again(alloc, cells, slots, stored, &mut cited, &words, hint, *word)?;
+        let guess = Guess {
+            stored,
+            words: words.as_slice(),
+            place: hints.exchange(step, i as u32) as usize,
+        };
+        let word = word_again(alloc, cells, slots, guess, &mut cited, *word)?;
         words.push_reserved(word);
     }
     Ok(Proof::from_words(cited, words))
@@ -79,21 +83,29 @@ fn is_small(step: StoredStep) -> bool
     }
 }
 
+/// A place where the same step may have stood, among those of a proof that were read so far.
+#[derive(Clone, Copy)]
+struct Guess<'s> {
+    /// The words of all steps in the store.
+    stored: &'s [u64],
+    /// The words over labels of those that were read.
+    words: &'s [u32],
+    place: usize,
+}
+
 /// The word of a step over labels, by its word in the store: that of the step at a place, if it has the same word there, so that the label
 /// of each assertion that a proof cites is read once.
 fn word_again<C: Cells>(
     alloc: Global,
     cells: &mut C,
     slots: usize,
-    stored: &[u64],
+    guess: Guess<'_>,
     cited: &mut Vec<Label>,
-    words: &[u32],
-    hint: usize,
     word: u64,
 ) -> Result<u32, Halt>
     requires slots { slots ≡ (C.sight cells.old).setting.slots }
-    requires words { AreWords cited.old.items words.now }
-    requires steps { AreStepsOf slots (C.sight cells.old) (map stored_step stored.now) (steps_of cited.old.items words.now) }
+    requires words { AreWords cited.old.items guess.words.now }
+    requires steps { AreStepsOf slots (C.sight cells.old) (map stored_step guess.stored.now) (steps_of cited.old.items guess.words.now) }
     requires few { length cited.old.items < 2 ^ 30 }
     requires small { HasSmallPlace (stored_step word) }
     ensures looks { Looks (C.sight cells.old) (C.sight cells.new) }
@@ -104,6 +116,11 @@ fn word_again<C: Cells>(
     ensures halts { IfErr result (IsCaused (C.sight cells.new)) }
     ensures reads { ReadsWithin (IsNameCited (stored_step word)) (C.sight cells.old) (C.sight cells.new) }
 {
+    let Guess {
+        stored,
+        words,
+        place: hint,
+    } = guess;
     if hint < words.len() && hint < stored.len() && stored[hint] == word {
         return Ok(words[hint]);
     }

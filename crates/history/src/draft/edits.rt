@@ -20,7 +20,7 @@ ghost use Rattle.history.specs.declared.editor.ApplyError.TheVariants as error;
 use super::Draft;
 use crate::editor::ApplyError;
 use catalog::{
-    cites, cites_not_below, cites_unknown, count_citers, entry_at, find_entry, find_label,
+    Lower, cites, cites_not_below, cites_unknown, count_citers, entry_at, find_entry, find_label,
     has_citer_below, has_clash, list_lines, proof_fault, recited, relabelled, reproved,
 };
 use library::{Command, Ranked, Reason, Refused, Reply, is_alike};
@@ -65,16 +65,14 @@ impl Draft {
         if cites_not_below(entries, &self.places, rank, steps) {
             return Ok(Some(Reason::CitedNotLower));
         }
-        let frames = self.frames.as_slice();
-        let fault = proof_fault(
-            alloc,
-            &self.prelude,
+        let lower = Lower {
+            prelude: &self.prelude,
             entries,
-            frames,
-            &self.places,
+            frames: self.frames.as_slice(),
+            places: &self.places,
             rank,
-            assertion,
-        )?;
+        };
+        let fault = proof_fault(alloc, &lower, assertion)?;
         match fault {
             Some(fault) => Ok(Some(Reason::ProofFails(fault))),
             None => Ok(None),

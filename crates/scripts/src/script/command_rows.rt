@@ -21,7 +21,7 @@ use mmsyntax::numeral::number;
 use mmsyntax::{Label, Prelude, Proof};
 use mmtext::{FaultKind, Mark, Stop, Token, contains_dollar, fault_at, mark_word};
 use statementreader::{
-    Named, Recent, UnitProgress, UnitReader, named_step, push_named, recalled_named_step,
+    Named, Recent, StepPlace, UnitProgress, UnitReader, named_step, push_named, recalled_named_step,
 };
 use std::alloc::{AllocError, Global};
 
@@ -98,7 +98,8 @@ fn other_step(
     ensures small { IfOk result IsSmallNamed }
 {
     let hypothesis = hypothesis_place(label, word);
-    named_step(prelude.symbols(), label, hypothesis, count, word)
+    let step = StepPlace { label, count };
+    named_step(prelude.symbols(), step, hypothesis, word)
 }
 
 /// The same, of a word that was looked up lately or is looked up now.
@@ -117,7 +118,8 @@ fn recalled_other_step<'a>(
 {
     let hypothesis = hypothesis_place(label, word);
     let symbols = prelude.symbols();
-    recalled_named_step(alloc, symbols, recent, label, hypothesis, count, word)
+    let step = StepPlace { label, count };
+    recalled_named_step(alloc, symbols, recent, step, hypothesis, word)
 }
 
 /// A step of another proof, or the `$.` behind one.

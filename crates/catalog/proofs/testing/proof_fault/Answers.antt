@@ -5,10 +5,12 @@ use Rattle.catalog.proofs.testing.proof_fault.Goals as goal
 
 pub returns-in-Ok : goal.returns-in-Ok
 returns-in-Ok c = λ slots.
-    sym (proof_fails-none (record { prelude = c.args.prelude.now; slots = slots }) (living c.args.entries.now) c.args.rank
-    c.args.assertion.now c.requires.theorem c.in-Ok.ensures.yes)
+    let l = c.args.lower.now in
+    sym (proof_fails-none (record { prelude = l.prelude.now; slots = slots }) (living l.entries.now) l.rank c.args.assertion.now
+    c.requires c.in-Ok.ensures.yes)
 
 pub returns-in_default : goal.returns-in_default
 returns-in_default c = λ slots.
-    sym (proof_fails-fault (record { prelude = c.args.prelude.now; slots = slots }) (living c.args.entries.now) c.args.rank
-    c.args.assertion.now c.in-Err.fault (c.in-Err.ensures.fault c.in_default.not-NoMemory))
+    let l = c.args.lower.now in
+    sym (proof_fails-fault (record { prelude = l.prelude.now; slots = slots }) (living l.entries.now) l.rank c.args.assertion.now
+    c.in-Err.fault (c.in-Err.ensures.fault c.in_default.not-NoMemory))

@@ -10,9 +10,11 @@ use Rattle.editedsource.proofs.completing.draft_of.Goals as goal
 pub returns-in_ok-ungiven-in-Err-clause-refused : goal.returns-in_ok-ungiven-in-Err-clause-refused
 returns-in_ok-ungiven-in-Err-clause-refused c =
     λ choice are.
-    let path = c.args.path.now in
+    let path = c.args.edit.now.path.now in
+    let library = c.args.edit.now.library in
+    let run = library.replayed.now in
     let why = c.in-Err.why in
     told_more (λ line. (why ≢ NoMemory) × (line ≡ path ++ (codes ": " ++ refusal_text why)))
-    (IsStoppedLine path c.args.source.now c.args.old.now.stand.scope choice c.args.taken.now c.args.run.now.entries c.args.run.now.edited)
+    (IsStoppedLine path library.source.now c.args.old.now.stand.scope choice library.taken.now run.entries run.edited)
     (λ line h. record { why = why; stopped = c.in-Err.ensures.refused choice are h.0; told = h.0; says = h.1 })
     c.in_ok-ungiven-in-Err.field-0 c.in_ok-ungiven-in-Err.ensures

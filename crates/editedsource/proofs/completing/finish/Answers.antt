@@ -33,12 +33,12 @@ check-requires g c =
 
 pub returns-clause-finished : goal.returns-clause-finished
 returns-clause-finished g c choice are =
-    let path = c.args.path.now in
-    let source = c.args.source.now in
+    let path = c.args.edit.now.path.now in
+    let source = c.args.edit.now.library.source.now in
     let old = c.args.old.stand.scope in
-    let taken = c.args.taken.now in
-    let run = c.args.run.now in
-    let ds = seen_pairs c.args.descriptions.now in
+    let taken = c.args.edit.now.library.taken.now in
+    let run = c.args.edit.now.library.replayed.now in
+    let ds = seen_pairs c.args.edit.now.descriptions.now in
     let draft = c.in_ok-draft.draft in
     let text = draft.text.items in
     let is = subst (λ r. IfOk r (IsDraft source old choice taken run.entries run.edited)) c.in_ok-draft.was
@@ -72,12 +72,12 @@ returns-clause-finished g c choice are =
 
 pub returns-in_err-new-clause-refused : goal.returns-in_err-new-clause-refused
 returns-in_err-new-clause-refused g c choice are =
-    let path = c.args.path.now in
-    let source = c.args.source.now in
+    let path = c.args.edit.now.path.now in
+    let source = c.args.edit.now.library.source.now in
     let old = c.args.old.stand.scope in
-    let taken = c.args.taken.now in
-    let run = c.args.run.now in
-    let ds = seen_pairs c.args.descriptions.now in
+    let taken = c.args.edit.now.library.taken.now in
+    let run = c.args.edit.now.library.replayed.now in
+    let ds = seen_pairs c.args.edit.now.descriptions.now in
     let is = subst (λ r. IfOk r (IsDraft source old choice taken run.entries run.edited)) c.in_ok-draft.was
     (c.draft_of.ensures.drafted choice are) in
     let p = err_from_is_err_and c.from_residual-in_err-new.result c.from_residual-in_err-new.ensures.1 in
@@ -90,12 +90,12 @@ returns-in_err-new-clause-refused g c choice are =
 
 pub returns-in_err-check-clause-refused : goal.returns-in_err-check-clause-refused
 returns-in_err-check-clause-refused g c choice are =
-    let path = c.args.path.now in
-    let source = c.args.source.now in
+    let path = c.args.edit.now.path.now in
+    let source = c.args.edit.now.library.source.now in
     let old = c.args.old.stand.scope in
-    let taken = c.args.taken.now in
-    let run = c.args.run.now in
-    let ds = seen_pairs c.args.descriptions.now in
+    let taken = c.args.edit.now.library.taken.now in
+    let run = c.args.edit.now.library.replayed.now in
+    let ds = seen_pairs c.args.edit.now.descriptions.now in
     let draft = c.in_ok-draft.draft in
     let text = draft.text.items in
     let is = subst (λ r. IfOk r (IsDraft source old choice taken run.entries run.edited)) c.in_ok-draft.was

@@ -12,11 +12,11 @@ use Rattle.editscripts.proofs.lacking.undone.Goals as goal
 
 pub loop-n-preserved : goal.loop-n-preserved
 loop-n-preserved c =
-    let paths = map (λ p. p.now) c.args.paths.now in
-    let texts = seen_texts c.args.texts.now in
-    let begin = beginnings_of c.args.laid.now in
-    let scripts = c.args.scripts.now in
-    let rows = c.args.rows.now in
+    let paths = map (λ p. p.now) c.args.run.now.paths.now in
+    let texts = seen_texts c.args.run.now.texts.now in
+    let begin = beginnings_of c.args.run.now.laid.now in
+    let scripts = c.args.run.now.scripts.now in
+    let rows = c.args.run.now.rows.now in
     let n = c.loop-n.n in
     let row = c.index-rows-n.result in
     let at = slice_get_read rows (length rows) n row refl c.loop-n-test.true c.index-rows-n.is in

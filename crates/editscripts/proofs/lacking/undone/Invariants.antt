@@ -9,4 +9,5 @@ use Rattle.editscripts.proofs.lacking.undone.Given as goal
 abbrev pub invariant-loop-n : goal.invariant-loop-n
 invariant-loop-n l =
     map string_bytes l.said.items
-    ≡ all_undone (map (λ p. p.now) l.paths) (seen_texts l.texts) (beginnings_of l.laid) l.scripts (lists_of (take l.n l.rows))
+    ≡ all_undone (map (λ p. p.now) l.run.paths.now) (seen_texts l.run.texts.now) (beginnings_of l.run.laid.now) l.run.scripts.now
+    (lists_of (take l.n l.run.rows.now))

@@ -17,11 +17,11 @@ use Rattle.editscripts.proofs.replying.replies_in.Goals as goal
 pub loop-n-preserved : goal.loop-n-preserved
 loop-n-preserved c =
     let t = c.args.prelude.now in
-    let paths = map (λ p. p.now) c.args.paths.now in
-    let texts = seen_texts c.args.texts.now in
-    let begin = beginnings_of c.args.laid.now in
-    let scripts = c.args.scripts.now in
-    let rows = c.args.rows.now in
+    let paths = map (λ p. p.now) c.args.run.now.paths.now in
+    let texts = seen_texts c.args.run.now.texts.now in
+    let begin = beginnings_of c.args.run.now.laid.now in
+    let scripts = c.args.run.now.scripts.now in
+    let rows = c.args.run.now.rows.now in
     let n = c.loop-n.n in
     let row = c.index-rows-n.result in
     let at = slice_get_read rows (length rows) n row refl c.loop-n-test.true c.index-rows-n.is in
@@ -47,7 +47,7 @@ loop-n-preserved c =
 
 pub put_replies-requires : goal.put_replies-requires
 put_replies-requires c =
-    let rows = c.args.rows.now in
+    let rows = c.args.run.now.rows.now in
     let n = c.loop-n.n in
     let row = c.index-rows-n.result in
     let view = λ (r : Vec Outcome Global). r.items in

@@ -8,4 +8,5 @@ use Rattle.editscripts.proofs.replying.replies_in.Given as goal
 abbrev pub invariant-loop-n : goal.invariant-loop-n
 invariant-loop-n l =
     l.out.items
-    ≡ all_replies l.prelude (map (λ p. p.now) l.paths) (seen_texts l.texts) (beginnings_of l.laid) l.scripts (lists_of (take l.n l.rows))
+    ≡ all_replies l.prelude (map (λ p. p.now) l.run.paths.now) (seen_texts l.run.texts.now) (beginnings_of l.run.laid.now)
+    l.run.scripts.now (lists_of (take l.n l.run.rows.now))

@@ -5,6 +5,7 @@ use Rattle.std.proofs.lemmas.List.{length-map}
 use Rattle.std.proofs.lemmas.Result.{err_from_is_err_and}
 use Rattle.source.specs.Views.{seen_pairs}
 use Rattle.giving.specs.Staying.{Change}
+use Rattle.intake.specs.declared.taken.Taken.{Taken}
 use Rattle.transaction.specs.Closings.{lists_of}
 use Rattle.jobs.specs.Jobs.{room_of}
 use Rattle.checking.specs.Checks.{Orders}
@@ -64,7 +65,8 @@ returns-in_err-outcomes-clause-refused g c =
 pub finish-requires-clause-chosen : goal.finish-requires-clause-chosen
 finish-requires-clause-chosen g c κs within =
     let library = c.in_ok-begun.ensures.begun.for_scripts.library in
-    ap length (sym library.chosen_are) ∙ length-map c.in_ok-old.old.stand.scope.assertions _
+    ap (λ (t : Taken). length t.chosen.items) c.edit_of-edit.ensures.taken
+    ∙ ap length (sym library.chosen_are) ∙ length-map c.in_ok-old.old.stand.scope.assertions _
 
 pub returns-then-not-may_print-clause-told : goal.returns-then-not-may_print-clause-told
 returns-then-not-may_print-clause-told g c =
@@ -121,6 +123,9 @@ returns-in_err-out-clause-refused g c =
     ∙ ap (λ rs. done_descriptions (lists_of rs) (seen_descriptions c.as_slice-2.result.now)) c.as_slice-rows.ensures.value
     ∙ ap (λ ds. done_descriptions rows (seen_descriptions ds)) c.as_slice-2.ensures.value in
     let p = err_from_is_err_and c.from_residual-in_err-out.result c.from_residual-in_err-out.ensures.1 in
+    let x = c.edit_of-edit.ensures in
+    let chosen = library.chosen_are ∙ ap (λ (t : Taken). t.chosen.items) (sym x.taken) in
+    let refused = rw (x.path, x.source, x.taken, x.replayed, x.descriptions) at (c.finish.ensures.refused choice chosen) in
     rw (p.1, p.2) (told_more
     (IsStoppedOrFaulty path source s choice begun.taken e.history e.library given)
     (IsUneditedLine path paths source texts workers room c.args.order.force)
@@ -140,7 +145,7 @@ returns-in_err-out-clause-refused g c =
     ])
     c.in_err-out.field-0.0
     (subst (λ r. IfErr r (IsToldBy (IsStoppedOrFaulty path source s choice begun.taken e.history e.library given))) c.in_err-out.was
-    (c.finish.ensures.refused choice library.chosen_are)))
+    refused))
 
 pub returns-clause-told : goal.returns-clause-told
 returns-clause-told g c =
@@ -169,8 +174,10 @@ returns-clause-told g c =
     ∙ ap (λ rs. done_descriptions (lists_of rs) (seen_descriptions c.as_slice-2.result.now)) c.as_slice-rows.ensures.value
     ∙ ap (λ ds. done_descriptions rows (seen_descriptions ds)) c.as_slice-2.ensures.value in
     let f = c.in_ok-out.field-0 in
-    let finished = subst (λ r. IfOk r (IsFinished path source s choice begun.taken e.history e.library given)) c.in_ok-out.was
-    (c.finish.ensures.finished choice library.chosen_are) in
+    let x = c.edit_of-edit.ensures in
+    let chosen = library.chosen_are ∙ ap (λ (t : Taken). t.chosen.items) (sym x.taken) in
+    let done = rw (x.path, x.source, x.taken, x.replayed, x.descriptions) at (c.finish.ensures.finished choice chosen) in
+    let finished = subst (λ r. IfOk r (IsFinished path source s choice begun.taken e.history e.library given)) c.in_ok-out.was done in
     let account = c.in_ok-account.account in
     let first = subst (λ rs. IsFirstAccount paths texts begun (lists_of rs) asked account) c.as_slice-rows.ensures.value
     c.in_ok-account.ensures in (

@@ -21,7 +21,7 @@ taken_at-requires g c κs =
     let s = g.D.Declared.scope c.args.declared.now in
     let t = c.args.placed.now.sites.now in
     let names = c.args.placed.now.names.now in
-    let fs = c.args.chosen.now in
+    let fs = c.args.flags.chosen.now in
     let k = c.loop-place.place in
     let within : k < length s.assertions = search rules in
     let yes : get_or fs k false ≡ true = search rules in
@@ -39,7 +39,7 @@ loop-place-preserved g c =
     let m = map_of t names in
     let tables = tables_of t names in
     let xs : List Assertion = s.assertions in
-    let fs = c.args.chosen.now in
+    let fs = c.args.flags.chosen.now in
     let k = c.loop-place.place in
     let within : k < length xs = search rules in
     let there : (x : Assertion) × (slice_get xs k ≡ Some x) =
@@ -49,13 +49,14 @@ loop-place-preserved g c =
     elim c.if-chosen-place.branch [
       | then-chosen-place+in_ok-one+in_ok-put w ↦
           let yes : get_or fs k false ≡ true = search rules in
-          let made : (choice : Choice) → AreFlags s choice fs c.args.front.now c.args.long.now
+          let made : (choice : Choice) → AreFlags s choice fs c.args.flags.front.now c.args.flags.long.now
           → IsMade m tables choice (take k xs) x w.in_ok-one.one =
           λ choice are.
           is_so (slice_get xs k)
           (λ (y : Assertion). HasStepsFor m choice s y → IsMade m tables choice (take k xs) y w.in_ok-one.one) x there.1
           (w.in_ok-one.ensures.made choice are)
-          (all_known s t names fs c.requires.sites c.requires.labels choice c.args.front.now c.args.long.now are k x there.1 yes) in
+          (all_known s t names fs c.requires.sites c.requires.labels choice c.args.flags.front.now c.args.flags.long.now are k x there.1
+          yes) in
           let label : option_map (λ (b : Bor (List ℕ)). b.now) w.label.result ≡ Some x.label =
           w.label.ensures ∙ ap (option_map (λ (y : Assertion). y.label)) there.1 in
           rw (w.gathered-is, w.frames-is)
@@ -65,14 +66,14 @@ loop-place-preserved g c =
                 λ choice are.
                 taken_more m tables choice xs k x there.1 before.assertions.items w.put.new.gathered.assertions.items
                 (c.loop-place.invariant.taken choice are) w.in_ok-one.one.assertion w.in_ok-put.ensures.assertions
-                (flag_at s choice fs c.args.front.now c.args.long.now are k x there.1 true yes) (made choice are).taken;
+                (flag_at s choice fs c.args.flags.front.now c.args.flags.long.now are k x there.1 true yes) (made choice are).taken;
             told =
                 λ choice are.
                 told_more m tables choice xs k x there.1 (told_in before.axioms.items) (told_in w.put.new.gathered.axioms.items)
                 (c.loop-place.invariant.told choice are) w.in_ok-one.one.reason
                 (w.in_ok-put.ensures.axioms
                 ∙ ap (λ (l : Option Word). told_in before.axioms.items ++ told_with l w.in_ok-one.one.reason) label)
-                (flag_at s choice fs c.args.front.now c.args.long.now are k x there.1 true yes) (made choice are).told;
+                (flag_at s choice fs c.args.flags.front.now c.args.flags.long.now are k x there.1 true yes) (made choice are).told;
           }
       | else-chosen-place w ↦
           let no : get_or fs k false ≡ false = search rules in
@@ -83,12 +84,12 @@ loop-place-preserved g c =
                 λ choice are.
                 taken_passed m tables choice xs k x there.1 before.assertions.items before.assertions.items
                 (c.loop-place.invariant.taken choice are) refl
-                (flag_at s choice fs c.args.front.now c.args.long.now are k x there.1 false no);
+                (flag_at s choice fs c.args.flags.front.now c.args.flags.long.now are k x there.1 false no);
             told =
                 λ choice are.
                 told_passed m tables choice xs k x there.1 (told_in before.axioms.items) (told_in before.axioms.items)
                 (c.loop-place.invariant.told choice are) refl
-                (flag_at s choice fs c.args.front.now c.args.long.now are k x there.1 false no);
+                (flag_at s choice fs c.args.flags.front.now c.args.flags.long.now are k x there.1 false no);
           }
     ]
 

@@ -23,7 +23,7 @@ returns-then-front-place g c =
     λ m choice are.
     if_there (slice_get s.assertions c.args.place) _
     (λ x at known f.
-    let flag = flag_is s.assertions choice.front c.args.front.now are.front_are c.args.place x at in
+    let flag = flag_is s.assertions choice.front c.args.flags.front.now are.front_are c.args.place x at in
     reason_in_front m choice s c.args.place x c.args.tree.now f c.size.result c.size.ensures c.if-size-gt-MOST_STEPS.false
     (sym flag ∙ c.if-front-place.true))
 
@@ -37,7 +37,7 @@ returns-then-cites_left_out g c =
     λ m choice are.
     if_there (slice_get s.assertions c.args.place) _
     (λ x at known f.
-    let flag = flag_is s.assertions choice.front c.args.front.now are.front_are c.args.place x at in
+    let flag = flag_is s.assertions choice.front c.args.flags.front.now are.front_are c.args.place x at in
     reason_of_citing m choice s c.args.place x c.args.tree.now f c.size.result c.size.ensures c.if-size-gt-MOST_STEPS.false
     (sym flag ∙ c.if-front-place.false) c.cites_left_out.result (c.cites_left_out.ensures choice are.chosen_are)
     c.if-cites_left_out.true)
@@ -48,8 +48,8 @@ returns-then-long-place g c =
     λ m choice are.
     if_there (slice_get s.assertions c.args.place) _
     (λ x at known f.
-    let flag = flag_is s.assertions choice.front c.args.front.now are.front_are c.args.place x at in
-    let long = flag_is s.assertions choice.long c.args.long.now are.long_are c.args.place x at in
+    let flag = flag_is s.assertions choice.front c.args.flags.front.now are.front_are c.args.place x at in
+    let long = flag_is s.assertions choice.long c.args.flags.long.now are.long_are c.args.place x at in
     reason_of_long_expression m choice s c.args.place x c.args.tree.now f c.size.result c.size.ensures c.if-size-gt-MOST_STEPS.false
     (sym flag ∙ c.if-front-place.false) c.cites_left_out.result (c.cites_left_out.ensures choice are.chosen_are)
     c.if-cites_left_out.false (sym long ∙ c.if-long-place.true))
@@ -66,8 +66,8 @@ returns-in-Some g c =
     λ m choice are.
     if_there (slice_get s.assertions c.args.place) _
     (λ x at known f.
-    let flag = flag_is s.assertions choice.front c.args.front.now are.front_are c.args.place x at in
-    let long = flag_is s.assertions choice.long c.args.long.now are.long_are c.args.place x at in
+    let flag = flag_is s.assertions choice.front c.args.flags.front.now are.front_are c.args.place x at in
+    let long = flag_is s.assertions choice.long c.args.flags.long.now are.long_are c.args.place x at in
     listed_steps m choice s c.args.place x t f c.size.result c.size.ensures c.if-size-gt-MOST_STEPS.false
     (sym flag ∙ c.if-front-place.false) c.cites_left_out.result (c.cites_left_out.ensures choice are.chosen_are)
     c.if-cites_left_out.false (sym long ∙ c.if-long-place.false) c.in-Some.steps lists)
@@ -80,7 +80,7 @@ returns-in-None g c =
     λ m choice are.
     if_there (slice_get s.assertions c.args.place) _
     (λ x at known f.
-    let flag = flag_is s.assertions choice.front c.args.front.now are.front_are c.args.place x at in
+    let flag = flag_is s.assertions choice.front c.args.flags.front.now are.front_are c.args.place x at in
     absurd (unlisted m choice s c.args.place x t f c.size.result c.size.ensures c.if-size-gt-MOST_STEPS.false
     (sym flag ∙ c.if-front-place.false) c.cites_left_out.result (c.cites_left_out.ensures choice are.chosen_are)
     c.if-cites_left_out.false known lists))

@@ -10,10 +10,10 @@ use Rattle.givetext.proofs.call.give_edits.Goals as goal
 
 pub returns-in_err-new-clause-refused : goal.returns-in_err-new-clause-refused
 returns-in_err-new-clause-refused g c choice are =
-    let source = c.args.source.now in
+    let source = c.args.edits.now.source.now in
     let old = c.args.old.now.stand.scope in
-    let taken = c.args.taken.now in
-    let run = c.args.replayed.now in
+    let taken = c.args.edits.now.taken.now in
+    let run = c.args.edits.now.replayed.now in
     let is = subst (λ r. IfOk r (IsDraft source old choice taken run.entries run.edited)) c.in_ok-draft.was
     (c.draft_edits.ensures.drafted choice are) in
     let p = err_from_is_err_and c.from_residual-in_err-new.result c.from_residual-in_err-new.ensures.1 in
@@ -23,10 +23,10 @@ returns-in_err-new-clause-refused g c choice are =
 
 pub returns-in_err-look_at_draft-clause-refused : goal.returns-in_err-look_at_draft-clause-refused
 returns-in_err-look_at_draft-clause-refused g c choice are =
-    let source = c.args.source.now in
+    let source = c.args.edits.now.source.now in
     let old = c.args.old.now.stand.scope in
-    let taken = c.args.taken.now in
-    let run = c.args.replayed.now in
+    let taken = c.args.edits.now.taken.now in
+    let run = c.args.edits.now.replayed.now in
     let is = subst (λ r. IfOk r (IsDraft source old choice taken run.entries run.edited)) c.in_ok-draft.was
     (c.draft_edits.ensures.drafted choice are) in
     let p = err_from_is_err_and c.from_residual-in_err-look_at_draft.result c.from_residual-in_err-look_at_draft.ensures.1 in
@@ -36,10 +36,10 @@ returns-in_err-look_at_draft-clause-refused g c choice are =
 
 pub returns-clause-edited : goal.returns-clause-edited
 returns-clause-edited g c choice are =
-    let source = c.args.source.now in
+    let source = c.args.edits.now.source.now in
     let old = c.args.old.now.stand.scope in
-    let taken = c.args.taken.now in
-    let run = c.args.replayed.now in
+    let taken = c.args.edits.now.taken.now in
+    let run = c.args.edits.now.replayed.now in
     let is = subst (λ r. IfOk r (IsDraft source old choice taken run.entries run.edited)) c.in_ok-draft.was
     (c.draft_edits.ensures.drafted choice are) in
     subst (λ r. OnOk r (IsEdited source old choice taken run.entries run.edited c.in_ok-draft.draft.text.items))

@@ -20,8 +20,8 @@ are_uncited-requires c κs = ((refl, tt), ap length c.as_slice-2.ensures.value �
 pub returns-clause-drafted : goal.returns-clause-drafted
 returns-clause-drafted c choice are =
     let old = c.args.old.now.stand.scope in
-    let taken = c.args.taken.now in
-    let replayed = c.args.replayed.now in
+    let taken = c.args.edits.now.taken.now in
+    let replayed = c.args.edits.now.replayed.now in
     let followed : Following = seen_following c.in_ok-following.following in
     let own = c.in_ok-own.own.items in
     record {
@@ -44,26 +44,26 @@ returns-clause-drafted c choice are =
 pub returns-in_err-are_free-clause-refused : goal.returns-in_err-are_free-clause-refused
 returns-in_err-are_free-clause-refused c = λ choice are.
     let old = c.args.old.now.stand.scope in
-    let taken = c.args.taken.now in
-    let replayed = c.args.replayed.now in
+    let taken = c.args.edits.now.taken.now in
+    let replayed = c.args.edits.now.replayed.now in
     let own = own_flags choice (axioms_of taken) old in
     let p = err_from_is_err_and c.from_residual-in_err-are_free.result c.from_residual-in_err-are_free.ensures.1 in
     let follows = c.in_ok-following.ensures choice are
     ∙ ap (λ (es : List Entry). behind_all (all_commands es) (opening old choice taken.database)) c.as_slice.ensures in
-    rw (p.1, p.2) (λ told. stopped c.args.source.now old choice taken replayed.entries replayed.edited
+    rw (p.1, p.2) (λ told. stopped c.args.edits.now.source.now old choice taken replayed.entries replayed.edited
     (seen_following c.in_ok-following.following) c.in_ok-changes-2.changes own follows
     (c.in_ok-changes-2.ensures ∙ c.in_ok-changes.ensures) refl c.in_err-are_free.field-0.0
-    (c.in_err-are_free.ensures taken replayed.entries replayed.edited own c.args.source.now))
+    (c.in_err-are_free.ensures taken replayed.entries replayed.edited own c.args.edits.now.source.now))
 
 pub returns-in_err-text-clause-refused : goal.returns-in_err-text-clause-refused
 returns-in_err-text-clause-refused c = λ choice are.
     let old = c.args.old.now.stand.scope in
-    let taken = c.args.taken.now in
-    let replayed = c.args.replayed.now in
+    let taken = c.args.edits.now.taken.now in
+    let replayed = c.args.edits.now.replayed.now in
     let p = err_from_is_err_and c.from_residual-in_err-text.result c.from_residual-in_err-text.ensures.1 in
     let follows = c.in_ok-following.ensures choice are
     ∙ ap (λ (es : List Entry). behind_all (all_commands es) (opening old choice taken.database)) c.as_slice.ensures in
-    rw (p.1, p.2) (λ told. stopped c.args.source.now old choice taken replayed.entries replayed.edited
+    rw (p.1, p.2) (λ told. stopped c.args.edits.now.source.now old choice taken replayed.entries replayed.edited
     (seen_following c.in_ok-following.following) c.in_ok-changes-2.changes c.as_slice-flags.result.now follows
     (c.in_ok-changes-2.ensures ∙ c.in_ok-changes.ensures)
     (c.as_slice-flags.ensures.value ∙ c.in_ok-own.ensures.flags choice are) c.in_err-text.field-0.0 c.in_err-text.ensures.refused)
@@ -71,9 +71,9 @@ returns-in_err-text-clause-refused c = λ choice are.
 pub returns-in_err-are_uncited-clause-refused : goal.returns-in_err-are_uncited-clause-refused
 returns-in_err-are_uncited-clause-refused c = λ choice are.
     let old = c.args.old.now.stand.scope in
-    let taken = c.args.taken.now in
-    let replayed = c.args.replayed.now in
-    let source = c.args.source.now in
+    let taken = c.args.edits.now.taken.now in
+    let replayed = c.args.edits.now.replayed.now in
+    let source = c.args.edits.now.source.now in
     let own = c.as_slice-2.result.now in
     let followed : Following = seen_following c.in_ok-following.following in
     let changes = c.in_ok-changes-2.changes in

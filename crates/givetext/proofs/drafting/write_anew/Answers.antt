@@ -20,9 +20,9 @@ use Rattle.givetext.proofs.drafting.write_anew.Goals as goal
 pub returns-clause-written : goal.returns-clause-written
 returns-clause-written c =
     let cs = c.args.changes.now in
-    let source = c.args.source.now in
+    let source = c.args.edits.now.source.now in
     let old = c.args.old.now.stand.scope in
-    let e = edition c.args.taken.now c.args.replayed.now.edited in
+    let e = edition c.args.edits.now.taken.now c.args.edits.now.replayed.now.edited in
     let gone = seen_words c.args.following.now.gone.items in
     let out = c.in_ok-write_edits.field-0.items in
     let says = λ (es : List Entry) (fs : List KeptAssertion) (ws : List Word) (ns : List (Bor (List ℕ) × List ℕ)).
@@ -30,8 +30,8 @@ returns-clause-written c =
     (AreOtherProofs source old (record e { names = map (λ p. (p.0.now, p.1)) ns }) (seen_living fs)) cs source out in
     let es = c.as_slice-entries.result.now in
     let fs = c.as_slice-living.result.now in
-    let ns = c.args.taken.now.names.items in
-    subst (λ (fs : List KeptAssertion). says c.args.replayed.now.entries fs gone ns) c.as_slice-living.ensures.value
+    let ns = c.args.edits.now.taken.now.names.items in
+    subst (λ (fs : List KeptAssertion). says c.args.edits.now.replayed.now.entries fs gone ns) c.as_slice-living.ensures.value
     (subst (λ (es : List Entry). says es fs gone ns) c.as_slice-entries.ensures
     (subst (λ (ws : List (Bor (List ℕ))). says es fs (seen_words ws) ns) c.as_slice-gone.ensures.value
     (subst (says es fs (seen_words c.as_slice-gone.result.now)) c.as_slice-2.ensures.value c.in_ok-write_edits.ensures.written)))
@@ -39,18 +39,20 @@ returns-clause-written c =
 pub returns-in_err-write_edits-clause-refused : goal.returns-in_err-write_edits-clause-refused
 returns-in_err-write_edits-clause-refused c =
     let p = err_from_is_err_and c.from_residual-in_err-write_edits.result c.from_residual-in_err-write_edits.ensures.1 in
-    let k = known_of c.args.old.now.stand.scope c.args.taken.now c.args.replayed.now.entries c.args.replayed.now.edited
+    let run = c.args.edits.now.replayed.now in
+    let k = known_of c.args.old.now.stand.scope c.args.edits.now.taken.now run.entries run.edited
     (seen_following c.args.following.now) c.args.changes.now c.args.own.now in
-    let source = c.args.source.now in
+    let source = c.args.edits.now.source.now in
     let e = c.in_err-write_edits.field-0.0 in
     let cause = subst (λ (fs : List KeptAssertion). HasCause (seen_living fs) (edited_assertions k) source e)
     c.as_slice-living.ensures.value c.in_err-write_edits.ensures.refused in
-    let edition = edition c.args.taken.now c.args.replayed.now.edited in
+    let edition = edition c.args.edits.now.taken.now run.edited in
     let known = λ (es : List Entry) (fs : List KeptAssertion) (ns : List (Bor (List ℕ) × List ℕ)).
-    OnUnwritten (IsUnwritten k.old (record edition { names = map (λ p. (p.0.now, p.1)) ns }) (seen_living fs) (all_commands es)) e in
+    OnUnwritten
+    (IsUnwritten k.old (record edition { names = map (λ p. (p.0.now, p.1)) ns }) (seen_living fs) k.changes (all_commands es)) e in
     let fs = c.as_slice-living.result.now in
-    let ns = c.args.taken.now.names.items in
-    let unwritten = subst (λ (fs : List KeptAssertion). known c.args.replayed.now.entries fs ns) c.as_slice-living.ensures.value
+    let ns = c.args.edits.now.taken.now.names.items in
+    let unwritten = subst (λ (fs : List KeptAssertion). known run.entries fs ns) c.as_slice-living.ensures.value
     (subst (λ (es : List Entry). known es fs ns) c.as_slice-entries.ensures
     (subst (known c.as_slice-entries.result.now fs) c.as_slice-2.ensures.value c.in_err-write_edits.ensures.unwritten)) in
     rw p.1 (told_cause k source e p.0 p.2 (edits_cause k source e cause unwritten))

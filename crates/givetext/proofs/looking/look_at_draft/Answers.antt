@@ -12,8 +12,8 @@ use Rattle.givetext.proofs.looking.look_at_draft.Goals as goal
 pub returns-clause-edited : goal.returns-clause-edited
 returns-clause-edited g c choice taken is =
     let d = c.args.draft.now in
-    let source = c.args.source.now in
-    let replayed = c.args.replayed.now in
+    let source = c.args.edits.now.source.now in
+    let replayed = c.args.edits.now.replayed.now in
     let old = c.args.old.now.stand.scope in
     on_ok_weaker c.keep_comments.result
     (λ kept. edited_by source old choice taken replayed.entries replayed.edited d is
@@ -24,8 +24,8 @@ returns-clause-edited g c choice taken is =
 pub returns-in_err-look_at-clause-refused : goal.returns-in_err-look_at-clause-refused
 returns-in_err-look_at-clause-refused g c choice taken is =
     let d = c.args.draft.now in
-    let source = c.args.source.now in
-    let replayed = c.args.replayed.now in
+    let source = c.args.edits.now.source.now in
+    let replayed = c.args.edits.now.replayed.now in
     let old = c.args.old.now.stand.scope in
     let p = err_from_is_err_and c.from_residual.result c.from_residual.ensures.1 in
     rw (p.1, p.2) (λ told. draft_stopped source old choice taken replayed.entries replayed.edited d is c.in_err-look_at.field-0.0

@@ -10,8 +10,9 @@ returns-clause-taken g c =
     let s = g.D.Declared.scope c.args.declared.now in
     λ w are.
     c.library_of.ensures.taken s w
-    (is_gathered s c.args.placed.now.sites.now c.args.placed.now.names.now c.requires.named w c.in_ok-gathered.gathered c.args.chosen.now
-    c.args.front.now c.args.long.now are c.requires.sites c.in_ok-gathered.ensures.taken c.in_ok-gathered.ensures.told)
+    (is_gathered s c.args.placed.now.sites.now c.args.placed.now.names.now c.requires.named w c.in_ok-gathered.gathered
+    c.args.flags.chosen.now c.args.flags.front.now c.args.flags.long.now are c.requires.sites c.in_ok-gathered.ensures.taken
+    c.in_ok-gathered.ensures.told)
 
 pub returns-clause-long : goal.returns-clause-long
 returns-clause-long g c =
@@ -20,7 +21,7 @@ returns-clause-long g c =
     let names = c.args.placed.now.names.now in
     let made = c.in_ok-gathered.gathered.assertions.items in
     IfOk-weaker c.library_of.result (IsLongRound (lists_of t names made))
-    (IsLongRoundOf s (map_of t names) (tables_of t names) c.args.chosen.now c.args.front.now c.args.long.now)
+    (IsLongRoundOf s (map_of t names) (tables_of t names) c.args.flags.chosen.now c.args.flags.front.now c.args.flags.long.now)
     (λ r long choice are. (made, c.in_ok-gathered.ensures.taken choice are, long)) c.library_of.ensures.long
 
 pub returns-clause-refused : goal.returns-clause-refused
@@ -28,5 +29,6 @@ returns-clause-refused g c =
     let s = g.D.Declared.scope c.args.declared.now in
     λ w are.
     c.library_of.ensures.refused s w
-    (is_gathered s c.args.placed.now.sites.now c.args.placed.now.names.now c.requires.named w c.in_ok-gathered.gathered c.args.chosen.now
-    c.args.front.now c.args.long.now are c.requires.sites c.in_ok-gathered.ensures.taken c.in_ok-gathered.ensures.told)
+    (is_gathered s c.args.placed.now.sites.now c.args.placed.now.names.now c.requires.named w c.in_ok-gathered.gathered
+    c.args.flags.chosen.now c.args.flags.front.now c.args.flags.long.now are c.requires.sites c.in_ok-gathered.ensures.taken
+    c.in_ok-gathered.ensures.told)

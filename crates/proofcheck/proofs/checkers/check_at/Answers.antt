@@ -9,10 +9,10 @@ use Rattle.proofcheck.proofs.checkers.check_at.Goals as goal
 
 pub returns-clause-yes : goal.returns-clause-yes
 returns-clause-yes c =
-    let db = c.args.db.now in
-    let lib : Citable = λ label. frame_below c.args.frames.now c.args.i (place_from 0 label c.args.places.now) in
+    let db = c.args.framed.now.db.now in
+    let lib : Citable = λ label. frame_below c.args.framed.now.frames.now c.args.i (place_from 0 label c.args.framed.now.places.now) in
     let each : (label : List ℕ) → lib label ≡ citable_at db c.args.i label =
-    λ label. rw (c.requires.frames, c.requires.places) (below-cited db.prelude db.assertions c.args.i label) in
+    λ label. rw (c.requires.framed.frames, c.requires.framed.places) (below-cited db.prelude db.assertions c.args.i label) in
     let same : lib ≡ citable_at db c.args.i = λ t. λ label. each label t in
     let at = rw c.assertions.ensures.value at
     (slice_get_read c.assertions.result.now _ c.args.i c.index-assertions-i.result refl
@@ -22,10 +22,10 @@ returns-clause-yes c =
 
 pub returns-clause-fault : goal.returns-clause-fault
 returns-clause-fault c =
-    let db = c.args.db.now in
-    let lib : Citable = λ label. frame_below c.args.frames.now c.args.i (place_from 0 label c.args.places.now) in
+    let db = c.args.framed.now.db.now in
+    let lib : Citable = λ label. frame_below c.args.framed.now.frames.now c.args.i (place_from 0 label c.args.framed.now.places.now) in
     let each : (label : List ℕ) → lib label ≡ citable_at db c.args.i label =
-    λ label. rw (c.requires.frames, c.requires.places) (below-cited db.prelude db.assertions c.args.i label) in
+    λ label. rw (c.requires.framed.frames, c.requires.framed.places) (below-cited db.prelude db.assertions c.args.i label) in
     let same : lib ≡ citable_at db c.args.i = λ t. λ label. each label t in
     let at = rw c.assertions.ensures.value at
     (slice_get_read c.assertions.result.now _ c.args.i c.index-assertions-i.result refl

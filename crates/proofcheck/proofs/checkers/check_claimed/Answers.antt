@@ -9,7 +9,7 @@ loop-place-smaller-then-is_none c =
 
 pub loop-place-preserved-then-is_none : goal.loop-place-preserved-then-is_none
 loop-place-preserved-then-is_none c =
-    let db = c.args.db.now in
+    let db = c.args.framed.now.db.now in
     let home = c.args.numbers.now in
     let old = c.loop-place.checker.claimant in
     let claims = c.in-Some.ensures.some in
@@ -26,7 +26,7 @@ loop-place-smaller c =
 
 pub loop-place-preserved : goal.loop-place-preserved
 loop-place-preserved c =
-    let db = c.args.db.now in
+    let db = c.args.framed.now.db.now in
     let home = c.args.numbers.now in
     let old = c.loop-place.checker.claimant in
     let claims = c.in-Some.ensures.some in

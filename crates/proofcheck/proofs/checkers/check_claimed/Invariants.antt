@@ -8,7 +8,7 @@ use Rattle.proofcheck.proofs.checkers.check_claimed.Given as goal
 abbrev pub invariant-loop-place : goal.invariant-loop-place
 invariant-loop-place l = record {
   own : IsClaimantOf l.numbers l.checker.claimant;
-  found : FoundAmong l.db (λ k. Has k l.checker.claimant.claimed) l.checker.found;
+  found : FoundAmong l.framed.db.now (λ k. Has k l.checker.claimant.claimed) l.checker.found;
 }
 
 abbrev pub decreases-loop-place : goal.decreases-loop-place

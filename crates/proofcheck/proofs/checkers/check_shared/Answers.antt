@@ -15,7 +15,7 @@ check_beside-requires-clause-ready g c κs within =
 
 pub returns : goal.returns
 returns g c =
-    let db = c.args.db.now in
+    let db = c.args.framed.now.db.now in
     let home = c.in_ok-numbers.numbers in
     let checkers : List Checker = c.check_beside.new.checkers in
     let sizes = c.in_ok-numbers.ensures.sizes in

@@ -1,6 +1,6 @@
 -- What is left to show of `sites_from`.
 use Rattle.std.proofs.Common.{◌≡◌, ◌∙◌, ◌<◌, inl, inr, List, length, refl, sym, subst, rules, false}
-use Rattle.std.specs.Prelude.{filter, filter_map, map}
+use Rattle.std.specs.Prelude.{filter, filter_map}
 use Rattle.std.specs.List.{list_any}
 use Rattle.mmtext.specs.Words.{Word}
 use Rattle.source.specs.Scopes.{Assertion, Scope}
@@ -52,13 +52,13 @@ returns g c =
       floats = c.in_ok-floats.floats;
       types = filter_map (type_at (noted used) c.in_ok-constants.constants) c.in_ok-floats.floats;
       variables = filter_map (variable_at (noted used)) c.in_ok-floats.floats;
-      labels = map (λ (x : Assertion). x.label) taken;
+      labels = c.in_ok-chosen.chosen;
     } in
     let gathered : AreGathered s taken (noted used) t = record {
       look_is = so.used_floats;
       constants_are = constants;
       floats_are = floats;
-      labels_are = refl;
+      labels_are = c.in_ok-chosen.ensures ∙ c.in_ok-words.ensures;
       types_are = refl;
       variables_are = refl;
     } in

@@ -22,8 +22,8 @@ no_trunk t true none there = let yes : t ≡ true = there refl in absurd cc
 pub library_names-requires-2 : goal.library_names-requires-2
 library_names-requires-2 g c =
     ap length (c.as_slice-2.ensures.value ∙ c.in_ok-changes-2.ensures)
-    ∙ length-variables_changing (seen_words c.args.variables.now)
-    ∙ length-map c.args.variables.now (λ (w : Bor (List ℕ)). w.now)
+    ∙ length-variables_changing (seen_words c.args.words.variables.now)
+    ∙ length-map c.args.words.variables.now (λ (w : Bor (List ℕ)). w.now)
 
 pub returns-clause-names : goal.returns-clause-names
 returns-clause-names g c =
@@ -45,7 +45,7 @@ returns-clause-names g c =
     λ w h. before_1 w (left_free free_1 free_2 _ c.in_ok-variables.ensures.left w h) in
     let before_3 : (w : Word) → free_3 w ≡ true → free_0 w ≡ true =
     λ w h. before_2 w (left_free free_2 free_3 _ c.in_ok-floats.ensures.left w h) in
-    let ls = seen_words c.args.labels.now in
+    let ls = seen_words c.args.words.labels.now in
     record {
       as_many_constants = c.in_ok-constants.ensures.given.as_many;
       as_many_variables = c.in_ok-variables.ensures.given.as_many;
@@ -85,7 +85,7 @@ returns-clause-apart g c =
     (λ w h. (parts w (before_3 w h)).2)
     (λ l w h in'.
     no_trunk (has f.trunks l) (is_dotted l w) (parts l (before_3 l h)).1
-    (has_trunk f.trunks (seen_words c.args.labels.now) c.requires.trunks l w in'))
+    (has_trunk f.trunks (seen_words c.args.words.labels.now) c.requires.trunks l w in'))
 
 pub returns-in_err-changes-clause-refused : goal.returns-in_err-changes-clause-refused
 returns-in_err-changes-clause-refused g c =
@@ -112,10 +112,10 @@ returns-in_err-constants-clause-refused g c =
     let p = err_from_is_err_and c.from_residual-in_err-constants.result c.from_residual-in_err-constants.ensures.1 in
     let f = c.args.names.now in
     let s : Scope = g.D.Declared.scope f.declared.now in
-    let cs = seen_words c.args.constants.now in
-    let vs = seen_words c.args.variables.now in
-    let fs = seen_words c.args.floats.now in
-    let ls = seen_words c.args.labels.now in
+    let cs = seen_words c.args.words.constants.now in
+    let vs = seen_words c.args.words.variables.now in
+    let fs = seen_words c.args.words.floats.now in
+    let ls = seen_words c.args.words.labels.now in
     rw (p.1, p.2)
     (first s cs vs fs ls (is_free_by s f.trunks f.given) (first_free s f.trunks f.given ls c.requires.trunks c.requires.given)
     _ (c.as_slice.ensures.value ∙ c.in_ok-changes.ensures) c.in_err-constants.field-0.0 c.in_err-constants.ensures.refused)
@@ -125,10 +125,10 @@ returns-in_err-variables-clause-refused g c =
     let p = err_from_is_err_and c.from_residual-in_err-variables.result c.from_residual-in_err-variables.ensures.1 in
     let f = c.args.names.now in
     let s : Scope = g.D.Declared.scope f.declared.now in
-    let cs = seen_words c.args.constants.now in
-    let vs = seen_words c.args.variables.now in
-    let fs = seen_words c.args.floats.now in
-    let ls = seen_words c.args.labels.now in
+    let cs = seen_words c.args.words.constants.now in
+    let vs = seen_words c.args.words.variables.now in
+    let fs = seen_words c.args.words.floats.now in
+    let ls = seen_words c.args.words.labels.now in
     let n1 = c.library_names.new.names in
     let free_1 : Word → Bool = is_free_by (g.D.Declared.scope n1.declared.now) n1.trunks n1.given in
     rw (p.1, p.2)
@@ -141,10 +141,10 @@ returns-in_err-floats-clause-refused g c =
     let p = err_from_is_err_and c.from_residual-in_err-floats.result c.from_residual-in_err-floats.ensures.1 in
     let f = c.args.names.now in
     let s : Scope = g.D.Declared.scope f.declared.now in
-    let cs = seen_words c.args.constants.now in
-    let vs = seen_words c.args.variables.now in
-    let fs = seen_words c.args.floats.now in
-    let ls = seen_words c.args.labels.now in
+    let cs = seen_words c.args.words.constants.now in
+    let vs = seen_words c.args.words.variables.now in
+    let fs = seen_words c.args.words.floats.now in
+    let ls = seen_words c.args.words.labels.now in
     let n1 = c.library_names.new.names in
     let free_1 : Word → Bool = is_free_by (g.D.Declared.scope n1.declared.now) n1.trunks n1.given in
     let n2 = c.library_names-2.new.names in
@@ -160,10 +160,10 @@ returns-in_err-labels-clause-refused g c =
     let p = err_from_is_err_and c.from_residual-in_err-labels.result c.from_residual-in_err-labels.ensures.1 in
     let f = c.args.names.now in
     let s : Scope = g.D.Declared.scope f.declared.now in
-    let cs = seen_words c.args.constants.now in
-    let vs = seen_words c.args.variables.now in
-    let fs = seen_words c.args.floats.now in
-    let ls = seen_words c.args.labels.now in
+    let cs = seen_words c.args.words.constants.now in
+    let vs = seen_words c.args.words.variables.now in
+    let fs = seen_words c.args.words.floats.now in
+    let ls = seen_words c.args.words.labels.now in
     let n1 = c.library_names.new.names in
     let free_1 : Word → Bool = is_free_by (g.D.Declared.scope n1.declared.now) n1.trunks n1.given in
     let n2 = c.library_names-2.new.names in

@@ -15,7 +15,7 @@ loop-place-smaller-then-is_none g c =
 
 pub loop-place-preserved-then-is_none : goal.loop-place-preserved-then-is_none
 loop-place-preserved-then-is_none g c =
-    let xs = (g.D.Declared.scope c.args.declared.now).assertions in
+    let xs = c.args.framed.now.declared.now.stand.scope.assertions in
     let home = c.args.numbers.now in
     let old = c.loop-place.checker.claimant in
     let claims = c.in-Some.ensures.some in
@@ -34,7 +34,7 @@ loop-place-smaller g c =
 
 pub loop-place-preserved : goal.loop-place-preserved
 loop-place-preserved g c =
-    let xs = (g.D.Declared.scope c.args.declared.now).assertions in
+    let xs = c.args.framed.now.declared.now.stand.scope.assertions in
     let home = c.args.numbers.now in
     let old = c.loop-place.checker.claimant in
     let claims = c.in-Some.ensures.some in
@@ -48,13 +48,13 @@ loop-place-preserved g c =
 
 pub loop-place-init : goal.loop-place-init
 loop-place-init g c =
-    let xs = (g.D.Declared.scope c.args.declared.now).assertions in
-    let fs = c.args.frames.now in
+    let xs = c.args.framed.now.declared.now.stand.scope.assertions in
+    let fs = c.args.framed.now.frames.now in
     let home = c.args.numbers.now in
     let checker : Checker = c.args.checker.now in
     let own : IfSome c.ok-own.result (Knows xs fs) =
     subst (λ (o : Option Table). IfSome o (Knows xs fs)) (sym c.ok-own.ensures.value)
-    (knows_copy xs fs c.args.table.now c.copy.result c.requires.knows c.copy.ensures.sound c.copy.ensures.same) in
+    (knows_copy xs fs c.args.framed.now.table.now c.copy.result c.requires.knows c.copy.ensures.sound c.copy.ensures.same) in
     record {
       own = ready_own xs home checker c.requires.ready;
       found = ready_found xs home checker c.requires.ready;

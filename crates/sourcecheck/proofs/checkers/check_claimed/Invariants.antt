@@ -9,11 +9,11 @@ use Rattle.sourcecheck.proofs.checkers.check_claimed.Given as goal
 
 abbrev pub invariant-loop-place : goal.invariant-loop-place
 invariant-loop-place g l =
-    let xs = (g.D.Declared.scope l.declared).assertions in
+    let xs = l.framed.declared.now.stand.scope.assertions in
     record {
       own : IsClaimantOf l.numbers l.checker.claimant;
       found : IsFoundAmong xs (λ k. Has k l.checker.claimant.claimed) l.checker.found;
-      knows : IfNone l.checker.found (IfSome l.own (Knows xs l.frames));
+      knows : IfNone l.checker.found (IfSome l.own (Knows xs l.framed.frames.now));
     }
 
 abbrev pub decreases-loop-place : goal.decreases-loop-place

@@ -16,7 +16,7 @@ check_beside-requires-clause-ready g c κs within =
 
 pub returns : goal.returns
 returns g c =
-    let xs = c.args.declared.now.stand.scope.assertions in
+    let xs = c.args.framed.now.declared.now.stand.scope.assertions in
     let home = c.in_ok-numbers.numbers in
     let checkers : List Checker = c.check_beside.new.checkers in
     let sizes = c.in_ok-numbers.ensures.sizes in

@@ -1,9 +1,6 @@
 -- What is left to show of `found_at`.
-use Rattle.std.proofs.Common.{◌≤◌, ℕ, List, length, refl, sym, ap, subst, ◌∙◌, arith}
+use Rattle.std.proofs.Common.{◌≤◌, length, refl, subst, arith}
 use Rattle.std.specs.Prelude.{Option, IfSome}
-use Rattle.std.specs.Option.{option_map}
-use Rattle.std.specs.Borrow.{Bor}
-use Rattle.source.specs.Views.{seen_words}
 use Rattle.sourcecheck.specs.declared.table.Table.{Table}
 use Rattle.sourcecheck.specs.Checkers.{Knows}
 use Rattle.sourcecheck.proofs.Beside.{knows_front, knows_more}
@@ -27,11 +24,7 @@ check_theorem-requires g c κs =
             within,
             (
               few,
-              (
-                knows_front xs fs t c.args.place knows,
-                sym c.statement.ensures
-                    ∙ ap (option_map (λ (ws : Bor (List (Bor (List ℕ)))). seen_words ws.now)) c.in-Some-statement.is,
-              ),
+              knows_front xs fs t c.args.place knows,
             ),
           ),
         ),

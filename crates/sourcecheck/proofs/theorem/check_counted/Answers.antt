@@ -1,5 +1,7 @@
 -- What is left to show of `check_counted`.
-use Rattle.std.proofs.Common.{◌≡◌, false, map, take, sym, ap, subst, ◌∙◌}
+use Rattle.std.proofs.Common.{◌≡◌, ℕ, List, false, map, take, sym, ap, subst, ◌∙◌}
+use Rattle.std.specs.Option.{option_map}
+use Rattle.std.specs.Borrow.{Bor}
 use Rattle.std.specs.List.{list_any}
 use Rattle.source.specs.Letters.{is_absent}
 use Rattle.source.specs.Proofs.{step_of}
@@ -39,11 +41,12 @@ returns-clause-tells g c = λ x at there.
     let named : AreNamed name earlier x labels c.as_slice.result.now =
     subst (λ ns. AreNamed name earlier x labels ns) (sym c.as_slice.ensures.value)
     (subst (λ ls. AreNamed name earlier x (seen_words ls) c.in-Ok-name_labels.named.items) c.as_slice-labels.ensures.value told) in
+    let there_is = sym c.statement.ensures ∙ ap (option_map (λ (ws : Bor (List (Bor (List ℕ)))). seen_words ws.now)) c.in-Some.is in
     let statement : map name c.as_slice-2.result.now ≡ x.statement =
     ap (map name) c.as_slice-2.ensures.value
-    ∙ lasts_now end (λ name. map name c.in-Ok.wanted.items ≡ seen_words c.args.statement.now)
-    (lasts_on first end (λ name. map name c.in-Ok.wanted.items ≡ seen_words c.args.statement.now) mid c.in-Ok.ensures.named)
-    ∙ statement_is xs c.args.place x at (seen_words c.args.statement.now) c.requires.statement in
+    ∙ lasts_now end (λ name. map name c.in-Ok.wanted.items ≡ seen_words c.in-Some.statement.now)
+    (lasts_on first end (λ name. map name c.in-Ok.wanted.items ≡ seen_words c.in-Some.statement.now) mid c.in-Ok.ensures.named)
+    ∙ statement_is xs c.args.place x at (seen_words c.in-Some.statement.now) there_is in
     subst (λ cs. Tells earlier x (map (step_of labels) cs) c.take_codes.result) c.as_slice-3.ensures
     (c.take_codes.ensures name earlier x labels stands named statement
     (subst (λ cs. list_any is_absent cs ≡ false) (sym c.as_slice-3.ensures) there))

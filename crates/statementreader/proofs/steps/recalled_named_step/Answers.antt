@@ -12,8 +12,8 @@ name_by_recall-requires-clause-known c = (c.at.ensures c.args.symbols.now c.args
 pub returns-clause-named : goal.returns-clause-named
 returns-clause-named c =
     let t = c.args.symbols.now in
-    let l = c.args.label.now in
-    let n = c.args.count in
+    let l = c.args.step.label.now in
+    let n = c.args.step.count in
     let h = c.args.hypothesis in
     let kept = c.at.ensures t c.args.word.now c.in_ok-place.ensures.found in
     ap (λ v. step_or_fault v c.name_by_recall.result) (sym kept.0)

@@ -8,5 +8,5 @@ place_by_row-requires-clause-stands c = c.requires.ready.goes_on.stands c.args.s
 
 pub returns-clause-ready : goal.returns-clause-ready
 returns-clause-ready c =
-    ready_on c.args.symbols.now c.args.units.now c.args.place (seen c.args.token) c.place_by_row.new.units c.place_by_row.result
+    ready_on c.args.symbols.now c.args.units.now c.args.place (seen c.args.marked.token) c.place_by_row.new.units c.place_by_row.result
     c.requires.ready c.place_by_row.ensures

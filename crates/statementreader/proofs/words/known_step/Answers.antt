@@ -9,5 +9,5 @@ pub returns-clause-named : goal.returns-clause-named
 returns-clause-named c =
     let hyps = (block_of (seen_scope c.args.scope.now)).hyps in
     c.recalled_step.ensures.named
-    ∙ recalled c.args.symbols.now c.args.label.now hyps c.args.count c.args.known.now c.requires c.if-not-known.false
-    c.if-count-ge-MOST_STEPS.false
+    ∙ recalled c.args.symbols.now c.args.step.label.now hyps c.args.step.count c.args.known.now c.requires c.if-not-known.false
+    c.if-step-ge-MOST_STEPS.false

@@ -19,10 +19,10 @@ returns-in_ok-cited_at-in-Ok-clause-taken c =
     let r = c.at-known.result.now in
     let old = c.args.theorem.now.steps.value in
     let kept = c.at-known.ensures t w c.in_ok-place.ensures.found in
-    let step = step_of t c.args.theorem.now.label.now (block_of (seen_scope c.args.theorem.now.scope)).hyps in
-    let count : length old ≡ c.len-count.result = omega (arith, ap (λ (xs : List Step). length xs) c.deref.ensures) in
+    let step = step_of t c.args.theorem.now.assertion.label.now (block_of (seen_scope c.args.theorem.now.assertion.scope)).hyps in
+    let count : length old ≡ c.len.result = omega (arith, ap (λ (xs : List Step). length xs) c.deref.ensures) in
     let given : step (length old) w ≡ Ok (step_as w c.in-Ok.named) =
-    ap (λ n. step n w) count ∙ ap (step c.len-count.result) (sym kept.0) ∙ sym c.known_step.ensures.named
+    ap (λ n. step n w) count ∙ ap (step c.len.result) (sym kept.0) ∙ sym c.known_step.ensures.named
     ∙ ap (step_or_fault r.word.now) c.in-Ok.is
     ∙ ap (λ x. Ok (step_as x c.in-Ok.named)) kept.0 in
     taken_item (seen c.args.token) old c.push_named_near.new.steps (step (length old) w) (step_as w c.in-Ok.named)
@@ -39,10 +39,10 @@ returns-in-Err-clause-taken c =
     let r = c.at-known.result.now in
     let old = c.args.theorem.now.steps.value in
     let kept = c.at-known.ensures t w c.in_ok-place.ensures.found in
-    let step = step_of t c.args.theorem.now.label.now (block_of (seen_scope c.args.theorem.now.scope)).hyps in
-    let count : length old ≡ c.len-count.result = omega (arith, ap (λ (xs : List Step). length xs) c.deref.ensures) in
+    let step = step_of t c.args.theorem.now.assertion.label.now (block_of (seen_scope c.args.theorem.now.assertion.scope)).hyps in
+    let count : length old ≡ c.len.result = omega (arith, ap (λ (xs : List Step). length xs) c.deref.ensures) in
     let given : step (length old) w ≡ Err c.in-Err.kind =
-    ap (λ n. step n w) count ∙ ap (step c.len-count.result) (sym kept.0) ∙ sym c.known_step.ensures.named
+    ap (λ n. step n w) count ∙ ap (step c.len.result) (sym kept.0) ∙ sym c.known_step.ensures.named
     ∙ ap (step_or_fault r.word.now) c.in-Err.is in
     refused_item (seen c.args.token) old old (step (length old) w) c.in-Err.kind c.fault_at.result
     (kept_plain t w r kept c.if-known.false) given

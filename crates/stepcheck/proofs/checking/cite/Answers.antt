@@ -17,7 +17,7 @@ returns-in_err-conclusion-clause-err c =
     let enough : arity f ≤ length es = omega (arith, count, c.len.ensures, c.if-len-count.false) in
     let args : c.last.result ≡ last (arity f) es = c.last.ensures ∙ ap (λ k. drop (length es - k) es) count in
     rw (p.1, p.2) (λ n. let fails = rw args at (c.in_err-conclusion.ensures.err n) in
-    FailsOnLast-test c.args.prelude.now c.args.thesis.now f es _ enough fails)
+    FailsOnLast-test c.args.proving.prelude.now c.args.proving.thesis.now f es _ enough fails)
 
 pub returns-in-Unchanged-clause-ok : goal.returns-in-Unchanged-clause-ok
 returns-in-Unchanged-clause-ok c =

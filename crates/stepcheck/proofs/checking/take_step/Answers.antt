@@ -15,12 +15,12 @@ item_at {X} xs ys i x same at =
 
 pub new-requires : goal.new-requires
 new-requires c =
-    (places_are_small c.args.prelude.now _ c.in-Float.i c.in-Some.float c.floats.ensures.sound c.floats.ensures.value
+    (places_are_small c.args.proving.prelude.now _ c.in-Float.i c.in-Some.float c.floats.ensures.sound c.floats.ensures.value
     c.in-Some.ensures.lookup).0
 
 pub new-requires-in-Some : goal.new-requires-in-Some
 new-requires-in-Some c =
-    (places_are_small c.args.prelude.now _ c.in-Float.i c.in-Some.float c.floats.ensures.sound c.floats.ensures.value
+    (places_are_small c.args.proving.prelude.now _ c.in-Float.i c.in-Some.float c.floats.ensures.sound c.floats.ensures.value
     c.in-Some.ensures.lookup).1
 
 pub returns-in-None-frames-clause-err : goal.returns-in-None-frames-clause-err
@@ -40,7 +40,8 @@ returns-in-Some-frames-clause-err c =
     let within = rw c.in-Cite.is at c.requires in
     IfErr-weaker c.cite.result _ _ (λ kind fails n lib labels same.
     let is = looked_up lib labels c.args.frames.now c.in-Cite.n _ (Some c.in-Some-frames.frame) same within c.in-Some-frames.is in
-    rw c.in-Cite.is (cite_fails lib c.args.prelude.now c.args.thesis.now c.args.stack.now _ c.in-Some-frames.frame.now kind is (fails n)))
+    let frame = c.in-Some-frames.frame.now in
+    rw c.in-Cite.is (cite_fails lib c.args.proving.prelude.now c.args.proving.thesis.now c.args.stack.now _ frame kind is (fails n)))
     c.cite.ensures.err
 
 pub returns-in-Some-get-clause-ok : goal.returns-in-Some-get-clause-ok

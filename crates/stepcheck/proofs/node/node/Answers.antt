@@ -35,7 +35,7 @@ returns-clause-err c =
     let pairs = rw (c.new-substitution.ensures, c.as_slice-floats.ensures, c.as_slice-2.ensures) at
     (c.in_ok-pairs_fit.ensures.0 c.if-not-branch.false) in
     IfErr-weaker c.conclude.result _ _
-    (λ kind h n. too-long-only c.args.prelude.now c.args.thesis.now c.args.frame.now c.args.args.now kind types hyps pairs
+    (λ kind h n. too-long-only c.args.proving.prelude.now c.args.proving.thesis.now c.args.frame.now c.args.args.now kind types hyps pairs
     (rw (c.new-substitution.ensures, c.as_slice-floats.ensures, c.as_slice-3.ensures) at h) n) c.conclude.ensures.kinds
 
 pub returns-then-not-have_types-clause-err : goal.returns-then-not-have_types-clause-err
