@@ -37,7 +37,7 @@ module _ (k : Known) (source : List ℕ) where
   cited_cause edits.NoMemory h = tt
 
   pub edits_cause : (e : Unwritten) → HasCause k.followed.living (edited_assertions k) source e
-      → OnUnwritten (IsUnwritten k.old (edition k.taken k.edited) k.followed.living (all_commands k.entries)) e
+      → OnUnwritten (IsUnwritten k.old (edition k.taken k.edited) k.followed.living k.changes (all_commands k.entries)) e
       → IsJustified k source (refusal.Edits e)
   edits_cause (edits.StillCited label by) h unwritten = absurd h
   edits_cause (edits.InFront label next name) h unwritten = h

@@ -169,7 +169,7 @@ IsJustified k source (refusal.NameTaken label) = IsNameTaken k label
 IsJustified k source (refusal.Edits (edits.StillCited label by)) = IsStillCited k.followed.gone (others_of k) label by
 IsJustified k source (refusal.Edits (edits.Unwritten label)) =
     HasCause k.followed.living (edited_assertions k) source (edits.Unwritten label)
-    × IsUnwritten k.old (edition k.taken k.edited) k.followed.living (all_commands k.entries) label
+    × IsUnwritten k.old (edition k.taken k.edited) k.followed.living k.changes (all_commands k.entries) label
 IsJustified k source (refusal.Edits why) = HasCause k.followed.living (edited_assertions k) source why
 IsJustified k source (refusal.StandsBehind label by) = WouldStandBehind k source label by
 IsJustified k source (refusal.Unread fault) = WouldBeFaulty k source fault

@@ -10,3 +10,7 @@ mod Cited
 mod Numbered
 mod Bared
 mod Unwritten
+mod PutIn
+mod Known
+mod Members
+mod Compressed

@@ -3,7 +3,9 @@ pub mod Axioms
 pub mod Views
 pub mod Marked
 pub mod Written
+pub mod WrittenWith
 pub mod Entries
 pub mod Reproved
+pub mod PutIn
 pub mod Refusals
 pub mod Filled

@@ -6,7 +6,7 @@ use Rattle.source.specs.Statements.{Proof}
 use Rattle.source.specs.Scopes.{Assertion, Scope, is_in}
 use Rattle.library.specs.declared.command.Command.{Command}
 use Rattle.source.specs.Whole.{labels_in}
-use Rattle.giving.specs.Staying.{Change}
+use Rattle.giving.specs.Staying.{Change, changed}
 use Rattle.items.specs.Items.{Item}
 use Rattle.items.specs.Bare.{IsItemOf, has_proof}
 use Rattle.arranging.specs.declared.coming.Coming.{Coming}
@@ -20,6 +20,7 @@ use Rattle.sourceediting.specs.declared.refusal.Refusal.TheVariants as refusal
 use Rattle.sourceediting.specs.Entries.{Edition, assertions_of}
 use Rattle.sourceediting.specs.Following.{Followed, KeepsPlaces}
 use Rattle.sourceediting.specs.Reproved.{HasAnotherListing, CanBeReproved}
+use Rattle.sourceediting.specs.PutIn.{has_compressed, was_compressed, CanBePutIn}
 
 -- ---- what was deleted is still cited
 
@@ -119,9 +120,29 @@ pub record IsNotReproved (s : Scope) (e : Edition) (living : List Followed) (lab
   pub labelled : another.new.label ≡ label
   pub cannot : CanBeReproved s e living source another.new → ⊥
 
--- so it is; or a command adds, moves or deletes, and the assertion with the label is put in
-abbrev pub IsUnwritten : Scope → Edition → List Followed → List Command → Word → Type 0
-IsUnwritten s e living commands label = IsNotReproved s e living label ⊎ (All KeepsPlaces commands → ⊥)
+-- how an assertion with a label is put in: one that was added under this label, and another one under the label that it has in the source
+-- then; and whether its proof is compressed
+abbrev pub IsAdded : Scope → List Followed → Word → Word → Bool → Type 0
+IsAdded s living label word is_compressed = IsKnownAs living label None × (word ≡ label) × (is_compressed ≡ has_compressed s)
+
+abbrev pub LeavesItsPlace : Scope → List Followed → List Change → Word → Word → Bool → Type 0
+LeavesItsPlace s living cs label word is_compressed =
+    (source : Word) × IsKnownAs living label (Some source) × (word ≡ changed cs source) × (is_compressed ≡ was_compressed s source)
+
+-- one that is put in can't be written so
+pub record IsNotPutIn (s : Scope) (e : Edition) (living : List Followed) (cs : List Change) (label : Word) : Type 0 where
+  pub assertion : Unit'
+  pub there : Contains (assertions_of e) assertion
+  pub labelled : assertion.label ≡ label
+  pub word : Word
+  pub is_compressed : Bool
+  pub comes : IsAdded s living label word is_compressed ⊎ LeavesItsPlace s living cs label word is_compressed
+  pub cannot : CanBePutIn s e living is_compressed word assertion → ⊥
+
+-- a theorem that keeps its place, or where a command adds, moves or deletes an assertion that is put in
+abbrev pub IsUnwritten : Scope → Edition → List Followed → List Change → List Command → Word → Type 0
+IsUnwritten s e living cs commands label =
+    IsNotReproved s e living label ⊎ (IsNotPutIn s e living cs label × (All KeepsPlaces commands → ⊥))
 
 -- what is known of a label whose proof can't be written
 abbrev pub OnUnwritten : (Word → Type 0) → Refusal → Type 0

@@ -1,5 +1,5 @@
 -- Of the code's inside, apart from the rules: how contracts see what becomes of the assertions of a library.
-use Rattle.std.specs.Prelude.{◌≡◌, ◌<◌, ℕ, List, map, Contains, Some, Vec, slice_get}
+use Rattle.std.specs.Prelude.{◌≡◌, ◌<◌, ℕ, List, map, All, Contains, Some, Vec, is_some, slice_get}
 use Rattle.std.specs.Borrow.{Bor}
 use Rattle.std.specs.Str.{bytes_eq}
 use Rattle.std.specs.HashMap.{HashMap, get_by}
@@ -9,7 +9,7 @@ use Rattle.mmtext.specs.Words.{Word}
 use Rattle.mmsyntax.specs.declared.statement.Assertion.{Assertion}
 use Rattle.giving.specs.Staying.{Change}
 use Rattle.std.specs.Option.{option_map}
-use Rattle.source.specs.Scopes.{Hypothesis, Scope}
+use Rattle.source.specs.Scopes.{Hypothesis, Scope, is_in}
 use Rattle.source.specs.Views.{seen_words}
 use Rattle.arranging.specs.declared.call.Edits.{Edits}
 use Rattle.arranging.specs.declared.coming.Coming.{Coming}
@@ -18,12 +18,17 @@ use Rattle.sourcewriting.specs.declared.listing.Cited.{Cited}
 use Rattle.sourcewriting.specs.declared.listing.Names.{Names}
 use Rattle.sourcewriting.specs.Counting.{IsCountOf, Takes}
 use Rattle.sourcewriting.specs.Leaving.{StepTakes}
+use Rattle.sourcewriting.specs.Added.{IsSpelled, IsSpelledThen}
+use Rattle.sourcewriting.specs.declared.adding.SymbolWords.{SymbolWords}
+use Rattle.mmsyntax.specs.declared.statement.Symbol.{Symbol}
 use Rattle.mmsyntax.specs.declared.statement.Step.{Step}
 use Rattle.sourceediting.specs.declared.following.Followed.{Followed as KeptAssertion}
 use Rattle.sourceediting.specs.declared.following.Following.{Following as Kept}
 use Rattle.sourceediting.specs.declared.planning.Planned.{Planned}
 use Rattle.sourceediting.specs.Following.{Followed, Following, label_then}
-use Rattle.sourceediting.specs.Entries.{Edition, HasHypotheses, HasOnly, TakesThen, StepTakesThen}
+use Rattle.sourceediting.specs.declared.moving.LibraryWalk.{LibraryWalk}
+use Rattle.sourceediting.specs.Entries.{Edition, HasHypotheses, HasOnly, TakesThen, StepTakesThen, assertions_of, name_in_source, float_labels}
+use Rattle.sourceediting.specs.Refusals.{IsKnownAs}
 
 -- its labels are slices of texts
 abbrev pub seen_followed : KeptAssertion → Followed
@@ -79,6 +84,34 @@ pub record AreCitedNow (s : Scope) (e : Edition) (living : List Followed) (m : H
 abbrev pub AreStepsOf : Scope → Edition → List Followed → Names → Type 0
 AreStepsOf s e living m =
     (premises : ℕ) (step : Step) (n : ℕ) → StepTakesThen s e living premises step n → StepTakes s m premises step n
+
+-- so labels, steps and the $f are those of the names that proofs are written with
+pub record AreThen (s : Scope) (e : Edition) (living : List Followed) (m : Names) : Type 0 where
+  pub names : AreNamesOf s e living m
+  pub steps : AreStepsOf s e living m
+  pub floats : seen_words m.floats.items ≡ float_labels e
+
+-- a map finds just the labels of the edited library
+abbrev pub FindsLabels : HashMap (Bor (List ℕ)) (Bor Assertion) RandomState → Edition → Type 0
+FindsLabels m e = (w : Word) → is_some (get_by (λ k. bytes_eq w k.now) m) ≡ is_in (map (λ a. a.label) (assertions_of e)) w
+
+-- symbols of the library read so in the source
+abbrev pub AreSpelledAs : Edition → SymbolWords → Type 0
+AreSpelledAs e ws = (x : Symbol) → IsSpelledThen (name_in_source e.names) e.opened.prelude x → IsSpelled ws x
+
+-- of these labels in the source each is that of one that lives, and stands beside the label that it has now
+abbrev pub AreKnown : List Followed → List Change → Type 0
+AreKnown living cs = All (λ c. IsKnownAs living c.1 (Some c.0)) cs
+
+-- assertions of the source by these labels
+abbrev pub AreMembers : List Followed → List (Bor (List ℕ) × Bor (List ℕ)) → Type 0
+AreMembers living ms = All (λ m. IsKnownAs living m.1.now (Some m.0.now)) ms
+
+-- those that a walk over the library's assertions met
+pub record HasKnown (living : List Followed) (w : LibraryWalk) : Type 0 where
+  pub moved : AreMembers living w.moved.items
+  pub parted : All (λ r. AreMembers living r.members.items) w.parted.items
+  pub row : AreMembers living w.row.members.items
 
 -- the edits of a source, with what is put in
 abbrev pub edited_of : Edits → List Coming → Edited

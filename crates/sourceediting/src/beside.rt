@@ -3,7 +3,7 @@
 ghost use Rattle.std.specs.Prelude.{◌≡◌, ◌≤◌, ◌<◌, ◌+◌, IfOk, IfSome, IsTrue, Some, length, map};
 ghost use Rattle.arranging.specs.declared.headed.Side.TheVariants.{Behind, InFront};
 ghost use Rattle.items.specs.Reading.{AreItems};
-ghost use Rattle.sourceediting.specs.Refusals.{ArePut, HasCause, IsBeside, IsKnownAs, IsNumbered, IsPut};
+ghost use Rattle.sourceediting.specs.Refusals.{ArePut, HasCause, IsBeside, IsKnownAs, IsNumbered, IsPut, OnUnwritten};
 ghost use Rattle.sourceediting.specs.Views.{seen_living};
 ghost use Rattle.sourceediting.specs.declared.refusal.Refusal.TheVariants.{Unplaced};
 
@@ -136,7 +136,8 @@ pub(crate) fn unplaced(
 ) -> Result<Option<Refusal>, AllocError>
     requires items { AreItems source.now items.now }
     requires within { number < length entries.now }
-    ensures { IfOk result (λ made. IfSome made (HasCause (seen_living living.now) (map (λ r. r.assertion) entries.now) source.now)) }
+    ensures cause { IfOk result (λ made. IfSome made (HasCause (seen_living living.now) (map (λ r. r.assertion) entries.now) source.now)) }
+    ensures unwritten { IfOk result (λ made. IfSome made (OnUnwritten (λ _. ⊥))) }
 {
     let Some(neighbour) = neighbour_of(items, coming.why) else {
         return Ok(None);

@@ -6,7 +6,7 @@
 ghost use Rattle.std.specs.Prelude.{◌≡◌, ◌<◌, ◌⊎◌, ◌+◌, ℕ, IfErr, IfOk, IfSome, OnOk, Some, length, map};
 ghost use Rattle.items.specs.Reading.{AreItems};
 ghost use Rattle.sourceediting.specs.Filled.{ArePuts, IsFilledTo};
-ghost use Rattle.sourceediting.specs.Refusals.{HasCause};
+ghost use Rattle.sourceediting.specs.Refusals.{HasCause, OnUnwritten};
 ghost use Rattle.sourceediting.specs.Views.{seen_living};
 
 use crate::declaring::{Declarations, Declared, later, needed_by};
@@ -326,8 +326,9 @@ fn refused_before(
     requires items { AreItems known.now.text.now known.now.items.items }
     requires within { number < length entries.now }
     requires filled { IsFilledTo number filling.now }
-    ensures { IfOk result (λ made. IfSome made
+    ensures cause { IfOk result (λ made. IfSome made
         (HasCause (seen_living living.now) (map (λ r. r.assertion) entries.now) known.now.text.now)) }
+    ensures unwritten { IfOk result (λ made. IfSome made (OnUnwritten (λ _. ⊥))) }
 {
     let Some(held) = filling.held_before(staying) else {
         return Ok(None);
@@ -354,6 +355,7 @@ pub(crate) fn puts_of<'t>(
     requires { AreItems known.now.text.now known.now.items.items }
     ensures puts { IfOk result (ArePuts (length entries.now)) }
     ensures refused { IfErr result (HasCause (seen_living living.now) (map (λ r. r.assertion) entries.now) known.now.text.now) }
+    ensures unwritten { IfErr result (OnUnwritten (λ _. ⊥)) }
 {
     let places = staying_of(alloc, keys, known, living, moving, entries)?;
     let mut filling = Filling::new(alloc, known, first_of(places.as_slice()));

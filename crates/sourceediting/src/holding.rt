@@ -6,7 +6,7 @@ ghost use Rattle.mmtext.specs.Words.{Word};
 ghost use Rattle.items.specs.Reading.{AreItems};
 ghost use Rattle.arranging.specs.Arranged.{label_in_source};
 ghost use Rattle.arranging.specs.Held.{IsHeldBehind};
-ghost use Rattle.sourceediting.specs.Refusals.{HasCause, IsKnownAs};
+ghost use Rattle.sourceediting.specs.Refusals.{HasCause, IsKnownAs, OnUnwritten};
 ghost use Rattle.sourceediting.specs.Views.{seen_followed, seen_living};
 
 use crate::citing::marked;
@@ -112,8 +112,9 @@ pub(crate) fn held_behind(
     requires order { held.number < next.0 }
     requires within { next.0 < length entries.now }
     requires comes { held.coming < length comings.now }
-    ensures { IfOk result (λ made. IfSome made
+    ensures cause { IfOk result (λ made. IfSome made
         (HasCause (seen_living living.now) (map (λ r. r.assertion) entries.now) known.now.text.now)) }
+    ensures unwritten { IfOk result (λ made. IfSome made (OnUnwritten (λ _. ⊥))) }
 {
     let (number, place) = next;
     let (first, second) = (&entries[held.number], &entries[number]);

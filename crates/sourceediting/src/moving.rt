@@ -1,6 +1,11 @@
 //! Which assertions are to stand elsewhere in a source: those that were moved, and of a block in the middle of which something is put those
 //! in front of it or those behind it.
 
+ghost use Rattle.std.specs.Prelude.{◌≡◌, ◌++◌, ◌∷◌, [], List, All, Contains, IfOk, IfSome, OnOk, Some};
+ghost use Rattle.sourceediting.specs.Following.{Followed as FollowedOf};
+ghost use Rattle.sourceediting.specs.Refusals.{IsKnownAs};
+ghost use Rattle.sourceediting.specs.Views.{seen_followed, seen_living, AreKnown, AreMembers, HasKnown};
+
 use crate::citing::proof_labels;
 use crate::following::Followed;
 use crate::outline::Outline;
@@ -74,7 +79,9 @@ impl<'x> Drop for Row<'x> {
 
 impl<'x> Row<'x> {
     /// A block of which no member was met.
-    fn new(alloc: Global, block: Option<usize>) -> Row<'x> {
+    fn new(alloc: Global, block: Option<usize>) -> Row<'x>
+        ensures { result.members.items ≡ [] }
+    {
         Row {
             block,
             members: Vec::new(alloc),
@@ -85,7 +92,9 @@ impl<'x> Row<'x> {
     }
 
     /// One more member.
-    fn push(&mut self, member: Member<'x>) -> Result<(), AllocError> {
+    fn push(&mut self, member: Member<'x>) -> Result<(), AllocError>
+        ensures { OnOk result (self.new.members.items ≡ self.old.members.items ++ member.entry ∷ []) }
+    {
         if self.is_put {
             self.last = self.members.len();
             self.first = self.first.or(Some(self.last));
@@ -101,13 +110,19 @@ impl<'x> Row<'x> {
     }
 
     /// The members in front of the last thing that is put among them.
-    fn front(&self) -> &[Member<'x>] {
+    fn front(&self) -> &[Member<'x>]
+        ensures { (living : List FollowedOf) → AreMembers living self.now.members.items
+            → AreMembers living result.now }
+    {
         let end = self.last.min(self.members.len());
         &self.members.as_slice()[..end]
     }
 
     /// The members behind the first thing that is put among them.
-    fn back(&self) -> &[Member<'x>] {
+    fn back(&self) -> &[Member<'x>]
+        ensures { (living : List FollowedOf) → AreMembers living self.now.members.items
+            → AreMembers living result.now }
+    {
         let count = self.members.len();
         let begin = self.first.unwrap_or(count).min(count);
         &self.members.as_slice()[begin..]
@@ -135,6 +150,20 @@ fn opened_by_now<'x>(
         }
     }
     Ok(places)
+}
+
+/// What became of the assertion of the opening that has this label now, if one has it.
+fn opened_as<'l, 'x>(
+    opened: &Places<'_>,
+    living: &'l [Followed<'x>],
+    label: &[u8],
+) -> Option<&'l Followed<'x>>
+    ensures { IfSome result (λ f. Contains (seen_living living.now) (seen_followed f.now)) }
+{
+    match opened.get(label) {
+        Some(place) => living.get(*place),
+        None => None,
+    }
 }
 
 /// Whether the assertions of the opening stand in another order in the edited library.
@@ -178,7 +207,10 @@ fn part<'x>(
     cited: &LabelMap<'_>,
     leaving: &mut Vec<Member<'x>>,
     in_front: &mut Vec<Member<'x>>,
-) -> Result<(), AllocError> {
+) -> Result<(), AllocError>
+    ensures { (living : List FollowedOf) → All (λ r. AreMembers living r.members.items) rows.now
+        → AreMembers living leaving.old.items → OnOk result (AreMembers living leaving.new.items) }
+{
     for row in rows {
         if row.front_leaves(told, cited) {
             leaving.extend_from_slice(row.front())?;
@@ -192,7 +224,9 @@ fn part<'x>(
 
 impl<'x> LibraryWalk<'x> {
     /// Before any assertion.
-    fn new(alloc: Global) -> LibraryWalk<'x> {
+    fn new(alloc: Global) -> LibraryWalk<'x>
+        ensures { (living : List FollowedOf) → HasKnown living result }
+    {
         LibraryWalk {
             moved: Vec::new(alloc),
             parted: Vec::new(alloc),
@@ -201,10 +235,23 @@ impl<'x> LibraryWalk<'x> {
     }
 
     /// One that was moved.
-    fn put_moved(&mut self, member: Member<'x>) -> Result<(), AllocError> {
+    fn put_moved(&mut self, member: Member<'x>) -> Result<(), AllocError>
+        ensures { (living : List FollowedOf) → HasKnown living self.old → IsKnownAs living member.entry.1.now (Some member.entry.0.now)
+            → OnOk result (HasKnown living self.new) }
+    {
         self.row.is_put = true;
         self.moved.push(member)?;
         Ok(())
+    }
+
+    /// Another row begins, if what comes next isn't in the block of this one.
+    fn go_on(&mut self, alloc: Global, block: Option<usize>) -> Result<(), AllocError>
+        ensures { (living : List FollowedOf) → HasKnown living self.old → OnOk result (HasKnown living self.new) }
+    {
+        if self.row.goes_on(block) {
+            return Ok(());
+        }
+        self.begin(Row::new(alloc, block))
     }
 
     /// One that wasn't, in this outermost block.
@@ -213,11 +260,13 @@ impl<'x> LibraryWalk<'x> {
         alloc: Global,
         block: Option<usize>,
         member: Member<'x>,
-    ) -> Result<(), AllocError> {
-        if !self.row.goes_on(block) {
-            self.begin(Row::new(alloc, block))?;
-        }
-        self.row.push(member)
+    ) -> Result<(), AllocError>
+        ensures { (living : List FollowedOf) → HasKnown living self.old → IsKnownAs living member.entry.1.now (Some member.entry.0.now)
+            → OnOk result (HasKnown living self.new) }
+    {
+        self.go_on(alloc, block)?;
+        self.row.push(member)?;
+        Ok(())
     }
 
     /// The next assertion of the edited library, of which this became if it was there at the opening. `is_other` says whether the order is
@@ -229,7 +278,10 @@ impl<'x> LibraryWalk<'x> {
         places: &Places<'_>,
         followed: Option<&Followed<'x>>,
         is_other: bool,
-    ) -> Result<(), AllocError> {
+    ) -> Result<(), AllocError>
+        ensures { (living : List FollowedOf) → HasKnown living self.old
+            → IfSome followed.entry (λ f. Contains living (seen_followed f.now)) → OnOk result (HasKnown living self.new) }
+    {
         let Some(followed) = followed else {
             self.row.is_put = true;
             return Ok(());
@@ -247,7 +299,10 @@ impl<'x> LibraryWalk<'x> {
     }
 
     /// Another row begins, and the former ends.
-    fn begin(&mut self, next: Row<'x>) -> Result<(), AllocError> {
+    fn begin(&mut self, next: Row<'x>) -> Result<(), AllocError>
+        ensures { (living : List FollowedOf) → HasKnown living self.old → next.entry.members.items ≡ []
+            → OnOk result (HasKnown living self.new) }
+    {
         let row = std::mem::replace(&mut self.row, next);
         if row.first.is_some() {
             self.parted.push(row)?;
@@ -262,7 +317,9 @@ impl<'x> LibraryWalk<'x> {
         keys: RandomState,
         told: &LabelMap<'_>,
         cited: &LabelMap<'_>,
-    ) -> Result<Moving<'x>, AllocError> {
+    ) -> Result<Moving<'x>, AllocError>
+        ensures { (living : List FollowedOf) → HasKnown living self.entry → IfOk result (λ made. AreKnown living made.labels) }
+    {
         let LibraryWalk {
             moved: mut leaving,
             parted,
@@ -284,14 +341,16 @@ fn walk_over<'x>(
     outline: &Outline<'_>,
     places: &Places<'_>,
     edits: &Rearranged<'x>,
-) -> Result<LibraryWalk<'x>, AllocError> {
+) -> Result<LibraryWalk<'x>, AllocError>
+    ensures { IfOk result (HasKnown (seen_living edits.now.planned.living.now)) }
+{
     let entries = edits.planned.edited.entries();
     let opened = opened_by_now(alloc, keys, edits.planned.living)?;
     let is_other = has_another_order(&opened, entries);
     let mut walk = LibraryWalk::new(alloc);
     for entry in entries {
-        let place = opened.get(entry.assertion.label.as_slice());
-        let followed = place.and_then(|place| edits.planned.living.get(*place));
+        let label = entry.assertion.label.as_slice();
+        let followed = opened_as(&opened, edits.planned.living, label);
         walk.take(alloc, outline, places, followed, is_other)?;
     }
     walk.begin(Row::new(alloc, None))?;
@@ -390,7 +449,9 @@ pub(crate) fn moving_of<'x, 'a, D: Declared<'a>>(
     declared: &D,
     outline: &Outline<'_>,
     edits: &Rearranged<'x>,
-) -> Result<Moving<'x>, AllocError> {
+) -> Result<Moving<'x>, AllocError>
+    ensures { IfOk result (λ made. AreKnown (seen_living edits.now.planned.living.now) made.labels) }
+{
     let places = outline.by_label(alloc, keys)?;
     let walk = walk_over(alloc, keys, outline, &places, edits)?;
     let parted = walk.parted.as_slice();

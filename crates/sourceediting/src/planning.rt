@@ -17,7 +17,7 @@ ghost use Rattle.sourceediting.specs.Reproved.{changes_in_library, step_then, Is
 ghost use Rattle.sourceediting.specs.Following.{Followed as FollowedOf};
 ghost use Rattle.sourceediting.specs.Refusals.{HasCause, OnUnwritten, IsNotReproved};
 ghost use Rattle.sourceediting.specs.Views.{seen_followed, seen_living, seen_proofs, edition_of, AreLabelled, IsCitedAs};
-ghost use Rattle.sourceediting.specs.Views.{AreCitedThen, AreCitedNow, AreNamesOf, AreStepsOf, AreAllFound};
+ghost use Rattle.sourceediting.specs.Views.{AreCitedThen, AreCitedNow, AreNamesOf, AreStepsOf, AreThen, AreAllFound};
 ghost use Rattle.sourceediting.specs.declared.refusal.Refusal.TheVariants.{Unwritten};
 
 use crate::following::Followed;
@@ -27,13 +27,10 @@ use library::{PlainLibrary, Ranked};
 use mmframes::frame_of;
 use mmsyntax::{Assertion, Database, Float, Label, Prelude, Proof, StepRef};
 use source::Declared;
-use sourcewriting::{Cited, Kinds, Names, indentation_like, names_in_source, proof_text};
+use sourcewriting::{ByLabel, Cited, Kinds, Names, indentation_like, names_in_source, proof_text};
 use std::alloc::{AllocError, Global};
 use std::collections::HashMap;
 use std::hash::RandomState;
-
-/// Assertions of a library, by their labels.
-pub(crate) type ByLabel<'x> = HashMap<&'x [u8], &'x Assertion, RandomState>;
 
 /// What is known of a library that was taken of a source, and of the edits over it.
 #[derive(Clone, Copy)]
@@ -86,7 +83,7 @@ pub(crate) fn edited_by_label<'x>(
 }
 
 /// A label as it reads then.
-fn changed_in<'x>(changes: &LabelMap<'x>, label: &'x [u8]) -> &'x [u8]
+pub(crate) fn changed_in<'x>(changes: &LabelMap<'x>, label: &'x [u8]) -> &'x [u8]
     ensures { result.now ≡ changed changes.now label.now }
 {
     match changes.text_for(label) {
@@ -220,8 +217,8 @@ pub(crate) fn names_of<'x, D: Declared<'x>>(
 ) -> Result<Names<'x>, AllocError>
     requires { AreLabelled edited.now (map (λ r. r.assertion) planned.now.edited.now.entries) }
     ensures names { IfOk result (AreNamesOf (D.scope declared.now) (edition_of planned.now) (seen_living planned.now.living.now)) }
-    ensures steps { AreAllFound edited.now (map (λ r. r.assertion) planned.now.edited.now.entries)
-        → IfOk result (AreStepsOf (D.scope declared.now) (edition_of planned.now) (seen_living planned.now.living.now)) }
+    ensures told { AreAllFound edited.now (map (λ r. r.assertion) planned.now.edited.now.entries)
+        → IfOk result (AreThen (D.scope declared.now) (edition_of planned.now) (seen_living planned.now.living.now)) }
 {
     let changes = names_in_source(alloc, keys, planned.names)?;
     Ok(Names {

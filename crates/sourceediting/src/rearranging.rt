@@ -1,6 +1,7 @@
 //! A source with the edits of a history that adds, moves or deletes: what is put in, and how it is put there.
 
-ghost use Rattle.std.specs.Prelude.{◌≡◌, ◌<◌, [], ℕ, List, Contains, IfOk, IfErr, length, map};
+ghost use Rattle.std.specs.Prelude.{◌≡◌, ◌<◌, [], ℕ, List, Contains, IfOk, IfErr, Some, length, map, slice_get};
+ghost use Rattle.std.specs.Option.{option_and_then};
 ghost use Rattle.source.specs.Views.{seen_words};
 ghost use Rattle.arranging.specs.Arranged.{IsArranged};
 ghost use Rattle.items.specs.Divided.{IsDivided};
@@ -9,8 +10,11 @@ ghost use Rattle.items.specs.Rewriting.{IsRewritten};
 ghost use Rattle.mmsyntax.specs.declared.statement.Assertion.{Assertion as AssertionOf};
 ghost use Rattle.sourceediting.specs.Following.{Followed as FollowedOf};
 ghost use Rattle.sourceediting.specs.Filled.{ArePuts};
-ghost use Rattle.sourceediting.specs.Refusals.{HasCause, AreListedAnew, OnUnwritten};
-ghost use Rattle.sourceediting.specs.Views.{edited_of, seen_living, AreLabelled};
+ghost use Rattle.sourceediting.specs.Entries.{Edition, assertions_of};
+ghost use Rattle.sourceediting.specs.PutIn.{is_compressed_proof, was_compressed, has_compressed, CanBePutIn};
+ghost use Rattle.sourceediting.specs.Refusals.{HasCause, AreListedAnew, OnUnwritten, IsKnownAs};
+ghost use Rattle.sourceediting.specs.Views.{edited_of, seen_living, edition_of, AreLabelled, AreKnown};
+ghost use Rattle.sourceediting.specs.WrittenWith.{AreWrittenWith, IsVocabularyOf, IsNotPut};
 ghost use Rattle.sourceediting.specs.Written.{IsRearranged, moved_in, sources_of};
 
 use crate::beside::unplaced;
@@ -20,7 +24,7 @@ use crate::filling::{Known, Piece, Puts, Texts, puts_of};
 use crate::following::Followed;
 use crate::moving::{Moving, moving_of};
 use crate::outline::{Outlined, Stretch, outline_of};
-use crate::planning::{ByLabel, Planned, labelled, unwritten};
+use crate::planning::{Planned, changed_in, labelled, unwritten};
 use crate::refusal::Refusal;
 use arranging::{Edits, Outcome, arrange, parts_of};
 use giving::LabelMap;
@@ -28,7 +32,7 @@ use items::{Item, read_items, rewrite};
 use library::Ranked;
 use mmsyntax::Assertion;
 use source::{Declared, ProofWords};
-use sourcewriting::{Names, Statement, SymbolWords, Written, assertion_text, symbol_words};
+use sourcewriting::{ByLabel, Names, Statement, Vocabulary, Written, assertion_text, symbol_words};
 use std::alloc::{AllocError, Global};
 use std::collections::HashMap;
 use std::hash::RandomState;
@@ -48,29 +52,38 @@ pub(crate) struct Rearranged<'x> {
     pub proofs: &'x LabelMap<'x>,
 }
 
-/// Whether the proof of an assertion of a source is compressed.
-fn is_compressed<'a, D: Declared<'a>>(declared: &D, label: &[u8]) -> bool {
-    let Some(place) = declared.place_of(label) else {
-        return false;
-    };
+/// Whether the proof of the assertion at a place of a source is compressed.
+fn is_compressed_at<'a, D: Declared<'a>>(declared: &D, place: usize) -> bool
+    ensures { result ≡ is_compressed_proof (option_and_then (λ a. a.proof) (slice_get (D.scope declared.now).assertions place)) }
+{
     matches!(declared.proof(place), Some(ProofWords::Compressed(..)))
 }
 
+/// Whether the proof of an assertion of a source is compressed.
+fn is_compressed<'a, D: Declared<'a>>(declared: &D, label: &[u8]) -> bool
+    ensures { result ≡ was_compressed (D.scope declared.now) label.now }
+{
+    match declared.place_of(label) {
+        Some(place) => is_compressed_at(declared, place),
+        None => false,
+    }
+}
+
 /// The text of an assertion with its proof.
-fn text_of<'x, 'a, D: Declared<'a>>(
+fn text_of<'a, D: Declared<'a>>(
     alloc: Global,
     keys: RandomState,
     declared: &D,
-    words: &SymbolWords<'x>,
-    edits: &Rearranged<'x>,
+    vocabulary: &Vocabulary<'_, '_>,
     statement: &Statement<'_>,
 ) -> Result<Written, Refusal>
-    ensures { (living : List FollowedOf) (edited : List AssertionOf) (text : List ℕ) → Contains edited statement.now.assertion.now
+    ensures refused { (living : List FollowedOf) (edited : List AssertionOf) (text : List ℕ) → Contains edited statement.now.assertion.now
         → IfErr result (HasCause living edited text) }
+    ensures unwritten { (e : Edition) (living : List FollowedOf) → IsVocabularyOf (D.scope declared.now) e living vocabulary.now
+        → IfErr result (OnUnwritten (λ label. (statement.now.assertion.now.label ≡ label) × (CanBePutIn (D.scope declared.now) e living
+        statement.now.is_compressed statement.now.label.now statement.now.assertion.now → ⊥))) }
 {
-    let prelude = edits.planned.edited.prelude();
-    let names = edits.names;
-    match assertion_text(alloc, keys, declared, prelude, names, words, statement)? {
+    match assertion_text(alloc, keys, declared, vocabulary, statement)? {
         Some(text) => Ok(text),
         None => Err(unwritten(alloc, statement.assertion)?),
     }
@@ -99,19 +112,24 @@ fn parted<'x, 'a, D: Declared<'a>>(
     standing: &Outlined<'x>,
     assertion: &Assertion,
     is_in_front: bool,
-    words: &SymbolWords<'x>,
+    vocabulary: &Vocabulary<'_, 'x>,
     edits: &Rearranged<'x>,
 ) -> Result<Piece<'x>, Refusal>
-    ensures { (living : List FollowedOf) (edited : List AssertionOf) (text : List ℕ) → Contains edited assertion.now
+    ensures refused { (living : List FollowedOf) (edited : List AssertionOf) (text : List ℕ) → Contains edited assertion.now
         → IfErr result (HasCause living edited text) }
+    ensures unwritten { IsVocabularyOf (D.scope declared.now) (edition_of edits.now.planned)
+        (seen_living edits.now.planned.living.now) vocabulary.now
+        → Contains (assertions_of (edition_of edits.now.planned)) assertion.now
+        → IsKnownAs (seen_living edits.now.planned.living.now) assertion.now.label (Some standing.now.label.now)
+        → IfErr result (OnUnwritten (IsNotPut (D.scope declared.now) edits.now)) }
 {
     let source = standing.label;
     let statement = Statement {
         assertion,
-        label: edits.changes.text_for(source).unwrap_or(source),
+        label: changed_in(edits.changes, source),
         is_compressed: is_compressed(declared, source),
     };
-    let text = text_of(alloc, keys, declared, words, edits, &statement)?;
+    let text = text_of(alloc, keys, declared, vocabulary, &statement)?;
     let unit = Stretch {
         first: standing.first,
         end: standing.place,
@@ -126,13 +144,17 @@ fn put_moved<'x, 'a, D: Declared<'a>>(
     declared: &D,
     known: &Known<'x>,
     moving: &Moving<'x>,
-    words: &SymbolWords<'x>,
+    vocabulary: &Vocabulary<'_, 'x>,
     edits: &Rearranged<'x>,
     texts: &mut Texts<'x>,
 ) -> Result<(), Refusal>
     requires { AreLabelled edits.now.edited.now (map (λ r. r.assertion) edits.now.planned.edited.now.entries) }
-    ensures { (living : List FollowedOf) (text : List ℕ)
+    ensures refused { (living : List FollowedOf) (text : List ℕ)
         → IfErr result (HasCause living (map (λ r. r.assertion) edits.now.planned.edited.now.entries) text) }
+    ensures unwritten { IsVocabularyOf (D.scope declared.now) (edition_of edits.now.planned)
+        (seen_living edits.now.planned.living.now) vocabulary.now
+        → AreKnown (seen_living edits.now.planned.living.now) moving.now.labels
+        → IfErr result (OnUnwritten (IsNotPut (D.scope declared.now) edits.now)) }
 {
     for standing in known.outline.assertions.as_slice() {
         let source = standing.label;
@@ -154,7 +176,7 @@ fn put_moved<'x, 'a, D: Declared<'a>>(
                 standing,
                 assertion,
                 is_in_front,
-                words,
+                vocabulary,
                 edits,
             )?
         };
@@ -164,9 +186,11 @@ fn put_moved<'x, 'a, D: Declared<'a>>(
 }
 
 /// Whether a source has compressed proofs.
-fn has_compressed<'a, D: Declared<'a>>(declared: &D) -> bool {
+fn has_compressed<'a, D: Declared<'a>>(declared: &D) -> bool
+    ensures { result ≡ has_compressed (D.scope declared.now) }
+{
     for place in 0..declared.assertions() {
-        if let Some(ProofWords::Compressed(..)) = declared.proof(place) {
+        if is_compressed_at(declared, place) {
             return true;
         }
     }
@@ -179,13 +203,16 @@ fn put_added<'x, 'a, D: Declared<'a>>(
     keys: RandomState,
     declared: &D,
     known: &Known<'x>,
-    words: &SymbolWords<'x>,
+    vocabulary: &Vocabulary<'_, 'x>,
     edits: &Rearranged<'x>,
     texts: &mut Texts<'x>,
 ) -> Result<(), Refusal>
     requires { AreLabelled edits.now.edited.now (map (λ r. r.assertion) edits.now.planned.edited.now.entries) }
-    ensures { (living : List FollowedOf) (text : List ℕ)
+    ensures refused { (living : List FollowedOf) (text : List ℕ)
         → IfErr result (HasCause living (map (λ r. r.assertion) edits.now.planned.edited.now.entries) text) }
+    ensures unwritten { IsVocabularyOf (D.scope declared.now) (edition_of edits.now.planned)
+        (seen_living edits.now.planned.living.now) vocabulary.now
+        → IfErr result (OnUnwritten (IsNotPut (D.scope declared.now) edits.now)) }
 {
     let is_compressed = has_compressed(declared);
     for followed in edits.planned.living {
@@ -198,7 +225,7 @@ fn put_added<'x, 'a, D: Declared<'a>>(
             label: now,
             is_compressed,
         };
-        let text = text_of(alloc, keys, declared, words, edits, &statement)?;
+        let text = text_of(alloc, keys, declared, vocabulary, &statement)?;
         let unit = Stretch { first: 0, end: 0 };
         texts.insert(now, Piece::new(known, None, text, unit, false))?;
     }
@@ -215,16 +242,32 @@ fn texts_of<'x, 'a, D: Declared<'a>>(
     edits: &Rearranged<'x>,
 ) -> Result<Texts<'x>, Refusal>
     requires { AreLabelled edits.now.edited.now (map (λ r. r.assertion) edits.now.planned.edited.now.entries) }
-    ensures { (living : List FollowedOf) (text : List ℕ)
+    ensures refused { (living : List FollowedOf) (text : List ℕ)
         → IfErr result (HasCause living (map (λ r. r.assertion) edits.now.planned.edited.now.entries) text) }
+    ensures unwritten { AreWrittenWith (D.scope declared.now) edits.now
+        → AreKnown (seen_living edits.now.planned.living.now) moving.now.labels
+        → IfErr result (OnUnwritten (IsNotPut (D.scope declared.now) edits.now)) }
 {
     let mut texts = HashMap::with_hasher(alloc, keys);
     let prelude = edits.planned.database.prelude();
     let words = symbol_words(alloc, keys, prelude, edits.planned.names)?;
+    let vocabulary = Vocabulary {
+        prelude: edits.planned.edited.prelude(),
+        edited: edits.edited,
+        names: edits.names,
+        words: &words,
+    };
     put_moved(
-        alloc, keys, declared, known, moving, &words, edits, &mut texts,
+        alloc,
+        keys,
+        declared,
+        known,
+        moving,
+        &vocabulary,
+        edits,
+        &mut texts,
     )?;
-    put_added(alloc, keys, declared, known, &words, edits, &mut texts)?;
+    put_added(alloc, keys, declared, known, &vocabulary, edits, &mut texts)?;
     Ok(texts)
 }
 
@@ -291,6 +334,7 @@ fn without_comings(
         (edited_of edits.entry []) source.now out.items) }
     ensures refused { (living : List FollowedOf) (edited : List AssertionOf) → AreListedAnew living edited edits.entry.proofs.now
         → IfErr result (HasCause living edited source.now) }
+    ensures unwritten { IfErr result (OnUnwritten (λ _. ⊥)) }
 {
     match arrange(alloc, edits, source, items, &[])? {
         Outcome::Text(out) => Ok(out),
@@ -319,6 +363,7 @@ fn otherwise(
     ensures arranged { IfOk result (λ out. IsArranged edits.entry.changes.now edits.entry.proofs.now
         (edited_of edits.entry []) source.now out.items) }
     ensures refused { IfErr result (HasCause (seen_living living.now) (map (λ r. r.assertion) entries.now) source.now) }
+    ensures unwritten { IfErr result (OnUnwritten (λ _. ⊥)) }
 {
     let (coming, number) = (puts.comings[number], puts.numbers[number]);
     let why = unplaced(alloc, keys, source, items, living, entries, coming, number)?;
@@ -346,6 +391,7 @@ fn arranged(
         (seen_words edits.now.planned.gone.now) edits.now.changes.now edits.now.proofs.now source.now out.items) }
     ensures refused { IfErr result (HasCause (seen_living edits.now.planned.living.now)
         (map (λ r. r.assertion) edits.now.planned.edited.now.entries) source.now) }
+    ensures unwritten { IfErr result (OnUnwritten (λ _. ⊥)) }
 {
     let entries = edits.planned.edited.entries();
     let living = edits.planned.living;
@@ -387,6 +433,8 @@ fn rearrange_known<'x, 'a, D: Declared<'a>>(
         (seen_words edits.now.planned.gone.now) edits.now.changes.now edits.now.proofs.now known.now.text.now out.items) }
     ensures refused { IfErr result (HasCause (seen_living edits.now.planned.living.now)
         (map (λ r. r.assertion) edits.now.planned.edited.now.entries) known.now.text.now) }
+    ensures unwritten { AreWrittenWith (D.scope declared.now) edits.now
+        → IfErr result (OnUnwritten (IsNotPut (D.scope declared.now) edits.now)) }
 {
     let moving = moving_of(alloc, keys, declared, &known.outline, edits)?;
     let texts = texts_of(alloc, keys, declared, known, &moving, edits)?;
@@ -435,6 +483,8 @@ pub(crate) fn rearrange<'x, 'a, D: Declared<'a>>(
         (seen_words edits.now.planned.gone.now) edits.now.changes.now edits.now.proofs.now source.now out.items) }
     ensures refused { IfErr result (HasCause (seen_living edits.now.planned.living.now)
         (map (λ r. r.assertion) edits.now.planned.edited.now.entries) source.now) }
+    ensures unwritten { AreWrittenWith (D.scope declared.now) edits.now
+        → IfErr result (OnUnwritten (IsNotPut (D.scope declared.now) edits.now)) }
 {
     let known = known_of(alloc, keys, source)?;
     rearrange_known(alloc, keys, declared, &known, edits)

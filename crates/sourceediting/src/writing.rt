@@ -7,18 +7,19 @@ ghost use Rattle.items.specs.Divided.{IsDivided};
 ghost use Rattle.sourceediting.specs.Following.{KeepsPlaces, all_commands};
 ghost use Rattle.sourceediting.specs.Refusals.{HasCause, AreListedAnew, IsUnwritten, OnUnwritten};
 ghost use Rattle.sourceediting.specs.Reproved.{AreOtherProofs};
-ghost use Rattle.sourceediting.specs.Views.{seen_living, seen_proofs, edition_of, AreLabelled, AreNamesOf, AreStepsOf};
+ghost use Rattle.sourceediting.specs.Views.{seen_living, seen_proofs, edition_of, AreLabelled, AreNamesOf, AreThen, FindsLabels};
 ghost use Rattle.sourceediting.specs.Written.{IsWrittenAnew};
+ghost use Rattle.sourceediting.specs.WrittenWith.{AreWrittenWith, IsNotPut};
 
 use crate::commands::keep_places;
-use crate::planning::{ByLabel, Planned, edited_by_label, names_of, other_proofs};
+use crate::planning::{Planned, edited_by_label, names_of, other_proofs};
 use crate::rearranging::{Rearranged, rearrange, rewritten};
 use crate::refusal::Refusal;
 use giving::LabelMap;
 use items::indentations;
 use library::Entry;
 use source::Declared;
-use sourcewriting::Names;
+use sourcewriting::{ByLabel, Names};
 use std::alloc::{AllocError, Global};
 use std::hash::RandomState;
 
@@ -54,7 +55,8 @@ fn written<'x, 'a, D: Declared<'a>>(
         (seen_words edits.now.planned.gone.now) (λ proofs. proofs ≡ edits.now.proofs.now) edits.now.changes.now source.now out.items) }
     ensures refused { IfErr result (HasCause (seen_living edits.now.planned.living.now)
         (map (λ r. r.assertion) edits.now.planned.edited.now.entries) source.now) }
-    ensures unwritten { IfErr result (OnUnwritten (λ _. All KeepsPlaces (all_commands entries.now) → ⊥)) }
+    ensures unwritten { AreWrittenWith (D.scope declared.now) edits.now → IfErr result (OnUnwritten (λ label.
+        IsNotPut (D.scope declared.now) edits.now label × (All KeepsPlaces (all_commands entries.now) → ⊥))) }
 {
     if keep_places(entries) {
         return rewritten(alloc, edits, source);
@@ -82,9 +84,9 @@ fn write_over<'e, D: Declared<'e>>(
         (seen_living planned.now.living.now)) changes.now source.now out.items) }
     ensures refused { IfErr result (HasCause (seen_living planned.now.living.now)
         (map (λ r. r.assertion) planned.now.edited.now.entries) source.now) }
-    ensures unwritten { AreStepsOf (D.scope declared.now) (edition_of planned.now) (seen_living planned.now.living.now) names.now
-        → IfErr result (OnUnwritten (IsUnwritten (D.scope declared.now) (edition_of planned.now) (seen_living planned.now.living.now)
-        (all_commands entries.now))) }
+    ensures unwritten { AreThen (D.scope declared.now) (edition_of planned.now) (seen_living planned.now.living.now) names.now
+        → FindsLabels edited.now (edition_of planned.now) → IfErr result (OnUnwritten (IsUnwritten (D.scope declared.now)
+        (edition_of planned.now) (seen_living planned.now.living.now) changes.now (all_commands entries.now))) }
 {
     let Some(indented) = indentations(alloc, keys, source)? else {
         unreachable!()
@@ -122,7 +124,7 @@ pub fn write_edits<'e, D: Declared<'e>>(
     ensures refused { IfErr result (HasCause (seen_living planned.now.living.now)
         (map (λ r. r.assertion) planned.now.edited.now.entries) source.now) }
     ensures unwritten { IfErr result (OnUnwritten (IsUnwritten (D.scope declared.now) (edition_of planned.now)
-        (seen_living planned.now.living.now) (all_commands entries.now))) }
+        (seen_living planned.now.living.now) changes.now (all_commands entries.now))) }
 {
     let edited = edited_by_label(alloc, keys, planned.edited.entries())?;
     let names = names_of(alloc, keys, declared, &edited, planned)?;

@@ -8,10 +8,12 @@ use Rattle.std.specs.List.{list_any, list_all}
 use Rattle.std.proofs.Math.Seq.{take-length}
 use Rattle.std.proofs.lemmas.Bool.{and_parts, or_left, or_right, eq-eqb, eqb-true}
 use Rattle.std.proofs.lemmas.List.{take_more}
-use Rattle.std.proofs.lemmas.List.Elements.{All-push}
+use Rattle.std.proofs.lemmas.List.Elements.{All-push, All-from_recursion}
+use Rattle.std.proofs.lemmas.List.{get_or-map, length-map}
+use Rattle.std.specs.List.{AllByRecursion}
 use Rattle.std.proofs.lemmas.Grind.{flat_map-append}
 use Rattle.std.proofs.lemmas.List.Folds.{list_any-append, list_any_at, Any-from_list_any}
-use Rattle.sourcewriting.specs.Groups.{is_pair, has_pair, pairs_of, restricted, seen_groups, AreGrouped}
+use Rattle.sourcewriting.specs.Groups.{is_pair, has_pair, IsPaired, pairs_of, restricted, seen_groups, AreGrouped}
 use Rattle.sourcewriting.specs.Grouping.{are_paired, stand_in, IsGroupOf}
 
 -- ---- tests
@@ -150,6 +152,21 @@ group_has ps one other group g =
     ∙ or_left (is_pair one other (one, other))
     (has_pair (map (λ w. (one, w)) g.others ++ pairs_of (other ∷ g.others)) one other) (of_both one other)
 
+-- its variables are those of pairs
+with_first : (ps : List (ℕ × ℕ)) (v : ℕ) (ws : List ℕ) → list_all (has_pair ps v) ws ≡ true → AllByRecursion (IsPaired ps) ws
+with_first ps v [] all = tt
+with_first ps v (w ∷ ws) all =
+    let parts = and_parts (has_pair ps v w) (list_all (has_pair ps v) ws) all in
+    ((v, turned ps v w parts.0), with_first ps v ws parts.1)
+
+group_paired : (ps : List (ℕ × ℕ)) (one other : ℕ) (group : List ℕ) → IsGroupOf ps one other group → All (IsPaired ps) group
+group_paired ps one other group g =
+    let whole : are_paired ps (one ∷ other ∷ g.others) ≡ true = sym (ap (are_paired ps) g.begins) ∙ g.paired in
+    let all = (and_parts (list_all (has_pair ps one) (other ∷ g.others)) (are_paired ps (other ∷ g.others)) whole).0 in
+    let first = (and_parts (has_pair ps one other) (list_all (has_pair ps one) g.others) all).0 in
+    subst (All (IsPaired ps)) (sym g.begins)
+    (All-from_recursion (IsPaired ps) (one ∷ other ∷ g.others) ((other, first), with_first ps one (other ∷ g.others) all))
+
 -- ---- variables in a list
 
 first_with : (v : ℕ) (ws : List ℕ) (x y : ℕ) → v ≡ x → list_any (λ w. w == y) ws ≡ true → has_pair (map (λ w. (v, w)) ws) x y ≡ true
@@ -206,32 +223,42 @@ restricted_there (v ∷ gs) (suc i) g d x y lt e h =
 pub record AreGroupedTo (ps : List (ℕ × ℕ)) (i : ℕ) (groups : List (List ℕ)) : Type 0 where
   pub sound : (x y : ℕ) → has_pair (restricted groups) x y ≡ true → has_pair ps x y ≡ true
   pub there : All (λ p. has_pair (restricted groups) p.0 p.1 ≡ true) (take i ps)
+  pub paired : All (All (IsPaired ps)) groups
 
 pub none_grouped : (ps : List (ℕ × ℕ)) → AreGroupedTo ps 0 []
-none_grouped ps = record { sound = λ x y h. absurd cc; there = λ k d lt. absurd (omega (arith, lt)) }
+none_grouped ps = record {
+  sound = λ x y h. absurd cc;
+  there = λ k d lt. absurd (omega (arith, lt));
+  paired = λ k d lt. absurd (omega (arith, lt));
+}
 
 pub all_grouped : (ps : List (ℕ × ℕ)) (groups : List (List ℕ)) → AreGroupedTo ps (length ps) groups → AreGrouped ps groups
-all_grouped ps groups g = λ x y.
-    same_test (has_pair (restricted groups) x y) (has_pair ps x y) (g.sound x y)
-    (all_among (restricted groups) ps
-    (subst (λ qs. All (λ p. has_pair (restricted groups) p.0 p.1 ≡ true) qs) (take-length ps) g.there) x y)
+all_grouped ps groups g = record {
+  alike = λ x y.
+      same_test (has_pair (restricted groups) x y) (has_pair ps x y) (g.sound x y)
+      (all_among (restricted groups) ps
+      (subst (λ qs. All (λ p. has_pair (restricted groups) p.0 p.1 ≡ true) qs) (take-length ps) g.there) x y);
+  paired = g.paired;
+}
 
 grouped_next : (ps : List (ℕ × ℕ)) (i : ℕ) (d : ℕ × ℕ) (old new : List (List ℕ)) → i < length ps
     → ((x y : ℕ) → has_pair (restricted new) x y ≡ true → has_pair ps x y ≡ true)
     → ((x y : ℕ) → has_pair (restricted old) x y ≡ true → has_pair (restricted new) x y ≡ true)
-    → has_pair (restricted new) (get_or ps i d).0 (get_or ps i d).1 ≡ true → AreGroupedTo ps i old → AreGroupedTo ps (i + 1) new
-grouped_next ps i d old new lt sound kept here g = record {
+    → has_pair (restricted new) (get_or ps i d).0 (get_or ps i d).1 ≡ true → All (All (IsPaired ps)) new → AreGroupedTo ps i old
+    → AreGroupedTo ps (i + 1) new
+grouped_next ps i d old new lt sound kept here paired g = record {
   sound = sound;
   there =
       subst (λ qs. All (λ p. has_pair (restricted new) p.0 p.1 ≡ true) qs) (sym (take_more ps i d lt))
       (All-push (λ p. has_pair (restricted new) p.0 p.1 ≡ true) (take i ps) (get_or ps i d)
       (λ k e inside. kept (get_or (take i ps) k e).0 (get_or (take i ps) k e).1 (g.there k e inside)) here);
+  paired = paired;
 }
 
 -- a pair that is in a list before
 pub grouped_before : (ps : List (ℕ × ℕ)) (i : ℕ) (d : ℕ × ℕ) (groups : List (List ℕ)) → i < length ps
     → has_pair (restricted groups) (get_or ps i d).0 (get_or ps i d).1 ≡ true → AreGroupedTo ps i groups → AreGroupedTo ps (i + 1) groups
-grouped_before ps i d groups lt here g = grouped_next ps i d groups groups lt g.sound (λ x y h. h) here g
+grouped_before ps i d groups lt here g = grouped_next ps i d groups groups lt g.sound (λ x y h. h) here g.paired g
 
 -- one that begins a list
 pub grouped_new : (ps : List (ℕ × ℕ)) (i : ℕ) (d : ℕ × ℕ) (old new : List (List ℕ)) (group : List ℕ) → i < length ps
@@ -249,4 +276,28 @@ grouped_new ps i d old new group lt is e g =
       | inr f ↦ all_paired ps group is.paired x y f
     ])
     (λ x y h. parts x y ∙ or_left (has_pair (restricted old) x y) (has_pair (pairs_of group) x y) h)
-    (parts p.0 p.1 ∙ or_right (has_pair (restricted old) p.0 p.1) (has_pair (pairs_of group) p.0 p.1) (group_has ps p.0 p.1 group is)) g
+    (parts p.0 p.1 ∙ or_right (has_pair (restricted old) p.0 p.1) (has_pair (pairs_of group) p.0 p.1) (group_has ps p.0 p.1 group is))
+    (subst (All (All (IsPaired ps))) (sym e) (All-push (All (IsPaired ps)) old group g.paired (group_paired ps p.0 p.1 group is))) g
+
+-- ---- what is so of the variables of pairs
+
+of_pair : (P : ℕ → Type 0) (x y : ℕ) (p : ℕ × ℕ) → is_pair x y p ≡ true → P p.0 × P p.1 → P x
+of_pair P x y p is both = elim (which x y p is) [
+  | inl e ↦ subst (λ (q : ℕ × ℕ). P q.0) e both.0
+  | inr e ↦ subst (λ (q : ℕ × ℕ). P q.1) e both.1
+]
+
+of_paired : (P : ℕ → Type 0) (ps : List (ℕ × ℕ)) (x : ℕ) → All (λ p. P p.0 × P p.1) ps → IsPaired ps x → P x
+of_paired P ps x all paired =
+    let one = Any-from_list_any (is_pair x paired.0) ps paired.1 in
+    of_pair P x paired.0 one.1 one.4 (subst (λ (q : ℕ × ℕ). P q.0 × P q.1) one.3 (all one.0 one.1 one.2))
+
+-- is so of those of a list
+pub all_in_group : (P : ℕ → Type 0) (ps : List (ℕ × ℕ)) (gs : List (Vec ℕ Global)) (i : ℕ) (g d : Vec ℕ Global) → i < length gs
+    → g ≡ get_or gs i d → AreGrouped ps (seen_groups gs) → All (λ p. P p.0 × P p.1) ps → All P g.items
+all_in_group P ps gs i g d lt is grouped all =
+    let long = length-map gs (λ (g : Vec ℕ Global). g.items) in
+    let at = grouped.paired i d.items (omega (arith, long, lt)) in
+    let here = subst (All (IsPaired ps)) (get_or-map (λ (g : Vec ℕ Global). g.items) gs i d d.items lt) at in
+    let paired = subst (λ (v : Vec ℕ Global). All (IsPaired ps) v.items) (sym is) here in
+    λ k e inside. of_paired P ps (get_or g.items k e) all (paired k e inside)

@@ -17,4 +17,5 @@ mod Printed
 mod Numbering
 mod Groups
 mod Stacks
+mod Added
 pub mod Leading

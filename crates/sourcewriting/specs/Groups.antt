@@ -1,5 +1,5 @@
 -- The $d of an assertion that is put into a source: lists of variables, each of which restricts each pair of its variables.
-use Rattle.std.specs.Prelude.{◌≡◌, ◌==◌, ◌&&◌, ◌||◌, ℕ, Bool, List, [], ◌∷◌, ◌++◌, map}
+use Rattle.std.specs.Prelude.{◌≡◌, ◌==◌, ◌&&◌, ◌||◌, ℕ, Bool, true, List, [], ◌∷◌, ◌++◌, map, All}
 use Rattle.std.specs.List.{flat_map, list_any}
 use Rattle.std.specs.declared.alloc.Global.{Global}
 use Rattle.std.specs.Prelude.{Vec}
@@ -21,9 +21,14 @@ pairs_of (v ∷ vs) = map (λ w. (v, w)) vs ++ pairs_of vs
 abbrev pub restricted : List (List ℕ) → List (ℕ × ℕ)
 restricted groups = flat_map pairs_of groups
 
--- two variables make a pair in one of the lists just where they are one of these pairs
-abbrev pub AreGrouped : List (ℕ × ℕ) → List (List ℕ) → Type 0
-AreGrouped pairs groups = (x y : ℕ) → has_pair (restricted groups) x y ≡ has_pair pairs x y
+-- a variable is one of a pair
+abbrev pub IsPaired : List (ℕ × ℕ) → ℕ → Type 0
+IsPaired ps x = (y : ℕ) × (has_pair ps x y ≡ true)
+
+-- two variables make a pair in one of the lists just where they are one of these pairs, and the lists have no other variables
+pub record AreGrouped (pairs : List (ℕ × ℕ)) (groups : List (List ℕ)) : Type 0 where
+  pub alike : (x y : ℕ) → has_pair (restricted groups) x y ≡ has_pair pairs x y
+  pub paired : All (All (IsPaired pairs)) groups
 
 -- lists of the code
 abbrev pub seen_groups : List (Vec ℕ Global) → List (List ℕ)

@@ -10,6 +10,7 @@ pub mod Reading
 pub mod MarkedTexts
 pub mod Taking
 pub mod Leaving
+pub mod Added
 pub mod Named
 pub mod Readable
 pub mod Nodes

@@ -1,18 +1,28 @@
 //! The text of an assertion that is put into a source: a block of its own where it has pairs or `$e`.
 
-ghost use Rattle.std.specs.Prelude.{◌≡◌, IfOk, map};
+ghost use Rattle.std.specs.Prelude.{◌≡◌, ◌≤◌, ◌+◌, ◌++◌, ◌∷◌, [], if◌then◌else◌, All, IfOk, IfSome, OnOk, IsTrue, is_some, length, map, slice_index_or, codes};
+ghost use mathlib.Core.Bool.{not};
+ghost use Rattle.mmsyntax.specs.Dotted.{hypothesis_label};
+ghost use Rattle.mmsyntax.specs.declared.statement.Symbol.{Symbol as SymbolOf};
+ghost use Rattle.mmframes.specs.Frames.{frame};
+ghost use Rattle.source.specs.Views.{seen_words};
+ghost use Rattle.giving.specs.Staying.{changed};
+ghost use Rattle.items.specs.Layout.{is_word};
+ghost use Rattle.sourcewriting.specs.Added.{HasSymbols, IsSpelled, IsSpelledThen, variable_word, first_free, is_name, mandatory_labels};
+ghost use Rattle.sourcewriting.specs.Added.{hypotheses_with, CanBeProved, CanBeWritten};
 ghost use Rattle.sourcewriting.specs.Indentations.{IsIndentation};
+ghost use Rattle.sourcewriting.specs.Taking.{AreHypotheses};
 
 use crate::grouping::grouped;
 use crate::layout::{Layout, proof_indentation};
-use crate::listing::{Names, put_nodes};
-use crate::shared::Shared;
-use crate::wording::{put_compressed, put_normal};
+use crate::listing::Names;
+use crate::proving::{Hypotheses, text_of};
 use giving::LabelMap;
 use mmframes::frame_of;
-use mmsyntax::{Assertion, Expr, Kind, Label, Prelude, Symbol, SymbolWord};
+use mmsyntax::{Assertion, Expr, Float, Kind, Label, Prelude, Symbol, SymbolWord};
 use source::Declared;
 use std::alloc::{AllocError, Global};
+use std::collections::HashMap;
 use std::hash::RandomState;
 
 /// What the first line of a statement begins with that stands in a block.
@@ -27,6 +37,9 @@ fn statement_indentation(in_block: bool) -> &'static [u8]
 {
     if in_block { IN_BLOCK } else { OUTSIDE }
 }
+
+/// Assertions of a library, by their labels.
+pub type ByLabel<'x> = HashMap<&'x [u8], &'x Assertion, RandomState>;
 
 /// An assertion of a library, and how it is to stand in the source.
 #[derive(Clone, Copy)]
@@ -51,7 +64,9 @@ impl Statement<'_> {
     }
 
     /// The keyword of its statement, and what ends its symbols.
-    fn keywords(&self) -> (&'static [u8], &'static [u8]) {
+    fn keywords(&self) -> (&'static [u8], &'static [u8])
+        ensures { IsTrue (is_word result.0.now) × IsTrue (is_word result.1.now) }
+    {
         match self.assertion.kind {
             Kind::Axiom => (b"$a", b"$."),
             Kind::Theorem => (b"$p", b"$="),
@@ -68,35 +83,68 @@ pub struct SymbolWords<'x> {
     variables: Vec<&'x [u8]>,
 }
 
+/// What an assertion of the edited library is written with.
+#[derive(Clone, Copy)]
+pub struct Vocabulary<'s, 'x> {
+    /// The prelude of that library.
+    pub prelude: &'s Prelude,
+    /// Its assertions, by their labels.
+    pub edited: &'s ByLabel<'x>,
+    /// What the steps of proofs name.
+    pub names: &'s Names<'x>,
+    /// The words of symbols.
+    pub words: &'s SymbolWords<'x>,
+}
+
 /// What a name of the library is in the source.
-fn in_source<'x>(changed: &LabelMap<'x>, name: &'x Label) -> &'x [u8] {
+fn in_source<'x>(changes: &LabelMap<'x>, name: &'x Label) -> &'x [u8]
+    ensures { result.now ≡ changed changes.now name.now }
+{
     let name = name.as_slice();
-    changed.text_for(name).unwrap_or(name)
+    match changes.text_for(name) {
+        Some(word) => word,
+        None => name,
+    }
 }
 
 /// The words of constants in the source.
 fn constant_words<'x>(
     alloc: Global,
-    changed: &LabelMap<'x>,
+    changes: &LabelMap<'x>,
     constants: &'x [Label],
-) -> Result<Vec<&'x [u8]>, AllocError> {
+) -> Result<Vec<&'x [u8]>, AllocError>
+    ensures { IfOk result (λ made. seen_words made.items ≡ map (changed changes.now) constants.now) }
+{
     let mut words = Vec::new(alloc);
     for name in constants {
-        words.push(in_source(changed, name))?;
+        words.push(in_source(changes, name))?;
     }
     Ok(words)
+}
+
+/// The word of the variable at a place: `?` where there is none.
+fn variable_word<'x>(changes: &LabelMap<'x>, variables: &'x [Label], place: usize) -> &'x [u8]
+    ensures { result.now ≡ variable_word (changed changes.now) variables.now place }
+{
+    match variables.get(place) {
+        Some(name) => in_source(changes, name),
+        None => b"?",
+    }
 }
 
 /// The words of the variables of `$f` in the source.
 fn variable_words<'x>(
     alloc: Global,
-    changed: &LabelMap<'x>,
-    prelude: &'x Prelude,
-) -> Result<Vec<&'x [u8]>, AllocError> {
+    changes: &LabelMap<'x>,
+    variables: &'x [Label],
+    floats: &'x [Float],
+) -> Result<Vec<&'x [u8]>, AllocError>
+    ensures { IfOk result (λ made. seen_words made.items
+        ≡ map (λ f. variable_word (changed changes.now) variables.now f.variable) floats.now) }
+{
     let mut words = Vec::new(alloc);
-    for float in prelude.floats() {
-        let name = prelude.variables().get(float.variable as usize);
-        words.push(name.map_or(b"?".as_slice(), |name| in_source(changed, name)))?;
+    for float in floats {
+        words.push(variable_word(changes, variables, float.variable as usize))?;
     }
     Ok(words)
 }
@@ -122,44 +170,87 @@ pub fn symbol_words<'x>(
     keys: RandomState,
     prelude: &'x Prelude,
     names: &'x [(&'x [u8], Label)],
-) -> Result<SymbolWords<'x>, AllocError> {
-    let changed = names_in_source(alloc, keys, names)?;
+) -> Result<SymbolWords<'x>, AllocError>
+    ensures { IfOk result (λ made. (x : SymbolOf)
+        → IsSpelledThen (changed (map (λ p. (p.1, p.0.now)) names.now)) prelude.now x → IsSpelled made x) }
+{
+    let changes = names_in_source(alloc, keys, names)?;
+    let (variables, floats) = (prelude.variables(), prelude.floats());
     Ok(SymbolWords {
-        constants: constant_words(alloc, &changed, prelude.constants())?,
-        variables: variable_words(alloc, &changed, prelude)?,
+        constants: constant_words(alloc, &changes, prelude.constants())?,
+        variables: variable_words(alloc, &changes, variables, floats)?,
     })
+}
+
+/// The word at a place: `?` where there is none.
+fn word_at<'x>(words: &[&'x [u8]], place: usize) -> &'x [u8]
+    ensures { result.now ≡ slice_index_or (seen_words words.now) place (codes "?") }
+{
+    match words.get(place) {
+        Some(word) => word,
+        None => b"?",
+    }
 }
 
 impl<'x> SymbolWords<'x> {
     /// The word of a symbol: `?` where there is no such symbol.
-    fn word(&self, symbol: Symbol) -> &'x [u8] {
-        let word = match symbol {
-            Symbol::Const(place) => self.constants.get(place as usize),
-            Symbol::Var(place) => self.variables.get(place as usize),
-        };
-        word.copied().unwrap_or(b"?")
+    fn word(&self, symbol: Symbol) -> &'x [u8]
+        ensures { IsSpelled self.now symbol → IsTrue (is_word result.now) }
+    {
+        match symbol {
+            Symbol::Const(place) => word_at(self.constants.as_slice(), place as usize),
+            Symbol::Var(place) => word_at(self.variables.as_slice(), place as usize),
+        }
     }
 }
 
-/// Puts a statement in lines of its own: its label, if it has one, its keyword, its symbols, and what ends it. Whether it could be written.
+/// The words of a statement.
+#[derive(Clone, Copy)]
+struct Said<'s> {
+    /// Its label, if it has one.
+    label: Option<&'s [u8]>,
+    keyword: &'s [u8],
+    symbols: &'s [&'s [u8]],
+    /// What ends its symbols.
+    end: &'s [u8],
+}
+
+/// Puts the label of a statement, if it has one. What follows on other lines stands deeper.
+fn lay_label(layout: &mut Layout<'_>, in_block: bool, label: Option<&[u8]>)
+    ensures { IfSome label.entry (λ w. IsTrue (is_word w.now)) → layout.new.is_refused ≡ layout.old.is_refused }
+{
+    if let Some(label) = label {
+        layout.put_word(label);
+        layout.indent(proof_indentation(in_block));
+    }
+}
+
+/// Lays out a statement: its first line stands as the block does, and others deeper.
+fn lay_statement(layout: &mut Layout<'_>, in_block: bool, said: &Said<'_>)
+    ensures { IfSome said.now.label (λ w. IsTrue (is_word w.now)) → IsTrue (is_word said.now.keyword.now)
+        → IsTrue (is_word said.now.end.now) → All (λ w. IsTrue (is_word w)) (seen_words said.now.symbols.now)
+        → layout.new.is_refused ≡ layout.old.is_refused }
+{
+    lay_label(layout, in_block, said.label);
+    layout.put_word(said.keyword);
+    layout.indent(proof_indentation(in_block));
+    layout.put_words(said.symbols);
+    layout.put_word(said.end);
+}
+
+/// Puts a statement in lines of its own. Whether it could be written.
 fn put_statement(
     alloc: Global,
     out: &mut Vec<u8>,
     in_block: bool,
-    label: &[u8],
-    keyword: &[u8],
-    symbols: &[&[u8]],
-    end: &[u8],
-) -> Result<bool, AllocError> {
+    said: &Said<'_>,
+) -> Result<bool, AllocError>
+    ensures { IfSome said.now.label (λ w. IsTrue (is_word w.now)) → IsTrue (is_word said.now.keyword.now)
+        → IsTrue (is_word said.now.end.now) → All (λ w. IsTrue (is_word w)) (seen_words said.now.symbols.now)
+        → IfOk result (λ whole. IsTrue whole) }
+{
     let mut layout = Layout::new(alloc, statement_indentation(in_block));
-    if !label.is_empty() {
-        layout.put_word(label);
-        layout.indent(proof_indentation(in_block));
-    }
-    layout.put_word(keyword);
-    layout.indent(proof_indentation(in_block));
-    layout.put_words(symbols);
-    layout.put_word(end);
+    lay_statement(&mut layout, in_block, said);
     let Some(text) = layout.into_text()? else {
         return Ok(false);
     };
@@ -172,7 +263,10 @@ fn words_of<'x>(
     alloc: Global,
     words: &SymbolWords<'x>,
     symbols: &[SymbolWord],
-) -> Result<Vec<&'x [u8]>, AllocError> {
+) -> Result<Vec<&'x [u8]>, AllocError>
+    ensures { All (IsSpelled words.now) symbols.now
+        → IfOk result (λ made. All (λ w. IsTrue (is_word w)) (seen_words made.items)) }
+{
     let mut made = Vec::new(alloc);
     for symbol in symbols {
         made.push(words.word(symbol.symbol()))?;
@@ -185,12 +279,34 @@ fn words_of_variables<'x>(
     alloc: Global,
     words: &SymbolWords<'x>,
     variables: &[u32],
-) -> Result<Vec<&'x [u8]>, AllocError> {
+) -> Result<Vec<&'x [u8]>, AllocError>
+    ensures { All (λ v. IsSpelled words.now (Symbol.Var v)) variables.now
+        → IfOk result (λ made. All (λ w. IsTrue (is_word w)) (seen_words made.items)) }
+{
     let mut made = Vec::new(alloc);
     for variable in variables {
         made.push(words.word(Symbol::Var(*variable)))?;
     }
     Ok(made)
+}
+
+/// Puts the `$d` of variables. Whether it could be written.
+fn put_variables(
+    alloc: Global,
+    out: &mut Vec<u8>,
+    words: &SymbolWords<'_>,
+    variables: &[u32],
+) -> Result<bool, AllocError>
+    ensures { All (λ v. IsSpelled words.now (Symbol.Var v)) variables.now → IfOk result (λ whole. IsTrue whole) }
+{
+    let symbols = words_of_variables(alloc, words, variables)?;
+    let said = Said {
+        label: None,
+        keyword: b"$d",
+        symbols: symbols.as_slice(),
+        end: b"$.",
+    };
+    put_statement(alloc, out, true, &said)
 }
 
 /// Puts the `$d` of pairs, one for each list of variables of which each two make a pair. Whether they could be written.
@@ -199,12 +315,13 @@ fn put_pairs(
     out: &mut Vec<u8>,
     words: &SymbolWords<'_>,
     pairs: &[(u32, u32)],
-) -> Result<bool, AllocError> {
+) -> Result<bool, AllocError>
+    ensures { All (λ p. IsSpelled words.now (Symbol.Var p.0) × IsSpelled words.now (Symbol.Var p.1)) pairs.now
+        → IfOk result (λ whole. IsTrue whole) }
+{
     let groups = grouped(alloc, pairs)?;
     for group in groups.as_slice() {
-        let variables = words_of_variables(alloc, words, group.as_slice())?;
-        let variables = variables.as_slice();
-        if !put_statement(alloc, out, true, b"", b"$d", variables, b"$.")? {
+        if !put_variables(alloc, out, words, group.as_slice())? {
             return Ok(false);
         }
     }
@@ -212,32 +329,80 @@ fn put_pairs(
 }
 
 /// The label L.k.
-fn numbered(alloc: Global, label: &[u8], number: u32) -> Result<Vec<u8>, AllocError> {
+fn numbered(alloc: Global, label: &[u8], number: u32) -> Result<Vec<u8>, AllocError>
+    ensures { IfOk result (λ made. made.items ≡ hypothesis_label label.now number) }
+{
     let number = format!(in alloc; ".{number}")?;
     let mut name = Vec::from_slice(alloc, label)?;
     name.extend_from_slice(number.as_bytes())?;
     Ok(name)
 }
 
+/// Whether the source or the edited library has a name.
+fn has_name<'a, D: Declared<'a>>(declared: &D, edited: &ByLabel<'_>, name: &[u8]) -> bool
+    ensures { result ≡ is_name (D.scope declared.now) edited.now name.now }
+{
+    declared.has_name(name) || edited.contains_key(&name)
+}
+
+/// One more label goes behind others, if neither the source nor the edited library has it as a name.
+fn push_free<'a, D: Declared<'a>>(
+    declared: &D,
+    edited: &ByLabel<'_>,
+    labels: &mut Vec<Vec<u8>>,
+    name: Vec<u8>,
+) -> Result<(), AllocError>
+    ensures more { OnOk result (map (λ w. w.items) labels.new.items ≡ map (λ w. w.items) labels.old.items
+        ++ (if not (is_name (D.scope declared.now) edited.now name.items) then name.items ∷ [] else [])) }
+    ensures few { OnOk result (length labels.new.items ≤ length labels.old.items + 1) }
+{
+    if has_name(declared, edited, name.as_slice()) {
+        return Ok(());
+    }
+    labels.push(name)?;
+    Ok(())
+}
+
 /// The labels of the `$e`: the first of L.1, L.2, .. that neither the source nor the edited library has as a name.
-fn premise_labels<'a, D: Declared<'a>>(
+fn labels_of_premises<'a, D: Declared<'a>>(
     alloc: Global,
     declared: &D,
-    names: &Names<'_>,
+    edited: &ByLabel<'_>,
     label: &[u8],
     count: usize,
-) -> Result<Vec<Vec<u8>>, AllocError> {
+) -> Result<Vec<Vec<u8>>, AllocError>
+    ensures { IfOk result (λ made. map (λ w. w.items) made.items
+        ≡ first_free (is_name (D.scope declared.now) edited.now) label.now 4294967294 count) }
+{
     let mut labels = Vec::new(alloc);
     for number in 1..u32::MAX {
         if labels.len() == count {
-            break;
+            return Ok(labels);
         }
         let name = numbered(alloc, label, number)?;
-        if !declared.has_name(name.as_slice()) && !names.has_label(name.as_slice()) {
-            labels.push(name)?;
-        }
+        push_free(declared, edited, &mut labels, name)?;
     }
     Ok(labels)
+}
+
+/// Puts a `$e`. Whether it could be written.
+fn put_premise(
+    alloc: Global,
+    out: &mut Vec<u8>,
+    words: &SymbolWords<'_>,
+    expression: &Expr,
+    label: &[u8],
+) -> Result<bool, AllocError>
+    ensures { All (IsSpelled words.now) expression.now → IsTrue (is_word label.now) → IfOk result (λ whole. IsTrue whole) }
+{
+    let symbols = words_of(alloc, words, expression.as_slice())?;
+    let said = Said {
+        label: Some(label),
+        keyword: b"$e",
+        symbols: symbols.as_slice(),
+        end: b"$.",
+    };
+    put_statement(alloc, out, true, &said)
 }
 
 /// Puts the `$e`, of which these are the labels. Whether they could be written.
@@ -247,11 +412,18 @@ fn put_premises(
     words: &SymbolWords<'_>,
     premises: &[Expr],
     labels: &[Vec<u8>],
-) -> Result<bool, AllocError> {
-    for (expression, label) in premises.iter().zip(labels) {
-        let symbols = words_of(alloc, words, expression.as_slice())?;
-        let (symbols, label) = (symbols.as_slice(), label.as_slice());
-        if !put_statement(alloc, out, true, label, b"$e", symbols, b"$.")? {
+) -> Result<bool, AllocError>
+    ensures { All (λ e. All (IsSpelled words.now) e) premises.now → All (λ w. IsTrue (is_word w.items)) labels.now
+        → IfOk result (λ whole. IsTrue whole) }
+{
+    for place in 0..premises.len().min(labels.len()) {
+        if !put_premise(
+            alloc,
+            out,
+            words,
+            &premises[place],
+            labels[place].as_slice(),
+        )? {
             return Ok(false);
         }
     }
@@ -264,19 +436,19 @@ fn put_said(
     out: &mut Vec<u8>,
     words: &SymbolWords<'_>,
     statement: &Statement<'_>,
-) -> Result<bool, AllocError> {
+) -> Result<bool, AllocError>
+    ensures { IsTrue (is_word statement.now.label.now) → All (IsSpelled words.now) statement.now.assertion.now.statement
+        → IfOk result (λ whole. IsTrue whole) }
+{
     let symbols = words_of(alloc, words, statement.assertion.statement.as_slice())?;
-    let symbols = symbols.as_slice();
     let (keyword, end) = statement.keywords();
-    put_statement(
-        alloc,
-        out,
-        statement.is_block(),
-        statement.label,
+    let said = Said {
+        label: Some(statement.label),
         keyword,
-        symbols,
+        symbols: symbols.as_slice(),
         end,
-    )
+    };
+    put_statement(alloc, out, statement.is_block(), &said)
 }
 
 /// The text in front of an assertion, behind an empty line: the beginning of its block, the pairs, and the `$e`, of which these are the
@@ -286,16 +458,25 @@ fn front_of(
     words: &SymbolWords<'_>,
     statement: &Statement<'_>,
     labels: &[Vec<u8>],
-) -> Result<Option<Vec<u8>>, AllocError> {
+) -> Result<Option<Vec<u8>>, AllocError>
+    ensures { HasSymbols (IsSpelled words.now) statement.now.assertion.now → All (λ w. IsTrue (is_word w.items)) labels.now
+        → IfOk result (λ made. IsTrue (is_some made)) }
+{
     let assertion = statement.assertion;
     let mut out = Vec::from_slice(alloc, statement.beginning())?;
-    let is_whole = put_pairs(alloc, &mut out, words, assertion.pairs.as_slice())?
-        && put_premises(alloc, &mut out, words, assertion.hyps.as_slice(), labels)?;
-    Ok(is_whole.then_some(out))
+    if !put_pairs(alloc, &mut out, words, assertion.pairs.as_slice())? {
+        return Ok(None);
+    }
+    if !put_premises(alloc, &mut out, words, assertion.hyps.as_slice(), labels)? {
+        return Ok(None);
+    }
+    Ok(Some(out))
 }
 
 /// The slices of texts.
-fn slices_of<'p>(alloc: Global, texts: &'p [Vec<u8>]) -> Result<Vec<&'p [u8]>, AllocError> {
+fn slices_of<'p>(alloc: Global, texts: &'p [Vec<u8>]) -> Result<Vec<&'p [u8]>, AllocError>
+    ensures { IfOk result (λ made. seen_words made.items ≡ map (λ t. t.items) texts.now) }
+{
     let mut slices = Vec::new(alloc);
     for text in texts {
         slices.push(text.as_slice())?;
@@ -308,145 +489,118 @@ fn float_labels<'p>(
     alloc: Global,
     names: &Names<'p>,
     floats: &[u32],
-) -> Result<Vec<&'p [u8]>, AllocError> {
+) -> Result<Vec<&'p [u8]>, AllocError>
+    ensures { IfOk result (λ made. seen_words made.items
+        ≡ map (λ i. slice_index_or (seen_words names.now.floats.items) i (codes "?")) floats.now) }
+{
     let mut labels = Vec::new(alloc);
     for place in floats {
-        labels.push(names.floats.get(*place as usize).copied().unwrap_or(b"?"))?;
+        labels.push(word_at(names.floats.as_slice(), *place as usize))?;
     }
     Ok(labels)
 }
 
-/// The labels of the mandatory hypotheses: those of `$f`, and then those of `$e`.
-fn mandatory_labels<'p>(
+/// The labels of the mandatory hypotheses of an assertion that is put in: those of `$f`, and then those of its `$e`, which are these.
+fn labels_of_mandatory<'p>(
     alloc: Global,
-    prelude: &Prelude,
-    names: &Names<'p>,
+    vocabulary: &Vocabulary<'_, 'p>,
     assertion: &Assertion,
     premises: &[&'p [u8]],
-) -> Result<Vec<&'p [u8]>, AllocError> {
-    let frame = frame_of(alloc, prelude, assertion)?;
-    let mut labels = float_labels(alloc, names, frame.floats.as_slice())?;
+) -> Result<Vec<&'p [u8]>, AllocError>
+    ensures { IfOk result (λ made. seen_words made.items ≡ mandatory_labels (seen_words vocabulary.now.names.now.floats.items)
+        (frame vocabulary.now.prelude.now assertion.now).floats (seen_words premises.now)) }
+{
+    let frame = frame_of(alloc, vocabulary.prelude, assertion)?;
+    let mut labels = float_labels(alloc, vocabulary.names, frame.floats.as_slice())?;
     drop(frame);
     labels.extend_from_slice(premises)?;
     Ok(labels)
 }
 
-/// Puts the words of a proof in its form. Whether it is marked as it should be.
-fn put_words_of_proof<'p>(
+/// The labels of the hypotheses of an assertion that is put in, whose `$e` have these.
+fn hypotheses_of<'p>(
     alloc: Global,
-    layout: &mut Layout<'_>,
-    prelude: &Prelude,
-    names: &Names<'p>,
-    statement: &Statement<'_>,
-    premises: &[&'p [u8]],
-    shared: &Shared<'_>,
-    root: usize,
-) -> Result<bool, AllocError> {
-    if !statement.is_compressed {
-        put_normal(alloc, layout, shared, root)?;
-        return Ok(true);
-    }
-    let mandatory = mandatory_labels(alloc, prelude, names, statement.assertion, premises)?;
-    put_compressed(alloc, layout, shared, mandatory.as_slice(), root)
-}
-
-/// Puts what was laid out, and the end of the statement. Whether it could be written.
-fn put_end(out: &mut Vec<u8>, layout: Layout<'_>) -> Result<bool, AllocError> {
-    let Some(text) = layout.finish()? else {
-        return Ok(false);
-    };
-    out.extend_from_slice(text.as_slice())?;
-    out.extend_from_slice(b"$.")?;
-    Ok(true)
-}
-
-/// Puts a proof by its nodes, up to the end of its statement. Whether it could be written.
-fn put_tree<'p>(
-    alloc: Global,
-    out: &mut Vec<u8>,
-    prelude: &Prelude,
-    names: &Names<'p>,
-    statement: &Statement<'_>,
-    premises: &[&'p [u8]],
-    shared: &Shared<'_>,
-    root: usize,
-) -> Result<bool, AllocError> {
-    let mut layout = Layout::new(alloc, proof_indentation(statement.is_block()));
-    let is_whole = put_words_of_proof(
-        alloc,
-        &mut layout,
-        prelude,
-        names,
-        statement,
+    vocabulary: &Vocabulary<'_, 'p>,
+    assertion: &Assertion,
+    labels: &'p [Vec<u8>],
+) -> Result<Hypotheses<'p>, AllocError>
+    ensures { IfOk result (AreHypotheses (hypotheses_with vocabulary.now assertion.now (map (λ w. w.items) labels.now))) }
+{
+    let premises = slices_of(alloc, labels)?;
+    let mandatory = labels_of_mandatory(alloc, vocabulary, assertion, premises.as_slice())?;
+    Ok(Hypotheses {
+        mandatory,
         premises,
-        shared,
-        root,
-    )?;
-    Ok(put_end(out, layout)? && is_whole)
+    })
 }
 
-/// Puts the proof of a theorem whose `$e` have these labels. Whether it could be written.
-fn put_proof<'p, 'a, D: Declared<'a>>(
-    alloc: Global,
-    keys: RandomState,
-    out: &mut Vec<u8>,
-    declared: &D,
-    prelude: &Prelude,
-    names: &Names<'p>,
-    statement: &Statement<'_>,
-    premises: &[&'p [u8]],
-) -> Result<bool, AllocError> {
-    let steps = &statement.assertion.proof;
-    let mut shared = Shared::new(alloc, keys);
-    match put_nodes(alloc, &mut shared, declared, names, premises, steps)? {
-        Some(root) => put_tree(
-            alloc, out, prelude, names, statement, premises, &shared, root,
-        ),
-        None => Ok(false),
-    }
+/// A proof, and what ends its statement. None where there is no proof.
+fn ended(proof: Option<Vec<u8>>) -> Result<Option<Vec<u8>>, AllocError>
+    ensures { IsTrue (is_some proof) → IfOk result (λ made. IsTrue (is_some made)) }
+{
+    let Some(mut text) = proof else {
+        return Ok(None);
+    };
+    text.extend_from_slice(b"$.")?;
+    Ok(Some(text))
 }
 
-/// Puts what stands behind the statement of an assertion whose `$e` have these labels. Whether it could be written.
-fn put_rest<'p, 'a, D: Declared<'a>>(
+/// What stands behind the statement of an assertion whose `$e` have these labels: the proof of a theorem. None where it can't be written.
+fn rest_of<'p, 'a, D: Declared<'a>>(
     alloc: Global,
     keys: RandomState,
-    out: &mut Vec<u8>,
     declared: &D,
-    prelude: &Prelude,
-    names: &Names<'p>,
+    vocabulary: &Vocabulary<'_, 'p>,
     statement: &Statement<'_>,
     labels: &'p [Vec<u8>],
-) -> Result<bool, AllocError> {
-    if let Kind::Axiom = statement.assertion.kind {
-        return Ok(true);
+) -> Result<Option<Vec<u8>>, AllocError>
+    ensures { CanBeProved (D.scope declared.now) vocabulary.now statement.now (map (λ w. w.items) labels.now)
+        → IfOk result (λ made. IsTrue (is_some made)) }
+{
+    let assertion = statement.assertion;
+    if let Kind::Axiom = assertion.kind {
+        return Ok(Some(Vec::new(alloc)));
     }
-    let premises = slices_of(alloc, labels)?;
-    let premises = premises.as_slice();
-    put_proof(
-        alloc, keys, out, declared, prelude, names, statement, premises,
-    )
+    let hypotheses = hypotheses_of(alloc, vocabulary, assertion, labels)?;
+    let proof = text_of(
+        alloc,
+        keys,
+        declared,
+        vocabulary.names,
+        statement.is_compressed,
+        &hypotheses,
+        proof_indentation(statement.is_block()),
+        &assertion.proof,
+    )?;
+    ended(proof)
 }
 
 /// The text of an assertion whose `$e` have these labels, from its label up to the end of its block. None where it can't be written.
-fn back_of<'x, 'a, D: Declared<'a>>(
+fn back_of<'a, D: Declared<'a>>(
     alloc: Global,
     keys: RandomState,
     declared: &D,
-    prelude: &Prelude,
-    names: &Names<'x>,
-    words: &SymbolWords<'x>,
+    vocabulary: &Vocabulary<'_, '_>,
     statement: &Statement<'_>,
     labels: &[Vec<u8>],
-) -> Result<Option<Vec<u8>>, AllocError> {
+) -> Result<Option<Vec<u8>>, AllocError>
+    ensures { IsTrue (is_word statement.now.label.now)
+        → All (IsSpelled vocabulary.now.words.now) statement.now.assertion.now.statement
+        → CanBeProved (D.scope declared.now) vocabulary.now statement.now (map (λ w. w.items) labels.now)
+        → IfOk result (λ made. IsTrue (is_some made)) }
+{
     let mut out = Vec::new(alloc);
-    let is_whole = put_said(alloc, &mut out, words, statement)?
-        && put_rest(
-            alloc, keys, &mut out, declared, prelude, names, statement, labels,
-        )?;
-    if is_whole && statement.is_block() {
+    if !put_said(alloc, &mut out, vocabulary.words, statement)? {
+        return Ok(None);
+    }
+    let Some(rest) = rest_of(alloc, keys, declared, vocabulary, statement, labels)? else {
+        return Ok(None);
+    };
+    out.extend_from_slice(rest.as_slice())?;
+    if statement.is_block() {
         out.extend_from_slice(b"\n  $}")?;
     }
-    Ok(is_whole.then_some(out))
+    Ok(Some(out))
 }
 
 /// The text of an assertion, in two parts: between them stands what describes it.
@@ -458,24 +612,34 @@ pub struct Written {
     pub back: Vec<u8>,
 }
 
-/// The text of an assertion behind an empty line, in a block of its own where it has pairs or `$e`. None where it can't be written.
-pub fn assertion_text<'x, 'a, D: Declared<'a>>(
+/// The text of an assertion behind an empty line, in a block of its own where it has pairs or `$e`, whose labels are the first of L.1, L.2,
+/// .. that neither the source nor the edited library has as a name. None where it can't be written: its label is no name, a word of its
+/// symbols isn't printable, or its proof can't be put (`proof_text`).
+///
+/// # Errors
+///
+/// Want of memory.
+pub fn assertion_text<'a, D: Declared<'a>>(
     alloc: Global,
     keys: RandomState,
     declared: &D,
-    prelude: &Prelude,
-    names: &Names<'x>,
-    words: &SymbolWords<'x>,
+    vocabulary: &Vocabulary<'_, '_>,
     statement: &Statement<'_>,
-) -> Result<Option<Written>, AllocError> {
+) -> Result<Option<Written>, AllocError>
+    ensures { CanBeWritten (D.scope declared.now) vocabulary.now statement.now → IfOk result (λ made. IsTrue (is_some made)) }
+{
     let premises = statement.assertion.hyps.as_slice().len();
-    let labels = premise_labels(alloc, declared, names, statement.label, premises)?;
+    let labels = labels_of_premises(
+        alloc,
+        declared,
+        vocabulary.edited,
+        statement.label,
+        premises,
+    )?;
     let labels = labels.as_slice();
-    let Some(front) = front_of(alloc, words, statement, labels)? else {
+    let Some(front) = front_of(alloc, vocabulary.words, statement, labels)? else {
         return Ok(None);
     };
-    let back = back_of(
-        alloc, keys, declared, prelude, names, words, statement, labels,
-    )?;
+    let back = back_of(alloc, keys, declared, vocabulary, statement, labels)?;
     Ok(back.map(|back| Written { front, back }))
 }

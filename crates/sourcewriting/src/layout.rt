@@ -1,6 +1,6 @@
 //! Words and letters in lines of at most 79 columns.
 
-ghost use Rattle.std.specs.Prelude.{◌||◌, ◌≡◌, ◌≤◌, ◌<◌, ◌+◌, ◌⊎◌, ℕ, Bool, suc, min, nat_le, List, [], ◌∷◌, ◌++◌, length, is_some, IsTrue, IsFalse, IfOk, IfSome, if◌then◌else◌, codes};
+ghost use Rattle.std.specs.Prelude.{◌||◌, ◌≡◌, All, ◌≤◌, ◌<◌, ◌+◌, ◌⊎◌, ℕ, Bool, suc, min, nat_le, List, [], ◌∷◌, ◌++◌, length, is_some, IsTrue, IsFalse, IfOk, IfSome, if◌then◌else◌, codes};
 ghost use Rattle.std.specs.List.{list_all, flat_map};
 ghost use Rattle.std.specs.Bool.{then_some};
 ghost use Rattle.std.specs.Option.{option_map};
@@ -176,7 +176,9 @@ impl<'i> Layout<'i> {
     }
 
     /// Puts words.
-    pub(crate) fn put_words(&mut self, words: &[&[u8]]) {
+    pub(crate) fn put_words(&mut self, words: &[&[u8]])
+        ensures { All (λ w. IsTrue (is_word w)) (seen_words words.now) → self.new.is_refused ≡ self.old.is_refused }
+    {
         for word in words {
             self.put_word(word);
         }

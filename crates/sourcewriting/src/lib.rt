@@ -16,7 +16,10 @@ mod shared;
 mod walking;
 mod wording;
 
-pub use adding::{Statement, SymbolWords, Written, assertion_text, names_in_source, symbol_words};
+pub use adding::{
+    ByLabel, Statement, SymbolWords, Vocabulary, Written, assertion_text, names_in_source,
+    symbol_words,
+};
 pub use layout::indentation_like;
 pub use listing::{Cited, Kinds, Names};
 pub use proving::proof_text;

@@ -46,13 +46,6 @@ pub struct Names<'x> {
     pub cited: HashMap<&'x [u8], Cited<'x>, RandomState>,
 }
 
-impl Names<'_> {
-    /// Whether an assertion of the edited library has this label.
-    pub(crate) fn has_label(&self, label: &[u8]) -> bool {
-        self.cited.contains_key(&label)
-    }
-}
-
 /// Whether each mandatory hypothesis of the assertion at a place is a `$f`, in order of appearance.
 fn kinds_at<'a, D: Declared<'a>>(
     alloc: Global,

@@ -27,9 +27,11 @@ use std::alloc::{AllocError, Global};
 use std::hash::RandomState;
 
 /// The labels of the mandatory hypotheses of a theorem, and those of its `$e`, in order of appearance.
-struct Hypotheses<'x> {
-    mandatory: Vec<&'x [u8]>,
-    premises: Vec<&'x [u8]>,
+pub(crate) struct Hypotheses<'x> {
+    /// Of both kinds, in order of appearance.
+    pub mandatory: Vec<&'x [u8]>,
+    /// Those of `$e`.
+    pub premises: Vec<&'x [u8]>,
 }
 
 // Proved once: a derived drop is written out at each exit of a function that holds such a value.
@@ -147,7 +149,7 @@ fn text_in_form(
 
 /// The text of a proof, by its steps in the library, in one of its forms, of a theorem with these hypotheses. None where they denote no
 /// tree, or are over 16,384, or name what is no label, or a compressed proof isn't marked as it should be.
-fn text_of<'p, 'a, D: Declared<'a>>(
+pub(crate) fn text_of<'p, 'a, D: Declared<'a>>(
     alloc: Global,
     keys: RandomState,
     declared: &D,

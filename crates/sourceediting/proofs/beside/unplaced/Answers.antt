@@ -1,13 +1,13 @@
 -- What is left to show of `unplaced`.
 use Rattle.std.proofs.Common.{◌∙◌, map, ap, sym, subst}
 use Rattle.library.specs.declared.library.Ranked.{Ranked}
-use Rattle.sourceediting.specs.Refusals.{HasCause}
+use Rattle.sourceediting.specs.Refusals.{HasCause, OnUnwritten}
 use Rattle.sourceediting.specs.Views.{seen_living}
 use Rattle.sourceediting.proofs.Numbered.{numbered}
 use Rattle.sourceediting.proofs.beside.unplaced.Goals as goal
 
-pub returns : goal.returns
-returns c =
+pub returns-clause-cause : goal.returns-clause-cause
+returns-clause-cause c =
     let rs = c.args.entries.now in
     let entry = c.index-entries-number in
     let neighbour = c.in-Some.neighbour in
@@ -24,3 +24,6 @@ returns c =
       stays = c.in-Some-from_source.ensures;
       headed = c.in_ok-is_headed.ensures c.if-not-branch.false;
     })
+
+pub returns-clause-unwritten : goal.returns-clause-unwritten
+returns-clause-unwritten c = subst (OnUnwritten (λ _. ⊥)) (sym c.in_ok-why.ensures) tt

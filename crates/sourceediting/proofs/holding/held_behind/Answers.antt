@@ -5,8 +5,8 @@ use Rattle.sourceediting.specs.Views.{seen_living}
 use Rattle.sourceediting.proofs.Numbered.{numbered, in_front}
 use Rattle.sourceediting.proofs.holding.held_behind.Goals as goal
 
-pub returns : goal.returns
-returns c =
+pub returns-clause-cause : goal.returns-clause-cause
+returns-clause-cause c =
     let rs = c.args.entries.now in
     let order = c.requires.order in
     let within = c.requires.within in

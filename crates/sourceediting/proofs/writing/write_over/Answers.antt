@@ -1,10 +1,12 @@
 -- What is left to show of `write_over`.
-use Rattle.std.proofs.Common.{◌≡◌, ◌∙◌, refl, sym, ap, subst}
-use Rattle.std.specs.Prelude.{IfSome}
+use Rattle.std.proofs.Common.{◌≡◌, ◌∙◌, refl, sym, ap, subst, inl, inr}
+use Rattle.std.specs.Prelude.{All, IfSome}
 use Rattle.items.specs.Walking.{AreIndentations}
 use Rattle.std.proofs.lemmas.Result.{IfOk-weaker, err_from_is_err_and}
 use Rattle.source.specs.Views.{seen_words}
-use Rattle.sourceediting.specs.Following.{all_commands}
+use Rattle.sourceediting.specs.Following.{KeepsPlaces, all_commands}
+use Rattle.sourceediting.specs.Refusals.{IsNotReproved, IsNotPutIn, IsUnwritten}
+use Rattle.sourceediting.proofs.Unwritten.{on_unwritten, if_unwritten}
 use Rattle.sourceediting.specs.Reproved.{AreOtherProofs}
 use Rattle.sourceediting.specs.Views.{seen_living, seen_proofs, edition_of}
 use Rattle.sourceediting.specs.Written.{IsWrittenAnew}
@@ -50,3 +52,25 @@ written-requires g c κs =
       (refl, (refl, tt)),
       (c.requires.labelled, (c.requires.divided, listed_anew source s e living c.in_ok-proofs-2.proofs are)),
     )
+
+pub returns-clause-unwritten : goal.returns-clause-unwritten
+returns-clause-unwritten g c = λ told finds.
+    let s = g.D.Declared.scope c.args.declared.now in
+    let planned = c.args.planned.now in
+    let e = edition_of planned in
+    let living = seen_living planned.living.now in
+    let cs = c.args.changes.now in
+    let commands = all_commands c.args.entries.now in
+    if_unwritten (λ label. IsNotPutIn s e living cs label × (All KeepsPlaces commands → ⊥)) (IsUnwritten s e living cs commands)
+    c.written.result (λ label h. inr h) (c.written.ensures.unwritten (record { told = told; finds = finds }))
+
+pub returns-in_err-proofs-clause-unwritten : goal.returns-in_err-proofs-clause-unwritten
+returns-in_err-proofs-clause-unwritten g c = λ told finds.
+    let p = err_from_is_err_and c.from_residual-in_err-proofs.result c.from_residual-in_err-proofs.ensures.1 in
+    let s = g.D.Declared.scope c.args.declared.now in
+    let planned = c.args.planned.now in
+    let e = edition_of planned in
+    let living = seen_living planned.living.now in
+    rw (p.1, p.2)
+    (on_unwritten (IsNotReproved s e living) (IsUnwritten s e living c.args.changes.now (all_commands c.args.entries.now))
+    (λ label h. inl h) _ (c.in_err-proofs.ensures.unwritten told.steps))

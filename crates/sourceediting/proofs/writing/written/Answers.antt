@@ -7,6 +7,7 @@ use Rattle.sourceediting.specs.Following.{KeepsPlaces, all_commands}
 use Rattle.sourceediting.specs.Views.{seen_living}
 use Rattle.items.specs.Rewriting.{IsRewritten}
 use Rattle.sourceediting.specs.Written.{IsRearranged, IsWrittenAnew}
+use Rattle.sourceediting.specs.WrittenWith.{IsNotPut}
 use Rattle.sourceediting.proofs.Rewritten.{only_rewritten, all_rearranged}
 use Rattle.sourceediting.proofs.Unwritten.{if_unwritten}
 use Rattle.sourceediting.proofs.writing.written.Goals as goal
@@ -48,6 +49,18 @@ returns-clause-written g c =
     (λ out. all_rearranged commands living gone cs source out.items proofs some) c.rearrange.ensures.arranged
 
 pub returns-then-keep_places-clause-unwritten : goal.returns-then-keep_places-clause-unwritten
-returns-then-keep_places-clause-unwritten g c =
-    if_unwritten (λ _. ⊥) (λ _. All KeepsPlaces (all_commands c.args.entries.now) → ⊥) c.rewritten.result (λ label h. absurd h)
-    c.rewritten.ensures.unwritten
+returns-then-keep_places-clause-unwritten g c = λ are.
+    let s = g.D.Declared.scope c.args.declared.now in
+    let x = c.args.edits.now in
+    let all = All KeepsPlaces (all_commands c.args.entries.now) in
+    if_unwritten (λ _. ⊥) (λ label. IsNotPut s x label × (all → ⊥)) c.rewritten.result (λ label h. absurd h) c.rewritten.ensures.unwritten
+
+pub returns-clause-unwritten : goal.returns-clause-unwritten
+returns-clause-unwritten g c = λ are.
+    let s = g.D.Declared.scope c.args.declared.now in
+    let x = c.args.edits.now in
+    let commands = all_commands c.args.entries.now in
+    let some : All KeepsPlaces commands → ⊥ = λ all.
+    clash (sym c.if-keep_places.false ∙ c.keep_places.ensures.1 all) in
+    if_unwritten (IsNotPut s x) (λ label. IsNotPut s x label × (All KeepsPlaces commands → ⊥)) c.rearrange.result (λ label h. (h, some))
+    (c.rearrange.ensures.unwritten are)
