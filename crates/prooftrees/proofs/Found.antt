@@ -1,6 +1,6 @@
 -- The first item of the front of a list that passes a test.
-use Rattle.std.proofs.Common.{◌≡◌, ℕ, zero, suc, ◌<◌, Bool, true, cond, List, [], ◌∷◌, length, take, Some}
-use Rattle.std.proofs.Common.{sym, ap, ◌∙◌, inl, inr, arith}
+use Rattle.std.proofs.Common.{◌≡◌, ℕ, zero, suc, ◌<◌, ◌≤◌, Bool, true, false, cond, List, [], ◌∷◌, length, take, Option, Some, None}
+use Rattle.std.proofs.Common.{refl, sym, ap, subst, ◌∙◌, inl, inr, arith}
 use Rattle.std.specs.Prelude.{slice_get, find}
 use Rattle.std.specs.Option.{option_map, is_some}
 use Rattle.std.proofs.lemmas.Bool.{cases_Bool}
@@ -39,3 +39,70 @@ found_in_front {A} test (x ∷ xs) (suc n) h =
             },
           )
     ]
+
+-- ---- by the place of the first of all
+
+none_step : {A : Type 0} (b : Bool) (x : A) (o : Option ℕ) (f : Option A) → cond b (Some 0) (option_map (λ k. suc k) o) ≡ None
+    → (o ≡ None → f ≡ None) → cond b (Some x) f ≡ None
+none_step true x o f e h = absurd cc
+none_step false x None f e h = h refl
+none_step false x (Some k) f e h = absurd cc
+
+-- where none passes, none of the front does
+pub none_in_front : {A : Type 0} (test : A → Bool) (xs : List A) (n : ℕ) → place_of test xs ≡ None → find test (take n xs) ≡ None
+none_in_front test xs zero e = refl
+none_in_front test [] (suc n) e = refl
+none_in_front test (x ∷ xs) (suc n) e =
+    none_step (test x) x (place_of test xs) (find test (take n xs)) e (λ h. none_in_front test xs n h)
+
+-- the first of all that passes is the first of the front, if it stands there
+pub record IsFirst {A : Type 0} (test : A → Bool) (xs : List A) (n k : ℕ) : Type 0 where
+  pub there : k < n → find test (take n xs) ≡ slice_get xs k
+  pub behind : n ≤ k → find test (take n xs) ≡ None
+  pub within : k < length xs
+
+first_step : {A : Type 0} (test : A → Bool) (x : A) (xs : List A) (n k : ℕ) (b : Bool) (o : Option ℕ) → test x ≡ b
+    → place_of test xs ≡ o → cond b (Some 0) (option_map (λ j. suc j) o) ≡ Some k
+    → ((j : ℕ) → place_of test xs ≡ Some j → IsFirst test xs n j) → IsFirst test (x ∷ xs) (suc n) k
+first_step test x xs n k true o t p e rest =
+    let same : 0 ≡ k = cc in
+    subst (IsFirst test (x ∷ xs) (suc n)) same
+    (record {
+      there = λ h. ap (λ b. cond b (Some x) (find test (take n xs))) t;
+      behind = λ h. absurd (omega arith);
+      within = omega arith;
+    })
+first_step test x xs n k false None t p e rest = absurd cc
+first_step test x xs n k false (Some j) t p e rest =
+    let same : suc j ≡ k = cc in
+    let at = rest j p in
+    let skip : find test (take (suc n) (x ∷ xs)) ≡ find test (take n xs) = ap (λ b. cond b (Some x) (find test (take n xs))) t in
+    subst (IsFirst test (x ∷ xs) (suc n)) same
+    (record {
+      there = λ h. skip ∙ at.there (omega arith);
+      behind = λ h. skip ∙ at.behind (omega arith);
+      within = let h = at.within in omega arith;
+    })
+
+within_step : {A : Type 0} (test : A → Bool) (xs : List A) (k : ℕ) (b : Bool) (o : Option ℕ) → place_of test xs ≡ o
+    → cond b (Some 0) (option_map (λ j. suc j) o) ≡ Some k → ((j : ℕ) → place_of test xs ≡ Some j → j < length xs) → k < suc (length xs)
+within_step test xs k true o p e rest = let same : 0 ≡ k = cc in subst (λ (j : ℕ). j < suc (length xs)) same (omega arith)
+within_step test xs k false None p e rest = absurd cc
+within_step test xs k false (Some j) p e rest =
+    let same : suc j ≡ k = cc in
+    let h = rest j p in
+    subst (λ (j : ℕ). j < suc (length xs)) same (omega arith)
+
+first_within : {A : Type 0} (test : A → Bool) (xs : List A) (k : ℕ) → place_of test xs ≡ Some k → k < length xs
+first_within test [] k e = absurd cc
+first_within test (x ∷ xs) k e = within_step test xs k (test x) (place_of test xs) refl e (λ j p. first_within test xs j p)
+
+pub first_is : {A : Type 0} (test : A → Bool) (xs : List A) (n k : ℕ) → place_of test xs ≡ Some k → IsFirst test xs n k
+first_is test [] n k e = absurd cc
+first_is test (x ∷ xs) zero k e = record {
+  there = λ h. absurd (omega arith);
+  behind = λ h. refl;
+  within = first_within test (x ∷ xs) k e;
+}
+first_is test (x ∷ xs) (suc n) k e =
+    first_step test x xs n k (test x) (place_of test xs) refl refl e (λ j p. first_is test xs n j p)

@@ -11,12 +11,10 @@ use Rattle.mmsyntax.proofs.Distinct.{is_some-place_of}
 use Rattle.mmsyntax.proofs.Names.{same_bytes}
 use Rattle.source.specs.Scopes.{Hypothesis, typing, premise, label_of, Assertion, Scope, is_mandatory}
 use Rattle.source.specs.Whole.{IsWhole, IsAssertionWhole}
-use Rattle.taking.specs.Names.{Map}
 use Rattle.taking.specs.Listings.{premise_labels}
 use Rattle.taking.proofs.Listed.{all_at}
 use Rattle.prooftrees.specs.declared.roles.Role.{Role}
-use Rattle.prooftrees.specs.declared.roles.Role.TheVariants.{Float}
-use Rattle.prooftrees.specs.Names.{IsKnown}
+use Rattle.prooftrees.specs.Names.{IsKnown, IsOther, AreEnough, labelled}
 use Rattle.prooftrees.specs.Roles.{role_in, is_label_of, role_of}
 use Rattle.std.proofs.lemmas.Bool.{or_right}
 use Rattle.prooftrees.proofs.Found.{found_in_front}
@@ -111,17 +109,28 @@ module _ (s : Scope) (place : ℕ) (x : Assertion) (w : Word) (whole : IsWhole s
         | inr not_there ↦ role_is false h not_there
       ]
 
-  -- a label that names something, and isn't that of an assertion or of a mandatory hypothesis, is that of another $f
-  pub role_of_other : Map → role_of x.hypotheses w ≡ None → None ≡ place_of (λ a. bytes_eq w a.label) s.assertions
-      → IsKnown (take place s.assertions) x.active w → role_of x.active w ≡ Some Float
-  role_of_other m h absent known =
-      elim (cases_Bool (is_label_of x.active w)) [
-        | inl there ↦ role_is true h there
-        | inr not_there ↦
-            let none = role_is false h not_there in
-            let found =
-            found_in_front (λ (a : Assertion). bytes_eq w a.label) s.assertions place
-            (known_assertion m (take place s.assertions) x.active w none known) in
-            let e : None ≡ Some found.0 = absent ∙ found.1.place_is in
-            absurd cc
-      ]
+  -- a label that names something, and isn't that of a mandatory hypothesis, is that of an assertion in front, or of another $f
+  pub is_other : role_of x.hypotheses w ≡ None → IsKnown (take place s.assertions) x.active w
+      → IsOther (take place s.assertions) x.active w
+  is_other h known = record {
+    cited = λ some.
+        let found = found_in_front (λ (a : Assertion). bytes_eq w a.label) s.assertions place some in
+        role_of_assertion found.0 h (sym found.1.place_is);
+    float = λ none.
+        elim (cases_Bool (is_label_of x.active w)) [
+          | inl there ↦ role_is true h there
+          | inr not_there ↦
+              let some = known_assertion (take place s.assertions) x.active w (role_is false h not_there) known in
+              let no : is_some (labelled (take place s.assertions) w) ≡ false = ap is_some none in
+              absurd cc
+        ];
+  }
+
+-- roles of the mandatory ones are enough
+pub mandatory_enough : (s : Scope) (place : ℕ) (x : Assertion) (roles : Word → Option Role) → IsWhole s
+    → slice_get s.assertions place ≡ Some x → ((w : Word) → roles w ≡ role_of x.hypotheses w)
+    → AreEnough (take place s.assertions) x.active roles
+mandatory_enough s place x roles whole at are = record {
+  own = λ w role h. role_kept s place x w whole at role (sym (are w) ∙ h);
+  others = λ w h known. is_other s place x w whole at (sym (are w) ∙ h) known;
+}

@@ -50,44 +50,10 @@ neither_in false None h = (refl, refl)
 
 -- ---- one label
 
-module _ (m : Map) (earlier : List Assertion) (active : List Hypothesis) (w : Word) where
-  cited : Option Assertion
-  cited = find (λ a. bytes_eq w a.label) earlier
-
+module _ (earlier : List Assertion) (active : List Hypothesis) (w : Word) where
   taken_is : (b : Bool) → is_label_of active w ≡ b
       → taken_by earlier active w ≡ cond b (Some []) (option_map (λ a. a.hypotheses) (find (λ a. bytes_eq w a.label) earlier))
   taken_is b e = ap (λ z. cond z (Some []) (option_map (λ (a : Assertion). a.hypotheses) (find (λ a. bytes_eq w a.label) earlier))) e
-
-  -- that of a hypothesis takes nothing, and its step is that of its role
-  pub named_hypothesis : (role : Role) (named : Named) → role_of active w ≡ Some role → named.floats ≡ []
-      → named.step ≡ own_step (number_of role) (float_in m w) (label_in m w) → IsNamed m earlier active w named
-  named_hypothesis role named is floats step =
-      let p = place_of (bytes_eq w) (premise_labels active) in
-      let there : is_label_of active w ≡ true =
-      active_in (is_label_of active w) p role is
-      (λ h. premise_in active w (sym (is_some-place_of (bytes_eq w) (premise_labels active)) ∙ h)) in
-      record {
-        floats_are = ap (option_map (map is_float)) (taken_is true there) ∙ ap Some (sym floats);
-        step_is = ap (λ o. own_step o (float_in m w) (label_in m w)) (number_in (is_label_of active w) p role is) ∙ sym step;
-      }
-
-  same_floats : (o : Option Assertion) → option_map (map is_float) (option_map (λ a. a.hypotheses) o)
-      ≡ option_map (λ a. map is_float a.hypotheses) o
-  same_floats None = refl
-  same_floats (Some a) = refl
-
-  -- another is that of an assertion
-  pub named_assertion : (named : Named) → role_of active w ≡ None
-      → option_map (λ a. map is_float a.hypotheses) (find (λ a. bytes_eq w a.label) earlier) ≡ Some named.floats
-      → named.step ≡ own_step None (float_in m w) (label_in m w) → IsNamed m earlier active w named
-  named_assertion named is floats step =
-      let none = neither_in (is_label_of active w) (place_of (bytes_eq w) (premise_labels active)) is in
-      record {
-        floats_are = ap (option_map (map is_float)) (taken_is false none.0)
-            ∙ same_floats (find (λ a. bytes_eq w a.label) earlier)
-            ∙ floats;
-        step_is = ap (λ o. own_step o (float_in m w) (label_in m w)) none.1 ∙ sym step;
-      }
 
   some_under : (o : Option Assertion) → is_some (option_map (λ a. a.hypotheses) o) ≡ true → is_some o ≡ true
   some_under None h = h
@@ -97,6 +63,38 @@ module _ (m : Map) (earlier : List Assertion) (active : List Hypothesis) (w : Wo
   known_assertion is known =
       let none = neither_in (is_label_of active w) (place_of (bytes_eq w) (premise_labels active)) is in
       some_under (find (λ a. bytes_eq w a.label) earlier) (sym (ap is_some (taken_is false none.0)) ∙ known)
+
+  module _ (m : Map) where
+    -- that of a hypothesis takes nothing, and its step is that of its role
+    pub named_hypothesis : (role : Role) (named : Named) → role_of active w ≡ Some role → named.floats ≡ []
+        → named.step ≡ own_step (number_of role) (float_in m w) (label_in m w) → IsNamed m earlier active w named
+    named_hypothesis role named is floats step =
+        let p = place_of (bytes_eq w) (premise_labels active) in
+        let there : is_label_of active w ≡ true =
+        active_in (is_label_of active w) p role is
+        (λ h. premise_in active w (sym (is_some-place_of (bytes_eq w) (premise_labels active)) ∙ h)) in
+        record {
+          floats_are = ap (option_map (map is_float)) (taken_is true there) ∙ ap Some (sym floats);
+          step_is = ap (λ o. own_step o (float_in m w) (label_in m w)) (number_in (is_label_of active w) p role is) ∙ sym step;
+        }
+
+    same_floats : (o : Option Assertion) → option_map (map is_float) (option_map (λ a. a.hypotheses) o)
+        ≡ option_map (λ a. map is_float a.hypotheses) o
+    same_floats None = refl
+    same_floats (Some a) = refl
+
+    -- another is that of an assertion
+    pub named_assertion : (named : Named) → role_of active w ≡ None
+        → option_map (λ a. map is_float a.hypotheses) (find (λ a. bytes_eq w a.label) earlier) ≡ Some named.floats
+        → named.step ≡ own_step None (float_in m w) (label_in m w) → IsNamed m earlier active w named
+    named_assertion named is floats step =
+        let none = neither_in (is_label_of active w) (place_of (bytes_eq w) (premise_labels active)) is in
+        record {
+          floats_are = ap (option_map (map is_float)) (taken_is false none.0)
+              ∙ same_floats (find (λ a. bytes_eq w a.label) earlier)
+              ∙ floats;
+          step_is = ap (λ o. own_step o (float_in m w) (label_in m w)) none.1 ∙ sym step;
+        }
 
 -- ---- labels one after the other
 

@@ -34,7 +34,11 @@ fn is_float(hypothesis: &HypothesisWords<'_>) -> bool
 }
 
 /// Whether each of these hypotheses is a `$f`.
-fn flags_of(
+///
+/// # Errors
+///
+/// Want of memory.
+pub fn flags_of(
     alloc: Global,
     hypotheses: Vec<&HypothesisWords<'_>>,
 ) -> Result<Sequence<bool>, AllocError>

@@ -1,6 +1,7 @@
 //! The proofs of a source as trees: what the labels of each name, and its nodes.
 #![tactic(auto)]
 
+mod cited;
 mod counting;
 mod form;
 mod frames;
@@ -8,6 +9,8 @@ mod naming;
 mod reading;
 mod roles;
 
+pub use cited::CitedFrames;
 pub use form::{ProofForm, ProofTree};
-pub use frames::Frames;
+pub use frames::{Frames, flags_of};
 pub use reading::{read_given, read_proof};
+pub use roles::Roles;

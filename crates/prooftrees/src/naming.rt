@@ -1,22 +1,18 @@
 //! What the labels of a proof name.
 
-ghost use Rattle.std.specs.Prelude.{◌≡◌, ◌<◌, List, [], Bool, All, map, length, take, slice_get, Some, None, IfOk, IsTrue, is_some, find};
-ghost use Rattle.std.specs.Option.{option_map};
-ghost use Rattle.std.specs.Str.{bytes_eq};
+ghost use Rattle.std.specs.Prelude.{◌≡◌, List, [], All, IfOk};
 ghost use Rattle.mmtext.specs.Words.{Word};
+ghost use Rattle.source.specs.Scopes.{Assertion, Hypothesis};
 ghost use Rattle.source.specs.Views.{seen_words};
-ghost use Rattle.source.specs.Whole.{IsWhole};
 ghost use Rattle.taking.specs.Names.{label_in, float_in};
 ghost use Rattle.taking.specs.Listings.{own_step};
-ghost use Rattle.taking.specs.Settings.{is_float, AreNamed};
-ghost use Rattle.prooftrees.specs.Frames.{Holds};
-ghost use Rattle.prooftrees.specs.Roles.{role_of, number_of, looks_up};
-ghost use Rattle.prooftrees.specs.Names.{At, IsKnown, IsNamed};
+ghost use Rattle.taking.specs.Settings.{AreNamed};
+ghost use Rattle.prooftrees.specs.Roles.{number_of, looks_up};
+ghost use Rattle.prooftrees.specs.Names.{AreEnough, AreFrames, IsKnown, IsNamed, IsOther};
 
-use crate::frames::Frames;
+use crate::cited::CitedFrames;
 use crate::roles::{Role, Roles};
 use mmsyntax::{Sequence, Step};
-use source::Declared;
 use std::alloc::{AllocError, Global};
 use taking::{Named, StepPlaces};
 
@@ -39,111 +35,70 @@ fn name_hypothesis<P: StepPlaces>(
     Ok(Named { floats, step })
 }
 
-/// An assertion in front of the one at a place is named.
-fn name_assertion<'a, D: Declared<'a>, P: StepPlaces>(
+/// A label that has no role where roles are looked for is named: that of an assertion, or else of a `$f`.
+fn name_other<'a, C: CitedFrames<'a>, P: StepPlaces>(
     alloc: Global,
-    declared: &D,
-    frames: &mut Frames,
+    cited: &mut C,
     places: &P,
-    place: usize,
     label: &[u8],
 ) -> Result<Named, AllocError>
-    requires holds { Holds (D.scope declared.now).assertions frames.old }
-    requires known { IsTrue (is_some (find (λ a. bytes_eq label.now a.label) (take place (D.scope declared.now).assertions))) }
-    ensures holds { Holds (D.scope declared.now).assertions frames.new }
-    ensures floats { IfOk result (λ named. option_map (λ a. map is_float a.hypotheses)
-        (find (λ a. bytes_eq label.now a.label) (take place (D.scope declared.now).assertions)) ≡ Some named.floats) }
-    ensures step { IfOk result (λ named. named.step
-        ≡ own_step None (float_in (P.places places.now) label.now) (label_in (P.places places.now) label.now)) }
+    requires { C.is_right cited.old }
+    ensures right { C.is_right cited.new }
+    ensures assertions { C.assertions cited.new ≡ C.assertions cited.old }
+    ensures same { (w : Word) → C.floats cited.new w ≡ C.floats cited.old w }
+    ensures named { IfOk result (λ named. (earlier : List Assertion) (active : List Hypothesis) → AreFrames earlier (C.floats cited.old)
+        → IsOther earlier active label.now → IsNamed (P.places places.now) earlier active label.now named) }
 {
-    let Some(cited) = declared.place_of(label) else {
-        unreachable!()
-    };
-    let floats = frames.flags(alloc, declared, cited)?;
-    let step = places.step(alloc, label)?;
-    Ok(Named { floats, step })
-}
-
-/// A label of the proof of the assertion at a place that isn't one of a mandatory hypothesis is named: that of an assertion, or else of a
-/// `$f` of another variable.
-fn name_other<'a, D: Declared<'a>, P: StepPlaces>(
-    alloc: Global,
-    declared: &D,
-    frames: &mut Frames,
-    places: &P,
-    place: usize,
-    label: &[u8],
-) -> Result<Named, AllocError>
-    requires whole { IsWhole (D.scope declared.now) }
-    requires holds { Holds (D.scope declared.now).assertions frames.old }
-    requires within { place < length (D.scope declared.now).assertions }
-    requires other { At (D.scope declared.now).assertions place (λ x. role_of x.hypotheses label.now ≡ None) }
-    requires known { At (D.scope declared.now).assertions place
-        (λ x. IsKnown (take place (D.scope declared.now).assertions) x.active label.now) }
-    ensures holds { Holds (D.scope declared.now).assertions frames.new }
-    ensures named { IfOk result (λ named. At (D.scope declared.now).assertions place
-        (λ x. IsNamed (P.places places.now) (take place (D.scope declared.now).assertions) x.active label.now named)) }
-{
-    match declared.place_of(label) {
-        Some(_) => name_assertion(alloc, declared, frames, places, place, label),
+    match cited.floats(alloc, label)? {
+        Some(floats) => {
+            let step = places.step(alloc, label)?;
+            Ok(Named { floats, step })
+        }
         None => name_hypothesis(alloc, places, Role::Float, label),
     }
 }
 
-/// What a label of the proof of the assertion at a place names, where these are the roles of its mandatory hypotheses.
-fn name_label<'a, D: Declared<'a>, P: StepPlaces>(
+/// What a label names, where these roles are enough.
+fn name_label<'a, C: CitedFrames<'a>, P: StepPlaces>(
     alloc: Global,
-    declared: &D,
-    frames: &mut Frames,
+    cited: &mut C,
     places: &P,
-    roles: &Roles<'a>,
-    place: usize,
+    roles: &Roles<'_>,
     label: &[u8],
 ) -> Result<Named, AllocError>
-    requires whole { IsWhole (D.scope declared.now) }
-    requires holds { Holds (D.scope declared.now).assertions frames.old }
-    requires within { place < length (D.scope declared.now).assertions }
-    requires roles { At (D.scope declared.now).assertions place (λ x. (w : Word) → looks_up roles.now.roles w ≡ role_of x.hypotheses w) }
-    requires known { At (D.scope declared.now).assertions place
-        (λ x. IsKnown (take place (D.scope declared.now).assertions) x.active label.now) }
-    ensures holds { Holds (D.scope declared.now).assertions frames.new }
-    ensures named { IfOk result (λ named. At (D.scope declared.now).assertions place
-        (λ x. IsNamed (P.places places.now) (take place (D.scope declared.now).assertions) x.active label.now named)) }
+    requires { C.is_right cited.old }
+    ensures right { C.is_right cited.new }
+    ensures assertions { C.assertions cited.new ≡ C.assertions cited.old }
+    ensures same { (w : Word) → C.floats cited.new w ≡ C.floats cited.old w }
+    ensures named { IfOk result (λ named. (earlier : List Assertion) (active : List Hypothesis) → AreFrames earlier (C.floats cited.old)
+        → AreEnough earlier active (looks_up roles.now.roles) → IsKnown earlier active label.now
+        → IsNamed (P.places places.now) earlier active label.now named) }
 {
     match roles.role(label) {
         Some(role) => name_hypothesis(alloc, places, role, label),
-        None => name_other(alloc, declared, frames, places, place, label),
+        None => name_other(alloc, cited, places, label),
     }
 }
 
-/// What labels of the proof of the assertion at a place name, where these are the roles of its mandatory hypotheses.
-pub(crate) fn name_labels<'a, D: Declared<'a>, P: StepPlaces>(
+/// What labels name, where these roles are enough.
+pub(crate) fn name_labels<'a, C: CitedFrames<'a>, P: StepPlaces>(
     alloc: Global,
-    declared: &D,
-    frames: &mut Frames,
+    cited: &mut C,
     places: &P,
-    roles: &Roles<'a>,
-    place: usize,
+    roles: &Roles<'_>,
     labels: &[&[u8]],
 ) -> Result<Vec<Named>, AllocError>
-    requires whole { IsWhole (D.scope declared.now) }
-    requires holds { Holds (D.scope declared.now).assertions frames.old }
-    requires within { place < length (D.scope declared.now).assertions }
-    requires roles { At (D.scope declared.now).assertions place (λ x. (w : Word) → looks_up roles.now.roles w ≡ role_of x.hypotheses w) }
-    requires known { At (D.scope declared.now).assertions place
-        (λ x. All (IsKnown (take place (D.scope declared.now).assertions) x.active) (seen_words labels.now)) }
-    ensures holds { Holds (D.scope declared.now).assertions frames.new }
-    ensures named { IfOk result (λ named. At (D.scope declared.now).assertions place
-        (λ x. AreNamed (record {
-          places = P.places places.now;
-          earlier = take place (D.scope declared.now).assertions;
-          active = x.active;
-          labels = seen_words labels.now;
-        }) named.items)) }
+    requires { C.is_right cited.old }
+    ensures right { C.is_right cited.new }
+    ensures assertions { C.assertions cited.new ≡ C.assertions cited.old }
+    ensures named { IfOk result (λ named. (earlier : List Assertion) (active : List Hypothesis) → AreFrames earlier (C.floats cited.old)
+        → AreEnough earlier active (looks_up roles.now.roles) → All (IsKnown earlier active) (seen_words labels.now)
+        → AreNamed (record { places = P.places places.now; earlier = earlier; active = active; labels = seen_words labels.now })
+        named.items) }
 {
     let mut named = Vec::with_capacity(alloc, labels.len())?;
     for label in labels {
-        named.push(name_label(alloc, declared, frames, places, roles, place, label)?)?;
+        named.push(name_label(alloc, cited, places, roles, label)?)?;
     }
     Ok(named)
 }

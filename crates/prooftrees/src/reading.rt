@@ -1,58 +1,48 @@
 //! Reading a proof: from its words to its nodes.
 
-ghost use Rattle.std.specs.Prelude.{◌≡◌, ◌<◌, length, take, slice_get, false, Some, None, All, IfOk, IfSome, MatchOption};
+ghost use Rattle.std.specs.Prelude.{◌≡◌, ◌<◌, List, length, take, slice_get, false, Some, None, All, IfOk, IfSome, MatchOption};
 ghost use Rattle.source.specs.Statements.{Proof};
+ghost use Rattle.source.specs.Scopes.{Assertion};
 ghost use Rattle.source.specs.Whole.{IsWhole};
 ghost use Rattle.source.specs.Proofs.{denoted, is_unfinished};
-ghost use Rattle.source.specs.Views.{seen_words, seen_proof};
+ghost use Rattle.source.specs.Views.{seen_words, seen_proof, seen_hypotheses};
 ghost use Rattle.prooftrees.specs.Frames.{Holds};
 ghost use Rattle.prooftrees.specs.Counted.{IsCounted, counted_labels};
-ghost use Rattle.prooftrees.specs.Names.{At, IsKnown};
+ghost use Rattle.prooftrees.specs.Roles.{looks_up};
+ghost use Rattle.prooftrees.specs.Names.{AreEnough, AreFrames, IsKnown};
 ghost use Rattle.prooftrees.specs.Forms.{IsForm, IsTree};
 
+use crate::cited::{CitedFrames, InFront};
 use crate::counting::{Counted, count_labels, is_unfinished};
 use crate::form::{ProofForm, ProofTree};
 use crate::frames::Frames;
 use crate::naming::name_labels;
 use crate::roles::Roles;
-use source::{Declared, ProofWords};
+use source::{Declared, HypothesisWords, ProofWords};
 use std::alloc::{AllocError, Global};
 use std::hash::RandomState;
+use std::mem;
 use taking::{StepPlaces, decode};
 
-/// The tree of what the steps of a proof of the assertion at a place count: nothing where they denote none.
-fn tree_of<'a, D: Declared<'a>, P: StepPlaces>(
+/// The tree of what the steps of a proof count, where these roles are enough: nothing where they denote none.
+fn tree_of<'s, 'a, C: CitedFrames<'s>, P: StepPlaces>(
     alloc: Global,
-    keys: RandomState,
-    declared: &D,
-    frames: &mut Frames,
+    cited: &mut C,
     places: &P,
-    place: usize,
+    roles: &Roles<'_>,
     counted: Counted<'a>,
 ) -> Result<Option<ProofTree<'a>>, AllocError>
-    requires whole { IsWhole (D.scope declared.now) }
-    requires within { place < length (D.scope declared.now).assertions }
-    requires holds { Holds (D.scope declared.now).assertions frames.old }
-    requires known { At (D.scope declared.now).assertions place
-        (λ x. All (IsKnown (take place (D.scope declared.now).assertions) x.active) (seen_words counted.labels.items)) }
-    ensures holds { Holds (D.scope declared.now).assertions frames.new }
-    ensures tree { IfOk result (λ tree. At (D.scope declared.now).assertions place (λ x. (proof : Proof)
+    requires { C.is_right cited.old }
+    ensures right { C.is_right cited.new }
+    ensures assertions { C.assertions cited.new ≡ C.assertions cited.old }
+    ensures tree { IfOk result (λ tree. (earlier : List Assertion) (x : Assertion) (proof : Proof) → AreFrames earlier (C.floats cited.old)
+        → AreEnough earlier x.active (looks_up roles.now.roles) → All (IsKnown earlier x.active) (seen_words counted.entry.labels.items)
         → IsCounted x.hypotheses proof counted.entry → is_unfinished proof ≡ false
-        → MatchOption tree (denoted (take place (D.scope declared.now).assertions) (record x { proof = Some proof }) ≡ None)
-        (IsTree (P.places places.now) (take place (D.scope declared.now).assertions) (record x { proof = Some proof })))) }
+        → MatchOption tree (denoted earlier (record x { proof = Some proof }) ≡ None)
+        (IsTree (P.places places.now) earlier (record x { proof = Some proof }))) }
 {
-    let mandatory = declared.mandatory(alloc, place)?;
-    let roles = Roles::new(alloc, keys, mandatory)?;
     let labels = counted.labels;
-    let named = name_labels(
-        alloc,
-        declared,
-        frames,
-        places,
-        &roles,
-        place,
-        labels.as_slice(),
-    )?;
+    let named = name_labels(alloc, cited, places, roles, labels.as_slice())?;
     let Some(proof) = decode(alloc, named.as_slice(), counted.codes.as_slice())? else {
         return Ok(None);
     };
@@ -63,40 +53,37 @@ fn tree_of<'a, D: Declared<'a>, P: StepPlaces>(
     }))
 }
 
-/// The tree that a finished proof with these words denotes as the proof of the assertion at a place, if it denotes one: its nodes are named
-/// by the steps that they have in a library. The source may have another proof there, or none.
+/// The tree that a finished proof with these words denotes, if it denotes one, as the proof of an assertion with these mandatory hypotheses:
+/// its nodes are named by the steps that they have in a library. The roles are those of hypotheses that are active there, enough to say what
+/// its labels name: of all of them, say.
 ///
-/// It costs what [`read_proof`] does. After an error nothing is said of the frames.
+/// It costs what [`read_proof`] does.
 ///
 /// # Errors
 ///
 /// Want of memory, as of [`read_proof`].
-pub fn read_given<'a, D: Declared<'a>, P: StepPlaces>(
+pub fn read_given<'s, 'a, C: CitedFrames<'s>, P: StepPlaces>(
     alloc: Global,
-    keys: RandomState,
-    declared: &D,
-    frames: &mut Frames,
+    cited: &mut C,
     places: &P,
-    place: usize,
+    roles: &Roles<'_>,
+    mandatory: Vec<&HypothesisWords<'a>>,
     proof: &ProofWords<'a>,
 ) -> Result<Option<ProofTree<'a>>, AllocError>
-    requires whole { IsWhole (D.scope declared.now) }
-    requires within { place < length (D.scope declared.now).assertions }
-    requires holds { Holds (D.scope declared.now).assertions frames.old }
-    requires finished { is_unfinished (seen_proof proof.now) ≡ false }
-    requires known { At (D.scope declared.now).assertions place
-        (λ x. All (IsKnown (take place (D.scope declared.now).assertions) x.active) (counted_labels x.hypotheses (seen_proof proof.now))) }
-    ensures holds { Holds (D.scope declared.now).assertions frames.new }
-    ensures tree { IfOk result (λ tree. At (D.scope declared.now).assertions place (λ x. MatchOption tree
-        (denoted (take place (D.scope declared.now).assertions) (record x { proof = Some (seen_proof proof.now) }) ≡ None)
-        (IsTree (P.places places.now) (take place (D.scope declared.now).assertions)
-        (record x { proof = Some (seen_proof proof.now) })))) }
+    requires { C.is_right cited.old }
+    ensures right { C.is_right cited.new }
+    ensures assertions { C.assertions cited.new ≡ C.assertions cited.old }
+    ensures tree { let own = seen_proof proof.now in
+        IfOk result (λ tree. (earlier : List Assertion) (x : Assertion) → AreFrames earlier (C.floats cited.old)
+        → AreEnough earlier x.active (looks_up roles.now.roles) → x.hypotheses ≡ seen_hypotheses mandatory.entry.items
+        → All (IsKnown earlier x.active) (counted_labels x.hypotheses own) → is_unfinished own ≡ false
+        → MatchOption tree (denoted earlier (record x { proof = Some own }) ≡ None)
+        (IsTree (P.places places.now) earlier (record x { proof = Some own }))) }
 {
-    let mandatory = declared.mandatory(alloc, place)?;
     let Some(counted) = count_labels(alloc, mandatory, proof)? else {
         return Ok(None);
     };
-    tree_of(alloc, keys, declared, frames, places, place, counted)
+    tree_of(alloc, cited, places, roles, counted)
 }
 
 /// The proof of the assertion at a place: the tree that it denotes, its nodes named by the steps that they have in a library.
@@ -129,7 +116,15 @@ pub fn read_proof<'a, D: Declared<'a>, P: StepPlaces>(
     if is_unfinished(proof) {
         return Ok(ProofForm::Unfinished);
     }
-    let tree = read_given(alloc, keys, declared, frames, places, place, proof)?;
+    let roles = Roles::new(alloc, keys, declared.mandatory(alloc, place)?)?;
+    let mandatory = declared.mandatory(alloc, place)?;
+    let mut cited = InFront {
+        declared,
+        frames: mem::replace(frames, Frames::new(alloc)),
+        place,
+    };
+    let tree = read_given(alloc, &mut cited, places, &roles, mandatory, proof)?;
+    *frames = cited.frames;
     match tree {
         Some(tree) => Ok(ProofForm::Tree(tree)),
         // A finished proof denotes a tree in each source.

@@ -21,9 +21,9 @@ pub(crate) enum Role {
     Premise(u32),
 }
 
-/// What the labels of hypotheses name.
+/// What the labels of hypotheses name: each a `$f`, or a `$e` by its number among them.
 #[derive(Drop)]
-pub(crate) struct Roles<'a> {
+pub struct Roles<'a> {
     pub(crate) roles: HashMap<&'a [u8], Role, RandomState>,
 }
 
@@ -84,8 +84,12 @@ fn note_hypothesis<'a>(
 }
 
 impl<'a> Roles<'a> {
-    /// Those of these hypotheses.
-    pub(crate) fn new(
+    /// What the labels of these hypotheses name.
+    ///
+    /// # Errors
+    ///
+    /// Want of memory. Over 4,294,967,295 `$e` would be refused as if memory were wanting.
+    pub fn new(
         alloc: Global,
         keys: RandomState,
         hypotheses: Vec<&HypothesisWords<'a>>,
