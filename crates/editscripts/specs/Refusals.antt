@@ -83,9 +83,10 @@ pub record IsBarredBy (paths : List Bytes) (s : Scope) (texts : List Bytes) (scr
   pub says : line ≡ barred_line (slice_index_or paths (script + 1) []) (slice_index_or texts script []) label by
 
 -- the first compressed proof of a script that is none at its theorem
-pub record IsPasteFaultLine (paths : List Bytes) (m : Map) (s : Scope) (ts : List Token) (script : ℕ) (line : Bytes) : Type 0 where
+pub record IsPasteFaultLine (paths : List Bytes) (m : Map) (t : Tables) (s : Scope) (ts : List Token) (script : ℕ) (line : Bytes)
+    : Type 0 where
   pub found : PasteFault
-  pub faulty : HasPasteFault m s ts found
+  pub faulty : HasPasteFault m t s ts found
   pub told : found.kind ≢ OutOfMemory
   pub says : line ≡ line_of paths (fault.Text (script + 1) (record { place = found.at.place; kind = found.kind }))
 
@@ -97,7 +98,7 @@ pub record IsUnpastedBy (paths : List Bytes) (s : Scope) (flags : List Bool) (db
   pub are_pasted : ArePasted s flags db (take script scripts) before
   pub ts : List Token
   pub at : slice_get scripts script ≡ Some ts
-  pub cause : IsPasteFaultLine paths (places_in s flags db) s ts script line
+  pub cause : IsPasteFaultLine paths (places_in s flags db) db.prelude s ts script line
 
 -- a script puts too many at one place, of a source of which flags say which assertions are taken; those before it don't
 pub record IsCrowdedBy (paths : List Bytes) (s : Scope) (texts : List Bytes) (flags : List Bool) (scripts : List (List Token))

@@ -103,7 +103,7 @@ fn paste_all<'w: 'a, 'a, D: Declared<'a>>(
     ensures refused { IfErr result (IsToldBy (IsUnpastedBy
         (map (λ p. p.now) paths.now) (D.scope declared.now) flags.now database.now (seen_scripts scripts.now))) }
 {
-    let mut paster = Paster::new(alloc, keys, declared, database, flags)?;
+    let paster = Paster::new(alloc, keys, declared, database, flags)?;
     let mut all = Vec::new(alloc);
     for (script, words) in scripts.iter().enumerate() {
         match paster.paste(alloc, keys, declared, words.as_slice()) {

@@ -14,8 +14,8 @@ use Rattle.mmtext.specs.Words.{Word}
 use Rattle.mmsyntax.proofs.Names.{bytes_eq-same}
 use Rattle.mmsyntax.proofs.Distinct.{all_append}
 use Rattle.source.specs.Statements.{Proof, normal, compressed}
-use Rattle.source.specs.Scopes.{Hypothesis, label_of, Assertion, Scope, is_mandatory, mandatory}
-use Rattle.source.specs.Whole.{IsAssertionWhole, labels_in}
+use Rattle.source.specs.Scopes.{Hypothesis, label_of, Assertion, is_mandatory, mandatory}
+use Rattle.source.specs.Whole.{labels_in}
 use Rattle.prooftrees.specs.Counted.{counted_labels}
 use Rattle.prooftrees.specs.Names.{IsKnown}
 use Rattle.expanding.specs.Asking.{spoken_in}
@@ -85,12 +85,12 @@ counted_by : (P : Word → Type 0) (hs : List Hypothesis) (proof : Proof) → Al
 counted_by P hs (normal ws) mandatory named = named
 counted_by P hs (compressed labels letters) mandatory named = all_append P (map label_of hs) labels mandatory named
 
-pub counted_known : (s : Scope) (earlier : List Assertion) (x : Assertion) → IsAssertionWhole s earlier x
-    → (ts : List Token) (proof : Proof) → proof_of ts ≡ Some proof → find (is_unnamed earlier x) (labels_among ts) ≡ None
+pub counted_known : (earlier : List Assertion) (x : Assertion) → mandatory x.active x.statement ≡ x.hypotheses → (ts : List Token)
+    → (proof : Proof) → proof_of ts ≡ Some proof → find (is_unnamed earlier x) (labels_among ts) ≡ None
     → All (IsKnown earlier x.active) (counted_labels x.hypotheses proof)
-counted_known s earlier x whole ts proof is none =
+counted_known earlier x are ts proof is none =
     All-from_recursion (IsKnown earlier x.active) (counted_labels x.hypotheses proof)
     (counted_by (IsKnown earlier x.active) x.hypotheses proof
-    (subst (λ (hs : List Hypothesis). AllByRecursion (IsKnown earlier x.active) (map label_of hs)) whole.mandatory
+    (subst (λ (hs : List Hypothesis). AllByRecursion (IsKnown earlier x.active) (map label_of hs)) are
     (kept_known earlier x.active (is_mandatory x.active x.statement) [] x.active refl))
     (subst (AllByRecursion (IsKnown earlier x.active)) (sym (labels_are ts proof is)) (all_named earlier x (labels_among ts) none)))

@@ -7,11 +7,12 @@ use Rattle.std.proofs.lemmas.Option.{slice_get-map}
 use Rattle.mmtext.specs.Text.{Token}
 use Rattle.mmtext.specs.Views.{seen}
 use Rattle.mmtext.specs.declared.token.Token.{Token as CodeToken}
-use Rattle.mmsyntax.specs.Tables.{place_of}
+use Rattle.mmsyntax.specs.Layout.{step_word}
+use Rattle.mmsyntax.specs.Tables.{Tables, place_of}
 use Rattle.source.specs.Scopes.{Assertion, Scope}
-use Rattle.expanding.specs.Cuts.{Cut, cut_of}
-use Rattle.expanding.specs.Forms.{Part}
-use Rattle.pasting.specs.Pasted.{reproved, reproof_there, reproof_at, reproof_by, reproof_of}
+use Rattle.taking.specs.Names.{Map}
+use Rattle.expanding.specs.Cuts.{Cut}
+use Rattle.pasting.specs.Pasted.{reproved, reproving, proving_of, theorem_at}
 
 -- ---- the first item that passes is there
 
@@ -38,13 +39,24 @@ theorem_there s label k e = first_there (λ (a : Assertion). bytes_eq label.text
 pub ended_by : (ws : List CodeToken) (w : CodeToken) → Some w ≡ slice_get ws 0 → slice_get (map seen ws) 0 ≡ Some (seen w)
 ended_by ws w e = slice_get-map seen ws 0 ∙ ap (option_map seen) (sym e)
 
-pub all_there : (s : Scope) (p : Part) (c : Cut) (label : Token) (k : ℕ) (x : Assertion) (ends : Token) → Some c ≡ cut_of p
-    → Some label ≡ reproved c.front → Some k ≡ place_of (λ (a : Assertion). bytes_eq label.text a.label) s.assertions
-    → slice_get s.assertions k ≡ Some x → slice_get c.back 0 ≡ Some ends
-    → Some (record { cut = c; label = label; place = k; theorem = x; ends = ends }) ≡ reproof_of s p
-all_there s p c label k x ends cut labelled placed at ended =
-    sym (ap (option_and_then (λ c. reproof_by s c (reproved c.front))) (sym cut)
-    ∙ ap (reproof_by s c) (sym labelled)
-    ∙ ap (reproof_at s c label) (sym placed)
-    ∙ ap (λ o. reproof_there c label k o (slice_get c.back 0)) at
-    ∙ ap (reproof_there c label k (Some x)) ended)
+module _ (m : Map) (t : Tables) (s : Scope) (c : Cut) (ends : Token) (ended : slice_get c.back 0 ≡ Some ends) where
+  pub reproved_there : (label : Token) (k : ℕ) (x : Assertion) → Some label ≡ reproved c.front
+      → Some k ≡ place_of (λ (a : Assertion). bytes_eq label.text a.label) s.assertions → slice_get s.assertions k ≡ Some x
+      → option_and_then (reproving t s c) (reproved c.front)
+      ≡ Some (record { cut = c; ends = ends; label = label; theorem = x; word = step_word t label.text })
+  reproved_there label k x labelled placed at =
+      ap (option_and_then (reproving t s c)) (sym labelled)
+      ∙ ap (λ o. proving_of c o label (theorem_at s label) (step_word t label.text)) ended
+      ∙ ap (λ o. proving_of c (Some ends) label (option_and_then (slice_get s.assertions) o) (step_word t label.text)) (sym placed)
+      ∙ ap (λ o. proving_of c (Some ends) label o (step_word t label.text)) at
+
+  pub not_there : (label : Token) → Some label ≡ reproved c.front
+      → None ≡ place_of (λ (a : Assertion). bytes_eq label.text a.label) s.assertions
+      → option_and_then (reproving t s c) (reproved c.front) ≡ None
+  not_there label labelled placed =
+      ap (option_and_then (reproving t s c)) (sym labelled)
+      ∙ ap (λ o. proving_of c o label (theorem_at s label) (step_word t label.text)) ended
+      ∙ ap (λ o. proving_of c (Some ends) label (option_and_then (slice_get s.assertions) o) (step_word t label.text)) (sym placed)
+
+  pub none_reproved : None ≡ reproved c.front → option_and_then (reproving t s c) (reproved c.front) ≡ None
+  none_reproved none = ap (option_and_then (reproving t s c)) (sym none)

@@ -1,6 +1,6 @@
 -- What is told of words that are a finished proof whose labels name what is there.
 use Rattle.std.proofs.Common.{◌≡◌, ◌∙◌, false, List, [], ◌∷◌, map, Option, Some, None, sym, ap}
-use Rattle.std.specs.Prelude.{slice_get, find, Result, Ok, Err, IfOk}
+use Rattle.std.specs.Prelude.{slice_get, find}
 use Rattle.std.proofs.lemmas.Bool.{cond-false}
 use Rattle.mmtext.specs.Text.{Token}
 use Rattle.mmtext.specs.Views.{seen}
@@ -33,9 +33,3 @@ pub none_found : (earlier : List Assertion) (x : Assertion) (ws : List CodeToken
     → labels ≡ labels_among (map seen ws) → o ≡ find (is_unnamed earlier x) labels → o ≡ None
     → find (is_unnamed earlier x) (labels_among (map seen ws)) ≡ None
 none_found earlier x ws labels o are is none = ap (find (is_unnamed earlier x)) (sym are) ∙ sym is ∙ none
-
--- what is so of a result for each assertion there
-pub each_there : {T E : Type 0} (r : Result T E) (P : Assertion → Type 0) (Q : Assertion → T → Type 0)
-    → ((x : Assertion) → P x → IfOk r (Q x)) → IfOk r (λ t. (x : Assertion) → P x → Q x t)
-each_there (Ok t) P Q f = f
-each_there (Err e) P Q f = tt

@@ -1,4 +1,5 @@
 pub mod Places
 pub mod Proofs
+pub mod Additions
 pub mod Pasted
 pub mod Views

@@ -1,72 +1,95 @@
--- Scripts in which a proof may be written in the source's own words: `reprove LABEL $= PROOF $.` for a theorem of the source. The words of
--- a library stand in their stead then. A normal proof that isn't one of the source there stays: its words are those of a library.
-use Rattle.std.specs.Prelude.{◌≡◌, ℕ, Bool, List, [], ◌∷◌, ◌++◌, map, Option, Some, None, slice_get, take, if◌then◌else◌, codes}
-use Rattle.std.specs.List.{flat_map}
-use Rattle.std.specs.Option.{option_and_then}
+-- Scripts in which a proof may be written in the source's own words: in `reprove LABEL $= PROOF $.`, for a theorem of the source, and in an
+-- `add`. The words of a library stand in their stead then. A normal proof that isn't one of the source there stays: its words are those of a
+-- library.
+use Rattle.std.specs.Prelude.{◌≡◌, ℕ, Bool, List, [], ◌∷◌, ◌++◌, map, Option, Some, None, slice_get, slice_index_or, if◌then◌else◌, codes}
+use Rattle.std.specs.List.{AllZip, flat_map}
+use Rattle.std.specs.Option.{option_and_then, option_or}
 use Rattle.mmtext.specs.Text.{Token}
+use Rattle.mmtext.specs.Words.{Word}
 use Rattle.mmtext.specs.declared.fault.FaultKind.{FaultKind}
 use Rattle.mmsyntax.specs.declared.statement.Step.{Step}
+use Rattle.mmsyntax.specs.declared.statement.Step.TheVariants.{Float, Hyp, Cite}
 use Rattle.mmsyntax.specs.Tables.{Tables}
 use Rattle.mmsyntax.specs.Layout.{step_word}
-use Rattle.source.specs.Scopes.{Assertion, Scope}
+use Rattle.source.specs.Scopes.{Assertion, Scope, label_of}
 use Rattle.taking.specs.Names.{Map}
 use Rattle.expanding.specs.Words.{says, word_at}
 use Rattle.expanding.specs.Forms.{Part, AreParts}
 use Rattle.expanding.specs.Cuts.{Cut, cut_of}
 use Rattle.expanding.specs.Spreading.{assertion_at}
 use Rattle.pasting.specs.Proofs.{Given, steps, untaken, faulty, given, is_compressed}
+use Rattle.pasting.specs.Additions.{Addition, addition_of, theorem_of, added_by}
 
--- ---- one command
+-- ---- a proof that a command gives
+
+-- the command around it, the `$.` that ends it, the label of its theorem, the theorem, and the words that steps have in a library
+pub record Proving : Type 0 where
+  pub cut : Cut
+  pub ends : Token
+  pub label : Token
+  pub theorem : Assertion
+  pub word : Step → Word
+
+abbrev pub proving_of : Cut → Option Token → Token → Option Assertion → (Step → Word) → Option Proving
+proving_of c (Some ends) label (Some x) word = Some (record { cut = c; ends = ends; label = label; theorem = x; word = word })
+proving_of c _ label _ word = None
 
 -- `reprove LABEL $=`
 abbrev pub reproved : List Token → Option Token
 reproved (verb ∷ label ∷ begins ∷ []) = if says verb (codes "reprove") then Some label else None
 reproved _ = None
 
--- a command that gives a theorem of the source a proof: its words around the proof, its label, and the place of the theorem
-pub record Reproof : Type 0 where
-  pub cut : Cut
-  pub label : Token
-  pub place : ℕ
-  pub theorem : Assertion
-  pub ends : Token
+-- of a theorem of the source; a `$e` is called LABEL.1, LABEL.2, ..
+abbrev pub theorem_at : Scope → Token → Option Assertion
+theorem_at s label = option_and_then (slice_get s.assertions) (assertion_at s label.text)
 
-abbrev pub reproof_there : Cut → Token → ℕ → Option Assertion → Option Token → Option Reproof
-reproof_there c label n (Some x) (Some ends) = Some (record { cut = c; label = label; place = n; theorem = x; ends = ends })
-reproof_there c label n _ _ = None
+abbrev pub reproving : Tables → Scope → Cut → Token → Option Proving
+reproving t s c label = proving_of c (slice_get c.back 0) label (theorem_at s label) (step_word t label.text)
 
-abbrev pub reproof_at : Scope → Cut → Token → Option ℕ → Option Reproof
-reproof_at s c label None = None
-reproof_at s c label (Some n) = reproof_there c label n (slice_get s.assertions n) (slice_get c.back 0)
+-- of what is added; a `$e` has its label
+abbrev pub added_word : Tables → Addition → Step → Word
+added_word t a (Hyp n) = slice_index_or (map label_of a.premises) n []
+added_word t a (Float j) = step_word t a.label.text (Float j)
+added_word t a (Cite w) = w
 
-abbrev pub reproof_by : Scope → Cut → Option Token → Option Reproof
-reproof_by s c None = None
-reproof_by s c (Some label) = reproof_at s c label (assertion_at s label.text)
+abbrev pub adding : Map → Tables → Cut → Addition → Option Proving
+adding m t c a = proving_of c (slice_get c.back 0) a.label (Some (theorem_of m t a)) (added_word t a)
 
-abbrev pub reproof_of : Scope → Part → Option Reproof
-reproof_of s p = option_and_then (λ c. reproof_by s c (reproved c.front)) (cut_of p)
+abbrev pub proving_in : Map → Tables → Scope → Part → Cut → Option Proving
+proving_in m t s p c =
+    option_or (option_and_then (reproving t s c) (reproved c.front)) (option_and_then (adding m t c) (addition_of p))
 
--- what its words say
-abbrev pub given_in : Map → Scope → Reproof → Given
-given_in m s r = given m (take r.place s.assertions) r.theorem r.cut.proof r.ends
+abbrev pub proving : Map → Tables → Scope → Part → Option Proving
+proving m t s p = option_and_then (proving_in m t s p) (cut_of p)
+
+-- what is added keeps its label
+abbrev pub with_labels : Map → List Word → Map
+with_labels m labels = record m { labels = m.labels ++ map (λ w. (w, w)) labels }
+
+abbrev pub with_added : Map → List Assertion → Map
+with_added m added = with_labels m (map (λ x. x.label) added)
+
+-- what its words say: they may cite what the source has, and what scripts add
+abbrev pub given_in : Map → Scope → List Assertion → Proving → Given
+given_in m s added r = given (with_added m added) (s.assertions ++ added) r.theorem r.cut.proof r.ends
 
 -- ---- in the words of a library
 
 -- a step of a library, told at the label of the theorem
-abbrev pub step_at : Tables → Reproof → Step → Token
-step_at t r x = word_at r.label.place (step_word t r.label.text x)
+abbrev pub step_at : Proving → Step → Token
+step_at r x = word_at r.label.place (r.word x)
 
-abbrev pub with_given : Tables → Part → Reproof → Given → List Token
-with_given t p r (steps xs) = r.cut.front ++ (map (step_at t r) xs ++ r.cut.back)
-with_given t p r untaken = p
-with_given t p r (faulty at kind) = p
+abbrev pub with_given : Part → Proving → Given → List Token
+with_given p r (steps xs) = r.cut.front ++ (map (step_at r) xs ++ r.cut.back)
+with_given p r untaken = p
+with_given p r (faulty at kind) = p
 
-abbrev pub pasted_by : Map → Tables → Scope → Part → Option Reproof → List Token
-pasted_by m t s p None = p
-pasted_by m t s p (Some r) = with_given t p r (given_in m s r)
+abbrev pub pasted_by : Map → Scope → List Assertion → Part → Option Proving → List Token
+pasted_by m s added p None = p
+pasted_by m s added p (Some r) = with_given p r (given_in m s added r)
 
-abbrev pub pasted : Map → Tables → Scope → Part → List Token
-pasted m t s p = pasted_by m t s p (reproof_of s p)
+abbrev pub pasted : Map → Tables → Scope → List Assertion → Part → List Token
+pasted m t s added p = pasted_by m s added p (proving m t s p)
 
 -- ---- faults: those of compressed proofs, which no library has
 
@@ -78,33 +101,39 @@ abbrev pub fault_of : Bool → Given → Option PasteFault
 fault_of is_compressed (faulty t kind) = if is_compressed then Some (record { at = t; kind = kind }) else None
 fault_of is_compressed _ = None
 
-abbrev pub paste_fault_by : Map → Scope → Option Reproof → Option PasteFault
-paste_fault_by m s None = None
-paste_fault_by m s (Some r) = fault_of (is_compressed r.cut.proof) (given_in m s r)
+abbrev pub paste_fault_by : Map → Scope → List Assertion → Option Proving → Option PasteFault
+paste_fault_by m s added None = None
+paste_fault_by m s added (Some r) = fault_of (is_compressed r.cut.proof) (given_in m s added r)
 
-abbrev pub paste_fault : Map → Scope → Part → Option PasteFault
-paste_fault m s p = paste_fault_by m s (reproof_of s p)
+abbrev pub paste_fault : Map → Tables → Scope → List Assertion → Part → Option PasteFault
+paste_fault m t s added p = paste_fault_by m s added (proving m t s p)
 
 abbrev pub or_fault : Option PasteFault → Option PasteFault → Option PasteFault
 or_fault None later = later
 or_fault (Some f) later = Some f
 
--- the first
-abbrev pub first_fault : Map → Scope → List Part → Option PasteFault
-first_fault m s [] = None
-first_fault m s (p ∷ ps) = or_fault (paste_fault m s p) (first_fault m s ps)
+-- the first of parts
+abbrev pub first_fault : Map → Tables → Scope → List Assertion → List Part → Option PasteFault
+first_fault m t s added [] = None
+first_fault m t s added (p ∷ ps) = or_fault (paste_fault m t s added p) (first_fault m t s added ps)
 
--- ---- a script
+-- ---- scripts
 
--- the words of a script with the proofs of a library
-pub record IsPasted (m : Map) (t : Tables) (s : Scope) (ts out : List Token) : Type 0 where
+-- they add these
+pub record AreAdditions (m : Map) (t : Tables) (scripts : List (List Token)) (added : List Assertion) : Type 0 where
+  pub parts : List (List Part)
+  pub are_parts : AllZip AreParts scripts parts
+  pub added_are : added ≡ flat_map (flat_map (added_by m t)) parts
+
+-- the words of one with the proofs of a library
+pub record IsPasted (m : Map) (t : Tables) (s : Scope) (added : List Assertion) (ts out : List Token) : Type 0 where
   pub parts : List Part
   pub are_parts : AreParts ts parts
-  pub none_faulty : first_fault m s parts ≡ None
-  pub pasted : out ≡ flat_map (pasted m t s) parts
+  pub none_faulty : first_fault m t s added parts ≡ None
+  pub pasted : out ≡ flat_map (pasted m t s added) parts
 
 -- a compressed proof in it that is none there, the first
-pub record HasPasteFault (m : Map) (s : Scope) (ts : List Token) (f : PasteFault) : Type 0 where
+pub record HasPasteFault (m : Map) (t : Tables) (s : Scope) (added : List Assertion) (ts : List Token) (f : PasteFault) : Type 0 where
   pub parts : List Part
   pub are_parts : AreParts ts parts
-  pub first : first_fault m s parts ≡ Some f
+  pub first : first_fault m t s added parts ≡ Some f

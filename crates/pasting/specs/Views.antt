@@ -1,25 +1,35 @@
 -- Of the code's inside, apart from the rules: how contracts see proofs that are given, and what has a place in a library.
-use Rattle.std.specs.Prelude.{◌≡◌, ◌≤◌, Bool, List, ◌++◌, map, filter, length, Option, Some, None, slice_get}
-use Rattle.std.specs.List.{list_any}
+use Rattle.std.specs.Prelude.{◌≡◌, ◌≤◌, ℕ, Bool, true, List, ◌++◌, map, filter, length, Option, Some, None, slice_get}
+use Rattle.std.specs.List.{AllByRecursion, list_any}
+use Rattle.std.specs.Option.{option_and_then, option_map, option_or}
+use Rattle.std.specs.Str.{bytes_eq}
 use Rattle.mmtext.specs.Text.{Token}
+use Rattle.mmtext.specs.Words.{Word}
 use Rattle.mmtext.specs.Views.{seen}
-use Rattle.mmsyntax.specs.Tables.{Tables, Contents}
+use Rattle.mmsyntax.specs.Tables.{Tables, Contents, place_of}
 use Rattle.mmsyntax.specs.Layout.{step_word}
 use Rattle.mmsyntax.specs.declared.statement.Step.{Step}
 use Rattle.mmsyntax.specs.declared.limits.TheConstants.{MOST_DECLARED}
 use Rattle.source.specs.Flags.{kept}
-use Rattle.source.specs.Scopes.{Scope}
+use Rattle.source.specs.Scopes.{Assertion, Hypothesis, Scope}
+use Rattle.source.specs.Views.{seen_hypothesis, seen_words}
 use Rattle.sites.specs.Sites.{AreSites}
 use Rattle.taking.specs.Names.{Map, is_symbol_of, has_float_labelled}
-use Rattle.prooftrees.specs.Frames.{Holds}
-use Rattle.expanding.specs.Words.{word_at}
+use Rattle.taking.specs.Settings.{is_float}
+use Rattle.prooftrees.specs.Names.{labelled}
 use Rattle.expanding.specs.Views.{seen_cut}
+use Rattle.pasting.specs.Additions.{Addition, floats_of, theorem_of}
 use Rattle.pasting.specs.Places.{places_of}
 use Rattle.pasting.specs.Proofs.{Given, steps, untaken, faulty}
-use Rattle.pasting.specs.Pasted.{Reproof, PasteFault, HasPasteFault}
+use Rattle.pasting.specs.Pasted.{Proving, added_word, step_at, with_labels, PasteFault, HasPasteFault}
+use Rattle.pasting.specs.declared.addition.Addition.{Addition as CodeAddition}
+use Rattle.pasting.specs.declared.additions.Additions.{Additions}
+use Rattle.pasting.specs.declared.placing.Placed.{Placed}
 use Rattle.pasting.specs.declared.given.Given.{Given as CodeGiven}
 use Rattle.pasting.specs.declared.given.Given.TheVariants as code
-use Rattle.pasting.specs.declared.reproof.Reproof.{Reproof as CodeReproof}
+use Rattle.pasting.specs.declared.proving.Proving.{Proving as CodeProving}
+use Rattle.pasting.specs.declared.proving.Theorem.{Theorem as CodeTheorem}
+use Rattle.pasting.specs.declared.proving.Theorem.TheVariants as theorem
 use Rattle.pasting.specs.declared.paster.Paster.{Paster}
 use Rattle.pasting.specs.declared.unpasted.Unpasted.{Unpasted}
 use Rattle.pasting.specs.declared.unpasted.Unpasted.TheVariants as unpasted
@@ -29,23 +39,61 @@ seen_given (code.Steps proof) = steps proof
 seen_given code.Untaken = untaken
 seen_given (code.Faulty t kind) = faulty (seen t) kind
 
--- a command of the code is this one
-pub record IsReproof (s : Scope) (c : CodeReproof) (r : Reproof) : Type 0 where
-  pub cut : seen_cut c.cut ≡ r.cut
-  pub label : seen c.label ≡ r.label
-  pub place : c.place ≡ r.place
-  pub ends : seen c.ends ≡ r.ends
-  pub there : slice_get s.assertions r.place ≡ Some r.theorem
+-- what the code has of an assertion that is added
+abbrev pub seen_addition : CodeAddition → Addition
+seen_addition a = record {
+  label = seen a.label;
+  premises = map seen_hypothesis a.premises.items;
+  statement = seen_words a.statement.items;
+}
 
-abbrev pub IsReproofIf : Scope → Option CodeReproof → Option Reproof → Type 0
-IsReproofIf s None r = r ≡ None
-IsReproofIf s (Some c) None = ⊥
-IsReproofIf s (Some c) (Some r) = IsReproof s c r
+-- the theorem of the code is this one, with these words for steps
+abbrev pub IsTheorem : Map → Tables → Scope → Token → CodeTheorem → Assertion → (Step → Word) → Type 0
+IsTheorem m t s label (theorem.Standing place) x word = (slice_get s.assertions place ≡ Some x) × (word ≡ step_word t label.text)
+IsTheorem m t s label (theorem.Added a) x word = (x ≡ theorem_of m t (seen_addition a)) × (word ≡ added_word t (seen_addition a))
+
+-- a command of the code is this one
+pub record IsProving (m : Map) (t : Tables) (s : Scope) (c : CodeProving) (r : Proving) : Type 0 where
+  pub cut : seen_cut c.cut ≡ r.cut
+  pub ends : seen c.ends ≡ r.ends
+  pub label : seen c.label ≡ r.label
+  pub theorem : IsTheorem m t s r.label c.theorem r.theorem r.word
+
+abbrev pub IsProvingIf : Map → Tables → Scope → Option CodeProving → Option Proving → Type 0
+IsProvingIf m t s None r = r ≡ None
+IsProvingIf m t s (Some c) None = ⊥
+IsProvingIf m t s (Some c) (Some r) = IsProving m t s c r
+
+-- ---- what may be cited
+
+-- these assertions are added, as the code has them: by their labels, whether each mandatory hypothesis is a `$f`
+abbrev pub flags_of : Assertion → List Bool
+flags_of x = map is_float x.hypotheses
+
+pub record AreAdded (xs : List Assertion) (labels : List Word) (flags : List (List Bool)) : Type 0 where
+  pub labels_are : labels ≡ map (λ x. x.label) xs
+  pub flags_are : flags ≡ map flags_of xs
+
+-- those of the assertion with a label: of these assertions, and else of what is added
+abbrev pub added_flags : List Word → List (List Bool) → Word → Option (List Bool)
+added_flags labels flags w = option_and_then (slice_get flags) (place_of (bytes_eq w) labels)
+
+abbrev pub flags_in : List Assertion → Additions → Word → Option (List Bool)
+flags_in xs a w = option_or (option_map flags_of (labelled xs w)) (added_flags a.labels a.flags.items w)
+
+-- the code has what is added, and the `$f` of the library
+pub record AreKnown (m : Map) (t : Tables) (xs : List Assertion) (a : Additions) : Type 0 where
+  pub floats_are : map seen_hypothesis a.floats.items ≡ floats_of m t
+  pub added : AreAdded xs a.labels a.flags.items
+
+-- hypotheses are `$f`
+abbrev pub AreFloats : List Hypothesis → Type 0
+AreFloats hs = AllByRecursion (λ h. is_float h ≡ true) hs
 
 -- why a script isn't pasted
-abbrev pub IsUnpasted : Map → Scope → List Token → Unpasted → Type 0
-IsUnpasted m s ts (unpasted.Faulty t kind) = HasPasteFault m s ts (record { at = seen t; kind = kind })
-IsUnpasted m s ts unpasted.NoMemory = Unit {0}
+abbrev pub IsUnpasted : Map → Tables → Scope → List Assertion → List Token → Unpasted → Type 0
+IsUnpasted m t s added ts (unpasted.Faulty at kind) = HasPasteFault m t s added ts (record { at = seen at; kind = kind })
+IsUnpasted m t s added ts unpasted.NoMemory = Unit {0}
 
 -- why a command isn't
 abbrev pub IsFaultIn : Option PasteFault → Unpasted → Type 0
@@ -63,14 +111,15 @@ pub record IsNarrow (s : Scope) (flags : List Bool) : Type 0 where
 pub record IsPaster (s : Scope) (flags : List Bool) (db : Contents) (p : Paster) : Type 0 where
   pub sites : AreSites s (kept flags s.assertions) p.sites
   pub database : p.database.now ≡ db
-  pub frames : Holds s.assertions p.frames
 
 -- the places by which it pastes
 abbrev pub places_by : Paster → Map
 places_by p = places_of p.sites.floats p.sites.labels p.database.now
 
 -- the words of a command with these steps
-abbrev pub given_words : Tables → CodeReproof → List Step → List Token
-given_words t r xs =
-    map seen r.cut.front.now
-    ++ (map (λ x. word_at r.label.place (step_word t r.label.text.now x)) xs ++ map seen r.cut.back.now)
+abbrev pub given_words : Proving → List Step → List Token
+given_words r xs = r.cut.front ++ (map (step_at r) xs ++ r.cut.back)
+
+-- where what is named has its place, what is added too
+abbrev pub places_behind : Placed → Map
+places_behind p = with_labels (places_of p.sites.now.floats p.sites.now.labels p.database.now) p.additions.now.labels

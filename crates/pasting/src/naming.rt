@@ -1,89 +1,48 @@
 //! Which labels of a proof name what is there.
 
-ghost use Rattle.std.specs.Prelude.{◌≡◌, ◌<◌, IfOk, List, Some, find, is_some, length, map, option_map, slice_get, take};
-ghost use Rattle.std.specs.List.{list_any};
-ghost use Rattle.std.specs.Str.{bytes_eq};
+ghost use Rattle.std.specs.Prelude.{◌≡◌, IfSome, List, find, is_some, map, option_map};
+ghost use Rattle.mmtext.specs.Words.{Word as Label};
 ghost use Rattle.mmtext.specs.Views.{seen};
-ghost use Rattle.source.specs.Scopes.{Assertion as Theorem, Hypothesis, label_of};
-ghost use Rattle.source.specs.Views.{seen_hypothesis, seen_hypotheses, seen_words};
+ghost use Rattle.source.specs.Scopes.{Assertion as Theorem, Hypothesis};
 ghost use Rattle.source.specs.Proofs.{taken_by};
+ghost use Rattle.prooftrees.specs.Names.{AreFrames};
+ghost use Rattle.prooftrees.specs.Roles.{looks_up, role_of};
 ghost use Rattle.pasting.specs.Proofs.{is_unnamed};
+ghost use Rattle.pasting.specs.Views.{flags_in};
 
+use crate::additions::Citing;
 use mmtext::Token;
-use source::{Declared, HypothesisWords};
-use std::alloc::{AllocError, Global};
+use prooftrees::Roles;
+use source::Declared;
 
-/// The label of a hypothesis.
-fn label_of<'a>(hypothesis: &HypothesisWords<'a>) -> &'a [u8]
-    ensures { result.now ≡ label_of (seen_hypothesis hypothesis.now) }
+/// Whether a label is that of an active hypothesis, of which these are the roles, or of an assertion that may be cited.
+fn is_named<'a, D: Declared<'a>>(citing: &Citing<'_, '_, '_, D>, roles: &Roles<'_>, label: &[u8]) -> bool
+    ensures { (earlier : List Theorem) (active : List Hypothesis)
+        → AreFrames earlier (flags_in (D.scope citing.now.declared.now).assertions citing.now.additions.now)
+        → ((w : Label) → looks_up roles.now.roles w ≡ role_of active w)
+        → result ≡ is_some (taken_by earlier active label.now) }
 {
-    match hypothesis {
-        HypothesisWords::Typing(label, _, _) => label,
-        HypothesisWords::Premise(label, _) => label,
-    }
+    roles.have(label)
+        || citing.declared.place_of(label).is_some()
+        || citing.additions.have(label)
 }
 
-/// The labels of hypotheses.
-fn hypothesis_labels<'a>(
-    alloc: Global,
-    hypotheses: Vec<&HypothesisWords<'a>>,
-) -> Result<Vec<&'a [u8]>, AllocError>
-    ensures { IfOk result (λ labels. seen_words labels.items ≡ map label_of (seen_hypotheses hypotheses.entry.items)) }
-{
-    let mut labels = Vec::with_capacity(alloc, hypotheses.len())?;
-    for hypothesis in hypotheses {
-        labels.push(label_of(hypothesis))?;
-    }
-    Ok(labels)
-}
-
-/// Whether a label is one of these.
-fn is_among(labels: &[&[u8]], label: &[u8]) -> bool
-    ensures { result ≡ list_any (λ other. bytes_eq label.now other.now) labels.now }
-{
-    labels.iter().any(|other| label == *other)
-}
-
-/// Whether an assertion in front of a place has a label: one look-up.
-fn is_in_front<'a, D: Declared<'a>>(declared: &D, place: usize, label: &[u8]) -> bool
-    ensures { result ≡ list_any (λ a. bytes_eq label.now a.label) (take place (D.scope declared.now).assertions) }
-{
-    match declared.place_of(label) {
-        None => false,
-        Some(found) => found < place,
-    }
-}
-
-/// Whether a label is one of these, of active hypotheses, or that of an assertion in front of a place.
-fn is_named<'a, D: Declared<'a>>(
-    declared: &D,
-    active: &[&'a [u8]],
-    place: usize,
-    label: &[u8],
-) -> bool
-    ensures { (hs : List Hypothesis) → map label_of hs ≡ seen_words active.now
-        → result ≡ is_some (taken_by (take place (D.scope declared.now).assertions) hs label.now) }
-{
-    is_among(active, label) || is_in_front(declared, place, label)
-}
-
-/// The first of these words that is neither the label of an active hypothesis of the assertion at a place nor that of an assertion in front
-/// of it.
+/// The first of these words that is neither the label of an active hypothesis, of which these are the roles, nor that of an assertion that may
+/// be cited.
 pub(crate) fn first_unnamed<'w, 'a, D: Declared<'a>>(
-    alloc: Global,
-    declared: &D,
-    place: usize,
+    citing: &Citing<'_, '_, '_, D>,
+    roles: &Roles<'_>,
     words: &[Token<'w>],
-) -> Result<Option<Token<'w>>, AllocError>
-    requires { place < length (D.scope declared.now).assertions }
-    ensures { IfOk result (λ found. (x : Theorem) → slice_get (D.scope declared.now).assertions place ≡ Some x
-        → option_map seen found ≡ find (is_unnamed (take place (D.scope declared.now).assertions) x) (map seen words.now)) }
+) -> Option<Token<'w>>
+    ensures { (earlier : List Theorem) (x : Theorem)
+        → AreFrames earlier (flags_in (D.scope citing.now.declared.now).assertions citing.now.additions.now)
+        → ((w : Label) → looks_up roles.now.roles w ≡ role_of x.active w)
+        → option_map seen result ≡ find (is_unnamed earlier x) (map seen words.now) }
 {
-    let active = hypothesis_labels(alloc, declared.active(alloc, place)?)?;
     for word in words {
-        if !is_named(declared, active.as_slice(), place, word.text) {
-            return Ok(Some(*word));
+        if !is_named(citing, roles, word.text) {
+            return Some(*word);
         }
     }
-    Ok(None)
+    None
 }

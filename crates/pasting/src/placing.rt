@@ -5,21 +5,24 @@ ghost use Rattle.std.specs.Option.{option_map};
 ghost use Rattle.taking.specs.Names.{label_in};
 ghost use Rattle.pasting.specs.Places.{places_of};
 
+use crate::additions::Additions;
 use mmsyntax::{Database, Label, Step};
 use sites::Sites;
 use std::alloc::{AllocError, Global};
 use taking::StepPlaces;
 
-/// What has a place in a library: with the library, whose assertions have the labels.
+/// What has a place in a library: with the library, whose assertions have the labels, and with what scripts add to it.
 #[derive(Clone, Copy)]
-pub(crate) struct Placed<'p, 'a> {
+pub(crate) struct Placed<'p, 'a, 'w> {
     /// What of the source has a place.
     pub sites: &'p Sites<'a>,
     /// The library.
     pub database: &'p Database,
+    /// What scripts add.
+    pub additions: &'p Additions<'w, 'p>,
 }
 
-impl<'p, 'a> Placed<'p, 'a> {
+impl<'p, 'a, 'w> Placed<'p, 'a, 'w> {
     /// The label in the library of the assertion with a label in the source, if it is taken: one look-up.
     fn label(&self, label: &[u8]) -> Option<&Label>
         ensures { option_map (λ l. l.now) result
@@ -31,18 +34,21 @@ impl<'p, 'a> Placed<'p, 'a> {
     }
 }
 
-impl<'p, 'a> StepPlaces for Placed<'p, 'a> {
-    ghost use Rattle.pasting.specs.Places.{places_of};
+impl<'p, 'a, 'w> StepPlaces for Placed<'p, 'a, 'w> {
+    ghost use Rattle.pasting.specs.Views.{places_behind};
 
-    ghost places = { λ p. places_of p.sites.now.floats p.sites.now.labels p.database.now };
+    ghost places = { λ p. places_behind p };
 
     fn step(&self, alloc: Global, label: &[u8]) -> Result<Option<Step>, AllocError> {
         if let Some(place) = self.sites.float(label) {
             return Ok(Some(Step::Float(place)));
         }
         match self.label(label) {
-            None => Ok(None),
             Some(name) => Ok(Some(Step::Cite(name.copy(alloc)?))),
+            None if self.additions.have(label) => {
+                Ok(Some(Step::Cite(Label::from_slice(alloc, label)?)))
+            }
+            None => Ok(None),
         }
     }
 }

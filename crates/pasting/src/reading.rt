@@ -1,28 +1,30 @@
 //! Reading a proof in the words of a source: the steps that it has in a library.
 
-ghost use Rattle.std.specs.Prelude.{◌≡◌, ◌<◌, IfOk, List, Some, All, length, map, slice_get, take};
+ghost use Rattle.std.specs.Prelude.{◌≡◌, IfOk, List, Some, All, map};
 ghost use Rattle.mmtext.specs.Text.{Token as Word};
+ghost use Rattle.mmtext.specs.Words.{Word as Label};
 ghost use Rattle.mmtext.specs.Views.{seen};
-ghost use Rattle.source.specs.Whole.{IsWhole};
-ghost use Rattle.source.specs.Scopes.{Assertion as Theorem};
+ghost use Rattle.source.specs.Scopes.{Assertion as Theorem, mandatory as mandatory_in};
+ghost use Rattle.source.specs.Views.{seen_hypotheses};
 ghost use Rattle.taking.specs.Names.{Map};
 ghost use Rattle.taking.specs.Walks.{TakesAll};
-ghost use Rattle.prooftrees.specs.Frames.{Holds};
 ghost use Rattle.prooftrees.specs.Forms.{IsTree};
-ghost use Rattle.pasting.specs.Places.{places_of};
+ghost use Rattle.prooftrees.specs.Names.{AreFrames};
+ghost use Rattle.prooftrees.specs.Roles.{looks_up, role_of};
 ghost use Rattle.pasting.specs.Proofs.{given, given_by_tree};
-ghost use Rattle.pasting.specs.Views.{seen_given};
+ghost use Rattle.pasting.specs.Views.{flags_in, places_behind, seen_given};
 
+use crate::additions::Citing;
 use crate::given::Given;
 use crate::naming::first_unnamed;
 use crate::placing::Placed;
+use crate::proving::Proving;
 use crate::words::{is_unfinished, labels_among, proof_of};
 use mmsyntax::MOST_STEPS;
 use mmtext::{FaultKind, Token};
-use prooftrees::{Frames, ProofTree, read_given};
-use source::Declared;
+use prooftrees::{ProofTree, Roles, read_given};
+use source::{Declared, HypothesisWords};
 use std::alloc::{AllocError, Global};
-use std::hash::RandomState;
 use taking::list;
 
 /// What a tree says as the proof of an assertion, before which others stand: its listing, if that is short.
@@ -45,39 +47,36 @@ fn given_by_tree<'w>(
     }
 }
 
-/// What words say as the proof of the theorem at a place, in front of the `$.` that ends them. The words outlive those of the source, since
-/// the tree of a proof has labels of both. After an error nothing is said of the frames.
-pub(crate) fn given<'w: 'a, 'a, D: Declared<'a>>(
+/// What words say as the proof of a theorem, of which these are the mandatory hypotheses, and these the roles of all that are active there.
+/// The words outlive those of the source, since the tree of a proof has labels of both.
+pub(crate) fn given<'w: 'h, 'h, 'a, D: Declared<'a>>(
     alloc: Global,
-    keys: RandomState,
-    declared: &D,
-    frames: &mut Frames,
-    placed: &Placed<'_, 'a>,
-    place: usize,
-    words: &[Token<'w>],
-    ends: Token<'w>,
+    citing: &mut Citing<'_, '_, '_, D>,
+    placed: &Placed<'_, '_, '_>,
+    roles: &Roles<'_>,
+    mandatory: Vec<&HypothesisWords<'h>>,
+    proving: &Proving<'_, 'w>,
 ) -> Result<Given<'w>, AllocError>
-    requires whole { IsWhole (D.scope declared.now) }
-    requires within { place < length (D.scope declared.now).assertions }
-    requires frames { Holds (D.scope declared.now).assertions frames.old }
-    ensures frames { IfOk result (λ _. Holds (D.scope declared.now).assertions frames.new) }
-    ensures given { IfOk result (λ g. (x : Theorem) → slice_get (D.scope declared.now).assertions place ≡ Some x
-        → seen_given g ≡ given (places_of placed.now.sites.now.floats placed.now.sites.now.labels placed.now.database.now)
-        (take place (D.scope declared.now).assertions) x (map seen words.now) (seen ends.entry)) }
+    ensures { let c = citing.old in let r = proving.now in
+        IfOk result (λ g. (earlier : List Theorem) (x : Theorem) → AreFrames earlier (flags_in (D.scope c.declared.now).assertions c.additions.now)
+        → ((w : Label) → looks_up roles.now.roles w ≡ role_of x.active w) → x.hypotheses ≡ seen_hypotheses mandatory.entry.items
+        → mandatory_in x.active x.statement ≡ x.hypotheses
+        → seen_given g ≡ given (places_behind placed.now) earlier x (map seen r.cut.proof.now) (seen r.ends)) }
 {
+    let (words, ends) = (proving.cut.proof, proving.ends);
     let Some(first) = words.first() else {
         return Ok(Given::Faulty(ends, FaultKind::BadToken));
     };
-    let Some(proof) = proof_of(alloc, words)? else {
+    let Some(proof) = proof_of(alloc, proving.cut.proof)? else {
         return Ok(Given::Faulty(ends, FaultKind::BadToken));
     };
     if is_unfinished(&proof) {
         return Ok(Given::Faulty(*first, FaultKind::OutOfProfile));
     }
-    if let Some(word) = first_unnamed(alloc, declared, place, labels_among(words))? {
+    if let Some(word) = first_unnamed(citing, roles, labels_among(words)) {
         return Ok(Given::Faulty(word, FaultKind::UnknownLabel));
     }
-    match read_given(alloc, keys, declared, frames, placed, place, &proof)? {
+    match read_given(alloc, citing, placed, roles, mandatory, &proof)? {
         Some(tree) => given_by_tree(alloc, &tree, *first),
         None => Ok(Given::Faulty(ends, FaultKind::BadToken)),
     }

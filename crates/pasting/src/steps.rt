@@ -2,16 +2,32 @@
 
 ghost use Rattle.std.specs.Prelude.{◌≡◌, ◌++◌, ◌∷◌, [], IfOk, List, OnOk, map};
 ghost use Rattle.mmtext.specs.Text.{Token as Word};
+ghost use Rattle.mmsyntax.specs.declared.statement.Step.TheVariants.{Hyp};
 ghost use Rattle.mmsyntax.specs.Dotted.{hypothesis_label};
-ghost use Rattle.mmsyntax.specs.Layout.{step_word};
 ghost use Rattle.mmsyntax.specs.ProofWords.{seen_step};
-ghost use Rattle.expanding.specs.Words.{word_at};
+ghost use Rattle.mmsyntax.specs.Tables.{Tables};
+ghost use Rattle.source.specs.Scopes.{Scope, label_of};
+ghost use Rattle.source.specs.Views.{seen_hypothesis};
+ghost use Rattle.taking.specs.Names.{Map};
 ghost use Rattle.expanding.specs.Views.{IsLaid};
+ghost use Rattle.pasting.specs.Pasted.{Proving as Proved, step_at};
+ghost use Rattle.pasting.specs.Views.{IsProving};
 
+use crate::proving::{Proving, Theorem};
 use expanding::Laid;
 use mmsyntax::{Prelude, Proof, StepRef};
-use mmtext::Token;
+use source::HypothesisWords;
 use std::alloc::{AllocError, Global};
+
+/// The label of a hypothesis.
+fn label_of<'h>(hypothesis: &HypothesisWords<'h>) -> &'h [u8]
+    ensures { result.now ≡ label_of (seen_hypothesis hypothesis.now) }
+{
+    match hypothesis {
+        HypothesisWords::Typing(label, _, _) => label,
+        HypothesisWords::Premise(label, _) => label,
+    }
+}
 
 /// The label of a hypothesis of the assertion with a label. Hypotheses count from 1.
 fn hypothesis_label(alloc: Global, label: &[u8], number: u64) -> Result<Vec<u8>, AllocError>
@@ -24,44 +40,67 @@ fn hypothesis_label(alloc: Global, label: &[u8], number: u64) -> Result<Vec<u8>,
     Ok(word)
 }
 
-/// Puts the word of a step in the proof of the theorem with a label, at the place of this label. A `$f` that is not of the prelude has no
-/// label.
-fn put_step(
+/// Puts the word of a hypothesis of a theorem, from 0, at the place of its label: one that is added has it from the script.
+fn put_hypothesis(
     alloc: Global,
-    prelude: &Prelude,
-    label: Token<'_>,
-    step: StepRef<'_>,
+    proving: &Proving<'_, '_>,
+    number: u32,
     laid: &mut Laid,
 ) -> Result<(), AllocError>
-    ensures { OnOk result ((ts : List Word) → IsLaid ts laid.old
-        → IsLaid (ts ++ word_at label.entry.place (step_word prelude.now label.entry.text.now (seen_step step.entry)) ∷ []) laid.new) }
+    ensures { OnOk result ((m : Map) (t : Tables) (s : Scope) (r : Proved) → IsProving m t s proving.now r
+        → (ts : List Word) → IsLaid ts laid.old → IsLaid (ts ++ step_at r (Hyp number) ∷ []) laid.new) }
 {
-    match step {
-        StepRef::Float(place) => match prelude.floats().get(place as usize) {
-            Some(float) => laid.put_word(float.label.as_slice(), label.place),
-            None => laid.put_word(&[], label.place),
-        },
-        StepRef::Hyp(place) => {
-            let word = hypothesis_label(alloc, label.text, place as u64 + 1)?;
+    let label = proving.label;
+    match &proving.theorem {
+        Theorem::Standing(_) => {
+            let word = hypothesis_label(alloc, label.text, number as u64 + 1)?;
             laid.put_word(word.as_slice(), label.place)
         }
-        StepRef::Cite(cited) => laid.put_word(cited, label.place),
+        Theorem::Added(addition) => {
+            let word = match addition.premises.get(number as usize) {
+                Some(premise) => label_of(premise),
+                None => &[],
+            };
+            laid.put_word(word, label.place)
+        }
     }
 }
 
-/// Puts the words of the steps of a proof of the theorem with a label, at the place of this label.
+/// Puts the word of a step in the proof of a theorem, at the place of its label. A `$f` that is not of the prelude has no label.
+fn put_step(
+    alloc: Global,
+    prelude: &Prelude,
+    proving: &Proving<'_, '_>,
+    step: StepRef<'_>,
+    laid: &mut Laid,
+) -> Result<(), AllocError>
+    ensures { OnOk result ((m : Map) (s : Scope) (r : Proved) → IsProving m prelude.now s proving.now r
+        → (ts : List Word) → IsLaid ts laid.old → IsLaid (ts ++ step_at r (seen_step step.entry) ∷ []) laid.new) }
+{
+    let place = proving.label.place;
+    match step {
+        StepRef::Float(number) => match prelude.floats().get(number as usize) {
+            Some(float) => laid.put_word(float.label.as_slice(), place),
+            None => laid.put_word(&[], place),
+        },
+        StepRef::Hyp(number) => put_hypothesis(alloc, proving, number, laid),
+        StepRef::Cite(cited) => laid.put_word(cited, place),
+    }
+}
+
+/// Puts the words of the steps of a proof of a theorem, at the place of its label.
 pub(crate) fn put_steps(
     alloc: Global,
     prelude: &Prelude,
-    label: Token<'_>,
+    proving: &Proving<'_, '_>,
     steps: &Proof,
     laid: &mut Laid,
 ) -> Result<(), AllocError>
-    ensures { OnOk result ((ts : List Word) → IsLaid ts laid.old → IsLaid
-        (ts ++ map (λ x. word_at label.entry.place (step_word prelude.now label.entry.text.now x)) steps.now) laid.new) }
+    ensures { OnOk result ((m : Map) (s : Scope) (r : Proved) → IsProving m prelude.now s proving.now r
+        → (ts : List Word) → IsLaid ts laid.old → IsLaid (ts ++ map (step_at r) steps.now) laid.new) }
 {
     for i in 0..steps.len() {
-        put_step(alloc, prelude, label, steps.step(i), laid)?;
+        put_step(alloc, prelude, proving, steps.step(i), laid)?;
     }
     Ok(())
 }

@@ -6,6 +6,7 @@ ghost use Rattle.source.specs.Scopes.{Assertion};
 ghost use Rattle.source.specs.Whole.{IsWhole};
 ghost use Rattle.source.specs.Proofs.{denoted, is_unfinished};
 ghost use Rattle.source.specs.Views.{seen_words, seen_proof, seen_hypotheses};
+ghost use Rattle.taking.specs.Walks.{TakesAll};
 ghost use Rattle.prooftrees.specs.Frames.{Holds};
 ghost use Rattle.prooftrees.specs.Counted.{IsCounted, counted_labels};
 ghost use Rattle.prooftrees.specs.Roles.{looks_up};
@@ -35,6 +36,7 @@ fn tree_of<'s, 'a, C: CitedFrames<'s>, P: StepPlaces>(
     requires { C.is_right cited.old }
     ensures right { C.is_right cited.new }
     ensures assertions { C.assertions cited.new ≡ C.assertions cited.old }
+    ensures whole { IfOk result (λ tree. IfSome tree (λ t. All (TakesAll t.named.items) t.proof.nodes)) }
     ensures tree { IfOk result (λ tree. (earlier : List Assertion) (x : Assertion) (proof : Proof) → AreFrames earlier (C.floats cited.old)
         → AreEnough earlier x.active (looks_up roles.now.roles) → All (IsKnown earlier x.active) (seen_words counted.entry.labels.items)
         → IsCounted x.hypotheses proof counted.entry → is_unfinished proof ≡ false
@@ -73,6 +75,7 @@ pub fn read_given<'s, 'a, C: CitedFrames<'s>, P: StepPlaces>(
     requires { C.is_right cited.old }
     ensures right { C.is_right cited.new }
     ensures assertions { C.assertions cited.new ≡ C.assertions cited.old }
+    ensures whole { IfOk result (λ tree. IfSome tree (λ t. All (TakesAll t.named.items) t.proof.nodes)) }
     ensures tree { let own = seen_proof proof.now in
         IfOk result (λ tree. (earlier : List Assertion) (x : Assertion) → AreFrames earlier (C.floats cited.old)
         → AreEnough earlier x.active (looks_up roles.now.roles) → x.hypotheses ≡ seen_hypotheses mandatory.entry.items

@@ -1,6 +1,6 @@
 //! The hypotheses that a proof names, by their labels.
 
-ghost use Rattle.std.specs.Prelude.{◌≡◌, ◌+◌, ◌∷◌, ◌++◌, [], List, IfOk, OnOk};
+ghost use Rattle.std.specs.Prelude.{◌≡◌, ◌+◌, ◌∷◌, ◌++◌, [], List, IfOk, OnOk, is_some};
 ghost use Rattle.std.specs.Str.{bytes_eq};
 ghost use Rattle.mmtext.specs.Words.{Word};
 ghost use Rattle.source.specs.Scopes.{Hypothesis};
@@ -102,6 +102,13 @@ impl<'a> Roles<'a> {
             premises = note_hypothesis(&mut roles, hypothesis, premises)?;
         }
         Ok(Roles { roles })
+    }
+
+    /// Whether a label is that of one of the hypotheses: one look-up.
+    pub fn have(&self, label: &[u8]) -> bool
+        ensures { result ≡ is_some (looks_up self.now.roles label.now) }
+    {
+        self.role(label).is_some()
     }
 
     /// What a label names, if it is that of one of the hypotheses: one look-up.

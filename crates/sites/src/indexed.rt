@@ -12,7 +12,7 @@ use std::hash::RandomState;
 use std::marker::Model;
 
 /// Words that have the places 0, 1, .. in their order. A clause sees the words: the map is for look-ups alone.
-pub(crate) struct Indexed<'a> {
+pub struct Indexed<'a> {
     words: Vec<&'a [u8]>,
     places: HashMap<&'a [u8], usize, RandomState>,
 }
@@ -42,7 +42,11 @@ impl<'a> Model for Indexed<'a> {
 
 impl<'a> Indexed<'a> {
     /// Words with their first places. The map draws its hashes from the keys.
-    pub(crate) fn new(
+    ///
+    /// # Errors
+    ///
+    /// Want of memory.
+    pub fn new(
         alloc: Global,
         keys: RandomState,
         words: Vec<&'a [u8]>,
@@ -54,7 +58,7 @@ impl<'a> Indexed<'a> {
     }
 
     /// The words, by their places.
-    pub(crate) fn words(&self) -> &[&'a [u8]]
+    pub fn words(&self) -> &[&'a [u8]]
         ensures { seen_words result.now ≡ self.now }
     {
         self.words.as_slice()
@@ -68,7 +72,7 @@ impl<'a> Indexed<'a> {
     }
 
     /// The first place of a word: one look-up.
-    pub(crate) fn place(&self, word: &[u8]) -> Option<usize>
+    pub fn place(&self, word: &[u8]) -> Option<usize>
         ensures place { result ≡ place_of (bytes_eq word.now) self.now }
         ensures within { IfSome result (λ place. place < length self.now) }
     {

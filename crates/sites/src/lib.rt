@@ -14,5 +14,6 @@ mod used;
 pub use active::Active;
 pub use gathering::sites_of;
 pub use given::active_at;
+pub use indexed::Indexed;
 pub use names::{LibraryNames, SourceNames, name_all};
 pub use sites::Sites;

@@ -27,8 +27,8 @@ returns-in-Err-clause-refused g c =
     let kept = c.loop-script.invariant in
     let why = c.in-Err.why in
     let m = places_in s flags db in
-    let unpasted = subst (λ ts. IsUnpasted m s (map seen ts) why) c.as_slice.ensures.value (c.in-Err.ensures.faulty flags db kept.3) in
-    told_more (λ line. IsPasteFaultLine paths m s (map seen words.items) k line) (IsUnpastedBy paths s flags db (seen_scripts scripts))
+    let unpasted = subst (λ ts. IsUnpasted m db.prelude s (map seen ts) why) c.as_slice.ensures.value (c.in-Err.ensures.faulty flags db kept.3) in
+    told_more (λ line. IsPasteFaultLine paths m db.prelude s (map seen words.items) k line) (IsUnpastedBy paths s flags db (seen_scripts scripts))
     (λ line h. record {
       script = k;
       before = kept.0;
@@ -37,7 +37,7 @@ returns-in-Err-clause-refused g c =
       at = get_seen (λ (ts : Vec CodeToken Global). map seen ts.items) scripts k words at;
       cause = h;
     })
-    c.in_ok-unpasted-in-Err.field-0 (c.in_ok-unpasted-in-Err.ensures m s (map seen words.items) unpasted)
+    c.in_ok-unpasted-in-Err.field-0 (c.in_ok-unpasted-in-Err.ensures m db.prelude s (map seen words.items) unpasted)
 
 pub loop-script-preserved : goal.loop-script-preserved
 loop-script-preserved g c =
@@ -52,11 +52,11 @@ loop-script-preserved g c =
     let laid = c.in-Ok.laid in
     let now = c.in-Ok.ensures.pasted flags db kept.3 in
     let out = now.0 in
-    let one = subst (λ ts. IsPasted (places_in s flags db) db.prelude s (map seen ts) out) c.as_slice.ensures.value now.3 in (
+    let one = subst (λ ts. IsPasted (places_in s flags db) db.prelude s (map seen ts) out) c.as_slice.ensures.value now.2 in (
       kept.0 ++ out ∷ [],
       subst (λ ls. AllZip IsLaid (kept.0 ++ out ∷ []) ls) (sym c.in_ok-push-in-Ok.ensures.items)
           (all_zipped_more IsLaid kept.0 c.loop-script.all.items out laid kept.1 now.1),
       zipped_more_at (IsPasted (places_in s flags db) db.prelude s) (seen_scripts scripts) k (map seen words.items) kept.0 out
           (get_seen (λ (ts : Vec CodeToken Global). map seen ts.items) scripts k words at) kept.2 one,
-      now.2,
+      kept.3,
     )

@@ -1,0 +1,164 @@
+//! What scripts add, and what a proof in one may cite.
+
+ghost use Rattle.std.specs.Prelude.{◌≡◌, ◌++◌, IfOk, List, OnOk, is_some, map, option_map};
+ghost use Rattle.std.specs.List.{flat_map};
+ghost use Rattle.std.specs.Str.{bytes_eq};
+ghost use Rattle.mmsyntax.specs.Tables.{place_of};
+ghost use Rattle.mmtext.specs.Views.{seen};
+ghost use Rattle.source.specs.Scopes.{Assertion};
+ghost use Rattle.source.specs.Views.{seen_hypothesis, seen_words};
+ghost use Rattle.taking.specs.Names.{Map};
+ghost use Rattle.mmsyntax.specs.Tables.{Tables};
+ghost use Rattle.expanding.specs.Forms.{AreParts, Part};
+ghost use Rattle.expanding.specs.Views.{seen_scripts};
+ghost use Rattle.pasting.specs.Additions.{added_by, floats_of};
+ghost use Rattle.pasting.specs.Pasted.{AreAdditions};
+ghost use Rattle.pasting.specs.Views.{AreAdded, AreKnown, added_flags};
+
+use crate::addition::addition_of;
+use crate::theorem::mandatory_of;
+use expanding::part_length;
+use mmsyntax::Sequence;
+use mmtext::Token;
+use prooftrees::{CitedFrames, flags_of};
+use sites::Indexed;
+use source::{Declared, HypothesisWords};
+use std::alloc::{AllocError, Global};
+use std::hash::RandomState;
+
+/// What scripts add to a library.
+#[derive(Drop)]
+pub struct Additions<'w, 'p> {
+    /// The `$f` of the library, with the labels that they have in the source.
+    pub(crate) floats: Vec<HypothesisWords<'p>>,
+    /// The labels of what is added.
+    pub(crate) labels: Indexed<'w>,
+    /// Whether each mandatory hypothesis is a `$f`, in order of appearance.
+    pub(crate) flags: Vec<Sequence<bool>>,
+}
+
+/// The same, while scripts are gone through.
+#[derive(Drop)]
+struct Noted<'w> {
+    labels: Vec<&'w [u8]>,
+    flags: Vec<Sequence<bool>>,
+}
+
+/// Notes what a part adds. After an error nothing is said of what is noted.
+fn note_part<'w: 'p, 'p>(
+    alloc: Global,
+    floats: &[HypothesisWords<'p>],
+    part: &[Token<'w>],
+    noted: &mut Noted<'w>,
+) -> Result<(), AllocError>
+    ensures { OnOk result ((m : Map) (t : Tables) (xs : List Assertion) → map seen_hypothesis floats.now ≡ floats_of m t
+        → AreAdded xs (seen_words noted.old.labels.items) noted.old.flags.items
+        → AreAdded (xs ++ added_by m t (map seen part.now)) (seen_words noted.new.labels.items) noted.new.flags.items) }
+{
+    let Some(addition) = addition_of(alloc, part)? else {
+        return Ok(());
+    };
+    let label = addition.label.text;
+    let (premises, statement) = (addition.premises.as_slice(), addition.statement.as_slice());
+    let mandatory = mandatory_of(alloc, floats, premises, statement)?;
+    noted.flags.push(flags_of(alloc, mandatory)?)?;
+    noted.labels.push(label)?;
+    Ok(())
+}
+
+/// Notes what a script adds. After an error nothing is said of what is noted.
+fn note_script<'w: 'p, 'p>(
+    alloc: Global,
+    floats: &[HypothesisWords<'p>],
+    words: &[Token<'w>],
+    noted: &mut Noted<'w>,
+) -> Result<(), AllocError>
+    ensures { OnOk result ((m : Map) (t : Tables) (xs : List Assertion) → map seen_hypothesis floats.now ≡ floats_of m t
+        → AreAdded xs (seen_words noted.old.labels.items) noted.old.flags.items → (parts : List Part) × AreParts (map seen words.now) parts
+        × AreAdded (xs ++ flat_map (added_by m t) parts) (seen_words noted.new.labels.items) noted.new.flags.items) }
+{
+    let mut at = 0;
+    while at < words.len() {
+        let rest = &words[at..];
+        let part = &rest[..part_length(rest)];
+        note_part(alloc, floats, part, noted)?;
+        at += part.len();
+    }
+    Ok(())
+}
+
+impl<'w, 'p> Additions<'w, 'p> {
+    /// What these scripts add, where a library has these `$f`.
+    pub(crate) fn new(
+        alloc: Global,
+        keys: RandomState,
+        floats: Vec<HypothesisWords<'p>>,
+        scripts: &[Vec<Token<'w>>],
+    ) -> Result<Additions<'w, 'p>, AllocError>
+        ensures { IfOk result (λ made. (m : Map) (t : Tables) → map seen_hypothesis floats.entry.items ≡ floats_of m t
+            → (xs : List Assertion) × AreAdditions m t (seen_scripts scripts.now) xs × AreKnown m t xs made) }
+    {
+        let mut noted = Noted {
+            labels: Vec::new(alloc),
+            flags: Vec::new(alloc),
+        };
+        for words in scripts {
+            note_script(alloc, floats.as_slice(), words.as_slice(), &mut noted)?;
+        }
+        let labels = Indexed::new(alloc, keys, noted.labels)?;
+        Ok(Additions {
+            floats,
+            labels,
+            flags: noted.flags,
+        })
+    }
+
+    /// Whether scripts add an assertion with a label: one look-up.
+    pub(crate) fn have(&self, label: &[u8]) -> bool
+        ensures { result ≡ is_some (place_of (bytes_eq label.now) self.now.labels) }
+    {
+        self.labels.place(label).is_some()
+    }
+
+    /// Whether each mandatory hypothesis of the assertion with a label is a `$f`, if scripts add one: one look-up.
+    fn flags(&self, label: &[u8]) -> Option<&Sequence<bool>>
+        ensures { option_map (λ f. f.now) result ≡ added_flags self.now.labels self.now.flags.items label.now }
+    {
+        let place = self.labels.place(label)?;
+        self.flags.get(place)
+    }
+}
+
+/// What a proof may cite.
+#[derive(Drop)]
+pub(crate) struct Citing<'c, 'w, 'p, D> {
+    /// The source.
+    pub declared: &'c D,
+    /// What scripts add.
+    pub additions: &'c Additions<'w, 'p>,
+}
+
+impl<'c, 'w, 'p, 'a, D: Declared<'a>> CitedFrames<'a> for Citing<'c, 'w, 'p, D> {
+    ghost use Rattle.pasting.specs.Views.{flags_in};
+
+    ghost floats = { λ c w. flags_in (D.scope c.declared.now).assertions c.additions.now w };
+
+    ghost assertions = { λ c. (D.scope c.declared.now).assertions };
+
+    ghost is_right = { λ c. Unit {0} };
+
+    fn floats(
+        &mut self,
+        alloc: Global,
+        label: &[u8],
+    ) -> Result<Option<Sequence<bool>>, AllocError> {
+        if let Some(place) = self.declared.place_of(label) {
+            let mandatory = self.declared.mandatory(alloc, place)?;
+            return Ok(Some(flags_of(alloc, mandatory)?));
+        }
+        match self.additions.flags(label) {
+            Some(flags) => Ok(Some(flags.copy(alloc)?)),
+            None => Ok(None),
+        }
+    }
+}
