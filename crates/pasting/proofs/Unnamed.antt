@@ -12,48 +12,21 @@ use Rattle.mmtext.specs.Words.{Word}
 use Rattle.mmtext.specs.Views.{seen}
 use Rattle.mmtext.specs.declared.token.Token.{Token as CodeToken}
 use Rattle.mmsyntax.specs.Tables.{place_of}
-use Rattle.source.specs.Scopes.{Assertion, Hypothesis, label_of}
+use Rattle.mmsyntax.proofs.Distinct.{is_some-place_of}
+use Rattle.source.specs.Scopes.{Assertion, Hypothesis}
 use Rattle.source.specs.Proofs.{taken_by}
-
--- ---- the front of a list
-
-module _ {A : Type 0} (test : A → Bool) where
-  some_step : (b : Bool) (o : Option ℕ) → cond b (Some 0) (option_map (λ n. suc n) o) ≡ None → (b ≡ false) × (o ≡ None)
-  some_step true o e = absurd cc
-  some_step false None e = (refl, refl)
-  some_step false (Some k) e = absurd cc
-
-  pub none_in_front : (xs : List A) (n : ℕ) → place_of test xs ≡ None → list_any test (take n xs) ≡ false
-  none_in_front xs zero e = refl
-  none_in_front [] (suc n) e = refl
-  none_in_front (x ∷ xs) (suc n) e =
-      let p = some_step (test x) (place_of test xs) e in
-      ap (λ b. b || list_any test (take n xs)) p.0 ∙ none_in_front xs n p.1
-
-  front_step : (b : Bool) (o : Option ℕ) (n k : ℕ) (rest : Bool) → cond b (Some 0) (option_map (λ n. suc n) o) ≡ Some k
-      → ((j : ℕ) → o ≡ Some j → nat_lt j n ≡ rest) → nat_lt k (suc n) ≡ (b || rest)
-  front_step true o n k rest e h = let same : 0 ≡ k = cc in lt-ltb k (suc n) (omega arith)
-  front_step false None n k rest e h = absurd cc
-  front_step false (Some j) n k rest e h = let same : suc j ≡ k = cc in let more = h j refl in grind (arith, nat_tests)
-
-  pub first_in_front : (xs : List A) (n k : ℕ) → place_of test xs ≡ Some k → nat_lt k n ≡ list_any test (take n xs)
-  first_in_front xs zero k e = le-ltb k 0 (omega arith)
-  first_in_front [] (suc n) k e = absurd cc
-  first_in_front (x ∷ xs) (suc n) k e =
-      front_step (test x) (place_of test xs) n k (list_any test (take n xs)) e (λ j f. first_in_front xs n j f)
+use Rattle.taking.specs.Listings.{premise_labels}
+use Rattle.taking.specs.Settings.{is_float}
+use Rattle.prooftrees.specs.declared.roles.Role.{Role}
+use Rattle.prooftrees.specs.Names.{labelled}
+use Rattle.prooftrees.specs.Roles.{role_in, is_label_of, role_of}
+use Rattle.prooftrees.proofs.Named.{premise_in}
 
 -- ---- labels
 
-any_label : (w : Word) (hs : List Hypothesis) → list_any (bytes_eq w) (map label_of hs) ≡ list_any (λ h. bytes_eq w (label_of h)) hs
-any_label w [] = refl
-any_label w (h ∷ hs) = ap (λ b. bytes_eq w (label_of h) || b) (any_label w hs)
-
-any_found : {A : Type 0} (test : A → Bool) (xs : List A) → list_any test xs ≡ is_some (find test xs)
-any_found test [] = refl
-any_found {A} test (x ∷ xs) = elim (test x) as (λ b. (b || list_any test xs) ≡ is_some (cond b (Some x) (find test xs))) [
-  | true ↦ refl
-  | false ↦ any_found test xs
-]
+mapped_some : {A B : Type 0} (f : A → B) (o : Option A) → is_some (option_map f o) ≡ is_some o
+mapped_some f None = refl
+mapped_some f (Some a) = refl
 
 by_tests : (b : Bool) (o : Option Assertion) (rest : Bool) → rest ≡ is_some o
     → (b || rest) ≡ is_some (cond b (Some []) (option_map (λ a. a.hypotheses) o))
@@ -62,20 +35,27 @@ by_tests false None rest e = e
 by_tests false (Some a) rest e = e
 
 -- a label is one of active hypotheses, or of an earlier assertion
-pub named_is : (earlier : List Assertion) (hs : List Hypothesis) (w : Word)
-    → (list_any (bytes_eq w) (map label_of hs) || list_any (λ a. bytes_eq w a.label) earlier) ≡ is_some (taken_by earlier hs w)
-named_is earlier hs w =
-    ap (λ b. b || list_any (λ a. bytes_eq w a.label) earlier) (any_label w hs)
-    ∙ by_tests (list_any (λ h. bytes_eq w (label_of h)) hs) (find (λ a. bytes_eq w a.label) earlier)
-    (list_any (λ a. bytes_eq w a.label) earlier) (any_found (λ (a : Assertion). bytes_eq w a.label) earlier)
+named_is : (earlier : List Assertion) (hs : List Hypothesis) (w : Word)
+    → (is_label_of hs w || is_some (labelled earlier w)) ≡ is_some (taken_by earlier hs w)
+named_is earlier hs w = by_tests (is_label_of hs w) (labelled earlier w) (is_some (labelled earlier w)) refl
 
--- the labels of the hypotheses that are active at a place
-pub labels_active : (xs : List Assertion) (place : ℕ) (x : Assertion) → slice_get xs place ≡ Some x → (hs : List Hypothesis)
-    → option_map (λ a. a.active) (slice_get xs place) ≡ Some hs → map label_of x.active ≡ map label_of hs
-labels_active xs place x at hs h =
-    let e : Some x.active ≡ Some hs = sym (ap (option_map (λ (a : Assertion). a.active)) at) ∙ h in
-    let same : x.active ≡ hs = cc in
-    ap (map label_of) same
+role_some : (b : Bool) (o : Option ℕ) → (is_some o ≡ true → b ≡ true) → is_some (role_in b o) ≡ b
+role_some b (Some n) h = sym (h refl)
+role_some true None h = refl
+role_some false None h = refl
+
+-- so says a look-up of roles, and one of frames
+pub known_is : (earlier : List Assertion) (hs : List Hypothesis) (w : Word) (role : Option Role) (floats : Option (List Bool))
+    → role ≡ role_of hs w → floats ≡ option_map (λ a. map is_float a.hypotheses) (labelled earlier w)
+    → (is_some role || is_some floats) ≡ is_some (taken_by earlier hs w)
+known_is earlier hs w role floats r f =
+    ap (λ o. is_some o || is_some floats) r
+    ∙ ap (λ o. is_some (role_of hs w) || is_some o) f
+    ∙ ap (λ b. b || is_some (option_map (λ (a : Assertion). map is_float a.hypotheses) (labelled earlier w)))
+    (role_some (is_label_of hs w) (place_of (bytes_eq w) (premise_labels hs))
+    (λ h. premise_in hs w (sym (is_some-place_of (bytes_eq w) (premise_labels hs)) ∙ h)))
+    ∙ ap (λ b. is_label_of hs w || b) (mapped_some (λ (a : Assertion). map is_float a.hypotheses) (labelled earlier w))
+    ∙ named_is earlier hs w
 
 -- ---- the first of some words that passes
 

@@ -15,7 +15,7 @@ ghost use Rattle.pasting.specs.Additions.{added_by, floats_of};
 ghost use Rattle.pasting.specs.Pasted.{AreAdditions};
 ghost use Rattle.pasting.specs.Views.{AreAdded, AreKnown, added_flags};
 
-use crate::addition::addition_of;
+use crate::addition::{Addition, addition_of};
 use crate::theorem::mandatory_of;
 use expanding::part_length;
 use mmsyntax::Sequence;
@@ -58,11 +58,14 @@ fn note_part<'w: 'p, 'p>(
     let Some(addition) = addition_of(alloc, part)? else {
         return Ok(());
     };
-    let label = addition.label.text;
-    let (premises, statement) = (addition.premises.as_slice(), addition.statement.as_slice());
-    let mandatory = mandatory_of(alloc, floats, premises, statement)?;
+    let Addition {
+        label,
+        premises,
+        statement,
+    } = addition;
+    let mandatory = mandatory_of(alloc, floats, premises.as_slice(), statement.as_slice())?;
     noted.flags.push(flags_of(alloc, mandatory)?)?;
-    noted.labels.push(label)?;
+    noted.labels.push(label.text)?;
     Ok(())
 }
 
@@ -121,7 +124,7 @@ impl<'w, 'p> Additions<'w, 'p> {
     }
 
     /// Whether each mandatory hypothesis of the assertion with a label is a `$f`, if scripts add one: one look-up.
-    fn flags(&self, label: &[u8]) -> Option<&Sequence<bool>>
+    pub(crate) fn flags(&self, label: &[u8]) -> Option<&Sequence<bool>>
         ensures { option_map (λ f. f.now) result ≡ added_flags self.now.labels self.now.flags.items label.now }
     {
         let place = self.labels.place(label)?;

@@ -24,7 +24,7 @@ fn is_named<'a, D: Declared<'a>>(citing: &Citing<'_, '_, '_, D>, roles: &Roles<'
 {
     roles.have(label)
         || citing.declared.place_of(label).is_some()
-        || citing.additions.have(label)
+        || citing.additions.flags(label).is_some()
 }
 
 /// The first of these words that is neither the label of an active hypothesis, of which these are the roles, nor that of an assertion that may

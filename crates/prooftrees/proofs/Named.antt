@@ -27,7 +27,7 @@ or_both false b c f h = f h
 
 -- ---- roles
 
-premise_in : (hs : List Hypothesis) (w : Word) → list_any (bytes_eq w) (premise_labels hs) ≡ true → is_label_of hs w ≡ true
+pub premise_in : (hs : List Hypothesis) (w : Word) → list_any (bytes_eq w) (premise_labels hs) ≡ true → is_label_of hs w ≡ true
 premise_in [] w h = h
 premise_in (typing l c v ∷ hs) w h = or_right (bytes_eq w l) (is_label_of hs w) (premise_in hs w h)
 premise_in (premise l ws ∷ hs) w h =
