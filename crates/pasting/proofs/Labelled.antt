@@ -17,7 +17,7 @@ use Rattle.pasting.specs.Pasted.{with_labels}
 
 -- ---- pairs of two lists
 
-later : {B : Type 0} (b : B) (bs : List B) (o : Option ℕ)
+pub later : {B : Type 0} (b : B) (bs : List B) (o : Option ℕ)
     → option_and_then (slice_get bs) o ≡ option_and_then (slice_get (b ∷ bs)) (option_map (λ n. suc n) o)
 later b bs None = refl
 later b bs (Some k) = refl
@@ -71,15 +71,15 @@ suc_some None = refl
 suc_some (Some n) = refl
 
 own_label : (w : Word) (ls : List Word)
-    → find (λ p. bytes_eq w p.0) (map (λ v. (v, v)) ls) ≡ (if is_some (place_of (bytes_eq w) ls) then Some (w, w) else None)
+    → find (λ (p : Word × Word). bytes_eq w p.0) (map (λ v. (v, v)) ls) ≡ (if is_some (place_of (bytes_eq w) ls) then Some (w, w) else None)
 own_label w [] = refl
 own_label w (v ∷ ls) = elim (cases_Bool (bytes_eq w v)) [
   | inl y ↦
-      ap (λ b. cond b (Some (v, v)) (find (λ p. bytes_eq w p.0) (map (λ v. (v, v)) ls))) y
+      ap (λ b. cond b (Some (v, v)) (find (λ (p : Word × Word). bytes_eq w p.0) (map (λ v. (v, v)) ls))) y
       ∙ ap (λ u. Some (u, u)) (sym (same_bytes w v y))
       ∙ sym (ap (λ b. if is_some (cond b (Some 0) (option_map (λ n. suc n) (place_of (bytes_eq w) ls))) then Some (w, w) else None) y)
   | inr n ↦
-      ap (λ b. cond b (Some (v, v)) (find (λ p. bytes_eq w p.0) (map (λ v. (v, v)) ls))) n
+      ap (λ b. cond b (Some (v, v)) (find (λ (p : Word × Word). bytes_eq w p.0) (map (λ v. (v, v)) ls))) n
       ∙ own_label w ls
       ∙ ap (λ b. if b then Some (w, w) else None) (sym (suc_some (place_of (bytes_eq w) ls)))
       ∙ sym (ap (λ b. if is_some (cond b (Some 0) (option_map (λ n. suc n) (place_of (bytes_eq w) ls))) then Some (w, w) else None) n)
@@ -87,10 +87,10 @@ own_label w (v ∷ ls) = elim (cases_Bool (bytes_eq w v)) [
 
 module _ (m : Map) (ls : List Word) (w : Word) where
   among_both : label_in (with_labels m ls) w ≡ option_map (λ p. p.1)
-      (option_or (find (λ p. bytes_eq w p.0) m.labels) (if is_some (place_of (bytes_eq w) ls) then Some (w, w) else None))
+      (option_or (find (λ (p : Word × Word). bytes_eq w p.0) m.labels) (if is_some (place_of (bytes_eq w) ls) then Some (w, w) else None))
   among_both =
       ap (option_map (λ p. p.1)) (find-append (λ (p : Word × Word). bytes_eq w p.0) m.labels (map (λ v. (v, v)) ls))
-      ∙ ap (λ o. option_map (λ p. p.1) (option_or (find (λ p. bytes_eq w p.0) m.labels) o)) (own_label w ls)
+      ∙ ap (λ o. option_map (λ p. p.1) (option_or (find (λ (p : Word × Word). bytes_eq w p.0) m.labels) o)) (own_label w ls)
 
   first_label : (o p : Option (Word × Word)) (l : Word) → option_map (λ p. p.1) o ≡ Some l
       → option_map (λ p. p.1) (option_or o p) ≡ Some l
@@ -103,15 +103,15 @@ module _ (m : Map) (ls : List Word) (w : Word) where
 
   -- one that is taken keeps its label in the library
   pub label_stays : (l : Word) → label_in m w ≡ Some l → label_in (with_labels m ls) w ≡ Some l
-  label_stays l e = among_both ∙ first_label (find (λ p. bytes_eq w p.0) m.labels) _ l e
+  label_stays l e = among_both ∙ first_label (find (λ (p : Word × Word). bytes_eq w p.0) m.labels) _ l e
 
   -- one that is added has its own, and another has none
   pub label_added : label_in m w ≡ None → is_some (place_of (bytes_eq w) ls) ≡ true → label_in (with_labels m ls) w ≡ Some w
   label_added e y =
-      among_both ∙ no_label (find (λ p. bytes_eq w p.0) m.labels) _ e
-      ∙ ap (λ b. option_map (λ p. p.1) (if b then Some (w, w) else None)) y
+      among_both ∙ no_label (find (λ (p : Word × Word). bytes_eq w p.0) m.labels) _ e
+      ∙ ap (λ b. option_map (λ (p : Word × Word). p.1) (if b then Some (w, w) else None)) y
 
   pub label_none : label_in m w ≡ None → is_some (place_of (bytes_eq w) ls) ≡ false → label_in (with_labels m ls) w ≡ None
   label_none e n =
-      among_both ∙ no_label (find (λ p. bytes_eq w p.0) m.labels) _ e
-      ∙ ap (λ b. option_map (λ p. p.1) (if b then Some (w, w) else None)) n
+      among_both ∙ no_label (find (λ (p : Word × Word). bytes_eq w p.0) m.labels) _ e
+      ∙ ap (λ b. option_map (λ (p : Word × Word). p.1) (if b then Some (w, w) else None)) n

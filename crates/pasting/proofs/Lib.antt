@@ -1,3 +1,4 @@
+pub mod Adding
 pub mod Spoken
 pub mod Unnamed
 pub mod Labelled
@@ -6,3 +7,4 @@ pub mod Known
 pub mod Told
 pub mod Reproving
 pub mod Pasting
+pub mod Citable

@@ -4,16 +4,20 @@ use Rattle.std.specs.List.{flat_map}
 use Rattle.std.proofs.lemmas.Grind.{flat_map-append}
 use Rattle.std.proofs.lemmas.List.{append_assoc, append-nil}
 use Rattle.mmtext.specs.Text.{Token}
+use Rattle.mmtext.specs.Words.{Word}
+use Rattle.mmtext.specs.Views.{seen}
+use Rattle.mmsyntax.specs.declared.statement.Step.{Step}
 use Rattle.mmsyntax.specs.Tables.{Tables, Contents}
 use Rattle.source.specs.Scopes.{Assertion, Scope}
 use Rattle.source.specs.Flags.{kept}
 use Rattle.taking.specs.Names.{Map}
+use Rattle.expanding.specs.Words.{word_at}
 use Rattle.expanding.specs.Forms.{Part, AreParts}
 use Rattle.pasting.specs.Places.{places_of, places_in}
-use Rattle.pasting.specs.Proofs.{Given}
-use Rattle.pasting.specs.Pasted.{Proving, given_in, with_given, pasted_by, pasted, proving}
+use Rattle.pasting.specs.Proofs.{steps, is_compressed}
+use Rattle.pasting.specs.Pasted.{Proving, given_in, with_given, pasted_by, pasted, proving, fault_of, paste_fault_by}
 use Rattle.pasting.specs.Pasted.{PasteFault, paste_fault, or_fault, first_fault, IsPasted, HasPasteFault}
-use Rattle.pasting.specs.Views.{IsPaster, IsFaultIn, IsUnpasted, IsProving, IsProvingIf, seen_given, given_words, places_by}
+use Rattle.pasting.specs.Views.{IsPaster, IsFaultIn, IsUnpasted, IsProving, IsProvingIf, seen_given, given_words, places_by, step_of, word_of}
 use Rattle.pasting.specs.declared.given.Given.{Given as CodeGiven}
 use Rattle.pasting.specs.declared.given.Given.TheVariants as code
 use Rattle.pasting.specs.declared.proving.Proving.{Proving as CodeProving}
@@ -32,15 +36,23 @@ places_are s flags db p is =
 -- ---- one command
 
 -- its words, by what is told of its proof
-abbrev pub with_told : Part → Proving → CodeGiven → List Token
-with_told p r (code.Steps xs) = given_words r xs
-with_told p r code.Untaken = p
-with_told p r (code.Faulty at kind) = p
+abbrev pub with_told : Tables → Part → CodeProving → CodeGiven → List Token
+with_told t p c (code.Steps xs) = given_words t c xs
+with_told t p c code.Untaken = p
+with_told t p c (code.Faulty at kind) = p
 
-told_words : (p : Part) (r : Proving) (g : CodeGiven) → with_told p r g ≡ with_given p r (seen_given g)
-told_words p r (code.Steps xs) = refl
-told_words p r code.Untaken = refl
-told_words p r (code.Faulty at kind) = refl
+words_are : (m : Map) (t : Tables) (s : Scope) (c : CodeProving) (r : Proving) (p : Part) (xs : List Step) → IsProving m t s c r
+    → given_words t c xs ≡ with_given p r (steps xs)
+words_are m t s c r p xs is =
+    ap (λ k. k.front ++ (map (step_of t c) xs ++ k.back)) is.cut
+    ∙ ap (λ (l : Token). r.cut.front ++ (map (λ x. word_at l.place (word_of t c.theorem c.label.text.now x)) xs ++ r.cut.back)) is.label
+    ∙ ap (λ (f : Step → Word). r.cut.front ++ (map (λ x. word_at r.label.place (f x)) xs ++ r.cut.back)) is.word
+
+told_words : (m : Map) (t : Tables) (s : Scope) (c : CodeProving) (r : Proving) (p : Part) (g : CodeGiven) → IsProving m t s c r
+    → with_told t p c g ≡ with_given p r (seen_given g)
+told_words m t s c r p (code.Steps xs) is = words_are m t s c r p xs is
+told_words m t s c r p code.Untaken is = refl
+told_words m t s c r p (code.Faulty at kind) is = refl
 
 -- the command is one of the source where the code has one
 pub there : (m : Map) (t : Tables) (s : Scope) (c : CodeProving) (o : Option Proving) → IsProvingIf m t s (Some c) o
@@ -48,9 +60,23 @@ pub there : (m : Map) (t : Tables) (s : Scope) (c : CodeProving) (o : Option Pro
 there m t s c None is = absurd is
 there m t s c (Some r) is = (r, refl, is)
 
-module _ (m : Map) (t : Tables) (s : Scope) (added : List Assertion) (p : Part) (r : Proving) (is : proving m t s p ≡ Some r) where
-  pub pasted_is : (g : CodeGiven) → seen_given g ≡ given_in m s added r → with_told p r g ≡ pasted m t s added p
-  pasted_is g told = told_words p r g ∙ ap (with_given p r) told ∙ sym (ap (pasted_by m s added p) is)
+pub pasted_is : (m : Map) (t : Tables) (s : Scope) (added : List Assertion) (p : Part) (c : CodeProving) (g : CodeGiven)
+    → IsProvingIf m t s (Some c) (proving m t s p)
+    → ((r : Proving) → IsProving m t s c r → seen_given g ≡ given_in m s added r) → with_told t p c g ≡ pasted m t s added p
+pasted_is m t s added p c g is told =
+    let r = there m t s c (proving m t s p) is in
+    told_words m t s c r.0 p g r.2 ∙ ap (with_given p r.0) (told r.0 r.2) ∙ sym (ap (pasted_by m s added p) r.1)
+
+-- what is told of a fault is told of the command
+pub fault_is : (m : Map) (t : Tables) (s : Scope) (added : List Assertion) (p : Part) (c : CodeProving) (g : CodeGiven) (b : Bool)
+    → IsProvingIf m t s (Some c) (proving m t s p)
+    → ((r : Proving) → IsProving m t s c r → seen_given g ≡ given_in m s added r) → b ≡ is_compressed (map seen c.cut.proof.now)
+    → fault_of b (seen_given g) ≡ paste_fault m t s added p
+fault_is m t s added p c g b is told e =
+    let r = there m t s c (proving m t s p) is in
+    ap (fault_of b) (told r.0 r.2)
+    ∙ ap (λ z. fault_of z (given_in m s added r.0)) (e ∙ ap (λ k. is_compressed k.proof) r.2.cut)
+    ∙ sym (ap (paste_fault_by m s added) r.1)
 
 -- ---- parts
 

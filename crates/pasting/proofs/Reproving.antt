@@ -1,7 +1,7 @@
 -- A command that gives a theorem a proof, word by word.
-use Rattle.std.proofs.Common.{◌≡◌, ◌∙◌, ℕ, suc, Bool, true, false, cond, List, [], ◌∷◌, map, Option, Some, None, refl, sym, ap}
-use Rattle.std.specs.Prelude.{slice_get}
-use Rattle.std.specs.Option.{option_map, option_and_then}
+use Rattle.std.proofs.Common.{◌≡◌, ◌∙◌, ℕ, suc, Bool, true, false, cond, List, [], ◌∷◌, map, Option, Some, None, refl, sym, ap, subst}
+use Rattle.std.specs.Prelude.{slice_get, is_some}
+use Rattle.std.specs.Option.{option_map, option_and_then, option_or}
 use Rattle.std.specs.Str.{bytes_eq}
 use Rattle.std.proofs.lemmas.Option.{slice_get-map}
 use Rattle.mmtext.specs.Text.{Token}
@@ -11,8 +11,12 @@ use Rattle.mmsyntax.specs.Layout.{step_word}
 use Rattle.mmsyntax.specs.Tables.{Tables, place_of}
 use Rattle.source.specs.Scopes.{Assertion, Scope}
 use Rattle.taking.specs.Names.{Map}
-use Rattle.expanding.specs.Cuts.{Cut}
-use Rattle.pasting.specs.Pasted.{reproved, reproving, proving_of, theorem_at}
+use Rattle.expanding.specs.Cuts.{Cut, cut_of}
+use Rattle.expanding.specs.Forms.{Part}
+use Rattle.pasting.specs.Additions.{Addition, addition_of, theorem_of}
+use Rattle.pasting.specs.Pasted.{Proving, reproved, reproving, adding, added_word, proving, proving_in, proving_of, theorem_at}
+use Rattle.pasting.specs.Views.{IsProvingIf}
+use Rattle.pasting.specs.declared.proving.Proving.{Proving as CodeProving}
 
 -- ---- the first item that passes is there
 
@@ -39,6 +43,9 @@ theorem_there s label k e = first_there (λ (a : Assertion). bytes_eq label.text
 pub ended_by : (ws : List CodeToken) (w : CodeToken) → Some w ≡ slice_get ws 0 → slice_get (map seen ws) 0 ≡ Some (seen w)
 ended_by ws w e = slice_get-map seen ws 0 ∙ ap (option_map seen) (sym e)
 
+pub no_first : (ws : List CodeToken) → None ≡ slice_get ws 0 → slice_get (map seen ws) 0 ≡ None
+no_first ws e = slice_get-map seen ws 0 ∙ ap (option_map seen) (sym e)
+
 module _ (m : Map) (t : Tables) (s : Scope) (c : Cut) (ends : Token) (ended : slice_get c.back 0 ≡ Some ends) where
   pub reproved_there : (label : Token) (k : ℕ) (x : Assertion) → Some label ≡ reproved c.front
       → Some k ≡ place_of (λ (a : Assertion). bytes_eq label.text a.label) s.assertions → slice_get s.assertions k ≡ Some x
@@ -60,3 +67,51 @@ module _ (m : Map) (t : Tables) (s : Scope) (c : Cut) (ends : Token) (ended : sl
 
   pub none_reproved : None ≡ reproved c.front → option_and_then (reproving t s c) (reproved c.front) ≡ None
   none_reproved none = ap (option_and_then (reproving t s c)) (sym none)
+
+-- ---- the proof of a command, if it has one
+
+-- no word behind it
+none_of : (m : Map) (t : Tables) (s : Scope) (c : Cut) (o : Option Token) (a : Option Addition) → slice_get c.back 0 ≡ None
+    → option_or (option_and_then (reproving t s c) o) (option_and_then (adding m t c) a) ≡ None
+none_of m t s c None None e = refl
+none_of m t s c None (Some a) e = ap (λ o. proving_of c o a.label (Some (theorem_of m t a)) (added_word t a)) e
+none_of m t s c (Some l) None e =
+    ap (λ o. option_or (proving_of c o l (theorem_at s l) (step_word t l.text)) None) e
+none_of m t s c (Some l) (Some a) e =
+    ap (λ o. option_or (proving_of c o l (theorem_at s l) (step_word t l.text)) (adding m t c a)) e
+    ∙ ap (λ o. proving_of c o a.label (Some (theorem_of m t a)) (added_word t a)) e
+
+module _ (m : Map) (t : Tables) (s : Scope) (p : Part) (c : Cut) (cut : cut_of p ≡ Some c) where
+  pub never_ended : slice_get c.back 0 ≡ None → proving m t s p ≡ None
+  never_ended e = ap (option_and_then (proving_in m t s p)) cut ∙ none_of m t s c (reproved c.front) (addition_of p) e
+
+  first_of : (o q : Option Proving) (f : Option CodeProving) → IsProvingIf m t s f o → is_some f ≡ true
+      → IsProvingIf m t s f (option_or o q)
+  first_of None q None is some = absurd cc
+  first_of None q (Some f) is some = absurd is
+  first_of (Some r) q f is some = is
+
+  pub is_reproving : (f : Option CodeProving) → IsProvingIf m t s f (option_and_then (reproving t s c) (reproved c.front))
+      → is_some f ≡ true → IsProvingIf m t s f (proving m t s p)
+  is_reproving f is some =
+      subst (IsProvingIf m t s f) (sym (ap (option_and_then (proving_in m t s p)) cut))
+      (first_of (option_and_then (reproving t s c) (reproved c.front)) (option_and_then (adding m t c) (addition_of p)) f is some)
+
+  none_is : (f : Option CodeProving) (o : Option Proving) → IsProvingIf m t s f o → is_some f ≡ false → o ≡ None
+  none_is None o is none = is
+  none_is (Some f) o is none = absurd cc
+
+  -- by `add`, where it isn't by `reprove`
+  pub is_adding : (f : Option CodeProving) → IsProvingIf m t s f (option_and_then (reproving t s c) (reproved c.front))
+      → is_some f ≡ false → proving m t s p ≡ option_and_then (adding m t c) (addition_of p)
+  is_adding f is none =
+      ap (option_and_then (proving_in m t s p)) cut
+      ∙ ap (λ o. option_or o (option_and_then (adding m t c) (addition_of p)))
+      (none_is f (option_and_then (reproving t s c) (reproved c.front)) is none)
+
+  pub added_there : (a : Addition) (ends : Token) → addition_of p ≡ Some a → slice_get c.back 0 ≡ Some ends
+      → option_and_then (adding m t c) (addition_of p)
+      ≡ Some (record { cut = c; ends = ends; label = a.label; theorem = theorem_of m t a; word = added_word t a })
+  added_there a ends there ended =
+      ap (option_and_then (adding m t c)) there
+      ∙ ap (λ o. proving_of c o a.label (Some (theorem_of m t a)) (added_word t a)) ended

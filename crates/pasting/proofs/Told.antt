@@ -1,6 +1,6 @@
 -- What is told of words that are a finished proof whose labels name what is there.
 use Rattle.std.proofs.Common.{◌≡◌, ◌∙◌, false, List, [], ◌∷◌, map, Option, Some, None, sym, ap}
-use Rattle.std.specs.Prelude.{slice_get, find}
+use Rattle.std.specs.Prelude.{slice_get, find, Result, Ok, Err, IfOk}
 use Rattle.std.proofs.lemmas.Bool.{cond-false}
 use Rattle.mmtext.specs.Text.{Token}
 use Rattle.mmtext.specs.Views.{seen}
@@ -33,3 +33,8 @@ pub none_found : (earlier : List Assertion) (x : Assertion) (ws : List CodeToken
     → labels ≡ labels_among (map seen ws) → o ≡ find (is_unnamed earlier x) labels → o ≡ None
     → find (is_unnamed earlier x) (labels_among (map seen ws)) ≡ None
 none_found earlier x ws labels o are is none = ap (find (is_unnamed earlier x)) (sym are) ∙ sym is ∙ none
+
+-- what is so of a result for each
+pub all_there : {T E A : Type 0} (r : Result T E) (Q : T → A → Type 0) → ((a : A) → IfOk r (λ t. Q t a)) → IfOk r (λ t. (a : A) → Q t a)
+all_there (Ok t) Q f = f
+all_there (Err e) Q f = tt

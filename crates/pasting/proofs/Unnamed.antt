@@ -1,12 +1,9 @@
 -- Labels that name what is there.
 use Rattle.std.proofs.Common.{◌≡◌, ◌∙◌, ℕ, zero, suc, ◌<◌, ◌+◌, Bool, true, false, cond, List, [], ◌∷◌, length, map, take}
 use Rattle.std.proofs.Common.{Option, Some, None, refl, sym, ap, arith, get_or, add-one}
-use Rattle.std.specs.Prelude.{◌||◌, find, is_some, nat_lt, slice_get}
-use Rattle.std.specs.List.{list_any}
-use Rattle.std.specs.Option.{option_map}
+use Rattle.std.specs.Prelude.{◌||◌, find, is_some, slice_get}
+use Rattle.std.specs.Option.{option_map, option_or}
 use Rattle.std.specs.Str.{bytes_eq}
-use Rattle.std.proofs.lemmas.Bool.{lt-ltb, le-ltb}
-use Rattle.std.proofs.lemmas.Bool.Decides.{nat_tests}
 use Rattle.mmtext.specs.Text.{Token}
 use Rattle.mmtext.specs.Words.{Word}
 use Rattle.mmtext.specs.Views.{seen}
@@ -21,10 +18,12 @@ use Rattle.prooftrees.specs.declared.roles.Role.{Role}
 use Rattle.prooftrees.specs.Names.{labelled}
 use Rattle.prooftrees.specs.Roles.{role_in, is_label_of, role_of}
 use Rattle.prooftrees.proofs.Named.{premise_in}
+use Rattle.pasting.specs.declared.additions.Additions.{Additions}
+use Rattle.pasting.specs.Views.{added_flags, flags_in, flags_of}
 
 -- ---- labels
 
-mapped_some : {A B : Type 0} (f : A → B) (o : Option A) → is_some (option_map f o) ≡ is_some o
+pub mapped_some : {A B : Type 0} (f : A → B) (o : Option A) → is_some (option_map f o) ≡ is_some o
 mapped_some f None = refl
 mapped_some f (Some a) = refl
 
@@ -56,6 +55,56 @@ known_is earlier hs w role floats r f =
     (λ h. premise_in hs w (sym (is_some-place_of (bytes_eq w) (premise_labels hs)) ∙ h)))
     ∙ ap (λ b. is_label_of hs w || b) (mapped_some (λ (a : Assertion). map is_float a.hypotheses) (labelled earlier w))
     ∙ named_is earlier hs w
+
+-- where the first that passes stands
+placed_some : {A : Type 0} (test : A → Bool) (xs : List A) → is_some (place_of test xs) ≡ is_some (find test xs)
+placed_some test [] = refl
+placed_some {A} test (x ∷ xs) =
+    let rest = placed_some test xs in
+    elim (test x) as (λ b. is_some (cond b (Some 0) (option_map (λ n. suc n) (place_of test xs))) ≡ is_some (cond b (Some x) (find test xs))) [
+      | true ↦ refl
+      | false ↦ mapped_some (λ n. suc n) (place_of test xs) ∙ rest
+    ]
+
+none_behind : {A : Type 0} (b : Bool) (x : A) (o : Option ℕ) (f : Option A) → cond b (Some 0) (option_map (λ n. suc n) o) ≡ None
+    → (o ≡ None → f ≡ None) → cond b (Some x) f ≡ None
+none_behind true x o f e h = absurd cc
+none_behind false x None f e h = h refl
+none_behind false x (Some k) f e h = absurd cc
+
+pub none_placed : {A : Type 0} (test : A → Bool) (xs : List A) → place_of test xs ≡ None → find test xs ≡ None
+none_placed test [] e = refl
+none_placed test (x ∷ xs) e = none_behind (test x) x (place_of test xs) (find test xs) e (λ h. none_placed test xs h)
+
+some_behind : {A : Type 0} (b : Bool) (x : A) (xs : List A) (o : Option ℕ) (f : Option A) (k : ℕ)
+    → cond b (Some 0) (option_map (λ n. suc n) o) ≡ Some k → ((j : ℕ) → o ≡ Some j → f ≡ slice_get xs j)
+    → cond b (Some x) f ≡ slice_get (x ∷ xs) k
+some_behind true x xs o f k e h = let same : 0 ≡ k = cc in ap (slice_get (x ∷ xs)) same
+some_behind false x xs None f k e h = absurd cc
+some_behind false x xs (Some j) f k e h = let same : suc j ≡ k = cc in h j refl ∙ ap (slice_get (x ∷ xs)) same
+
+pub found_at : {A : Type 0} (test : A → Bool) (xs : List A) (k : ℕ) → place_of test xs ≡ Some k → find test xs ≡ slice_get xs k
+found_at test [] k e = absurd cc
+found_at test (x ∷ xs) k e = some_behind (test x) x xs (place_of test xs) (find test xs) k e (λ j h. found_at test xs j h)
+
+-- what is found in one place or another
+pub found_some : {A : Type 0} (o p : Option A) → is_some (option_or o p) ≡ (is_some o || is_some p)
+found_some None p = refl
+found_some (Some a) p = refl
+
+-- so says a look-up of frames
+pub may_be_cited : (xs : List Assertion) (a : Additions) (w : Word)
+    → (is_some (place_of (λ (x : Assertion). bytes_eq w x.label) xs) || is_some (added_flags a.labels a.flags.items w))
+    ≡ is_some (flags_in xs a w)
+may_be_cited xs a w =
+    ap (λ b. b || is_some (added_flags a.labels a.flags.items w))
+    (placed_some (λ (x : Assertion). bytes_eq w x.label) xs ∙ sym (mapped_some flags_of (labelled xs w)))
+    ∙ sym (found_some (option_map flags_of (labelled xs w)) (added_flags a.labels a.flags.items w))
+
+pub flags_at : (o : Option Assertion) (hs : List Hypothesis) → option_map (λ a. a.hypotheses) o ≡ Some hs
+    → option_map flags_of o ≡ Some (map is_float hs)
+flags_at None hs e = absurd cc
+flags_at (Some x) hs e = let same : x.hypotheses ≡ hs = cc in ap (λ ks. Some (map is_float ks)) same
 
 -- ---- the first of some words that passes
 

@@ -1,5 +1,5 @@
 -- Of the code's inside, apart from the rules: how contracts see proofs that are given, and what has a place in a library.
-use Rattle.std.specs.Prelude.{◌≡◌, ◌≤◌, ℕ, Bool, true, List, ◌++◌, map, filter, length, Option, Some, None, slice_get}
+use Rattle.std.specs.Prelude.{◌≡◌, ◌≤◌, Bool, true, List, ◌++◌, map, filter, length, Option, Some, None, slice_get}
 use Rattle.std.specs.List.{AllByRecursion, list_any}
 use Rattle.std.specs.Option.{option_and_then, option_map, option_or}
 use Rattle.std.specs.Str.{bytes_eq}
@@ -17,11 +17,12 @@ use Rattle.sites.specs.Sites.{AreSites}
 use Rattle.taking.specs.Names.{Map, is_symbol_of, has_float_labelled}
 use Rattle.taking.specs.Settings.{is_float}
 use Rattle.prooftrees.specs.Names.{labelled}
+use Rattle.expanding.specs.Words.{word_at}
 use Rattle.expanding.specs.Views.{seen_cut}
 use Rattle.pasting.specs.Additions.{Addition, floats_of, theorem_of}
 use Rattle.pasting.specs.Places.{places_of}
 use Rattle.pasting.specs.Proofs.{Given, steps, untaken, faulty}
-use Rattle.pasting.specs.Pasted.{Proving, added_word, step_at, with_labels, PasteFault, HasPasteFault}
+use Rattle.pasting.specs.Pasted.{Proving, added_word, with_labels, PasteFault, HasPasteFault}
 use Rattle.pasting.specs.declared.addition.Addition.{Addition as CodeAddition}
 use Rattle.pasting.specs.declared.additions.Additions.{Additions}
 use Rattle.pasting.specs.declared.placing.Placed.{Placed}
@@ -47,17 +48,26 @@ seen_addition a = record {
   statement = seen_words a.statement.items;
 }
 
--- the theorem of the code is this one, with these words for steps
-abbrev pub IsTheorem : Map → Tables → Scope → Token → CodeTheorem → Assertion → (Step → Word) → Type 0
-IsTheorem m t s label (theorem.Standing place) x word = (slice_get s.assertions place ≡ Some x) × (word ≡ step_word t label.text)
-IsTheorem m t s label (theorem.Added a) x word = (x ≡ theorem_of m t (seen_addition a)) × (word ≡ added_word t (seen_addition a))
+-- the words of steps
+abbrev pub word_of : Tables → CodeTheorem → Word → Step → Word
+word_of t (theorem.Standing place) label = step_word t label
+word_of t (theorem.Added a) label = added_word t (seen_addition a)
+
+abbrev pub step_of : Tables → CodeProving → Step → Token
+step_of t c x = word_at c.label.place (word_of t c.theorem c.label.text.now x)
+
+-- the theorem of the code is this one
+abbrev pub IsTheorem : Map → Tables → Scope → CodeTheorem → Assertion → Type 0
+IsTheorem m t s (theorem.Standing place) x = slice_get s.assertions place ≡ Some x
+IsTheorem m t s (theorem.Added a) x = x ≡ theorem_of m t (seen_addition a)
 
 -- a command of the code is this one
 pub record IsProving (m : Map) (t : Tables) (s : Scope) (c : CodeProving) (r : Proving) : Type 0 where
   pub cut : seen_cut c.cut ≡ r.cut
   pub ends : seen c.ends ≡ r.ends
   pub label : seen c.label ≡ r.label
-  pub theorem : IsTheorem m t s r.label c.theorem r.theorem r.word
+  pub theorem : IsTheorem m t s c.theorem r.theorem
+  pub word : word_of t c.theorem c.label.text.now ≡ r.word
 
 abbrev pub IsProvingIf : Map → Tables → Scope → Option CodeProving → Option Proving → Type 0
 IsProvingIf m t s None r = r ≡ None
@@ -117,8 +127,8 @@ abbrev pub places_by : Paster → Map
 places_by p = places_of p.sites.floats p.sites.labels p.database.now
 
 -- the words of a command with these steps
-abbrev pub given_words : Proving → List Step → List Token
-given_words r xs = r.cut.front ++ (map (step_at r) xs ++ r.cut.back)
+abbrev pub given_words : Tables → CodeProving → List Step → List Token
+given_words t c xs = map seen c.cut.front.now ++ (map (step_of t c) xs ++ map seen c.cut.back.now)
 
 -- where what is named has its place, what is added too
 abbrev pub places_behind : Placed → Map

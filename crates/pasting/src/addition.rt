@@ -57,10 +57,7 @@ fn symbols_in<'w>(alloc: Global, words: &[Token<'w>]) -> Result<Vec<&'w [u8]>, A
 }
 
 /// The first assertion among words, with the `$e` in front of it.
-fn addition_in<'w>(
-    alloc: Global,
-    words: &[Token<'w>],
-) -> Result<Option<Addition<'w>>, AllocError>
+fn addition_in<'w>(alloc: Global, words: &[Token<'w>]) -> Result<Option<Addition<'w>>, AllocError>
     ensures { IfOk result (λ made. option_map seen_addition made ≡ addition_in (map seen words.now)) }
 {
     let Some((first, rest)) = words.split_first() else {

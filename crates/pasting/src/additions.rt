@@ -13,7 +13,7 @@ ghost use Rattle.expanding.specs.Forms.{AreParts, Part};
 ghost use Rattle.expanding.specs.Views.{seen_scripts};
 ghost use Rattle.pasting.specs.Additions.{added_by, floats_of};
 ghost use Rattle.pasting.specs.Pasted.{AreAdditions};
-ghost use Rattle.pasting.specs.Views.{AreAdded, AreKnown, added_flags};
+ghost use Rattle.pasting.specs.Views.{AreAdded, AreKnown, added_flags, flags_in};
 
 use crate::addition::{Addition, addition_of};
 use crate::theorem::mandatory_of;
@@ -28,28 +28,28 @@ use std::hash::RandomState;
 
 /// What scripts add to a library.
 #[derive(Drop)]
-pub struct Additions<'w, 'p> {
+pub struct Additions<'x> {
     /// The `$f` of the library, with the labels that they have in the source.
-    pub(crate) floats: Vec<HypothesisWords<'p>>,
+    pub(crate) floats: Vec<HypothesisWords<'x>>,
     /// The labels of what is added.
-    pub(crate) labels: Indexed<'w>,
+    pub(crate) labels: Indexed<'x>,
     /// Whether each mandatory hypothesis is a `$f`, in order of appearance.
     pub(crate) flags: Vec<Sequence<bool>>,
 }
 
 /// The same, while scripts are gone through.
 #[derive(Drop)]
-struct Noted<'w> {
-    labels: Vec<&'w [u8]>,
+struct Noted<'x> {
+    labels: Vec<&'x [u8]>,
     flags: Vec<Sequence<bool>>,
 }
 
 /// Notes what a part adds. After an error nothing is said of what is noted.
-fn note_part<'w: 'p, 'p>(
+fn note_part<'x>(
     alloc: Global,
-    floats: &[HypothesisWords<'p>],
-    part: &[Token<'w>],
-    noted: &mut Noted<'w>,
+    floats: &[HypothesisWords<'x>],
+    part: &[Token<'x>],
+    noted: &mut Noted<'x>,
 ) -> Result<(), AllocError>
     ensures { OnOk result ((m : Map) (t : Tables) (xs : List Assertion) → map seen_hypothesis floats.now ≡ floats_of m t
         → AreAdded xs (seen_words noted.old.labels.items) noted.old.flags.items
@@ -70,11 +70,11 @@ fn note_part<'w: 'p, 'p>(
 }
 
 /// Notes what a script adds. After an error nothing is said of what is noted.
-fn note_script<'w: 'p, 'p>(
+fn note_script<'x>(
     alloc: Global,
-    floats: &[HypothesisWords<'p>],
-    words: &[Token<'w>],
-    noted: &mut Noted<'w>,
+    floats: &[HypothesisWords<'x>],
+    words: &[Token<'x>],
+    noted: &mut Noted<'x>,
 ) -> Result<(), AllocError>
     ensures { OnOk result ((m : Map) (t : Tables) (xs : List Assertion) → map seen_hypothesis floats.now ≡ floats_of m t
         → AreAdded xs (seen_words noted.old.labels.items) noted.old.flags.items → (parts : List Part) × AreParts (map seen words.now) parts
@@ -90,14 +90,14 @@ fn note_script<'w: 'p, 'p>(
     Ok(())
 }
 
-impl<'w, 'p> Additions<'w, 'p> {
+impl<'x> Additions<'x> {
     /// What these scripts add, where a library has these `$f`.
-    pub(crate) fn new(
+    pub(crate) fn new<'w: 'x>(
         alloc: Global,
         keys: RandomState,
-        floats: Vec<HypothesisWords<'p>>,
+        floats: Vec<HypothesisWords<'x>>,
         scripts: &[Vec<Token<'w>>],
-    ) -> Result<Additions<'w, 'p>, AllocError>
+    ) -> Result<Additions<'x>, AllocError>
         ensures { IfOk result (λ made. (m : Map) (t : Tables) → map seen_hypothesis floats.entry.items ≡ floats_of m t
             → (xs : List Assertion) × AreAdditions m t (seen_scripts scripts.now) xs × AreKnown m t xs made) }
     {
@@ -124,7 +124,7 @@ impl<'w, 'p> Additions<'w, 'p> {
     }
 
     /// Whether each mandatory hypothesis of the assertion with a label is a `$f`, if scripts add one: one look-up.
-    pub(crate) fn flags(&self, label: &[u8]) -> Option<&Sequence<bool>>
+    fn flags(&self, label: &[u8]) -> Option<&Sequence<bool>>
         ensures { option_map (λ f. f.now) result ≡ added_flags self.now.labels self.now.flags.items label.now }
     {
         let place = self.labels.place(label)?;
@@ -134,14 +134,14 @@ impl<'w, 'p> Additions<'w, 'p> {
 
 /// What a proof may cite.
 #[derive(Drop)]
-pub(crate) struct Citing<'c, 'w, 'p, D> {
+pub(crate) struct Citing<'c, 'x, D> {
     /// The source.
     pub declared: &'c D,
     /// What scripts add.
-    pub additions: &'c Additions<'w, 'p>,
+    pub additions: &'c Additions<'x>,
 }
 
-impl<'c, 'w, 'p, 'a, D: Declared<'a>> CitedFrames<'a> for Citing<'c, 'w, 'p, D> {
+impl<'c, 'x, 'a, D: Declared<'a>> CitedFrames<'a> for Citing<'c, 'x, D> {
     ghost use Rattle.pasting.specs.Views.{flags_in};
 
     ghost floats = { λ c w. flags_in (D.scope c.declared.now).assertions c.additions.now w };
@@ -164,4 +164,11 @@ impl<'c, 'w, 'p, 'a, D: Declared<'a>> CitedFrames<'a> for Citing<'c, 'w, 'p, D> 
             None => Ok(None),
         }
     }
+}
+
+/// Whether an assertion with a label may be cited.
+pub(crate) fn may_cite<'a, D: Declared<'a>>(citing: &Citing<'_, '_, D>, label: &[u8]) -> bool
+    ensures { result ≡ is_some (flags_in (D.scope citing.now.declared.now).assertions citing.now.additions.now label.now) }
+{
+    citing.declared.place_of(label).is_some() || citing.additions.flags(label).is_some()
 }

@@ -10,27 +10,29 @@ ghost use Rattle.prooftrees.specs.Roles.{looks_up, role_of};
 ghost use Rattle.pasting.specs.Proofs.{is_unnamed};
 ghost use Rattle.pasting.specs.Views.{flags_in};
 
-use crate::additions::Citing;
+use crate::additions::{Citing, may_cite};
 use mmtext::Token;
 use prooftrees::Roles;
 use source::Declared;
 
 /// Whether a label is that of an active hypothesis, of which these are the roles, or of an assertion that may be cited.
-fn is_named<'a, D: Declared<'a>>(citing: &Citing<'_, '_, '_, D>, roles: &Roles<'_>, label: &[u8]) -> bool
+fn is_named<'a, D: Declared<'a>>(
+    citing: &Citing<'_, '_, D>,
+    roles: &Roles<'_>,
+    label: &[u8],
+) -> bool
     ensures { (earlier : List Theorem) (active : List Hypothesis)
         → AreFrames earlier (flags_in (D.scope citing.now.declared.now).assertions citing.now.additions.now)
         → ((w : Label) → looks_up roles.now.roles w ≡ role_of active w)
         → result ≡ is_some (taken_by earlier active label.now) }
 {
-    roles.have(label)
-        || citing.declared.place_of(label).is_some()
-        || citing.additions.flags(label).is_some()
+    roles.have(label) || may_cite(citing, label)
 }
 
 /// The first of these words that is neither the label of an active hypothesis, of which these are the roles, nor that of an assertion that may
 /// be cited.
 pub(crate) fn first_unnamed<'w, 'a, D: Declared<'a>>(
-    citing: &Citing<'_, '_, '_, D>,
+    citing: &Citing<'_, '_, D>,
     roles: &Roles<'_>,
     words: &[Token<'w>],
 ) -> Option<Token<'w>>

@@ -3,10 +3,9 @@
 ghost use Rattle.std.specs.Prelude.{◌≡◌, ◌++◌, Bool, None, IfOk, IfErr, List, OnOk, length, map};
 ghost use Rattle.mmtext.specs.Text.{Token as Word};
 ghost use Rattle.mmtext.specs.Views.{seen};
-ghost use Rattle.source.specs.Scopes.{Assertion, Scope};
+ghost use Rattle.source.specs.Scopes.{Assertion};
 ghost use Rattle.source.specs.Whole.{IsWhole};
 ghost use Rattle.mmsyntax.specs.Tables.{Contents};
-ghost use Rattle.taking.specs.Names.{Map};
 ghost use Rattle.expanding.specs.Views.{IsLaid, seen_scripts};
 ghost use Rattle.pasting.specs.Places.{places_in};
 ghost use Rattle.pasting.specs.Pasted.{AreAdditions, IsPasted, Proving as Proved, given_in, pasted, paste_fault};
@@ -45,8 +44,8 @@ fn put_given(
     steps: &Proof,
     laid: &mut Laid,
 ) -> Result<(), AllocError>
-    ensures { OnOk result ((m : Map) (s : Scope) (r : Proved) → IsProving m database.now.prelude s proving.now r
-        → (ts : List Word) → IsLaid ts laid.old → IsLaid (ts ++ given_words r steps.now) laid.new) }
+    ensures { OnOk result ((ts : List Word) → IsLaid ts laid.old
+        → IsLaid (ts ++ given_words database.now.prelude proving.now steps.now) laid.new) }
 {
     laid.put_words(proving.cut.front)?;
     put_steps(alloc, database.prelude(), proving, steps, laid)?;
@@ -89,7 +88,7 @@ impl<'p, 'a: 'p> Paster<'p, 'a> {
         alloc: Global,
         keys: RandomState,
         scripts: &[Vec<Token<'w>>],
-    ) -> Result<Additions<'w, 'p>, AllocError>
+    ) -> Result<Additions<'p>, AllocError>
         ensures { IfOk result (λ made. (xs : List Assertion)
             × AreAdditions (places_by self.now) self.now.database.now.prelude (seen_scripts scripts.now) xs
             × AreKnown (places_by self.now) self.now.database.now.prelude xs made) }
@@ -104,7 +103,7 @@ impl<'p, 'a: 'p> Paster<'p, 'a> {
         alloc: Global,
         keys: RandomState,
         declared: &D,
-        additions: &Additions<'_, '_>,
+        additions: &Additions<'_>,
         proving: &Proving<'_, 'w>,
     ) -> Result<Given<'w>, AllocError>
         requires whole { IsWhole (D.scope declared.now) }
@@ -130,7 +129,10 @@ impl<'p, 'a: 'p> Paster<'p, 'a> {
                 given(alloc, &mut citing, &placed, &roles, mandatory, proving)
             }
             Theorem::Added(addition) => {
-                let (floats, premises) = (additions.floats.as_slice(), addition.premises.as_slice());
+                let (floats, premises) = (
+                    additions.floats.as_slice(),
+                    addition.premises.as_slice(),
+                );
                 let roles = Roles::new(alloc, keys, all_of(alloc, floats, premises)?)?;
                 let statement = addition.statement.as_slice();
                 let mandatory = mandatory_of(alloc, floats, premises, statement)?;
@@ -145,7 +147,7 @@ impl<'p, 'a: 'p> Paster<'p, 'a> {
         alloc: Global,
         keys: RandomState,
         declared: &D,
-        additions: &Additions<'_, '_>,
+        additions: &Additions<'_>,
         part: &[Token<'w>],
         laid: &mut Laid,
     ) -> Result<(), Unpasted<'w>>
@@ -190,7 +192,7 @@ impl<'p, 'a: 'p> Paster<'p, 'a> {
         alloc: Global,
         keys: RandomState,
         declared: &D,
-        additions: &Additions<'_, '_>,
+        additions: &Additions<'_>,
         words: &[Token<'w>],
     ) -> Result<Laid, Unpasted<'w>>
         requires whole { IsWhole (D.scope declared.now) }

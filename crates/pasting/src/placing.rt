@@ -13,16 +13,16 @@ use taking::StepPlaces;
 
 /// What has a place in a library: with the library, whose assertions have the labels, and with what scripts add to it.
 #[derive(Clone, Copy)]
-pub(crate) struct Placed<'p, 'a, 'w> {
+pub(crate) struct Placed<'p, 'a, 'x> {
     /// What of the source has a place.
     pub sites: &'p Sites<'a>,
     /// The library.
     pub database: &'p Database,
     /// What scripts add.
-    pub additions: &'p Additions<'w, 'p>,
+    pub additions: &'p Additions<'x>,
 }
 
-impl<'p, 'a, 'w> Placed<'p, 'a, 'w> {
+impl<'p, 'a, 'x> Placed<'p, 'a, 'x> {
     /// The label in the library of the assertion with a label in the source, if it is taken: one look-up.
     fn label(&self, label: &[u8]) -> Option<&Label>
         ensures { option_map (λ l. l.now) result
@@ -34,7 +34,7 @@ impl<'p, 'a, 'w> Placed<'p, 'a, 'w> {
     }
 }
 
-impl<'p, 'a, 'w> StepPlaces for Placed<'p, 'a, 'w> {
+impl<'p, 'a, 'x> StepPlaces for Placed<'p, 'a, 'x> {
     ghost use Rattle.pasting.specs.Views.{places_behind};
 
     ghost places = { λ p. places_behind p };

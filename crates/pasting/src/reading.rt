@@ -51,7 +51,7 @@ fn given_by_tree<'w>(
 /// The words outlive those of the source, since the tree of a proof has labels of both.
 pub(crate) fn given<'w: 'h, 'h, 'a, D: Declared<'a>>(
     alloc: Global,
-    citing: &mut Citing<'_, '_, '_, D>,
+    citing: &mut Citing<'_, '_, D>,
     placed: &Placed<'_, '_, '_>,
     roles: &Roles<'_>,
     mandatory: Vec<&HypothesisWords<'h>>,

@@ -1,17 +1,15 @@
 //! The steps of a library's proof as words.
 
-ghost use Rattle.std.specs.Prelude.{◌≡◌, ◌++◌, ◌∷◌, [], IfOk, List, OnOk, map};
+ghost use Rattle.std.specs.Prelude.{◌≡◌, ◌++◌, ◌∷◌, [], IfOk, List, OnOk, map, slice_index_or};
 ghost use Rattle.mmtext.specs.Text.{Token as Word};
 ghost use Rattle.mmsyntax.specs.declared.statement.Step.TheVariants.{Hyp};
 ghost use Rattle.mmsyntax.specs.Dotted.{hypothesis_label};
 ghost use Rattle.mmsyntax.specs.ProofWords.{seen_step};
 ghost use Rattle.mmsyntax.specs.Tables.{Tables};
-ghost use Rattle.source.specs.Scopes.{Scope, label_of};
+ghost use Rattle.source.specs.Scopes.{label_of};
 ghost use Rattle.source.specs.Views.{seen_hypothesis};
-ghost use Rattle.taking.specs.Names.{Map};
 ghost use Rattle.expanding.specs.Views.{IsLaid};
-ghost use Rattle.pasting.specs.Pasted.{Proving as Proved, step_at};
-ghost use Rattle.pasting.specs.Views.{IsProving};
+ghost use Rattle.pasting.specs.Views.{step_of};
 
 use crate::proving::{Proving, Theorem};
 use expanding::Laid;
@@ -26,6 +24,16 @@ fn label_of<'h>(hypothesis: &HypothesisWords<'h>) -> &'h [u8]
     match hypothesis {
         HypothesisWords::Typing(label, _, _) => label,
         HypothesisWords::Premise(label, _) => label,
+    }
+}
+
+/// The label of the hypothesis at a place: nothing where there is none.
+fn label_at<'h>(hypotheses: &[HypothesisWords<'h>], place: u32) -> &'h [u8]
+    ensures { result.now ≡ slice_index_or (map label_of (map seen_hypothesis hypotheses.now)) place [] }
+{
+    match hypotheses.get(place as usize) {
+        Some(hypothesis) => label_of(hypothesis),
+        None => &[],
     }
 }
 
@@ -47,8 +55,8 @@ fn put_hypothesis(
     number: u32,
     laid: &mut Laid,
 ) -> Result<(), AllocError>
-    ensures { OnOk result ((m : Map) (t : Tables) (s : Scope) (r : Proved) → IsProving m t s proving.now r
-        → (ts : List Word) → IsLaid ts laid.old → IsLaid (ts ++ step_at r (Hyp number) ∷ []) laid.new) }
+    ensures { OnOk result ((t : Tables) (ts : List Word) → IsLaid ts laid.old
+        → IsLaid (ts ++ step_of t proving.now (Hyp number) ∷ []) laid.new) }
 {
     let label = proving.label;
     match &proving.theorem {
@@ -57,10 +65,7 @@ fn put_hypothesis(
             laid.put_word(word.as_slice(), label.place)
         }
         Theorem::Added(addition) => {
-            let word = match addition.premises.get(number as usize) {
-                Some(premise) => label_of(premise),
-                None => &[],
-            };
+            let word = label_at(addition.premises.as_slice(), number);
             laid.put_word(word, label.place)
         }
     }
@@ -74,8 +79,8 @@ fn put_step(
     step: StepRef<'_>,
     laid: &mut Laid,
 ) -> Result<(), AllocError>
-    ensures { OnOk result ((m : Map) (s : Scope) (r : Proved) → IsProving m prelude.now s proving.now r
-        → (ts : List Word) → IsLaid ts laid.old → IsLaid (ts ++ step_at r (seen_step step.entry) ∷ []) laid.new) }
+    ensures { OnOk result ((ts : List Word) → IsLaid ts laid.old
+        → IsLaid (ts ++ step_of prelude.now proving.now (seen_step step.entry) ∷ []) laid.new) }
 {
     let place = proving.label.place;
     match step {
@@ -96,8 +101,8 @@ pub(crate) fn put_steps(
     steps: &Proof,
     laid: &mut Laid,
 ) -> Result<(), AllocError>
-    ensures { OnOk result ((m : Map) (s : Scope) (r : Proved) → IsProving m prelude.now s proving.now r
-        → (ts : List Word) → IsLaid ts laid.old → IsLaid (ts ++ map (step_at r) steps.now) laid.new) }
+    ensures { OnOk result ((ts : List Word) → IsLaid ts laid.old
+        → IsLaid (ts ++ map (step_of prelude.now proving.now) steps.now) laid.new) }
 {
     for i in 0..steps.len() {
         put_step(alloc, prelude, proving, steps.step(i), laid)?;

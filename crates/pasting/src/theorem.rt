@@ -2,6 +2,7 @@
 
 ghost use Rattle.std.specs.Prelude.{◌≡◌, ◌++◌, IfOk, OnOk, filter, map};
 ghost use Rattle.std.specs.List.{list_any};
+ghost use Rattle.std.specs.Str.{bytes_eq};
 ghost use Rattle.source.specs.Scopes.{is_mandatory, mandatory, stands_in};
 ghost use Rattle.source.specs.Views.{seen_hypothesis, seen_hypotheses, seen_words};
 ghost use Rattle.mmsyntax.specs.Layout.{word_at};
@@ -34,11 +35,14 @@ pub(crate) fn floats_of<'p, 'a: 'p>(
         ≡ floats_of (places_of sites.now.floats sites.now.labels database.now) database.now.prelude) }
 {
     let prelude = database.prelude();
-    let mut made = Vec::new(alloc);
-    for (label, float) in sites.floats().iter().zip(prelude.floats()) {
-        let type_code = name_at(prelude.constants(), float.type_code);
-        let variable = name_at(prelude.variables(), float.variable);
-        made.push(HypothesisWords::Typing(label, type_code, variable))?;
+    let (labels, floats) = (sites.floats(), prelude.floats());
+    let count = labels.len().min(floats.len());
+    let mut made = Vec::with_capacity(alloc, count)?;
+    for place in 0..count {
+        let (type_code, variable) = (floats[place].type_code, floats[place].variable);
+        let type_code = name_at(prelude.constants(), type_code);
+        let variable = name_at(prelude.variables(), variable);
+        made.push(HypothesisWords::Typing(labels[place], type_code, variable))?;
     }
     Ok(made)
 }
@@ -61,19 +65,26 @@ pub(crate) fn all_of<'t, 'x>(
     Ok(made)
 }
 
+/// Whether a word is one of these.
+fn is_among(words: &[&[u8]], word: &[u8]) -> bool
+    ensures { result ≡ list_any (λ other. bytes_eq word.now other.now) words.now }
+{
+    words.iter().any(|other| word == *other)
+}
+
 /// Whether a variable stands in a `$e`.
 fn stands_in(variable: &[u8], hypothesis: &HypothesisWords<'_>) -> bool
     ensures { result ≡ stands_in variable.now (seen_hypothesis hypothesis.now) }
 {
     match hypothesis {
         HypothesisWords::Typing(..) => false,
-        HypothesisWords::Premise(_, symbols) => symbols.as_slice().contains(&variable),
+        HypothesisWords::Premise(_, symbols) => is_among(symbols.as_slice(), variable),
     }
 }
 
 /// Whether a variable stands in one of these `$e`.
 fn stands_in_one(variable: &[u8], premises: &[HypothesisWords<'_>]) -> bool
-    ensures { result ≡ list_any (stands_in variable.now) (map seen_hypothesis premises.now) }
+    ensures { result ≡ list_any (λ premise. stands_in variable.now (seen_hypothesis premise)) premises.now }
 {
     premises.iter().any(|premise| stands_in(variable, premise))
 }
@@ -88,7 +99,7 @@ fn is_mandatory(
 {
     match hypothesis {
         HypothesisWords::Typing(_, _, variable) => {
-            statement.contains(variable) || stands_in_one(variable, premises)
+            is_among(statement, variable) || stands_in_one(variable, premises)
         }
         HypothesisWords::Premise(..) => true,
     }

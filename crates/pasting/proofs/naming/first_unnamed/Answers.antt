@@ -1,5 +1,5 @@
 -- What is left to show of `first_unnamed`.
-use Rattle.std.proofs.Common.{◌≡◌, ◌∙◌, List, map, sym, ap}
+use Rattle.std.proofs.Common.{◌∙◌, List, map, sym, ap}
 use Rattle.std.specs.Prelude.{find}
 use mathlib.Core.Bool.{not}
 use Rattle.std.proofs.lemmas.List.{take_all}

@@ -1,5 +1,5 @@
 -- What is left to show of `reproving`.
-use Rattle.std.proofs.Common.{◌≡◌, refl, subst, sym, Some}
+use Rattle.std.proofs.Common.{refl, subst, sym, Some}
 use Rattle.mmtext.specs.Views.{seen}
 use Rattle.expanding.specs.Views.{seen_cut}
 use Rattle.pasting.specs.declared.proving.Theorem.TheVariants.{Standing}
@@ -16,4 +16,4 @@ returns g c = λ m t ended.
     subst (IsProvingIf m t s (Some (record { cut = c.args.cut; ends = c.args.ends; label = label; theorem = Standing place })))
     (sym (reproved_there m t s (seen_cut c.args.cut) (seen c.args.ends) ended (seen label) place there.0 c.in_ok-label.ensures
     c.in_ok-place.ensures there.1))
-    (record { cut = refl; ends = refl; label = refl; theorem = (there.1, refl) })
+    (record { cut = refl; ends = refl; label = refl; theorem = there.1; word = refl })

@@ -1,0 +1,65 @@
+-- The frames of what a proof may cite, and the roles of all hypotheses that are active.
+use Rattle.std.proofs.Common.{◌≡◌, ◌∙◌, ℕ, suc, Bool, true, false, cond, List, [], ◌∷◌, ◌++◌, map, Option, Some, None, refl, sym, ap}
+use Rattle.std.specs.Prelude.{slice_get, is_some}
+use Rattle.std.specs.Option.{option_map, option_and_then, option_or}
+use Rattle.std.specs.Str.{bytes_eq}
+use Rattle.std.proofs.lemmas.List.Folds.{find-append}
+use Rattle.mmtext.specs.Words.{Word}
+use Rattle.mmsyntax.specs.Tables.{Tables, place_of}
+use Rattle.source.specs.Scopes.{Assertion, Hypothesis}
+use Rattle.taking.specs.Names.{Map}
+use Rattle.prooftrees.specs.declared.roles.Role.{Role}
+use Rattle.prooftrees.specs.Names.{AreEnough, AreFrames, labelled}
+use Rattle.prooftrees.specs.Roles.{role_of}
+use Rattle.prooftrees.proofs.Named.{known_assertion}
+use Rattle.pasting.specs.Views.{AreKnown, added_flags, flags_in, flags_of}
+use Rattle.pasting.specs.declared.additions.Additions.{Additions}
+use Rattle.pasting.proofs.Labelled.{later}
+
+-- ---- frames
+
+by_test : (t : Bool) (x : Assertion) (fs : List (List Bool)) (o : Option ℕ) (f : Option Assertion)
+    → option_and_then (slice_get fs) o ≡ option_map flags_of f
+    → option_and_then (slice_get (flags_of x ∷ fs)) (cond t (Some 0) (option_map (λ n. suc n) o)) ≡ option_map flags_of (cond t (Some x) f)
+by_test true x fs o f e = refl
+by_test false x fs o f e = sym (later (flags_of x) fs o) ∙ e
+
+added_are : (xs : List Assertion) (w : Word) → added_flags (map (λ x. x.label) xs) (map flags_of xs) w ≡ option_map flags_of (labelled xs w)
+added_are [] w = refl
+added_are (x ∷ xs) w =
+    by_test (bytes_eq w x.label) x (map flags_of xs) (place_of (bytes_eq w) (map (λ x. x.label) xs)) (labelled xs w) (added_are xs w)
+
+mapped_or : (o p : Option Assertion) → option_or (option_map flags_of o) (option_map flags_of p) ≡ option_map flags_of (option_or o p)
+mapped_or None p = refl
+mapped_or (Some x) p = refl
+
+-- those of the source, and else of what is added
+pub frames_are : (m : Map) (t : Tables) (ys xs : List Assertion) (a : Additions) → AreKnown m t xs a → AreFrames (ys ++ xs) (flags_in ys a)
+frames_are m t ys xs a known = λ w.
+    ap (λ ls. option_or (option_map flags_of (labelled ys w)) (added_flags ls a.flags.items w)) known.added.labels_are
+    ∙ ap (λ fs. option_or (option_map flags_of (labelled ys w)) (added_flags (map (λ (x : Assertion). x.label) xs) fs w))
+    known.added.flags_are
+    ∙ ap (option_or (option_map flags_of (labelled ys w))) (added_are xs w)
+    ∙ mapped_or (labelled ys w) (labelled xs w)
+    ∙ ap (option_map flags_of) (sym (find-append (λ (x : Assertion). bytes_eq w x.label) ys xs))
+
+-- ---- roles
+
+-- those of all hypotheses that are active are enough
+pub all_enough : (earlier : List Assertion) (active : List Hypothesis) (roles : Word → Option Role)
+    → ((w : Word) → roles w ≡ role_of active w) → AreEnough earlier active roles
+all_enough earlier active roles are = record {
+  own = λ w role h. sym (are w) ∙ h;
+  others = λ w h known. record {
+    cited = λ some. sym (are w) ∙ h;
+    float = λ none.
+        let some = known_assertion earlier active w (sym (are w) ∙ h) known in
+        let no : is_some (labelled earlier w) ≡ false = ap is_some none in
+        absurd cc;
+  };
+}
+
+-- of the assertion at a place
+pub active_is : (xs : List Assertion) (place : ℕ) (x : Assertion) (hs : List Hypothesis) → slice_get xs place ≡ Some x
+    → option_map (λ a. a.active) (slice_get xs place) ≡ Some hs → x.active ≡ hs
+active_is xs place x hs at h = let e : Some x.active ≡ Some hs = sym (ap (option_map (λ (a : Assertion). a.active)) at) ∙ h in cc
