@@ -4,14 +4,14 @@ use Rattle.std.specs.Prelude.{◌≡◌, ℕ, Bool, List, [], ◌∷◌, ◌++�
 use Rattle.std.specs.List.{AllZip}
 use Rattle.mmtext.specs.Text.{Token}
 use Rattle.mmtext.specs.Laws.{Says}
-use Rattle.source.specs.Scopes.{Scope}
+use Rattle.source.specs.Scopes.{Assertion, Scope}
 use Rattle.checking.specs.Checks.{Bytes}
 use Rattle.expanding.specs.Words.{word_language, text_of}
 use Rattle.expanding.specs.Spreading.{IsSpread}
 use Rattle.expanding.specs.Ranking.{IsRanked}
 use Rattle.mmsyntax.specs.Tables.{Contents}
 use Rattle.pasting.specs.Places.{places_in}
-use Rattle.pasting.specs.Pasted.{IsPasted}
+use Rattle.pasting.specs.Pasted.{IsPasted, AreAdditions}
 
 -- these are the words of each text outside of its comments
 abbrev pub AreWordsOf : List Bytes → List (List Token) → Type 0
@@ -21,9 +21,14 @@ AreWordsOf texts scripts = AllZip (Says word_language) texts scripts
 abbrev pub AreSpread : Scope → List (List Token) → List (List Token) → Type 0
 AreSpread s scripts outs = AllZip (IsSpread s) scripts outs
 
--- and these with the proofs of the library that is taken, as flags say which assertions of the source are
+-- and these with the proofs of the library that is taken, as flags say which assertions of the source are; proofs may cite these too
+abbrev pub ArePastedWith : Scope → List Bool → Contents → List Assertion → List (List Token) → List (List Token) → Type 0
+ArePastedWith s flags db added scripts outs = AllZip (IsPasted (places_in s flags db) db.prelude s added) scripts outs
+
+-- which are those that the scripts add
 abbrev pub ArePasted : Scope → List Bool → Contents → List (List Token) → List (List Token) → Type 0
-ArePasted s flags db scripts outs = AllZip (IsPasted (places_in s flags db) db.prelude s) scripts outs
+ArePasted s flags db scripts outs =
+    (added : List Assertion) × AreAdditions (places_in s flags db) db.prelude scripts added × ArePastedWith s flags db added scripts outs
 
 -- the words of a script with ranks, and the places where its transactions begin
 pub record RankedScript : Type 0 where

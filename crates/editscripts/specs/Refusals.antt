@@ -5,7 +5,7 @@ use Rattle.mmtext.specs.Text.{Token}
 use Rattle.mmtext.specs.Languages.{Faulty}
 use Rattle.mmtext.specs.declared.fault.TextFault.{TextFault}
 use Rattle.mmtext.specs.declared.fault.FaultKind.TheVariants.{NoMemory as OutOfMemory}
-use Rattle.source.specs.Scopes.{Scope}
+use Rattle.source.specs.Scopes.{Assertion, Scope}
 use Rattle.checking.specs.declared.fault.Fault.TheVariants as fault
 use Rattle.checking.specs.Checks.{Bytes, Orders, AreScripts}
 use Rattle.checking.specs.FaultLines.{shown_label, line_of}
@@ -19,10 +19,10 @@ use Rattle.expanding.specs.Barred.{IsBarred}
 use Rattle.mmsyntax.specs.Tables.{Tables, Contents}
 use Rattle.taking.specs.Names.{Map}
 use Rattle.pasting.specs.Places.{places_in}
-use Rattle.pasting.specs.Pasted.{PasteFault, HasPasteFault}
+use Rattle.pasting.specs.Pasted.{PasteFault, HasPasteFault, AreAdditions}
 use Rattle.editscripts.specs.declared.unedited.Unedited.{Unedited}
 use Rattle.editscripts.specs.declared.unedited.Unedited.TheVariants as unedited
-use Rattle.editscripts.specs.Expanded.{AreWordsOf, AreSpread, ArePasted, RankedScript, AreRanked, texts_of}
+use Rattle.editscripts.specs.Expanded.{AreWordsOf, AreSpread, ArePasted, ArePastedWith, RankedScript, AreRanked, texts_of}
 
 -- a script has another byte than one may have, or a comment that isn't closed; those before it have words
 pub record IsWordlessLine (paths texts : List Bytes) (line : Bytes) : Type 0 where
@@ -83,22 +83,24 @@ pub record IsBarredBy (paths : List Bytes) (s : Scope) (texts : List Bytes) (scr
   pub says : line ≡ barred_line (slice_index_or paths (script + 1) []) (slice_index_or texts script []) label by
 
 -- the first compressed proof of a script that is none at its theorem
-pub record IsPasteFaultLine (paths : List Bytes) (m : Map) (t : Tables) (s : Scope) (ts : List Token) (script : ℕ) (line : Bytes)
-    : Type 0 where
+pub record IsPasteFaultLine (paths : List Bytes) (m : Map) (t : Tables) (s : Scope) (added : List Assertion) (ts : List Token)
+    (script : ℕ) (line : Bytes) : Type 0 where
   pub found : PasteFault
-  pub faulty : HasPasteFault m t s ts found
+  pub faulty : HasPasteFault m t s added ts found
   pub told : found.kind ≢ OutOfMemory
   pub says : line ≡ line_of paths (fault.Text (script + 1) (record { place = found.at.place; kind = found.kind }))
 
 -- a script has such a proof; those before it have proofs of the library
 pub record IsUnpastedBy (paths : List Bytes) (s : Scope) (flags : List Bool) (db : Contents) (scripts : List (List Token)) (line : Bytes)
     : Type 0 where
+  pub added : List Assertion
+  pub are_added : AreAdditions (places_in s flags db) db.prelude scripts added
   pub script : ℕ
   pub before : List (List Token)
-  pub are_pasted : ArePasted s flags db (take script scripts) before
+  pub are_pasted : ArePastedWith s flags db added (take script scripts) before
   pub ts : List Token
   pub at : slice_get scripts script ≡ Some ts
-  pub cause : IsPasteFaultLine paths (places_in s flags db) db.prelude s ts script line
+  pub cause : IsPasteFaultLine paths (places_in s flags db) db.prelude s added ts script line
 
 -- a script puts too many at one place, of a source of which flags say which assertions are taken; those before it don't
 pub record IsCrowdedBy (paths : List Bytes) (s : Scope) (texts : List Bytes) (flags : List Bool) (scripts : List (List Token))

@@ -104,9 +104,10 @@ fn paste_all<'w: 'a, 'a, D: Declared<'a>>(
         (map (λ p. p.now) paths.now) (D.scope declared.now) flags.now database.now (seen_scripts scripts.now))) }
 {
     let paster = Paster::new(alloc, keys, declared, database, flags)?;
+    let additions = paster.additions(alloc, keys, scripts)?;
     let mut all = Vec::new(alloc);
     for (script, words) in scripts.iter().enumerate() {
-        match paster.paste(alloc, keys, declared, words.as_slice()) {
+        match paster.paste(alloc, keys, declared, &additions, words.as_slice()) {
             Ok(laid) => all.push(laid)?,
             Err(why) => return Err(unpasted(alloc, paths, script, why)?),
         }

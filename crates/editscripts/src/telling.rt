@@ -10,7 +10,7 @@ ghost use Rattle.taketext.specs.Refusals.{refusal_line as taking_line};
 ghost use Rattle.std.specs.Prelude.{List};
 ghost use Rattle.mmtext.specs.Text.{Token as Word};
 ghost use Rattle.mmsyntax.specs.Tables.{Tables};
-ghost use Rattle.source.specs.Scopes.{Scope};
+ghost use Rattle.source.specs.Scopes.{Assertion, Scope};
 ghost use Rattle.taking.specs.Names.{Map};
 ghost use Rattle.pasting.specs.Views.{IsUnpasted};
 ghost use Rattle.editscripts.specs.Refusals.{IsToldBy, IsPasteFaultLine, misfit_line, misfit_place, misfit_text};
@@ -94,8 +94,8 @@ pub(crate) fn unpasted(
     why: Unpasted<'_>,
 ) -> Result<Unedited, AllocError>
     requires { script + 1 < 2 ^ 64 }
-    ensures { (m : Map) (t : Tables) (s : Scope) (ts : List Word) → IsUnpasted m t s ts why.entry
-        → IfOk result (IsToldBy (λ line. IsPasteFaultLine (map (λ p. p.now) paths.now) m t s ts script line)) }
+    ensures { (m : Map) (t : Tables) (s : Scope) (xs : List Assertion) (ts : List Word) → IsUnpasted m t s xs ts why.entry
+        → IfOk result (IsToldBy (λ line. IsPasteFaultLine (map (λ p. p.now) paths.now) m t s xs ts script line)) }
 {
     match why {
         Unpasted::NoMemory => Ok(Unedited::NoMemory),

@@ -27,17 +27,22 @@ returns-in-Err-clause-refused g c =
     let kept = c.loop-script.invariant in
     let why = c.in-Err.why in
     let m = places_in s flags db in
-    let unpasted = subst (λ ts. IsUnpasted m db.prelude s (map seen ts) why) c.as_slice.ensures.value (c.in-Err.ensures.faulty flags db kept.3) in
-    told_more (λ line. IsPasteFaultLine paths m db.prelude s (map seen words.items) k line) (IsUnpastedBy paths s flags db (seen_scripts scripts))
+    let xs = kept.2 in
+    let unpasted = subst (λ ts. IsUnpasted m db.prelude s xs (map seen ts) why) c.as_slice.ensures.value
+    (c.in-Err.ensures.faulty flags db xs kept.6 kept.5) in
+    told_more (λ line. IsPasteFaultLine paths m db.prelude s xs (map seen words.items) k line)
+    (IsUnpastedBy paths s flags db (seen_scripts scripts))
     (λ line h. record {
+      added = xs;
+      are_added = kept.4;
       script = k;
       before = kept.0;
-      are_pasted = kept.2;
+      are_pasted = kept.3;
       ts = map seen words.items;
       at = get_seen (λ (ts : Vec CodeToken Global). map seen ts.items) scripts k words at;
       cause = h;
     })
-    c.in_ok-unpasted-in-Err.field-0 (c.in_ok-unpasted-in-Err.ensures m db.prelude s (map seen words.items) unpasted)
+    c.in_ok-unpasted-in-Err.field-0 (c.in_ok-unpasted-in-Err.ensures m db.prelude s xs (map seen words.items) unpasted)
 
 pub loop-script-preserved : goal.loop-script-preserved
 loop-script-preserved g c =
@@ -49,14 +54,24 @@ loop-script-preserved g c =
     let words = c.index-scripts-script.result in
     let at = slice_get_read scripts (length scripts) k words refl c.loop-script-test.true c.index-scripts-script.is in
     let kept = c.loop-script.invariant in
+    let xs = kept.2 in
     let laid = c.in-Ok.laid in
-    let now = c.in-Ok.ensures.pasted flags db kept.3 in
+    let now = c.in-Ok.ensures.pasted flags db xs kept.6 kept.5 in
     let out = now.0 in
-    let one = subst (λ ts. IsPasted (places_in s flags db) db.prelude s (map seen ts) out) c.as_slice.ensures.value now.2 in (
+    let one = subst (λ ts. IsPasted (places_in s flags db) db.prelude s xs (map seen ts) out) c.as_slice.ensures.value now.2 in (
       kept.0 ++ out ∷ [],
       subst (λ ls. AllZip IsLaid (kept.0 ++ out ∷ []) ls) (sym c.in_ok-push-in-Ok.ensures.items)
           (all_zipped_more IsLaid kept.0 c.loop-script.all.items out laid kept.1 now.1),
-      zipped_more_at (IsPasted (places_in s flags db) db.prelude s) (seen_scripts scripts) k (map seen words.items) kept.0 out
-          (get_seen (λ (ts : Vec CodeToken Global). map seen ts.items) scripts k words at) kept.2 one,
-      kept.3,
+      xs,
+      zipped_more_at (IsPasted (places_in s flags db) db.prelude s xs) (seen_scripts scripts) k (map seen words.items) kept.0 out
+          (get_seen (λ (ts : Vec CodeToken Global). map seen ts.items) scripts k words at) kept.3 one,
+      kept.4,
+      kept.5,
+      kept.6,
     )
+
+pub loop-script-init : goal.loop-script-init
+loop-script-init g c = ?
+
+pub returns-clause-pasted : goal.returns-clause-pasted
+returns-clause-pasted g c = ?
