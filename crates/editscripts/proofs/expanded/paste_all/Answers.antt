@@ -1,13 +1,18 @@
 -- What is left to show of `paste_all`.
-use Rattle.std.proofs.Common.{◌++◌, ◌∷◌, [], length, map, refl, subst, sym, Vec, Global}
+use Rattle.std.proofs.Common.{◌≡◌, ◌≤◌, ◌++◌, ◌∷◌, [], ℕ, length, map, take, refl, ap, subst, sym, Vec, Global}
+use Rattle.std.proofs.lemmas.List.{length-map, take_all}
+use Rattle.mmsyntax.specs.Tables.{Tables}
+use Rattle.taking.specs.Names.{Map}
 use Rattle.std.specs.List.{AllZip}
 use Rattle.std.proofs.lemmas.Option.{slice_get_read}
 use Rattle.std.proofs.lemmas.Slice.Zip.{all_zipped_more}
 use Rattle.mmtext.specs.Views.{seen}
 use Rattle.mmtext.specs.declared.token.Token.{Token as CodeToken}
 use Rattle.pasting.specs.Places.{places_in}
-use Rattle.pasting.specs.Pasted.{IsPasted}
-use Rattle.pasting.specs.Views.{IsUnpasted}
+use Rattle.pasting.specs.Pasted.{AreAdditions, IsPasted}
+use Rattle.pasting.specs.Views.{AreKnown, IsPaster, IsUnpasted}
+use Rattle.pasting.proofs.Pasting.{places_are}
+use Rattle.editscripts.specs.Expanded.{ArePastedWith}
 use Rattle.expanding.specs.Views.{IsLaid, seen_scripts}
 use Rattle.editscripts.specs.Refusals.{IsUnpastedBy, IsPasteFaultLine}
 use Rattle.editscripts.proofs.Expanding.{get_seen, zipped_more_at}
@@ -71,7 +76,36 @@ loop-script-preserved g c =
     )
 
 pub loop-script-init : goal.loop-script-init
-loop-script-init g c = ?
+loop-script-init g c =
+    let s = g.D.Declared.scope c.args.declared.now in
+    let flags = c.args.flags.now in
+    let db = c.args.database.now in
+    let scripts = seen_scripts c.args.scripts.now in
+    let is : IsPaster s flags db c.in_ok-paster.paster = c.in_ok-paster.ensures in
+    let m = places_in s flags db in
+    let own = c.in_ok-additions.ensures in
+    let known : AreKnown m db.prelude own.0 c.in_ok-additions.additions =
+    subst (λ (t : Tables). AreKnown m t own.0 c.in_ok-additions.additions) (ap (λ d. d.prelude) is.database)
+    (subst (λ (q : Map). AreKnown q c.in_ok-paster.paster.database.now.prelude own.0 c.in_ok-additions.additions)
+    (places_are s flags db c.in_ok-paster.paster is) own.2) in
+    let adds : AreAdditions m db.prelude scripts own.0 =
+    subst (λ (t : Tables). AreAdditions m t scripts own.0) (ap (λ d. d.prelude) is.database)
+    (subst (λ (q : Map). AreAdditions q c.in_ok-paster.paster.database.now.prelude scripts own.0)
+    (places_are s flags db c.in_ok-paster.paster is) own.1) in
+    ([], subst (λ ls. AllZip IsLaid [] ls) (sym c.new-all.ensures.items) tt, own.0, tt, adds, known, is)
 
 pub returns-clause-pasted : goal.returns-clause-pasted
-returns-clause-pasted g c = ?
+returns-clause-pasted g c =
+    let s = g.D.Declared.scope c.args.declared.now in
+    let flags = c.args.flags.now in
+    let db = c.args.database.now in
+    let scripts = seen_scripts c.args.scripts.now in
+    let kept = c.loop-script.invariant in
+    let whole : take c.loop-script.script scripts ≡ scripts =
+    take_all c.loop-script.script scripts
+    (subst (λ (n : ℕ). n ≤ c.loop-script.script) (sym (length-map c.args.scripts.now (λ (ts : Vec CodeToken Global). map seen ts.items)))
+    c.loop-script-test.false) in (
+      kept.0,
+      kept.1,
+      (kept.2, kept.4, subst (λ ss. ArePastedWith s flags db kept.2 ss kept.0) whole kept.3),
+    )
