@@ -1,7 +1,7 @@
 -- What `add` brings, word by word.
 use Rattle.std.proofs.Common.{◌≡◌, ◌∙◌, ◌<◌, ◌≤◌, ℕ, ◌+◌, Bool, true, false, cond, List, [], ◌∷◌, ◌++◌, length, map, take, Option, Some, None, get_or}
 use Rattle.std.proofs.Common.{refl, sym, ap, subst, append_assoc, arith, ◌⊎◌, inl, inr}
-use Rattle.std.specs.Prelude.{◌||◌, filter, min}
+use Rattle.std.specs.Prelude.{◌||◌, filter, min, slice_index_or}
 use Rattle.std.specs.List.{list_any, zip}
 use Rattle.std.proofs.lemmas.List.{map-append, take_all, take_more}
 use Rattle.std.proofs.lemmas.List.Elements.{filter-append}
@@ -9,7 +9,6 @@ use Rattle.std.proofs.lemmas.List.Folds.{list_any-append}
 use Rattle.std.proofs.lemmas.Slice.Zip.{length-zip, get_or-zip}
 use Rattle.mmtext.specs.Text.{Token}
 use Rattle.mmtext.specs.Words.{Word}
-use Rattle.mmsyntax.specs.Layout.{word_at}
 use Rattle.mmsyntax.specs.Tables.{Tables}
 use Rattle.mmsyntax.specs.declared.statement.Float.{Float}
 use Rattle.source.specs.Scopes.{Assertion, Hypothesis, typing, premise, is_in, stands_in, is_mandatory, mandatory}
@@ -47,18 +46,20 @@ pub goes_on : (whole : Option Addition) (ps qs : List Hypothesis) (label mark : 
     → whole ≡ with_premises qs (addition_in (mark ∷ ts))
 goes_on whole ps qs label mark ts is none (inl p) =
     is ∙ ap (with_premises ps) (no_claim label mark ts none)
-    ∙ ap (λ b. with_premises ps (cond b (with_premise (premise label.text (symbols_in ts)) (addition_in (mark ∷ ts))) (addition_in (mark ∷ ts)))) p.0
+    ∙ ap (λ b. with_premises ps (cond b (with_premise (premise label.text (symbols_in ts)) (addition_in (mark ∷ ts)))
+    (addition_in (mark ∷ ts)))) p.0
     ∙ one_more ps (premise label.text (symbols_in ts)) (addition_in (mark ∷ ts))
     ∙ ap (λ hs. with_premises hs (addition_in (mark ∷ ts))) (sym p.1)
 goes_on whole ps qs label mark ts is none (inr p) =
     is ∙ ap (with_premises ps) (no_claim label mark ts none)
-    ∙ ap (λ b. with_premises ps (cond b (with_premise (premise label.text (symbols_in ts)) (addition_in (mark ∷ ts))) (addition_in (mark ∷ ts)))) p.0
+    ∙ ap (λ b. with_premises ps (cond b (with_premise (premise label.text (symbols_in ts)) (addition_in (mark ∷ ts)))
+    (addition_in (mark ∷ ts)))) p.0
     ∙ ap (λ hs. with_premises hs (addition_in (mark ∷ ts))) (sym p.1)
 
 -- ---- the `$f` of a library
 
 abbrev pub float_as : Tables → Word × Float → Hypothesis
-float_as t p = typing p.0 (word_at t.constants p.1.type_code) (word_at t.variables p.1.variable)
+float_as t p = typing p.0 (slice_index_or t.constants p.1.type_code []) (slice_index_or t.variables p.1.variable [])
 
 -- what stands at the places of two lists
 module _ {A B C : Type 0} (f : A × B → C) (xs : List A) (ys : List B) where

@@ -90,7 +90,8 @@ pub record IsPasting (m : Map) (t : Tables) (s : Scope) (added : List Assertion)
 pub at_first : (m : Map) (t : Tables) (s : Scope) (added : List Assertion) (ts : List Token) → IsPasting m t s added ts ts []
 at_first m t s added ts = record { done = []; parts = λ ps h. h; pasted = refl; fits = λ ps. refl }
 
-pub at_last : (m : Map) (t : Tables) (s : Scope) (added : List Assertion) (ts out : List Token) → IsPasting m t s added ts [] out → IsPasted m t s added ts out
+pub at_last : (m : Map) (t : Tables) (s : Scope) (added : List Assertion) (ts out : List Token)
+    → IsPasting m t s added ts [] out → IsPasted m t s added ts out
 at_last m t s added ts out h = record {
   parts = h.done;
   are_parts = subst (AreParts ts) (append-nil h.done) (h.parts [] refl);
@@ -98,7 +99,8 @@ at_last m t s added ts out h = record {
   pasted = h.pasted;
 }
 
-module _ (m : Map) (t : Tables) (s : Scope) (added : List Assertion) (ts rest p behind out : List Token) (h : IsPasting m t s added ts rest out)
+module _ (m : Map) (t : Tables) (s : Scope) (added : List Assertion) (ts rest p behind out : List Token)
+    (h : IsPasting m t s added ts rest out)
     (first : (ps : List Part) → AreParts behind ps → AreParts rest (p ∷ ps)) where
   pub goes_on : paste_fault m t s added p ≡ None → IsPasting m t s added ts behind (out ++ pasted m t s added p)
   goes_on fits = record {
@@ -120,6 +122,7 @@ module _ (m : Map) (t : Tables) (s : Scope) (added : List Assertion) (ts rest p 
     first = h.fits (p ∷ ps) ∙ ap (λ o. or_fault o (first_fault m t s added ps)) is;
   }
 
-  pub refused : (ps : List Part) → AreParts behind ps → (f : Unpasted) → IsFaultIn (paste_fault m t s added p) f → IsUnpasted m t s added ts f
+  pub refused : (ps : List Part) → AreParts behind ps → (f : Unpasted) → IsFaultIn (paste_fault m t s added p) f
+      → IsUnpasted m t s added ts f
   refused ps parts (unpasted.Faulty t kind) is = stops ps parts _ is
   refused ps parts unpasted.NoMemory is = tt

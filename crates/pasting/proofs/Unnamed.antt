@@ -61,7 +61,8 @@ placed_some : {A : Type 0} (test : A → Bool) (xs : List A) → is_some (place_
 placed_some test [] = refl
 placed_some {A} test (x ∷ xs) =
     let rest = placed_some test xs in
-    elim (test x) as (λ b. is_some (cond b (Some 0) (option_map (λ n. suc n) (place_of test xs))) ≡ is_some (cond b (Some x) (find test xs))) [
+    elim (test x) as (λ b. is_some (cond b (Some 0) (option_map (λ n. suc n) (place_of test xs)))
+    ≡ is_some (cond b (Some x) (find test xs))) [
       | true ↦ refl
       | false ↦ mapped_some (λ n. suc n) (place_of test xs) ∙ rest
     ]

@@ -1,11 +1,10 @@
--- What `add` brings, as an assertion of the source: its statement and its `$e` are those of the script, in whose words the `$f` of the library
--- type its variables, each under the label that it has in the source (Metamath book, section 4.2.7).
-use Rattle.std.specs.Prelude.{Bool, ◌||◌, List, [], ◌∷◌, ◌++◌, map, Option, Some, None, if◌then◌else◌, codes}
+-- What `add` brings, as an assertion of the source: its statement and its `$e` are those of the script, in whose words the `$f` of the
+-- library type its variables, each under the label that it has in the source (Metamath book, section 4.2.7).
+use Rattle.std.specs.Prelude.{Bool, ◌||◌, List, [], ◌∷◌, ◌++◌, map, Option, Some, None, slice_index_or, if◌then◌else◌, codes}
 use Rattle.std.specs.List.{zip}
 use Rattle.mmtext.specs.Text.{Token}
 use Rattle.mmtext.specs.Words.{Word}
 use Rattle.mmsyntax.specs.Tables.{Tables}
-use Rattle.mmsyntax.specs.Layout.{word_at}
 use Rattle.source.specs.Scopes.{Hypothesis, typing, premise, Assertion, mandatory}
 use Rattle.taking.specs.Names.{Map}
 use Rattle.expanding.specs.Words.{says}
@@ -52,7 +51,8 @@ addition_of p = if begins_with (codes "add") p then addition_in p else None
 -- the `$f` of a library, which have these labels in the source
 abbrev pub floats_of : Map → Tables → List Hypothesis
 floats_of m t =
-    map (λ p. typing p.0 (word_at t.constants p.1.type_code) (word_at t.variables p.1.variable)) (zip m.floats t.floats)
+    map (λ p. typing p.0 (slice_index_or t.constants p.1.type_code []) (slice_index_or t.variables p.1.variable []))
+    (zip m.floats t.floats)
 
 abbrev pub active_of : Map → Tables → Addition → List Hypothesis
 active_of m t a = floats_of m t ++ a.premises

@@ -29,8 +29,8 @@ fn is_named<'a, D: Declared<'a>>(
     roles.have(label) || may_cite(citing, label)
 }
 
-/// The first of these words that is neither the label of an active hypothesis, of which these are the roles, nor that of an assertion that may
-/// be cited.
+/// The first of these words that is neither the label of an active hypothesis, of which these are the roles, nor that of an assertion
+/// that may be cited.
 pub(crate) fn first_unnamed<'w, 'a, D: Declared<'a>>(
     citing: &Citing<'_, '_, D>,
     roles: &Roles<'_>,

@@ -107,7 +107,8 @@ impl<'p, 'a: 'p> Paster<'p, 'a> {
         proving: &Proving<'_, 'w>,
     ) -> Result<Given<'w>, AllocError>
         requires whole { IsWhole (D.scope declared.now) }
-        requires proving { (r : Proved) × IsProving (places_by self.now) self.now.database.now.prelude (D.scope declared.now) proving.now r }
+        requires proving { (r : Proved)
+            × IsProving (places_by self.now) self.now.database.now.prelude (D.scope declared.now) proving.now r }
         ensures { IfOk result (λ g. (xs : List Assertion) (r : Proved)
             → AreKnown (places_by self.now) self.now.database.now.prelude xs additions.now
             → IsProving (places_by self.now) self.now.database.now.prelude (D.scope declared.now) proving.now r
@@ -178,11 +179,11 @@ impl<'p, 'a: 'p> Paster<'p, 'a> {
         Ok(())
     }
 
-    /// The words of a script, with the steps of the library in the stead of each proof that it gives, in the source's own words, to a theorem
-    /// of the source or to one that it adds.
+    /// The words of a script, with the steps of the library in the stead of each proof that it gives, in the source's own words, to a
+    /// theorem of the source or to one that it adds.
     ///
-    /// A proof costs as much as its words and letters and its listing, the frames of the assertions that it cites, and the hypotheses that are
-    /// active there. The words outlive those of the source, since the tree of a proof has labels of both.
+    /// A proof costs as much as its words and letters and its listing, the frames of the assertions that it cites, and the hypotheses that
+    /// are active there. The words outlive those of the source, since the tree of a proof has labels of both.
     ///
     /// # Errors
     ///

@@ -58,7 +58,8 @@ pub(crate) fn given<'w: 'h, 'h, 'a, D: Declared<'a>>(
     proving: &Proving<'_, 'w>,
 ) -> Result<Given<'w>, AllocError>
     ensures { let c = citing.old in let r = proving.now in
-        IfOk result (λ g. (earlier : List Theorem) (x : Theorem) → AreFrames earlier (flags_in (D.scope c.declared.now).assertions c.additions.now)
+        IfOk result (λ g. (earlier : List Theorem) (x : Theorem)
+        → AreFrames earlier (flags_in (D.scope c.declared.now).assertions c.additions.now)
         → ((w : Label) → looks_up roles.now.roles w ≡ role_of x.active w) → x.hypotheses ≡ seen_hypotheses mandatory.entry.items
         → mandatory_in x.active x.statement ≡ x.hypotheses
         → seen_given g ≡ given (places_behind placed.now) earlier x (map seen r.cut.proof.now) (seen r.ends)) }

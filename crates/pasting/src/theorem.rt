@@ -1,11 +1,10 @@
 //! The hypotheses of what `add` brings, as the source might have them.
 
-ghost use Rattle.std.specs.Prelude.{◌≡◌, ◌++◌, IfOk, OnOk, filter, map};
+ghost use Rattle.std.specs.Prelude.{◌≡◌, ◌++◌, [], IfOk, OnOk, filter, map, slice_index_or};
 ghost use Rattle.std.specs.List.{list_any};
 ghost use Rattle.std.specs.Str.{bytes_eq};
 ghost use Rattle.source.specs.Scopes.{is_mandatory, mandatory, stands_in};
 ghost use Rattle.source.specs.Views.{seen_hypothesis, seen_hypotheses, seen_words};
-ghost use Rattle.mmsyntax.specs.Layout.{word_at};
 ghost use Rattle.pasting.specs.Additions.{floats_of};
 ghost use Rattle.pasting.specs.Places.{places_of};
 ghost use Rattle.pasting.specs.Views.{AreFloats};
@@ -17,7 +16,7 @@ use std::alloc::{AllocError, Global};
 
 /// The name at a place: nothing where there is none.
 fn name_at(names: &[Label], place: u32) -> &[u8]
-    ensures { result.now ≡ word_at names.now place }
+    ensures { result.now ≡ slice_index_or names.now place [] }
 {
     match names.get(place as usize) {
         Some(name) => name.as_slice(),
@@ -123,8 +122,8 @@ fn keep_mandatory<'t, 'x>(
     Ok(())
 }
 
-/// The mandatory hypotheses of a statement behind `$f` and `$e`, in their order. It costs as much as the `$f` and the words of the `$e` have
-/// pairs.
+/// The mandatory hypotheses of a statement behind `$f` and `$e`, in their order. It costs as much as there are pairs of a `$f` and a
+/// symbol.
 pub(crate) fn mandatory_of<'t, 'x>(
     alloc: Global,
     floats: &'t [HypothesisWords<'x>],

@@ -22,8 +22,7 @@ pub trait CitedFrames<'a> {
     // what was made is right
     ghost is_right: { Self → Type 0 };
 
-    /// Whether each mandatory hypothesis of the assertion with a label is a `$f`, in order of appearance; nothing where no assertion has the
-    /// label.
+    /// Whether each mandatory hypothesis of the assertion with a label is a `$f`, in order of appearance; nothing where none has the label.
     ///
     /// # Errors
     ///

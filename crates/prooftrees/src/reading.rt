@@ -55,9 +55,9 @@ fn tree_of<'s, 'a, C: CitedFrames<'s>, P: StepPlaces>(
     }))
 }
 
-/// The tree that a finished proof with these words denotes, if it denotes one, as the proof of an assertion with these mandatory hypotheses:
-/// its nodes are named by the steps that they have in a library. The roles are those of hypotheses that are active there, enough to say what
-/// its labels name: of all of them, say.
+/// The tree that a finished proof with these words denotes, if it denotes one, as the proof of an assertion with these mandatory
+/// hypotheses: its nodes are named by the steps that they have in a library. The roles are those of hypotheses that are active there,
+/// enough to say what its labels name: of all of them, say.
 ///
 /// It costs what [`read_proof`] does.
 ///

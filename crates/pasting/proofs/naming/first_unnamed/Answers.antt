@@ -12,12 +12,14 @@ use Rattle.pasting.proofs.naming.first_unnamed.Goals as goal
 pub returns-then-not-is_named : goal.returns-then-not-is_named
 returns-then-not-is_named g c = λ earlier x frames roles.
     here_first (is_unnamed earlier x) no_word c.args.words.now c.loop-word.word-index c.loop-word-test.true
-    (ap not (sym (c.is_named.ensures earlier x.active frames roles) ∙ c.if-not-is_named.true)) (c.loop-word.invariant earlier x frames roles)
+    (ap not (sym (c.is_named.ensures earlier x.active frames roles) ∙ c.if-not-is_named.true))
+    (c.loop-word.invariant earlier x frames roles)
 
 pub loop-word-preserved : goal.loop-word-preserved
 loop-word-preserved g c = λ earlier x frames roles.
     no_more (is_unnamed earlier x) no_word c.args.words.now c.loop-word.word-index c.loop-word-test.true
-    (ap not (sym (c.is_named.ensures earlier x.active frames roles) ∙ c.if-not-is_named.false)) (c.loop-word.invariant earlier x frames roles)
+    (ap not (sym (c.is_named.ensures earlier x.active frames roles) ∙ c.if-not-is_named.false))
+    (c.loop-word.invariant earlier x frames roles)
 
 pub returns : goal.returns
 returns g c = λ earlier x frames roles.

@@ -36,7 +36,8 @@ returns-in-None g c = λ m t.
     (ap option_copied (sym c.in-Some-first.is) ∙ c.first.ensures.value) in
     is_adding m t s p (seen_cut c.in-Some.cut) cut c.reproving-found.result (c.reproving-found.ensures m t ended)
     (sym c.is_some.ensures ∙ c.if-is_some.false)
-    ∙ ap (option_and_then (adding m t (seen_cut c.in-Some.cut))) (sym c.in_ok-addition_of.ensures ∙ ap (option_map seen_addition) c.in-None.is)
+    ∙ ap (option_and_then (adding m t (seen_cut c.in-Some.cut)))
+    (sym c.in_ok-addition_of.ensures ∙ ap (option_map seen_addition) c.in-None.is)
 
 pub returns : goal.returns
 returns g c = λ m t.

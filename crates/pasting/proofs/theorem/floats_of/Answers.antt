@@ -1,10 +1,10 @@
 -- What is left to show of `floats_of`.
 use Rattle.std.proofs.Common.{◌≡◌, ◌∙◌, ◌<◌, ◌≤◌, ◌++◌, ◌∷◌, [], ℕ, List, length, map, take, refl, sym, ap, subst, arith, get_or}
-use Rattle.std.specs.Prelude.{min}
+use Rattle.std.specs.Prelude.{min, slice_index_or}
 use Rattle.std.specs.List.{zip}
 use Rattle.std.specs.Borrow.{Bor}
 use Rattle.std.proofs.lemmas.List.{map-append, length-map, get_or-map, get_or_read_under}
-use Rattle.mmsyntax.specs.Layout.{no_float, word_at}
+use Rattle.mmsyntax.specs.Layout.{no_float}
 use Rattle.mmsyntax.specs.Tables.{Tables}
 use Rattle.source.specs.Scopes.{typing}
 use Rattle.source.specs.Views.{seen_hypothesis, seen_words}
@@ -38,9 +38,11 @@ loop-place-preserved c =
     ∙ get_or_read_under floats i (length floats) x2 no_float c.index-floats-place-in-loop-place.is there refl in
     let same : typing (get_or xs i []) code variable ≡ float_as t (get_or xs i [], get_or floats i no_float) =
     ap (λ w. typing (get_or xs i []) w variable)
-    (c.name_at-type_code.ensures ∙ ap (λ ns. word_at ns y.type_code) c.constants.ensures ∙ ap (λ f. word_at t.constants f.type_code) here)
-    ∙ ap (λ w. typing (get_or xs i []) (word_at t.constants (get_or floats i no_float).type_code) w)
-    (c.name_at-variable.ensures ∙ ap (λ ns. word_at ns z.variable) c.variables.ensures ∙ ap (λ f. word_at t.variables f.variable) here2) in
+    (c.name_at-type_code.ensures ∙ ap (λ ns. slice_index_or ns y.type_code []) c.constants.ensures
+    ∙ ap (λ f. slice_index_or t.constants f.type_code []) here)
+    ∙ ap (λ w. typing (get_or xs i []) (slice_index_or t.constants (get_or floats i no_float).type_code []) w)
+    (c.name_at-variable.ensures ∙ ap (λ ns. slice_index_or ns z.variable []) c.variables.ensures
+    ∙ ap (λ f. slice_index_or t.variables f.variable []) here2) in
     ap (map seen_hypothesis) c.in_ok-push.ensures.items
     ∙ map-append seen_hypothesis c.loop-place.made.items _
     ∙ ap (λ hs. hs ++ typing (get_or labels i none).now code variable ∷ []) c.loop-place.invariant

@@ -37,7 +37,8 @@ returns-in_ok-mandatory-in-Standing g c =
     c.in_ok-active-in-Standing.ensures in
     h earlier x (frames_are m t s.assertions xs a known)
     (λ w. c.in_ok-roles-in-Standing.ensures w ∙ ap (λ hs. role_of hs w) (sym active))
-    (mandatory_is s.assertions place x at (seen_hypotheses c.in_ok-mandatory-in-Standing.mandatory.items) c.in_ok-mandatory-in-Standing.ensures)
+    (mandatory_is s.assertions place x at (seen_hypotheses c.in_ok-mandatory-in-Standing.mandatory.items)
+    c.in_ok-mandatory-in-Standing.ensures)
     (whole_at s place x c.requires.whole at).mandatory
     ∙ ap (λ ls. given (with_labels m ls) earlier x (map seen p.cut.proof.now) (seen p.ends)) known.added.labels_are
     ∙ ap (λ (k : Cut). given (with_added m xs) earlier x k.proof (seen p.ends)) is.cut

@@ -31,7 +31,8 @@ returns-then-is_compressed-clause-faulty g c = λ xs known.
     let is : IsProvingIf m t s (Some c.in-Some.proving) (proving m t s p) =
     subst (λ o. IsProvingIf m t s o (proving m t s p)) c.in-Some.is (c.in_ok-proving.ensures m t) in
     sym (fault_is m t s xs p c.in-Some.proving (Faulty c.in-Faulty.word c.in-Faulty.kind) true is
-    (λ r i. ap seen_given (sym c.in-Faulty.is) ∙ c.in_ok-steps.ensures xs r known i) (sym c.if-is_compressed.true ∙ c.is_compressed.ensures))
+    (λ r i. ap seen_given (sym c.in-Faulty.is) ∙ c.in_ok-steps.ensures xs r known i)
+    (sym c.if-is_compressed.true ∙ c.is_compressed.ensures))
 
 pub returns-clause-pasted : goal.returns-clause-pasted
 returns-clause-pasted g c = λ xs known ts laid.

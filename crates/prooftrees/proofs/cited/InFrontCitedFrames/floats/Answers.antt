@@ -11,7 +11,8 @@ pub returns-in_default-clause-value : goal.returns-in_default-clause-value
 returns-in_default-clause-value g c =
     let xs = (g.D.Declared.scope c.args.self.now.declared.now).assertions in
     sym (ap (option_map (λ (a : Assertion). map is_float a.hypotheses))
-    (none_in_front (λ (a : Assertion). bytes_eq c.args.label.now a.label) xs c.args.self.now.place (sym c.place_of.ensures ∙ c.in_default.is)))
+    (none_in_front (λ (a : Assertion). bytes_eq c.args.label.now a.label) xs c.args.self.now.place
+    (sym c.place_of.ensures ∙ c.in_default.is)))
 
 pub returns-then-cited-self-clause-value : goal.returns-then-cited-self-clause-value
 returns-then-cited-self-clause-value g c =
