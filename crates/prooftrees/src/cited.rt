@@ -5,6 +5,7 @@ ghost use Rattle.std.specs.Option.{option_map};
 ghost use Rattle.std.specs.Str.{bytes_eq};
 ghost use Rattle.mmtext.specs.Words.{Word};
 ghost use Rattle.source.specs.Scopes.{Assertion};
+ghost use Rattle.prooftrees.specs.Frames.{Holds};
 
 use crate::frames::Frames;
 use mmsyntax::Sequence;
@@ -37,10 +38,25 @@ pub trait CitedFrames<'a> {
 
 /// The assertions of a source in front of a place, with what was made of their frames.
 #[derive(Drop)]
-pub(crate) struct InFront<'c, D> {
+pub struct InFront<'c, D> {
     pub(crate) declared: &'c D,
     pub(crate) frames: Frames,
     pub(crate) place: usize,
+}
+
+impl<'c, D> InFront<'c, D> {
+    /// Those in front of a place, of which nothing was made yet.
+    pub fn new(alloc: Global, declared: &'c D, place: usize) -> InFront<'c, D>
+        ensures frames { (xs : List Assertion) → Holds xs result.frames }
+        ensures declared { result.declared.now ≡ declared.entry.now }
+        ensures place { result.place ≡ place }
+    {
+        InFront {
+            declared,
+            frames: Frames::new(alloc),
+            place,
+        }
+    }
 }
 
 impl<'c, 'a, D: Declared<'a>> CitedFrames<'a> for InFront<'c, D> {

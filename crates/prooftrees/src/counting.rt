@@ -22,7 +22,7 @@ pub(crate) struct Counted<'a> {
 }
 
 /// Whether a step of a proof isn't there.
-pub(crate) fn is_unfinished(proof: &ProofWords<'_>) -> bool
+pub fn is_unfinished(proof: &ProofWords<'_>) -> bool
     ensures { result ≡ is_unfinished (seen_proof proof.now) }
 {
     match proof {
@@ -119,7 +119,11 @@ fn labels_with<'a>(
 }
 
 /// The letters of words, one behind the other.
-fn joined(alloc: Global, words: &[&[u8]]) -> Result<Vec<u8>, AllocError>
+///
+/// # Errors
+///
+/// Want of memory.
+pub fn joined_letters(alloc: Global, words: &[&[u8]]) -> Result<Vec<u8>, AllocError>
     ensures { IfOk result (λ made. made.items ≡ flat_map (λ w. w) (seen_words words.now)) }
 {
     let mut letters = Vec::new(alloc);
@@ -139,7 +143,7 @@ fn count_compressed<'a>(
     ensures { let hs = seen_hypotheses mandatory.entry.items in let proof = compressed (seen_words labels.now) (seen_words letters.now) in
         IfOk result (λ made. MatchOption made (steps_of hs proof ≡ None) (IsCounted hs proof)) }
 {
-    let joined = joined(alloc, letters)?;
+    let joined = joined_letters(alloc, letters)?;
     let Some(codes) = read_letters(alloc, joined.as_slice())? else {
         return Ok(None);
     };

@@ -9,7 +9,8 @@ mod naming;
 mod reading;
 mod roles;
 
-pub use cited::CitedFrames;
+pub use cited::{CitedFrames, InFront};
+pub use counting::{is_unfinished, joined_letters};
 pub use form::{ProofForm, ProofTree};
 pub use frames::{Frames, flags_of};
 pub use reading::{read_given, read_proof};

@@ -13,7 +13,7 @@ use Rattle.sourcewriting.specs.Laid.{IsLaid, IsCompressed, IsInForm, IsLaidOutAs
 use Rattle.sourcewriting.specs.Reading.{counts_of, labels_in, HaveMore, AreMarkedLetters, IsMarkedLayout}
 
 -- letters behind labels in parentheses
-letters_behind : (i : List ℕ) (before after : Layout) (labels : List Word) (letters : List ℕ) → IsCompressed i before labels []
+pub letters_behind : (i : List ℕ) (before after : Layout) (labels : List Word) (letters : List ℕ) → IsCompressed i before labels []
     → ((i : List ℕ) (ws : List Word) → IsLaid i before ws
     → (cut : List Word) × (flat_map (λ w. w) cut ≡ letters) × IsLaid i after (ws ++ cut))
     → IsCompressed i after labels letters

@@ -1,4 +1,5 @@
 pub mod Forms
+pub mod Given
 pub mod Groups
 pub mod Grouping
 pub mod Indentations

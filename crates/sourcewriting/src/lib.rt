@@ -5,6 +5,7 @@
 #![tactic(auto)]
 
 mod adding;
+mod given;
 mod grouping;
 mod layout;
 mod lettering;
@@ -20,6 +21,7 @@ pub use adding::{
     ByLabel, Statement, SymbolWords, Vocabulary, Written, assertion_text, names_in_source,
     symbol_words,
 };
+pub use given::given_text;
 pub use layout::indentation_like;
 pub use listing::{Cited, Kinds, Names};
 pub use proving::proof_text;

@@ -147,7 +147,7 @@ fn numbers_of<'x>(
 }
 
 /// The labels that the numbers of a compressed proof count: those of the mandatory hypotheses, which take no entries, and others.
-fn counted_labels<'x>(
+pub(crate) fn counted_labels<'x>(
     alloc: Global,
     mandatory: &[&'x [u8]],
     others: &[CountedLabel<'x>],
@@ -174,7 +174,7 @@ fn put_labels(layout: &mut Layout<'_>, labels: &[CountedLabel<'_>])
 }
 
 /// Puts labels in parentheses.
-fn put_in_parentheses(layout: &mut Layout<'_>, labels: &[CountedLabel<'_>])
+pub(crate) fn put_in_parentheses(layout: &mut Layout<'_>, labels: &[CountedLabel<'_>])
     ensures fine { AreNames (labels_in labels.now) → layout.new.is_refused ≡ layout.old.is_refused }
     ensures laid { (i : List ℕ) → IsLaid i layout.old [] → IsCompressed i layout.new (labels_in labels.now) [] }
 {
