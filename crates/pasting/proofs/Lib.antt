@@ -1,10 +1,11 @@
+mod Quoting
 pub mod Adding
-pub mod Spoken
-pub mod Unnamed
-pub mod Labelled
-pub mod Sized
-pub mod Known
-pub mod Told
-pub mod Reproving
-pub mod Pasting
 pub mod Citable
+pub mod Known
+pub mod Labelled
+pub mod Pasting
+pub mod Reproving
+pub mod Sized
+pub mod Spoken
+pub mod Told
+pub mod Unnamed

@@ -12,7 +12,7 @@ use Rattle.mmsyntax.specs.declared.statement.Step.{Step}
 use Rattle.mmsyntax.specs.declared.limits.TheConstants.{MOST_DECLARED}
 use Rattle.source.specs.Flags.{kept}
 use Rattle.source.specs.Scopes.{Assertion, Hypothesis, Scope}
-use Rattle.source.specs.Views.{seen_hypothesis, seen_words}
+use Rattle.source.specs.Views.{seen_hypothesis, seen_proof, seen_words}
 use Rattle.sites.specs.Sites.{AreSites}
 use Rattle.taking.specs.Names.{Map, is_symbol_of, has_float_labelled}
 use Rattle.taking.specs.Settings.{is_float}
@@ -21,6 +21,7 @@ use Rattle.expanding.specs.Words.{word_at}
 use Rattle.expanding.specs.Views.{seen_cut}
 use Rattle.pasting.specs.Additions.{Addition, floats_of, theorem_of}
 use Rattle.pasting.specs.Places.{places_of}
+use Rattle.pasting.specs.Quotes.{Quotation, Quote}
 use Rattle.pasting.specs.Proofs.{Given, steps, untaken, faulty}
 use Rattle.pasting.specs.Pasted.{Proving, added_word, with_labels, PasteFault, HasPasteFault}
 use Rattle.pasting.specs.declared.addition.Addition.{Addition as CodeAddition}
@@ -32,6 +33,8 @@ use Rattle.pasting.specs.declared.proving.Proving.{Proving as CodeProving}
 use Rattle.pasting.specs.declared.proving.Theorem.{Theorem as CodeTheorem}
 use Rattle.pasting.specs.declared.proving.Theorem.TheVariants as theorem
 use Rattle.pasting.specs.declared.paster.Paster.{Paster}
+use Rattle.pasting.specs.declared.quotation.Quotation.{Quotation as CodeQuotation}
+use Rattle.pasting.specs.declared.quotes.Quote.{Quote as CodeQuote}
 use Rattle.pasting.specs.declared.unpasted.Unpasted.{Unpasted}
 use Rattle.pasting.specs.declared.unpasted.Unpasted.TheVariants as unpasted
 
@@ -73,6 +76,12 @@ abbrev pub IsProvingIf : Map → Tables → Scope → Option CodeProving → Opt
 IsProvingIf m t s None r = r ≡ None
 IsProvingIf m t s (Some c) None = ⊥
 IsProvingIf m t s (Some c) (Some r) = IsProving m t s c r
+
+abbrev pub seen_quote : CodeQuote → Quote
+seen_quote q = record { transaction = q.transaction; label = q.label.now; proof = seen_proof q.proof }
+
+abbrev pub seen_quotation : CodeQuotation → Quotation
+seen_quotation q = record { label = q.label.now; proof = seen_proof q.proof.now }
 
 -- ---- what may be cited
 

@@ -8,6 +8,8 @@ mod naming;
 mod paster;
 mod placing;
 mod proving;
+mod quotation;
+mod quotes;
 mod reading;
 mod steps;
 mod theorem;
@@ -16,4 +18,6 @@ mod words;
 
 pub use additions::Additions;
 pub use paster::Paster;
+pub use quotation::Quotation;
+pub use quotes::{Quote, quotes_in};
 pub use unpasted::Unpasted;

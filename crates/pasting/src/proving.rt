@@ -38,7 +38,7 @@ pub(crate) struct Proving<'t, 'w> {
 }
 
 /// The label of `reprove LABEL $=`.
-fn reproved<'w>(front: &[Token<'w>]) -> Option<Token<'w>>
+pub(crate) fn reproved<'w>(front: &[Token<'w>]) -> Option<Token<'w>>
     ensures { option_map seen result ≡ reproved (map seen front.now) }
 {
     let [verb, label, _] = front else {

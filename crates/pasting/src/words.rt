@@ -1,11 +1,8 @@
 //! Words as a proof in the words of a source.
 
-ghost use Rattle.std.specs.Prelude.{◌≡◌, ◌==◌, ◌<◌, IfOk, IfSome, None, Some, drop, length, map, option_map, position, if◌then◌else◌};
-ghost use Rattle.std.specs.List.{list_any};
+ghost use Rattle.std.specs.Prelude.{◌≡◌, ◌<◌, IfOk, IfSome, None, Some, drop, length, map, option_map, position, if◌then◌else◌};
 ghost use Rattle.std.specs.Str.{bytes_eq};
 ghost use Rattle.mmtext.specs.Views.{seen};
-ghost use Rattle.source.specs.Scopes.{is_unknown};
-ghost use Rattle.source.specs.Proofs.{is_unfinished};
 ghost use Rattle.source.specs.Views.{seen_proof, seen_words};
 ghost use Rattle.expanding.specs.Asking.{spoken_in};
 ghost use Rattle.pasting.specs.Proofs.{is_compressed, closing_in, labels_among, proof_of};
@@ -89,42 +86,4 @@ pub(crate) fn proof_of<'w>(
     let labels = texts_of(alloc, &behind[..end])?;
     let letters = texts_of(alloc, &behind[end + 1..])?;
     Ok(Some(ProofWords::Compressed(labels, letters)))
-}
-
-/// Whether a label is `?`.
-fn is_missing(word: &[u8]) -> bool
-    ensures { result ≡ is_unknown word.now }
-{
-    word == b"?".as_slice()
-}
-
-/// Whether one of these labels is `?`.
-fn have_missing(words: &[&[u8]]) -> bool
-    ensures { result ≡ list_any (λ w. is_unknown w.now) words.now }
-{
-    words.iter().any(|word| is_missing(word))
-}
-
-/// Whether a `?` stands among the letters of a word.
-fn has_missing(word: &[u8]) -> bool
-    ensures { result ≡ list_any (λ b. b == 63) word.now }
-{
-    word.contains(&b'?')
-}
-
-/// Whether a `?` stands among the letters of these words.
-fn have_missing_letters(words: &[&[u8]]) -> bool
-    ensures { result ≡ list_any (λ w. list_any (λ b. b == 63) w.now) words.now }
-{
-    words.iter().any(|word| has_missing(word))
-}
-
-/// Whether a step of a proof isn't there.
-pub(crate) fn is_unfinished(proof: &ProofWords<'_>) -> bool
-    ensures { result ≡ is_unfinished (seen_proof proof.now) }
-{
-    match proof {
-        ProofWords::Normal(words) => have_missing(words.as_slice()),
-        ProofWords::Compressed(_, letters) => have_missing_letters(letters.as_slice()),
-    }
 }
