@@ -85,12 +85,18 @@ counted_by : (P : Word → Type 0) (hs : List Hypothesis) (proof : Proof) → Al
 counted_by P hs (normal ws) mandatory named = named
 counted_by P hs (compressed labels letters) mandatory named = all_append P (map label_of hs) labels mandatory named
 
+-- where its own labels name what is there
+pub known_counted : (earlier : List Assertion) (x : Assertion) → mandatory x.active x.statement ≡ x.hypotheses → (proof : Proof)
+    → AllByRecursion (IsKnown earlier x.active) (labels_in proof) → All (IsKnown earlier x.active) (counted_labels x.hypotheses proof)
+known_counted earlier x are proof named =
+    All-from_recursion (IsKnown earlier x.active) (counted_labels x.hypotheses proof)
+    (counted_by (IsKnown earlier x.active) x.hypotheses proof
+    (subst (λ (hs : List Hypothesis). AllByRecursion (IsKnown earlier x.active) (map label_of hs)) are
+    (kept_known earlier x.active (is_mandatory x.active x.statement) [] x.active refl)) named)
+
 pub counted_known : (earlier : List Assertion) (x : Assertion) → mandatory x.active x.statement ≡ x.hypotheses → (ts : List Token)
     → (proof : Proof) → proof_of ts ≡ Some proof → find (is_unnamed earlier x) (labels_among ts) ≡ None
     → All (IsKnown earlier x.active) (counted_labels x.hypotheses proof)
 counted_known earlier x are ts proof is none =
-    All-from_recursion (IsKnown earlier x.active) (counted_labels x.hypotheses proof)
-    (counted_by (IsKnown earlier x.active) x.hypotheses proof
-    (subst (λ (hs : List Hypothesis). AllByRecursion (IsKnown earlier x.active) (map label_of hs)) are
-    (kept_known earlier x.active (is_mandatory x.active x.statement) [] x.active refl))
-    (subst (AllByRecursion (IsKnown earlier x.active)) (sym (labels_are ts proof is)) (all_named earlier x (labels_among ts) none)))
+    known_counted earlier x are proof
+    (subst (AllByRecursion (IsKnown earlier x.active)) (sym (labels_are ts proof is)) (all_named earlier x (labels_among ts) none))
