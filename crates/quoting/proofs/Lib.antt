@@ -1,0 +1,5 @@
+mod Naming
+mod Lists
+mod Quoting
+mod Standing
+mod Rewritten
