@@ -9,6 +9,9 @@ use Rattle.expanding.specs.declared.laid.Laid.{Laid}
 use Rattle.expanding.specs.declared.described.Described.{Described}
 use Rattle.expanding.specs.Descriptions.{Description}
 use Rattle.expanding.specs.InFront.{seen_described}
+use Rattle.pasting.specs.declared.quotes.Quote.{Quote as CodeQuote}
+use Rattle.pasting.specs.Quotes.{Quote}
+use Rattle.pasting.specs.Views.{seen_quote}
 use Rattle.editscripts.specs.Expanded.{RankedScript}
 
 -- texts
@@ -26,6 +29,10 @@ pub record IsLaidOf (out : RankedScript) (l : Laid) : Type 0 where
 
 abbrev pub AreLaid : List RankedScript → List Laid → Type 0
 AreLaid outs laid = AllZip IsLaidOf outs laid
+
+-- the compressed proofs that scripts give
+abbrev pub seen_quotes : List (Vec CodeQuote Global) → List (List Quote)
+seen_quotes all = map (λ qs. map seen_quote qs.items) all
 
 -- the descriptions in scripts
 abbrev pub seen_descriptions : List (Vec Described Global) → List (List Description)

@@ -44,7 +44,7 @@ fn is_done(outcome: &Outcome) -> bool
 }
 
 /// Whether the transaction of a script at a place was done, from 0.
-fn was_done(row: &[Outcome], place: usize) -> bool
+pub(crate) fn was_done(row: &[Outcome], place: usize) -> bool
     ensures { result ≡ was_done row.now place }
 {
     match row.get(place) {
