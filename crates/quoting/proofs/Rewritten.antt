@@ -11,7 +11,8 @@ use Rattle.quoting.specs.Views.{seen_texts}
 
 -- there are some
 pub with_them : (ps : List (Bor (List ℕ) × Vec ℕ Global)) → (ps ≡ [] → ⊥) → (source out : List ℕ)
-    → IsRewritten [] (seen_texts ps) source out ⊎ (HasBare (seen_texts ps) source × (out ≡ source)) → IsWithProofs (seen_texts ps) source out
+    → IsRewritten [] (seen_texts ps) source out ⊎ (HasBare (seen_texts ps) source × (out ≡ source))
+    → IsWithProofs (seen_texts ps) source out
 with_them [] some source out is = absurd (some refl)
 with_them (p ∷ ps) some source out is = is
 

@@ -46,7 +46,8 @@ returns g c =
     let are : c.in_ok-proofs.proofs ≡ proofs = c.in_ok-proofs.ensures ∙ ap seen_texts c.as_slice.ensures.value in
     let none : c.in_ok-none.none ≡ [] = c.in_ok-none.ensures ∙ ap seen_pairs c.new.ensures.items in
     let some : (c.in_ok-texts.texts.items ≡ []) → ⊥ = search rules in
-    by_rewriting {Q = IsQuoted (map seen_quotation c.args.quotations.now) text} c.rewrite.result proofs text (with_them c.in_ok-texts.texts.items some)
+    by_rewriting {Q = IsQuoted (map seen_quotation c.args.quotations.now) text} c.rewrite.result proofs text
+    (with_them c.in_ok-texts.texts.items some)
     (subst (λ (cs : List Change). IfOk c.rewrite.result (λ made. IfSome made (λ out. IsRewritten cs proofs text out.items))) none
     (subst (λ (ps : List Change). IfOk c.rewrite.result (λ made. IfSome made (λ out. IsRewritten c.in_ok-none.none ps text out.items))) are
     c.rewrite.ensures.rewritten))

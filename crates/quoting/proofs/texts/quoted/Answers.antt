@@ -39,7 +39,8 @@ returns g c = λ items are.
     let stands = sym c.place_of.ensures ∙ c.in-Some.is in
     let x = (there s q place stands).0 in
     let at = (there s q place stands).1 in
-    let says : SaysTheSame s place x q.proof = (if_at (λ (x : Assertion). IsTrue c.in_ok-says_the_same.field-0 ↔ SaysTheSame s place x q.proof) (slice_get xs place) x at
+    let says : SaysTheSame s place x q.proof =
+    (if_at (λ (x : Assertion). IsTrue c.in_ok-says_the_same.field-0 ↔ SaysTheSame s place x q.proof) (slice_get xs place) x at
     c.in_ok-says_the_same.ensures).0 c.if-not-branch.false in
     let hs = seen_hypotheses c.in_ok-mandatory.field-0.items in
     let same : x.hypotheses ≡ hs = mandatory_is xs place x at hs c.in_ok-mandatory.ensures in
@@ -49,6 +50,7 @@ returns g c = λ items are.
     let old = c.text_for.ensures ∙ ap (λ (cs : List Change). option_map (λ (k : Change). k.1) (text_for cs (q.label ∷ []))) are in
     let indented : c.indentation_like-indentation.result.now ≡ indentation_for items q.label x =
     c.indentation_like-indentation.ensures.is ∙ ap₂ indentation_like old block in
-    texts_are (IsQuotable s q) (CanBeWritten q.proof) (λ (t : Vec ℕ Global). IsTextOf c.indentation_like-indentation.result.now q.proof t.items)
+    texts_are (IsQuotable s q) (CanBeWritten q.proof)
+    (λ (t : Vec ℕ Global). IsTextOf c.indentation_like-indentation.result.now q.proof t.items)
     (λ (t : Vec ℕ Global). IsQuotedAs s items q t.items) c.text_of.result c.text_of.ensures.can c.text_of.ensures.text
     (λ t is. quoted_as s q place stands items x at says t.items (subst (λ i. IsTextOf i q.proof t.items) indented is))

@@ -11,7 +11,8 @@ pub returns-then-is_none : goal.returns-then-is_none
 returns-then-is_none c =
     let labels = c.args.self.now.labels in
     let w = c.args.label.now in
-    ap (own_step None None) (sym (no_label labels w (ap is_some (sym c.place.ensures.place) ∙ (c.is_none.ensures ∙ ap not c.if-is_none.true))))
+    ap (own_step None None)
+    (sym (no_label labels w (ap is_some (sym c.place.ensures.place) ∙ (c.is_none.ensures ∙ ap not c.if-is_none.true))))
 
 pub returns : goal.returns
 returns c =
