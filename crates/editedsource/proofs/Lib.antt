@@ -1,2 +1,4 @@
 pub mod Unwrapped
 pub mod Picked
+mod Labelled
+mod Dressed

@@ -11,17 +11,18 @@ use Rattle.checking.specs.Checks.{Bytes}
 use Rattle.givetext.specs.Parts.{IsEdited}
 use Rattle.verifytext.specs.declared.verifying_text.Verified.{Verified}
 use Rattle.verifytext.specs.Verdicts.{IsVerifiedText}
-use Rattle.editedsource.specs.Described.{IsDescribedBy, descriptions_then}
+use Rattle.pasting.specs.Quotes.{Quotation}
+use Rattle.editedsource.specs.Dressed.{IsDressed}
 use Rattle.editedsource.specs.Gone.{lost, spoken_line}
 use Rattle.editedsource.specs.declared.completing.Finished.{Finished}
 
--- it has the edits of a history over the library that was taken by a choice, and these descriptions of what was added; it verifies, and
--- where it speaks of what was deleted is told
+-- it has the edits of a history over the library that was taken by a choice, with these proofs as they were given, and these descriptions
+-- of what was added; it verifies, and where it speaks of what was deleted is told
 pub record IsFinished (path source : Bytes) (old : Scope) (choice : Choice) (taken : Taken) (entries : List Entry) (edited : Listed)
-    (descriptions : List Change) (f : Finished) : Type 0 where
+    (quotations : List Quotation) (descriptions : List Change) (f : Finished) : Type 0 where
   pub edits : Bytes
   pub is_edited : IsEdited source old choice taken entries edited edits
-  pub described : IsDescribedBy (descriptions_then descriptions is_edited.followed) edits f.out.items
+  pub dressed : IsDressed quotations descriptions is_edited.followed edits f.out.items
   pub much : Verified
   pub verifies : IsVerifiedText f.out.items much
   pub spoken : map string_bytes f.spoken.items ≡ map (spoken_line path f.out.items) (spoken_in (lost is_edited.followed) f.out.items)

@@ -1,4 +1,6 @@
 pub mod Described
+pub mod Dressed
+pub mod Dressings
 pub mod Gone
 pub mod Refusals
 pub mod Finished

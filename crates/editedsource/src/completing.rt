@@ -1,12 +1,9 @@
-//! The source with the edits of a run: it is written, looked at, verified, and described.
+//! The source with the edits of a run: it is written, looked at, dressed in what scripts give in their own words, and verified.
 
-ghost use Rattle.std.specs.Prelude.{◌≡◌, IfOk, IfErr, List, OnOk, length, map, string_bytes};
-ghost use Rattle.items.specs.Divided.{IsDivided};
+ghost use Rattle.std.specs.Prelude.{◌≡◌, IfOk, IfErr, List, OnOk, length, map};
 ghost use Rattle.source.specs.Scopes.{Assertion, is_in};
 ghost use Rattle.source.specs.Sources.{DeclaresText};
 ghost use Rattle.source.specs.Views.{seen_pairs};
-ghost use Rattle.source.specs.Whole.{IsWhole};
-ghost use Rattle.std.specs.Option.{option_map, unwrap_or};
 ghost use Rattle.taking.specs.Reasons.{Choice};
 ghost use Rattle.intake.specs.declared.taken.Taken.{Taken as TakenOf};
 ghost use Rattle.library.specs.declared.history.Entry.{Entry};
@@ -14,29 +11,23 @@ ghost use Rattle.library.specs.Library.{Listed};
 ghost use Rattle.checking.specs.Checks.{Bytes};
 ghost use Rattle.givetext.specs.Drafts.{IsDraft};
 ghost use Rattle.givetext.specs.Parts.{IsEdited};
-ghost use Rattle.verifytext.specs.Verdicts.{IsVerifiedText, IsRefused};
-ghost use Rattle.sourceediting.specs.Views.{seen_following};
-ghost use Rattle.editedsource.specs.Described.{IsDescribedBy, descriptions_then};
 ghost use Rattle.editedsource.specs.Finished.{IsFinished};
+ghost use Rattle.pasting.specs.Views.{seen_quotation};
 ghost use Rattle.editscripts.specs.Refusals.{IsToldBy};
-ghost use Rattle.editedsource.specs.Refusals.{IsStoppedLine, IsFaultyThenLine, IsStoppedOrFaulty};
+ghost use Rattle.editedsource.specs.Refusals.{IsStoppedLine, IsStoppedOrFaulty};
 
-use crate::placing::descriptions_then;
+use crate::dressing::{Dressing, Given, described, described_again, quote_given};
 use crate::spoken::spoken_lines;
-use crate::telling::{ungiven, unverified};
-use describing::describe;
+use crate::telling::ungiven;
 use editscripts::Unedited;
 use following::Follow;
 use givetext::{Draft, EditedLibrary, draft_edits, look_at_draft, read_draft};
-use giving::LabelMap;
 use scopes::Scopes;
 use source::Declared;
 use source::laws::sources_are_whole;
-use sourceediting::Following;
-use std::alloc::{AllocError, Global};
+use std::alloc::Global;
 use std::hash::RandomState;
 use std::thread::Threads;
-use verifytext::{Refusal, Verified, verify, verify_read};
 
 /// What goes into a source.
 #[derive(Clone, Copy)]
@@ -45,8 +36,8 @@ pub struct SourceEdit<'x, 'a> {
     pub path: &'x str,
     /// The library that was taken of it, with the history of a run over it.
     pub library: EditedLibrary<'x, 'a>,
-    /// The labels under which assertions are added, each with the comment that describes it.
-    pub descriptions: &'x [(&'x [u8], &'x [u8])],
+    /// What the scripts give in their own words.
+    pub given: Given<'x>,
 }
 
 /// The source with the edits of a history, before it is looked at.
@@ -123,81 +114,6 @@ fn look_at<'o>(
     }
 }
 
-/// What was read verifies. Who follows is told how far it is.
-fn verify_followed<'o>(
-    rt: &(impl Threads + Sync),
-    alloc: Global,
-    keys: RandomState,
-    new: &Scopes<'o>,
-    follow: &(impl Follow + Sync),
-) -> Result<Verified, Refusal<'o>>
-    requires { IsWhole new.now.stand.scope }
-    ensures verified { (text : Bytes) → DeclaresText text new.now.stand.scope → IfOk result (IsVerifiedText text) }
-    ensures refused { (text : Bytes) → DeclaresText text new.now.stand.scope → IfErr result (IsRefused text) }
-{
-    follow.begin_reading();
-    let verified = verify_read(rt, alloc, keys, new, None, follow);
-    follow.end();
-    verified
-}
-
-/// What is printed verifies: what was read, or another text.
-fn check<'o>(
-    rt: &(impl Threads + Sync),
-    alloc: Global,
-    keys: RandomState,
-    path: &str,
-    new: &Scopes<'o>,
-    other: Option<&[u8]>,
-    follow: &(impl Follow + Sync),
-) -> Result<Verified, Unedited>
-    requires { IsWhole new.now.stand.scope }
-    ensures verified { (text : Bytes) → DeclaresText text new.now.stand.scope
-        → IfOk result (IsVerifiedText (unwrap_or (option_map (λ t. t.now) other.entry) text)) }
-    ensures refused { (text : Bytes) → DeclaresText text new.now.stand.scope
-        → IfErr result (IsToldBy (IsFaultyThenLine path.now (unwrap_or (option_map (λ t. t.now) other.entry) text))) }
-{
-    let verified = match other {
-        Some(text) => verify(rt, alloc, keys, text, None, follow),
-        None => verify_followed(rt, alloc, keys, new, follow),
-    };
-    match verified {
-        Ok(much) => Ok(much),
-        Err(why) => Err(unverified(alloc, path, why)?),
-    }
-}
-
-/// A text with these descriptions in front of what was added. None where it stays.
-fn describe_added(
-    alloc: Global,
-    keys: RandomState,
-    descriptions: &[(&[u8], &[u8])],
-    following: &Following<'_>,
-    text: &[u8],
-) -> Result<Option<Vec<u8>>, AllocError>
-    requires { IsDivided text.now }
-    ensures { IfOk result (λ made. IsDescribedBy (descriptions_then (seen_pairs descriptions.now) (seen_following following.now))
-        text.now (unwrap_or (option_map (λ out. out.items) made) text.now)) }
-{
-    let given = LabelMap::new(alloc, keys, Vec::from_slice(alloc, descriptions)?)?;
-    let pairs = descriptions_then(alloc, &given, following)?;
-    if pairs.is_empty() {
-        return Ok(None);
-    }
-    let placed = LabelMap::new(alloc, keys, pairs)?;
-    Ok(Some(describe(alloc, &placed, text)?))
-}
-
-/// The bytes of a text, if there is one.
-fn bytes_of(text: &Option<Vec<u8>>) -> Option<&[u8]>
-    ensures { option_map (λ t. t.now) result ≡ option_map (λ t. t.items) text.now }
-{
-    match text {
-        Some(text) => Some(text.as_slice()),
-        None => None,
-    }
-}
-
 /// The source with the edits of a run.
 #[derive(Drop)]
 pub struct Finished {
@@ -207,7 +123,8 @@ pub struct Finished {
     pub spoken: Vec<String>,
 }
 
-/// The source with the edits of a run, in which these descriptions stand in front of what was added, once it was looked at and verified.
+/// The source with the edits of a run, in which proofs stand as they were given, and these descriptions in front of what was added, once it
+/// was looked at and verified.
 pub fn finish<'x, 'a: 'x>(
     rt: &(impl Threads + Sync),
     alloc: Global,
@@ -222,12 +139,12 @@ pub fn finish<'x, 'a: 'x>(
         (choice : Choice) → map (λ (x : Assertion). is_in choice.chosen x.label) old.entry.stand.scope.assertions
         ≡ library.taken.now.chosen.items
         → IfOk result (IsFinished edit.now.path.now library.source.now old.entry.stand.scope choice library.taken.now
-        run.entries run.edited (seen_pairs edit.now.descriptions.now)) }
+        run.entries run.edited (map seen_quotation edit.now.given.quotations.now) (seen_pairs edit.now.given.descriptions.now)) }
     ensures refused { let library = edit.now.library in let run = library.replayed.now in
         (choice : Choice) → map (λ (x : Assertion). is_in choice.chosen x.label) old.entry.stand.scope.assertions
         ≡ library.taken.now.chosen.items
         → IfErr result (IsToldBy (IsStoppedOrFaulty edit.now.path.now library.source.now old.entry.stand.scope choice library.taken.now
-        run.entries run.edited (seen_pairs edit.now.descriptions.now))) }
+        run.entries run.edited (map seen_quotation edit.now.given.quotations.now) (seen_pairs edit.now.given.descriptions.now))) }
 {
     let draft = draft_of(alloc, keys, &old, edit)?;
     let new = read_new(alloc, keys, edit.path, &old, &draft)?;
@@ -236,24 +153,27 @@ pub fn finish<'x, 'a: 'x>(
     look_at(rt, alloc, keys, &old, &new, edit, &draft)?;
     // Its tables are as large as those of the new text, which is verified without them.
     drop(old);
-    let text = draft.text.as_slice();
-    let described = describe_added(alloc, keys, edit.descriptions, &draft.following, text)?;
-    check(
-        rt,
-        alloc,
-        keys,
-        edit.path,
-        &new,
-        bytes_of(&described),
-        follow,
-    )?;
-    drop(new);
+    let (given, text) = (edit.given, draft.text.as_slice());
+    let quoted = quote_given(alloc, keys, given.quotations, &draft.following, &new, text)?;
+    let dressing = Dressing::new(edit.path, given.descriptions, &draft.following);
+    let dressed = match quoted {
+        None => {
+            let described = described(rt, alloc, keys, &dressing, &new, text, follow)?;
+            drop(new);
+            described
+        }
+        Some(quoted) => {
+            // Its tables are as large as those of the other text.
+            drop(new);
+            Some(described_again(rt, alloc, keys, &dressing, quoted, follow)?)
+        }
+    };
     let Draft {
         text,
         following,
         ..
     } = draft;
-    let out = described.unwrap_or(text);
+    let out = dressed.unwrap_or(text);
     let spoken = spoken_lines(alloc, keys, edit.path, &following, out.as_slice())?;
     Ok(Finished { out, spoken })
 }

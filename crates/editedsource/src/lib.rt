@@ -1,9 +1,13 @@
-//! The source with the edits of a run: it is written, looked at again, verified, and described; or why it isn't printed.
+//! The source with the edits of a run: it is written, looked at again, dressed in what scripts give in their own words, and verified; or
+//! why it isn't printed.
 #![tactic(auto)]
 
 mod completing;
+mod dressing;
 mod placing;
+mod quoted;
 mod spoken;
 mod telling;
 
 pub use completing::{Finished, SourceEdit, finish};
+pub use dressing::Given;

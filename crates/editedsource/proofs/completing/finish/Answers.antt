@@ -1,35 +1,28 @@
 -- What is left to show of `finish`.
-use Rattle.std.proofs.Common.{◌≡◌, ◌∙◌, ℕ, Option, map, inl, inr, ap, rules, subst, sym, Vec, Global}
-use Rattle.std.specs.Prelude.{OnOk, IfOk, IfErr}
+use Rattle.std.proofs.Common.{◌≡◌, ◌∙◌, ℕ, Option, map, inl, inr, ap, refl, subst, sym, Vec, Global}
+use Rattle.std.specs.Prelude.{◌⊎◌, OnOk, IfOk, IfErr}
 use Rattle.std.specs.Option.{option_map, unwrap_or}
 use Rattle.std.proofs.lemmas.Result.{err_from_is_err_and}
 use Rattle.source.specs.Views.{seen_pairs}
-use Rattle.items.specs.Divided.{IsDivided}
-use Rattle.items.proofs.Sourced.{declares_divided}
 use Rattle.checking.specs.Checks.{Bytes}
 use Rattle.commentwords.specs.Spoken.{spoken_in}
 use Rattle.givetext.specs.Drafts.{IsDraft}
 use Rattle.givetext.specs.Parts.{IsEdited}
+use Rattle.pasting.specs.Views.{seen_quotation}
+use Rattle.quoting.specs.Quoted.{IsQuoted}
 use Rattle.sourceediting.specs.Following.{Following}
 use Rattle.sourceediting.specs.Views.{seen_following}
-use Rattle.verifytext.specs.Verdicts.{IsVerifiedText}
-use Rattle.editedsource.specs.Gone.{lost, spoken_line}
 use Rattle.editedsource.specs.Described.{IsDescribedBy, descriptions_then}
+use Rattle.editedsource.specs.Gone.{lost, spoken_line}
+use Rattle.editedsource.specs.Dressed.{IsDressed, IsHalfDressed, quotations_then}
+use Rattle.editedsource.specs.Dressings.{IsDescribedThen, IsUndescribed}
 use Rattle.editscripts.specs.Refusals.{IsToldBy}
-use Rattle.editedsource.specs.Refusals.{IsStoppedLine, IsStoppedOrFaulty, IsFaultyThenLine}
+use Rattle.editedsource.specs.Refusals.{IsFaultyThenLine, IsStoppedLine, IsStoppedOrFaulty}
+use Rattle.editedsource.proofs.Dressed.{described_as, undescribed_as}
 use Rattle.editedsource.proofs.Unwrapped.{unwrapped}
 use Rattle.editscripts.proofs.Lines.{told_more}
 use Rattle.editedsource.proofs.completing.finish.Goals as goal
-
-pub describe_added-requires : goal.describe_added-requires
-describe_added-requires g c =
-    subst IsDivided (sym c.as_slice-text.ensures.value)
-    (declares_divided c.in_ok-draft.draft.text.items c.in_ok-new.new.stand.scope c.in_ok-new.ensures.declares)
-
-pub check-requires : goal.check-requires
-check-requires g c =
-    let d = c.in_ok-new.ensures.declares in
-    (search rules, (search rules, c.sources_are_whole.ensures d.statements c.in_ok-new.new.stand.scope d.declared))
+use Rattle.editedsource.proofs.completing.finish.Goals.{in-None+in_ok-described-in-None, in-Some+in_ok-described_again-in-Some}
 
 pub returns-clause-finished : goal.returns-clause-finished
 returns-clause-finished g c choice are =
@@ -38,35 +31,62 @@ returns-clause-finished g c choice are =
     let old = c.args.old.stand.scope in
     let taken = c.args.edit.now.library.taken.now in
     let run = c.args.edit.now.library.replayed.now in
-    let ds = seen_pairs c.args.edit.now.descriptions.now in
+    let qs = map seen_quotation c.args.edit.now.given.quotations.now in
+    let ds = seen_pairs c.args.edit.now.given.descriptions.now in
     let draft = c.in_ok-draft.draft in
     let text = draft.text.items in
+    let f = seen_following draft.following in
     let is = subst (λ r. IfOk r (IsDraft source old choice taken run.entries run.edited)) c.in_ok-draft.was
     (c.draft_of.ensures.drafted choice are) in
     let edited = subst (λ r. OnOk r (IsEdited source old choice taken run.entries run.edited text)) c.in_ok-look_at.was
     (c.look_at.ensures.edited choice taken is) in
-    let same : seen_following draft.following ≡ edited.followed = is.followed.follows ∙ sym edited.follows in
+    let same : f ≡ edited.followed = is.followed.follows ∙ sym edited.follows in
     let out = c.unwrap_or-out.result.items in
-    let printed : unwrap_or (option_map (λ (t : Vec ℕ Global). t.items) c.in_ok-described.described) text ≡ out =
-    sym (ap (λ (v : Vec ℕ Global). v.items) c.unwrap_or-out.ensures ∙ unwrapped c.in_ok-described.described draft.text) in
-    let described =
-    subst (λ (bytes : Bytes). IsDescribedBy (descriptions_then ds (seen_following draft.following)) bytes
-    (unwrap_or (option_map (λ (t : Vec ℕ Global). t.items) c.in_ok-described.described) bytes)) c.as_slice-text.ensures.value
-    c.in_ok-described.ensures in
-    let verified = subst (λ r. IfOk r (IsVerifiedText (unwrap_or (option_map (λ t. t.now) c.bytes_of.result) text))) c.in_ok-check.was
-    (c.check.ensures.verified text c.in_ok-new.ensures.declares) in
+    let then = quotations_then qs f in
+    let told : IsQuoted then text (unwrap_or (option_map (λ (t : Vec ℕ Global). t.items) c.in_ok-quoted.quoted) text) =
+    subst (λ (bytes : Bytes). IsQuoted then bytes (unwrap_or (option_map (λ (t : Vec ℕ Global). t.items) c.in_ok-quoted.quoted) bytes))
+    c.as_slice-text.ensures.value c.in_ok-quoted.ensures in
+    let d = c.new-dressing.result in
+    let ds_are : seen_pairs d.descriptions.now ≡ ds = ap seen_pairs c.new-dressing.ensures.descriptions in
+    let f_is : seen_following d.following.now ≡ f = ap seen_following c.new-dressing.ensures.following in
+    let printed : out ≡ unwrap_or (option_map (λ (t : Vec ℕ Global). t.items) c.match-quoted.dressed) text =
+    ap (λ (v : Vec ℕ Global). v.items) c.unwrap_or-out.ensures ∙ unwrapped c.match-quoted.dressed draft.text in
+    let all : (quoted : Bytes) × IsQuoted then text quoted × IsDescribedThen ds f quoted out = (
+    elim c.match-quoted.branch [
+      | in-None+in_ok-described-in-None w ↦ (
+        text,
+        subst (λ (o : Option (Vec ℕ Global)). IsQuoted then text (unwrap_or (option_map (λ (t : Vec ℕ Global). t.items) o) text))
+            w.in-None.is told,
+        subst (IsDescribedThen ds f text)
+            (sym (printed ∙ ap (λ (o : Option (Vec ℕ Global)). unwrap_or (option_map (λ (t : Vec ℕ Global). t.items) o) text)
+            w.dressed-is))
+            (described_as (seen_pairs d.descriptions.now) ds (seen_following d.following.now) f text text _ ds_are f_is refl
+            (subst (λ (bytes : Bytes). IsDescribedThen (seen_pairs d.descriptions.now) (seen_following d.following.now) bytes
+            (unwrap_or (option_map (λ (t : Vec ℕ Global). t.items) w.in_ok-described-in-None.described) bytes))
+            c.as_slice-text.ensures.value w.in_ok-described-in-None.ensures.described)),
+      )
+      | in-Some+in_ok-described_again-in-Some w ↦ (
+        w.in-Some.quoted.items,
+        subst (λ (o : Option (Vec ℕ Global)). IsQuoted then text (unwrap_or (option_map (λ (t : Vec ℕ Global). t.items) o) text))
+            w.in-Some.is told,
+        subst (IsDescribedThen ds f w.in-Some.quoted.items)
+            (sym (printed ∙ ap (λ (o : Option (Vec ℕ Global)). unwrap_or (option_map (λ (t : Vec ℕ Global). t.items) o) text)
+            w.dressed-is))
+            (described_as (seen_pairs d.descriptions.now) ds (seen_following d.following.now) f w.in-Some.quoted.items
+            w.in-Some.quoted.items _ ds_are f_is refl w.in_ok-described_again-in-Some.ensures.described),
+      )
+    ]
+    ) in
     record {
       edits = text;
       is_edited = edited;
-      described = subst (λ (f : Following). IsDescribedBy (descriptions_then ds f) text out) same
-          (subst (IsDescribedBy (descriptions_then ds (seen_following draft.following)) text) printed described);
-      much = c.in_ok-check.field-0;
-      verifies = subst (λ (bytes : Bytes). IsVerifiedText bytes c.in_ok-check.field-0) printed
-          (subst (λ (o : Option Bytes). IsVerifiedText (unwrap_or o text) c.in_ok-check.field-0) c.bytes_of.ensures verified);
+      dressed = subst (λ (f : Following). IsDressed qs ds f text out) same
+          (record { quoted = all.0; is_quoted = all.1; is_described = all.2.described });
+      much = all.2.much;
+      verifies = all.2.verifies;
       spoken =
           c.in_ok-spoken.ensures
-          ∙ ap (λ (bytes : Bytes). map (spoken_line path bytes) (spoken_in (lost (seen_following draft.following)) bytes))
-          c.as_slice.ensures.value
+          ∙ ap (λ (bytes : Bytes). map (spoken_line path bytes) (spoken_in (lost f) bytes)) c.as_slice.ensures.value
           ∙ ap (λ (f : Following). map (spoken_line path out) (spoken_in (lost f) out)) same;
     }
 
@@ -77,47 +97,110 @@ returns-in_err-new-clause-refused g c choice are =
     let old = c.args.old.stand.scope in
     let taken = c.args.edit.now.library.taken.now in
     let run = c.args.edit.now.library.replayed.now in
-    let ds = seen_pairs c.args.edit.now.descriptions.now in
+    let qs = map seen_quotation c.args.edit.now.given.quotations.now in
+    let ds = seen_pairs c.args.edit.now.given.descriptions.now in
     let is = subst (λ r. IfOk r (IsDraft source old choice taken run.entries run.edited)) c.in_ok-draft.was
     (c.draft_of.ensures.drafted choice are) in
     let p = err_from_is_err_and c.from_residual-in_err-new.result c.from_residual-in_err-new.ensures.1 in
     rw (p.1, p.2) (told_more
     (IsStoppedLine path source old choice taken run.entries run.edited)
-    (IsStoppedOrFaulty path source old choice taken run.entries run.edited ds)
+    (IsStoppedOrFaulty path source old choice taken run.entries run.edited qs ds)
     (λ line h. inl h) c.in_err-new.field-0.0
     (subst (λ r. IfErr r (IsToldBy (IsStoppedLine path source old choice taken run.entries run.edited))) c.in_err-new.was
     (c.read_new.ensures.refused source choice taken run.entries run.edited is)))
 
-pub returns-in_err-check-clause-refused : goal.returns-in_err-check-clause-refused
-returns-in_err-check-clause-refused g c choice are =
+pub returns-in_err-described-in-None-clause-refused : goal.returns-in_err-described-in-None-clause-refused
+returns-in_err-described-in-None-clause-refused g c choice are =
     let path = c.args.edit.now.path.now in
     let source = c.args.edit.now.library.source.now in
     let old = c.args.old.stand.scope in
     let taken = c.args.edit.now.library.taken.now in
     let run = c.args.edit.now.library.replayed.now in
-    let ds = seen_pairs c.args.edit.now.descriptions.now in
+    let qs = map seen_quotation c.args.edit.now.given.quotations.now in
+    let ds = seen_pairs c.args.edit.now.given.descriptions.now in
     let draft = c.in_ok-draft.draft in
     let text = draft.text.items in
+    let f = seen_following draft.following in
     let is = subst (λ r. IfOk r (IsDraft source old choice taken run.entries run.edited)) c.in_ok-draft.was
     (c.draft_of.ensures.drafted choice are) in
     let edited = subst (λ r. OnOk r (IsEdited source old choice taken run.entries run.edited text)) c.in_ok-look_at.was
     (c.look_at.ensures.edited choice taken is) in
-    let same : seen_following draft.following ≡ edited.followed = is.followed.follows ∙ sym edited.follows in
-    let out = unwrap_or (option_map (λ (t : Vec ℕ Global). t.items) c.in_ok-described.described) text in
-    let described =
-    subst (λ (bytes : Bytes). IsDescribedBy (descriptions_then ds (seen_following draft.following)) bytes
-    (unwrap_or (option_map (λ (t : Vec ℕ Global). t.items) c.in_ok-described.described) bytes)) c.as_slice-text.ensures.value
-    c.in_ok-described.ensures in
-    let p = err_from_is_err_and c.from_residual-in_err-check.result c.from_residual-in_err-check.ensures.1 in
+    let same : f ≡ edited.followed = is.followed.follows ∙ sym edited.follows in
+    let then = quotations_then qs f in
+    let told : IsQuoted then text (unwrap_or (option_map (λ (t : Vec ℕ Global). t.items) c.in_ok-quoted.quoted) text) =
+    subst (λ (bytes : Bytes). IsQuoted then bytes (unwrap_or (option_map (λ (t : Vec ℕ Global). t.items) c.in_ok-quoted.quoted) bytes))
+    c.as_slice-text.ensures.value c.in_ok-quoted.ensures in
+    let is_quoted : IsQuoted then text text =
+    subst (λ (o : Option (Vec ℕ Global)). IsQuoted then text (unwrap_or (option_map (λ (t : Vec ℕ Global). t.items) o) text)) c.in-None.is
+    told in
+    let d = c.new-dressing.result in
+    let p = err_from_is_err_and c.from_residual-in_err-described-in-None.result c.from_residual-in_err-described-in-None.ensures.1 in
     rw (p.1, p.2) (told_more
-    (IsFaultyThenLine path (unwrap_or (option_map (λ t. t.now) c.bytes_of.result) text))
-    (IsStoppedOrFaulty path source old choice taken run.entries run.edited ds)
-    (λ line h. inr (
+    (IsUndescribed d.path.now (seen_pairs d.descriptions.now) (seen_following d.following.now) c.as_slice-text.result.now)
+    (IsStoppedOrFaulty path source old choice taken run.entries run.edited qs ds)
+    (λ line h.
+    let k = undescribed_as d.path.now path (seen_pairs d.descriptions.now) ds (seen_following d.following.now) f
+    c.as_slice-text.result.now text line c.new-dressing.ensures.path (ap seen_pairs c.new-dressing.ensures.descriptions)
+    (ap seen_following c.new-dressing.ensures.following) c.as_slice-text.ensures.value h in
+    inr (
       text,
-      out,
+      k.out,
       edited,
-      subst (λ (f : Following). IsDescribedBy (descriptions_then ds f) text out) same described,
-      subst (λ (o : Option Bytes). IsFaultyThenLine path (unwrap_or o text) line) c.bytes_of.ensures h,
-    )) c.in_err-check.field-0.0
-    (subst (λ r. IfErr r (IsToldBy (IsFaultyThenLine path (unwrap_or (option_map (λ t. t.now) c.bytes_of.result) text))))
-    c.in_err-check.was (c.check.ensures.refused text c.in_ok-new.ensures.declares)))
+      subst (λ (f : Following). IsHalfDressed qs ds f text k.out) same
+          (record { quoted = text; is_quoted = is_quoted; so_far = inr k.described }),
+      k.cause,
+    ))
+    c.in_err-described-in-None.field-0.0 c.in_err-described-in-None.ensures.refused)
+
+pub returns-in_err-described_again-in-Some-clause-refused : goal.returns-in_err-described_again-in-Some-clause-refused
+returns-in_err-described_again-in-Some-clause-refused g c choice are =
+    let path = c.args.edit.now.path.now in
+    let source = c.args.edit.now.library.source.now in
+    let old = c.args.old.stand.scope in
+    let taken = c.args.edit.now.library.taken.now in
+    let run = c.args.edit.now.library.replayed.now in
+    let qs = map seen_quotation c.args.edit.now.given.quotations.now in
+    let ds = seen_pairs c.args.edit.now.given.descriptions.now in
+    let draft = c.in_ok-draft.draft in
+    let text = draft.text.items in
+    let f = seen_following draft.following in
+    let is = subst (λ r. IfOk r (IsDraft source old choice taken run.entries run.edited)) c.in_ok-draft.was
+    (c.draft_of.ensures.drafted choice are) in
+    let edited = subst (λ r. OnOk r (IsEdited source old choice taken run.entries run.edited text)) c.in_ok-look_at.was
+    (c.look_at.ensures.edited choice taken is) in
+    let same : f ≡ edited.followed = is.followed.follows ∙ sym edited.follows in
+    let then = quotations_then qs f in
+    let told : IsQuoted then text (unwrap_or (option_map (λ (t : Vec ℕ Global). t.items) c.in_ok-quoted.quoted) text) =
+    subst (λ (bytes : Bytes). IsQuoted then bytes (unwrap_or (option_map (λ (t : Vec ℕ Global). t.items) c.in_ok-quoted.quoted) bytes))
+    c.as_slice-text.ensures.value c.in_ok-quoted.ensures in
+    let quoted = c.in-Some.quoted.items in
+    let is_quoted : IsQuoted then text quoted =
+    subst (λ (o : Option (Vec ℕ Global)). IsQuoted then text (unwrap_or (option_map (λ (t : Vec ℕ Global). t.items) o) text)) c.in-Some.is
+    told in
+    let d = c.new-dressing.result in
+    let half : (out : Bytes) → (out ≡ quoted) ⊎ IsDescribedBy (descriptions_then ds f) quoted out
+    → IsHalfDressed qs ds edited.followed text out = λ out so_far.
+    subst (λ (f : Following). IsHalfDressed qs ds f text out) same (record { quoted = quoted; is_quoted = is_quoted; so_far = so_far }) in
+    let p = err_from_is_err_and c.from_residual-in_err-described_again-in-Some.result
+    c.from_residual-in_err-described_again-in-Some.ensures.1 in
+    rw (p.1, p.2) (told_more
+    (λ line. IsUndescribed d.path.now (seen_pairs d.descriptions.now) (seen_following d.following.now) quoted line
+    ⊎ IsFaultyThenLine d.path.now quoted line)
+    (IsStoppedOrFaulty path source old choice taken run.entries run.edited qs ds)
+    (λ line h. elim h [
+      | inl u ↦
+          let k = undescribed_as d.path.now path (seen_pairs d.descriptions.now) ds (seen_following d.following.now) f quoted quoted line
+          c.new-dressing.ensures.path (ap seen_pairs c.new-dressing.ensures.descriptions)
+          (ap seen_following c.new-dressing.ensures.following) refl u in
+          inr (text, k.out, edited, half k.out (inr k.described), k.cause)
+      | inr v ↦
+          inr (
+            text,
+            quoted,
+            edited,
+            half quoted (inl refl),
+            subst (λ (w : Bytes). IsFaultyThenLine w quoted line)
+                c.new-dressing.ensures.path v,
+          )
+    ])
+    c.in_err-described_again-in-Some.field-0.0 c.in_err-described_again-in-Some.ensures.refused)
