@@ -23,7 +23,9 @@ use Rattle.expanding.specs.Asking.{spoken, asked}
 use Rattle.expanding.specs.Descriptions.{Description}
 use Rattle.editscripts.specs.Described.{AreDescriptive, done_descriptions}
 use Rattle.editscripts.specs.Encouraged.{AreEncouraged}
-use Rattle.editedsource.specs.Described.{IsDescribedBy, descriptions_then}
+use Rattle.pasting.specs.Quotes.{Quote}
+use Rattle.editscripts.specs.Quoted.{AreQuotesOf, done_quotations}
+use Rattle.editedsource.specs.Dressed.{IsDressed}
 use Rattle.editscripts.specs.Expanded.{ArePasted, RankedScript, AreRanked, texts_of}
 use Rattle.editscripts.specs.Expanded.{IsSpreadOf}
 
@@ -94,15 +96,17 @@ abbrev pub IsSourceThen : {source : Bytes} {texts : List Bytes} {workers : ℕ} 
 IsSourceThen {source} r out =
     IsEdited source r.begun.old (choice_of r.begun) (taken_of r.begun) r.entries r.edited out
 
--- what is printed: the source with the edits of the history of a run, in which what was added stands behind its description, and which
--- verifies as a whole
+-- what is printed: the source with the edits of the history of a run, in which proofs stand as they were given, and what was added behind
+-- its description, and which verifies as a whole
 pub record IsEditedBy (source : Bytes) (texts : List Bytes) (workers : ℕ) (room : Room) (rows : List (List Outcome)) (out : Bytes)
     : Type 0 where
   pub run : Run source texts workers room rows
   pub edits : Bytes
   pub source_then : IsSourceThen run edits
+  pub quotes : List (List Quote)
+  pub are_quotes : AreQuotesOf run.begun.with_ranks.over.spread quotes
   pub descriptions : List (List Description)
   pub are_descriptive : AreDescriptive texts run.begun.with_ranks.over.spread descriptions
-  pub described : IsDescribedBy (descriptions_then (done_descriptions rows descriptions) source_then.followed) edits out
+  pub dressed : IsDressed (done_quotations rows quotes) (done_descriptions rows descriptions) source_then.followed edits out
   pub much : Verified
   pub verifies : IsVerifiedText out much

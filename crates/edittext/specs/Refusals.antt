@@ -20,7 +20,9 @@ use Rattle.jobs.specs.Jobs.{Room, room_of}
 use Rattle.jobs.specs.Parts.{IsWorkFault}
 use Rattle.expanding.specs.Descriptions.{Description}
 use Rattle.editscripts.specs.Described.{AreDescriptive, done_descriptions}
-use Rattle.editedsource.specs.Described.{IsDescribedBy, descriptions_then}
+use Rattle.pasting.specs.Quotes.{Quote}
+use Rattle.editscripts.specs.Quoted.{AreQuotesOf, done_quotations}
+use Rattle.editedsource.specs.Dressed.{IsHalfDressed}
 use Rattle.edittext.specs.Edited.{IsAskedBy, Asked, Ranked, Begun, taken_of, choice_of, Run, IsSourceThen}
 use Rattle.editscripts.specs.Expanded.{IsSpreadOf}
 use Rattle.editscripts.specs.Encouraged.{IsDiscouragedBy}
@@ -105,10 +107,12 @@ pub record IsUnverifiedLine (path source : Bytes) (texts : List Bytes) (workers 
   pub run : Run source texts workers room rows
   pub edits : Bytes
   pub source_then : IsSourceThen run edits
+  pub quotes : List (List Quote)
+  pub are_quotes : AreQuotesOf run.begun.with_ranks.over.spread quotes
   pub descriptions : List (List Description)
   pub are_descriptive : AreDescriptive texts run.begun.with_ranks.over.spread descriptions
   pub out : Bytes
-  pub described : IsDescribedBy (descriptions_then (done_descriptions rows descriptions) source_then.followed) edits out
+  pub dressed : IsHalfDressed (done_quotations rows quotes) (done_descriptions rows descriptions) source_then.followed edits out
   pub cause : IsFaultyThenLine path out line
 
 -- why nothing is printed; the path of the source is the first of all

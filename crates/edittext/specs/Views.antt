@@ -10,7 +10,8 @@ use Rattle.editscripts.specs.Expanded.{IsSpreadOf}
 use Rattle.edittext.specs.Edited.{IsTakenFor}
 use Rattle.editscripts.specs.Described.{AreDescriptive}
 use Rattle.editscripts.specs.Encouraged.{AreEncouraged}
-use Rattle.editscripts.specs.Views.{beginnings_of, seen_descriptions}
+use Rattle.editscripts.specs.Quoted.{AreQuotesOf}
+use Rattle.editscripts.specs.Views.{beginnings_of, seen_descriptions, seen_quotes}
 
 -- the library that scripts ask of a source, and the scripts as they are read over it
 pub record IsBegun (source : Bytes) (s : Scope) (texts : List Bytes) (force : Bool) (b : CodeBegun) : Type 0 where
@@ -25,5 +26,6 @@ pub record IsBegun (source : Bytes) (s : Scope) (texts : List Bytes) (force : Bo
   pub are_ranked : AreRanked s b.taken.chosen.items [] pasted ranked gaps
   pub beginnings : map (λ out. out.beginnings) ranked ≡ beginnings_of b.laid.items
   pub ordered : AreScripts b.taken.database.prelude (texts_of ranked) b.scripts.items
+  pub quotes : AreQuotesOf spread (seen_quotes b.quotes.items)
   pub descriptive : AreDescriptive texts spread (seen_descriptions b.descriptions.items)
   pub fit : All (All (All (CommandFits b.taken.database.prelude))) b.scripts.items

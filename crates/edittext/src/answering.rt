@@ -9,16 +9,21 @@ ghost use Rattle.edittext.specs.Answers.{IsEditAnswer};
 ghost use Rattle.edittext.specs.Finished.{IsFirstAccount};
 ghost use Rattle.editscripts.specs.Refusals.{IsToldBy};
 ghost use Rattle.edittext.specs.Refusals.{IsUneditedLine};
-ghost use Rattle.editscripts.specs.Views.{seen_texts};
+ghost use Rattle.editscripts.specs.Quoted.{done_quotations};
+ghost use Rattle.editscripts.specs.Views.{seen_quotes, seen_texts};
+ghost use Rattle.pasting.specs.Views.{seen_quotation};
 
 use crate::account::Account;
 use crate::call::{Begun, begin, read_old, run_over};
-use editedsource::{Finished, SourceEdit, finish};
-use editscripts::{RunScripts, Unedited, done_descriptions, may_print, replies_if, undone};
+use editedsource::{Finished, Given, SourceEdit, finish};
+use editscripts::{
+    RunScripts, Unedited, done_descriptions, done_quotations, may_print, replies_if, undone,
+};
 use following::Follow;
 use givetext::{EditedLibrary, Replayed};
 use intake::Taken;
 use jobs::{Edited, Watch};
+use pasting::Quotation;
 use source::laws::sources_are_whole;
 use std::alloc::{AllocError, Global};
 use std::hash::RandomState;
@@ -85,6 +90,18 @@ fn account_of(
     })
 }
 
+/// The compressed proofs that scripts give whose transactions were done, the last first.
+fn quotations_of<'q, 'a: 'q>(
+    alloc: Global,
+    rows: &[Vec<Outcome>],
+    begun: &'q Begun<'a>,
+) -> Result<Vec<Quotation<'q>>, AllocError>
+    ensures { IfOk result (λ made. map seen_quotation made.items
+        ≡ done_quotations (lists_of rows.now) (seen_quotes begun.entry.now.quotes.items)) }
+{
+    done_quotations(alloc, rows, begun.quotes.as_slice())
+}
+
 /// The source with the edits of one history of the scripts, once it was verified; or what wasn't done.
 fn edit<'a>(
     rt: &(impl Threads + Wait + Sync),
@@ -122,26 +139,30 @@ fn edit<'a>(
         entries: history,
         edited: library,
     };
-    let done = done_descriptions(alloc, rows, begun.descriptions.as_slice())?;
-    let described = done.as_slice();
-    let edit = edit_of(order.path, source, taken, &run, described);
+    let quotations = quotations_of(alloc, rows, &begun)?;
+    let descriptions = done_descriptions(alloc, rows, begun.descriptions.as_slice())?;
+    let given = Given {
+        quotations: quotations.as_slice(),
+        descriptions: descriptions.as_slice(),
+    };
+    let edit = edit_of(order.path, source, taken, &run, given);
     let Finished { out, spoken } = finish(rt, alloc, keys, old, &edit, follow)?;
     Ok(Told::Printed(out, Account { spoken, ..account }))
 }
 
-/// What goes into a source: the edits of a run over the library that was taken of it, and these descriptions.
+/// What goes into a source: the edits of a run over the library that was taken of it, with what the scripts give in their own words.
 fn edit_of<'x, 'a>(
     path: &'x str,
     source: &'x [u8],
     taken: &'x Taken<'a>,
     replayed: &'x Replayed,
-    descriptions: &'x [(&'x [u8], &'x [u8])],
+    given: Given<'x>,
 ) -> SourceEdit<'x, 'a>
     ensures path { result.path.now ≡ path.entry.now }
     ensures source { result.library.source.now ≡ source.entry.now }
     ensures taken { result.library.taken.now ≡ taken.entry.now }
     ensures replayed { result.library.replayed.now ≡ replayed.entry.now }
-    ensures descriptions { result.descriptions.now ≡ descriptions.entry.now }
+    ensures given { result.given ≡ given.entry }
 {
     let library = EditedLibrary {
         source,
@@ -151,7 +172,7 @@ fn edit_of<'x, 'a>(
     SourceEdit {
         path,
         library,
-        descriptions,
+        given,
     }
 }
 

@@ -20,8 +20,8 @@ ghost use Rattle.edittext.specs.Views.{IsBegun};
 use crate::answering::EditOrder;
 use choosing::{Wish, wanted_of};
 use editscripts::{
-    Unedited, are_encouraged, are_free, descriptions_of, lay_all, read_all, spread_of, untaken,
-    unworked,
+    Unedited, are_encouraged, are_free, descriptions_of, lay_all, quotes_of, read_all, spread_of,
+    untaken, unworked,
 };
 use expanding::{Described, Laid, asked_of};
 use following::Follow;
@@ -30,6 +30,7 @@ use jobs::{Edited, Watch, plan_of, work};
 use library::Script;
 use mmsyntax::Database;
 use mmtext::{FaultKind, Token};
+use pasting::Quote;
 use scopes::Scopes;
 use source::Declared;
 use sourcereader::read_source;
@@ -94,6 +95,8 @@ pub(crate) struct Begun<'a> {
     pub laid: Vec<Laid>,
     /// The scripts.
     pub scripts: Vec<Script>,
+    /// The compressed proofs that each of them gives.
+    pub quotes: Vec<Vec<Quote<'a>>>,
     /// The descriptions in each of them.
     pub descriptions: Vec<Vec<Described<'a>>>,
 }
@@ -132,11 +135,13 @@ pub(crate) fn begin<'a, D: Declared<'a>>(
         taken.database.prelude(),
         laid.as_slice(),
     )?;
+    let quotes = quotes_of(alloc, spread)?;
     let descriptions = descriptions_of(alloc, keys, texts, spread)?;
     Ok(Begun {
         taken,
         laid,
         scripts,
+        quotes,
         descriptions,
     })
 }

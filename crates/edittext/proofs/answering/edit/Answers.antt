@@ -9,7 +9,10 @@ use Rattle.intake.specs.declared.taken.Taken.{Taken}
 use Rattle.transaction.specs.Closings.{lists_of}
 use Rattle.jobs.specs.Jobs.{room_of}
 use Rattle.checking.specs.Checks.{Orders}
-use Rattle.editedsource.specs.Described.{IsDescribedBy, descriptions_then}
+use Rattle.editedsource.specs.Dressed.{IsDressed, IsHalfDressed}
+use Rattle.pasting.specs.Quotes.{Quotation}
+use Rattle.pasting.specs.Views.{seen_quotation}
+use Rattle.editscripts.specs.Quoted.{done_quotations}
 use Rattle.editscripts.specs.Described.{done_descriptions}
 use Rattle.edittext.specs.Edited.{edit_room}
 use Rattle.editedsource.specs.Finished.{IsFinished}
@@ -17,7 +20,7 @@ use Rattle.edittext.specs.Finished.{IsFirstAccount}
 use Rattle.editscripts.specs.Refusals.{IsToldBy}
 use Rattle.editedsource.specs.Refusals.{IsStoppedOrFaulty}
 use Rattle.edittext.specs.Refusals.{IsUneditedLine, IsUnbegunLine, IsWorkLine}
-use Rattle.editscripts.specs.Views.{seen_texts, seen_descriptions}
+use Rattle.editscripts.specs.Views.{seen_texts, seen_descriptions, seen_quotes}
 use Rattle.edittext.proofs.Beginning.{begun_of, run_of, accounted}
 use Rattle.editscripts.proofs.Lines.{told_more}
 use Rattle.edittext.proofs.answering.edit.Goals as goal
@@ -115,19 +118,25 @@ returns-in_err-out-clause-refused g c =
     c.in_ok-outcomes.ensures.done in
     let library = is.for_scripts.library in
     let choice = library.taken.choice in
-    let given = seen_pairs c.as_slice-described.result.now in
+    let qs = map seen_quotation c.as_slice-3.result.now in
+    let quotes = seen_quotes begun.quotes.items in
+    let same_quotes : qs ≡ done_quotations rows quotes =
+    ap (map seen_quotation) c.as_slice-3.ensures.value
+    ∙ c.in_ok-quotations.ensures
+    ∙ ap (λ rs. done_quotations (lists_of rs) quotes) c.as_slice-rows.ensures.value in
+    let ds = seen_pairs c.as_slice-4.result.now in
     let descriptions = seen_descriptions begun.descriptions.items in
-    let same : given ≡ done_descriptions rows descriptions =
-    ap seen_pairs c.as_slice-described.ensures.value
-    ∙ c.in_ok-done.ensures
+    let same : ds ≡ done_descriptions rows descriptions =
+    ap seen_pairs c.as_slice-4.ensures.value
+    ∙ c.in_ok-descriptions.ensures
     ∙ ap (λ rs. done_descriptions (lists_of rs) (seen_descriptions c.as_slice-2.result.now)) c.as_slice-rows.ensures.value
     ∙ ap (λ ds. done_descriptions rows (seen_descriptions ds)) c.as_slice-2.ensures.value in
     let p = err_from_is_err_and c.from_residual-in_err-out.result c.from_residual-in_err-out.ensures.1 in
     let x = c.edit_of-edit.ensures in
     let chosen = library.chosen_are ∙ ap (λ (t : Taken). t.chosen.items) (sym x.taken) in
-    let refused = rw (x.path, x.source, x.taken, x.replayed, x.descriptions) at (c.finish.ensures.refused choice chosen) in
+    let refused = rw (x.path, x.source, x.taken, x.replayed, x.given) at (c.finish.ensures.refused choice chosen) in
     rw (p.1, p.2) (told_more
-    (IsStoppedOrFaulty path source s choice begun.taken e.history e.library given)
+    (IsStoppedOrFaulty path source s choice begun.taken e.history e.library qs ds)
     (IsUneditedLine path paths source texts workers room c.args.order.force)
     (λ line h. elim h [
       | inl stopped ↦ inr (inr (inr (inl (record { rows = rows; run = run; cause = stopped }))))
@@ -136,15 +145,19 @@ returns-in_err-out-clause-refused g c =
         run = run;
         edits = f.0;
         source_then = f.2;
+        quotes = quotes;
+        are_quotes = is.quotes;
         descriptions = descriptions;
         are_descriptive = is.descriptive;
         out = f.1;
-        described = subst (λ (ds : List Change). IsDescribedBy (descriptions_then ds f.2.followed) f.0 f.1) same f.3;
+        dressed =
+            subst (λ (ds : List Change). IsHalfDressed (done_quotations rows quotes) ds f.2.followed f.0 f.1) same
+            (subst (λ (qs : List Quotation). IsHalfDressed qs ds f.2.followed f.0 f.1) same_quotes f.3);
         cause = f.4;
       }))))
     ])
     c.in_err-out.field-0.0
-    (subst (λ r. IfErr r (IsToldBy (IsStoppedOrFaulty path source s choice begun.taken e.history e.library given))) c.in_err-out.was
+    (subst (λ r. IfErr r (IsToldBy (IsStoppedOrFaulty path source s choice begun.taken e.history e.library qs ds))) c.in_err-out.was
     refused))
 
 pub returns-clause-told : goal.returns-clause-told
@@ -166,18 +179,24 @@ returns-clause-told g c =
     let rows = lists_of e.outcomes.items in
     let library = is.for_scripts.library in
     let choice = library.taken.choice in
-    let given = seen_pairs c.as_slice-described.result.now in
+    let qs = map seen_quotation c.as_slice-3.result.now in
+    let quotes = seen_quotes begun.quotes.items in
+    let same_quotes : qs ≡ done_quotations rows quotes =
+    ap (map seen_quotation) c.as_slice-3.ensures.value
+    ∙ c.in_ok-quotations.ensures
+    ∙ ap (λ rs. done_quotations (lists_of rs) quotes) c.as_slice-rows.ensures.value in
+    let ds = seen_pairs c.as_slice-4.result.now in
     let descriptions = seen_descriptions begun.descriptions.items in
-    let same : given ≡ done_descriptions rows descriptions =
-    ap seen_pairs c.as_slice-described.ensures.value
-    ∙ c.in_ok-done.ensures
+    let same : ds ≡ done_descriptions rows descriptions =
+    ap seen_pairs c.as_slice-4.ensures.value
+    ∙ c.in_ok-descriptions.ensures
     ∙ ap (λ rs. done_descriptions (lists_of rs) (seen_descriptions c.as_slice-2.result.now)) c.as_slice-rows.ensures.value
     ∙ ap (λ ds. done_descriptions rows (seen_descriptions ds)) c.as_slice-2.ensures.value in
     let f = c.in_ok-out.field-0 in
     let x = c.edit_of-edit.ensures in
     let chosen = library.chosen_are ∙ ap (λ (t : Taken). t.chosen.items) (sym x.taken) in
-    let done = rw (x.path, x.source, x.taken, x.replayed, x.descriptions) at (c.finish.ensures.finished choice chosen) in
-    let finished = subst (λ r. IfOk r (IsFinished path source s choice begun.taken e.history e.library given)) c.in_ok-out.was done in
+    let done = rw (x.path, x.source, x.taken, x.replayed, x.given) at (c.finish.ensures.finished choice chosen) in
+    let finished = subst (λ r. IfOk r (IsFinished path source s choice begun.taken e.history e.library qs ds)) c.in_ok-out.was done in
     let account = c.in_ok-account.account in
     let first = subst (λ rs. IsFirstAccount paths texts begun (lists_of rs) asked account) c.as_slice-rows.ensures.value
     c.in_ok-account.ensures in (
@@ -186,11 +205,15 @@ returns-clause-told g c =
         run = run_of source texts s c.args.order.force begun d is workers room ss e whole c.in_ok-outcomes.ensures.done;
         edits = finished.edits;
         source_then = finished.is_edited;
+        quotes = quotes;
+        are_quotes = is.quotes;
         descriptions = descriptions;
         are_descriptive = is.descriptive;
-        described =
-            subst (λ (ds : List Change). IsDescribedBy (descriptions_then ds finished.is_edited.followed) finished.edits f.out.items) same
-            finished.described;
+        dressed =
+            subst (λ (ds : List Change). IsDressed (done_quotations rows quotes) ds finished.is_edited.followed finished.edits f.out.items)
+            same
+            (subst (λ (qs : List Quotation). IsDressed qs ds finished.is_edited.followed finished.edits f.out.items) same_quotes
+            finished.dressed);
         much = finished.much;
         verifies = finished.verifies;
       },

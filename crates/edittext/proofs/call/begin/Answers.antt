@@ -175,6 +175,7 @@ returns-clause-begun g c =
       are_ranked = subst (λ (flags : List Bool). AreRanked s flags [] made.0 outs made.2) c.as_slice-flags.ensures.value made.5;
       beginnings = begun_at outs c.in_ok-laid.laid.items made.4;
       ordered = subst (λ (t : Tables). AreScripts t (texts_of outs) ordered) c.prelude.ensures (c.in_ok-scripts.ensures.scripts outs laid);
+      quotes = c.in_ok-quotes.ensures;
       descriptive = c.in_ok-descriptions.ensures;
       fit = subst (λ (t : Tables). All (All (All (CommandFits t))) ordered) c.prelude.ensures c.in_ok-scripts.ensures.fit;
     }
