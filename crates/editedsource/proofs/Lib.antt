@@ -1,4 +1,2 @@
-pub mod Unwrapped
-pub mod Picked
-mod Labelled
 mod Dressed
+mod Unwrapped

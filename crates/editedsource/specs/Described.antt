@@ -1,20 +1,8 @@
 -- Where the descriptions of what was added go.
-use Rattle.std.specs.Prelude.{◌≡◌, List, [], ◌∷◌, filter_map, find}
-use Rattle.std.specs.Prelude.{Option, None, is_some, if◌then◌else◌}
-use Rattle.std.specs.Option.{option_map}
-use Rattle.std.specs.Str.{bytes_eq}
+use Rattle.std.specs.Prelude.{◌≡◌, List, [], ◌∷◌}
 use Rattle.giving.specs.Staying.{Change}
 use Rattle.checking.specs.Checks.{Bytes}
 use Rattle.describing.specs.Described.{IsDescribed}
-use Rattle.sourceediting.specs.Following.{Followed, Following, label_then}
-
--- an assertion that was added is described under the label that it has in the end
-abbrev pub description_then : List Change → Followed → Option Change
-description_then ds x =
-    if is_some x.source then None else option_map (λ d. (label_then x, d.1)) (find (λ d. bytes_eq x.first d.0) ds)
-
-abbrev pub descriptions_then : List Change → Following → List Change
-descriptions_then ds f = filter_map (description_then ds) f.living
 
 -- a text in which each stands in front of its assertion; where there are none, it stays
 abbrev pub IsDescribedBy : List Change → Bytes → Bytes → Type 0

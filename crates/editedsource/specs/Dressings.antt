@@ -5,7 +5,8 @@ use Rattle.checking.specs.Checks.{Bytes}
 use Rattle.sourceediting.specs.Following.{Following}
 use Rattle.verifytext.specs.declared.verifying_text.Verified.{Verified}
 use Rattle.verifytext.specs.Verdicts.{IsVerifiedText}
-use Rattle.editedsource.specs.Described.{IsDescribedBy, descriptions_then}
+use Rattle.editedsource.specs.Described.{IsDescribedBy}
+use Rattle.endlabels.specs.Descriptions.{descriptions_then}
 use Rattle.editedsource.specs.Refusals.{IsFaultyThenLine}
 
 -- what was added is described, and the text verifies

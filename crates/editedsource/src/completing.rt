@@ -17,9 +17,9 @@ ghost use Rattle.editscripts.specs.Refusals.{IsToldBy};
 ghost use Rattle.editedsource.specs.Refusals.{IsStoppedLine, IsStoppedOrFaulty};
 
 use crate::dressing::{Dressing, Given, described, described_again, quote_given};
-use crate::spoken::spoken_lines;
 use crate::telling::ungiven;
 use editscripts::Unedited;
+use endlabels::spoken_lines;
 use following::Follow;
 use givetext::{Draft, EditedLibrary, draft_edits, look_at_draft, read_draft};
 use scopes::Scopes;

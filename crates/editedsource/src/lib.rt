@@ -4,9 +4,6 @@
 
 mod completing;
 mod dressing;
-mod placing;
-mod quoted;
-mod spoken;
 mod telling;
 
 pub use completing::{Finished, SourceEdit, finish};

@@ -10,7 +10,7 @@ use Rattle.edittext.specs.Edited.{Run, IsEditedBy, taken_of}
 use Rattle.editscripts.specs.Undone.{all_undone}
 use Rattle.edittext.specs.declared.account.Account.{Account}
 use Rattle.editscripts.specs.Replies.{all_replies, told_if}
-use Rattle.editedsource.specs.Gone.{lost, spoken_line}
+use Rattle.endlabels.specs.Gone.{lost, spoken_line}
 
 -- ---- what became of each transaction
 

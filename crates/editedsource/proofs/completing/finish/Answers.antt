@@ -12,9 +12,11 @@ use Rattle.pasting.specs.Views.{seen_quotation}
 use Rattle.quoting.specs.Quoted.{IsQuoted}
 use Rattle.sourceediting.specs.Following.{Following}
 use Rattle.sourceediting.specs.Views.{seen_following}
-use Rattle.editedsource.specs.Described.{IsDescribedBy, descriptions_then}
-use Rattle.editedsource.specs.Gone.{lost, spoken_line}
-use Rattle.editedsource.specs.Dressed.{IsDressed, IsHalfDressed, quotations_then}
+use Rattle.editedsource.specs.Described.{IsDescribedBy}
+use Rattle.endlabels.specs.Descriptions.{descriptions_then}
+use Rattle.endlabels.specs.Gone.{lost, spoken_line}
+use Rattle.editedsource.specs.Dressed.{IsDressed, IsHalfDressed}
+use Rattle.endlabels.specs.Quotations.{quotations_then}
 use Rattle.editedsource.specs.Dressings.{IsDescribedThen, IsUndescribed}
 use Rattle.editscripts.specs.Refusals.{IsToldBy}
 use Rattle.editedsource.specs.Refusals.{IsFaultyThenLine, IsStoppedLine, IsStoppedOrFaulty}

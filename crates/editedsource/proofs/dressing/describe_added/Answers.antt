@@ -5,7 +5,8 @@ use Rattle.source.specs.Views.{seen_pairs}
 use Rattle.giving.specs.Staying.{Change}
 use Rattle.sourceediting.specs.Views.{seen_following}
 use Rattle.describing.specs.Described.{IsDescribed}
-use Rattle.editedsource.specs.Described.{IsDescribedBy, descriptions_then}
+use Rattle.editedsource.specs.Described.{IsDescribedBy}
+use Rattle.endlabels.specs.Descriptions.{descriptions_then}
 use Rattle.editedsource.proofs.Unwrapped.{described_some, no_pairs}
 use Rattle.editedsource.proofs.dressing.describe_added.Goals as goal
 

@@ -1,0 +1,2 @@
+mod Labelled
+mod Picked

@@ -1,0 +1,3 @@
+pub mod Descriptions
+pub mod Gone
+pub mod Quotations
