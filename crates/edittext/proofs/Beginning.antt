@@ -8,13 +8,13 @@ use Rattle.transaction.specs.Closings.{lists_of}
 use Rattle.checking.specs.Checks.{Bytes, Orders}
 use Rattle.jobs.specs.Jobs.{Room, IsWorked, room_of}
 use Rattle.editing.specs.declared.editing.Edited.{Edited}
-use Rattle.edittext.specs.declared.call.Begun.{Begun as CodeBegun}
+use Rattle.editopening.specs.declared.beginning.Begun.{Begun as CodeBegun}
 use Rattle.edittext.specs.Edited.{Begun, Run}
 use Rattle.editscripts.specs.Undone.{all_undone}
 use Rattle.edittext.specs.Accounts.{IsAccount}
 use Rattle.editscripts.specs.Replies.{all_replies, told_if}
 use Rattle.edittext.specs.Finished.{IsFirstAccount}
-use Rattle.edittext.specs.Views.{IsBegun}
+use Rattle.editopening.specs.Views.{IsBegun}
 use Rattle.edittext.specs.declared.account.Account.{Account}
 
 -- scripts that were run are those that were read

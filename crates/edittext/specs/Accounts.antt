@@ -6,7 +6,8 @@ use Rattle.commentwords.specs.Spoken.{spoken_in}
 use Rattle.transaction.specs.declared.outcome.Outcome.{Outcome}
 use Rattle.checking.specs.Checks.{Bytes}
 use Rattle.jobs.specs.Jobs.{Room}
-use Rattle.edittext.specs.Edited.{Run, IsEditedBy, taken_of}
+use Rattle.editopening.specs.Opening.{taken_of, scripts_of}
+use Rattle.edittext.specs.Edited.{Run, IsEditedBy}
 use Rattle.editscripts.specs.Undone.{all_undone}
 use Rattle.edittext.specs.declared.account.Account.{Account}
 use Rattle.editscripts.specs.Replies.{all_replies, told_if}
@@ -24,13 +25,13 @@ beginnings_in run = map (λ out. out.beginnings) run.begun.with_ranks.ranked
 -- the lines of the transactions that weren't done
 abbrev pub undone_by : {source : Bytes} {texts : List Bytes} {workers : ℕ} {room : Room} {rows : List (List Outcome)}
     → List Bytes → Run source texts workers room rows → List Bytes
-undone_by {texts} {rows} paths run = all_undone paths texts (beginnings_in run) run.begun.scripts rows
+undone_by {texts} {rows} paths run = all_undone paths texts (beginnings_in run) (scripts_of run.begun) rows
 
 -- what became of each
 abbrev pub replies_by : {source : Bytes} {texts : List Bytes} {workers : ℕ} {room : Room} {rows : List (List Outcome)}
     → List Bytes → Run source texts workers room rows → Bytes
 replies_by {texts} {rows} paths run =
-    all_replies (taken_of run.begun).database.prelude paths texts (beginnings_in run) run.begun.scripts rows
+    all_replies (taken_of run.begun).database.prelude paths texts (beginnings_in run) (scripts_of run.begun) rows
 
 -- ---- labels that are gone
 

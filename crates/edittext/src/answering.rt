@@ -14,8 +14,9 @@ ghost use Rattle.editscripts.specs.Views.{seen_quotes, seen_texts};
 ghost use Rattle.pasting.specs.Views.{seen_quotation};
 
 use crate::account::Account;
-use crate::call::{Begun, begin, read_old, run_over};
+use crate::call::{close_run, run_over};
 use editedsource::{Finished, Given, SourceEdit, finish};
+use editopening::{Begun, EditOrder, begin, read_old};
 use editscripts::{
     RunScripts, Unedited, done_descriptions, done_quotations, may_print, replies_if, undone,
 };
@@ -30,25 +31,6 @@ use std::hash::RandomState;
 use std::sync::Wait;
 use std::thread::Threads;
 use transaction::Outcome;
-
-/// What an edit is asked to do.
-#[derive(Clone, Copy)]
-pub struct EditOrder<'o> {
-    /// The path of the source.
-    pub path: &'o str,
-    /// The paths of the source and of the scripts.
-    pub paths: &'o [&'o str],
-    /// How many workers run the scripts, 1 to 64.
-    pub workers: usize,
-    /// For how many words the store of the run has room, at most 16,777,216, if that is given.
-    pub room: Option<usize>,
-    /// Whether scripts may do what comments of the source discourage.
-    pub force: bool,
-    /// Whether the source is printed also where not all transactions were done.
-    pub partial: bool,
-    /// Whether it is told what became of each transaction.
-    pub with_replies: bool,
-}
 
 /// What the program answers where scripts edit a source.
 #[derive(Debug, Drop)]
@@ -77,7 +59,7 @@ fn account_of(
         paths: order.paths,
         texts,
         laid: begun.laid.as_slice(),
-        scripts: begun.scripts.as_slice(),
+        scripts: begun.opened.scripts.as_slice(),
         rows: outcomes,
     };
     let undone = undone(alloc, &run)?;
@@ -122,14 +104,14 @@ fn edit<'a>(
     let old = read_old(alloc, keys, order.path, source, follow)?;
     // For the proof: what is read is whole.
     sources_are_whole();
-    let begun = begin(rt, alloc, keys, order, source, &old, texts, follow)?;
+    let mut begun = begin(rt, alloc, keys, order, source, &old, texts, follow)?;
     Follow::end(follow);
-    let (taken, scripts) = (&begun.taken, begun.scripts.as_slice());
+    let (database, scripts) = (begun.database(), begun.opened.scripts.as_slice());
     let Edited {
         outcomes,
         history,
         library,
-    } = run_over(rt, alloc, keys, order, &taken.database, scripts, follow)?;
+    } = run_over(rt, alloc, keys, order, database, scripts, follow)?;
     let rows = outcomes.as_slice();
     let account = account_of(alloc, order, texts, &begun, rows)?;
     if !may_print(order.partial, account.undone.as_slice()) {
@@ -137,7 +119,7 @@ fn edit<'a>(
     }
     let run = Replayed {
         entries: history,
-        edited: library,
+        edited: close_run(alloc, keys, &mut begun, library)?,
     };
     let quotations = quotations_of(alloc, rows, &begun)?;
     let descriptions = done_descriptions(alloc, rows, begun.descriptions.as_slice())?;
@@ -145,7 +127,7 @@ fn edit<'a>(
         quotations: quotations.as_slice(),
         descriptions: descriptions.as_slice(),
     };
-    let edit = edit_of(order.path, source, taken, &run, given);
+    let edit = edit_of(order.path, source, &begun.taken, &run, given);
     let Finished { out, spoken } = finish(rt, alloc, keys, old, &edit, follow)?;
     Ok(Told::Printed(out, Account { spoken, ..account }))
 }

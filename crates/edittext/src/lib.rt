@@ -6,4 +6,5 @@ mod answering;
 mod call;
 
 pub use account::Account;
-pub use answering::{EditOrder, Told, answer_edit};
+pub use answering::{Told, answer_edit};
+pub use editopening::EditOrder;

@@ -4,9 +4,9 @@ use Rattle.std.specs.Prelude.{◌≢◌}
 use Rattle.intake.specs.declared.refusal.Refusal.TheVariants as untaken
 use Rattle.mmtext.specs.declared.fault.FaultKind.TheVariants.{NoMemory}
 use Rattle.taketext.specs.Refusals.{refusal_line}
-use Rattle.edittext.specs.Refusals.{IsFaultyLine}
+use Rattle.editopening.specs.Refusals.{IsFaultyLine}
 use Rattle.editscripts.proofs.Lines.{told_more}
-use Rattle.edittext.proofs.call.read_old.Goals as goal
+use Rattle.editopening.proofs.reading.read_old.Goals as goal
 
 pub returns-in_ok-untaken-in-Err-clause-refused : goal.returns-in_ok-untaken-in-Err-clause-refused
 returns-in_ok-untaken-in-Err-clause-refused g c =

@@ -13,13 +13,13 @@ use Rattle.editscripts.specs.Expanded.{IsSpreadOf}
 use Rattle.editscripts.specs.Encouraged.{IsDiscouragedBy}
 use Rattle.editscripts.specs.Refusals.{IsWordlessLine, IsMisfitLine, IsBarredBy, IsUnlaidBy, IsUnreadBy}
 use Rattle.pasting.specs.Views.{IsNarrow}
-use Rattle.edittext.proofs.Narrow.{narrow_taken}
-use Rattle.edittext.specs.Refusals.{IsUnbegunLine}
+use Rattle.editopening.proofs.Narrow.{narrow_taken}
+use Rattle.editopening.specs.Refusals.{IsUnbegunLine}
 use Rattle.expanding.specs.Views.{seen_scripts}
 use Rattle.editscripts.specs.Views.{seen_texts, AreLaid}
 use Rattle.editscripts.proofs.Expanding.{begun_at}
 use Rattle.editscripts.proofs.Lines.{told_more}
-use Rattle.edittext.proofs.call.begin.Goals as goal
+use Rattle.editopening.proofs.beginning.begin.Goals as goal
 
 pub returns-in_err-spread-clause-refused : goal.returns-in_err-spread-clause-refused
 returns-in_err-spread-clause-refused g c =

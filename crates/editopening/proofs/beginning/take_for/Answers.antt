@@ -7,10 +7,10 @@ use Rattle.source.specs.Views.{seen_words}
 use Rattle.choosing.specs.declared.wish.Wish.TheVariants.{These}
 use Rattle.choosing.specs.Spoken.{wanted_labels, axiom_labels}
 use Rattle.expanding.specs.Asking.{spoken, asked}
-use Rattle.edittext.specs.Refusals.{IsUntakenBy}
+use Rattle.editopening.specs.Refusals.{IsUntakenBy}
 use Rattle.expanding.specs.Views.{seen_scripts}
 use Rattle.editscripts.proofs.Lines.{told_more}
-use Rattle.edittext.proofs.call.take_for.Goals as goal
+use Rattle.editopening.proofs.beginning.take_for.Goals as goal
 
 pub returns-in-Ok-clause-taken : goal.returns-in-Ok-clause-taken
 returns-in-Ok-clause-taken g c =

@@ -3,11 +3,14 @@ use Rattle.std.specs.Prelude.{◌≡◌, ℕ, Bool, false, List, [], map, All}
 use Rattle.mmtext.specs.Text.{Token}
 use Rattle.source.specs.Scopes.{Scope}
 use Rattle.library.specs.Fitting.{CommandFits}
-use Rattle.checking.specs.Checks.{Bytes, AreScripts}
-use Rattle.edittext.specs.declared.call.Begun.{Begun as CodeBegun}
+use Rattle.checking.specs.Checks.{Bytes, Orders, AreScripts}
+use Rattle.derivation.specs.Databases.{AllCheck}
+use Rattle.standins.specs.StandIns.{stand_ins}
+use Rattle.standins.specs.Views.{IsOpened, opened_database}
+use Rattle.editopening.specs.declared.beginning.Begun.{Begun as CodeBegun}
 use Rattle.editscripts.specs.Expanded.{ArePasted, RankedScript, AreRanked, texts_of}
 use Rattle.editscripts.specs.Expanded.{IsSpreadOf}
-use Rattle.edittext.specs.Edited.{IsTakenFor}
+use Rattle.editopening.specs.Opening.{IsTakenFor}
 use Rattle.editscripts.specs.Described.{AreDescriptive}
 use Rattle.editscripts.specs.Encouraged.{AreEncouraged}
 use Rattle.editscripts.specs.Quoted.{AreQuotesOf}
@@ -25,7 +28,10 @@ pub record IsBegun (source : Bytes) (s : Scope) (texts : List Bytes) (force : Bo
   pub gaps : List ℕ
   pub are_ranked : AreRanked s b.taken.chosen.items [] pasted ranked gaps
   pub beginnings : map (λ out. out.beginnings) ranked ≡ beginnings_of b.laid.items
-  pub ordered : AreScripts b.taken.database.prelude (texts_of ranked) b.scripts.items
+  pub read : List Orders
+  pub ordered : AreScripts b.taken.database.prelude (texts_of ranked) read
+  pub opened : IsOpened (stand_ins s for_scripts.library.taken.choice b.taken spread read) b.taken.database read b.opened
+  pub checks : AllCheck (opened_database b.taken.database b.opened)
   pub quotes : AreQuotesOf spread (seen_quotes b.quotes.items)
   pub descriptive : AreDescriptive texts spread (seen_descriptions b.descriptions.items)
-  pub fit : All (All (All (CommandFits b.taken.database.prelude))) b.scripts.items
+  pub fit : All (All (All (CommandFits b.taken.database.prelude))) b.opened.scripts.items

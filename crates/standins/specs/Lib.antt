@@ -1,0 +1,3 @@
+pub mod StandIns
+pub mod Ending
+pub mod Views

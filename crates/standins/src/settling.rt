@@ -1,0 +1,89 @@
+//! Which theorems are still told to be axioms behind a run.
+
+ghost use Rattle.std.specs.Prelude.{◌≡◌, IfOk, filter, map};
+ghost use mathlib.Core.Bool.{not};
+ghost use Rattle.library.specs.Edits.{cites};
+ghost use Rattle.mmsyntax.specs.ProofWords.{seen_step};
+ghost use Rattle.source.specs.Scopes.{is_in};
+ghost use Rattle.standins.specs.Ending.{IsSettled, released};
+ghost use Rattle.standins.specs.Views.{seen_stand_ins};
+
+use crate::standing::StandIn;
+use intake::Taken;
+use library::Ranked;
+use mmsyntax::StepRef;
+use sites::Indexed;
+use std::alloc::{AllocError, Global};
+use std::hash::RandomState;
+use taking::Reason;
+
+/// Whether the proof of an entry cites a label.
+fn cites(label: &[u8], entry: &Ranked) -> bool
+    ensures { result ≡ cites label.now entry.now }
+{
+    let proof = &entry.assertion.proof;
+    for i in 0..proof.len() {
+        if let StepRef::Cite(cited) = proof.step(i)
+            && cited == label
+        {
+            return true;
+        }
+    }
+    false
+}
+
+/// The labels in the source of the theorems on whose axiom no entry of a library leans.
+fn released<'s>(
+    alloc: Global,
+    keys: RandomState,
+    stand_ins: &'s [StandIn],
+    entries: &[Ranked],
+) -> Result<Indexed<'s>, AllocError>
+    ensures { IfOk result (λ made. made ≡ released (seen_stand_ins stand_ins.now) entries.now) }
+{
+    let mut labels = Vec::new(alloc);
+    for stand_in in stand_ins {
+        let axiom = stand_in.axiom.as_slice();
+        if !entries.iter().any(|entry| cites(axiom, entry)) {
+            labels.push(stand_in.source.as_slice())?;
+        }
+    }
+    Indexed::new(alloc, keys, labels)
+}
+
+/// What is told, without these theorems.
+fn others_told<'a>(
+    alloc: Global,
+    released: &Indexed<'_>,
+    axioms: &[(&'a [u8], Reason)],
+) -> Result<Vec<(&'a [u8], Reason)>, AllocError>
+    ensures { IfOk result (λ made. map (λ p. (p.0.now, p.1)) made.items
+        ≡ filter (λ a. not (is_in released.now a.0)) (map (λ p. (p.0.now, p.1)) axioms.now)) }
+{
+    let mut made = Vec::new(alloc);
+    for axiom in axioms {
+        if released.place(axiom.0).is_none() {
+            made.push(*axiom)?;
+        }
+    }
+    Ok(made)
+}
+
+/// Of a library that was taken those theorems are no longer told to be axioms that lean on no axiom in these entries.
+pub(crate) fn settle<'a>(
+    alloc: Global,
+    keys: RandomState,
+    stand_ins: &[StandIn],
+    entries: &[Ranked],
+    taken: &mut Taken<'a>,
+) -> Result<(), AllocError>
+    ensures { OnOk result (IsSettled (seen_stand_ins stand_ins.now) entries.now taken.old taken.new) }
+{
+    if stand_ins.is_empty() {
+        return Ok(());
+    }
+    let released = released(alloc, keys, stand_ins, entries)?;
+    let axioms = others_told(alloc, &released, taken.axioms.as_slice())?;
+    taken.axioms = axioms;
+    Ok(())
+}
