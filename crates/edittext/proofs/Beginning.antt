@@ -1,28 +1,35 @@
--- What is begun with, and the run over it.
+-- What is begun with, the run over it, and its end.
 use Rattle.std.proofs.Common.{◌≡◌, ◌∙◌, ℕ, Bool, List, map, ap, subst, sym, Vec, Global}
 use Rattle.std.specs.Prelude.{String, string_bytes}
 use Rattle.mmsyntax.specs.Tables.{Contents}
 use Rattle.source.specs.Scopes.{Scope}
 use Rattle.source.specs.Sources.{DeclaresText}
+use Rattle.intake.specs.declared.taken.Taken.{Taken}
+use Rattle.library.specs.Library.{Listed}
 use Rattle.transaction.specs.Closings.{lists_of}
 use Rattle.checking.specs.Checks.{Bytes, Orders}
 use Rattle.jobs.specs.Jobs.{Room, IsWorked, room_of}
 use Rattle.editing.specs.declared.editing.Edited.{Edited}
+use Rattle.standins.specs.StandIns.{StandIn}
+use Rattle.standins.specs.Ending.{IsSettled, IsWithdrawn}
+use Rattle.standins.specs.Views.{opened_database, seen_stand_ins}
 use Rattle.editopening.specs.declared.beginning.Begun.{Begun as CodeBegun}
-use Rattle.edittext.specs.Edited.{Begun, Run}
+use Rattle.editopening.specs.Opening.{Begun, opened_of, scripts_of}
+use Rattle.editopening.specs.Views.{IsBegun}
+use Rattle.edittext.specs.Edited.{Run, Closed}
 use Rattle.editscripts.specs.Undone.{all_undone}
 use Rattle.edittext.specs.Accounts.{IsAccount}
 use Rattle.editscripts.specs.Replies.{all_replies, told_if}
 use Rattle.edittext.specs.Finished.{IsFirstAccount}
-use Rattle.editopening.specs.Views.{IsBegun}
 use Rattle.edittext.specs.declared.account.Account.{Account}
 
--- scripts that were run are those that were read
-pub worked_as : (db : Contents) (workers : ℕ) (room : Room) (ss scripts : List Orders) → ss ≡ scripts → (e : Edited)
+-- the same scripts were run over the same library
+pub worked_as : (db other : Contents) (workers : ℕ) (room : Room) (ss scripts : List Orders) → db ≡ other → ss ≡ scripts → (e : Edited)
     → IsWorked db workers (room_of room db ss) ss (lists_of e.outcomes.items) e.history e.library
-    → IsWorked db workers (room_of room db scripts) scripts (lists_of e.outcomes.items) e.history e.library
-worked_as db workers room ss scripts same e w =
-    subst (λ (k : List Orders). IsWorked db workers (room_of room db k) k (lists_of e.outcomes.items) e.history e.library) same w
+    → IsWorked other workers (room_of room other scripts) scripts (lists_of e.outcomes.items) e.history e.library
+worked_as db other workers room ss scripts is same e w =
+    subst (λ (k : List Orders). IsWorked other workers (room_of room other k) k (lists_of e.outcomes.items) e.history e.library) same
+    (subst (λ (d : Contents). IsWorked d workers (room_of room d ss) ss (lists_of e.outcomes.items) e.history e.library) is w)
 
 module _ (source : Bytes) (texts : List Bytes) (s : Scope) (force : Bool) (b : CodeBegun) (d : DeclaresText source s)
     (is : IsBegun source s texts force b) where
@@ -38,32 +45,59 @@ module _ (source : Bytes) (texts : List Bytes) (s : Scope) (force : Bool) (b : C
       gaps = is.gaps;
       are_ranked = is.are_ranked;
     };
-    scripts = b.scripts.items;
+    read = is.read;
     ordered = is.ordered;
   }
 
-  abbrev pub run_of : (workers : ℕ) (room : Room) (ss : List Orders) (e : Edited) → ss ≡ b.scripts.items
-      → IsWorked b.taken.database workers (room_of room b.taken.database ss) ss (lists_of e.outcomes.items) e.history e.library
-      → Run source texts workers room (lists_of e.outcomes.items)
-  run_of workers room ss e same worked = record {
-    begun = begun_of;
-    entries = e.history;
-    edited = e.library;
-    worked = worked_as b.taken.database workers room ss b.scripts.items same e worked;
-  }
+  -- the library and the scripts of the code are these
+  module _ (db : Contents) (ss : List Orders) (over : db ≡ opened_database b.taken.database b.opened)
+      (same : ss ≡ b.opened.scripts.items) where
+    pub database_is : db ≡ opened_of begun_of
+    database_is = over ∙ is.opened.database
 
-  -- what is told of it
-  pub accounted : (paths : List Bytes) (workers : ℕ) (room : Room) (ss : List Orders) (e : Edited) (same : ss ≡ b.scripts.items)
-      (w : IsWorked b.taken.database workers (room_of room b.taken.database ss) ss (lists_of e.outcomes.items) e.history e.library)
-      (asked : Bool) (a : Account) → IsFirstAccount paths texts b (lists_of e.outcomes.items) asked a
-      → (spoken : Vec (String Global) Global) (told : List Bytes) → map string_bytes spoken.items ≡ told
-      → IsAccount paths (run_of workers room ss e same w) asked told (record { undone = a.undone; spoken = spoken; replies = a.replies })
-  accounted paths workers room ss e same w asked a first spoken told said =
-      let rows = lists_of e.outcomes.items in
-      record {
-        undone = first.undone ∙ ap (λ bs. all_undone paths texts bs b.scripts.items rows) (sym is.beginnings);
-        spoken = said;
-        replies =
-            first.replies
-            ∙ ap (λ bs. told_if asked (all_replies b.taken.database.prelude paths texts bs b.scripts.items rows)) (sym is.beginnings);
-      }
+    pub scripts_are : ss ≡ scripts_of begun_of
+    scripts_are = same ∙ is.opened.scripts
+
+    abbrev pub run_of : (workers : ℕ) (room : Room) (e : Edited)
+        → IsWorked db workers (room_of room db ss) ss (lists_of e.outcomes.items) e.history e.library
+        → Run source texts workers room (lists_of e.outcomes.items)
+    run_of workers room e worked = record {
+      begun = begun_of;
+      entries = e.history;
+      edited = e.library;
+      worked = worked_as db (opened_of begun_of) workers room ss (scripts_of begun_of) database_is scripts_are e worked;
+    }
+
+    -- it ends so
+    abbrev pub closed_of : (workers : ℕ) (room : Room) (e : Edited)
+        (w : IsWorked db workers (room_of room db ss) ss (lists_of e.outcomes.items) e.history e.library) (library : Listed) (t : Taken)
+        → IsWithdrawn (seen_stand_ins b.opened.stand_ins.items) e.library library
+        → IsSettled (seen_stand_ins b.opened.stand_ins.items) e.library.entries b.taken t → Closed (run_of workers room e w)
+    closed_of workers room e w library t withdrawn settled = record {
+      library = library;
+      withdrawn = subst (λ (ss : List StandIn). IsWithdrawn ss e.library library) is.opened.stand_ins withdrawn;
+      taken = t;
+      settled = subst (λ (ss : List StandIn). IsSettled ss e.library.entries b.taken t) is.opened.stand_ins settled;
+    }
+
+    -- what is told of it
+    pub accounted : (paths : List Bytes) (workers : ℕ) (room : Room) (e : Edited)
+        (w : IsWorked db workers (room_of room db ss) ss (lists_of e.outcomes.items) e.history e.library)
+        (asked : Bool) (a : Account) → IsFirstAccount paths texts b (lists_of e.outcomes.items) asked a
+        → (spoken : Vec (String Global) Global) (told : List Bytes) → map string_bytes spoken.items ≡ told
+        → IsAccount paths (run_of workers room e w) asked told (record { undone = a.undone; spoken = spoken; replies = a.replies })
+    accounted paths workers room e w asked a first spoken told said =
+        let rows = lists_of e.outcomes.items in
+        let begins = sym is.beginnings in
+        let run = is.opened.scripts in
+        record {
+          undone =
+              first.undone ∙ ap (λ bs. all_undone paths texts bs b.opened.scripts.items rows) begins
+              ∙ ap (λ ss. all_undone paths texts (map (λ out. out.beginnings) is.ranked) ss rows) run;
+          spoken = said;
+          replies =
+              first.replies
+              ∙ ap (λ bs. told_if asked (all_replies b.taken.database.prelude paths texts bs b.opened.scripts.items rows)) begins
+              ∙ ap (λ ss. told_if asked (all_replies b.taken.database.prelude paths texts (map (λ out. out.beginnings) is.ranked) ss rows))
+              run;
+        }
