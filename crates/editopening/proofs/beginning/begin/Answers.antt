@@ -14,7 +14,8 @@ use Rattle.editscripts.specs.Encouraged.{IsDiscouragedBy}
 use Rattle.editscripts.specs.Refusals.{IsWordlessLine, IsMisfitLine, IsBarredBy, IsUnlaidBy, IsUnreadBy}
 use Rattle.pasting.specs.Views.{IsNarrow}
 use Rattle.editopening.proofs.Narrow.{narrow_taken}
-use Rattle.editopening.specs.Refusals.{IsUnbegunLine}
+use Rattle.editopening.specs.Opening.{Begun, stand_ins_of}
+use Rattle.editopening.specs.Refusals.{IsUnbegunLine, IsUnopenedBy}
 use Rattle.expanding.specs.Views.{seen_scripts}
 use Rattle.editscripts.specs.Views.{seen_texts, AreLaid}
 use Rattle.editscripts.proofs.Expanding.{begun_at}
@@ -133,7 +134,7 @@ returns-in_err-scripts-clause-refused g c =
     let p = err_from_is_err_and c.from_residual-in_err-scripts.result c.from_residual-in_err-scripts.ensures.1 in
     rw (p.1, p.2) (told_more
     (IsUnreadBy paths c.prelude.result.now texts outs) (IsUnbegunLine path paths source s texts c.args.order.force)
-    (λ line h. inr (inr (inr (inr (inr (inr (record {
+    (λ line h. inr (inr (inr (inr (inr (inr (inl (record {
       with_ranks = record {
         over = record {
           spread = seen_scripts scripts;
@@ -149,7 +150,66 @@ returns-in_err-scripts-clause-refused g c =
         are_ranked = subst (λ (flags : List Bool). AreRanked s flags [] made.0 outs made.2) c.as_slice-flags.ensures.value made.5;
       };
       cause = subst (λ (t : Tables). IsUnreadBy paths t texts outs line) c.prelude.ensures h;
-    }))))))) c.in_err-scripts.field-0.0 (c.in_err-scripts.ensures.refused outs laid))
+    })))))))) c.in_err-scripts.field-0.0 (c.in_err-scripts.ensures.refused outs laid))
+
+pub open_for-requires : goal.open_for-requires
+open_for-requires g c =
+    let s = g.D.Declared.scope c.args.declared.now in
+    let library = c.in_ok-taken.ensures.taken.library in
+    let ordered = c.in_ok-scripts.scripts.items in
+    λ _. (
+      (refl, (refl, tt)),
+      (
+        ap length (sym library.chosen_are) ∙ length-map s.assertions _,
+        (
+          library.checks,
+          subst (λ (t : Tables). All (All (All (CommandFits t))) ordered) c.prelude.ensures c.in_ok-scripts.ensures.fit,
+        ),
+      ),
+    )
+
+pub returns-in_err-opened-clause-refused : goal.returns-in_err-opened-clause-refused
+returns-in_err-opened-clause-refused g c =
+    let s = g.D.Declared.scope c.args.declared.now in
+    let texts = seen_texts c.args.texts.now in
+    let source = c.args.source.now in
+    let paths = map (λ p. p.now) c.args.order.paths.now in
+    let path = c.args.order.path.now in
+    let scripts = c.as_slice-spread.result.now in
+    let db = c.in_ok-taken.taken.database in
+    let library = c.in_ok-taken.ensures.taken.library in
+    let spread =
+    subst (λ (ts : List (Vec CodeToken Global)). IsSpreadOf s texts (seen_scripts ts)) (sym c.as_slice-spread.ensures.value)
+    c.in_ok-spread.ensures.spread in
+    let made = c.in_ok-laid.ensures.laid in
+    let outs = made.1 in
+    let ordered = c.in_ok-scripts.scripts.items in
+    let laid = subst (λ (ls : List Laid). AreLaid outs ls) (sym c.as_slice.ensures.value) made.4 in
+    let begun : Begun source texts = record {
+      old = s;
+      declares = c.requires.declares;
+      with_ranks = record {
+        over = record {
+          spread = seen_scripts scripts;
+          of_source = spread;
+          taken = c.in_ok-taken.taken;
+          for_scripts = c.in_ok-taken.ensures.taken;
+        };
+        pasted = made.0;
+        are_pasted =
+            subst (λ (flags : List Bool). ArePasted s flags db (seen_scripts scripts) made.0) c.as_slice-flags.ensures.value made.3;
+        ranked = outs;
+        gaps = made.2;
+        are_ranked = subst (λ (flags : List Bool). AreRanked s flags [] made.0 outs made.2) c.as_slice-flags.ensures.value made.5;
+      };
+      read = ordered;
+      ordered = subst (λ (t : Tables). AreScripts t (texts_of outs) ordered) c.prelude.ensures (c.in_ok-scripts.ensures.scripts outs laid);
+    } in
+    let p = err_from_is_err_and c.from_residual-in_err-opened.result c.from_residual-in_err-opened.ensures.1 in
+    rw (p.1, p.2) (told_more
+    (IsUnopenedBy path db (stand_ins_of begun)) (IsUnbegunLine path paths source s texts c.args.order.force)
+    (λ line h. inr (inr (inr (inr (inr (inr (inr (record { begun = begun; cause = h }))))))))
+    c.in_err-opened.field-0.0 (c.in_err-opened.ensures.refused library.taken.choice library.chosen_are))
 
 pub returns-clause-begun : goal.returns-clause-begun
 returns-clause-begun g c =
@@ -157,6 +217,7 @@ returns-clause-begun g c =
     let texts = seen_texts c.args.texts.now in
     let scripts = c.as_slice-spread.result.now in
     let db = c.in_ok-taken.taken.database in
+    let library = c.in_ok-taken.ensures.taken.library in
     let made = c.in_ok-laid.ensures.laid in
     let outs = made.1 in
     let ordered = c.in_ok-scripts.scripts.items in
@@ -174,8 +235,11 @@ returns-clause-begun g c =
       gaps = made.2;
       are_ranked = subst (λ (flags : List Bool). AreRanked s flags [] made.0 outs made.2) c.as_slice-flags.ensures.value made.5;
       beginnings = begun_at outs c.in_ok-laid.laid.items made.4;
+      read = ordered;
       ordered = subst (λ (t : Tables). AreScripts t (texts_of outs) ordered) c.prelude.ensures (c.in_ok-scripts.ensures.scripts outs laid);
+      opened = c.in_ok-opened.ensures.opened library.taken.choice library.chosen_are;
+      checks = c.in_ok-opened.ensures.checks;
       quotes = c.in_ok-quotes.ensures;
       descriptive = c.in_ok-descriptions.ensures;
-      fit = subst (λ (t : Tables). All (All (All (CommandFits t))) ordered) c.prelude.ensures c.in_ok-scripts.ensures.fit;
+      fit = c.in_ok-opened.ensures.fit;
     }
