@@ -7,4 +7,3 @@ mod call;
 
 pub use account::Account;
 pub use answering::{Told, answer_edit};
-pub use editopening::EditOrder;

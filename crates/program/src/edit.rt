@@ -169,7 +169,7 @@ fn answer_edited<R: Threads + Wait + Sync, W: World, V: Watch + Follow + Sync>(
     };
     let paths = order.paths.as_slice();
     let path = paths[0];
-    let asked = edittext::EditOrder {
+    let asked = editopening::EditOrder {
         path,
         paths,
         workers: order.workers,
