@@ -106,20 +106,21 @@ fn edit<'a>(
     sources_are_whole();
     let mut begun = begin(rt, alloc, keys, order, source, &old, texts, follow)?;
     Follow::end(follow);
-    let (database, scripts) = (begun.database(), begun.opened.scripts.as_slice());
+    let (opened, scripts) = (begun.database(), begun.opened.scripts.as_slice());
     let Edited {
         outcomes,
         history,
         library,
-    } = run_over(rt, alloc, keys, order, database, scripts, follow)?;
+    } = run_over(rt, alloc, keys, order, opened, scripts, follow)?;
     let rows = outcomes.as_slice();
     let account = account_of(alloc, order, texts, &begun, rows)?;
     if !may_print(order.partial, account.undone.as_slice()) {
         return Ok(Told::Undone(account));
     }
+    let closed = close_run(alloc, keys, &mut begun, library)?;
     let run = Replayed {
         entries: history,
-        edited: close_run(alloc, keys, &mut begun, library)?,
+        edited: closed,
     };
     let quotations = quotations_of(alloc, rows, &begun)?;
     let descriptions = done_descriptions(alloc, rows, begun.descriptions.as_slice())?;
