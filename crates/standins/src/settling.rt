@@ -1,6 +1,7 @@
 //! Which theorems are still told to be axioms behind a run.
 
 ghost use Rattle.std.specs.Prelude.{◌≡◌, IfOk, filter, map};
+ghost use Rattle.std.specs.List.{list_any};
 ghost use mathlib.Core.Bool.{not};
 ghost use Rattle.library.specs.Edits.{cites};
 ghost use Rattle.mmsyntax.specs.ProofWords.{seen_step};
@@ -32,6 +33,18 @@ fn cites(label: &[u8], entry: &Ranked) -> bool
     false
 }
 
+/// Whether the proof of some entry cites a label.
+fn is_cited(label: &[u8], entries: &[Ranked]) -> bool
+    ensures { result ≡ list_any (cites label.now) entries.now }
+{
+    for entry in entries {
+        if cites(label, entry) {
+            return true;
+        }
+    }
+    false
+}
+
 /// The labels in the source of the theorems on whose axiom no entry of a library leans.
 fn released<'s>(
     alloc: Global,
@@ -43,8 +56,7 @@ fn released<'s>(
 {
     let mut labels = Vec::new(alloc);
     for stand_in in stand_ins {
-        let axiom = stand_in.axiom.as_slice();
-        if !entries.iter().any(|entry| cites(axiom, entry)) {
+        if !is_cited(stand_in.cited.as_slice(), entries) {
             labels.push(stand_in.source.as_slice())?;
         }
     }
@@ -61,9 +73,9 @@ fn others_told<'a>(
         ≡ filter (λ a. not (is_in released.now a.0)) (map (λ p. (p.0.now, p.1)) axioms.now)) }
 {
     let mut made = Vec::new(alloc);
-    for axiom in axioms {
-        if released.place(axiom.0).is_none() {
-            made.push(*axiom)?;
+    for told in axioms {
+        if released.place(told.0).is_none() {
+            made.push(*told)?;
         }
     }
     Ok(made)

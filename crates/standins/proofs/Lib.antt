@@ -1,0 +1,5 @@
+mod Freed
+mod Raised
+mod Candidates
+mod Leaned
+mod Gathered
