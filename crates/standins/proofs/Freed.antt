@@ -1,13 +1,14 @@
 -- What becomes of a library where the entries with some labels go, and each theorem whose proof cites one of these is an axiom: it still
 -- verifies.
-use Rattle.std.proofs.Common.{◌≡◌, ℕ, true, false, List, [], ◌∷◌, get_or, map, filter, refl, sym, ap₂, subst, inl, inr, arith}
+use Rattle.std.proofs.Common.{◌≡◌, ◌∙◌, ◌+◌, ◌<◌, ℕ, true, false, cond, List, [], ◌∷◌, ◌++◌, length, take, get_or, map, filter, refl, sym, ap, ap₂}
+use Rattle.std.proofs.Common.{subst, arith, append-nil}
 use Rattle.std.specs.Prelude.{IsTrue}
 use mathlib.Core.Bool.{not}
 use Rattle.std.specs.List.{Contains, list_any}
 use Rattle.std.specs.Str.{bytes_eq}
-use Rattle.std.proofs.lemmas.Bool.{cond-false, cond_both, not_from_false}
-use Rattle.std.proofs.lemmas.List.{length-map}
-use Rattle.std.proofs.lemmas.List.Elements.{All-filter, All-map, All-nil, All-weaker}
+use Rattle.std.proofs.lemmas.Bool.{cond-true, cond-false, cond_both, not_from_false}
+use Rattle.std.proofs.lemmas.List.{length-map, map-append}
+use Rattle.std.proofs.lemmas.List.Elements.{All-filter, All-map, All-nil, All-weaker, filter_more}
 use Rattle.std.proofs.lemmas.List.Filters.{length-filter_both}
 use Rattle.mmtext.specs.Words.{Word}
 use Rattle.mmsyntax.specs.declared.statement.Assertion.{Assertion}
@@ -98,6 +99,35 @@ withdrawn_verifies s ws lib v =
             record { below = below; label = freed_label ws f.assertion; alike = freed_frame ws f.assertion s.prelude },
           )) (v.checks i d lt))));
     }
+
+-- ---- one entry after another
+
+module _ (ws : List Word) (lib : List Ranked) (i : ℕ) (d : Ranked) (within : i < length lib) where
+  one_more : withdrawn ws (take (i + 1) lib)
+      ≡ withdrawn ws (take i lib) ++ map (freed_entry ws) (cond (is_other ws (get_or lib i d)) (get_or lib i d ∷ []) [])
+  one_more =
+      ap (map (freed_entry ws)) (filter_more (is_other ws) lib i d within)
+      ∙ map-append (freed_entry ws) (filter (is_other ws) (take i lib)) (cond (is_other ws (get_or lib i d)) (get_or lib i d ∷ []) [])
+
+  -- one that stays
+  pub stays_next : is_other ws (get_or lib i d) ≡ true → (made next : List Ranked) → made ≡ withdrawn ws (take i lib)
+      → next ≡ made ++ freed_entry ws (get_or lib i d) ∷ [] → next ≡ withdrawn ws (take (i + 1) lib)
+  stays_next stays made next so_far is =
+      let e = get_or lib i d in
+      is
+      ∙ ap (λ es. es ++ freed_entry ws e ∷ []) so_far
+      ∙ ap (λ es. withdrawn ws (take i lib) ++ map (freed_entry ws) es) (sym (cond-true (is_other ws e) (e ∷ []) [] stays))
+      ∙ sym one_more
+
+  -- one that goes
+  pub goes_next : is_other ws (get_or lib i d) ≡ false → (made : List Ranked) → made ≡ withdrawn ws (take i lib)
+      → made ≡ withdrawn ws (take (i + 1) lib)
+  goes_next goes made so_far =
+      let e = get_or lib i d in
+      so_far
+      ∙ sym (append-nil (withdrawn ws (take i lib)))
+      ∙ ap (λ es. withdrawn ws (take i lib) ++ map (freed_entry ws) es) (sym (cond-false (is_other ws e) (e ∷ []) [] goes))
+      ∙ sym one_more
 
 -- ---- without such labels
 

@@ -89,6 +89,8 @@ fn leaning(
     let Some(cited) = cited else {
         return Ok(same);
     };
+    // For the proof: the database has a spelling, so its places are small.
+    let _spelled = database.assertions();
     let frame = frame_of(alloc, database.prelude(), assertion)?;
     Ok(Assertion {
         kind: Kind::Theorem,
