@@ -3,3 +3,6 @@ mod Raised
 mod Candidates
 mod Leaned
 mod Gathered
+mod Labelled
+mod Pairs
+mod Told

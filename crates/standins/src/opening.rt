@@ -1,16 +1,19 @@
 //! A library with its stand-ins.
 
-ghost use Rattle.std.specs.Prelude.{◌≡◌, ◌++◌, ◌≤◌, ◌<◌, ◌^◌, ◌∷◌, [], All, Contains, IfOk, IfErr, OnOk, length, map};
+ghost use Rattle.std.specs.Prelude.{◌≡◌, ◌++◌, ◌≤◌, ◌<◌, ◌^◌, ◌∷◌, [], All, Contains, IfOk, IfErr, List, OnOk, length, map};
 ghost use Rattle.std.specs.List.{flat_map, range_with_len};
 ghost use Rattle.std.specs.Option.{option_map};
 ghost use Rattle.derivation.specs.Databases.{AllCheck};
+ghost use Rattle.derivation.specs.declared.fault.ProofFaultKind;
 ghost use Rattle.drafts.specs.Drafts.{contents_of};
 ghost use Rattle.mmsyntax.specs.declared.statement.Step.TheVariants.{Float as FloatStep, Hyp, Cite};
-ghost use Rattle.standins.specs.StandIns.{axiom_as, leaning, own_steps, with_stand_ins};
+ghost use Rattle.mmsyntax.specs.Tables.{Contents};
+ghost use Rattle.standins.specs.StandIns.{StandIn as SeenStandIn, axiom_as, leaning, own_steps, with_stand_ins};
+ghost use Rattle.standins.specs.declared.opening.Unopened.TheVariants.{NoMemory};
 ghost use Rattle.standins.specs.Views.{IsUnopened, axiom_found, axiom_pairs, seen_stand_ins};
 
 use crate::standing::StandIn;
-use derivation::ProofFaultKind;
+use derivation::{ProofFault, ProofFaultKind};
 use drafts::{Draft, Undeclared, declare};
 use giving::LabelMap;
 use mmframes::frame_of;
@@ -211,7 +214,7 @@ fn draft_of(
     prelude: &Prelude,
     assertions: Vec<Assertion>,
 ) -> Result<Draft, AllocError>
-    ensures { IfOk result (λ made. contents_of made ≡ record { prelude = prelude.now; assertions = assertions.entry.items }) }
+    ensures { IfOk result (λ made. contents_of made ≡ record { prelude = prelude.now; assertions = assertions.items }) }
 {
     Ok(Draft {
         constants: copied(alloc, prelude.constants())?,
@@ -219,6 +222,45 @@ fn draft_of(
         floats: copied_floats(alloc, prelude.floats())?,
         assertions: Sequence::from_vec(assertions),
     })
+}
+
+/// The library of a draft.
+fn declared(alloc: Global, keys: RandomState, draft: Draft) -> Result<Database, Unopened>
+    ensures made { IfOk result (λ made. made ≡ contents_of draft) }
+    ensures refused { (db : Contents) (ss : List SeenStandIn) → contents_of draft ≡ with_stand_ins db ss
+        → IfErr result (IsUnopened db ss) }
+{
+    match declare(alloc, keys, draft) {
+        Ok(library) => Ok(library),
+        Err(Undeclared::NoMemory) => Err(Unopened::NoMemory),
+        Err(_) => Err(Unopened::Unlawful),
+    }
+}
+
+/// Why a library isn't opened that has such a proof.
+fn unchecked(fault: ProofFault) -> Unopened
+    ensures { fault.kind ≡ ProofFaultKind.NoMemory → result ≡ NoMemory }
+{
+    if fault.kind == ProofFaultKind::NoMemory {
+        return Unopened::NoMemory;
+    }
+    Unopened::Unlawful
+}
+
+/// A library, where its proofs check.
+fn checked(
+    rt: &(impl Threads + Sync),
+    alloc: Global,
+    library: Database,
+) -> Result<Database, Unopened>
+    ensures made { IfOk result (λ made. made ≡ library) }
+    ensures checks { IfOk result AllCheck }
+    ensures refused { (db : Contents) (ss : List SeenStandIn) → library ≡ with_stand_ins db ss → IfErr result (IsUnopened db ss) }
+{
+    match check_all(rt, alloc, &library) {
+        Ok(()) => Ok(library),
+        Err((_, fault)) => Err(unchecked(fault)),
+    }
 }
 
 /// A library with its stand-ins: its proofs are checked.
@@ -235,14 +277,6 @@ pub(crate) fn library_with(
 {
     let assertions = assertions_with(alloc, keys, database, stand_ins)?;
     let draft = draft_of(alloc, database.prelude(), assertions)?;
-    let library = match declare(alloc, keys, draft) {
-        Ok(library) => library,
-        Err(Undeclared::NoMemory) => return Err(Unopened::NoMemory),
-        Err(_) => return Err(Unopened::Unlawful),
-    };
-    match check_all(rt, alloc, &library) {
-        Ok(()) => Ok(library),
-        Err((_, fault)) if fault.kind == ProofFaultKind::NoMemory => Err(Unopened::NoMemory),
-        Err(_) => Err(Unopened::Unlawful),
-    }
+    let library = declared(alloc, keys, draft)?;
+    checked(rt, alloc, library)
 }

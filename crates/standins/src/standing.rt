@@ -35,13 +35,23 @@ pub struct StandIn {
     pub cited: Label,
 }
 
+/// The label of the theorem to which a command gives another proof, if it does.
+fn reproved_by(command: &Command) -> Option<&[u8]>
+    ensures { option_map (λ w. w.now) result ≡ reproved_by command.now }
+{
+    match command {
+        Command::Reprove { label, .. } => Some(label.as_slice()),
+        _ => None,
+    }
+}
+
 /// Puts the labels of the theorems to which commands give other proofs.
 fn put_reproved<'s>(labels: &mut Vec<&'s [u8]>, commands: &'s [Command]) -> Result<(), AllocError>
     ensures { OnOk result (seen_words labels.new.items ≡ seen_words labels.old.items ++ filter_map reproved_by commands.now) }
 {
     for command in commands {
-        if let Command::Reprove { label, .. } = command {
-            labels.push(label.as_slice())?;
+        if let Some(label) = reproved_by(command) {
+            labels.push(label)?;
         }
     }
     Ok(())
