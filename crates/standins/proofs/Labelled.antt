@@ -19,24 +19,26 @@ module _ (theorems : List (Bor (List ℕ) × Bor (List ℕ))) (labels : List Wor
   abbrev one : Pair × Word
   one = ((theorem.0.now, theorem.1.now), label)
 
+  abbrev view : Bor (List ℕ) × Bor (List ℕ) → Pair
+  view p = (p.0.now, p.1.now)
+
   within : n < length both
-  within =
-      omega (arith, length-zip (seen_pairs theorems) labels,
-      length-map theorems (λ (p : Bor (List ℕ) × Bor (List ℕ)). (p.0.now, p.1.now)), there, labelled)
+  within = omega (arith, length-zip (seen_pairs theorems) labels, length-map theorems view, there, labelled)
 
   one_is : get_or both n one ≡ one
   one_is =
-      let view : Bor (List ℕ) × Bor (List ℕ) → Pair = λ p. (p.0.now, p.1.now) in
       let long : n < length (seen_pairs theorems) = omega (arith, length-map theorems view, there) in
       get_or-zip (seen_pairs theorems) labels n one long labelled
       ∙ ap₂ (λ (p : Pair) (w : Word). (p, w)) (get_or-map view theorems n theorem (view theorem) there ∙ ap view (sym theorem_is))
       (sym label_is)
 
   -- one more
-  pub labelled_next : (m : ℕ) (made more : List CodeStandIn) (next : CodeStandIn) → m ≡ n + 1 → seen_stand_in next ≡ stand_in one
-      → seen_stand_ins made ≡ map stand_in (take n (zip (seen_pairs theorems) labels)) → more ≡ made ++ next ∷ []
+  pub labelled_next : (m : ℕ) (made more : List CodeStandIn) (next : CodeStandIn) → m ≡ n + 1 → next.source ≡ theorem.0.now
+      → next.theorem ≡ theorem.1.now → next.cited ≡ label → seen_stand_ins made ≡ map stand_in (take n (zip (seen_pairs theorems) labels)) → more ≡ made ++ next ∷ []
       → seen_stand_ins more ≡ map stand_in (take m (zip (seen_pairs theorems) labels))
-  labelled_next m made more next many seen so_far is =
+  labelled_next m made more next many source_is theorem_is' cited_is so_far is =
+      let seen : seen_stand_in next ≡ stand_in one =
+      ap₂ (λ (p : Pair) (w : Word). stand_in (p, w)) (ap₂ (λ (v w : Word). (v, w)) source_is theorem_is') cited_is in
       ap seen_stand_ins is
       ∙ map-append seen_stand_in made (next ∷ [])
       ∙ ap₂ (λ (xs : List StandIn) (x : StandIn). xs ++ x ∷ []) so_far (seen ∙ ap stand_in (sym one_is))

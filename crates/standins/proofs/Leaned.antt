@@ -17,9 +17,12 @@ use Rattle.mmsyntax.specs.Layout.{HasSpelling}
 use Rattle.mmsyntax.proofs.Canonical.{sound_tables}
 use Rattle.mmsyntax.proofs.Declarable.{declarable}
 use Rattle.mmframes.specs.Frames.{frame, is_mandatory}
+use Rattle.derivation.specs.Databases.{AllCheck}
 use Rattle.giving.specs.Staying.{Change}
 use Rattle.standins.specs.StandIns.{StandIn, axiom_as, axiom_for, leaning, with_stand_ins}
-use Rattle.standins.specs.Views.{axiom_found, axiom_pairs}
+use Rattle.standins.specs.Views.{IsUnopened, axiom_found, axiom_pairs}
+use Rattle.standins.specs.declared.opening.Unopened.{Unopened}
+use Rattle.standins.specs.declared.opening.Unopened.TheVariants.{Unlawful, NoMemory}
 
 -- ---- which theorems
 
@@ -70,3 +73,10 @@ module _ (db : Contents) (spelled : HasSpelling db) where
   pub hypotheses_small : (a : Assertion) → Contains db.assertions a → length (frame db.prelude a).hyps ≤ 2 ^ 30
   hypotheses_small a at =
       let few = (All-contains (IsUnit db.prelude) db.assertions a (declarable db spelled).units at).fits.few_hyps in omega arith
+
+-- ---- why it isn't opened
+
+pub why_unopened : (db : Contents) (ss : List StandIn) (why : Unopened)
+    → ((why ≡ NoMemory → ⊥) → AllCheck (with_stand_ins db ss) → ⊥) → IsUnopened db ss why
+why_unopened db ss Unlawful fails = λ spelled checks. fails (λ e. absurd cc) checks
+why_unopened db ss NoMemory fails = tt

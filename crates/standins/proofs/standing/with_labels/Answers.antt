@@ -5,7 +5,7 @@ use Rattle.std.specs.Slice.Iter.{iter_rest}
 use Rattle.std.specs.Iterator.Adapters.{zip_first, zip_second}
 use Rattle.std.proofs.lemmas.List.{length-map, take_all}
 use Rattle.std.proofs.lemmas.Slice.Zip.{zip_turn, zip_end, length-zip}
-use Rattle.mmtext.specs.Words.{Word}
+use Rattle.source.specs.Scopes.{Pair}
 use Rattle.source.specs.Views.{seen_pairs}
 use Rattle.standins.specs.StandIns.{stand_in}
 use Rattle.standins.proofs.Labelled.{labelled_next}
@@ -25,9 +25,7 @@ loop-theorem-preserved c =
     labelled_next theorems labels (length yielded) theorem label turn.0 turn.1 (turn.2 theorem) (turn.3 label)
     (length (yielded ++ (c.in-Some.theorem, c.in-Some.label) ∷ [])) c.loop-theorem.made.items c.push.new.self.items _
     (length-append yielded ((c.in-Some.theorem, c.in-Some.label) ∷ []))
-    (ap₂ (λ (p : Word × Word) (w : Word). record { source = p.0; theorem = p.1; cited = w })
-    (ap₂ (λ (v w : Word). (v, w)) c.in_ok-from_slice.ensures c.in_ok-from_slice-2.ensures) c.in_ok-copy.ensures)
-    c.loop-theorem.invariant c.in_ok-push.ensures.items
+    c.in_ok-from_slice.ensures c.in_ok-from_slice-2.ensures c.in_ok-copy.ensures c.loop-theorem.invariant c.in_ok-push.ensures.items
 
 pub returns : goal.returns
 returns c =
@@ -38,6 +36,7 @@ returns c =
     let yielded = c.loop-theorem.yielded in
     let end = zip_end theorems labels yielded c.into_iter-theorem-iterator.result c.loop-theorem.theorem-iterator c.next.new.self c.next.result
     first second c.loop-theorem.yielded_by c.in-None.is c.next.ensures.steps in
+    let view : Bor (List ℕ) × Bor (List ℕ) → Pair = λ p. (p.0.now, p.1.now) in
     c.loop-theorem.invariant
-    ∙ ap (map stand_in) (take_all (length yielded) (zip (seen_pairs theorems) labels) (omega (arith, end,
-    length-zip (seen_pairs theorems) labels, length-map theorems (λ (p : Bor (List ℕ) × Bor (List ℕ)). (p.0.now, p.1.now)))))
+    ∙ ap (map stand_in) (take_all (length yielded) (zip (seen_pairs theorems) labels)
+    (omega (arith, end, length-zip (seen_pairs theorems) labels, length-map theorems view)))
