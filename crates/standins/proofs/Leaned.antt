@@ -1,11 +1,11 @@
 -- A library with its stand-ins: without any it is the library.
-use Rattle.std.proofs.Common.{◌≡◌, ◌∙◌, ◌<◌, ◌≤◌, ◌+◌, ◌^◌, ℕ, Bool, true, false, cond, List, [], ◌∷◌, ◌++◌, length, map, filter, get_or, Option, Some, None, refl, sym, ap, ap₂, arith}
+use Rattle.std.proofs.Common.{◌≡◌, ◌∙◌, ◌<◌, ◌≤◌, ◌+◌, ◌-◌, ◌*◌, ◌^◌, ℕ, Bool, true, false, cond, List, [], ◌∷◌, ◌++◌, length, map, filter, get_or, Option, Some, None, refl, sym, ap, ap₂, arith}
 use Rattle.std.specs.Prelude.{All, find}
 use Rattle.std.specs.List.{Contains, flat_map, range_with_len}
 use Rattle.std.specs.Option.{option_map}
 use Rattle.std.specs.Str.{bytes_eq}
 use Rattle.std.proofs.lemmas.Bool.{cases_Bool}
-use Rattle.std.proofs.lemmas.List.{map-id}
+use Rattle.std.proofs.lemmas.List.{length-append, length-map, map-id}
 use Rattle.std.proofs.lemmas.List.Elements.{All-contains, All-filter}
 use Rattle.std.proofs.lemmas.List.FromFn.{length-range_with_len, get_or-range_with_len}
 use Rattle.mmtext.specs.Words.{Word}
@@ -19,7 +19,7 @@ use Rattle.mmsyntax.proofs.Declarable.{declarable}
 use Rattle.mmframes.specs.Frames.{frame, is_mandatory}
 use Rattle.derivation.specs.Databases.{AllCheck}
 use Rattle.giving.specs.Staying.{Change}
-use Rattle.standins.specs.StandIns.{StandIn, axiom_as, axiom_for, leaning, with_stand_ins}
+use Rattle.standins.specs.StandIns.{StandIn, axiom_as, axiom_for, axioms_in, leaning, raise_by, with_stand_ins}
 use Rattle.standins.specs.Views.{IsUnopened, axiom_found, axiom_pairs}
 use Rattle.standins.specs.declared.opening.Unopened.{Unopened}
 use Rattle.standins.specs.declared.opening.Unopened.TheVariants.{Unlawful, NoMemory}
@@ -48,6 +48,18 @@ pub with_none : (db : Contents) → with_stand_ins db [] ≡ db
 with_none db =
     ap₂ (λ (xs ys : List Assertion). record { prelude = db.prelude; assertions = xs ++ ys }) (no_axioms db.assertions)
     (map-id db.assertions)
+
+-- ---- ranks
+
+pub none_raised : (db : Contents) → raise_by db [] ≡ 0
+none_raised db = ap (λ (xs : List Assertion). 100 * length xs) (no_axioms db.assertions)
+
+-- each axiom in front counts
+pub raised_by : (db : Contents) (ss : List StandIn)
+    → 100 * (length (with_stand_ins db ss).assertions - length db.assertions) ≡ raise_by db ss
+raised_by db ss =
+    let theorems = map (λ (a : Assertion). leaning db.prelude a (axiom_for ss a.label)) db.assertions in
+    omega (arith, length-append (axioms_in db ss) theorems, length-map db.assertions (λ a. leaning db.prelude a (axiom_for ss a.label)))
 
 -- ---- small places
 

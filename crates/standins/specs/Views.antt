@@ -47,10 +47,10 @@ abbrev pub opened_database : Contents → Opened → Contents
 opened_database db o = unwrap_or o.database db
 
 -- a library with these stand-ins, and scripts as they are run over it
-pub record IsOpened (ss : List StandIn) (db : Contents) (scripts : Scripts) (o : Opened) : Type 0 where
+pub record IsOpened (ss : List StandIn) (db : Contents) (read : Scripts) (o : Opened) : Type 0 where
   pub stand_ins : seen_stand_ins o.stand_ins.items ≡ ss
   pub database : opened_database db o ≡ with_stand_ins db ss
-  pub scripts : o.scripts.items ≡ raised (raise_by db ss) scripts
+  pub scripts : o.scripts.items ≡ raised (raise_by db ss) read
 
 -- with its stand-ins it is no library, or one that doesn't verify; of want of memory nothing is known
 abbrev pub IsUnopened : Contents → List StandIn → Unopened → Type 0
