@@ -4,7 +4,7 @@ use Rattle.std.proofs.Common.{◌≡◌, ◌∙◌, ◌+◌, ◌<◌, ℕ, true,
 use Rattle.std.proofs.Common.{subst, arith, append-nil}
 use Rattle.std.specs.Prelude.{IsTrue}
 use mathlib.Core.Bool.{not}
-use Rattle.std.specs.List.{Contains, list_any}
+use Rattle.std.specs.List.{list_any}
 use Rattle.std.specs.Str.{bytes_eq}
 use Rattle.std.proofs.lemmas.Bool.{cond-true, cond-false, cond_both, not_from_false}
 use Rattle.std.proofs.lemmas.List.{length-map, map-append}

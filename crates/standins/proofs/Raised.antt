@@ -1,11 +1,10 @@
 -- Scripts whose ranks are raised: they are within the same limits, and where they are raised by nothing they are as they were.
-use Rattle.std.proofs.Common.{◌≡◌, ◌∙◌, ◌≤◌, ◌+◌, ℕ, Bool, List, map, refl, ap, ap₂, arith}
-use Rattle.std.specs.Prelude.{All, min, nat_le}
+use Rattle.std.proofs.Common.{◌≡◌, ◌∙◌, ◌≤◌, ◌+◌, ℕ, List, map, refl, ap, arith}
+use Rattle.std.specs.Prelude.{All, nat_le}
 use Rattle.std.proofs.lemmas.Bool.{cond-true, cond_both, leb-true, le-leb}
 use Rattle.std.proofs.lemmas.List.Elements.{All-map, All-weaker}
 use Rattle.std.proofs.lemmas.List.Folds.{map_fixed}
 use Rattle.mmsyntax.specs.Tables.{Tables}
-use Rattle.mmsyntax.specs.declared.statement.Assertion.{Assertion}
 use Rattle.library.specs.Library.{highest_rank}
 use Rattle.library.specs.Fitting.{CommandFits}
 use Rattle.library.specs.declared.command.Command.{Command}
