@@ -27,8 +27,8 @@ module _ (p : Word × Reason → Bool) (xs : List (Bor (List ℕ) × Reason)) (i
   one_more = ap (filter p) (map_more view xs i d within) ∙ filter-append p (seen_told (take i xs)) (this ∷ [])
 
   -- one that is told still
-  pub told_next : p (view (get_or xs i d)) ≡ true → (made next : List (Bor (List ℕ) × Reason)) → seen_told made ≡ filter p (seen_told (take i xs))
-      → next ≡ made ++ get_or xs i d ∷ [] → seen_told next ≡ filter p (seen_told (take (i + 1) xs))
+  pub told_next : p (view (get_or xs i d)) ≡ true → (made next : List (Bor (List ℕ) × Reason))
+      → seen_told made ≡ filter p (seen_told (take i xs)) → next ≡ made ++ get_or xs i d ∷ [] → seen_told next ≡ filter p (seen_told (take (i + 1) xs))
   told_next passes made next so_far is =
       ap seen_told is
       ∙ map-append view made (get_or xs i d ∷ [])
@@ -37,8 +37,8 @@ module _ (p : Word × Reason → Bool) (xs : List (Bor (List ℕ) × Reason)) (i
       ∙ sym one_more
 
   -- one that isn't
-  pub untold_next : p (view (get_or xs i d)) ≡ false → (made : List (Bor (List ℕ) × Reason)) → seen_told made ≡ filter p (seen_told (take i xs))
-      → seen_told made ≡ filter p (seen_told (take (i + 1) xs))
+  pub untold_next : p (view (get_or xs i d)) ≡ false → (made : List (Bor (List ℕ) × Reason))
+      → seen_told made ≡ filter p (seen_told (take i xs)) → seen_told made ≡ filter p (seen_told (take (i + 1) xs))
   untold_next fails made so_far =
       so_far
       ∙ sym (append-nil (filter p (seen_told (take i xs))))

@@ -1,7 +1,6 @@
 //! What stand-ins are called: as neither the library nor a script calls anything.
 
 ghost use Rattle.std.specs.Prelude.{◌≡◌, ◌++◌, IfOk, OnOk, map};
-ghost use Rattle.std.specs.List.{flat_map};
 ghost use Rattle.expanding.specs.Views.{seen_scripts};
 ghost use Rattle.source.specs.Views.{seen_words};
 ghost use Rattle.standins.specs.StandIns.{candidate, free_labels, words_of};

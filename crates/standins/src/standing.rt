@@ -7,7 +7,6 @@ ghost use Rattle.expanding.specs.Views.{seen_scripts};
 ghost use Rattle.source.specs.Scopes.{Assertion, is_in};
 ghost use Rattle.source.specs.Views.{seen_pairs, seen_words};
 ghost use Rattle.taking.specs.Reasons.{Choice};
-ghost use Rattle.intake.specs.Intakes.{axioms_of};
 ghost use Rattle.sourceediting.specs.Views.{seen_followed, seen_living};
 ghost use Rattle.standins.specs.StandIns.{reproved_by, reproved, stand_in, stand_ins};
 ghost use Rattle.standins.specs.Views.{leaning_pair, seen_stand_ins};

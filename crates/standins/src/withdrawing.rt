@@ -1,9 +1,7 @@
 //! A library without its stand-ins.
 
-ghost use Rattle.std.specs.Prelude.{◌≡◌, ◌++◌, IfOk, List, OnOk, map};
+ghost use Rattle.std.specs.Prelude.{◌≡◌, IfOk};
 ghost use Rattle.std.specs.List.{list_any};
-ghost use Rattle.source.specs.Scopes.{is_in};
-ghost use Rattle.mmsyntax.specs.declared.statement.Step.{Step};
 ghost use Rattle.mmsyntax.specs.ProofWords.{seen_step};
 ghost use Rattle.standins.specs.Ending.{IsWithdrawn, axiom_labels, cites_one, freed, withdrawn};
 ghost use Rattle.standins.specs.Views.{seen_stand_ins};

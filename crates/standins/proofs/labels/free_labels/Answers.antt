@@ -39,7 +39,8 @@ loop-number-preserved c =
           ∙ w.in_ok-push.ensures.items
           ∙ ap (λ (l : Word). made.items ++ l ∷ []) c.in_ok-label.ensures in
           record {
-            so_far = passes_next free candidate n made.items c.if-is_none.made.items (ap not (sym found ∙ w.if-is_none.ensures)) inv.so_far is;
+            so_far = passes_next free candidate n made.items c.if-is_none.made.items (ap not (sym found ∙ w.if-is_none.ensures))
+                inv.so_far is;
             few = omega (arith, ap length is, length_push made.items (candidate n), c.len.ensures, made.ok, c.if-len-count.false);
           }
       | else-is_none w ↦

@@ -17,7 +17,8 @@ returns c =
     let scripts = c.args.scripts.now in
     let found = c.loop-script.found.items in
     let labels = map (λ (a : Assertion). a.label) db.assertions in
-    let words = λ (xs : List (Vec CodeToken Global)). flat_map (λ (ts : Vec CodeToken Global). map (λ (t : CodeToken). t.text.now) ts.items) xs in
+    let words = λ (xs : List (Vec CodeToken Global)).
+    flat_map (λ (ts : Vec CodeToken Global). map (λ (t : CodeToken). t.text.now) ts.items) xs in
     let whole : seen_words found ≡ words_of db (seen_scripts scripts) =
     c.loop-script.invariant
     ∙ ap (λ ws. labels ++ ws) (ap words (take_all c.loop-script.script-index scripts c.loop-script-test.false) ∙ words_seen scripts) in

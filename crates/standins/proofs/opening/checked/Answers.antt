@@ -6,4 +6,5 @@ use Rattle.standins.proofs.opening.checked.Goals as goal
 
 pub returns-in-Err-clause-refused : goal.returns-in-Err-clause-refused
 returns-in-Err-clause-refused g c = λ db ss is.
-    why_unopened db ss c.unchecked.result (λ other checks. other (c.unchecked.ensures (c.in-Err.ensures.proved (subst AllCheck (sym is) checks))))
+    why_unopened db ss c.unchecked.result (λ other checks.
+    other (c.unchecked.ensures (c.in-Err.ensures.proved (subst AllCheck (sym is) checks))))

@@ -12,15 +12,13 @@ use Rattle.taking.specs.declared.reason.Reason.{Reason}
 use Rattle.expanding.specs.Views.{seen_scripts}
 use Rattle.intake.specs.Intakes.{axioms_of}
 use Rattle.sourceediting.specs.Following.{Following}
+use Rattle.sourceediting.proofs.Origins.{seen}
 use Rattle.sourceediting.specs.Views.{seen_living}
 use Rattle.standins.specs.declared.standing.StandIn.{StandIn as CodeStandIn}
 use Rattle.standins.specs.StandIns.{free_labels, is_leaning, opening_labels, stand_in, with_labels, words_of}
 use Rattle.standins.specs.Views.{leaning_pair, seen_stand_ins}
 use Rattle.standins.proofs.Pairs.{leaning_pairs}
 use Rattle.standins.proofs.standing.stand_ins_for.Goals as goal
-
-abbrev seen_pair : Bor (List ℕ) × Bor (List ℕ) → Pair
-seen_pair p = (p.0.now, p.1.now)
 
 pub returns-then-is_empty : goal.returns-then-is_empty
 returns-then-is_empty g c = λ choice are.
@@ -38,7 +36,8 @@ returns-then-is_empty g c = λ choice are.
     let theorems : seen_pairs c.in_ok-theorems.theorems.items ≡ filter (is_leaning t scripts) ps =
     c.in_ok-theorems.ensures
     ∙ ap (λ xs. filter_map (leaning_pair told again) (seen_living xs)) c.as_slice-3.ensures.value
-    ∙ ap (λ (f : Following). filter_map (leaning_pair told again) f.living) (c.in_ok-opening.ensures choice (are ∙ sym c.as_slice-2.ensures.value))
+    ∙ ap (λ (f : Following). filter_map (leaning_pair told again) f.living)
+    (c.in_ok-opening.ensures choice (are ∙ sym c.as_slice-2.ensures.value))
     ∙ leaning_pairs told again ps
     ∙ ap₂ (λ (us vs : List Word). filter (λ (p : Word × Word). is_in us p.0 && is_in vs p.1) ps) told_are c.in_ok-reproved.ensures in
     let long : length c.in_ok-theorems.theorems.items ≡ 0 = search rules in
@@ -62,13 +61,14 @@ returns g c = λ choice are.
     let theorems : seen_pairs c.in_ok-theorems.theorems.items ≡ filter (is_leaning t scripts) ps =
     c.in_ok-theorems.ensures
     ∙ ap (λ xs. filter_map (leaning_pair told again) (seen_living xs)) c.as_slice-3.ensures.value
-    ∙ ap (λ (f : Following). filter_map (leaning_pair told again) f.living) (c.in_ok-opening.ensures choice (are ∙ sym c.as_slice-2.ensures.value))
+    ∙ ap (λ (f : Following). filter_map (leaning_pair told again) f.living)
+    (c.in_ok-opening.ensures choice (are ∙ sym c.as_slice-2.ensures.value))
     ∙ leaning_pairs told again ps
     ∙ ap₂ (λ (us vs : List Word). filter (λ (p : Word × Word). is_in us p.0 && is_in vs p.1) ps) told_are c.in_ok-reproved.ensures in
     let leaning = filter (is_leaning t scripts) ps in
     let words = words_of t.database (seen_scripts c.args.words.now) in
     let many : c.len.result ≡ length leaning =
-    omega (arith, c.len.ensures, c.in_ok-theorems.theorems.ok, ap length theorems, length-map c.in_ok-theorems.theorems.items seen_pair) in
+    omega (arith, c.len.ensures, c.in_ok-theorems.theorems.ok, ap length theorems, length-map c.in_ok-theorems.theorems.items seen) in
     let labels = c.as_slice-5.ensures.value ∙ c.in_ok-labels.ensures ∙ ap₂ free_labels c.in_ok-words.ensures many in
     let pairs = ap seen_pairs c.as_slice-4.ensures.value ∙ theorems in
     IfOk-weaker c.with_labels.result
