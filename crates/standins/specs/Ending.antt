@@ -19,7 +19,7 @@ use Rattle.standins.specs.StandIns.{StandIn}
 -- ---- the library
 
 abbrev pub axiom_labels : List StandIn → List Word
-axiom_labels ss = map (λ x. x.axiom) ss
+axiom_labels ss = map (λ x. x.cited) ss
 
 -- a step cites one of these
 abbrev pub cites_one : List Word → Step → Bool
@@ -50,7 +50,7 @@ pub record IsWithdrawn (ss : List StandIn) (lib out : Listed) : Type 0 where
 
 -- those on whose axiom no theorem leans any longer, by their labels in the source
 abbrev pub released : List StandIn → List Ranked → List Word
-released ss lib = map (λ x. x.source) (filter (λ x. not (list_any (cites x.axiom) lib)) ss)
+released ss lib = map (λ x. x.source) (filter (λ x. not (list_any (cites x.cited) lib)) ss)
 
 -- they aren't told to be axioms
 pub record IsSettled (ss : List StandIn) (lib : List Ranked) (taken settled : Taken) : Type 0 where

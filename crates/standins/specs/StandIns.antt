@@ -53,7 +53,7 @@ is_leaning t scripts p = is_in (map (λ a. a.0) (axioms_of t)) p.0 && is_in (rep
 abbrev pub candidate : ℕ → Word
 candidate n = codes "stand-in-" ++ decimal n
 
-abbrev pub most_candidates : ℕ
+unfoldable pub most_candidates : ℕ
 most_candidates = 65536
 
 -- so many candidates that are none of these words, if there are so many
@@ -65,14 +65,14 @@ words_of db scripts = map (λ a. a.label) db.assertions ++ flat_map (map (λ t. 
 
 -- ---- each theorem with its axiom
 
--- the label of a theorem in the source, and in the library as it was taken; and that of the axiom
+-- the label of a theorem in the source, and in the library as it was taken; and that of the axiom, which its proof cites
 pub record StandIn : Type 0 where
   pub source : Word
   pub theorem : Word
-  pub axiom : Word
+  pub cited : Word
 
 abbrev pub stand_in : (Word × Word) × Word → StandIn
-stand_in p = record { source = p.0.0; theorem = p.0.1; axiom = p.1 }
+stand_in p = record { source = p.0.0; theorem = p.0.1; cited = p.1 }
 
 abbrev pub with_labels : List Word → List (Word × Word) → List StandIn
 with_labels words ps = map stand_in (zip ps (free_labels words (length ps)))
@@ -86,7 +86,7 @@ stand_ins s choice t words scripts =
 
 -- the axiom for the theorem with a label, if there is one
 abbrev pub axiom_for : List StandIn → Word → Option Word
-axiom_for ss w = option_map (λ x. x.axiom) (find (λ x. bytes_eq w x.theorem) ss)
+axiom_for ss w = option_map (λ x. x.cited) (find (λ x. bytes_eq w x.theorem) ss)
 
 -- it says what the theorem says
 abbrev pub axiom_as : Assertion → Option Word → List Assertion

@@ -119,8 +119,8 @@ pub fn close<'a>(
     taken: &mut Taken<'a>,
     library: PlainLibrary,
 ) -> Result<PlainLibrary, AllocError>
-    ensures withdrawn { IfOk result (IsWithdrawn (seen_stand_ins stand_ins.now) library.entry) }
-    ensures settled { OnOk result (IsSettled (seen_stand_ins stand_ins.now) library.entry.entries taken.old taken.new) }
+    ensures withdrawn { IfOk result (IsWithdrawn (seen_stand_ins stand_ins.now) library) }
+    ensures settled { OnOk result (IsSettled (seen_stand_ins stand_ins.now) library.entries taken.old taken.new) }
 {
     settle(alloc, keys, stand_ins, library.entries(), taken)?;
     withdraw(alloc, keys, stand_ins, library)

@@ -1,12 +1,11 @@
 //! What stand-ins are called: as neither the library nor a script calls anything.
 
 ghost use Rattle.std.specs.Prelude.{◌≡◌, ◌++◌, IfOk, OnOk, map};
-ghost use Rattle.std.specs.List.{flat_map};
 ghost use Rattle.expanding.specs.Views.{seen_scripts};
 ghost use Rattle.source.specs.Views.{seen_words};
 ghost use Rattle.standins.specs.StandIns.{candidate, free_labels, words_of};
 
-use mmsyntax::{Database, Label};
+use mmsyntax::{Assertion, Database, Label};
 use mmtext::Token;
 use sites::Indexed;
 use std::alloc::{AllocError, Global};
@@ -54,6 +53,16 @@ fn put_words<'w>(found: &mut Vec<&'w [u8]>, script: &[Token<'w>]) -> Result<(), 
     Ok(())
 }
 
+/// Puts the labels of assertions.
+fn put_labels<'x>(found: &mut Vec<&'x [u8]>, assertions: &'x [Assertion]) -> Result<(), AllocError>
+    ensures { OnOk result (seen_words found.new.items ≡ seen_words found.old.items ++ map (λ a. a.label) assertions.now) }
+{
+    for assertion in assertions {
+        found.push(assertion.label.as_slice())?;
+    }
+    Ok(())
+}
+
 /// The labels of a library and the words of scripts.
 pub(crate) fn words_of<'x, 'w: 'x>(
     alloc: Global,
@@ -64,9 +73,7 @@ pub(crate) fn words_of<'x, 'w: 'x>(
     ensures { IfOk result (λ made. made ≡ words_of database.now (seen_scripts scripts.now)) }
 {
     let mut found: Vec<&'x [u8]> = Vec::new(alloc);
-    for assertion in database.assertions() {
-        found.push(assertion.label.as_slice())?;
-    }
+    put_labels(&mut found, database.assertions())?;
     for script in scripts {
         put_words(&mut found, script.as_slice())?;
     }

@@ -1,16 +1,19 @@
 //! A library with its stand-ins.
 
-ghost use Rattle.std.specs.Prelude.{◌≡◌, ◌++◌, ◌≤◌, ◌<◌, ◌^◌, ◌∷◌, [], All, Contains, IfOk, IfErr, OnOk, length, map};
-ghost use Rattle.std.specs.List.{range_with_len};
+ghost use Rattle.std.specs.Prelude.{◌≡◌, ◌++◌, ◌≤◌, ◌<◌, ◌^◌, ◌∷◌, [], All, Contains, IfOk, IfErr, List, OnOk, length, map};
+ghost use Rattle.std.specs.List.{flat_map, range_with_len};
 ghost use Rattle.std.specs.Option.{option_map};
 ghost use Rattle.derivation.specs.Databases.{AllCheck};
+ghost use Rattle.derivation.specs.declared.fault.ProofFaultKind;
 ghost use Rattle.drafts.specs.Drafts.{contents_of};
-ghost use Rattle.mmsyntax.specs.declared.statement.Step.TheVariants.{Float, Hyp, Cite};
-ghost use Rattle.standins.specs.StandIns.{axiom_as, leaning, own_steps, with_stand_ins};
-ghost use Rattle.standins.specs.Views.{IsUnopened, seen_stand_ins};
+ghost use Rattle.mmsyntax.specs.declared.statement.Step.TheVariants.{Float as FloatStep, Hyp, Cite};
+ghost use Rattle.mmsyntax.specs.Tables.{Contents};
+ghost use Rattle.standins.specs.StandIns.{StandIn as SeenStandIn, axiom_as, leaning, own_steps, with_stand_ins};
+ghost use Rattle.standins.specs.declared.opening.Unopened.TheVariants.{NoMemory};
+ghost use Rattle.standins.specs.Views.{IsUnopened, axiom_found, axiom_pairs, seen_stand_ins};
 
 use crate::standing::StandIn;
-use derivation::ProofFaultKind;
+use derivation::{ProofFault, ProofFaultKind};
 use drafts::{Draft, Undeclared, declare};
 use giving::LabelMap;
 use mmframes::frame_of;
@@ -43,7 +46,7 @@ impl From<AllocError> for Unopened {
 /// Puts steps for the mandatory `$f` of a frame.
 fn put_floats(alloc: Global, proof: &mut Proof, floats: &[u32]) -> Result<(), AllocError>
     requires { All (λ place. place < 2 ^ 30) floats.now }
-    ensures { OnOk result (proof.new ≡ proof.old ++ map (λ place. Float place) floats.now) }
+    ensures { OnOk result (proof.new ≡ proof.old ++ map (λ place. FloatStep place) floats.now) }
 {
     for place in floats {
         proof.push(alloc, 0, StepRef::Float(*place))?;
@@ -63,15 +66,15 @@ fn put_hypotheses(alloc: Global, proof: &mut Proof, count: usize) -> Result<(), 
 }
 
 /// The steps of a proof that cites an axiom over the hypotheses of a frame.
-fn citing(alloc: Global, frame: &Frame, axiom: &[u8]) -> Result<Proof, AllocError>
+fn citing(alloc: Global, frame: &Frame, cited: &[u8]) -> Result<Proof, AllocError>
     requires floats { All (λ place. place < 2 ^ 30) frame.now.floats }
     requires hypotheses { length frame.now.hyps ≤ 2 ^ 30 }
-    ensures { IfOk result (λ proof. proof ≡ own_steps frame.now ++ Cite axiom.now ∷ []) }
+    ensures { IfOk result (λ proof. proof ≡ own_steps frame.now ++ Cite cited.now ∷ []) }
 {
     let mut proof = Proof::new(alloc);
     put_floats(alloc, &mut proof, frame.floats.as_slice())?;
     put_hypotheses(alloc, &mut proof, frame.hyps.as_slice().len())?;
-    proof.push(alloc, 0, StepRef::Cite(axiom))?;
+    proof.push(alloc, 0, StepRef::Cite(cited))?;
     Ok(proof)
 }
 
@@ -80,19 +83,21 @@ fn leaning(
     alloc: Global,
     database: &Database,
     assertion: &Assertion,
-    axiom: Option<&[u8]>,
+    cited: Option<&[u8]>,
 ) -> Result<Assertion, AllocError>
     requires { Contains database.now.assertions assertion.now }
-    ensures { IfOk result (λ made. made ≡ leaning database.now.prelude assertion.now (option_map (λ w. w.now) axiom.entry)) }
+    ensures { IfOk result (λ made. made ≡ leaning database.now.prelude assertion.now (option_map (λ w. w.now) cited.entry)) }
 {
     let same = assertion.copy(alloc)?;
-    let Some(axiom) = axiom else {
+    let Some(cited) = cited else {
         return Ok(same);
     };
+    // For the proof: the database has a spelling, so its places are small.
+    let _spelled = database.assertions();
     let frame = frame_of(alloc, database.prelude(), assertion)?;
     Ok(Assertion {
         kind: Kind::Theorem,
-        proof: citing(alloc, &frame, axiom)?,
+        proof: citing(alloc, &frame, cited)?,
         ..same
     })
 }
@@ -102,14 +107,14 @@ fn put_axiom(
     alloc: Global,
     made: &mut Vec<Assertion>,
     assertion: &Assertion,
-    axiom: Option<&[u8]>,
+    cited: Option<&[u8]>,
 ) -> Result<(), AllocError>
-    ensures { OnOk result (made.new.items ≡ made.old.items ++ axiom_as assertion.now (option_map (λ w. w.now) axiom.entry)) }
+    ensures { OnOk result (made.new.items ≡ made.old.items ++ axiom_as assertion.now (option_map (λ w. w.now) cited.entry)) }
 {
-    if let Some(axiom) = axiom {
+    if let Some(cited) = cited {
         let same = assertion.copy(alloc)?;
         made.push(Assertion {
-            label: Label::from_slice(alloc, axiom)?,
+            label: Label::from_slice(alloc, cited)?,
             ..same
         })?;
     }
@@ -122,13 +127,47 @@ fn axioms_of<'s>(
     keys: RandomState,
     stand_ins: &'s [StandIn],
 ) -> Result<LabelMap<'s>, AllocError>
-    ensures { IfOk result (λ made. made ≡ map (λ x. (x.theorem, x.axiom)) (seen_stand_ins stand_ins.now)) }
+    ensures { IfOk result (λ made. made ≡ axiom_pairs (seen_stand_ins stand_ins.now)) }
 {
     let mut pairs = Vec::with_capacity(alloc, stand_ins.len())?;
     for stand_in in stand_ins {
-        pairs.push((stand_in.theorem.as_slice(), stand_in.axiom.as_slice()))?;
+        pairs.push((stand_in.theorem.as_slice(), stand_in.cited.as_slice()))?;
     }
     LabelMap::new(alloc, keys, pairs)
+}
+
+/// Puts the axioms for assertions.
+fn put_axioms(
+    alloc: Global,
+    made: &mut Vec<Assertion>,
+    assertions: &[Assertion],
+    axioms: &LabelMap<'_>,
+) -> Result<(), AllocError>
+    ensures { OnOk result (made.new.items
+        ≡ made.old.items ++ flat_map (λ a. axiom_as a (axiom_found axioms.now a.label)) assertions.now) }
+{
+    for assertion in assertions {
+        let cited = axioms.text_for(assertion.label.as_slice());
+        put_axiom(alloc, made, assertion, cited)?;
+    }
+    Ok(())
+}
+
+/// Puts the assertions of a library: those that have axioms lean on them.
+fn put_theorems(
+    alloc: Global,
+    made: &mut Vec<Assertion>,
+    database: &Database,
+    axioms: &LabelMap<'_>,
+) -> Result<(), AllocError>
+    ensures { OnOk result (made.new.items ≡ made.old.items
+        ++ map (λ a. leaning database.now.prelude a (axiom_found axioms.now a.label)) database.now.assertions) }
+{
+    for assertion in database.assertions() {
+        let cited = axioms.text_for(assertion.label.as_slice());
+        made.push(leaning(alloc, database, assertion, cited)?)?;
+    }
+    Ok(())
 }
 
 /// The assertions of a library, with its stand-ins in front.
@@ -142,14 +181,8 @@ fn assertions_with(
 {
     let axioms = axioms_of(alloc, keys, stand_ins)?;
     let mut made = Vec::new(alloc);
-    for assertion in database.assertions() {
-        let axiom = axioms.text_for(assertion.label.as_slice());
-        put_axiom(alloc, &mut made, assertion, axiom)?;
-    }
-    for assertion in database.assertions() {
-        let axiom = axioms.text_for(assertion.label.as_slice());
-        made.push(leaning(alloc, database, assertion, axiom)?)?;
-    }
+    put_axioms(alloc, &mut made, database.assertions(), &axioms)?;
+    put_theorems(alloc, &mut made, database, &axioms)?;
     Ok(made)
 }
 
@@ -181,7 +214,7 @@ fn draft_of(
     prelude: &Prelude,
     assertions: Vec<Assertion>,
 ) -> Result<Draft, AllocError>
-    ensures { IfOk result (λ made. contents_of made ≡ record { prelude = prelude.now; assertions = assertions.entry.items }) }
+    ensures { IfOk result (λ made. contents_of made ≡ record { prelude = prelude.now; assertions = assertions.items }) }
 {
     Ok(Draft {
         constants: copied(alloc, prelude.constants())?,
@@ -189,6 +222,45 @@ fn draft_of(
         floats: copied_floats(alloc, prelude.floats())?,
         assertions: Sequence::from_vec(assertions),
     })
+}
+
+/// The library of a draft.
+fn declared(alloc: Global, keys: RandomState, draft: Draft) -> Result<Database, Unopened>
+    ensures made { IfOk result (λ made. made ≡ contents_of draft) }
+    ensures refused { (db : Contents) (ss : List SeenStandIn) → contents_of draft ≡ with_stand_ins db ss
+        → IfErr result (IsUnopened db ss) }
+{
+    match declare(alloc, keys, draft) {
+        Ok(library) => Ok(library),
+        Err(Undeclared::NoMemory) => Err(Unopened::NoMemory),
+        Err(_) => Err(Unopened::Unlawful),
+    }
+}
+
+/// Why a library isn't opened that has such a proof.
+fn unchecked(fault: ProofFault) -> Unopened
+    ensures { fault.kind ≡ ProofFaultKind.NoMemory → result ≡ NoMemory }
+{
+    if fault.kind == ProofFaultKind::NoMemory {
+        return Unopened::NoMemory;
+    }
+    Unopened::Unlawful
+}
+
+/// A library, where its proofs check.
+fn checked(
+    rt: &(impl Threads + Sync),
+    alloc: Global,
+    library: Database,
+) -> Result<Database, Unopened>
+    ensures made { IfOk result (λ made. made ≡ library) }
+    ensures checks { IfOk result AllCheck }
+    ensures refused { (db : Contents) (ss : List SeenStandIn) → library ≡ with_stand_ins db ss → IfErr result (IsUnopened db ss) }
+{
+    match check_all(rt, alloc, &library) {
+        Ok(()) => Ok(library),
+        Err((_, fault)) => Err(unchecked(fault)),
+    }
 }
 
 /// A library with its stand-ins: its proofs are checked.
@@ -205,14 +277,6 @@ pub(crate) fn library_with(
 {
     let assertions = assertions_with(alloc, keys, database, stand_ins)?;
     let draft = draft_of(alloc, database.prelude(), assertions)?;
-    let library = match declare(alloc, keys, draft) {
-        Ok(library) => library,
-        Err(Undeclared::NoMemory) => return Err(Unopened::NoMemory),
-        Err(_) => return Err(Unopened::Unlawful),
-    };
-    match check_all(rt, alloc, &library) {
-        Ok(()) => Ok(library),
-        Err((_, fault)) if fault.kind == ProofFaultKind::NoMemory => Err(Unopened::NoMemory),
-        Err(_) => Err(Unopened::Unlawful),
-    }
+    let library = declared(alloc, keys, draft)?;
+    checked(rt, alloc, library)
 }

@@ -34,11 +34,7 @@ fn raised_command(alloc: Global, by: u32, command: &Command) -> Result<Command, 
 }
 
 /// A transaction with such ranks.
-fn raised_commands(
-    alloc: Global,
-    by: u32,
-    commands: &[Command],
-) -> Result<Transaction, AllocError>
+fn raised_commands(alloc: Global, by: u32, commands: &[Command]) -> Result<Transaction, AllocError>
     ensures { IfOk result (λ made. made ≡ map (raised_command by) commands.now) }
 {
     let mut made = Vec::with_capacity(alloc, commands.len())?;

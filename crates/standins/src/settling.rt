@@ -1,12 +1,13 @@
 //! Which theorems are still told to be axioms behind a run.
 
-ghost use Rattle.std.specs.Prelude.{◌≡◌, IfOk, filter, map};
+ghost use Rattle.std.specs.Prelude.{◌≡◌, IfOk, OnOk, filter};
+ghost use Rattle.std.specs.List.{list_any};
 ghost use mathlib.Core.Bool.{not};
-ghost use Rattle.library.specs.Edits.{cites};
+ghost use Rattle.library.specs.Edits.{cites, is_citation};
 ghost use Rattle.mmsyntax.specs.ProofWords.{seen_step};
 ghost use Rattle.source.specs.Scopes.{is_in};
 ghost use Rattle.standins.specs.Ending.{IsSettled, released};
-ghost use Rattle.standins.specs.Views.{seen_stand_ins};
+ghost use Rattle.standins.specs.Views.{seen_stand_ins, seen_told};
 
 use crate::standing::StandIn;
 use intake::Taken;
@@ -17,15 +18,35 @@ use std::alloc::{AllocError, Global};
 use std::hash::RandomState;
 use taking::Reason;
 
+/// Whether a step cites a label.
+fn is_citation(label: &[u8], step: StepRef<'_>) -> bool
+    ensures { result ≡ is_citation label.now (seen_step step.entry) }
+{
+    match step {
+        StepRef::Cite(cited) => label == cited,
+        _ => false,
+    }
+}
+
 /// Whether the proof of an entry cites a label.
 fn cites(label: &[u8], entry: &Ranked) -> bool
     ensures { result ≡ cites label.now entry.now }
 {
     let proof = &entry.assertion.proof;
     for i in 0..proof.len() {
-        if let StepRef::Cite(cited) = proof.step(i)
-            && cited == label
-        {
+        if is_citation(label, proof.step(i)) {
+            return true;
+        }
+    }
+    false
+}
+
+/// Whether the proof of some entry cites a label.
+fn is_cited(label: &[u8], entries: &[Ranked]) -> bool
+    ensures { result ≡ list_any (cites label.now) entries.now }
+{
+    for entry in entries {
+        if cites(label, entry) {
             return true;
         }
     }
@@ -43,8 +64,7 @@ fn released<'s>(
 {
     let mut labels = Vec::new(alloc);
     for stand_in in stand_ins {
-        let axiom = stand_in.axiom.as_slice();
-        if !entries.iter().any(|entry| cites(axiom, entry)) {
+        if !is_cited(stand_in.cited.as_slice(), entries) {
             labels.push(stand_in.source.as_slice())?;
         }
     }
@@ -57,13 +77,12 @@ fn others_told<'a>(
     released: &Indexed<'_>,
     axioms: &[(&'a [u8], Reason)],
 ) -> Result<Vec<(&'a [u8], Reason)>, AllocError>
-    ensures { IfOk result (λ made. map (λ p. (p.0.now, p.1)) made.items
-        ≡ filter (λ a. not (is_in released.now a.0)) (map (λ p. (p.0.now, p.1)) axioms.now)) }
+    ensures { IfOk result (λ made. seen_told made.items ≡ filter (λ a. not (is_in released.now a.0)) (seen_told axioms.now)) }
 {
     let mut made = Vec::new(alloc);
-    for axiom in axioms {
-        if released.place(axiom.0).is_none() {
-            made.push(*axiom)?;
+    for told in axioms {
+        if released.place(told.0).is_none() {
+            made.push(*told)?;
         }
     }
     Ok(made)

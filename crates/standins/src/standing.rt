@@ -1,17 +1,15 @@
 //! Which theorems of a library have stand-ins.
 
-ghost use Rattle.std.specs.Prelude.{◌≡◌, ◌++◌, ◌&&◌, IfOk, List, OnOk, filter, filter_map, length, map};
-ghost use Rattle.std.specs.List.{flat_map};
-ghost use Rattle.mmtext.specs.Words.{Word};
+ghost use Rattle.std.specs.Prelude.{◌≡◌, ◌++◌, IfOk, OnOk, filter_map, length, map};
+ghost use Rattle.std.specs.List.{flat_map, zip};
+ghost use Rattle.std.specs.Option.{option_map};
 ghost use Rattle.expanding.specs.Views.{seen_scripts};
 ghost use Rattle.source.specs.Scopes.{Assertion, is_in};
 ghost use Rattle.source.specs.Views.{seen_pairs, seen_words};
 ghost use Rattle.taking.specs.Reasons.{Choice};
-ghost use Rattle.intake.specs.Intakes.{axioms_of};
-ghost use Rattle.sourceediting.specs.Following.{opened};
-ghost use Rattle.sourceediting.specs.Views.{seen_living};
-ghost use Rattle.standins.specs.StandIns.{reproved_by, reproved, stand_ins, with_labels};
-ghost use Rattle.standins.specs.Views.{seen_stand_ins};
+ghost use Rattle.sourceediting.specs.Views.{seen_followed, seen_living};
+ghost use Rattle.standins.specs.StandIns.{reproved_by, reproved, stand_in, stand_ins};
+ghost use Rattle.standins.specs.Views.{leaning_pair, seen_stand_ins};
 
 use crate::labels::{free_labels, words_of};
 use intake::Taken;
@@ -32,8 +30,18 @@ pub struct StandIn {
     pub source: Label,
     /// Its label in the library, as it was taken.
     pub theorem: Label,
-    /// The label of the axiom.
-    pub axiom: Label,
+    /// The label of the axiom, which its proof cites.
+    pub cited: Label,
+}
+
+/// The label of the theorem to which a command gives another proof, if it does.
+fn reproved_by(command: &Command) -> Option<&[u8]>
+    ensures { option_map (λ w. w.now) result ≡ reproved_by command.now }
+{
+    match command {
+        Command::Reprove { label, .. } => Some(label.as_slice()),
+        _ => None,
+    }
 }
 
 /// Puts the labels of the theorems to which commands give other proofs.
@@ -41,8 +49,8 @@ fn put_reproved<'s>(labels: &mut Vec<&'s [u8]>, commands: &'s [Command]) -> Resu
     ensures { OnOk result (seen_words labels.new.items ≡ seen_words labels.old.items ++ filter_map reproved_by commands.now) }
 {
     for command in commands {
-        if let Command::Reprove { label, .. } = command {
-            labels.push(label.as_slice())?;
+        if let Some(label) = reproved_by(command) {
+            labels.push(label)?;
         }
     }
     Ok(())
@@ -83,29 +91,40 @@ fn told<'a>(
     ensures { IfOk result (λ made. made ≡ map (λ a. a.0.now) axioms.now) }
 {
     let mut labels = Vec::with_capacity(alloc, axioms.len())?;
-    for axiom in axioms {
-        labels.push(axiom.0)?;
+    for one in axioms {
+        labels.push(one.0)?;
     }
     Indexed::new(alloc, keys, labels)
 }
 
-/// Those of a library's assertions with labels of both kinds: in the source one of these, and in the library one of those.
+/// The labels of an assertion, if they are of both kinds: in the source one of these, and in the library one of those.
+fn leaning_pair<'h>(
+    told: &Indexed<'_>,
+    reproved: &Indexed<'_>,
+    followed: &Followed<'h>,
+) -> Option<(&'h [u8], &'h [u8])>
+    ensures { option_map (λ p. (p.0.now, p.1.now)) result ≡ leaning_pair told.now reproved.now (seen_followed followed.entry.now) }
+{
+    let source = followed.source?;
+    if told.place(source).is_some() && reproved.place(followed.first).is_some() {
+        return Some((source, followed.first));
+    }
+    None
+}
+
+/// The labels of those of a library's assertions that have labels of both kinds.
 fn leaning<'h>(
     alloc: Global,
     living: &[Followed<'h>],
     told: &Indexed<'_>,
     reproved: &Indexed<'_>,
 ) -> Result<Vec<(&'h [u8], &'h [u8])>, AllocError>
-    ensures { (ps : List (Word × Word)) → seen_living living.now ≡ map opened ps
-        → IfOk result (λ made. seen_pairs made.items ≡ filter (λ p. is_in told.now p.0 && is_in reproved.now p.1) ps) }
+    ensures { IfOk result (λ made. seen_pairs made.items ≡ filter_map (leaning_pair told.now reproved.now) (seen_living living.now)) }
 {
     let mut found = Vec::new(alloc);
     for followed in living {
-        let Some(source) = followed.source else {
-            continue;
-        };
-        if told.place(source).is_some() && reproved.place(followed.first).is_some() {
-            found.push((source, followed.first))?;
+        if let Some(pair) = leaning_pair(told, reproved, followed) {
+            found.push(pair)?;
         }
     }
     Ok(found)
@@ -115,17 +134,16 @@ fn leaning<'h>(
 fn with_labels(
     alloc: Global,
     theorems: &[(&[u8], &[u8])],
-    labels: Vec<Label>,
+    labels: &[Label],
 ) -> Result<Vec<StandIn>, AllocError>
-    ensures { (words : List Word) → labels.entry.items ≡ free_labels words (length theorems.now)
-        → IfOk result (λ made. seen_stand_ins made.items ≡ with_labels words (seen_pairs theorems.now)) }
+    ensures { IfOk result (λ made. seen_stand_ins made.items ≡ map stand_in (zip (seen_pairs theorems.now) labels.now)) }
 {
     let mut made = Vec::new(alloc);
-    for ((source, theorem), axiom) in theorems.iter().zip(labels) {
+    for (theorem, label) in theorems.iter().zip(labels) {
         made.push(StandIn {
-            source: Label::from_slice(alloc, source)?,
-            theorem: Label::from_slice(alloc, theorem)?,
-            axiom,
+            source: Label::from_slice(alloc, theorem.0)?,
+            theorem: Label::from_slice(alloc, theorem.1)?,
+            cited: label.copy(alloc)?,
         })?;
     }
     Ok(made)
@@ -156,5 +174,5 @@ pub(crate) fn stand_ins_for<'a, D: Declared<'a>>(
     }
     let words = words_of(alloc, keys, &taken.database, words)?;
     let labels = free_labels(alloc, &words, theorems.len())?;
-    with_labels(alloc, theorems.as_slice(), labels)
+    with_labels(alloc, theorems.as_slice(), labels.as_slice())
 }

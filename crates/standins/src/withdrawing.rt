@@ -1,9 +1,7 @@
 //! A library without its stand-ins.
 
-ghost use Rattle.std.specs.Prelude.{◌≡◌, ◌++◌, IfOk, List, OnOk, map};
+ghost use Rattle.std.specs.Prelude.{◌≡◌, IfOk};
 ghost use Rattle.std.specs.List.{list_any};
-ghost use Rattle.source.specs.Scopes.{is_in};
-ghost use Rattle.mmsyntax.specs.declared.statement.Step.{Step};
 ghost use Rattle.mmsyntax.specs.ProofWords.{seen_step};
 ghost use Rattle.standins.specs.Ending.{IsWithdrawn, axiom_labels, cites_one, freed, withdrawn};
 ghost use Rattle.standins.specs.Views.{seen_stand_ins};
@@ -66,13 +64,12 @@ fn others(
 {
     let mut made = Vec::new(alloc);
     for entry in entries {
-        if axioms.place(entry.assertion.label.as_slice()).is_some() {
-            continue;
+        if axioms.place(entry.assertion.label.as_slice()).is_none() {
+            made.push(Ranked {
+                rank: entry.rank,
+                assertion: freed(alloc, axioms, &entry.assertion)?,
+            })?;
         }
-        made.push(Ranked {
-            rank: entry.rank,
-            assertion: freed(alloc, axioms, &entry.assertion)?,
-        })?;
     }
     Ok(made)
 }
@@ -87,7 +84,7 @@ fn axiom_labels<'s>(
 {
     let mut labels = Vec::with_capacity(alloc, stand_ins.len())?;
     for stand_in in stand_ins {
-        labels.push(stand_in.axiom.as_slice())?;
+        labels.push(stand_in.cited.as_slice())?;
     }
     Indexed::new(alloc, keys, labels)
 }
@@ -99,8 +96,10 @@ pub(crate) fn withdraw(
     stand_ins: &[StandIn],
     library: PlainLibrary,
 ) -> Result<PlainLibrary, AllocError>
-    ensures { IfOk result (IsWithdrawn (seen_stand_ins stand_ins.now) library.entry) }
+    ensures { IfOk result (IsWithdrawn (seen_stand_ins stand_ins.now) library) }
 {
+    // For the proof: the library is in export order.
+    let _ordered = library.entries();
     if stand_ins.is_empty() {
         return Ok(library);
     }

@@ -1,0 +1,9 @@
+-- What the loop of `released` keeps: the labels so far.
+use Rattle.std.proofs.Common.{◌≡◌, take}
+use Rattle.source.specs.Views.{seen_words}
+use Rattle.standins.specs.Ending.{released}
+use Rattle.standins.specs.Views.{seen_stand_ins}
+use Rattle.standins.proofs.settling.released.Given as goal
+
+abbrev pub invariant-loop-stand_in : goal.invariant-loop-stand_in
+invariant-loop-stand_in l = seen_words l.labels.items ≡ released (seen_stand_ins (take l.stand_in-index l.stand_ins)) l.entries
