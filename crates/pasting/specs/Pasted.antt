@@ -1,6 +1,6 @@
--- Scripts in which a proof may be written in the source's own words: in `reprove LABEL $= PROOF $.`, for a theorem of the source or one that
--- scripts add, and in an `add`. The words of a library stand in their stead then. A normal proof that isn't one of the source there stays: its words are those
--- of a library.
+-- Scripts in which a proof may be written in the source's own words: in `reprove LABEL $= PROOF $.`, for a theorem of the source or for one
+-- that scripts add, and in an `add`. The words of a library stand in their stead then. A normal proof that isn't one of the source there
+-- stays: its words are those of a library.
 use Rattle.std.specs.Prelude.{◌≡◌, Bool, List, [], ◌∷◌, ◌++◌, map, Option, Some, None, slice_get, slice_index_or, if◌then◌else◌, codes}
 use Rattle.std.specs.List.{AllZip, flat_map}
 use Rattle.std.specs.Option.{option_and_then, option_or}
