@@ -60,10 +60,7 @@ fn note_part<'x>(
     let Some(addition) = addition_of(alloc, part)? else {
         return Ok(());
     };
-    let (premises, statement) = (
-        addition.premises.as_slice(),
-        addition.statement.as_slice(),
-    );
+    let (premises, statement) = (addition.premises.as_slice(), addition.statement.as_slice());
     let mandatory = mandatory_of(alloc, floats, premises, statement)?;
     noted.flags.push(flags_of(alloc, mandatory)?)?;
     noted.labels.push(addition.label.text)?;

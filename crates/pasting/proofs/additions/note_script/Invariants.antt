@@ -4,7 +4,7 @@ use Rattle.std.specs.List.{flat_map}
 use Rattle.mmtext.specs.Views.{seen}
 use Rattle.mmsyntax.specs.Tables.{Tables}
 use Rattle.source.specs.Scopes.{Assertion}
-use Rattle.source.specs.Views.{seen_hypothesis, seen_words}
+use Rattle.source.specs.Views.{seen_hypothesis}
 use Rattle.taking.specs.Names.{Map}
 use Rattle.expanding.specs.Forms.{Part, AreParts}
 use Rattle.pasting.specs.Additions.{added_by, floats_of}

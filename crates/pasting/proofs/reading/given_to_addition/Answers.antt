@@ -1,8 +1,7 @@
 -- What is left to show of `given_to_addition`.
 use Rattle.std.proofs.Common.{◌≡◌, ◌∙◌, ◌++◌, List, map, refl, sym, ap, subst}
 use Rattle.std.specs.List.{zip}
-use Rattle.mmtext.specs.Views.{seen}
-use Rattle.source.specs.Scopes.{Assertion, Hypothesis, mandatory}
+use Rattle.source.specs.Scopes.{Hypothesis, mandatory}
 use Rattle.source.specs.Views.{seen_hypothesis, seen_hypotheses, seen_words}
 use Rattle.taking.proofs.Turned.{if_ok}
 use Rattle.prooftrees.specs.Roles.{role_of}

@@ -13,8 +13,8 @@ use Rattle.pasting.proofs.Citable.{active_is, frames_are}
 use Rattle.pasting.proofs.Pasting.{told_in}
 use Rattle.pasting.proofs.paster.Paster.given.Goals as goal
 
-pub returns-in_ok-mandatory : goal.returns-in_ok-mandatory
-returns-in_ok-mandatory g c =
+pub returns-in_ok-mandatory-in-Standing : goal.returns-in_ok-mandatory-in-Standing
+returns-in_ok-mandatory-in-Standing g c =
     let s = g.D.Declared.scope c.args.declared.now in
     let m = places_by c.args.self.now in
     let t = c.args.self.now.database.now.prelude in
@@ -25,12 +25,12 @@ returns-in_ok-mandatory g c =
     (λ told h. λ xs r known is.
     let x = r.theorem in
     let at : slice_get s.assertions place ≡ Some x = subst (λ (th : Theorem). IsTheorem m t s th x) c.in-Standing.is is.theorem in
-    let active = active_is s.assertions place x (seen_hypotheses c.in_ok-active.field-0.items) at
-    c.in_ok-active.ensures in
+    let active = active_is s.assertions place x (seen_hypotheses c.in_ok-active-in-Standing.field-0.items) at
+    c.in_ok-active-in-Standing.ensures in
     h (s.assertions ++ xs) x (frames_are m t s.assertions xs a known)
-    (λ w. c.in_ok-roles.ensures w ∙ ap (λ hs. role_of hs w) (sym active))
-    (mandatory_is s.assertions place x at (seen_hypotheses c.in_ok-mandatory.mandatory.items)
-    c.in_ok-mandatory.ensures)
+    (λ w. c.in_ok-roles-in-Standing.ensures w ∙ ap (λ hs. role_of hs w) (sym active))
+    (mandatory_is s.assertions place x at (seen_hypotheses c.in_ok-mandatory-in-Standing.mandatory.items)
+    c.in_ok-mandatory-in-Standing.ensures)
     (whole_at s place x c.requires.whole at).mandatory
     ∙ told_in m t s xs a.labels p r x known.added.labels_are is refl)
     c.given.ensures

@@ -7,7 +7,7 @@ use Rattle.pasting.specs.Views.{IsProving, IsProvingIf, places_by, seen_given}
 use Rattle.pasting.specs.Proofs.{is_compressed}
 use Rattle.pasting.specs.Pasted.{Proving, fault_of, pasted, proving}
 use Rattle.pasting.specs.declared.given.Given.TheVariants.{Faulty}
-use Rattle.pasting.proofs.Pasting.{pasted_is, fault_is, there, with_told}
+use Rattle.pasting.proofs.Pasting.{pasted_is, fault_is, with_told}
 use Rattle.pasting.proofs.paster.Paster.put_part.Goals as goal
 use Rattle.pasting.proofs.paster.Paster.put_part.Goals.{in-Steps+in_ok-put_given-in-Steps, in-Untaken+in_ok-put_words-in-Untaken, in-Faulty+else-is_compressed+in_ok-put_words-in-Faulty}
 
