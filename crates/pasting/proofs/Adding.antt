@@ -13,7 +13,8 @@ use Rattle.mmsyntax.specs.Tables.{Tables}
 use Rattle.mmsyntax.specs.declared.statement.Float.{Float}
 use Rattle.source.specs.Scopes.{Assertion, Hypothesis, typing, premise, is_in, stands_in, is_mandatory, mandatory}
 use Rattle.pasting.specs.Views.{AreAdded, AreFloats, flags_of}
-use Rattle.pasting.specs.Additions.{Addition, claims, is_premise, symbols_in, with_premise, addition_in}
+use Rattle.taking.specs.Names.{Map}
+use Rattle.pasting.specs.Additions.{Addition, claims, is_premise, symbols_in, with_premise, addition_in, theorem_of}
 
 -- an assertion with these `$e` in front of its own
 abbrev pub with_premises : List Hypothesis → Option Addition → Option Addition
@@ -110,13 +111,13 @@ mandatory_both fs ps statement are =
 -- ---- what is noted
 
 -- one more of them
-pub added_more : (xs : List Assertion) (x : Assertion) (labels : List Word) (flags : List (List Bool)) (label : Word) (f : List Bool)
-    → AreAdded xs labels flags → label ≡ x.label → f ≡ flags_of x → AreAdded (xs ++ x ∷ []) (labels ++ label ∷ []) (flags ++ f ∷ [])
-added_more xs x labels flags label f are named is = record {
-  labels_are = ap (λ ls. ls ++ label ∷ []) are.labels_are
-      ∙ ap (λ l. map (λ x. x.label) xs ++ l ∷ []) named
-      ∙ sym (map-append (λ (x : Assertion). x.label) xs (x ∷ []));
-  flags_are = ap (λ fs. fs ++ f ∷ []) are.flags_are
-      ∙ ap (λ g. map flags_of xs ++ g ∷ []) is
-      ∙ sym (map-append flags_of xs (x ∷ []));
-}
+pub added_more : (m : Map) (t : Tables) (xs : List Assertion) (labels : List Word) (flags : List (List Bool)) (own : List Addition)
+    → AreAdded m t xs labels flags own → (a : Addition)
+    → AreAdded m t (xs ++ theorem_of m t a ∷ []) (labels ++ a.label.text ∷ []) (flags ++ flags_of (theorem_of m t a) ∷ []) (own ++ a ∷ [])
+added_more m t xs labels flags own are a =
+    let x = theorem_of m t a in
+    record {
+      labels_are = ap (λ ls. ls ++ x.label ∷ []) are.labels_are ∙ sym (map-append (λ (x : Assertion). x.label) xs (x ∷ []));
+      flags_are = ap (λ fs. fs ++ flags_of x ∷ []) are.flags_are ∙ sym (map-append flags_of xs (x ∷ []));
+      theorems_are = map-append (theorem_of m t) own (a ∷ []) ∙ ap (λ ys. ys ++ x ∷ []) are.theorems_are;
+    }

@@ -1,9 +1,10 @@
--- The frames of what a proof may cite, and the roles of all hypotheses that are active.
+-- What scripts add, by its label; the frames of what a proof may cite, and the roles of all hypotheses that are active.
 use Rattle.std.proofs.Common.{◌≡◌, ◌∙◌, ℕ, suc, Bool, true, false, cond, List, [], ◌∷◌, ◌++◌, map, Option, Some, None, refl, sym, ap}
 use Rattle.std.specs.Prelude.{slice_get, is_some}
 use Rattle.std.specs.Option.{option_map, option_and_then, option_or}
 use Rattle.std.specs.Str.{bytes_eq}
 use Rattle.std.proofs.lemmas.List.Folds.{find-append}
+use Rattle.std.proofs.lemmas.Option.{slice_get-map}
 use Rattle.mmtext.specs.Words.{Word}
 use Rattle.mmsyntax.specs.Tables.{Tables, place_of}
 use Rattle.source.specs.Scopes.{Assertion, Hypothesis}
@@ -12,22 +13,38 @@ use Rattle.prooftrees.specs.declared.roles.Role.{Role}
 use Rattle.prooftrees.specs.Names.{AreEnough, AreFrames, labelled}
 use Rattle.prooftrees.specs.Roles.{role_of}
 use Rattle.prooftrees.proofs.Named.{known_assertion}
-use Rattle.pasting.specs.Views.{AreKnown, added_flags, flags_in, flags_of}
+use Rattle.pasting.specs.Additions.{theorem_of}
+use Rattle.pasting.specs.Views.{AreKnown, at_label, flags_in, flags_of, seen_addition}
 use Rattle.pasting.specs.declared.additions.Additions.{Additions}
 use Rattle.pasting.proofs.Labelled.{later}
 
+-- ---- what is added
+
+by_test : (t : Bool) (x : Assertion) (xs : List Assertion) (o : Option ℕ) (f : Option Assertion) → option_and_then (slice_get xs) o ≡ f
+    → option_and_then (slice_get (x ∷ xs)) (cond t (Some 0) (option_map (λ n. suc n) o)) ≡ cond t (Some x) f
+by_test true x xs o f e = refl
+by_test false x xs o f e = sym (later x xs o) ∙ e
+
+first_labelled : (xs : List Assertion) (w : Word) → at_label (map (λ x. x.label) xs) xs w ≡ labelled xs w
+first_labelled [] w = refl
+first_labelled (x ∷ xs) w =
+    by_test (bytes_eq w x.label) x xs (place_of (bytes_eq w) (map (λ x. x.label) xs)) (labelled xs w) (first_labelled xs w)
+
+mapped_at : {A B : Type 0} (f : A → B) (xs : List A) (o : Option ℕ)
+    → option_and_then (slice_get (map f xs)) o ≡ option_map f (option_and_then (slice_get xs) o)
+mapped_at f xs None = refl
+mapped_at f xs (Some k) = slice_get-map f xs k
+
+-- the first with a label, as the code has it
+pub added_is : (m : Map) (t : Tables) (xs : List Assertion) (a : Additions) (w : Word) → AreKnown m t xs a
+    → option_map (theorem_of m t) (at_label a.labels (map seen_addition a.added.items) w) ≡ labelled xs w
+added_is m t xs a w known =
+    sym (mapped_at (theorem_of m t) (map seen_addition a.added.items) (place_of (bytes_eq w) a.labels))
+    ∙ ap (λ ys. at_label a.labels ys w) known.added.theorems_are
+    ∙ ap (λ ls. at_label ls xs w) known.added.labels_are
+    ∙ first_labelled xs w
+
 -- ---- frames
-
-by_test : (t : Bool) (x : Assertion) (fs : List (List Bool)) (o : Option ℕ) (f : Option Assertion)
-    → option_and_then (slice_get fs) o ≡ option_map flags_of f
-    → option_and_then (slice_get (flags_of x ∷ fs)) (cond t (Some 0) (option_map (λ n. suc n) o)) ≡ option_map flags_of (cond t (Some x) f)
-by_test true x fs o f e = refl
-by_test false x fs o f e = sym (later (flags_of x) fs o) ∙ e
-
-added_are : (xs : List Assertion) (w : Word) → added_flags (map (λ x. x.label) xs) (map flags_of xs) w ≡ option_map flags_of (labelled xs w)
-added_are [] w = refl
-added_are (x ∷ xs) w =
-    by_test (bytes_eq w x.label) x (map flags_of xs) (place_of (bytes_eq w) (map (λ x. x.label) xs)) (labelled xs w) (added_are xs w)
 
 mapped_or : (o p : Option Assertion) → option_or (option_map flags_of o) (option_map flags_of p) ≡ option_map flags_of (option_or o p)
 mapped_or None p = refl
@@ -36,10 +53,11 @@ mapped_or (Some x) p = refl
 -- those of the source, and else of what is added
 pub frames_are : (m : Map) (t : Tables) (ys xs : List Assertion) (a : Additions) → AreKnown m t xs a → AreFrames (ys ++ xs) (flags_in ys a)
 frames_are m t ys xs a known = λ w.
-    ap (λ ls. option_or (option_map flags_of (labelled ys w)) (added_flags ls a.flags.items w)) known.added.labels_are
-    ∙ ap (λ fs. option_or (option_map flags_of (labelled ys w)) (added_flags (map (λ (x : Assertion). x.label) xs) fs w))
+    ap (λ ls. option_or (option_map flags_of (labelled ys w)) (at_label ls a.flags.items w)) known.added.labels_are
+    ∙ ap (λ fs. option_or (option_map flags_of (labelled ys w)) (at_label (map (λ (x : Assertion). x.label) xs) fs w))
     known.added.flags_are
-    ∙ ap (option_or (option_map flags_of (labelled ys w))) (added_are xs w)
+    ∙ ap (option_or (option_map flags_of (labelled ys w)))
+    (mapped_at flags_of xs (place_of (bytes_eq w) (map (λ (x : Assertion). x.label) xs)) ∙ ap (option_map flags_of) (first_labelled xs w))
     ∙ mapped_or (labelled ys w) (labelled xs w)
     ∙ ap (option_map flags_of) (sym (find-append (λ (x : Assertion). bytes_eq w x.label) ys xs))
 

@@ -12,10 +12,11 @@ use Rattle.source.specs.Scopes.{Assertion, Scope}
 use Rattle.source.specs.Flags.{kept}
 use Rattle.taking.specs.Names.{Map}
 use Rattle.expanding.specs.Words.{word_at}
+use Rattle.expanding.specs.Cuts.{Cut}
 use Rattle.expanding.specs.Forms.{Part, AreParts}
 use Rattle.pasting.specs.Places.{places_of, places_in}
-use Rattle.pasting.specs.Proofs.{steps, is_compressed}
-use Rattle.pasting.specs.Pasted.{Proving, given_in, with_given, pasted_by, pasted, proving, fault_of, paste_fault_by}
+use Rattle.pasting.specs.Proofs.{given, steps, is_compressed}
+use Rattle.pasting.specs.Pasted.{Proving, given_in, with_added, with_labels, with_given, pasted_by, pasted, proving, fault_of, paste_fault_by}
 use Rattle.pasting.specs.Pasted.{PasteFault, paste_fault, or_fault, first_fault, IsPasted, HasPasteFault}
 use Rattle.pasting.specs.Views.{IsPaster, IsFaultIn, IsUnpasted, IsProving, IsProvingIf, seen_given, given_words, places_by, step_of, word_of}
 use Rattle.pasting.specs.declared.given.Given.{Given as CodeGiven}
@@ -34,6 +35,17 @@ places_are s flags db p is =
     ∙ ap (λ d. places_of (places_in s flags db).floats (map (λ x. x.label) (kept flags s.assertions)) d) is.database
 
 -- ---- one command
+
+-- what is told of its words as the code has them
+pub told_in : (m : Map) (t : Tables) (s : Scope) (added : List Assertion) (labels : List Word) (c : CodeProving) (r : Proving) (x : Assertion)
+    → labels ≡ map (λ x. x.label) added → IsProving m t s c r → x ≡ r.theorem
+    → given (with_labels m labels) (s.assertions ++ added) x (map seen c.cut.proof.now) (seen c.ends) ≡ given_in m s added r
+told_in m t s added labels c r x named is same =
+    let earlier = s.assertions ++ added in
+    ap (λ ls. given (with_labels m ls) earlier x (map seen c.cut.proof.now) (seen c.ends)) named
+    ∙ ap (λ (k : Cut). given (with_added m added) earlier x k.proof (seen c.ends)) is.cut
+    ∙ ap (λ (e : Token). given (with_added m added) earlier x r.cut.proof e) is.ends
+    ∙ ap (λ (y : Assertion). given (with_added m added) earlier y r.cut.proof r.ends) same
 
 -- its words, by what is told of its proof
 abbrev pub with_told : Tables → Part → CodeProving → CodeGiven → List Token
@@ -61,19 +73,19 @@ there m t s c None is = absurd is
 there m t s c (Some r) is = (r, refl, is)
 
 pub pasted_is : (m : Map) (t : Tables) (s : Scope) (added : List Assertion) (p : Part) (c : CodeProving) (g : CodeGiven)
-    → IsProvingIf m t s (Some c) (proving m t s p)
+    → IsProvingIf m t s (Some c) (proving m t s added p)
     → ((r : Proving) → IsProving m t s c r → seen_given g ≡ given_in m s added r) → with_told t p c g ≡ pasted m t s added p
 pasted_is m t s added p c g is told =
-    let r = there m t s c (proving m t s p) is in
+    let r = there m t s c (proving m t s added p) is in
     told_words m t s c r.0 p g r.2 ∙ ap (with_given p r.0) (told r.0 r.2) ∙ sym (ap (pasted_by m s added p) r.1)
 
 -- what is told of a fault is told of the command
 pub fault_is : (m : Map) (t : Tables) (s : Scope) (added : List Assertion) (p : Part) (c : CodeProving) (g : CodeGiven) (b : Bool)
-    → IsProvingIf m t s (Some c) (proving m t s p)
+    → IsProvingIf m t s (Some c) (proving m t s added p)
     → ((r : Proving) → IsProving m t s c r → seen_given g ≡ given_in m s added r) → b ≡ is_compressed (map seen c.cut.proof.now)
     → fault_of b (seen_given g) ≡ paste_fault m t s added p
 fault_is m t s added p c g b is told e =
-    let r = there m t s c (proving m t s p) is in
+    let r = there m t s c (proving m t s added p) is in
     ap (fault_of b) (told r.0 r.2)
     ∙ ap (λ z. fault_of z (given_in m s added r.0)) (e ∙ ap (λ k. is_compressed k.proof) r.2.cut)
     ∙ sym (ap (paste_fault_by m s added) r.1)

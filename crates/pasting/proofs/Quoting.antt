@@ -1,6 +1,5 @@
 -- The compressed proofs that scripts give, part by part.
-use Rattle.std.proofs.Common.{◌≡◌, ◌∙◌, ◌-◌, ℕ, List, [], ◌∷◌, ◌++◌, map, Option, Some, None, refl, sym, ap}
-use Rattle.std.specs.Option.{option_map}
+use Rattle.std.proofs.Common.{◌≡◌, ◌∙◌, ◌-◌, ℕ, List, [], ◌∷◌, ◌++◌, map, Option, Some, None, sym, ap}
 use Rattle.std.proofs.lemmas.List.{append_assoc, append-nil, map-append}
 use Rattle.expanding.specs.Descriptions.{begun_behind}
 use Rattle.expanding.specs.Forms.{Part}

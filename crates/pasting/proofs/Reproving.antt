@@ -13,6 +13,7 @@ use Rattle.source.specs.Scopes.{Assertion, Scope}
 use Rattle.taking.specs.Names.{Map}
 use Rattle.expanding.specs.Cuts.{Cut, cut_of}
 use Rattle.expanding.specs.Forms.{Part}
+use Rattle.prooftrees.specs.Names.{labelled}
 use Rattle.pasting.specs.Additions.{Addition, addition_of, theorem_of}
 use Rattle.pasting.specs.Pasted.{Proving, reproved, reproving, adding, added_word, proving, proving_in, proving_of, theorem_at}
 use Rattle.pasting.specs.Views.{IsProvingIf}
@@ -46,44 +47,43 @@ ended_by ws w e = slice_get-map seen ws 0 ∙ ap (option_map seen) (sym e)
 pub no_first : (ws : List CodeToken) → None ≡ slice_get ws 0 → slice_get (map seen ws) 0 ≡ None
 no_first ws e = slice_get-map seen ws 0 ∙ ap (option_map seen) (sym e)
 
-module _ (m : Map) (t : Tables) (s : Scope) (c : Cut) (ends : Token) (ended : slice_get c.back 0 ≡ Some ends) where
-  pub reproved_there : (label : Token) (k : ℕ) (x : Assertion) → Some label ≡ reproved c.front
-      → Some k ≡ place_of (λ (a : Assertion). bytes_eq label.text a.label) s.assertions → slice_get s.assertions k ≡ Some x
-      → option_and_then (reproving t s c) (reproved c.front)
-      ≡ Some (record { cut = c; ends = ends; label = label; theorem = x; word = step_word t label.text })
-  reproved_there label k x labelled placed at =
-      ap (option_and_then (reproving t s c)) (sym labelled)
-      ∙ ap (λ o. proving_of c o label (theorem_at s label) (step_word t label.text)) ended
-      ∙ ap (λ o. proving_of c (Some ends) label (option_and_then (slice_get s.assertions) o) (step_word t label.text)) (sym placed)
-      ∙ ap (λ o. proving_of c (Some ends) label o (step_word t label.text)) at
+-- one of the source, or else one that scripts add
+pub theorem_standing : (s : Scope) (added : List Assertion) (label : Token) (k : ℕ) (x : Assertion)
+    → Some k ≡ place_of (λ (a : Assertion). bytes_eq label.text a.label) s.assertions → slice_get s.assertions k ≡ Some x
+    → theorem_at s added label ≡ Some x
+theorem_standing s added label k x placed at =
+    ap (λ o. option_or (option_and_then (slice_get s.assertions) o) (labelled added label.text)) (sym placed)
+    ∙ ap (λ o. option_or o (labelled added label.text)) at
 
-  pub not_there : (label : Token) → Some label ≡ reproved c.front
-      → None ≡ place_of (λ (a : Assertion). bytes_eq label.text a.label) s.assertions
-      → option_and_then (reproving t s c) (reproved c.front) ≡ None
-  not_there label labelled placed =
-      ap (option_and_then (reproving t s c)) (sym labelled)
-      ∙ ap (λ o. proving_of c o label (theorem_at s label) (step_word t label.text)) ended
-      ∙ ap (λ o. proving_of c (Some ends) label (option_and_then (slice_get s.assertions) o) (step_word t label.text)) (sym placed)
+pub theorem_added : (s : Scope) (added : List Assertion) (label : Token)
+    → None ≡ place_of (λ (a : Assertion). bytes_eq label.text a.label) s.assertions → theorem_at s added label ≡ labelled added label.text
+theorem_added s added label none =
+    ap (λ o. option_or (option_and_then (slice_get s.assertions) o) (labelled added label.text)) (sym none)
 
-  pub none_reproved : None ≡ reproved c.front → option_and_then (reproving t s c) (reproved c.front) ≡ None
-  none_reproved none = ap (option_and_then (reproving t s c)) (sym none)
+module _ (t : Tables) (s : Scope) (added : List Assertion) (c : Cut) (ends : Token) (ended : slice_get c.back 0 ≡ Some ends) where
+  pub reproved_there : (label : Token) (o : Option Assertion) → Some label ≡ reproved c.front → theorem_at s added label ≡ o
+      → option_and_then (reproving t s added c) (reproved c.front) ≡ proving_of c (Some ends) label o (step_word t label.text)
+  reproved_there label o named there =
+      ap (option_and_then (reproving t s added c)) (sym named)
+      ∙ ap (λ e. proving_of c e label (theorem_at s added label) (step_word t label.text)) ended
+      ∙ ap (λ x. proving_of c (Some ends) label x (step_word t label.text)) there
 
 -- ---- the proof of a command, if it has one
 
 -- no word behind it
-none_of : (m : Map) (t : Tables) (s : Scope) (c : Cut) (o : Option Token) (a : Option Addition) → slice_get c.back 0 ≡ None
-    → option_or (option_and_then (reproving t s c) o) (option_and_then (adding m t c) a) ≡ None
-none_of m t s c None None e = refl
-none_of m t s c None (Some a) e = ap (λ o. proving_of c o a.label (Some (theorem_of m t a)) (added_word t a)) e
-none_of m t s c (Some l) None e =
-    ap (λ o. option_or (proving_of c o l (theorem_at s l) (step_word t l.text)) None) e
-none_of m t s c (Some l) (Some a) e =
-    ap (λ o. option_or (proving_of c o l (theorem_at s l) (step_word t l.text)) (adding m t c a)) e
+none_of : (m : Map) (t : Tables) (s : Scope) (added : List Assertion) (c : Cut) (o : Option Token) (a : Option Addition)
+    → slice_get c.back 0 ≡ None → option_or (option_and_then (reproving t s added c) o) (option_and_then (adding m t c) a) ≡ None
+none_of m t s added c None None e = refl
+none_of m t s added c None (Some a) e = ap (λ o. proving_of c o a.label (Some (theorem_of m t a)) (added_word t a)) e
+none_of m t s added c (Some l) None e =
+    ap (λ o. option_or (proving_of c o l (theorem_at s added l) (step_word t l.text)) None) e
+none_of m t s added c (Some l) (Some a) e =
+    ap (λ o. option_or (proving_of c o l (theorem_at s added l) (step_word t l.text)) (adding m t c a)) e
     ∙ ap (λ o. proving_of c o a.label (Some (theorem_of m t a)) (added_word t a)) e
 
-module _ (m : Map) (t : Tables) (s : Scope) (p : Part) (c : Cut) (cut : cut_of p ≡ Some c) where
-  pub never_ended : slice_get c.back 0 ≡ None → proving m t s p ≡ None
-  never_ended e = ap (option_and_then (proving_in m t s p)) cut ∙ none_of m t s c (reproved c.front) (addition_of p) e
+module _ (m : Map) (t : Tables) (s : Scope) (added : List Assertion) (p : Part) (c : Cut) (cut : cut_of p ≡ Some c) where
+  pub never_ended : slice_get c.back 0 ≡ None → proving m t s added p ≡ None
+  never_ended e = ap (option_and_then (proving_in m t s added p)) cut ∙ none_of m t s added c (reproved c.front) (addition_of p) e
 
   first_of : (o q : Option Proving) (f : Option CodeProving) → IsProvingIf m t s f o → is_some f ≡ true
       → IsProvingIf m t s f (option_or o q)
@@ -91,23 +91,23 @@ module _ (m : Map) (t : Tables) (s : Scope) (p : Part) (c : Cut) (cut : cut_of p
   first_of None q (Some f) is some = absurd is
   first_of (Some r) q f is some = is
 
-  pub is_reproving : (f : Option CodeProving) → IsProvingIf m t s f (option_and_then (reproving t s c) (reproved c.front))
-      → is_some f ≡ true → IsProvingIf m t s f (proving m t s p)
+  pub is_reproving : (f : Option CodeProving) → IsProvingIf m t s f (option_and_then (reproving t s added c) (reproved c.front))
+      → is_some f ≡ true → IsProvingIf m t s f (proving m t s added p)
   is_reproving f is some =
-      subst (IsProvingIf m t s f) (sym (ap (option_and_then (proving_in m t s p)) cut))
-      (first_of (option_and_then (reproving t s c) (reproved c.front)) (option_and_then (adding m t c) (addition_of p)) f is some)
+      subst (IsProvingIf m t s f) (sym (ap (option_and_then (proving_in m t s added p)) cut))
+      (first_of (option_and_then (reproving t s added c) (reproved c.front)) (option_and_then (adding m t c) (addition_of p)) f is some)
 
   none_is : (f : Option CodeProving) (o : Option Proving) → IsProvingIf m t s f o → is_some f ≡ false → o ≡ None
   none_is None o is none = is
   none_is (Some f) o is none = absurd cc
 
   -- by `add`, where it isn't by `reprove`
-  pub is_adding : (f : Option CodeProving) → IsProvingIf m t s f (option_and_then (reproving t s c) (reproved c.front))
-      → is_some f ≡ false → proving m t s p ≡ option_and_then (adding m t c) (addition_of p)
+  pub is_adding : (f : Option CodeProving) → IsProvingIf m t s f (option_and_then (reproving t s added c) (reproved c.front))
+      → is_some f ≡ false → proving m t s added p ≡ option_and_then (adding m t c) (addition_of p)
   is_adding f is none =
-      ap (option_and_then (proving_in m t s p)) cut
+      ap (option_and_then (proving_in m t s added p)) cut
       ∙ ap (λ o. option_or o (option_and_then (adding m t c) (addition_of p)))
-      (none_is f (option_and_then (reproving t s c) (reproved c.front)) is none)
+      (none_is f (option_and_then (reproving t s added c) (reproved c.front)) is none)
 
   pub added_there : (a : Addition) (ends : Token) → addition_of p ≡ Some a → slice_get c.back 0 ≡ Some ends
       → option_and_then (adding m t c) (addition_of p)

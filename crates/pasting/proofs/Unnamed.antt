@@ -19,7 +19,7 @@ use Rattle.prooftrees.specs.Names.{labelled}
 use Rattle.prooftrees.specs.Roles.{role_in, is_label_of, role_of}
 use Rattle.prooftrees.proofs.Named.{premise_in}
 use Rattle.pasting.specs.declared.additions.Additions.{Additions}
-use Rattle.pasting.specs.Views.{added_flags, flags_in, flags_of}
+use Rattle.pasting.specs.Views.{at_label, flags_in, flags_of}
 
 -- ---- labels
 
@@ -95,12 +95,12 @@ found_some (Some a) p = refl
 
 -- so says a look-up of frames
 pub may_be_cited : (xs : List Assertion) (a : Additions) (w : Word)
-    → (is_some (place_of (λ (x : Assertion). bytes_eq w x.label) xs) || is_some (added_flags a.labels a.flags.items w))
+    → (is_some (place_of (λ (x : Assertion). bytes_eq w x.label) xs) || is_some (at_label a.labels a.flags.items w))
     ≡ is_some (flags_in xs a w)
 may_be_cited xs a w =
-    ap (λ b. b || is_some (added_flags a.labels a.flags.items w))
+    ap (λ b. b || is_some (at_label a.labels a.flags.items w))
     (placed_some (λ (x : Assertion). bytes_eq w x.label) xs ∙ sym (mapped_some flags_of (labelled xs w)))
-    ∙ sym (found_some (option_map flags_of (labelled xs w)) (added_flags a.labels a.flags.items w))
+    ∙ sym (found_some (option_map flags_of (labelled xs w)) (at_label a.labels a.flags.items w))
 
 pub flags_at : (o : Option Assertion) (hs : List Hypothesis) → option_map (λ a. a.hypotheses) o ≡ Some hs
     → option_map flags_of o ≡ Some (map is_float hs)

@@ -1,6 +1,6 @@
--- Scripts in which a proof may be written in the source's own words: in `reprove LABEL $= PROOF $.`, for a theorem of the source, and in
--- an `add`. The words of a library stand in their stead then. A normal proof that isn't one of the source there stays: its words are those
--- of a library.
+-- Scripts in which a proof may be written in the source's own words: in `reprove LABEL $= PROOF $.`, for a theorem of the source or for one
+-- that scripts add, and in an `add`. The words of a library stand in their stead then. A normal proof that isn't one of the source there
+-- stays: its words are those of a library.
 use Rattle.std.specs.Prelude.{◌≡◌, Bool, List, [], ◌∷◌, ◌++◌, map, Option, Some, None, slice_get, slice_index_or, if◌then◌else◌, codes}
 use Rattle.std.specs.List.{AllZip, flat_map}
 use Rattle.std.specs.Option.{option_and_then, option_or}
@@ -13,6 +13,7 @@ use Rattle.mmsyntax.specs.Tables.{Tables}
 use Rattle.mmsyntax.specs.Layout.{step_word}
 use Rattle.source.specs.Scopes.{Assertion, Scope, label_of}
 use Rattle.taking.specs.Names.{Map}
+use Rattle.prooftrees.specs.Names.{labelled}
 use Rattle.expanding.specs.Words.{says, word_at}
 use Rattle.expanding.specs.Forms.{Part, AreParts}
 use Rattle.expanding.specs.Cuts.{Cut, cut_of}
@@ -39,12 +40,12 @@ abbrev pub reproved : List Token → Option Token
 reproved (verb ∷ label ∷ begins ∷ []) = if says verb (codes "reprove") then Some label else None
 reproved _ = None
 
--- of a theorem of the source; a `$e` is called LABEL.1, LABEL.2, ..
-abbrev pub theorem_at : Scope → Token → Option Assertion
-theorem_at s label = option_and_then (slice_get s.assertions) (assertion_at s label.text)
+-- of a theorem of the source, or else of what scripts add, the first with the label; a `$e` is called LABEL.1, LABEL.2, ..
+abbrev pub theorem_at : Scope → List Assertion → Token → Option Assertion
+theorem_at s added label = option_or (option_and_then (slice_get s.assertions) (assertion_at s label.text)) (labelled added label.text)
 
-abbrev pub reproving : Tables → Scope → Cut → Token → Option Proving
-reproving t s c label = proving_of c (slice_get c.back 0) label (theorem_at s label) (step_word t label.text)
+abbrev pub reproving : Tables → Scope → List Assertion → Cut → Token → Option Proving
+reproving t s added c label = proving_of c (slice_get c.back 0) label (theorem_at s added label) (step_word t label.text)
 
 -- of what is added; a `$e` has its label
 abbrev pub added_word : Tables → Addition → Step → Word
@@ -55,12 +56,12 @@ added_word t a (Cite w) = w
 abbrev pub adding : Map → Tables → Cut → Addition → Option Proving
 adding m t c a = proving_of c (slice_get c.back 0) a.label (Some (theorem_of m t a)) (added_word t a)
 
-abbrev pub proving_in : Map → Tables → Scope → Part → Cut → Option Proving
-proving_in m t s p c =
-    option_or (option_and_then (reproving t s c) (reproved c.front)) (option_and_then (adding m t c) (addition_of p))
+abbrev pub proving_in : Map → Tables → Scope → List Assertion → Part → Cut → Option Proving
+proving_in m t s added p c =
+    option_or (option_and_then (reproving t s added c) (reproved c.front)) (option_and_then (adding m t c) (addition_of p))
 
-abbrev pub proving : Map → Tables → Scope → Part → Option Proving
-proving m t s p = option_and_then (proving_in m t s p) (cut_of p)
+abbrev pub proving : Map → Tables → Scope → List Assertion → Part → Option Proving
+proving m t s added p = option_and_then (proving_in m t s added p) (cut_of p)
 
 -- what is added keeps its label
 abbrev pub with_labels : Map → List Word → Map
@@ -89,7 +90,7 @@ pasted_by m s added p None = p
 pasted_by m s added p (Some r) = with_given p r (given_in m s added r)
 
 abbrev pub pasted : Map → Tables → Scope → List Assertion → Part → List Token
-pasted m t s added p = pasted_by m s added p (proving m t s p)
+pasted m t s added p = pasted_by m s added p (proving m t s added p)
 
 -- ---- faults: those of compressed proofs, which no library has
 
@@ -106,7 +107,7 @@ paste_fault_by m s added None = None
 paste_fault_by m s added (Some r) = fault_of (is_compressed r.cut.proof) (given_in m s added r)
 
 abbrev pub paste_fault : Map → Tables → Scope → List Assertion → Part → Option PasteFault
-paste_fault m t s added p = paste_fault_by m s added (proving m t s p)
+paste_fault m t s added p = paste_fault_by m s added (proving m t s added p)
 
 abbrev pub or_fault : Option PasteFault → Option PasteFault → Option PasteFault
 or_fault None later = later

@@ -1,5 +1,5 @@
 -- Of the code's inside, apart from the rules: how contracts see proofs that are given, and what has a place in a library.
-use Rattle.std.specs.Prelude.{◌≡◌, ◌≤◌, Bool, true, List, ◌++◌, map, filter, length, Option, Some, None, slice_get}
+use Rattle.std.specs.Prelude.{◌≡◌, ◌<◌, ◌≤◌, Bool, true, List, ◌++◌, map, filter, length, Option, Some, None, slice_get}
 use Rattle.std.specs.List.{AllByRecursion, list_any}
 use Rattle.std.specs.Option.{option_and_then, option_map, option_or}
 use Rattle.std.specs.Str.{bytes_eq}
@@ -26,6 +26,7 @@ use Rattle.pasting.specs.Proofs.{Given, steps, untaken, faulty}
 use Rattle.pasting.specs.Pasted.{Proving, added_word, with_labels, PasteFault, HasPasteFault}
 use Rattle.pasting.specs.declared.addition.Addition.{Addition as CodeAddition}
 use Rattle.pasting.specs.declared.additions.Additions.{Additions}
+use Rattle.pasting.specs.declared.additions.Noted.{Noted}
 use Rattle.pasting.specs.declared.placing.Placed.{Placed}
 use Rattle.pasting.specs.declared.given.Given.{Given as CodeGiven}
 use Rattle.pasting.specs.declared.given.Given.TheVariants as code
@@ -54,6 +55,7 @@ seen_addition a = record {
 -- the words of steps
 abbrev pub word_of : Tables → CodeTheorem → Word → Step → Word
 word_of t (theorem.Standing place) label = step_word t label
+word_of t (theorem.Reproved a) label = step_word t label
 word_of t (theorem.Added a) label = added_word t (seen_addition a)
 
 abbrev pub step_of : Tables → CodeProving → Step → Token
@@ -62,7 +64,13 @@ step_of t c x = word_at c.label.place (word_of t c.theorem c.label.text.now x)
 -- the theorem of the code is this one
 abbrev pub IsTheorem : Map → Tables → Scope → CodeTheorem → Assertion → Type 0
 IsTheorem m t s (theorem.Standing place) x = slice_get s.assertions place ≡ Some x
+IsTheorem m t s (theorem.Reproved a) x = x ≡ theorem_of m t (seen_addition a.now)
 IsTheorem m t s (theorem.Added a) x = x ≡ theorem_of m t (seen_addition a)
+
+-- where it is of the source, it is there
+abbrev pub IsWithin : Scope → CodeTheorem → Type 0
+IsWithin s (theorem.Standing place) = place < length s.assertions
+IsWithin s _ = Unit {0}
 
 -- a command of the code is this one
 pub record IsProving (m : Map) (t : Tables) (s : Scope) (c : CodeProving) (r : Proving) : Type 0 where
@@ -85,25 +93,33 @@ seen_quotation q = record { label = q.label.now; proof = seen_proof q.proof.now 
 
 -- ---- what may be cited
 
--- these assertions are added, as the code has them: by their labels, whether each mandatory hypothesis is a `$f`
+-- whether each mandatory hypothesis is a `$f`
 abbrev pub flags_of : Assertion → List Bool
 flags_of x = map is_float x.hypotheses
 
-pub record AreAdded (xs : List Assertion) (labels : List Word) (flags : List (List Bool)) : Type 0 where
-  pub labels_are : labels ≡ map (λ x. x.label) xs
-  pub flags_are : flags ≡ map flags_of xs
+-- these assertions are added, as the code has them: by their labels, whether each mandatory hypothesis is a `$f`, and in their own words
+pub record AreAdded (m : Map) (t : Tables) (xs : List Assertion) (labels : List Word) (flags : List (List Bool)) (own : List Addition) : Type 0
+  where
+    pub labels_are : labels ≡ map (λ x. x.label) xs
+    pub flags_are : flags ≡ map flags_of xs
+    pub theorems_are : map (theorem_of m t) own ≡ xs
 
--- those of the assertion with a label: of these assertions, and else of what is added
-abbrev pub added_flags : List Word → List (List Bool) → Word → Option (List Bool)
-added_flags labels flags w = option_and_then (slice_get flags) (place_of (bytes_eq w) labels)
+-- while scripts are gone through
+abbrev pub AreNoted : Map → Tables → List Assertion → Noted → Type 0
+AreNoted m t xs n = AreAdded m t xs (seen_words n.labels.items) n.flags.items (map seen_addition n.added.items)
 
+-- what stands at the place of a label
+abbrev pub at_label : {A : Type 0} → List Word → List A → Word → Option A
+at_label labels items w = option_and_then (slice_get items) (place_of (bytes_eq w) labels)
+
+-- the flags of the assertion with a label: of these assertions, and else of what is added
 abbrev pub flags_in : List Assertion → Additions → Word → Option (List Bool)
-flags_in xs a w = option_or (option_map flags_of (labelled xs w)) (added_flags a.labels a.flags.items w)
+flags_in xs a w = option_or (option_map flags_of (labelled xs w)) (at_label a.labels a.flags.items w)
 
 -- the code has what is added, and the `$f` of the library
 pub record AreKnown (m : Map) (t : Tables) (xs : List Assertion) (a : Additions) : Type 0 where
   pub floats_are : map seen_hypothesis a.floats.items ≡ floats_of m t
-  pub added : AreAdded xs a.labels a.flags.items
+  pub added : AreAdded m t xs a.labels a.flags.items (map seen_addition a.added.items)
 
 -- hypotheses are `$f`
 abbrev pub AreFloats : List Hypothesis → Type 0

@@ -6,14 +6,14 @@ ghost use Rattle.std.specs.Str.{bytes_eq};
 ghost use Rattle.mmsyntax.specs.Tables.{place_of};
 ghost use Rattle.mmtext.specs.Views.{seen};
 ghost use Rattle.source.specs.Scopes.{Assertion};
-ghost use Rattle.source.specs.Views.{seen_hypothesis, seen_words};
+ghost use Rattle.source.specs.Views.{seen_hypothesis};
 ghost use Rattle.taking.specs.Names.{Map};
 ghost use Rattle.mmsyntax.specs.Tables.{Tables};
 ghost use Rattle.expanding.specs.Forms.{AreParts, Part};
 ghost use Rattle.expanding.specs.Views.{seen_scripts};
 ghost use Rattle.pasting.specs.Additions.{added_by, floats_of};
 ghost use Rattle.pasting.specs.Pasted.{AreAdditions};
-ghost use Rattle.pasting.specs.Views.{AreAdded, AreKnown, added_flags, flags_in};
+ghost use Rattle.pasting.specs.Views.{AreKnown, AreNoted, at_label, flags_in, seen_addition};
 
 use crate::addition::{Addition, addition_of};
 use crate::theorem::mandatory_of;
@@ -35,6 +35,8 @@ pub struct Additions<'x> {
     pub(crate) labels: Indexed<'x>,
     /// Whether each mandatory hypothesis is a `$f`, in order of appearance.
     pub(crate) flags: Vec<Sequence<bool>>,
+    /// What is added.
+    pub(crate) added: Vec<Addition<'x>>,
 }
 
 /// The same, while scripts are gone through.
@@ -42,6 +44,7 @@ pub struct Additions<'x> {
 struct Noted<'x> {
     labels: Vec<&'x [u8]>,
     flags: Vec<Sequence<bool>>,
+    added: Vec<Addition<'x>>,
 }
 
 /// Notes what a part adds. After an error nothing is said of what is noted.
@@ -52,20 +55,16 @@ fn note_part<'x>(
     noted: &mut Noted<'x>,
 ) -> Result<(), AllocError>
     ensures { OnOk result ((m : Map) (t : Tables) (xs : List Assertion) → map seen_hypothesis floats.now ≡ floats_of m t
-        → AreAdded xs (seen_words noted.old.labels.items) noted.old.flags.items
-        → AreAdded (xs ++ added_by m t (map seen part.now)) (seen_words noted.new.labels.items) noted.new.flags.items) }
+        → AreNoted m t xs noted.old → AreNoted m t (xs ++ added_by m t (map seen part.now)) noted.new) }
 {
     let Some(addition) = addition_of(alloc, part)? else {
         return Ok(());
     };
-    let Addition {
-        label,
-        premises,
-        statement,
-    } = addition;
-    let mandatory = mandatory_of(alloc, floats, premises.as_slice(), statement.as_slice())?;
+    let (premises, statement) = (addition.premises.as_slice(), addition.statement.as_slice());
+    let mandatory = mandatory_of(alloc, floats, premises, statement)?;
     noted.flags.push(flags_of(alloc, mandatory)?)?;
-    noted.labels.push(label.text)?;
+    noted.labels.push(addition.label.text)?;
+    noted.added.push(addition)?;
     Ok(())
 }
 
@@ -77,8 +76,8 @@ fn note_script<'x>(
     noted: &mut Noted<'x>,
 ) -> Result<(), AllocError>
     ensures { OnOk result ((m : Map) (t : Tables) (xs : List Assertion) → map seen_hypothesis floats.now ≡ floats_of m t
-        → AreAdded xs (seen_words noted.old.labels.items) noted.old.flags.items → (parts : List Part) × AreParts (map seen words.now) parts
-        × AreAdded (xs ++ flat_map (added_by m t) parts) (seen_words noted.new.labels.items) noted.new.flags.items) }
+        → AreNoted m t xs noted.old → (parts : List Part) × AreParts (map seen words.now) parts
+        × AreNoted m t (xs ++ flat_map (added_by m t) parts) noted.new) }
 {
     let mut at = 0;
     while at < words.len() {
@@ -104,6 +103,7 @@ impl<'x> Additions<'x> {
         let mut noted = Noted {
             labels: Vec::new(alloc),
             flags: Vec::new(alloc),
+            added: Vec::new(alloc),
         };
         for words in scripts {
             note_script(alloc, floats.as_slice(), words.as_slice(), &mut noted)?;
@@ -113,6 +113,7 @@ impl<'x> Additions<'x> {
             floats,
             labels,
             flags: noted.flags,
+            added: noted.added,
         })
     }
 
@@ -125,10 +126,19 @@ impl<'x> Additions<'x> {
 
     /// Whether each mandatory hypothesis of the assertion with a label is a `$f`, if scripts add one: one look-up.
     fn flags(&self, label: &[u8]) -> Option<&Sequence<bool>>
-        ensures { option_map (λ f. f.now) result ≡ added_flags self.now.labels self.now.flags.items label.now }
+        ensures { option_map (λ f. f.now) result ≡ at_label self.now.labels self.now.flags.items label.now }
     {
         let place = self.labels.place(label)?;
         self.flags.get(place)
+    }
+
+    /// The first assertion with a label that scripts add, if they add one: one look-up.
+    pub(crate) fn addition(&self, label: &[u8]) -> Option<&Addition<'x>>
+        ensures { option_map (λ a. seen_addition a.now) result
+            ≡ at_label self.now.labels (map seen_addition self.now.added.items) label.now }
+    {
+        let place = self.labels.place(label)?;
+        self.added.get(place)
     }
 }
 

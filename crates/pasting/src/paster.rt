@@ -9,15 +9,16 @@ ghost use Rattle.mmsyntax.specs.Tables.{Contents};
 ghost use Rattle.expanding.specs.Views.{IsLaid, seen_scripts};
 ghost use Rattle.pasting.specs.Places.{places_in};
 ghost use Rattle.pasting.specs.Pasted.{AreAdditions, IsPasted, Proving as Proved, given_in, pasted, paste_fault};
-ghost use Rattle.pasting.specs.Views.{AreKnown, IsNarrow, IsPaster, IsProving, IsUnpasted, IsFaultIn, places_by, given_words, seen_given};
+ghost use Rattle.pasting.specs.Views.{AreKnown, IsNarrow, IsPaster, IsProving, IsUnpasted, IsFaultIn, IsWithin};
+ghost use Rattle.pasting.specs.Views.{places_by, given_words, seen_given};
 
 use crate::additions::{Additions, Citing};
 use crate::given::Given;
 use crate::placing::Placed;
 use crate::proving::{Proving, Theorem, proving_of};
-use crate::reading::given;
+use crate::reading::{given, given_to_addition};
 use crate::steps::put_steps;
-use crate::theorem::{all_of, floats_of, mandatory_of};
+use crate::theorem::floats_of;
 use crate::unpasted::Unpasted;
 use crate::words::is_compressed;
 use expanding::{Laid, part_length};
@@ -40,7 +41,7 @@ pub struct Paster<'p, 'a> {
 fn put_given(
     alloc: Global,
     database: &Database,
-    proving: &Proving<'_, '_>,
+    proving: &Proving<'_, '_, '_, '_>,
     steps: &Proof,
     laid: &mut Laid,
 ) -> Result<(), AllocError>
@@ -104,11 +105,10 @@ impl<'p, 'a: 'p> Paster<'p, 'a> {
         keys: RandomState,
         declared: &D,
         additions: &Additions<'_>,
-        proving: &Proving<'_, 'w>,
+        proving: &Proving<'_, '_, '_, 'w>,
     ) -> Result<Given<'w>, AllocError>
         requires whole { IsWhole (D.scope declared.now) }
-        requires proving { (r : Proved)
-            × IsProving (places_by self.now) self.now.database.now.prelude (D.scope declared.now) proving.now r }
+        requires within { IsWithin (D.scope declared.now) proving.now.theorem }
         ensures { IfOk result (λ g. (xs : List Assertion) (r : Proved)
             → AreKnown (places_by self.now) self.now.database.now.prelude xs additions.now
             → IsProving (places_by self.now) self.now.database.now.prelude (D.scope declared.now) proving.now r
@@ -129,15 +129,11 @@ impl<'p, 'a: 'p> Paster<'p, 'a> {
                 let mandatory = declared.mandatory(alloc, *place)?;
                 given(alloc, &mut citing, &placed, &roles, mandatory, proving)
             }
+            Theorem::Reproved(addition) => {
+                given_to_addition(alloc, keys, &mut citing, &placed, addition, proving)
+            }
             Theorem::Added(addition) => {
-                let (floats, premises) = (
-                    additions.floats.as_slice(),
-                    addition.premises.as_slice(),
-                );
-                let roles = Roles::new(alloc, keys, all_of(alloc, floats, premises)?)?;
-                let statement = addition.statement.as_slice();
-                let mandatory = mandatory_of(alloc, floats, premises, statement)?;
-                given(alloc, &mut citing, &placed, &roles, mandatory, proving)
+                given_to_addition(alloc, keys, &mut citing, &placed, addition, proving)
             }
         }
     }
@@ -162,7 +158,7 @@ impl<'p, 'a: 'p> Paster<'p, 'a> {
             IfErr result (λ why. (xs : List Assertion) → AreKnown m t xs additions.now
             → IsFaultIn (paste_fault m t s xs (map seen part.now)) why) }
     {
-        let Some(proving) = proving_of(alloc, declared, part)? else {
+        let Some(proving) = proving_of(alloc, declared, additions, part)? else {
             laid.put_words(part)?;
             return Ok(());
         };
@@ -180,7 +176,7 @@ impl<'p, 'a: 'p> Paster<'p, 'a> {
     }
 
     /// The words of a script, with the steps of the library in the stead of each proof that it gives, in the source's own words, to a
-    /// theorem of the source or to one that it adds.
+    /// theorem of the source or to one that scripts add.
     ///
     /// A proof costs as much as its words and letters and its listing, the frames of the assertions that it cites, and the hypotheses that
     /// are active there. The words outlive those of the source, since the tree of a proof has labels of both.

@@ -1,30 +1,35 @@
 //! Reading a proof in the words of a source: the steps that it has in a library.
 
-ghost use Rattle.std.specs.Prelude.{◌≡◌, IfOk, List, Some, All, map};
+ghost use Rattle.std.specs.Prelude.{◌≡◌, ◌++◌, IfOk, List, Some, All, map};
 ghost use Rattle.mmtext.specs.Text.{Token as Word};
 ghost use Rattle.mmtext.specs.Words.{Word as Label};
 ghost use Rattle.mmtext.specs.Views.{seen};
 ghost use Rattle.source.specs.Scopes.{Assertion as Theorem, mandatory as mandatory_in};
 ghost use Rattle.source.specs.Views.{seen_hypotheses};
+ghost use Rattle.mmsyntax.specs.Tables.{Tables};
 ghost use Rattle.taking.specs.Names.{Map};
 ghost use Rattle.taking.specs.Walks.{TakesAll};
 ghost use Rattle.prooftrees.specs.Forms.{IsTree};
 ghost use Rattle.prooftrees.specs.Names.{AreFrames};
 ghost use Rattle.prooftrees.specs.Roles.{looks_up, role_of};
+ghost use Rattle.pasting.specs.Additions.{theorem_of};
 ghost use Rattle.pasting.specs.Proofs.{given, given_by_tree};
-ghost use Rattle.pasting.specs.Views.{flags_in, places_behind, seen_given};
+ghost use Rattle.pasting.specs.Views.{AreKnown, flags_in, places_behind, seen_addition, seen_given};
 
+use crate::addition::Addition;
 use crate::additions::Citing;
 use crate::given::Given;
 use crate::naming::first_unnamed;
 use crate::placing::Placed;
 use crate::proving::Proving;
+use crate::theorem::{all_of, mandatory_of};
 use crate::words::{labels_among, proof_of};
 use mmsyntax::MOST_STEPS;
 use mmtext::{FaultKind, Token};
 use prooftrees::{ProofTree, Roles, is_unfinished, read_given};
 use source::{Declared, HypothesisWords};
 use std::alloc::{AllocError, Global};
+use std::hash::RandomState;
 use taking::list;
 
 /// What a tree says as the proof of an assertion, before which others stand: its listing, if that is short.
@@ -55,7 +60,7 @@ pub(crate) fn given<'w: 'h, 'h, 'a, D: Declared<'a>>(
     placed: &Placed<'_, '_, '_>,
     roles: &Roles<'_>,
     mandatory: Vec<&HypothesisWords<'h>>,
-    proving: &Proving<'_, 'w>,
+    proving: &Proving<'_, '_, '_, 'w>,
 ) -> Result<Given<'w>, AllocError>
     ensures { let c = citing.old in let r = proving.now in
         IfOk result (λ g. (earlier : List Theorem) (x : Theorem)
@@ -81,4 +86,28 @@ pub(crate) fn given<'w: 'h, 'h, 'a, D: Declared<'a>>(
         Some(tree) => given_by_tree(alloc, &tree, *first),
         None => Ok(Given::Faulty(ends, FaultKind::BadToken)),
     }
+}
+
+/// What words say as the proof of an assertion that scripts add.
+pub(crate) fn given_to_addition<'w, 'a, D: Declared<'a>>(
+    alloc: Global,
+    keys: RandomState,
+    citing: &mut Citing<'_, '_, D>,
+    placed: &Placed<'_, '_, '_>,
+    addition: &Addition<'_>,
+    proving: &Proving<'_, '_, '_, 'w>,
+) -> Result<Given<'w>, AllocError>
+    ensures { let c = citing.old in let r = proving.now in
+        IfOk result (λ g. (m : Map) (t : Tables) (xs : List Theorem) → AreKnown m t xs c.additions.now
+        → seen_given g ≡ given (places_behind placed.now) ((D.scope c.declared.now).assertions ++ xs)
+        (theorem_of m t (seen_addition addition.now)) (map seen r.cut.proof.now) (seen r.ends)) }
+{
+    let (floats, premises) = (
+        citing.additions.floats.as_slice(),
+        addition.premises.as_slice(),
+    );
+    let roles = Roles::new(alloc, keys, all_of(alloc, floats, premises)?)?;
+    let statement = addition.statement.as_slice();
+    let mandatory = mandatory_of(alloc, floats, premises, statement)?;
+    given(alloc, citing, placed, &roles, mandatory, proving)
 }

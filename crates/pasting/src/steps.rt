@@ -48,10 +48,10 @@ fn hypothesis_label(alloc: Global, label: &[u8], number: u64) -> Result<Vec<u8>,
     Ok(word)
 }
 
-/// Puts the word of a hypothesis of a theorem, from 0, at the place of its label: one that is added has it from the script.
+/// Puts the word of a hypothesis of a theorem, from 0, at the place of its label: where this command adds it, it has it from the script.
 fn put_hypothesis(
     alloc: Global,
-    proving: &Proving<'_, '_>,
+    proving: &Proving<'_, '_, '_, '_>,
     number: u32,
     laid: &mut Laid,
 ) -> Result<(), AllocError>
@@ -60,7 +60,7 @@ fn put_hypothesis(
 {
     let label = proving.label;
     match &proving.theorem {
-        Theorem::Standing(_) => {
+        Theorem::Standing(_) | Theorem::Reproved(_) => {
             let word = hypothesis_label(alloc, label.text, number as u64 + 1)?;
             laid.put_word(word.as_slice(), label.place)
         }
@@ -75,7 +75,7 @@ fn put_hypothesis(
 fn put_step(
     alloc: Global,
     prelude: &Prelude,
-    proving: &Proving<'_, '_>,
+    proving: &Proving<'_, '_, '_, '_>,
     step: StepRef<'_>,
     laid: &mut Laid,
 ) -> Result<(), AllocError>
@@ -97,7 +97,7 @@ fn put_step(
 pub(crate) fn put_steps(
     alloc: Global,
     prelude: &Prelude,
-    proving: &Proving<'_, '_>,
+    proving: &Proving<'_, '_, '_, '_>,
     steps: &Proof,
     laid: &mut Laid,
 ) -> Result<(), AllocError>

@@ -5,11 +5,10 @@ use Rattle.std.proofs.lemmas.Grind.{flat_map-append}
 use Rattle.std.proofs.lemmas.List.{append_assoc, append-nil, drop_all}
 use Rattle.mmtext.specs.Views.{seen}
 use Rattle.source.specs.Scopes.{Assertion}
-use Rattle.source.specs.Views.{seen_words}
 use Rattle.expanding.specs.Forms.{AreParts}
 use Rattle.expanding.proofs.Parted.{more_within, some_first, part_first, words_behind}
 use Rattle.pasting.specs.Additions.{added_by}
-use Rattle.pasting.specs.Views.{AreAdded}
+use Rattle.pasting.specs.Views.{AreNoted}
 use Rattle.pasting.proofs.additions.note_script.Goals as goal
 
 pub loop-at-smaller : goal.loop-at-smaller
@@ -46,7 +45,7 @@ loop-at-preserved c =
             λ ps parts.
                 subst (AreParts (map seen words)) (sym (append_assoc d.0 (p ∷ []) ps))
                 (d.1 (p ∷ ps) (part_first words at n lt within first part refl ps parts)),
-            subst (λ (ys : List Assertion). AreAdded ys (seen_words new.labels.items) new.flags.items) same
+            subst (λ (ys : List Assertion). AreNoted m t ys new) same
                 (c.in_ok-note_part.ensures m t (xs ++ all d.0) floats d.2),
           );
     }

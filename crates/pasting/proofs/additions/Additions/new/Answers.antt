@@ -8,11 +8,11 @@ use Rattle.mmtext.specs.Text.{Token}
 use Rattle.mmtext.specs.Views.{seen}
 use Rattle.mmtext.specs.declared.token.Token.{Token as CodeToken}
 use Rattle.source.specs.Scopes.{Assertion}
-use Rattle.source.specs.Views.{seen_hypothesis, seen_words}
+use Rattle.source.specs.Views.{seen_hypothesis}
 use Rattle.expanding.specs.Forms.{AreParts}
 use Rattle.expanding.specs.Views.{seen_scripts}
 use Rattle.pasting.specs.Additions.{added_by}
-use Rattle.pasting.specs.Views.{AreAdded}
+use Rattle.pasting.specs.Views.{AreAdded, AreNoted, seen_addition}
 use Rattle.pasting.proofs.additions.Additions.new.Goals as goal
 
 pub loop-words-preserved : goal.loop-words-preserved
@@ -38,7 +38,7 @@ loop-words-preserved c = λ m t floats.
       d.0 ++ e.0 ∷ [],
       subst (λ (ss : List (List Token)). AllZip AreParts ss (d.0 ++ e.0 ∷ [])) (sym front)
           (all_zipped_more AreParts (take i all) d.0 (map seen script.items) e.0 d.1 own),
-      subst (λ (ys : List Assertion). AreAdded ys (seen_words new.labels.items) new.flags.items) same e.2,
+      subst (λ (ys : List Assertion). AreNoted m t ys new) same e.2,
     )
 
 pub returns : goal.returns
@@ -46,6 +46,7 @@ returns c = λ m t floats.
     let scripts = c.args.scripts.now in
     let view = λ (ts : Vec CodeToken Global). map seen ts.items in
     let all = seen_scripts scripts in
+    let noted = c.loop-words.noted in
     let d = c.loop-words.invariant m t floats in
     let whole : take c.loop-words.words-index all ≡ all =
     take_all c.loop-words.words-index all
@@ -55,6 +56,6 @@ returns c = λ m t floats.
       record { parts = d.0; are_parts = subst (λ (ss : List (List Token)). AllZip AreParts ss d.0) whole d.1; added_are = refl },
       record {
         floats_are = floats;
-        added = subst (λ ls. AreAdded xs ls c.loop-words.noted.flags.items) (sym c.in_ok-labels.ensures) d.2;
+        added = subst (λ ls. AreAdded m t xs ls noted.flags.items (map seen_addition noted.added.items)) (sym c.in_ok-labels.ensures) d.2;
       },
     )

@@ -5,7 +5,7 @@ use Rattle.std.specs.Str.{bytes_eq}
 use Rattle.source.specs.Scopes.{Assertion}
 use Rattle.source.specs.Views.{seen_hypotheses}
 use Rattle.prooftrees.proofs.Found.{first_is}
-use Rattle.pasting.specs.Views.{added_flags, flags_of}
+use Rattle.pasting.specs.Views.{at_label, flags_of}
 use Rattle.pasting.proofs.Unnamed.{found_at, none_placed, flags_at}
 use Rattle.pasting.proofs.additions.CitingCitedFrames.floats.Goals as goal
 
@@ -23,8 +23,8 @@ returns-in-Some-clause-value g c =
     let w = c.args.label.now in
     let here = found_at (λ (a : Assertion). bytes_eq w a.label) xs c.in-Some.place (sym c.place_of.ensures ∙ c.in-Some.is) in
     ap Some c.in_ok-flags_of.ensures
-    ∙ sym (ap (λ o. option_or (option_map flags_of o) (added_flags a.labels a.flags.items w)) here
-    ∙ ap (λ o. option_or o (added_flags a.labels a.flags.items w))
+    ∙ sym (ap (λ o. option_or (option_map flags_of o) (at_label a.labels a.flags.items w)) here
+    ∙ ap (λ o. option_or o (at_label a.labels a.flags.items w))
     (flags_at _ (seen_hypotheses c.in_ok-mandatory.mandatory.items) c.in_ok-mandatory.ensures))
 
 pub returns-in_ok-copy-in-Some-flags-clause-value : goal.returns-in_ok-copy-in-Some-flags-clause-value
@@ -35,7 +35,7 @@ returns-in_ok-copy-in-Some-flags-clause-value g c =
     let none = none_placed (λ (a : Assertion). bytes_eq w a.label) xs (sym c.place_of.ensures ∙ c.in_default.is) in
     ap Some c.in_ok-copy-in-Some-flags.ensures
     ∙ ap (option_map (λ f. f.now)) (sym c.in-Some-flags.is) ∙ c.flags.ensures
-    ∙ sym (ap (λ o. option_or (option_map flags_of o) (added_flags a.labels a.flags.items w)) none)
+    ∙ sym (ap (λ o. option_or (option_map flags_of o) (at_label a.labels a.flags.items w)) none)
 
 pub returns-in-None-clause-value : goal.returns-in-None-clause-value
 returns-in-None-clause-value g c =
@@ -44,4 +44,4 @@ returns-in-None-clause-value g c =
     let w = c.args.label.now in
     let none = none_placed (λ (a : Assertion). bytes_eq w a.label) xs (sym c.place_of.ensures ∙ c.in_default.is) in
     ap (option_map (λ f. f.now)) (sym c.in-None.is) ∙ c.flags.ensures
-    ∙ sym (ap (λ o. option_or (option_map flags_of o) (added_flags a.labels a.flags.items w)) none)
+    ∙ sym (ap (λ o. option_or (option_map flags_of o) (at_label a.labels a.flags.items w)) none)

@@ -7,20 +7,9 @@ use Rattle.pasting.specs.Views.{IsProving, IsProvingIf, places_by, seen_given}
 use Rattle.pasting.specs.Proofs.{is_compressed}
 use Rattle.pasting.specs.Pasted.{Proving, fault_of, pasted, proving}
 use Rattle.pasting.specs.declared.given.Given.TheVariants.{Faulty}
-use Rattle.pasting.proofs.Pasting.{pasted_is, fault_is, there, with_told}
+use Rattle.pasting.proofs.Pasting.{pasted_is, fault_is, with_told}
 use Rattle.pasting.proofs.paster.Paster.put_part.Goals as goal
 use Rattle.pasting.proofs.paster.Paster.put_part.Goals.{in-Steps+in_ok-put_given-in-Steps, in-Untaken+in_ok-put_words-in-Untaken, in-Faulty+else-is_compressed+in_ok-put_words-in-Faulty}
-
-pub given-requires : goal.given-requires
-given-requires g c =
-    let s = g.D.Declared.scope c.args.declared.now in
-    let m = places_by c.args.self.now in
-    let t = c.args.self.now.database.now.prelude in
-    let p = map seen c.args.part.now in
-    let is : IsProvingIf m t s (Some c.in-Some.proving) (proving m t s p) =
-    subst (λ o. IsProvingIf m t s o (proving m t s p)) c.in-Some.is (c.in_ok-proving.ensures m t) in
-    let r = there m t s c.in-Some.proving (proving m t s p) is in
-    λ _. ((refl, (refl, tt)), (c.requires.whole, (r.0, r.2)))
 
 pub returns-then-is_compressed-clause-faulty : goal.returns-then-is_compressed-clause-faulty
 returns-then-is_compressed-clause-faulty g c = λ xs known.
@@ -28,8 +17,8 @@ returns-then-is_compressed-clause-faulty g c = λ xs known.
     let m = places_by c.args.self.now in
     let t = c.args.self.now.database.now.prelude in
     let p = map seen c.args.part.now in
-    let is : IsProvingIf m t s (Some c.in-Some.proving) (proving m t s p) =
-    subst (λ o. IsProvingIf m t s o (proving m t s p)) c.in-Some.is (c.in_ok-proving.ensures m t) in
+    let is : IsProvingIf m t s (Some c.in-Some.proving) (proving m t s xs p) =
+    subst (λ o. IsProvingIf m t s o (proving m t s xs p)) c.in-Some.is (c.in_ok-proving.ensures.proving m t xs known) in
     sym (fault_is m t s xs p c.in-Some.proving (Faulty c.in-Faulty.word c.in-Faulty.kind) true is
     (λ r i. ap seen_given (sym c.in-Faulty.is) ∙ c.in_ok-steps.ensures xs r known i)
     (sym c.if-is_compressed.true ∙ c.is_compressed.ensures))
@@ -41,8 +30,8 @@ returns-clause-pasted g c = λ xs known ts laid.
     let t = c.args.self.now.database.now.prelude in
     let p = map seen c.args.part.now in
     let r = c.in-Some.proving in
-    let is : IsProvingIf m t s (Some r) (proving m t s p) =
-    subst (λ o. IsProvingIf m t s o (proving m t s p)) c.in-Some.is (c.in_ok-proving.ensures m t) in
+    let is : IsProvingIf m t s (Some r) (proving m t s xs p) =
+    subst (λ o. IsProvingIf m t s o (proving m t s xs p)) c.in-Some.is (c.in_ok-proving.ensures.proving m t xs known) in
     let all : with_told t p r c.in_ok-steps.field-0 ≡ pasted m t s xs p =
     pasted_is m t s xs p r c.in_ok-steps.field-0 is (λ q i. c.in_ok-steps.ensures xs q known i) in
     elim c.match-branch-5.branch [
@@ -67,8 +56,8 @@ returns-clause-fits g c = λ xs known.
     let t = c.args.self.now.database.now.prelude in
     let p = map seen c.args.part.now in
     let r = c.in-Some.proving in
-    let is : IsProvingIf m t s (Some r) (proving m t s p) =
-    subst (λ o. IsProvingIf m t s o (proving m t s p)) c.in-Some.is (c.in_ok-proving.ensures m t) in
+    let is : IsProvingIf m t s (Some r) (proving m t s xs p) =
+    subst (λ o. IsProvingIf m t s o (proving m t s xs p)) c.in-Some.is (c.in_ok-proving.ensures.proving m t xs known) in
     let b = is_compressed (map seen r.cut.proof.now) in
     let told = λ (q : Proving) (i : IsProving m t s r q). c.in_ok-steps.ensures xs q known i in
     elim c.match-branch-5.branch [
