@@ -28,7 +28,8 @@ module _ (p : Word × Reason → Bool) (xs : List (Bor (List ℕ) × Reason)) (i
 
   -- one that is told still
   pub told_next : p (view (get_or xs i d)) ≡ true → (made next : List (Bor (List ℕ) × Reason))
-      → seen_told made ≡ filter p (seen_told (take i xs)) → next ≡ made ++ get_or xs i d ∷ [] → seen_told next ≡ filter p (seen_told (take (i + 1) xs))
+      → seen_told made ≡ filter p (seen_told (take i xs)) → next ≡ made ++ get_or xs i d ∷ []
+      → seen_told next ≡ filter p (seen_told (take (i + 1) xs))
   told_next passes made next so_far is =
       ap seen_told is
       ∙ map-append view made (get_or xs i d ∷ [])

@@ -26,7 +26,8 @@ returns c = λ m t xs floats are.
     c.in_ok-mandatory.ensures all
     ∙ ap (λ (ks : List Hypothesis). mandatory (ks ++ map seen_hypothesis c.as_slice-premises.result.now)
     (seen_words c.as_slice-statement.result.now)) floats
-    ∙ ap (λ ps. mandatory (floats_of m t ++ map seen_hypothesis ps) (seen_words c.as_slice-statement.result.now)) c.as_slice-premises.ensures.value
+    ∙ ap (λ ps. mandatory (floats_of m t ++ map seen_hypothesis ps) (seen_words c.as_slice-statement.result.now))
+    c.as_slice-premises.ensures.value
     ∙ ap (λ ws. mandatory (floats_of m t ++ map seen_hypothesis a.premises.items) (seen_words ws)) c.as_slice-statement.ensures.value in
     let more = added_more m t xs (seen_words old.labels.items) old.flags.items (map seen_addition old.added.items) are (seen_addition a) in
     let by : added_by m t (map seen c.args.part.now) ≡ x ∷ [] = ap (theorems_of m t) there in
