@@ -13,7 +13,7 @@ use Rattle.prooftrees.specs.declared.roles.Role.{Role}
 use Rattle.prooftrees.specs.Names.{AreEnough, AreFrames, labelled}
 use Rattle.prooftrees.specs.Roles.{role_of}
 use Rattle.prooftrees.proofs.Named.{known_assertion}
-use Rattle.pasting.specs.Additions.{theorem_of}
+use Rattle.pasting.specs.Additions.{Addition, theorem_of}
 use Rattle.pasting.specs.Views.{AreKnown, at_label, flags_in, flags_of, seen_addition}
 use Rattle.pasting.specs.declared.additions.Additions.{Additions}
 use Rattle.pasting.proofs.Labelled.{later}
@@ -36,13 +36,14 @@ mapped_at f xs None = refl
 mapped_at f xs (Some k) = slice_get-map f xs k
 
 -- the first with a label, as the code has it
-pub added_is : (m : Map) (t : Tables) (xs : List Assertion) (a : Additions) (w : Word) → AreKnown m t xs a
-    → option_map (theorem_of m t) (at_label a.labels (map seen_addition a.added.items) w) ≡ labelled xs w
-added_is m t xs a w known =
-    sym (mapped_at (theorem_of m t) (map seen_addition a.added.items) (place_of (bytes_eq w) a.labels))
+pub added_is : (m : Map) (t : Tables) (xs : List Assertion) (a : Additions) (w : Word) → AreKnown m t xs a → (o : Option Addition)
+    → o ≡ at_label a.labels (map seen_addition a.added.items) w → labelled xs w ≡ option_map (theorem_of m t) o
+added_is m t xs a w known o found =
+    sym (ap (option_map (theorem_of m t)) found
+    ∙ sym (mapped_at (theorem_of m t) (map seen_addition a.added.items) (place_of (bytes_eq w) a.labels))
     ∙ ap (λ ys. at_label a.labels ys w) known.added.theorems_are
     ∙ ap (λ ls. at_label ls xs w) known.added.labels_are
-    ∙ first_labelled xs w
+    ∙ first_labelled xs w)
 
 -- ---- frames
 

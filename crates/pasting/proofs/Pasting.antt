@@ -38,8 +38,7 @@ places_are s flags db p is =
 
 -- what is told of its words as the code has them
 pub told_in : (m : Map) (t : Tables) (s : Scope) (added : List Assertion) (labels : List Word) (c : CodeProving) (r : Proving)
-    (x : Assertion)
-    → labels ≡ map (λ x. x.label) added → IsProving m t s c r → x ≡ r.theorem
+    → (x : Assertion) → labels ≡ map (λ x. x.label) added → IsProving m t s c r → x ≡ r.theorem
     → given (with_labels m labels) (s.assertions ++ added) x (map seen c.cut.proof.now) (seen c.ends) ≡ given_in m s added r
 told_in m t s added labels c r x named is same =
     let earlier = s.assertions ++ added in

@@ -62,11 +62,15 @@ theorem_added s added label none =
 
 module _ (t : Tables) (s : Scope) (added : List Assertion) (c : Cut) (ends : Token) (ended : slice_get c.back 0 ≡ Some ends) where
   pub reproved_there : (label : Token) (o : Option Assertion) → Some label ≡ reproved c.front → theorem_at s added label ≡ o
-      → option_and_then (reproving t s added c) (reproved c.front) ≡ proving_of c (Some ends) label o (step_word t label.text)
-  reproved_there label o named there =
+      → (m : Map) (f : Option CodeProving) → IsProvingIf m t s f (proving_of c (Some ends) label o (step_word t label.text))
+      → IsProvingIf m t s f (option_and_then (reproving t s added c) (reproved c.front))
+  reproved_there label o named there m f is =
+      let whole : option_and_then (reproving t s added c) (reproved c.front)
+      ≡ proving_of c (Some ends) label o (step_word t label.text) =
       ap (option_and_then (reproving t s added c)) (sym named)
       ∙ ap (λ e. proving_of c e label (theorem_at s added label) (step_word t label.text)) ended
-      ∙ ap (λ x. proving_of c (Some ends) label x (step_word t label.text)) there
+      ∙ ap (λ x. proving_of c (Some ends) label x (step_word t label.text)) there in
+      subst (IsProvingIf m t s f) (sym whole) is
 
 -- ---- the proof of a command, if it has one
 

@@ -98,11 +98,11 @@ abbrev pub flags_of : Assertion → List Bool
 flags_of x = map is_float x.hypotheses
 
 -- these assertions are added, as the code has them: by their labels, whether each mandatory hypothesis is a `$f`, and in their own words
-pub record AreAdded (m : Map) (t : Tables) (xs : List Assertion) (labels : List Word) (flags : List (List Bool)) (own : List Addition)
-    : Type 0 where
-  pub labels_are : labels ≡ map (λ x. x.label) xs
-  pub flags_are : flags ≡ map flags_of xs
-  pub theorems_are : map (theorem_of m t) own ≡ xs
+pub record AreAdded (m : Map) (t : Tables) (xs : List Assertion) (ls : List Word) (fs : List (List Bool)) (own : List Addition) : Type 0
+  where
+    pub labels_are : ls ≡ map (λ x. x.label) xs
+    pub flags_are : fs ≡ map flags_of xs
+    pub theorems_are : map (theorem_of m t) own ≡ xs
 
 -- while scripts are gone through
 abbrev pub AreNoted : Map → Tables → List Assertion → Noted → Type 0

@@ -35,7 +35,6 @@ returns g c =
     (seen_words c.as_slice-statement.result.now)) floats
     ∙ ap (λ (hs : List Hypothesis). mandatory (floats_of m t ++ hs) (seen_words c.as_slice-statement.result.now)) premises
     ∙ ap (λ ws. mandatory (floats_of m t ++ b.premises) (seen_words ws)) c.as_slice-statement.ensures.value in
-    h (s.assertions ++ xs) x (frames_are m t s.assertions xs a known) (λ w. c.in_ok-roles.ensures w ∙ ap (λ hs. role_of hs w) active)
-    (sym own)
-    refl)
+    h (s.assertions ++ xs) x (frames_are m t s.assertions xs a known)
+    (λ w. c.in_ok-roles.ensures w ∙ ap (λ hs. role_of hs w) active) (sym own) refl)
     c.given.ensures
