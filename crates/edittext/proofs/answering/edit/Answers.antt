@@ -1,11 +1,14 @@
 -- What is left to show of `edit`.
 use Rattle.std.proofs.Common.{◌≡◌, ◌∙◌, [], rules, refl, List, length, map, inl, inr, ap, subst, sym}
+use Rattle.std.specs.Prelude.{All}
 use Rattle.std.specs.Prelude.{IfErr, IfOk, string_bytes}
 use Rattle.std.proofs.lemmas.List.{length-map}
 use Rattle.std.proofs.lemmas.Result.{err_from_is_err_and}
 use Rattle.source.specs.Views.{seen_pairs}
 use Rattle.giving.specs.Staying.{Change}
 use Rattle.intake.specs.declared.taken.Taken.{Taken}
+use Rattle.mmsyntax.specs.Tables.{Tables, Contents}
+use Rattle.library.specs.Fitting.{CommandFits}
 use Rattle.transaction.specs.Closings.{lists_of}
 use Rattle.jobs.specs.Jobs.{room_of}
 use Rattle.checking.specs.Checks.{Orders}
@@ -19,9 +22,11 @@ use Rattle.editedsource.specs.Finished.{IsFinished}
 use Rattle.edittext.specs.Finished.{IsFirstAccount}
 use Rattle.editscripts.specs.Refusals.{IsToldBy}
 use Rattle.editedsource.specs.Refusals.{IsStoppedOrFaulty}
-use Rattle.edittext.specs.Refusals.{IsUneditedLine, IsUnbegunLine, IsWorkLine}
+use Rattle.editopening.specs.Opening.{opened_of, scripts_of}
+use Rattle.editopening.specs.Refusals.{IsUnbegunLine}
+use Rattle.edittext.specs.Refusals.{IsUneditedLine, IsWorkLine}
 use Rattle.editscripts.specs.Views.{seen_texts, seen_descriptions, seen_quotes}
-use Rattle.edittext.proofs.Beginning.{begun_of, run_of, accounted}
+use Rattle.edittext.proofs.Beginning.{begun_of, run_of, closed_of, accounted, database_is, scripts_are}
 use Rattle.editscripts.proofs.Lines.{told_more}
 use Rattle.edittext.proofs.answering.edit.Goals as goal
 
@@ -50,25 +55,32 @@ returns-in_err-outcomes-clause-refused g c =
     let path = c.args.order.path.now in
     let workers = c.args.order.workers in
     let room = edit_room c.args.order.room in
+    let s = c.in_ok-old.old.stand.scope in
+    let force = c.args.order.force in
     let begun = c.in_ok-begun.begun in
-    let db = begun.taken.database in
-    let b =
-    begun_of source texts c.in_ok-old.old.stand.scope c.args.order.force begun c.in_ok-old.ensures.declares
-    c.in_ok-begun.ensures.begun in
-    let same = c.as_slice-scripts.ensures.value in
+    let is = c.in_ok-begun.ensures.begun in
+    let d = c.in_ok-old.ensures.declares in
+    let db = c.database-opened.result.now in
+    let ss = c.as_slice-scripts.result.now in
+    let b = begun_of source texts s force begun d is in
+    let over = database_is source texts s force begun d is db ss c.database-opened.ensures c.as_slice-scripts.ensures.value in
+    let run = scripts_are source texts s force begun d is db ss c.database-opened.ensures c.as_slice-scripts.ensures.value in
     let p = err_from_is_err_and c.from_residual-in_err-outcomes.result c.from_residual-in_err-outcomes.ensures.1 in
     rw (p.1, p.2) (told_more
-    (IsWorkLine paths db workers (room_of room db c.as_slice-scripts.result.now))
-    (IsUneditedLine path paths source texts workers room c.args.order.force)
+    (IsWorkLine paths db workers (room_of room db ss))
+    (IsUneditedLine path paths source texts workers room force)
     (λ line h. inr (inr (inl (record {
       begun = b;
-      cause = subst (λ (ss : List Orders). IsWorkLine paths db workers (room_of room db ss) line) same h;
+      cause =
+          subst (λ (k : List Orders). IsWorkLine paths (opened_of b) workers (room_of room (opened_of b) k) line) run
+          (subst (λ (x : Contents). IsWorkLine paths x workers (room_of room x ss) line) over h);
     })))) c.in_err-outcomes.field-0.0 c.in_err-outcomes.ensures.refused)
 
 pub finish-requires-clause-chosen : goal.finish-requires-clause-chosen
 finish-requires-clause-chosen g c κs within =
     let library = c.in_ok-begun.ensures.begun.for_scripts.library in
     ap (λ (t : Taken). length t.chosen.items) c.edit_of-edit.ensures.taken
+    ∙ ap (λ cs. length cs.items) c.in_ok-closed.ensures.settled.chosen
     ∙ ap length (sym library.chosen_are) ∙ length-map c.in_ok-old.old.stand.scope.assertions _
 
 pub returns-then-not-may_print-clause-told : goal.returns-then-not-may_print-clause-told
@@ -83,7 +95,9 @@ returns-then-not-may_print-clause-told g c =
     let begun = c.in_ok-begun.begun in
     let is = c.in_ok-begun.ensures.begun in
     let d = c.in_ok-old.ensures.declares in
+    let db = c.database-opened.result.now in
     let ss = c.as_slice-scripts.result.now in
+    let over = c.database-opened.ensures in
     let same = c.as_slice-scripts.ensures.value in
     let e = c.in_ok-outcomes.field-0 in
     let account = c.in_ok-account.account in
@@ -91,9 +105,9 @@ returns-then-not-may_print-clause-told g c =
     c.in_ok-account.ensures in
     let undone = c.if-not-may_print.ensures.some refl in (
       lists_of e.outcomes.items,
-      run_of source texts s c.args.order.force begun d is workers room ss e same c.in_ok-outcomes.ensures.done,
-      accounted source texts s c.args.order.force begun d is paths workers room ss e same c.in_ok-outcomes.ensures.done asked account first
-          account.spoken [] (ap (map string_bytes) first.none_spoken),
+      run_of source texts s c.args.order.force begun d is db ss over same workers room e c.in_ok-outcomes.ensures.done,
+      accounted source texts s c.args.order.force begun d is db ss over same paths workers room e c.in_ok-outcomes.ensures.done asked
+          account first account.spoken [] (ap (map string_bytes) first.none_spoken),
       λ none. undone.0 (c.as_slice.ensures.value ∙ none),
       undone.1,
       is.encouraged,
@@ -112,10 +126,17 @@ returns-in_err-out-clause-refused g c =
     let is = c.in_ok-begun.ensures.begun in
     let e = c.in_ok-outcomes.field-0 in
     let rows = lists_of e.outcomes.items in
-    let run =
-    run_of source texts s c.args.order.force begun c.in_ok-old.ensures.declares is workers room c.as_slice-scripts.result.now e
-    c.as_slice-scripts.ensures.value
-    c.in_ok-outcomes.ensures.done in
+    let db = c.database-opened.result.now in
+    let ss = c.as_slice-scripts.result.now in
+    let over = c.database-opened.ensures in
+    let whole = c.as_slice-scripts.ensures.value in
+    let d = c.in_ok-old.ensures.declares in
+    let worked = c.in_ok-outcomes.ensures.done in
+    let run = run_of source texts s c.args.order.force begun d is db ss over whole workers room e worked in
+    let k = c.in_ok-closed.closed in
+    let t = c.close_run-closed.new.begun.taken in
+    let closed = closed_of source texts s c.args.order.force begun d is db ss over whole workers room e worked k t
+    c.in_ok-closed.ensures.withdrawn c.in_ok-closed.ensures.settled in
     let library = is.for_scripts.library in
     let choice = library.taken.choice in
     let qs = map seen_quotation c.as_slice-3.result.now in
@@ -123,6 +144,7 @@ returns-in_err-out-clause-refused g c =
     let same_quotes : qs ≡ done_quotations rows quotes =
     ap (map seen_quotation) c.as_slice-3.ensures.value
     ∙ c.in_ok-quotations.ensures
+    ∙ ap (λ ys. done_quotations (lists_of c.as_slice-rows.result.now) (seen_quotes ys.items)) c.in_ok-closed.ensures.quotes
     ∙ ap (λ rs. done_quotations (lists_of rs) quotes) c.as_slice-rows.ensures.value in
     let ds = seen_pairs c.as_slice-4.result.now in
     let descriptions = seen_descriptions begun.descriptions.items in
@@ -130,19 +152,22 @@ returns-in_err-out-clause-refused g c =
     ap seen_pairs c.as_slice-4.ensures.value
     ∙ c.in_ok-descriptions.ensures
     ∙ ap (λ rs. done_descriptions (lists_of rs) (seen_descriptions c.as_slice-2.result.now)) c.as_slice-rows.ensures.value
-    ∙ ap (λ ds. done_descriptions rows (seen_descriptions ds)) c.as_slice-2.ensures.value in
+    ∙ ap (λ ds. done_descriptions rows (seen_descriptions ds)) c.as_slice-2.ensures.value
+    ∙ ap (λ ds. done_descriptions rows (seen_descriptions ds.items)) c.in_ok-closed.ensures.descriptions in
     let p = err_from_is_err_and c.from_residual-in_err-out.result c.from_residual-in_err-out.ensures.1 in
     let x = c.edit_of-edit.ensures in
-    let chosen = library.chosen_are ∙ ap (λ (t : Taken). t.chosen.items) (sym x.taken) in
+    let chosen = library.chosen_are ∙ ap (λ cs. cs.items) (sym c.in_ok-closed.ensures.settled.chosen)
+    ∙ ap (λ (t : Taken). t.chosen.items) (sym x.taken) in
     let refused = rw (x.path, x.source, x.taken, x.replayed, x.given) at (c.finish.ensures.refused choice chosen) in
     rw (p.1, p.2) (told_more
-    (IsStoppedOrFaulty path source s choice begun.taken e.history e.library qs ds)
+    (IsStoppedOrFaulty path source s choice t e.history k qs ds)
     (IsUneditedLine path paths source texts workers room c.args.order.force)
     (λ line h. elim h [
-      | inl stopped ↦ inr (inr (inr (inl (record { rows = rows; run = run; cause = stopped }))))
+      | inl stopped ↦ inr (inr (inr (inl (record { rows = rows; run = run; closed = closed; cause = stopped }))))
       | inr f ↦ inr (inr (inr (inr (record {
         rows = rows;
         run = run;
+        closed = closed;
         edits = f.0;
         source_then = f.2;
         quotes = quotes;
@@ -157,7 +182,7 @@ returns-in_err-out-clause-refused g c =
       }))))
     ])
     c.in_err-out.field-0.0
-    (subst (λ r. IfErr r (IsToldBy (IsStoppedOrFaulty path source s choice begun.taken e.history e.library qs ds))) c.in_err-out.was
+    (subst (λ r. IfErr r (IsToldBy (IsStoppedOrFaulty path source s choice t e.history k qs ds))) c.in_err-out.was
     refused))
 
 pub returns-clause-told : goal.returns-clause-told
@@ -173,10 +198,15 @@ returns-clause-told g c =
     let begun = c.in_ok-begun.begun in
     let is = c.in_ok-begun.ensures.begun in
     let d = c.in_ok-old.ensures.declares in
+    let db = c.database-opened.result.now in
     let ss = c.as_slice-scripts.result.now in
+    let over = c.database-opened.ensures in
     let whole = c.as_slice-scripts.ensures.value in
     let e = c.in_ok-outcomes.field-0 in
     let rows = lists_of e.outcomes.items in
+    let worked = c.in_ok-outcomes.ensures.done in
+    let k = c.in_ok-closed.closed in
+    let t = c.close_run-closed.new.begun.taken in
     let library = is.for_scripts.library in
     let choice = library.taken.choice in
     let qs = map seen_quotation c.as_slice-3.result.now in
@@ -184,6 +214,7 @@ returns-clause-told g c =
     let same_quotes : qs ≡ done_quotations rows quotes =
     ap (map seen_quotation) c.as_slice-3.ensures.value
     ∙ c.in_ok-quotations.ensures
+    ∙ ap (λ ys. done_quotations (lists_of c.as_slice-rows.result.now) (seen_quotes ys.items)) c.in_ok-closed.ensures.quotes
     ∙ ap (λ rs. done_quotations (lists_of rs) quotes) c.as_slice-rows.ensures.value in
     let ds = seen_pairs c.as_slice-4.result.now in
     let descriptions = seen_descriptions begun.descriptions.items in
@@ -191,18 +222,23 @@ returns-clause-told g c =
     ap seen_pairs c.as_slice-4.ensures.value
     ∙ c.in_ok-descriptions.ensures
     ∙ ap (λ rs. done_descriptions (lists_of rs) (seen_descriptions c.as_slice-2.result.now)) c.as_slice-rows.ensures.value
-    ∙ ap (λ ds. done_descriptions rows (seen_descriptions ds)) c.as_slice-2.ensures.value in
+    ∙ ap (λ ds. done_descriptions rows (seen_descriptions ds)) c.as_slice-2.ensures.value
+    ∙ ap (λ ds. done_descriptions rows (seen_descriptions ds.items)) c.in_ok-closed.ensures.descriptions in
     let f = c.in_ok-out.field-0 in
     let x = c.edit_of-edit.ensures in
-    let chosen = library.chosen_are ∙ ap (λ (t : Taken). t.chosen.items) (sym x.taken) in
+    let chosen = library.chosen_are ∙ ap (λ cs. cs.items) (sym c.in_ok-closed.ensures.settled.chosen)
+    ∙ ap (λ (t : Taken). t.chosen.items) (sym x.taken) in
     let done = rw (x.path, x.source, x.taken, x.replayed, x.given) at (c.finish.ensures.finished choice chosen) in
-    let finished = subst (λ r. IfOk r (IsFinished path source s choice begun.taken e.history e.library qs ds)) c.in_ok-out.was done in
+    let finished = subst (λ r. IfOk r (IsFinished path source s choice t e.history k qs ds)) c.in_ok-out.was done in
     let account = c.in_ok-account.account in
     let first = subst (λ rs. IsFirstAccount paths texts begun (lists_of rs) asked account) c.as_slice-rows.ensures.value
     c.in_ok-account.ensures in (
       rows,
       record {
-        run = run_of source texts s c.args.order.force begun d is workers room ss e whole c.in_ok-outcomes.ensures.done;
+        run = run_of source texts s c.args.order.force begun d is db ss over whole workers room e worked;
+        closed =
+            closed_of source texts s c.args.order.force begun d is db ss over whole workers room e worked k t
+            c.in_ok-closed.ensures.withdrawn c.in_ok-closed.ensures.settled;
         edits = finished.edits;
         source_then = finished.is_edited;
         quotes = quotes;
@@ -217,7 +253,7 @@ returns-clause-told g c =
         much = finished.much;
         verifies = finished.verifies;
       },
-      accounted source texts s c.args.order.force begun d is paths workers room ss e whole c.in_ok-outcomes.ensures.done asked account first
+      accounted source texts s c.args.order.force begun d is db ss over whole paths workers room e worked asked account first
           f.spoken _ finished.spoken,
       λ all. sym c.as_slice.ensures.value ∙ c.if-not-may_print.ensures.whole refl all,
       is.encouraged,
