@@ -59,8 +59,8 @@ pub(crate) fn close_run(
     begun: &mut Begun<'_>,
     library: PlainLibrary,
 ) -> Result<PlainLibrary, AllocError>
-    ensures withdrawn { IfOk result (IsWithdrawn (seen_stand_ins begun.old.opened.stand_ins.items) library.entry) }
-    ensures settled { OnOk result (IsSettled (seen_stand_ins begun.old.opened.stand_ins.items) library.entry.entries
+    ensures withdrawn { IfOk result (IsWithdrawn (seen_stand_ins begun.old.opened.stand_ins.items) library) }
+    ensures settled { OnOk result (IsSettled (seen_stand_ins begun.old.opened.stand_ins.items) library.entries
         begun.old.taken begun.new.taken) }
     ensures quotes { begun.new.quotes ≡ begun.old.quotes }
     ensures descriptions { begun.new.descriptions ≡ begun.old.descriptions }
