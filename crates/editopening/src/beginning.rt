@@ -111,9 +111,9 @@ fn open_for<'a, D: Declared<'a>>(
     match open(rt, alloc, declared, taken, read) {
         Ok(opened) => Ok(opened),
         Err(Unopened::NoMemory) => Err(Unedited::NoMemory),
-        Err(Unopened::Unlawful) => Err(Unedited::Refused(
-            format!(in alloc; "{path}: no library has room for stand-ins of unfinished or long proofs")?,
-        )),
+        Err(Unopened::Unlawful) => Err(Unedited::Refused(format!(in alloc;
+            "{path}: no library has room for stand-ins of unfinished or long proofs"
+        )?)),
     }
 }
 

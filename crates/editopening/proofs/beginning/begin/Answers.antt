@@ -1,5 +1,5 @@
 -- What is left to show of `begin`.
-use Rattle.std.proofs.Common.{◌≡◌, ◌∙◌, [], Bool, List, length, map, inl, inr, refl, sym, ap, subst, Vec, Global}
+use Rattle.std.proofs.Common.{◌≡◌, ◌∙◌, [], rules, Bool, List, length, map, inl, inr, refl, sym, ap, subst, Vec, Global}
 use Rattle.std.proofs.lemmas.List.{length-map}
 use Rattle.std.specs.Prelude.{◌⊎◌, All}
 use Rattle.std.proofs.lemmas.Result.{err_from_is_err_and}
@@ -158,12 +158,15 @@ open_for-requires g c =
     let library = c.in_ok-taken.ensures.taken.library in
     let ordered = c.in_ok-scripts.scripts.items in
     λ _. (
-      (refl, (refl, tt)),
+      search rules,
       (
-        ap length (sym library.chosen_are) ∙ length-map s.assertions _,
+        (refl, tt),
         (
-          library.checks,
-          subst (λ (t : Tables). All (All (All (CommandFits t))) ordered) c.prelude.ensures c.in_ok-scripts.ensures.fit,
+          ap length (sym library.chosen_are) ∙ length-map s.assertions _,
+          (
+            library.checks,
+            subst (λ (t : Tables). All (All (All (CommandFits t))) ordered) c.prelude.ensures c.in_ok-scripts.ensures.fit,
+          ),
         ),
       ),
     )

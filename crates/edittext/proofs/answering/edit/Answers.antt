@@ -1,5 +1,6 @@
 -- What is left to show of `edit`.
 use Rattle.std.proofs.Common.{◌≡◌, ◌∙◌, [], rules, refl, List, length, map, inl, inr, ap, subst, sym}
+use Rattle.derivation.specs.Databases.{AllCheck}
 use Rattle.std.specs.Prelude.{All}
 use Rattle.std.specs.Prelude.{IfErr, IfOk, string_bytes}
 use Rattle.std.proofs.lemmas.List.{length-map}
@@ -46,6 +47,17 @@ returns-in_err-begun-clause-refused g c =
     rw (p.1, p.2) (told_more (IsUnbegunLine path paths source s texts c.args.order.force)
     (IsUneditedLine path paths source texts c.args.order.workers (edit_room c.args.order.room) c.args.order.force)
     (λ line h. inr (inl (s, c.in_ok-old.ensures.declares, h))) c.in_err-begun.field-0.0 c.in_err-begun.ensures.refused)
+
+pub run_over-requires-clause-checks : goal.run_over-requires-clause-checks
+run_over-requires-clause-checks g c κs within = subst AllCheck (sym c.database-opened.ensures) c.in_ok-begun.ensures.begun.checks
+
+pub run_over-requires-clause-fit : goal.run_over-requires-clause-fit
+run_over-requires-clause-fit g c κs within =
+    let is = c.in_ok-begun.ensures.begun in
+    let same = ap (λ (x : Contents). x.prelude) (c.database-opened.ensures ∙ is.opened.database) in
+    let scripts = sym c.as_slice-scripts.ensures.value in
+    subst (λ (t : Tables). All (All (All (CommandFits t))) c.as_slice-scripts.result.now) (sym same)
+    (subst (λ (k : List Orders). All (All (All (CommandFits c.in_ok-begun.begun.taken.database.prelude))) k) scripts is.fit)
 
 pub returns-in_err-outcomes-clause-refused : goal.returns-in_err-outcomes-clause-refused
 returns-in_err-outcomes-clause-refused g c =
@@ -134,7 +146,7 @@ returns-in_err-out-clause-refused g c =
     let worked = c.in_ok-outcomes.ensures.done in
     let run = run_of source texts s c.args.order.force begun d is db ss over whole workers room e worked in
     let k = c.in_ok-closed.closed in
-    let t = c.close_run-closed.new.begun.taken in
+    let t = c.close_run.new.begun.taken in
     let closed = closed_of source texts s c.args.order.force begun d is db ss over whole workers room e worked k t
     c.in_ok-closed.ensures.withdrawn c.in_ok-closed.ensures.settled in
     let library = is.for_scripts.library in
@@ -206,7 +218,7 @@ returns-clause-told g c =
     let rows = lists_of e.outcomes.items in
     let worked = c.in_ok-outcomes.ensures.done in
     let k = c.in_ok-closed.closed in
-    let t = c.close_run-closed.new.begun.taken in
+    let t = c.close_run.new.begun.taken in
     let library = is.for_scripts.library in
     let choice = library.taken.choice in
     let qs = map seen_quotation c.as_slice-3.result.now in
