@@ -1,4 +1,5 @@
 pub mod Described
+pub mod Worded
 pub mod Dressed
 pub mod Dressings
 pub mod Refusals

@@ -16,8 +16,9 @@ ghost use Rattle.pasting.specs.Views.{seen_quotation};
 ghost use Rattle.editscripts.specs.Refusals.{IsToldBy};
 ghost use Rattle.editedsource.specs.Refusals.{IsStoppedLine, IsStoppedOrFaulty};
 
-use crate::dressing::{Dressing, Given, described, described_again, quote_given};
+use crate::dressing::{Dressing, Given, described, described_again};
 use crate::telling::ungiven;
+use crate::wording::word_as_given;
 use editscripts::Unedited;
 use endlabels::spoken_lines;
 use following::Follow;
@@ -123,7 +124,7 @@ pub struct Finished {
     pub spoken: Vec<String>,
 }
 
-/// The source with the edits of a run, in which proofs stand as they were given, and these descriptions in front of what was added, once it
+/// The source with the edits of a run, in the words that scripts give, and with these descriptions in front of what was added, once it
 /// was looked at and verified.
 pub fn finish<'x, 'a: 'x>(
     rt: &(impl Threads + Sync),
@@ -154,18 +155,18 @@ pub fn finish<'x, 'a: 'x>(
     // Its tables are as large as those of the new text, which is verified without them.
     drop(old);
     let (given, text) = (edit.given, draft.text.as_slice());
-    let quoted = quote_given(alloc, keys, given.quotations, &draft.following, &new, text)?;
+    let worded = word_as_given(alloc, keys, given.quotations, &draft.following, &new, text)?;
     let dressing = Dressing::new(edit.path, given.descriptions, &draft.following);
-    let dressed = match quoted {
+    let dressed = match worded {
         None => {
             let described = described(rt, alloc, keys, &dressing, &new, text, follow)?;
             drop(new);
             described
         }
-        Some(quoted) => {
+        Some(worded) => {
             // Its tables are as large as those of the other text.
             drop(new);
-            Some(described_again(rt, alloc, keys, &dressing, quoted, follow)?)
+            Some(described_again(rt, alloc, keys, &dressing, worded, follow)?)
         }
     };
     let Draft {

@@ -1,19 +1,16 @@
 //! The source with the edits of a run, dressed in what scripts give in their own words: it verifies.
 
-ghost use Rattle.std.specs.Prelude.{◌≡◌, ◌⊎◌, IfOk, IfErr, map};
+ghost use Rattle.std.specs.Prelude.{◌≡◌, ◌⊎◌, IfOk, IfErr};
 ghost use Rattle.items.specs.Divided.{IsDivided};
 ghost use Rattle.source.specs.Sources.{DeclaresText};
 ghost use Rattle.source.specs.Views.{seen_pairs};
 ghost use Rattle.source.specs.Whole.{IsWhole};
 ghost use Rattle.std.specs.Option.{option_map, unwrap_or};
 ghost use Rattle.checking.specs.Checks.{Bytes};
-ghost use Rattle.pasting.specs.Views.{seen_quotation};
-ghost use Rattle.quoting.specs.Quoted.{IsQuoted};
 ghost use Rattle.verifytext.specs.Verdicts.{IsVerifiedText, IsRefused};
 ghost use Rattle.sourceediting.specs.Views.{seen_following};
 ghost use Rattle.editedsource.specs.Described.{IsDescribedBy};
 ghost use Rattle.endlabels.specs.Descriptions.{descriptions_then};
-ghost use Rattle.endlabels.specs.Quotations.{quotations_then};
 ghost use Rattle.editedsource.specs.Dressings.{IsDescribedThen, IsUndescribed};
 ghost use Rattle.editscripts.specs.Refusals.{IsToldBy};
 ghost use Rattle.editedsource.specs.Refusals.{IsFaultyThenLine};
@@ -21,11 +18,10 @@ ghost use Rattle.editedsource.specs.Refusals.{IsFaultyThenLine};
 use crate::telling::unverified;
 use describing::describe;
 use editscripts::Unedited;
-use endlabels::{descriptions_then, quotations_then};
+use endlabels::descriptions_then;
 use following::Follow;
 use giving::LabelMap;
 use pasting::Quotation;
-use quoting::quote;
 use scopes::Scopes;
 use source::laws::sources_are_whole;
 use sourceediting::Following;
@@ -38,13 +34,13 @@ use verifytext::{Refusal, Verified, verify, verify_read};
 /// What scripts give in their own words.
 #[derive(Clone, Copy)]
 pub struct Given<'x> {
-    /// The compressed proofs, each with the label under which it is given: of several for a label the first counts.
+    /// Compressed proofs and labels of `$e`, each with the label under which they are given: of several for a label the first count.
     pub quotations: &'x [Quotation<'x>],
     /// The labels under which assertions are added, each with the comment that describes it.
     pub descriptions: &'x [(&'x [u8], &'x [u8])],
 }
 
-/// In what a text is dressed, apart from the proofs that are quoted.
+/// In what a text is dressed, apart from the words of proofs and the labels of `$e`.
 #[derive(Clone, Copy)]
 pub(crate) struct Dressing<'d, 'x> {
     /// The path of the source, as lines have it.
@@ -113,23 +109,6 @@ fn describe_added(
     Ok(Some(describe(alloc, &placed, text)?))
 }
 
-/// A text in which proofs stand as they were given. None where it stays.
-pub(crate) fn quote_given<'q: 'o, 'o>(
-    alloc: Global,
-    keys: RandomState,
-    quotations: &[Quotation<'q>],
-    following: &Following<'q>,
-    new: &Scopes<'o>,
-    text: &[u8],
-) -> Result<Option<Vec<u8>>, AllocError>
-    requires { DeclaresText text.now new.now.stand.scope }
-    ensures { IfOk result (λ made. IsQuoted (quotations_then (map seen_quotation quotations.now) (seen_following following.now))
-        text.now (unwrap_or (option_map (λ out. out.items) made) text.now)) }
-{
-    let then = quotations_then(alloc, keys, quotations, following)?;
-    quote(alloc, keys, new, text, then.as_slice())
-}
-
 /// A text that was read with these descriptions in front of what was added, which verifies. None where it stays.
 pub(crate) fn described<'o>(
     rt: &(impl Threads + Sync),
@@ -160,8 +139,8 @@ pub(crate) fn described<'o>(
     Ok(described)
 }
 
-/// What a text declares in which proofs are quoted.
-fn read_quoted<'o>(
+/// What a text declares that has the words which scripts give.
+fn read_worded<'o>(
     alloc: Global,
     keys: RandomState,
     path: &str,
@@ -176,23 +155,23 @@ fn read_quoted<'o>(
     }
 }
 
-/// A text in which proofs are quoted, with these descriptions in front of what was added, which verifies.
+/// A text that has the words which scripts give, with these descriptions in front of what was added, which verifies.
 pub(crate) fn described_again(
     rt: &(impl Threads + Sync),
     alloc: Global,
     keys: RandomState,
     dressing: &Dressing<'_, '_>,
-    quoted: Vec<u8>,
+    worded: Vec<u8>,
     follow: &(impl Follow + Sync),
 ) -> Result<Vec<u8>, Unedited>
     ensures described { IfOk result (λ out. IsDescribedThen (seen_pairs dressing.now.descriptions.now)
-        (seen_following dressing.now.following.now) quoted.items out.items) }
+        (seen_following dressing.now.following.now) worded.items out.items) }
     ensures refused { IfErr result (IsToldBy (λ line. IsUndescribed dressing.now.path.now (seen_pairs dressing.now.descriptions.now)
-        (seen_following dressing.now.following.now) quoted.items line ⊎ IsFaultyThenLine dressing.now.path.now quoted.items line)) }
+        (seen_following dressing.now.following.now) worded.items line ⊎ IsFaultyThenLine dressing.now.path.now worded.items line)) }
 {
-    let text = quoted.as_slice();
-    let new = read_quoted(alloc, keys, dressing.path, text)?;
+    let text = worded.as_slice();
+    let new = read_worded(alloc, keys, dressing.path, text)?;
     let described = described(rt, alloc, keys, dressing, &new, text, follow)?;
     drop(new);
-    Ok(described.unwrap_or(quoted))
+    Ok(described.unwrap_or(worded))
 }

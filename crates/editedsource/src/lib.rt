@@ -5,6 +5,7 @@
 mod completing;
 mod dressing;
 mod telling;
+mod wording;
 
 pub use completing::{Finished, SourceEdit, finish};
 pub use dressing::Given;

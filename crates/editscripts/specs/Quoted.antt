@@ -1,4 +1,4 @@
--- Which compressed proofs scripts give, by what became of their transactions.
+-- What scripts give in their own words, by what became of their transactions.
 use Rattle.std.specs.Prelude.{List, filter, map, reverse}
 use Rattle.std.specs.List.{AllZip, flat_map, zip}
 use Rattle.mmtext.specs.Text.{Token}
@@ -11,7 +11,7 @@ abbrev pub AreQuotesOf : List (List Token) → List (List Quote) → Type 0
 AreQuotesOf scripts all = AllZip AreQuotes scripts all
 
 abbrev pub quotation : Quote → Quotation
-quotation q = record { label = q.label; proof = q.proof }
+quotation q = record { label = q.label; words = q.words }
 
 -- those whose transactions were done
 abbrev pub quoted_of : List Outcome → List Quote → List Quotation

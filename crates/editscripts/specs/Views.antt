@@ -30,7 +30,7 @@ pub record IsLaidOf (out : RankedScript) (l : Laid) : Type 0 where
 abbrev pub AreLaid : List RankedScript → List Laid → Type 0
 AreLaid outs laid = AllZip IsLaidOf outs laid
 
--- the compressed proofs that scripts give
+-- what scripts give in their own words
 abbrev pub seen_quotes : List (Vec CodeQuote Global) → List (List Quote)
 seen_quotes all = map (λ qs. map seen_quote qs.items) all
 

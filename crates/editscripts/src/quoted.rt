@@ -1,4 +1,4 @@
-//! Which compressed proofs scripts give.
+//! What scripts give in their own words.
 
 ghost use Rattle.std.specs.Prelude.{◌≡◌, ◌++◌, IfOk, OnOk, map};
 ghost use Rattle.transaction.specs.Closings.{lists_of};
@@ -13,7 +13,7 @@ use pasting::{Quotation, Quote, quotes_in};
 use std::alloc::{AllocError, Global};
 use transaction::Outcome;
 
-/// The compressed proofs that scripts give, by their words.
+/// What scripts give in their own words, by the words of each.
 pub fn quotes_of<'a>(
     alloc: Global,
     scripts: &[Vec<Token<'a>>],
@@ -27,7 +27,7 @@ pub fn quotes_of<'a>(
     Ok(all)
 }
 
-/// Puts the proofs of a script whose transactions were done.
+/// Puts what a script gives whose transactions were done.
 fn put_done<'q>(
     made: &mut Vec<Quotation<'q>>,
     row: &[Outcome],
@@ -40,14 +40,14 @@ fn put_done<'q>(
         if was_done(row, quote.transaction) {
             made.push(Quotation {
                 label: quote.label,
-                proof: &quote.proof,
+                words: &quote.words,
             })?;
         }
     }
     Ok(())
 }
 
-/// The proofs that scripts give whose transactions were done, the last first.
+/// What scripts give whose transactions were done, the last first.
 pub fn done_quotations<'q>(
     alloc: Global,
     rows: &[Vec<Outcome>],

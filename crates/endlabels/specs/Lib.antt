@@ -1,3 +1,3 @@
 pub mod Descriptions
 pub mod Gone
-pub mod Quotations
+pub mod OwnWords

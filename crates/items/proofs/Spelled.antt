@@ -85,7 +85,7 @@ bytes_stand text at end (p ∷ ps) h =
     ∙ ap (λ (q : Piece). ((q.space ++ q.word) ++ bytes_of ps) ++ drop end text) (sym h.2)))
 
 -- so are its words
-words_stand : (text : List ℕ) (at end : ℕ) (x : Item) → Stands text at x end
+pub words_stand : (text : List ℕ) (at end : ℕ) (x : Item) → Stands text at x end
     → words_of (tokens_at text at) ≡ words x ++ words_of (tokens_at text end)
 words_stand text at end [] h = ap (λ k. words_of (tokens_at text k)) h
 words_stand text at end (p ∷ ps) h =

@@ -4,6 +4,7 @@ pub mod Citable
 pub mod Known
 pub mod Labelled
 pub mod Pasting
+pub mod Picked
 pub mod Reproving
 pub mod Sized
 pub mod Spoken

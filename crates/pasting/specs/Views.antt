@@ -21,7 +21,7 @@ use Rattle.expanding.specs.Words.{word_at}
 use Rattle.expanding.specs.Views.{seen_cut}
 use Rattle.pasting.specs.Additions.{Addition, floats_of, theorem_of}
 use Rattle.pasting.specs.Places.{places_of}
-use Rattle.pasting.specs.Quotes.{Quotation, Quote}
+use Rattle.pasting.specs.Quotes.{GivenLabels, GivenProof, OwnWords, own_labels, own_proof, Quotation, Quote}
 use Rattle.pasting.specs.Proofs.{Given, steps, untaken, faulty}
 use Rattle.pasting.specs.Pasted.{Proving, added_word, with_labels, PasteFault, HasPasteFault}
 use Rattle.pasting.specs.declared.addition.Addition.{Addition as CodeAddition}
@@ -34,7 +34,11 @@ use Rattle.pasting.specs.declared.proving.Proving.{Proving as CodeProving}
 use Rattle.pasting.specs.declared.proving.Theorem.{Theorem as CodeTheorem}
 use Rattle.pasting.specs.declared.proving.Theorem.TheVariants as theorem
 use Rattle.pasting.specs.declared.paster.Paster.{Paster}
-use Rattle.pasting.specs.declared.quotation.Quotation.{Quotation as CodeQuotation}
+use Rattle.pasting.specs.declared.own_words.GivenLabels.{GivenLabels as CodeLabels}
+use Rattle.pasting.specs.declared.own_words.GivenProof.{GivenProof as CodeProof}
+use Rattle.pasting.specs.declared.own_words.OwnWords.{OwnWords as CodeWords}
+use Rattle.pasting.specs.declared.own_words.OwnWords.TheVariants as own
+use Rattle.pasting.specs.declared.own_words.Quotation.{Quotation as CodeQuotation}
 use Rattle.pasting.specs.declared.quotes.Quote.{Quote as CodeQuote}
 use Rattle.pasting.specs.declared.unpasted.Unpasted.{Unpasted}
 use Rattle.pasting.specs.declared.unpasted.Unpasted.TheVariants as unpasted
@@ -85,11 +89,21 @@ IsProvingIf m t s None r = r ≡ None
 IsProvingIf m t s (Some c) None = ⊥
 IsProvingIf m t s (Some c) (Some r) = IsProving m t s c r
 
+abbrev pub seen_own_words : CodeWords → OwnWords
+seen_own_words (own.Proof p) = own_proof (seen_proof p)
+seen_own_words (own.Premises ws) = own_labels (seen_words ws.items)
+
 abbrev pub seen_quote : CodeQuote → Quote
-seen_quote q = record { transaction = q.transaction; label = q.label.now; proof = seen_proof q.proof }
+seen_quote q = record { transaction = q.transaction; label = q.label.now; words = seen_own_words q.words }
 
 abbrev pub seen_quotation : CodeQuotation → Quotation
-seen_quotation q = record { label = q.label.now; proof = seen_proof q.proof.now }
+seen_quotation q = record { label = q.label.now; words = seen_own_words q.words.now }
+
+abbrev pub seen_given_proof : CodeProof → GivenProof
+seen_given_proof g = record { label = g.label.now; proof = seen_proof g.proof.now }
+
+abbrev pub seen_given_labels : CodeLabels → GivenLabels
+seen_given_labels g = record { label = g.label.now; premises = seen_words g.premises.now }
 
 -- ---- what may be cited
 

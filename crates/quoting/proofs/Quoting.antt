@@ -5,17 +5,17 @@ use Rattle.std.proofs.lemmas.List.{append_assoc, map-append}
 use Rattle.source.specs.Scopes.{Scope}
 use Rattle.giving.specs.Staying.{Change}
 use Rattle.items.specs.Items.{Item}
-use Rattle.pasting.specs.Quotes.{Quotation}
-use Rattle.pasting.specs.Views.{seen_quotation}
-use Rattle.pasting.specs.declared.quotation.Quotation.{Quotation as CodeQuotation}
+use Rattle.pasting.specs.Quotes.{GivenProof}
+use Rattle.pasting.specs.Views.{seen_given_proof}
+use Rattle.pasting.specs.declared.own_words.GivenProof.{GivenProof as CodeProof}
 use Rattle.quoting.specs.Quoted.{AreQuoted, CanBeWritten, IsQuotable, IsQuotedAs}
 use Rattle.quoting.specs.Views.{seen_texts}
 
 -- what is left gives the rest of all texts
-abbrev pub Leads : Scope → List Item → List Quotation → List Change → List Quotation → Type 0
+abbrev pub Leads : Scope → List Item → List GivenProof → List Change → List GivenProof → Type 0
 Leads s items all so_far left = (rest : List Change) → AreQuoted s items left rest → AreQuoted s items all (so_far ++ rest)
 
-module _ (s : Scope) (items : List Item) (all : List Quotation) (so_far : List Change) (q : Quotation) (left : List Quotation)
+module _ (s : Scope) (items : List Item) (all : List GivenProof) (so_far : List Change) (q : GivenProof) (left : List GivenProof)
     (leads : Leads s items all so_far (q ∷ left)) where
   pub has_one : (text : List ℕ) → IsQuotedAs s items q text → Leads s items all (so_far ++ (q.label, text) ∷ []) left
   has_one text is rest are =
@@ -26,11 +26,11 @@ module _ (s : Scope) (items : List Item) (all : List Quotation) (so_far : List C
   has_none not rest are = leads rest (inr (not, are))
 
 -- the quotations that are left, from the first of them on
-pub left_are : (qs : List CodeQuotation) (i : ℕ) (d : CodeQuotation) → i < length qs
-    → map seen_quotation (drop i qs) ≡ seen_quotation (get_or qs i d) ∷ map seen_quotation (drop (i + 1) qs)
+pub left_are : (qs : List CodeProof) (i : ℕ) (d : CodeProof) → i < length qs
+    → map seen_given_proof (drop i qs) ≡ seen_given_proof (get_or qs i d) ∷ map seen_given_proof (drop (i + 1) qs)
 left_are qs i d within =
-    ap (map seen_quotation) (drop-cons qs i d within)
-    ∙ ap (λ n. seen_quotation (get_or qs i d) ∷ map seen_quotation (drop n qs)) (sym (add-one i))
+    ap (map seen_given_proof) (drop-cons qs i d within)
+    ∙ ap (λ n. seen_given_proof (get_or qs i d) ∷ map seen_given_proof (drop n qs)) (sym (add-one i))
 
 pub one_more : (texts : List (Bor (List ℕ) × Vec ℕ Global)) (label : Bor (List ℕ)) (text : Vec ℕ Global)
     → seen_texts (texts ++ (label, text) ∷ []) ≡ seen_texts texts ++ (label.now, text.items) ∷ []

@@ -6,12 +6,12 @@ use Rattle.std.proofs.lemmas.Option.{slice_get_cases}
 use Rattle.mmsyntax.specs.Tables.{place_of}
 use Rattle.source.specs.Scopes.{Assertion, Scope}
 use Rattle.items.specs.Items.{Item}
-use Rattle.pasting.specs.Quotes.{Quotation}
+use Rattle.pasting.specs.Quotes.{GivenProof}
 use Rattle.prooftrees.proofs.Found.{first_is}
 use Rattle.quoting.specs.Parts.{SaysTheSame}
 use Rattle.quoting.specs.Quoted.{IsQuotedAs, IsTextOf, indentation_for}
 
-module _ (s : Scope) (q : Quotation) (place : ℕ) (stands : place_of (λ x. bytes_eq q.label x.label) s.assertions ≡ Some place) where
+module _ (s : Scope) (q : GivenProof) (place : ℕ) (stands : place_of (λ x. bytes_eq q.label x.label) s.assertions ≡ Some place) where
   pub within : place < length s.assertions
   within = (first_is (λ (x : Assertion). bytes_eq q.label x.label) s.assertions place place stands).within
 

@@ -23,7 +23,7 @@ use Rattle.items.specs.Bare.{HasBare}
 use Rattle.items.specs.Indentations.{indentations}
 use Rattle.items.specs.Items.{Item, Spells}
 use Rattle.items.specs.Rewriting.{IsRewritten, text_for}
-use Rattle.pasting.specs.Quotes.{Quotation}
+use Rattle.pasting.specs.Quotes.{GivenProof}
 use Rattle.sourcewriting.specs.Forms.{is_compressed_form}
 use Rattle.sourcewriting.specs.Given.{IsGivenText}
 use Rattle.sourcewriting.specs.Indentations.{indentation_like}
@@ -67,7 +67,7 @@ abbrev pub HaveSameWords : Proof → Proof → Type 0
 HaveSameWords one other = (labels_in one ≡ labels_in other) × (letters_in one ≡ letters_in other)
 
 -- the words list the same steps as the proof that stands there, which has other words
-pub record IsQuotable (s : Scope) (q : Quotation) : Type 0 where
+pub record IsQuotable (s : Scope) (q : GivenProof) : Type 0 where
   pub place : ℕ
   pub stands : place_of (λ x. bytes_eq q.label x.label) s.assertions ≡ Some place
   pub theorem : Assertion
@@ -99,12 +99,12 @@ abbrev pub IsTextOf : List ℕ → Proof → List ℕ → Type 0
 IsTextOf indentation (normal ws) text = ⊥
 IsTextOf indentation (compressed labels letters) text = IsGivenText indentation labels (flat_map (λ w. w) letters) text
 
-pub record IsQuotedAs (s : Scope) (items : List Item) (q : Quotation) (text : List ℕ) : Type 0 where
+pub record IsQuotedAs (s : Scope) (items : List Item) (q : GivenProof) (text : List ℕ) : Type 0 where
   pub quotable : IsQuotable s q
   pub text_is : IsTextOf (indentation_for items q.label quotable.theorem) q.proof text
 
 -- just those that are quotable, and can be written, have a text, in order
-abbrev pub AreQuoted : Scope → List Item → List Quotation → List Change → Type 0
+abbrev pub AreQuoted : Scope → List Item → List GivenProof → List Change → Type 0
 AreQuoted s items [] proofs = proofs ≡ []
 AreQuoted s items (q ∷ qs) proofs =
     ((text : List ℕ) × (rest : List Change) × (proofs ≡ (q.label, text) ∷ rest) × IsQuotedAs s items q text × AreQuoted s items qs rest)
@@ -117,7 +117,7 @@ abbrev pub IsWithProofs : List Change → List ℕ → List ℕ → Type 0
 IsWithProofs [] source out = out ≡ source
 IsWithProofs (p ∷ ps) source out = IsRewritten [] (p ∷ ps) source out ⊎ (HasBare (p ∷ ps) source × (out ≡ source))
 
-pub record IsQuoted (qs : List Quotation) (source out : List ℕ) : Type 0 where
+pub record IsQuoted (qs : List GivenProof) (source out : List ℕ) : Type 0 where
   pub scope : Scope
   pub declares : DeclaresText source scope
   pub items : List Item

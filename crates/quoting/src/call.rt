@@ -5,14 +5,14 @@ ghost use Rattle.std.specs.Option.{option_map, unwrap_or};
 ghost use Rattle.items.specs.Divided.{IsDivided};
 ghost use Rattle.source.specs.Sources.{DeclaresText};
 ghost use Rattle.quoting.specs.Quoted.{IsQuoted};
-ghost use Rattle.pasting.specs.Views.{seen_quotation};
+ghost use Rattle.pasting.specs.Views.{seen_given_proof};
 ghost use Rattle.quoting.specs.Views.{seen_texts};
 
 use crate::listing::OwnNames;
 use crate::texts::texts_of;
 use giving::LabelMap;
 use items::{indentations, rewrite};
-use pasting::Quotation;
+use pasting::GivenProof;
 use source::Declared;
 use source::laws::sources_are_whole;
 use std::alloc::{AllocError, Global};
@@ -47,11 +47,11 @@ pub fn quote<'a, D: Declared<'a>>(
     keys: RandomState,
     declared: &D,
     source: &[u8],
-    quotations: &[Quotation<'a>],
+    given: &[GivenProof<'a>],
 ) -> Result<Option<Vec<u8>>, AllocError>
     requires declares { DeclaresText source.now (D.scope declared.now) }
     requires divided { IsDivided source.now }
-    ensures { IfOk result (λ made. IsQuoted (map seen_quotation quotations.now) source.now
+    ensures { IfOk result (λ made. IsQuoted (map seen_given_proof given.now) source.now
         (unwrap_or (option_map (λ out. out.items) made) source.now)) }
 {
     let Some(indented) = indentations(alloc, keys, source)? else {
@@ -60,7 +60,7 @@ pub fn quote<'a, D: Declared<'a>>(
     // For the proof: what is read is whole.
     sources_are_whole();
     let names = OwnNames::of(alloc, keys, declared)?;
-    let texts = texts_of(alloc, keys, declared, &names, &indented, quotations)?;
+    let texts = texts_of(alloc, keys, declared, &names, &indented, given)?;
     if texts.is_empty() {
         return Ok(None);
     }

@@ -9,13 +9,13 @@ ghost use Rattle.source.specs.Views.{seen_proof};
 ghost use Rattle.source.specs.Whole.{IsWhole};
 ghost use Rattle.sourcewriting.specs.Indentations.{IsIndentation};
 ghost use Rattle.quoting.specs.Quoted.{AreQuoted, CanBeWritten, IsQuotable, IsQuotedAs, IsTextOf};
-ghost use Rattle.pasting.specs.Views.{seen_quotation};
+ghost use Rattle.pasting.specs.Views.{seen_given_proof};
 ghost use Rattle.quoting.specs.Views.{seen_texts};
 
 use crate::listing::{OwnNames, labels_in};
 use crate::quotable::{letters_in, says_the_same};
 use giving::LabelMap;
-use pasting::Quotation;
+use pasting::GivenProof;
 use prooftrees::flags_of;
 use source::{Declared, ProofWords};
 use sourcewriting::{given_text, indentation_like};
@@ -53,15 +53,15 @@ fn quoted<'a, D: Declared<'a>>(
     declared: &D,
     names: &OwnNames<'_>,
     indented: &LabelMap<'_>,
-    quotation: Quotation<'a>,
+    given: GivenProof<'a>,
 ) -> Result<Option<Vec<u8>>, AllocError>
     requires names { names.now.labels ≡ (D.scope declared.now).labels }
     requires whole { IsWhole (D.scope declared.now) }
-    ensures { let q = seen_quotation quotation.entry in (items : List Item) → indented.now ≡ indentations items
+    ensures { let q = seen_given_proof given.entry in (items : List Item) → indented.now ≡ indentations items
         → IfOk result (λ made. MatchOption made (IsQuotable (D.scope declared.now) q → CanBeWritten q.proof → ⊥)
         (λ text. IsQuotedAs (D.scope declared.now) items q text.items)) }
 {
-    let (label, proof) = (quotation.label, quotation.proof);
+    let (label, proof) = (given.label, given.proof);
     let Some(place) = declared.place_of(label) else {
         return Ok(None);
     };
@@ -81,17 +81,17 @@ pub(crate) fn texts_of<'a, D: Declared<'a>>(
     declared: &D,
     names: &OwnNames<'_>,
     indented: &LabelMap<'_>,
-    quotations: &[Quotation<'a>],
+    given: &[GivenProof<'a>],
 ) -> Result<Vec<(&'a [u8], Vec<u8>)>, AllocError>
     requires names { names.now.labels ≡ (D.scope declared.now).labels }
     requires whole { IsWhole (D.scope declared.now) }
     ensures { (items : List Item) → indented.now ≡ indentations items → IfOk result (λ made.
-        AreQuoted (D.scope declared.now) items (map seen_quotation quotations.now) (seen_texts made.items)) }
+        AreQuoted (D.scope declared.now) items (map seen_given_proof given.now) (seen_texts made.items)) }
 {
     let mut texts = Vec::new(alloc);
-    for quotation in quotations {
-        if let Some(text) = quoted(alloc, keys, declared, names, indented, *quotation)? {
-            texts.push((quotation.label, text))?;
+    for one in given {
+        if let Some(text) = quoted(alloc, keys, declared, names, indented, *one)? {
+            texts.push((one.label, text))?;
         }
     }
     Ok(texts)

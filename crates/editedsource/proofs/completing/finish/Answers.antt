@@ -9,14 +9,13 @@ use Rattle.commentwords.specs.Spoken.{spoken_in}
 use Rattle.givetext.specs.Drafts.{IsDraft}
 use Rattle.givetext.specs.Parts.{IsEdited}
 use Rattle.pasting.specs.Views.{seen_quotation}
-use Rattle.quoting.specs.Quoted.{IsQuoted}
 use Rattle.sourceediting.specs.Following.{Following}
 use Rattle.sourceediting.specs.Views.{seen_following}
 use Rattle.editedsource.specs.Described.{IsDescribedBy}
 use Rattle.endlabels.specs.Descriptions.{descriptions_then}
 use Rattle.endlabels.specs.Gone.{lost, spoken_line}
 use Rattle.editedsource.specs.Dressed.{IsDressed, IsHalfDressed}
-use Rattle.endlabels.specs.Quotations.{quotations_then}
+use Rattle.editedsource.specs.Worded.{IsWorded}
 use Rattle.editedsource.specs.Dressings.{IsDescribedThen, IsUndescribed}
 use Rattle.editscripts.specs.Refusals.{IsToldBy}
 use Rattle.editedsource.specs.Refusals.{IsFaultyThenLine, IsStoppedLine, IsStoppedOrFaulty}
@@ -44,20 +43,19 @@ returns-clause-finished g c choice are =
     (c.look_at.ensures.edited choice taken is) in
     let same : f ≡ edited.followed = is.followed.follows ∙ sym edited.follows in
     let out = c.unwrap_or-out.result.items in
-    let then = quotations_then qs f in
-    let told : IsQuoted then text (unwrap_or (option_map (λ (t : Vec ℕ Global). t.items) c.in_ok-quoted.quoted) text) =
-    subst (λ (bytes : Bytes). IsQuoted then bytes (unwrap_or (option_map (λ (t : Vec ℕ Global). t.items) c.in_ok-quoted.quoted) bytes))
-    c.as_slice-text.ensures.value c.in_ok-quoted.ensures in
+    let told : IsWorded qs f text (unwrap_or (option_map (λ (t : Vec ℕ Global). t.items) c.in_ok-worded.worded) text) =
+    subst (λ (bytes : Bytes). IsWorded qs f bytes (unwrap_or (option_map (λ (t : Vec ℕ Global). t.items) c.in_ok-worded.worded) bytes))
+    c.as_slice-text.ensures.value c.in_ok-worded.ensures in
     let d = c.new-dressing.result in
     let ds_are : seen_pairs d.descriptions.now ≡ ds = ap seen_pairs c.new-dressing.ensures.descriptions in
     let f_is : seen_following d.following.now ≡ f = ap seen_following c.new-dressing.ensures.following in
-    let printed : out ≡ unwrap_or (option_map (λ (t : Vec ℕ Global). t.items) c.match-quoted.dressed) text =
-    ap (λ (v : Vec ℕ Global). v.items) c.unwrap_or-out.ensures ∙ unwrapped c.match-quoted.dressed draft.text in
-    let all : (quoted : Bytes) × IsQuoted then text quoted × IsDescribedThen ds f quoted out = (
-    elim c.match-quoted.branch [
+    let printed : out ≡ unwrap_or (option_map (λ (t : Vec ℕ Global). t.items) c.match-worded.dressed) text =
+    ap (λ (v : Vec ℕ Global). v.items) c.unwrap_or-out.ensures ∙ unwrapped c.match-worded.dressed draft.text in
+    let all : (worded : Bytes) × IsWorded qs f text worded × IsDescribedThen ds f worded out = (
+    elim c.match-worded.branch [
       | in-None+in_ok-described-in-None w ↦ (
         text,
-        subst (λ (o : Option (Vec ℕ Global)). IsQuoted then text (unwrap_or (option_map (λ (t : Vec ℕ Global). t.items) o) text))
+        subst (λ (o : Option (Vec ℕ Global)). IsWorded qs f text (unwrap_or (option_map (λ (t : Vec ℕ Global). t.items) o) text))
             w.in-None.is told,
         subst (IsDescribedThen ds f text)
             (sym (printed ∙ ap (λ (o : Option (Vec ℕ Global)). unwrap_or (option_map (λ (t : Vec ℕ Global). t.items) o) text)
@@ -68,14 +66,14 @@ returns-clause-finished g c choice are =
             c.as_slice-text.ensures.value w.in_ok-described-in-None.ensures.described)),
       )
       | in-Some+in_ok-described_again-in-Some w ↦ (
-        w.in-Some.quoted.items,
-        subst (λ (o : Option (Vec ℕ Global)). IsQuoted then text (unwrap_or (option_map (λ (t : Vec ℕ Global). t.items) o) text))
+        w.in-Some.worded.items,
+        subst (λ (o : Option (Vec ℕ Global)). IsWorded qs f text (unwrap_or (option_map (λ (t : Vec ℕ Global). t.items) o) text))
             w.in-Some.is told,
-        subst (IsDescribedThen ds f w.in-Some.quoted.items)
+        subst (IsDescribedThen ds f w.in-Some.worded.items)
             (sym (printed ∙ ap (λ (o : Option (Vec ℕ Global)). unwrap_or (option_map (λ (t : Vec ℕ Global). t.items) o) text)
             w.dressed-is))
-            (described_as (seen_pairs d.descriptions.now) ds (seen_following d.following.now) f w.in-Some.quoted.items
-            w.in-Some.quoted.items _ ds_are f_is refl w.in_ok-described_again-in-Some.ensures.described),
+            (described_as (seen_pairs d.descriptions.now) ds (seen_following d.following.now) f w.in-Some.worded.items
+            w.in-Some.worded.items _ ds_are f_is refl w.in_ok-described_again-in-Some.ensures.described),
       )
     ]
     ) in
@@ -83,7 +81,7 @@ returns-clause-finished g c choice are =
       edits = text;
       is_edited = edited;
       dressed = subst (λ (f : Following). IsDressed qs ds f text out) same
-          (record { quoted = all.0; is_quoted = all.1; is_described = all.2.described });
+          (record { worded = all.0; is_worded = all.1; is_described = all.2.described });
       much = all.2.much;
       verifies = all.2.verifies;
       spoken =
@@ -128,12 +126,11 @@ returns-in_err-described-in-None-clause-refused g c choice are =
     let edited = subst (λ r. OnOk r (IsEdited source old choice taken run.entries run.edited text)) c.in_ok-look_at.was
     (c.look_at.ensures.edited choice taken is) in
     let same : f ≡ edited.followed = is.followed.follows ∙ sym edited.follows in
-    let then = quotations_then qs f in
-    let told : IsQuoted then text (unwrap_or (option_map (λ (t : Vec ℕ Global). t.items) c.in_ok-quoted.quoted) text) =
-    subst (λ (bytes : Bytes). IsQuoted then bytes (unwrap_or (option_map (λ (t : Vec ℕ Global). t.items) c.in_ok-quoted.quoted) bytes))
-    c.as_slice-text.ensures.value c.in_ok-quoted.ensures in
-    let is_quoted : IsQuoted then text text =
-    subst (λ (o : Option (Vec ℕ Global)). IsQuoted then text (unwrap_or (option_map (λ (t : Vec ℕ Global). t.items) o) text)) c.in-None.is
+    let told : IsWorded qs f text (unwrap_or (option_map (λ (t : Vec ℕ Global). t.items) c.in_ok-worded.worded) text) =
+    subst (λ (bytes : Bytes). IsWorded qs f bytes (unwrap_or (option_map (λ (t : Vec ℕ Global). t.items) c.in_ok-worded.worded) bytes))
+    c.as_slice-text.ensures.value c.in_ok-worded.ensures in
+    let is_worded : IsWorded qs f text text =
+    subst (λ (o : Option (Vec ℕ Global)). IsWorded qs f text (unwrap_or (option_map (λ (t : Vec ℕ Global). t.items) o) text)) c.in-None.is
     told in
     let d = c.new-dressing.result in
     let p = err_from_is_err_and c.from_residual-in_err-described-in-None.result c.from_residual-in_err-described-in-None.ensures.1 in
@@ -149,7 +146,7 @@ returns-in_err-described-in-None-clause-refused g c choice are =
       k.out,
       edited,
       subst (λ (f : Following). IsHalfDressed qs ds f text k.out) same
-          (record { quoted = text; is_quoted = is_quoted; so_far = inr k.described }),
+          (record { worded = text; is_worded = is_worded; so_far = inr k.described }),
       k.cause,
     ))
     c.in_err-described-in-None.field-0.0 c.in_err-described-in-None.ensures.refused)
@@ -171,37 +168,36 @@ returns-in_err-described_again-in-Some-clause-refused g c choice are =
     let edited = subst (λ r. OnOk r (IsEdited source old choice taken run.entries run.edited text)) c.in_ok-look_at.was
     (c.look_at.ensures.edited choice taken is) in
     let same : f ≡ edited.followed = is.followed.follows ∙ sym edited.follows in
-    let then = quotations_then qs f in
-    let told : IsQuoted then text (unwrap_or (option_map (λ (t : Vec ℕ Global). t.items) c.in_ok-quoted.quoted) text) =
-    subst (λ (bytes : Bytes). IsQuoted then bytes (unwrap_or (option_map (λ (t : Vec ℕ Global). t.items) c.in_ok-quoted.quoted) bytes))
-    c.as_slice-text.ensures.value c.in_ok-quoted.ensures in
-    let quoted = c.in-Some.quoted.items in
-    let is_quoted : IsQuoted then text quoted =
-    subst (λ (o : Option (Vec ℕ Global)). IsQuoted then text (unwrap_or (option_map (λ (t : Vec ℕ Global). t.items) o) text)) c.in-Some.is
+    let told : IsWorded qs f text (unwrap_or (option_map (λ (t : Vec ℕ Global). t.items) c.in_ok-worded.worded) text) =
+    subst (λ (bytes : Bytes). IsWorded qs f bytes (unwrap_or (option_map (λ (t : Vec ℕ Global). t.items) c.in_ok-worded.worded) bytes))
+    c.as_slice-text.ensures.value c.in_ok-worded.ensures in
+    let worded = c.in-Some.worded.items in
+    let is_worded : IsWorded qs f text worded =
+    subst (λ (o : Option (Vec ℕ Global)). IsWorded qs f text (unwrap_or (option_map (λ (t : Vec ℕ Global). t.items) o) text)) c.in-Some.is
     told in
     let d = c.new-dressing.result in
-    let half : (out : Bytes) → (out ≡ quoted) ⊎ IsDescribedBy (descriptions_then ds f) quoted out
+    let half : (out : Bytes) → (out ≡ worded) ⊎ IsDescribedBy (descriptions_then ds f) worded out
     → IsHalfDressed qs ds edited.followed text out = λ out so_far.
-    subst (λ (f : Following). IsHalfDressed qs ds f text out) same (record { quoted = quoted; is_quoted = is_quoted; so_far = so_far }) in
+    subst (λ (f : Following). IsHalfDressed qs ds f text out) same (record { worded = worded; is_worded = is_worded; so_far = so_far }) in
     let p = err_from_is_err_and c.from_residual-in_err-described_again-in-Some.result
     c.from_residual-in_err-described_again-in-Some.ensures.1 in
     rw (p.1, p.2) (told_more
-    (λ line. IsUndescribed d.path.now (seen_pairs d.descriptions.now) (seen_following d.following.now) quoted line
-    ⊎ IsFaultyThenLine d.path.now quoted line)
+    (λ line. IsUndescribed d.path.now (seen_pairs d.descriptions.now) (seen_following d.following.now) worded line
+    ⊎ IsFaultyThenLine d.path.now worded line)
     (IsStoppedOrFaulty path source old choice taken run.entries run.edited qs ds)
     (λ line h. elim h [
       | inl u ↦
-          let k = undescribed_as d.path.now path (seen_pairs d.descriptions.now) ds (seen_following d.following.now) f quoted quoted line
+          let k = undescribed_as d.path.now path (seen_pairs d.descriptions.now) ds (seen_following d.following.now) f worded worded line
           c.new-dressing.ensures.path (ap seen_pairs c.new-dressing.ensures.descriptions)
           (ap seen_following c.new-dressing.ensures.following) refl u in
           inr (text, k.out, edited, half k.out (inr k.described), k.cause)
       | inr v ↦
           inr (
             text,
-            quoted,
+            worded,
             edited,
-            half quoted (inl refl),
-            subst (λ (w : Bytes). IsFaultyThenLine w quoted line)
+            half worded (inl refl),
+            subst (λ (w : Bytes). IsFaultyThenLine w worded line)
                 c.new-dressing.ensures.path v,
           )
     ])

@@ -3,5 +3,5 @@ use Rattle.std.proofs.Common.{◌≡◌, map, take}
 use Rattle.source.specs.Views.{seen_words}
 use Rattle.endlabels.proofs.quoted.labels_of.Given as goal
 
-abbrev pub invariant-loop-quotation : goal.invariant-loop-quotation
-invariant-loop-quotation l = seen_words l.labels.items ≡ map (λ q. q.label.now) (take l.quotation-index l.quotations)
+abbrev pub invariant-loop-one : goal.invariant-loop-one
+invariant-loop-one l = seen_words l.labels.items ≡ map (λ q. q.label.now) (take l.one-index l.given)

@@ -7,7 +7,7 @@ use Rattle.mmtext.specs.Words.{Word}
 use Rattle.source.specs.Scopes.{is_in}
 use Rattle.source.specs.Views.{seen_words}
 use Rattle.sourceediting.proofs.Marks.{firsts, firsts_marked}
-use Rattle.endlabels.proofs.Picked.{picked_next, left_out}
+use Rattle.pasting.proofs.Picked.{picked_next, left_out}
 use Rattle.endlabels.proofs.spoken.lost_of.Goals as goal
 use Rattle.endlabels.proofs.spoken.lost_of.Goals.{then-is_lost+in_ok-push, else-is_lost}
 

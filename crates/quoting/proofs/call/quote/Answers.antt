@@ -8,7 +8,7 @@ use Rattle.items.specs.Bare.{HasBare}
 use Rattle.items.specs.Rewriting.{IsRewritten}
 use Rattle.items.specs.Walking.{AreIndentations}
 use Rattle.source.specs.Views.{seen_pairs}
-use Rattle.pasting.specs.Views.{seen_quotation}
+use Rattle.pasting.specs.Views.{seen_given_proof}
 use Rattle.quoting.specs.Quoted.{IsQuoted, IsWithProofs}
 use Rattle.quoting.specs.Views.{seen_texts}
 use Rattle.quoting.proofs.Rewritten.{with_them, by_rewriting}
@@ -46,7 +46,7 @@ returns g c =
     let are : c.in_ok-proofs.proofs ≡ proofs = c.in_ok-proofs.ensures ∙ ap seen_texts c.as_slice.ensures.value in
     let none : c.in_ok-none.none ≡ [] = c.in_ok-none.ensures ∙ ap seen_pairs c.new.ensures.items in
     let some : (c.in_ok-texts.texts.items ≡ []) → ⊥ = search rules in
-    by_rewriting {Q = IsQuoted (map seen_quotation c.args.quotations.now) text} c.rewrite.result proofs text
+    by_rewriting {Q = IsQuoted (map seen_given_proof c.args.given.now) text} c.rewrite.result proofs text
     (with_them c.in_ok-texts.texts.items some)
     (subst (λ (cs : List Change). IfOk c.rewrite.result (λ made. IfSome made (λ out. IsRewritten cs proofs text out.items))) none
     (subst (λ (ps : List Change). IfOk c.rewrite.result (λ made. IfSome made (λ out. IsRewritten c.in_ok-none.none ps text out.items))) are

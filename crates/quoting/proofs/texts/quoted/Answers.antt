@@ -9,7 +9,7 @@ use Rattle.source.specs.Views.{seen_hypotheses}
 use Rattle.taking.specs.Settings.{is_float}
 use Rattle.giving.specs.Staying.{Change}
 use Rattle.items.specs.Rewriting.{text_for}
-use Rattle.pasting.specs.Views.{seen_quotation}
+use Rattle.pasting.specs.Views.{seen_given_proof}
 use Rattle.sourcewriting.specs.Indentations.{indentation_like}
 use Rattle.prooftrees.proofs.Asked.{mandatory_is}
 use Rattle.quoting.specs.Parts.{SaysTheSame}
@@ -21,20 +21,20 @@ use Rattle.quoting.proofs.texts.quoted.Goals as goal
 pub says_the_same-requires : goal.says_the_same-requires
 says_the_same-requires g c =
     let s = g.D.Declared.scope c.args.declared.now in
-    let q = seen_quotation c.args.quotation in
+    let q = seen_given_proof c.args.given in
     λ _. ((refl, tt), (c.requires.names, (c.requires.whole, within s q c.in-Some.place (sym c.place_of.ensures ∙ c.in-Some.is))))
 
 pub mandatory-requires : goal.mandatory-requires
 mandatory-requires g c =
     let s = g.D.Declared.scope c.args.declared.now in
-    let q = seen_quotation c.args.quotation in
+    let q = seen_given_proof c.args.given in
     λ _. ((refl, tt), within s q c.in-Some.place (sym c.place_of.ensures ∙ c.in-Some.is))
 
 pub returns : goal.returns
 returns g c = λ items are.
     let s = g.D.Declared.scope c.args.declared.now in
     let xs = s.assertions in
-    let q = seen_quotation c.args.quotation in
+    let q = seen_given_proof c.args.given in
     let place = c.in-Some.place in
     let stands = sym c.place_of.ensures ∙ c.in-Some.is in
     let x = (there s q place stands).0 in

@@ -1,4 +1,4 @@
--- What is left to show of `read_quoted`.
+-- What is left to show of `read_worded`.
 use Rattle.std.proofs.Common.{◌≡◌, ◌++◌, codes}
 use Rattle.std.specs.Prelude.{◌≢◌}
 use Rattle.verifytext.specs.Lines.{refusal_line}
@@ -6,7 +6,7 @@ use Rattle.verifytext.specs.Verdicts.{IsRefused}
 use Rattle.verifytext.specs.declared.refusal.Refusal.TheVariants.{NoMemory}
 use Rattle.editedsource.specs.Refusals.{IsFaultyThenLine}
 use Rattle.editscripts.proofs.Lines.{told_more}
-use Rattle.editedsource.proofs.dressing.read_quoted.Goals as goal
+use Rattle.editedsource.proofs.dressing.read_worded.Goals as goal
 
 pub returns-in_ok-unverified-in-Err-clause-refused : goal.returns-in_ok-unverified-in-Err-clause-refused
 returns-in_ok-unverified-in-Err-clause-refused c =

@@ -1,0 +1,82 @@
+//! The source with the edits of a run, in the words that scripts give.
+
+ghost use Rattle.std.specs.Prelude.{◌≡◌, IfOk, map};
+ghost use Rattle.std.specs.Option.{option_map, unwrap_or};
+ghost use Rattle.source.specs.Sources.{DeclaresText};
+ghost use Rattle.pasting.specs.Quotes.{labels_among, proofs_among};
+ghost use Rattle.pasting.specs.Views.{seen_quotation};
+ghost use Rattle.quoting.specs.Quoted.{IsQuoted};
+ghost use Rattle.premiselabels.specs.Relabelled.{HasGivenLabels};
+ghost use Rattle.sourceediting.specs.Views.{seen_following};
+ghost use Rattle.endlabels.specs.OwnWords.{labels_then, proofs_then};
+ghost use Rattle.editedsource.specs.Worded.{IsWorded};
+
+use endlabels::{labels_then, proofs_then};
+use pasting::{Quotation, labels_among, proofs_among};
+use premiselabels::give_labels;
+use quoting::quote;
+use scopes::Scopes;
+use sourceediting::Following;
+use std::alloc::{AllocError, Global};
+use std::hash::RandomState;
+
+/// A text in which proofs stand as they were given. None where it stays.
+fn quote_given<'q: 'o, 'o>(
+    alloc: Global,
+    keys: RandomState,
+    quotations: &[Quotation<'q>],
+    following: &Following<'q>,
+    new: &Scopes<'o>,
+    text: &[u8],
+) -> Result<Option<Vec<u8>>, AllocError>
+    requires { DeclaresText text.now new.now.stand.scope }
+    ensures { IfOk result (λ made. IsQuoted
+        (proofs_then (proofs_among (map seen_quotation quotations.now)) (seen_following following.now)) text.now
+        (unwrap_or (option_map (λ out. out.items) made) text.now)) }
+{
+    let proofs = proofs_among(alloc, quotations)?;
+    let then = proofs_then(alloc, keys, proofs.as_slice(), following)?;
+    quote(alloc, keys, new, text, then.as_slice())
+}
+
+/// A text in which `$e` have the labels that were given to those of a source. None where it stays.
+fn label_given<'q: 'o, 'o>(
+    alloc: Global,
+    keys: RandomState,
+    quotations: &[Quotation<'q>],
+    following: &Following<'q>,
+    new: &Scopes<'o>,
+    source: &[u8],
+    text: &[u8],
+) -> Result<Option<Vec<u8>>, AllocError>
+    requires { DeclaresText source.now new.now.stand.scope }
+    ensures { IfOk result (λ made. HasGivenLabels
+        (labels_then (labels_among (map seen_quotation quotations.now)) (seen_following following.now)) source.now text.now
+        (unwrap_or (option_map (λ out. out.items) made) text.now)) }
+{
+    let labels = labels_among(alloc, quotations)?;
+    let then = labels_then(alloc, keys, labels.as_slice(), following)?;
+    give_labels(alloc, keys, new, source, then.as_slice(), text)
+}
+
+/// A text in the words that scripts give. None where it stays.
+pub(crate) fn word_as_given<'q: 'o, 'o>(
+    alloc: Global,
+    keys: RandomState,
+    quotations: &[Quotation<'q>],
+    following: &Following<'q>,
+    new: &Scopes<'o>,
+    text: &[u8],
+) -> Result<Option<Vec<u8>>, AllocError>
+    requires { DeclaresText text.now new.now.stand.scope }
+    ensures { IfOk result (λ made. IsWorded (map seen_quotation quotations.now) (seen_following following.now) text.now
+        (unwrap_or (option_map (λ out. out.items) made) text.now)) }
+{
+    let quoted = quote_given(alloc, keys, quotations, following, new, text)?;
+    let then = match &quoted {
+        Some(other) => other.as_slice(),
+        None => text,
+    };
+    let labelled = label_given(alloc, keys, quotations, following, new, text, then)?;
+    Ok(labelled.or(quoted))
+}

@@ -1,0 +1,3 @@
+mod Before
+mod Giving
+mod Relabelling
