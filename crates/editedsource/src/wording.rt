@@ -4,15 +4,14 @@ ghost use Rattle.std.specs.Prelude.{◌≡◌, IfOk, map};
 ghost use Rattle.std.specs.Option.{option_map, unwrap_or};
 ghost use Rattle.source.specs.Sources.{DeclaresText};
 ghost use Rattle.pasting.specs.Quotes.{labels_among, proofs_among};
-ghost use Rattle.pasting.specs.Views.{seen_quotation};
+ghost use Rattle.pasting.specs.Views.{seen_given_labels, seen_quotation};
 ghost use Rattle.quoting.specs.Quoted.{IsQuoted};
-ghost use Rattle.premiselabels.specs.Relabelled.{HasGivenLabels};
 ghost use Rattle.sourceediting.specs.Views.{seen_following};
 ghost use Rattle.endlabels.specs.OwnWords.{labels_then, proofs_then};
 ghost use Rattle.editedsource.specs.Worded.{IsWorded};
 
 use endlabels::{labels_then, proofs_then};
-use pasting::{Quotation, labels_among, proofs_among};
+use pasting::{GivenLabels, Quotation, labels_among, proofs_among};
 use premiselabels::give_labels;
 use quoting::quote;
 use scopes::Scopes;
@@ -39,24 +38,18 @@ fn quote_given<'q: 'o, 'o>(
     quote(alloc, keys, new, text, then.as_slice())
 }
 
-/// A text in which `$e` have the labels that were given to those of a source. None where it stays.
-fn label_given<'q: 'o, 'o>(
+/// The labels that are given to the `$e` of what was added, under the labels that this has in the end.
+fn given_labels<'q>(
     alloc: Global,
     keys: RandomState,
     quotations: &[Quotation<'q>],
     following: &Following<'q>,
-    new: &Scopes<'o>,
-    source: &[u8],
-    text: &[u8],
-) -> Result<Option<Vec<u8>>, AllocError>
-    requires { DeclaresText source.now new.now.stand.scope }
-    ensures { IfOk result (λ made. HasGivenLabels
-        (labels_then (labels_among (map seen_quotation quotations.now)) (seen_following following.now)) source.now text.now
-        (unwrap_or (option_map (λ out. out.items) made) text.now)) }
+) -> Result<Vec<GivenLabels<'q>>, AllocError>
+    ensures { IfOk result (λ made. map seen_given_labels made.items
+        ≡ labels_then (labels_among (map seen_quotation quotations.now)) (seen_following following.now)) }
 {
     let labels = labels_among(alloc, quotations)?;
-    let then = labels_then(alloc, keys, labels.as_slice(), following)?;
-    give_labels(alloc, keys, new, source, then.as_slice(), text)
+    labels_then(alloc, keys, labels.as_slice(), following)
 }
 
 /// A text in the words that scripts give. None where it stays.
@@ -77,6 +70,7 @@ pub(crate) fn word_as_given<'q: 'o, 'o>(
         Some(other) => other.as_slice(),
         None => text,
     };
-    let labelled = label_given(alloc, keys, quotations, following, new, text, then)?;
+    let labels = given_labels(alloc, keys, quotations, following)?;
+    let labelled = give_labels(alloc, keys, new, text, labels.as_slice(), then)?;
     Ok(labelled.or(quoted))
 }

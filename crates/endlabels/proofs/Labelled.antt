@@ -21,7 +21,8 @@ module _ {A B : Type 0} (view : A → B) (of : B → Word) where
 
   -- the first under a label stands at the first place of the label
   pub first_for : (gs : List A) (w : Word)
-      → option_map view (option_and_then (slice_get gs) (place_of (bytes_eq w) (labels_in gs))) ≡ find (λ g. bytes_eq w (of g)) (map view gs)
+      → option_map view (option_and_then (slice_get gs) (place_of (bytes_eq w) (labels_in gs)))
+      ≡ find (λ g. bytes_eq w (of g)) (map view gs)
   first_for [] w = refl
   first_for (g ∷ gs) w =
       by_test (bytes_eq w (of (view g))) g gs (place_of (bytes_eq w) (labels_in gs)) (find (λ g. bytes_eq w (of g)) (map view gs))

@@ -147,8 +147,8 @@ fn put_quotes<'w>(
     Ok(())
 }
 
-/// What a script gives in its own words, in order: compressed proofs, and the labels of the `$e` of what it adds. The words are those of the
-/// script behind `spread`.
+/// What a script gives in its own words, in order: compressed proofs, and the labels of the `$e` of what it adds. The words are those of
+/// the script behind `spread`.
 ///
 /// # Errors
 ///

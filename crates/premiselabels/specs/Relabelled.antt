@@ -1,5 +1,5 @@
--- A source in which `$e` have other labels: no symbol is a label, so a word outside of comments that is one names it (Metamath book, section
--- 4.1.3); the letters of a compressed proof have no dot, as each label that is written has.
+-- A source in which `$e` have other labels: no symbol is a label, so a word outside of comments that is one names it (Metamath book,
+-- section 4.1.3); the letters of a compressed proof have no dot, as each label that is written has.
 use Rattle.std.specs.Prelude.{◌≡◌, ℕ, Bool, true, false, List, [], ◌∷◌, ◌++◌, if◌then◌else◌}
 use Rattle.std.specs.Prelude.{codes}
 use Rattle.std.specs.Str.{bytes_eq}

@@ -53,7 +53,7 @@ fn is_among(words: &[&[u8]], word: &[u8]) -> bool
 }
 
 /// The labels of which `$e` may have some: those that are written for them, and those that others ask for.
-#[derive(Clone, Copy)]
+#[derive(Drop)]
 struct Labels<'l, 'x, D> {
     /// The source.
     declared: &'l D,
@@ -67,8 +67,9 @@ struct Labels<'l, 'x, D> {
 
 impl<'l, 'x, 'a, D: Declared<'a>> Labels<'l, 'x, D> {
     /// Whether a label is free: one look-up each in the source and among those that are asked for.
-    fn is_free(self, label: &[u8]) -> bool
-        ensures { result ≡ is_free (D.scope self.declared.now) (seen_words self.written.now) (take self.before self.wanted.now) label.now }
+    fn is_free(&self, label: &[u8]) -> bool
+        ensures { let it = self.now in
+            result ≡ is_free (D.scope it.declared.now) (seen_words it.written.now) (take it.before it.wanted.now) label.now }
     {
         if self.declared.has_name(label) && !is_among(self.written, label) {
             return false;
@@ -80,9 +81,10 @@ impl<'l, 'x, 'a, D: Declared<'a>> Labels<'l, 'x, D> {
     }
 
     /// What is left of those that are written, where these labels are given.
-    fn left_of(self, alloc: Global, labels: &[&'x [u8]]) -> Result<Vec<&'x [u8]>, AllocError>
-        ensures { let free = is_free (D.scope self.declared.now) (seen_words self.written.now) (take self.before self.wanted.now) in
-            IfOk result (λ made. seen_words made.items ≡ left_of free (seen_words self.written.now) (seen_words labels.now)) }
+    fn left_of(&self, alloc: Global, labels: &[&'x [u8]]) -> Result<Vec<&'x [u8]>, AllocError>
+        ensures { let it = self.now in
+            let free = is_free (D.scope it.declared.now) (seen_words it.written.now) (take it.before it.wanted.now) in
+            IfOk result (λ made. seen_words made.items ≡ left_of free (seen_words it.written.now) (seen_words labels.now)) }
     {
         let mut made = Vec::new(alloc);
         for label in self.written {
@@ -94,9 +96,10 @@ impl<'l, 'x, 'a, D: Declared<'a>> Labels<'l, 'x, D> {
     }
 
     /// The labels that the `$e` have in the end.
-    fn labels_then(self, alloc: Global, labels: &[&'x [u8]]) -> Result<Vec<&'x [u8]>, AllocError>
-        ensures { let free = is_free (D.scope self.declared.now) (seen_words self.written.now) (take self.before self.wanted.now) in
-            IfOk result (λ made. seen_words made.items ≡ labels_then free (seen_words self.written.now) (seen_words labels.now)) }
+    fn labels_then(&self, alloc: Global, labels: &[&'x [u8]]) -> Result<Vec<&'x [u8]>, AllocError>
+        ensures { let it = self.now in
+            let free = is_free (D.scope it.declared.now) (seen_words it.written.now) (take it.before it.wanted.now) in
+            IfOk result (λ made. seen_words made.items ≡ labels_then free (seen_words it.written.now) (seen_words labels.now)) }
     {
         let left = self.left_of(alloc, labels)?;
         let mut made = Vec::with_capacity(alloc, labels.len())?;
