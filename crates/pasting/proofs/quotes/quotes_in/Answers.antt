@@ -1,19 +1,16 @@
 -- What is left to show of `quotes_in`.
 use Rattle.std.proofs.Common.{◌≡◌, ◌≤◌, ◌∙◌, ◌+◌, ◌-◌, ◌++◌, ◌∷◌, [], suc, map, take, refl, sym, ap, subst, arith, codes}
 use Rattle.std.specs.Int.{from_bool}
-use Rattle.std.specs.Option.{option_map}
 use Rattle.std.proofs.lemmas.List.{append_assoc, append-nil, drop_all}
 use Rattle.mmtext.specs.Views.{seen}
 use Rattle.expanding.specs.Descriptions.{begun_behind}
 use Rattle.expanding.specs.Forms.{AreParts, begins_with}
 use Rattle.expanding.proofs.Fronting.{begun_more, begun_few}
-use Rattle.expanding.proofs.Gathered.{no_view}
 use Rattle.expanding.proofs.Parted.{more_within, some_first, part_first, words_behind}
-use Rattle.pasting.specs.Quotes.{listed, quote_of, quotes_behind}
+use Rattle.pasting.specs.Quotes.{quotes_behind, quotes_of}
 use Rattle.pasting.specs.Views.{seen_quote}
-use Rattle.pasting.proofs.Quoting.{put_one, put_none, quoted_more}
+use Rattle.pasting.proofs.Quoting.{quoted_more}
 use Rattle.pasting.proofs.quotes.quotes_in.Goals as goal
-use Rattle.pasting.proofs.quotes.quotes_in.Goals.{in-Some+in_ok-push, in_default}
 
 pub loop-at-smaller : goal.loop-at-smaller
 loop-at-smaller c =
@@ -40,20 +37,9 @@ loop-at-preserved c =
     let begun : k + c.from-begun.result ≡ begun_behind k p =
     begun_more (begins_with (codes "begin") p) k c.from-begun.result (c.from-begun.ensures ∙ ap from_bool c.is_beginning.ensures) in
     let few : begun_behind k p ≤ suc at = begun_few (begins_with (codes "begin") p) k at c.loop-at.invariant.few in
-    let told = quote_of (begun_behind k p - 1) p in
-    let is : option_map seen_quote c.in_ok-quote.field-0 ≡ told =
-    c.in_ok-quote.ensures ∙ ap (λ j. quote_of j p) (c.saturating_sub.ensures ∙ ap (λ j. j - 1) begun) in
-    let all : map seen_quote c.match-branch-2.found.items ≡ map seen_quote found ++ listed told = (
-    elim c.match-branch-2.branch [
-      | in-Some+in_ok-push w ↦
-          ap (λ v. map seen_quote v.items) w.found-is
-          ∙ (ap (map seen_quote) w.in_ok-push.ensures.items
-          ∙ put_one found _ told (ap (option_map seen_quote) (sym w.in-Some.is) ∙ is))
-      | in_default w ↦
-          ap (λ v. map seen_quote v.items) w.found-is
-          ∙ put_none found told (no_view seen_quote c.in_ok-quote.field-0 w.in_default.not-Some ∙ is)
-    ]
-    ) in
+    let all : map seen_quote c.put_quotes.new.found.items ≡ map seen_quote found ++ quotes_of (begun_behind k p - 1) p =
+    c.in_ok-put_quotes.ensures
+    ∙ ap (λ j. map seen_quote found ++ quotes_of j p) (c.saturating_sub.ensures ∙ ap (λ j. j - 1) begun) in
     let d = c.loop-at.invariant.told in
     record {
       within = more_within words at n lt within first part refl;
@@ -64,8 +50,8 @@ loop-at-preserved c =
             subst (AreParts (map seen words)) (sym (append_assoc d.0 (p ∷ []) ps))
             (d.1 (p ∷ ps) (part_first words at n lt within first part refl ps parts)),
         λ ps.
-            ap (λ j. map seen_quote c.match-branch-2.found.items ++ quotes_behind j ps) begun
-            ∙ quoted_more (map seen_quote found) (map seen_quote c.match-branch-2.found.items) k p d.0 ps all (d.2 (p ∷ ps)),
+            ap (λ j. map seen_quote c.put_quotes.new.found.items ++ quotes_behind j ps) begun
+            ∙ quoted_more (map seen_quote found) (map seen_quote c.put_quotes.new.found.items) k p d.0 ps all (d.2 (p ∷ ps)),
       );
     }
 
