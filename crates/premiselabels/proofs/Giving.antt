@@ -1,5 +1,5 @@
 -- The labels that are given to `$e`, one by one.
-use Rattle.std.proofs.Common.{◌≡◌, ◌∙◌, Bool, true, false, cond, List, [], ◌∷◌, ◌++◌, refl, sym, ap, append_assoc}
+use Rattle.std.proofs.Common.{◌≡◌, ◌∙◌, Bool, true, false, cond, List, [], ◌∷◌, ◌++◌, take, drop, ap, append_assoc}
 use Rattle.mmtext.specs.Words.{Word}
 use Rattle.premiselabels.specs.Labels.{given_from}
 
@@ -10,7 +10,7 @@ module _ (free : Word → Bool) (all made left labels : List Word) (w : Word) wh
       → (made ++ w ∷ []) ++ given_from free left labels ≡ all
   with_free so_far is =
       append_assoc made (w ∷ []) (given_from free left labels)
-      ∙ ap (λ b. made ++ cond b (w ∷ given_from free left labels) _) is
+      ∙ ap (λ b. made ++ cond b (w ∷ given_from free left labels) (take 1 left ++ given_from free (drop 1 left) labels)) is
       ∙ so_far
 
   -- another, in whose place the next goes
@@ -18,9 +18,9 @@ module _ (free : Word → Bool) (all made left labels : List Word) (w : Word) wh
       → (made ++ next ∷ []) ++ given_from free left labels ≡ all
   with_next next so_far is =
       append_assoc made (next ∷ []) (given_from free left labels)
-      ∙ ap (λ b. made ++ cond b _ (next ∷ given_from free left labels)) is
+      ∙ ap (λ b. made ++ cond b (w ∷ given_from free (next ∷ left) labels) (next ∷ given_from free left labels)) is
       ∙ so_far
 
   -- another, where none is left
   pub with_none : made ++ given_from free [] (w ∷ labels) ≡ all → false ≡ free w → made ++ given_from free [] labels ≡ all
-  with_none so_far is = ap (λ b. made ++ cond b _ (given_from free [] labels)) is ∙ so_far
+  with_none so_far is = ap (λ b. made ++ cond b (w ∷ given_from free [] labels) (given_from free [] labels)) is ∙ so_far

@@ -1,3 +1,7 @@
 mod Before
+mod Changing
 mod Giving
-mod Relabelling
+mod Premises
+mod PutTokens
+pub mod Some
+mod Wanted

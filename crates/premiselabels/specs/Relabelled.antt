@@ -9,7 +9,7 @@ use Rattle.mmtext.specs.Text.{tokens}
 use Rattle.source.specs.Scopes.{Scope}
 use Rattle.source.specs.Sources.{DeclaresText}
 use Rattle.giving.specs.Staying.{Change, changed}
-use Rattle.items.specs.Items.{Piece, Item, bytes_of, words}
+use Rattle.items.specs.Items.{Item, bytes_of, words}
 use Rattle.pasting.specs.Quotes.{GivenLabels}
 use Rattle.premiselabels.specs.Labels.{changes_from}
 

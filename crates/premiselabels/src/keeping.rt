@@ -1,12 +1,14 @@
 //! Which labels `$e` have that are given labels.
 
-ghost use Rattle.std.specs.Prelude.{◌≡◌, ◌≤◌, ◌<◌, ◌++◌, [], IfOk, OnOk, length, map, take};
-ghost use Rattle.std.specs.List.{flat_map};
-ghost use Rattle.source.specs.Scopes.{is_in};
-ghost use Rattle.source.specs.Views.{seen_hypotheses, seen_pairs, seen_words};
+ghost use Rattle.std.specs.Prelude.{◌≡◌, ◌<◌, ◌||◌, ◌++◌, ◌∷◌, [], if◌then◌else◌, IfOk, OnOk, Some, length, map, slice_get, take};
+ghost use Rattle.std.specs.List.{flat_map, list_any};
+ghost use Rattle.std.specs.Str.{bytes_eq};
+ghost use mathlib.Core.Bool.{not};
+ghost use Rattle.source.specs.Scopes.{Assertion, is_in};
+ghost use Rattle.source.specs.Views.{seen_hypothesis, seen_pairs, seen_words};
 ghost use Rattle.taking.specs.Listings.{premise_labels};
 ghost use Rattle.pasting.specs.Views.{seen_given_labels};
-ghost use Rattle.premiselabels.specs.Labels.{changes_between, changes_by, changes_from, changes_to, given_from, is_free, labels_then, left_of, written_for};
+ghost use Rattle.premiselabels.specs.Labels.{changes_between, changes_by, changes_from, is_free, labels_then, left_of, written_for};
 
 use pasting::GivenLabels;
 use sites::Indexed;
@@ -14,17 +16,31 @@ use source::{Declared, HypothesisWords};
 use std::alloc::{AllocError, Global};
 use std::hash::RandomState;
 
-/// The labels of the `$e` among hypotheses.
-fn premise_labels<'a>(
+/// The label of a hypothesis, and whether it is a `$e`.
+fn label_of<'a>(hypothesis: &HypothesisWords<'a>) -> (&'a [u8], bool)
+    ensures { premise_labels (seen_hypothesis hypothesis.now ∷ []) ≡ (if result.1 then result.0.now ∷ [] else []) }
+{
+    match hypothesis {
+        HypothesisWords::Typing(label, _, _) => (*label, false),
+        HypothesisWords::Premise(label, _) => (*label, true),
+    }
+}
+
+/// The labels of the `$e` of the assertion at a place.
+fn premises_at<'a, D: Declared<'a>>(
     alloc: Global,
-    hypotheses: &[&HypothesisWords<'a>],
+    declared: &D,
+    place: usize,
 ) -> Result<Vec<&'a [u8]>, AllocError>
-    ensures { IfOk result (λ made. seen_words made.items ≡ premise_labels (seen_hypotheses hypotheses.now)) }
+    requires { place < length (D.scope declared.now).assertions }
+    ensures { (x : Assertion) → slice_get (D.scope declared.now).assertions place ≡ Some x
+        → IfOk result (λ made. seen_words made.items ≡ premise_labels x.hypotheses) }
 {
     let mut made = Vec::new(alloc);
-    for hypothesis in hypotheses {
-        if let HypothesisWords::Premise(label, _) = *hypothesis {
-            made.push(*label)?;
+    for hypothesis in declared.mandatory(alloc, place)? {
+        let (label, is_premise) = label_of(hypothesis);
+        if is_premise {
+            made.push(label)?;
         }
     }
     Ok(made)
@@ -38,16 +54,15 @@ fn written_for<'a, D: Declared<'a>>(
 ) -> Result<Vec<&'a [u8]>, AllocError>
     ensures { IfOk result (λ made. seen_words made.items ≡ written_for (D.scope declared.now) label.now) }
 {
-    let Some(place) = declared.place_of(label) else {
-        return Ok(Vec::new(alloc));
-    };
-    let mandatory = declared.mandatory(alloc, place)?;
-    premise_labels(alloc, mandatory.as_slice())
+    match declared.place_of(label) {
+        None => Ok(Vec::new(alloc)),
+        Some(place) => premises_at(alloc, declared, place),
+    }
 }
 
 /// Whether a word is one of these.
 fn is_among(words: &[&[u8]], word: &[u8]) -> bool
-    ensures { result ≡ is_in (seen_words words.now) word.now }
+    ensures { result ≡ list_any (λ other. bytes_eq word.now other.now) words.now }
 {
     words.iter().any(|other| word == *other)
 }
@@ -66,18 +81,37 @@ struct Labels<'l, 'x, D> {
 }
 
 impl<'l, 'x, 'a, D: Declared<'a>> Labels<'l, 'x, D> {
-    /// Whether a label is free: one look-up each in the source and among those that are asked for.
+    /// Whether a label is one of those that are written.
+    fn is_written(&self, label: &[u8]) -> bool
+        ensures { result ≡ is_in (seen_words self.now.written.now) label.now }
+    {
+        is_among(self.written, label)
+    }
+
+    /// Whether nothing else has a label: one look-up.
+    fn is_unused(&self, label: &[u8]) -> bool
+        ensures { let s = D.scope self.now.declared.now in result
+            ≡ (not (is_in s.symbols label.now || is_in s.labels label.now) || is_in (seen_words self.now.written.now) label.now) }
+    {
+        !self.declared.has_name(label) || self.is_written(label)
+    }
+
+    /// Whether others ask for a label before: one look-up.
+    fn is_asked_for(&self, label: &[u8]) -> bool
+        ensures { result ≡ is_in (take self.now.before self.now.wanted.now) label.now }
+    {
+        match self.wanted.place(label) {
+            Some(place) => place < self.before,
+            None => false,
+        }
+    }
+
+    /// Whether a label is free.
     fn is_free(&self, label: &[u8]) -> bool
         ensures { let it = self.now in
             result ≡ is_free (D.scope it.declared.now) (seen_words it.written.now) (take it.before it.wanted.now) label.now }
     {
-        if self.declared.has_name(label) && !is_among(self.written, label) {
-            return false;
-        }
-        match self.wanted.place(label) {
-            Some(place) => place >= self.before,
-            None => true,
-        }
+        self.is_unused(label) && !self.is_asked_for(label)
     }
 
     /// What is left of those that are written, where these labels are given.
@@ -101,14 +135,15 @@ impl<'l, 'x, 'a, D: Declared<'a>> Labels<'l, 'x, D> {
             let free = is_free (D.scope it.declared.now) (seen_words it.written.now) (take it.before it.wanted.now) in
             IfOk result (λ made. seen_words made.items ≡ labels_then free (seen_words it.written.now) (seen_words labels.now)) }
     {
-        let left = self.left_of(alloc, labels)?;
+        let unused = self.left_of(alloc, labels)?;
+        let left = unused.as_slice();
         let mut made = Vec::with_capacity(alloc, labels.len())?;
         let mut next = 0;
         for label in labels {
             if self.is_free(label) {
                 made.push(*label)?;
-            } else if let Some(other) = left.get(next) {
-                made.push(*other)?;
+            } else if next < left.len() {
+                made.push(left[next])?;
                 next += 1;
             }
         }
@@ -184,6 +219,8 @@ pub(crate) fn changes_of<'a, D: Declared<'a>>(
     ensures { IfOk result (λ made. seen_pairs made.items ≡ changes_from (D.scope declared.now) [] (map seen_given_labels given.now)) }
 {
     let wanted = wanted_by(alloc, keys, given)?;
+    // For the proof: they are as many as a slice can have.
+    let _words = wanted.words();
     let mut changes = Vec::new(alloc);
     let mut before = 0;
     for one in given {

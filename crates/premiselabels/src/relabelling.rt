@@ -1,12 +1,8 @@
 //! A text with changed labels outside of comments.
 
-ghost use Rattle.std.specs.Prelude.{◌≡◌, IfOk};
-ghost use Rattle.std.specs.Str.{bytes_eq};
-ghost use Rattle.std.specs.Prelude.{codes};
-ghost use mathlib.Core.Bool.{not};
-ghost use Rattle.items.specs.Items.{is_open_behind};
+ghost use Rattle.std.specs.Prelude.{◌≡◌, ◌∷◌, ℕ, List, IfOk};
+ghost use Rattle.items.specs.Items.{Item};
 ghost use Rattle.premiselabels.specs.Relabelled.{IsRelabelled, relabelled};
-ghost use Rattle.std.specs.Prelude.{◌∷◌, []};
 
 use commentwords::changed;
 use giving::LabelMap;
@@ -28,10 +24,10 @@ fn reworded<'w>(changes: &'w LabelMap<'_>, is_open: bool, word: &'w [u8]) -> (&'
 }
 
 /// A text in which labels outside of comments are changed.
-pub(crate) fn relabel(
+pub(crate) fn relabel<'w>(
     alloc: Global,
-    changes: &LabelMap<'_>,
-    text: &[u8],
+    changes: &'w LabelMap<'_>,
+    text: &'w [u8],
 ) -> Result<Vec<u8>, AllocError>
     ensures { IfOk result (λ out. IsRelabelled changes.now text.now out.items) }
 {

@@ -1,6 +1,6 @@
 -- What the loop of `relabel` keeps: the tokens so far were put, and it ends.
 use Rattle.std.proofs.Common.{◌≤◌, ◌-◌, length}
-use Rattle.premiselabels.proofs.Relabelling.{IsPutTo}
+use Rattle.premiselabels.proofs.PutTokens.{IsPutTo}
 use Rattle.premiselabels.proofs.relabelling.relabel.Given as goal
 
 abbrev pub invariant-loop-token : goal.invariant-loop-token

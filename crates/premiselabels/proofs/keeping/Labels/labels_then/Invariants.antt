@@ -8,6 +8,6 @@ abbrev pub invariant-loop-label : goal.invariant-loop-label
 invariant-loop-label g l =
     seen_words l.made.items
     ++ given_from (is_free (g.D.Declared.scope l.self.declared.now) (seen_words l.self.written.now) (take l.self.before l.self.wanted.now))
-    (seen_words (drop l.next l.left.items)) (seen_words (drop l.label-index l.labels))
+    (seen_words (drop l.next l.left)) (seen_words (drop l.label-index l.labels))
     ≡ given_from (is_free (g.D.Declared.scope l.self.declared.now) (seen_words l.self.written.now) (take l.self.before l.self.wanted.now))
-    (seen_words l.left.items) (seen_words l.labels)
+    (seen_words l.left) (seen_words l.labels)
