@@ -8,7 +8,7 @@ use Rattle.std.specs.Str.{bytes_eq}
 use Rattle.std.specs.declared.alloc.Global.{Global}
 use Rattle.std.proofs.lemmas.Bool.{cases_Bool, both_ways, cond-true, cond-false, and_parts, and_from, or_from}
 use Rattle.std.proofs.lemmas.List.Elements.{Contains-get_or}
-use Rattle.std.proofs.lemmas.List.Folds.{list_any_at, list_any_none, Any-from_list_any}
+use Rattle.std.proofs.lemmas.List.Folds.{list_any_none}
 use Rattle.mmsyntax.specs.Dotted.{clash, is_dotted, trunk}
 use Rattle.mmsyntax.proofs.DottedWords.{dotted_trunk}
 use Rattle.mmsyntax.proofs.Names.{same_bytes, bytes_eq-sym}
@@ -19,7 +19,7 @@ use Rattle.library.proofs.Clashing.{clashes_at}
 use Rattle.library.proofs.Filtered.{contained_filter}
 use Rattle.library.proofs.Places.{has_at, has_somewhere}
 use Rattle.catalog.specs.Entries.{Entries, living}
-use Rattle.catalog.specs.Places.{Places, place_in, IsIndex}
+use Rattle.catalog.specs.Places.{Places, IsIndex}
 use Rattle.catalog.specs.Trunks.{Trunks, listed_for, lists, AreTrunks, IsListed}
 use Rattle.catalog.proofs.Living.{contained-stands}
 
@@ -91,6 +91,32 @@ no_clash lib w front behind =
 
 -- ---- by the lists
 
+-- one of some labels is L.k for the label L, and an assertion has it
+abbrev pub some_behind : List Ranked → List ℕ → List (Vec ℕ Global) → Bool
+some_behind lib w labels = list_any (λ k. is_dotted w k.items && has lib k.items) labels
+
+some_clashes : (lib : List Ranked) (w : List ℕ) (labels : List (Vec ℕ Global)) → some_behind lib w labels ≡ true → clashes lib w ≡ true
+some_clashes lib w [] h = absurd cc
+some_clashes lib w (x ∷ xs) h = elim (cases_Bool (is_dotted w x.items && has lib x.items)) [
+  | inl y ↦
+      let both = and_parts (is_dotted w x.items) (has lib x.items) y in
+      behind_clashes lib w x.items both.0 both.1
+  | inr n ↦ some_clashes lib w xs (sym (ap (λ b. b || some_behind lib w xs) n) ∙ h)
+]
+
+some-listed : (lib : List Ranked) (w v : List ℕ) (labels : List (Vec ℕ Global)) → lists labels v ≡ true → is_dotted w v ≡ true
+    → has lib v ≡ true → some_behind lib w labels ≡ true
+some-listed lib w v [] h dotted there = absurd cc
+some-listed lib w v (x ∷ xs) h dotted there = elim (cases_Bool (bytes_eq x.items v)) [
+  | inl y ↦
+      let same = same_bytes x.items v y in
+      ap (λ b. b || some_behind lib w xs)
+      (and_from (is_dotted w x.items) (has lib x.items) (ap (is_dotted w) same ∙ dotted) (ap (has lib) same ∙ there))
+  | inr n ↦
+      let later = some-listed lib w v xs (sym (ap (λ b. b || lists xs v) n) ∙ h) dotted there in
+      elim (is_dotted w x.items && has lib x.items) as (λ b. (b || some_behind lib w xs) ≡ true) [ true ↦ refl | false ↦ later ]
+]
+
 module _ (t : Trunks) (m : Places) (es : Entries) (own w : List ℕ) (x : IsIndex m es) (h : AreTrunks t m)
     (front : (is_dotted (trunk w) w && has (without own (living es)) (trunk w)) ≡ false) where
   -- what is L.k for the label stands in its list
@@ -111,27 +137,19 @@ module _ (t : Trunks) (m : Places) (es : Entries) (own w : List ℕ) (x : IsInde
 
   -- whether one of its list is another's label
   pub listed_clashes : (list : Vec (Vec ℕ Global) Global) → Some list ≡ listed_for t w
-      → list_any (λ k. is_dotted w k.items && has (without own (living es)) k.items) list.items ≡ clashes (without own (living es)) w
+      → some_behind (without own (living es)) w list.items ≡ clashes (without own (living es)) w
   listed_clashes list is =
       let lib = without own (living es) in
-      let test = λ (k : Vec ℕ Global). is_dotted w k.items && has lib k.items in
-      elim (cases_Bool (list_any test list.items)) [
-        | inl y ↦
-            let k = Any-from_list_any test list.items y in
-            let both = and_parts (is_dotted w k.1.items) (has lib k.1.items) k.4 in
-            y ∙ sym (behind_clashes lib w k.1.items both.0 both.1)
+      elim (cases_Bool (some_behind lib w list.items)) [
+        | inl y ↦ y ∙ sym (some_clashes lib w list.items y)
         | inr n ↦ n ∙ sym (no_clash lib w front (λ e at. elim (cases_Bool (is_dotted w (label_of e))) [
           | inl y ↦
               let listed = listed_behind e at y in
               let both : Some listed.list ≡ Some list = sym listed.at ∙ sym is in
               let one : listed.list ≡ list = cc in
               let member = subst (λ (v : Vec (Vec ℕ Global) Global). lists v.items (label_of e) ≡ true) one listed.member in
-              let k = Any-from_list_any (λ (v : Vec ℕ Global). bytes_eq v.items (label_of e)) list.items member in
-              let same : k.1.items ≡ label_of e = same_bytes k.1.items (label_of e) k.4 in
-              let there : has lib (label_of e) ≡ true = has_at lib (label_of e) at.0 e at.1 (ap label_of at.2) in
-              let passes : test k.1 ≡ true =
-              and_from (is_dotted w k.1.items) (has lib k.1.items) (ap (is_dotted w) same ∙ y) (ap (has lib) same ∙ there) in
-              absurd (both_ways (list_any test list.items) n (list_any_at test list.items k.0 k.1 k.2 (ap test k.3 ∙ passes)))
-          | inr not_dotted ↦ not_dotted
+              let there = has_at lib (label_of e) at.0 e at.1 (ap label_of at.2) in
+              absurd (both_ways (some_behind lib w list.items) n (some-listed lib w (label_of e) list.items member y there))
+          | inr other ↦ other
         ]))
       ]

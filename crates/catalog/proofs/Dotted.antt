@@ -151,6 +151,13 @@ trunks-forgot t u m n w h kept gone = record {
   ];
 }
 
--- lists grew, or the map of places has no other label
+-- lists grew, and the map of places has no other label
 pub trunks-kept : (t u : Trunks) (m n : Places) → KeepsListed t u → KeepsLabels n m → AreTrunks t m → AreTrunks u n
 trunks-kept t u m n kept fewer h = record { entered = λ q some l dotted. kept.keeps l q (h.entered q (fewer.keeps q some) l dotted) }
+
+-- a map that finds the same
+pub labels-same : (m n : Places) → n.entries ≡ m.entries → KeepsLabels n m
+labels-same m n same = record { keeps = λ q some. subst (λ o. IsSome o) (ap (lookup (λ k. bytes_eq q k.items)) same) some }
+
+pub listed-all : (m : Trunks) → KeepsListed m m
+listed-all m = record { keeps = λ l w h. h }

@@ -53,12 +53,7 @@ pub fn take_all_back(entries: &mut [Option<Ranked>], places: &mut Places, notes:
 }
 
 /// Drops a note, and from the maps the label that it holds, unless an assertion has it.
-fn forget_note(
-    entries: &[Option<Ranked>],
-    places: &mut Places,
-    trunks: &mut Trunks,
-    note: Note,
-)
+fn forget_note(entries: &[Option<Ranked>], places: &mut Places, trunks: &mut Trunks, note: Note)
     requires indexed { IsIndex places.old entries.now }
     requires trunks { AreTrunks trunks.old places.old }
     ensures indexed { IsIndex places.new entries.now }
