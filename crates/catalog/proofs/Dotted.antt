@@ -1,5 +1,5 @@
 -- Lists of labels L.k, by L: after a label was entered or dropped.
-use Rattle.std.proofs.Common.{◌≡◌, ℕ, ◌<◌, Bool, true, false, cond, List, [], ◌∷◌, ◌++◌, Vec, Option, None, Some, length, refl, sym, ap, subst}
+use Rattle.std.proofs.Common.{◌≡◌, ℕ, true, false, cond, List, [], ◌∷◌, ◌++◌, Vec, Option, None, Some, length, refl, sym, ap, subst}
 use Rattle.std.proofs.Common.{◌∙◌, inl, inr, arith}
 use Rattle.std.specs.Prelude.{◌||◌, filter}
 use mathlib.Core.Bool.{not}
@@ -8,7 +8,7 @@ use Rattle.std.specs.Map.{lookup}
 use Rattle.std.specs.Str.{bytes_eq}
 use Rattle.std.specs.declared.alloc.Global.{Global}
 use Rattle.std.proofs.lemmas.Bool.{cases_Bool, both_ways, cond-true, cond-false}
-use Rattle.mmsyntax.specs.Dotted.{is_dotted, trunk}
+use Rattle.mmsyntax.specs.Dotted.{trunk}
 use Rattle.mmsyntax.proofs.DottedWords.{dotted_trunk, dotted_longer}
 use Rattle.mmsyntax.proofs.Names.{same_bytes, bytes_eq-same}
 use Rattle.catalog.specs.Places.{Places, place_in, Puts, KeepsLabels}
