@@ -136,7 +136,8 @@ entered c =
     let key : c.in_ok-key.key.items ≡ w = search rules in
     let puts = after_update c.in_ok-key.key.items i.places n (Some c.args.place) c.in_ok-insert.ensures.updates in
     trunks-put i.trunks tr i.places n w c.args.place c.self.invariant.4 c.in_ok-enter_trunk.ensures.kept
-    (subst (IsEntered tr) c.as_slice-label.ensures c.in_ok-enter_trunk.ensures.entered) (subst (λ k. Puts i.places k c.args.place n) key puts)
+    (subst (IsEntered tr) c.as_slice-label.ensures c.in_ok-enter_trunk.ensures.entered)
+    (subst (λ k. Puts i.places k c.args.place n) key puts)
 
 pub invariant_of-self-2 : goal.invariant_of-self-2
 invariant_of-self-2 c =
