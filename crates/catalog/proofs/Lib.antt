@@ -13,3 +13,5 @@ pub mod Covering
 pub mod Members
 pub mod Reciting
 pub mod Known
+pub mod Dotted
+pub mod Clashes

@@ -1,10 +1,7 @@
 -- Of the code's inside, apart from the rules: what the tests of commands ask of one place of the entries.
 use Rattle.std.specs.Prelude.{ℕ, Bool, false, ◌&&◌, nat_le, slice_index_or, List, Option, None, Some}
-use mathlib.Core.Bool.{not}
-use Rattle.mmsyntax.specs.Dotted.{clash}
 use Rattle.library.specs.declared.library.Ranked.{Ranked}
-use Rattle.library.specs.Library.{label_of}
-use Rattle.library.specs.Edits.{cites, is_labelled}
+use Rattle.library.specs.Edits.{cites}
 use Rattle.catalog.specs.Entries.{Entries}
 
 -- whether a place has an assertion that passes the test
@@ -19,7 +16,3 @@ passes_at test entries p = passes_there test (slice_index_or entries p None)
 -- whether the proof of an assertion of this rank or a lower one cites the label
 abbrev pub cites_from : List ℕ → ℕ → Ranked → Bool
 cites_from label rank e = cites label e && nat_le e.rank rank
-
--- whether an assertion with another label than `own` has a label that clashes with this one
-abbrev pub clashes_beside : List ℕ → List ℕ → Ranked → Bool
-clashes_beside own label e = not (is_labelled own e) && clash (label_of e) label

@@ -1,59 +1,73 @@
 //! Labels that may not stand beside one another in a library.
 
-ghost use Rattle.std.specs.Prelude.{◌≡◌};
+ghost use Rattle.std.specs.Prelude.{◌≡◌, ◌&&◌};
 ghost use Rattle.std.specs.List.{list_any};
-ghost use Rattle.mmsyntax.specs.Dotted.{clash, is_dotted};
-ghost use Rattle.library.specs.Edits.{clashes, without};
+ghost use Rattle.mmsyntax.specs.Dotted.{is_dotted, trunk};
+ghost use Rattle.library.specs.Edits.{clashes, has, without};
 ghost use Rattle.catalog.specs.Entries.{living};
-ghost use Rattle.catalog.specs.Testing.{passes_there, clashes_beside};
+ghost use Rattle.catalog.specs.Places.{IsIndex};
+ghost use Rattle.catalog.specs.Trunks.{AreTrunks};
 
+use crate::places::{Places, find_label};
+use crate::trunks::Trunks;
 use library::Ranked;
-use mmsyntax::is_dotted;
+use mmsyntax::{is_dotted, trunk};
 
-/// Whether a word is `L.k`, for the label L. Of most words the byte behind a front as long as the label tells that they aren't.
-fn names_hypothesis_of(label: &[u8], word: &[u8]) -> bool
-    ensures { result ≡ is_dotted label.now word.now }
+/// Whether an assertion has a label, which isn't `own`.
+fn has_beside(entries: &[Option<Ranked>], places: &Places, own: &[u8], label: &[u8]) -> bool
+    requires { IsIndex places.now entries.now }
+    ensures { result ≡ has (without own.now (living entries.now)) label.now }
 {
-    let dot = label.len();
-    if dot >= word.len() {
-        return false;
-    }
-    if word[dot] != b'.' {
-        return false;
-    }
-    is_dotted(label, word)
+    own != label && find_label(entries, places, label).is_some()
 }
 
-/// Whether one of two labels is `L.k` of the other.
-fn clash(label: &[u8], other: &[u8]) -> bool
-    ensures { result ≡ clash label.now other.now }
+/// Whether a label is `L.k` for that of such an assertion, L.
+fn has_front_beside(entries: &[Option<Ranked>], places: &Places, own: &[u8], label: &[u8]) -> bool
+    requires { IsIndex places.now entries.now }
+    ensures { result ≡ (is_dotted (trunk label.now) label.now && has (without own.now (living entries.now)) (trunk label.now)) }
 {
-    names_hypothesis_of(label, other) || names_hypothesis_of(other, label)
+    let front = trunk(label);
+    is_dotted(front, label) && has_beside(entries, places, own, front)
 }
 
-/// Whether a place has an assertion, with another label than `own`, whose label clashes with one.
-fn clashes_there(place: &Option<Ranked>, own: &[u8], label: &[u8]) -> bool
-    ensures { result ≡ passes_there (clashes_beside own.now label.now) place.now }
+/// Whether one of some labels is `L.k`, for the label L, and that of such an assertion.
+fn some_beside(
+    entries: &[Option<Ranked>],
+    places: &Places,
+    own: &[u8],
+    label: &[u8],
+    dotted: &[Vec<u8>],
+) -> bool
+    requires { IsIndex places.now entries.now }
+    ensures { result
+        ≡ list_any (λ k. is_dotted label.now k.items && has (without own.now (living entries.now)) k.items) dotted.now }
 {
-    match place {
-        None => false,
-        Some(entry) => {
-            let there = entry.assertion.label.as_slice();
-            own != there && clash(there, label)
+    for word in dotted {
+        let word = word.as_slice();
+        if is_dotted(label, word) && has_beside(entries, places, own, word) {
+            return true;
         }
     }
-}
-
-/// Whether some place has such an assertion.
-fn some_clashes(entries: &[Option<Ranked>], own: &[u8], label: &[u8]) -> bool
-    ensures { result ≡ list_any (passes_there (clashes_beside own.now label.now)) entries.now }
-{
-    entries.iter().any(|place| clashes_there(place, own, label))
+    false
 }
 
 /// Whether the label of an assertion clashes with one. The assertion with the label `own`, if there is one, is left out.
-pub fn has_clash(entries: &[Option<Ranked>], own: &[u8], label: &[u8]) -> bool
+pub fn has_clash(
+    entries: &[Option<Ranked>],
+    places: &Places,
+    trunks: &Trunks,
+    own: &[u8],
+    label: &[u8],
+) -> bool
+    requires indexed { IsIndex places.now entries.now }
+    requires trunks { AreTrunks trunks.now places.now }
     ensures { result ≡ clashes (without own.now (living entries.now)) label.now }
 {
-    some_clashes(entries, own, label)
+    if has_front_beside(entries, places, own, label) {
+        return true;
+    }
+    match trunks.get(label) {
+        None => false,
+        Some(dotted) => some_beside(entries, places, own, label, dotted.as_slice()),
+    }
 }

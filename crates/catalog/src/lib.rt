@@ -9,6 +9,7 @@ mod listing;
 mod notes;
 mod places;
 mod testing;
+mod trunks;
 
 pub use citers::{Citers, enter, enter_citer, open_citers};
 pub use citing::{recited, relabelled, reproved};
@@ -19,3 +20,4 @@ pub use places::{Places, entry_at, find_entry, find_label, open_entries, open_fr
 pub use testing::{
     Lower, cites, cites_not_below, cites_unknown, count_citers, has_citer_below, proof_fault,
 };
+pub use trunks::{Trunks, enter_trunk};

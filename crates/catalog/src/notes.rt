@@ -2,9 +2,11 @@
 
 ghost use Rattle.std.specs.Prelude.{◌≡◌, [], Some, slice_get};
 ghost use Rattle.catalog.specs.Places.{IsIndex, HasOnly, KeepsLabels};
+ghost use Rattle.catalog.specs.Trunks.{AreTrunks};
 ghost use Rattle.catalog.specs.Changes.{taken_back, undone, formers, CanTakeBack, CanUndo, IsForgotten};
 
 use crate::places::{Places, forget_label, put_place};
+use crate::trunks::Trunks;
 use library::Ranked;
 use std::mem;
 
@@ -40,6 +42,7 @@ pub fn take_all_back(entries: &mut [Option<Ranked>], places: &mut Places, notes:
     requires can { CanUndo places.old notes.old entries.old }
     ensures entries { entries.new ≡ undone notes.old entries.old }
     ensures indexed { IsIndex places.new entries.new }
+    ensures fewer { KeepsLabels places.new places.old }
     ensures only { HasOnly places.new entries.new (formers notes.new) }
 {
     let mut left = notes.len();
@@ -49,27 +52,36 @@ pub fn take_all_back(entries: &mut [Option<Ranked>], places: &mut Places, notes:
     }
 }
 
-/// Drops a note, and from the map the label that it holds, unless an assertion has it.
-fn forget_note(entries: &[Option<Ranked>], places: &mut Places, note: Note)
-    requires { IsIndex places.old entries.now }
+/// Drops a note, and from the maps the label that it holds, unless an assertion has it.
+fn forget_note(entries: &[Option<Ranked>], places: &mut Places, trunks: &mut Trunks, note: Note)
+    requires indexed { IsIndex places.old entries.now }
+    requires trunks { AreTrunks trunks.old places.old }
     ensures indexed { IsIndex places.new entries.now }
+    ensures trunks { AreTrunks trunks.new places.new }
     ensures fewer { KeepsLabels places.new places.old }
     ensures gone { IsForgotten places.new entries.now note.former }
 {
     if let Some(former) = note.former {
-        forget_label(entries, places, former.assertion.label.as_slice());
+        forget_label(entries, places, trunks, former.assertion.label.as_slice());
     }
 }
 
-/// Drops all notes, and from the map their labels that no assertion has.
-pub fn drop_notes(entries: &[Option<Ranked>], places: &mut Places, notes: &mut Vec<Note>)
+/// Drops all notes, and from the maps their labels that no assertion has.
+pub fn drop_notes(
+    entries: &[Option<Ranked>],
+    places: &mut Places,
+    trunks: &mut Trunks,
+    notes: &mut Vec<Note>,
+)
     requires indexed { IsIndex places.old entries.now }
     requires only { HasOnly places.old entries.now (formers notes.old.items) }
+    requires trunks { AreTrunks trunks.old places.old }
     ensures indexed { IsIndex places.new entries.now }
+    ensures trunks { AreTrunks trunks.new places.new }
     ensures only { HasOnly places.new entries.now [] }
     ensures empty { notes.new.items ≡ [] }
 {
     while let Some(note) = notes.pop() {
-        forget_note(entries, places, note);
+        forget_note(entries, places, trunks, note);
     }
 }

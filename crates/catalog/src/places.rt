@@ -10,7 +10,9 @@ ghost use Rattle.library.specs.declared.library.Ranked.{Ranked as RankedView};
 ghost use Rattle.mmframes.specs.Frames.{frame};
 ghost use Rattle.catalog.specs.Entries.{living, standing, StandsIn};
 ghost use Rattle.catalog.specs.Places.{IsIndex, HasOnly, KeepsLabels, FoundAt, Puts, StandsSomewhere, place_in};
+ghost use Rattle.catalog.specs.Trunks.{AreTrunks};
 
+use crate::trunks::{Trunks, enter_trunk, forget_trunk};
 use library::Ranked;
 use mmframes::frame_of;
 use mmsyntax::{Assertion, Frame, Prelude};
@@ -70,33 +72,46 @@ pub(crate) fn put_place(places: &mut Places, label: &[u8], place: usize)
     }
 }
 
-/// Drops a label from the map, unless an assertion has it.
-pub(crate) fn forget_label(entries: &[Option<Ranked>], places: &mut Places, label: &[u8])
-    requires { IsIndex places.old entries.now }
+/// Drops a label from the maps, unless an assertion has it.
+pub(crate) fn forget_label(
+    entries: &[Option<Ranked>],
+    places: &mut Places,
+    trunks: &mut Trunks,
+    label: &[u8],
+)
+    requires indexed { IsIndex places.old entries.now }
+    requires trunks { AreTrunks trunks.old places.old }
     ensures indexed { IsIndex places.new entries.now }
+    ensures trunks { AreTrunks trunks.new places.new }
     ensures fewer { KeepsLabels places.new places.old }
     ensures gone { IsSome (place_in places.new label.now) → StandsSomewhere entries.now label.now }
 {
     if find_label(entries, places, label).is_none() {
         let _ = places.remove(label);
+        forget_trunk(trunks, label);
     }
 }
 
-/// Puts an assertion behind the others. After an error the two may disagree.
+/// Puts an assertion behind the others. After an error the three may disagree.
 pub(crate) fn add_entry(
     alloc: Global,
     entries: &mut Vec<Option<Ranked>>,
     places: &mut Places,
+    trunks: &mut Trunks,
     entry: Ranked,
 ) -> Result<(), AllocError>
     requires indexed { IsIndex places.old entries.old.items }
     requires only { HasOnly places.old entries.old.items [] }
+    requires trunks { AreTrunks trunks.old places.old }
     requires free { has (living entries.old.items) (label_of entry) ≡ false }
     ensures items { OnOk result (entries.new.items ≡ entries.old.items ++ Some entry ∷ []) }
     ensures indexed { OnOk result (IsIndex places.new entries.new.items) }
     ensures only { OnOk result (HasOnly places.new entries.new.items []) }
+    ensures trunks { OnOk result (AreTrunks trunks.new places.new) }
 {
-    let key = Vec::from_slice(alloc, entry.assertion.label.as_slice())?;
+    let label = entry.assertion.label.as_slice();
+    let key = Vec::from_slice(alloc, label)?;
+    enter_trunk(alloc, trunks, label)?;
     places.insert(key, entries.len())?;
     entries.push(Some(entry))?;
     Ok(())
@@ -111,23 +126,25 @@ pub fn open_entries(
     alloc: Global,
     keys: RandomState,
     assertions: &[Assertion],
-) -> Result<(Vec<Option<Ranked>>, Places), AllocError>
+) -> Result<(Vec<Option<Ranked>>, Places, Trunks), AllocError>
     requires few { length assertions.now ≤ MOST_ASSERTIONS }
     requires distinct { Distinct bytes_eq (map label_of (ranked_from 1 assertions.now)) }
     ensures entries { IfOk result (λ made. made.0.items ≡ standing (ranked_from 1 assertions.now)) }
     ensures indexed { IfOk result (λ made. IsIndex made.1 made.0.items) }
     ensures only { IfOk result (λ made. HasOnly made.1 made.0.items []) }
+    ensures trunks { IfOk result (λ made. AreTrunks made.2 made.1) }
 {
     let mut entries = Vec::new(alloc);
     let mut places = HashMap::with_hasher(alloc, keys);
+    let mut trunks = HashMap::with_hasher(alloc, keys);
     for (i, assertion) in assertions.iter().enumerate() {
         let entry = Ranked {
             rank: 100 * (i as u32 + 1),
             assertion: assertion.copy(alloc)?,
         };
-        add_entry(alloc, &mut entries, &mut places, entry)?;
+        add_entry(alloc, &mut entries, &mut places, &mut trunks, entry)?;
     }
-    Ok((entries, places))
+    Ok((entries, places, trunks))
 }
 
 /// The frames of assertions, in order.

@@ -9,7 +9,7 @@ ghost use Rattle.catalog.specs.Entries.{living};
 ghost use Rattle.history.specs.Drafts.{now_in, IsOpened, Settles};
 
 use catalog::{
-    Citers, Note, Places, drop_notes, open_citers, open_entries, open_frames, take_all_back,
+    Citers, Note, Places, Trunks, drop_notes, open_citers, open_entries, open_frames, take_all_back,
 };
 use library::{PlainLibrary, Ranked};
 use mmsyntax::{Assertion, Frame, Prelude};
@@ -31,6 +31,8 @@ pub(crate) struct Draft {
     /// The frame of each assertion, at its place.
     frames: Vec<Frame>,
     places: Places,
+    /// The labels of the form `L.k`, by L.
+    trunks: Trunks,
     /// Lists only grow, so that taking changes back leaves them as they are.
     citers: Citers,
     /// How many assertions there are.
@@ -44,6 +46,7 @@ pub(crate) struct Draft {
 
 impl Model for Draft {
     ghost use Rattle.catalog.specs.Entries.{living};
+    ghost use Rattle.catalog.specs.Trunks.{AreTrunks};
     ghost use Rattle.catalog.specs.Changes.{undone};
     ghost use Rattle.history.specs.Drafts.{Drafted, IsDraft, AreCiters, IsCounted, IsShelf};
 
@@ -61,7 +64,8 @@ impl Model for Draft {
     ghost invariant = { λ d. IsDraft d.prelude d.places d.frames.items d.notes.items d.entries.items
         × IsCounted d.count d.start_count d.notes.items d.entries.items
         × IsShelf d.slots d.shelf
-        × AreCiters d.citers.items d.notes.items d.entries.items };
+        × AreCiters d.citers.items d.notes.items d.entries.items
+        × AreTrunks d.trunks d.places };
 }
 
 impl Draft {
@@ -77,7 +81,7 @@ impl Draft {
         requires distinct { Distinct bytes_eq (map label_of (ranked_from 1 assertions.now)) }
         ensures { IfOk result (IsOpened (record { prelude = prelude; slots = slots }) (ranked_from 1 assertions.now)) }
     {
-        let (entries, places) = open_entries(alloc, keys, assertions)?;
+        let (entries, places, trunks) = open_entries(alloc, keys, assertions)?;
         let frames = open_frames(alloc, &prelude, assertions)?;
         let citers = open_citers(alloc, entries.as_slice(), &places)?;
         Ok(Draft {
@@ -86,6 +90,7 @@ impl Draft {
             entries,
             frames,
             places,
+            trunks,
             citers,
             count: assertions.len(),
             start_count: assertions.len(),
@@ -124,7 +129,12 @@ impl Draft {
             &mut self.places,
             self.notes.as_mut_slice(),
         );
-        drop_notes(self.entries.as_slice(), &mut self.places, &mut self.notes);
+        drop_notes(
+            self.entries.as_slice(),
+            &mut self.places,
+            &mut self.trunks,
+            &mut self.notes,
+        );
         self.count = self.start_count;
     }
 
@@ -132,7 +142,12 @@ impl Draft {
     pub fn settle(&mut self)
         ensures { Settles self.old (now_in self.old) self.new }
     {
-        drop_notes(self.entries.as_slice(), &mut self.places, &mut self.notes);
+        drop_notes(
+            self.entries.as_slice(),
+            &mut self.places,
+            &mut self.trunks,
+            &mut self.notes,
+        );
         self.start_count = self.count;
     }
 

@@ -11,7 +11,7 @@ ghost use Rattle.catalog.specs.Changes.{Succeeds};
 ghost use Rattle.history.specs.Drafts.{now_in, Exchanges, KeepsStart};
 
 use super::Draft;
-use catalog::{Note, enter, enter_citer};
+use catalog::{Note, enter, enter_citer, enter_trunk};
 use library::Ranked;
 use mmsyntax::{Frame, Proof};
 use std::alloc::{AllocError, Global};
@@ -44,7 +44,7 @@ impl Draft {
         Ok(())
     }
 
-    /// Puts an assertion, whose label is free, in a place that has its frame. All memory that it takes is taken before anything
+    /// Puts an assertion, whose label is free, in a place that has its frame. All memory that it takes is taken before the library
     /// changes.
     pub(super) fn put(&mut self, alloc: Global, place: usize, new: Ranked) -> Result<(), AllocError>
         requires free { has (now_in self.old) (label_of new) ≡ false }
@@ -53,8 +53,10 @@ impl Draft {
         ensures done { OnOk result (Exchanges self.old place (Some new) self.new) }
         ensures kept { KeepsStart self.old self.new }
     {
-        let key = Vec::from_slice(alloc, new.assertion.label.as_slice())?;
+        let label = new.assertion.label.as_slice();
+        let key = Vec::from_slice(alloc, label)?;
         self.notes.reserve(1)?;
+        enter_trunk(alloc, &mut self.trunks, label)?;
         self.places.insert(key, place)?;
         let former = mem::replace(&mut self.entries[place], Some(new));
         self.count += usize::from(former.is_none());

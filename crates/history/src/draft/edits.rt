@@ -90,7 +90,7 @@ impl Draft {
         if find_label(entries, &self.places, label).is_some() {
             return Some(Reason::LabelTaken);
         }
-        if has_clash(entries, own, label) {
+        if has_clash(entries, &self.places, &self.trunks, own, label) {
             return Some(Reason::LabelClashes);
         }
         None

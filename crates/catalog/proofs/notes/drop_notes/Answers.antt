@@ -14,4 +14,5 @@ loop-note-preserved c =
     record {
       indexed = c.forget_note.ensures.indexed;
       only = only-forgot m n es c.pop.new.self.items c.in-Some.note c.forget_note.ensures.fewer c.forget_note.ensures.gone was;
+      trunks = c.forget_note.ensures.trunks;
     }

@@ -45,6 +45,7 @@ loop-left-preserved c =
     record {
       within = omega (arith, length-set x.notes k new);
       indexed = c.take_back.ensures.indexed;
+      fewer = record { keeps = λ q some. x.invariant.fewer.keeps q (c.take_back.ensures.fewer.keeps q some) };
       only = rw c.take_back.ensures.entries
           (subst (HasOnly m (taken_back n x.entries)) (sym (map-set (λ (y : Note). y.former) x.notes k new)) only);
       can = rw (take-set x.notes k new, c.take_back.ensures.entries) can;

@@ -1,5 +1,5 @@
 use Rattle.std.proofs.Common.{◌≡◌, ◌≤◌, length, take}
-use Rattle.catalog.specs.Places.{IsIndex, HasOnly}
+use Rattle.catalog.specs.Places.{IsIndex, HasOnly, KeepsLabels}
 use Rattle.catalog.specs.Changes.{undone, formers, CanUndo}
 use Rattle.catalog.proofs.notes.take_all_back.Given as goal
 
@@ -9,6 +9,7 @@ invariant-loop-left l =
     record {
       within : l.left ≤ length l.notes;
       indexed : IsIndex l.places l.entries;
+      fewer : KeepsLabels l.places l.initial.places;
       only : HasOnly l.places l.entries (formers l.notes);
       can : CanUndo l.places (take l.left l.notes) l.entries;
       same : undone (take l.left l.notes) l.entries ≡ undone l.initial.notes l.initial.entries;

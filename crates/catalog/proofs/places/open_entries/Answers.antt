@@ -34,6 +34,7 @@ loop-i-preserved c =
           ∙ sym (ap standing (ranked_from-next xs i a at) ∙ map-append (λ (x : Ranked). Some x) (take i (ranked_from 1 xs)) (e ∷ []));
       indexed = c.in_ok-add_entry.ensures.indexed;
       only = c.in_ok-add_entry.ensures.only;
+      trunks = c.in_ok-add_entry.ensures.trunks;
     }
 
 pub returns-clause-entries : goal.returns-clause-entries

@@ -20,7 +20,7 @@ invariant_of-self c =
     let whole = written_whole i.citers.items c.enter_citer.new.citers i.citers.len all
     (c.enter_citer.ensures.long ∙ ap length c.as_mut_slice.ensures.value) in
     let v = c.self.invariant in
-    (v.0, v.1, v.2, subst (λ l. AreCiters l i.notes.items i.entries.items) (sym whole) (listed c))
+    (v.0, v.1, v.2, subst (λ l. AreCiters l i.notes.items i.entries.items) (sym whole) (listed c), v.4)
 
 pub returns-clause-covered : goal.returns-clause-covered
 returns-clause-covered c =

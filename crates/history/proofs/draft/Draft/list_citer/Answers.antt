@@ -33,6 +33,7 @@ invariant_of-self c =
       v.2,
       citers_grown cs (set cs p list) i.notes.items i.entries.items (length-set cs p list)
           (All-set Up cs p list c.enter.ensures.ascending v.3.ascending) kept v.3,
+      v.4,
     )
 
 pub returns-clause-listed : goal.returns-clause-listed

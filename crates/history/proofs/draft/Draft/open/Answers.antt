@@ -31,6 +31,7 @@ invariant_of-result c =
       citers_settled c.in_ok-citers.citers.items c.new.result.items es c.new.ensures.items
           (c.in_ok-citers.ensures.long ∙ ap length c.as_slice.ensures.value) c.in_ok-citers.ensures.ascending
           (subst (Covers c.in_ok-citers.citers.items) c.as_slice.ensures.value c.in_ok-citers.ensures.covered),
+      c.in_ok-entries.ensures.trunks,
     )
 
 pub returns : goal.returns

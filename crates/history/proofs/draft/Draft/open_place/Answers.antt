@@ -49,7 +49,7 @@ listed c =
 pub invariant_of-self-2 : goal.invariant_of-self-2
 invariant_of-self-2 c =
     let r = opened c in
-    (r.0, r.1, c.self.invariant.2, listed c)
+    (r.0, r.1, c.self.invariant.2, listed c, c.self.invariant.4)
 
 pub returns-clause-kept : goal.returns-clause-kept
 returns-clause-kept c =

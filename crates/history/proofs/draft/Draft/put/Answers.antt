@@ -12,10 +12,12 @@ use Rattle.library.specs.Edits.{has}
 use Rattle.catalog.specs.declared.notes.Note.{Note}
 use Rattle.catalog.specs.Entries.{Entries, living}
 use Rattle.catalog.specs.Places.{Puts}
+use Rattle.catalog.specs.Trunks.{IsEntered, AreTrunks}
 use Rattle.catalog.specs.Citers.{Covers}
 use Rattle.catalog.specs.Changes.{undone}
 use Rattle.history.specs.Drafts.{Drafted, IsDraft, IsCounted}
 use Rattle.catalog.proofs.Changing.{count-into, count-within}
+use Rattle.catalog.proofs.Dotted.{trunks-put, trunks-kept, labels-same}
 use Rattle.catalog.proofs.Indexes.{free-alone}
 use Rattle.history.proofs.Listed.{citers_noted}
 use Rattle.history.proofs.Drafting.{draft_noted, draft_same}
@@ -30,6 +32,18 @@ within es frames held p f long same at =
     let lengths = ap length same in
     omega arith
 
+pub invariant_of-self-in_err-enter_trunk : goal.invariant_of-self-in_err-enter_trunk
+invariant_of-self-in_err-enter_trunk c =
+    let i = c.self.inside in
+    rw c.reserve.ensures.items (
+      c.self.invariant.0,
+      c.self.invariant.1,
+      c.self.invariant.2,
+      c.self.invariant.3,
+      trunks-kept i.trunks c.enter_trunk.new.trunks i.places i.places c.in_err-enter_trunk.ensures.kept (labels-same i.places i.places refl)
+          c.self.invariant.4,
+    )
+
 pub invariant_of-self-in_err-insert : goal.invariant_of-self-in_err-insert
 invariant_of-self-in_err-insert c =
     let i = c.self.inside in
@@ -39,6 +53,8 @@ invariant_of-self-in_err-insert c =
       c.self.invariant.1,
       c.self.invariant.2,
       c.self.invariant.3,
+      trunks-kept i.trunks c.enter_trunk.new.trunks i.places c.insert.new.self c.in_ok-enter_trunk.ensures.kept
+          (labels-same i.places c.insert.new.self c.in_err-insert.ensures.err) c.self.invariant.4,
     )
 
 pub index_mut-requires : goal.index_mut-requires
@@ -111,6 +127,18 @@ put c =
     (i.count + c.from.result) i.start_count c.self.invariant.0 c.self.invariant.1 at own (free-alone es w p free) puts noted
     (ap (set es p) c.replace-former.ensures.after) (omega arith)
 
+entered : (c : goal.After-push_reserved) → AreTrunks c.enter_trunk.new.trunks c.insert.new.self
+entered c =
+    let i = c.self.inside in
+    let tr = c.enter_trunk.new.trunks in
+    let n = c.insert.new.self in
+    let w = label_of c.args.new in
+    let key : c.in_ok-key.key.items ≡ w = search rules in
+    let puts = after_update c.in_ok-key.key.items i.places n (Some c.args.place) c.in_ok-insert.ensures.updates in
+    trunks-put i.trunks tr i.places n w c.args.place c.self.invariant.4 c.in_ok-enter_trunk.ensures.kept
+    (subst (IsEntered tr) c.as_slice-label.ensures c.in_ok-enter_trunk.ensures.entered)
+    (subst (λ k. Puts i.places k c.args.place n) key puts)
+
 pub invariant_of-self-2 : goal.invariant_of-self-2
 invariant_of-self-2 c =
     let i = c.self.inside in
@@ -120,7 +148,7 @@ invariant_of-self-2 c =
     let covered = subst (λ (d : Drafted). Covers d.citers (set d.entries p (Some c.args.new))) (sym c.self.view_is) c.requires.covered in
     let listed = citers_noted i.citers.items i.notes.items c.push_reserved.new.self.items es p c.replace-former.new.dest c.self.invariant.3
     (subst (λ o. Covers i.citers.items (set es p o)) (sym c.replace-former.ensures.after) covered) r.2 in
-    (r.0, r.1, c.self.invariant.2, listed)
+    (r.0, r.1, c.self.invariant.2, listed, entered c)
 
 pub returns-clause-kept : goal.returns-clause-kept
 returns-clause-kept c =

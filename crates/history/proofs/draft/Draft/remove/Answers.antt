@@ -59,7 +59,7 @@ invariant_of-self-2 c =
     let covered = covers-removed i.citers.items es p c.self.invariant.3.covers_now in
     let listed = citers_noted i.citers.items i.notes.items c.push_reserved.new.self.items es p c.take-former.new.self c.self.invariant.3
     (subst (λ o. Covers i.citers.items (set es p o)) (sym c.take-former.ensures.after) covered) r.2 in
-    (r.0, r.1, c.self.invariant.2, listed)
+    (r.0, r.1, c.self.invariant.2, listed, c.self.invariant.4)
 
 pub returns-clause-kept : goal.returns-clause-kept
 returns-clause-kept c =

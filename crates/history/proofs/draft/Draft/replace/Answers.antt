@@ -63,7 +63,7 @@ invariant_of-self-2 c =
     let covered = subst (λ (d : Drafted). Covers d.citers (set d.entries p (Some c.args.new))) (sym c.self.view_is) c.requires.covered in
     let listed = citers_noted i.citers.items i.notes.items c.push_reserved.new.self.items es p c.replace-former.new.dest c.self.invariant.3
     (subst (λ o. Covers i.citers.items (set es p o)) (sym c.replace-former.ensures.after) covered) r.2 in
-    (r.0, r.1, c.self.invariant.2, listed)
+    (r.0, r.1, c.self.invariant.2, listed, c.self.invariant.4)
 
 pub returns-clause-kept : goal.returns-clause-kept
 returns-clause-kept c =

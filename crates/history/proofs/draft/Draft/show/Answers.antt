@@ -1,5 +1,4 @@
 use Rattle.std.proofs.Common.{◌≡◌, ℕ, List, Ok, refl, sym, ap, ◌∙◌}
-use Rattle.library.specs.declared.library.Ranked.{Ranked}
 use Rattle.mmsyntax.specs.declared.statement.Assertion.{Assertion}
 use Rattle.library.specs.declared.command.Reply.TheVariants.{Shown}
 use Rattle.library.specs.Edits.{citers}

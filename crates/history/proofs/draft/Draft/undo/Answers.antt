@@ -3,10 +3,16 @@ use Rattle.catalog.specs.Entries.{living, AreFramed}
 use Rattle.catalog.specs.Places.{IsIndex, HasOnly}
 use Rattle.catalog.specs.Citers.{Covers}
 use Rattle.catalog.specs.Changes.{undone}
+use Rattle.catalog.proofs.Dotted.{trunks-kept, listed-all}
 use Rattle.history.proofs.Listed.{citers_settled}
 use Rattle.history.proofs.Drafting.{draft_settled, counted_settled}
 use Rattle.catalog.proofs.Undoing.{framed-undone, written_whole, length-undone}
 use Rattle.history.proofs.draft.Draft.undo.Goals as goal
+
+pub drop_notes-requires-clause-trunks : goal.drop_notes-requires-clause-trunks
+drop_notes-requires-clause-trunks c =
+    let i = c.self.inside in
+    trunks-kept i.trunks i.trunks i.places c.take_all_back.new.places (listed-all i.trunks) c.take_all_back.ensures.fewer c.self.invariant.4
 
 pub invariant_of-self : goal.invariant_of-self
 invariant_of-self c =
@@ -34,4 +40,5 @@ invariant_of-self c =
       citers_settled i.citers.items left _ none (c.self.invariant.3.long ∙ sym (length-undone ns es) ∙ ap length (sym is))
           c.self.invariant.3.ascending
           (subst (Covers i.citers.items) (sym is) c.self.invariant.3.covers_start),
+      c.drop_notes.ensures.trunks,
     )
