@@ -12,7 +12,9 @@ use Rattle.premiselabels.proofs.relabelling.relabel.Goals as goal
 pub loop-token-init : goal.loop-token-init
 loop-token-init c = record {
   within = omega arith;
-  put = subst (IsPutTo c.args.changes.now c.args.text.now 0 false) (sym c.in_ok-out.ensures.items) (nothing_put c.args.changes.now c.args.text.now);
+  put =
+      subst (IsPutTo c.args.changes.now c.args.text.now 0 false) (sym c.in_ok-out.ensures.items)
+      (nothing_put c.args.changes.now c.args.text.now);
 }
 
 pub slice_bounds-extend_from_slice-count : goal.slice_bounds-extend_from_slice-count
@@ -51,4 +53,5 @@ returns c =
     subst (IsRelabelled c.args.changes.now text)
     (sym (c.in_ok-extend_from_slice-3.ensures.items
     ∙ ap (λ o. c.loop-token.out.items ++ o) (take_rest text c.loop-token.at)))
-    (all_put c.args.changes.now text c.loop-token.at c.loop-token.is_open c.loop-token.out.items c.loop-token.invariant.put c.in_default.ensures.none)
+    (all_put c.args.changes.now text c.loop-token.at c.loop-token.is_open c.loop-token.out.items c.loop-token.invariant.put
+    c.in_default.ensures.none)

@@ -48,9 +48,11 @@ loop-label-preserved g c =
           (sym w.if-is_free.false ∙ c.is_free.ensures)
       | else-is_free+else-next-left w ↦
           ap₂ then w.made-is w.next-is
-          ∙ ap (λ (ws : List (Bor (List ℕ))). seen_words made ++ given_from free (seen_words ws) rest) (drop_all n left w.if-next-left.false)
+          ∙ ap (λ (ws : List (Bor (List ℕ))). seen_words made ++ given_from free (seen_words ws) rest)
+          (drop_all n left w.if-next-left.false)
           ∙ with_none free all (seen_words made) [] rest one.now
-          (ap (λ (ws : List (Bor (List ℕ))). seen_words made ++ given_from free (seen_words ws) (one.now ∷ rest)) (sym (drop_all n left w.if-next-left.false))
+          (ap (λ (ws : List (Bor (List ℕ))). seen_words made ++ given_from free (seen_words ws) (one.now ∷ rest))
+          (sym (drop_all n left w.if-next-left.false))
           ∙ so_far)
           (sym w.if-is_free.false ∙ c.is_free.ensures)
     ]

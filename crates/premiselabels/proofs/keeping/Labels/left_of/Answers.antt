@@ -34,7 +34,8 @@ loop-label-preserved g c =
     elim c.if-not-is_among.branch [
       | then-not-is_among+in_ok-push w ↦
           picked_next left it.written.now i none c.loop-label-test.true (ap not (sym w.if-not-is_among.true ∙ given))
-          c.loop-label.made.items _ c.loop-label.invariant (ap (λ (v : Vec (Bor (List ℕ)) Global). v.items) w.made-is ∙ w.in_ok-push.ensures.items)
+          c.loop-label.made.items _ c.loop-label.invariant
+          (ap (λ (v : Vec (Bor (List ℕ)) Global). v.items) w.made-is ∙ w.in_ok-push.ensures.items)
       | else-not-is_among w ↦
           subst (λ (v : Vec (Bor (List ℕ)) Global). seen_words v.items ≡ filter left (seen_words (take (i + 1) it.written.now)))
           (sym w.made-is)
