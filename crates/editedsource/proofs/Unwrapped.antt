@@ -16,7 +16,3 @@ unwrapped (Some t) v = refl
 pub described_some : (ds : List Change) (text out : Bytes) → (ds ≡ [] → ⊥) → IsDescribed ds text out → IsDescribedBy ds text out
 described_some [] text out some is = absurd (some refl)
 described_some (d ∷ ds) text out some is = is
-
-pub no_pairs : (ps : List (Bor (List ℕ) × Bor (List ℕ))) → seen_pairs ps ≡ [] → ps ≡ []
-no_pairs [] none = refl
-no_pairs (p ∷ ps) none = absurd cc

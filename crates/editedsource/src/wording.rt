@@ -66,11 +66,11 @@ pub(crate) fn word_as_given<'q: 'o, 'o>(
         (unwrap_or (option_map (λ out. out.items) made) text.now)) }
 {
     let quoted = quote_given(alloc, keys, quotations, following, new, text)?;
-    let then = match &quoted {
-        Some(other) => other.as_slice(),
-        None => text,
-    };
     let labels = given_labels(alloc, keys, quotations, following)?;
-    let labelled = give_labels(alloc, keys, new, text, labels.as_slice(), then)?;
-    Ok(labelled.or(quoted))
+    let labels = labels.as_slice();
+    let Some(quoted) = quoted else {
+        return give_labels(alloc, keys, new, text, labels, text);
+    };
+    let labelled = give_labels(alloc, keys, new, text, labels, quoted.as_slice())?;
+    Ok(Some(labelled.unwrap_or(quoted)))
 }

@@ -7,7 +7,8 @@ use Rattle.sourceediting.specs.Views.{seen_following}
 use Rattle.describing.specs.Described.{IsDescribed}
 use Rattle.editedsource.specs.Described.{IsDescribedBy}
 use Rattle.endlabels.specs.Descriptions.{descriptions_then}
-use Rattle.editedsource.proofs.Unwrapped.{described_some, no_pairs}
+use Rattle.premiselabels.proofs.Some.{no_pairs}
+use Rattle.editedsource.proofs.Unwrapped.{described_some}
 use Rattle.editedsource.proofs.dressing.describe_added.Goals as goal
 
 pub returns : goal.returns
