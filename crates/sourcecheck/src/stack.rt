@@ -9,6 +9,7 @@ use crate::frame::Piece;
 use derivation::ProofFaultKind;
 use std::alloc::{AllocError, Global};
 use std::marker::Model;
+use std::mem;
 
 /// The most symbols that the steps of one proof write down: 2^28.
 const MOST_SYMBOLS: usize = 268_435_456;
@@ -121,6 +122,18 @@ impl Stack {
             spans: Vec::new(alloc),
             marked: Vec::new(alloc),
         }
+    }
+
+    /// Nothing stands, over the room of this stack, which has none any more.
+    pub(crate) fn take_room(&mut self) -> Stack
+        ensures { result ≡ record { stack = record { entries = []; marked = [] }; written = 0 } }
+    {
+        let none = Stack::new(*self.symbols.allocator());
+        let mut taken = mem::replace(self, none);
+        taken.symbols.clear();
+        taken.spans.clear();
+        taken.marked.clear();
+        taken
     }
 
     /// How many expressions stand.
