@@ -8,6 +8,7 @@ ghost use Rattle.mmsyntax.specs.Tables.{place_of};
 ghost use Rattle.source.specs.Scopes.{Hypothesis, Assertion, is_in, stands_in, is_mandatory_variable, mandatory};
 ghost use Rattle.source.specs.Views.{seen_words, seen_hypothesis, seen_hypotheses, seen_pairs};
 ghost use Rattle.sourcecheck.specs.Names.{words_of, IsSound, Keeps, Lasts};
+ghost use Rattle.sourcecheck.specs.declared.frame.Piece.TheVariants.{Argument};
 ghost use Rattle.sourcecheck.specs.Marks.{HaveNumbers};
 ghost use Rattle.sourcecheck.specs.Frames.{found, part_in, part_of, asked_in, asked_of, variable_of, seen_variable, AreVariables, is_that, is_kept, parts_in, parts_of, IsFrameOf};
 
@@ -63,6 +64,17 @@ fn place_of(variables: &[Option<&[u8]>], word: &[u8]) -> Option<usize>
     None
 }
 
+/// What stands for the argument at a place. No source has more places than a `u32` counts:
+/// they would be refused as if memory were wanting.
+fn argument_at(place: usize) -> Result<Piece, AllocError>
+    ensures { IfOk result (λ p. p ≡ Argument place) }
+{
+    match u32::try_from(place) {
+        Ok(place) => Ok(Piece::Argument(place)),
+        Err(_) => Err(AllocError),
+    }
+}
+
 /// A symbol of an assertion with these variables. After an error nothing is said of the table.
 fn piece_of<'a>(
     table: &mut Table<'a>,
@@ -75,7 +87,7 @@ fn piece_of<'a>(
         → Lasts (words_of table.new) (λ name. part_of name p ≡ part_in hs word.entry.now)) }
 {
     match place_of(variables, word) {
-        Some(place) => Ok(Piece::Argument(place)),
+        Some(place) => argument_at(place),
         None => Ok(Piece::Itself(table.number(word)?)),
     }
 }

@@ -231,7 +231,7 @@ fn fill_one(symbols: &mut Vec<u32>, spans: &[Span], piece: Piece) -> Result<(), 
 {
     match piece {
         Piece::Itself(number) => add(symbols, number),
-        Piece::Argument(place) => match spans.get(place) {
+        Piece::Argument(place) => match spans.get(place as usize) {
             None => Ok(()),
             Some(span) => add_again(symbols, span.0, span.1),
         },

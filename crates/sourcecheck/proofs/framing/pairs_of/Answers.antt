@@ -48,7 +48,7 @@ loop-pair-preserved c =
           lasts_on (words_of c.loop-pair.table) (words_of c.is_kept.new.table)
           (λ name. map (parts_of name) c.loop-pair.kept.items ≡ map (parts_in hs) (filter test (seen_pairs done))) near
           (c.loop-pair.invariant.made hs is) more
-          ∙ sym (ap (λ ps. map (parts_in hs) (filter test ps)) (map-append {B = Pair} (λ (p : Bor (List ℕ) × Bor (List ℕ)). (p.0.now, p.1.now))
-          done (pair ∷ []))
+          ∙ sym (ap (λ ps. map (parts_in hs) (filter test ps))
+          (map-append {B = Pair} (λ (p : Bor (List ℕ) × Bor (List ℕ)). (p.0.now, p.1.now)) done (pair ∷ []))
           ∙ ap (map (parts_in hs)) (passed_push test (seen_pairs done) seen (sym c.in_ok-is_kept.ensures.kept ∙ c.if-branch.false)));
     }
