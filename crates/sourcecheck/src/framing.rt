@@ -18,6 +18,9 @@ use crate::table::Table;
 use source::{Declared, HypothesisWords};
 use std::alloc::{AllocError, Global};
 
+/// The most numbers of words that have a mark: a source with many words pays for no more at each assertion, and goes through the others.
+const MOST_MARKS: usize = 4096;
+
 /// The variable of a `$f`.
 pub(crate) fn variable_of<'a>(hypothesis: &HypothesisWords<'a>) -> Option<&'a [u8]>
     ensures { seen_variable result ≡ variable_of (seen_hypothesis hypothesis.now) }
@@ -64,8 +67,7 @@ fn place_of(variables: &[Option<&[u8]>], word: &[u8]) -> Option<usize>
     None
 }
 
-/// What stands for the argument at a place. No source has more places than a `u32` counts:
-/// they would be refused as if memory were wanting.
+/// What stands for the argument at a place. No source has more places than a `u32` counts: they would be refused as if memory were wanting.
 fn argument_at(place: usize) -> Result<Piece, AllocError>
     ensures { IfOk result (λ p. p ≡ Argument place) }
 {
@@ -229,7 +231,7 @@ fn marked_of<'a>(
     ensures numbers { IfOk result (HaveNumbers (words_of table.new) (seen_words words.now)) }
 {
     let numbers = table.numbers(alloc, words)?;
-    Marked::new(alloc, numbers, table.count())
+    Marked::new(alloc, numbers, table.count().min(MOST_MARKS))
 }
 
 /// The two variables of a pair. After an error nothing is said of the table.
@@ -262,6 +264,9 @@ fn pairs_of<'a>(
         → Lasts (words_of table.new) (λ name. map (parts_of name) qs.items
         ≡ map (parts_in hs) (filter (is_kept (seen_words mentioned.now)) (seen_pairs pairs.entry.items)))) }
 {
+    if pairs.is_empty() {
+        return Ok(Vec::new(alloc));
+    }
     let numbers = marked_of(alloc, table, mentioned)?;
     let mut kept = Vec::new(alloc);
     for pair in pairs {
