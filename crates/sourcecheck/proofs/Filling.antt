@@ -127,6 +127,11 @@ module _ (name : ℕ → Word) (injective : (m n : ℕ) → name m ≡ name n �
       (λ h. eq-eqb m n (injective m n (same_bytes (name m) (name n) h)))
       (λ h. ap (λ k. bytes_eq (name m) (name k)) (sym (eqb-true m n h)) ∙ bytes_eq-same (name m))
 
+  -- a word is one of those of some numbers where its number is one of these
+  pub among_numbers : (ns : List ℕ) (n : ℕ) → list_any (bytes_eq (name n)) (map name ns) ≡ list_any (λ v. v == n) ns
+  among_numbers ns n =
+      any_mapped (bytes_eq (name n)) name ns ∙ any_alike (λ v. bytes_eq (name n) (name v)) (λ v. v == n) ns (same_number n)
+
   pub same_numbers : (d e : List ℕ) → same_expression (map name d) (map name e) ≡ pointwise (λ a b. a == b) d e
   same_numbers [] [] = refl
   same_numbers [] (n ∷ e) = refl
@@ -221,8 +226,7 @@ module _ (name : ℕ → Word) (injective : (m n : ℕ) → name m ≡ name n �
     variable_named : (n : ℕ) → list_any (is_float_of (name n)) x.active ≡ is_variable_of t n
     variable_named n =
         floats_among x.active (name n) ∙ ap (list_any (bytes_eq (name n))) (sym of.floats)
-        ∙ any_mapped (bytes_eq (name n)) name t.floats
-        ∙ any_alike (λ v. bytes_eq (name n) (name v)) (λ v. v == n) t.floats (same_number n)
+        ∙ among_numbers t.floats n
 
     pair_named : (u v : ℕ) (p : ℕ × ℕ) → is_pair (name u) (name v) (name p.0, name p.1) ≡ is_pair_of_numbers u v p
     pair_named u v p =

@@ -10,7 +10,6 @@ use Rattle.mmtext.specs.Words.{Word}
 use Rattle.mmsyntax.specs.Tables.{place_of}
 use Rattle.source.specs.Scopes.{Hypothesis, typing, premise, Pair, Assertion, is_in, is_float_of, stands_in, is_mandatory_variable, is_mandatory}
 use Rattle.source.specs.Scopes.{mandatory, mandatory_pairs}
-use Rattle.source.specs.Views.{seen_words}
 use Rattle.sourcecheck.specs.Frames.{found, part_in, variable_of, seen_variable, AreVariables, is_that, is_kept}
 
 -- ---- variables
@@ -90,6 +89,15 @@ kept_push {A} p (y ∷ ys) x h =
       | false ↦ rest
     ]
 
+pub passed_push : {A : Type 0} (p : A → Bool) (xs : List A) (x : A) → p x ≡ false → filter p (xs ++ x ∷ []) ≡ filter p xs
+passed_push p [] x h = ap (λ b. cond b (x ∷ []) []) h
+passed_push {A} p (y ∷ ys) x h =
+    let rest = passed_push p ys x h in
+    elim (p y) as (λ b. cond b (y ∷ filter p (ys ++ x ∷ [])) (filter p (ys ++ x ∷ [])) ≡ cond b (y ∷ filter p ys) (filter p ys)) [
+      | true ↦ ap (λ l. y ∷ l) rest
+      | false ↦ rest
+    ]
+
 cons_last : {A : Type 0} (o : Option A) (xs : List A) (y : A) → cons_option o (xs ++ y ∷ []) ≡ cons_option o xs ++ y ∷ []
 cons_last None xs y = refl
 cons_last (Some x) xs y = refl
@@ -146,10 +154,6 @@ one_mentioned hs h st w a b is more =
 
 pub none_mentioned : (st : List Word) (w : Word) → is_in st w ≡ is_mandatory_variable [] st w
 none_mentioned st w = sym (or_false (is_in st w))
-
-pub seen_among : (w : Word) (ws : List (Bor (List ℕ))) → list_any (λ v. bytes_eq w v.now) ws ≡ is_in (seen_words ws) w
-seen_among w [] = refl
-seen_among w (v ∷ ws) = ap (λ b. bytes_eq w v.now || b) (seen_among w ws)
 
 -- ---- the frame of a whole assertion
 

@@ -125,11 +125,20 @@ fn labels_with<'a>(
     Ok(labels)
 }
 
+/// How many letters words have: no more than they have, where a `usize` can't say it.
+fn count_letters(words: &[&[u8]]) -> usize {
+    let mut count = 0_usize;
+    for word in words {
+        count = count.saturating_add(word.len());
+    }
+    count
+}
+
 /// The letters of words, one behind the other.
 fn joined(alloc: Global, words: &[&[u8]]) -> Result<Vec<u8>, AllocError>
     ensures { IfOk result (λ made. made.items ≡ flat_map (λ w. w) (seen_words words.now)) }
 {
-    let mut letters = Vec::new(alloc);
+    let mut letters = Vec::with_capacity(alloc, count_letters(words))?;
     for word in words {
         letters.extend_from_slice(word)?;
     }

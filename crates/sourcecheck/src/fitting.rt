@@ -58,7 +58,7 @@ fn value_of<'s>(arguments: &'s Arguments, piece: &'s Piece) -> &'s [u32]
 {
     match piece {
         Piece::Itself(number) => slice::from_ref(number),
-        Piece::Argument(place) => without_type(arguments.at(*place)),
+        Piece::Argument(place) => without_type(arguments.at(*place as usize)),
     }
 }
 

@@ -5,8 +5,8 @@
 pub(crate) enum Piece {
     /// A symbol that stands for itself, by its number.
     Itself(u32),
-    /// A variable: what stands for it is the argument at this place, from 0, without its type.
-    Argument(usize),
+    /// A variable: what stands for it is the argument at this place, from 0, without its type. It is small, as most of a frame is pieces.
+    Argument(u32),
 }
 
 /// What is asked of an argument.

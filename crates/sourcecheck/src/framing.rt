@@ -8,7 +8,8 @@ ghost use Rattle.mmsyntax.specs.Tables.{place_of};
 ghost use Rattle.source.specs.Scopes.{Hypothesis, Assertion, is_in, stands_in, is_mandatory_variable, mandatory};
 ghost use Rattle.source.specs.Views.{seen_words, seen_hypothesis, seen_hypotheses, seen_pairs};
 ghost use Rattle.sourcecheck.specs.Names.{words_of, IsSound, Keeps, Lasts};
-ghost use Rattle.sourcecheck.specs.Marks.{first_byte};
+ghost use Rattle.sourcecheck.specs.declared.frame.Piece.TheVariants.{Argument};
+ghost use Rattle.sourcecheck.specs.Marks.{HaveNumbers};
 ghost use Rattle.sourcecheck.specs.Frames.{found, part_in, part_of, asked_in, asked_of, variable_of, seen_variable, AreVariables, is_that, is_kept, parts_in, parts_of, IsFrameOf};
 
 use crate::frame::{Demand, Frame, Piece};
@@ -17,8 +18,8 @@ use crate::table::Table;
 use source::{Declared, HypothesisWords};
 use std::alloc::{AllocError, Global};
 
-/// How many values a byte has.
-const FIRST_BYTES: usize = 256;
+/// The most numbers of words that have a mark: a source with many words pays for no more at each assertion, and goes through the others.
+const MOST_MARKS: usize = 4096;
 
 /// The variable of a `$f`.
 pub(crate) fn variable_of<'a>(hypothesis: &HypothesisWords<'a>) -> Option<&'a [u8]>
@@ -66,6 +67,16 @@ fn place_of(variables: &[Option<&[u8]>], word: &[u8]) -> Option<usize>
     None
 }
 
+/// What stands for the argument at a place. No source has more places than a `u32` counts: they would be refused as if memory were wanting.
+fn argument_at(place: usize) -> Result<Piece, AllocError>
+    ensures { IfOk result (λ p. p ≡ Argument place) }
+{
+    match u32::try_from(place) {
+        Ok(place) => Ok(Piece::Argument(place)),
+        Err(_) => Err(AllocError),
+    }
+}
+
 /// A symbol of an assertion with these variables. After an error nothing is said of the table.
 fn piece_of<'a>(
     table: &mut Table<'a>,
@@ -78,7 +89,7 @@ fn piece_of<'a>(
         → Lasts (words_of table.new) (λ name. part_of name p ≡ part_in hs word.entry.now)) }
 {
     match place_of(variables, word) {
-        Some(place) => Ok(Piece::Argument(place)),
+        Some(place) => argument_at(place),
         None => Ok(Piece::Itself(table.number(word)?)),
     }
 }
@@ -175,42 +186,52 @@ fn mentioned_in<'a>(
     Ok(mentioned)
 }
 
-/// The first byte of a word, or 0.
-fn first_byte(word: &[u8]) -> u32
-    ensures { result ≡ first_byte word.now }
+/// Whether a word is one of these, which have these numbers. After an error nothing is said of the table.
+fn is_among<'a>(
+    table: &mut Table<'a>,
+    _words: &[&'a [u8]],
+    numbers: &Marked,
+    word: &'a [u8],
+) -> Result<bool, AllocError>
+    requires sound { IsSound table.old }
+    requires numbers { HaveNumbers (words_of table.old) (seen_words _words.now) numbers.now }
+    ensures keeps { OnOk result (Keeps table.old table.new) }
+    ensures among { IfOk result (λ among. among ≡ is_in (seen_words _words.now) word.entry.now) }
 {
-    if word.is_empty() { 0 } else { word[0] as u32 }
+    let number = table.number(word)?;
+    Ok(numbers.contains(number))
 }
 
-/// The first bytes of words.
-fn first_bytes(alloc: Global, words: &[&[u8]]) -> Result<Marked, AllocError>
-    ensures { IfOk result (λ made. made ≡ map first_byte (seen_words words.now)) }
+/// Whether both variables of a pair are among these words, which have these numbers. After an error nothing is said of the table.
+fn is_kept<'a>(
+    table: &mut Table<'a>,
+    words: &[&'a [u8]],
+    numbers: &Marked,
+    pair: (&'a [u8], &'a [u8]),
+) -> Result<bool, AllocError>
+    requires sound { IsSound table.old }
+    requires numbers { HaveNumbers (words_of table.old) (seen_words words.now) numbers.now }
+    ensures keeps { OnOk result (Keeps table.old table.new) }
+    ensures kept { IfOk result (λ kept. kept ≡ is_kept (seen_words words.now) (pair.entry.0.now, pair.entry.1.now)) }
 {
-    let mut bytes = Vec::with_capacity(alloc, words.len())?;
-    for word in words {
-        bytes.push(first_byte(*word))?;
+    if !is_among(table, words, numbers, pair.0)? {
+        return Ok(false);
     }
-    Marked::new(alloc, bytes, FIRST_BYTES)
+    is_among(table, words, numbers, pair.1)
 }
 
-/// Whether a word is one of these, which have these first bytes: mostly its own tells that it isn't.
-fn is_among(words: &[&[u8]], firsts: &Marked, word: &[u8]) -> bool
-    requires { firsts.now ≡ map first_byte (seen_words words.now) }
-    ensures { result ≡ list_any (λ w. bytes_eq word.now w.now) words.now }
+/// The numbers of words, in which each is found by a look-up. After an error nothing is said of the table.
+fn marked_of<'a>(
+    alloc: Global,
+    table: &mut Table<'a>,
+    words: &[&'a [u8]],
+) -> Result<Marked, AllocError>
+    requires { IsSound table.old }
+    ensures keeps { OnOk result (Keeps table.old table.new) }
+    ensures numbers { IfOk result (HaveNumbers (words_of table.new) (seen_words words.now)) }
 {
-    if firsts.contains(first_byte(word)) {
-        words.iter().any(|other| word == *other)
-    } else {
-        false
-    }
-}
-
-/// Whether both variables of a pair are among these words, which have these first bytes.
-fn is_kept(words: &[&[u8]], firsts: &Marked, pair: &(&[u8], &[u8])) -> bool
-    requires { firsts.now ≡ map first_byte (seen_words words.now) }
-    ensures { result ≡ is_kept (seen_words words.now) (pair.now.0.now, pair.now.1.now) }
-{
-    is_among(words, firsts, pair.0) && is_among(words, firsts, pair.1)
+    let numbers = table.numbers(alloc, words)?;
+    Marked::new(alloc, numbers, table.count().min(MOST_MARKS))
 }
 
 /// The two variables of a pair. After an error nothing is said of the table.
@@ -243,10 +264,13 @@ fn pairs_of<'a>(
         → Lasts (words_of table.new) (λ name. map (parts_of name) qs.items
         ≡ map (parts_in hs) (filter (is_kept (seen_words mentioned.now)) (seen_pairs pairs.entry.items)))) }
 {
-    let firsts = first_bytes(alloc, mentioned)?;
+    if pairs.is_empty() {
+        return Ok(Vec::new(alloc));
+    }
+    let numbers = marked_of(alloc, table, mentioned)?;
     let mut kept = Vec::new(alloc);
     for pair in pairs {
-        if is_kept(mentioned, &firsts, &pair) {
+        if is_kept(table, mentioned, &numbers, pair)? {
             kept.push(pair_of(table, variables, pair)?)?;
         }
     }

@@ -9,6 +9,7 @@ use crate::frame::Piece;
 use derivation::ProofFaultKind;
 use std::alloc::{AllocError, Global};
 use std::marker::Model;
+use std::mem;
 
 /// The most symbols that the steps of one proof write down: 2^28.
 const MOST_SYMBOLS: usize = 268_435_456;
@@ -123,6 +124,18 @@ impl Stack {
         }
     }
 
+    /// Nothing stands, over the room of this stack, which has none any more.
+    pub(crate) fn take_room(&mut self) -> Stack
+        ensures { result ≡ record { stack = record { entries = []; marked = [] }; written = 0 } }
+    {
+        let none = Stack::new(*self.symbols.allocator());
+        let mut taken = mem::replace(self, none);
+        taken.symbols.clear();
+        taken.spans.clear();
+        taken.marked.clear();
+        taken
+    }
+
     /// How many expressions stand.
     pub(crate) fn len(&self) -> usize
         ensures { result ≡ length self.now.stack.entries }
@@ -218,7 +231,7 @@ fn fill_one(symbols: &mut Vec<u32>, spans: &[Span], piece: Piece) -> Result<(), 
 {
     match piece {
         Piece::Itself(number) => add(symbols, number),
-        Piece::Argument(place) => match spans.get(place) {
+        Piece::Argument(place) => match spans.get(place as usize) {
             None => Ok(()),
             Some(span) => add_again(symbols, span.0, span.1),
         },

@@ -18,7 +18,6 @@ use crate::stack::Stack;
 use crate::thesis::Thesis;
 use derivation::{ProofFault, ProofFaultKind};
 use source::Code;
-use std::alloc::Global;
 
 /// A label.
 fn take_label(
@@ -124,9 +123,10 @@ fn check_end(stack: &Stack, statement: &[u32]) -> Result<(), ProofFaultKind>
     Err(ProofFaultKind::StatementDiffers)
 }
 
-/// Takes steps, all of which are there, and tells the first fault.
+/// Takes steps, all of which are there, and tells the first fault. Their expressions lie in the room of a stack, so that one proof after
+/// another asks for none; after an error it has none.
 pub(crate) fn take_codes(
-    alloc: Global,
+    room: &mut Stack,
     frames: &[Frame],
     thesis: &Thesis,
     named: &[Named],
@@ -138,7 +138,7 @@ pub(crate) fn take_codes(
         → Stands name earlier x frames.now thesis.now → AreNamed name earlier x labels named.now → map name statement.now ≡ x.statement
         → list_any is_absent codes.now ≡ false → Tells earlier x (map (step_of labels) codes.now) result }
 {
-    let mut stack = Stack::new(alloc);
+    let mut stack = room.take_room();
     let mut step = 0;
     for code in codes {
         step = count(step, *code);
@@ -148,7 +148,10 @@ pub(crate) fn take_codes(
         }
     }
     match check_end(&stack, statement) {
-        Ok(()) => Ok(()),
+        Ok(()) => {
+            *room = stack;
+            Ok(())
+        }
         Err(kind) => Err(ProofFault { step, kind }),
     }
 }

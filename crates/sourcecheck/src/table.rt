@@ -4,6 +4,7 @@ ghost use Rattle.std.specs.Prelude.{◌≡◌, IfOk, OnOk, Some, true, map, slic
 ghost use Rattle.source.specs.Views.{seen_words};
 ghost use Rattle.sourcecheck.specs.Names.{words_of, IsSound, Keeps, Lasts};
 
+use crate::stack::Stack;
 use std::alloc::{AllocError, Global};
 use std::collections::HashMap;
 use std::hash::RandomState;
@@ -22,6 +23,8 @@ pub(crate) struct Table<'a> {
     pub(crate) recent: Vec<u32>,
     /// The numbers of words that were met last, by some of their bytes. It may be that others stand there.
     pub(crate) met: Vec<u32>,
+    /// The expressions of the proof that is checked, over room that outlives it.
+    pub(crate) stack: Stack,
 }
 
 // Proved here once: a derived drop is proved again in each crate that drops such a value.
@@ -33,6 +36,7 @@ impl Drop for Table<'_> {
             places: _,
             recent: _,
             met: _,
+            stack: _,
         } = self;
     }
 }
@@ -69,6 +73,7 @@ impl<'a> Table<'a> {
             places: HashMap::with_hasher(alloc, keys),
             recent: Vec::new(alloc),
             met: Vec::new(alloc),
+            stack: Stack::new(alloc),
         }
     }
 
@@ -101,6 +106,7 @@ impl<'a> Table<'a> {
             places: HashMap::with_hasher(alloc, keys),
             recent: Vec::new(alloc),
             met: Vec::new(alloc),
+            stack: Stack::new(alloc),
         })
     }
 

@@ -65,7 +65,7 @@ fn check_counted<'a, D: Declared<'a>>(
         return Err(fault(ProofFaultKind::NoMemory));
     };
     take_codes(
-        alloc,
+        &mut table.stack,
         frames,
         &thesis,
         named.as_slice(),

@@ -51,7 +51,7 @@ fn floats_of<'a>(
     ensures made { IfOk result (λ ns. Lasts (words_of table.new)
         (λ name. map name ns.items ≡ filter_map variable_of (seen_hypotheses active.entry.items))) }
 {
-    let mut floats = Vec::new(alloc);
+    let mut floats = Vec::with_capacity(alloc, active.len())?;
     for hypothesis in active {
         if let Some(variable) = variable_of(hypothesis) {
             floats.push(table.number_at(floats.len(), variable)?)?;

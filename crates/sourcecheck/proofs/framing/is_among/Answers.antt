@@ -1,18 +1,25 @@
 -- What is left to show of `is_among`.
-use Rattle.std.proofs.Common.{◌≡◌, sym, ap, ◌∙◌}
-use Rattle.std.specs.Prelude.{◌==◌, false, map}
+use Rattle.std.proofs.Common.{◌≡◌, map, ap, sym, ◌∙◌}
 use Rattle.std.specs.List.{list_any}
+use Rattle.std.specs.Str.{bytes_eq}
 use Rattle.source.specs.Views.{seen_words}
-use Rattle.sourcecheck.specs.Marks.{first_byte}
-use Rattle.sourcecheck.proofs.Marking.{not_among}
-use Rattle.sourcecheck.proofs.Framed.{seen_among}
+use Rattle.sourcecheck.specs.Names.{looks_up, words_of, name_in}
+use Rattle.sourcecheck.proofs.Numbered.{lasts_on, lasts_now, unique_by, injective}
+use Rattle.sourcecheck.proofs.Filling.{among_numbers}
 use Rattle.sourcecheck.proofs.framing.is_among.Goals as goal
 
-pub returns-else-contains : goal.returns-else-contains
-returns-else-contains c =
+pub returns-clause-among : goal.returns-clause-among
+returns-clause-among c =
+    let end = words_of c.number.new.self in
+    let name = name_in end in
+    let one = injective end (unique_by (looks_up c.number.new.self.numbers) end c.in_ok-number.ensures.keeps.sound) in
+    let n = c.in_ok-number.number in
+    let ns = c.args.numbers.now in
     let w = c.args.word.now in
-    let ws = seen_words c.args.words.now in
-    let none : list_any (λ v. v == first_byte w) (map first_byte ws) ≡ false =
-    ap (list_any (λ v. v == first_byte w)) (sym c.requires) ∙ ap (λ n. list_any (λ v. v == n) c.args.firsts.now) (sym c.first_byte.ensures)
-    ∙ sym c.contains.ensures ∙ c.if-contains.false in
-    sym (seen_among w c.args.words.now ∙ not_among ws w none)
+    let ws = seen_words c.args._words.now in
+    let known : map name ns ≡ ws =
+    lasts_now end (λ name. map name ns ≡ ws)
+    (lasts_on (words_of c.args.table.now) end (λ name. map name ns ≡ ws) c.in_ok-number.ensures.keeps.grows c.requires.numbers) in
+    let named : name n ≡ w = lasts_now end (λ name. name n ≡ w) c.in_ok-number.ensures.named in
+    c.contains.ensures ∙ sym (among_numbers name one ns n) ∙ ap (λ v. list_any (bytes_eq v) (map name ns)) named
+    ∙ ap (list_any (bytes_eq w)) known

@@ -41,8 +41,8 @@ returns-in-Ok-check_end c = λ name earlier x labels stands named is there.
     ended name earlier x (map (step_of labels) codes) c.loop-code.stack c.loop-code.step whole c.args.statement.now
     c.in-Ok-check_end.ensures is
 
-pub returns : goal.returns
-returns c = λ name earlier x labels stands named is there.
+pub returns-in-Err-check_end : goal.returns-in-Err-check_end
+returns-in-Err-check_end c = λ name earlier x labels stands named is there.
     let codes = c.args.codes.now in
     let all = c.loop-code.invariant.reached name earlier x labels stands named there in
     let whole = subst (λ cs. Reached name earlier x (map (step_of labels) cs) c.loop-code.stack c.loop-code.step)
