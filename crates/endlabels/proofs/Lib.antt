@@ -1,2 +1,2 @@
-mod Labelled
+mod Firsts
 mod Picked

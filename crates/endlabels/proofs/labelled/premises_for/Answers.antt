@@ -8,7 +8,7 @@ use Rattle.std.proofs.lemmas.Option.{slice_get_read}
 use Rattle.pasting.specs.declared.own_words.GivenLabels.{GivenLabels as CodeLabels}
 use Rattle.mmsyntax.specs.Tables.{place_of}
 use Rattle.pasting.specs.Views.{seen_given_labels}
-use Rattle.endlabels.proofs.Labelled.{first_for}
+use Rattle.endlabels.proofs.Firsts.{first_for}
 use Rattle.endlabels.proofs.labelled.premises_for.Goals as goal
 
 pub returns-in-None : goal.returns-in-None
