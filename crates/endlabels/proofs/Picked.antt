@@ -1,10 +1,9 @@
 -- Of the labels of a list those that pass a test, and the lines for words, one more of them.
-use Rattle.std.proofs.Common.{◌≡◌, ◌∙◌, ◌<◌, ◌+◌, ℕ, Bool, true, false, List, [], ◌∷◌, ◌++◌, length, map, take, get_or, Bor, Global}
+use Rattle.std.proofs.Common.{◌≡◌, ◌∙◌, ◌<◌, ◌+◌, ℕ, Bool, true, false, List, [], ◌∷◌, ◌++◌, length, map, take, get_or, Global}
 use Rattle.std.proofs.Common.{codes, refl, sym, ap, ap₂}
 use Rattle.std.specs.Prelude.{String, filter, string_bytes}
 use Rattle.std.specs.Fmt.{decimal}
-use Rattle.std.proofs.lemmas.List.{map-append, map_more, append-nil, get_or-map}
-use Rattle.std.proofs.lemmas.List.Elements.{filter-append}
+use Rattle.std.proofs.lemmas.List.{map-append, map_more, get_or-map}
 use Rattle.std.proofs.lemmas.Simd.{map-map}
 use mathlib.Core.Bool.{not}
 use Rattle.mmtext.specs.Words.{Word}
@@ -12,7 +11,6 @@ use Rattle.mmtext.specs.Text.{Token}
 use Rattle.mmtext.specs.Views.{seen}
 use Rattle.mmtext.specs.declared.token.Token.{Token as CodeToken}
 use Rattle.source.specs.Scopes.{is_in}
-use Rattle.source.specs.Views.{seen_words}
 use Rattle.checking.specs.Checks.{Bytes}
 use Rattle.checking.specs.FaultLines.{shown_label}
 use Rattle.expanding.specs.Lines.{line_at}
