@@ -67,7 +67,7 @@ pub struct Begun<'a> {
     pub laid: Vec<Laid>,
     /// What the scripts are run over, and the scripts as they are run.
     pub opened: Opened,
-    /// The compressed proofs that each of them gives.
+    /// What each of them gives in its own words.
     pub quotes: Vec<Vec<Quote<'a>>>,
     /// The descriptions in each of them.
     pub descriptions: Vec<Vec<Described<'a>>>,

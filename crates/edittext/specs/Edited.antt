@@ -49,8 +49,8 @@ abbrev pub IsSourceThen : {source : Bytes} {texts : List Bytes} {workers : ℕ} 
     {r : Run source texts workers room rows} → Closed r → Bytes → Type 0
 IsSourceThen {source} {r} c out = IsEdited source r.begun.old (choice_of r.begun) c.taken r.entries c.library out
 
--- what is printed: the source with the edits of the history of a run, in which proofs stand as they were given, and what was added behind
--- its description, and which verifies as a whole
+-- what is printed: the source with the edits of the history of a run, in which proofs and labels of `$e` stand as they were given, and what
+-- was added behind its description, and which verifies as a whole
 pub record IsEditedBy (source : Bytes) (texts : List Bytes) (workers : ℕ) (room : Room) (rows : List (List Outcome)) (out : Bytes)
     : Type 0 where
   pub run : Run source texts workers room rows

@@ -72,7 +72,7 @@ fn account_of(
     })
 }
 
-/// The compressed proofs that scripts give whose transactions were done, the last first.
+/// What scripts give in their own words whose transactions were done, the last first.
 fn quotations_of<'q, 'a: 'q>(
     alloc: Global,
     rows: &[Vec<Outcome>],
