@@ -1,8 +1,7 @@
 -- A text, or another one in its stead: its bytes, and what is said of it.
-use Rattle.std.proofs.Common.{◌≡◌, ◌∷◌, [], ℕ, List, Option, Some, None, Bor, refl, Vec, Global}
+use Rattle.std.proofs.Common.{◌≡◌, ◌∷◌, [], ℕ, List, Option, Some, None, refl, Vec, Global}
 use Rattle.std.specs.Option.{option_map, unwrap_or}
 use Rattle.giving.specs.Staying.{Change}
-use Rattle.source.specs.Views.{seen_pairs}
 use Rattle.checking.specs.Checks.{Bytes}
 use Rattle.describing.specs.Described.{IsDescribed}
 use Rattle.editedsource.specs.Described.{IsDescribedBy}
