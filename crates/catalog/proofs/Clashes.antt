@@ -6,7 +6,7 @@ use Rattle.std.specs.List.{list_any, Contains}
 use Rattle.std.specs.Option.{IsSome}
 use Rattle.std.specs.Str.{bytes_eq}
 use Rattle.std.specs.declared.alloc.Global.{Global}
-use Rattle.std.proofs.lemmas.Bool.{cases_Bool, both_ways, cond-true, cond-false, and_parts, and_from, or_from}
+use Rattle.std.proofs.lemmas.Bool.{cases_Bool, both_ways, cond-true, cond-false, and_parts, and_from, or_from, or_right}
 use Rattle.std.proofs.lemmas.List.Elements.{Contains-get_or}
 use Rattle.std.proofs.lemmas.List.Folds.{list_any_none}
 use Rattle.mmsyntax.specs.Dotted.{clash, is_dotted, trunk}
@@ -64,15 +64,11 @@ front_clashes lib w h =
     let s = has_somewhere lib (trunk w) both.1 in
     clashes_at lib w s.1 (s.0, s.2, s.3) (ap (λ l. clash l w) s.4 ∙ ap (λ b. b || is_dotted w (trunk w)) both.0)
 
-or_true : (b : Bool) → (b || true) ≡ true
-or_true true = refl
-or_true false = refl
-
 -- one that is L.k for it
 behind_clashes : (lib : List Ranked) (w v : List ℕ) → is_dotted w v ≡ true → has lib v ≡ true → clashes lib w ≡ true
 behind_clashes lib w v dotted h =
     let s = has_somewhere lib v h in
-    clashes_at lib w s.1 (s.0, s.2, s.3) (ap (λ l. clash l w) s.4 ∙ ap (λ b. is_dotted v w || b) dotted ∙ or_true (is_dotted v w))
+    clashes_at lib w s.1 (s.0, s.2, s.3) (ap (λ l. clash l w) s.4 ∙ ap (λ b. is_dotted v w || b) dotted ∙ or_right (is_dotted v w) true refl)
 
 -- no other
 no_clash : (lib : List Ranked) (w : List ℕ) → (is_dotted (trunk w) w && has lib (trunk w)) ≡ false

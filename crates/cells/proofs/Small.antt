@@ -7,6 +7,7 @@ use Rattle.std.proofs.lemmas.Bool.Decides.{nat_tests}
 use Rattle.std.proofs.lemmas.List.Elements.{All-nil, All-cons, All-head, All-tail, All-weaker, All-contains}
 use Rattle.std.proofs.lemmas.List.Sums.{AllPass-from_list_all}
 use Rattle.std.proofs.lemmas.Slice.Zip.{AllZip-long}
+use Rattle.std.proofs.lemmas.Bool.{and_parts}
 use Rattle.mmtext.specs.Words.{is_label_byte, is_label}
 use Rattle.mmsyntax.specs.declared.statement.Step.{Step}
 use Rattle.mmsyntax.specs.declared.statement.Step.TheVariants.{Float, Hyp, Cite}
@@ -35,14 +36,6 @@ or_cases : (b c : Bool) (P : Type 0) → (IsTrue b → P) → (IsTrue c → P) �
 or_cases true c P f g h = f refl
 or_cases false c P f g h = g h
 
-and_first : (b c : Bool) → IsTrue (b && c) → IsTrue b
-and_first true c h = refl
-and_first false c h = absurd cc
-
-and_last : (b c : Bool) → IsTrue (b && c) → IsTrue c
-and_last true c h = h
-and_last false c h = absurd cc
-
 -- a byte of a label token
 label_byte : (b : ℕ) → is_label_byte b ≡ true → b < 256
 label_byte b h = grind (arith, nat_tests)
@@ -53,7 +46,7 @@ token_bytes w h = All-weaker (λ b. is_label_byte b ≡ true) IsByte label_byte 
 label_bytes : (w : List ℕ) (last : Bool) → IsTrue (nat_le 1 (length w) && nat_le (length w) 255 && is_label w && last) → All IsByte w
 label_bytes w last h =
     let short = nat_le 1 (length w) && nat_le (length w) 255 in
-    token_bytes w (and_last short (is_label w) (and_first (short && is_label w) last h))
+    token_bytes w ((and_parts short (is_label w) (and_parts (short && is_label w) last h).0).1)
 
 pub lawful_bytes : (t : Tables) (w : List ℕ) → IsTrue (is_lawful_label t w) → All IsByte w
 lawful_bytes t w h = label_bytes w (not (is_some (meaning t w))) h

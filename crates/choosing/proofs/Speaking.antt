@@ -1,13 +1,13 @@
 -- What words speak of, and what the proofs need that are asked for: one more turn.
 use Rattle.std.proofs.Common.{◌≡◌, ◌<◌, ◌+◌, ℕ, zero, suc, Bool, true, false, List, [], ◌∷◌, ◌++◌, length, map, take, set, get_or}
 use Rattle.std.proofs.Common.{refl, sym, ap, subst, ◌∙◌, arith, append_assoc, add-one, Option, Some, None, Bor}
-use Rattle.std.specs.Prelude.{◌||◌, ◌&&◌, filter, if◌then◌else◌, slice_get, replicate}
+use Rattle.std.specs.Prelude.{◌||◌, ◌&&◌, filter, if◌then◌else◌, slice_get}
 use Rattle.std.specs.Option.{option_map}
 use mathlib.Core.Bool.{not}
 use Rattle.std.specs.Str.{bytes_eq}
 use Rattle.std.proofs.Math.Bool.{or_comm, or_assoc}
 use Rattle.std.proofs.lemmas.Bool.{cond-true, cond-false}
-use Rattle.std.proofs.lemmas.List.{append-nil, map-append, take_all}
+use Rattle.std.proofs.lemmas.List.{append-nil}
 use Rattle.std.proofs.lemmas.List.Folds.{list_any-append}
 use Rattle.mmtext.specs.Words.{Word}
 use Rattle.source.specs.Scopes.{Assertion, is_in}
@@ -214,10 +214,6 @@ label_there xs k x found at none told =
     let e : None ≡ Some x.label =
     ap (option_map (λ (w : Bor (List ℕ)). w.now)) (sym none) ∙ told ∙ ap (option_map (λ (a : Assertion). a.label)) at in
     cc
-
--- one more label behind those that were seen
-pub seen_more : (ls : List (Bor (List ℕ))) (l : Bor (List ℕ)) → seen_words (ls ++ l ∷ []) ≡ seen_words ls ++ l.now ∷ []
-seen_more ls l = map-append (λ (w : Bor (List ℕ)). w.now) ls (l ∷ [])
 
 pub or_nothing : (b : Bool) → (b || false) ≡ b
 or_nothing true = refl

@@ -1,9 +1,9 @@
 -- What is chosen of lists: one item more, and the number of a command's script.
-use Rattle.std.proofs.Common.{◌≡◌, ◌∙◌, ◌<◌, ◌+◌, ℕ, suc, min, List, [], ◌∷◌, ◌++◌, length, map, take, get_or, reverse}
-use Rattle.std.proofs.Common.{Option, Some, Vec, Global, refl, sym, ap, ap₂, subst, arith}
+use Rattle.std.proofs.Common.{◌≡◌, ◌∙◌, ◌<◌, ◌+◌, ℕ, suc, min, List, [], ◌∷◌, ◌++◌, length, map, take, get_or}
+use Rattle.std.proofs.Common.{Option, Some, Vec, Global, sym, ap, ap₂, subst, arith}
 use Rattle.std.specs.Prelude.{All, IfSome}
 use Rattle.std.specs.List.{flat_map, zip}
-use Rattle.std.proofs.lemmas.List.{append-nil, take_more, take_all, map-append, reverse-append, length-map, get_or-map}
+use Rattle.std.proofs.lemmas.List.{append-nil, take_more, take_all, length-map, get_or-map}
 use Rattle.std.proofs.lemmas.List.Elements.{All-append, All-contains, All-map, All-nil, All-weaker}
 use Rattle.std.proofs.lemmas.Grind.{flat_map-append}
 use Rattle.std.proofs.lemmas.Slice.Zip.{length-zip, get_or-zip}
@@ -49,14 +49,6 @@ zip_all I J xs ys n is =
     take_all n (zip (map I xs) (map J ys)) (omega (arith, long))
 
 -- ---- in turned order
-
-pub reverse_map : {A B : Type 0} (f : A → B) (xs : List A) → map f (reverse xs) ≡ reverse (map f xs)
-reverse_map f [] = refl
-reverse_map f (x ∷ xs) =
-    ap (map f) (reverse-append (x ∷ []) xs)
-    ∙ map-append f (reverse xs) (x ∷ [])
-    ∙ ap (λ ys. ys ++ f x ∷ []) (reverse_map f xs)
-    ∙ sym (reverse-append (f x ∷ []) (map f xs))
 
 -- ---- commands
 

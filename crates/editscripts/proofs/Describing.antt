@@ -3,10 +3,10 @@ use Rattle.std.proofs.Common.{◌≡◌, ◌<◌, ◌+◌, ℕ, suc, List, [], �
 use Rattle.std.specs.Prelude.{slice_get, slice_index_or}
 use Rattle.std.proofs.lemmas.List.{length-take-le}
 use Rattle.mmtext.specs.Text.{Token}
+use Rattle.mmsyntax.proofs.Items.{take_next}
 use Rattle.checking.specs.Checks.{Bytes}
 use Rattle.expanding.specs.Descriptions.{Description, IsDescriptive}
 use Rattle.editscripts.specs.Described.{AreDescriptiveFrom, AreDescriptive}
-use Rattle.expanding.proofs.Citing.{take_next}
 
 pub descriptive_more : (texts : List Bytes) (n : ℕ) (scripts : List (List Token)) (all : List (List Description)) (words : List Token)
     (ds : List Description)

@@ -8,6 +8,7 @@ use Rattle.std.proofs.lemmas.Option.{slice_get-map}
 use Rattle.std.proofs.lemmas.Slice.Zip.{all_zipped_more, AllZip-long, AllZip-right}
 use Rattle.mmtext.specs.Text.{Token}
 use Rattle.mmsyntax.specs.Tables.{Tables}
+use Rattle.mmsyntax.proofs.Items.{take_next}
 use Rattle.source.specs.Scopes.{Scope}
 use Rattle.checking.specs.Checks.{Bytes, Orders, IsScript, AreScripts}
 use Rattle.expanding.specs.Ranking.{IsRanked}
@@ -15,7 +16,6 @@ use Rattle.expanding.specs.Words.{text_of}
 use Rattle.expanding.specs.declared.laid.Laid.{Laid}
 use Rattle.editscripts.specs.Expanded.{RankedScript, AreRanked, texts_of}
 use Rattle.editscripts.specs.Views.{IsLaidOf, AreLaid, beginnings_of}
-use Rattle.expanding.proofs.Citing.{take_next}
 
 -- ---- two lists, item by item
 

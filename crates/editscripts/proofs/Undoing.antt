@@ -5,11 +5,11 @@ use Rattle.std.specs.Prelude.{slice_get}
 use Rattle.std.specs.Fmt.{decimal}
 use Rattle.std.proofs.lemmas.Bool.{cond-true, cond-false}
 use Rattle.std.proofs.lemmas.List.{append-nil, length-take-le}
+use Rattle.mmsyntax.proofs.Items.{take_next}
 use Rattle.library.specs.declared.command.Command.{Command}
 use Rattle.transaction.specs.declared.outcome.Outcome.{Outcome}
 use Rattle.checking.specs.Checks.{Bytes}
 use Rattle.editscripts.specs.Undone.{is_done, undone_text, undone_line, each_from}
-use Rattle.expanding.proofs.Citing.{take_next}
 
 -- ---- what each of a list has
 

@@ -3,7 +3,6 @@ use Rattle.std.proofs.Common.{◌≡◌, ◌<◌, ◌+◌, ℕ, Bool, true, fals
 use Rattle.std.proofs.Common.{refl, sym, ap, ◌∙◌, append_assoc}
 use Rattle.std.specs.Prelude.{if◌then◌else◌, slice_get}
 use Rattle.std.proofs.lemmas.Option.{slice_get-get_or}
-use Rattle.expanding.proofs.Citing.{take_next}
 use Rattle.std.specs.List.{flat_map}
 use Rattle.std.proofs.lemmas.Grind.{flat_map-append}
 use Rattle.std.proofs.lemmas.Bool.{cond-true, cond-false}
@@ -13,6 +12,7 @@ use Rattle.mmtext.specs.Text.{Token}
 use Rattle.mmtext.specs.Views.{seen}
 use Rattle.mmtext.specs.Words.{Word}
 use Rattle.mmtext.specs.declared.token.Token.{Token as CodeToken}
+use Rattle.mmsyntax.proofs.Items.{take_next}
 use Rattle.expanding.specs.Asking.{word_behind, words_behind, spoken_in}
 
 -- whether the last word passes a test

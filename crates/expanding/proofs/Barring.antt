@@ -5,12 +5,13 @@ use Rattle.std.specs.Prelude.{◌&&◌, ◌||◌, nat_lt, nat_le, find, filter_m
 use Rattle.std.specs.List.{cons_option}
 use Rattle.std.specs.Option.{option_map, option_and_then, is_some, is_none}
 use Rattle.std.specs.Str.{bytes_eq}
-use Rattle.std.proofs.lemmas.Bool.{ltb-true, lt-ltb, leb-true, le-leb, eqb-true, eq-eqb}
+use Rattle.std.proofs.lemmas.Bool.{ltb-true, lt-ltb, leb-true, le-leb, eqb-true, eq-eqb, or_right, and_parts}
 use Rattle.std.proofs.lemmas.Option.{slice_get_within}
 use Rattle.mmtext.specs.Text.{Token}
 use Rattle.mmtext.specs.Words.{Word}
 use Rattle.mmsyntax.proofs.Names.{bytes_eq-same}
 use Rattle.source.specs.Scopes.{Assertion, Scope, is_in}
+use Rattle.source.proofs.Passing.{three_parts, three_from}
 use Rattle.expanding.specs.Forms.{Part}
 use Rattle.expanding.specs.Asking.{asked}
 use Rattle.expanding.specs.Spreading.{assertion_at, cites}
@@ -24,24 +25,11 @@ use Rattle.expanding.proofs.Looking.{uncited}
 
 -- ---- truth
 
-and_true : (a b : Bool) → (a && b) ≡ true → (a ≡ true) × (b ≡ true)
-and_true true b h = (refl, h)
-and_true false b h = absurd cc
-
-three_true : (a b c : Bool) → (a && b && c) ≡ true → (a ≡ true) × (b ≡ true) × (c ≡ true)
-three_true true true true h = (refl, refl, refl)
-three_true true true false h = absurd cc
-three_true true false c h = absurd cc
-three_true false b c h = absurd cc
-
 three_false : (a b c : Bool) → (a || b || c) ≡ false → (a ≡ false) × (b ≡ false) × (c ≡ false)
 three_false false false false h = (refl, refl, refl)
 three_false false false true h = absurd cc
 three_false false true c h = absurd cc
 three_false true b c h = absurd cc
-
-all_true : (a b c : Bool) → a ≡ true → b ≡ true → c ≡ true → (a && b && c) ≡ true
-all_true a b c h k l = rw (h, k, l) refl
 
 all_false : (a b c : Bool) → a ≡ false → b ≡ false → c ≡ false → (a || b || c) ≡ false
 all_false a b c h k l = rw (h, k, l) refl
@@ -143,7 +131,7 @@ module _ (s : Scope) (scripts : List (List Token)) (cs : List Command) where
         script_is = refl;
         forbids =
             λ place reached sure.
-            let in_reach = and_true (nat_lt m place) (nat_le place n) reached in inr record {
+            let in_reach = and_parts (nat_lt m place) (nat_le place n) reached in inr record {
               mark = mark;
               puts = is;
               from = m;
@@ -214,7 +202,7 @@ module _ (s : Scope) (scripts : List (List Token)) (cs : List Command) where
         let f = found (bar_of s (asked scripts) cs) (bars_there s cs place) cs b is in
         let m = meant f.from b f.is in
         let cited_there = cites b.label.text (proof_at s place) in
-        let passes = three_true (reaches b.reach place) cited_there (is_none b.reach || is_moved_once cs b.label.text) f.passes in
+        let passes = three_parts (reaches b.reach place) cited_there (is_none b.reach || is_moved_once cs b.label.text) f.passes in
         subst (λ (y : Barred). IsBarred s scripts y.script y.label y.by) same record {
           commands = cs;
           are_commands = are;
@@ -250,7 +238,7 @@ module _ (s : Scope) (scripts : List (List Token)) (cs : List Command) where
         → IsDeletion s cs c.words label ⊎ IsMoveBehind s scripts cs c.words label place → (b : Bar) × bar_there place c b
     forbidden_bar c label place cited (inl h) =
         let b : Bar = record { script = c.script; label = label; reach = None } in
-        (b, (deletion_bars c label h, all_true true (cites label.text (proof_at s place)) true refl cited refl))
+        (b, (deletion_bars c label h, three_from true (cites label.text (proof_at s place)) true refl cited refl))
     forbidden_bar c label place cited (inr h) =
         let b : Bar = record { script = c.script; label = label; reach = Some (h.from, h.to) } in
         let reached : (nat_lt h.from place && nat_le place h.to) ≡ true =
@@ -259,7 +247,7 @@ module _ (s : Scope) (scripts : List (List Token)) (cs : List Command) where
           b,
           (
             move_bars c label place h,
-            all_true (nat_lt h.from place && nat_le place h.to) (cites label.text (proof_at s place)) (is_moved_once cs label.text) reached
+            three_from (nat_lt h.from place && nat_le place h.to) (cites label.text (proof_at s place)) (is_moved_once cs label.text) reached
                 cited once,
           ),
         )
@@ -317,16 +305,12 @@ module _ (s : Scope) (cs : List Command) (place : ℕ) (test : Word → Bool) (n
   here : (b : Bar) (bs : List Bar) → is_in (map label_of (b ∷ bs)) (label_of b) ≡ true
   here b bs = ap (λ t. t || is_in (map label_of bs) (label_of b)) (bytes_eq-same (label_of b))
 
-  behind : (t u : Bool) → u ≡ true → (t || u) ≡ true
-  behind true u h = refl
-  behind false u h = h
-
   pub none_there : (bs : List Bar) → ((x : Word) → is_in (map label_of bs) x ≡ true → test x ≡ true)
       → find (bars_there s cs place) bs ≡ None
   none_there [] named = refl
   none_there (b ∷ bs) named =
       ap (λ t. cond t (Some b) (find (bars_there s cs place) bs)) (passed_over b (named (label_of b) (here b bs)))
-      ∙ none_there bs (λ x h. named x (behind (bytes_eq x (label_of b)) (is_in (map label_of bs) x) h))
+      ∙ none_there bs (λ x h. named x (or_right (bytes_eq x (label_of b)) (is_in (map label_of bs) x) h))
 
 pub barred_by_none : (asks : List Word) (o : Option Assertion) → option_and_then (barred_by asks None) o ≡ None
 barred_by_none asks None = refl

@@ -3,8 +3,8 @@ use Rattle.std.proofs.Common.{◌≡◌, ◌∙◌, ℕ, ◌+◌, ◌<◌, Bool,
 use Rattle.std.proofs.Common.{refl, sym, ap, inl, inr, arith}
 use Rattle.std.specs.Prelude.{filter, slice_get}
 use Rattle.std.specs.Option.{option_map, option_and_then}
-use Rattle.std.proofs.lemmas.List.{map-append, append_assoc, take_more, map_more}
-use Rattle.std.proofs.lemmas.Option.{slice_get_cases, slice_get_within, get_or_from_slice_get}
+use Rattle.std.proofs.lemmas.List.{map-append, append_assoc, map_more}
+use Rattle.std.proofs.lemmas.Option.{slice_get_cases}
 use Rattle.std.proofs.lemmas.List.Elements.{filter-append}
 use Rattle.mmtext.specs.Words.{Word}
 use Rattle.mmtext.specs.Text.{Token}
@@ -14,6 +14,7 @@ use Rattle.expanding.specs.Words.{word_at}
 use Rattle.expanding.specs.Spreading.{Star, cites, replaced_in, replaced_in_each}
 use Rattle.expanding.specs.Views.{citer}
 use Rattle.std.specs.Prelude.{codes}
+use Rattle.mmsyntax.proofs.Items.{take_next}
 
 -- ---- who cites
 
@@ -34,10 +35,6 @@ one_citing w x = at (cites w x.proof) refl
     at : (b : Bool) → cites w x.proof ≡ b → citing_in w (x ∷ []) ≡ listed (citer w x)
     at true e = rw e refl
     at false e = rw e refl
-
-pub take_next : {A : Type 0} (xs : List A) (k : ℕ) (x : A) → slice_get xs k ≡ Some x → take (k + 1) xs ≡ take k xs ++ x ∷ []
-take_next xs k x at =
-    take_more xs k x (slice_get_within xs k x at) ∙ ap (λ y. take k xs ++ y ∷ []) (get_or_from_slice_get xs k x x at)
 
 module _ (w : Word) (xs : List Assertion) (k : ℕ) (x : Assertion) (at : slice_get xs k ≡ Some x) where
   more : citing_in w (take (k + 1) xs) ≡ citing_in w (take k xs) ++ listed (citer w x)

@@ -1,27 +1,14 @@
 -- How many were put at each gap.
-use Rattle.std.proofs.Common.{◌≡◌, ◌∙◌, ℕ, suc, ◌+◌, ◌*◌, ◌<◌, ◌≤◌, Bool, true, false, cond, List, [], ◌∷◌, ◌++◌, length, set, get_or, replicate}
-use Rattle.std.proofs.Common.{Some, None, Option, refl, sym, ap, subst, arith, inl, inr, length-append, length-set}
+use Rattle.std.proofs.Common.{◌≡◌, ◌∙◌, ℕ, ◌+◌, ◌*◌, ◌<◌, ◌≤◌, Bool, true, false, cond, List, [], ◌∷◌, ◌++◌, length, set, get_or, replicate}
+use Rattle.std.proofs.Common.{Some, None, refl, sym, ap, subst, arith, inl, inr, length-append, length-set}
 use Rattle.std.specs.Prelude.{filter, slice_get, nat_eq}
 use Rattle.std.proofs.lemmas.Bool.{cases_Bool, eqb-true, eqb-false}
 use Rattle.std.proofs.lemmas.List.{get_or-set_same, get_or-set_other, get_or-replicate, length-replicate}
 use Rattle.std.proofs.lemmas.List.Elements.{filter-append}
 use Rattle.std.proofs.lemmas.Option.{slice_get-get_or, get_or_from_slice_get}
-use Rattle.std.specs.Option.{option_map}
-use Rattle.mmsyntax.specs.Tables.{place_of}
 use Rattle.expanding.specs.Ranking.{many_at, taken_among, most_beside}
 use Rattle.expanding.specs.Views.{AreFronts, AreCounts, IsRanker, IsGiven}
 use Rattle.expanding.specs.declared.ranking.Ranker.{Ranker}
-
--- the place of an item is within the list
-within_step : (b : Bool) (o : Option ℕ) (n l : ℕ) → ((k : ℕ) → o ≡ Some k → k < l)
-    → cond b (Some 0) (option_map (λ k. suc k) o) ≡ Some n → n < suc l
-within_step true o n l h e = let same : 0 ≡ n = cc in omega arith
-within_step false None n l h e = absurd cc
-within_step false (Some k) n l h e = let same : suc k ≡ n = cc in let lt = h k refl in omega arith
-
-pub place_within : {A : Type 0} (test : A → Bool) (xs : List A) (n : ℕ) → place_of test xs ≡ Some n → n < length xs
-place_within test [] n e = absurd cc
-place_within test (x ∷ xs) n e = within_step (test x) (place_of test xs) n (length xs) (place_within test xs) e
 
 many_one : (g gap : ℕ) → length (filter (nat_eq g) (gap ∷ [])) ≡ cond (nat_eq g gap) 1 0
 many_one g gap = at (nat_eq g gap)

@@ -4,8 +4,7 @@ use Rattle.std.specs.Prelude.{find, ◌||◌}
 use Rattle.std.specs.List.{list_any}
 use Rattle.std.specs.Option.{option_map, is_some}
 use Rattle.std.specs.Str.{bytes_eq}
-use Rattle.std.specs.Borrow.{Bor}
-use Rattle.std.proofs.Common.{ℕ}
+use Rattle.std.proofs.lemmas.Bool.{or_parts}
 use Rattle.mmtext.specs.Words.{Word}
 use Rattle.mmsyntax.proofs.Names.{same_bytes}
 use Rattle.source.specs.Statements.{Proof}
@@ -29,15 +28,7 @@ holds_pairs (v ∷ ws) w =
 
 -- ---- any
 
-pub any_seen : (test : Word → Bool) (ws : List (Bor (List ℕ))) → list_any (λ w. test w.now) ws ≡ list_any test (map (λ w. w.now) ws)
-any_seen test [] = refl
-any_seen test (w ∷ ws) = ap (λ b. test w.now || b) (any_seen test ws)
-
 -- ---- labels that no proof names
-
-or_false : (a b : Bool) → (a || b) ≡ false → (a ≡ false) × (b ≡ false)
-or_false false b h = (refl, h)
-or_false true b h = absurd cc
 
 both_false : (a b : Bool) → a ≡ false → b ≡ false → (a || b) ≡ false
 both_false false b h k = k
@@ -50,7 +41,7 @@ other_word test w v true e passes fails = absurd (let same : w ≡ v = same_byte
 unnamed : (test : Word → Bool) (w : Word) (ls : List Word) → test w ≡ true → list_any test ls ≡ false → is_in ls w ≡ false
 unnamed test w [] passes none = refl
 unnamed test w (v ∷ ls) passes none =
-    let p = or_false (test v) (list_any test ls) none in
+    let p = or_parts (test v) (list_any test ls) none in
     both_false (bytes_eq w v) (is_in ls w) (other_word test w v (bytes_eq w v) refl passes p.0) (unnamed test w ls passes p.1)
 
 -- a proof that names none of some labels doesn't name one of them

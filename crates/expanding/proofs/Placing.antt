@@ -17,7 +17,7 @@ use Rattle.expanding.specs.Ranking.{gap_of_place, gap_behind, taken_among, crowd
 use Rattle.expanding.specs.Views.{front_words, place_words, IsRankerOf, IsGiven}
 use Rattle.expanding.specs.declared.ranking.Ranker.{Ranker}
 use Rattle.mmtext.specs.declared.token.Token.{Token as CodeToken}
-use Rattle.expanding.proofs.Gaps.{place_within}
+use Rattle.mmsyntax.proofs.FirstPlace.{place_within}
 use Rattle.expanding.proofs.Fronts.{taken_most, from_most}
 
 -- ---- no gap

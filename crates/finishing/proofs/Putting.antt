@@ -1,10 +1,11 @@
 -- Records put at their places: each entry is one that a record tells, and a place stays empty only where no record has its number.
 use Rattle.std.proofs.Common.{◌≡◌, ◌∙◌, ap, sym, subst, refl, ℕ, zero, suc, ◌+◌, ◌<◌, List, [], ◌∷◌, ◌++◌, length, Option, Some, None, inl, inr, ⊎_elim, arith, append_assoc}
-use Rattle.std.specs.Prelude.{◌⊎◌, slice_get, replicate, Vec}
+use Rattle.std.specs.Prelude.{◌⊎◌, slice_get, Vec}
 use Rattle.std.specs.declared.alloc.Global.{Global}
 use Rattle.std.proofs.Math.ListN.{set}
-use Rattle.std.proofs.lemmas.List.{length-set, length-replicate, map-append}
+use Rattle.std.proofs.lemmas.List.{length-set, map-append}
 use Rattle.std.proofs.lemmas.Option.{slice_get_within}
+use Rattle.mmsyntax.proofs.Items.{set_same}
 use Rattle.library.specs.declared.history.Entry.{Entry}
 use Rattle.library.specs.Histories.{seen_entry}
 use Rattle.ranges.specs.Ranges.{Has}
@@ -15,11 +16,6 @@ use Rattle.transaction.specs.Closings.{lists_of}
 use Rattle.finishing.specs.Ordering.{Tells, IsToldIn, AreOrdered, ArePut}
 
 -- ---- one place of a list
-
-set_same : {A : Type 0} (xs : List A) (k : ℕ) (x : A) → k < length xs → slice_get (set xs k x) k ≡ Some x
-set_same [] k x lt = absurd (omega arith)
-set_same (y ∷ xs) zero x lt = refl
-set_same (y ∷ xs) (suc k) x lt = set_same xs k x (omega arith)
 
 -- what stands there then was put there, or stood there before
 set_cases : {A : Type 0} (xs : List A) (k : ℕ) (x : A) (i : ℕ) (y : A) → slice_get (set xs k x) i ≡ Some y

@@ -1,7 +1,7 @@
 -- A label that isn't chosen, by the first assertion with it and the flags of assertions.
 use Rattle.std.proofs.Common.{◌≡◌, ◌<◌, ◌≤◌, ℕ, zero, suc, Bool, true, false, List, [], ◌∷◌, length, map, take, get_or}
-use Rattle.std.proofs.Common.{◌+◌, refl, sym, ap, subst, ◌∙◌, arith, inl, inr}
-use Rattle.std.specs.Prelude.{Option, Some, None, slice_get, slice_index_or, ◌&&◌, All}
+use Rattle.std.proofs.Common.{◌+◌, sym, ap, subst, ◌∙◌, arith, inl, inr}
+use Rattle.std.specs.Prelude.{Some, None, slice_get, slice_index_or, ◌&&◌, All}
 use Rattle.std.specs.Borrow.{Bor}
 use mathlib.Core.Bool.{not}
 use Rattle.std.specs.Option.{option_map}
@@ -12,10 +12,11 @@ use Rattle.std.proofs.lemmas.List.{get_or-map}
 use Rattle.std.proofs.lemmas.List.Elements.{recursion_from_All}
 use Rattle.std.proofs.lemmas.List.Folds.{list_any_more}
 use Rattle.std.proofs.lemmas.Map.Keys.{any_passes_from_place}
-use Rattle.std.proofs.lemmas.Option.{none-some, same_Some, slice_get-map, slice_get_within, get_or_from_slice_get}
+use Rattle.std.proofs.lemmas.Option.{same_Some, slice_get-map, slice_get_within, get_or_from_slice_get}
 use Rattle.mmtext.specs.Words.{Word}
 use Rattle.mmsyntax.specs.Tables.{place_of}
 use Rattle.mmsyntax.proofs.Names.{same_bytes}
+use Rattle.mmsyntax.proofs.FirstPlace.{first_behind, none_before}
 use Rattle.source.specs.Scopes.{Assertion, is_in}
 use Rattle.source.specs.Views.{seen_words}
 use Rattle.taking.specs.Nodes.{Shared}
@@ -24,10 +25,6 @@ use Rattle.taking.proofs.Listed.{all_at}
 use Rattle.taking.proofs.Values.{mapped}
 
 -- ---- the first item that passes
-
-behind_none : (o : Option ℕ) → option_map (λ n. suc n) o ≡ None → o ≡ None
-behind_none None e = refl
-behind_none (Some j) e = absurd cc
 
 module _ {A : Type 0} (test : A → Bool) where
   -- it passes, and one before each further place does
@@ -45,35 +42,6 @@ module _ {A : Type 0} (test : A → Bool) where
             let s : suc p.0 ≡ i = p.2 in
             let rest = first_passes xs p.0 n p.1 (omega arith) in
             (rest.0, ap (slice_get (x ∷ xs)) (sym s) ∙ rest.1, rest.2, or_right (test x) _ rest.3)
-      ]
-
-  -- none before it does
-  pub none_before : (xs : List A) (i n : ℕ) → place_of test xs ≡ Some i → n ≤ i → list_any test (take n xs) ≡ false
-  none_before [] i zero e h = refl
-  none_before [] i (suc n) e h = refl
-  none_before (x ∷ xs) i zero e h = refl
-  none_before (x ∷ xs) i (suc n) e h =
-      elim (cases_Bool (test x)) [
-        | inl passes ↦
-            let zero-is : i ≡ 0 = same_Some i 0 (sym e ∙ cond-true (test x) (Some 0) _ passes) in
-            absurd (omega arith)
-        | inr fails ↦
-            let p = mapped (λ (n : ℕ). suc n) (place_of test xs) i (sym (cond-false (test x) (Some 0) _ fails) ∙ e) in
-            let s : suc p.0 ≡ i = p.2 in
-            or_from (test x) _ fails (none_before xs p.0 n p.1 (omega arith))
-      ]
-
-  -- where there is none, none does
-  pub none_passes : (xs : List A) (n : ℕ) → place_of test xs ≡ None → list_any test (take n xs) ≡ false
-  none_passes [] zero e = refl
-  none_passes [] (suc n) e = refl
-  none_passes (x ∷ xs) zero e = refl
-  none_passes (x ∷ xs) (suc n) e =
-      elim (cases_Bool (test x)) [
-        | inl passes ↦ absurd (none-some 0 (sym e ∙ cond-true (test x) (Some 0) _ passes))
-        | inr fails ↦
-            or_from (test x) _ fails
-            (none_passes xs n (behind_none (place_of test xs) (sym (cond-false (test x) (Some 0) _ fails) ∙ e)))
       ]
 
 -- ---- labels
@@ -100,10 +68,10 @@ module _ (xs : List Assertion) (chosen : List Word) (flags : List Bool) (are : m
   pub not_left_out_before : (w : Word) (i n : ℕ) → place_of (λ a. bytes_eq w a.label) xs ≡ Some i → n ≤ i
       → false ≡ is_left_out (take n xs) chosen w
   not_left_out_before w i n e h =
-      sym (and_left _ (not (is_in chosen w)) (none_before (λ (a : Assertion). bytes_eq w a.label) xs i n e h))
+      sym (and_left _ (not (is_in chosen w)) (first_behind (λ (a : Assertion). bytes_eq w a.label) xs i n e h))
 
   pub not_left_out : (w : Word) (n : ℕ) → place_of (λ a. bytes_eq w a.label) xs ≡ None → false ≡ is_left_out (take n xs) chosen w
-  not_left_out w n e = sym (and_left _ (not (is_in chosen w)) (none_passes (λ (a : Assertion). bytes_eq w a.label) xs n e))
+  not_left_out w n e = sym (and_left _ (not (is_in chosen w)) (none_before (λ (a : Assertion). bytes_eq w a.label) xs n e))
 
 -- ---- what nodes name
 

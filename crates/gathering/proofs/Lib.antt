@@ -3,7 +3,6 @@ pub mod Listable
 pub mod Reasons
 pub mod Forms
 mod Premised
-mod Zipped
 mod Said
 mod Stated
 mod Known

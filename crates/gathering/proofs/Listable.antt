@@ -1,5 +1,5 @@
 -- A tree that cites nothing that isn't chosen has a listing, where the steps of what is chosen are known.
-use Rattle.std.proofs.Common.{◌≡◌, ℕ, zero, suc, Bool, true, false, List, [], ◌∷◌, length, take, refl, sym, ap, subst, ◌∙◌}
+use Rattle.std.proofs.Common.{◌≡◌, ℕ, zero, suc, true, false, List, [], ◌∷◌, length, take, refl, sym, ap, subst, ◌∙◌}
 use Rattle.std.proofs.Common.{inl, inr}
 use Rattle.std.specs.Prelude.{Option, Some, None, ◌⊎◌, is_some, find, IsTrue, ◌&&◌}
 use mathlib.Core.Bool.{not}
@@ -13,6 +13,7 @@ use Rattle.mmsyntax.specs.declared.statement.Step.{Step}
 use Rattle.mmsyntax.specs.Tables.{place_of}
 use Rattle.mmsyntax.proofs.Distinct.{is_some-place_of}
 use Rattle.mmsyntax.proofs.Names.{same_bytes}
+use Rattle.mmsyntax.proofs.Items.{found_is_any}
 use Rattle.source.specs.Scopes.{Hypothesis, typing, premise, label_of, Assertion, Scope, is_in}
 use Rattle.source.specs.Proofs.{Tree, Trees, node, none, some, taken_by}
 use Rattle.taking.specs.Names.{Map, label_in, float_in}
@@ -63,15 +64,6 @@ of_hypothesis m w (premise label ws ∷ hs) a h =
           ]
     ]
 
--- what is found passes
-any_found : {A : Type 0} (test : A → Bool) (xs : List A) (x : A) → find test xs ≡ Some x → list_any test xs ≡ true
-any_found test [] x e = absurd cc
-any_found test (y ∷ ys) x e =
-    elim (cases_Bool (test y)) [
-      | inl passes ↦ or_left (test y) (list_any test ys) passes
-      | inr fails ↦ or_right (test y) (list_any test ys) (any_found test ys x (sym (cond-false (test y) (Some y) _ fails) ∙ e))
-    ]
-
 -- a chosen label of assertions has one in the library
 of_assertion : (m : Map) (chosen : List Word) (w : Word) (n : ℕ) (xs : List Assertion)
     → AllByRecursion (λ y. IsTrue (is_in chosen y.label) → IsTrue (is_some (label_in m y.label))) xs
@@ -118,7 +110,7 @@ module _ (m : Map) (choice : Choice) (s : Scope) (x : Assertion) (n : ℕ) (know
         | inr other ↦
             let f = mapped (λ (a : Assertion). a.hypotheses) (find (λ a. bytes_eq w a.label) (take n s.assertions)) hs
             (sym (cond-false _ (Some []) _ other) ∙ takes) in
-            let asserted = any_found (λ (a : Assertion). bytes_eq w a.label) (take n s.assertions) f.0 f.1 in
+            let asserted = found_is_any (λ (a : Assertion). bytes_eq w a.label) (take n s.assertions) f.0 f.1 in
             let kept : is_in choice.chosen w ≡ true =
             not-false (is_in choice.chosen w) (ap (λ b. b && not (is_in choice.chosen w)) (sym asserted) ∙ chosen) in
             by_label place (float_in m w) (label_in m w)

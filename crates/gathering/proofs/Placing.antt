@@ -15,7 +15,7 @@ use Rattle.taking.specs.Settings.{is_float}
 use Rattle.taking.specs.Says.{IsFloatTaken}
 use Rattle.taking.specs.Reasons.{Choice, AreFlags}
 use Rattle.source.specs.Flags.{kept}
-use Rattle.prooftrees.proofs.Whole.{whole_at}
+use Rattle.source.proofs.Asked.{whole_at}
 use Rattle.sites.specs.Sites.{Sited, IsFloatSited, AreSites}
 use Rattle.sites.specs.declared.names.LibraryNames.{LibraryNames}
 use Rattle.gathering.specs.Assembled.{HasAllPlaces}

@@ -25,7 +25,7 @@ use Rattle.intake.specs.Parts.{AreDrafted, IsGathered, AreAsMany, lists_of, chan
 
 -- ---- flags
 
-kept_one : {A : Type 0} (b : Bool) (x : A) (xs ys : List A) → xs ≡ ys → kept_at b x xs ≡ (if b then x ∷ ys else ys)
+pub kept_one : {A : Type 0} (b : Bool) (x : A) (xs ys : List A) → xs ≡ ys → kept_at b x xs ≡ (if b then x ∷ ys else ys)
 kept_one true x xs ys e = ap (λ zs. x ∷ zs) e
 kept_one false x xs ys e = e
 

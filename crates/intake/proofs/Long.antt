@@ -28,13 +28,14 @@ use Rattle.source.specs.Scopes.{Assertion, Scope, is_in}
 use Rattle.source.specs.Proofs.{Tree, denoted, is_unfinished}
 use Rattle.source.specs.Whole.{IsWhole}
 use Rattle.taking.specs.declared.reason.Reason.{Reason}
-use Rattle.taking.specs.declared.reason.Reason.TheVariants.{Unfinished, TooLong, InFront, CitesUnchosen, LongExpression}
+use Rattle.taking.specs.declared.reason.Reason.TheVariants.{TooLong, InFront, CitesUnchosen, LongExpression}
 use Rattle.taking.specs.Names.{Map}
 use Rattle.taking.specs.Says.{SaysSame}
 use Rattle.taking.specs.Listings.{IsListed}
 use Rattle.taking.specs.Reasons.{Choice, reason, reason_of, reason_of_finished, reason_of_tree, cites_left_out}
 use Rattle.source.specs.Flags.{kept}
 use Rattle.taking.specs.Taken.{HasProof, IsTaken, AreTaken, AreTakenFrom}
+use Rattle.taking.proofs.LongListings.{unfinished_or}
 use Rattle.choosing.specs.Choices.{IsChoice, IsChosen, labels_of}
 use Rattle.choosing.specs.declared.wish.Wish.{Wish}
 use Rattle.choosing.specs.declared.wish.Wish.TheVariants as wish
@@ -209,14 +210,10 @@ none_of_all false true third true e = absurd cc
 none_of_all false false true true e = absurd cc
 none_of_all false false false true e = absurd cc
 
-none_of_two : (b : Bool) (r : Option Reason) → (if b then Some Unfinished else r) ≡ None → r ≡ None
-none_of_two true r e = absurd cc
-none_of_two false r e = e
-
 unflagged : (c : Choice) (earlier : List Assertion) (x : Assertion) (proof : Proof) (tree : Tree) → denoted earlier x ≡ Some tree
     → reason_of c earlier x (Some proof) ≡ None → is_in c.long x.label ≡ false
 unflagged c earlier x proof tree is none =
-    let finished : reason_of_finished c earlier x.label (denoted earlier x) ≡ None = none_of_two (is_unfinished proof) _ none in
+    let finished : reason_of_finished c earlier x.label (denoted earlier x) ≡ None = unfinished_or (is_unfinished proof) _ none in
     let by_tree : reason_of_tree c earlier x.label tree ≡ None = ap (reason_of_finished c earlier x.label) (sym is) ∙ finished in
     none_of_all _ (is_in c.front x.label) (cites_left_out earlier c.chosen tree) (is_in c.long x.label) by_tree
 

@@ -10,6 +10,7 @@ use Rattle.std.specs.List.Sorted.{IsPermutation, IsStrictlyIncreasing}
 use Rattle.std.proofs.lemmas.Bool.Decides.{Decides-eqb, Decides-ltb, leb_tells}
 use Rattle.std.proofs.lemmas.List.Kept.{Contains-dedup_nat, Contains-from_dedup}
 use Rattle.std.proofs.lemmas.List.Sorted.{Contains-permutation, IsPermutation-sym}
+use Rattle.mmsyntax.proofs.Options.{alike}
 
 -- whether a number is one of a list
 abbrev pub has : ℕ → List ℕ → Bool
@@ -61,11 +62,6 @@ at-has j [] k d lt e = absurd (omega arith)
 at-has j (x ∷ xs) zero d lt e = rw ((Decides-eqb x j).1 e) refl
 at-has j (x ∷ xs) (suc k) d lt e =
     elim (eqb x j) as (λ b. (b || has j xs) ≡ true) [ true ↦ refl | false ↦ at-has j xs k d (omega arith) e ]
-
-alike : (a b : Bool) → (a ≡ true → b ≡ true) → (b ≡ true → a ≡ true) → a ≡ b
-alike true b f g = sym (f refl)
-alike false true f g = g refl
-alike false false f g = refl
 
 pub same-has : (listed sorted left : List ℕ) (j : ℕ) → IsPermutation listed sorted → left ≡ dedup eqb sorted → has j left ≡ has j listed
 same-has listed sorted left j moved is = rw is (alike _ _

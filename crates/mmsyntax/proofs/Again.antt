@@ -36,15 +36,12 @@ use Rattle.mmsyntax.proofs.Distinct.{any_at, any-map, cross, place_of-item, plac
 use Rattle.mmsyntax.proofs.Distinct.{is_some-meaning, none_of, all_map}
 use Rattle.mmsyntax.proofs.Pairs.{next_pair}
 use Rattle.mmsyntax.proofs.Numbered.{differ, label_bytes, number_label, number_dot, number_form}
+use Rattle.mmsyntax.proofs.Options.{none_is}
 
 -- ---- in general
 
 pub none_cond : (b : Bool) (kind : FaultKind) (o : Option FaultKind) → b ≡ false → o ≡ None → cond b (Some kind) o ≡ None
 none_cond b kind o h g = cond-false b (Some kind) o h ∙ g
-
-pub none_is : {A : Type 0} (o : Option A) → is_some o ≡ false → o ≡ None
-none_is None h = refl
-none_is (Some x) h = absurd cc
 
 pub plain_at : (ws : List Word) (i : ℕ) → AllByRecursion IsSymbolWord ws → i < length ws → IsSymbolWord (get_or ws i [])
 plain_at [] i h lt = absurd (omega arith)

@@ -16,8 +16,8 @@ use Rattle.mmsyntax.proofs.Names.{bytes_eq-sym}
 use Rattle.mmsyntax.proofs.Distinct.{cross, distinct_left, distinct_right, any_at, place_of-item, place_of-absent, float_labels}
 use Rattle.mmsyntax.proofs.Distinct.{is_some-meaning}
 use Rattle.mmsyntax.proofs.Sound.{AreSound, variables_used, any_swap, eqb-sym}
-use Rattle.mmsyntax.proofs.Again.{none_is}
 use Rattle.mmsyntax.proofs.Canonical.{sound_tables, floats_sound}
+use Rattle.mmsyntax.proofs.Options.{none_is}
 
 -- the tables of a prelude up to a constant, a variable, a $f
 abbrev pub constants_before : Tables → ℕ → Tables

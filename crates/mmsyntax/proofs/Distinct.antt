@@ -16,6 +16,7 @@ use Rattle.mmtext.specs.Words.{Word}
 use Rattle.mmsyntax.specs.Assertions.{Distinct}
 pub use Rattle.mmsyntax.specs.Preludes.{float_labels, prelude_names}
 use Rattle.mmsyntax.proofs.Names.{bytes_eq-same, bytes_eq-sym, swap_or}
+use Rattle.mmsyntax.proofs.Options.{mapped_some}
 
 -- ---- in general
 
@@ -80,10 +81,6 @@ place_of-absent p (x ∷ xs) h =
     let both = or_parts (p x) (list_any p xs) h in
     cond-false (p x) (Some 0) _ both.0 ∙ ap (λ o. option_map (λ n. suc n) o) (place_of-absent p xs both.1)
 
-is_some-map : (o : Option ℕ) → is_some (option_map (λ n. suc n) o) ≡ is_some o
-is_some-map None = refl
-is_some-map (Some x) = refl
-
 is_some-or : (b : Bool) (o : Option ℕ) → is_some (cond b (Some 0) o) ≡ (b || is_some o)
 is_some-or true o = refl
 is_some-or false o = refl
@@ -91,7 +88,7 @@ is_some-or false o = refl
 pub is_some-place_of : {A : Type 0} (p : A → Bool) (xs : List A) → is_some (place_of p xs) ≡ list_any p xs
 is_some-place_of p [] = refl
 is_some-place_of p (x ∷ xs) = is_some-or (p x) (option_map (λ n. suc n) (place_of p xs))
-    ∙ ap (λ b. p x || b) (is_some-map (place_of p xs) ∙ is_some-place_of p xs)
+    ∙ ap (λ b. p x || b) (mapped_some (λ (n : ℕ). suc n) (place_of p xs) ∙ is_some-place_of p xs)
 
 pub any-map : {A B : Type 0} (p : B → Bool) (f : A → B) (xs : List A) → list_any p (map f xs) ≡ list_any (λ x. p (f x)) xs
 any-map p f [] = refl

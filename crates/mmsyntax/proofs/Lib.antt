@@ -20,3 +20,6 @@ pub mod DottedWords
 pub mod Apart
 pub mod ProofSteps
 pub mod SymbolWords
+pub mod FirstPlace
+pub mod Items
+pub mod Options

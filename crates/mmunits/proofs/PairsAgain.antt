@@ -1,5 +1,5 @@
 -- To put a pair that stands changes nothing, also once another is put.
-use Rattle.std.proofs.Common.{◌≡◌, ℕ, suc, ◌<◌, Bool, true, false, cond, List, [], ◌∷◌, length, get_or, Result, Ok, Err, OnOk}
+use Rattle.std.proofs.Common.{◌≡◌, ℕ, suc, ◌<◌, Bool, true, false, cond, List, [], ◌∷◌, length, get_or}
 use Rattle.std.proofs.Common.{refl, sym, ap, subst, eqb, arith}
 use Rattle.std.specs.Prelude.{◌&&◌}
 use Rattle.std.proofs.lemmas.Bool.Decides.{nat_tests}
@@ -80,11 +80,6 @@ still_stands p q (x ∷ xs) h =
 pub still_stand : (q : ℕ × ℕ) (ps cells : List (ℕ × ℕ)) → StandAmong ps cells → StandAmong (with_pair q ps) cells
 still_stand q ps cells h =
     All-weaker (λ p. with_pair p ps ≡ ps) (λ p. with_pair p (with_pair q ps) ≡ with_pair q ps) (λ p. still_stands p q ps) cells h
-
--- what holds whatever a call returned
-pub at_any_result : {T E P : Type 0} (r : Result T E) → P → OnOk r P
-at_any_result (Ok v) h = h
-at_any_result (Err e) h = tt
 
 one_pair : (p q : ℕ × ℕ) → (eqb p.0 q.0 && eqb p.1 q.1) ≡ true → p ≡ q
 one_pair (a, b) (c, d) h =

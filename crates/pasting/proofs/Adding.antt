@@ -4,7 +4,7 @@ use Rattle.std.proofs.Common.{refl, sym, ap, subst, append_assoc, arith, ◌⊎�
 use Rattle.std.specs.Prelude.{◌||◌, filter, min, slice_index_or}
 use Rattle.std.specs.List.{list_any, zip}
 use Rattle.std.proofs.lemmas.List.{map-append, take_all, take_more}
-use Rattle.std.proofs.lemmas.List.Elements.{filter-append}
+use Rattle.std.proofs.lemmas.List.Elements.{filter-append, filter_agree}
 use Rattle.std.proofs.lemmas.List.Folds.{list_any-append}
 use Rattle.std.proofs.lemmas.Slice.Zip.{length-zip, get_or-zip}
 use Rattle.mmtext.specs.Text.{Token}
@@ -97,16 +97,11 @@ same_mandatory fs ps statement are (typing l c v) =
     (sym (list_any-append (stands_in v) fs ps ∙ ap (λ b. b || list_any (stands_in v) ps) (in_no_float v fs are)))
 same_mandatory fs ps statement are (premise l ws) = refl
 
-filter_same : {A : Type 0} (f g : A → Bool) → ((x : A) → f x ≡ g x) → (xs : List A) → filter f xs ≡ filter g xs
-filter_same f g e [] = refl
-filter_same f g e (x ∷ xs) =
-    ap (λ b. cond b (x ∷ filter f xs) (filter f xs)) (e x) ∙ ap (λ ys. cond (g x) (x ∷ ys) ys) (filter_same f g e xs)
-
 pub mandatory_both : (fs ps : List Hypothesis) (statement : List Word) → AreFloats fs
     → filter (is_mandatory ps statement) fs ++ filter (is_mandatory ps statement) ps ≡ mandatory (fs ++ ps) statement
 mandatory_both fs ps statement are =
     sym (filter-append (is_mandatory ps statement) fs ps)
-    ∙ filter_same (is_mandatory ps statement) (is_mandatory (fs ++ ps) statement) (same_mandatory fs ps statement are) (fs ++ ps)
+    ∙ filter_agree (is_mandatory ps statement) (is_mandatory (fs ++ ps) statement) (same_mandatory fs ps statement are) (fs ++ ps)
 
 -- ---- what is noted
 

@@ -1,9 +1,8 @@
 -- The labels that a proof counts, where each of its words names what is there.
 use Rattle.std.proofs.Common.{◌≡◌, ◌∙◌, ℕ, suc, Bool, true, false, cond, List, [], ◌∷◌, ◌++◌, map, take, drop, Option, Some, None}
 use Rattle.std.proofs.Common.{refl, sym, ap, subst, append_assoc}
-use Rattle.std.specs.Prelude.{◌||◌, All, find, is_some, filter}
+use Rattle.std.specs.Prelude.{◌||◌, All, find, filter}
 use mathlib.Core.Bool.{not}
-use Rattle.std.specs.Option.{option_map}
 use Rattle.std.specs.List.{AllByRecursion, list_any}
 use Rattle.std.specs.Str.{bytes_eq}
 use Rattle.std.proofs.lemmas.Bool.{or_left, or_right}
@@ -16,8 +15,9 @@ use Rattle.mmsyntax.proofs.Distinct.{all_append}
 use Rattle.source.specs.Statements.{Proof, normal, compressed}
 use Rattle.source.specs.Scopes.{Hypothesis, label_of, Assertion, is_mandatory, mandatory}
 use Rattle.source.specs.Whole.{labels_in}
-use Rattle.prooftrees.specs.Counted.{counted_labels}
+use Rattle.taking.specs.Counted.{counted_labels}
 use Rattle.prooftrees.specs.Names.{IsKnown}
+use Rattle.prooftrees.proofs.Whole.{known_active}
 use Rattle.expanding.specs.Asking.{spoken_in}
 use Rattle.pasting.specs.Proofs.{is_compressed, closing_in, compressed_at, proof_of, labels_at, labels_among, is_unnamed}
 
@@ -53,11 +53,6 @@ all_named earlier x (t ∷ ts) none =
 
 -- ---- so does each mandatory hypothesis
 
-active_known : (earlier : List Assertion) (active : List Hypothesis) (w : Word)
-    → list_any (λ h. bytes_eq w (label_of h)) active ≡ true → IsKnown earlier active w
-active_known earlier active w e =
-    ap (λ b. is_some (cond b (Some []) (option_map (λ (a : Assertion). a.hypotheses) (find (λ a. bytes_eq w a.label) earlier)))) e
-
 module _ (earlier : List Assertion) (active : List Hypothesis) (keeps : Hypothesis → Bool) where
   one_known : (h : Hypothesis) (hs : List Hypothesis) → IsKnown earlier active (label_of h)
       → AllByRecursion (IsKnown earlier active) (map label_of hs)
@@ -75,7 +70,7 @@ module _ (earlier : List Assertion) (active : List Hypothesis) (keeps : Hypothes
       ap (list_any test) e
       ∙ list_any-append test front (h ∷ hs)
       ∙ or_right (list_any test front) (bytes_eq w w || list_any test hs) (or_left (bytes_eq w w) (list_any test hs) (bytes_eq-same w)) in
-      one_known h (filter keeps hs) (active_known earlier active w there)
+      one_known h (filter keeps hs) (known_active earlier active w there)
       (kept_known (front ++ h ∷ []) hs (e ∙ sym (append_assoc front (h ∷ []) hs))) (keeps h)
 
 -- ---- all that it counts

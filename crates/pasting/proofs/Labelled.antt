@@ -1,8 +1,7 @@
 -- The label in a library of what stands there at the place of a label.
-use Rattle.std.proofs.Common.{◌≡◌, ◌∙◌, ℕ, suc, Bool, true, false, cond, List, [], ◌∷◌, map, Option, Some, None, refl, sym, ap, inl, inr}
+use Rattle.std.proofs.Common.{◌≡◌, ◌∙◌, ℕ, suc, true, false, cond, List, [], ◌∷◌, map, Option, Some, None, refl, sym, ap, inl, inr}
 use Rattle.std.specs.Prelude.{slice_get, find, is_some, if◌then◌else◌}
 use Rattle.std.specs.Option.{option_map, option_and_then, option_or}
-use Rattle.std.specs.List.{zip}
 use Rattle.std.specs.Str.{bytes_eq}
 use Rattle.std.proofs.lemmas.Bool.{cases_Bool}
 use Rattle.std.proofs.lemmas.List.Folds.{find-append}
@@ -11,36 +10,12 @@ use Rattle.mmtext.specs.Words.{Word}
 use Rattle.mmsyntax.specs.Tables.{Contents, place_of}
 use Rattle.mmsyntax.specs.declared.statement.Assertion.{Assertion as Unit'}
 use Rattle.mmsyntax.proofs.Names.{same_bytes}
+use Rattle.mmsyntax.proofs.FirstPlace.{found_in_zip}
 use Rattle.taking.specs.Names.{Map, label_in}
 use Rattle.pasting.specs.Places.{places_of}
 use Rattle.pasting.specs.Pasted.{with_labels}
 
 -- ---- pairs of two lists
-
-pub later : {B : Type 0} (b : B) (bs : List B) (o : Option ℕ)
-    → option_and_then (slice_get bs) o ≡ option_and_then (slice_get (b ∷ bs)) (option_map (λ n. suc n) o)
-later b bs None = refl
-later b bs (Some k) = refl
-
-empty : (B : Type 0) (o : Option ℕ) → None ≡ option_and_then (slice_get {X = B} []) o
-empty B None = refl
-empty B (Some k) = refl
-
-module _ {A B : Type 0} where
-  here : (t : Bool) (a : A) (b : B) (bs : List B) (rest : Option (A × B)) (o : Option ℕ)
-      → option_map (λ p. p.1) rest ≡ option_and_then (slice_get bs) o
-      → option_map (λ p. p.1) (cond t (Some (a, b)) rest)
-      ≡ option_and_then (slice_get (b ∷ bs)) (cond t (Some 0) (option_map (λ n. suc n) o))
-  here true a b bs rest o e = refl
-  here false a b bs rest o e = e ∙ later b bs o
-
-  -- what stands with the first item that passes
-  beside_first : (test : A → Bool) (xs : List A) (ys : List B)
-      → option_map (λ p. p.1) (find (λ p. test p.0) (zip xs ys)) ≡ option_and_then (slice_get ys) (place_of test xs)
-  beside_first test [] ys = refl
-  beside_first test (x ∷ xs) [] = empty B (place_of test (x ∷ xs))
-  beside_first test (x ∷ xs) (y ∷ ys) =
-      here (test x) x y ys (find (λ p. test p.0) (zip xs ys)) (place_of test xs) (beside_first test xs ys)
 
 -- ---- labels
 
@@ -51,7 +26,7 @@ module _ (floats labels : List Word) (db : Contents) (w : Word) where
   label_by_place : (o : Option ℕ) → place_of (bytes_eq w) labels ≡ o
       → label_in (places_of floats labels db) w ≡ option_and_then (slice_get names) o
   unfolding names
-  label_by_place o e = beside_first (bytes_eq w) labels names ∙ ap (option_and_then (slice_get names)) e
+  label_by_place o e = found_in_zip (bytes_eq w) labels names ∙ ap (option_and_then (slice_get names)) e
 
   pub label_nowhere : place_of (bytes_eq w) labels ≡ None → None ≡ label_in (places_of floats labels db) w
   label_nowhere e = sym (label_by_place None e)
@@ -65,10 +40,6 @@ module _ (floats labels : List Word) (db : Contents) (w : Word) where
       ∙ sym (label_by_place (Some k) e)
 
 -- ---- labels that scripts add
-
-suc_some : (o : Option ℕ) → is_some (option_map (λ n. suc n) o) ≡ is_some o
-suc_some None = refl
-suc_some (Some n) = refl
 
 own_label : (w : Word) (ls : List Word)
     → find (λ (p : Word × Word). bytes_eq w p.0) (map (λ v. (v, v)) ls) ≡ (if is_some (place_of (bytes_eq w) ls) then Some (w, w) else None)

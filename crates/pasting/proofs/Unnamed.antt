@@ -10,6 +10,7 @@ use Rattle.mmtext.specs.Views.{seen}
 use Rattle.mmtext.specs.declared.token.Token.{Token as CodeToken}
 use Rattle.mmsyntax.specs.Tables.{place_of}
 use Rattle.mmsyntax.proofs.Distinct.{is_some-place_of}
+use Rattle.mmsyntax.proofs.Options.{mapped_some}
 use Rattle.source.specs.Scopes.{Assertion, Hypothesis}
 use Rattle.source.specs.Proofs.{taken_by}
 use Rattle.taking.specs.Listings.{premise_labels}
@@ -22,10 +23,6 @@ use Rattle.pasting.specs.declared.additions.Additions.{Additions}
 use Rattle.pasting.specs.Views.{at_label, flags_in, flags_of}
 
 -- ---- labels
-
-pub mapped_some : {A B : Type 0} (f : A → B) (o : Option A) → is_some (option_map f o) ≡ is_some o
-mapped_some f None = refl
-mapped_some f (Some a) = refl
 
 by_tests : (b : Bool) (o : Option Assertion) (rest : Bool) → rest ≡ is_some o
     → (b || rest) ≡ is_some (cond b (Some []) (option_map (λ a. a.hypotheses) o))

@@ -26,11 +26,11 @@ use crate::theorem::{all_of, mandatory_of};
 use crate::words::{labels_among, proof_of};
 use mmsyntax::MOST_STEPS;
 use mmtext::{FaultKind, Token};
-use prooftrees::{ProofTree, Roles, is_unfinished, read_given};
+use prooftrees::{ProofTree, Roles, read_given};
 use source::{Declared, HypothesisWords};
 use std::alloc::{AllocError, Global};
 use std::hash::RandomState;
-use taking::list;
+use taking::{is_unfinished, list};
 
 /// What a tree says as the proof of an assertion, before which others stand: its listing, if that is short.
 fn given_by_tree<'w>(

@@ -1,4 +1,3 @@
-mod Before
 mod Changing
 mod Giving
 mod Premises

@@ -5,6 +5,7 @@ use Rattle.std.specs.Prelude.{slice_get, find}
 use Rattle.std.specs.Option.{option_map, is_some}
 use Rattle.std.proofs.lemmas.Bool.{cases_Bool}
 use Rattle.mmsyntax.specs.Tables.{place_of}
+use Rattle.mmsyntax.proofs.FirstPlace.{place_within}
 
 -- where one of the front passes, it stands at the place of the first of all
 pub record FoundAt {A : Type 0} (test : A → Bool) (xs : List A) (n k : ℕ) : Type 0 where
@@ -42,19 +43,6 @@ found_in_front {A} test (x ∷ xs) (suc n) h =
 
 -- ---- by the place of the first of all
 
-none_step : {A : Type 0} (b : Bool) (x : A) (o : Option ℕ) (f : Option A) → cond b (Some 0) (option_map (λ k. suc k) o) ≡ None
-    → (o ≡ None → f ≡ None) → cond b (Some x) f ≡ None
-none_step true x o f e h = absurd cc
-none_step false x None f e h = h refl
-none_step false x (Some k) f e h = absurd cc
-
--- where none passes, none of the front does
-pub none_in_front : {A : Type 0} (test : A → Bool) (xs : List A) (n : ℕ) → place_of test xs ≡ None → find test (take n xs) ≡ None
-none_in_front test xs zero e = refl
-none_in_front test [] (suc n) e = refl
-none_in_front test (x ∷ xs) (suc n) e =
-    none_step (test x) x (place_of test xs) (find test (take n xs)) e (λ h. none_in_front test xs n h)
-
 -- the first of all that passes is the first of the front, if it stands there
 pub record IsFirst {A : Type 0} (test : A → Bool) (xs : List A) (n k : ℕ) : Type 0 where
   pub there : k < n → find test (take n xs) ≡ slice_get xs k
@@ -84,25 +72,12 @@ first_step test x xs n k false (Some j) t p e rest =
       within = let h = at.within in omega arith;
     })
 
-within_step : {A : Type 0} (test : A → Bool) (xs : List A) (k : ℕ) (b : Bool) (o : Option ℕ) → place_of test xs ≡ o
-    → cond b (Some 0) (option_map (λ j. suc j) o) ≡ Some k → ((j : ℕ) → place_of test xs ≡ Some j → j < length xs) → k < suc (length xs)
-within_step test xs k true o p e rest = let same : 0 ≡ k = cc in subst (λ (j : ℕ). j < suc (length xs)) same (omega arith)
-within_step test xs k false None p e rest = absurd cc
-within_step test xs k false (Some j) p e rest =
-    let same : suc j ≡ k = cc in
-    let h = rest j p in
-    subst (λ (j : ℕ). j < suc (length xs)) same (omega arith)
-
-first_within : {A : Type 0} (test : A → Bool) (xs : List A) (k : ℕ) → place_of test xs ≡ Some k → k < length xs
-first_within test [] k e = absurd cc
-first_within test (x ∷ xs) k e = within_step test xs k (test x) (place_of test xs) refl e (λ j p. first_within test xs j p)
-
 pub first_is : {A : Type 0} (test : A → Bool) (xs : List A) (n k : ℕ) → place_of test xs ≡ Some k → IsFirst test xs n k
 first_is test [] n k e = absurd cc
 first_is test (x ∷ xs) zero k e = record {
   there = λ h. absurd (omega arith);
   behind = λ h. refl;
-  within = first_within test (x ∷ xs) k e;
+  within = place_within test (x ∷ xs) k e;
 }
 first_is test (x ∷ xs) (suc n) k e =
     first_step test x xs n k (test x) (place_of test xs) refl refl e (λ j p. first_is test xs n j p)

@@ -5,5 +5,4 @@ pub mod Framed
 pub mod Named
 pub mod Cases
 pub mod Trees
-pub mod Asked
 pub mod Mandatory

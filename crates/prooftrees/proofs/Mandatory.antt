@@ -17,9 +17,9 @@ use Rattle.prooftrees.specs.declared.roles.Role.{Role}
 use Rattle.prooftrees.specs.Names.{IsKnown, IsOther, AreEnough, labelled}
 use Rattle.prooftrees.specs.Roles.{role_in, is_label_of, role_of}
 use Rattle.std.proofs.lemmas.Bool.{or_right}
+use Rattle.source.proofs.Asked.{whole_at}
 use Rattle.prooftrees.proofs.Found.{found_in_front}
 use Rattle.prooftrees.proofs.Named.{or_both, neither_in, known_assertion}
-use Rattle.prooftrees.proofs.Whole.{whole_at}
 
 -- ---- hypotheses of which each $e is kept
 

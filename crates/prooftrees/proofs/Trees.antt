@@ -23,8 +23,8 @@ use Rattle.taking.specs.Decoded.{AreDecoded, AreLabelsOf, tree_of}
 use Rattle.taking.proofs.Counting.{codes_there}
 use Rattle.taking.proofs.Values.{as_many, natural}
 use Rattle.prooftrees.specs.declared.form.ProofTree.{ProofTree}
-use Rattle.prooftrees.specs.declared.counting.Counted.{Counted}
-use Rattle.prooftrees.specs.Counted.{IsCounted}
+use Rattle.taking.specs.declared.counting.Counted.{Counted}
+use Rattle.taking.specs.Counted.{IsCounted}
 use Rattle.prooftrees.specs.Forms.{IsTree}
 use Rattle.prooftrees.proofs.Named.{NamesOf}
 

@@ -1,7 +1,7 @@
 -- What is so of one assertion of a source.
-use Rattle.std.proofs.Common.{◌≡◌, ℕ, zero, suc, Bool, true, false, List, [], ◌∷◌, ◌++◌, map, take, Option, Some, None}
-use Rattle.std.proofs.Common.{refl, sym, ap, subst, ◌∙◌, append_assoc, append-nil}
-use Rattle.std.specs.Prelude.{◌||◌, slice_get, All, IfSome, is_some, filter, cond, find}
+use Rattle.std.proofs.Common.{◌≡◌, Bool, true, false, List, [], ◌∷◌, ◌++◌, map, Option, Some, None}
+use Rattle.std.proofs.Common.{refl, sym, ap, subst, ◌∙◌, append_assoc}
+use Rattle.std.specs.Prelude.{◌||◌, All, IfSome, is_some, filter, cond, find}
 use Rattle.std.specs.List.{AllByRecursion, list_any}
 use Rattle.std.specs.Option.{option_map, option_and_then}
 use Rattle.std.specs.Str.{bytes_eq}
@@ -14,33 +14,18 @@ use Rattle.mmsyntax.proofs.Distinct.{all_append}
 use Rattle.source.specs.Statements.{Proof, normal, compressed}
 use Rattle.source.specs.Scopes.{Hypothesis, label_of, Assertion, Scope, is_mandatory, mandatory}
 use Rattle.source.specs.Proofs.{Tree, Step, node, over, there, denoted, denoted_by, made, steps_of, is_unfinished}
-use Rattle.source.specs.Whole.{IsProofWhole, IsAssertionWhole, AreAssertionsWhole, IsWhole, labels_in}
+use Rattle.source.specs.Whole.{IsProofWhole, IsAssertionWhole, labels_in}
 use Rattle.source.proofs.Alike.{made_alike}
 use Rattle.source.proofs.Finished.{made_there}
 use Rattle.taking.proofs.Values.{all_more}
-use Rattle.prooftrees.specs.Counted.{counted_labels}
+use Rattle.taking.specs.Counted.{counted_labels}
 use Rattle.prooftrees.specs.Names.{IsKnown}
 
 -- ---- the assertion at a place
 
-whole_behind : (s : Scope) (earlier xs : List Assertion) (k : ℕ) (x : Assertion) → AreAssertionsWhole s earlier xs
-    → slice_get xs k ≡ Some x → IsAssertionWhole s (earlier ++ take k xs) x
-whole_behind s earlier [] k x a at = absurd cc
-whole_behind s earlier (y ∷ ys) zero x a at =
-    let e : y ≡ x = cc in
-    subst (λ (es : List Assertion). IsAssertionWhole s es x) (sym (append-nil earlier))
-    (subst (λ (z : Assertion). IsAssertionWhole s earlier z) e a.0)
-whole_behind s earlier (y ∷ ys) (suc k) x a at =
-    subst (λ (es : List Assertion). IsAssertionWhole s es x) (append_assoc earlier (y ∷ []) (take k ys))
-    (whole_behind s (earlier ++ y ∷ []) ys k x a.1 at)
-
-pub whole_at : (s : Scope) (place : ℕ) (x : Assertion) → IsWhole s → slice_get s.assertions place ≡ Some x
-    → IsAssertionWhole s (take place s.assertions) x
-whole_at s place x w at = whole_behind s [] s.assertions place x w.assertions at
-
 -- ---- what its labels name
 
-known_active : (earlier : List Assertion) (active : List Hypothesis) (w : Word)
+pub known_active : (earlier : List Assertion) (active : List Hypothesis) (w : Word)
     → list_any (λ h. bytes_eq w (label_of h)) active ≡ true → IsKnown earlier active w
 known_active earlier active w h =
     ap (λ b. is_some (cond b (Some []) (option_map (λ (a : Assertion). a.hypotheses) (find (λ a. bytes_eq w a.label) earlier)))) h

@@ -2,7 +2,6 @@
 #![tactic(auto)]
 
 mod cited;
-mod counting;
 mod form;
 mod frames;
 mod naming;
@@ -10,7 +9,6 @@ mod reading;
 mod roles;
 
 pub use cited::{CitedFrames, InFront};
-pub use counting::{is_unfinished, joined_letters};
 pub use form::{ProofForm, ProofTree};
 pub use frames::{Frames, flags_of};
 pub use reading::{read_given, read_proof};

@@ -8,13 +8,12 @@ ghost use Rattle.source.specs.Proofs.{denoted, is_unfinished};
 ghost use Rattle.source.specs.Views.{seen_words, seen_proof, seen_hypotheses};
 ghost use Rattle.taking.specs.Walks.{TakesAll};
 ghost use Rattle.prooftrees.specs.Frames.{Holds};
-ghost use Rattle.prooftrees.specs.Counted.{IsCounted, counted_labels};
+ghost use Rattle.taking.specs.Counted.{IsCounted, counted_labels};
 ghost use Rattle.prooftrees.specs.Roles.{looks_up};
 ghost use Rattle.prooftrees.specs.Names.{AreEnough, AreFrames, IsKnown};
 ghost use Rattle.prooftrees.specs.Forms.{IsForm, IsTree};
 
 use crate::cited::{CitedFrames, InFront};
-use crate::counting::{Counted, count_labels, is_unfinished};
 use crate::form::{ProofForm, ProofTree};
 use crate::frames::Frames;
 use crate::naming::name_labels;
@@ -23,7 +22,7 @@ use source::{Declared, HypothesisWords, ProofWords};
 use std::alloc::{AllocError, Global};
 use std::hash::RandomState;
 use std::mem;
-use taking::{StepPlaces, decode};
+use taking::{Counted, StepPlaces, count_labels, decode, is_unfinished};
 
 /// The tree of what the steps of a proof count, where these roles are enough: nothing where they denote none.
 fn tree_of<'s, 'a, C: CitedFrames<'s>, P: StepPlaces>(

@@ -1,6 +1,6 @@
 //! The hypotheses that a proof names, by their labels.
 
-ghost use Rattle.std.specs.Prelude.{◌≡◌, ◌+◌, ◌∷◌, ◌++◌, [], List, IfOk, OnOk, is_some};
+ghost use Rattle.std.specs.Prelude.{◌≡◌, ◌∷◌, ◌++◌, [], List, IfOk, OnOk, is_some};
 ghost use Rattle.std.specs.Str.{bytes_eq};
 ghost use Rattle.mmtext.specs.Words.{Word};
 ghost use Rattle.source.specs.Scopes.{Hypothesis};
@@ -11,6 +11,7 @@ use source::HypothesisWords;
 use std::alloc::{AllocError, Global};
 use std::collections::HashMap;
 use std::hash::RandomState;
+use taking::next_number;
 
 /// What the label of a hypothesis names.
 #[derive(Clone, Copy)]
@@ -25,14 +26,6 @@ pub(crate) enum Role {
 #[derive(Drop)]
 pub struct Roles<'a> {
     pub(crate) roles: HashMap<&'a [u8], Role, RandomState>,
-}
-
-/// The number that follows. A source, of at most 268,435,456 bytes, has too few words for a number over `u32`; were there more, they would
-/// be refused as want of memory is.
-pub(crate) fn next_number(number: u32) -> Result<u32, AllocError>
-    ensures { IfOk result (λ next. next ≡ number + 1) }
-{
-    number.checked_add(1).ok_or(AllocError)
 }
 
 /// Whether a label goes on to name what it names so far: its first `$e`, or else its first `$f`.

@@ -18,13 +18,14 @@ use Rattle.prooftrees.specs.Names.{AreFrames, IsKnown}
 use Rattle.prooftrees.specs.Names.{labelled}
 use Rattle.prooftrees.specs.declared.roles.Role.{Role}
 use Rattle.prooftrees.specs.Roles.{role_of}
-use Rattle.prooftrees.proofs.Cases.{any_seen}
 use Rattle.prooftrees.proofs.Found.{first_is}
-use Rattle.pasting.proofs.Unnamed.{known_is, mapped_some}
+use Rattle.pasting.proofs.Unnamed.{known_is}
 use Rattle.std.proofs.lemmas.Bool.{or_right}
 use Rattle.std.proofs.lemmas.List.{map_more}
 use Rattle.std.proofs.lemmas.List.Folds.{list_any-append}
+use Rattle.mmsyntax.proofs.Options.{mapped_some}
 use Rattle.source.specs.Views.{seen_words}
+use Rattle.source.proofs.Slices.{any_seen}
 use Rattle.quoting.specs.Quoted.{is_unnamed, own_names}
 
 abbrev no_names : Map
@@ -49,10 +50,6 @@ all_known earlier x [] none = tt
 all_known earlier x (w ∷ ws) none =
     let p = passed (is_some (taken_by earlier x.active w)) (list_any (is_unnamed earlier x) ws) none in
     (p.0, all_known earlier x ws p.1)
-
-pub none_unnamed : (b : Bool) → not b ≡ true → b ≡ false
-none_unnamed true e = absurd cc
-none_unnamed false e = refl
 
 pub some_unnamed : (b : Bool) → not b ≡ false → b ≡ true
 some_unnamed true e = refl

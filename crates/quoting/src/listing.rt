@@ -15,12 +15,12 @@ ghost use Rattle.prooftrees.specs.Roles.{looks_up, role_of};
 ghost use Rattle.quoting.specs.Quoted.{is_unnamed, listed_tree, lists};
 
 use mmsyntax::{Label, MOST_STEPS, Proof, Step};
-use prooftrees::{InFront, ProofTree, Roles, is_unfinished, read_given};
+use prooftrees::{InFront, ProofTree, Roles, read_given};
 use sites::Indexed;
 use source::{Declared, ProofWords};
 use std::alloc::{AllocError, Global};
 use std::hash::RandomState;
-use taking::{StepPlaces, list};
+use taking::{StepPlaces, is_unfinished, list};
 
 /// The labels of a source, each of which names itself.
 #[derive(Drop)]

@@ -8,10 +8,10 @@ ghost use Rattle.quoting.specs.Parts.{SaysTheSame};
 ghost use Rattle.quoting.specs.Quoted.{HaveSameWords, letters_in};
 
 use crate::listing::{OwnNames, labels_in, listed};
-use prooftrees::joined_letters;
 use source::{Declared, ProofWords};
 use std::alloc::{AllocError, Global};
 use std::hash::RandomState;
+use taking::joined_letters;
 
 /// Whether a word is another.
 fn is_word(one: &[u8], other: &[u8]) -> bool

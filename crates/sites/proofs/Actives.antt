@@ -12,8 +12,8 @@ use Rattle.std.proofs.lemmas.Map.Text.{hash_map_updates_str}
 use Rattle.mmtext.specs.Words.{Word}
 use Rattle.mmsyntax.specs.Tables.{place_of}
 use Rattle.mmsyntax.proofs.Names.{bytes_eq-sym, same_bytes, option_or-none}
+use Rattle.mmsyntax.proofs.Options.{mapped_some}
 use Rattle.source.specs.Scopes.{Hypothesis, typing, premise, label_of, is_float_of}
-use Rattle.source.proofs.CountedWords.{mapped_some}
 use Rattle.sites.specs.Indexes.{looks_up}
 use Rattle.sites.specs.Actives.{FindsFloats}
 

@@ -1,6 +1,6 @@
 -- Each active $f has its place, with its type and its variable.
-use Rattle.std.proofs.Common.{◌≡◌, ◌∙◌, ℕ, zero, suc, ◌+◌, ◌<◌, Bool, true, false, cond, List, [], ◌∷◌, ◌++◌, length, take, get_or, Option}
-use Rattle.std.proofs.Common.{Some, None, refl, sym, ap, subst, inl, inr, arith}
+use Rattle.std.proofs.Common.{◌≡◌, ◌∙◌, ℕ, suc, ◌+◌, ◌<◌, Bool, true, false, cond, List, [], ◌∷◌, ◌++◌, length, get_or, Option}
+use Rattle.std.proofs.Common.{Some, None, refl, sym, ap, subst, inl, inr}
 use Rattle.std.specs.Prelude.{◌||◌, All, filter, filter_map, map}
 use Rattle.std.specs.Option.{option_map, option_and_then, is_some}
 use Rattle.std.specs.List.{list_any, flat_map, slice_get, AllByRecursion, cons_option}
@@ -8,20 +8,20 @@ use Rattle.std.specs.Str.{bytes_eq}
 use Rattle.std.proofs.lemmas.Bool.{cases_Bool, cond-true, cond-false, or_left, or_right, or_parts}
 use Rattle.std.proofs.lemmas.List.{get_or_default}
 use Rattle.std.proofs.lemmas.List.Folds.{list_any-append, list_any_at, Any-from_list_any}
-use Rattle.std.proofs.lemmas.List.Elements.{recursion_from_All, All-from_recursion}
+use Rattle.std.proofs.lemmas.List.Elements.{recursion_from_All, All-from_recursion, filter_agree}
 use Rattle.std.proofs.Math.Bool.{or-false}
 use Rattle.mmtext.specs.Words.{Word}
 use Rattle.mmsyntax.specs.Tables.{place_of}
-use Rattle.mmsyntax.proofs.Names.{bytes_eq-same, bytes_eq-sym, same_bytes}
+use Rattle.mmsyntax.proofs.Names.{bytes_eq-same, same_bytes}
 use Rattle.mmsyntax.proofs.Distinct.{is_some-place_of, all_append, all_weaker}
 use Rattle.source.specs.Scopes.{Hypothesis, typing, premise, label_of, Assertion, Scope, is_in}
 use Rattle.source.specs.Whole.{IsWhole, IsHypothesisWhole, AreAssertionsWhole, AgreeOnLabels}
-use Rattle.source.proofs.CountedWords.{mapped_some}
 use Rattle.taking.specs.Names.{is_symbol_of, is_symbol_of_hypothesis, is_float_labelled, has_float_labelled}
 use Rattle.source.specs.Flags.{kept}
 use Rattle.taking.proofs.Values.{mapped}
 use Rattle.sites.specs.Sites.{Sited, IsFloatSited, AreSites}
 use Rattle.std.specs.Borrow.{Bor}
+use Rattle.mmsyntax.proofs.Options.{mapped_some}
 use Rattle.sites.specs.Indexes.{looks_up}
 use Rattle.sites.specs.declared.used.Used.{Used}
 use Rattle.sites.specs.Used.{noted, is_noted, typed_by, typed, type_at, variable_at}
@@ -62,12 +62,6 @@ passes_kept test w (x ∷ ws) h =
           ]
       | inr f ↦ passes_kept test w ws (ap (λ us. is_in us w) (sym (cond-false (test x) (x ∷ filter test ws) (filter test ws) f)) ∙ h)
     ]
-
--- filters by equal tests
-pub filter_same : {A : Type 0} (p q : A → Bool) → ((x : A) → p x ≡ q x) → (xs : List A) → filter p xs ≡ filter q xs
-filter_same p q same [] = refl
-filter_same p q same (x ∷ xs) =
-    ap (λ b. cond b (x ∷ filter p xs) (filter p xs)) (same x) ∙ ap (λ ys. cond (q x) (x ∷ ys) ys) (filter_same p q same xs)
 
 -- ---- values of words of a list
 
@@ -350,4 +344,4 @@ floats_noted used taken are w =
 -- used words, in their order
 pub used_words : (has : Word → Bool) (is_used : Word → Bool) → ((w : Word) → has w ≡ is_used w) → (made from ws : List Word)
     → made ≡ filter has from → from ≡ ws → made ≡ filter is_used ws
-used_words has is_used same made from ws is all = is ∙ ap (filter has) all ∙ filter_same has is_used same ws
+used_words has is_used same made from ws is all = is ∙ ap (filter has) all ∙ filter_agree has is_used same ws

@@ -17,6 +17,7 @@ use Rattle.mmtext.specs.Words.{Word}
 use Rattle.mmtext.specs.declared.fault.FaultKind.TheVariants.{BadToken}
 use Rattle.mmsyntax.specs.Rows.{first_fault}
 use Rattle.mmsyntax.proofs.Names.{bytes_eq-same}
+use Rattle.mmsyntax.proofs.Options.{mapped_some}
 use Rattle.source.specs.declared.letters.Code.{Code}
 use Rattle.source.specs.declared.entries.Citation.{Citation}
 use Rattle.source.specs.declared.entries.Citation.TheVariants as citation
@@ -85,10 +86,6 @@ found_some p (x ∷ xs) h =
       | inr other ↦ ap is_some (cond-false (p x) (Some x) (find p xs) other)
           ∙ found_some p xs (ap (λ b. b || list_any p xs) (sym other) ∙ h)
     ]
-
-pub mapped_some : {A B : Type 0} (f : A → B) (o : Option A) → is_some (option_map f o) ≡ is_some o
-mapped_some f None = refl
-mapped_some f (Some x) = refl
 
 -- a label that names something is cited
 pub named_cites : (s : Scope) (w : Word) → is_named s w ≡ true → is_some (citation_of s.assertions s.hypotheses w) ≡ true

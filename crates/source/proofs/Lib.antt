@@ -23,3 +23,5 @@ pub mod Everywhere
 pub mod Asserted
 pub mod Wholes
 pub mod Finished
+pub mod Asked
+pub mod Slices

@@ -16,11 +16,6 @@ use Rattle.source.specs.Proofs.{labels_go_on}
 use Rattle.source.specs.Tests.{passes, constant_tests, variable_tests, type_tests, float_tests, distinct_tests, symbol_tests, named_tests}
 use Rattle.source.specs.Tests.{step_tests, cited_tests, letter_tests, is_letter}
 
--- neither test passes
-pub neither : (a b : Bool) → (a || b) ≡ false → (a ≡ false) × (b ≡ false)
-neither true b h = absurd cc
-neither false b h = (refl, h)
-
 -- ---- three tests in one
 
 pub three_parts : (a b c : Bool) → (a && b && c) ≡ true → (a ≡ true) × (b ≡ true) × (c ≡ true)

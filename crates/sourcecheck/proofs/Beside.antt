@@ -11,6 +11,7 @@ use Rattle.ranges.proofs.Members.{all_has, has_permutation}
 use Rattle.claims.specs.Claims.{Counting, Claimant, AreClaimed, IsClaimantOf, IsNewOf, claims_of, up_to}
 use Rattle.claims.proofs.UpTo.{each_below, below_has}
 use Rattle.mmtext.specs.Words.{Word}
+use Rattle.mmsyntax.proofs.Items.{there_is}
 use Rattle.derivation.specs.declared.fault.ProofFault.{ProofFault}
 use Rattle.source.specs.Scopes.{Assertion, Scope}
 use Rattle.source.specs.Whole.{IsWhole}
@@ -26,7 +27,7 @@ use Rattle.sourcecheck.specs.Found.{earlier, earliest}
 use Rattle.sourcecheck.specs.Checkers.{PassesAt, FailsAt, IsFoundAmong, checker_of, IsReady, HasChecked, Knows}
 use Rattle.sourcecheck.proofs.Found.{among_same, among_lists}
 use Rattle.sourcecheck.proofs.Numbered.{lasts_on}
-use Rattle.sourcecheck.proofs.Sourced.{there_is, verified_more, refused_in}
+use Rattle.sourcecheck.proofs.Sourced.{verified_more, refused_in}
 
 pub all_ready : (home : Counting) (cs : List Claimant) → All (IsNewOf home) cs → All (IsReady home) (map checker_of cs)
 all_ready home cs new =

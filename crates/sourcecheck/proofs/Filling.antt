@@ -11,6 +11,8 @@ use Rattle.std.proofs.lemmas.List.{map-append}
 use Rattle.mmtext.specs.Words.{Word}
 use Rattle.mmsyntax.specs.Tables.{place_of}
 use Rattle.mmsyntax.proofs.Names.{same_bytes, bytes_eq-same}
+use Rattle.mmsyntax.proofs.Options.{alike}
+use Rattle.mmsyntax.proofs.Distinct.{any-map}
 use Rattle.derivation.specs.declared.fault.ProofFaultKind.{ProofFaultKind}
 use Rattle.derivation.specs.declared.fault.ProofFaultKind.TheVariants.{WrongType, HypothesisDiffers, NotDisjoint}
 use Rattle.source.specs.Scopes.{Hypothesis, typing, premise, Assertion, is_float_of, mandatory_pairs}
@@ -32,11 +34,6 @@ use Rattle.sourcecheck.specs.Shown.{IsThesisOf}
 
 -- ---- tests of lists
 
-pub both_ways : (a b : Bool) → (a ≡ true → b ≡ true) → (b ≡ true → a ≡ true) → a ≡ b
-both_ways true b f g = sym (f refl)
-both_ways false true f g = g refl
-both_ways false false f g = refl
-
 all_alike : {A : Type 0} (p q : A → Bool) (xs : List A) → ((x : A) → p x ≡ q x) → list_all p xs ≡ list_all q xs
 all_alike p q [] h = refl
 all_alike p q (x ∷ xs) h = ap (λ b. b && list_all p xs) (h x) ∙ ap (λ b. q x && b) (all_alike p q xs h)
@@ -48,10 +45,6 @@ any_alike p q (x ∷ xs) h = ap (λ b. b || list_any p xs) (h x) ∙ ap (λ b. q
 all_mapped : {A B : Type 0} (p : B → Bool) (f : A → B) (xs : List A) → list_all p (map f xs) ≡ list_all (λ x. p (f x)) xs
 all_mapped p f [] = refl
 all_mapped p f (x ∷ xs) = ap (λ b. p (f x) && b) (all_mapped p f xs)
-
-any_mapped : {A B : Type 0} (p : B → Bool) (f : A → B) (xs : List A) → list_any p (map f xs) ≡ list_any (λ x. p (f x)) xs
-any_mapped p f [] = refl
-any_mapped p f (x ∷ xs) = ap (λ b. p (f x) || b) (any_mapped p f xs)
 
 all_filtered : {A : Type 0} (p q : A → Bool) (xs : List A) → list_all p (filter q xs) ≡ list_all (λ x. not (q x) || p x) xs
 all_filtered p q [] = refl
@@ -117,20 +110,20 @@ picked name true true true e = refl
 module _ (name : ℕ → Word) (injective : (m n : ℕ) → name m ≡ name n → m ≡ n) where
   same_number : (m n : ℕ) → bytes_eq (name m) (name n) ≡ (n == m)
   same_number m n =
-      both_ways (bytes_eq (name m) (name n)) (n == m)
+      alike (bytes_eq (name m) (name n)) (n == m)
       (λ h. eq-eqb n m (sym (injective m n (same_bytes (name m) (name n) h))))
       (λ h. ap (λ k. bytes_eq (name m) (name k)) (eqb-true n m h) ∙ bytes_eq-same (name m))
 
   same_number-sym : (m n : ℕ) → bytes_eq (name m) (name n) ≡ (m == n)
   same_number-sym m n =
-      both_ways (bytes_eq (name m) (name n)) (m == n)
+      alike (bytes_eq (name m) (name n)) (m == n)
       (λ h. eq-eqb m n (injective m n (same_bytes (name m) (name n) h)))
       (λ h. ap (λ k. bytes_eq (name m) (name k)) (sym (eqb-true m n h)) ∙ bytes_eq-same (name m))
 
   -- a word is one of those of some numbers where its number is one of these
   pub among_numbers : (ns : List ℕ) (n : ℕ) → list_any (bytes_eq (name n)) (map name ns) ≡ list_any (λ v. v == n) ns
   among_numbers ns n =
-      any_mapped (bytes_eq (name n)) name ns ∙ any_alike (λ v. bytes_eq (name n) (name v)) (λ v. v == n) ns (same_number n)
+      any-map (bytes_eq (name n)) name ns ∙ any_alike (λ v. bytes_eq (name n) (name v)) (λ v. v == n) ns (same_number n)
 
   pub same_numbers : (d e : List ℕ) → same_expression (map name d) (map name e) ≡ pointwise (λ a b. a == b) d e
   same_numbers [] [] = refl
@@ -239,7 +232,7 @@ module _ (name : ℕ → Word) (injective : (m n : ℕ) → name m ≡ name n �
     symbols_named u v =
         ap (λ b. not b && list_any (is_pair (name u) (name v)) x.pairs) (same_number-sym u v)
         ∙ ap (λ ps. not (u == v) && list_any (is_pair (name u) (name v)) ps) (sym of.pairs)
-        ∙ ap (λ b. not (u == v) && b) (any_mapped (is_pair (name u) (name v)) (λ p. (name p.0, name p.1)) t.pairs
+        ∙ ap (λ b. not (u == v) && b) (any-map (is_pair (name u) (name v)) (λ p. (name p.0, name p.1)) t.pairs
         ∙ any_alike (λ p. is_pair (name u) (name v) (name p.0, name p.1)) (is_pair_of_numbers u v) t.pairs (pair_named u v))
 
     of_variables : (q : Word → Bool) (e : List ℕ)

@@ -1,14 +1,15 @@
 -- How an assertion is cited, as it is made.
 use Rattle.std.proofs.Common.{◌≡◌, ℕ, zero, suc, ◌+◌, ◌<◌, ◌≤◌, Bool, true, false, cond, List, [], ◌∷◌, ◌++◌, length, map, filter, take, get_or, refl, sym, ap}
 use Rattle.std.proofs.Common.{◌∙◌, arith}
-use Rattle.std.specs.Prelude.{◌&&◌, ◌||◌, slice_get, Option, Some, None, if◌then◌else◌}
+use Rattle.std.specs.Prelude.{◌&&◌, ◌||◌, Option, Some, None, if◌then◌else◌}
 use Rattle.std.specs.Option.{option_map}
 use Rattle.std.specs.List.{list_any, filter_map, cons_option}
 use Rattle.std.specs.Borrow.{Bor}
 use Rattle.std.specs.Str.{bytes_eq}
 use Rattle.mmtext.specs.Words.{Word}
 use Rattle.mmsyntax.specs.Tables.{place_of}
-use Rattle.source.specs.Scopes.{Hypothesis, typing, premise, Pair, Assertion, is_in, is_float_of, stands_in, is_mandatory_variable, is_mandatory}
+use Rattle.mmsyntax.proofs.FirstPlace.{none_behind}
+use Rattle.source.specs.Scopes.{Hypothesis, typing, premise, Assertion, is_in, is_float_of, stands_in, is_mandatory_variable, is_mandatory}
 use Rattle.source.specs.Scopes.{mandatory, mandatory_pairs}
 use Rattle.sourcecheck.specs.Frames.{found, part_in, variable_of, seen_variable, AreVariables, is_that, is_kept}
 
@@ -35,13 +36,9 @@ found_place w vs o e hs is = ap (found w) (sym e ∙ place_alike w vs hs is)
 
 -- ---- the place of the first item that passes a test
 
-no_suc : (o : Option ℕ) → option_map (λ n. suc n) o ≡ None → o ≡ None
-no_suc None h = refl
-no_suc (Some n) h = absurd cc
-
 no_front : (b : Bool) (o : Option ℕ) → (if b then Some 0 else option_map (λ n. suc n) o) ≡ None → (b ≡ false) × (o ≡ None)
 no_front true o h = absurd cc
-no_front false o h = (refl, no_suc o h)
+no_front false o h = (refl, none_behind o h)
 
 pub none_of : {A : Type 0} (p : A → Bool) (xs : List A) (i : ℕ) → length xs ≤ i → place_of p (take i xs) ≡ None → place_of p xs ≡ None
 none_of p [] i le e = refl
@@ -110,19 +107,6 @@ given_some f (z ∷ xs) x y h = ap (cons_option (f z)) (given_some f xs x y h) �
 pub given_none : {A B : Type 0} (f : A → Option B) (xs : List A) (x : A) → f x ≡ None → filter_map f (xs ++ x ∷ []) ≡ filter_map f xs
 given_none f [] x h = ap (λ o. cons_option o []) h
 given_none f (z ∷ xs) x h = ap (cons_option (f z)) (given_none f xs x h)
-
--- ---- what a source answers of the assertion at a place
-
-module _ (xs : List Assertion) (place : ℕ) (x : Assertion) (at : slice_get xs place ≡ Some x) where
-  pub hypotheses_are : (hs : List Hypothesis) → option_map (λ a. a.hypotheses) (slice_get xs place) ≡ Some hs → x.hypotheses ≡ hs
-  hypotheses_are hs h =
-      let e : Some x.hypotheses ≡ Some hs = sym (ap (option_map (λ (a : Assertion). a.hypotheses)) at) ∙ h in cc
-
-  pub active_are : (hs : List Hypothesis) → option_map (λ a. a.active) (slice_get xs place) ≡ Some hs → x.active ≡ hs
-  active_are hs h = let e : Some x.active ≡ Some hs = sym (ap (option_map (λ (a : Assertion). a.active)) at) ∙ h in cc
-
-  pub pairs_are : (ps : List Pair) → option_map (λ a. a.pairs) (slice_get xs place) ≡ Some ps → x.pairs ≡ ps
-  pairs_are ps h = let e : Some x.pairs ≡ Some ps = sym (ap (option_map (λ (a : Assertion). a.pairs)) at) ∙ h in cc
 
 -- ---- words that are mentioned
 

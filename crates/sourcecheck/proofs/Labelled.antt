@@ -13,13 +13,13 @@ use Rattle.mmsyntax.specs.Tables.{place_of}
 use Rattle.mmsyntax.proofs.Names.{same_bytes}
 use Rattle.source.specs.Scopes.{Hypothesis, label_of, Assertion, Scope}
 use Rattle.std.specs.Borrow.{Bor}
+use Rattle.mmsyntax.proofs.Items.{not_found_is_none}
 use Rattle.source.specs.declared.contents.HypothesisWords.{HypothesisWords}
 use Rattle.source.specs.Views.{seen_hypothesis, seen_hypotheses}
 use Rattle.source.specs.Whole.{IsWhole, AgreeOnLabels}
 use Rattle.sourcecheck.specs.declared.naming.Named.{Named}
 use Rattle.sourcecheck.specs.declared.naming.Named.TheVariants as named
 use Rattle.sourcecheck.specs.Shown.{IsSaid, IsEarlier, IsNamed, AreNamed}
-use Rattle.sourcecheck.proofs.Leading.{not_any}
 use Rattle.sourcecheck.proofs.Numbered.{got_of}
 
 -- ---- places and what is found
@@ -62,13 +62,6 @@ found_no p f (x ∷ xs) h =
     ap (λ b. if b then Some (f x) else find p (map f xs)) both.0 ∙ found_no p f xs both.1
 
 -- ---- the front of a list
-
-pub front_none : {A : Type 0} (p : A → Bool) (xs : List A) (n : ℕ) → place_of p xs ≡ None → find p (take n xs) ≡ None
-front_none p xs zero h = refl
-front_none p [] (suc n) h = refl
-front_none p (x ∷ xs) (suc n) h =
-    let both = behind_none (p x) (place_of p xs) h in
-    ap (λ b. if b then Some x else find p (take n xs)) both.0 ∙ front_none p xs n both.1
 
 pub front_past : {A : Type 0} (p : A → Bool) (xs : List A) (n k : ℕ) → place_of p xs ≡ Some k → n ≤ k → find p (take n xs) ≡ None
 front_past p xs zero k h le = refl
@@ -144,15 +137,10 @@ said_named name earlier x hs w (named.Hypothesis said) e none h = (h.0, ap (find
 said_named name earlier x hs w (named.Assertion k) e none h = absurd h
 said_named name earlier x hs w named.Unknown e none h =
     ap (λ b. if b then Some [] else option_map (λ (a : Assertion). a.hypotheses) (find (λ a. bytes_eq w a.label) earlier))
-    (not_any (λ h. bytes_eq w (label_of h)) x.active (ap (find (λ h. bytes_eq w (label_of h))) e ∙ h))
+    (not_found_is_none (λ h. bytes_eq w (label_of h)) x.active (ap (find (λ h. bytes_eq w (label_of h))) e ∙ h))
     ∙ ap (option_map (λ (a : Assertion). a.hypotheses)) none
 
 -- ---- one more label
-
-placed_within : {A : Type 0} (xs : List A) (n : ℕ) (y : A) → slice_get xs n ≡ Some y → n < length xs
-placed_within [] n y h = absurd cc
-placed_within (z ∷ xs) zero y h = omega arith
-placed_within (z ∷ xs) (suc n) y h = let rest = placed_within xs n y h in omega (arith, rest)
 
 pub named_push : (name : ℕ → Word) (earlier : List Assertion) (x : Assertion) (ls : List Word) (ns : List Named) (w : Word) (n : Named)
     → AreNamed name earlier x ls ns → IsNamed name earlier x w n → AreNamed name earlier x (ls ++ w ∷ []) (ns ++ n ∷ [])
@@ -163,7 +151,7 @@ named_push name earlier x ls ns w n all one =
       named = λ k m h.
           elim (got_of ns n m k h) [
             | inl e ↦
-                let lt = placed_within ns k m e in
+                let lt = slice_get_within ns k m e in
                 transport (λ v. IsNamed name earlier x v m) (sym (get_or_append_left ls (w ∷ []) [] k (omega (arith, lt, long))))
                 (all.named k m e)
             | inr p ↦
@@ -174,12 +162,6 @@ named_push name earlier x ls ns w n all one =
                 transport (λ v. IsNamed name earlier x v m) (sym last) (transport (IsNamed name earlier x w) p.1 one)
           ];
     }
-
-pub placed_at : {A : Type 0} (p : A → Bool) (xs : List A) (k : ℕ) → place_of p xs ≡ Some k → k < length xs
-placed_at p [] k h = absurd cc
-placed_at p (x ∷ xs) zero h = omega arith
-placed_at p (x ∷ xs) (suc k) h =
-    let both = behind_later (p x) (place_of p xs) k h in let lt = placed_at p xs k both.1 in omega (arith, lt)
 
 -- ---- a label's hypothesis, wherever it was found
 

@@ -1,22 +1,24 @@
 -- What a step over numbers does is what the rules say of the words that they stand for.
-use Rattle.std.proofs.Common.{◌≡◌, ℕ, zero, suc, ◌-◌, ◌<◌, ◌≤◌, Bool, false, List, [], ◌∷◌, ◌++◌, length, map, take, drop, refl, sym, ap}
+use Rattle.std.proofs.Common.{◌≡◌, ℕ, zero, suc, ◌-◌, ◌<◌, ◌≤◌, List, [], ◌∷◌, ◌++◌, length, map, take, drop, refl, sym, ap}
 use Rattle.std.proofs.Common.{◌∙◌, append_assoc, append-nil, arith}
-use Rattle.std.specs.Prelude.{reverse, slice_get, slice_index_or, find, is_some, Option, Some, None, Ok, if◌then◌else◌}
-use Rattle.std.specs.List.{list_any}
+use Rattle.std.specs.Prelude.{reverse, slice_get, find, Option, Some, None, Ok, if◌then◌else◌}
 use Rattle.std.specs.Option.{option_map, option_and_then}
 use Rattle.std.specs.Str.{bytes_eq}
 use Rattle.std.proofs.lemmas.List.{take-map, drop-map, length-map, map-append, length-reverse, length-take-le}
 use Rattle.std.proofs.lemmas.Option.{slice_get-map}
 use Rattle.mmtext.specs.Words.{Word}
+use Rattle.mmsyntax.proofs.Items.{not_found_is_none}
 use Rattle.derivation.specs.declared.fault.ProofFaultKind.{ProofFaultKind}
 use Rattle.derivation.specs.declared.fault.ProofFaultKind.TheVariants.{UnknownStep, StackShort, WrongType, HypothesisDiffers, NotDisjoint}
 use Rattle.derivation.specs.declared.fault.ProofFaultKind.TheVariants.{NotOneLeft, StatementDiffers, TooLong, NoMemory}
 use Rattle.source.specs.Scopes.{Hypothesis, label_of, Assertion}
 use Rattle.source.specs.Proofs.{Stack, names, again, marks, numbered, taken_by, pop, put, push, cite, repeat, mark, stepped}
+use Rattle.taking.proofs.Turned.{turned_map}
+use Rattle.taking.proofs.Stacked.{short}
 use Rattle.verifying.specs.Citations.{said_by}
 use Rattle.verifying.specs.Verifies.{entry}
 use Rattle.verifying.specs.Faults.{last_failure}
-use Rattle.verifying.proofs.Verified.{some_found, hypotheses_are_put, citations_are_put}
+use Rattle.verifying.proofs.Verified.{hypotheses_are_put, citations_are_put}
 use Rattle.sourcecheck.specs.declared.frame.Frame.{Frame}
 use Rattle.sourcecheck.specs.declared.thesis.Thesis.{Thesis}
 use Rattle.sourcecheck.specs.Coded.{coded, lasts, IsCited, FailsTest, FailsToCite}
@@ -48,23 +50,9 @@ pop_takes {A} (h ∷ hs) (x ∷ xs) off le =
     ∙ ap pair (sym (append_assoc turned (x ∷ []) off))
     ∙ ap (λ l. pair (l ++ off)) (sym (reverse-cons (take (length hs) xs) x))
 
-pop_short : {A : Type 0} (hs : List Hypothesis) (xs off : List A) → length xs < length hs → pop hs xs off ≡ None
-pop_short [] xs off lt = absurd (omega arith)
-pop_short (h ∷ hs) [] off lt = refl
-pop_short (h ∷ hs) (x ∷ xs) off lt = pop_short hs xs (x ∷ off) (omega arith)
-
-map_turned : {A B : Type 0} (f : A → B) (xs : List A) → map f (reverse xs) ≡ reverse (map f xs)
-map_turned f [] = refl
-map_turned f (x ∷ xs) =
-    ap (map f) (reverse-cons xs x) ∙ map-append f (reverse xs) (x ∷ []) ∙ ap (λ l. l ++ f x ∷ []) (map_turned f xs)
-    ∙ sym (reverse-cons (map f xs) (f x))
-
 twice : (name : ℕ → Word) (es : List (List ℕ)) → map (shown_entry name) es ≡ map (λ e. Ok e) (map (map name) es)
 twice name [] = refl
 twice name (e ∷ es) = ap (λ l. Ok (map name e) ∷ l) (twice name es)
-
-pub not_any : {A : Type 0} (p : A → Bool) (xs : List A) → find p xs ≡ None → list_any p xs ≡ false
-not_any p xs e = sym (some_found p xs) ∙ ap is_some e
 
 module _ (name : ℕ → Word) (earlier : List Assertion) (x : Assertion) where
   -- ---- a hypothesis
@@ -89,7 +77,7 @@ module _ (name : ℕ → Word) (earlier : List Assertion) (x : Assertion) where
     taken_is : taken_by earlier x.active w ≡ Some c.hypotheses
     taken_is =
         ap (λ b. if b then Some [] else option_map (λ (a : Assertion). a.hypotheses) (find (λ a. bytes_eq w a.label) earlier))
-        (not_any (λ h. bytes_eq w (label_of h)) x.active none)
+        (not_found_is_none (λ h. bytes_eq w (label_of h)) x.active none)
         ∙ ap (option_map (λ (a : Assertion). a.hypotheses)) found
 
     -- what is left below, and what comes off
@@ -105,7 +93,7 @@ module _ (name : ℕ → Word) (earlier : List Assertion) (x : Assertion) where
         let long : length es ≡ length old.entries = length-map old.entries (shown_entry name) in
         let off : reverse (take k es) ++ [] ≡ map (λ e. Ok e) (map (map name) (lasts k old)) =
         append-nil (reverse (take k es)) ∙ ap reverse (take-map (shown_entry name) k old.entries)
-        ∙ sym (map_turned (shown_entry name) (take k old.entries)) ∙ twice name (lasts k old) in
+        ∙ sym (turned_map (shown_entry name) (take k old.entries)) ∙ twice name (lasts k old) in
         pop_takes c.hypotheses es [] (omega (arith, as_long, long, le))
         ∙ ap (λ m. Some (reverse (take m es) ++ [], drop m es)) as_long
         ∙ ap (λ l. Some (l, drop k es)) off
@@ -155,7 +143,7 @@ module _ (name : ℕ → Word) (earlier : List Assertion) (x : Assertion) where
     too_few old lt =
         ap (cite (entry earlier x) w (shown name old)) taken_is
         ∙ ap (put (entry earlier x) w (map (shown_entry name) old.marked))
-        (pop_short c.hypotheses (map (shown_entry name) old.entries) []
+        (short c.hypotheses (map (shown_entry name) old.entries) []
         (omega (arith, as_long, lt, length-map old.entries (shown_entry name))))
 
     -- what is made is written down
@@ -201,11 +189,6 @@ module _ (name : ℕ → Word) (earlier : List Assertion) (x : Assertion) where
       of (Some z) = refl
 
 -- ---- numbers
-
-pub number_names : (ws : List Word) (k : ℕ) → k < length ws → numbered ws k ≡ names (slice_index_or ws k [])
-number_names [] k lt = absurd (omega arith)
-number_names (w ∷ ws) zero lt = refl
-number_names (w ∷ ws) (suc k) lt = number_names ws k (omega arith)
 
 pub number_again : (ws : List Word) (k : ℕ) → length ws ≤ k → numbered ws k ≡ again (k - length ws)
 number_again [] k le = ap again (let e : k ≡ k - 0 = omega arith in e)

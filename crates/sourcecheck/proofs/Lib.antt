@@ -6,7 +6,6 @@ pub mod Running
 pub mod Numbered
 pub mod Framed
 pub mod Labelled
-pub mod Counts
 pub mod Told
 pub mod Sourced
 pub mod Found

@@ -4,14 +4,10 @@ use Rattle.std.specs.Prelude.{◌==◌}
 use Rattle.std.specs.List.{list_any}
 use Rattle.std.proofs.Math.ListN.{set}
 use Rattle.std.proofs.Math.Seq.{take-suc}
-use Rattle.std.proofs.lemmas.Bool.{cases_eq, eq-eqb, ne_eqb}
+use Rattle.std.proofs.lemmas.Bool.{cases_eq, eq-eqb, ne_eqb, or_right}
 use Rattle.std.proofs.lemmas.List.{get_or-set_same, get_or-set_other}
 use Rattle.std.proofs.lemmas.List.Folds.{list_any-append}
 use Rattle.sourcecheck.specs.Marks.{AreMarked}
-
-or_true : (b : Bool) → (b || true) ≡ true
-or_true true = refl
-or_true false = refl
 
 pub or_false : (b : Bool) → (b || false) ≡ b
 or_false true = refl
@@ -22,7 +18,7 @@ pub mark_put : (ms : List Bool) (k n : ℕ) → k < length ms → get_or (set ms
 mark_put ms k n lt = elim (cases_eq k n) [
   | inl e ↦
       subst (λ j. get_or (set ms k true) j false ≡ (get_or ms j false || (k == j))) e
-      (get_or-set_same ms k true false lt ∙ sym (ap (λ b. get_or ms k false || b) (eq-eqb k k refl) ∙ or_true (get_or ms k false)))
+      (get_or-set_same ms k true false lt ∙ sym (ap (λ b. get_or ms k false || b) (eq-eqb k k refl) ∙ or_right (get_or ms k false) true refl))
   | inr d ↦
       get_or-set_other ms k n true false (λ e. d (sym e))
       ∙ sym (ap (λ b. get_or ms n false || b) (ne_eqb k n d) ∙ or_false (get_or ms n false))

@@ -11,6 +11,7 @@ use Rattle.std.specs.List.{AllZip}
 use Rattle.std.specs.HashMap.{HashMap}
 use Rattle.std.specs.Map.{lookup}
 use Rattle.std.specs.Borrow.{Bor}
+use Rattle.mmsyntax.proofs.Items.{get_before}
 use Rattle.wordkeys.specs.declared.keys.WordKeys.{WordKeys}
 use Rattle.sourcecheck.specs.Names.{Grows, total, name_in, Lasts, looks_up, IsTable}
 
@@ -110,11 +111,6 @@ injective ws u m n e =
 
 -- ---- one more word
 
-pub got_front : {A : Type 0} (ws : List A) (w v : A) (n : ℕ) → slice_get ws n ≡ Some v → slice_get (ws ++ w ∷ []) n ≡ Some v
-got_front [] w v n h = absurd cc
-got_front (u ∷ ws) w v zero h = h
-got_front (u ∷ ws) w v (suc n) h = got_front ws w v n h
-
 got_last : {A : Type 0} (ws : List A) (w : A) → slice_get (ws ++ w ∷ []) (length ws) ≡ Some w
 got_last [] w = refl
 got_last (u ∷ ws) w = got_last ws w
@@ -138,7 +134,7 @@ table_more look look' ws w is none new v n = (to (bytes_eq w v) refl, of)
         let at : length ws ≡ n = cc in
         ap (slice_get (ws ++ w ∷ [])) (sym at) ∙ got_last ws w ∙ ap (λ z. Some z) (same_bytes w v e)
     to false e h =
-        got_front ws w v n ((is v n).0 (sym (new v ∙ ap (λ b. if b then Some (length ws) else look v) e) ∙ h))
+        get_before ws w v n ((is v n).0 (sym (new v ∙ ap (λ b. if b then Some (length ws) else look v) e) ∙ h))
 
     other : slice_get ws n ≡ Some v → (b : Bool) → bytes_eq w v ≡ b → look' v ≡ Some n
     other h true e =

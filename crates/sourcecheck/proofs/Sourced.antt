@@ -3,7 +3,9 @@ use Rattle.std.proofs.Common.{◌≡◌, ℕ, zero, suc, ◌+◌, ◌<◌, Bool,
 use Rattle.std.proofs.Common.{subst as transport, ◌∙◌, append_assoc, append-nil, inl, inr, arith}
 use Rattle.std.specs.Prelude.{slice_get, Some, None}
 use Rattle.std.specs.Option.{option_map, option_or}
+use Rattle.std.proofs.lemmas.Option.{slice_get_within}
 use Rattle.mmtext.specs.Words.{Word}
+use Rattle.mmsyntax.proofs.Items.{take_next, there_is}
 use Rattle.derivation.specs.declared.fault.ProofFault.{ProofFault}
 use Rattle.source.specs.Scopes.{Assertion, Scope}
 use Rattle.source.specs.Whole.{AreAssertionsWhole, IsWhole}
@@ -18,46 +20,28 @@ use Rattle.sourcecheck.specs.declared.sources.Unverified.TheVariants as unverifi
 use Rattle.sourcecheck.specs.Answers.{IsRefusedAt, IsRefusedIn}
 use Rattle.sourcecheck.proofs.Numbered.{got_of}
 
-pub there_is : {A : Type 0} (xs : List A) (n : ℕ) → n < length xs → (x : A) × (slice_get xs n ≡ Some x)
-there_is [] n lt = absurd (omega arith)
-there_is (x ∷ xs) zero lt = (x, refl)
-there_is (x ∷ xs) (suc n) lt = there_is xs n (omega arith)
-
-within : {A : Type 0} (xs : List A) (n : ℕ) (x : A) → slice_get xs n ≡ Some x → n < length xs
-within [] n x h = absurd cc
-within (y ∷ xs) zero x h = omega arith
-within (y ∷ xs) (suc n) x h = let rest = within xs n x h in omega (arith, rest)
-
-front_more : {A : Type 0} (xs : List A) (n : ℕ) (x : A) → slice_get xs n ≡ Some x → take (n + 1) xs ≡ take n xs ++ x ∷ []
-front_more xs n x h = ap (λ k. take k xs) (let e : n + 1 ≡ suc n = omega arith in e) ∙ of xs n x h
-  where
-    of : {A : Type 0} (xs : List A) (n : ℕ) (x : A) → slice_get xs n ≡ Some x → take (suc n) xs ≡ take n xs ++ x ∷ []
-    of [] n x h = absurd cc
-    of (y ∷ xs) zero x h = ap (λ z. z ∷ []) (let e : y ≡ x = cc in e)
-    of (y ∷ xs) (suc n) x h = ap (λ l. y ∷ l) (of xs n x h)
-
 -- one more that is verified
 pub verified_more : (xs : List Assertion) (n : ℕ) (x : Assertion) → slice_get xs n ≡ Some x → AreVerified [] (take n xs)
     → IsVerified (take n xs) x → AreVerified [] (take (n + 1) xs)
 verified_more xs n x at all one =
-    transport (AreVerified []) (sym (front_more xs n x at)) ((parts_verify [] (take n xs) (x ∷ [])).1 (all, (one, tt)))
+    transport (AreVerified []) (sym (take_next xs n x at)) ((parts_verify [] (take n xs) (x ∷ [])).1 (all, (one, tt)))
 
 -- one more frame
 pub frames_more : (name : ℕ → Word) (xs : List Assertion) (n : ℕ) (x : Assertion) (fs : List Frame) (f : Frame)
     → slice_get xs n ≡ Some x → length fs ≡ length (take n xs) → AreFrames name (take n xs) fs → IsFrameOf name f x
     → AreFrames name (take (n + 1) xs) (fs ++ f ∷ [])
 frames_more name xs n x fs f at long all one =
-    transport (λ ys. AreFrames name ys (fs ++ f ∷ [])) (sym (front_more xs n x at)) more
+    transport (λ ys. AreFrames name ys (fs ++ f ∷ [])) (sym (take_next xs n x at)) more
   where
     more : AreFrames name (take n xs ++ x ∷ []) (fs ++ f ∷ [])
     more k c g h e =
         elim (got_of (take n xs) x c k h) [
           | inl p ↦ elim (got_of fs f g k e) [
             | inl q ↦ all k c g p q
-            | inr q ↦ let lt = within (take n xs) k c p in let is = q.0 in absurd (omega (arith, lt, is, long))
+            | inr q ↦ let lt = slice_get_within (take n xs) k c p in let is = q.0 in absurd (omega (arith, lt, is, long))
           ]
           | inr p ↦ elim (got_of fs f g k e) [
-            | inl q ↦ let lt = within fs k g q in let is = p.0 in absurd (omega (arith, lt, is, long))
+            | inl q ↦ let lt = slice_get_within fs k g q in let is = p.0 in absurd (omega (arith, lt, is, long))
             | inr q ↦ transport (λ (y : Assertion). IsFrameOf name g y) p.1 (transport (λ (h : Frame). IsFrameOf name h x) q.1 one)
           ]
         ]
@@ -120,7 +104,7 @@ filter_more {A} p (y ∷ ys) x =
 
 counted_front : {A : Type 0} (p : A → Bool) (xs : List A) (n : ℕ) (x : A) → slice_get xs n ≡ Some x
     → length (filter p (take (n + 1) xs)) ≡ length (filter p (take n xs)) + length (filter p (x ∷ []))
-counted_front p xs n x at = ap (λ l. length (filter p l)) (front_more xs n x at) ∙ filter_more p (take n xs) x
+counted_front p xs n x at = ap (λ l. length (filter p l)) (take_next xs n x at) ∙ filter_more p (take n xs) x
 
 pub counted_on : {A : Type 0} (p : A → Bool) (xs : List A) (n : ℕ) (x : A) (a b : ℕ) → slice_get xs n ≡ Some x
     → a ≡ length (filter p (take n xs)) → p x ≡ true → b ≡ a + 1 → b ≡ length (filter p (take (n + 1) xs))

@@ -1,16 +1,17 @@
 -- Expressions that lie in one list of symbols stay what they are when more come behind them.
 use Rattle.std.proofs.Common.{◌≡◌, ℕ, zero, suc, ◌+◌, ◌-◌, ◌<◌, ◌≤◌, List, [], ◌∷◌, ◌++◌, length, drop, take, get_or, refl, sym, ap}
 use Rattle.std.proofs.Common.{◌∙◌, arith}
-use Rattle.std.specs.Prelude.{slice_range, slice_get, slice_index_or, reverse, Some, Result, Ok, Err, OnOk}
+use Rattle.std.specs.Prelude.{slice_range, slice_get, slice_index_or, reverse, Some}
 use Rattle.std.proofs.Math.Seq.{take-length, take-append_seam, drop-append_seam}
 use Rattle.std.proofs.Common.{append_assoc, append-nil}
 use Rattle.std.specs.Option.{option_map}
-use Rattle.std.proofs.lemmas.List.{take-append-le, drop-append-le, length-drop, map-append, reverse-append, reverse-reverse, take-append-drop}
+use Rattle.std.proofs.lemmas.List.{length-drop, map-append, reverse-append, reverse-reverse, take-append-drop}
 use Rattle.std.proofs.lemmas.List.{take_more, take-map, drop-map, length-map, length-append, length-reverse}
 use Rattle.std.proofs.lemmas.List.Elements.{All-take}
 use Rattle.std.proofs.lemmas.Option.{slice_get-map}
 use Rattle.std.proofs.lemmas.Grind.{flat_map-append}
 use Rattle.source.specs.Proofs.{Stack, push, mark, repeat}
+use Rattle.taking.proofs.Kept.{range_front}
 use Rattle.sourcecheck.specs.declared.frame.Piece.{Piece}
 use Rattle.sourcecheck.specs.Spans.{cut, AreWithin}
 use Rattle.sourcecheck.specs.Coded.{IsRefusal, piece_value, filled}
@@ -18,18 +19,11 @@ use Rattle.derivation.specs.declared.fault.ProofFaultKind.{ProofFaultKind}
 use Rattle.derivation.specs.declared.fault.ProofFaultKind.TheVariants.{UnknownStep, StackShort, WrongType, HypothesisDiffers, NotDisjoint}
 use Rattle.derivation.specs.declared.fault.ProofFaultKind.TheVariants.{NotOneLeft, StatementDiffers, TooLong, NoMemory}
 
--- a part is the same where more stands behind
-range-more : (s e : List ℕ) (a b : ℕ) → a ≤ b → b ≤ length s → slice_range (s ++ e) a b ≡ slice_range s a b
-range-more s e a b le within =
-    let low : a ≤ length s = omega arith in
-    let room : b - a ≤ length (drop a s) = omega (arith, length-drop a s) in
-    ap (take (b - a)) (drop-append-le a s e low) ∙ take-append-le (b - a) (drop a s) e room
-
 pub cut-more : (s e : List ℕ) (ps : List (ℕ × ℕ)) → AreWithin (length s) ps → cut (s ++ e) ps ≡ cut s ps
 cut-more s e [] h = refl
 cut-more s e (p ∷ ps) h =
     let here = h zero p (omega arith) in
-    let first = range-more s e p.0 p.1 here.0 here.1 in
+    let first = range_front s e p.0 p.1 here.0 here.1 in
     let rest = cut-more s e ps (λ k d lt. h (suc k) d (omega arith)) in
     cc
 
@@ -152,10 +146,6 @@ refused-more a b HypothesisDiffers le h = absurd h
 refused-more a b NotDisjoint le h = absurd h
 refused-more a b NotOneLeft le h = absurd h
 refused-more a b StatementDiffers le h = absurd h
-
-pub on-ok : {A E P : Type 0} (r : Result A E) → P → OnOk r P
-on-ok (Ok a) p = p
-on-ok (Err e) p = tt
 
 -- ---- the last of a stack
 

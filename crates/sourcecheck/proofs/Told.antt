@@ -1,9 +1,8 @@
 -- What is told of an assertion, by what its steps made.
-use Rattle.std.proofs.Common.{◌≡◌, ℕ, zero, suc, ◌≤◌, true, false, All, List, [], ◌∷◌, ◌++◌, take, sym, ap}
-use Rattle.std.proofs.Common.{subst as transport, ◌∙◌, append_assoc, append-nil, arith}
-use Rattle.std.specs.Prelude.{IfSome, slice_get, is_some, Option, Some, None, Result, Ok, Err, if◌then◌else◌}
-use Rattle.std.specs.Option.{option_map, option_and_then}
-use Rattle.mmtext.specs.Words.{Word}
+use Rattle.std.proofs.Common.{◌≡◌, ℕ, ◌≤◌, true, false, All, List, [], sym, ap}
+use Rattle.std.proofs.Common.{subst as transport, ◌∙◌, arith}
+use Rattle.std.specs.Prelude.{IfSome, is_some, Option, Some, None, Result, Ok, Err, if◌then◌else◌}
+use Rattle.std.specs.Option.{option_and_then}
 use Rattle.derivation.specs.declared.fault.ProofFault.{ProofFault}
 use Rattle.derivation.specs.declared.fault.ProofFaultKind.{ProofFaultKind}
 use Rattle.derivation.specs.declared.fault.ProofFaultKind.TheVariants.{UnknownStep, StackShort, WrongType, HypothesisDiffers, NotDisjoint}
@@ -11,7 +10,7 @@ use Rattle.derivation.specs.declared.fault.ProofFaultKind.TheVariants.{NotOneLef
 use Rattle.source.specs.Statements.{Proof}
 use Rattle.source.specs.Scopes.{Assertion, Scope}
 use Rattle.source.specs.Proofs.{Step, steps_of, made, is_unfinished}
-use Rattle.source.specs.Whole.{IsProofWhole, IsAssertionWhole, AreAssertionsWhole, IsWhole}
+use Rattle.source.specs.Whole.{IsProofWhole, IsAssertionWhole}
 use Rattle.verifying.specs.Verifies.{entry, derived, Derives, IsVerified}
 use Rattle.verifying.specs.Faults.{fault_from, fault_of}
 use Rattle.verifying.proofs.Verified.{finished_are_derived}
@@ -30,30 +29,6 @@ pub all_placed : (n m : ℕ) (xs : List Named) → n ≤ m → All (IsPlaced n) 
 all_placed n m xs le all = λ k d lt. placed_more n m le _ (all k d lt)
 
 -- ---- the assertion at a place
-
-whole_behind : (s : Scope) (earlier xs : List Assertion) (k : ℕ) (x : Assertion) → AreAssertionsWhole s earlier xs
-    → slice_get xs k ≡ Some x → IsAssertionWhole s (earlier ++ take k xs) x
-whole_behind s earlier [] k x a at = absurd cc
-whole_behind s earlier (y ∷ ys) zero x a at =
-    let e : y ≡ x = cc in
-    transport (λ (es : List Assertion). IsAssertionWhole s es x) (sym (append-nil earlier))
-    (transport (λ (z : Assertion). IsAssertionWhole s earlier z) e a.0)
-whole_behind s earlier (y ∷ ys) (suc k) x a at =
-    transport (λ (es : List Assertion). IsAssertionWhole s es x) (append_assoc earlier (y ∷ []) (take k ys))
-    (whole_behind s (earlier ++ y ∷ []) ys k x a.1 at)
-
-pub whole_at : (s : Scope) (place : ℕ) (x : Assertion) → IsWhole s → slice_get s.assertions place ≡ Some x
-    → IsAssertionWhole s (take place s.assertions) x
-whole_at s place x w at = whole_behind s [] s.assertions place x w.assertions at
-
-pub statement_is : (xs : List Assertion) (place : ℕ) (x : Assertion) → slice_get xs place ≡ Some x → (ws : List Word)
-    → option_map (λ a. a.statement) (slice_get xs place) ≡ Some ws → ws ≡ x.statement
-statement_is xs place x at ws h =
-    let e : Some x.statement ≡ Some ws = sym (ap (option_map (λ (a : Assertion). a.statement)) at) ∙ h in cc
-
-pub proof_is : (xs : List Assertion) (place : ℕ) (x : Assertion) → slice_get xs place ≡ Some x → (o : Option Proof)
-    → o ≡ option_and_then (λ a. a.proof) (slice_get xs place) → x.proof ≡ o
-proof_is xs place x at o h = sym (h ∙ ap (option_and_then (λ (a : Assertion). a.proof)) at)
 
 module _ (earlier : List Assertion) (x : Assertion) where
   -- ---- of steps, and of the proof whose steps they are

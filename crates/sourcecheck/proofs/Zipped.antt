@@ -7,9 +7,9 @@ use Rattle.std.specs.Cmp.Lexicographic.{pointwise}
 use Rattle.std.proofs.lemmas.List.{append_cancel_left}
 use Rattle.std.proofs.lemmas.Bool.Decides.{Decides-eqb}
 use Rattle.std.proofs.lemmas.Slice.Eq.{slice_eq-Decides}
+use Rattle.mmsyntax.proofs.Options.{alike}
 use Rattle.sourcecheck.specs.declared.frame.Piece.{Piece}
 use Rattle.sourcecheck.specs.Coded.{piece_value, filled}
-use Rattle.sourcecheck.proofs.Filling.{both_ways}
 
 module _ {A B : Type 0} (f : A → B → Bool) where
   abbrev pub met : List A → List B → Bool
@@ -74,4 +74,4 @@ piece_fails all piece after next rest G a n apart h g = let whole = h.1 g in apa
 pub same_as : (b : Bool) (d e : List ℕ) → IsTrue b ↔ (d ≡ e) → b ≡ pointwise (λ a b. a == b) d e
 same_as b d e h =
     let decides = slice_eq-Decides Decides-eqb d e (pointwise (λ a b. a == b) d e) refl in
-    both_ways b (pointwise (λ a b. a == b) d e) (λ t. decides.1 (h.0 t)) (λ t. h.1 (decides.0 t))
+    alike b (pointwise (λ a b. a == b) d e) (λ t. decides.1 (h.0 t)) (λ t. h.1 (decides.0 t))

@@ -4,7 +4,6 @@ pub mod Written
 pub mod Names
 pub mod Frames
 pub mod Shown
-pub mod Counted
 pub mod Answers
 pub mod Found
 pub mod Marks

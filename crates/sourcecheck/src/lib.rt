@@ -3,7 +3,6 @@
 
 mod checkers;
 mod citing;
-mod counting;
 mod fitting;
 mod frame;
 mod framing;

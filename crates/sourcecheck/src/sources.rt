@@ -12,7 +12,6 @@ ghost use Rattle.sourcecheck.specs.Answers.{IsRefusedAt, IsRefusedIn};
 ghost use Rattle.sourcecheck.specs.Checkers.{IsFoundAmong, FailsAt};
 
 use crate::checkers::{Framed, check_shared};
-use crate::counting::is_unfinished;
 use crate::frame::Frame;
 use crate::framing::frame_of;
 use crate::table::Table;
@@ -23,6 +22,7 @@ use source::Declared;
 use std::alloc::{AllocError, Global};
 use std::hash::RandomState;
 use std::thread::Threads;
+use taking::is_unfinished;
 
 /// Why a source isn't said to verify.
 #[derive(Clone, Copy, Debug)]

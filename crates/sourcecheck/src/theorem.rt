@@ -11,7 +11,6 @@ ghost use Rattle.sourcecheck.specs.Names.{words_of, IsSound, Keeps, Lasts};
 ghost use Rattle.sourcecheck.specs.Frames.{AreFrames};
 ghost use Rattle.sourcecheck.specs.Shown.{Tells, TellsProof, TellsAssertion};
 
-use crate::counting::{Counted, count_labels, is_unfinished};
 use crate::frame::Frame;
 use crate::naming::name_labels;
 use crate::stepping::take_codes;
@@ -20,6 +19,7 @@ use crate::thesis::thesis_of;
 use derivation::{ProofFault, ProofFaultKind};
 use source::{Declared, ProofWords};
 use std::alloc::Global;
+use taking::{Counted, count_labels, is_unfinished};
 
 /// A fault that no step has.
 pub(crate) fn fault(kind: ProofFaultKind) -> ProofFault

@@ -4,7 +4,7 @@ use Rattle.std.specs.Borrow.{Bor}
 use Rattle.source.specs.Counts.{mandatory_marks}
 use Rattle.source.specs.Scopes.{Stand}
 use Rattle.source.specs.Views.{seen_words}
-use Rattle.sourcereader.proofs.Runs.{one_more_word}
+use Rattle.source.proofs.Slices.{one_more_word}
 
 -- what was marked for some symbols is marked for one more, which was put behind them
 pub symbol_marked : (old new : Stand) (before after : List Bool) (ws us vs : List (Bor (List ℕ))) (w : Bor (List ℕ)) → us ≡ ws

@@ -1,13 +1,11 @@
 -- What stands in the middle of statements: the tests that a place has behind it stay passed.
-use Rattle.std.proofs.Common.{◌≡◌, ℕ, Bool, true, false, cond, List, [], ◌∷◌, ◌++◌, Option, Some, None, Result, Ok, Err}
+use Rattle.std.proofs.Common.{◌≡◌, Bool, true, false, cond, List, [], ◌∷◌, ◌++◌, Option, Some, None, Result, Ok, Err}
 use Rattle.std.proofs.Common.{refl, sym, ap, subst, append_assoc, arith, length}
 use Rattle.std.specs.Prelude.{is_none, nat_le, IfOk, Bool}
 use Rattle.std.specs.Str.{bytes_eq}
 use Rattle.std.specs.Prelude.{codes}
 use Rattle.std.proofs.lemmas.Bool.{and_parts, and_from, le-leb}
-use Rattle.std.proofs.lemmas.List.{append-nil, map-append}
-use Rattle.std.specs.Borrow.{Bor}
-use Rattle.source.specs.Views.{seen_words}
+use Rattle.std.proofs.lemmas.List.{append-nil}
 use Rattle.mmtext.specs.declared.fault.FaultKind.{FaultKind}
 use Rattle.mmtext.specs.declared.fault.FaultKind.TheVariants.{BadToken}
 use Rattle.mmtext.specs.declared.fault.Stop.{Stop}
@@ -56,10 +54,6 @@ pub tested_passes : (t : Token) (ts : Tests) (next : Next) → first_fault ts �
 tested_passes t ts next h = ap (λ o. faulted t o next) h
 
 -- ---- tests of words
-
--- one more word that the code keeps
-pub one_more_word : (ws : List (Bor (List ℕ))) (w : Bor (List ℕ)) → seen_words (ws ++ w ∷ []) ≡ seen_words ws ++ w.now ∷ []
-one_more_word ws w = map-append (λ (x : Bor (List ℕ)). x.now) ws (w ∷ [])
 
 -- one more word that passes behind others
 pub one_more_passes : (tests : List Word → Word → Tests) (front ws : List Word) (w : Word) → all_pass tests front ws ≡ true

@@ -6,13 +6,14 @@ use Rattle.std.specs.declared.alloc.Global.{Global}
 use mathlib.Core.Bool.{not}
 use Rattle.std.specs.List.{list_any, list_all}
 use Rattle.std.proofs.Math.Seq.{take-length}
-use Rattle.std.proofs.lemmas.Bool.{and_parts, or_left, or_right, eq-eqb, eqb-true}
+use Rattle.std.proofs.lemmas.Bool.{and_parts, or_left, or_right, eq-eqb, eqb-true, or_cases}
 use Rattle.std.proofs.lemmas.List.{take_more}
 use Rattle.std.proofs.lemmas.List.Elements.{All-push, All-from_recursion}
 use Rattle.std.proofs.lemmas.List.{get_or-map, length-map}
 use Rattle.std.specs.List.{AllByRecursion}
 use Rattle.std.proofs.lemmas.Grind.{flat_map-append}
 use Rattle.std.proofs.lemmas.List.Folds.{list_any-append, list_any_at, Any-from_list_any}
+use Rattle.mmsyntax.proofs.Options.{alike}
 use Rattle.sourcewriting.specs.Groups.{is_pair, has_pair, IsPaired, pairs_of, restricted, seen_groups, AreGrouped}
 use Rattle.sourcewriting.specs.Grouping.{are_paired, stand_in, IsGroupOf}
 
@@ -20,16 +21,6 @@ use Rattle.sourcewriting.specs.Grouping.{are_paired, stand_in, IsGroupOf}
 
 both : (x y : Bool) → x ≡ true → y ≡ true → (x && y) ≡ true
 both x y e f = ap (λ b. b && y) e ∙ f
-
-either : (x y : Bool) → (x || y) ≡ true → (x ≡ true) ⊎ (y ≡ true)
-either true y e = inl refl
-either false y e = inr e
-
--- two tests that follow from one another are one
-same_test : (x y : Bool) → (x ≡ true → y ≡ true) → (y ≡ true → x ≡ true) → x ≡ y
-same_test true y there back = sym (there refl)
-same_test false true there back = back refl
-same_test false false there back = refl
 
 -- ---- pairs
 
@@ -44,7 +35,7 @@ of_both_turned x y =
 
 -- a pair is of two variables: it is these, one way round or the other
 which : (x y : ℕ) (p : ℕ × ℕ) → is_pair x y p ≡ true → (p ≡ (x, y)) ⊎ (p ≡ (y, x))
-which x y p is = elim (either ((p.0 == x) && (p.1 == y)) ((p.0 == y) && (p.1 == x)) is) [
+which x y p is = elim (or_cases ((p.0 == x) && (p.1 == y)) ((p.0 == y) && (p.1 == x)) is) [
   | inl e ↦
       let parts = and_parts (p.0 == x) (p.1 == y) e in
       let one = eqb-true p.0 x parts.0 in
@@ -63,7 +54,7 @@ turned_pair x y p is = elim (which x y p is) [
 
 turned : (ps : List (ℕ × ℕ)) (x y : ℕ) → has_pair ps x y ≡ true → has_pair ps y x ≡ true
 turned [] x y h = h
-turned (p ∷ ps) x y h = elim (either (is_pair x y p) (has_pair ps x y) h) [
+turned (p ∷ ps) x y h = elim (or_cases (is_pair x y p) (has_pair ps x y) h) [
   | inl e ↦ or_left (is_pair y x p) (has_pair ps y x) (turned_pair x y p e)
   | inr e ↦ or_right (is_pair y x p) (has_pair ps y x) (turned ps x y e)
 ]
@@ -95,7 +86,7 @@ one_paired : (ps : List (ℕ × ℕ)) (v : ℕ) (ws : List ℕ) → list_all (ha
 one_paired ps v [] all x y h = absurd cc
 one_paired ps v (w ∷ ws) all x y h =
     let parts = and_parts (has_pair ps v w) (list_all (has_pair ps v) ws) all in
-    elim (either (is_pair x y (v, w)) (has_pair (map (λ w. (v, w)) ws) x y) h) [
+    elim (or_cases (is_pair x y (v, w)) (has_pair (map (λ w. (v, w)) ws) x y) h) [
       | inl e ↦ as_pair ps x y (v, w) e parts.0
       | inr e ↦ one_paired ps v ws parts.1 x y e
     ]
@@ -106,7 +97,7 @@ pub all_paired : (ps : List (ℕ × ℕ)) (vs : List ℕ) → are_paired ps vs �
 all_paired ps [] all x y h = absurd cc
 all_paired ps (v ∷ vs) all x y h =
     let parts = and_parts (list_all (has_pair ps v) vs) (are_paired ps vs) all in
-    elim (either (has_pair (map (λ w. (v, w)) vs) x y) (has_pair (pairs_of vs) x y)
+    elim (or_cases (has_pair (map (λ w. (v, w)) vs) x y) (has_pair (pairs_of vs) x y)
     (sym (list_any-append (is_pair x y) (map (λ w. (v, w)) vs) (pairs_of vs)) ∙ h)) [
       | inl e ↦ one_paired ps v vs parts.0 x y e
       | inr e ↦ all_paired ps vs parts.1 x y e
@@ -171,7 +162,7 @@ group_paired ps one other group g =
 
 first_with : (v : ℕ) (ws : List ℕ) (x y : ℕ) → v ≡ x → list_any (λ w. w == y) ws ≡ true → has_pair (map (λ w. (v, w)) ws) x y ≡ true
 first_with v [] x y e h = absurd cc
-first_with v (w ∷ ws) x y e h = elim (either (w == y) (list_any (λ w. w == y) ws) h) [
+first_with v (w ∷ ws) x y e h = elim (or_cases (w == y) (list_any (λ w. w == y) ws) h) [
   | inl f ↦
       or_left (is_pair x y (v, w)) (has_pair (map (λ w. (v, w)) ws) x y)
       (ap (λ a. is_pair x y (a, w)) e ∙ (ap (λ b. is_pair x y (x, b)) (eqb-true w y f) ∙ of_both x y))
@@ -185,12 +176,12 @@ both_in (v ∷ vs) x y differ h k =
     let first = has_pair (map (λ w. (v, w)) vs) x y in
     let later = has_pair (pairs_of vs) x y in
     list_any-append (is_pair x y) (map (λ w. (v, w)) vs) (pairs_of vs)
-    ∙ elim (either (v == x) (list_any (λ w. w == x) vs) h) [
-      | inl e ↦ elim (either (v == y) (list_any (λ w. w == y) vs) k) [
+    ∙ elim (or_cases (v == x) (list_any (λ w. w == x) vs) h) [
+      | inl e ↦ elim (or_cases (v == y) (list_any (λ w. w == y) vs) k) [
         | inl f ↦ absurd (differ (sym (eqb-true v x e) ∙ eqb-true v y f))
         | inr f ↦ or_left first later (first_with v vs x y (eqb-true v x e) f)
       ]
-      | inr e ↦ elim (either (v == y) (list_any (λ w. w == y) vs) k) [
+      | inr e ↦ elim (or_cases (v == y) (list_any (λ w. w == y) vs) k) [
         | inl f ↦ or_left first later (turned (map (λ w. (v, w)) vs) y x (first_with v vs y x (eqb-true v y f) e))
         | inr f ↦ or_right first later (both_in vs x y differ e f)
       ]
@@ -235,7 +226,7 @@ none_grouped ps = record {
 pub all_grouped : (ps : List (ℕ × ℕ)) (groups : List (List ℕ)) → AreGroupedTo ps (length ps) groups → AreGrouped ps groups
 all_grouped ps groups g = record {
   alike = λ x y.
-      same_test (has_pair (restricted groups) x y) (has_pair ps x y) (g.sound x y)
+      alike (has_pair (restricted groups) x y) (has_pair ps x y) (g.sound x y)
       (all_among (restricted groups) ps
       (subst (λ qs. All (λ p. has_pair (restricted groups) p.0 p.1 ≡ true) qs) (take-length ps) g.there) x y);
   paired = g.paired;
@@ -271,7 +262,7 @@ grouped_new ps i d old new group lt is e g =
     let parts : (x y : ℕ) → has_pair (restricted new) x y ≡ (has_pair (restricted old) x y || has_pair (pairs_of group) x y) =
     λ x y. ap (list_any (is_pair x y)) cut ∙ list_any-append (is_pair x y) (restricted old) (pairs_of group) in
     grouped_next ps i d old new lt
-    (λ x y h. elim (either (has_pair (restricted old) x y) (has_pair (pairs_of group) x y) (sym (parts x y) ∙ h)) [
+    (λ x y h. elim (or_cases (has_pair (restricted old) x y) (has_pair (pairs_of group) x y) (sym (parts x y) ∙ h)) [
       | inl f ↦ g.sound x y f
       | inr f ↦ all_paired ps group is.paired x y f
     ])

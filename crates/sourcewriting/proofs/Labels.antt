@@ -1,9 +1,10 @@
 -- Labels are no parentheses.
-use Rattle.std.proofs.Common.{◌≡◌, ◌||◌, ◌&&◌, Bool, true, false, List, [], ◌∷◌, ◌++◌, IsTrue, refl, subst, codes}
+use Rattle.std.proofs.Common.{◌≡◌, ◌||◌, Bool, true, false, List, [], ◌∷◌, ◌++◌, IsTrue, refl, subst, codes}
 use Rattle.std.specs.List.{list_all}
 use Rattle.std.specs.Str.{bytes_eq}
 use Rattle.std.proofs.lemmas.List.Folds.{list_all-append, list_any-append}
 use Rattle.std.proofs.lemmas.Slice.Eq.{bytes_eq-Decides}
+use Rattle.std.proofs.lemmas.Bool.{and_parts}
 use Rattle.mmtext.specs.Words.{Word, is_label}
 use Rattle.items.specs.Layout.{is_compressed}
 use Rattle.sourcewriting.specs.Laid.{has_closing}
@@ -18,20 +19,12 @@ no_opening w h = false_if _ (λ e. let k : is_label (codes "(") ≡ true = subst
 no_closing : (w : Word) → IsTrue (is_label w) → bytes_eq w (codes ")") ≡ false
 no_closing w h = false_if _ (λ e. let k : is_label (codes ")") ≡ true = subst (λ v. IsTrue (is_label v)) ((bytes_eq-Decides w (codes ")")).0 e) h in cc)
 
-pub first_of_two : (a b : Bool) → IsTrue (a && b) → IsTrue a
-first_of_two true b p = refl
-first_of_two false b p = p
-
-pub second_of_two : (a b : Bool) → IsTrue (a && b) → IsTrue b
-second_of_two true b p = p
-second_of_two false b p = cc
-
 -- no label is )
 pub closed_none : (labels : List Word) → IsTrue (list_all is_label labels) → has_closing labels ≡ false
 closed_none [] h = refl
 closed_none (w ∷ ws) h =
-    let rest = closed_none ws (second_of_two (is_label w) (list_all is_label ws) h) in
-    let here = no_closing w (first_of_two (is_label w) (list_all is_label ws) h) in
+    let rest = closed_none ws (and_parts (is_label w) (list_all is_label ws) h).1 in
+    let here = no_closing w (and_parts (is_label w) (list_all is_label ws) h).0 in
     rw (here, rest) refl
 
 pub closed_none_behind : (front labels : List Word) → has_closing front ≡ false → IsTrue (list_all is_label labels)
@@ -44,7 +37,7 @@ closed_none_behind front labels closed h =
 -- no label is (
 pub form_of_labels : (labels : List Word) → IsTrue (list_all is_label labels) → is_compressed labels ≡ false
 form_of_labels [] h = refl
-form_of_labels (w ∷ ws) h = no_opening w (first_of_two (is_label w) (list_all is_label ws) h)
+form_of_labels (w ∷ ws) h = no_opening w (and_parts (is_label w) (list_all is_label ws) h).0
 
 pub labels_more : (labels : List Word) (label : Word) → IsTrue (list_all is_label labels) → IsTrue (is_label label)
     → IsTrue (list_all is_label (labels ++ label ∷ []))

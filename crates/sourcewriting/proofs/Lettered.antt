@@ -6,11 +6,12 @@ use Rattle.std.proofs.lemmas.List.{length_push, length-set, length-replicate, dr
 use Rattle.std.proofs.lemmas.List.Sums.{count_by-le-length, sum_by-set}
 use Rattle.std.proofs.lemmas.Option.{slice_get_within, same_Some, get_or_from_slice_get}
 use Rattle.mmtext.specs.Words.{Word}
+use Rattle.mmsyntax.proofs.Items.{set_same, get_before}
 use Rattle.source.specs.Letters.{Decoded, decoded, turned, before, turn_at, codes_of, uncut}
 use Rattle.source.specs.declared.letters.Turn.{Turn}
 use Rattle.source.specs.declared.letters.Code.{Code}
 use Rattle.source.specs.declared.letters.Code.TheVariants.{Number, Mark}
-use Rattle.taking.proofs.Values.{get_front, get_last}
+use Rattle.taking.proofs.Values.{get_last}
 use Rattle.sourcewriting.specs.declared.lettering.Letters.{Letters}
 use Rattle.sourcewriting.specs.declared.shared.CountedLabel.{CountedLabel}
 use Rattle.sourcewriting.specs.declared.shared.Node.{Node}
@@ -23,7 +24,7 @@ use Rattle.sourcewriting.specs.Readable.{Read, unread, written_then, Cites, Mark
 use Rattle.sourcewriting.specs.Reading.{counts_of, find_in}
 use Rattle.sourcewriting.specs.Walked.{Walked, unwalked, IsPut, IsPutOnce, IsPutAgain, ArePut}
 use Rattle.sourcewriting.proofs.Nodes.{node_there, node_found, arguments_at}
-use Rattle.sourcewriting.proofs.Walked.{flag_same, flag_other, flag_was, none_taken, some_taken, cases_same, none_set}
+use Rattle.sourcewriting.proofs.Walked.{flag_other, flag_was, none_taken, some_taken, cases_same, none_set}
 
 -- ---- letters
 
@@ -92,9 +93,6 @@ pub lead_more : (s : Shared) (cs : List CountedLabel) (codes : List Code) (c : C
     → Leads s cs c b d → LeadAll s cs (codes ++ c ∷ []) a d
 lead_more s cs [] c a b d all one = (d, subst (λ b. Leads s cs c b d) (sym all) one, refl)
 lead_more s cs (x ∷ codes) c a b d all one = (all.0, all.1, lead_more s cs codes c all.0 b d all.2 one)
-
-pub got_before : {A : Type 0} (xs : List A) (x y : A) (i : ℕ) → slice_get xs i ≡ Some y → slice_get (xs ++ x ∷ []) i ≡ Some y
-got_before xs x y i at = get_front xs x i (slice_get_within xs i y at) ∙ at
 
 -- a label at a place
 counted_at : (cs : List CountedLabel) (k : ℕ) (w : Word) (takes : ℕ) → slice_get (counts_of cs) k ≡ Some (w, takes)
@@ -322,14 +320,14 @@ module _ (s : Shared) (cs : List CountedLabel) (sound : AreNodes s) (l : Letters
             l.marked,
             ap (λ ms. slice_get ms m) is
                 ∙ subst (λ k. slice_get (set l.marks.items n (Some l.marked)) k ≡ Some (Some l.marked)) same
-                (flag_same l.marks.items n (Some l.marked) (slice_get_within l.marks.items n None no_mark)),
+                (set_same l.marks.items n (Some l.marked) (slice_get_within l.marks.items n None no_mark)),
             ap (slice_get (was.read.marked ++ n ∷ [])) (sym was.marked) ∙ get_last was.read.marked n ∙ ap (λ k. Some k) same,
           )
           | inr apart ↦
               let old-mark = was.mark m (sym (was_other m apart) ∙ at) again in (
                 old-mark.0,
                 ap (λ ms. slice_get ms m) is ∙ flag_other l.marks.items n m (Some l.marked) apart ∙ old-mark.1,
-                got_before was.read.marked n m old-mark.0 old-mark.2,
+                get_before was.read.marked n m old-mark.0 old-mark.2,
               )
         ]
 
@@ -341,7 +339,7 @@ module _ (s : Shared) (cs : List CountedLabel) (sound : AreNodes s) (l : Letters
               let within = slice_get_within old.written n false first_none in
               let yes' : slice_get new.written n ≡ Some true =
               ap (λ fs. slice_get fs n) (written_new ∙ some_taken (length (arguments_in s n)) old.written some n)
-              ∙ flag_same old.written n true within in
+              ∙ set_same old.written n true within in
               let no' : slice_get new.written n ≡ Some false = ap (slice_get new.written) same ∙ at in
               absurd cc
           | inr apart ↦

@@ -11,14 +11,15 @@ use Rattle.std.specs.HashMap.{HashMap, get_by}
 use Rattle.std.specs.Map.{KeepsOthers, IsKeyTest, AreApart, lookup}
 use Rattle.std.specs.declared.random_state.RandomState.{RandomState}
 use Rattle.std.proofs.lemmas.Bool.{cases_lt}
-use Rattle.std.proofs.lemmas.List.{length-append, length-drop, length_push, drop-append-le, take-append-le, take_all}
+use Rattle.std.proofs.lemmas.List.{length-append, length_push, take_all}
 use Rattle.std.proofs.lemmas.List.Elements.{recursion_from_All}
 use Rattle.std.proofs.lemmas.Map.Text.{hash_map_updates_str}
 use Rattle.std.proofs.lemmas.Option.{slice_get_within, slice_get_cases, same_Some}
 use Rattle.std.proofs.Math.Seq.{drop-append_seam}
 use Rattle.mmtext.specs.Words.{Word}
-use Rattle.mmsyntax.proofs.Names.{same_bytes}
+use Rattle.mmsyntax.proofs.Names.{same_bytes, apart}
 use Rattle.taking.proofs.Values.{get_front, get_last}
+use Rattle.taking.proofs.Kept.{range_front}
 use Rattle.sourcewriting.specs.declared.shared.CountedLabel.{CountedLabel}
 use Rattle.sourcewriting.specs.declared.shared.Node.{Node}
 use Rattle.sourcewriting.specs.declared.shared.Shared.{Shared}
@@ -27,11 +28,6 @@ use Rattle.sourcewriting.specs.Reading.{find_in}
 use Rattle.sourcewriting.proofs.Told.{contained}
 
 -- ---- places of lists
-
-range_front : (xs ys : List ℕ) (b e : ℕ) → b ≤ e → e ≤ length xs → slice_range (xs ++ ys) b e ≡ slice_range xs b e
-range_front xs ys b e h g =
-    let long : e - b ≤ length (drop b xs) = omega (arith, length-drop b xs) in
-    ap (take (e - b)) (drop-append-le b xs ys (omega arith)) ∙ take-append-le (e - b) (drop b xs) ys long
 
 range_behind : (xs ys zs : List ℕ) → zs ≡ xs ++ ys → slice_range zs (length xs) (length zs) ≡ ys
 range_behind xs ys zs is =
@@ -46,9 +42,6 @@ got_more xs ys x i y is at =
     ap (λ zs. slice_get zs i) is ∙ get_front xs x i (slice_get_within xs i y at) ∙ at
 
 -- ---- what is found by a list
-
-apart : (bs cs ks : List ℕ) → bytes_eq bs cs ≡ false → bytes_eq bs ks ≡ true → bytes_eq cs ks ≡ false
-apart bs cs ks n y = nat_list_eq_equiv.symm cs ks ∙ sym (nat_list_eq_equiv.congr bs ks cs y) ∙ n
 
 same_list : (bs cs : List ℕ) → bytes_eq bs cs ≡ true → bs ≡ cs
 same_list bs cs e = (bytes_decides bs cs).0 e

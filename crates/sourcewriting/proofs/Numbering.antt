@@ -8,6 +8,7 @@ use Rattle.std.proofs.lemmas.List.{length-map, length-append}
 use Rattle.std.proofs.lemmas.List.Elements.{All-from_recursion, recursion_from_All}
 use Rattle.std.proofs.lemmas.Option.{slice_get-map, slice_get-get_or}
 use Rattle.mmtext.specs.Words.{Word}
+use Rattle.mmsyntax.proofs.Items.{get_before}
 use Rattle.source.specs.Views.{seen_words}
 use Rattle.taking.proofs.Values.{get_last}
 use Rattle.sourcewriting.specs.declared.shared.CountedLabel.{CountedLabel}
@@ -15,7 +16,6 @@ use Rattle.sourcewriting.specs.Lettered.{counts_behind}
 use Rattle.sourcewriting.specs.Named.{IsName, AreNames}
 use Rattle.sourcewriting.specs.Reading.{counts_of, labels_in, HaveOneMore, HaveMore}
 use Rattle.sourcewriting.proofs.Counted.{all_among}
-use Rattle.sourcewriting.proofs.Lettered.{got_before}
 use Rattle.sourcewriting.proofs.Told.{contained}
 
 -- a label that is found at a place
@@ -68,7 +68,7 @@ numbers_stay mandatory old new label takes (inl same) k p at =
 numbers_stay mandatory old new label takes (inr more) k p at =
     ap (λ cs. slice_get (map (λ w. (w, 0)) mandatory ++ cs) k) more
     ∙ ap (λ cs. slice_get cs k) (sym (append_assoc (map (λ w. (w, 0)) mandatory) (counts_of old) ((label, takes) ∷ [])))
-    ∙ got_before (counts_behind mandatory old) (label, takes) p k at
+    ∙ get_before (counts_behind mandatory old) (label, takes) p k at
 
 counted_names : (cs : List CountedLabel) → AllByRecursion IsName (labels_in cs) → AllByRecursion (λ p. IsName p.0) (counts_of cs)
 counted_names [] h = tt

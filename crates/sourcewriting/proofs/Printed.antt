@@ -5,13 +5,13 @@ use Rattle.std.specs.List.{list_all}
 use Rattle.std.proofs.lemmas.Bool.Decides.{nat_tests}
 use Rattle.std.proofs.lemmas.List.{length-take, take-append-drop}
 use Rattle.std.proofs.lemmas.List.Folds.{list_all-append}
+use Rattle.std.proofs.lemmas.Bool.{and_parts}
 use Rattle.mmtext.specs.Text.{is_printable}
 use Rattle.mmtext.specs.Words.{Word}
 use Rattle.source.specs.Letters.{Decoded, decoded, turned, before, turn_at, is_too_large, is_last, is_front, uncut, codes_of}
 use Rattle.source.specs.declared.letters.Code.{Code}
 use Rattle.source.specs.declared.letters.Turn.{Turn}
 use Rattle.items.specs.Layout.{is_word}
-use Rattle.sourcewriting.proofs.Labels.{first_of_two, second_of_two}
 
 -- ---- letters
 
@@ -86,6 +86,6 @@ cut_printable n rest word others p some there front back =
     ∙ ap (list_all is_printable) (ap (λ xs. xs ++ others) front ∙ ap (λ xs. take n rest ++ xs) back ∙ take-append-drop n rest)
     ∙ p in
     let long : 0 < length word = omega (arith, length-take n rest, ap length front) in (
-      word_of word long (first_of_two (list_all is_printable word) (list_all is_printable others) both),
-      second_of_two (list_all is_printable word) (list_all is_printable others) both,
+      word_of word long (and_parts (list_all is_printable word) (list_all is_printable others) both).0,
+      (and_parts (list_all is_printable word) (list_all is_printable others) both).1,
     )

@@ -1,6 +1,6 @@
 -- The nodes on a stack are there, while labels take as many entries wherever they stand.
-use Rattle.std.proofs.Common.{◌≡◌, ◌<◌, ◌≤◌, ℕ, Bool, true, false, List, [], ◌∷◌, ◌++◌, length, map, take, drop, Some, refl, sym, ap, subst, inr, arith}
-use Rattle.std.specs.Prelude.{Contains, Option, None, IfSome, Result, Ok, Err, IfOk}
+use Rattle.std.proofs.Common.{◌≡◌, ◌<◌, ◌≤◌, ℕ, Bool, true, false, List, [], ◌∷◌, ◌++◌, length, map, take, drop, refl, sym, ap, subst, inr, arith}
+use Rattle.std.specs.Prelude.{Contains, Result, Ok, Err, IfOk}
 use Rattle.std.specs.List.{AllByRecursion}
 use Rattle.std.proofs.lemmas.List.Elements.{All-contains, All-push, All-weaker, All-from_recursion, recursion_from_All}
 use Rattle.std.proofs.lemmas.List.{take-append-drop, length-map}
@@ -25,10 +25,6 @@ taken_alike s m hs shared all can label n takes = λ c has is.
     let taken = All-contains (λ (c : CountedLabel). Takes s m hs c.label.now c.takes) shared.words.items c
     (each (λ (p : Word × ℕ). Takes s m hs p.0 p.1) shared.words.items all) has in
     can.alike label c.takes n (subst (λ w. Takes s m hs w c.takes) is taken) takes
-
-pub if_there : {A : Type 0} {P : A → Type 0} (o : Option A) → ((x : A) → o ≡ Some x → P x) → IfSome o P
-if_there None f = tt
-if_there (Some x) f = f x refl
 
 -- what is so in any case
 pub if_any : {T E P : Type 0} (r : Result T E) → P → IfOk r (λ _. P)

@@ -5,6 +5,7 @@ use Rattle.std.proofs.lemmas.Bool.{cond-true, lt-ltb, cases_lt}
 use Rattle.std.proofs.lemmas.List.{length-replicate, length-set, reverse-append, reverse-reverse}
 use Rattle.std.specs.List.{AllByRecursion}
 use Rattle.std.proofs.lemmas.Option.{slice_get_within, slice_get_read}
+use Rattle.mmsyntax.proofs.Items.{set_same}
 use Rattle.taking.proofs.Turned.{turned_cons}
 use Rattle.sourcewriting.specs.declared.shared.Shared.{Shared}
 use Rattle.sourcewriting.specs.declared.walking.Put.{Put}
@@ -15,11 +16,6 @@ use Rattle.sourcewriting.specs.Readable.{written_then}
 use Rattle.sourcewriting.specs.Walked.{Walked, unwalked, visit, IsPut, IsPutOnce, IsPutAgain, ArePut, Find, AreTasks, IsWalking, WalksOn}
 
 -- ---- flags
-
-pub flag_same : {A : Type 0} (xs : List A) (i : ℕ) (v : A) → i < length xs → slice_get (set xs i v) i ≡ Some v
-flag_same [] i v h = absurd (omega arith)
-flag_same (x ∷ xs) zero v h = refl
-flag_same (x ∷ xs) (suc i) v h = flag_same xs i v (omega arith)
 
 pub flag_other : {A : Type 0} (xs : List A) (i k : ℕ) (v : A) → (i ≡ k → ⊥) → slice_get (set xs i v) k ≡ slice_get xs k
 flag_other [] i k v apart = refl
@@ -183,7 +179,7 @@ module _ (s : Shared) where
                       | inl same ↦
                           let e : n ≡ m = ap (λ (t : Task). t.node) same in
                           inl (ap (λ fs. slice_get fs m) then
-                          ∙ subst (λ k. slice_get (set old.written n true) k ≡ Some true) e (flag_same old.written n true within))
+                          ∙ subst (λ k. slice_get (set old.written n true) k ≡ Some true) e (set_same old.written n true within))
                       | inr rest ↦ inr rest
                     ]
               ];
@@ -272,7 +268,7 @@ module _ (s : Shared) where
         let there : n < length s.nodes.items = w.are.0 in
         let rest : AreTasks s old.written (set opened n true) (end ∷ ts) = (
           there,
-          λ _. record { unwritten = w.shut n is; noted = flag_same opened n true within; some = some },
+          λ _. record { unwritten = w.shut n is; noted = set_same opened n true within; some = some },
           w.are.2,
           opened_tasks old.written opened n ts w.are.3,
         ) in

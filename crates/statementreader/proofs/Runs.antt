@@ -34,7 +34,7 @@ use Rattle.mmunits.specs.Views.{known_of}
 use Rattle.statementreader.specs.Views.{seen_place, IsUnitPlace, Leads}
 use Rattle.mmtext.proofs.Turns.{OnPlace}
 use Rattle.mmsyntax.proofs.Sound.{cond_none, if_ok, free_variable}
-use Rattle.mmsyntax.proofs.Again.{none_is}
+use Rattle.mmsyntax.proofs.Options.{none_is}
 
 -- ---- what a row keeps
 

@@ -7,7 +7,7 @@ use Rattle.std.specs.List.{list_all, flat_map, AllByRecursion}
 use Rattle.std.specs.Fmt.{digit_glyph, digits_onto, digits as digits_in, decimal}
 use Rattle.std.specs.Int.{byte_at, bytes_high_first}
 use mathlib.Core.Bool.{not}
-use Rattle.std.proofs.lemmas.Bool.{cases_Bool, cond-true, cond-false, and_parts, and_from, or_right, or_parts, or_from}
+use Rattle.std.proofs.lemmas.Bool.{cases_Bool, cond-true, cond-false, and_parts, and_from, or_right, or_parts, or_from, not-true}
 use Rattle.std.proofs.lemmas.Bool.{agree_below_at}
 use Rattle.std.proofs.lemmas.List.Folds.{list_all-append}
 use Rattle.std.proofs.lemmas.List.Concat.{flat_map-cons}
@@ -45,15 +45,11 @@ quiet_lawful (b ∷ bs) h =
 pub quiet_clean : (bytes : List ℕ) → AreQuiet bytes → IsClean bytes
 quiet_clean bytes h = clean_lawful bytes (quiet_lawful bytes h)
 
-not_true : (b : Bool) → not b ≡ true → b ≡ false
-not_true true h = absurd cc
-not_true false h = refl
-
 pub quiet_plain : (bytes : List ℕ) → AreQuiet bytes → has_dollar bytes ≡ false
 quiet_plain [] h = refl
 quiet_plain (b ∷ bs) h =
     let both = and_parts (is_quiet b) (list_all is_quiet bs) h in
-    or_from (eqb b 36) (has_dollar bs) (not_true (eqb b 36) (and_parts (is_lawful b) (not (eqb b 36)) both.0).1) (quiet_plain bs both.1)
+    or_from (eqb b 36) (has_dollar bs) (not-true (eqb b 36) (and_parts (is_lawful b) (not (eqb b 36)) both.0).1) (quiet_plain bs both.1)
 
 -- ---- pieces
 

@@ -3,7 +3,7 @@ use Rattle.std.proofs.Common.{◌≡◌, ◌∙◌, ℕ, Bool, true, false, List
 use Rattle.std.specs.Prelude.{◌≢◌, ◌||◌, All, codes}
 use Rattle.std.specs.List.{AllByRecursion, list_any}
 use Rattle.std.proofs.Math.Dec.{eqb}
-use Rattle.std.proofs.lemmas.Bool.{eqb-false}
+use Rattle.std.proofs.lemmas.Bool.{eqb-false, or_parts}
 use Rattle.std.proofs.lemmas.List.{append-nil, append_cancel_left}
 use Rattle.std.proofs.lemmas.List.Elements.{recursion_from_All, All-from_recursion, All-weaker, All-append}
 use Rattle.choosing.specs.declared.wish.Wish.{Wish}
@@ -13,7 +13,6 @@ use Rattle.mmtext.specs.Words.{Word}
 use Rattle.source.specs.Views.{seen_words}
 use Rattle.mmsyntax.specs.Layout.{spaced}
 use Rattle.mmsyntax.proofs.Distinct.{all_right}
-use Rattle.source.proofs.Passing.{neither}
 use Rattle.taketext.specs.Comments.{chosen_line}
 use Rattle.taketext.specs.Origins.{IsInLine, IsBetweenSpaces, Tells, TellsNothing, TellsOnce, IsForJust}
 use Rattle.taketext.specs.Reading.{AreWords, AreOriginLines, IsOrigin, AreWishWords, wish_words}
@@ -43,7 +42,7 @@ chosen_rest w line rest e =
 none_has : (p : ℕ → Bool) (P : ℕ → Type 0) → ((b : ℕ) → p b ≡ false → P b) → (xs : List ℕ) → list_any p xs ≡ false → AllByRecursion P xs
 none_has p P each [] h = tt
 none_has p P each (x ∷ xs) h =
-    let both = neither (p x) (list_any p xs) h in
+    let both = or_parts (p x) (list_any p xs) h in
     (each x both.0, none_has p P each xs both.1)
 
 abbrev Plain : ℕ → Type 0
@@ -53,7 +52,7 @@ abbrev is_space : ℕ → Bool
 is_space b = eqb b 10 || eqb b 32
 
 plain : (b : ℕ) → is_space b ≡ false → Plain b
-plain b h = let both = neither (eqb b 10) (eqb b 32) h in (eqb-false b 10 both.0, eqb-false b 32 both.1)
+plain b h = let both = or_parts (eqb b 10) (eqb b 32) h in (eqb-false b 10 both.0, eqb-false b 32 both.1)
 
 written_word : (w : Word) → list_any is_space w ≡ false → IsBetweenSpaces w
 written_word w h = All-from_recursion Plain w (none_has is_space Plain plain w h)

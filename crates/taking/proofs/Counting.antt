@@ -1,5 +1,5 @@
 -- Numbers that count the words of a normal proof, and their codes.
-use Rattle.std.proofs.Common.{◌≡◌, ℕ, ◌+◌, ◌<◌, List, [], ◌∷◌, ◌++◌, length, map, take}
+use Rattle.std.proofs.Common.{◌≡◌, ℕ, zero, suc, refl, ◌+◌, ◌<◌, List, [], ◌∷◌, ◌++◌, length, map, take}
 use Rattle.std.proofs.Common.{sym, ap, ◌∙◌, arith, inl, inr}
 use Rattle.std.specs.Prelude.{Some, false, pred, slice_index_or, if◌then◌else◌}
 use Rattle.std.specs.List.{list_any}
@@ -11,9 +11,14 @@ use Rattle.source.specs.declared.letters.Code.TheVariants.{Number, Unknown}
 use Rattle.source.specs.Statements.{Proof}
 use Rattle.source.specs.Scopes.{Hypothesis, is_unknown}
 use Rattle.source.specs.Letters.{is_absent}
-use Rattle.source.specs.Proofs.{names, unknown, step_of_word, step_of, steps_of, is_unfinished}
+use Rattle.source.specs.Proofs.{names, unknown, numbered, step_of_word, step_of, steps_of, is_unfinished}
 use Rattle.source.proofs.Finished.{absent_codes, finished_steps}
-use Rattle.taking.proofs.Stacked.{names_label}
+
+-- a number within the list counts the label there
+pub names_label : (ws : List Word) (n : ℕ) → n < length ws → numbered ws n ≡ names (slice_index_or ws n [])
+names_label [] n h = absurd (omega arith)
+names_label (w ∷ ws) zero h = refl
+names_label (w ∷ ws) (suc n) h = names_label ws n (omega arith)
 
 pred_more : (i : ℕ) → pred (i + 1) ≡ i
 pred_more i = omega arith

@@ -47,7 +47,7 @@ size_kept ns ss k x same is =
 -- ---- one more
 
 -- what lies within is the same in front of more
-range_front : (xs ys : List ℕ) (b e : ℕ) → b ≤ e → e ≤ length xs → slice_range (xs ++ ys) b e ≡ slice_range xs b e
+pub range_front : (xs ys : List ℕ) (b e : ℕ) → b ≤ e → e ≤ length xs → slice_range (xs ++ ys) b e ≡ slice_range xs b e
 range_front xs ys b e h g =
     let long : e - b ≤ length (drop b xs) = omega (arith, length-drop b xs) in
     ap (take (e - b)) (drop-append-le b xs ys (omega arith)) ∙ take-append-le (e - b) (drop b xs) ys long

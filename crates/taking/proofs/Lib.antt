@@ -10,7 +10,6 @@ pub mod Turned
 pub mod Stacked
 pub mod Covered
 pub mod Codes
-pub mod Counting
 pub mod Loops
 pub mod Cited
 pub mod Found
@@ -19,3 +18,4 @@ pub mod Given
 pub mod Candidates
 pub mod Lent
 pub mod Premises
+pub mod Counting

@@ -276,7 +276,7 @@ small choice earlier x t (Some u) is e =
           subst (λ v. size v ≤ 16384) same (ltb-false 16384 (size u) fits)
     ]
 
-unfinished_or : (b : Bool) (r : Option Reason) → (if b then Some Unfinished else r) ≡ None → r ≡ None
+pub unfinished_or : (b : Bool) (r : Option Reason) → (if b then Some Unfinished else r) ≡ None → r ≡ None
 unfinished_or true r e = absurd cc
 unfinished_or false r e = e
 

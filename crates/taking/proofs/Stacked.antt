@@ -9,7 +9,7 @@ use Rattle.std.proofs.lemmas.List.Elements.{filter_map-append}
 use Rattle.std.proofs.lemmas.Option.{slice_get-get_or, slice_get-map}
 use Rattle.mmtext.specs.Words.{Word}
 use Rattle.source.specs.Scopes.{Hypothesis}
-use Rattle.source.specs.Proofs.{Tree, node, over, none, names, again, pop, put, cite, repeat, mark, only, numbered, taken_by}
+use Rattle.source.specs.Proofs.{Tree, node, over, none, again, pop, put, cite, repeat, mark, only, numbered, taken_by}
 use Rattle.taking.specs.declared.named.Named.{Named}
 use Rattle.taking.specs.Settings.{Setting, AreNamed, is_float}
 use Rattle.taking.specs.Nodes.{Shared, trees}
@@ -31,17 +31,12 @@ popped (h ∷ hs) (x ∷ xs) rest off e =
     popped hs xs rest (x ∷ off) (omega arith)
     ∙ ap (λ ys. Some (ys, rest)) (sym (ap (λ ys. ys ++ off) (turned_cons x xs) ∙ append_assoc (reverse xs) (x ∷ []) off))
 
-short : {A : Type 0} (hs : List Hypothesis) (xs off : List A) → length xs < length hs → pop hs xs off ≡ None
+pub short : {A : Type 0} (hs : List Hypothesis) (xs off : List A) → length xs < length hs → pop hs xs off ≡ None
 short [] xs off h = absurd (omega arith)
 short (g ∷ hs) [] off h = refl
 short (g ∷ hs) (x ∷ xs) off h = short hs xs (x ∷ off) (omega arith)
 
 -- ---- numbers
-
-pub names_label : (ws : List Word) (n : ℕ) → n < length ws → numbered ws n ≡ names (slice_index_or ws n [])
-names_label [] n h = absurd (omega arith)
-names_label (w ∷ ws) zero h = refl
-names_label (w ∷ ws) (suc n) h = names_label ws n (omega arith)
 
 pub names_mark : (ws : List Word) (n m : ℕ) → n ≡ length ws + m → numbered ws n ≡ again m
 names_mark [] n m h = let e : n ≡ m = omega arith in ap again e

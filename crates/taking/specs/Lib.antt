@@ -12,3 +12,4 @@ pub mod Decoded
 pub mod Decoding
 pub mod Examples
 pub mod Lengths
+pub mod Counted

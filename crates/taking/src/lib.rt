@@ -1,6 +1,7 @@
 //! What is taken of a source in the whole language of Metamath: a library of the profile.
 #![tactic(auto)]
 
+mod counting;
 mod decoded;
 mod decoder;
 mod fresh;
@@ -12,6 +13,7 @@ mod nodes;
 mod reason;
 mod says;
 
+pub use counting::{Counted, count_labels, is_unfinished, joined_letters, next_number};
 pub use decoded::DecodedProof;
 pub use decoder::decode;
 pub use fresh::{FreeNames, Unnamed, fresh_name, library_name, library_names};

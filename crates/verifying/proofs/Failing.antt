@@ -1,14 +1,16 @@
 -- An entry that failed stays on the stack, in it or in what is made of it: so a proof that derives its statement has no fault, and the
 -- other way round.
 use Rattle.std.proofs.Common.{◌≡◌, Bool, true, false, ◌||◌, List, [], ◌∷◌, ◌++◌, refl, sym, ap, subst, ◌∙◌, append_assoc, append-nil, inl, inr}
-use Rattle.std.specs.Prelude.{codes, find, is_err, slice_get, Option, Some, None, Ok, Err, is_some, if◌then◌else◌}
+use Rattle.std.specs.Prelude.{codes, find, is_err, slice_get, Option, Some, None, Ok, Err, if◌then◌else◌}
 use Rattle.std.specs.Option.{option_map, option_or, option_and_then}
 use Rattle.std.specs.List.{list_any}
 use Rattle.std.specs.Str.{bytes_eq}
-use Rattle.std.proofs.lemmas.Bool.{cases_Bool}
+use Rattle.std.proofs.lemmas.Bool.{cases_Bool, or_right}
 use Rattle.std.proofs.lemmas.Option.{same_Some}
 use Rattle.std.proofs.lemmas.Slice.Eq.{slice_eq-Decides, bytes_eq-Decides}
 use Rattle.mmtext.specs.Words.{Word}
+use Rattle.mmsyntax.proofs.Options.{none_is}
+use Rattle.mmsyntax.proofs.Items.{some_found}
 use Rattle.derivation.specs.declared.fault.ProofFault.{ProofFault}
 use Rattle.derivation.specs.declared.fault.ProofFaultKind.{ProofFaultKind}
 use Rattle.derivation.specs.declared.fault.ProofFaultKind.TheVariants.{StatementDiffers}
@@ -18,18 +20,9 @@ use Rattle.verifying.specs.Citations.{Expression, same_expression}
 use Rattle.verifying.specs.Verifies.{Entry, before, all_of, made_of, named, entry}
 use Rattle.verifying.specs.Faults.{last_failure, failure_behind}
 use Rattle.verifying.specs.Faults.{at_end, differs, fault_from}
-use Rattle.verifying.proofs.Verified.{some_found}
 
 failed : List Entry → Bool
 failed es = list_any is_err es
-
-or_true : (b c : Bool) → c ≡ true → (b || c) ≡ true
-or_true true c h = refl
-or_true false c h = h
-
-none_of : {A : Type 0} (o : Option A) → is_some o ≡ false → o ≡ None
-none_of None h = refl
-none_of (Some a) h = absurd cc
 
 module _ (earlier : List Assertion) (x : Assertion) where
   all_failed : (es : List Entry) → failed es ≡ true → (k : ProofFaultKind) × (all_of es ≡ Err k)
@@ -64,7 +57,7 @@ module _ (earlier : List Assertion) (x : Assertion) where
       subst (λ s. failed s.entries ≡ true) (same_Some _ t e)
       (elim (cases_Bool (failed p.0)) [
         | inl y ↦ ap (λ b. b || failed p.1) (entry_failed w p.0 none y)
-        | inr n ↦ or_true (is_err (entry earlier x w p.0)) (failed p.1) (sym (ap (λ b. b || failed p.1) n) ∙ h)
+        | inr n ↦ or_right (is_err (entry earlier x w p.0)) (failed p.1) (sym (ap (λ b. b || failed p.1) n) ∙ h)
       ])
 
   popped_failed : (w : Word) (s : Stack Entry) (hs : List Hypothesis) (o : Option (List Entry × List Entry)) (t : Stack Entry)
@@ -89,14 +82,14 @@ module _ (earlier : List Assertion) (x : Assertion) where
       elim (cases_Bool (list_any (λ h. bytes_eq w (label_of h)) x.active)) [
         | inl y ↦
             subst (λ s. failed s.entries ≡ true) (same_Some _ t (sym (ap (λ b. cite (entry earlier x) w s (taken b)) y) ∙ e))
-            (or_true (is_err (entry earlier x w [])) (failed s.entries) h)
-        | inr n ↦ cite_failed w s (taken_by earlier x.active w) t (none_of _ (some_found _ x.active ∙ n)) h e
+            (or_right (is_err (entry earlier x w [])) (failed s.entries) h)
+        | inr n ↦ cite_failed w s (taken_by earlier x.active w) t (none_is _ (some_found _ x.active ∙ n)) h e
       ]
 
   again_failed : (s t : Stack Entry) (o : Option Entry) → failed s.entries ≡ true → repeat s o ≡ Some t → failed t.entries ≡ true
   unfolding failed
   again_failed s t None h e = absurd cc
-  again_failed s t (Some y) h e = subst (λ s. failed s.entries ≡ true) (same_Some _ t e) (or_true (is_err y) (failed s.entries) h)
+  again_failed s t (Some y) h e = subst (λ s. failed s.entries ≡ true) (same_Some _ t e) (or_right (is_err y) (failed s.entries) h)
 
   mark_failed : (xs ms : List Entry) (t : Stack Entry) → failed xs ≡ true → mark xs ms ≡ Some t → failed t.entries ≡ true
   mark_failed [] ms t h e = absurd cc
@@ -109,7 +102,7 @@ module _ (earlier : List Assertion) (x : Assertion) where
   step_failed s t (again n) h e = again_failed s t (slice_get s.marked n) h e
   step_failed s t marks h e = mark_failed s.entries s.marked t h e
   step_failed s t unknown h e =
-      subst (λ s. failed s.entries ≡ true) (same_Some _ t e) (or_true (is_err (entry earlier x (codes "?") [])) (failed s.entries) h)
+      subst (λ s. failed s.entries ≡ true) (same_Some _ t e) (or_right (is_err (entry earlier x (codes "?") [])) (failed s.entries) h)
 
   run : Option (Stack Entry) → List Step → Option (Stack Entry)
   run s steps = run_steps (entry earlier x) earlier x.active s steps

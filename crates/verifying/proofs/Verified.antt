@@ -1,10 +1,10 @@
 -- Laws of what verifies.
-use Rattle.std.proofs.Common.{◌≡◌, List, [], ◌∷◌, ◌++◌, map, refl, sym, ap, subst, ◌∙◌, Bool, true, false, ◌||◌, append_assoc, append-nil, inl, inr}
+use Rattle.std.proofs.Common.{◌≡◌, List, [], ◌∷◌, ◌++◌, map, refl, sym, ap, subst, ◌∙◌, append_assoc, append-nil}
 use Rattle.std.specs.Prelude.{find, Option, Some, None, Ok, is_some, if◌then◌else◌}
-use Rattle.std.specs.List.{list_any}
 use Rattle.std.specs.Str.{bytes_eq}
 use Rattle.std.specs.Option.{option_map, option_and_then}
-use Rattle.std.proofs.lemmas.Bool.{cases_Bool}
+use Rattle.mmsyntax.proofs.Options.{mapped_some}
+use Rattle.mmsyntax.proofs.Items.{found_is_any, not_found_is_none}
 use Rattle.source.specs.Scopes.{label_of, Assertion}
 use Rattle.source.specs.Proofs.{Tree, node, over, Step, there, cite, put, push, made, denoted_by, steps_of}
 use Rattle.verifying.specs.Citations.{Expression}
@@ -32,10 +32,6 @@ derived_of earlier x (Some steps) = values_made earlier x steps
 pub trees_are_derived : TreesAreDerived
 trees_are_derived earlier x proof = derived_of earlier x (steps_of x.hypotheses proof)
 
-some_mapped : {A B : Type 0} (f : A → B) (o : Option A) → is_some (option_map f o) ≡ is_some o
-some_mapped f None = refl
-some_mapped f (Some a) = refl
-
 -- where trees are there, expressions are
 there_made : (earlier : List Assertion) (x : Assertion) (steps : Option (List Step))
     → is_some (option_and_then (made there earlier x.active) steps)
@@ -43,7 +39,7 @@ there_made : (earlier : List Assertion) (x : Assertion) (steps : Option (List St
 there_made earlier x None = refl
 there_made earlier x (Some steps) =
     ap is_some (made_alike (λ e. tt) (entry earlier x) there (λ w es. refl) earlier x.active steps)
-    ∙ some_mapped (λ e. tt) (made (entry earlier x) earlier x.active steps)
+    ∙ mapped_some (λ e. tt) (made (entry earlier x) earlier x.active steps)
 
 pub finished_are_derived : FinishedAreDerived
 finished_are_derived earlier x proof finished h =
@@ -66,19 +62,6 @@ pub parts_verify : PartsVerify
 parts_verify earlier xs ys = (to_parts earlier xs ys, λ h. of_parts earlier xs ys h.0 h.1)
 
 -- ---- each kind of step
-
-pub some_found : {A : Type 0} (p : A → Bool) (xs : List A) → is_some (find p xs) ≡ list_any p xs
-some_found p [] = refl
-some_found p (x ∷ xs) = elim (cases_Bool (p x)) [
-  | inl y ↦ ap (λ b. is_some (if b then Some x else find p xs)) y ∙ sym (ap (λ b. b || list_any p xs) y)
-  | inr n ↦ ap (λ b. is_some (if b then Some x else find p xs)) n ∙ some_found p xs ∙ sym (ap (λ b. b || list_any p xs) n)
-]
-
-found_is_any : {A : Type 0} (p : A → Bool) (xs : List A) (x : A) → find p xs ≡ Some x → list_any p xs ≡ true
-found_is_any p xs x e = sym (some_found p xs) ∙ ap is_some e
-
-not_found_is_none : {A : Type 0} (p : A → Bool) (xs : List A) → find p xs ≡ None → list_any p xs ≡ false
-not_found_is_none p xs e = sym (some_found p xs) ∙ ap is_some e
 
 pub hypotheses_are_put : HypothesesArePut
 hypotheses_are_put earlier x s w h e =

@@ -2,7 +2,7 @@
 use Rattle.std.proofs.Common.{◌≡◌, ◌∙◌, arith, refl, subst, sym}
 use Rattle.std.specs.Prelude.{None, find}
 use Rattle.std.proofs.lemmas.List.{take_all, with_items_is}
-use Rattle.mmsyntax.proofs.Again.{none_is}
+use Rattle.mmsyntax.proofs.Options.{none_is}
 use Rattle.source.specs.Scopes.{is_in}
 use Rattle.source.specs.Views.{seen_words}
 use Rattle.choosing.specs.Marks.{AreMarked}

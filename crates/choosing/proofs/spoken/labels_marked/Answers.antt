@@ -2,8 +2,9 @@
 use Rattle.std.proofs.Common.{◌∙◌, ◌++◌, ◌∷◌, [], take, sym, ap}
 use Rattle.std.specs.Prelude.{filter}
 use Rattle.source.specs.Views.{seen_words}
+use Rattle.source.proofs.Slices.{one_more_word}
 use Rattle.choosing.specs.Choices.{labels_of}
-use Rattle.choosing.proofs.Speaking.{mark_at, label_more, label_same, label_is, label_there, seen_more}
+use Rattle.choosing.proofs.Speaking.{mark_at, label_more, label_same, label_is, label_there}
 use Rattle.choosing.proofs.spoken.labels_marked.Goals as goal
 use Rattle.choosing.proofs.spoken.labels_marked.Goals.{then-is_marked+in-Some+in_ok-push, then-is_marked+in_default, else-is_marked}
 
@@ -19,7 +20,7 @@ loop-place-preserved g c =
           let same = label_is xs k x.0 w.label.result w.in-Some.label x.1 w.in-Some.is w.label.ensures in
           ap (λ v. seen_words v.items) w.labels-is
           ∙ ap seen_words w.in_ok-push.ensures.items
-          ∙ seen_more c.loop-place.labels.items w.in-Some.label
+          ∙ one_more_word c.loop-place.labels.items w.in-Some.label
           ∙ ap (λ ws. ws ++ w.in-Some.label.now ∷ []) (c.loop-place.invariant test are)
           ∙ ap (λ l. before ++ l ∷ []) same
           ∙ sym (label_more xs test k x.0 x.1 x.2)

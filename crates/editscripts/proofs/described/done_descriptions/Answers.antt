@@ -6,6 +6,7 @@ use Rattle.std.specs.Iterator.Adapters.{zip_first, zip_second}
 use Rattle.std.proofs.lemmas.Slice.Zip.{zip_turn, zip_end}
 use Rattle.giving.specs.Staying.{Change}
 use Rattle.source.specs.Views.{seen_pairs}
+use Rattle.taking.proofs.Turned.{turned_map}
 use Rattle.transaction.specs.Closings.{lists_of}
 use Rattle.transaction.specs.declared.outcome.Outcome.{Outcome}
 use Rattle.expanding.specs.Descriptions.{Description}
@@ -13,7 +14,7 @@ use Rattle.expanding.specs.InFront.{seen_described}
 use Rattle.expanding.specs.declared.described.Described.{Described}
 use Rattle.editscripts.specs.Described.{done_of}
 use Rattle.editscripts.specs.Views.{seen_descriptions}
-use Rattle.editscripts.proofs.Chosen.{flat_zip_next, zip_all, reverse_map}
+use Rattle.editscripts.proofs.Chosen.{flat_zip_next, zip_all}
 use Rattle.editscripts.proofs.described.done_descriptions.Goals as goal
 
 pub loop-row-preserved : goal.loop-row-preserved
@@ -53,5 +54,5 @@ returns c =
     let F : List Outcome × List Description → List Change = λ p. done_of p.0 p.1 in
     let view : Bor (List ℕ) × Bor (List ℕ) → Change = λ p. (p.0.now, p.1.now) in
     ap seen_pairs c.reverse.ensures.items
-    ∙ reverse_map view c.loop-row.made.items
+    ∙ turned_map view c.loop-row.made.items
     ∙ ap reverse (c.loop-row.invariant ∙ ap (flat_map F) (zip_all I J rows all (length c.loop-row.yielded) end))

@@ -4,8 +4,8 @@ use Rattle.std.proofs.lemmas.List.{map-append, take_all}
 use Rattle.std.proofs.lemmas.Option.{slice_get_read}
 use Rattle.mmtext.specs.Views.{seen}
 use Rattle.mmtext.specs.declared.token.Token.{Token as CodeToken}
+use Rattle.mmsyntax.proofs.Items.{take_next}
 use Rattle.expanding.specs.Views.{IsLaid, seen_scripts}
-use Rattle.expanding.proofs.Citing.{take_next}
 use Rattle.editscripts.proofs.Expanding.{zipped_at, zipped_long}
 use Rattle.editscripts.proofs.expanded.words_laid.Goals as goal
 

@@ -4,6 +4,7 @@ use Rattle.std.specs.List.{flat_map, zip}
 use Rattle.std.specs.Slice.Iter.{iter_rest}
 use Rattle.std.specs.Iterator.Adapters.{zip_first, zip_second}
 use Rattle.std.proofs.lemmas.Slice.Zip.{zip_turn, zip_end}
+use Rattle.taking.proofs.Turned.{turned_map}
 use Rattle.transaction.specs.Closings.{lists_of}
 use Rattle.transaction.specs.declared.outcome.Outcome.{Outcome}
 use Rattle.pasting.specs.Quotes.{Quotation, Quote}
@@ -11,7 +12,7 @@ use Rattle.pasting.specs.Views.{seen_quotation, seen_quote}
 use Rattle.pasting.specs.declared.quotes.Quote.{Quote as CodeQuote}
 use Rattle.editscripts.specs.Quoted.{quoted_of}
 use Rattle.editscripts.specs.Views.{seen_quotes}
-use Rattle.editscripts.proofs.Chosen.{flat_zip_next, zip_all, reverse_map}
+use Rattle.editscripts.proofs.Chosen.{flat_zip_next, zip_all}
 use Rattle.editscripts.proofs.quoted.done_quotations.Goals as goal
 
 pub loop-row-preserved : goal.loop-row-preserved
@@ -50,5 +51,5 @@ returns c =
     let J = λ (ds : Vec CodeQuote Global). map seen_quote ds.items in
     let F : List Outcome × List Quote → List Quotation = λ p. quoted_of p.0 p.1 in
     ap (map seen_quotation) c.reverse.ensures.items
-    ∙ reverse_map seen_quotation c.loop-row.made.items
+    ∙ turned_map seen_quotation c.loop-row.made.items
     ∙ ap reverse (c.loop-row.invariant ∙ ap (flat_map F) (zip_all I J rows all (length c.loop-row.yielded) end))

@@ -6,9 +6,9 @@ use Rattle.expanding.specs.Commands.{AreCommands, command_of}
 use Rattle.expanding.specs.Forms.{AreParts}
 use Rattle.expanding.specs.Bars.{seen_command, seen_part}
 use Rattle.expanding.specs.Views.{seen_scripts}
-use Rattle.expanding.proofs.Citing.{take_next}
 use Rattle.expanding.proofs.Commanding.{commands_more}
 use Rattle.std.proofs.lemmas.Option.{slice_get_read}
+use Rattle.mmsyntax.proofs.Items.{take_next}
 use Rattle.expanding.proofs.commands.commands_of.Goals as goal
 
 pub loop-script-preserved : goal.loop-script-preserved

@@ -1,8 +1,9 @@
 -- What is left to show of `may_cite`.
 use Rattle.std.proofs.Common.{◌∙◌, sym, ap}
 use Rattle.std.specs.Prelude.{◌||◌, is_some}
+use Rattle.mmsyntax.proofs.Options.{mapped_some}
 use Rattle.pasting.specs.Views.{at_label}
-use Rattle.pasting.proofs.Unnamed.{may_be_cited, mapped_some}
+use Rattle.pasting.proofs.Unnamed.{may_be_cited}
 use Rattle.pasting.proofs.additions.may_cite.Goals as goal
 
 pub returns-then-is_some : goal.returns-then-is_some

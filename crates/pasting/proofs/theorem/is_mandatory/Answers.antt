@@ -5,7 +5,7 @@ use Rattle.std.specs.List.{list_any}
 use Rattle.std.specs.Str.{bytes_eq}
 use Rattle.source.specs.Scopes.{is_mandatory, stands_in}
 use Rattle.source.specs.Views.{seen_hypothesis, seen_words}
-use Rattle.prooftrees.proofs.Cases.{any_seen}
+use Rattle.source.proofs.Slices.{any_seen}
 use Rattle.pasting.proofs.Adding.{any_mapped}
 use Rattle.pasting.proofs.theorem.is_mandatory.Goals as goal
 

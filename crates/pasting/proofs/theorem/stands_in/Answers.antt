@@ -5,7 +5,7 @@ use Rattle.std.specs.List.{list_any}
 use Rattle.std.specs.Str.{bytes_eq}
 use Rattle.source.specs.Scopes.{stands_in}
 use Rattle.source.specs.Views.{seen_hypothesis}
-use Rattle.prooftrees.proofs.Cases.{any_seen}
+use Rattle.source.proofs.Slices.{any_seen}
 use Rattle.pasting.proofs.theorem.stands_in.Goals as goal
 
 pub returns-in-Premise : goal.returns-in-Premise

@@ -6,8 +6,8 @@ use Rattle.source.specs.Statements.{Proof}
 use Rattle.source.specs.Scopes.{Hypothesis}
 use Rattle.source.specs.Proofs.{steps_of}
 use Rattle.source.specs.Views.{seen_proof, seen_hypotheses}
-use Rattle.prooftrees.specs.declared.counting.Counted.{Counted}
-use Rattle.prooftrees.specs.Counted.{IsCounted, counted_labels}
+use Rattle.taking.specs.declared.counting.Counted.{Counted}
+use Rattle.taking.specs.Counted.{IsCounted, counted_labels}
 use Rattle.prooftrees.specs.Names.{IsKnown}
 use Rattle.taking.proofs.Turned.{if_ok}
 use Rattle.prooftrees.proofs.Trees.{uncounted_is_none}

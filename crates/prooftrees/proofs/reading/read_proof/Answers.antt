@@ -11,16 +11,16 @@ use Rattle.source.specs.Views.{seen_proof, seen_hypotheses}
 use Rattle.prooftrees.specs.declared.form.ProofTree.{ProofTree}
 use Rattle.taking.specs.Names.{Map}
 use Rattle.mmtext.specs.Words.{Word}
+use Rattle.mmsyntax.proofs.Options.{if_there}
+use Rattle.source.proofs.Asked.{hypotheses_are, proof_is, whole_at}
 use Rattle.taking.specs.Settings.{is_float}
 use Rattle.prooftrees.specs.declared.roles.Role.{Role}
-use Rattle.prooftrees.specs.Counted.{counted_labels}
+use Rattle.taking.specs.Counted.{counted_labels}
 use Rattle.prooftrees.specs.Names.{AreEnough, AreFrames, IsKnown, labelled}
 use Rattle.prooftrees.specs.Roles.{looks_up, role_of}
 use Rattle.prooftrees.specs.Forms.{IsTree}
-use Rattle.prooftrees.proofs.Asked.{mandatory_is, proof_is}
-use Rattle.prooftrees.proofs.Cases.{if_there}
 use Rattle.prooftrees.proofs.Mandatory.{mandatory_enough}
-use Rattle.prooftrees.proofs.Whole.{whole_at, counted_known, tree_there}
+use Rattle.prooftrees.proofs.Whole.{counted_known, tree_there}
 use Rattle.prooftrees.proofs.reading.read_proof.Goals as goal
 
 -- the proof of an assertion is its own
@@ -84,8 +84,8 @@ unreachable-requires g c =
     subst (λ (o : Option ProofTree). MatchOption o (denoted (take c.args.place s.assertions) x ≡ None) (IsTree m (take c.args.place
     s.assertions) x)) c.in-None.is
     (tree_there_is s m c.args.place x own c.in_ok-tree.tree (looks_up c.in_ok-roles.roles.roles) hs ks c.requires.whole there.1 is finished
-    (mandatory_is s.assertions c.args.place x there.1 hs c.in_ok-mandatory.ensures)
-    (mandatory_is s.assertions c.args.place x there.1 ks c.in_ok-mandatory-2.ensures) c.in_ok-roles.ensures c.in_ok-tree.ensures.tree) in
+    (hypotheses_are s.assertions c.args.place x there.1 hs c.in_ok-mandatory.ensures)
+    (hypotheses_are s.assertions c.args.place x there.1 ks c.in_ok-mandatory-2.ensures) c.in_ok-roles.ensures c.in_ok-tree.ensures.tree) in
     tree_there s (take c.args.place s.assertions) x own (whole_at s c.args.place x c.requires.whole there.1) is finished none
 
 pub returns-clause-form : goal.returns-clause-form
@@ -106,6 +106,6 @@ returns-clause-form g c =
       subst (λ (o : Option ProofTree). MatchOption o (denoted (take c.args.place xs) x ≡ None) (IsTree m (take c.args.place xs) x))
           c.in-Some-tree.is
           (tree_there_is s m c.args.place x own c.in_ok-tree.tree (looks_up c.in_ok-roles.roles.roles) hs ks c.requires.whole at is
-          finished (mandatory_is xs c.args.place x at hs c.in_ok-mandatory.ensures)
-          (mandatory_is xs c.args.place x at ks c.in_ok-mandatory-2.ensures) c.in_ok-roles.ensures c.in_ok-tree.ensures.tree),
+          finished (hypotheses_are xs c.args.place x at hs c.in_ok-mandatory.ensures)
+          (hypotheses_are xs c.args.place x at ks c.in_ok-mandatory-2.ensures) c.in_ok-roles.ensures c.in_ok-tree.ensures.tree),
     ))

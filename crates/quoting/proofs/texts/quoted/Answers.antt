@@ -6,12 +6,12 @@ use Rattle.std.specs.List.{list_any}
 use Rattle.std.specs.Option.{option_map}
 use Rattle.source.specs.Scopes.{Assertion}
 use Rattle.source.specs.Views.{seen_hypotheses}
+use Rattle.source.proofs.Asked.{hypotheses_are}
 use Rattle.taking.specs.Settings.{is_float}
 use Rattle.giving.specs.Staying.{Change}
 use Rattle.items.specs.Rewriting.{text_for}
 use Rattle.pasting.specs.Views.{seen_given_proof}
 use Rattle.sourcewriting.specs.Indentations.{indentation_like}
-use Rattle.prooftrees.proofs.Asked.{mandatory_is}
 use Rattle.quoting.specs.Parts.{SaysTheSame}
 use Rattle.quoting.specs.Quoted.{CanBeWritten, IsQuotable, IsQuotedAs, IsTextOf, indentation_for}
 use Rattle.quoting.proofs.Standing.{within, there, quoted_as, texts_are}
@@ -43,7 +43,7 @@ returns g c = λ items are.
     (if_at (λ (x : Assertion). IsTrue c.in_ok-says_the_same.field-0 ↔ SaysTheSame s place x q.proof) (slice_get xs place) x at
     c.in_ok-says_the_same.ensures).0 c.if-not-branch.false in
     let hs = seen_hypotheses c.in_ok-mandatory.field-0.items in
-    let same : x.hypotheses ≡ hs = mandatory_is xs place x at hs c.in_ok-mandatory.ensures in
+    let same : x.hypotheses ≡ hs = hypotheses_are xs place x at hs c.in_ok-mandatory.ensures in
     let block : c.have_premise-in_block.result ≡ list_any not (map is_float x.hypotheses) =
     c.have_premise-in_block.ensures
     ∙ ap (list_any not) (c.as_slice.ensures ∙ c.in_ok-are_floats.ensures ∙ ap (map is_float) (sym same)) in

@@ -3,10 +3,11 @@ use Rattle.std.proofs.Common.{◌≡◌, ℕ, List, map, filter, ap, sym, ◌∙
 use Rattle.std.specs.List.{each_same}
 use Rattle.source.specs.Scopes.{is_in, is_mandatory_variable}
 use Rattle.source.specs.Views.{seen_words, seen_hypotheses}
+use Rattle.source.proofs.Asked.{hypotheses_are, pairs_are}
 use Rattle.sourcecheck.specs.Names.{words_of}
 use Rattle.sourcecheck.specs.Frames.{AreVariables, asked_in, asked_of, part_in, part_of, parts_in, is_kept, variable_of, seen_variable}
 use Rattle.sourcecheck.proofs.Numbered.{grows_on, lasts_on}
-use Rattle.sourcecheck.proofs.Framed.{hypotheses_are, pairs_are, kept_pairs}
+use Rattle.sourcecheck.proofs.Framed.{kept_pairs}
 use Rattle.sourcecheck.proofs.framing.frame_of.Goals as goal
 
 pub returns-clause-made : goal.returns-clause-made

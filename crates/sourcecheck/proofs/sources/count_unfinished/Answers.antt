@@ -1,9 +1,10 @@
 -- What is left to show of `count_unfinished`.
 use Rattle.std.proofs.Common.{◌<◌, length, false, sym, ◌∙◌, arith}
 use Rattle.std.specs.Option.{option_map_or}
+use Rattle.mmsyntax.proofs.Items.{there_is}
 use Rattle.source.specs.Scopes.{Assertion}
 use Rattle.source.specs.Proofs.{is_unfinished}
-use Rattle.sourcecheck.proofs.Sourced.{there_is, counted_on, counted_off}
+use Rattle.sourcecheck.proofs.Sourced.{counted_on, counted_off}
 use Rattle.sourcecheck.proofs.sources.count_unfinished.Goals as goal
 use Rattle.sourcecheck.proofs.sources.count_unfinished.Goals.{then-is_unfinished_at, else-is_unfinished_at}
 

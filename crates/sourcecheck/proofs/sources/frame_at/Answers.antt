@@ -6,7 +6,7 @@ use Rattle.std.specs.Borrow.{Bor}
 use Rattle.std.proofs.lemmas.Result.{IfOk-weaker}
 use Rattle.source.specs.Scopes.{Assertion}
 use Rattle.source.specs.Views.{seen_words}
-use Rattle.sourcecheck.proofs.Told.{whole_at, statement_is}
+use Rattle.source.proofs.Asked.{whole_at, statement_is}
 use Rattle.sourcecheck.proofs.sources.frame_at.Goals as goal
 
 pub returns-clause-made : goal.returns-clause-made

@@ -1,10 +1,11 @@
 -- What is left to show of `frames_of`.
 use Rattle.std.proofs.Common.{◌≡◌, ◌<◌, ◌+◌, ◌++◌, length, take, sym, subst, ◌∙◌, arith}
 use Rattle.std.proofs.lemmas.List.{length-take-le, take_all}
+use Rattle.mmsyntax.proofs.Items.{there_is}
 use Rattle.sourcecheck.specs.Names.{words_of, name_in, Lasts}
 use Rattle.sourcecheck.specs.Frames.{AreFrames}
 use Rattle.sourcecheck.proofs.Numbered.{lasts_on}
-use Rattle.sourcecheck.proofs.Sourced.{there_is, frames_more}
+use Rattle.sourcecheck.proofs.Sourced.{frames_more}
 use Rattle.sourcecheck.proofs.sources.frames_of.Goals as goal
 
 pub loop-place-preserved : goal.loop-place-preserved

@@ -4,9 +4,10 @@ use Rattle.std.specs.Prelude.{slice_get, if◌then◌else◌}
 use Rattle.std.proofs.lemmas.Option.{slice_get_read}
 use Rattle.verifying.specs.Verifies.{entry}
 use Rattle.source.specs.Proofs.{numbered, stepped, repeat}
+use Rattle.taking.proofs.Counting.{names_label}
 use Rattle.sourcecheck.specs.Written.{written_at}
 use Rattle.sourcecheck.specs.Shown.{shown, Leads}
-use Rattle.sourcecheck.proofs.Leading.{number_names, number_again, repeat_shown}
+use Rattle.sourcecheck.proofs.Leading.{number_again, repeat_shown}
 use Rattle.sourcecheck.proofs.stepping.take_number.Goals as goal
 
 pub returns-then-number-named : goal.returns-then-number-named
@@ -17,7 +18,7 @@ returns-then-number-named c = λ name earlier x labels stands named.
     let there = slice_get_read ns _ k n refl c.if-number-named.true c.index-named-number.is in
     let lt : k < length labels = omega (arith, named.long, c.if-number-named.true) in
     subst (λ step. Leads name earlier x step c.args.stack.now c.take_label.new.stack c.take_label.result)
-    (sym (number_names labels k lt)) (c.take_label.ensures name earlier x _ stands (named.named k n there))
+    (sym (names_label labels k lt)) (c.take_label.ensures name earlier x _ stands (named.named k n there))
 
 pub returns-in-Ok-true : goal.returns-in-Ok-true
 returns-in-Ok-true c = λ name earlier x labels stands named.

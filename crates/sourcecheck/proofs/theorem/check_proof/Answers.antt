@@ -6,8 +6,8 @@ use Rattle.source.specs.Scopes.{Assertion}
 use Rattle.source.specs.Proofs.{step_of, steps_of}
 use Rattle.source.specs.Views.{seen_words, seen_proof, seen_hypotheses}
 use Rattle.taking.proofs.Counting.{codes_there}
-use Rattle.sourcecheck.specs.declared.counting.Counted.{Counted}
-use Rattle.sourcecheck.specs.Counted.{IsCounted}
+use Rattle.taking.specs.declared.counting.Counted.{Counted}
+use Rattle.taking.specs.Counted.{IsCounted}
 use Rattle.sourcecheck.proofs.Told.{proof_told}
 use Rattle.sourcecheck.proofs.theorem.check_proof.Goals as goal
 

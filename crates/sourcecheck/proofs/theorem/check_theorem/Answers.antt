@@ -4,8 +4,9 @@ use Rattle.std.specs.Option.{option_map}
 use Rattle.std.specs.Borrow.{Bor}
 use Rattle.source.specs.declared.standing.ProofWords.{ProofWords}
 use Rattle.source.specs.Views.{seen_proof}
+use Rattle.source.proofs.Asked.{whole_at, proof_is}
 use Rattle.sourcecheck.proofs.Numbered.{grows_not}
-use Rattle.sourcecheck.proofs.Told.{whole_at, proof_is, assertion_told}
+use Rattle.sourcecheck.proofs.Told.{assertion_told}
 use Rattle.sourcecheck.proofs.theorem.check_theorem.Goals as goal
 
 pub returns-in_default-clause-keeps : goal.returns-in_default-clause-keeps

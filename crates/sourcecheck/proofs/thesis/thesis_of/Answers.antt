@@ -2,10 +2,10 @@
 use Rattle.std.proofs.Common.{◌≡◌, ◌++◌, map, ap, sym, ◌∙◌}
 use Rattle.std.specs.List.{filter_map}
 use Rattle.source.specs.Views.{seen_hypotheses}
+use Rattle.source.proofs.Asked.{active_are, pairs_are}
 use Rattle.sourcecheck.specs.Names.{words_of, name_in}
 use Rattle.sourcecheck.specs.Frames.{variable_of, names_of}
 use Rattle.sourcecheck.proofs.Numbered.{lasts_on}
-use Rattle.sourcecheck.proofs.Framed.{active_are, pairs_are}
 use Rattle.sourcecheck.proofs.thesis.thesis_of.Goals as goal
 
 pub returns-clause-made : goal.returns-clause-made

@@ -5,8 +5,8 @@ use Rattle.mmtext.specs.Views.{seen}
 use Rattle.mmsyntax.specs.Rows.{first_fault}
 use Rattle.source.specs.Tests.{cited_tests}
 use Rattle.source.specs.Views.{seen_words}
+use Rattle.source.proofs.Slices.{one_more_word}
 use Rattle.sourcereader.specs.Takings.{one_more}
-use Rattle.sourcereader.proofs.Runs.{one_more_word}
 use Rattle.sourcereader.proofs.proof_rows.put_label.Goals as goal
 
 pub returns-in-Err-clause-puts : goal.returns-in-Err-clause-puts

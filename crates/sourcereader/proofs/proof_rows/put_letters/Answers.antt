@@ -4,8 +4,8 @@ use Rattle.mmtext.specs.declared.fault.FaultKind.TheVariants.{BadToken}
 use Rattle.mmtext.specs.Views.{seen}
 use Rattle.source.specs.Views.{seen_words}
 use Rattle.source.specs.Counts.{CountsLetters}
+use Rattle.source.proofs.Slices.{one_more_word}
 use Rattle.sourcereader.specs.Takings.{one_more}
-use Rattle.sourcereader.proofs.Runs.{one_more_word}
 use Rattle.sourcereader.proofs.proof_rows.put_letters.Goals as goal
 
 pub returns-then-not-branch-clause-puts : goal.returns-then-not-branch-clause-puts

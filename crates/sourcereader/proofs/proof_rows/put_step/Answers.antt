@@ -3,8 +3,8 @@ use Rattle.std.proofs.Common.{◌∙◌, Ok, sym, ap, subst}
 use Rattle.mmtext.specs.Views.{seen}
 use Rattle.source.specs.Counts.{CountsSteps}
 use Rattle.source.specs.Views.{seen_words}
+use Rattle.source.proofs.Slices.{one_more_word}
 use Rattle.sourcereader.specs.Takings.{one_more}
-use Rattle.sourcereader.proofs.Runs.{one_more_word}
 use Rattle.sourcereader.proofs.proof_rows.put_step.Goals as goal
 
 pub returns-in-Some-clause-puts : goal.returns-in-Some-clause-puts

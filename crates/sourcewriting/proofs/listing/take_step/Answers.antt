@@ -2,9 +2,10 @@ use Rattle.std.proofs.Common.{◌≡◌, ◌∙◌, Some, length, refl, sym, ap,
 use Rattle.std.specs.Prelude.{Contains, slice_get}
 use Rattle.source.proofs.Lent.{got_lent}
 use Rattle.taking.proofs.Turned.{if_ok}
-use Rattle.sourcewriting.proofs.Stacks.{taken_alike, if_there}
+use Rattle.sourcewriting.proofs.Stacks.{taken_alike}
 use Rattle.sourcewriting.proofs.Told.{word_there, premise_there, put_none, put_cited}
 use Rattle.mmsyntax.specs.ProofWords.{seen_step}
+use Rattle.mmsyntax.proofs.Options.{if_there}
 use Rattle.sourcewriting.specs.declared.listing.Cited.{Cited}
 use Rattle.sourcewriting.specs.Counting.{IsCountOf}
 use Rattle.sourcewriting.specs.Leaving.{IsCitedAs, StepTakes}

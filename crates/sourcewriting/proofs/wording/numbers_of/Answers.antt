@@ -4,11 +4,11 @@ use Rattle.std.specs.Prelude.{slice_get}
 use Rattle.std.proofs.lemmas.Bool.{cases_lt}
 use Rattle.std.proofs.lemmas.List.{length_push}
 use Rattle.std.proofs.lemmas.Option.{get_or_from_slice_get}
+use Rattle.mmsyntax.proofs.Items.{get_before}
 use Rattle.source.specs.Views.{seen_words}
 use Rattle.taking.proofs.Values.{get_last}
 use Rattle.sourcewriting.specs.declared.shared.CountedLabel.{CountedLabel}
 use Rattle.sourcewriting.proofs.Counted.{none_more, one_more_at}
-use Rattle.sourcewriting.proofs.Lettered.{got_before}
 use Rattle.sourcewriting.proofs.Numbering.{numbers_stay}
 use Rattle.sourcewriting.proofs.Told.{contained}
 use Rattle.sourcewriting.proofs.wording.numbers_of.Goals as goal
@@ -46,7 +46,7 @@ loop-word-preserved c =
             | inl h ↦
                 let was = c.loop-word.invariant.numbered few untaken i x at h in (
                   was.0,
-                  ap (λ ns. slice_get ns i) push ∙ got_before ns k was.0 i was.1,
+                  ap (λ ns. slice_get ns i) push ∙ get_before ns k was.0 i was.1,
                   numbers_stay mandatory old new w.label.now w.takes c.in_ok-number_of.ensures.more was.0 (x.label.now, x.takes) was.2,
                 )
             | inr g ↦

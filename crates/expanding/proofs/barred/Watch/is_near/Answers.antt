@@ -1,8 +1,8 @@
 -- What is left to show of `is_near`.
 use Rattle.std.proofs.Common.{◌∙◌, ap}
 use Rattle.std.specs.List.{list_any}
+use Rattle.source.proofs.Slices.{any_seen}
 use Rattle.expanding.specs.Bars.{holds, names_any}
-use Rattle.expanding.proofs.Looking.{any_seen}
 use Rattle.expanding.proofs.barred.Watch.is_near.Goals as goal
 
 pub returns-in-Some : goal.returns-in-Some

@@ -4,8 +4,8 @@ use Rattle.std.specs.Prelude.{Some, None, slice_get}
 use Rattle.std.specs.Option.{option_map, option_and_then}
 use Rattle.std.specs.Str.{bytes_eq}
 use Rattle.mmtext.specs.Words.{Word}
+use Rattle.mmsyntax.proofs.FirstPlace.{found_in_zip}
 use Rattle.source.proofs.Lent.{got_lent}
-use Rattle.gathering.proofs.Zipped.{found_in_zip}
 use Rattle.gathering.proofs.places.Placed.label.Goals as goal
 
 pub returns-in_err-place : goal.returns-in_err-place

@@ -1,9 +1,10 @@
 -- What is left to show of `put`.
 use Rattle.std.proofs.Common.{◌≡◌, ◌∙◌, subst, sym, ap}
 use Rattle.mmsyntax.specs.Blocks.{with_pair}
+use Rattle.mmsyntax.proofs.Options.{at_any_result}
 use Rattle.mmunits.specs.StandingPairs.{StandAmong}
 use Rattle.mmunits.proofs.BlockPlaces.{pair_put}
-use Rattle.mmunits.proofs.PairsAgain.{put_stands, still_stand, at_any_result}
+use Rattle.mmunits.proofs.PairsAgain.{put_stands, still_stand}
 use Rattle.mmunits.proofs.pair_set.PairSet.put.Goals as goal
 
 pub invariant_of-self-2 : goal.invariant_of-self-2

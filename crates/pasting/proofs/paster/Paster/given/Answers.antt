@@ -2,10 +2,9 @@
 use Rattle.std.proofs.Common.{◌≡◌, ◌∙◌, ◌++◌, refl, sym, ap, subst, Some}
 use Rattle.std.specs.Prelude.{slice_get}
 use Rattle.source.specs.Views.{seen_hypotheses}
+use Rattle.source.proofs.Asked.{hypotheses_are, whole_at}
 use Rattle.taking.proofs.Turned.{if_ok}
 use Rattle.prooftrees.specs.Roles.{role_of}
-use Rattle.prooftrees.proofs.Asked.{mandatory_is}
-use Rattle.prooftrees.proofs.Whole.{whole_at}
 use Rattle.pasting.specs.Additions.{theorem_of}
 use Rattle.pasting.specs.Views.{IsTheorem, places_by, seen_addition}
 use Rattle.pasting.specs.declared.proving.Theorem.{Theorem}
@@ -29,7 +28,7 @@ returns-in_ok-mandatory-in-Standing g c =
     c.in_ok-active-in-Standing.ensures in
     h (s.assertions ++ xs) x (frames_are m t s.assertions xs a known)
     (λ w. c.in_ok-roles-in-Standing.ensures w ∙ ap (λ hs. role_of hs w) (sym active))
-    (mandatory_is s.assertions place x at (seen_hypotheses c.in_ok-mandatory-in-Standing.mandatory.items)
+    (hypotheses_are s.assertions place x at (seen_hypotheses c.in_ok-mandatory-in-Standing.mandatory.items)
     c.in_ok-mandatory-in-Standing.ensures)
     (whole_at s place x c.requires.whole at).mandatory
     ∙ told_in m t s xs a.labels p r x known.added.labels_are is refl)

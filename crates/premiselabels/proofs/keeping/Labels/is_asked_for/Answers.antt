@@ -1,7 +1,7 @@
 -- What is left to show of `is_asked_for`.
 use Rattle.std.proofs.Common.{◌∙◌, sym}
 use Rattle.std.specs.Str.{bytes_eq}
-use Rattle.premiselabels.proofs.Before.{first_before, none_before}
+use Rattle.mmsyntax.proofs.FirstPlace.{first_before, none_before}
 use Rattle.premiselabels.proofs.keeping.Labels.is_asked_for.Goals as goal
 
 pub returns-in-Some : goal.returns-in-Some

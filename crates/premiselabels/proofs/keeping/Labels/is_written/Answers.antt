@@ -1,7 +1,7 @@
 -- What is left to show of `is_written`.
 use Rattle.std.proofs.Common.{◌∙◌}
 use Rattle.std.specs.Str.{bytes_eq}
-use Rattle.prooftrees.proofs.Cases.{any_seen}
+use Rattle.source.proofs.Slices.{any_seen}
 use Rattle.premiselabels.proofs.keeping.Labels.is_written.Goals as goal
 
 pub returns : goal.returns

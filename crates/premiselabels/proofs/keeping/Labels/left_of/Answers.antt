@@ -6,8 +6,8 @@ use mathlib.Core.Bool.{not}
 use Rattle.mmtext.specs.Words.{Word}
 use Rattle.source.specs.Scopes.{is_in}
 use Rattle.source.specs.Views.{seen_words}
+use Rattle.source.proofs.Slices.{any_seen}
 use Rattle.pasting.proofs.Picked.{picked_next, left_out}
-use Rattle.prooftrees.proofs.Cases.{any_seen}
 use Rattle.premiselabels.specs.Labels.{is_free}
 use Rattle.premiselabels.proofs.keeping.Labels.left_of.Goals as goal
 use Rattle.premiselabels.proofs.keeping.Labels.left_of.Goals.{then-is_free, else-is_free, then-not-is_among+in_ok-push, else-not-is_among}

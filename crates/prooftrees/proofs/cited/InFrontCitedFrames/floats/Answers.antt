@@ -2,9 +2,10 @@
 use Rattle.std.proofs.Common.{◌∙◌, map, refl, sym, ap, arith}
 use Rattle.std.specs.Option.{option_map}
 use Rattle.std.specs.Str.{bytes_eq}
+use Rattle.mmsyntax.proofs.FirstPlace.{none_in_front}
 use Rattle.source.specs.Scopes.{Assertion}
 use Rattle.taking.specs.Settings.{is_float}
-use Rattle.prooftrees.proofs.Found.{none_in_front, first_is}
+use Rattle.prooftrees.proofs.Found.{first_is}
 use Rattle.prooftrees.proofs.cited.InFrontCitedFrames.floats.Goals as goal
 
 pub returns-in_default-clause-value : goal.returns-in_default-clause-value

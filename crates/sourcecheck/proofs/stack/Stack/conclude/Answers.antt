@@ -3,9 +3,10 @@ use Rattle.std.proofs.Common.{◌≡◌, ◌≤◌, ◌-◌, ◌+◌, ◌++◌, 
 use Rattle.std.specs.Prelude.{reverse}
 use Rattle.std.proofs.lemmas.List.{length-append}
 use Rattle.std.proofs.lemmas.Result.{err_from_is_err_and}
+use Rattle.mmsyntax.proofs.Options.{at_any_result}
 use Rattle.sourcecheck.specs.Spans.{cut}
 use Rattle.sourcecheck.specs.Coded.{filled}
-use Rattle.sourcecheck.proofs.Spans.{seen-conclude, reversed-long, last-cut, on-ok}
+use Rattle.sourcecheck.proofs.Spans.{seen-conclude, reversed-long, last-cut}
 use Rattle.sourcecheck.proofs.stack.Stack.conclude.Goals as goal
 use Rattle.sourcecheck.proofs.stack.Stack.conclude.Goals.{in-Ok, in-Err}
 
@@ -51,4 +52,4 @@ returns-clause-written c =
     let size : length c.fill.new.symbols.items
     ≡ length s + length (filled (reverse (take c.args.count (reverse (cut s ps)))) c.args.pieces.now) =
     ap length made ∙ length-append s (filled (reverse (take c.args.count (reverse (cut s ps)))) c.args.pieces.now) in
-    on-ok c.match-push.result (rw (← c.self.view_is) size)
+    at_any_result c.match-push.result (rw (← c.self.view_is) size)

@@ -5,7 +5,7 @@ use Rattle.source.specs.Statements.{Proof, normal, compressed}
 use Rattle.source.specs.Scopes.{Hypothesis, label_of}
 use Rattle.source.specs.Proofs.{step_of, steps_of}
 use Rattle.source.specs.Views.{seen_words}
-use Rattle.sourcecheck.specs.declared.counting.Counted.{Counted}
+use Rattle.taking.specs.declared.counting.Counted.{Counted}
 
 -- those of the mandatory hypotheses and then those in parentheses (appendix B); in a normal proof each word counts as itself
 abbrev pub counted_labels : List Hypothesis → Proof → List Word

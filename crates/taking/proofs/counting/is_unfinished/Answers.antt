@@ -6,8 +6,8 @@ use Rattle.std.specs.Borrow.{Bor}
 use Rattle.source.specs.Scopes.{is_unknown}
 use Rattle.source.specs.Proofs.{is_unfinished}
 use Rattle.source.specs.Views.{seen_proof}
-use Rattle.sourcecheck.proofs.Counts.{any_seen}
-use Rattle.sourcecheck.proofs.counting.is_unfinished.Goals as goal
+use Rattle.source.proofs.Slices.{any_seen}
+use Rattle.taking.proofs.counting.is_unfinished.Goals as goal
 
 pub returns-in-Normal : goal.returns-in-Normal
 returns-in-Normal c =

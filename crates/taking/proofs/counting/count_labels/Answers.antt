@@ -2,8 +2,8 @@
 use Rattle.std.proofs.Common.{◌∙◌, sym, ap, subst}
 use Rattle.source.specs.Statements.{Proof, normal}
 use Rattle.source.specs.Views.{seen_words, seen_proof, seen_hypotheses}
-use Rattle.sourcecheck.specs.Counted.{IsCounted}
-use Rattle.sourcecheck.proofs.counting.count_labels.Goals as goal
+use Rattle.taking.specs.Counted.{IsCounted}
+use Rattle.taking.proofs.counting.count_labels.Goals as goal
 
 pub returns-in-Normal : goal.returns-in-Normal
 returns-in-Normal c =

@@ -7,29 +7,34 @@ ghost use Rattle.source.specs.Scopes.{Hypothesis, label_of, is_unknown};
 ghost use Rattle.source.specs.declared.letters.Code.TheVariants.{Number, Unknown};
 ghost use Rattle.source.specs.Proofs.{step_of_word, step_of, steps_of, is_unfinished};
 ghost use Rattle.source.specs.Views.{seen_words, seen_proof, seen_hypothesis, seen_hypotheses};
-ghost use Rattle.sourcecheck.specs.Counted.{IsCounted};
+ghost use Rattle.taking.specs.Counted.{IsCounted};
 
 use mmsyntax::Sequence;
 use source::{Code, HypothesisWords, ProofWords, read_letters};
 use std::alloc::{AllocError, Global};
 
-/// The labels that numbers count, and the codes of the steps.
+/// What the steps of a proof count.
 #[derive(Drop)]
-pub(crate) struct Counted<'a> {
-    pub(crate) labels: Vec<&'a [u8]>,
-    pub(crate) codes: Sequence<Code>,
+pub struct Counted<'a> {
+    /// The labels that numbers mean, the first by 1.
+    pub labels: Vec<&'a [u8]>,
+    /// What each step says. A number past the labels means a marked subproof.
+    pub codes: Sequence<Code>,
 }
 
-/// The number that follows. A source, of at most 268,435,456 bytes, has too few words for a number over `u32`; were there more, they would
-/// be refused as want of memory is.
-fn next_number(number: u32) -> Result<u32, AllocError>
+/// The number that follows. A source, of at most 268,435,456 bytes, has too few words for a number over `u32`.
+///
+/// # Errors
+///
+/// Were there more, they would be refused as want of memory is.
+pub fn next_number(number: u32) -> Result<u32, AllocError>
     ensures { IfOk result (λ next. next ≡ number + 1) }
 {
     number.checked_add(1).ok_or(AllocError)
 }
 
 /// Whether a step of a proof isn't there.
-pub(crate) fn is_unfinished(proof: &ProofWords<'_>) -> bool
+pub fn is_unfinished(proof: &ProofWords<'_>) -> bool
     ensures { result ≡ is_unfinished (seen_proof proof.now) }
 {
     match proof {
@@ -135,7 +140,11 @@ fn count_letters(words: &[&[u8]]) -> usize {
 }
 
 /// The letters of words, one behind the other.
-fn joined(alloc: Global, words: &[&[u8]]) -> Result<Vec<u8>, AllocError>
+///
+/// # Errors
+///
+/// Want of memory.
+pub fn joined_letters(alloc: Global, words: &[&[u8]]) -> Result<Vec<u8>, AllocError>
     ensures { IfOk result (λ made. made.items ≡ flat_map (λ w. w) (seen_words words.now)) }
 {
     let mut letters = Vec::with_capacity(alloc, count_letters(words))?;
@@ -155,7 +164,7 @@ fn count_compressed<'a>(
     ensures { let hs = seen_hypotheses mandatory.entry.items in let proof = compressed (seen_words labels.now) (seen_words letters.now) in
         IfOk result (λ made. MatchOption made (steps_of hs proof ≡ None) (IsCounted hs proof)) }
 {
-    let joined = joined(alloc, letters)?;
+    let joined = joined_letters(alloc, letters)?;
     let Some(codes) = read_letters(alloc, joined.as_slice())? else {
         return Ok(None);
     };
@@ -163,8 +172,13 @@ fn count_compressed<'a>(
     Ok(Some(Counted { labels, codes }))
 }
 
-/// What the steps of a proof count, where these are its mandatory hypotheses: nothing where its letters may not stand so.
-pub(crate) fn count_labels<'a>(
+/// What the steps of a proof count, where these are its mandatory hypotheses: nothing where its letters may not stand so (the Metamath book,
+/// appendix B).
+///
+/// # Errors
+///
+/// Want of memory.
+pub fn count_labels<'a>(
     alloc: Global,
     mandatory: Vec<&HypothesisWords<'a>>,
     proof: &ProofWords<'a>,

@@ -2,7 +2,7 @@
 use Rattle.std.proofs.Common.{◌≡◌, map, take}
 use Rattle.source.specs.Proofs.{step_of_word, step_of}
 use Rattle.source.specs.Views.{seen_words}
-use Rattle.prooftrees.proofs.counting.count_words.Given as goal
+use Rattle.taking.proofs.counting.count_words.Given as goal
 
 abbrev pub invariant-loop-word : goal.invariant-loop-word
 invariant-loop-word l =
