@@ -247,7 +247,8 @@ module _ (s : Scope) (scripts : List (List Token)) (cs : List Command) where
           b,
           (
             move_bars c label place h,
-            three_from (nat_lt h.from place && nat_le place h.to) (cites label.text (proof_at s place)) (is_moved_once cs label.text) reached
+            three_from (nat_lt h.from place && nat_le place h.to) (cites label.text (proof_at s place)) (is_moved_once cs label.text)
+                reached
                 cited once,
           ),
         )

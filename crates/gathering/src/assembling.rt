@@ -4,7 +4,7 @@ ghost use Rattle.std.specs.Prelude.{◌≡◌, ◌≢◌, ◌<◌, ◌++◌, ◌
 ghost use Rattle.std.specs.Option.{option_map};
 ghost use Rattle.source.specs.Views.{seen_pairs, seen_words};
 ghost use Rattle.source.specs.Whole.{IsWhole};
-ghost use Rattle.taking.specs.Reasons.{Choice, AreFlags};
+ghost use Rattle.taking.specs.Reasons.{Choice, AreFlags, told_in};
 ghost use Rattle.source.specs.Flags.{kept};
 ghost use Rattle.taking.specs.Says.{each, premises};
 ghost use Rattle.taking.specs.Taken.{AreTaken, taken_as_axioms};
@@ -12,7 +12,6 @@ ghost use Rattle.prooftrees.specs.Frames.{Holds};
 ghost use Rattle.sites.specs.Given.{given_hypotheses};
 ghost use Rattle.sites.specs.Sites.{AreSites};
 ghost use Rattle.gathering.specs.Assembled.{HasAllPlaces, IsStatedBy, IsStated, IsMade, one_of, told_with};
-ghost use Rattle.gathering.specs.Gatherings.{told_in};
 ghost use Rattle.gathering.specs.Outcomes.{HasStepsFor};
 ghost use Rattle.gathering.specs.Placed.{map_of, tables_of, symbols_by};
 

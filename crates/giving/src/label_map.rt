@@ -5,7 +5,7 @@ ghost use Rattle.std.specs.Option.{option_map};
 ghost use Rattle.std.specs.Str.{bytes_eq};
 ghost use Rattle.source.specs.Views.{seen_pairs};
 ghost use Rattle.giving.specs.Staying.{changed};
-ghost use Rattle.giving.specs.Changes.{FindsChanges};
+ghost use Rattle.giving.specs.Changes.{FindsChanges, seen_texts};
 
 use std::alloc::{AllocError, Global};
 use std::collections::HashMap;
@@ -57,6 +57,25 @@ impl<'a> LabelMap<'a> {
     {
         let labels = first_changes(alloc, keys, pairs.as_slice())?;
         Ok(LabelMap { pairs, labels })
+    }
+
+    /// Labels with texts, of which the map lends each: of two texts for one label the first counts.
+    ///
+    /// # Errors
+    ///
+    /// Want of memory.
+    pub fn of_texts(
+        alloc: Global,
+        keys: RandomState,
+        texts: &'a [(&'a [u8], Vec<u8>)],
+    ) -> Result<LabelMap<'a>, AllocError>
+        ensures { IfOk result (λ made. made ≡ seen_texts texts.now) }
+    {
+        let mut pairs = Vec::new(alloc);
+        for (label, text) in texts {
+            pairs.push((*label, text.as_slice()))?;
+        }
+        LabelMap::new(alloc, keys, pairs)
     }
 
     /// What stands in the place of a label, if anything does: one look-up.

@@ -12,7 +12,7 @@ use Rattle.mmtext.specs.Words.{Word}
 use Rattle.mmsyntax.specs.Preludes.{float_labels, variables_used}
 use Rattle.source.specs.Scopes.{Assertion, Scope, is_in}
 use Rattle.taking.specs.Names.{HasPlaces, KeepsNames, Naming, is_float_named_well, is_label_named_well}
-use Rattle.taking.specs.Reasons.{Choice}
+use Rattle.taking.specs.Reasons.{Choice, told_in}
 use Rattle.source.specs.Flags.{kept, kept_at}
 use Rattle.taking.specs.Taken.{chosen_of}
 use Rattle.choosing.specs.declared.wish.Wish.{Wish}
@@ -20,7 +20,6 @@ use Rattle.sites.specs.declared.names.LibraryNames.{LibraryNames}
 use Rattle.sites.specs.Sites.{Sited}
 use Rattle.gathering.specs.declared.assembling.Gathered.{Gathered}
 use Rattle.gathering.specs.Placed.{map_of, tables_of, floats_from}
-use Rattle.gathering.specs.Gatherings.{told_in}
 use Rattle.intake.specs.Parts.{AreDrafted, IsGathered, AreAsMany, lists_of, changed_of}
 
 -- ---- flags

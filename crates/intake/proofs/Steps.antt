@@ -13,7 +13,7 @@ use Rattle.taking.specs.declared.fresh.Unnamed.{Unnamed}
 use Rattle.taking.specs.declared.fresh.Unnamed.TheVariants as unnamed'
 use Rattle.taking.specs.declared.reason.Reason.{Reason}
 use Rattle.taking.specs.Names.{Naming}
-use Rattle.taking.specs.Reasons.{Choice, AreFlags}
+use Rattle.taking.specs.Reasons.{Choice, AreFlags, told_in}
 use Rattle.source.specs.Flags.{kept}
 use Rattle.taking.specs.Taken.{AreTaken, taken_as_axioms}
 use Rattle.choosing.specs.Choices.{IsChosen}
@@ -33,7 +33,6 @@ use Rattle.intake.specs.declared.taken.Taken.{Taken}
 use Rattle.intake.specs.declared.refusal.Refusal.{Refusal}
 use Rattle.intake.specs.declared.refusal.Refusal.TheVariants as refusal
 use Rattle.gathering.specs.Placed.{map_of, tables_of}
-use Rattle.gathering.specs.Gatherings.{told_in}
 use Rattle.intake.specs.Intakes.{IsTakenByWish, IsLibraryOf, IsRefused, IsRefusedOf, IsProofFault, IsWide, IsDraft, name_at, name_in}
 use Rattle.intake.specs.Parts.{AreTakenBy, AreDrafted, IsGathered, AreChosen, IsChoiceByFlags, HasSites, AreAsMany, lists_of, changed_of, name_by}
 use Rattle.intake.proofs.Libraries.{chosen_kept, drafted_of}

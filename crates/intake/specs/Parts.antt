@@ -6,7 +6,7 @@ use Rattle.mmsyntax.specs.Tables.{Tables, Contents}
 use Rattle.source.specs.Scopes.{Scope, is_in}
 use Rattle.taking.specs.declared.reason.Reason.{Reason}
 use Rattle.taking.specs.Names.{Map, Naming, renamed}
-use Rattle.taking.specs.Reasons.{Choice, AreFlags}
+use Rattle.taking.specs.Reasons.{Choice, AreFlags, told_in}
 use Rattle.taking.specs.Taken.{AreTaken, taken_as_axioms, chosen_of}
 use Rattle.choosing.specs.Choices.{AreThere}
 use Rattle.choosing.specs.declared.wish.Wish.{Wish}
@@ -17,7 +17,6 @@ use Rattle.sites.specs.Namings.{AreNamedWell}
 use Rattle.sites.specs.Sites.{Sited, AreTyped, AreSites}
 use Rattle.gathering.specs.declared.assembling.Gathered.{Gathered}
 use Rattle.gathering.specs.Placed.{map_of, tables_of}
-use Rattle.gathering.specs.Gatherings.{told_in}
 use Rattle.drafts.specs.declared.limits.Limit.{Limit}
 use Rattle.intake.specs.declared.rounds.Round.{Round}
 use Rattle.intake.specs.declared.rounds.Round.TheVariants as round

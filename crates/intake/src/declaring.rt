@@ -15,12 +15,13 @@ ghost use Rattle.drafts.specs.Limits.{IsTold};
 ghost use Rattle.drafts.specs.declared.draft.Undeclared.TheVariants.{NoMemory as OutOfMemory};
 ghost use Rattle.mmsyntax.specs.Layout.{HasSpelling};
 ghost use Rattle.mmsyntax.specs.Tables.{Contents};
-ghost use Rattle.gathering.specs.Gatherings.{told_in, told_names};
+ghost use Rattle.taking.specs.Reasons.{told_in};
+ghost use Rattle.gathering.specs.Gatherings.{told_names};
 ghost use Rattle.intake.specs.Intakes.{IsRefusedOf, IsProofFault};
 ghost use Rattle.intake.specs.Parts.{AreAsMany, AreDrafted, AreTakenBy, IsGathered, lists_of, changed_of, name_by};
 ghost use Rattle.intake.specs.Parts.{IsLibraryRound, IsLongRound};
 
-use crate::drafting::{copied, floats, put_changed};
+use crate::drafting::{copied_labels, floats, put_changed};
 use crate::refusal::Refusal;
 use crate::rounds::Round;
 use crate::taken::Taken;
@@ -74,8 +75,8 @@ fn draft_of(
 {
     let floats = floats(alloc, names.floats.as_slice(), sites.types())?;
     Ok(Draft {
-        constants: copied(alloc, names.constants.as_slice())?,
-        variables: copied(alloc, names.variables.as_slice())?,
+        constants: copied_labels(alloc, names.constants.as_slice())?,
+        variables: copied_labels(alloc, names.variables.as_slice())?,
         floats,
         assertions: Sequence::from_vec(assertions),
     })

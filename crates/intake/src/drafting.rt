@@ -12,7 +12,7 @@ use mmsyntax::{Float, Label, Sequence};
 use std::alloc::{AllocError, Global};
 
 /// Copies of names.
-pub(crate) fn copied(alloc: Global, names: &[Label]) -> Result<Sequence<Label>, AllocError>
+pub fn copied_labels(alloc: Global, names: &[Label]) -> Result<Sequence<Label>, AllocError>
     ensures { IfOk result (λ copies. copies ≡ names.now) }
 {
     let mut copies = Vec::new(alloc);

@@ -9,6 +9,7 @@ mod rounds;
 mod taken;
 
 pub use call::{take, take_declared};
+pub use drafting::copied_labels;
 pub use following::{Follow, Unfollowed};
 pub use refusal::Refusal;
 pub use taken::Taken;

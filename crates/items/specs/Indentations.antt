@@ -1,6 +1,6 @@
 -- How far the proofs of a source are indented: as the first line of each is.
-use Rattle.std.specs.Prelude.{ℕ, Bool, true, false, List, [], ◌∷◌, Option, Some, None, filter_map, if◌then◌else◌, codes}
-use Rattle.std.specs.Option.{option_and_then}
+use Rattle.std.specs.Prelude.{ℕ, Bool, true, false, List, [], ◌∷◌, Option, Some, None, filter_map, find, if◌then◌else◌, codes}
+use Rattle.std.specs.Option.{option_and_then, option_map}
 use mathlib.Core.Bool.{not}
 use Rattle.std.specs.Str.{bytes_eq}
 use Rattle.mmtext.specs.Words.{Word}
@@ -45,3 +45,7 @@ indented x = option_and_then (labelled (label_of x)) (indentation_of x)
 
 abbrev pub indentations : List Item → List Change
 indentations xs = filter_map indented xs
+
+-- the spaces with which the first line of a theorem's proof begins, if it is a line of its own
+abbrev pub indentation_at : List Item → Word → Option (List ℕ)
+indentation_at items label = option_map (λ c. c.1) (find (λ c. bytes_eq label c.0) (indentations items))

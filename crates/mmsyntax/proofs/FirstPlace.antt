@@ -87,7 +87,7 @@ module _ {A : Type 0} (test : A → Bool) where
 
 -- ---- beside a second list
 
-got_later : {B : Type 0} (b : B) (bs : List B) (o : Option ℕ)
+pub got_later : {B : Type 0} (b : B) (bs : List B) (o : Option ℕ)
     → option_and_then (slice_get (b ∷ bs)) (option_map (λ n. suc n) o) ≡ option_and_then (slice_get bs) o
 got_later b bs None = refl
 got_later b bs (Some i) = refl

@@ -7,6 +7,7 @@ use Rattle.std.proofs.lemmas.List.Folds.{find-append}
 use Rattle.std.proofs.lemmas.Option.{slice_get-map}
 use Rattle.mmtext.specs.Words.{Word}
 use Rattle.mmsyntax.specs.Tables.{Tables, place_of}
+use Rattle.mmsyntax.proofs.FirstPlace.{got_later}
 use Rattle.source.specs.Scopes.{Assertion, Hypothesis}
 use Rattle.taking.specs.Names.{Map}
 use Rattle.prooftrees.specs.declared.roles.Role.{Role}
@@ -16,14 +17,13 @@ use Rattle.prooftrees.proofs.Named.{known_assertion}
 use Rattle.pasting.specs.Additions.{Addition, theorem_of}
 use Rattle.pasting.specs.Views.{AreKnown, at_label, flags_in, flags_of, seen_addition}
 use Rattle.pasting.specs.declared.additions.Additions.{Additions}
-use Rattle.pasting.proofs.Labelled.{later}
 
 -- ---- what is added
 
 by_test : (t : Bool) (x : Assertion) (xs : List Assertion) (o : Option ℕ) (f : Option Assertion) → option_and_then (slice_get xs) o ≡ f
     → option_and_then (slice_get (x ∷ xs)) (cond t (Some 0) (option_map (λ n. suc n) o)) ≡ cond t (Some x) f
 by_test true x xs o f e = refl
-by_test false x xs o f e = sym (later x xs o) ∙ e
+by_test false x xs o f e = got_later x xs o ∙ e
 
 first_labelled : (xs : List Assertion) (w : Word) → at_label (map (λ x. x.label) xs) xs w ≡ labelled xs w
 first_labelled [] w = refl

@@ -4,12 +4,12 @@ use Rattle.std.proofs.Common.{refl, sym, ap, subst, inl, inr, add-one}
 use Rattle.std.proofs.lemmas.List.{append_assoc, map-append}
 use Rattle.source.specs.Scopes.{Scope}
 use Rattle.giving.specs.Staying.{Change}
+use Rattle.giving.specs.Changes.{seen_texts}
 use Rattle.items.specs.Items.{Item}
 use Rattle.pasting.specs.Quotes.{GivenProof}
 use Rattle.pasting.specs.Views.{seen_given_proof}
 use Rattle.pasting.specs.declared.own_words.GivenProof.{GivenProof as CodeProof}
 use Rattle.quoting.specs.Quoted.{AreQuoted, CanBeWritten, IsQuotable, IsQuotedAs}
-use Rattle.quoting.specs.Views.{seen_texts}
 
 -- what is left gives the rest of all texts
 abbrev pub Leads : Scope → List Item → List GivenProof → List Change → List GivenProof → Type 0

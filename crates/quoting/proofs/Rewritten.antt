@@ -4,10 +4,10 @@ use Rattle.std.specs.Prelude.{◌⊎◌, IfNone, IfOk, IfSome, Result, Ok, Err}
 use Rattle.std.specs.Option.{option_map, unwrap_or}
 use Rattle.std.specs.declared.alloc.AllocError.{AllocError}
 use Rattle.giving.specs.Staying.{Change}
+use Rattle.giving.specs.Changes.{seen_texts}
 use Rattle.items.specs.Bare.{HasBare}
 use Rattle.items.specs.Rewriting.{IsRewritten}
 use Rattle.quoting.specs.Quoted.{IsWithProofs}
-use Rattle.quoting.specs.Views.{seen_texts}
 
 -- there are some
 pub with_them : (ps : List (Bor (List ℕ) × Vec ℕ Global)) → (ps ≡ [] → ⊥) → (source out : List ℕ)

@@ -1,3 +1,2 @@
 pub mod Quoted
 pub mod Parts
-pub mod Views

@@ -20,15 +20,14 @@ use Rattle.taking.specs.Listings.{listing}
 use Rattle.taking.specs.Settings.{is_float}
 use Rattle.giving.specs.Staying.{Change}
 use Rattle.items.specs.Bare.{HasBare}
-use Rattle.items.specs.Indentations.{indentations}
+use Rattle.items.specs.Indentations.{indentation_at}
 use Rattle.items.specs.Items.{Item, Spells}
-use Rattle.items.specs.Rewriting.{IsRewritten, text_for}
+use Rattle.items.specs.Rewriting.{IsRewritten}
 use Rattle.pasting.specs.Quotes.{GivenProof}
 use Rattle.sourcewriting.specs.Forms.{is_compressed_form}
 use Rattle.sourcewriting.specs.Given.{IsGivenText}
 use Rattle.sourcewriting.specs.Indentations.{indentation_like}
 use Rattle.sourcewriting.specs.Named.{AreNames}
-use Rattle.std.specs.Option.{option_map}
 
 -- ---- the steps that a proof lists where it stands
 
@@ -86,10 +85,6 @@ pub record CanBeWritten (proof : Proof) : Type 0 where
   pub letters : IsTrue (list_all is_printable (letters_in proof))
 
 -- ---- their texts
-
--- the first line of what stands there begins with these spaces, if it is a line of its own
-abbrev pub indentation_at : List Item → Word → Option (List ℕ)
-indentation_at items label = option_map (λ c. c.1) (text_for (indentations items) (label ∷ []))
 
 -- the words are laid out as the proof that stands there is, or else with six spaces where the theorem has $e, and with four elsewhere
 abbrev pub indentation_for : List Item → Word → Assertion → List ℕ

@@ -6,7 +6,6 @@ ghost use Rattle.items.specs.Divided.{IsDivided};
 ghost use Rattle.source.specs.Sources.{DeclaresText};
 ghost use Rattle.quoting.specs.Quoted.{IsQuoted};
 ghost use Rattle.pasting.specs.Views.{seen_given_proof};
-ghost use Rattle.quoting.specs.Views.{seen_texts};
 
 use crate::listing::OwnNames;
 use crate::texts::texts_of;
@@ -17,21 +16,6 @@ use source::Declared;
 use source::laws::sources_are_whole;
 use std::alloc::{AllocError, Global};
 use std::hash::RandomState;
-
-/// The texts of proofs, by the labels of their theorems.
-fn by_label<'x>(
-    alloc: Global,
-    keys: RandomState,
-    texts: &'x [(&'x [u8], Vec<u8>)],
-) -> Result<LabelMap<'x>, AllocError>
-    ensures { IfOk result (λ made. made ≡ seen_texts texts.now) }
-{
-    let mut pairs = Vec::new(alloc);
-    for (label, text) in texts {
-        pairs.push((*label, text.as_slice()))?;
-    }
-    LabelMap::new(alloc, keys, pairs)
-}
 
 /// A source in which these proofs stand letter by letter, where each lists the same steps as the proof that was written. None where the
 /// source stays as it is.
@@ -64,7 +48,7 @@ pub fn quote<'a, D: Declared<'a>>(
     if texts.is_empty() {
         return Ok(None);
     }
-    let proofs = by_label(alloc, keys, texts.as_slice())?;
+    let proofs = LabelMap::of_texts(alloc, keys, texts.as_slice())?;
     let none = LabelMap::new(alloc, keys, Vec::new(alloc))?;
     rewrite(alloc, &none, &proofs, source)
 }

@@ -7,10 +7,10 @@ ghost use Rattle.items.specs.Items.{Item};
 ghost use Rattle.items.specs.Indentations.{indentations};
 ghost use Rattle.source.specs.Views.{seen_proof};
 ghost use Rattle.source.specs.Whole.{IsWhole};
+ghost use Rattle.giving.specs.Changes.{seen_texts};
 ghost use Rattle.sourcewriting.specs.Indentations.{IsIndentation};
 ghost use Rattle.quoting.specs.Quoted.{AreQuoted, CanBeWritten, IsQuotable, IsQuotedAs, IsTextOf};
 ghost use Rattle.pasting.specs.Views.{seen_given_proof};
-ghost use Rattle.quoting.specs.Views.{seen_texts};
 
 use crate::listing::{OwnNames, labels_in};
 use crate::quotable::{letters_in, says_the_same};

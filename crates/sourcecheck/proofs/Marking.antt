@@ -18,7 +18,8 @@ pub mark_put : (ms : List Bool) (k n : ℕ) → k < length ms → get_or (set ms
 mark_put ms k n lt = elim (cases_eq k n) [
   | inl e ↦
       subst (λ j. get_or (set ms k true) j false ≡ (get_or ms j false || (k == j))) e
-      (get_or-set_same ms k true false lt ∙ sym (ap (λ b. get_or ms k false || b) (eq-eqb k k refl) ∙ or_right (get_or ms k false) true refl))
+      (get_or-set_same ms k true false lt
+      ∙ sym (ap (λ b. get_or ms k false || b) (eq-eqb k k refl) ∙ or_right (get_or ms k false) true refl))
   | inr d ↦
       get_or-set_other ms k n true false (λ e. d (sym e))
       ∙ sym (ap (λ b. get_or ms n false || b) (ne_eqb k n d) ∙ or_false (get_or ms n false))

@@ -1,7 +1,7 @@
 -- Which theorems have another proof behind a history: those whose listing isn't the old one with changed labels.
-use Rattle.std.specs.Prelude.{◌≡◌, ◌≢◌, ℕ, Bool, List, map, filter_map, find, length, Contains, All, Option, Some, None, IsTrue, slice_get, nat_eq}
+use Rattle.std.specs.Prelude.{◌≡◌, ◌≢◌, ℕ, Bool, List, map, filter_map, length, Contains, All, Option, Some, None, IsTrue, slice_get, nat_eq}
 use mathlib.Core.Bool.{not}
-use Rattle.std.specs.Option.{option_map, option_and_then}
+use Rattle.std.specs.Option.{option_and_then}
 use Rattle.std.specs.Str.{bytes_eq}
 use Rattle.mmtext.specs.Words.{Word}
 use Rattle.mmsyntax.specs.declared.statement.Assertion.{Assertion}
@@ -12,7 +12,7 @@ use Rattle.source.specs.Scopes.{Scope, Assertion as Old}
 use Rattle.giving.specs.Staying.{Change, changed}
 use Rattle.items.specs.Items.{Item, Spells}
 use Rattle.items.specs.Layout.{IsLaidOut}
-use Rattle.items.specs.Indentations.{indentations}
+use Rattle.items.specs.Indentations.{indentation_at}
 use Rattle.sourcewriting.specs.Indentations.{indentation_like}
 use Rattle.sourcewriting.specs.Forms.{is_compressed_form}
 use Rattle.sourcewriting.specs.Leaving.{CanBePut}
@@ -48,10 +48,6 @@ pub record HasAnotherListing (opened edited : List Assertion) (living : List Fol
   pub now : new.label ≡ followed.now
   pub differs : map (step_then (changes_in_library living)) old.proof ≢ new.proof
 
--- the spaces with which the first line of a theorem's proof begins in a source of these items
-abbrev pub old_indentation : List Item → Word → Option (List ℕ)
-old_indentation items label = option_map (λ c. c.1) (find (λ c. bytes_eq label c.0) (indentations items))
-
 abbrev pub has_premises : Assertion → Bool
 has_premises a = not (nat_eq (length a.hyps) 0)
 
@@ -66,10 +62,10 @@ pub record IsWrittenFor (source : List ℕ) (s : Scope) (e : Edition) (living : 
   pub items : List Item
   pub rest : List ℕ
   pub spells : Spells items rest source
-  pub laid_out : IsLaidOut (indentation_like (old_indentation items label) (has_premises new))
+  pub laid_out : IsLaidOut (indentation_like (indentation_at items label) (has_premises new))
       (is_compressed_form (option_and_then (λ x. x.proof) (slice_get s.assertions place))) text
   pub marked : (x : Old) → slice_get s.assertions place ≡ Some x → IsTrue (is_compressed_form x.proof)
-      → IsMarkedText (indentation_like (old_indentation items label) (has_premises new))
+      → IsMarkedText (indentation_like (indentation_at items label) (has_premises new))
       (TakesThen s e living x.hypotheses) x.hypotheses text
 
 -- a theorem has another proof, with such a text

@@ -1,9 +1,8 @@
 -- Of the code's inside, apart from the rules: how contracts see what becomes of the assertions of a library.
-use Rattle.std.specs.Prelude.{◌≡◌, ◌<◌, ℕ, List, map, All, Contains, Some, Vec, is_some, slice_get}
+use Rattle.std.specs.Prelude.{◌≡◌, ◌<◌, ℕ, List, map, All, Contains, Some, is_some, slice_get}
 use Rattle.std.specs.Borrow.{Bor}
 use Rattle.std.specs.Str.{bytes_eq}
 use Rattle.std.specs.HashMap.{HashMap, get_by}
-use Rattle.std.specs.declared.alloc.Global.{Global}
 use Rattle.std.specs.declared.random_state.RandomState.{RandomState}
 use Rattle.mmtext.specs.Words.{Word}
 use Rattle.mmsyntax.specs.declared.statement.Assertion.{Assertion}
@@ -39,10 +38,6 @@ seen_living xs = map seen_followed xs
 
 abbrev pub seen_following : Kept → Following
 seen_following f = record { living = seen_living f.living.items; gone = seen_words f.gone.items }
-
--- texts of proofs, by the labels of their theorems
-abbrev pub seen_proofs : List (Bor (List ℕ) × Vec ℕ Global) → List Change
-seen_proofs ps = map (λ p. (p.0.now, p.1.items)) ps
 
 -- what a map finds under a label is one of these assertions, and has the label
 abbrev pub AreLabelled : HashMap (Bor (List ℕ)) (Bor Assertion) RandomState → List Assertion → Type 0

@@ -10,13 +10,14 @@ ghost use Rattle.mmtext.specs.Words.{Word};
 ghost use Rattle.source.specs.Scopes.{Scope};
 ghost use Rattle.source.specs.Views.{seen_words};
 ghost use Rattle.giving.specs.Staying.{changed};
+ghost use Rattle.giving.specs.Changes.{seen_texts};
 ghost use Rattle.items.specs.Walking.{AreIndentations};
 ghost use Rattle.sourcewriting.specs.Counting.{IsCountOf};
 ghost use Rattle.sourceediting.specs.Entries.{Edition, HasHypotheses, HasOnly, assertions_of};
 ghost use Rattle.sourceediting.specs.Reproved.{changes_in_library, step_then, IsWrittenFor, AreOtherProofs, CanBeReproved};
 ghost use Rattle.sourceediting.specs.Following.{Followed as FollowedOf};
 ghost use Rattle.sourceediting.specs.Refusals.{HasCause, OnUnwritten, IsNotReproved};
-ghost use Rattle.sourceediting.specs.Views.{seen_followed, seen_living, seen_proofs, edition_of, AreLabelled, IsCitedAs};
+ghost use Rattle.sourceediting.specs.Views.{seen_followed, seen_living, edition_of, AreLabelled, IsCitedAs};
 ghost use Rattle.sourceediting.specs.Views.{AreCitedThen, AreCitedNow, AreNamesOf, AreStepsOf, AreThen, AreAllFound};
 ghost use Rattle.sourceediting.specs.declared.refusal.Refusal.TheVariants.{Unwritten};
 
@@ -340,7 +341,7 @@ pub(crate) fn other_proofs<'x, D: Declared<'x>>(
     requires names { AreNamesOf (D.scope declared.now) (edition_of planned.now) (seen_living planned.now.living.now) names.now }
     ensures made { (source : List ℕ) → AreIndentations source indentations.now
         → IfOk result (λ made. AreOtherProofs source (D.scope declared.now) (edition_of planned.now)
-        (seen_living planned.now.living.now) (seen_proofs made.items)) }
+        (seen_living planned.now.living.now) (seen_texts made.items)) }
     ensures refused { (text : List ℕ) → IfErr result (HasCause (seen_living planned.now.living.now)
         (map (λ r. r.assertion) planned.now.edited.now.entries) text) }
     ensures unwritten { AreStepsOf (D.scope declared.now) (edition_of planned.now) (seen_living planned.now.living.now) names.now

@@ -7,7 +7,7 @@ ghost use Rattle.items.specs.Divided.{IsDivided};
 ghost use Rattle.sourceediting.specs.Following.{KeepsPlaces, all_commands};
 ghost use Rattle.sourceediting.specs.Refusals.{HasCause, AreListedAnew, IsUnwritten, OnUnwritten};
 ghost use Rattle.sourceediting.specs.Reproved.{AreOtherProofs};
-ghost use Rattle.sourceediting.specs.Views.{seen_living, seen_proofs, edition_of, AreLabelled, AreNamesOf, AreThen, FindsLabels};
+ghost use Rattle.sourceediting.specs.Views.{seen_living, edition_of, AreLabelled, AreNamesOf, AreThen, FindsLabels};
 ghost use Rattle.sourceediting.specs.Written.{IsWrittenAnew};
 ghost use Rattle.sourceediting.specs.WrittenWith.{AreWrittenWith, IsNotPut};
 
@@ -22,21 +22,6 @@ use source::Declared;
 use sourcewriting::{ByLabel, Names};
 use std::alloc::{AllocError, Global};
 use std::hash::RandomState;
-
-/// The texts of proofs, by the labels of their theorems.
-fn by_label<'x>(
-    alloc: Global,
-    keys: RandomState,
-    proofs: &'x [(&'x [u8], Vec<u8>)],
-) -> Result<LabelMap<'x>, AllocError>
-    ensures { IfOk result (λ made. made ≡ seen_proofs proofs.now) }
-{
-    let mut pairs = Vec::new(alloc);
-    for (label, text) in proofs {
-        pairs.push((*label, text.as_slice()))?;
-    }
-    LabelMap::new(alloc, keys, pairs)
-}
 
 /// The source with these edits, which a history makes.
 fn written<'x, 'a, D: Declared<'a>>(
@@ -92,7 +77,7 @@ fn write_over<'e, D: Declared<'e>>(
         unreachable!()
     };
     let proofs = other_proofs(alloc, keys, declared, edited, names, &indented, planned)?;
-    let proofs = by_label(alloc, keys, proofs.as_slice())?;
+    let proofs = LabelMap::of_texts(alloc, keys, proofs.as_slice())?;
     let edits = Rearranged {
         planned: *planned,
         edited,

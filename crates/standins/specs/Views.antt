@@ -1,6 +1,5 @@
 -- Of the code's inside, apart from the rules: how contracts see stand-ins.
-use Rattle.std.specs.Prelude.{◌≡◌, ◌&&◌, ℕ, List, map, find, Option, Some, None, if◌then◌else◌}
-use Rattle.std.specs.Borrow.{Bor}
+use Rattle.std.specs.Prelude.{◌≡◌, ◌&&◌, List, map, find, Option, Some, None, if◌then◌else◌}
 use Rattle.std.specs.Option.{option_map, unwrap_or}
 use Rattle.std.specs.Str.{bytes_eq}
 use Rattle.mmtext.specs.Words.{Word}
@@ -8,7 +7,6 @@ use Rattle.mmsyntax.specs.Tables.{Contents}
 use Rattle.mmsyntax.specs.Layout.{HasSpelling}
 use Rattle.derivation.specs.Databases.{AllCheck}
 use Rattle.source.specs.Scopes.{is_in}
-use Rattle.taking.specs.declared.reason.Reason.{Reason}
 use Rattle.giving.specs.Staying.{Change}
 use Rattle.sourceediting.specs.Following.{Followed}
 use Rattle.standins.specs.StandIns.{StandIn, Scripts, with_stand_ins, raised, raise_by}
@@ -22,10 +20,6 @@ seen_stand_in x = record { source = x.source; theorem = x.theorem; cited = x.cit
 
 abbrev pub seen_stand_ins : List CodeStandIn → List StandIn
 seen_stand_ins xs = map seen_stand_in xs
-
--- what is told of a library that was taken
-abbrev pub seen_told : List (Bor (List ℕ) × Reason) → List (Word × Reason)
-seen_told xs = map (λ x. (x.0.now, x.1)) xs
 
 -- the labels of an assertion in the source and in the library as it was taken, if it has both and they are among these
 abbrev pub pair_of : (told again : List Word) → (first : Word) → Option Word → Option (Word × Word)

@@ -16,6 +16,7 @@ use crate::standing::StandIn;
 use derivation::{ProofFault, ProofFaultKind};
 use drafts::{Draft, Undeclared, declare};
 use giving::LabelMap;
+use intake::copied_labels;
 use mmframes::frame_of;
 use mmsyntax::{Assertion, Database, Float, Frame, Kind, Label, Prelude, Proof, Sequence, StepRef};
 use proofcheck::check_all;
@@ -186,17 +187,6 @@ fn assertions_with(
     Ok(made)
 }
 
-/// Copies of names.
-fn copied(alloc: Global, names: &[Label]) -> Result<Sequence<Label>, AllocError>
-    ensures { IfOk result (λ copies. copies ≡ names.now) }
-{
-    let mut copies = Vec::new(alloc);
-    for name in names {
-        copies.push(name.copy(alloc)?)?;
-    }
-    Ok(Sequence::from_vec(copies))
-}
-
 /// Copies of `$f`.
 fn copied_floats(alloc: Global, floats: &[Float]) -> Result<Sequence<Float>, AllocError>
     ensures { IfOk result (λ copies. copies ≡ floats.now) }
@@ -217,8 +207,8 @@ fn draft_of(
     ensures { IfOk result (λ made. contents_of made ≡ record { prelude = prelude.now; assertions = assertions.items }) }
 {
     Ok(Draft {
-        constants: copied(alloc, prelude.constants())?,
-        variables: copied(alloc, prelude.variables())?,
+        constants: copied_labels(alloc, prelude.constants())?,
+        variables: copied_labels(alloc, prelude.variables())?,
         floats: copied_floats(alloc, prelude.floats())?,
         assertions: Sequence::from_vec(assertions),
     })

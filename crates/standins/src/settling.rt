@@ -6,8 +6,9 @@ ghost use mathlib.Core.Bool.{not};
 ghost use Rattle.library.specs.Edits.{cites, is_citation};
 ghost use Rattle.mmsyntax.specs.ProofWords.{seen_step};
 ghost use Rattle.source.specs.Scopes.{is_in};
+ghost use Rattle.taking.specs.Reasons.{told_in};
 ghost use Rattle.standins.specs.Ending.{IsSettled, released};
-ghost use Rattle.standins.specs.Views.{seen_stand_ins, seen_told};
+ghost use Rattle.standins.specs.Views.{seen_stand_ins};
 
 use crate::standing::StandIn;
 use intake::Taken;
@@ -77,7 +78,7 @@ fn others_told<'a>(
     released: &Indexed<'_>,
     axioms: &[(&'a [u8], Reason)],
 ) -> Result<Vec<(&'a [u8], Reason)>, AllocError>
-    ensures { IfOk result (λ made. seen_told made.items ≡ filter (λ a. not (is_in released.now a.0)) (seen_told axioms.now)) }
+    ensures { IfOk result (λ made. told_in made.items ≡ filter (λ a. not (is_in released.now a.0)) (told_in axioms.now)) }
 {
     let mut made = Vec::new(alloc);
     for told in axioms {

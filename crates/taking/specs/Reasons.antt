@@ -1,7 +1,8 @@
 -- Which assertions are chosen, and for what reason a theorem among them is taken as an axiom.
-use Rattle.std.specs.Prelude.{◌≡◌, Bool, true, false, List, [], ◌∷◌, ◌++◌, map, Option, Some, None, if◌then◌else◌, ◌&&◌, nat_lt}
+use Rattle.std.specs.Prelude.{◌≡◌, ℕ, Bool, true, false, List, [], ◌∷◌, ◌++◌, map, Option, Some, None, if◌then◌else◌, ◌&&◌, nat_lt}
 use mathlib.Core.Bool.{not}
 use Rattle.std.specs.List.{list_any}
+use Rattle.std.specs.Borrow.{Bor}
 use Rattle.std.specs.Str.{bytes_eq}
 use Rattle.mmtext.specs.Words.{Word}
 use Rattle.source.specs.Statements.{Proof}
@@ -78,3 +79,8 @@ pub record AreFlags (s : Scope) (choice : Choice) (chosen front long : List Bool
   pub chosen_are : map (λ x. is_in choice.chosen x.label) s.assertions ≡ chosen
   pub front_are : map (λ x. is_in choice.front x.label) s.assertions ≡ front
   pub long_are : map (λ x. is_in choice.long x.label) s.assertions ≡ long
+
+-- ---- labels with reasons, as code tells them
+
+abbrev pub told_in : List (Bor (List ℕ) × Reason) → List (Word × Reason)
+told_in ps = map (λ p. (p.0.now, p.1)) ps

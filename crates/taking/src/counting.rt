@@ -172,8 +172,8 @@ fn count_compressed<'a>(
     Ok(Some(Counted { labels, codes }))
 }
 
-/// What the steps of a proof count, where these are its mandatory hypotheses: nothing where its letters may not stand so (the Metamath book,
-/// appendix B).
+/// What the steps of a proof count, where these are its mandatory hypotheses: nothing where its letters may not stand so (the Metamath
+/// book, appendix B).
 ///
 /// # Errors
 ///

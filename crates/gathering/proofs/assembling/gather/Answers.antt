@@ -5,9 +5,8 @@ use Rattle.std.specs.Option.{option_map}
 use Rattle.std.proofs.lemmas.Option.{slice_get_cases}
 use Rattle.mmtext.specs.Words.{Word}
 use Rattle.source.specs.Scopes.{Assertion}
-use Rattle.taking.specs.Reasons.{Choice, AreFlags}
+use Rattle.taking.specs.Reasons.{Choice, AreFlags, told_in}
 use Rattle.gathering.specs.Assembled.{HasAllPlaces, IsMade, told_with}
-use Rattle.gathering.specs.Gatherings.{told_in}
 use Rattle.gathering.specs.Outcomes.{HasStepsFor}
 use Rattle.gathering.specs.Placed.{map_of, tables_of}
 use Rattle.gathering.proofs.Forms.{if_there}

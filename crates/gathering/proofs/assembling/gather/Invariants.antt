@@ -2,9 +2,8 @@
 use Rattle.std.proofs.Common.{◌≡◌, ◌++◌, [], List, take, drop}
 use Rattle.mmsyntax.specs.declared.statement.Assertion.{Assertion as Unit'}
 use Rattle.prooftrees.specs.Frames.{Holds}
-use Rattle.taking.specs.Reasons.{Choice, AreFlags}
+use Rattle.taking.specs.Reasons.{Choice, AreFlags, told_in}
 use Rattle.taking.specs.Taken.{AreTaken, taken_as_axioms}
-use Rattle.gathering.specs.Gatherings.{told_in}
 use Rattle.gathering.specs.Placed.{map_of, tables_of}
 use Rattle.gathering.proofs.assembling.gather.Given as goal
 

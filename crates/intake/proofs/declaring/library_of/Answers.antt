@@ -1,7 +1,8 @@
 -- What is left to show of `library_of`.
 use Rattle.std.proofs.Common.{◌∙◌}
+use Rattle.taking.specs.Reasons.{told_in}
 use Rattle.drafts.specs.Drafts.{contents_of}
-use Rattle.gathering.specs.Gatherings.{told_in, told_names}
+use Rattle.gathering.specs.Gatherings.{told_names}
 use Rattle.intake.proofs.Steps.{taken_as}
 use Rattle.intake.proofs.declaring.library_of.Goals as goal
 

@@ -1,7 +1,8 @@
 -- What is left to show of `with_proofs`: a library whose proofs check is taken of the source, and another has a first fault.
 use Rattle.std.proofs.Common.{rules, ◌≡◌, ◌∙◌, sym}
+use Rattle.taking.specs.Reasons.{told_in}
 use Rattle.derivation.specs.declared.fault.ProofFaultKind.TheVariants.{TooLong}
-use Rattle.gathering.specs.Gatherings.{told_in, told_names}
+use Rattle.gathering.specs.Gatherings.{told_names}
 use Rattle.intake.proofs.Long.{long_first}
 use Rattle.intake.proofs.Steps.{refused_for_proof}
 use Rattle.intake.proofs.declaring.with_proofs.Goals as goal

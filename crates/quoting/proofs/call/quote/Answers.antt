@@ -8,9 +8,9 @@ use Rattle.items.specs.Bare.{HasBare}
 use Rattle.items.specs.Rewriting.{IsRewritten}
 use Rattle.items.specs.Walking.{AreIndentations}
 use Rattle.source.specs.Views.{seen_pairs}
+use Rattle.giving.specs.Changes.{seen_texts}
 use Rattle.pasting.specs.Views.{seen_given_proof}
 use Rattle.quoting.specs.Quoted.{IsQuoted, IsWithProofs}
-use Rattle.quoting.specs.Views.{seen_texts}
 use Rattle.quoting.proofs.Rewritten.{with_them, by_rewriting}
 use Rattle.quoting.proofs.call.quote.Goals as goal
 

@@ -2,8 +2,8 @@
 use Rattle.std.proofs.Common.{◌∙◌, sym, ap}
 use Rattle.std.specs.Prelude.{is_some}
 use Rattle.std.specs.Str.{bytes_eq}
+use Rattle.mmsyntax.proofs.FirstPlace.{none_in_front}
 use Rattle.source.specs.Scopes.{Assertion}
-use Rattle.prooftrees.proofs.Found.{none_in_front}
 use Rattle.quoting.proofs.Naming.{in_front}
 use Rattle.quoting.proofs.listing.is_in_front.Goals as goal
 

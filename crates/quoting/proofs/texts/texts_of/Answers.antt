@@ -3,10 +3,10 @@ use Rattle.std.proofs.Common.{◌≡◌, ◌∙◌, [], ◌∷◌, ℕ, rules, N
 use Rattle.std.specs.Prelude.{MatchOption, Option, Vec}
 use Rattle.std.specs.declared.alloc.Global.{Global}
 use Rattle.std.proofs.lemmas.List.{drop_all}
+use Rattle.giving.specs.Changes.{seen_texts}
 use Rattle.pasting.specs.Views.{seen_given_proof}
 use Rattle.pasting.specs.declared.own_words.GivenProof.{GivenProof as CodeProof}
 use Rattle.quoting.specs.Quoted.{AreQuoted, CanBeWritten, IsQuotable, IsQuotedAs}
-use Rattle.quoting.specs.Views.{seen_texts}
 use Rattle.quoting.proofs.Quoting.{Leads, has_one, has_none, left_are, one_more}
 use Rattle.quoting.proofs.texts.texts_of.Goals as goal
 use Rattle.quoting.proofs.texts.texts_of.Goals.{in-Some+in_ok-push, in_default}

@@ -1,9 +1,9 @@
 -- What the loop of `texts_of` keeps: what is left gives the rest of the texts.
 use Rattle.std.proofs.Common.{◌≡◌, List, drop, map}
+use Rattle.giving.specs.Changes.{seen_texts}
 use Rattle.items.specs.Indentations.{indentations}
 use Rattle.items.specs.Items.{Item}
 use Rattle.pasting.specs.Views.{seen_given_proof}
-use Rattle.quoting.specs.Views.{seen_texts}
 use Rattle.quoting.proofs.Quoting.{Leads}
 use Rattle.quoting.proofs.texts.texts_of.Given as goal
 

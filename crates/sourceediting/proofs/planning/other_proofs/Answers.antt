@@ -5,8 +5,9 @@ use Rattle.std.specs.Option.{option_map}
 use Rattle.std.proofs.lemmas.Result.{err_from_is_err_and}
 use Rattle.library.specs.declared.library.Ranked.{Ranked}
 use Rattle.std.proofs.lemmas.List.{map-append, get_or_default}
+use Rattle.giving.specs.Changes.{seen_texts}
 use Rattle.sourceediting.specs.declared.following.Followed.{Followed as KeptAssertion}
-use Rattle.sourceediting.specs.Views.{seen_living, seen_proofs, seen_followed, edition_of, AreLabelled}
+use Rattle.sourceediting.specs.Views.{seen_living, seen_followed, edition_of, AreLabelled}
 use Rattle.sourceediting.specs.Reproved.{step_then, HasAnotherListing, CanBeReproved}
 use Rattle.sourceediting.specs.Refusals.{IsNotReproved}
 use Rattle.sourceediting.proofs.Unwritten.{on_unwritten}
@@ -33,7 +34,7 @@ loop-followed-preserved g c = λ source indented.
       | then-not-is_proof+in_ok-text+in_ok-push w ↦
           rw w.proofs-is
           (proofs_more source (g.D.Declared.scope c.args.declared.now) (edition_of c.args.planned.now) living
-          (seen_proofs c.loop-followed.proofs.items) _
+          (seen_texts c.loop-followed.proofs.items) _
           (some.source.now, w.in_ok-text.text.items)
           (c.loop-followed.invariant source indented) (
             record {
@@ -56,7 +57,7 @@ loop-followed-preserved g c = λ source indented.
             },
             w.in_ok-text.ensures.written source (edition_of c.args.planned.now) living indented c.requires.names,
           )
-          (ap seen_proofs w.in_ok-push.ensures.items ∙ map-append _ c.loop-followed.proofs.items _))
+          (ap seen_texts w.in_ok-push.ensures.items ∙ map-append _ c.loop-followed.proofs.items _))
       | else-not-is_proof w ↦ rw w.proofs-is (c.loop-followed.invariant source indented)
     ]
 

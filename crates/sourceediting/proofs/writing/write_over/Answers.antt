@@ -4,11 +4,12 @@ use Rattle.std.specs.Prelude.{All, IfSome}
 use Rattle.items.specs.Walking.{AreIndentations}
 use Rattle.std.proofs.lemmas.Result.{IfOk-weaker, err_from_is_err_and}
 use Rattle.source.specs.Views.{seen_words}
+use Rattle.giving.specs.Changes.{seen_texts}
 use Rattle.sourceediting.specs.Following.{KeepsPlaces, all_commands}
 use Rattle.sourceediting.specs.Refusals.{IsNotReproved, IsNotPutIn, IsUnwritten}
 use Rattle.sourceediting.proofs.Unwritten.{on_unwritten, if_unwritten}
 use Rattle.sourceediting.specs.Reproved.{AreOtherProofs}
-use Rattle.sourceediting.specs.Views.{seen_living, seen_proofs, edition_of}
+use Rattle.sourceediting.specs.Views.{seen_living, edition_of}
 use Rattle.sourceediting.specs.Written.{IsWrittenAnew}
 use Rattle.sourceediting.proofs.Bared.{listed_anew}
 use Rattle.sourceediting.proofs.Rewritten.{by_others}
@@ -23,7 +24,7 @@ returns-clause-written g c =
     let planned = c.args.planned.now in
     let are_others = AreOtherProofs source (g.D.Declared.scope c.args.declared.now) (edition_of planned) (seen_living planned.living.now) in
     let indented = subst (λ o. IfSome o (AreIndentations source)) c.in-Some.is c.in_ok-indented.ensures.indentations in
-    let are = subst are_others (sym (c.in_ok-proofs-2.ensures ∙ ap seen_proofs c.as_slice.ensures.value))
+    let are = subst are_others (sym (c.in_ok-proofs-2.ensures ∙ ap seen_texts c.as_slice.ensures.value))
     (c.in_ok-proofs.ensures.made source indented) in
     let living = seen_living planned.living.now in
     let gone = seen_words planned.gone.now in
@@ -47,7 +48,7 @@ written-requires g c κs =
     let e = edition_of planned in
     let living = seen_living planned.living.now in
     let indented = subst (λ o. IfSome o (AreIndentations source)) c.in-Some.is c.in_ok-indented.ensures.indentations in
-    let are = subst (AreOtherProofs source s e living) (sym (c.in_ok-proofs-2.ensures ∙ ap seen_proofs c.as_slice.ensures.value))
+    let are = subst (AreOtherProofs source s e living) (sym (c.in_ok-proofs-2.ensures ∙ ap seen_texts c.as_slice.ensures.value))
     (c.in_ok-proofs.ensures.made source indented) in (
       (refl, (refl, tt)),
       (c.requires.labelled, (c.requires.divided, listed_anew source s e living c.in_ok-proofs-2.proofs are)),

@@ -6,7 +6,7 @@ use Rattle.mmtext.specs.Words.{Word}
 use Rattle.mmsyntax.proofs.Distinct.{is_some-place_of}
 use Rattle.source.specs.Scopes.{is_in}
 use Rattle.taking.specs.declared.reason.Reason.{Reason}
-use Rattle.standins.specs.Views.{seen_told}
+use Rattle.taking.specs.Reasons.{told_in}
 use Rattle.standins.proofs.Told.{told_next, untold_next}
 use Rattle.standins.proofs.settling.others_told.Goals as goal
 use Rattle.standins.proofs.settling.others_told.Goals.{then-is_none+in_ok-push, else-is_none}
@@ -24,6 +24,6 @@ loop-told-preserved c =
           told_next stays xs i _ c.loop-told-test.true (ap not (sym found ∙ w.if-is_none.ensures)) made c.if-is_none.made.items
           c.loop-told.invariant (ap (λ v. v.items) w.made-is ∙ w.in_ok-push.ensures.items)
       | else-is_none w ↦
-          ap (λ v. seen_told v.items) w.made-is
+          ap (λ v. told_in v.items) w.made-is
           ∙ untold_next stays xs i _ c.loop-told-test.true (ap not (sym found ∙ w.if-is_none.ensures)) made c.loop-told.invariant
     ]

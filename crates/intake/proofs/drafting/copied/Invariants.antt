@@ -1,6 +1,0 @@
--- What the loop of `copied` keeps.
-use Rattle.std.proofs.Common.{◌≡◌, take}
-use Rattle.intake.proofs.drafting.copied.Given as goal
-
-abbrev pub invariant-loop-name : goal.invariant-loop-name
-invariant-loop-name l = l.copies.items ≡ take l.name-index l.names
