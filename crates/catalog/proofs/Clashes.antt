@@ -68,7 +68,8 @@ front_clashes lib w h =
 behind_clashes : (lib : List Ranked) (w v : List ℕ) → is_dotted w v ≡ true → has lib v ≡ true → clashes lib w ≡ true
 behind_clashes lib w v dotted h =
     let s = has_somewhere lib v h in
-    clashes_at lib w s.1 (s.0, s.2, s.3) (ap (λ l. clash l w) s.4 ∙ ap (λ b. is_dotted v w || b) dotted ∙ or_right (is_dotted v w) true refl)
+    clashes_at lib w s.1 (s.0, s.2, s.3)
+    (ap (λ l. clash l w) s.4 ∙ ap (λ b. is_dotted v w || b) dotted ∙ or_right (is_dotted v w) true refl)
 
 -- no other
 no_clash : (lib : List Ranked) (w : List ℕ) → (is_dotted (trunk w) w && has lib (trunk w)) ≡ false
