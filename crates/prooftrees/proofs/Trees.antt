@@ -20,7 +20,7 @@ use Rattle.taking.specs.Names.{Map}
 use Rattle.taking.specs.Nodes.{Shared, trees, sizes, counted}
 use Rattle.taking.specs.Walks.{TakesAll}
 use Rattle.taking.specs.Decoded.{AreDecoded, AreLabelsOf, tree_of}
-use Rattle.taking.proofs.Counting.{codes_there}
+use Rattle.taking.proofs.Numbering.{codes_there}
 use Rattle.taking.proofs.Values.{as_many, natural}
 use Rattle.prooftrees.specs.declared.form.ProofTree.{ProofTree}
 use Rattle.taking.specs.declared.counting.Counted.{Counted}

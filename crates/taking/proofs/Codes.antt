@@ -10,7 +10,7 @@ use Rattle.source.specs.declared.letters.Code.TheVariants.{Number}
 use Rattle.source.specs.Scopes.{Hypothesis, Assertion}
 use Rattle.source.specs.Letters.{is_absent}
 use Rattle.source.specs.Proofs.{Tree, Step, names, again, Stack, run_steps, stepped, step_of}
-use Rattle.taking.proofs.Counting.{names_label}
+use Rattle.taking.proofs.Numbering.{names_label}
 use Rattle.taking.specs.declared.named.Named.{Named}
 use Rattle.taking.specs.Settings.{Setting, AreNamed}
 use Rattle.taking.specs.Listings.{step_in}

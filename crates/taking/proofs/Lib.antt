@@ -18,4 +18,4 @@ pub mod Given
 pub mod Candidates
 pub mod Lent
 pub mod Premises
-pub mod Counting
+pub mod Numbering

@@ -4,7 +4,7 @@ use Rattle.std.specs.Prelude.{slice_get, if◌then◌else◌}
 use Rattle.std.proofs.lemmas.Option.{slice_get_read}
 use Rattle.verifying.specs.Verifies.{entry}
 use Rattle.source.specs.Proofs.{numbered, stepped, repeat}
-use Rattle.taking.proofs.Counting.{names_label}
+use Rattle.taking.proofs.Numbering.{names_label}
 use Rattle.sourcecheck.specs.Written.{written_at}
 use Rattle.sourcecheck.specs.Shown.{shown, Leads}
 use Rattle.sourcecheck.proofs.Leading.{number_again, repeat_shown}

@@ -5,7 +5,7 @@ use Rattle.std.specs.Option.{option_map}
 use Rattle.source.specs.Scopes.{Assertion}
 use Rattle.source.specs.Proofs.{step_of, steps_of}
 use Rattle.source.specs.Views.{seen_words, seen_proof, seen_hypotheses}
-use Rattle.taking.proofs.Counting.{codes_there}
+use Rattle.taking.proofs.Numbering.{codes_there}
 use Rattle.taking.specs.declared.counting.Counted.{Counted}
 use Rattle.taking.specs.Counted.{IsCounted}
 use Rattle.sourcecheck.proofs.Told.{proof_told}

@@ -7,7 +7,7 @@ use Rattle.source.specs.declared.letters.Code.TheVariants.{Number, Unknown}
 use Rattle.source.specs.Scopes.{is_unknown}
 use Rattle.source.specs.Proofs.{step_of}
 use Rattle.source.specs.Views.{seen_words}
-use Rattle.taking.proofs.Counting.{one_counted}
+use Rattle.taking.proofs.Numbering.{one_counted}
 use Rattle.taking.proofs.counting.count_words.Goals as goal
 
 pub loop-word-preserved : goal.loop-word-preserved
