@@ -12,6 +12,10 @@ use mmsyntax::{Float, Label, Sequence};
 use std::alloc::{AllocError, Global};
 
 /// Copies of names.
+///
+/// # Errors
+///
+/// Want of memory.
 pub fn copied_labels(alloc: Global, names: &[Label]) -> Result<Sequence<Label>, AllocError>
     ensures { IfOk result (λ copies. copies ≡ names.now) }
 {
