@@ -111,7 +111,7 @@ pub fn open<'a, D: Declared<'a>>(
 ///
 /// # Errors
 ///
-/// Want of memory. The library is let go.
+/// Want of memory. The library is let go, and nothing is said of what is told of the one that was taken.
 pub fn close<'a>(
     alloc: Global,
     keys: RandomState,
