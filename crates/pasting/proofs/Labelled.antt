@@ -11,6 +11,7 @@ use Rattle.mmsyntax.specs.Tables.{Contents, place_of}
 use Rattle.mmsyntax.specs.declared.statement.Assertion.{Assertion as Unit'}
 use Rattle.mmsyntax.proofs.Names.{same_bytes}
 use Rattle.mmsyntax.proofs.FirstPlace.{found_in_zip}
+use Rattle.mmsyntax.proofs.Options.{mapped_some}
 use Rattle.taking.specs.Names.{Map, label_in}
 use Rattle.pasting.specs.Places.{places_of}
 use Rattle.pasting.specs.Pasted.{with_labels}
@@ -52,7 +53,7 @@ own_label w (v ∷ ls) = elim (cases_Bool (bytes_eq w v)) [
   | inr n ↦
       ap (λ b. cond b (Some (v, v)) (find (λ (p : Word × Word). bytes_eq w p.0) (map (λ v. (v, v)) ls))) n
       ∙ own_label w ls
-      ∙ ap (λ b. if b then Some (w, w) else None) (sym (suc_some (place_of (bytes_eq w) ls)))
+      ∙ ap (λ b. if b then Some (w, w) else None) (sym (mapped_some (λ (n : ℕ). suc n) (place_of (bytes_eq w) ls)))
       ∙ sym (ap (λ b. if is_some (cond b (Some 0) (option_map (λ n. suc n) (place_of (bytes_eq w) ls))) then Some (w, w) else None) n)
 ]
 
