@@ -1,18 +1,27 @@
 -- What is taken of a source has no more constants and `$f` than a library.
-use Rattle.std.proofs.Common.{◌≡◌, ◌∙◌, ◌≤◌, List, length, filter, sym, ap, subst}
+use Rattle.std.proofs.Common.{◌≡◌, ◌∙◌, ◌≤◌, Bool, true, false, List, [], ◌∷◌, length, filter, map, refl, sym, ap, subst}
+use Rattle.std.specs.Prelude.{if◌then◌else◌}
 use Rattle.std.specs.List.{list_any}
 use Rattle.mmsyntax.specs.Layout.{HasSpelling}
 use Rattle.mmsyntax.specs.declared.limits.TheConstants.{MOST_DECLARED}
 use Rattle.mmsyntax.proofs.Canonical.{sound_tables}
 use Rattle.mmsyntax.proofs.Declarable.{declarable}
 use Rattle.source.specs.Scopes.{Assertion, Scope, is_in}
-use Rattle.source.specs.Flags.{kept}
+use Rattle.source.specs.Flags.{kept, kept_at}
 use Rattle.taking.specs.Names.{is_symbol_of, has_float_labelled}
 use Rattle.choosing.specs.declared.wish.Wish.{Wish}
 use Rattle.intake.specs.declared.taken.Taken.{Taken}
 use Rattle.intake.specs.Intakes.{IsLibraryOf}
-use Rattle.intake.proofs.Libraries.{kept_filter}
 use Rattle.pasting.specs.Views.{IsNarrow}
+
+kept_one : {A : Type 0} (b : Bool) (x : A) (xs ys : List A) → xs ≡ ys → kept_at b x xs ≡ (if b then x ∷ ys else ys)
+kept_one true x xs ys e = ap (λ zs. x ∷ zs) e
+kept_one false x xs ys e = e
+
+-- flags of a test keep what passes
+kept_filter : {A : Type 0} (test : A → Bool) (xs : List A) → kept (map test xs) xs ≡ filter test xs
+kept_filter test [] = refl
+kept_filter test (x ∷ xs) = kept_one (test x) x (kept (map test xs) xs) (filter test xs) (kept_filter test xs)
 
 pub narrow_taken : (s : Scope) (w : Wish) (t : Taken) → IsLibraryOf s w t → HasSpelling t.database → IsNarrow s t.chosen.items
 narrow_taken s w t library spelled =
