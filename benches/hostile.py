@@ -155,6 +155,13 @@ def many_variables(count):
     return text + scope + words(["th", "$p", "|-", "T", "$=", "l", "none", "b", "true", "rule", "$.", "$}"])
 
 
+def pairs_behind_constants(count):
+    """The pairs of one $d of `count` variables, mandatory in an axiom that is cited, behind 5,000 other symbols of an axiom."""
+    constants = [f"c{i}" for i in range(5000)]
+    text = words(["$c", *constants, "$."], ["many", "$a", constants[0], *constants[1:], "$."])
+    return text + mandatory(count, 1)
+
+
 def many_floats(count):
     """4,000 axioms of one variable each, behind so many $f."""
     vs = [f"v{i}" for i in range(count)]
@@ -257,6 +264,8 @@ def rows_to_verify():
         ("expressions that double 20, 23 times", lambda: doubled(20), lambda: doubled(23)),
         ("expressions that double 26, 40 times", lambda: doubled(26), lambda: doubled(40)),
         ("4,000, 40,000 theorems of one step", lambda: many_marked(4000), lambda: many_marked(40000)),
+        ("3,000, 30,000 variables into themselves once", lambda: into_itself(3000, 1), lambda: into_itself(30000, 1)),
+        ("6,441, 65,341 mandatory pairs behind 5,000 symbols", lambda: pairs_behind_constants(114), lambda: pairs_behind_constants(362)),
         ("a $d of 362 cited whole 100, 1,000 times", lambda: halves(362, 100), lambda: halves(362, 1000)),
     ]
 

@@ -4,35 +4,29 @@ use Rattle.std.proofs.Common.{◌∙◌, arith}
 use Rattle.std.specs.Prelude.{◌&&◌, ◌||◌, Option, Some, None, if◌then◌else◌}
 use Rattle.std.specs.Option.{option_map}
 use Rattle.std.specs.List.{list_any, filter_map, cons_option}
-use Rattle.std.specs.Borrow.{Bor}
 use Rattle.std.specs.Str.{bytes_eq}
 use Rattle.mmtext.specs.Words.{Word}
 use Rattle.mmsyntax.specs.Tables.{place_of}
 use Rattle.mmsyntax.proofs.FirstPlace.{none_behind}
 use Rattle.source.specs.Scopes.{Hypothesis, typing, premise, Assertion, is_in, is_float_of, stands_in, is_mandatory_variable, is_mandatory}
 use Rattle.source.specs.Scopes.{mandatory, mandatory_pairs}
-use Rattle.sourcecheck.specs.Frames.{found, part_in, variable_of, seen_variable, AreVariables, is_that, is_kept}
+use Rattle.sourcecheck.specs.Frames.{found, part_in, variable_of, AreVariables, is_that, is_kept}
 
 -- ---- variables
 
-same_test : (w : Word) (v : Option (Bor (List ℕ))) (h : Hypothesis) → seen_variable v ≡ variable_of h → is_that w v ≡ is_float_of w h
-same_test w None (typing label c v) e = absurd cc
-same_test w None (premise label ws) e = refl
-same_test w (Some u) (typing label c v) e = ap (bytes_eq w) (let f : u.now ≡ v = cc in f)
-same_test w (Some u) (premise label ws) e = absurd cc
+pub placed_map : {A B : Type 0} (p : B → Bool) (f : A → B) (xs : List A) → place_of p (map f xs) ≡ place_of (λ x. p (f x)) xs
+placed_map p f [] = refl
+placed_map p f (x ∷ xs) = ap (λ o. if p (f x) then Some 0 else option_map (λ n. suc n) o) (placed_map p f xs)
 
-place_alike : (w : Word) (vs : List (Option (Bor (List ℕ)))) (hs : List Hypothesis) → AreVariables hs vs
-    → place_of (is_that w) vs ≡ place_of (is_float_of w) hs
-place_alike w [] [] e = refl
-place_alike w [] (h ∷ hs) e = absurd cc
-place_alike w (v ∷ vs) [] e = absurd cc
-place_alike w (v ∷ vs) (h ∷ hs) e =
-    ap (λ b. if b then Some 0 else option_map (λ n. suc n) (place_of (is_that w) vs)) (same_test w v h cc)
-    ∙ ap (λ o. if is_float_of w h then Some 0 else option_map (λ n. suc n) o) (place_alike w vs hs cc)
+floats_placed : (w : Word) (hs : List Hypothesis) → place_of (is_that w) (map variable_of hs) ≡ place_of (is_float_of w) hs
+floats_placed w [] = refl
+floats_placed w (typing label c v ∷ hs) =
+    ap (λ o. if bytes_eq w v then Some 0 else option_map (λ n. suc n) o) (floats_placed w hs)
+floats_placed w (premise label ws ∷ hs) = ap (option_map (λ n. suc n)) (floats_placed w hs)
 
-pub found_place : (w : Word) (vs : List (Option (Bor (List ℕ)))) (o : Option ℕ) → place_of (is_that w) vs ≡ o
+pub found_place : (w : Word) (vs : List (Option Word)) (o : Option ℕ) → o ≡ place_of (is_that w) vs
     → (hs : List Hypothesis) → AreVariables hs vs → found w o ≡ part_in hs w
-found_place w vs o e hs is = ap (found w) (sym e ∙ place_alike w vs hs is)
+found_place w vs o e hs is = ap (found w) (e ∙ ap (place_of (is_that w)) is ∙ floats_placed w hs)
 
 -- ---- the place of the first item that passes a test
 

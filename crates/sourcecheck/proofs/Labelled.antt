@@ -19,7 +19,7 @@ use Rattle.source.specs.Views.{seen_hypothesis, seen_hypotheses}
 use Rattle.source.specs.Whole.{IsWhole, AgreeOnLabels}
 use Rattle.sourcecheck.specs.declared.naming.Named.{Named}
 use Rattle.sourcecheck.specs.declared.naming.Named.TheVariants as named
-use Rattle.sourcecheck.specs.Shown.{IsSaid, IsEarlier, IsNamed, AreNamed}
+use Rattle.sourcecheck.specs.Shown.{IsSaid, IsPlaceUnder, IsEarlier, IsNamed, AreNamed}
 use Rattle.sourcecheck.proofs.Numbered.{got_of}
 
 -- ---- places and what is found
@@ -226,3 +226,10 @@ read_at items k h r at is =
     ∙ ap (option_map (λ (b : Bor HypothesisWords). seen_hypothesis b.now)) there in
     let both : Some h ≡ Some (seen_hypothesis r.now) = sym at ∙ mapped in
     cc
+
+-- the first of the hypotheses that a list of them shows
+pub first_is_under : (hs : List (Bor HypothesisWords)) (w : Word) (o : Option ℕ)
+    → o ≡ place_of (λ h. bytes_eq w (label_of (seen_hypothesis h.now))) hs → IsPlaceUnder (seen_hypotheses hs) w o
+first_is_under hs w None e = found_no (λ h. bytes_eq w (label_of h)) (λ (h : Bor HypothesisWords). seen_hypothesis h.now) hs (sym e)
+first_is_under hs w (Some k) e =
+    placed_under (λ h. bytes_eq w (label_of h)) (λ (h : Bor HypothesisWords). seen_hypothesis h.now) hs k (sym e)

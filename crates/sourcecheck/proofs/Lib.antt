@@ -5,6 +5,7 @@ pub mod Leading
 pub mod Running
 pub mod Numbered
 pub mod Framed
+pub mod Placing
 pub mod Labelled
 pub mod Told
 pub mod Sourced

@@ -2,10 +2,13 @@
 use Rattle.std.specs.Prelude.{◌≡◌, ℕ, Bool, false, ◌&&◌, List, map, slice_get, Option, Some, None, Result, Ok, Err}
 use Rattle.std.specs.Option.{option_map}
 use Rattle.std.specs.Borrow.{Bor}
+use Rattle.std.specs.HashMap.{HashMap}
 use Rattle.std.specs.Str.{bytes_eq}
 use Rattle.mmtext.specs.Words.{Word}
 use Rattle.mmsyntax.specs.Tables.{place_of}
 use Rattle.source.specs.Scopes.{Hypothesis, typing, premise, Pair, Assertion, is_in, is_float_of, mandatory_pairs}
+use Rattle.wordkeys.specs.declared.keys.WordKeys.{WordKeys}
+use Rattle.sourcecheck.specs.Names.{looks_up}
 use Rattle.sourcecheck.specs.declared.frame.Piece.{Piece}
 use Rattle.sourcecheck.specs.declared.frame.Piece.TheVariants.{Itself, Argument}
 use Rattle.sourcecheck.specs.declared.frame.Demand.{Demand}
@@ -53,12 +56,16 @@ abbrev pub seen_variable : Option (Bor (List ℕ)) → Option Word
 seen_variable o = option_map (λ w. w.now) o
 
 -- the variables of hypotheses, none of a $e
-abbrev pub AreVariables : List Hypothesis → List (Option (Bor (List ℕ))) → Type 0
-AreVariables hs vs = map seen_variable vs ≡ map variable_of hs
+abbrev pub AreVariables : List Hypothesis → List (Option Word) → Type 0
+AreVariables hs vs = vs ≡ map variable_of hs
 
-abbrev pub is_that : Word → Option (Bor (List ℕ)) → Bool
+abbrev pub is_that : Word → Option Word → Bool
 is_that w None = false
-is_that w (Some v) = bytes_eq w v.now
+is_that w (Some v) = bytes_eq w v
+
+-- a map has the first place of each variable, and no other
+abbrev pub ArePlaced : List (Option Word) → HashMap (Bor (List ℕ)) ℕ WordKeys → Type 0
+ArePlaced vs places = (w : Word) → looks_up places w ≡ place_of (is_that w) vs
 
 -- a pair of two of these words
 abbrev pub is_kept : List Word → Pair → Bool

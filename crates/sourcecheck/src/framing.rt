@@ -15,57 +15,9 @@ ghost use Rattle.sourcecheck.specs.Frames.{found, part_in, part_of, asked_in, as
 use crate::frame::{Demand, Frame, Piece};
 use crate::marks::Marked;
 use crate::table::Table;
+use crate::variables::Variables;
 use source::{Declared, HypothesisWords};
 use std::alloc::{AllocError, Global};
-
-/// The most numbers of words that have a mark: a source with many words pays for no more at each assertion, and goes through the others.
-const MOST_MARKS: usize = 4096;
-
-/// The variable of a `$f`.
-pub(crate) fn variable_of<'a>(hypothesis: &HypothesisWords<'a>) -> Option<&'a [u8]>
-    ensures { seen_variable result ≡ variable_of (seen_hypothesis hypothesis.now) }
-{
-    match hypothesis {
-        HypothesisWords::Typing(_, _, variable) => Some(*variable),
-        HypothesisWords::Premise(..) => None,
-    }
-}
-
-/// The variables of `$f`, in the places of their hypotheses.
-fn variables_of<'a>(
-    alloc: Global,
-    hypotheses: Vec<&HypothesisWords<'a>>,
-) -> Result<Vec<Option<&'a [u8]>>, AllocError>
-    ensures { IfOk result (λ made. AreVariables (seen_hypotheses hypotheses.entry.items) made.items) }
-{
-    let mut variables = Vec::with_capacity(alloc, hypotheses.len())?;
-    for hypothesis in hypotheses {
-        variables.push(variable_of(hypothesis))?;
-    }
-    Ok(variables)
-}
-
-/// Whether a word is this variable.
-fn is_that(variable: Option<&[u8]>, word: &[u8]) -> bool
-    ensures { result ≡ is_that word.now variable.entry }
-{
-    match variable {
-        None => false,
-        Some(variable) => word == variable,
-    }
-}
-
-/// The place of the first `$f` of a variable.
-fn place_of(variables: &[Option<&[u8]>], word: &[u8]) -> Option<usize>
-    ensures { (hs : List Hypothesis) → AreVariables hs variables.now → found word.now result ≡ part_in hs word.now }
-{
-    for (place, variable) in variables.iter().enumerate() {
-        if is_that(*variable, word) {
-            return Some(place);
-        }
-    }
-    None
-}
 
 /// What stands for the argument at a place. No source has more places than a `u32` counts: they would be refused as if memory were wanting.
 fn argument_at(place: usize) -> Result<Piece, AllocError>
@@ -80,7 +32,7 @@ fn argument_at(place: usize) -> Result<Piece, AllocError>
 /// A symbol of an assertion with these variables. After an error nothing is said of the table.
 fn piece_of<'a>(
     table: &mut Table<'a>,
-    variables: &[Option<&'a [u8]>],
+    variables: &Variables<'a>,
     word: &'a [u8],
 ) -> Result<Piece, AllocError>
     requires { IsSound table.old }
@@ -88,7 +40,7 @@ fn piece_of<'a>(
     ensures made { IfOk result (λ p. (hs : List Hypothesis) → AreVariables hs variables.now
         → Lasts (words_of table.new) (λ name. part_of name p ≡ part_in hs word.entry.now)) }
 {
-    match place_of(variables, word) {
+    match variables.place_of(word) {
         Some(place) => argument_at(place),
         None => Ok(Piece::Itself(table.number(word)?)),
     }
@@ -98,7 +50,7 @@ fn piece_of<'a>(
 fn pieces_of<'a>(
     alloc: Global,
     table: &mut Table<'a>,
-    variables: &[Option<&'a [u8]>],
+    variables: &Variables<'a>,
     words: &[&'a [u8]],
 ) -> Result<Vec<Piece>, AllocError>
     requires { IsSound table.old }
@@ -117,7 +69,7 @@ fn pieces_of<'a>(
 fn demand_of<'a>(
     alloc: Global,
     table: &mut Table<'a>,
-    variables: &[Option<&'a [u8]>],
+    variables: &Variables<'a>,
     hypothesis: &HypothesisWords<'a>,
 ) -> Result<Demand, AllocError>
     requires { IsSound table.old }
@@ -140,7 +92,7 @@ fn demand_of<'a>(
 fn demands_of<'a>(
     alloc: Global,
     table: &mut Table<'a>,
-    variables: &[Option<&'a [u8]>],
+    variables: &Variables<'a>,
     hypotheses: Vec<&HypothesisWords<'a>>,
 ) -> Result<Vec<Demand>, AllocError>
     requires { IsSound table.old }
@@ -231,13 +183,13 @@ fn marked_of<'a>(
     ensures numbers { IfOk result (HaveNumbers (words_of table.new) (seen_words words.now)) }
 {
     let numbers = table.numbers(alloc, words)?;
-    Marked::new(alloc, numbers, table.count().min(MOST_MARKS))
+    Marked::new(alloc, table.keys(), numbers, table.count())
 }
 
 /// The two variables of a pair. After an error nothing is said of the table.
 fn pair_of<'a>(
     table: &mut Table<'a>,
-    variables: &[Option<&'a [u8]>],
+    variables: &Variables<'a>,
     pair: (&'a [u8], &'a [u8]),
 ) -> Result<(Piece, Piece), AllocError>
     requires { IsSound table.old }
@@ -254,7 +206,7 @@ fn pair_of<'a>(
 fn pairs_of<'a>(
     alloc: Global,
     table: &mut Table<'a>,
-    variables: &[Option<&'a [u8]>],
+    variables: &Variables<'a>,
     mentioned: &[&'a [u8]],
     pairs: Vec<(&'a [u8], &'a [u8])>,
 ) -> Result<Vec<(Piece, Piece)>, AllocError>
@@ -297,15 +249,14 @@ pub(crate) fn frame_of<'a, D: Declared<'a>>(
         → Lasts (words_of table.new) (λ name. IsFrameOf name f x)) }
 {
     let mandatory = declared.mandatory(alloc, place)?;
-    let variables = variables_of(alloc, mandatory.clone()?)?;
-    let variables = variables.as_slice();
-    let demands = demands_of(alloc, table, variables, mandatory.clone()?)?;
+    let variables = Variables::new(alloc, table.keys(), mandatory.clone()?)?;
+    let demands = demands_of(alloc, table, &variables, mandatory.clone()?)?;
     let mentioned = mentioned_in(alloc, words, mandatory)?;
-    let statement = pieces_of(alloc, table, variables, words)?;
+    let statement = pieces_of(alloc, table, &variables, words)?;
     let pairs = pairs_of(
         alloc,
         table,
-        variables,
+        &variables,
         mentioned.as_slice(),
         declared.pairs(alloc, place)?,
     )?;

@@ -15,5 +15,6 @@ mod stepping;
 mod table;
 mod theorem;
 mod thesis;
+mod variables;
 
 pub use sources::{Unverified, check_source};

@@ -1,6 +1,6 @@
 //! What the labels of a proof name.
 
-ghost use Rattle.std.specs.Prelude.{◌≡◌, ◌<◌, ℕ, true, All, IfOk, OnOk, MatchOption, None, Some, find, length, map, slice_get, take};
+ghost use Rattle.std.specs.Prelude.{◌≡◌, ◌<◌, ℕ, true, All, IfOk, IfSome, OnOk, MatchOption, None, Some, find, length, map, slice_get, take};
 ghost use Rattle.std.specs.Option.{option_map};
 ghost use Rattle.std.specs.Str.{bytes_eq};
 ghost use Rattle.mmsyntax.specs.Tables.{place_of};
@@ -14,6 +14,9 @@ ghost use Rattle.sourcecheck.specs.Shown.{IsSaid, IsPlaceUnder, IsEarlier, IsNam
 use crate::table::Table;
 use source::{Declared, HypothesisWords};
 use std::alloc::{AllocError, Global};
+
+/// How many of the last hypotheses are gone through before all are noted: a block has seldom more of its own.
+const LATE: usize = 32;
 
 /// What a label of a proof names.
 #[derive(Drop)]
@@ -77,27 +80,70 @@ fn first_place_under<'a>(active: &Vec<&HypothesisWords<'a>>, label: &[u8]) -> Op
     None
 }
 
-/// The place of one of these hypotheses that has a label: mostly where it was found last. After an error nothing is said of the table.
+/// The place of one of these hypotheses that has a label, if it still stands where one with this label was noted.
+fn noted_place_under<'a>(
+    table: &Table<'a>,
+    active: &Vec<&HypothesisWords<'a>>,
+    label: &[u8],
+) -> Option<usize>
+    ensures { IfSome result (λ place. IsPlaceUnder (seen_hypotheses active.now.items) label.now (Some place)) }
+{
+    let place = table.last_place(label)?;
+    if has_label(active, place, label) {
+        Some(place)
+    } else {
+        None
+    }
+}
+
+/// The place of one of the last of these hypotheses that has a label: there stand those of a block of its own, which no other theorem has.
+fn late_place_under<'a>(active: &Vec<&HypothesisWords<'a>>, label: &[u8]) -> Option<usize>
+    ensures { IfSome result (λ place. IsPlaceUnder (seen_hypotheses active.now.items) label.now (Some place)) }
+{
+    let count = active.len();
+    for place in (count.saturating_sub(LATE)..count).rev() {
+        if has_label(active, place, label) {
+            return Some(place);
+        }
+    }
+    None
+}
+
+/// Notes where each of these hypotheses stands. After an error nothing is said of the table.
+fn note_places<'a>(
+    table: &mut Table<'a>,
+    active: &Vec<&HypothesisWords<'a>>,
+) -> Result<(), AllocError>
+    ensures numbers { OnOk result (table.new.numbers ≡ table.old.numbers) }
+    ensures words { OnOk result (table.new.words ≡ table.old.words) }
+{
+    for place in 0..active.len() {
+        table.note_place(label_of(active[place]), place)?;
+    }
+    Ok(())
+}
+
+/// The place of one of these hypotheses that has a label: mostly where it was noted. If it isn't found by that, all are noted, so that many
+/// labels take no longer each than few. After an error nothing is said of the table.
 fn place_under<'a>(
     table: &mut Table<'a>,
     active: &Vec<&HypothesisWords<'a>>,
-    label: &'a [u8],
+    label: &[u8],
 ) -> Result<Option<usize>, AllocError>
     ensures numbers { OnOk result (table.new.numbers ≡ table.old.numbers) }
     ensures words { OnOk result (table.new.words ≡ table.old.words) }
-    ensures place { IfOk result (IsPlaceUnder (seen_hypotheses active.now.items) label.entry.now) }
+    ensures place { IfOk result (IsPlaceUnder (seen_hypotheses active.now.items) label.now) }
 {
-    if let Some(place) = table.last_place(label)
-        && has_label(active, place, label)
-    {
+    if let Some(place) = noted_place_under(table, active, label) {
         return Ok(Some(place));
     }
-    match first_place_under(active, label) {
-        None => Ok(None),
-        Some(place) => {
-            table.note_place(label, place)?;
-            Ok(Some(place))
-        }
+    if let Some(place) = late_place_under(active, label) {
+        return Ok(Some(place));
+    }
+    note_places(table, active)?;
+    match noted_place_under(table, active, label) {
+        Some(place) => Ok(Some(place)),
+        None => Ok(first_place_under(active, label)),
     }
 }
 

@@ -10,10 +10,10 @@ ghost use Rattle.sourcecheck.specs.Frames.{variable_of, names_of};
 ghost use Rattle.sourcecheck.specs.Shown.{IsThesisOf};
 ghost use Rattle.sourcecheck.specs.Coded.{is_variable_of, numbers_apart};
 
-use crate::framing::variable_of;
 use crate::marks::Marked;
 use crate::pairs::Pairs;
 use crate::table::Table;
+use crate::variables::variable_of;
 use source::{Declared, HypothesisWords};
 use std::alloc::{AllocError, Global};
 
@@ -110,7 +110,7 @@ pub(crate) fn thesis_of<'a, D: Declared<'a>>(
 {
     let floats = floats_of(alloc, table, active)?;
     let pairs = numbered(alloc, table, declared.pairs(alloc, place)?)?;
-    let floats = Marked::new(alloc, floats, table.count())?;
+    let floats = Marked::new(alloc, table.keys(), floats, table.count())?;
     let pairs = Pairs::new(alloc, table.keys(), pairs)?;
     Ok(Thesis { floats, pairs })
 }

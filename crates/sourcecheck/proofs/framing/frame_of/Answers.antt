@@ -5,7 +5,7 @@ use Rattle.source.specs.Scopes.{is_in, is_mandatory_variable}
 use Rattle.source.specs.Views.{seen_words, seen_hypotheses}
 use Rattle.source.proofs.Asked.{hypotheses_are, pairs_are}
 use Rattle.sourcecheck.specs.Names.{words_of}
-use Rattle.sourcecheck.specs.Frames.{AreVariables, asked_in, asked_of, part_in, part_of, parts_in, is_kept, variable_of, seen_variable}
+use Rattle.sourcecheck.specs.Frames.{AreVariables, asked_in, asked_of, part_in, part_of, parts_in, is_kept, variable_of}
 use Rattle.sourcecheck.proofs.Numbered.{grows_on, lasts_on}
 use Rattle.sourcecheck.proofs.Framed.{kept_pairs}
 use Rattle.sourcecheck.proofs.framing.frame_of.Goals as goal
@@ -21,8 +21,8 @@ returns-clause-made g c = λ x at e said more.
     let other = each_same ms c.in_ok-clone-2.field-0.items c.in_ok-clone-2.ensures.cases.0 in
     let second = first ∙ sym (ap seen_hypotheses other) in
     let pairs = pairs_are xs place x at _ c.in_ok-pairs.ensures in
-    let variables : AreVariables hs c.as_slice-variables.result.now =
-    ap (map seen_variable) c.as_slice-variables.ensures.value ∙ c.in_ok-variables.ensures
+    let variables : AreVariables hs c.in_ok-variables.variables =
+    c.in_ok-variables.ensures
     ∙ ap (λ hs. map variable_of (seen_hypotheses hs)) one ∙ ap (map variable_of) (sym first) in
     let end = words_of c.pairs_of.new.table in
     let near = c.in_ok-pairs-2.ensures.keeps.grows in

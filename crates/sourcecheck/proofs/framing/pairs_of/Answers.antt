@@ -52,3 +52,15 @@ loop-pair-preserved c =
           (map-append {B = Pair} (λ (p : Bor (List ℕ) × Bor (List ℕ)). (p.0.now, p.1.now)) done (pair ∷ []))
           ∙ ap (map (parts_in hs)) (passed_push test (seen_pairs done) seen (sym c.in_ok-is_kept.ensures.kept ∙ c.if-branch.false)));
     }
+
+pub is_kept-requires-clause-numbers : goal.is_kept-requires-clause-numbers
+is_kept-requires-clause-numbers c =
+    lasts_on (words_of c.marked_of.new.table) (words_of c.loop-pair.table)
+    (λ name. map name c.in_ok-numbers.numbers ≡ seen_words c.args.mentioned.now) c.loop-pair.invariant.grows c.in_ok-numbers.ensures.numbers
+
+pub returns-clause-keeps : goal.returns-clause-keeps
+returns-clause-keeps c =
+    record {
+      sound = c.loop-pair.invariant.sound;
+      grows = grows_on _ _ _ c.in_ok-numbers.ensures.keeps.grows c.loop-pair.invariant.grows;
+    }

@@ -7,6 +7,6 @@ pub returns-then-place-len-clause-marked : goal.returns-then-place-len-clause-ma
 returns-then-place-len-clause-marked c = λ n lt.
     mark_put c.args.marks.now.items c.args.number n (omega (arith, c.if-place-len.true, c.len.ensures))
 
-pub returns-else-place-len-clause-marked : goal.returns-else-place-len-clause-marked
-returns-else-place-len-clause-marked c = λ n lt.
+pub returns-in_ok-insert-clause-marked : goal.returns-in_ok-insert-clause-marked
+returns-in_ok-insert-clause-marked c = λ n lt.
     mark_past c.args.marks.now.items c.args.number n lt (omega (arith, c.if-place-len.false, c.len.ensures))
