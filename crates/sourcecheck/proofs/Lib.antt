@@ -12,4 +12,4 @@ pub mod Sourced
 pub mod Found
 pub mod Beside
 pub mod Marking
-pub mod Both
+pub mod Ordered

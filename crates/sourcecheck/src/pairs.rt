@@ -2,7 +2,7 @@
 
 ghost use Rattle.std.specs.Prelude.{◌≡◌, ◌||◌, ℕ, IfOk, OnOk, List};
 ghost use Rattle.std.specs.List.{list_any};
-ghost use Rattle.sourcecheck.specs.Pairs.{is_pair_of_numbers, finds, AreFound};
+ghost use Rattle.sourcecheck.specs.Pairs.{ordered, is_pair_of_numbers, finds, AreFound};
 
 use std::alloc::{AllocError, Global};
 use std::collections::HashSet;
@@ -16,7 +16,7 @@ const FEW: usize = 12;
 #[derive(Drop)]
 pub(crate) struct Pairs {
     listed: Vec<(u32, u32)>,
-    /// Each of them in both orders, where they are many.
+    /// Each of them with the lower number first, where they are many.
     found: Option<HashSet<(u32, u32), WordKeys>>,
 }
 
@@ -38,17 +38,26 @@ fn is_pair_of(first: u32, second: u32, pair: &(u32, u32)) -> bool
     (pair.0 == first && pair.1 == second) || (pair.1 == first && pair.0 == second)
 }
 
-/// Adds a pair in both orders.
-fn add_both(found: &mut HashSet<(u32, u32), WordKeys>, pair: (u32, u32)) -> Result<(), AllocError>
+/// Two numbers, the lower first.
+fn ordered(first: u32, second: u32) -> (u32, u32)
+    ensures { result ≡ ordered first second }
+{
+    if second < first {
+        (second, first)
+    } else {
+        (first, second)
+    }
+}
+
+/// Adds a pair.
+fn add(found: &mut HashSet<(u32, u32), WordKeys>, pair: (u32, u32)) -> Result<(), AllocError>
     ensures { OnOk result ((u v : ℕ) → finds found.new u v ≡ (finds found.old u v || is_pair_of_numbers u v pair)) }
 {
-    let (first, second) = pair;
-    found.insert((first, second))?;
-    found.insert((second, first))?;
+    found.insert(ordered(pair.0, pair.1))?;
     Ok(())
 }
 
-/// Pairs in both orders.
+/// Pairs, each with the lower number first.
 fn found_of(
     alloc: Global,
     keys: WordKeys,
@@ -58,7 +67,7 @@ fn found_of(
 {
     let mut found = HashSet::with_hasher(alloc, keys);
     for pair in pairs {
-        add_both(&mut found, *pair)?;
+        add(&mut found, *pair)?;
     }
     Ok(found)
 }
@@ -94,7 +103,7 @@ impl Pairs {
         ensures { result ≡ list_any (is_pair_of_numbers first second) self.now }
     {
         match &self.found {
-            Some(found) => found.contains(&(first, second)),
+            Some(found) => found.contains(&ordered(first, second)),
             None => self
                 .listed
                 .iter()
