@@ -9,8 +9,9 @@ use std::collections::HashSet;
 use std::marker::Model;
 use wordkeys::WordKeys;
 
-/// The most pairs that are gone through one by one: a look-up takes as long as some ten comparisons.
-const FEW: usize = 12;
+/// The most pairs that are gone through one by one: half of them are compared until a pair is found, in the time of one look-up, and none is
+/// put into a set before.
+const FEW: usize = 32;
 
 /// Pairs of numbers. Contracts see them as a list.
 #[derive(Drop)]
