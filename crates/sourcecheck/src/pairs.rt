@@ -9,8 +9,8 @@ use std::collections::HashSet;
 use std::marker::Model;
 use wordkeys::WordKeys;
 
-/// The most pairs that are gone through one by one: half of them are compared until a pair is found, in the time of one look-up, and none is
-/// put into a set before.
+/// The most pairs that are gone through one by one: half of them are compared until one is found, which takes as long as a look-up, and no
+/// set is made before.
 const FEW: usize = 32;
 
 /// Pairs of numbers. Contracts see them as a list.
