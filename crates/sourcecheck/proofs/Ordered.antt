@@ -7,6 +7,7 @@ use Rattle.std.proofs.Math.Seq.{take-suc}
 use Rattle.std.proofs.lemmas.Bool.{cases_Bool, ltb-true, ltb-false, eq-eqb, eqb-true, or_right}
 use Rattle.std.proofs.lemmas.List.Folds.{list_any-append}
 use Rattle.wordkeys.specs.declared.keys.WordKeys.{WordKeys}
+use Rattle.mmsyntax.proofs.Options.{alike}
 use Rattle.sourcecheck.specs.Pairs.{ordered, is_pair_of_numbers, finds, AreFound}
 use Rattle.sourcecheck.proofs.Marking.{or_false}
 
@@ -20,12 +21,6 @@ both_true false b e = absurd cc
 either_true : (a b : Bool) → (a || b) ≡ true → (a ≡ true) ⊎ (b ≡ true)
 either_true true b e = inl refl
 either_true false b e = inr e
-
-agree : (a b : Bool) → (a ≡ true → b ≡ true) → (b ≡ true → a ≡ true) → a ≡ b
-agree true true f g = refl
-agree true false f g = sym (f refl)
-agree false true f g = g refl
-agree false false f g = refl
 
 pub later : (s c : Bool) → cond c true s ≡ (s || c)
 later true true = refl
@@ -109,7 +104,7 @@ is_same a b u v h = elim (either_true ((a == u) && (b == v)) ((b == u) && (a == 
 -- two pairs are the same with the lower first where they are so in either order
 pub ordered_same : (a b u v : ℕ) → same (ordered a b) (ordered u v) ≡ is_pair_of_numbers u v (a, b)
 ordered_same a b u v =
-    agree (same (ordered a b) (ordered u v)) (is_pair_of_numbers u v (a, b))
+    alike (same (ordered a b) (ordered u v)) (is_pair_of_numbers u v (a, b))
     (same_is_pair a b u v (ordered a b) (ordered u v) (ordered_either a b) (ordered_either u v)) (is_same a b u v)
 
 -- ---- one more pair
