@@ -1,11 +1,12 @@
 -- What is done behind what was done before.
-use Rattle.std.proofs.Common.{◌≡◌, ◌∙◌, ◌++◌, ◌∷◌, ◌<◌, ◌+◌, [], ℕ, List, Option, Some, None, inr, All, ap, append_assoc, append-nil, length, length-append, refl, sym, subst, arith, map, option_map, slice_index_or, Bor, Result, Ok, Err}
+use Rattle.std.proofs.Common.{true, false, codes, inl, ◌≡◌, ◌∙◌, ◌++◌, ◌∷◌, ◌<◌, ◌+◌, [], ℕ, List, Option, Some, None, inr, All, ap, append_assoc, append-nil, length, length-append, refl, sym, subst, arith, map, option_map, slice_index_or, Bor, Result, Ok, Err}
 use Rattle.std.specs.Prelude.{slice_get}
 use Rattle.std.proofs.lemmas.Option.{slice_get-get_or, slice_get-map}
 use Rattle.std.proofs.lemmas.List.Elements.{All-append, All-cons, All-nil}
+use Rattle.conduct.specs.Comparing.{AreApartThen, AreCompared, Clash}
 use Rattle.conduct.specs.Ending.{EndsBy}
 use Rattle.conduct.specs.Reading.{IsReadBehind, IsReadThen, reads_of}
-use Rattle.outside.specs.Events.{Adds, Bytes, Event, IsQuiet, reads}
+use Rattle.outside.specs.Events.{Adds, Bytes, Event, IsQuiet, compares, lacks, reads, says}
 
 pub adds_more : {a b c : List Event → Type 0} {es fs : List Event} → Adds a b es → Adds b c fs → Adds a c (es ++ fs)
 adds_more {a} {b} {c} {es} {fs} first next =
@@ -107,9 +108,52 @@ pub EndsBy-behind : {E : Type 0} (P Q : List Event → ℕ → Type 0) (front es
 EndsBy-behind P Q front es (Ok status) quiet weaker ends = weaker status ends
 EndsBy-behind P Q front es (Err e) quiet weaker ends = All-append IsQuiet front es quiet ends
 
+-- it is asked of more paths
+pub compared_more : (xs ys : List Clash) (es fs : List Event) (found : Option Bytes) → AreCompared xs es None → AreCompared ys fs found
+    → AreCompared (xs ++ ys) (es ++ fs) found
+compared_more [] ys es fs found first next = subst (λ (all : List Event). AreCompared ys (all ++ fs) found) (sym first.0) next
+compared_more (x ∷ xs) ys es fs found (true, rest, is, equal, end) next = cc
+compared_more (x ∷ xs) ys es fs found (false, rest, is, equal, end) next =
+    (false, rest ++ fs, ap (λ (all : List Event). all ++ fs) is, equal, compared_more xs ys rest fs found end next)
+
+-- of no more than the first that are one file
+pub compared_front : (xs ys : List Clash) (es : List Event) (line : Bytes) → AreCompared xs es (Some line)
+    → AreCompared (xs ++ ys) es (Some line)
+compared_front [] ys es line first = cc
+compared_front (x ∷ xs) ys es line (true, rest, is, equal, end) = (true, rest, is, equal, end)
+compared_front (x ∷ xs) ys es line (false, rest, is, equal, end) = (false, rest, is, equal, compared_front xs ys rest line end)
+
+-- asking is quiet
+pub compared_quiet : (xs : List Clash) (es : List Event) (found : Option Bytes) → AreCompared xs es found → All IsQuiet es
+compared_quiet [] es found first = subst (λ (all : List Event). All IsQuiet all) (sym first.0) (All-nil IsQuiet)
+compared_quiet (x ∷ xs) es found (true, rest, is, equal, end) =
+    subst (λ (all : List Event). All IsQuiet all) (sym (is ∙ ap (λ (all : List Event). compares x.one x.other true ∷ all) end.0))
+    (All-cons IsQuiet (compares x.one x.other true) [] tt (All-nil IsQuiet))
+compared_quiet (x ∷ xs) es found (false, rest, is, equal, end) =
+    subst (λ (all : List Event). All IsQuiet all) (sym is)
+    (All-cons IsQuiet (compares x.one x.other false) rest tt (compared_quiet xs rest found end))
+
+-- two paths lead to one file, which is said
+pub clash_told : {E : Type 0} (xs : List Clash) (P : List Event → ℕ → Type 0) (es : List Event) (line : Bytes) (r : Result ℕ E)
+    → AreCompared xs es (Some line) → r ≡ Ok 1 → EndsBy (AreApartThen xs P) (es ++ says line ∷ []) r
+clash_told {E = E} xs P es line r compared is =
+    subst (λ (end : Result ℕ E). EndsBy (AreApartThen xs P) (es ++ says line ∷ []) end) (sym is)
+    (es, says line ∷ [], refl, inl (line, compared, (refl, refl)))
+
+-- none do, and so it goes on
+pub apart_then : {E : Type 0} (xs : List Clash) (P : List Event → ℕ → Type 0) (es rest : List Event) (r : Result ℕ E)
+    → AreCompared xs es None → EndsBy P rest r → EndsBy (AreApartThen xs P) (es ++ rest) r
+apart_then xs P es rest r compared ends =
+    EndsBy-behind P (AreApartThen xs P) es rest r (compared_quiet xs es None compared)
+    (λ status follows. (es, rest, refl, inr (compared, follows))) ends
+
 -- one file read is quiet
 pub one_read : (path : Bytes) (got : Option Bytes) → All IsQuiet (reads path got ∷ [])
 one_read path got = All-cons IsQuiet (reads path got) [] tt (All-nil IsQuiet)
+
+-- so is one for which there is no memory
+pub one_lack : (path : Bytes) → All IsQuiet (lacks path ∷ [])
+one_lack path = All-cons IsQuiet (lacks path) [] tt (All-nil IsQuiet)
 
 -- what follows once a source is read
 pub read_then : {E : Type 0} (P : Bytes → List Event → ℕ → Type 0) (path source : Bytes) (rest : List Event) (r : Result ℕ E)

@@ -2,3 +2,4 @@ pub mod Behind
 pub mod Followed
 pub mod Taken
 pub mod GivenBack
+pub mod Asked

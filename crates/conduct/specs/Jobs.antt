@@ -4,23 +4,24 @@ use Rattle.checking.specs.declared.fault.Fault.{Fault}
 use Rattle.checking.specs.declared.task.Task.{Task}
 use Rattle.checking.specs.Tasks.{TakesTexts}
 use Rattle.conduct.specs.Reading.{AreReadThen}
-use Rattle.conduct.specs.Telling.{IsPrinted, IsSaid, IsUnkeyed}
+use Rattle.conduct.specs.Clashes.{clashes_with}
+use Rattle.conduct.specs.Comparing.{Clash, AreApartThen}
+use Rattle.conduct.specs.Telling.{IsPrinted, IsSaid, IsUnkeyed, IsUnwrittenTold}
 use Rattle.jobs.specs.declared.answering.Answered.{Answered}
 use Rattle.jobs.specs.declared.answering.Answered.TheVariants.{Done, Refused}
 use Rattle.jobs.specs.declared.job.Job.{Job}
 use Rattle.jobs.specs.declared.job.RunOptions.{RunOptions}
 use Rattle.jobs.specs.Jobs.{IsFaultOf, AnswersItsOwn}
 use Rattle.jobs.specs.Tasks.{Answers, IsJobOf, IsLineOf, IsToldBy, options_asked}
-use Rattle.outside.specs.Events.{Bytes, Event, writes, says}
+use Rattle.outside.specs.Events.{Bytes, Event, writes}
 
 -- a history is written to its file, and then the text is printed; or that file can't be written, or memory runs out as it is, which is
--- said, the status is 1, and nothing is printed
+-- said, and nothing is printed
 abbrev pub IsWritten : Option Bytes → Bytes → Bytes → List Event → ℕ → Type 0
 IsWritten None history out es status = IsPrinted out es status
 IsWritten (Some path) history out es status =
     ((rest : List Event) × (es ≡ writes path history true ∷ rest) × IsPrinted out rest status)
-    ⊎ (((es ≡ writes path history false ∷ says (path ++ codes ": cannot write") ∷ []) × (status ≡ 1))
-    ⊎ ((es ≡ writes path history false ∷ says (codes "no memory") ∷ []) × (status ≡ 1)))
+    ⊎ ((rest : List Event) × (es ≡ writes path history false ∷ rest) × IsUnwrittenTold path rest status)
 
 -- what a job prints, or the line of its fault
 abbrev pub IsTold : Option Bytes → Answered → List Event → ℕ → Type 0
@@ -47,5 +48,15 @@ IsAnswered keyed task paths history texts es status =
     ⊎ ((TakesTexts task (length texts) → ⊥) × IsSaid (codes "the command line cannot be read") es status))
 
 -- the files are read, and then the job of their texts is answered
+abbrev pub IsReadAndAnswered : Bool → Task → List Bytes → Option Bytes → List Event → ℕ → Type 0
+IsReadAndAnswered keyed task paths history es status = AreReadThen paths (IsAnswered keyed task paths history) es status
+
+-- the history would be written over one of the files that are read
+abbrev pub history_clashes : Option Bytes → List Bytes → List Clash
+history_clashes (Some path) paths = clashes_with path (λ other. path ++ codes ": cannot write") paths
+history_clashes None paths = []
+
+-- that is asked first, and nothing is read where it is so; else so it goes
 abbrev pub IsFollowed : Bool → Task → List Bytes → Option Bytes → List Event → ℕ → Type 0
-IsFollowed keyed task paths history es status = AreReadThen paths (IsAnswered keyed task paths history) es status
+IsFollowed keyed task paths history es status =
+    AreApartThen (history_clashes history paths) (IsReadAndAnswered keyed task paths history) es status

@@ -1,4 +1,6 @@
 pub mod Telling
+pub mod Comparing
+pub mod Clashes
 pub mod Ending
 pub mod Reading
 pub mod Jobs

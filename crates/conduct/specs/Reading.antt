@@ -3,8 +3,8 @@ use Rattle.std.specs.Prelude.{◌≡◌, ◌⊎◌, ℕ, List, [], ◌∷◌, �
 use Rattle.conduct.specs.declared.reading.Unread.{Unread}
 use Rattle.conduct.specs.declared.reading.Unread.TheVariants as unread
 use Rattle.conduct.specs.Telling.{IsSaid}
-use Rattle.outside.specs.declared.world.Trouble.{Trouble}
-use Rattle.outside.specs.declared.world.Trouble.TheVariants as trouble
+use Rattle.outside.specs.declared.trouble.Trouble.{Trouble}
+use Rattle.outside.specs.declared.trouble.Trouble.TheVariants as trouble
 use Rattle.outside.specs.Events.{Bytes, Event, IsQuiet, reads, says}
 
 -- the files at these paths, each with the bytes that were read

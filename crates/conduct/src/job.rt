@@ -1,40 +1,44 @@
 //! How a job is done: the files of its order are read, and what is answered is told.
 
-ghost use Rattle.std.specs.Prelude.{is_some, List, Option, Some, map, option_map};
+ghost use Rattle.std.specs.Prelude.{is_some, ◌++◌, List, Option, Some, codes, map, option_map};
 ghost use Rattle.commandline.specs.Orders.{AsksWithin};
 ghost use Rattle.conduct.specs.Ending.{EndsBy};
-ghost use Rattle.conduct.specs.Jobs.{IsWritten, IsTold, IsJobAnswered, IsAnswered, IsFollowed};
+ghost use Rattle.conduct.specs.Comparing.{AreCompared};
+ghost use Rattle.conduct.specs.Jobs.{IsWritten, IsTold, IsJobAnswered, IsAnswered, IsReadAndAnswered, IsFollowed, history_clashes};
 ghost use Rattle.jobs.specs.Jobs.{AreWithin};
 ghost use Rattle.outside.specs.Events.{Event, Adds};
 
+use crate::comparing::first_same;
 use crate::means::Means;
 use crate::reading::{read_all, tell_unread};
-use crate::telling::{print_out, refuse};
+use crate::telling::{print_out, refuse, tell_unwritten};
 use commandline::Order;
 use jobs::{Answered, Job, RunOptions, Watch, answer, job_of, options_of};
-use outside::{Trouble, World};
-use std::alloc::AllocError;
+use outside::World;
+use std::alloc::{AllocError, Global};
 use std::hash::RandomState;
 use std::sync::Wait;
 use std::thread::Threads;
 
 /// Writes the history of a run to its file, and then prints what the run prints.
-fn save_and_print<W: World>(world: &mut W, path: &str, history: &[u8], out: &[u8]) -> u8
+fn save_and_print<W: World>(
+    world: &mut W,
+    alloc: Global,
+    path: &str,
+    history: &[u8],
+    out: &[u8],
+) -> u8
     ensures { (es : List Event) × Adds (W.done world.old) (W.done world.new) es
         × IsWritten (Some path.now) history.now out.now es result }
 {
-    match world.write(path, history) {
+    match world.write(alloc, path, history) {
         Ok(()) => print_out(world, out),
-        Err(Trouble::NoMemory) => refuse(world, "no memory"),
-        Err(Trouble::Refused) => {
-            world.say_of(path, "cannot write");
-            1
-        }
+        Err(why) => tell_unwritten(world, path, &why),
     }
 }
 
 /// Tells an answer: what is printed, behind the history where a file is named for it, or the line of the fault.
-fn tell<W: World>(world: &mut W, history: Option<&str>, told: &Answered) -> u8
+fn tell<W: World>(world: &mut W, alloc: Global, history: Option<&str>, told: &Answered) -> u8
     ensures { (es : List Event) × Adds (W.done world.old) (W.done world.new) es
         × IsTold (option_map (λ s. s.now) history.entry) told.now es result }
 {
@@ -43,6 +47,7 @@ fn tell<W: World>(world: &mut W, history: Option<&str>, told: &Answered) -> u8
         Answered::Done(printed) => match history {
             Some(path) => save_and_print(
                 world,
+                alloc,
                 path,
                 printed.history.as_slice(),
                 printed.out.as_slice(),
@@ -75,7 +80,7 @@ fn answer_job<R: Threads + Wait + Sync, W: World, V: Watch + Sync>(
         paths,
         means.watch,
     ) {
-        Ok(told) => Ok(tell(world, order.history, &told)),
+        Ok(told) => Ok(tell(world, means.alloc, order.history, &told)),
         Err(_) => Err(AllocError),
     }
 }
@@ -102,6 +107,41 @@ fn answer_texts<R: Threads + Wait + Sync, W: World, V: Watch + Sync>(
     answer_job(means, world, keys, order, &job, options)
 }
 
+/// Reads the files of an order, and does its job on their texts. It may wait.
+fn read_and_answer<R: Threads + Wait + Sync, W: World, V: Watch + Sync>(
+    means: &Means<'_, R, V>,
+    world: &mut W,
+    keys: Option<RandomState>,
+    order: &Order<'_>,
+) -> Result<u8, AllocError>
+    requires { AsksWithin order.now.task }
+    ensures { (es : List Event) × Adds (W.done world.old) (W.done world.new) es × EndsBy (IsReadAndAnswered (is_some keys) order.now.task
+        (map (λ p. p.now) order.now.paths.items) (option_map (λ s. s.now) order.now.history)) es result }
+{
+    let mut texts = Vec::new(means.alloc);
+    if let Err(unread) = read_all(world, means.alloc, order.paths.as_slice(), &mut texts) {
+        return tell_unread(world, unread);
+    }
+    answer_texts(means, world, keys, order, texts)
+}
+
+/// The path of the history where it leads to a file that is read.
+fn history_clash<'a, W: World>(
+    world: &mut W,
+    history: Option<&'a str>,
+    paths: &[&str],
+) -> Option<&'a str>
+    ensures { (es : List Event) × Adds (W.done world.old) (W.done world.new) es
+        × AreCompared (history_clashes (option_map (λ s. s.now) history.entry) (map (λ p. p.now) paths.now)) es
+        (option_map (λ p. p.now ++ codes ": cannot write") result) }
+{
+    let path = history?;
+    match first_same(world, path, paths) {
+        Some(_) => Some(path),
+        None => None,
+    }
+}
+
 /// Does what an order asks for: checks, runs or replays. Who watches is told of a run. It may wait.
 ///
 /// # Errors
@@ -117,9 +157,11 @@ pub fn follow_order<R: Threads + Wait + Sync, W: World, V: Watch + Sync>(
     ensures { (es : List Event) × Adds (W.done world.old) (W.done world.new) es × EndsBy (IsFollowed (is_some keys) order.now.task
         (map (λ p. p.now) order.now.paths.items) (option_map (λ s. s.now) order.now.history)) es result }
 {
-    let mut texts = Vec::new(means.alloc);
-    if let Err(unread) = read_all(world, means.alloc, order.paths.as_slice(), &mut texts) {
-        return tell_unread(world, unread);
+    match history_clash(world, order.history, order.paths.as_slice()) {
+        Some(path) => {
+            world.say_of(path, "cannot write");
+            Ok(1)
+        }
+        None => read_and_answer(means, world, keys, order),
     }
-    answer_texts(means, world, keys, order, texts)
 }

@@ -1,6 +1,7 @@
 //! How each command but `edit` is done on files and streams: its files are read, and what is answered is told.
 #![tactic(auto)]
 
+mod comparing;
 mod give;
 mod job;
 mod means;
@@ -9,10 +10,11 @@ mod take;
 mod telling;
 mod verify;
 
+pub use comparing::first_same;
 pub use give::follow_give;
 pub use job::follow_order;
 pub use means::Means;
 pub use reading::{Unread, read_all, tell_unread};
 pub use take::follow_take;
-pub use telling::{print_with, refuse};
+pub use telling::{print_with, refuse, tell_unwritten};
 pub use verify::follow_verify;

@@ -1,2 +1,2 @@
 pub mod Standing
-pub mod Written
+pub mod Trying

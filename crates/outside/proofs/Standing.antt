@@ -1,134 +1,243 @@
--- What was read and what stands on the standard output, behind one thing more.
-use Rattle.std.proofs.Common.{◌≡◌, ◌∙◌, ◌++◌, ◌∷◌, [], ℕ, Bool, true, false, List, Option, Some, None, Result, Ok, Err, ap, append_assoc, append-nil, refl, subst, sym, take}
-use Rattle.std.specs.Prelude.{IfOk, IfSome, OnErr, OnOk, Vec, is_ok}
+-- What was read and what stands on the streams, behind one thing more.
+use Rattle.std.proofs.Common.{◌≡◌, ◌∙◌, ◌++◌, ◌∷◌, [], ℕ, Bool, true, false, List, Option, Some, None, Result, Ok, Err, ap, append_assoc, append-nil, codes, refl, subst, sym, inl, inr, take}
+use Rattle.std.specs.Prelude.{IfErr, IfOk, IfSome, Vec}
 use Rattle.std.specs.declared.alloc.Global.{Global}
 use Rattle.std.specs.Io.KnownBytes.{Appends}
 use Rattle.clap.specs.declared.error.Error.{Error}
-use Rattle.outside.specs.Events.{Adds, Bytes, Event, bytes_of, compares, prints, reads, replaces, says, shows, writes}
-use Rattle.outside.specs.Output.{AreDone, AreHeld, AreOwn, IsPut, Puts, Stands}
+use Rattle.outside.specs.Events.{Adds, Bytes, Event, asks, compares, lacks, leaves, leaving, path_left, prints, reading_of, reads, replaces, says, shows, writes}
+use Rattle.outside.specs.Output.{AreDone, AreHeld, AreOwn, IsHeld, IsLine, IsOn, IsOwn, IsPut, Outside, PutsErr, PutsOut, Stands}
+use Rattle.outside.specs.Streams.{IsAppended, Stays}
+use Rattle.outside.specs.declared.trouble.Trouble.{Trouble}
+use Rattle.outside.specs.declared.trouble.Trouble.TheVariants as trouble
+use Rattle.outside.specs.declared.trouble.Unwritten.{Unwritten}
+use Rattle.outside.specs.declared.whole.TheConstants.{MOST_READ}
 
-stands_behind : (front : List Event) (e : Event) (out here : Bytes) → Stands front out → Puts e here
-    → Stands (front ++ e ∷ []) (out ++ here)
-stands_behind [] e out here stands puts = (here, [], puts, refl, ap (λ (bs : Bytes). bs ++ here) stands ∙ sym (append-nil here))
-stands_behind (f ∷ front) e out here (first, rest, put, stands, is) puts = (
-  first,
+-- ---- on one stream
+
+-- what a stream takes of an event
+abbrev pub Puts : Type 1
+Puts = Event → Bytes → Type 0
+
+stands_behind : (first puts : Puts) → ((e : Event) (here : Bytes) → first e here → puts e here) → (front : List Event) (e : Event)
+    (held here : Bytes) → Stands first front held → puts e here → Stands puts (front ++ e ∷ []) (held ++ here)
+stands_behind first puts lasts [] e held here stands put =
+    (here, [], put, refl, ap (λ (bs : Bytes). bs ++ here) stands ∙ sym (append-nil here))
+stands_behind first puts lasts (f ∷ front) e held here (one, rest, was, stands, is) put = (
+  one,
   rest ++ here,
-  put,
-  stands_behind front e rest here stands puts,
-  ap (λ (bs : Bytes). bs ++ here) is ∙ append_assoc first rest here,
+  lasts f one was,
+  stands_behind first puts lasts front e rest here stands put,
+  ap (λ (bs : Bytes). bs ++ here) is ∙ append_assoc one rest here,
 )
 
 own_front : (front es : List Event) → AreOwn (front ++ es) → AreOwn front
 own_front [] es own = tt
-own_front (reads path got ∷ front) es own = own_front front es own
-own_front (compares one other same ∷ front) es own = own_front front es own
-own_front (writes path text whole ∷ front) es own = own_front front es own
-own_front (replaces path text whole ∷ front) es own = own_front front es own
-own_front (prints text whole ∷ front) es own = own_front front es own
-own_front (says line ∷ front) es own = own_front front es own
-own_front (shows error whole ∷ front) es own = absurd own
+own_front (f ∷ front) es own = (own.0, own_front front es own.1)
 
-own_last : (front es : List Event) → AreOwn (front ++ es) → AreOwn es
-own_last [] es own = own
-own_last (reads path got ∷ front) es own = own_last front es own
-own_last (compares one other same ∷ front) es own = own_last front es own
-own_last (writes path text whole ∷ front) es own = own_last front es own
-own_last (replaces path text whole ∷ front) es own = own_last front es own
-own_last (prints text whole ∷ front) es own = own_last front es own
-own_last (says line ∷ front) es own = own_last front es own
-own_last (shows error whole ∷ front) es own = absurd own
+own_last : (front : List Event) (e : Event) → AreOwn (front ++ e ∷ []) → IsOwn e
+own_last [] e own = own.0
+own_last (f ∷ front) e own = own_last front e own.1
 
-held_behind : (holds : Bytes → Option Bytes) (front es : List Event) → AreHeld holds front → AreHeld holds es → AreHeld holds (front ++ es)
-held_behind holds [] es held more = more
-held_behind holds (reads path (Some text) ∷ front) es held more = (held.0, held_behind holds front es held.1 more)
-held_behind holds (reads path None ∷ front) es held more = held_behind holds front es held more
-held_behind holds (compares one other same ∷ front) es held more = held_behind holds front es held more
-held_behind holds (writes path text whole ∷ front) es held more = held_behind holds front es held more
-held_behind holds (replaces path text whole ∷ front) es held more = held_behind holds front es held more
-held_behind holds (prints text whole ∷ front) es held more = held_behind holds front es held more
-held_behind holds (says line ∷ front) es held more = held_behind holds front es held more
-held_behind holds (shows error whole ∷ front) es held more = held_behind holds front es held more
+-- what the stream tells grows by what an event puts there, unless the parser was shown
+abbrev pub Grows : Puts → Option Bytes → Option Bytes → Event → Type 0
+Grows puts old new e = IsOwn e → (here : Bytes) × puts e here × Appends old new here
 
--- something that puts nothing there
-adds_none : (holds : Bytes → Option Bytes) (out : Option Bytes) (e : Event) → Puts e [] → AreHeld holds (e ∷ [])
-    → Adds (AreDone holds out) (AreDone holds out) (e ∷ [])
-adds_none holds out e puts held = record {
-  behind = λ front before. (
-    held_behind holds front (e ∷ []) before.0 held,
-    λ own. let (all, told, stands) = before.1 (own_front front (e ∷ []) own) in
-        (all, told, subst (Stands (front ++ e ∷ [])) (append-nil all) (stands_behind front e all [] stands puts)),
-  );
+known : (new : Option Bytes) (all here : Bytes) → Appends (Some all) new here → new ≡ Some (all ++ here)
+known None all here grown = absurd grown
+known (Some now) all here grown = ap Some grown
+
+on_behind : (first puts : Puts) → ((e : Event) (here : Bytes) → first e here → puts e here) → (old new : Option Bytes) (front : List Event)
+    (e : Event) → IsOn first old front → Grows puts old new e → IsOn puts new (front ++ e ∷ [])
+on_behind first puts lasts old new front e on grows own =
+    let (held, told, stands) = on (own_front front (e ∷ []) own) in
+    let (here, put, appends) = grows (own_last front e own) in (
+      held ++ here,
+      known new held here (subst (λ (o : Option Bytes). Appends o new here) told appends),
+      stands_behind first puts lasts front e held here stands put,
+    )
+
+-- an event that puts nothing there
+pub grows_none : (puts : Puts) (known : Option Bytes) (e : Event) → puts e [] → Grows puts known known e
+grows_none puts None e put own = ([], put, tt)
+grows_none puts (Some held) e put own = ([], put, sym (append-nil held))
+
+-- ---- what was read
+
+held_behind : (holds : Bytes → Option Bytes) (refuses : Bytes → Type 0) (front : List Event) (e : Event) → AreHeld holds refuses front
+    → IsHeld holds refuses e → AreHeld holds refuses (front ++ e ∷ [])
+held_behind holds refuses [] e held more = (more, tt)
+held_behind holds refuses (f ∷ front) e held more = (held.0, held_behind holds refuses front e held.1 more)
+
+-- ---- what failed has failed
+
+put_lasts : {F G : Type 0} → (F → G) → (text : Bytes) (whole : Bool) (here : Bytes) → IsPut F text whole here → IsPut G text whole here
+put_lasts f text true here put = put
+put_lasts f text false here (failed, many, is) = (f failed, many, is)
+
+line_lasts : {F G : Type 0} → (F → G) → (line here : Bytes) → IsLine F line here → IsLine G line here
+line_lasts f line here (inl whole) = inl whole
+line_lasts f line here (inr (failed, many, is)) = inr (f failed, many, is)
+
+out_lasts : {F G : Type 0} → (F → G) → (e : Event) (here : Bytes) → PutsOut F e here → PutsOut G e here
+out_lasts f (reads path got) here put = put
+out_lasts f (lacks path) here put = put
+out_lasts f (compares one other same) here put = put
+out_lasts f (asks path plain) here put = put
+out_lasts f (writes path text whole) here put = put
+out_lasts f (replaces path text whole) here put = put
+out_lasts f (leaves path) here put = put
+out_lasts f (prints text whole) here put = put_lasts f text whole here put
+out_lasts f (says line) here put = put
+out_lasts f (shows error whole) here put = tt
+
+err_lasts : {F G : Type 0} → (F → G) → (e : Event) (here : Bytes) → PutsErr F e here → PutsErr G e here
+err_lasts f (reads path got) here put = put
+err_lasts f (lacks path) here put = put
+err_lasts f (compares one other same) here put = put
+err_lasts f (asks path plain) here put = put
+err_lasts f (writes path text whole) here put = put
+err_lasts f (replaces path text whole) here put = put
+err_lasts f (leaves path) here put = put
+err_lasts f (prints text whole) here put = put
+err_lasts f (says line) here put = line_lasts f line here put
+err_lasts f (shows error whole) here put = tt
+
+-- ---- all of it
+
+-- what is outside goes on: what is known of files stays, and what failed has failed
+pub record GoesOn (old new : Outside) : Type 0 where
+  pub holds : new.holds ≡ old.holds
+  pub refuses : (path : Bytes) → old.refuses path → new.refuses path
+  pub out_failed : old.out_failed → new.out_failed
+  pub err_failed : old.err_failed → new.err_failed
+
+adds_one : (old new : Outside) (e : Event) → GoesOn old new → new.refuses ≡ old.refuses → IsHeld new.holds new.refuses e
+    → Grows (PutsOut new.out_failed) old.out new.out e → Grows (PutsErr new.err_failed) old.err new.err e
+    → Adds (AreDone old) (AreDone new) (e ∷ [])
+adds_one old new e on same held out err = record {
+  behind = λ front before. record {
+    held = held_behind new.holds new.refuses front e
+        (subst (λ (r : Bytes → Type 0). AreHeld new.holds r front) (sym same)
+        (subst (λ (h : Bytes → Option Bytes). AreHeld h old.refuses front) (sym on.holds) before.held)) held;
+    printed = on_behind (PutsOut old.out_failed) (PutsOut new.out_failed) (out_lasts on.out_failed) old.out new.out front e before.printed out;
+    said = on_behind (PutsErr old.err_failed) (PutsErr new.err_failed) (err_lasts on.err_failed) old.err new.err front e before.said err;
+  };
 }
 
-pub adds_read : (holds : Bytes → Option Bytes) (out : Option Bytes) (path text : Bytes) → IfSome (holds path) (λ held. text ≡ held)
-    → Adds (AreDone holds out) (AreDone holds out) (reads path (Some text) ∷ [])
-adds_read holds out path text held = adds_none holds out (reads path (Some text)) refl (held, tt)
+-- what is outside stays
+stays : (o : Outside) → GoesOn o o
+stays o = record { holds = refl; refuses = λ path r. r; out_failed = λ f. f; err_failed = λ f. f }
 
-pub adds_unread : (holds : Bytes → Option Bytes) (out : Option Bytes) (path : Bytes)
-    → Adds (AreDone holds out) (AreDone holds out) (reads path None ∷ [])
-adds_unread holds out path = adds_none holds out (reads path None) refl tt
+-- something that puts nothing on either stream
+adds_none : (o : Outside) (e : Event) → IsHeld o.holds o.refuses e → PutsOut o.out_failed e [] → PutsErr o.err_failed e []
+    → Adds (AreDone o) (AreDone o) (e ∷ [])
+adds_none o e held out err =
+    adds_one o o e (stays o) refl held (grows_none (PutsOut o.out_failed) o.out e out) (grows_none (PutsErr o.err_failed) o.err e err)
 
-pub adds_write : (holds : Bytes → Option Bytes) (out : Option Bytes) (path text : Bytes) (whole : Bool)
-    → Adds (AreDone holds out) (AreDone holds out) (writes path text whole ∷ [])
-adds_write holds out path text whole = adds_none holds out (writes path text whole) refl tt
+pub adds_compare : (o : Outside) (one other : Bytes) (same : Bool) → Adds (AreDone o) (AreDone o) (compares one other same ∷ [])
+adds_compare o one other same = adds_none o (compares one other same) tt refl refl
 
-pub adds_replace : (holds : Bytes → Option Bytes) (out : Option Bytes) (path text : Bytes) (whole : Bool)
-    → Adds (AreDone holds out) (AreDone holds out) (replaces path text whole ∷ [])
-adds_replace holds out path text whole = adds_none holds out (replaces path text whole) refl tt
+pub adds_ask : (o : Outside) (path : Bytes) (plain : Bool) → Adds (AreDone o) (AreDone o) (asks path plain ∷ [])
+adds_ask o path plain = adds_none o (asks path plain) tt refl refl
 
-pub adds_compare : (holds : Bytes → Option Bytes) (out : Option Bytes) (one other : Bytes) (same : Bool)
-    → Adds (AreDone holds out) (AreDone holds out) (compares one other same ∷ [])
-adds_compare holds out one other same = adds_none holds out (compares one other same) refl tt
+-- the file at a path was read, or it wasn't
+pub adds_reading : (o : Outside) (path : Bytes) (r : Result (Vec ℕ Global) Trouble)
+    → IfOk r (λ text. IfSome (o.holds path) (λ held. text.items ≡ take MOST_READ held))
+    → IfErr r (λ why. why ≡ trouble.Refused → o.refuses path) → Adds (AreDone o) (AreDone o) (reading_of path r ∷ [])
+adds_reading o path (Ok text) held refused = adds_none o (reads path (Some text.items)) held refl refl
+adds_reading o path (Err trouble.Refused) held refused = adds_none o (reads path None) (refused refl) refl refl
+adds_reading o path (Err trouble.NoMemory) held refused = adds_none o (lacks path) tt refl refl
 
-pub adds_line : (holds : Bytes → Option Bytes) (out : Option Bytes) (line : Bytes)
-    → Adds (AreDone holds out) (AreDone holds out) (says line ∷ [])
-adds_line holds out line = adds_none holds out (says line) refl tt
+-- ---- on a disk
+
+-- what a disk tells behind deeds
+abbrev pub behind_deeds : Outside → (Bytes → Option Bytes) → Outside
+behind_deeds o now = record {
+  holds = now;
+  refuses = o.refuses;
+  out = o.out;
+  out_failed = o.out_failed;
+  err = o.err;
+  err_failed = o.err_failed;
+}
+
+adds_deed : (o : Outside) (now : Bytes → Option Bytes) (e : Event) → now ≡ o.holds → IsHeld now o.refuses e
+    → PutsOut o.out_failed e [] → PutsErr o.err_failed e [] → Adds (AreDone o) (AreDone (behind_deeds o now)) (e ∷ [])
+adds_deed o now e kept held out err =
+    adds_one o (behind_deeds o now) e (record { holds = kept; refuses = λ path r. r; out_failed = λ f. f; err_failed = λ f. f }) refl held
+    (grows_none (PutsOut o.out_failed) o.out e out) (grows_none (PutsErr o.err_failed) o.err e err)
+
+-- and a new file may be left
+adds_left : (a b : List Event → Type 0) (o : Outside) (e : Event) (left : Option Bytes) → b ≡ AreDone o → Adds a b (e ∷ [])
+    → Adds a b (e ∷ leaving left)
+adds_left a b o e None is adds = adds
+adds_left a b o e (Some path) is adds = record {
+  behind = λ front before.
+      let one = subst (λ (p : List Event → Type 0). p (front ++ e ∷ [])) is (adds.behind front before) in
+      let two = (adds_none o (leaves path) tt refl refl).behind (front ++ e ∷ []) one in
+      subst (λ (p : List Event → Type 0). p (front ++ e ∷ leaves path ∷ [])) (sym is)
+      (subst (AreDone o) (append_assoc front (e ∷ []) (leaves path ∷ [])) two);
+}
+
+pub adds_write : (o : Outside) (now : Bytes → Option Bytes) (path text : Bytes) (whole : Bool) (r : Result Unit Unwritten)
+    → now ≡ o.holds → Adds (AreDone o) (AreDone (behind_deeds o now)) (writes path text whole ∷ leaving (path_left r))
+adds_write o now path text whole r kept =
+    adds_left (AreDone o) (AreDone (behind_deeds o now)) (behind_deeds o now) (writes path text whole) (path_left r) refl
+    (adds_deed o now (writes path text whole) kept tt refl refl)
+
+pub adds_replace : (o : Outside) (now : Bytes → Option Bytes) (path text : Bytes) (whole : Bool) (r : Result Unit Unwritten)
+    → now ≡ o.holds → Adds (AreDone o) (AreDone (behind_deeds o now)) (replaces path text whole ∷ leaving (path_left r))
+adds_replace o now path text whole r kept =
+    adds_left (AreDone o) (AreDone (behind_deeds o now)) (behind_deeds o now) (replaces path text whole) (path_left r) refl
+    (adds_deed o now (replaces path text whole) kept tt refl refl)
+
+-- ---- on a stream
+
+-- what streams tell behind more
+abbrev pub behind_put : Outside → Option Bytes → Type 0 → Option Bytes → Type 0 → Outside
+behind_put o out out_failed err err_failed = record {
+  holds = o.holds;
+  refuses = o.refuses;
+  out = out;
+  out_failed = out_failed;
+  err = err;
+  err_failed = err_failed;
+}
+
+same_appends : (old new : Option Bytes) → new ≡ old → Appends old new []
+same_appends None new is = tt
+same_appends (Some held) new is = subst (λ (o : Option Bytes). Appends (Some held) o []) (sym is) (sym (append-nil held))
+
+text_appended : (failed : Type 0) (old new : Option Bytes) (text : Bytes) (whole : Bool) → IsAppended failed old new text whole
+    → (here : Bytes) × IsPut failed text whole here × Appends old new here
+text_appended failed old new text true put = (text, refl, put)
+text_appended failed old new text false (fails, many, put) = (take many text, (fails, many, refl), put)
+
+line_appended : (failed : Type 0) (old new : Option Bytes) (line : Bytes) (whole : Bool)
+    → IsAppended failed old new (line ++ codes "\n") whole → (here : Bytes) × IsLine failed line here × Appends old new here
+line_appended failed old new line true put = (line ++ codes "\n", inl refl, put)
+line_appended failed old new line false (fails, many, put) = (take many (line ++ codes "\n"), inr (fails, many, refl), put)
+
+pub adds_print : (o : Outside) (out : Option Bytes) (out_failed : Type 0) (err : Option Bytes) (err_failed : Type 0) (text : Bytes)
+    (whole : Bool) → IsAppended out_failed o.out out text whole → (o.out_failed → out_failed) → Stays o.err_failed err_failed o.err err
+    → Adds (AreDone o) (AreDone (behind_put o out out_failed err err_failed)) (prints text whole ∷ [])
+adds_print o out out_failed err err_failed text whole put lasts other =
+    adds_one o (behind_put o out out_failed err err_failed) (prints text whole)
+    (record { holds = refl; refuses = λ path r. r; out_failed = lasts; err_failed = other.lasts }) refl tt
+    (λ own. text_appended out_failed o.out out text whole put) (λ own. ([], refl, same_appends o.err err other.same))
+
+pub adds_line : (o : Outside) (out : Option Bytes) (out_failed : Type 0) (err : Option Bytes) (err_failed : Type 0) (line : Bytes)
+    (whole : Bool) → IsAppended err_failed o.err err (line ++ codes "\n") whole → (o.err_failed → err_failed)
+    → Stays o.out_failed out_failed o.out out → Adds (AreDone o) (AreDone (behind_put o out out_failed err err_failed)) (says line ∷ [])
+adds_line o out out_failed err err_failed line whole put lasts other =
+    adds_one o (behind_put o out out_failed err err_failed) (says line)
+    (record { holds = refl; refuses = λ path r. r; out_failed = other.lasts; err_failed = lasts }) refl tt
+    (λ own. ([], refl, same_appends o.out out other.same)) (λ own. line_appended err_failed o.err err line whole put)
 
 -- the parser is shown
-pub adds_shown : (holds : Bytes → Option Bytes) (old new : Option Bytes) (error : Error) (whole : Bool)
-    → Adds (AreDone holds old) (AreDone holds new) (shows error whole ∷ [])
-adds_shown holds old new error whole = record {
-  behind = λ front before. (
-    held_behind holds front (shows error whole ∷ []) before.0 tt,
-    λ own. absurd (own_last front (shows error whole ∷ []) own),
-  );
-}
-
--- a text is printed, or a front of it
-adds_text : (holds : Bytes → Option Bytes) (old new : Option Bytes) (text here : Bytes) (whole : Bool) → Appends old new here
-    → IsPut text whole here → Adds (AreDone holds old) (AreDone holds new) (prints text whole ∷ [])
-adds_text holds old new text here whole appends put = record {
-  behind = λ front before. (
-    held_behind holds front (prints text whole ∷ []) before.0 tt,
-    λ own. let (all, told, stands) = before.1 (own_front front (prints text whole ∷ []) own) in
-        let grown = subst (λ (o : Option Bytes). Appends o new here) told appends in
-        (all ++ here, known new all here grown, stands_behind front (prints text whole) all here stands put),
-  );
-}
-  where
-    known : (new : Option Bytes) (all here : Bytes) → Appends (Some all) new here → new ≡ Some (all ++ here)
-    known None all here grown = absurd grown
-    known (Some now) all here grown = ap Some grown
-
-pub adds_print : {E : Type 0} (holds : Bytes → Option Bytes) (old new : Option Bytes) (text : Bytes) (r : Result Unit E) (whole : Bool)
-    → whole ≡ is_ok r → OnOk r (Appends old new text) → OnErr r ((many : ℕ) × Appends old new (take many text))
-    → Adds (AreDone holds old) (AreDone holds new) (prints text whole ∷ [])
-adds_print holds old new text (Ok done) whole is all front =
-    subst (λ (w : Bool). Adds (AreDone holds old) (AreDone holds new) (prints text w ∷ [])) (sym is)
-    (adds_text holds old new text text true all refl)
-adds_print holds old new text (Err e) whole is all front =
-    subst (λ (w : Bool). Adds (AreDone holds old) (AreDone holds new) (prints text w ∷ [])) (sym is)
-    (adds_text holds old new text (take front.0 text) false front.1 (front.0, refl))
-
--- the file was opened, and read to its end
-pub adds_text_of : {E : Type 0} (holds : Bytes → Option Bytes) (out : Option Bytes) (path : Bytes) (left : Option Bytes)
-    (r : Result (Vec ℕ Global) E) → IfSome (holds path) (λ held. left ≡ Some held) → IfOk r (λ text. IfSome left (λ all. text.items ≡ all))
-    → Adds (AreDone holds out) (AreDone holds out) (reads path (bytes_of r) ∷ [])
-adds_text_of holds out path left (Ok text) opened read =
-    adds_read holds out path text.items (known (holds path) left text.items opened read)
-  where
-    known : (held left : Option Bytes) (text : Bytes) → IfSome held (λ bs. left ≡ Some bs) → IfSome left (λ all. text ≡ all)
-        → IfSome held (λ bs. text ≡ bs)
-    known None left text opened read = tt
-    known (Some bs) left text opened read = subst (λ (o : Option Bytes). IfSome o (λ all. text ≡ all)) opened read
-adds_text_of holds out path left (Err e) opened read = adds_unread holds out path
+pub adds_shown : (o : Outside) (out : Option Bytes) (out_failed : Type 0) (err : Option Bytes) (err_failed : Type 0) (error : Error)
+    (whole : Bool) → (o.out_failed → out_failed) → (o.err_failed → err_failed)
+    → Adds (AreDone o) (AreDone (behind_put o out out_failed err err_failed)) (shows error whole ∷ [])
+adds_shown o out out_failed err err_failed error whole outs errs =
+    adds_one o (behind_put o out out_failed err err_failed) (shows error whole)
+    (record { holds = refl; refuses = λ path r. r; out_failed = outs; err_failed = errs }) refl tt (λ own. absurd own) (λ own. absurd own)

@@ -1,54 +1,109 @@
--- What was read, and what stands on the standard output, where a program did these things.
-use Rattle.std.specs.Prelude.{◌≡◌, ℕ, Bool, true, false, List, [], ◌∷◌, ◌++◌, Option, Some, None, IfSome, take}
-use Rattle.outside.specs.Events.{Bytes, Event, reads, compares, writes, replaces, prints, says, shows}
+-- What was read, and what stands on the standard output and error, where a program did these things.
+use Rattle.std.specs.Prelude.{◌≡◌, ◌⊎◌, ℕ, Bool, true, false, List, [], ◌∷◌, ◌++◌, Option, Some, None, IfSome, take, codes}
+use Rattle.outside.specs.Events.{Bytes, Event, reads, lacks, compares, asks, writes, replaces, leaves, prints, says, shows}
+use Rattle.outside.specs.declared.whole.TheConstants.{MOST_READ}
 
--- a text, or a front of it where it isn't whole
-abbrev pub IsPut : Bytes → Bool → Bytes → Type 0
-IsPut text true here = here ≡ text
-IsPut text false here = (many : ℕ) × (here ≡ take many text)
+-- ---- on the standard output
+
+-- a text; or a front of it, where it isn't whole, since a write failed
+abbrev pub IsPut : Type 0 → Bytes → Bool → Bytes → Type 0
+IsPut failed text true here = here ≡ text
+IsPut failed text false here = failed × (many : ℕ) × (here ≡ take many text)
 
 -- what one thing puts there; of what the parser of command lines shows it isn't known
-abbrev pub Puts : Event → Bytes → Type 0
-Puts (reads path got) here = here ≡ []
-Puts (compares one other same) here = here ≡ []
-Puts (writes path text whole) here = here ≡ []
-Puts (replaces path text whole) here = here ≡ []
-Puts (prints text whole) here = IsPut text whole here
-Puts (says line) here = here ≡ []
-Puts (shows error whole) here = Unit {0}
+abbrev pub PutsOut : Type 0 → Event → Bytes → Type 0
+PutsOut failed (reads path got) here = here ≡ []
+PutsOut failed (lacks path) here = here ≡ []
+PutsOut failed (compares one other same) here = here ≡ []
+PutsOut failed (asks path plain) here = here ≡ []
+PutsOut failed (writes path text whole) here = here ≡ []
+PutsOut failed (replaces path text whole) here = here ≡ []
+PutsOut failed (leaves path) here = here ≡ []
+PutsOut failed (prints text whole) here = IsPut failed text whole here
+PutsOut failed (says line) here = here ≡ []
+PutsOut failed (shows error whole) here = Unit {0}
+
+-- ---- on the standard error
+
+-- a line, and its end; or a front of that, since a write failed
+abbrev pub IsLine : Type 0 → Bytes → Bytes → Type 0
+IsLine failed line here = (here ≡ line ++ codes "\n") ⊎ (failed × (many : ℕ) × (here ≡ take many (line ++ codes "\n")))
+
+abbrev pub PutsErr : Type 0 → Event → Bytes → Type 0
+PutsErr failed (reads path got) here = here ≡ []
+PutsErr failed (lacks path) here = here ≡ []
+PutsErr failed (compares one other same) here = here ≡ []
+PutsErr failed (asks path plain) here = here ≡ []
+PutsErr failed (writes path text whole) here = here ≡ []
+PutsErr failed (replaces path text whole) here = here ≡ []
+PutsErr failed (leaves path) here = here ≡ []
+PutsErr failed (prints text whole) here = here ≡ []
+PutsErr failed (says line) here = IsLine failed line here
+PutsErr failed (shows error whole) here = Unit {0}
+
+-- ---- on either
 
 -- what all of them put there stands there, one behind the other
-abbrev pub Stands : List Event → Bytes → Type 0
-Stands [] out = out ≡ []
-Stands (e ∷ es) out = (here : Bytes) × (rest : Bytes) × Puts e here × Stands es rest × (out ≡ here ++ rest)
+abbrev pub Stands : (Event → Bytes → Type 0) → List Event → Bytes → Type 0
+Stands puts [] held = held ≡ []
+Stands puts (e ∷ es) held = (here : Bytes) × (rest : Bytes) × puts e here × Stands puts es rest × (held ≡ here ++ rest)
 
 -- the parser of command lines was not shown
+abbrev pub IsOwn : Event → Type 0
+IsOwn (reads path got) = Unit {0}
+IsOwn (lacks path) = Unit {0}
+IsOwn (compares one other same) = Unit {0}
+IsOwn (asks path plain) = Unit {0}
+IsOwn (writes path text whole) = Unit {0}
+IsOwn (replaces path text whole) = Unit {0}
+IsOwn (leaves path) = Unit {0}
+IsOwn (prints text whole) = Unit {0}
+IsOwn (says line) = Unit {0}
+IsOwn (shows error whole) = ⊥
+
 abbrev pub AreOwn : List Event → Type 0
 AreOwn [] = Unit {0}
-AreOwn (shows error whole ∷ es) = ⊥
-AreOwn (reads path got ∷ es) = AreOwn es
-AreOwn (compares one other same ∷ es) = AreOwn es
-AreOwn (writes path text whole ∷ es) = AreOwn es
-AreOwn (replaces path text whole ∷ es) = AreOwn es
-AreOwn (prints text whole ∷ es) = AreOwn es
-AreOwn (says line ∷ es) = AreOwn es
+AreOwn (e ∷ es) = IsOwn e × AreOwn es
 
--- an output that tells what it holds, and held nothing before, holds just what these put there, unless the parser was shown
-abbrev pub IsOn : Option Bytes → List Event → Type 0
-IsOn out es = AreOwn es → (held : Bytes) × (out ≡ Some held) × Stands es held
+-- a stream that tells what it holds, and held nothing before, holds just what these put there, unless the parser was shown
+abbrev pub IsOn : (Event → Bytes → Type 0) → Option Bytes → List Event → Type 0
+IsOn puts known es = AreOwn es → (held : Bytes) × (known ≡ Some held) × Stands puts es held
 
--- each text that was read is all that its file holds, where that is known
-abbrev pub AreHeld : (Bytes → Option Bytes) → List Event → Type 0
-AreHeld holds [] = Unit {0}
-AreHeld holds (reads path (Some text) ∷ es) = IfSome (holds path) (λ held. text ≡ held) × AreHeld holds es
-AreHeld holds (reads path None ∷ es) = AreHeld holds es
-AreHeld holds (compares one other same ∷ es) = AreHeld holds es
-AreHeld holds (writes path text whole ∷ es) = AreHeld holds es
-AreHeld holds (replaces path text whole ∷ es) = AreHeld holds es
-AreHeld holds (prints text whole ∷ es) = AreHeld holds es
-AreHeld holds (says line ∷ es) = AreHeld holds es
-AreHeld holds (shows error whole ∷ es) = AreHeld holds es
+-- ---- what was read
 
--- these were done, as far as the files and the output tell
-abbrev pub AreDone : (Bytes → Option Bytes) → Option Bytes → List Event → Type 0
-AreDone holds out es = AreHeld holds es × IsOn out es
+-- a text that was read is all that its file holds, up to one byte more than any text may have, where that is known; a file that wasn't read
+-- is one that the system refuses
+abbrev pub IsHeld : (Bytes → Option Bytes) → (Bytes → Type 0) → Event → Type 0
+IsHeld holds refuses (reads path (Some text)) = IfSome (holds path) (λ held. text ≡ take MOST_READ held)
+IsHeld holds refuses (reads path None) = refuses path
+IsHeld holds refuses (lacks path) = Unit {0}
+IsHeld holds refuses (compares one other same) = Unit {0}
+IsHeld holds refuses (asks path plain) = Unit {0}
+IsHeld holds refuses (writes path text whole) = Unit {0}
+IsHeld holds refuses (replaces path text whole) = Unit {0}
+IsHeld holds refuses (leaves path) = Unit {0}
+IsHeld holds refuses (prints text whole) = Unit {0}
+IsHeld holds refuses (says line) = Unit {0}
+IsHeld holds refuses (shows error whole) = Unit {0}
+
+abbrev pub AreHeld : (Bytes → Option Bytes) → (Bytes → Type 0) → List Event → Type 0
+AreHeld holds refuses [] = Unit {0}
+AreHeld holds refuses (e ∷ es) = IsHeld holds refuses e × AreHeld holds refuses es
+
+-- ---- all of it
+
+-- what the files and the streams tell: what is known of files, which of them the system refuses, what stands on either stream, and whether a
+-- write on it failed
+pub record Outside : Type 1 where
+  pub holds : Bytes → Option Bytes
+  pub refuses : Bytes → Type 0
+  pub out : Option Bytes
+  pub out_failed : Type 0
+  pub err : Option Bytes
+  pub err_failed : Type 0
+
+-- these were done, as far as they tell
+pub record AreDone (o : Outside) (es : List Event) : Type 0 where
+  pub held : AreHeld o.holds o.refuses es
+  pub printed : IsOn (PutsOut o.out_failed) o.out es
+  pub said : IsOn (PutsErr o.err_failed) o.err es

@@ -1,33 +1,52 @@
-//! Where files lie.
+//! Where files lie, and what is done there: each call is one of the system's.
 
 use std::alloc::Global;
-use std::fs::{File, OpenFile};
-use std::io::{Read, Write};
-use std::os::unix::fs::MetadataExt;
-use std::rt::Files;
-use std::{fs, io};
+use std::io;
 
-/// Where files lie: what is known of them, contracts see.
+/// Where a path leads.
+#[derive(Debug, Drop)]
+pub enum Lead {
+    /// To a plain file: the path of that, behind all links.
+    Plain(String),
+    /// Nowhere: nothing is there, no link either.
+    Free,
+    /// To something else: a folder, a device, a pipe, or a link to nothing.
+    Other,
+}
+
+/// Where files lie: what is known of them, and what was done there, contracts see. Only the calls here make it known, so whoever promises
+/// it over any disk has made them.
 pub trait Disk {
-    ghost use Rattle.std.specs.Prelude.{◌≡◌, ℕ, List, Option, None, Some, IfOk, IfSome, OnOk, string_bytes};
+    ghost use Rattle.std.specs.Prelude.{◌≡◌, ◌∷◌, [], ℕ, List, Option, None, IfOk, IfSome, OnOk, OnErr, take, string_bytes, is_ok};
+    ghost use Rattle.outside.specs.Deeds.{Deed, Does, makes, cuts, permits, fills, syncs, moves, removes};
+    ghost use Rattle.outside.specs.Leads.{Leads, making_of};
 
     /// A file that is open.
-    type File: Read + Write + Drop;
+    type File: Drop;
 
-    /// What the file at a path holds, where that is known.
+    /// What the file at a path holds, where that is known: then nobody changes it.
     ghost holds: { Self → List ℕ → Option (List ℕ) } = { λ _ _. None };
 
-    /// Whether an open file was made at a path, as far as that is known.
+    /// Whether just these deeds were done so far, as far as that is known.
+    ghost did: { Self → List Deed → Type 0 } = { λ _ _. Unit {0} };
+
+    /// Whether an open file is the one at a path, as far as that is known.
     ghost is_at: { Self.File → List ℕ → Type 0 } = { λ _ _. Unit {0} };
 
-    /// Whether a path leads to the file at another one, which is no link, as far as that is known.
+    /// What an open file has left to be read, where that is known.
+    ghost remaining: { Self.File → Option (List ℕ) } = { λ _. None };
+
+    /// Whether the system refuses to read the file at a path, as far as that is known.
+    ghost refuses: { List ℕ → Type 0 } = { λ _. Unit {0} };
+
+    /// Whether a path leads to the plain file at another one, which is no link, as far as that is known.
     ghost leads: { List ℕ → List ℕ → Type 0 } = { λ _ _. Unit {0} };
 
-    /// Whether what was written to an open file is on the disk itself, as far as that is known.
-    ghost is_synced: { Self.File → Type 0 } = { λ _. Unit {0} };
+    /// Whether nothing is at a path, as far as that is known.
+    ghost is_free: { List ℕ → Type 0 } = { λ _. Unit {0} };
 
-    /// Whether the file at a path was moved to another one, over what was there, as far as that is known.
-    ghost is_moved: { List ℕ → List ℕ → Type 0 } = { λ _ _. Unit {0} };
+    /// Whether something else than a plain file is at a path, as far as that is known.
+    ghost is_other: { List ℕ → Type 0 } = { λ _. Unit {0} };
 
     /// Opens the file at a path, to read it from its beginning.
     ///
@@ -35,119 +54,93 @@ pub trait Disk {
     ///
     /// The system refuses it.
     fn open(&self, path: &str) -> io::Result<Self::File>
-        ensures { IfOk result (λ file. IfSome (holds self.now path.now) (λ held. Self.File.remaining file ≡ Some held)) };
+        ensures is_at { IfOk result (λ file. is_at file path.now) }
+        ensures holds { IfOk result (λ file. IfSome (holds self.now path.now) (λ held. remaining file ≡ Some held)) }
+        ensures refused { OnErr result (refuses path.now) };
+
+    /// Reads what an open file has left, up to so many bytes, behind a text that is empty.
+    ///
+    /// # Errors
+    ///
+    /// The system refuses it, or there is no memory for the text.
+    fn read_to(&self, file: &mut Self::File, most: u64, text: &mut Vec<u8>) -> io::Result<()>
+        requires { text.old.items ≡ [] }
+        ensures whole { OnOk result (IfSome (remaining file.old) (λ left. text.new.items ≡ take most left)) }
+        ensures refused { (path : List ℕ) → is_at file.old path → OnErr result (refuses path) };
+
+    /// Where a path leads.
+    ///
+    /// # Errors
+    ///
+    /// The system doesn't tell, or there is no memory for the path.
+    fn lead(&self, alloc: Global, path: &str) -> io::Result<Lead>
+        ensures { IfOk result (Leads (leads path.now) (is_free path.now) (is_other path.now)) };
 
     /// Makes the file at a path, to write it from its beginning, in place of one that was there.
     ///
     /// # Errors
     ///
     /// The system refuses it.
-    fn create(&self, path: &str) -> io::Result<Self::File>
-        ensures { IfOk result (λ file. is_at file path.now) };
+    fn create(&mut self, path: &str) -> io::Result<Self::File>
+        ensures does { Does (did self.old) (did self.new) (holds self.old) (holds self.new) (cuts path.now (is_ok result) ∷ []) }
+        ensures is_at { IfOk result (λ file. is_at file path.now) };
 
     /// Makes a file at a path where nothing is, to write it.
     ///
     /// # Errors
     ///
-    /// Something is there, or the system refuses it.
-    fn create_new(&self, path: &str) -> io::Result<Self::File>
-        ensures { IfOk result (λ file. is_at file path.now) };
-
-    /// Where a path leads: the path of its file, behind all links.
-    ///
-    /// # Errors
-    ///
-    /// It leads to no file, or to one that is no plain file, as a device; or there is no memory for the path.
-    fn follow_links(&self, alloc: Global, path: &str) -> io::Result<String>
-        ensures { IfOk result (λ real. leads path.now (string_bytes real)) };
+    /// Something is there, the folder doesn't allow it, or the system refuses it.
+    fn create_new(&mut self, path: &str) -> io::Result<Self::File>
+        ensures does { Does (did self.old) (did self.new) (holds self.old) (holds self.new) (makes path.now (making_of result) ∷ []) }
+        ensures is_at { IfOk result (λ file. is_at file path.now) };
 
     /// Gives an open file the permissions of the file at a path.
     ///
     /// # Errors
     ///
     /// The system refuses it.
-    fn take_permissions(&self, file: &Self::File, path: &str) -> io::Result<()>;
+    fn take_permissions(&mut self, file: &Self::File, path: &str) -> io::Result<()>
+        ensures { (at : List ℕ) → is_at file.now at
+            → Does (did self.old) (did self.new) (holds self.old) (holds self.new) (permits at path.now (is_ok result) ∷ []) };
+
+    /// Writes a text to an open file.
+    ///
+    /// # Errors
+    ///
+    /// The system doesn't take it whole: the file has a front of it.
+    fn fill(&mut self, file: &mut Self::File, text: &[u8]) -> io::Result<()>
+        ensures does { (at : List ℕ) → is_at file.old at
+            → Does (did self.old) (did self.new) (holds self.old) (holds self.new) (fills at text.now (is_ok result) ∷ []) }
+        ensures stays { (at : List ℕ) → is_at file.old at → is_at file.new at };
 
     /// Waits until what was written to an open file is on the disk itself.
     ///
     /// # Errors
     ///
     /// The system can't.
-    fn sync(&self, file: &Self::File) -> io::Result<()>
-        ensures { OnOk result (is_synced file.now) };
+    fn sync(&mut self, file: &Self::File) -> io::Result<()>
+        ensures { (at : List ℕ) → is_at file.now at
+            → Does (did self.old) (did self.new) (holds self.old) (holds self.new) (syncs at (is_ok result) ∷ []) };
 
     /// Moves the file at a path to another one, over what is there, in one step: that has the old file or the new one at any time.
     ///
     /// # Errors
     ///
     /// The system refuses it, and nothing is moved.
-    fn rename(&self, from: &str, to: &str) -> io::Result<()>
-        ensures { OnOk result (is_moved from.now to.now) };
+    fn rename(&mut self, from: &str, to: &str) -> io::Result<()>
+        ensures { Does (did self.old) (did self.new) (holds self.old) (holds self.new) (moves from.now to.now (is_ok result) ∷ []) };
 
     /// Removes the file at a path.
     ///
     /// # Errors
     ///
     /// The system refuses it.
-    fn remove(&self, path: &str) -> io::Result<()>;
+    fn remove(&mut self, path: &str) -> io::Result<()>
+        ensures { Does (did self.old) (did self.new) (holds self.old) (holds self.new) (removes path.now (is_ok result) ∷ []) };
 
     /// Whether two paths lead to one file, as far as the system tells.
     fn is_one_file(&self, one: &str, other: &str) -> bool;
-}
 
-/// The files of a runtime, of which nothing is known.
-#[derive(Drop)]
-pub struct SystemFiles<'r, F> {
-    /// The runtime that has them.
-    pub files: &'r F,
-}
-
-impl<'r, F: Files> Disk for SystemFiles<'r, F> {
-    type File = F::File;
-
-    fn open(&self, path: &str) -> io::Result<F::File> {
-        fs::open(self.files, path)
-    }
-
-    fn create(&self, path: &str) -> io::Result<F::File> {
-        fs::create(self.files, path)
-    }
-
-    fn create_new(&self, path: &str) -> io::Result<F::File> {
-        File::create_new(self.files, path)
-    }
-
-    fn follow_links(&self, alloc: Global, path: &str) -> io::Result<String> {
-        if !fs::metadata(self.files, path)?.is_file() {
-            return Err(io::Error::from(io::ErrorKind::Unsupported));
-        }
-        Ok(self.files.canonicalize(alloc, path)?.into_string())
-    }
-
-    fn take_permissions(&self, file: &F::File, path: &str) -> io::Result<()> {
-        let permissions = fs::metadata(self.files, path)?.permissions();
-        file.set_permissions(permissions)
-    }
-
-    fn sync(&self, file: &F::File) -> io::Result<()> {
-        file.sync_all()
-    }
-
-    fn rename(&self, from: &str, to: &str) -> io::Result<()> {
-        fs::rename(self.files, from, to)
-    }
-
-    fn remove(&self, path: &str) -> io::Result<()> {
-        fs::remove_file(self.files, path)
-    }
-
-    fn is_one_file(&self, one: &str, other: &str) -> bool {
-        match (
-            fs::metadata(self.files, one),
-            fs::metadata(self.files, other),
-        ) {
-            (Ok(one), Ok(other)) => one.dev() == other.dev() && one.ino() == other.ino(),
-            _ => false,
-        }
-    }
+    /// Whether a path leads to a plain file, as far as the system tells.
+    fn is_plain(&self, path: &str) -> bool;
 }

@@ -1,79 +1,138 @@
 //! What is done on files and streams.
 
-use crate::beside::put_over;
-use crate::disk::Disk;
-use crate::whole::{read_whole, trouble_of, write_whole};
-use crate::world::{Trouble, World};
+use crate::beside::{cut_over, put_at, put_over};
+use crate::disk::{Disk, Lead};
+use crate::streams::Streams;
+use crate::trouble::{Trouble, Unwritten, not_written, trouble_of};
+use crate::whole::read_whole;
+use crate::world::World;
 use std::alloc::Global;
-use std::io::Write;
 
-/// Files, a standard output, and a runtime for the standard error, and for what the parser of command lines shows.
+/// Files, and the standard output and error.
 #[derive(Drop)]
-pub struct Host<'r, D, O, R> {
+pub struct Host<D, S> {
     /// Where the files lie.
     pub disk: D,
-    /// The standard output.
-    pub out: O,
-    /// What has the standard error, and shows what the parser says.
-    pub rt: &'r R,
+    /// The standard output and error.
+    pub streams: S,
 }
 
-impl<D: Disk + Drop, O: Write + Drop, R: Print + Eprint> World for Host<'_, D, O, R> {
-    ghost use Rattle.std.specs.Prelude.{ℕ, List, ◌∷◌, [], OnOk, is_ok};
-    ghost use Rattle.std.specs.Io.KnownBytes.{Appends};
-    ghost use Rattle.outside.specs.Events.{Adds, writes, replaces};
+impl<D: Disk + Drop, S: Streams + Drop> World for Host<D, S> {
+    ghost use Rattle.std.specs.Prelude.{List, ◌∷◌, [], is_ok};
+    ghost use Rattle.outside.specs.Deeds.{Deed};
+    ghost use Rattle.outside.specs.Events.{Adds, writes, replaces, path_left, leaving};
     ghost use Rattle.outside.specs.Output.{AreDone};
+    ghost use Rattle.outside.specs.Tried.{Turns};
+    ghost use Rattle.outside.specs.Written.{IsWrittenTo, IsReplacedBy};
 
-    ghost done = { λ h es. AreDone (D.holds h.disk) (O.contents h.out) es };
+    ghost done = { λ h es. AreDone (record {
+      holds = D.holds h.disk;
+      refuses = D.refuses;
+      out = S.out h.streams;
+      out_failed = S.out_failed h.streams;
+      err = S.err h.streams;
+      err_failed = S.err_failed h.streams;
+    }) es };
 
     fn read(&mut self, alloc: Global, path: &str) -> Result<Vec<u8>, Trouble> {
-        match self.disk.open(path) {
-            Ok(mut file) => read_whole(alloc, &mut file),
-            Err(error) => Err(trouble_of(&error)),
-        }
+        read_whole(&self.disk, alloc, path)
     }
 
     fn is_one_file(&mut self, one: &str, other: &str) -> bool {
         one == other || self.disk.is_one_file(one, other)
     }
 
-    fn write(&mut self, path: &str, text: &[u8]) -> Result<(), Trouble>
-        ensures done { Adds (AreDone (D.holds self.old.disk) (O.contents self.old.out))
-            (AreDone (D.holds self.new.disk) (O.contents self.new.out)) (writes path.now text.now (is_ok result) ∷ []) }
-        ensures whole { OnOk result ((made written : D.File) × D.is_at made path.now
-            × Appends (D.File.contents made) (D.File.contents written) text.now) }
+    fn is_plain(&mut self, path: &str) -> bool {
+        self.disk.is_plain(path)
+    }
+
+    fn write(&mut self, alloc: Global, path: &str, text: &[u8]) -> Result<(), Unwritten>
+        ensures done { Adds (AreDone (record {
+          holds = D.holds self.old.disk;
+          refuses = D.refuses;
+          out = S.out self.old.streams;
+          out_failed = S.out_failed self.old.streams;
+          err = S.err self.old.streams;
+          err_failed = S.err_failed self.old.streams;
+        }))
+            (AreDone (record {
+              holds = D.holds self.new.disk;
+              refuses = D.refuses;
+              out = S.out self.new.streams;
+              out_failed = S.out_failed self.new.streams;
+              err = S.err self.new.streams;
+              err_failed = S.err_failed self.new.streams;
+            }))
+            (writes path.now text.now (is_ok result) ∷ leaving (path_left result)) }
+        ensures written { (ds : List Deed) × Turns (record {
+          before = D.did self.old.disk;
+          after = D.did self.new.disk;
+          known = D.holds self.old.disk;
+          now = D.holds self.new.disk;
+        }) ds
+            × IsWrittenTo (D.leads path.now) (D.is_free path.now) (D.is_other path.now) path.now text.now ds result }
     {
-        match self.disk.create(path) {
-            Ok(mut file) => write_whole(&mut file, text),
-            Err(error) => Err(trouble_of(&error)),
+        match self.disk.lead(alloc, path) {
+            Ok(Lead::Plain(real)) => {
+                put_at(
+                    &mut self.disk,
+                    alloc,
+                    Some(real.as_str()),
+                    real.as_str(),
+                    text,
+                )
+            }
+            Ok(Lead::Free) => put_at(&mut self.disk, alloc, None, path, text),
+            Ok(Lead::Other) => cut_over(&mut self.disk, path, text),
+            Err(error) => Err(not_written(trouble_of(&error))),
         }
     }
 
-    fn replace(&mut self, alloc: Global, path: &str, text: &[u8]) -> Result<(), Trouble>
-        ensures done { Adds (AreDone (D.holds self.old.disk) (O.contents self.old.out))
-            (AreDone (D.holds self.new.disk) (O.contents self.new.out)) (replaces path.now text.now (is_ok result) ∷ []) }
-        ensures whole { OnOk result ((real beside : List ℕ) × (made written : D.File) × D.leads path.now real × D.is_at made beside
-            × Appends (D.File.contents made) (D.File.contents written) text.now × D.is_synced written × D.is_moved beside real) }
+    fn replace(&mut self, alloc: Global, path: &str, text: &[u8]) -> Result<(), Unwritten>
+        ensures done { Adds (AreDone (record {
+          holds = D.holds self.old.disk;
+          refuses = D.refuses;
+          out = S.out self.old.streams;
+          out_failed = S.out_failed self.old.streams;
+          err = S.err self.old.streams;
+          err_failed = S.err_failed self.old.streams;
+        }))
+            (AreDone (record {
+              holds = D.holds self.new.disk;
+              refuses = D.refuses;
+              out = S.out self.new.streams;
+              out_failed = S.out_failed self.new.streams;
+              err = S.err self.new.streams;
+              err_failed = S.err_failed self.new.streams;
+            }))
+            (replaces path.now text.now (is_ok result) ∷ leaving (path_left result)) }
+        ensures replaced { (ds : List Deed) × Turns (record {
+          before = D.did self.old.disk;
+          after = D.did self.new.disk;
+          known = D.holds self.old.disk;
+          now = D.holds self.new.disk;
+        }) ds × IsReplacedBy (D.leads path.now) text.now ds result }
     {
-        match self.disk.follow_links(alloc, path) {
-            Ok(real) => put_over(&self.disk, alloc, real.as_str(), text),
-            Err(error) => Err(trouble_of(&error)),
+        match self.disk.lead(alloc, path) {
+            Ok(Lead::Plain(real)) => put_over(&mut self.disk, alloc, real.as_str(), text),
+            Ok(_) => Err(not_written(Trouble::Refused)),
+            Err(error) => Err(not_written(trouble_of(&error))),
         }
     }
 
     fn print(&mut self, text: &[u8]) -> bool {
-        write_whole(&mut self.out, text).is_ok()
+        self.streams.print(text).is_ok()
     }
 
     fn say(&mut self, line: &str) {
-        let _ = self.rt.eprintln(line);
+        let _ = self.streams.say(line);
     }
 
     fn say_of(&mut self, path: &str, line: &str) {
-        let _ = self.rt.eprintln(format_args!("{path}: {line}"));
+        let _ = self.streams.say_of(path, line);
     }
 
     fn show(&mut self, error: &clap::Error) -> bool {
-        error.print(self.rt).is_ok()
+        self.streams.show(error).is_ok()
     }
 }

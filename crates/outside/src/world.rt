@@ -1,52 +1,49 @@
 //! What lies outside of the program: files, and the standard output and error.
 
+use crate::trouble::{Trouble, Unwritten};
 use std::alloc::Global;
-
-/// Why a file is not read or written.
-#[derive(Clone, Copy, Debug, PartialEq, Eq)]
-pub enum Trouble {
-    /// Memory ran out.
-    NoMemory,
-    /// The system refuses it.
-    Refused,
-}
 
 /// What the program does on the outside. Contracts see all that was done, in order.
 pub trait World {
-    ghost use Rattle.std.specs.Prelude.{◌≡◌, ◌++◌, ◌∷◌, [], List, Option, None, codes, is_ok, true};
-    ghost use Rattle.outside.specs.Events.{Event, Adds, bytes_of, reads, compares, writes, replaces, prints, says, shows};
+    ghost use Rattle.std.specs.Prelude.{◌≡◌, ◌++◌, ◌∷◌, [], List, codes, is_ok, true};
+    ghost use Rattle.outside.specs.Events.{Event, Adds, reading_of, path_left, leaving, compares, asks, writes, replaces, prints, says, shows};
 
     /// Whether just this was done so far, as far as what lies outside tells.
     ghost done: { Self → List Event → Type 0 };
 
-    /// Reads the file at a path.
+    /// Reads the file at a path, up to one byte more than any text may have.
     ///
     /// # Errors
     ///
     /// The file can't be read, or there is no memory for it.
     fn read(&mut self, alloc: Global, path: &str) -> Result<Vec<u8>, Trouble>
-        ensures { Adds (done self.old) (done self.new) (reads path.now (bytes_of result) ∷ []) };
+        ensures { Adds (done self.old) (done self.new) (reading_of path.now result ∷ []) };
 
     /// Whether two paths lead to one file, as far as the system tells. A path leads where it leads itself, though nothing is there.
     fn is_one_file(&mut self, one: &str, other: &str) -> bool
         ensures told { Adds (done self.old) (done self.new) (compares one.now other.now result ∷ []) }
         ensures same { one.now ≡ other.now → result ≡ true };
 
+    /// Whether a path leads to a plain file, which is no folder, device or pipe, as far as the system tells.
+    fn is_plain(&mut self, path: &str) -> bool
+        ensures { Adds (done self.old) (done self.new) (asks path.now result ∷ []) };
+
     /// Writes a text to the file at a path, in place of what it had.
     ///
     /// # Errors
     ///
-    /// The file can't be written whole, or there is no memory for that: what it has then is not said.
-    fn write(&mut self, path: &str, text: &[u8]) -> Result<(), Trouble>
-        ensures { Adds (done self.old) (done self.new) (writes path.now text.now (is_ok result) ∷ []) };
+    /// The file can't be written whole, or there is no memory for that. It has what it had, unless no new file can be made beside it: what it
+    /// has then is not said.
+    fn write(&mut self, alloc: Global, path: &str, text: &[u8]) -> Result<(), Unwritten>
+        ensures { Adds (done self.old) (done self.new) (writes path.now text.now (is_ok result) ∷ leaving (path_left result)) };
 
-    /// Puts a text in place of what the file at a path has: at any time that has the one or the other whole.
+    /// Puts a text in place of what the plain file at a path has: at any time that has the one or the other whole.
     ///
     /// # Errors
     ///
     /// The text can't be put there, or there is no memory for that: the file has what it had.
-    fn replace(&mut self, alloc: Global, path: &str, text: &[u8]) -> Result<(), Trouble>
-        ensures { Adds (done self.old) (done self.new) (replaces path.now text.now (is_ok result) ∷ []) };
+    fn replace(&mut self, alloc: Global, path: &str, text: &[u8]) -> Result<(), Unwritten>
+        ensures { Adds (done self.old) (done self.new) (replaces path.now text.now (is_ok result) ∷ leaving (path_left result)) };
 
     /// Prints a text on the standard output, and answers whether it was printed whole.
     fn print(&mut self, text: &[u8]) -> bool

@@ -1,5 +1,5 @@
 -- From scripts that edit a source to what is told of that.
-use Rattle.std.proofs.Common.{◌≡◌, ◌<◌, ◌-◌, ◌++◌, ◌∷◌, [], ℕ, Bool, true, false, All, List, Option, Some, None, ap, ap₂, arith, codes, drop, inl, inr, length, map, refl, slice_index_or, subst, sym, take, Result}
+use Rattle.std.proofs.Common.{◌≡◌, ◌<◌, ◌-◌, ◌++◌, ◌∷◌, [], ℕ, Bool, true, false, All, List, Option, Some, None, ap, arith, codes, drop, inl, inr, length, map, refl, slice_index_or, subst, sym, take, Result}
 use Rattle.std.proofs.lemmas.List.{take_rest}
 use Rattle.std.proofs.lemmas.List.Elements.{All-cons, All-nil}
 use Rattle.std.specs.Prelude.{is_some, Vec}
@@ -9,13 +9,15 @@ use Rattle.std.proofs.lemmas.List.{append-nil}
 use Rattle.commandline.specs.declared.edit_order.Allowed.{Allowed}
 use Rattle.commandline.specs.declared.edit_order.Outputs.{Outputs}
 use Rattle.conduct.specs.Ending.{EndsBy}
-use Rattle.conduct.specs.Telling.{IsSaid}
+use Rattle.conduct.specs.Telling.{IsSaid, IsUnwrittenTold}
+use Rattle.commandline.specs.declared.edit_order.Destination.{Destination}
+use Rattle.commandline.specs.declared.edit_order.Destination.TheVariants as place
 use Rattle.conduct.proofs.Behind.{EndsBy-behind}
 use Rattle.edittext.specs.Answers.{IsEditAnswer}
 use Rattle.edittext.specs.Edited.{edit_room}
 use Rattle.edittext.specs.declared.answering.Told.{Told}
-use Rattle.outside.specs.Events.{Bytes, Event, IsQuiet, compares, writes}
-use Rattle.program.specs.Edits.{AreCompared, ArePutReplies, AreRepliesThen, Clash, IsFoundOr, IsSaved, clashes, IsAnsweredEdit, IsEditDone, IsEditFollowed, IsEditTold}
+use Rattle.outside.specs.Events.{Bytes, Event, IsQuiet, asks, writes}
+use Rattle.program.specs.Edits.{ArePutReplies, AreRepliesThen, IsAnsweredEdit, IsAsked, IsEditDone, IsEditTold, IsPlainThen}
 
 -- a list with something in it, by that and what stands behind
 pub first_and_rest : {X Y : Type 0} (f : X → Y) (xs : List X) (d : X) → 0 < length xs
@@ -34,50 +36,6 @@ edit_answered keyed paths texts path source others scripts workers room o allowe
     (is_some o.replies) told
     → IsAnsweredEdit keyed ps workers room o allowed (source ∷ scripts) es status) (sym named) (λ own. inl (told, own, is)) answer)
 
--- asking where paths lead is quiet
-found_is_quiet : (same : Bool) (line : Bytes) (P : List Event → Option Bytes → Type 0)
-    → ((es : List Event) (found : Option Bytes) → P es found → All IsQuiet es)
-    → (es : List Event) (found : Option Bytes) → IsFoundOr same line P es found → All IsQuiet es
-found_is_quiet true line P quiet es found is = subst (λ (done : List Event). All IsQuiet done) (sym is.0) (All-nil IsQuiet)
-found_is_quiet false line P quiet es found is = quiet es found is
-
-compared_is_quiet : (xs : List Clash) (es : List Event) (line : Option Bytes) → AreCompared xs es line → All IsQuiet es
-compared_is_quiet [] es line is = subst (λ (done : List Event). All IsQuiet done) (sym is.0) (All-nil IsQuiet)
-compared_is_quiet (x ∷ xs) es line is =
-    subst (λ (done : List Event). All IsQuiet done) (sym is.2)
-    (All-cons IsQuiet (compares x.one x.other is.0) is.1 tt
-    (found_is_quiet is.0 x.line (AreCompared xs) (compared_is_quiet xs) is.1 line is.4))
-
--- something would go over the source, or two texts to one file
-pub over_source : (keyed : Bool) (paths : List Bytes) (source : Bytes) (scripts : List Bytes) (workers : ℕ) (room : Option ℕ)
-    (given : Option Outputs) (o : Outputs) (allowed : Allowed) (asked rest : List Event) (line : Bytes) (status : ℕ)
-    → paths ≡ source ∷ scripts → given ≡ Some o → AreCompared (clashes o source) asked (Some line) → IsSaid line rest status
-    → IsEditDone keyed paths workers room given allowed (asked ++ rest) status
-over_source keyed paths source scripts workers room given o allowed asked rest line status named is compared said =
-    subst (λ (p : Option Outputs). IsEditDone keyed paths workers room p allowed (asked ++ rest) status) (sym is) (
-      source,
-      scripts,
-      named,
-      (asked, rest, refl, inl (line, compared, said)),
-    )
-
--- nothing would
-pub apart : {E : Type 0} (keyed : Bool) (paths : List Bytes) (source : Bytes) (scripts : List Bytes) (workers : ℕ) (room : Option ℕ)
-    (given : Option Outputs) (o : Outputs) (allowed : Allowed) (asked rest : List Event) (r : Result ℕ E)
-    → paths ≡ source ∷ scripts → given ≡ Some o → AreCompared (clashes o source) asked None
-    → EndsBy (IsEditFollowed keyed paths workers room o allowed) rest r
-    → EndsBy (IsEditDone keyed paths workers room given allowed) (asked ++ rest) r
-apart keyed paths source scripts workers room given o allowed asked rest r named is compared ends =
-    EndsBy-behind (IsEditFollowed keyed paths workers room o allowed) (IsEditDone keyed paths workers room given allowed) asked rest r
-    (compared_is_quiet (clashes o source) asked None compared)
-    (λ status follows. subst (λ (p : Option Outputs). IsEditDone keyed paths workers room p allowed (asked ++ rest) status) (sym is) (
-      source,
-      scripts,
-      named,
-      (asked, rest, refl, inr (compared, follows)),
-    ))
-    ends
-
 -- two places are asked for
 pub two_places : (keyed : Bool) (paths : List Bytes) (workers : ℕ) (room : Option ℕ) (given : Option Outputs) (allowed : Allowed)
     (es : List Event) (status : ℕ)
@@ -86,56 +44,42 @@ pub two_places : (keyed : Bool) (paths : List Bytes) (workers : ℕ) (room : Opt
 two_places keyed paths workers room given allowed es status is said =
     subst (λ (p : Option Outputs). IsEditDone keyed paths workers room p allowed es status) (sym is) said
 
--- ---- comparisons, one behind another
+-- ---- what would be written over
 
-found_more : (same : Bool) (line : Bytes) (P Q : List Event → Option Bytes → Type 0) (es : List Event) (found : Option Bytes)
-    → (P es found → Q es found) → IsFoundOr same line P es found → IsFoundOr same line Q es found
-found_more true line P Q es found f is = is
-found_more false line P Q es found f is = f is
+-- a plain source is edited
+pub plain_then : {E : Type 0} (place : Destination) (source : Bytes) (P : List Event → ℕ → Type 0) (asked rest : List Event)
+    (r : Result ℕ E) → All IsQuiet asked → IsAsked place source asked true → EndsBy P rest r
+    → EndsBy (IsPlainThen place source P) (asked ++ rest) r
+plain_then place source P asked rest r quiet is ends =
+    EndsBy-behind P (IsPlainThen place source P) asked rest r quiet (λ status follows. (true, asked, rest, refl, is, follows)) ends
 
--- what is found among some is found among these and others
-pub compared_found : (xs ys : List Clash) (es : List Event) (line : Bytes) → AreCompared xs es (Some line)
-    → AreCompared (xs ++ ys) es (Some line)
-compared_found [] ys es line is = absurd (let none = is.1 in cc)
-compared_found (x ∷ xs) ys es line is = (
-  is.0,
-  is.1,
-  is.2,
-  is.3,
-  found_more is.0 x.line (AreCompared xs) (AreCompared (xs ++ ys)) is.1 (Some line) (compared_found xs ys is.1 line) is.4,
-)
-
-more_behind : (same : Bool) (x : Clash) (xs ys : List Clash) (rest fs : List Event) (found : Option Bytes)
-    → (AreCompared xs rest None → AreCompared (xs ++ ys) (rest ++ fs) found) → IsFoundOr same x.line (AreCompared xs) rest None
-    → IsFoundOr same x.line (AreCompared (xs ++ ys)) (rest ++ fs) found
-more_behind true x xs ys rest fs found f is = absurd (let none = is.1 in cc)
-more_behind false x xs ys rest fs found f is = f is
-
--- what isn't found among some is found among others behind them, or isn't
-pub compared_none : (xs ys : List Clash) (es fs : List Event) (found : Option Bytes) → AreCompared xs es None → AreCompared ys fs found
-    → AreCompared (xs ++ ys) (es ++ fs) found
-compared_none [] ys es fs found is next = subst (λ (before : List Event). AreCompared ys (before ++ fs) found) (sym is.0) next
-compared_none (x ∷ xs) ys es fs found is next = (
-  is.0,
-  is.1 ++ fs,
-  ap (λ (before : List Event). before ++ fs) is.2,
-  is.3,
-  more_behind is.0 x xs ys is.1 fs found (λ rest. compared_none xs ys is.1 fs found rest next) is.4,
-)
+-- asking is quiet
+pub asked_quiet : (place : Destination) (source : Bytes) (asked : List Event) (plain : Bool) → IsAsked place source asked plain
+    → All IsQuiet asked
+asked_quiet place.Source source asked plain is =
+    subst (λ (es : List Event). All IsQuiet es) (sym is) (All-cons IsQuiet (asks source plain) [] tt (All-nil IsQuiet))
+asked_quiet place.Printed source asked plain is = subst (λ (es : List Event). All IsQuiet es) (sym is.0) (All-nil IsQuiet)
+asked_quiet (place.File path) source asked plain is = subst (λ (es : List Event). All IsQuiet es) (sym is.0) (All-nil IsQuiet)
 
 -- ---- what became of the transactions
 
-pub put_failed : (path : Option Bytes) (text : Option (Vec ℕ Global)) (p bytes : Bytes) (t : Vec ℕ Global) (whole : Bool)
-    (rest : List Event) (status : ℕ)
-    → path ≡ Some p → text ≡ Some t → bytes ≡ t.items → whole ≡ false → IsSaved p 1 whole rest status
-    → ArePutReplies path text (writes p bytes whole ∷ rest) (Some status)
-put_failed path text p bytes t whole rest status at of same failed saved =
-    subst (λ (o : Option Bytes). ArePutReplies o text (writes p bytes whole ∷ rest) (Some status)) (sym at)
-    (subst (λ (o : Option (Vec ℕ Global)). ArePutReplies (Some p) o (writes p bytes whole ∷ rest) (Some status)) (sym of) (
+pub put_failed : (path : Option Bytes) (text : Option (Vec ℕ Global)) (p bytes : Bytes) (t : Vec ℕ Global) (rest : List Event)
+    (status : ℕ) → path ≡ Some p → text ≡ Some t → bytes ≡ t.items → IsUnwrittenTold p rest status
+    → ArePutReplies path text (writes p bytes false ∷ rest) (Some status)
+put_failed path text p bytes t rest status at of same told =
+    subst (λ (o : Option Bytes). ArePutReplies o text (writes p bytes false ∷ rest) (Some status)) (sym at)
+    (subst (λ (o : Option (Vec ℕ Global)). ArePutReplies (Some p) o (writes p bytes false ∷ rest) (Some status)) (sym of) (
       rest,
-      ap₂ (λ (b : Bytes) (k : Bool). writes p b k ∷ rest) same failed,
-      subst (λ (k : Bool). IsSaved p 1 k rest status) failed saved,
+      ap (λ (b : Bytes). writes p b false ∷ rest) same,
+      told,
     ))
+
+pub put_done : (path : Option Bytes) (text : Option (Vec ℕ Global)) (p bytes : Bytes) (t : Vec ℕ Global) → path ≡ Some p → text ≡ Some t
+    → bytes ≡ t.items → ArePutReplies path text (writes p bytes true ∷ []) None
+put_done path text p bytes t at of same =
+    subst (λ (o : Option Bytes). ArePutReplies o text (writes p bytes true ∷ []) None) (sym at)
+    (subst (λ (o : Option (Vec ℕ Global)). ArePutReplies (Some p) o (writes p bytes true ∷ []) None) (sym of)
+    (ap (λ (b : Bytes). writes p b true ∷ []) same))
 
 pub undone_told : (path : Option Bytes) (text : Option (Vec ℕ Global)) (es : List Event) (failed : Option ℕ)
     → ArePutReplies path text es failed

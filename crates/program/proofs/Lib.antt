@@ -1,3 +1,4 @@
 pub mod EditedThen
 pub mod Ordered
 pub mod Runs
+pub mod Apart

@@ -2,15 +2,19 @@
 use Rattle.std.proofs.Common.{◌≡◌, ◌∷◌, [], ℕ, Bool, List, Option, Some, Result, Ok, Err, refl, subst, sym}
 use Rattle.std.specs.Result.{result_map_both}
 use Rattle.clap.specs.Words.{Text}
-use Rattle.outside.specs.declared.world.Trouble.{Trouble}
+use Rattle.outside.specs.declared.trouble.Trouble.{Trouble}
 use Rattle.outside.specs.Events.{Adds, Bytes, Event, says}
-use Rattle.outside.specs.Output.{AreDone}
+use Rattle.outside.specs.Output.{AreDone, Outside}
 use Rattle.program.specs.Obeying.{IsRun, Obeys, no_words}
 
--- from a standard output with nothing on it
-pub done_at_first : (holds before : Bytes → Option Bytes) (old new : Option Bytes) (es : List Event)
-    → Adds (AreDone before old) (AreDone holds new) es → old ≡ Some [] → AreDone holds new es
-done_at_first holds before old new es adds empty = adds.behind [] (tt, λ own. ([], empty, refl))
+-- from streams with nothing on them
+pub done_at_first : (old new : Outside) (es : List Event) → Adds (AreDone old) (AreDone new) es → old.out ≡ Some [] → old.err ≡ Some []
+    → AreDone new es
+done_at_first old new es adds out err = adds.behind [] (record {
+  held = tt;
+  printed = λ own. ([], out, refl);
+  said = λ own. ([], err, refl);
+})
 
 pub run_words : {A : Type 0} (words_of : A → List Text) (keyed : Bool) (r : Result A Trouble) (words : A) (es : List Event) (status : ℕ)
     → r ≡ Ok words → Obeys keyed (words_of words) es status → IsRun keyed (result_map_both words_of (λ why. why) r) es status

@@ -8,13 +8,15 @@ use Rattle.commandline.specs.declared.edit_order.Destination.{Destination}
 use Rattle.commandline.specs.declared.edit_order.Destination.TheVariants as place
 use Rattle.commandline.specs.declared.edit_order.Outputs.{Outputs}
 use Rattle.conduct.specs.Reading.{AreReadThen}
-use Rattle.conduct.specs.Telling.{IsPrintedWith, IsSaid, IsUnkeyed}
+use Rattle.conduct.specs.Clashes.{clashes_with}
+use Rattle.conduct.specs.Comparing.{AreApartThen, Clash}
+use Rattle.conduct.specs.Telling.{IsPrintedWith, IsSaid, IsUnkeyed, IsUnwrittenTold}
 use Rattle.edittext.specs.Answers.{IsEditAnswer}
 use Rattle.edittext.specs.Edited.{edit_room}
 use Rattle.edittext.specs.declared.account.Account.{Account}
 use Rattle.edittext.specs.declared.answering.Told.{Told as Edited}
 use Rattle.edittext.specs.declared.answering.Told.TheVariants as edited
-use Rattle.outside.specs.Events.{Bytes, Event, compares, replaces, says, writes}
+use Rattle.outside.specs.Events.{Bytes, Event, asks, replaces, says, writes}
 
 -- these lines are said, one after another
 abbrev pub all_said : List (String Global) → List Event
@@ -29,7 +31,7 @@ undone_status (line ∷ lines) = 3
 -- and the status is 1
 abbrev pub IsSaved : Bytes → ℕ → Bool → List Event → ℕ → Type 0
 IsSaved path well true es status = (es ≡ []) × (status ≡ well)
-IsSaved path well false es status = IsSaid (path ++ codes ": cannot write") es status ⊎ IsSaid (codes "no memory") es status
+IsSaved path well false es status = IsUnwrittenTold path es status
 
 -- the source with the edits goes where it is to go, and the status is this: it is printed, it is written to a file, or it is put in place
 -- of what the source's file has; or it can't be
@@ -92,51 +94,68 @@ abbrev pub IsEditFollowed : Bool → List Bytes → ℕ → Option ℕ → Outpu
 IsEditFollowed keyed paths workers room o allowed es status =
     AreReadThen paths (IsAnsweredEdit keyed paths workers room o allowed) es status
 
--- two paths that are not to lead to one file, and the line that says that they do
-pub record Clash : Type 0 where
-  pub one : Bytes
-  pub other : Bytes
-  pub line : Bytes
+-- ---- files that would be written over
 
 -- the edited source goes to a file
 abbrev pub file_of : Destination → Option Bytes
 file_of (place.File path) = Some path.now
 file_of _ = None
 
-abbrev pub clash : Bytes → Option Bytes → Option Bytes → List Clash
-clash line (Some one) (Some other) = record { one = one; other = other; line = line } ∷ []
-clash line _ _ = []
+-- or in place of the source
+abbrev pub source_in : Destination → Bytes → Option Bytes
+source_in place.Source source = Some source
+source_in _ source = None
 
--- neither the edited source nor what became of the transactions goes to the file of the source, nor both to one
-abbrev pub clashes : Outputs → Bytes → List Clash
-clashes o source =
-    clash (codes "--output names SOURCE") (file_of o.place) (Some source)
-    ++ (clash (codes "--replies names SOURCE") (replies_path o) (Some source)
-    ++ clash (codes "--replies and --output name one file") (replies_path o) (file_of o.place))
+abbrev pub listed : Option Bytes → List Bytes
+listed (Some path) = path ∷ []
+listed None = []
 
--- it was found, with this line, and nothing follows; or this follows
-abbrev pub IsFoundOr : Bool → Bytes → (List Event → Option Bytes → Type 0) → List Event → Option Bytes → Type 0
-IsFoundOr true line P es found = (es ≡ []) × (found ≡ Some line)
-IsFoundOr false line P es found = P es found
+-- the line of a file that would be
+abbrev pub clash_line : Bytes → Bytes → Bytes
+clash_line text path = path ++ (codes ": " ++ text)
 
--- it is asked of each whether the paths lead to one file, up to the first that do: its line; equal paths always do
-abbrev pub AreCompared : List Clash → List Event → Option Bytes → Type 0
-AreCompared [] es line = (es ≡ []) × (line ≡ None)
-AreCompared (x ∷ xs) es line =
-    (same : Bool) × (rest : List Event) × (es ≡ compares x.one x.other same ∷ rest) × (x.one ≡ x.other → same ≡ true)
-    × IsFoundOr same x.line (AreCompared xs) rest line
+-- what goes to a path, if something does, and these files
+abbrev pub clashes_if : Option Bytes → Bytes → List Bytes → List Clash
+clashes_if (Some written) text others = clashes_with written (clash_line text) others
+clashes_if None text others = []
 
--- it would, which is said, and no file is read; or it wouldn't, and this follows
-abbrev pub IsApartThen : Outputs → Bytes → (List Event → ℕ → Type 0) → List Event → ℕ → Type 0
-IsApartThen o source P es status =
-    (asked : List Event) × (rest : List Event) × (es ≡ asked ++ rest)
-    × (((line : Bytes) × AreCompared (clashes o source) asked (Some line) × IsSaid line rest status)
-    ⊎ (AreCompared (clashes o source) asked None × P rest status))
+-- neither the edited source nor what became of the transactions goes to a file that is read, but the source in its own place, nor both to
+-- one
+abbrev pub clashes : Outputs → List Bytes → List Clash
+clashes o (source ∷ scripts) =
+    clashes_if (file_of o.place) (codes "--output would be written over it") (source ∷ scripts)
+    ++ (clashes_if (source_in o.place source) (codes "SOURCE would be written over it") scripts
+    ++ (clashes_if (replies_path o) (codes "--replies would be written over it") (source ∷ scripts)
+    ++ clashes_if (replies_path o) (codes "--replies would be written over it") (listed (file_of o.place))))
+clashes o [] = []
 
--- a source, in the first of the files, is edited, unless that would go over it; or it is to go to two places, which is said, and no file is
--- read
+-- ---- a source that is put in place
+
+-- it is asked of the source whether it is a plain file, where it is to be put in place
+abbrev pub IsAsked : Destination → Bytes → List Event → Bool → Type 0
+IsAsked place.Source source es plain = es ≡ asks source plain ∷ []
+IsAsked _ source es plain = (es ≡ []) × (plain ≡ true)
+
+-- it isn't, which is said, and no file is read; or it is, and this follows
+abbrev pub IsPlainOr : Bytes → Bool → (List Event → ℕ → Type 0) → List Event → ℕ → Type 0
+IsPlainOr source true P es status = P es status
+IsPlainOr source false P es status = IsSaid (source ++ codes ": not a plain file") es status
+
+abbrev pub IsPlainThen : Destination → Bytes → (List Event → ℕ → Type 0) → List Event → ℕ → Type 0
+IsPlainThen place source P es status =
+    (plain : Bool) × (asked : List Event) × (rest : List Event) × (es ≡ asked ++ rest) × IsAsked place source asked plain
+    × IsPlainOr source plain P rest status
+
+-- ---- all of it
+
+-- the source is in the first of the files
+abbrev pub IsPlainEdit : Bool → List Bytes → ℕ → Option ℕ → Outputs → Allowed → List Event → ℕ → Type 0
+IsPlainEdit keyed (source ∷ scripts) workers room o allowed es status =
+    IsPlainThen o.place source (IsEditFollowed keyed (source ∷ scripts) workers room o allowed) es status
+IsPlainEdit keyed [] workers room o allowed es status = ⊥
+
+-- it is edited, unless something would be written over; or it is to go to two places, which is said, and no file is read
 abbrev pub IsEditDone : Bool → List Bytes → ℕ → Option ℕ → Option Outputs → Allowed → List Event → ℕ → Type 0
 IsEditDone keyed paths workers room (Some o) allowed es status =
-    (source : Bytes) × (scripts : List Bytes) × (paths ≡ source ∷ scripts)
-    × IsApartThen o source (IsEditFollowed keyed paths workers room o allowed) es status
+    AreApartThen (clashes o paths) (IsPlainEdit keyed paths workers room o allowed) es status
 IsEditDone keyed paths workers room None allowed es status = IsSaid (codes "--in-place and --output do not go together") es status

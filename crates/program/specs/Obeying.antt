@@ -17,8 +17,8 @@ use Rattle.conduct.specs.Jobs.{IsFollowed}
 use Rattle.conduct.specs.Takes.{IsTakeDone}
 use Rattle.conduct.specs.Telling.{IsSaid}
 use Rattle.conduct.specs.Verifies.{IsVerifyDone}
-use Rattle.outside.specs.declared.world.Trouble.{Trouble}
-use Rattle.outside.specs.declared.world.Trouble.TheVariants as trouble
+use Rattle.outside.specs.declared.trouble.Trouble.{Trouble}
+use Rattle.outside.specs.declared.trouble.Trouble.TheVariants as trouble
 use Rattle.outside.specs.Events.{Bytes, Event, IsQuiet, says, shows}
 use Rattle.program.specs.Edits.{IsEditDone}
 

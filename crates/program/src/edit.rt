@@ -1,20 +1,20 @@
 //! How scripts edit a source: all files are read, and what is answered is told.
 
-ghost use Rattle.std.specs.Prelude.{is_some, ◌≡◌, ◌<◌, List, Some, is_ok, length, map};
+ghost use Rattle.std.specs.Prelude.{is_some, ◌≡◌, ◌<◌, ◌++◌, List, Some, is_ok, length, map};
 ghost use Rattle.std.specs.Option.{option_map};
-ghost use Rattle.std.specs.Bool.{then_some};
 ghost use Rattle.checking.specs.Tasks.{IsWithin};
 ghost use Rattle.conduct.specs.Ending.{EndsBy};
-ghost use Rattle.outside.specs.Events.{Bytes, Event, Adds};
+ghost use Rattle.conduct.specs.Comparing.{AreCompared};
+ghost use Rattle.outside.specs.Events.{Event, Adds, leaving, path_left};
 ghost use Rattle.program.specs.Edits.{all_said, undone_status, IsSaved, IsPutAt, ArePutReplies, IsPrintedTold, IsUndoneTold, IsEditTold};
-ghost use Rattle.program.specs.Edits.{IsAnsweredEdit, IsEditFollowed, AreCompared, clash, clashes, file_of, IsEditDone};
+ghost use Rattle.program.specs.Edits.{IsAnsweredEdit, IsEditFollowed, clash_line, clashes_if, clashes, file_of, source_in, IsAsked, IsPlainEdit, IsEditDone};
 
 use commandline::{Destination, EditOrder, Outputs};
-use conduct::{Means, print_with, read_all, refuse, tell_unread};
+use conduct::{Means, first_same, print_with, read_all, refuse, tell_unread, tell_unwritten};
 use edittext::{Account, Told, answer_edit};
 use following::Follow;
 use jobs::Watch;
-use outside::{Trouble, World};
+use outside::{Unwritten, World};
 use std::alloc::{AllocError, Global};
 use std::hash::RandomState;
 use std::sync::Wait;
@@ -37,16 +37,13 @@ fn undone_status(lines: &[String]) -> u8
 }
 
 /// Says why a text isn't in the file at a path, unless it is.
-fn tell_saved<W: World>(world: &mut W, path: &str, status: u8, saved: Result<(), Trouble>) -> u8
-    ensures { (es : List Event) × Adds (W.done world.old) (W.done world.new) es × IsSaved path.now status (is_ok saved) es result }
+fn tell_saved<W: World>(world: &mut W, path: &str, status: u8, saved: Result<(), Unwritten>) -> u8
+    ensures { (es : List Event) × Adds (W.done world.old) (W.done world.new) es
+        × IsSaved path.now status (is_ok saved) (leaving (path_left saved) ++ es) result }
 {
     match saved {
         Ok(()) => status,
-        Err(Trouble::NoMemory) => refuse(world, "no memory"),
-        Err(Trouble::Refused) => {
-            world.say_of(path, "cannot write");
-            1
-        }
+        Err(why) => tell_unwritten(world, path, &why),
     }
 }
 
@@ -66,7 +63,7 @@ fn put_at<W: World>(
     match place {
         Destination::Printed => print_with(world, status, out),
         Destination::File(path) => {
-            let saved = world.write(path, out);
+            let saved = world.write(alloc, path, out);
             tell_saved(world, path, status, saved)
         }
         Destination::Source => {
@@ -78,16 +75,20 @@ fn put_at<W: World>(
 
 /// Writes what became of the transactions to the file at a path, if there is one and it was told: the status where that can't be done,
 /// which is said.
-fn put_replies<W: World>(world: &mut W, path: Option<&str>, replies: Option<&Vec<u8>>) -> Option<u8>
+fn put_replies<W: World>(
+    world: &mut W,
+    alloc: Global,
+    path: Option<&str>,
+    replies: Option<&Vec<u8>>,
+) -> Option<u8>
     ensures { (es : List Event) × Adds (W.done world.old) (W.done world.new) es
         × ArePutReplies (option_map (λ p. p.now) path.entry) (option_map (λ text. text.now) replies.entry) es result }
 {
     let (path, text) = (path?, replies?);
-    let saved = world.write(path, text.as_slice());
-    if saved.is_ok() {
-        return None;
+    match world.write(alloc, path, text.as_slice()) {
+        Ok(()) => None,
+        Err(why) => Some(tell_unwritten(world, path, &why)),
     }
-    Some(tell_saved(world, path, 1, saved))
 }
 
 /// Tells what became of the transactions, and puts the edited source where it goes.
@@ -105,7 +106,7 @@ fn tell_printed<W: World>(
     let undone = account.undone.as_slice();
     say_all(world, undone);
     say_all(world, account.spoken.as_slice());
-    if let Some(status) = put_replies(world, outputs.replies, account.replies.as_ref()) {
+    if let Some(status) = put_replies(world, alloc, outputs.replies, account.replies.as_ref()) {
         return status;
     }
     put_at(
@@ -119,12 +120,17 @@ fn tell_printed<W: World>(
 }
 
 /// Tells what became of the transactions, where no source is printed.
-fn tell_undone<W: World>(world: &mut W, outputs: Outputs<'_>, account: &Account) -> u8
+fn tell_undone<W: World>(
+    world: &mut W,
+    alloc: Global,
+    outputs: Outputs<'_>,
+    account: &Account,
+) -> u8
     ensures { (es : List Event) × Adds (W.done world.old) (W.done world.new) es
         × IsUndoneTold outputs.entry account.now es result }
 {
     say_all(world, account.undone.as_slice());
-    put_replies(world, outputs.replies, account.replies.as_ref()).unwrap_or(3)
+    put_replies(world, alloc, outputs.replies, account.replies.as_ref()).unwrap_or(3)
 }
 
 /// Tells an answer: what became of the transactions, and the edited source where it goes; or the line of the refusal.
@@ -142,7 +148,7 @@ fn tell_edited<W: World>(
         Told::Printed(out, account) => {
             tell_printed(world, alloc, outputs, source, out.as_slice(), account)
         }
-        Told::Undone(account) => tell_undone(world, outputs, account),
+        Told::Undone(account) => tell_undone(world, alloc, outputs, account),
         Told::Refused(line) => refuse(world, line.as_str()),
     }
 }
@@ -207,17 +213,6 @@ fn edit_files<R: Threads + Wait + Sync, W: World, V: Watch + Follow + Sync>(
     answer_edited(means, world, keys, order, outputs, texts.as_slice())
 }
 
-/// Whether two paths, if both are there, lead to one file.
-fn is_one<W: World>(world: &mut W, one: Option<&str>, other: Option<&str>) -> bool
-    ensures { (line : Bytes) → (es : List Event) × Adds (W.done world.old) (W.done world.new) es
-        × AreCompared (clash line (option_map (λ p. p.now) one.entry) (option_map (λ p. p.now) other.entry)) es (then_some result line) }
-{
-    match (one, other) {
-        (Some(one), Some(other)) => world.is_one_file(one, other),
-        _ => false,
-    }
-}
-
 /// The path of the file that the edited source goes to, if it goes to one.
 fn file_of<'a>(place: Destination<'a>) -> Option<&'a str>
     ensures { option_map (λ p. p.now) result ≡ file_of place.entry }
@@ -228,26 +223,117 @@ fn file_of<'a>(place: Destination<'a>) -> Option<&'a str>
     }
 }
 
-/// That something would be written over the source, or to one file with something else. None where nothing would.
-fn clash<W: World>(world: &mut W, outputs: Outputs<'_>, source: &str) -> Option<&'static str>
-    ensures { (es : List Event) × Adds (W.done world.old) (W.done world.new) es
-        × AreCompared (clashes outputs.entry source.now) es (option_map (λ line. line.now) result) }
+/// The path of the source, if the edited one goes in its place.
+fn source_in<'a>(place: Destination<'_>, source: &'a str) -> Option<&'a str>
+    ensures { option_map (λ p. p.now) result ≡ source_in place.entry source.entry.now }
 {
-    let (file, replies) = (file_of(outputs.place), outputs.replies);
-    if is_one(world, file, Some(source)) {
-        return Some("--output names SOURCE");
+    match place {
+        Destination::Source => Some(source),
+        Destination::Printed | Destination::File(_) => None,
     }
-    if is_one(world, replies, Some(source)) {
-        return Some("--replies names SOURCE");
-    }
-    if is_one(world, replies, file) {
-        return Some("--replies and --output name one file");
-    }
-    None
 }
 
-/// Edits the source of an order, unless something would be written over it, or two texts to one file. Who watches is told of the run, and
-/// how far the work on the source is. It may wait.
+/// A file that would be written over.
+#[derive(Clone, Copy)]
+struct Clash<'a> {
+    /// The path of the file.
+    path: &'a str,
+    /// What is said of it.
+    text: &'static str,
+}
+
+/// The first of these files that would be written over by what goes to a path, if something goes to one.
+fn clash_of<'a, W: World>(
+    world: &mut W,
+    written: Option<&str>,
+    text: &'static str,
+    others: &[&'a str],
+) -> Option<Clash<'a>>
+    ensures { (es : List Event) × Adds (W.done world.old) (W.done world.new) es
+        × AreCompared (clashes_if (option_map (λ p. p.now) written.entry) text.now (map (λ p. p.now) others.now)) es
+        (option_map (λ c. clash_line c.text.now c.path.now) result) }
+{
+    let here = written?;
+    match first_same(world, here, others) {
+        Some(path) => Some(Clash { path, text }),
+        None => None,
+    }
+}
+
+/// The first file that would be written over: by the edited source a script, or the source where it doesn't go in its place; by what became
+/// of the transactions one of these, or the edited source.
+fn first_clash<'a, W: World>(
+    world: &mut W,
+    outputs: Outputs<'a>,
+    paths: &[&'a str],
+) -> Option<Clash<'a>>
+    requires { 0 < length paths.now }
+    ensures { (es : List Event) × Adds (W.done world.old) (W.done world.new) es
+        × AreCompared (clashes outputs.entry (map (λ p. p.now) paths.now)) es
+        (option_map (λ c. clash_line c.text.now c.path.now) result) }
+{
+    let (file, replies) = (file_of(outputs.place), outputs.replies);
+    if let Some(found) = clash_of(world, file, "--output would be written over it", paths) {
+        return Some(found);
+    }
+    let source = source_in(outputs.place, paths[0]);
+    if let Some(found) = clash_of(
+        world,
+        source,
+        "SOURCE would be written over it",
+        &paths[1..],
+    ) {
+        return Some(found);
+    }
+    if let Some(found) = clash_of(world, replies, "--replies would be written over it", paths) {
+        return Some(found);
+    }
+    match file {
+        Some(path) => clash_of(
+            world,
+            replies,
+            "--replies would be written over it",
+            &[path],
+        ),
+        None => None,
+    }
+}
+
+/// Whether the source can be put in place: it is a plain file, which is asked where it is to be.
+fn may_be_replaced<W: World>(world: &mut W, place: Destination<'_>, source: &str) -> bool
+    ensures { (es : List Event) × Adds (W.done world.old) (W.done world.new) es × IsAsked place.entry source.now es result }
+{
+    match place {
+        Destination::Source => world.is_plain(source),
+        Destination::Printed | Destination::File(_) => true,
+    }
+}
+
+/// Edits the source of an order, unless it is to be put in place and is no plain file. Who watches is told of the run, and how far the work
+/// on the source is. It may wait.
+fn edit_plain<R: Threads + Wait + Sync, W: World, V: Watch + Follow + Sync>(
+    means: &Means<'_, R, V>,
+    world: &mut W,
+    keys: Option<RandomState>,
+    order: &EditOrder<'_>,
+    outputs: Outputs<'_>,
+) -> Result<u8, AllocError>
+    requires within { IsWithin order.now.workers order.now.room }
+    requires any { 0 < length order.now.paths.items }
+    ensures { (es : List Event) × Adds (W.done world.old) (W.done world.new) es
+        × EndsBy (IsPlainEdit (is_some keys) (map (λ p. p.now) order.now.paths.items) order.now.workers order.now.room outputs.entry
+        order.now.allowed) es result }
+{
+    let source = order.paths.as_slice()[0];
+    if !may_be_replaced(world, outputs.place, source) {
+        world.say_of(source, "not a plain file");
+        return Ok(1);
+    }
+    edit_files(means, world, keys, order, outputs)
+}
+
+/// Edits the source of an order, unless something would be written over what is read, or two texts to one file. Who watches is told of the
+/// run, and how far the work on the source is. It may wait.
 fn edit_apart<R: Threads + Wait + Sync, W: World, V: Watch + Follow + Sync>(
     means: &Means<'_, R, V>,
     world: &mut W,
@@ -262,11 +348,13 @@ fn edit_apart<R: Threads + Wait + Sync, W: World, V: Watch + Follow + Sync>(
         × EndsBy (IsEditDone (is_some keys) (map (λ p. p.now) order.now.paths.items) order.now.workers order.now.room order.now.outputs
         order.now.allowed) es result }
 {
-    let paths = order.paths.as_slice();
-    if let Some(line) = clash(world, outputs, paths[0]) {
-        return Ok(refuse(world, line));
+    match first_clash(world, outputs, order.paths.as_slice()) {
+        Some(found) => {
+            world.say_of(found.path, found.text);
+            Ok(1)
+        }
+        None => edit_plain(means, world, keys, order, outputs),
     }
-    edit_files(means, world, keys, order, outputs)
 }
 
 /// Does what an order to edit asks for. Who watches is told of the run, and how far the work on the source is. It may wait.

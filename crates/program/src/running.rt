@@ -3,7 +3,7 @@
 ghost use Rattle.std.specs.Prelude.{◌≡◌, Bool, List, [], Some, Result, is_some, map, string_bytes};
 ghost use Rattle.std.specs.Result.{result_map_both};
 ghost use Rattle.clap.specs.Words.{Text};
-ghost use Rattle.outside.specs.declared.world.Trouble.{Trouble as TroubleOfWords};
+ghost use Rattle.outside.specs.declared.trouble.Trouble.{Trouble as TroubleOfWords};
 ghost use Rattle.outside.specs.Events.{Event};
 ghost use Rattle.outside.specs.Output.{AreDone};
 ghost use Rattle.program.specs.Obeying.{IsRun, no_words};
@@ -12,15 +12,14 @@ use crate::obeying::obey;
 use conduct::{Means, refuse};
 use following::Follow;
 use jobs::Watch;
-use outside::{Disk, Host, Progress, SystemFiles, Trouble, trouble_of};
+use outside::{Disk, Host, Progress, Streams, SystemFiles, SystemStreams, Trouble, trouble_of};
+use std::env;
 use std::hash::RandomState;
-use std::io::Write;
 use std::random::RandomSource;
 use std::rt::{Env, Files};
 use std::sync::Wait;
 use std::thread::Threads;
 use std::time::Clock;
-use std::{env, io};
 
 /// Why nothing was done: the words of the command line are not read.
 fn unread_line(trouble: Trouble) -> &'static str
@@ -44,23 +43,29 @@ fn words_of<R: Env + AllocGlobal>(rt: &R) -> Result<Vec<String>, Trouble> {
 /// that the program ends with; where there are no words, it says why. Who watches is told of a run, and how far a library is taken. It
 /// may wait.
 ///
-/// On a standard output that tells what it holds, and holds nothing before, stands then just what was printed: each text whole, or a front
-/// of it where it is told that it isn't; unless the parser's text was shown, of which nothing is known. Each text that was read is all that
-/// its file holds, where that is known.
+/// On streams that tell what they hold, and hold nothing before, stands then just what was printed and said: each text and each line whole,
+/// or a front of it where a write failed; unless the parser's text was shown, of which nothing is known. Each text that was read is all that
+/// its file holds, up to one byte more than any text may have, where that is known; and a file that wasn't read the system refused.
 pub fn run_on<
     R: Threads + Wait + Sync,
     D: Disk + Drop,
-    O: Write + Drop,
-    E: Print + Eprint,
+    S: Streams + Drop,
     V: Watch + Follow + Sync,
 >(
     means: &Means<'_, R, V>,
-    host: &mut Host<'_, D, O, E>,
+    host: &mut Host<D, S>,
     keys: Option<RandomState>,
     words: Result<Vec<String>, Trouble>,
 ) -> u8
     ensures { (es : List Event)
-        × (O.contents host.old.out ≡ Some [] → AreDone (D.holds host.new.disk) (O.contents host.new.out) es)
+        × (S.out host.old.streams ≡ Some [] → S.err host.old.streams ≡ Some [] → AreDone (record {
+          holds = D.holds host.new.disk;
+          refuses = D.refuses;
+          out = S.out host.new.streams;
+          out_failed = S.out_failed host.new.streams;
+          err = S.err host.new.streams;
+          err_failed = S.err_failed host.new.streams;
+        }) es)
         × IsRun (is_some keys) (result_map_both (λ ws. map string_bytes ws.items) (λ why. why) words) es result }
 {
     match words {
@@ -88,8 +93,7 @@ where
 {
     let mut host = Host {
         disk: SystemFiles { files },
-        out: io::writer(rt),
-        rt,
+        streams: SystemStreams { rt },
     };
     let words = words_of(rt);
     let progress = Progress::new(rt, is_terminal);

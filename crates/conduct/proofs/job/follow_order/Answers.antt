@@ -1,34 +1,28 @@
-use Rattle.std.proofs.Common.{◌++◌, ap, ℕ, List, Bor, map, option_map}
-use Rattle.std.specs.Prelude.{is_some, Vec}
-use Rattle.std.specs.declared.alloc.Global.{Global}
-use Rattle.conduct.specs.Jobs.{IsAnswered}
-use Rattle.conduct.proofs.Behind.{adds_more}
-use Rattle.conduct.proofs.Followed.{all_read, one_unread}
+use Rattle.std.proofs.Common.{◌++◌, ◌∷◌, [], ℕ, List, Bor, codes, inl, map, option_map, refl}
+use Rattle.std.specs.Prelude.{is_some}
+use Rattle.outside.specs.Events.{says}
+use Rattle.conduct.specs.Jobs.{IsReadAndAnswered, history_clashes}
+use Rattle.conduct.proofs.Behind.{adds_more, apart_then}
 use Rattle.conduct.proofs.job.follow_order.Goals as goal
 
-pub returns-in-Err : goal.returns-in-Err
-returns-in-Err g c =
-    let read = c.in-Err.ensures in
-    let told = c.tell_unread.ensures in
-    let same = ap (λ (ps : List (Bor (List ℕ))). map (λ (p : Bor (List ℕ)). p.now) ps) c.as_slice.ensures.value in
-    let history = option_map (λ (s : Bor (List ℕ)). s.now) c.args.order.now.history in
-    let paths = map (λ (p : Bor (List ℕ)). p.now) c.args.order.now.paths.items in (
-      read.0 ++ told.0,
-      adds_more read.1 told.1,
-      one_unread (IsAnswered (is_some c.args.keys) c.args.order.now.task paths history) paths _ _ c.in-Err.unread read.0 told.0
-          c.tell_unread.result same read.2 told.2,
+pub returns-in-Some : goal.returns-in-Some
+returns-in-Some g c =
+    let (asked, did, compared) = rw c.as_slice.ensures.value at c.in-Some.ensures in
+    let line = c.in-Some.path.now ++ codes ": cannot write" in (
+      asked ++ says line ∷ [],
+      adds_more did c.say_of.ensures,
+      (asked, says line ∷ [], refl, inl (line, compared, (refl, refl))),
     )
 
-pub returns : goal.returns
-returns g c =
-    let read = c.in_default.ensures in
-    let rest = c.answer_texts.ensures in
-    let same = ap (λ (ps : List (Bor (List ℕ))). map (λ (p : Bor (List ℕ)). p.now) ps) c.as_slice.ensures.value in
-    let history = option_map (λ (s : Bor (List ℕ)). s.now) c.args.order.now.history in
-    let paths = map (λ (p : Bor (List ℕ)). p.now) c.args.order.now.paths.items in
-    let texts = map (λ (t : Vec ℕ Global). t.items) c.read_all.new.texts.items in (
-      read.0 ++ rest.0,
-      adds_more read.1 rest.1,
-      all_read (IsAnswered (is_some c.args.keys) c.args.order.now.task paths history) paths _ texts read.0 rest.0 c.answer_texts.result same
-          read.2.0 read.2.1 rest.2,
+pub returns-in-None : goal.returns-in-None
+returns-in-None g c =
+    let (asked, did, compared) = rw c.as_slice.ensures.value at c.in-None.ensures in
+    let rest = c.read_and_answer.ensures in
+    let order = c.args.order.now in
+    let paths = map (λ (p : Bor (List ℕ)). p.now) order.paths.items in
+    let history = option_map (λ (s : Bor (List ℕ)). s.now) order.history in (
+      asked ++ rest.0,
+      adds_more did rest.1,
+      apart_then (history_clashes history paths) (IsReadAndAnswered (is_some c.args.keys) order.task paths history) asked rest.0
+          c.read_and_answer.result compared rest.2,
     )

@@ -1,5 +1,6 @@
-use Rattle.std.proofs.Common.{◌∷◌, ◌++◌, [], codes, true, false, inl, inr, refl}
-use Rattle.outside.specs.Events.{writes, says}
+use Rattle.std.proofs.Common.{◌∷◌, ◌++◌, false, inl, inr, option_map, refl, string_bytes, true}
+use Rattle.outside.specs.Events.{leaving, says, writes}
+use Rattle.conduct.specs.Telling.{left_said, unwritten_line}
 use Rattle.conduct.proofs.Behind.{adds_more}
 use Rattle.conduct.proofs.job.save_and_print.Goals as goal
 
@@ -8,16 +9,12 @@ returns-in-Ok g c =
     let told = c.print_out.ensures in
     (writes c.args.path.now c.args.history.now true ∷ told.0, adds_more c.in-Ok.ensures told.1, inl (told.0, refl, told.2))
 
-pub returns-in-Err-NoMemory : goal.returns-in-Err-NoMemory
-returns-in-Err-NoMemory g c = (
-  writes c.args.path.now c.args.history.now false ∷ says (codes "no memory") ∷ [],
-  adds_more c.in-Err-NoMemory.ensures c.refuse.ensures.said,
-  inr (inr (refl, c.refuse.ensures.status)),
-)
-
-pub returns-in-Err-Refused : goal.returns-in-Err-Refused
-returns-in-Err-Refused g c = (
-  writes c.args.path.now c.args.history.now false ∷ says (c.args.path.now ++ codes ": cannot write") ∷ [],
-  adds_more c.in-Err-Refused.ensures c.say_of.ensures,
-  inr (inl (refl, refl)),
-)
+pub returns-in-Err : goal.returns-in-Err
+returns-in-Err g c =
+    let why = c.in-Err.why in
+    let left = option_map string_bytes why.left in
+    let rest = leaving left ++ (says (unwritten_line c.args.path.now why.trouble) ∷ left_said left) in (
+      writes c.args.path.now c.args.history.now false ∷ rest,
+      adds_more c.in-Err.ensures c.tell_unwritten.ensures.said,
+      inr (rest, refl, record { why = why.trouble; left = left; said = refl; failed = c.tell_unwritten.ensures.status }),
+    )

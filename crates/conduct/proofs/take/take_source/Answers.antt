@@ -1,8 +1,8 @@
 use Rattle.std.specs.Prelude.{is_some}
 use Rattle.std.proofs.Common.{◌∷◌, ◌++◌, [], Some, None, codes, inl, refl}
-use Rattle.outside.specs.Events.{reads, says}
+use Rattle.outside.specs.Events.{lacks, reads, says}
 use Rattle.conduct.specs.Takes.{IsAnsweredTake}
-use Rattle.conduct.proofs.Behind.{adds_more, one_read, read_then}
+use Rattle.conduct.proofs.Behind.{adds_more, one_lack, read_then}
 use Rattle.conduct.proofs.take.take_source.Goals as goal
 
 pub returns-in-Ok : goal.returns-in-Ok
@@ -17,11 +17,13 @@ returns-in-Ok g c =
     )
 
 pub returns-in-Err-NoMemory : goal.returns-in-Err-NoMemory
-returns-in-Err-NoMemory g c = (reads c.args.path.now None ∷ [], c.in-Err-NoMemory.ensures, one_read c.args.path.now None)
+returns-in-Err-NoMemory g c =
+    (lacks c.args.path.now ∷ [], rw c.in-Err-NoMemory.field-0-is at c.in-Err-NoMemory.ensures, one_lack c.args.path.now)
 
 pub returns-in-Err-Refused : goal.returns-in-Err-Refused
-returns-in-Err-Refused g c = (
-  reads c.args.path.now None ∷ says (c.args.path.now ++ codes ": cannot read") ∷ [],
-  adds_more c.in-Err-Refused.ensures c.say_of.ensures,
-  inl (refl, refl),
-)
+returns-in-Err-Refused g c =
+    let path = c.args.path.now in (
+      reads path None ∷ says (path ++ codes ": cannot read") ∷ [],
+      adds_more (rw c.in-Err-Refused.field-0-is at c.in-Err-Refused.ensures) c.say_of.ensures,
+      inl (refl, refl),
+    )

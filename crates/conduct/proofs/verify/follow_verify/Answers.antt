@@ -1,8 +1,8 @@
 use Rattle.std.specs.Prelude.{is_some}
 use Rattle.std.proofs.Common.{◌∷◌, ◌++◌, [], Some, None, codes, inl, refl}
 use Rattle.conduct.specs.Verifies.{IsAnsweredVerify}
-use Rattle.outside.specs.Events.{reads, says}
-use Rattle.conduct.proofs.Behind.{adds_more, one_read, read_then}
+use Rattle.outside.specs.Events.{lacks, reads, says}
+use Rattle.conduct.proofs.Behind.{adds_more, one_lack, read_then}
 use Rattle.conduct.proofs.verify.follow_verify.Goals as goal
 
 pub returns-in-Ok : goal.returns-in-Ok
@@ -18,12 +18,12 @@ returns-in-Ok g c =
 
 pub returns-in-Err-NoMemory : goal.returns-in-Err-NoMemory
 returns-in-Err-NoMemory g c =
-    (reads c.args.order.path.now None ∷ [], c.in-Err-NoMemory.ensures, one_read c.args.order.path.now None)
+    (lacks c.args.order.path.now ∷ [], rw c.in-Err-NoMemory.field-0-is at c.in-Err-NoMemory.ensures, one_lack c.args.order.path.now)
 
 pub returns-in-Err-Refused : goal.returns-in-Err-Refused
 returns-in-Err-Refused g c =
     let path = c.args.order.path.now in (
       reads path None ∷ says (path ++ codes ": cannot read") ∷ [],
-      adds_more c.in-Err-Refused.ensures c.say_of.ensures,
+      adds_more (rw c.in-Err-Refused.field-0-is at c.in-Err-Refused.ensures) c.say_of.ensures,
       inl (refl, refl),
     )

@@ -1,7 +1,23 @@
-use Rattle.std.specs.Prelude.{string_bytes}
+use Rattle.std.proofs.Common.{◌∷◌, ◌++◌, [], Some}
+use Rattle.outside.specs.Deeds.{denied, makes, unmade}
+use Rattle.outside.proofs.Trying.{denied_vain, finished, vain_put}
 use Rattle.outside.proofs.beside.put_over.Goals as goal
 
 pub returns-in-Ok : goal.returns-in-Ok
 returns-in-Ok g c =
-    let moved = rw c.as_str.ensures.value at c.in-Ok.ensures in
-    (string_bytes c.in_ok-file.beside, c.in_ok-file.file, c.move_over.new.file, c.in_ok-file.ensures, moved.0, moved.1, moved.2)
+    let (ds, did, end) = c.finish.ensures in
+    finished _ (Some c.args.real.now) c.args.real.now _ c.args.text.now c.finish.result
+    c.in-Ok.ensures.made ds did end
+
+pub returns-in-Err-Denied : goal.returns-in-Err-Denied
+returns-in-Err-Denied g c =
+    let (tried, beside, in_vain, did) = rw c.in-Err-Denied.field-0-is at c.in-Err-Denied.ensures.unmade in (
+      tried ++ makes beside (unmade denied) ∷ [],
+      did,
+      vain_put c.args.real.now c.not_written.result _ c.not_written.ensures.none (denied_vain tried beside in_vain),
+    )
+
+pub returns-in-Err-Other : goal.returns-in-Err-Other
+returns-in-Err-Other g c =
+    let (tried, vain, did) = rw c.in-Err-Other.field-0-is at c.in-Err-Other.ensures.unmade in
+    (tried, did, vain_put c.args.real.now c.not_written-in-Err-Other.result _ c.not_written-in-Err-Other.ensures.none vain)

@@ -1,15 +1,17 @@
-use Rattle.std.proofs.Common.{◌∷◌, ◌++◌, [], codes, inl, inr, refl}
-use Rattle.outside.specs.Events.{says}
+use Rattle.std.proofs.Common.{Bool, ◌∷◌, ◌++◌, [], option_map, refl, string_bytes}
+use Rattle.outside.specs.Events.{leaving, says}
+use Rattle.conduct.specs.Telling.{left_said, unwritten_line}
 use Rattle.conduct.proofs.Behind.{adds_nothing}
 use Rattle.program.proofs.edit.tell_saved.Goals as goal
 
 pub returns-in-Ok : goal.returns-in-Ok
 returns-in-Ok g c = ([], adds_nothing _, rw c.in-Ok.is (refl, refl))
 
-pub returns-in-Err-NoMemory : goal.returns-in-Err-NoMemory
-returns-in-Err-NoMemory g c =
-    (says (codes "no memory") ∷ [], c.refuse.ensures.said, rw c.in-Err-NoMemory.is (inr (refl, c.refuse.ensures.status)))
-
-pub returns-in-Err-Refused : goal.returns-in-Err-Refused
-returns-in-Err-Refused g c =
-    (says (c.args.path.now ++ codes ": cannot write") ∷ [], c.say_of.ensures, rw c.in-Err-Refused.is (inl (refl, refl)))
+pub returns-in-Err : goal.returns-in-Err
+returns-in-Err g c =
+    let why = c.in-Err.why in
+    let left = option_map string_bytes why.left in (
+      says (unwritten_line c.args.path.now why.trouble) ∷ left_said left,
+      c.tell_unwritten.ensures.said,
+      rw c.in-Err.is (record { why = why.trouble; left = left; said = refl; failed = c.tell_unwritten.ensures.status }),
+    )

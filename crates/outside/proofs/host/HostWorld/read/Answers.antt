@@ -1,8 +1,5 @@
-use Rattle.outside.proofs.Standing.{adds_text_of, adds_unread}
+use Rattle.outside.proofs.Standing.{adds_reading}
 use Rattle.outside.proofs.host.HostWorld.read.Goals as goal
 
-pub returns-in-Ok : goal.returns-in-Ok
-returns-in-Ok g c = adds_text_of _ _ c.args.path.now _ c.read_whole.result c.in-Ok.ensures c.read_whole.ensures
-
-pub returns-in-Err : goal.returns-in-Err
-returns-in-Err g c = adds_unread _ _ c.args.path.now
+pub returns : goal.returns
+returns g c = adds_reading _ c.args.path.now c.read_whole.result c.read_whole.ensures.whole c.read_whole.ensures.refused

@@ -1,0 +1,211 @@
+-- How far it goes with a new file beside another: what deeds on it leave as it is.
+use Rattle.std.proofs.Common.{◌≡◌, ◌≢◌, ◌∙◌, ◌++◌, ◌∷◌, [], Bool, true, false, List, Option, Some, None, Result, Ok, Err, ap, append_assoc, append-nil, refl, subst, sym, inl, inr, bytes_eq, if◌then◌else◌, ℕ, length, arith, ◌+◌, suc}
+use Rattle.std.proofs.lemmas.Slice.Eq.{bytes_eq-Decides}
+use Rattle.std.proofs.lemmas.List.{length-append}
+use Rattle.outside.specs.Events.{Bytes}
+use Rattle.outside.specs.Deeds.{Deed, Does, Each, IsGivenUp, IsMovedOver, IsTaken, Spares, all_left, cuts, denied, fills, left_by, listed, made as made', makes, unmade, moves, permissions_of, permits, removes, syncs, taken, without}
+use Rattle.outside.specs.Tried.{IsBegun, IsFinished, IsMade, IsMoved, IsTakenBack, IsVain, Turn}
+use Rattle.outside.specs.Written.{IsPutAt, IsPutInto, IsPutOver, left_of}
+use Rattle.outside.specs.declared.trouble.Unwritten.{Unwritten}
+
+-- ---- one after another
+
+pub does_more : {a b c : List Deed → Type 0} {k l m : Bytes → Option Bytes} {ds es : List Deed} → Does a b k l ds → Does b c l m es
+    → Does a c k m (ds ++ es)
+does_more {c} {ds} {es} first next = record {
+  behind = λ front before. subst c (append_assoc front ds es) (next.behind (front ++ ds) (first.behind front before));
+  kept = next.kept ∙ first.kept;
+}
+
+pub does_nothing : (a : List Deed → Type 0) (k : Bytes → Option Bytes) → Does a a k k []
+does_nothing a k = record { behind = λ front before. subst a (sym (append-nil front)) before; kept = refl }
+
+pub each_both : (P : Deed → Type 0) (ds es : List Deed) → Each P ds → Each P es → Each P (ds ++ es)
+each_both P [] es first next = next
+each_both P (d ∷ ds) es first next = (first.0, each_both P ds es first.1 next)
+
+pub left_both : (paths : List Bytes) (ds es : List Deed) → all_left paths (ds ++ es) ≡ all_left (all_left paths ds) es
+left_both paths [] es = refl
+left_both paths (d ∷ ds) es = left_both (left_by paths d) ds es
+
+-- ---- in vain
+
+vain_spares : (real : Bytes) (d : Deed) → IsVain d → Spares real d
+vain_spares real (makes path how) is = λ e. absurd (is e)
+vain_spares real (cuts path done) is = absurd is
+vain_spares real (permits path from done) is = absurd is
+vain_spares real (fills path text whole) is = absurd is
+vain_spares real (syncs path done) is = absurd is
+vain_spares real (moves from to done) is = absurd is
+vain_spares real (removes path done) is = absurd is
+
+vain_leaves : (paths : List Bytes) (d : Deed) → IsVain d → left_by paths d ≡ paths
+vain_leaves paths (makes path made') is = absurd (is refl)
+vain_leaves paths (makes path (unmade why)) is = refl
+vain_leaves paths (cuts path done) is = absurd is
+vain_leaves paths (permits path from done) is = absurd is
+vain_leaves paths (fills path text whole) is = absurd is
+vain_leaves paths (syncs path done) is = absurd is
+vain_leaves paths (moves from to done) is = absurd is
+vain_leaves paths (removes path done) is = absurd is
+
+taken_vain : (d : Deed) → IsTaken d → IsVain d
+taken_vain (makes path how) is = λ e. absurd cc
+taken_vain (cuts path done) is = absurd is
+taken_vain (permits path from done) is = absurd is
+taken_vain (fills path text whole) is = absurd is
+taken_vain (syncs path done) is = absurd is
+taken_vain (moves from to done) is = absurd is
+taken_vain (removes path done) is = absurd is
+
+pub all_vain : (ds : List Deed) → Each IsTaken ds → Each IsVain ds
+all_vain [] is = tt
+all_vain (d ∷ ds) is = (taken_vain d is.0, all_vain ds is.1)
+
+pub all_spare : (real : Bytes) (ds : List Deed) → Each IsVain ds → Each (Spares real) ds
+all_spare real [] is = tt
+all_spare real (d ∷ ds) is = (vain_spares real d is.0, all_spare real ds is.1)
+
+pub none_left : (paths : List Bytes) (ds : List Deed) → Each IsVain ds → all_left paths ds ≡ paths
+none_left paths [] is = refl
+none_left paths (d ∷ ds) is = ap (λ (ps : List Bytes). all_left ps ds) (vain_leaves paths d is.0) ∙ none_left paths ds is.1
+
+-- nothing but that was done: the old file stays
+pub given_up : (real : Bytes) (ds : List Deed) → Each IsVain ds → IsGivenUp real None ds
+given_up real ds is = record { spared = all_spare real ds is; gone = none_left [] ds is }
+
+-- ---- on the new file
+
+pub begun_more : (real beside : Bytes) (ds es : List Deed) → IsBegun real beside ds → IsBegun real beside es
+    → IsBegun real beside (ds ++ es)
+begun_more real beside ds es first next = record {
+  spared = λ other. each_both (Spares real) ds es (first.spared other) (next.spared other);
+  there = λ paths. left_both paths ds es ∙ (ap (λ (ps : List Bytes). all_left ps es) (first.there paths) ∙ next.there paths);
+}
+
+pub begun_none : (real beside : Bytes) → IsBegun real beside []
+begun_none real beside = record { spared = λ other. tt; there = λ paths. refl }
+
+pub begun_permits : (real beside from : Bytes) (done : Bool) → IsBegun real beside (permits beside from done ∷ [])
+begun_permits real beside from done = record { spared = λ other. (other, tt); there = λ paths. refl }
+
+pub begun_fills : (real beside text : Bytes) (done : Bool) → IsBegun real beside (fills beside text done ∷ [])
+begun_fills real beside text done = record { spared = λ other. (other, tt); there = λ paths. refl }
+
+pub begun_syncs : (real beside : Bytes) (done : Bool) → IsBegun real beside (syncs beside done ∷ [])
+begun_syncs real beside done = record { spared = λ other. (tt, tt); there = λ paths. refl }
+
+pub begun_unmoved : (real beside : Bytes) → IsBegun real beside (moves beside real false ∷ [])
+begun_unmoved real beside = record { spared = λ other. ((other, λ e. absurd cc), tt); there = λ paths. refl }
+
+pub begun_permissions : (real beside : Bytes) (old : Option Bytes) → IsBegun real beside (permissions_of old beside)
+begun_permissions real beside None = begun_none real beside
+begun_permissions real beside (Some from) = begun_permits real beside from true
+
+-- ---- all of it
+
+same_bytes : (path : Bytes) → bytes_eq path path ≡ true
+same_bytes path = (bytes_eq-Decides path path).1 refl
+
+taken_out : (path : Bytes) → without path (path ∷ []) ≡ []
+taken_out path = rw (same_bytes path) refl
+
+-- a file was made at another path, and moved over the old one
+pub moved_over : (old : Option Bytes) (real beside text : Bytes) (tried ds : List Deed) → beside ≢ real → Each IsTaken tried
+    → IsMoved old real beside text true ds → IsMovedOver old real text ((tried ++ makes beside made' ∷ []) ++ ds)
+moved_over old real beside text tried ds other in_vain is = record {
+  beside = beside;
+  another = other;
+  tried = tried;
+  in_vain = in_vain;
+  each = append_assoc tried (makes beside made' ∷ []) ds ∙ ap (λ (es : List Deed). tried ++ makes beside made' ∷ es) is;
+}
+
+-- what is left where it was taken back
+left_back : (beside : Bytes) (gone : Bool) → all_left (beside ∷ []) (removes beside gone ∷ []) ≡ listed (if gone then None else Some beside)
+left_back beside true = taken_out beside
+left_back beside false = refl
+
+-- a file was made, and all was taken back
+pub taken_back : (real beside : Bytes) (left : Option Bytes) (tried ds : List Deed) → beside ≢ real → Each IsTaken tried
+    → IsTakenBack real beside left ds → IsGivenUp real left ((tried ++ makes beside made' ∷ []) ++ ds)
+taken_back real beside left tried ds other in_vain back =
+    let vain = all_vain tried in_vain in
+    let end = removes beside back.gone ∷ [] in
+    let spared : Each (Spares real) ds = subst (Each (Spares real)) (sym back.each)
+    (each_both (Spares real) back.begun end (back.is_begun.spared other) (other, tt)) in
+    let left_here : all_left (beside ∷ []) ds ≡ listed left =
+    ap (all_left (beside ∷ [])) back.each ∙ (left_both (beside ∷ []) back.begun end
+    ∙ (ap (λ (ps : List Bytes). all_left ps end) (back.is_begun.there (beside ∷ [])) ∙ (left_back beside back.gone ∙ ap listed (sym back.told)))) in
+    record {
+      spared = each_both (Spares real) (tried ++ makes beside made' ∷ []) ds
+          (each_both (Spares real) tried (makes beside made' ∷ []) (all_spare real tried vain) ((λ e. other), tt)) spared;
+      gone = left_both [] (tried ++ makes beside made' ∷ []) ds
+          ∙ (ap (λ (ps : List Bytes). all_left ps ds) (left_both [] tried (makes beside made' ∷ [])
+          ∙ ap (λ (ps : List Bytes). beside ∷ ps) (none_left [] tried vain)) ∙ left_here);
+    }
+
+pub begun_synced : (real beside text : Bytes) → IsBegun real beside (fills beside text true ∷ syncs beside true ∷ [])
+begun_synced real beside text =
+    begun_more real beside (fills beside text true ∷ []) (syncs beside true ∷ []) (begun_fills real beside text true)
+    (begun_syncs real beside true)
+
+-- what was done on a new file is done on the disk behind the making of it
+pub finished : {after : List Deed → Type 0} {now : Bytes → Option Bytes} (t : Turn) (old : Option Bytes) (real beside text : Bytes)
+    (r : Result Unit Unwritten) → IsMade t real beside → (ds : List Deed) → Does t.after after t.now now ds
+    → IsFinished old real beside text ds r → (all : List Deed) × Does t.before after t.known now all × IsPutOver old real text all r
+finished t old real beside text (Ok done) made ds did end =
+    ((made.tried ++ makes beside made' ∷ []) ++ ds, does_more made.did did, moved_over old real beside text made.tried ds made.another made.in_vain end)
+finished t old real beside text (Err why) made ds did end =
+    ((made.tried ++ makes beside made' ∷ []) ++ ds, does_more made.did did, taken_back real beside _ made.tried ds made.another made.in_vain end)
+
+-- one path more was tried in vain
+pub vain_more : (tried : List Deed) (d : Deed) → Each IsVain tried → IsVain d → Each IsVain (tried ++ d ∷ [])
+vain_more tried d first next = each_both IsVain tried (d ∷ []) first (next, tt)
+
+pub taken_more : (tried : List Deed) (path : Bytes) → Each IsTaken tried → Each IsTaken (tried ++ makes path (unmade taken) ∷ [])
+taken_more tried path in_vain = each_both IsTaken tried (makes path (unmade taken) ∷ []) in_vain (refl, tt)
+
+-- a name with more behind it is another name
+pub longer_differs : (path more : Bytes) (d : ℕ) → path ++ d ∷ more ≢ path
+longer_differs path more d is =
+    let long : length path + length (d ∷ more) ≡ length path = sym (length-append path (d ∷ more)) ∙ ap length is in
+    let more_than : suc (length more) ≡ length (d ∷ more) = refl in
+    let none : ⊥ = omega (arith, long, more_than) in
+    none
+
+-- so it is put where a text may be written over the old one too
+pub put_beside : (old : Option Bytes) (real text : Bytes) (r : Result Unit Unwritten) (ds : List Deed) → IsPutOver old real text ds r
+    → IsPutAt old real text ds r
+put_beside old real text (Ok done) ds put = inl put
+put_beside old real text (Err why) ds put = inl put
+
+-- the text is written over the old one, where the folder allows no new file
+pub put_denied : (old : Option Bytes) (real beside text : Bytes) (tried cut : List Deed) (r : Result Unit Unwritten) → Each IsTaken tried
+    → IsPutInto real text cut r → IsPutAt old real text ((tried ++ makes beside (unmade denied) ∷ []) ++ cut) r
+put_denied old real beside text tried cut (Ok done) in_vain put = inr (record {
+  beside = beside;
+  tried = tried;
+  in_vain = in_vain;
+  cut = cut;
+  are_cut = put;
+  each = append_assoc tried (makes beside (unmade denied) ∷ []) cut;
+})
+put_denied old real beside text tried cut (Err why) in_vain put = inr (
+  put.0,
+  record {
+    beside = beside;
+    tried = tried;
+    in_vain = in_vain;
+    cut = cut;
+    are_cut = put.1;
+    each = append_assoc tried (makes beside (unmade denied) ∷ []) cut;
+  },
+)
+
+-- nothing is left where nothing was made
+pub vain_put : (real : Bytes) (why : Unwritten) (ds : List Deed) → why.left ≡ None → Each IsVain ds → IsGivenUp real (left_of why) ds
+vain_put real why ds none vain = rw none (given_up real ds vain)
+
+pub denied_vain : (tried : List Deed) (beside : Bytes) → Each IsTaken tried → Each IsVain (tried ++ makes beside (unmade denied) ∷ [])
+denied_vain tried beside in_vain = vain_more tried (makes beside (unmade denied)) (all_vain tried in_vain) (λ e. absurd cc)

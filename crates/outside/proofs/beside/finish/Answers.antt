@@ -1,0 +1,24 @@
+use Rattle.std.proofs.Common.{◌∷◌, ◌++◌, [], ap, false, refl, true}
+use Rattle.std.specs.Prelude.{string_bytes}
+use Rattle.std.specs.Option.{option_map}
+use Rattle.outside.specs.Deeds.{removes}
+use Rattle.outside.proofs.Trying.{does_more}
+use Rattle.outside.proofs.beside.finish.Goals as goal
+
+pub returns-in-Ok : goal.returns-in-Ok
+returns-in-Ok g c =
+    let (begun, did, is_begun) = rw c.as_str.ensures.value at c.in-Err.ensures in
+    let removed = rw c.as_str-2.ensures.value at c.in-Ok.ensures in (
+      begun ++ removes (string_bytes c.args.beside) true ∷ [],
+      does_more did removed,
+      record { begun = begun; is_begun = is_begun; gone = true; each = refl; told = ap (option_map string_bytes) c.not_written.ensures.none },
+    )
+
+pub returns : goal.returns
+returns g c =
+    let (begun, did, is_begun) = rw c.as_str.ensures.value at c.in-Err.ensures in
+    let removed = rw c.as_str-2.ensures.value at c.in-Err-remove.ensures in (
+      begun ++ removes (string_bytes c.args.beside) false ∷ [],
+      does_more did removed,
+      record { begun = begun; is_begun = is_begun; gone = false; each = refl; told = refl },
+    )

@@ -1,0 +1,66 @@
+-- Of the code's inside, apart from the rules: how far it went with a new file beside another.
+use Rattle.std.specs.Prelude.{◌≡◌, ◌≢◌, true, false, Bool, List, [], ◌∷◌, ◌++◌, Option, Some, None, Result, Ok, Err, if◌then◌else◌}
+use Rattle.outside.specs.Events.{Bytes}
+use Rattle.outside.specs.Deeds.{Deed, Does, Each, makes, made, unmade, denied, fills, syncs, moves, removes, IsTaken, Spares, all_left, permissions_of}
+use Rattle.outside.specs.Written.{left_of}
+use Rattle.outside.specs.declared.trouble.Unwritten.{Unwritten}
+use Rattle.outside.specs.declared.beside.Unmade.{Unmade}
+use Rattle.outside.specs.declared.beside.Unmade.TheVariants as unmade
+
+-- what is known of a disk before and after
+pub record Turn : Type 1 where
+  pub before : List Deed → Type 0
+  pub after : List Deed → Type 0
+  pub known : Bytes → Option Bytes
+  pub now : Bytes → Option Bytes
+
+abbrev pub Turns : Turn → List Deed → Type 0
+Turns t ds = Does t.before t.after t.known t.now ds
+
+-- nothing was made
+abbrev pub IsVain : Deed → Type 0
+IsVain (makes path how) = how ≢ made
+IsVain _ = ⊥
+
+-- a new file was made at another path, behind those that were tried
+pub record IsMade (t : Turn) (real beside : Bytes) : Type 0 where
+  pub another : beside ≢ real
+  pub tried : List Deed
+  pub in_vain : Each IsTaken tried
+  pub did : Turns t (tried ++ makes beside made ∷ [])
+
+-- none was
+abbrev pub IsUnmade : Turn → Unmade → Type 0
+IsUnmade t unmade.Denied = (tried : List Deed) × (beside : Bytes) × Each IsTaken tried × Turns t (tried ++ makes beside (unmade denied) ∷ [])
+IsUnmade t (unmade.Other why) = (tried : List Deed) × Each IsVain tried × Turns t tried
+
+-- these are deeds on a new file, which is there still
+pub record IsBegun (real beside : Bytes) (ds : List Deed) : Type 0 where
+  pub spared : beside ≢ real → Each (Spares real) ds
+  pub there : (paths : List Bytes) → all_left paths ds ≡ paths
+
+-- it got its permissions, its text, or all of it
+abbrev pub IsPermitted : Option Bytes → Bytes → Bytes → Bool → List Deed → Type 0
+IsPermitted old real beside true ds = ds ≡ permissions_of old beside
+IsPermitted old real beside false ds = IsBegun real beside ds
+
+abbrev pub IsFilled : Bytes → Bytes → Bytes → Bool → List Deed → Type 0
+IsFilled real beside text true ds = ds ≡ fills beside text true ∷ syncs beside true ∷ []
+IsFilled real beside text false ds = IsBegun real beside ds
+
+abbrev pub IsMoved : Option Bytes → Bytes → Bytes → Bytes → Bool → List Deed → Type 0
+IsMoved old real beside text true ds =
+    ds ≡ permissions_of old beside ++ (fills beside text true ∷ syncs beside true ∷ moves beside real true ∷ [])
+IsMoved old real beside text false ds = IsBegun real beside ds
+
+-- all of it; or it was taken back, as far as it can be
+pub record IsTakenBack (real beside : Bytes) (left : Option Bytes) (ds : List Deed) : Type 0 where
+  pub begun : List Deed
+  pub is_begun : IsBegun real beside begun
+  pub gone : Bool
+  pub each : ds ≡ begun ++ removes beside gone ∷ []
+  pub told : left ≡ (if gone then None else Some beside)
+
+abbrev pub IsFinished : Option Bytes → Bytes → Bytes → Bytes → List Deed → Result Unit Unwritten → Type 0
+IsFinished old real beside text ds (Ok done) = IsMoved old real beside text true ds
+IsFinished old real beside text ds (Err why) = IsTakenBack real beside (left_of why) ds

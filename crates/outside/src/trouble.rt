@@ -1,0 +1,47 @@
+//! Why a file is not read or written.
+
+ghost use Rattle.std.specs.Prelude.{◌≡◌, None};
+ghost use Rattle.std.specs.IoError.{error_kind};
+ghost use Rattle.outside.specs.Troubles.{IsTroubleOf};
+
+use std::io;
+use std::io::ErrorKind;
+
+/// Why a file is not read or written.
+#[derive(Clone, Copy, Debug, PartialEq, Eq)]
+pub enum Trouble {
+    /// Memory ran out.
+    NoMemory,
+    /// The system refuses it.
+    Refused,
+}
+
+/// Why a text isn't where it is to be.
+#[derive(Debug, Drop)]
+pub struct Unwritten {
+    /// Why it isn't.
+    pub trouble: Trouble,
+    /// The path of a new file that was made for it and couldn't be removed, if there is one.
+    pub left: Option<String>,
+}
+
+/// Want of memory, or any other trouble.
+pub fn trouble_of(error: &io::Error) -> Trouble
+    ensures { IsTroubleOf (error_kind error.now) result }
+{
+    match error.kind() {
+        ErrorKind::OutOfMemory => Trouble::NoMemory,
+        _ => Trouble::Refused,
+    }
+}
+
+/// A text isn't where it is to be, for this trouble, and no new file is left.
+pub(crate) fn not_written(trouble: Trouble) -> Unwritten
+    ensures why { result.trouble ≡ trouble }
+    ensures none { result.left ≡ None }
+{
+    Unwritten {
+        trouble,
+        left: None,
+    }
+}

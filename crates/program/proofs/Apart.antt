@@ -1,0 +1,120 @@
+-- What would be written over something that is read, part after part.
+use Rattle.std.proofs.Common.{◌≡◌, ◌++◌, ◌∷◌, [], ℕ, Bool, false, true, List, Option, Some, None, codes, inl, map, refl, subst, sym, Result}
+use Rattle.commandline.specs.declared.edit_order.Allowed.{Allowed}
+use Rattle.commandline.specs.declared.edit_order.Outputs.{Outputs}
+use Rattle.conduct.specs.Comparing.{AreCompared, Clash}
+use Rattle.conduct.specs.Ending.{EndsBy}
+use Rattle.conduct.proofs.Behind.{apart_then, compared_front, compared_more}
+use Rattle.outside.specs.Events.{Bytes, Event, says}
+use Rattle.program.specs.Edits.{IsAsked, IsEditDone, IsEditFollowed, IsPlainEdit, IsPlainThen, clashes, clashes_if, file_of, listed, replies_path, source_in}
+use Rattle.program.proofs.EditedThen.{asked_quiet, plain_then}
+
+-- what is said of a file
+abbrev pub by_output : Bytes
+by_output = codes "--output would be written over it"
+
+abbrev pub by_source : Bytes
+by_source = codes "SOURCE would be written over it"
+
+abbrev pub by_replies : Bytes
+by_replies = codes "--replies would be written over it"
+
+-- the parts: by the edited source, by that in place of the source, and by what became of the transactions, twice
+pub parts : (o : Outputs) (ps : List Bytes) (source : Bytes) (scripts : List Bytes) → ps ≡ source ∷ scripts
+    → clashes o ps ≡ clashes_if (file_of o.place) by_output ps ++ (clashes_if (source_in o.place source) by_source scripts
+    ++ (clashes_if (replies_path o) by_replies ps ++ clashes_if (replies_path o) by_replies (listed (file_of o.place))))
+parts o ps source scripts is = subst
+    (λ (qs : List Bytes). clashes o qs ≡ clashes_if (file_of o.place) by_output qs ++ (clashes_if (source_in o.place source) by_source scripts
+    ++ (clashes_if (replies_path o) by_replies qs ++ clashes_if (replies_path o) by_replies (listed (file_of o.place)))))
+    (sym is) refl
+
+-- nothing clashes with no file
+pub none_clash : (written : Option Bytes) (text : Bytes) → AreCompared (clashes_if written text []) [] None
+none_clash None text = (refl, refl)
+none_clash (Some path) text = (refl, refl)
+
+abbrev pub First : Outputs → List Bytes → List Clash
+First o ps = clashes_if (file_of o.place) by_output ps
+
+abbrev pub Second : Outputs → Bytes → List Bytes → List Clash
+Second o source scripts = clashes_if (source_in o.place source) by_source scripts
+
+abbrev pub Third : Outputs → List Bytes → List Clash
+Third o ps = clashes_if (replies_path o) by_replies ps
+
+abbrev pub Last : Outputs → Option Bytes → List Clash
+Last o file = clashes_if (replies_path o) by_replies (listed file)
+
+whole : (o : Outputs) (ps : List Bytes) (source : Bytes) (scripts : List Bytes) (es : List Event) (found : Option Bytes)
+    → ps ≡ source ∷ scripts
+    → AreCompared (First o ps ++ (Second o source scripts ++ (Third o ps ++ Last o (file_of o.place)))) es found
+    → AreCompared (clashes o ps) es found
+whole o ps source scripts es found named told =
+    subst (λ (xs : List Clash). AreCompared xs es found) (sym (parts o ps source scripts named)) told
+
+-- found in the first part, or behind parts in which nothing is
+pub in_first : (o : Outputs) (ps : List Bytes) (source : Bytes) (scripts : List Bytes) (es : List Event) (line : Bytes)
+    → ps ≡ source ∷ scripts → AreCompared (First o ps) es (Some line) → AreCompared (clashes o ps) es (Some line)
+in_first o ps source scripts es line named found =
+    whole o ps source scripts es (Some line) named (compared_front (First o ps) _ es line found)
+
+pub in_second : (o : Outputs) (ps : List Bytes) (source : Bytes) (scripts : List Bytes) (es fs : List Event) (line : Bytes)
+    → ps ≡ source ∷ scripts → AreCompared (First o ps) es None → AreCompared (Second o source scripts) fs (Some line)
+    → AreCompared (clashes o ps) (es ++ fs) (Some line)
+in_second o ps source scripts es fs line named none found = whole o ps source scripts (es ++ fs) (Some line) named
+    (compared_more (First o ps) _ es fs (Some line) none (compared_front (Second o source scripts) _ fs line found))
+
+pub in_third : (o : Outputs) (ps : List Bytes) (source : Bytes) (scripts : List Bytes) (es fs hs : List Event) (line : Bytes)
+    → ps ≡ source ∷ scripts → AreCompared (First o ps) es None → AreCompared (Second o source scripts) fs None
+    → AreCompared (Third o ps) hs (Some line) → AreCompared (clashes o ps) (es ++ (fs ++ hs)) (Some line)
+in_third o ps source scripts es fs hs line named none nothing found = whole o ps source scripts (es ++ (fs ++ hs)) (Some line) named
+    (compared_more (First o ps) _ es (fs ++ hs) (Some line) none
+    (compared_more (Second o source scripts) _ fs hs (Some line) nothing (compared_front (Third o ps) _ hs line found)))
+
+pub in_last : (o : Outputs) (ps : List Bytes) (source : Bytes) (scripts : List Bytes) (file : Option Bytes) (es fs hs ks : List Event)
+    (found : Option Bytes) → ps ≡ source ∷ scripts → file ≡ file_of o.place → AreCompared (First o ps) es None
+    → AreCompared (Second o source scripts) fs None → AreCompared (Third o ps) hs None → AreCompared (Last o file) ks found
+    → AreCompared (clashes o ps) (es ++ (fs ++ (hs ++ ks))) found
+in_last o ps source scripts file es fs hs ks found named is none nothing neither told =
+    whole o ps source scripts (es ++ (fs ++ (hs ++ ks))) found named
+    (compared_more (First o ps) _ es (fs ++ (hs ++ ks)) found none
+    (compared_more (Second o source scripts) _ fs (hs ++ ks) found nothing
+    (compared_more (Third o ps) _ hs ks found neither
+    (subst (λ (f : Option Bytes). AreCompared (Last o f) ks found) is told))))
+
+-- something would be written over
+pub over : (keyed : Bool) (paths : List Bytes) (workers : ℕ) (room : Option ℕ) (given : Option Outputs) (o : Outputs) (allowed : Allowed)
+    (asked : List Event) (line : Bytes) → given ≡ Some o → AreCompared (clashes o paths) asked (Some line)
+    → IsEditDone keyed paths workers room given allowed (asked ++ says line ∷ []) 1
+over keyed paths workers room given o allowed asked line is compared = subst
+    (λ (p : Option Outputs). IsEditDone keyed paths workers room p allowed (asked ++ says line ∷ []) 1) (sym is)
+    (asked, says line ∷ [], refl, inl (line, compared, (refl, refl)))
+
+-- nothing would
+pub apart : {E : Type 0} (keyed : Bool) (paths : List Bytes) (workers : ℕ) (room : Option ℕ) (given : Option Outputs) (o : Outputs)
+    (allowed : Allowed) (asked rest : List Event) (r : Result ℕ E) → given ≡ Some o → AreCompared (clashes o paths) asked None
+    → EndsBy (IsPlainEdit keyed paths workers room o allowed) rest r
+    → EndsBy (IsEditDone keyed paths workers room given allowed) (asked ++ rest) r
+apart keyed paths workers room given o allowed asked rest r is compared ends = subst
+    (λ (p : Option Outputs). EndsBy (IsEditDone keyed paths workers room p allowed) (asked ++ rest) r) (sym is)
+    (apart_then (clashes o paths) (IsPlainEdit keyed paths workers room o allowed) asked rest r compared ends)
+
+-- the source can't be put in place
+pub not_plain : (keyed : Bool) (paths : List Bytes) (source : Bytes) (scripts : List Bytes) (workers : ℕ) (room : Option ℕ) (o : Outputs)
+    (allowed : Allowed) (asked : List Event) → paths ≡ source ∷ scripts → IsAsked o.place source asked false
+    → IsPlainEdit keyed paths workers room o allowed (asked ++ says (source ++ codes ": not a plain file") ∷ []) 1
+not_plain keyed paths source scripts workers room o allowed asked named is = subst
+    (λ (ps : List Bytes). IsPlainEdit keyed ps workers room o allowed (asked ++ says (source ++ codes ": not a plain file") ∷ []) 1)
+    (sym named) (false, asked, says (source ++ codes ": not a plain file") ∷ [], refl, is, (refl, refl))
+
+-- it can
+pub plain : {E : Type 0} (keyed : Bool) (paths : List Bytes) (source : Bytes) (scripts : List Bytes) (workers : ℕ) (room : Option ℕ)
+    (o : Outputs) (allowed : Allowed) (asked rest : List Event) (r : Result ℕ E) → paths ≡ source ∷ scripts
+    → IsAsked o.place source asked true → EndsBy (IsEditFollowed keyed paths workers room o allowed) rest r
+    → EndsBy (IsPlainEdit keyed paths workers room o allowed) (asked ++ rest) r
+plain keyed paths source scripts workers room o allowed asked rest r named is = subst
+    (λ (ps : List Bytes). EndsBy (IsEditFollowed keyed ps workers room o allowed) rest r
+    → EndsBy (IsPlainEdit keyed ps workers room o allowed) (asked ++ rest) r)
+    (sym named)
+    (λ ends. plain_then o.place source (IsEditFollowed keyed (source ∷ scripts) workers room o allowed) asked rest r
+    (asked_quiet o.place source asked true is) is ends)
