@@ -1,5 +1,5 @@
 -- What is done behind what was done before.
-use Rattle.std.proofs.Common.{true, false, codes, inl, ◌≡◌, ◌∙◌, ◌++◌, ◌∷◌, ◌<◌, ◌+◌, [], ℕ, List, Option, Some, None, inr, All, ap, append_assoc, append-nil, length, length-append, refl, sym, subst, arith, map, option_map, slice_index_or, Bor, Result, Ok, Err}
+use Rattle.std.proofs.Common.{true, false, inl, ◌≡◌, ◌∙◌, ◌++◌, ◌∷◌, ◌<◌, ◌+◌, [], ℕ, List, Option, Some, None, inr, All, ap, append_assoc, append-nil, length, length-append, refl, sym, subst, arith, map, option_map, slice_index_or, Bor, Result, Ok, Err}
 use Rattle.std.specs.Prelude.{slice_get}
 use Rattle.std.proofs.lemmas.Option.{slice_get-get_or, slice_get-map}
 use Rattle.std.proofs.lemmas.List.Elements.{All-append, All-cons, All-nil}

@@ -1,12 +1,12 @@
 -- What would be written over something that is read, part after part.
-use Rattle.std.proofs.Common.{◌≡◌, ◌++◌, ◌∷◌, [], ℕ, Bool, false, true, List, Option, Some, None, codes, inl, map, refl, subst, sym, Result}
+use Rattle.std.proofs.Common.{◌≡◌, ◌++◌, ◌∷◌, [], ℕ, Bool, false, true, List, Option, Some, None, codes, inl, refl, subst, sym, Result}
 use Rattle.commandline.specs.declared.edit_order.Allowed.{Allowed}
 use Rattle.commandline.specs.declared.edit_order.Outputs.{Outputs}
 use Rattle.conduct.specs.Comparing.{AreCompared, Clash}
 use Rattle.conduct.specs.Ending.{EndsBy}
 use Rattle.conduct.proofs.Behind.{apart_then, compared_front, compared_more}
 use Rattle.outside.specs.Events.{Bytes, Event, says}
-use Rattle.program.specs.Edits.{IsAsked, IsEditDone, IsEditFollowed, IsPlainEdit, IsPlainThen, clashes, clashes_if, file_of, listed, replies_path, source_in}
+use Rattle.program.specs.Edits.{IsAsked, IsEditDone, IsEditFollowed, IsPlainEdit, clashes, clashes_if, file_of, listed, replies_path, source_in}
 use Rattle.program.proofs.EditedThen.{asked_quiet, plain_then}
 
 -- what is said of a file

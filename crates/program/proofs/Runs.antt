@@ -1,5 +1,5 @@
 -- From the words of a command line, or none, to what the program does.
-use Rattle.std.proofs.Common.{◌≡◌, ◌∷◌, [], ℕ, Bool, List, Option, Some, Result, Ok, Err, refl, subst, sym}
+use Rattle.std.proofs.Common.{◌≡◌, ◌∷◌, [], ℕ, Bool, List, Some, Result, Ok, Err, refl, subst, sym}
 use Rattle.std.specs.Result.{result_map_both}
 use Rattle.clap.specs.Words.{Text}
 use Rattle.outside.specs.declared.trouble.Trouble.{Trouble}

@@ -1,4 +1,4 @@
-use Rattle.std.proofs.Common.{◌++◌, ◌∷◌, [], ℕ, List, Bor, codes, map}
+use Rattle.std.proofs.Common.{◌++◌, ◌∷◌, [], ℕ, List, Bor, map}
 use Rattle.std.specs.Prelude.{is_some}
 use Rattle.outside.specs.Events.{says}
 use Rattle.conduct.proofs.Behind.{adds_more}

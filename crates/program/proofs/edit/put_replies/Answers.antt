@@ -1,8 +1,8 @@
-use Rattle.std.proofs.Common.{◌∷◌, ◌++◌, ap, false, option_map, refl, string_bytes, sym}
+use Rattle.std.proofs.Common.{◌∷◌, ◌++◌, ap, false, option_map, refl, string_bytes}
 use Rattle.outside.specs.Events.{leaving, says, writes}
 use Rattle.conduct.specs.Telling.{left_said, unwritten_line}
 use Rattle.conduct.proofs.Behind.{adds_more}
-use Rattle.program.proofs.EditedThen.{put_done, put_failed}
+use Rattle.program.proofs.EditedThen.{put_failed}
 use Rattle.program.proofs.edit.put_replies.Goals as goal
 
 pub returns-in-Err : goal.returns-in-Err

@@ -1,5 +1,5 @@
-use Rattle.std.proofs.Common.{Bool, ◌∷◌, ◌++◌, [], option_map, refl, string_bytes}
-use Rattle.outside.specs.Events.{leaving, says}
+use Rattle.std.proofs.Common.{◌∷◌, [], option_map, refl, string_bytes}
+use Rattle.outside.specs.Events.{says}
 use Rattle.conduct.specs.Telling.{left_said, unwritten_line}
 use Rattle.conduct.proofs.Behind.{adds_nothing}
 use Rattle.program.proofs.edit.tell_saved.Goals as goal
