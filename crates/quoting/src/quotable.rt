@@ -56,7 +56,8 @@ fn have_same_words(
     if !are_words(labels_in(one), labels_in(other)) {
         return Ok(false);
     }
-    let (ones, others) = (letters_in(alloc, one)?, letters_in(alloc, other)?);
+    let ones = letters_in(alloc, one)?;
+    let others = letters_in(alloc, other)?;
     Ok(ones.as_slice() == others.as_slice())
 }
 
