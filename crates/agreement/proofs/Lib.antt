@@ -1,0 +1,2 @@
+pub mod Within
+pub mod Actives

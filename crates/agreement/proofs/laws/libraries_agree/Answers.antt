@@ -1,0 +1,5 @@
+-- The law `libraries_agree` is a lemma.
+use Rattle.agreement.proofs.laws.libraries_agree.Goals as goal
+
+pub returns : goal.returns
+returns c = ?

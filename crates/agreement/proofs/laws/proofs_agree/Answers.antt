@@ -1,0 +1,5 @@
+-- The law `proofs_agree` is a lemma.
+use Rattle.agreement.proofs.laws.proofs_agree.Goals as goal
+
+pub returns : goal.returns
+returns c = ?

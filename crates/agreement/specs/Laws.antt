@@ -1,0 +1,55 @@
+-- Laws: a proof derives in a source what its listing derives in the library that is taken of it (Metamath book, sections 4.1.3, 4.1.4 and
+-- 4.2.4 to 4.2.8).
+use Rattle.std.specs.Prelude.{List, map, ◌↔◌}
+use Rattle.std.specs.Str.{bytes_eq}
+use Rattle.mmtext.specs.Words.{Word}
+use Rattle.mmsyntax.specs.Tables.{Contents}
+use Rattle.mmsyntax.specs.Assertions.{Distinct}
+use Rattle.source.specs.Statements.{Proof, Statements}
+use Rattle.source.specs.Scopes.{Assertion, Scope}
+use Rattle.source.specs.Sources.{Declares}
+use Rattle.taking.specs.declared.reason.Reason.{Reason}
+use Rattle.taking.specs.Names.{Naming}
+use Rattle.taking.specs.Reasons.{Choice}
+use Rattle.taking.specs.Taken.{Takes}
+use Rattle.derivation.specs.Databases.{AllCheck}
+use Rattle.verifying.specs.Verifies.{Verifies}
+use Rattle.agreement.specs.Short.{HasShortProof}
+use Rattle.agreement.specs.Taken.{IsTakenWithProof, DerivesShort, Agrees}
+
+-- labels of a library differ, as in each text of one. `Takes` alone leaves open that two labels that the profile doesn't allow are changed
+-- to the same fresh one, and then a step would cite the first of the two
+abbrev pub LabelsDiffer : Contents → Type 0
+LabelsDiffer db = Distinct bytes_eq (map (λ a. a.label) db.assertions)
+
+-- a source, and a library that is taken of it
+abbrev pub OfLibraries
+    : ((s : Scope) (choice : Choice) (db : Contents) (axioms : List (Word × Reason)) (names : List Naming)
+    → Takes s choice db axioms names → Type 0)
+    → Type 0
+OfLibraries Says =
+    (ss : Statements) (s : Scope) (choice : Choice) (db : Contents) (axioms : List (Word × Reason)) (names : List Naming)
+    → Declares ss s → (takes : Takes s choice db axioms names) → LabelsDiffer db → Says s choice db axioms names takes
+
+-- a theorem that is taken with its proof: what the proof derives in the source, and what the steps prove in the library
+abbrev pub ProofsAgree : Type 0
+ProofsAgree =
+    OfLibraries (λ s choice db axioms names takes.
+    (earlier : List Assertion) (x : Assertion) (proof : Proof) → IsTakenWithProof s choice earlier x proof
+    → Agrees takes.places choice db earlier x proof)
+
+-- all proofs of the library check just where all proofs that were taken derive their statements, by short expressions
+abbrev pub LibrariesAgree : Type 0
+LibrariesAgree =
+    OfLibraries (λ s choice db axioms names takes.
+    AllCheck db
+    ↔ ((earlier : List Assertion) (x : Assertion) (proof : Proof) → IsTakenWithProof s choice earlier x proof
+    → DerivesShort earlier x proof))
+
+-- so what is taken of a source that verifies checks, where the proofs that were taken have no long expressions
+abbrev pub WhatVerifiesChecks : Type 0
+WhatVerifiesChecks =
+    OfLibraries (λ s choice db axioms names takes.
+    Verifies s
+    → ((earlier : List Assertion) (x : Assertion) (proof : Proof) → IsTakenWithProof s choice earlier x proof → HasShortProof earlier x)
+    → AllCheck db)

@@ -1,0 +1,20 @@
+//! Laws of what is taken: functions without a body, whose contracts say them.
+
+ghost use Rattle.agreement.specs.Laws.{ProofsAgree, LibrariesAgree, WhatVerifiesChecks};
+
+/// A theorem that is taken with its proof proves its statement in the library just where the proof derives it in the source, by
+/// citations that make short expressions.
+pub fn proofs_agree()
+    ensures { ProofsAgree }
+{}
+
+/// Each proof of a library checks just where each proof that was taken derives its statement in the source, by citations that make
+/// short expressions.
+pub fn libraries_agree()
+    ensures { LibrariesAgree }
+{}
+
+/// What is taken of a source that verifies checks, where the citations of what is taken make short expressions.
+pub fn what_verifies_checks()
+    ensures { WhatVerifiesChecks }
+{}

@@ -1,0 +1,7 @@
+//! What a proof derives in a source, and what the listing of it derives in the library that is taken: laws that the one holds where the
+//! other does.
+#![tactic(auto)]
+
+mod laws;
+
+pub use laws::{libraries_agree, proofs_agree, what_verifies_checks};
