@@ -1,2 +1,5 @@
 pub mod Within
 pub mod Actives
+pub mod Symbols
+pub mod Said
+pub mod Frames
