@@ -3,3 +3,4 @@ pub mod Actives
 pub mod Symbols
 pub mod Said
 pub mod Frames
+pub mod Substituted
