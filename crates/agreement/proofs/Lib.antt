@@ -4,3 +4,4 @@ pub mod Symbols
 pub mod Said
 pub mod Frames
 pub mod Substituted
+pub mod Tests
