@@ -5,3 +5,5 @@ pub mod Said
 pub mod Frames
 pub mod Substituted
 pub mod Tests
+pub mod Alike
+pub mod Pairs
