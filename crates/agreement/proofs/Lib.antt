@@ -7,3 +7,4 @@ pub mod Substituted
 pub mod Tests
 pub mod Alike
 pub mod Pairs
+pub mod Citing
