@@ -8,3 +8,4 @@ pub mod Tests
 pub mod Alike
 pub mod Pairs
 pub mod Citing
+pub mod Trees
