@@ -9,3 +9,5 @@ pub mod Alike
 pub mod Pairs
 pub mod Citing
 pub mod Trees
+pub mod Chosen
+pub mod Named

@@ -32,6 +32,13 @@ of_found P test (y ∷ ys) x a h =
       | inr n ↦ of_found P test ys x a.1 (sym (cond-false (test y) (Some y) (find test ys) n) ∙ h)
     ]
 
+pub found_passes : {A : Type 0} (test : A → Bool) (xs : List A) (x : A) → find test xs ≡ Some x → test x ≡ true
+found_passes {A} test xs x h = (of_found (λ y. Unit {0}) test xs x (all_there xs) h).1
+  where
+    all_there : (ys : List A) → AllByRecursion (λ y. Unit {0}) ys
+    all_there [] = tt
+    all_there (y ∷ ys) = (tt, all_there ys)
+
 -- ---- values one after the other
 
 pub each_append : {A B : Type 0} (f : A → Option B) (xs ys : List A) (as' bs : List B) → each f xs ≡ Some as' → each f ys ≡ Some bs
@@ -94,13 +101,8 @@ module _ (m : Map) (active : List Hypothesis) where
       → option_and_then (λ h. float_in m (label_of h)) o ≡ Some j → HasFloat w j
   float_found w j None e h = absurd cc
   float_found w j (Some k) e h =
-      let p = of_found (λ g. Unit {0}) (is_float_of w) active k (all_there active) e in
-      let is = float_word w k p.1 in
+      let is = float_word w k (found_passes (is_float_of w) active k e) in
       record { label = is.0; code = is.1; found = e ∙ ap (λ g. Some g) is.2; at = ap (λ g. float_in m (label_of g)) (sym is.2) ∙ h }
-    where
-      all_there : (hs : List Hypothesis) → AllByRecursion (λ g. Unit {0}) hs
-      all_there [] = tt
-      all_there (g ∷ hs) = (tt, all_there hs)
 
   pub has_float_at : (w : Word) (j : ℕ) → variable_in m active w ≡ Some j → HasFloat w j
   has_float_at w j h = float_found w j (find (is_float_of w) active) refl h

@@ -1,5 +1,6 @@
 -- A theorem of a source that is taken with its proof, and its place in the library.
 use Rattle.std.specs.Prelude.{◌≡◌, ◌↔◌, ℕ, List, ◌∷◌, ◌++◌, filter, length, Some, None, IsTrue, slice_get}
+use Rattle.mmsyntax.specs.declared.statement.Kind.TheVariants.{Theorem}
 use Rattle.mmsyntax.specs.declared.statement.Assertion.{Assertion as Unit'}
 use Rattle.mmsyntax.specs.Tables.{Contents}
 use Rattle.source.specs.Statements.{Proof}
@@ -32,6 +33,7 @@ DerivesShort earlier x proof = Derives earlier x proof × HasShortProof earlier 
 -- its proof derives it in the source, by short expressions
 pub record Agrees (m : Map) (choice : Choice) (db : Contents) (earlier : List Assertion) (x : Assertion) (proof : Proof) : Type 0 where
   pub theorem : Unit'
+  pub is_theorem : theorem.kind ≡ Theorem
   pub stands : slice_get db.assertions (how_many_taken choice earlier) ≡ Some theorem
   pub says : SaysSame m db.prelude x theorem
   pub agrees :
