@@ -129,9 +129,10 @@ module _ (m : Map) (t : Tables) (x c : Assertion) (a b : Unit') (sx : IsSaid m t
         let put : List ℕ → ℕ → List Symbol = λ is j. replacement_of (substitution_of is ordered) j in
         let here = pairs_alike m t x c a b sx sc es zs (at_premises c.hypotheses zs) long ins sound in
         let P = λ (is : List ℕ) (q : ℕ × ℕ). AreApart a.pairs (put is q.0) (put is q.1) in
-        subst (λ is. (pairs_fit x c es ≡ true) ↔ All (P is) (frame t b).pairs) (sym (floats_are m t c b sc))
-        (λ h. All-from_recursion (P sc.places.are) (frame t b).pairs (here.0 h),
-        λ h. here.1 (recursion_from_All (P sc.places.are) (frame t b).pairs h))
+        subst (λ is. (pairs_fit x c es ≡ true) ↔ All (P is) (frame t b).pairs) (sym (floats_are m t c b sc)) (
+          λ h. All-from_recursion (P sc.places.are) (frame t b).pairs (here.0 h),
+          λ h. here.1 (recursion_from_All (P sc.places.are) (frame t b).pairs h),
+        )
 
     -- what a citation would give
     made : List Symbol

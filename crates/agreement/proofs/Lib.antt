@@ -11,3 +11,4 @@ pub mod Citing
 pub mod Trees
 pub mod Chosen
 pub mod Named
+pub mod Agreed

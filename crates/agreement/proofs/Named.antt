@@ -174,50 +174,50 @@ module _ (m : Map) (t : Tables) (s : Scope) (choice : Choice) (whole : IsWhole s
   -- ---- labels of hypotheses
 
   module _ (x : Assertion) (a : Unit') (lib : Citable) (earlier : List Assertion) (among : IsAmong x s.assertions) (sx : IsSaid m t x a)
-      where
-    agrees : (h : Hypothesis) → IsAmong h x.active → AllByRecursion (λ k. label_of h ≡ label_of k → h ≡ k) x.active
-    agrees h is =
-        let here = of_all (λ y. All (λ z. All (λ h. All (λ k. label_of h ≡ label_of k → h ≡ k) z.active) y.active) s.assertions)
-        s.assertions x (recursion_from_All _ s.assertions whole.agree) among in
-        let own = of_all (λ z. All (λ h. All (λ k. label_of h ≡ label_of k → h ≡ k) z.active) x.active) s.assertions x
-        (recursion_from_All _ s.assertions here) among in
-        let one = of_all (λ h. All (λ k. label_of h ≡ label_of k → h ≡ k) x.active) x.active h (recursion_from_All _ x.active own) is in
-        recursion_from_All (λ k. label_of h ≡ label_of k → h ≡ k) x.active one
+    where
+      agrees : (h : Hypothesis) → IsAmong h x.active → AllByRecursion (λ k. label_of h ≡ label_of k → h ≡ k) x.active
+      agrees h is =
+          let here = of_all (λ y. All (λ z. All (λ h. All (λ k. label_of h ≡ label_of k → h ≡ k) z.active) y.active) s.assertions)
+          s.assertions x (recursion_from_All _ s.assertions whole.agree) among in
+          let own = of_all (λ z. All (λ h. All (λ k. label_of h ≡ label_of k → h ≡ k) z.active) x.active) s.assertions x
+          (recursion_from_All _ s.assertions here) among in
+          let one = of_all (λ h. All (λ k. label_of h ≡ label_of k → h ≡ k) x.active) x.active h (recursion_from_All _ x.active own) is in
+          recursion_from_All (λ k. label_of h ≡ label_of k → h ≡ k) x.active one
 
-    put_at : (w : Word) (h : Hypothesis) → find (λ h. bytes_eq w (label_of h)) x.active ≡ Some h
-        → IsPut m t choice earlier x a lib sx w h
-    put_at w (premise label ws) found =
-        let p = premise_at m x.active x.active a.hyps w label ws found sx.says.hyps in
-        record {
-          own = Hyp p.place;
-          gives = p.gives;
-          step = ap (λ o. own_step o (float_in m w) (label_in m w)) p.at;
-          is = p.is;
-          moves = λ st. (p.gives, p.there, refl);
-        }
-    put_at w (typing label c v) found =
-        let f = of_found (λ h. IsOwn x.active h) (λ h. bytes_eq w (label_of h)) x.active (typing label c v) sx.own found in
-        let g = (of_found (IsFloatTaken m t) (λ h. bytes_eq w (label_of h)) x.active (typing label c v) sx.taken found).0 in
-        let same : w ≡ label = same_bytes w label f.1 in
-        let none : place_of (bytes_eq w) (premise_labels x.active) ≡ None =
-        ap (λ l. place_of (bytes_eq l) (premise_labels x.active)) same
-        ∙ place_of-absent (bytes_eq label) (premise_labels x.active)
-        (no_premise_beside label c v x.active
-        (agrees (typing label c v) (found_among (λ h. bytes_eq w (label_of h)) x.active (typing label c v) found))) in
-        let first : symbol_in m x.active c ≡ Some (Const g.1.type_code) = of_constant m x.active c g.1.type_code g.4 in
-        let second : symbol_in m x.active v ≡ Some (Var g.0) = own_symbol m t x a sx label c v g.0 f.0 g.2 in
-        record {
-          own = Float g.0;
-          gives = Const g.1.type_code ∷ Var g.0 ∷ [];
-          step =
-              ap₂ (λ o j. own_step o j (label_in m w)) none (ap (float_in m) same ∙ g.2);
-          is = ap₂ both first (ap (λ o. both o (Some [])) second);
-          moves = λ st. (Const g.1.type_code ∷ Var g.0 ∷ [], (g.1, g.3, refl), refl);
-        }
+      put_at : (w : Word) (h : Hypothesis) → find (λ h. bytes_eq w (label_of h)) x.active ≡ Some h
+          → IsPut m t choice earlier x a lib sx w h
+      put_at w (premise label ws) found =
+          let p = premise_at m x.active x.active a.hyps w label ws found sx.says.hyps in
+          record {
+            own = Hyp p.place;
+            gives = p.gives;
+            step = ap (λ o. own_step o (float_in m w) (label_in m w)) p.at;
+            is = p.is;
+            moves = λ st. (p.gives, p.there, refl);
+          }
+      put_at w (typing label c v) found =
+          let f = of_found (λ h. IsOwn x.active h) (λ h. bytes_eq w (label_of h)) x.active (typing label c v) sx.own found in
+          let g = (of_found (IsFloatTaken m t) (λ h. bytes_eq w (label_of h)) x.active (typing label c v) sx.taken found).0 in
+          let same : w ≡ label = same_bytes w label f.1 in
+          let none : place_of (bytes_eq w) (premise_labels x.active) ≡ None =
+          ap (λ l. place_of (bytes_eq l) (premise_labels x.active)) same
+          ∙ place_of-absent (bytes_eq label) (premise_labels x.active)
+          (no_premise_beside label c v x.active
+          (agrees (typing label c v) (found_among (λ h. bytes_eq w (label_of h)) x.active (typing label c v) found))) in
+          let first : symbol_in m x.active c ≡ Some (Const g.1.type_code) = of_constant m x.active c g.1.type_code g.4 in
+          let second : symbol_in m x.active v ≡ Some (Var g.0) = own_symbol m t x a sx label c v g.0 f.0 g.2 in
+          record {
+            own = Float g.0;
+            gives = Const g.1.type_code ∷ Var g.0 ∷ [];
+            step =
+                ap₂ (λ o j. own_step o j (label_in m w)) none (ap (float_in m) same ∙ g.2);
+            is = ap₂ both first (ap (λ o. both o (Some [])) second);
+            moves = λ st. (Const g.1.type_code ∷ Var g.0 ∷ [], (g.1, g.3, refl), refl);
+          }
 
-    pub puts : (w : Word) (h : Hypothesis) → find (λ h. bytes_eq w (label_of h)) x.active ≡ Some h
-        → IsPut m t choice earlier x a lib sx w h
-    puts w h found = put_at w h found
+      pub puts : (w : Word) (h : Hypothesis) → find (λ h. bytes_eq w (label_of h)) x.active ≡ Some h
+          → IsPut m t choice earlier x a lib sx w h
+      puts w h found = put_at w h found
 
   -- ---- labels of assertions
 

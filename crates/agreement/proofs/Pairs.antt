@@ -96,7 +96,7 @@ module _ (m : Map) (t : Tables) (x : Assertion) (a : Unit') (sx : IsSaid m t x a
   pair_tested w v i j hw hv p =
       let test = λ (o : Option (ℕ × ℕ)). option_map_or (λ q. is_same_pair q (in_order i j)) o false in
       let to : (o r : Option ℕ) → variable_in m x.active p.0 ≡ o → variable_in m x.active p.1 ≡ r → test (pair_at o r) ≡ true
-          → is_pair_of w v p ≡ true =
+      → is_pair_of w v p ≡ true =
       of_places w v i j hw hv p in
       alike (test (pair_in m x.active p)) (is_pair_of w v p)
       (λ h. to (variable_in m x.active p.0) (variable_in m x.active p.1) refl refl h)
@@ -209,7 +209,7 @@ module _ (m : Map) (t : Tables) (x : Assertion) (a : Unit') (sx : IsSaid m t x a
   apart_alike d e zs ys hd he =
       let words = λ (w : Word). list_all (symbols_apart x w) (variables_in x e) in
       let inner : (w : Word) (z : Symbol) → symbol_in m x.active w ≡ Some z
-          → (is_typed w ≡ true → words w ≡ true) ↔ AllByRecursion (SymbolsApart z) ys =
+      → (is_typed w ≡ true → words w ≡ true) ↔ AllByRecursion (SymbolsApart z) ys =
       λ w z hw.
       let tested = kept_tested (symbols_apart x w) is_typed e in
       chain (λ h tw. tested.0 (h tw), λ h tw. tested.1 (h tw))
@@ -315,7 +315,7 @@ module _ (m : Map) (t : Tables) (x c : Assertion) (a b : Unit') (sx : IsSaid m t
       let same-v : is_mandatory_place t b j ≡ is_needed v =
       mandatory_same m t c b sc v j (of_variable m c.active v j (sc.apart v active-v) hv) in
       let agree : is_needed u ≡ true → is_needed v ≡ true
-          → (are_apart x (words u) (words v) ≡ true) ↔ AreApart a.pairs (symbols i) (symbols j) =
+      → (are_apart x (words u) (words v) ≡ true) ↔ AreApart a.pairs (symbols i) (symbols j) =
       λ nu nv. apart_alike m t x a sx (words u) (words v) (symbols i) (symbols j)
       (variable_replaced m t x c a b sx sc es zs rest long ins sound u i hu (λ is. mandatory_kept c u sc.mandatory nu is))
       (variable_replaced m t x c a b sx sc es zs rest long ins sound v j hv (λ is. mandatory_kept c v sc.mandatory nv is)) in (
@@ -327,7 +327,7 @@ module _ (m : Map) (t : Tables) (x c : Assertion) (a b : Unit') (sx : IsSaid m t
         λ h both.
             let parts = and_parts (is_needed u) (is_needed v) both in
             (agree parts.0 parts.1).1
-                (h (and_from (is_mandatory_place t b i) (is_mandatory_place t b j) (same-u ∙ parts.0) (same-v ∙ parts.1))),
+            (h (and_from (is_mandatory_place t b i) (is_mandatory_place t b j) (same-u ∙ parts.0) (same-v ∙ parts.1))),
       )
 
   one_pair : (u v : Word) (o r : Option ℕ) → variable_in m c.active u ≡ o → variable_in m c.active v ≡ r
