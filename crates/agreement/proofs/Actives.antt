@@ -1,15 +1,15 @@
 -- The active hypotheses at each assertion of a source: they stand in the order of their labels, each variable has one $f, and no variable
 -- of a $f is a constant (Metamath book, section 4.1.3).
-use Rattle.std.proofs.Common.{◌≡◌, Bool, true, false, List, [], ◌∷◌, ◌++◌, map, refl, sym, ap, subst, ◌∙◌, inl, inr, append-nil, append_assoc}
-use Rattle.std.specs.Prelude.{All, Option, Some, None, ◌||◌, ◌&&◌, nat_le, length}
+use Rattle.std.proofs.Common.{◌≡◌, true, false, List, [], ◌∷◌, ◌++◌, refl, sym, ap, subst, ◌∙◌, inl, inr, append-nil}
+use Rattle.std.specs.Prelude.{All, Option, Some, None, ◌||◌, nat_le, length}
 use Rattle.std.specs.List.{list_any}
 use Rattle.std.specs.Str.{bytes_eq}
 use mathlib.Core.Bool.{not}
-use Rattle.std.proofs.lemmas.Bool.{cases_Bool, or_from, or_parts, or_left, and_parts, not-false}
+use Rattle.std.proofs.lemmas.Bool.{cases_Bool, or_from, or_parts, and_parts, not-false}
 use Rattle.std.proofs.lemmas.List.Elements.{All-nil, All-push, All-weaker}
 use Rattle.std.proofs.lemmas.List.Folds.{list_any-append}
 use Rattle.mmtext.specs.declared.fault.FaultKind.TheVariants.{UnknownSymbol, RepeatedLabel, NotActive}
-use Rattle.mmtext.specs.Words.{Word, is_label}
+use Rattle.mmtext.specs.Words.{Word}
 use Rattle.mmsyntax.specs.Assertions.{Distinct}
 use Rattle.mmsyntax.proofs.Names.{bytes_eq-sym, same_bytes}
 use Rattle.mmsyntax.proofs.Distinct.{distinct_insert, distinct_left}
@@ -18,13 +18,13 @@ use Rattle.source.specs.Statements.{Statements, none, some}
 use Rattle.source.specs.Scopes.{Hypothesis, typing, premise, Assertion, Scope, nothing, is_in, is_float_of, has_float}
 use Rattle.source.specs.Scopes.{with_hypothesis, with_assertion, enter, leave, behind, behind_all}
 use Rattle.source.specs.Sources.{Declares}
-use Rattle.source.specs.Tests.{passes, constant_tests, type_tests, active_tests, float_tests, is_new_label, is_expression, is_lawful_proof}
+use Rattle.source.specs.Tests.{passes, constant_tests, type_tests, float_tests, is_new_label, is_expression, is_lawful_proof}
 use Rattle.source.specs.Tests.{a_constant, each_declared, is_lawful, are_lawful}
 use Rattle.source.proofs.Passing.{three_parts, each_clear}
 use Rattle.source.proofs.Asserted.{new_label_apart}
 use Rattle.source.proofs.Growing.{any_in_front, all_extend}
 use Rattle.source.proofs.Everywhere.{Everywhere, asserting, everywhere_weaker, everywhere_more, everywhere_asserted, everywhere_left}
-use Rattle.agreement.proofs.Within.{IsWithin, none_within, front_within, within_within, pushed_within}
+use Rattle.agreement.proofs.Within.{IsWithin, front_within, within_within, pushed_within}
 
 -- ---- the $f among hypotheses
 

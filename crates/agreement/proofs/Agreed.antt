@@ -1,11 +1,10 @@
 -- The laws: what is taken of a source checks just where the source's proofs derive their statements.
-use Rattle.std.proofs.Common.{◌≡◌, ℕ, Bool, true, false, List, [], ◌∷◌, ◌++◌, map, length, refl, sym, ap, ◌∙◌, subst, inl, inr, Ok}
+use Rattle.std.proofs.Common.{◌≡◌, ℕ, Bool, true, false, List, [], ◌∷◌, ◌++◌, map, refl, sym, ap, ◌∙◌, subst, Ok}
 use Rattle.std.proofs.Math.Seq.{take-append_seam}
 use mathlib.Core.Path.{ap₂}
 use Rattle.std.specs.Prelude.{Option, Some, None, ◌↔◌, take, slice_get, nat_lt, IfSome, if◌then◌else◌}
 use Rattle.std.specs.Option.{option_map, option_and_then}
 use Rattle.std.specs.Str.{bytes_eq}
-use Rattle.std.proofs.lemmas.Bool.{cases_Bool}
 use Rattle.std.proofs.lemmas.List.{map-append}
 use Rattle.std.proofs.lemmas.Option.{same_Some}
 use Rattle.mmtext.specs.Words.{Word}
@@ -27,13 +26,13 @@ use Rattle.taking.specs.declared.reason.Reason.{Reason}
 use Rattle.taking.specs.declared.reason.Reason.TheVariants.{Unfinished, TooLong, InFront, CitesUnchosen, LongExpression}
 use Rattle.taking.specs.Names.{Map, Naming}
 use Rattle.taking.specs.Listings.{IsListed}
-use Rattle.taking.specs.Reasons.{Choice, reason, reason_of, reason_of_finished, reason_of_tree, cites_left_out}
+use Rattle.taking.specs.Reasons.{Choice, reason, reason_of, reason_of_finished, cites_left_out}
 use Rattle.taking.specs.Taken.{Takes, HasProof, IsTaken, AreTaken, AreTakenFrom}
 use Rattle.taking.proofs.LongListings.{denoted_enough}
 use Rattle.verifying.specs.Verifies.{derived, Derives, IsVerified, AreVerified}
 use Rattle.verifying.specs.Laws.{value}
 use Rattle.verifying.proofs.Verified.{trees_are_derived, parts_verify}
-use Rattle.agreement.specs.Short.{AreShort, HasShortProof}
+use Rattle.agreement.specs.Short.{AreShort}
 use Rattle.agreement.specs.Taken.{IsTakenWithProof, how_many_taken, DerivesShort, Agrees}
 use Rattle.agreement.specs.Laws.{LabelsDiffer, ProofsAgree, LibrariesAgree, WhatVerifiesChecks}
 use Rattle.agreement.proofs.Actives.{sources_orderly}

@@ -1,10 +1,10 @@
 -- A citation gives an expression in the source just where it gives it in the library, unless it is too long.
-use Rattle.std.proofs.Common.{◌≡◌, ◌≤◌, ℕ, suc, ◌+◌, Bool, true, false, List, [], ◌∷◌, ◌++◌, map, length, drop, refl, sym, ap, ◌∙◌, subst, inl, inr}
+use Rattle.std.proofs.Common.{◌≡◌, ◌≤◌, ℕ, suc, Bool, true, false, List, [], ◌∷◌, map, length, drop, refl, sym, ap, ◌∙◌, subst}
 use Rattle.std.proofs.Common.{arith, length-append, Ok, Err}
 use Rattle.std.proofs.Math.Seq.{drop-append_seam}
 use mathlib.Core.Bool.{not}
-use Rattle.std.specs.Prelude.{Option, Some, None, ◌↔◌, Result, zip, All, if◌then◌else◌}
-use Rattle.std.specs.List.{list_any, list_all, AllByRecursion}
+use Rattle.std.specs.Prelude.{Option, Some, ◌↔◌, Result, All, if◌then◌else◌}
+use Rattle.std.specs.List.{AllByRecursion}
 use Rattle.std.proofs.lemmas.List.Elements.{All-from_recursion, recursion_from_All}
 use Rattle.mmsyntax.specs.declared.statement.Symbol.{Symbol}
 use Rattle.mmsyntax.specs.declared.statement.Assertion.{Assertion as Unit'}
@@ -29,7 +29,6 @@ use Rattle.agreement.proofs.Frames.{floats_are}
 use Rattle.agreement.proofs.Substituted.{each_cons, each_short, each_long, IsSound, AreIn, statement_replaced}
 use Rattle.agreement.proofs.Tests.{types_agree, all_hypotheses_agree, premises_kept}
 use Rattle.agreement.proofs.Pairs.{pairs_alike}
-use Rattle.agreement.proofs.Alike.{chain}
 
 -- ---- lengths
 

@@ -1,7 +1,7 @@
 -- The frame of what is taken: its `$f` are those of the mandatory hypotheses, in their order.
-use Rattle.std.proofs.Common.{◌≡◌, ◌<◌, ℕ, Bool, true, false, List, [], ◌∷◌, length, ◌⊎◌, refl, sym, ap, ◌∙◌, subst, inl, inr, arith}
+use Rattle.std.proofs.Common.{◌≡◌, ℕ, Bool, true, false, List, [], ◌∷◌, length, ◌⊎◌, refl, sym, ap, ◌∙◌, subst, inl, inr, arith}
 use mathlib.Core.Path.{ap₂}
-use Rattle.std.specs.Prelude.{Option, Some, None, find, filter, ◌||◌, ◌&&◌, nat_lt, eqb, slice_get, if◌then◌else◌}
+use Rattle.std.specs.Prelude.{Some, find, filter, ◌||◌, ◌&&◌, nat_lt, eqb}
 use Rattle.std.specs.List.{list_any, AllByRecursion}
 use Rattle.std.specs.Str.{bytes_eq}
 use Rattle.std.proofs.lemmas.Bool.{cases_Bool, cond-true, cond-false, or_cases, and_parts, eqb-true, lt-ltb, ltb-true, or_left, or_right}
@@ -18,8 +18,8 @@ use Rattle.mmframes.specs.Frames.{is_variable, occurs, frame}
 use Rattle.mmframes.specs.Frames.{is_mandatory as is_mandatory_place}
 use Rattle.mmframes.proofs.Mandatory.{has, Rises-filter}
 use Rattle.source.specs.Scopes.{Hypothesis, typing, premise, Assertion, is_in, is_float_of, stands_in, is_mandatory_variable, is_mandatory}
-use Rattle.taking.specs.Names.{Map, constant_in, float_in, variable_in}
-use Rattle.taking.specs.Says.{both, each, symbol_in, expression_in, premises}
+use Rattle.taking.specs.Names.{Map, float_in, variable_in}
+use Rattle.taking.specs.Says.{each, symbol_in, expression_in, premises}
 use Rattle.agreement.proofs.Within.{both_parts}
 use Rattle.agreement.proofs.Actives.{labels_of_floats}
 use Rattle.agreement.proofs.Symbols.{of_variable, at_place, one_word, has_float_at}

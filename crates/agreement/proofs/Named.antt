@@ -1,8 +1,8 @@
 -- What the labels of a proof name in the source and in the library: an active hypothesis, or an earlier assertion that is taken.
-use Rattle.std.proofs.Common.{◌≡◌, ℕ, suc, zero, Bool, true, false, List, [], ◌∷◌, ◌++◌, map, refl, sym, ap, ◌∙◌, subst, inl, inr}
+use Rattle.std.proofs.Common.{◌≡◌, ℕ, suc, Bool, true, false, List, [], ◌∷◌, ◌++◌, map, refl, sym, ap, ◌∙◌, subst, inl, inr}
 use mathlib.Core.Path.{ap₂}
 use mathlib.Core.Bool.{not}
-use Rattle.std.specs.Prelude.{Option, Some, None, ◌||◌, ◌&&◌, find, filter, slice_get, All, if◌then◌else◌}
+use Rattle.std.specs.Prelude.{Some, None, ◌||◌, ◌&&◌, find, filter, slice_get, All}
 use Rattle.std.specs.Option.{option_map}
 use Rattle.std.specs.List.{list_any, AllByRecursion}
 use Rattle.std.specs.Str.{bytes_eq}
@@ -21,11 +21,11 @@ use Rattle.mmsyntax.proofs.Distinct.{place_of-absent}
 use Rattle.mmsyntax.proofs.Items.{not_found_is_none, found_is_any}
 use Rattle.derivation.specs.Derivation.{Citable}
 use Rattle.derivation.specs.Databases.{frame_in}
-use Rattle.source.specs.Scopes.{Hypothesis, typing, premise, label_of, Assertion, Scope, is_in, is_float_of, is_mandatory}
+use Rattle.source.specs.Scopes.{Hypothesis, typing, premise, label_of, Assertion, Scope, is_in, is_mandatory}
 use Rattle.source.specs.Whole.{IsWhole, IsAssertionWhole, AreAssertionsWhole}
-use Rattle.taking.specs.Names.{Map, HasPlaces, constant_in, float_in, label_in, is_float_labelled, has_float_labelled}
+use Rattle.taking.specs.Names.{Map, HasPlaces, float_in, label_in, is_float_labelled, has_float_labelled}
 use Rattle.taking.specs.Says.{both, each, symbol_in, expression_in, premises, IsFloatTaken, SaysSame}
-use Rattle.taking.specs.Listings.{own_step, step_in, premise_labels}
+use Rattle.taking.specs.Listings.{own_step, premise_labels}
 use Rattle.taking.specs.Reasons.{Choice, is_left_out}
 use Rattle.taking.specs.Taken.{AreTaken, chosen_of}
 use Rattle.agreement.proofs.Actives.{AreOrderly, AreOrdered, IsTyped}

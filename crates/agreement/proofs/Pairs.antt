@@ -1,9 +1,9 @@
 -- The test of pairs: a citation passes it in the source just where it passes it in the library.
-use Rattle.std.proofs.Common.{◌≡◌, ◌≢◌, ℕ, Bool, true, false, List, [], ◌∷◌, ◌⊎◌, length, refl, sym, ap, ◌∙◌, subst, inl, inr}
+use Rattle.std.proofs.Common.{◌≡◌, ℕ, Bool, true, false, List, [], ◌∷◌, ◌⊎◌, length, refl, sym, ap, ◌∙◌, subst, inl, inr}
 use Rattle.std.proofs.Common.{arith}
 use mathlib.Core.Path.{ap₂}
 use mathlib.Core.Bool.{not}
-use Rattle.std.specs.Prelude.{Option, Some, None, ◌↔◌, ◌&&◌, ◌||◌, find, filter, nat_lt, IfSome, Contains, if◌then◌else◌}
+use Rattle.std.specs.Prelude.{Option, Some, None, ◌↔◌, ◌&&◌, nat_lt, IfSome, Contains}
 use Rattle.std.specs.Option.{option_map_or}
 use Rattle.std.specs.List.{list_any, list_all, filter_map, AllByRecursion}
 use Rattle.std.specs.Str.{bytes_eq}
@@ -25,16 +25,16 @@ use Rattle.source.specs.Scopes.{Hypothesis, typing, premise, Pair, Assertion, is
 use Rattle.source.specs.Scopes.{mandatory_pairs}
 use Rattle.derivation.specs.Derivation.{IsApart, AreApart}
 use Rattle.derivation.proofs.Decisions.{pairs-decide, contains-decides}
-use Rattle.taking.specs.Names.{Map, constant_in, variable_in}
-use Rattle.taking.specs.Says.{each, symbol_in, expression_in, premises, pair_at, pair_in, ascending}
+use Rattle.taking.specs.Names.{Map, variable_in}
+use Rattle.taking.specs.Says.{each, symbol_in, expression_in, premises, pair_at, pair_in}
 use Rattle.verifying.specs.Citations.{Expression, replacement, variables_in, is_pair_of, symbols_apart, are_apart}
 use Rattle.agreement.proofs.Within.{both_parts}
-use Rattle.agreement.proofs.Symbols.{of_variable, is_constant, is_variable, variable_active, one_variable, one_word}
+use Rattle.agreement.proofs.Symbols.{of_variable, is_constant, is_variable, variable_active, one_variable}
 use Rattle.agreement.proofs.Said.{IsSaid}
 use Rattle.agreement.proofs.Frames.{mandatory_same}
 use Rattle.agreement.proofs.Substituted.{IsSound, AreIn, mandatory_kept, constant_stays, variable_replaced}
 use Rattle.agreement.proofs.Tests.{put_words, put_symbols}
-use Rattle.agreement.proofs.Alike.{chain, turned, each_alike, valued_alike, each_given, each_contained, all_tested, each_kept, kept_tested}
+use Rattle.agreement.proofs.Alike.{chain, turned, each_alike, valued_alike, each_given, each_contained, each_kept, kept_tested}
 use Rattle.agreement.proofs.Alike.{each_mapped, any_mapped, each_ascending, any_ascending}
 
 -- ---- two numbers in order

@@ -1,23 +1,22 @@
 -- An assertion of a source beside the one that is taken of it: each active $f is that of its variable, no variable is a constant, and the
 -- mandatory $f have places that ascend.
-use Rattle.std.proofs.Common.{◌≡◌, ℕ, Bool, true, false, List, [], ◌∷◌, ◌++◌, refl, sym, ap, ◌∙◌, subst, inl, inr}
-use Rattle.std.specs.Prelude.{Option, Some, None, find, filter, ◌||◌, if◌then◌else◌, All, IsTrue}
+use Rattle.std.proofs.Common.{◌≡◌, ℕ, Bool, true, false, List, [], ◌∷◌, refl, sym, ap, ◌∙◌, subst, inl, inr}
+use Rattle.std.specs.Prelude.{Some, None, find, filter, ◌||◌}
 use Rattle.std.specs.List.{list_any, AllByRecursion}
 use Rattle.std.specs.Str.{bytes_eq}
 use Rattle.std.proofs.lemmas.Bool.{cases_Bool, cond-true, cond-false, or_parts, or_from, or_left, or_right}
-use Rattle.std.proofs.lemmas.List.Elements.{recursion_from_All}
 use Rattle.mmtext.specs.Words.{Word}
 use Rattle.mmsyntax.specs.declared.statement.Assertion.{Assertion as Unit'}
 use Rattle.mmsyntax.specs.Tables.{Tables, place_of}
 use Rattle.mmsyntax.specs.Assertions.{Distinct}
 use Rattle.mmsyntax.proofs.Names.{bytes_eq-same, bytes_eq-sym, same_bytes}
-use Rattle.mmsyntax.proofs.Distinct.{place_of-absent, any-map}
+use Rattle.mmsyntax.proofs.Distinct.{place_of-absent}
 use Rattle.mmframes.proofs.Mandatory.{Rises}
-use Rattle.source.specs.Scopes.{Hypothesis, typing, premise, Assertion, Scope, is_in, is_float_of, is_mandatory, mandatory}
+use Rattle.source.specs.Scopes.{Hypothesis, typing, premise, Assertion, Scope, is_in, is_float_of, is_mandatory}
 use Rattle.taking.specs.Names.{Map, HasPlaces, constant_in, float_in, is_symbol_of, is_float_labelled, has_float_labelled}
 use Rattle.taking.specs.Says.{each, IsFloatTaken, SaysSame}
-use Rattle.agreement.proofs.Within.{IsWithin, same_within, later_within, within_within, passing_within, places, places_rise}
-use Rattle.agreement.proofs.Actives.{labels_of_floats, variables_of_floats, any_variable, AreOrdered, IsVariable, IsTyped}
+use Rattle.agreement.proofs.Within.{IsWithin, later_within, within_within, passing_within, places, places_rise}
+use Rattle.agreement.proofs.Actives.{labels_of_floats, variables_of_floats, AreOrdered, IsTyped}
 
 -- ---- each active $f is that of its variable
 
@@ -110,16 +109,15 @@ labels_kept test (premise label ws ∷ hs) =
 -- ---- places of the mandatory $f
 
 -- the labels of the $f of an assertion are labels of $f there
-all_labelled : (x : Assertion) (taken : List Assertion) (hs : List Hypothesis)
-    → ((label c v : Word) → list_any (is_float_labelled label) (typing label c v ∷ []) ≡ true)
+all_labelled : (taken : List Assertion) (hs : List Hypothesis)
     → ((label : Word) → list_any (is_float_labelled label) hs ≡ true → list_any (has_float_labelled label) taken ≡ true)
     → AllByRecursion (λ w. list_any (has_float_labelled w) taken ≡ true) (labels_of_floats hs)
-all_labelled x taken [] f h = tt
-all_labelled x taken (typing label c v ∷ hs) f h = (
+all_labelled taken [] h = tt
+all_labelled taken (typing label c v ∷ hs) h = (
   h label (or_left (bytes_eq label label) (list_any (is_float_labelled label) hs) (bytes_eq-same label)),
-  all_labelled x taken hs f (λ l k. h l (or_right (bytes_eq l label) (list_any (is_float_labelled l) hs) k)),
+  all_labelled taken hs (λ l k. h l (or_right (bytes_eq l label) (list_any (is_float_labelled l) hs) k)),
 )
-all_labelled x taken (premise label ws ∷ hs) f h = all_labelled x taken hs f h
+all_labelled taken (premise label ws ∷ hs) h = all_labelled taken hs h
 
 pub record HaveRisingPlaces (m : Map) (hs : List Hypothesis) : Type 0 where
   pub are : List ℕ
@@ -133,7 +131,7 @@ pub rising : (m : Map) (t : Tables) (s : Scope) (taken : List Assertion) (x : As
 rising m t s taken x test h d o among =
     let test' = λ (w : Word). list_any (has_float_labelled w) taken in
     let active-within = passing_within test' (labels_of_floats x.active) s.labels
-    (all_labelled x taken x.active (λ label c v. or_left (bytes_eq label label) false (bytes_eq-same label)) among) o.within in
+    (all_labelled taken x.active among) o.within in
     let within = within_within (labels_of_floats (filter test x.active)) (labels_of_floats x.active) (filter test' s.labels)
     (labels_kept test x.active) active-within in
     let is = places_rise (labels_of_floats (filter test x.active)) (filter test' s.labels) (distinct_kept test' s.labels d) within in
@@ -145,14 +143,14 @@ rising m t s taken x test h d o among =
 
 -- ---- no variable is a constant
 
-typed_apart : (s : Scope) (cs : List Word) (w : Word) (hs : List Hypothesis) → AllByRecursion (IsTyped s) hs
+typed_apart : (s : Scope) (w : Word) (hs : List Hypothesis) → AllByRecursion (IsTyped s) hs
     → list_any (is_float_of w) hs ≡ true → is_in s.constants w ≡ false
-typed_apart s cs w [] a h = absurd cc
-typed_apart s cs w (premise label ws ∷ hs) a h = typed_apart s cs w hs a.1 h
-typed_apart s cs w (typing label c v ∷ hs) a h =
+typed_apart s w [] a h = absurd cc
+typed_apart s w (premise label ws ∷ hs) a h = typed_apart s w hs a.1 h
+typed_apart s w (typing label c v ∷ hs) a h =
     elim (cases_Bool (bytes_eq w v)) [
       | inl e ↦ ap (is_in s.constants) (same_bytes w v e) ∙ a.0.1
-      | inr n ↦ typed_apart s cs w hs a.1 (sym (ap (λ b. b || list_any (is_float_of w) hs) n) ∙ h)
+      | inr n ↦ typed_apart s w hs a.1 (sym (ap (λ b. b || list_any (is_float_of w) hs) n) ∙ h)
     ]
 
 pub no_constant : (m : Map) (t : Tables) (s : Scope) (taken : List Assertion) (x : Assertion) (w : Word) → HasPlaces m t s taken
@@ -160,7 +158,7 @@ pub no_constant : (m : Map) (t : Tables) (s : Scope) (taken : List Assertion) (x
 no_constant m t s taken x w h a is =
     ap (λ cs. place_of (bytes_eq w) cs) h.constants
     ∙ place_of-absent (bytes_eq w) (filter (λ u. list_any (is_symbol_of u) taken) s.constants)
-    (none_kept (bytes_eq w) (λ u. list_any (is_symbol_of u) taken) s.constants (typed_apart s s.constants w x.active a is))
+    (none_kept (bytes_eq w) (λ u. list_any (is_symbol_of u) taken) s.constants (typed_apart s w x.active a is))
 
 -- ---- an assertion and what is taken of it
 

@@ -1,8 +1,8 @@
 -- The tests of types and of hypotheses: a citation passes them in the source just where it passes them in the library.
-use Rattle.std.proofs.Common.{◌≡◌, ℕ, suc, ◌+◌, Bool, true, false, List, [], ◌∷◌, ◌++◌, map, length, drop, refl, sym, ap, ◌∙◌, subst, inl, inr}
+use Rattle.std.proofs.Common.{◌≡◌, ℕ, true, List, [], ◌∷◌, ◌++◌, map, length, refl, sym, ap, ◌∙◌, subst, inl, inr}
 use Rattle.std.proofs.Common.{arith}
 use mathlib.Core.Path.{ap₂}
-use Rattle.std.specs.Prelude.{Option, Some, None, ◌↔◌, ◌&&◌, filter, zip, slice_get, if◌then◌else◌}
+use Rattle.std.specs.Prelude.{Some, ◌↔◌, filter, zip, slice_get}
 use Rattle.std.specs.List.{list_any, list_all, AllByRecursion}
 use Rattle.std.specs.Str.{bytes_eq}
 use Rattle.std.proofs.lemmas.Bool.{cases_Bool, cond-true, cond-false, and_parts, and_from, or_left, or_right}
@@ -10,7 +10,6 @@ use Rattle.std.proofs.lemmas.Option.{same_Some}
 use Rattle.std.proofs.lemmas.Slice.Eq.{slice_eq-Decides, bytes_eq-Decides}
 use Rattle.mmtext.specs.Words.{Word}
 use Rattle.mmsyntax.specs.declared.statement.Symbol.{Symbol}
-use Rattle.mmsyntax.specs.declared.statement.Symbol.TheVariants.{Const, Var}
 use Rattle.mmsyntax.specs.declared.statement.Assertion.{Assertion as Unit'}
 use Rattle.mmsyntax.specs.Tables.{Tables}
 use Rattle.mmsyntax.proofs.Names.{bytes_eq-same, same_bytes, same_place}
@@ -24,7 +23,7 @@ use Rattle.verifying.specs.Citations.{Expression, same_expression, begins_with, 
 use Rattle.verifying.specs.Citations.{subst as subst_words}
 use Rattle.agreement.proofs.Actives.{labels_of_floats}
 use Rattle.agreement.proofs.Symbols.{of_constant, is_constant, one_expression}
-use Rattle.agreement.proofs.Said.{IsOwn, IsSaid, all_kept}
+use Rattle.agreement.proofs.Said.{IsSaid, all_kept}
 use Rattle.agreement.proofs.Substituted.{each_cons, each_short, each_long, IsSound, AreIn, words_put, symbols_put, all_replaced, premise_replaced}
 
 -- ---- hypotheses
