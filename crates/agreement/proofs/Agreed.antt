@@ -14,8 +14,11 @@ use Rattle.mmsyntax.specs.Tables.{Contents}
 use Rattle.mmsyntax.specs.Assertions.{Distinct}
 use Rattle.mmsyntax.specs.declared.limits.TheConstants.{MOST_STEPS}
 use Rattle.mmsyntax.proofs.Distinct.{distinct_left}
+use Rattle.derivation.specs.declared.fault.ProofFault.{ProofFault}
+use Rattle.derivation.specs.declared.fault.ProofFaultKind.TheVariants.{TooLong}
 use Rattle.derivation.specs.Derivation.{Citable, Proves}
-use Rattle.derivation.specs.Databases.{frame_in, citable_at, AllCheck}
+use Rattle.derivation.specs.Faults.{HasFault}
+use Rattle.derivation.specs.Databases.{frame_in, citable_at, AllCheck, HasFaultAt}
 use Rattle.derivation.proofs.Plain.{at_seam}
 use Rattle.source.specs.Statements.{Proof, Statements}
 use Rattle.source.specs.Scopes.{Assertion, Scope, is_in}
@@ -23,7 +26,7 @@ use Rattle.source.specs.Sources.{Declares}
 use Rattle.source.specs.Proofs.{Tree, denoted, denoted_by, steps_of, size, is_unfinished}
 use Rattle.source.proofs.Wholes.{sources_whole}
 use Rattle.taking.specs.declared.reason.Reason.{Reason}
-use Rattle.taking.specs.declared.reason.Reason.TheVariants.{Unfinished, TooLong, InFront, CitesUnchosen, LongExpression}
+use Rattle.taking.specs.declared.reason.Reason.TheVariants.{Unfinished, TooLong as TooManySteps, InFront, CitesUnchosen, LongExpression}
 use Rattle.taking.specs.Names.{Map, Naming}
 use Rattle.taking.specs.Listings.{IsListed}
 use Rattle.taking.specs.Reasons.{Choice, reason, reason_of, reason_of_finished, cites_left_out}
@@ -34,16 +37,16 @@ use Rattle.verifying.specs.Laws.{value}
 use Rattle.verifying.proofs.Verified.{trees_are_derived, parts_verify}
 use Rattle.agreement.specs.Short.{AreShort}
 use Rattle.agreement.specs.Taken.{IsTakenWithProof, how_many_taken, DerivesShort, Agrees}
-use Rattle.agreement.specs.Laws.{LabelsDiffer, ProofsAgree, LibrariesAgree, WhatVerifiesChecks}
+use Rattle.agreement.specs.Laws.{LabelsDiffer, ProofsAgree, LibrariesAgree, WhatVerifiesChecks, OthersAreTooLong}
 use Rattle.agreement.proofs.Actives.{sources_orderly}
 use Rattle.agreement.proofs.Frames.{IsAmong}
 use Rattle.agreement.proofs.Chosen.{among_behind, in_parts, taken_from}
 use Rattle.agreement.proofs.Named.{said_of, puts, cites}
-use Rattle.agreement.proofs.Trees.{tree_agrees}
+use Rattle.agreement.proofs.Trees.{tree_agrees, tree_long}
 
 -- ---- what it says that there is no reason
 
-none_of_all : (first second third last : Bool) → (if first then Some TooLong else (if second then Some InFront else (if third then
+none_of_all : (first second third last : Bool) → (if first then Some TooManySteps else (if second then Some InFront else (if third then
     Some CitesUnchosen else (if last then Some LongExpression else None)))) ≡ None → third ≡ false
 none_of_all true second third last e = absurd cc
 none_of_all false true third last e = absurd cc
@@ -122,19 +125,27 @@ module _ (ss : Statements) (s : Scope) (choice : Choice) (db : Contents) (axioms
       let k = how_many_taken choice earlier in
       let citable : citable_at db k ≡ frame_in t parts.front =
       ap (frame_in t) (ap₂ (λ n as'. take n as') (sym parts.many) all ∙ take-append_seam parts.front (a ∷ behind)) in
-      let agrees = tree_agrees m t choice earlier x a (frame_in t parts.front) sx
-      (puts m t s choice whole orderly takes.has_places x a (frame_in t parts.front) earlier among sx)
-      (cites m t s choice whole orderly takes.has_places x a earlier (x ∷ w.later) parts.front sx w.stands parts.front_taken front_differ)
-      listed.tree enough kept listed.lists in
+      let lib = frame_in t parts.front in
+      let put = puts m t s choice whole orderly takes.has_places x a lib earlier among sx in
+      let cite = cites m t s choice whole orderly takes.has_places x a earlier (x ∷ w.later) parts.front sx w.stands parts.front_taken
+      front_differ in
+      let agrees = tree_agrees m t choice earlier x a lib sx put cite listed.tree enough kept listed.lists in
+      let long = tree_long m t choice earlier x a lib sx put cite listed.tree enough kept listed.lists in
       let short = derives_short earlier x proof listed.tree w.has_proof listed.denotes in
-      let there = subst (λ (lib : Citable). Proves lib t a a.proof a.statement ↔ DerivesShort earlier x proof) (sym citable)
-      (λ h. short.0 (agrees.0 h), λ h. agrees.1 (short.1 h)) in
+      let derives : Derives earlier x proof → value earlier x listed.tree ≡ Ok x.statement =
+      λ h. same_Some (value earlier x listed.tree) (Ok x.statement)
+      (sym (derived_tree earlier x proof listed.tree w.has_proof listed.denotes) ∙ h) in
       record {
         theorem = a;
         is_theorem = has.0;
         stands = ap₂ (λ as' n. slice_get as' n) all (sym parts.many) ∙ at_seam parts.front a behind;
         says = taken.0;
-        agrees = there;
+        agrees =
+            subst (λ (lib : Citable). Proves lib t a a.proof a.statement ↔ DerivesShort earlier x proof) (sym citable)
+            (λ h. short.0 (agrees.0 h), λ h. agrees.1 (short.1 h));
+        too_long =
+            subst (λ (lib : Citable). Derives earlier x proof → (fault : ProofFault) → HasFault lib t a fault → fault.kind ≡ TooLong)
+            (sym citable) (λ h. long (derives h));
       }
 
   -- ---- all of them
@@ -150,9 +161,17 @@ module _ (ss : Statements) (s : Scope) (choice : Choice) (db : Contents) (axioms
       let one = one_agrees earlier x proof w in
       one.agrees.0 (checks (how_many_taken choice earlier) one.theorem one.stands one.is_theorem)
 
-  all_check : AllDerive → AllCheck db
-  unfolding AllDerive
-  all_check derive k a at is_theorem =
+  -- a theorem of the library is one that was taken with its proof
+  record IsOfSource (k : ℕ) (a : Unit') : Type 0 where
+    earlier : List Assertion
+    x : Assertion
+    proof : Proof
+    taken : IsTakenWithProof s choice earlier x proof
+    many : k ≡ how_many_taken choice earlier
+    same : (one_agrees earlier x proof taken).theorem ≡ a
+
+  of_source : (k : ℕ) (a : Unit') → slice_get db.assertions k ≡ Some a → a.kind ≡ Theorem → IsOfSource k a
+  of_source k a at is_theorem =
       let m = takes.places in
       let o = taken_from m db.prelude choice [] s.assertions db.assertions k a takes.taken at in
       let p = proved m o.front o.x a o.x.proof (reason choice o.front o.x) o.taken.1 is_theorem in
@@ -164,10 +183,23 @@ module _ (ss : Statements) (s : Scope) (choice : Choice) (db : Contents) (axioms
         no_reason = p.no_reason;
       } in
       let one = one_agrees o.front o.x p.proof w in
-      let proves = one.agrees.1 (derive o.front o.x p.proof w) in
-      let same : one.theorem ≡ a = same_Some one.theorem a (sym one.stands ∙ ap (slice_get db.assertions) (sym o.many) ∙ at) in
+      record {
+        earlier = o.front;
+        x = o.x;
+        proof = p.proof;
+        taken = w;
+        many = o.many;
+        same = same_Some one.theorem a (sym one.stands ∙ ap (slice_get db.assertions) (sym o.many) ∙ at);
+      }
+
+  all_check : AllDerive → AllCheck db
+  unfolding AllDerive
+  all_check derive k a at is_theorem =
+      let o = of_source k a at is_theorem in
+      let n = how_many_taken choice o.earlier in
+      let proves = (one_agrees o.earlier o.x o.proof o.taken).agrees.1 (derive o.earlier o.x o.proof o.taken) in
       subst (λ (n : ℕ). Proves (citable_at db n) db.prelude a a.proof a.statement) (sym o.many)
-      (subst (λ (b : Unit'). Proves (citable_at db (how_many_taken choice o.front)) db.prelude b b.proof b.statement) same proves)
+      (subst (λ (b : Unit'). Proves (citable_at db n) db.prelude b b.proof b.statement) o.same proves)
 
   -- where the source verifies, each of the proofs derives its statement
   verified_derives : AreVerified [] s.assertions → (earlier : List Assertion) (x : Assertion) (proof : Proof)
@@ -178,6 +210,17 @@ module _ (ss : Statements) (s : Scope) (choice : Choice) (db : Contents) (axioms
       let reasons = none_finished (is_unfinished proof) (reason_of_finished choice earlier x.label (denoted earlier x))
       (sym (ap (reason_of choice earlier x) w.has_proof) ∙ w.no_reason) in
       subst (λ o. IfSome o (λ proof. is_unfinished proof ≡ false → Derives earlier x proof)) w.has_proof here reasons.0
+
+  others_long : AreVerified [] s.assertions → (k : ℕ) (fault : ProofFault) → HasFaultAt db k fault → fault.kind ≡ TooLong
+  others_long verifies k fault h =
+      let a : Unit' = h.0 in
+      let o = of_source k a h.1 h.2.0 in
+      let n = how_many_taken choice o.earlier in
+      let one = one_agrees o.earlier o.x o.proof o.taken in
+      let has : HasFault (citable_at db k) db.prelude a fault = h.2.1 in
+      one.too_long (verified_derives verifies o.earlier o.x o.proof o.taken) fault
+      (subst (λ (b : Unit'). HasFault (citable_at db n) db.prelude b fault) (sym o.same)
+      (subst (λ (n : ℕ). HasFault (citable_at db n) db.prelude a fault) o.many has))
 
 -- ---- the laws
 
@@ -198,3 +241,7 @@ what_verifies_checks ss s choice db axioms names declares takes differ verifies 
     all_check ss s choice db axioms names declares takes differ
     (λ earlier x proof w.
     (verified_derives ss s choice db axioms names declares takes differ verifies earlier x proof w, short earlier x proof w))
+
+pub others_are_too_long : OthersAreTooLong
+others_are_too_long ss s choice db axioms names declares takes differ verifies k fault has =
+    others_long ss s choice db axioms names declares takes differ verifies k fault has

@@ -1,5 +1,5 @@
 -- A citation gives an expression in the source just where it gives it in the library, unless it is too long.
-use Rattle.std.proofs.Common.{◌≡◌, ◌≤◌, ℕ, suc, Bool, true, false, List, [], ◌∷◌, map, length, drop, refl, sym, ap, ◌∙◌, subst}
+use Rattle.std.proofs.Common.{◌≡◌, ◌≤◌, ◌<◌, ℕ, suc, Bool, true, false, List, [], ◌∷◌, map, length, drop, refl, sym, ap, ◌∙◌, subst}
 use Rattle.std.proofs.Common.{arith, length-append, Ok, Err}
 use Rattle.std.proofs.Math.Seq.{drop-append_seam}
 use mathlib.Core.Bool.{not}
@@ -14,11 +14,12 @@ use Rattle.mmframes.specs.Frames.{frame}
 use Rattle.mmframes.specs.Substitution.{subst as subst_symbols, replacement as replacement_of}
 use Rattle.source.specs.Scopes.{Hypothesis, typing, premise, Assertion, is_mandatory}
 use Rattle.derivation.specs.declared.fault.ProofFaultKind.{ProofFaultKind}
-use Rattle.derivation.specs.declared.fault.ProofFaultKind.TheVariants.{WrongType, HypothesisDiffers, NotDisjoint}
-use Rattle.derivation.specs.Derivation.{HaveTypes, TypesFit, HypothesesFit, PairsFit, AreApart, Gives, arity}
+use Rattle.derivation.specs.declared.fault.ProofFaultKind.TheVariants.{WrongType, HypothesisDiffers, NotDisjoint, TooLong}
+use Rattle.derivation.specs.Derivation.{HaveTypes, TypesFit, HypothesesFit, PairsFit, AreApart, Gives, arity, conclusion}
+use Rattle.derivation.specs.Faults.{FailsTest}
 use Rattle.derivation.specs.Derivation.{substitution as substitution_of}
 use Rattle.taking.specs.Names.{Map, float_in}
-use Rattle.taking.specs.Says.{each, expression_in, premises, IsFloatTaken}
+use Rattle.taking.specs.Says.{each, symbol_in, expression_in, premises, IsFloatTaken}
 use Rattle.taking.specs.Listings.{at_floats, at_premises, in_profile_order}
 use Rattle.verifying.specs.Citations.{Expression, types_fit, hypotheses_fit, pairs_fit, substitution}
 use Rattle.verifying.specs.Citations.{subst as subst_words}
@@ -146,32 +147,47 @@ module _ (m : Map) (t : Tables) (x c : Assertion) (a b : Unit') (sx : IsSaid m t
         (sym (floats_are m t c b sc)) (statement_replaced m t x c a b sx sc es zs (at_premises c.hypotheses zs) long ins sound)
 
     -- in the library, and what it is there
-    pub record GivesThere (e : Expression) : Type 0 where
+    pub record PassesThere (e : Expression) : Type 0 where
       pub gives : List Symbol
       pub is : expression_in m x.active e ≡ Some gives
-      pub given : Gives t a (frame t b) ordered gives
+      pub types : TypesFit t (frame t b) ordered
+      pub hypotheses : HypothesesFit (frame t b) ordered
+      pub pairs : PairsFit a (frame t b) ordered
+      pub is_conclusion : gives ≡ conclusion (frame t b) ordered
+      pub many : length e ≡ length gives
 
-    pub gives_there : (e : Expression) → cited x c es ≡ Ok e → length e ≤ MOST_SYMBOLS → GivesThere e
+    pub passes_there : (e : Expression) → cited x c es ≡ Ok e → PassesThere e
     unfolding made
-    gives_there e h short =
+    passes_there e h =
         let one = unless_failed (types_fit c es) WrongType _ e h in
         let two = unless_failed (hypotheses_fit c es) HypothesisDiffers _ e one.1 in
         let three = unless_failed (pairs_fit x c es) NotDisjoint (Ok (subst_words (substitution c es) c.statement)) e two.1 in
         let same : subst_words (substitution c es) c.statement ≡ e = cc in
         let is : expression_in m x.active e ≡ Some made = ap (expression_in m x.active) (sym same) ∙ made_is in
-        let many = each_length _ e made is in
         record {
           gives = made;
           is = is;
-          given = record {
-            one_each = one_for_each zs as_long;
-            types = types.0 one.0;
-            hypotheses = hypotheses.0 two.0;
-            pairs = pairs.0 three.0;
-            is_conclusion = refl;
-            short = subst (λ n. n ≤ MOST_SYMBOLS) many short;
-          };
+          types = types.0 one.0;
+          hypotheses = hypotheses.0 two.0;
+          pairs = pairs.0 three.0;
+          is_conclusion = refl;
+          many = each_length (symbol_in m x.active) e made is;
         }
+
+    -- it is given, unless it is too long
+    pub gives_there : (e : Expression) (p : PassesThere e) → length e ≤ MOST_SYMBOLS → Gives t a (frame t b) ordered p.gives
+    gives_there e p short = record {
+      one_each = one_for_each zs as_long;
+      types = p.types;
+      hypotheses = p.hypotheses;
+      pairs = p.pairs;
+      is_conclusion = p.is_conclusion;
+      short = subst (λ n. n ≤ MOST_SYMBOLS) p.many short;
+    }
+
+    pub too_long_there : (e : Expression) (p : PassesThere e) → MOST_SYMBOLS < length e → FailsTest t a (frame t b) ordered TooLong
+    too_long_there e p long =
+        (p.types, p.hypotheses, p.pairs, subst (λ n. MOST_SYMBOLS < n) (p.many ∙ ap length p.is_conclusion) long)
 
     -- in the source, and how long it is
     pub record GivesHere (z : List Symbol) : Type 0 where
@@ -185,7 +201,7 @@ module _ (m : Map) (t : Tables) (x c : Assertion) (a b : Unit') (sx : IsSaid m t
     gives_here z g =
         let e = subst_words (substitution c es) c.statement in
         let is : expression_in m x.active e ≡ Some z = made_is ∙ ap (λ q. Some q) (sym g.is_conclusion) in
-        let many = each_length _ e z is in
+        let many = each_length (symbol_in m x.active) e z is in
         record {
           gives = e;
           is = is;

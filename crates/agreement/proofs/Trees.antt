@@ -1,13 +1,13 @@
 -- The tree of a proof: it derives its statement in the source just where its listing derives it in the library.
-use Rattle.std.proofs.Common.{◌≡◌, ◌≤◌, ℕ, suc, Bool, false, List, [], ◌∷◌, ◌++◌, length, take, drop, refl, sym, ap, ◌∙◌, subst}
+use Rattle.std.proofs.Common.{◌≡◌, ◌≤◌, ◌<◌, ◌+◌, ◌-◌, ◌⊎◌, inl, inr, ℕ, suc, Bool, false, List, [], ◌∷◌, ◌++◌, length, take, drop, refl, sym, ap, ◌∙◌, subst}
 use Rattle.std.proofs.Common.{arith, length-append, append_assoc, append-nil, Ok, Err}
 use Rattle.std.proofs.Math.Seq.{take-append_seam, drop-append_seam}
 use mathlib.Core.Path.{ap₂}
-use Rattle.std.specs.Prelude.{Option, Some, None, ◌↔◌, Result, find}
+use Rattle.std.specs.Prelude.{Option, Some, None, ◌↔◌, Result, find, nat_lt, slice_get}
 use Rattle.std.specs.Option.{option_map}
 use Rattle.std.specs.List.{list_any, flat_map}
 use Rattle.std.specs.Str.{bytes_eq}
-use Rattle.std.proofs.lemmas.Bool.{cond-true, cond-false, or_parts}
+use Rattle.std.proofs.lemmas.Bool.{cases_Bool, cond-true, cond-false, or_parts, ltb-true, ltb-false}
 use Rattle.std.proofs.lemmas.Grind.{flat_map-append}
 use Rattle.std.proofs.lemmas.Option.{same_Some}
 use Rattle.std.proofs.lemmas.List.Folds.{list_any-append}
@@ -20,11 +20,17 @@ use Rattle.mmsyntax.specs.Tables.{Tables}
 use Rattle.mmsyntax.specs.declared.limits.TheConstants.{MOST_SYMBOLS}
 use Rattle.mmsyntax.proofs.Items.{found_is_any, not_found_is_none}
 use Rattle.mmframes.specs.Frames.{frame}
+use Rattle.derivation.specs.declared.fault.ProofFault.{ProofFault}
 use Rattle.derivation.specs.declared.fault.ProofFaultKind.{ProofFaultKind}
+use Rattle.derivation.specs.declared.fault.ProofFaultKind.TheVariants.{TooLong}
 use Rattle.derivation.specs.Derivation.{Citable, Proves, ListForest, DeriveEach, Derives, Gives, arity}
 use Rattle.derivation.specs.Derivation as derivation
+use Rattle.derivation.specs.Faults.{last, FailsTest, StepFails, HasFault}
 use Rattle.derivation.specs.Moves.{Moves}
 use Rattle.derivation.proofs.Forests.{Runs, tree-runs, Runs-same, Runs-lists}
+use Rattle.derivation.proofs.OneFault.{fault-is-one, fault-excludes-proof}
+use Rattle.derivation.proofs.Plain.{at_seam}
+use Rattle.derivation.proofs.Stuck.{step-fault}
 use Rattle.source.specs.Scopes.{Hypothesis, typing, premise, label_of, Assertion}
 use Rattle.source.specs.Proofs.{Tree, Trees, node, none, some, taken_by}
 use Rattle.taking.specs.Names.{Map}
@@ -39,7 +45,7 @@ use Rattle.agreement.specs.Short.{IsShortAt, AreShort, AllAreShort}
 use Rattle.agreement.proofs.Within.{both_parts}
 use Rattle.agreement.proofs.Symbols.{one_expression}
 use Rattle.agreement.proofs.Said.{IsSaid}
-use Rattle.agreement.proofs.Citing.{one_for_each, gives_there, gives_here, each_length}
+use Rattle.agreement.proofs.Citing.{one_for_each, passes_there, gives_there, too_long_there, gives_here, each_length}
 
 -- ---- parts of what is joined
 
@@ -101,6 +107,18 @@ ends_agree xs ys us vs e n =
       sym (take-append_seam xs ys) ∙ ap (take (length xs)) e ∙ ap (λ k. take k (us ++ vs)) long ∙ take-append_seam us vs,
       sym (drop-append_seam xs ys) ∙ ap (drop (length xs)) e ∙ ap (λ k. drop k (us ++ vs)) long ∙ drop-append_seam us vs,
     )
+
+-- the last items of a list
+last_items : (xs ys : List (List Symbol)) (n : ℕ) → length ys ≡ n → last n (xs ++ ys) ≡ ys
+last_items xs ys n e =
+    let at : length (xs ++ ys) - n ≡ length xs = omega (arith, length-append xs ys, e) in
+    ap (λ k. drop k (xs ++ ys)) at ∙ drop-append_seam xs ys
+
+which : (n most : ℕ) → (n ≤ most) ⊎ (most < n)
+which n most = elim (cases_Bool (nat_lt most n)) [ inl y ↦ inr (ltb-true most n y) | inr f ↦ inl (ltb-false most n f) ]
+
+not_both : (n most : ℕ) → n ≤ most → most < n → ⊥
+not_both n most le lt = omega arith
 
 module _ (m : Map) (t : Tables) (choice : Choice) (earlier : List Assertion) (x : Assertion) (a : Unit') (lib : Citable)
     (sx : IsSaid m t x a) where
@@ -228,141 +246,255 @@ module _ (m : Map) (t : Tables) (choice : Choice) (earlier : List Assertion) (x 
     abbrev Pushes : List Step → List Symbol → Type 0
     Pushes steps z = (st : Values) (rest : List Step) (st' : Values) → Goes (st ++ z ∷ []) rest st' → Goes st (steps ++ rest) st'
 
-    abbrev AllPush : List (List Step) → Values → Type 0
-    AllPush [] [] = Unit {0}
-    AllPush [] (z ∷ zs) = ⊥
-    AllPush (p ∷ ps) [] = ⊥
-    AllPush (p ∷ ps) (z ∷ zs) = Pushes p z × AllPush ps zs
+    -- a citation among the steps makes too long an expression
+    record IsStuck (steps : List Step) : Type 0 where
+      front : List Step
+      label : List ℕ
+      behind : List Step
+      more : Values
+      are : steps ≡ front ++ Cite label ∷ behind
+      runs : (st : Values) → Goes st front (st ++ more)
+      fails : (st : Values) → StepFails lib t a (st ++ more) (Cite label) TooLong
 
-    push_flat : (ps : List (List Step)) (zs : Values) → AllPush ps zs → (st : Values) (rest : List Step) (st' : Values)
-        → Goes (st ++ zs) rest st' → Goes st (flat ps ++ rest) st'
-    push_flat [] [] p st rest st' k = subst (λ s. Goes s rest st') (append-nil st) k
-    push_flat [] (z ∷ zs) p st rest st' k = absurd p
-    push_flat (p ∷ ps) [] h st rest st' k = absurd h
-    push_flat (p ∷ ps) (z ∷ zs) h st rest st' k =
-        subst (λ ss. Goes st ss st') (sym (append_assoc p (flat ps) rest))
-        (h.0 st (flat ps ++ rest) st'
-        (push_flat ps zs h.1 (st ++ z ∷ []) rest st' (subst (λ s. Goes s rest st') (sym (append_assoc st (z ∷ []) zs)) k)))
+    -- steps put an expression, or are stuck, and then No holds
+    abbrev Reaches : Type 0 → List Step → List Symbol → Type 0
+    Reaches No steps z = Pushes steps z ⊎ (IsStuck steps × No)
 
-    push_floats : (hs : List Hypothesis) (ps : List (List Step)) (zs : Values) → AllPush ps zs → AllPush (at_floats hs ps) (at_floats hs zs)
-    push_floats hs [] (z ∷ zs) h = absurd h
-    push_floats hs (p ∷ ps) [] h = absurd h
-    push_floats [] [] [] h = tt
-    push_floats [] (p ∷ ps) (z ∷ zs) h = tt
-    push_floats (typing label c v ∷ hs) [] [] h = tt
-    push_floats (premise label ws ∷ hs) [] [] h = tt
-    push_floats (typing label c v ∷ hs) (p ∷ ps) (z ∷ zs) h = (h.0, push_floats hs ps zs h.1)
-    push_floats (premise label ws ∷ hs) (p ∷ ps) (z ∷ zs) h = push_floats hs ps zs h.1
+    abbrev AllReach : Type 0 → List (List Step) → Values → Type 0
+    AllReach No [] [] = Unit {0}
+    AllReach No [] (z ∷ zs) = ⊥
+    AllReach No (p ∷ ps) [] = ⊥
+    AllReach No (p ∷ ps) (z ∷ zs) = Reaches No p z × AllReach No ps zs
 
-    push_premises : (hs : List Hypothesis) (ps : List (List Step)) (zs : Values) → AllPush ps zs
-        → AllPush (at_premises hs ps) (at_premises hs zs)
-    push_premises hs [] (z ∷ zs) h = absurd h
-    push_premises hs (p ∷ ps) [] h = absurd h
-    push_premises [] [] [] h = tt
-    push_premises [] (p ∷ ps) (z ∷ zs) h = tt
-    push_premises (typing label c v ∷ hs) [] [] h = tt
-    push_premises (premise label ws ∷ hs) [] [] h = tt
-    push_premises (typing label c v ∷ hs) (p ∷ ps) (z ∷ zs) h = push_premises hs ps zs h.1
-    push_premises (premise label ws ∷ hs) (p ∷ ps) (z ∷ zs) h = (h.0, push_premises hs ps zs h.1)
+    reach_weaker : (No Neither : Type 0) → (No → Neither) → (ps : List (List Step)) (zs : Values) → AllReach No ps zs
+        → AllReach Neither ps zs
+    reach_weaker No Neither f [] [] h = tt
+    reach_weaker No Neither f [] (z ∷ zs) h = absurd h
+    reach_weaker No Neither f (p ∷ ps) [] h = absurd h
+    reach_weaker No Neither f (p ∷ ps) (z ∷ zs) h =
+        (elim h.0 [ inl push ↦ inl push | inr s ↦ inr (s.0, f s.1) ], reach_weaker No Neither f ps zs h.1)
 
-    push_both : (ps qs : List (List Step)) (zs ys : Values) → AllPush ps zs → AllPush qs ys → AllPush (ps ++ qs) (zs ++ ys)
-    push_both [] qs [] ys h k = k
-    push_both [] qs (z ∷ zs) ys h k = absurd h
-    push_both (p ∷ ps) qs [] ys h k = absurd h
-    push_both (p ∷ ps) qs (z ∷ zs) ys h k = (h.0, push_both ps qs zs ys h.1 k)
+    reach_floats : (No : Type 0) (hs : List Hypothesis) (ps : List (List Step)) (zs : Values) → AllReach No ps zs
+        → AllReach No (at_floats hs ps) (at_floats hs zs)
+    reach_floats No hs [] (z ∷ zs) h = absurd h
+    reach_floats No hs (p ∷ ps) [] h = absurd h
+    reach_floats No [] [] [] h = tt
+    reach_floats No [] (p ∷ ps) (z ∷ zs) h = tt
+    reach_floats No (typing label c v ∷ hs) [] [] h = tt
+    reach_floats No (premise label ws ∷ hs) [] [] h = tt
+    reach_floats No (typing label c v ∷ hs) (p ∷ ps) (z ∷ zs) h = (h.0, reach_floats No hs ps zs h.1)
+    reach_floats No (premise label ws ∷ hs) (p ∷ ps) (z ∷ zs) h = reach_floats No hs ps zs h.1
 
-    -- steps put what an expression is in the library
-    record Pushed (steps : List Step) (e : Expression) : Type 0 where
+    reach_premises : (No : Type 0) (hs : List Hypothesis) (ps : List (List Step)) (zs : Values) → AllReach No ps zs
+        → AllReach No (at_premises hs ps) (at_premises hs zs)
+    reach_premises No hs [] (z ∷ zs) h = absurd h
+    reach_premises No hs (p ∷ ps) [] h = absurd h
+    reach_premises No [] [] [] h = tt
+    reach_premises No [] (p ∷ ps) (z ∷ zs) h = tt
+    reach_premises No (typing label c v ∷ hs) [] [] h = tt
+    reach_premises No (premise label ws ∷ hs) [] [] h = tt
+    reach_premises No (typing label c v ∷ hs) (p ∷ ps) (z ∷ zs) h = reach_premises No hs ps zs h.1
+    reach_premises No (premise label ws ∷ hs) (p ∷ ps) (z ∷ zs) h = (h.0, reach_premises No hs ps zs h.1)
+
+    reach_both : (No : Type 0) (ps qs : List (List Step)) (zs ys : Values) → AllReach No ps zs → AllReach No qs ys
+        → AllReach No (ps ++ qs) (zs ++ ys)
+    reach_both No [] qs [] ys h k = k
+    reach_both No [] qs (z ∷ zs) ys h k = absurd h
+    reach_both No (p ∷ ps) qs [] ys h k = absurd h
+    reach_both No (p ∷ ps) qs (z ∷ zs) ys h k = (h.0, reach_both No ps qs zs ys h.1 k)
+
+    -- all put their expressions, or the first that is stuck stops all
+    abbrev PushesAll : List Step → Values → Type 0
+    PushesAll steps zs = (st : Values) (rest : List Step) (st' : Values) → Goes (st ++ zs) rest st' → Goes st (steps ++ rest) st'
+
+    stuck_before : (p later : List Step) → IsStuck p → IsStuck (p ++ later)
+    stuck_before p later s = record {
+      front = s.front;
+      label = s.label;
+      behind = s.behind ++ later;
+      more = s.more;
+      are = ap (λ ss. ss ++ later) s.are ∙ append_assoc s.front (Cite s.label ∷ s.behind) later;
+      runs = s.runs;
+      fails = s.fails;
+    }
+
+    stuck_behind : (p later : List Step) (z : List Symbol) → Pushes p z → IsStuck later → IsStuck (p ++ later)
+    stuck_behind p later z push s = record {
+      front = p ++ s.front;
+      label = s.label;
+      behind = s.behind;
+      more = z ∷ s.more;
+      are = ap (λ ss. p ++ ss) s.are ∙ sym (append_assoc p s.front (Cite s.label ∷ s.behind));
+      runs = λ st.
+          push st s.front (st ++ z ∷ s.more)
+          (subst (Goes (st ++ z ∷ []) s.front) (append_assoc st (z ∷ []) s.more) (s.runs (st ++ z ∷ [])));
+      fails = λ st. subst (λ l. StepFails lib t a l (Cite s.label) TooLong) (append_assoc st (z ∷ []) s.more) (s.fails (st ++ z ∷ []));
+    }
+
+    first_stuck : (No : Type 0) (ps : List (List Step)) (zs : Values) → AllReach No ps zs
+        → PushesAll (flat ps) zs ⊎ (IsStuck (flat ps) × No)
+    first_stuck No [] [] h = inl (λ st rest st' k. subst (λ s. Goes s rest st') (append-nil st) k)
+    first_stuck No [] (z ∷ zs) h = absurd h
+    first_stuck No (p ∷ ps) [] h = absurd h
+    first_stuck No (p ∷ ps) (z ∷ zs) h = elim h.0 [
+      | inr s ↦ inr (stuck_before p (flat ps) s.0, s.1)
+      | inl push ↦ elim (first_stuck No ps zs h.1) [
+        | inr s ↦ inr (stuck_behind p (flat ps) z push s.0, s.1)
+        | inl later ↦ inl (λ st rest st' k.
+            subst (λ ss. Goes st ss st') (sym (append_assoc p (flat ps) rest))
+            (push st (flat ps ++ rest) st'
+            (later (st ++ z ∷ []) rest st' (subst (λ s. Goes s rest st') (sym (append_assoc st (z ∷ []) zs)) k))))
+      ]
+    ]
+
+    -- steps reach what an expression is in the library
+    record Reached (No : Type 0) (steps : List Step) (e : Expression) : Type 0 where
       gives : List Symbol
       is : expression_in m x.active e ≡ Some gives
-      pushes : Pushes steps gives
+      reaches : Reaches No steps gives
 
-    record AllPushed (parts : List (List Step)) (es : List Expression) : Type 0 where
+    record AllReached (No : Type 0) (parts : List (List Step)) (es : List Expression) : Type 0 where
       gives : Values
       are : AreIn es gives
-      push : AllPush parts gives
+      reach : AllReach No parts gives
+
+    abbrev AreLong : Trees → Type 0
+    AreLong trees = AllAreShort earlier x trees → ⊥
 
     AfterTrees : Trees → Type 0
     AfterTrees trees =
         (parts : List (List Step)) → listings m earlier x.active trees ≡ Some parts → (es : List Expression)
-        → all_of (values earlier x trees) ≡ Ok es → AllPushed parts es
+        → all_of (values earlier x trees) ≡ Ok es → AllReached (AreLong trees) parts es
+
+    -- the last step of a citation, behind what it takes
+    last_step : (w : Word) (trees : Trees) (c : Assertion) (e : Expression) (front : List Step) (ordered : Values) (b : Unit')
+        (z : List Symbol) → lib b.label ≡ Some (frame t b) → length ordered ≡ arity (frame t b) → PushesAll front ordered
+        → (length e ≤ MOST_SYMBOLS → Gives t a (frame t b) ordered z)
+        → (MOST_SYMBOLS < length e → FailsTest t a (frame t b) ordered TooLong)
+        → active_named w ≡ None → value earlier x (node w trees) ≡ Ok e
+        → Reaches (AreShort earlier x (node w trees) → ⊥) (front ++ Cite b.label ∷ []) z
+    last_step w trees c e front ordered b z there many pushed gives long active derives =
+        elim (which (length e) MOST_SYMBOLS) [
+          | inl few ↦ inl (λ st rest st' k.
+              subst (λ ss. Goes st ss st') (sym (append_assoc front (Cite b.label ∷ []) rest))
+              (pushed st (Cite b.label ∷ rest) st'
+              (st ++ z ∷ [], (frame t b, there, (st, ordered, z, refl, gives few, refl)), k)))
+          | inr many-symbols ↦ inr (
+              record {
+                front = front;
+                label = b.label;
+                behind = [];
+                more = ordered;
+                are = refl;
+                runs = λ st.
+                    subst (λ ss. Goes st ss (st ++ ordered)) (append-nil front) (pushed st [] (st ++ ordered) refl);
+                fails = λ st. (
+                    frame t b,
+                    there,
+                    omega (arith, length-append st ordered, many),
+                    subst (λ l. FailsTest t a (frame t b) l TooLong) (sym (last_items st ordered (arity (frame t b)) many))
+                        (long many-symbols),
+                );
+              },
+              λ short.
+                  not_both (length e) MOST_SYMBOLS
+                  (subst (IsShortAt None) derives (subst (λ o. IsShortAt o (value earlier x (node w trees))) active short.0))
+                  many-symbols,
+          )
+        ]
 
     forward_at : (w : Word) (trees : Trees) (steps : List Step) (o : Option Hypothesis) (r : Option Assertion) → active_named w ≡ o
         → earlier_named w ≡ r → option_map length (taken_by earlier x.active w) ≡ Some (how_many trees) → is_out w ≡ false
         → joined (taken_by earlier x.active w) (listings m earlier x.active trees) (step_in m x.active w) ≡ Some steps
-        → AfterTrees trees → (e : Expression) → value earlier x (node w trees) ≡ Ok e → IsShortAt o (Ok e) → Pushed steps e
+        → AfterTrees trees → (e : Expression) → value earlier x (node w trees) ≡ Ok e
+        → Reached (AreShort earlier x (node w trees) → ⊥) steps e
     unfolding AfterTrees
-    forward_at w trees steps (Some h) r active found enough kept lists after e derives short =
+    forward_at w trees steps (Some h) r active found enough kept lists after e derives =
         let put = puts w h active in
         let l = leaf w trees steps h active enough lists in
         let same : said_by h ≡ e = let both : Ok (said_by h) ≡ Ok e = sym (of_hypothesis w trees h active) ∙ derives in cc in
         record {
           gives = put.gives;
           is = ap (expression_in m x.active) (sym same) ∙ put.is;
-          pushes = λ st rest st' k.
-              subst (λ ss. Goes st (ss ++ rest) st') (sym l.steps_are) (st ++ put.gives ∷ [], put.moves st, k);
+          reaches = inl (λ st rest st' k.
+              subst (λ ss. Goes st (ss ++ rest) st') (sym l.steps_are) (st ++ put.gives ∷ [], put.moves st, k));
         }
-    forward_at w trees steps None None active found enough kept lists after e derives short =
+    forward_at w trees steps None None active found enough kept lists after e derives =
         absurd
         (let both =
         sym (ap (λ o. named x (values earlier x trees) o (earlier_named w)) active
         ∙ ap (λ o. named x (values earlier x trees) None o) found) ∙ derives in
         cc)
-    forward_at w trees steps None (Some c) active found enough kept lists after e derives short =
+    forward_at w trees steps None (Some c) active found enough kept lists after e derives =
         let is = cites w c active found kept in
-        let l = over w c trees steps active found is.theorem.label is.step enough lists in
+        let b = is.theorem in
+        let l = over w c trees steps active found b.label is.step enough lists in
         let made = made_parts x c (all_of (values earlier x trees)) e (sym (of_assertion w trees c active found) ∙ derives) in
         let args = after l.parts l.parts_are made.0 made.1 in
         let long = l.many ∙ all_many trees made.0 made.1 in
-        let g = gives_there m t x c a is.theorem sx is.said made.0 args.gives long args.are e made.2 short in
+        let p = passes_there m t x c a b sx is.said made.0 args.gives long args.are e made.2 in
         let hs = c.hypotheses in
-        let pushed = push_both (at_floats hs l.parts) (at_premises hs l.parts) (at_floats hs args.gives) (at_premises hs args.gives)
-        (push_floats hs l.parts args.gives args.push) (push_premises hs l.parts args.gives args.push) in
-        let front = flat (in_profile_order hs l.parts) in
+        let fs = at_floats hs l.parts in
+        let ps = at_premises hs l.parts in
         let ordered = in_profile_order hs args.gives in
+        let reach = reach_both (AreLong trees) fs ps (at_floats hs args.gives) (at_premises hs args.gives)
+        (reach_floats (AreLong trees) hs l.parts args.gives args.reach) (reach_premises (AreLong trees) hs l.parts args.gives args.reach) in
+        let many = one_for_each m t x c a b sx is.said args.gives
+        (long ∙ each_length (expression_in m x.active) made.0 args.gives args.are) in
+        let No : Type 0 = AreShort earlier x (node w trees) → ⊥ in
         record {
-          gives = g.gives;
-          is = g.is;
-          pushes = λ st rest st' k.
-              subst (λ ss. Goes st ss st')
-              (sym (ap (λ ss. ss ++ rest) l.steps_are ∙ append_assoc front (Cite is.theorem.label ∷ []) rest))
-              (push_flat (in_profile_order hs l.parts) ordered pushed st (Cite is.theorem.label ∷ rest) st'
-              (st ++ g.gives ∷ [], (frame t is.theorem, is.there, (st, ordered, g.gives, refl, g.given, refl)), k));
+          gives = p.gives;
+          is = p.is;
+          reaches =
+              subst (λ ss. Reaches No ss p.gives) (sym l.steps_are)
+              (elim (first_stuck (AreLong trees) (fs ++ ps) ordered reach) [
+                | inr s ↦ inr (stuck_before (flat (fs ++ ps)) (Cite b.label ∷ []) s.0, λ short. s.1 short.1)
+                | inl pushed ↦
+                    last_step w trees c e (flat (fs ++ ps)) ordered b p.gives is.there many pushed
+                    (gives_there m t x c a b sx is.said made.0 args.gives long args.are e p)
+                    (too_long_there m t x c a b sx is.said made.0 args.gives long args.are e p) active derives
+              ]);
         }
 
     mutual
       unfolding AfterTrees
 
       forward : (tr : Tree) (steps : List Step) → TakesEnough earlier x.active tr → list_any is_out (labels_cited tr) ≡ false
-          → listing m earlier x.active tr ≡ Some steps → (e : Expression) → value earlier x tr ≡ Ok e → AreShort earlier x tr
-          → Pushed steps e
-      forward (node w trees) steps enough kept lists e derives short =
+          → listing m earlier x.active tr ≡ Some steps → (e : Expression) → value earlier x tr ≡ Ok e
+          → Reached (AreShort earlier x tr → ⊥) steps e
+      forward (node w trees) steps enough kept lists e derives =
           let parts = or_parts (is_out w) (list_any is_out (labels_cited_by_each trees)) kept in
           forward_at w trees steps (active_named w) (earlier_named w) refl refl enough.0 parts.0 lists
-          (λ ps are es h. forwards trees ps enough.1 parts.1 are es h short.1) e derives
-          (subst (IsShortAt (active_named w)) derives short.0)
+          (λ ps are es h. forwards trees ps enough.1 parts.1 are es h) e derives
 
       forwards : (ts : Trees) (parts : List (List Step)) → TakeEnough earlier x.active ts
           → list_any is_out (labels_cited_by_each ts) ≡ false → listings m earlier x.active ts ≡ Some parts → (es : List Expression)
-          → all_of (values earlier x ts) ≡ Ok es → AllAreShort earlier x ts → AllPushed parts es
-      forwards none parts enough kept lists es derive short =
+          → all_of (values earlier x ts) ≡ Ok es → AllReached (AreLong ts) parts es
+      forwards none parts enough kept lists es derive =
           let same : [] ≡ es = cc in
           record {
             gives = [];
             are = ap (each (expression_in m x.active)) (sym same);
-            push = subst (λ ps. AllPush ps []) (same_Some [] parts lists) tt;
+            reach = subst (λ ps. AllReach (AreLong none) ps []) (same_Some [] parts lists) tt;
           }
-      forwards (some tr ts) parts enough kept lists es derive short =
+      forwards (some tr ts) parts enough kept lists es derive =
           let ls = both_parts (listing m earlier x.active tr) (listings m earlier x.active ts) parts lists in
           let out = or_parts (list_any is_out (labels_cited tr)) (list_any is_out (labels_cited_by_each ts))
           (sym (list_any-append is_out (labels_cited tr) (labels_cited_by_each ts)) ∙ kept) in
           let b = before_parts (value earlier x tr) (all_of (values earlier x ts)) es derive in
-          let first = forward tr ls.0 enough.0 out.0 ls.2 b.first b.first_is short.0 in
-          let others = forwards ts ls.1 enough.1 out.1 ls.3 b.others b.others_are short.1 in
+          let first = forward tr ls.0 enough.0 out.0 ls.2 b.first b.first_is in
+          let others = forwards ts ls.1 enough.1 out.1 ls.3 b.others b.others_are in
+          let No : Type 0 = AreLong (some tr ts) in
+          let here : Reaches No ls.0 first.gives = elim first.reaches [
+            | inl push ↦ inl push
+            | inr s ↦ inr (s.0, λ short. s.1 short.0)
+          ] in
           record {
             gives = first.gives ∷ others.gives;
             are = ap (each (expression_in m x.active)) b.all_are ∙ ap₂ both first.is others.are;
-            push = subst (λ ps. AllPush ps (first.gives ∷ others.gives)) (sym ls.4) (first.pushes, others.push);
+            reach =
+                subst (λ ps. AllReach No ps (first.gives ∷ others.gives)) (sym ls.4)
+                (here, reach_weaker (AreLong ts) No (λ n short. n short.1) ls.1 others.gives others.reach);
           }
 
     -- ---- from the library to the source
@@ -659,25 +791,53 @@ module _ (m : Map) (t : Tables) (choice : Choice) (earlier : List Assertion) (x 
             let some = d.4.2 in
             cc)
 
-    -- a tree whose listing is the proof
-    pub tree_agrees : (tr : Tree) → TakesEnough earlier x.active tr → list_any is_out (labels_cited tr) ≡ false
-        → listing m earlier x.active tr ≡ Some a.proof
-        → Proves lib t a a.proof a.statement ↔ ((value earlier x tr ≡ Ok x.statement) × AreShort earlier x tr)
-    tree_agrees tr enough kept lists = (
-      λ h.
-          let runs = tree-runs lib t a h.0 a.statement [] [] (a.statement ∷ []) h.2 refl in
-          let answer = backward tr a.proof enough kept lists [] [] (a.statement ∷ [])
-          (subst (λ ss. Goes [] (ss ++ []) (a.statement ∷ [])) h.1 runs) in
-          let ends : a.statement ∷ [] ≡ answer.gives ∷ [] = answer.runs in
-          let same : answer.gives ≡ a.statement = cc in
-          let one : answer.good.gives ≡ x.statement =
-          one_expression m x.active t sx.taken answer.good.gives x.statement a.statement (answer.good.is ∙ ap (λ z. Some z) same)
-          sx.says.statement in
-          (answer.good.derives ∙ ap (λ e. Ok e) one, answer.good.short),
-      λ h.
-          let p = forward tr a.proof enough kept lists x.statement h.0 h.1 in
-          let same : p.gives ≡ a.statement = same_Some p.gives a.statement (sym p.is ∙ sx.says.statement) in
-          let runs = subst (λ ss. Goes [] ss (p.gives ∷ [])) (append-nil a.proof) (p.pushes [] [] (p.gives ∷ []) refl) in
-          of_forest a.proof a.statement
-          (subst (λ z. ListForest lib t a a.proof (z ∷ [])) same (Runs-lists lib t a a.proof (p.gives ∷ []) runs)),
-    )
+    -- where the steps put the statement, they prove it
+    of_pushed : (z : List Symbol) → z ≡ a.statement → Pushes a.proof z → Proves lib t a a.proof a.statement
+    of_pushed z same push =
+        let runs = subst (λ ss. Goes [] ss (z ∷ [])) (append-nil a.proof) (push [] [] (z ∷ []) refl) in
+        of_forest a.proof a.statement
+        (subst (λ y. ListForest lib t a a.proof (y ∷ [])) same (Runs-lists lib t a a.proof (z ∷ []) runs))
+
+    -- where they are stuck, their fault is that an expression is too long
+    of_stuck : IsStuck a.proof → (n : ℕ) × HasFault lib t a (record { step = n; kind = TooLong })
+    of_stuck s =
+        let n = length s.front in
+        let runs = subst (λ ss. Goes [] ss s.more) (sym (ap (take n) s.are ∙ take-append_seam s.front (Cite s.label ∷ s.behind))) (s.runs []) in (
+          n + 1,
+          step-fault lib t a n s.more (Cite s.label) (record { step = n + 1; kind = TooLong }) runs
+              (ap (λ ss. slice_get ss n) s.are ∙ at_seam s.front (Cite s.label) s.behind) refl (s.fails []),
+        )
+
+    module _ (tr : Tree) (enough : TakesEnough earlier x.active tr) (kept : list_any is_out (labels_cited tr) ≡ false)
+        (lists : listing m earlier x.active tr ≡ Some a.proof) where
+      of_statement : (value earlier x tr ≡ Ok x.statement)
+          → Proves lib t a a.proof a.statement ⊎ (IsStuck a.proof × (AreShort earlier x tr → ⊥))
+      of_statement h =
+          let r = forward tr a.proof enough kept lists x.statement h in
+          let same : r.gives ≡ a.statement = same_Some r.gives a.statement (sym r.is ∙ sx.says.statement) in
+          elim r.reaches [ inl push ↦ inl (of_pushed r.gives same push) | inr s ↦ inr s ]
+
+      -- a tree whose listing is the proof
+      pub tree_agrees : Proves lib t a a.proof a.statement ↔ ((value earlier x tr ≡ Ok x.statement) × AreShort earlier x tr)
+      tree_agrees = (
+        λ h.
+            let runs = tree-runs lib t a h.0 a.statement [] [] (a.statement ∷ []) h.2 refl in
+            let answer = backward tr a.proof enough kept lists [] [] (a.statement ∷ [])
+            (subst (λ ss. Goes [] (ss ++ []) (a.statement ∷ [])) h.1 runs) in
+            let ends : a.statement ∷ [] ≡ answer.gives ∷ [] = answer.runs in
+            let same : answer.gives ≡ a.statement = cc in
+            let one : answer.good.gives ≡ x.statement =
+            one_expression m x.active t sx.taken answer.good.gives x.statement a.statement (answer.good.is ∙ ap (λ z. Some z) same)
+            sx.says.statement in
+            (answer.good.derives ∙ ap (λ e. Ok e) one, answer.good.short),
+        λ h. elim (of_statement h.0) [ inl proves ↦ proves | inr s ↦ absurd (s.1 h.1) ],
+      )
+
+      -- where it derives the statement, no other fault is found but that an expression is too long
+      pub tree_long : (value earlier x tr ≡ Ok x.statement) → (fault : ProofFault) → HasFault lib t a fault → fault.kind ≡ TooLong
+      tree_long h fault has = elim (of_statement h) [
+        | inl proves ↦ absurd (fault-excludes-proof lib t a fault has proves)
+        | inr s ↦
+            let long = of_stuck s.0 in
+            ap (λ (f : ProofFault). f.kind) (fault-is-one lib t a fault (record { step = long.0; kind = TooLong }) has long.1)
+      ]

@@ -1,6 +1,6 @@
 -- Laws: a proof derives in a source what its listing derives in the library that is taken of it (Metamath book, sections 4.1.3, 4.1.4 and
 -- 4.2.4 to 4.2.8).
-use Rattle.std.specs.Prelude.{List, map, ◌↔◌}
+use Rattle.std.specs.Prelude.{◌≡◌, ◌↔◌, ℕ, List, map}
 use Rattle.std.specs.Str.{bytes_eq}
 use Rattle.mmtext.specs.Words.{Word}
 use Rattle.mmsyntax.specs.Tables.{Contents}
@@ -12,7 +12,9 @@ use Rattle.taking.specs.declared.reason.Reason.{Reason}
 use Rattle.taking.specs.Names.{Naming}
 use Rattle.taking.specs.Reasons.{Choice}
 use Rattle.taking.specs.Taken.{Takes}
-use Rattle.derivation.specs.Databases.{AllCheck}
+use Rattle.derivation.specs.declared.fault.ProofFault.{ProofFault}
+use Rattle.derivation.specs.declared.fault.ProofFaultKind.TheVariants.{TooLong}
+use Rattle.derivation.specs.Databases.{AllCheck, HasFaultAt}
 use Rattle.verifying.specs.Verifies.{Verifies}
 use Rattle.agreement.specs.Short.{HasShortProof}
 use Rattle.agreement.specs.Taken.{IsTakenWithProof, DerivesShort, Agrees}
@@ -53,3 +55,9 @@ WhatVerifiesChecks =
     Verifies s
     → ((earlier : List Assertion) (x : Assertion) (proof : Proof) → IsTakenWithProof s choice earlier x proof → HasShortProof earlier x)
     → AllCheck db)
+
+-- and else a proof that doesn't check has too long an expression, and no other fault
+abbrev pub OthersAreTooLong : Type 0
+OthersAreTooLong =
+    OfLibraries (λ s choice db axioms names takes.
+    Verifies s → (k : ℕ) (fault : ProofFault) → HasFaultAt db k fault → fault.kind ≡ TooLong)

@@ -8,7 +8,10 @@ use Rattle.source.specs.Scopes.{Assertion, Scope, is_in}
 use Rattle.taking.specs.Names.{Map}
 use Rattle.taking.specs.Says.{SaysSame}
 use Rattle.taking.specs.Reasons.{Choice, reason}
+use Rattle.derivation.specs.declared.fault.ProofFault.{ProofFault}
+use Rattle.derivation.specs.declared.fault.ProofFaultKind.TheVariants.{TooLong}
 use Rattle.derivation.specs.Derivation.{Proves}
+use Rattle.derivation.specs.Faults.{HasFault}
 use Rattle.derivation.specs.Databases.{citable_at}
 use Rattle.verifying.specs.Verifies.{Derives}
 use Rattle.agreement.specs.Short.{HasShortProof}
@@ -29,8 +32,8 @@ how_many_taken choice earlier = length (filter (λ y. is_in choice.chosen y.labe
 abbrev pub DerivesShort : List Assertion → Assertion → Proof → Type 0
 DerivesShort earlier x proof = Derives earlier x proof × HasShortProof earlier x
 
--- the theorem stands in the library and says the same there, and over the assertions before it its steps prove its statement just where
--- its proof derives it in the source, by short expressions
+-- the theorem stands in the library and says the same there. Over the assertions before it its steps prove its statement just where its
+-- proof derives it in the source, by short expressions; and where that derives it by a long one, that is the fault of the steps
 pub record Agrees (m : Map) (choice : Choice) (db : Contents) (earlier : List Assertion) (x : Assertion) (proof : Proof) : Type 0 where
   pub theorem : Unit'
   pub is_theorem : theorem.kind ≡ Theorem
@@ -39,3 +42,6 @@ pub record Agrees (m : Map) (choice : Choice) (db : Contents) (earlier : List As
   pub agrees :
       Proves (citable_at db (how_many_taken choice earlier)) db.prelude theorem theorem.proof theorem.statement
       ↔ DerivesShort earlier x proof
+  pub too_long :
+      Derives earlier x proof → (fault : ProofFault)
+      → HasFault (citable_at db (how_many_taken choice earlier)) db.prelude theorem fault → fault.kind ≡ TooLong

@@ -1,6 +1,6 @@
 //! Laws of what is taken: functions without a body, whose contracts say them.
 
-ghost use Rattle.agreement.specs.Laws.{ProofsAgree, LibrariesAgree, WhatVerifiesChecks};
+ghost use Rattle.agreement.specs.Laws.{ProofsAgree, LibrariesAgree, WhatVerifiesChecks, OthersAreTooLong};
 
 /// A theorem that is taken with its proof proves its statement in the library just where the proof derives it in the source, by
 /// citations that make short expressions.
@@ -17,4 +17,9 @@ pub fn libraries_agree()
 /// What is taken of a source that verifies checks, where the citations of what is taken make short expressions.
 pub fn what_verifies_checks()
     ensures { WhatVerifiesChecks }
+{}
+
+/// A proof that is taken of a source that verifies, and doesn't check, has too long an expression, and no other fault.
+pub fn others_are_too_long()
+    ensures { OthersAreTooLong }
 {}

@@ -4,4 +4,4 @@
 
 mod laws;
 
-pub use laws::{libraries_agree, proofs_agree, what_verifies_checks};
+pub use laws::{libraries_agree, others_are_too_long, proofs_agree, what_verifies_checks};
