@@ -15,6 +15,7 @@ use Rattle.mmtext.specs.Words.{Word}
 use Rattle.mmsyntax.specs.declared.statement.Symbol.{Symbol}
 use Rattle.mmsyntax.specs.declared.statement.Step.{Step}
 use Rattle.mmsyntax.specs.declared.statement.Step.TheVariants.{Cite}
+use Rattle.mmsyntax.specs.declared.statement.Frame.{Frame}
 use Rattle.mmsyntax.specs.declared.statement.Assertion.{Assertion as Unit'}
 use Rattle.mmsyntax.specs.Tables.{Tables}
 use Rattle.mmsyntax.specs.declared.limits.TheConstants.{MOST_SYMBOLS}
@@ -120,6 +121,31 @@ which n most = elim (cases_Bool (nat_lt most n)) [ inl y ↦ inr (ltb-true most 
 not_both : (n most : ℕ) → n ≤ most → most < n → ⊥
 not_both n most le lt = omega arith
 
+same_stack : {A : Type 0} (st fs ps xs ys below args : List A) → fs ≡ xs → ps ≡ ys → (st ++ xs) ++ ys ≡ below ++ args
+    → st ++ (fs ++ ps) ≡ below ++ args
+same_stack st fs ps xs ys below args e f h =
+    ap (λ l. st ++ l) (ap₂ (λ p q. p ++ q) e f) ∙ sym (append_assoc st xs ys) ∙ h
+
+as_many : (f g : Frame) (n k : ℕ) → n ≡ arity g → f ≡ g → k ≡ arity f → n ≡ k
+as_many f g n k e same h = e ∙ ap arity (sym same) ∙ sym h
+
+-- steps one after the other
+abbrev flat : List (List Step) → List Step
+flat ps = flat_map (λ p. p) ps
+
+listed_as : (hs ks : List Hypothesis) (parts : List (List Step)) (s own : Step) (steps : List Step)
+    → steps ≡ flat (in_profile_order hs parts) ++ s ∷ [] → hs ≡ ks → s ≡ own → steps ≡ flat (in_profile_order ks parts) ++ own ∷ []
+listed_as hs ks parts s own steps e h k =
+    e ∙ ap₂ (λ gs o. flat (in_profile_order gs parts) ++ o ∷ []) h k
+
+split_steps : (fs ps : List (List Step)) (s : Step) (steps rest : List Step) → steps ≡ flat (fs ++ ps) ++ s ∷ []
+    → steps ++ rest ≡ flat fs ++ (flat ps ++ s ∷ rest)
+split_steps fs ps s steps rest e =
+    ap (λ ss. ss ++ rest) e
+    ∙ append_assoc (flat (fs ++ ps)) (s ∷ []) rest
+    ∙ ap (λ ss. ss ++ s ∷ rest) (flat_map-append (λ (p : List Step). p) fs ps)
+    ∙ append_assoc (flat fs) (flat ps) (s ∷ rest)
+
 module _ (m : Map) (t : Tables) (choice : Choice) (earlier : List Assertion) (x : Assertion) (a : Unit') (lib : Citable)
     (sx : IsSaid m t x a) where
   -- ---- what labels name
@@ -159,9 +185,6 @@ module _ (m : Map) (t : Tables) (choice : Choice) (earlier : List Assertion) (x 
     abbrev Goes : Values → List Step → Values → Type 0
     Goes st steps st' = Runs lib t a st steps st'
 
-    abbrev flat : List (List Step) → List Step
-    flat ps = flat_map (λ p. p) ps
-
     -- ---- labels
 
     takes_none : (w : Word) (h : Hypothesis) → active_named w ≡ Some h → taken_by earlier x.active w ≡ Some []
@@ -193,8 +216,8 @@ module _ (m : Map) (t : Tables) (choice : Choice) (earlier : List Assertion) (x 
         record {
           no_trees = no_trees trees (same_Some (how_many trees) 0 (sym enough ∙ ap (option_map length) is));
           steps_are =
-              j.steps_are ∙ ap (λ hs. flat (in_profile_order hs j.parts) ++ j.step ∷ []) empty
-              ∙ ap (λ ps. flat ps ++ j.step ∷ []) (none_ordered j.parts) ∙ ap (λ s. s ∷ []) own;
+              listed_as j.hypotheses [] j.parts j.step put.own steps j.steps_are empty own
+              ∙ ap (λ ps. flat ps ++ put.own ∷ []) (none_ordered j.parts);
         }
 
     -- an assertion stands over as many trees as it has mandatory hypotheses
@@ -219,9 +242,8 @@ module _ (m : Map) (t : Tables) (choice : Choice) (earlier : List Assertion) (x 
           parts_are = j.parts_are;
           many = same_Some (length c.hypotheses) (how_many trees) (sym (ap (option_map length) is) ∙ enough);
           steps_are =
-              j.steps_are
-              ∙ ap (λ hs. flat (in_profile_order hs j.parts) ++ j.step ∷ []) (same_Some j.hypotheses c.hypotheses (sym j.takes ∙ is))
-              ∙ ap (λ s. flat (in_profile_order c.hypotheses j.parts) ++ s ∷ []) own;
+              listed_as j.hypotheses c.hypotheses j.parts j.step (Cite label) steps j.steps_are
+              (same_Some j.hypotheses c.hypotheses (sym j.takes ∙ is)) own;
         }
 
     -- ---- what a label makes
@@ -234,6 +256,11 @@ module _ (m : Map) (t : Tables) (choice : Choice) (earlier : List Assertion) (x 
         → value earlier x (node w trees) ≡ made_of x c (all_of (values earlier x trees))
     of_assertion w trees c e f =
         ap (λ o. named x (values earlier x trees) o (earlier_named w)) e ∙ ap (λ o. named x (values earlier x trees) None o) f
+
+    of_arguments : (w : Word) (trees : Trees) (c : Assertion) (es : List Expression) (e : Expression) → active_named w ≡ None
+        → earlier_named w ≡ Some c → all_of (values earlier x trees) ≡ Ok es → cited x c es ≡ Ok e
+        → value earlier x (node w trees) ≡ Ok e
+    of_arguments w trees c es e active found args given = of_assertion w trees c active found ∙ ap (made_of x c) args ∙ given
 
     all_many : (ts : Trees) (es : List Expression) → all_of (values earlier x ts) ≡ Ok es → how_many ts ≡ length es
     all_many none es h = let same : [] ≡ es = cc in ap length same
@@ -675,11 +702,7 @@ module _ (m : Map) (t : Tables) (choice : Choice) (earlier : List Assertion) (x 
         let all = answers l.parts l.parts_are in
         let fs = at_floats hs l.parts in
         let ps = at_premises hs l.parts in
-        let split : steps ++ rest ≡ flat fs ++ (flat ps ++ Cite b.label ∷ rest) =
-        ap (λ ss. ss ++ rest) l.steps_are
-        ∙ append_assoc (flat (fs ++ ps)) (Cite b.label ∷ []) rest
-        ∙ ap (λ ss. ss ++ Cite b.label ∷ rest) (flat_map-append (λ (p : List Step). p) fs ps)
-        ∙ append_assoc (flat fs) (flat ps) (Cite b.label ∷ rest) in
+        let split = split_steps fs ps (Cite b.label) steps rest l.steps_are in
         let first = run_floats hs trees l.parts all st (flat ps ++ Cite b.label ∷ rest) st' (subst (λ ss. Goes st ss st') split k) in
         let second = run_premises hs trees l.parts all (st ++ first.gives) (Cite b.label ∷ rest) st' first.runs in
         let args = merged hs trees first.gives second.gives l.many first.good second.good in
@@ -691,10 +714,10 @@ module _ (m : Map) (t : Tables) (choice : Choice) (earlier : List Assertion) (x 
         let long : length hs ≡ length good.gives = l.many ∙ all_many trees good.gives good.derive in
         let as_long = long ∙ each_length (expression_in m x.active) good.gives args.gives good.are in
         let ordered = in_profile_order hs args.gives in
-        let whole : st ++ ordered ≡ g.0 ++ g.1 =
-        ap (λ l. st ++ l) (ap₂ (λ p q. p ++ q) args.floats args.premises) ∙ sym (append_assoc st first.gives second.gives) ∙ g.3 in
-        let many : length ordered ≡ length g.1 =
-        one_for_each m t x c a b sx is.said args.gives as_long ∙ ap arity (sym same) ∙ sym g.4.one_each in
+        let whole = same_stack st (at_floats hs args.gives) (at_premises hs args.gives) first.gives second.gives g.0 g.1 args.floats
+        args.premises g.3 in
+        let many = as_many f (frame t b) (length ordered) (length g.1) (one_for_each m t x c a b sx is.said args.gives as_long) same
+        g.4.one_each in
         let ends = ends_agree st ordered g.0 g.1 whole many in
         let given : Gives t a (frame t b) ordered g.2 =
         subst (λ as'. Gives t a (frame t b) as' g.2) (sym ends.1) (subst (λ f. Gives t a f g.1 g.2) same g.4) in
@@ -702,7 +725,7 @@ module _ (m : Map) (t : Tables) (choice : Choice) (earlier : List Assertion) (x 
         record {
           gives = g.2;
           expression = here.gives;
-          derives = of_assertion w trees c active found ∙ ap (made_of x c) good.derive ∙ here.given;
+          derives = of_arguments w trees c good.gives here.gives active found good.derive here.given;
           is = here.is;
           few = here.short;
           short = good.short;
