@@ -12,3 +12,4 @@ pub mod Trees
 pub mod Chosen
 pub mod Named
 pub mod Agreed
+pub mod Samples

@@ -407,26 +407,26 @@ module _ (m : Map) (t : Tables) (choice : Choice) (earlier : List Assertion) (x 
               (pushed st (Cite b.label ∷ rest) st'
               (st ++ z ∷ [], (frame t b, there, (st, ordered, z, refl, gives few, refl)), k)))
           | inr many-symbols ↦ inr (
-              record {
-                front = front;
-                label = b.label;
-                behind = [];
-                more = ordered;
-                are = refl;
-                runs = λ st.
-                    subst (λ ss. Goes st ss (st ++ ordered)) (append-nil front) (pushed st [] (st ++ ordered) refl);
-                fails = λ st. (
-                    frame t b,
-                    there,
-                    omega (arith, length-append st ordered, many),
-                    subst (λ l. FailsTest t a (frame t b) l TooLong) (sym (last_items st ordered (arity (frame t b)) many))
-                        (long many-symbols),
-                );
-              },
-              λ short.
-                  not_both (length e) MOST_SYMBOLS
-                  (subst (IsShortAt None) derives (subst (λ o. IsShortAt o (value earlier x (node w trees))) active short.0))
-                  many-symbols,
+            record {
+              front = front;
+              label = b.label;
+              behind = [];
+              more = ordered;
+              are = refl;
+              runs = λ st.
+                  subst (λ ss. Goes st ss (st ++ ordered)) (append-nil front) (pushed st [] (st ++ ordered) refl);
+              fails = λ st. (
+                frame t b,
+                there,
+                omega (arith, length-append st ordered, many),
+                subst (λ l. FailsTest t a (frame t b) l TooLong) (sym (last_items st ordered (arity (frame t b)) many))
+                    (long many-symbols),
+              );
+            },
+            λ short.
+                not_both (length e) MOST_SYMBOLS
+                (subst (IsShortAt None) derives (subst (λ o. IsShortAt o (value earlier x (node w trees))) active short.0))
+                many-symbols,
           )
         ]
 

@@ -4,6 +4,7 @@ use Rattle.std.specs.Prelude.{◌≡◌, ◌↔◌, ℕ, List, map}
 use Rattle.std.specs.Str.{bytes_eq}
 use Rattle.mmtext.specs.Words.{Word}
 use Rattle.mmsyntax.specs.Tables.{Contents}
+use Rattle.mmsyntax.specs.Layout.{HasSpelling}
 use Rattle.mmsyntax.specs.Assertions.{Distinct}
 use Rattle.source.specs.Statements.{Proof, Statements}
 use Rattle.source.specs.Scopes.{Assertion, Scope}
@@ -23,6 +24,9 @@ use Rattle.agreement.specs.Taken.{IsTakenWithProof, DerivesShort, Agrees}
 -- to the same fresh one, and then a step would cite the first of the two
 abbrev pub LabelsDiffer : Contents → Type 0
 LabelsDiffer db = Distinct bytes_eq (map (λ a. a.label) db.assertions)
+
+abbrev pub LabelsOfTextsDiffer : Type 0
+LabelsOfTextsDiffer = (db : Contents) → HasSpelling db → LabelsDiffer db
 
 -- a source, and a library that is taken of it
 abbrev pub OfLibraries

@@ -1,6 +1,7 @@
-//! Laws of what is taken: functions without a body, whose contracts say them.
+//! Laws of what is taken, and examples: functions without a body, whose contracts say them.
 
-ghost use Rattle.agreement.specs.Laws.{ProofsAgree, LibrariesAgree, WhatVerifiesChecks, OthersAreTooLong};
+ghost use Rattle.agreement.specs.Laws.{ProofsAgree, LibrariesAgree, WhatVerifiesChecks, OthersAreTooLong, LabelsOfTextsDiffer};
+ghost use Rattle.agreement.specs.Examples.{TwoAgree, EqualLabelsDisagree};
 
 /// A theorem that is taken with its proof proves its statement in the library just where the proof derives it in the source, by
 /// citations that make short expressions.
@@ -22,4 +23,19 @@ pub fn what_verifies_checks()
 /// A proof that is taken of a source that verifies, and doesn't check, has too long an expression, and no other fault.
 pub fn others_are_too_long()
     ensures { OthersAreTooLong }
+{}
+
+/// The labels of a library that a text declares differ.
+pub fn labels_of_texts_differ()
+    ensures { LabelsOfTextsDiffer }
+{}
+
+/// A theorem whose proof checks as it verifies, with its arguments in another order.
+pub fn two_agree()
+    ensures { TwoAgree }
+{}
+
+/// Two labels that were changed to one: the proof verifies, and doesn't check.
+pub fn equal_labels_disagree()
+    ensures { EqualLabelsDisagree }
 {}

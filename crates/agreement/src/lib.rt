@@ -4,4 +4,7 @@
 
 mod laws;
 
-pub use laws::{libraries_agree, others_are_too_long, proofs_agree, what_verifies_checks};
+pub use laws::{
+    equal_labels_disagree, labels_of_texts_differ, libraries_agree, others_are_too_long,
+    proofs_agree, two_agree, what_verifies_checks,
+};
