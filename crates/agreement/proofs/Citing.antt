@@ -11,13 +11,13 @@ use Rattle.mmsyntax.specs.declared.statement.Assertion.{Assertion as Unit'}
 use Rattle.mmsyntax.specs.Tables.{Tables}
 use Rattle.mmsyntax.specs.declared.limits.TheConstants.{MOST_SYMBOLS}
 use Rattle.mmframes.specs.Frames.{frame}
-use Rattle.mmframes.specs.Substitution.{subst as subst_symbols, replacement as replacement_of}
+use Rattle.mmframes.specs.Substitution as by_place
 use Rattle.source.specs.Scopes.{Hypothesis, typing, premise, Assertion, is_mandatory}
 use Rattle.derivation.specs.declared.fault.ProofFaultKind.{ProofFaultKind}
 use Rattle.derivation.specs.declared.fault.ProofFaultKind.TheVariants.{WrongType, HypothesisDiffers, NotDisjoint, TooLong}
 use Rattle.derivation.specs.Derivation.{HaveTypes, TypesFit, HypothesesFit, PairsFit, AreApart, Gives, arity, conclusion}
 use Rattle.derivation.specs.Faults.{FailsTest}
-use Rattle.derivation.specs.Derivation.{substitution as substitution_of}
+use Rattle.derivation.specs.Derivation as derivation
 use Rattle.taking.specs.Names.{Map, float_in}
 use Rattle.taking.specs.Says.{each, symbol_in, expression_in, premises, IsFloatTaken}
 use Rattle.taking.specs.Listings.{at_floats, at_premises, in_profile_order}
@@ -120,13 +120,15 @@ module _ (m : Map) (t : Tables) (x c : Assertion) (a b : Unit') (sx : IsSaid m t
     hypotheses : (hypotheses_fit c es ≡ true) ↔ HypothesesFit (frame t b) ordered
     hypotheses =
         let here = all_hypotheses_agree m t x c a b sx sc es zs (at_premises c.hypotheses zs) long ins sound in
-        subst (λ is. (hypotheses_fit c es ≡ true) ↔ (map (subst_symbols (substitution_of is ordered)) b.hyps ≡ drop (length is) ordered))
+        subst
+        (λ is. (hypotheses_fit c es ≡ true)
+        ↔ (map (by_place.subst (derivation.substitution is ordered)) b.hyps ≡ drop (length is) ordered))
         (sym (floats_are m t c b sc))
         (λ h. here.0 h ∙ sym behind_floats, λ e. here.1 (e ∙ behind_floats))
 
     pairs : (pairs_fit x c es ≡ true) ↔ PairsFit a (frame t b) ordered
     pairs =
-        let put : List ℕ → ℕ → List Symbol = λ is j. replacement_of (substitution_of is ordered) j in
+        let put : List ℕ → ℕ → List Symbol = λ is j. by_place.replacement (derivation.substitution is ordered) j in
         let here = pairs_alike m t x c a b sx sc es zs (at_premises c.hypotheses zs) long ins sound in
         let P = λ (is : List ℕ) (q : ℕ × ℕ). AreApart a.pairs (put is q.0) (put is q.1) in
         subst (λ is. (pairs_fit x c es ≡ true) ↔ All (P is) (frame t b).pairs) (sym (floats_are m t c b sc)) (
@@ -136,14 +138,14 @@ module _ (m : Map) (t : Tables) (x c : Assertion) (a b : Unit') (sx : IsSaid m t
 
     -- what a citation would give
     made : List Symbol
-    made = subst_symbols (substitution_of (frame t b).floats ordered) b.statement
+    made = by_place.subst (derivation.substitution (frame t b).floats ordered) b.statement
 
     made_is : expression_in m x.active (subst_words (substitution c es) c.statement) ≡ Some made
     unfolding made
     made_is =
         subst
         (λ is. expression_in m x.active (subst_words (substitution c es) c.statement)
-        ≡ Some (subst_symbols (substitution_of is ordered) b.statement))
+        ≡ Some (by_place.subst (derivation.substitution is ordered) b.statement))
         (sym (floats_are m t c b sc)) (statement_replaced m t x c a b sx sc es zs (at_premises c.hypotheses zs) long ins sound)
 
     -- in the library, and what it is there

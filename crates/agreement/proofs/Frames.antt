@@ -15,7 +15,7 @@ use Rattle.mmsyntax.specs.Tables.{Tables}
 use Rattle.mmsyntax.proofs.Names.{bytes_eq-same, same_bytes}
 use Rattle.mmsyntax.proofs.Options.{alike}
 use Rattle.mmframes.specs.Frames.{is_variable, occurs, frame}
-use Rattle.mmframes.specs.Frames.{is_mandatory as is_mandatory_place}
+use Rattle.mmframes.specs.Frames as profile
 use Rattle.mmframes.proofs.Mandatory.{has, Rises-filter}
 use Rattle.source.specs.Scopes.{Hypothesis, typing, premise, Assertion, is_in, is_float_of, stands_in, is_mandatory_variable, is_mandatory}
 use Rattle.taking.specs.Names.{Map, float_in, variable_in}
@@ -58,7 +58,8 @@ kept_pass test (x ∷ xs) =
           subst (AllByRecursion (λ x. test x ≡ true)) (sym (cond-true (test x) (x ∷ filter test xs) (filter test xs) y))
           (y, kept_pass test xs)
       | inr n ↦
-          subst (AllByRecursion (λ x. test x ≡ true)) (sym (cond-false (test x) (x ∷ filter test xs) (filter test xs) n)) (kept_pass test xs)
+          subst (AllByRecursion (λ x. test x ≡ true)) (sym (cond-false (test x) (x ∷ filter test xs) (filter test xs) n))
+          (kept_pass test xs)
     ]
 
 pub eqb_same : (j : ℕ) → eqb j j ≡ true
@@ -152,7 +153,7 @@ module _ (m : Map) (t : Tables) (y : Assertion) (b : Unit') (said : IsSaid m t y
 
   -- a variable is mandatory in the source just where its $f is in the library
   pub mandatory_same : (v : Word) (j : ℕ) → symbol_in m y.active v ≡ Some (Var j)
-      → is_mandatory_place t b j ≡ is_mandatory_variable y.active y.statement v
+      → profile.is_mandatory t b j ≡ is_mandatory_variable y.active y.statement v
   mandatory_same v j h =
       let there = at_place m y.active t said.taken v j (symbols.is_variable m y.active v j h).1 in
       ap (λ p. p && (list_any (occurs j) b.hyps || occurs j b.statement))
@@ -185,7 +186,7 @@ module _ (m : Map) (t : Tables) (y : Assertion) (b : Unit') (said : IsSaid m t y
       let is : variable_in m y.active v ≡ Some j = ap (symbols.place_of_found m) own ∙ at in
       of_variable m y.active v j (said.apart v (symbols.variable_active m y.active v j is)) is
 
-  is_there : (j : ℕ) → has j said.places.are ≡ true → is_mandatory_place t b j ≡ true
+  is_there : (j : ℕ) → has j said.places.are ≡ true → profile.is_mandatory t b j ≡ true
   is_there j h =
       let f = found_float m IsKept y.hypotheses said.places.are j said.places.places h hypotheses_kept in
       mandatory_same f.variable j (own_symbol f.label f.code f.variable j f.holds.0 f.at) ∙ f.holds.1
@@ -196,7 +197,8 @@ module _ (m : Map) (t : Tables) (y : Assertion) (b : Unit') (said : IsSaid m t y
 
   occurring : (j : ℕ) (ws : List Word) (zs : List Symbol) → expression_in m y.active ws ≡ Some zs → occurs j zs ≡ true → Occurs j
   unfolding occurs
-  occurring j [] zs e h = absurd (let no : list_any (is_variable j) zs ≡ false = ap (list_any (is_variable j)) (sym (same_Some [] zs e)) in cc)
+  occurring j [] zs e h =
+      absurd (let no : list_any (is_variable j) zs ≡ false = ap (list_any (is_variable j)) (sym (same_Some [] zs e)) in cc)
   occurring j (w ∷ ws) zs e h =
       let parts = both_parts (symbol_in m y.active w) (expression_in m y.active ws) zs e in
       elim (or_cases (is_variable j parts.0) (list_any (is_variable j) parts.1) (sym (ap (list_any (is_variable j)) parts.4) ∙ h)) [
@@ -210,7 +212,8 @@ module _ (m : Map) (t : Tables) (y : Assertion) (b : Unit') (said : IsSaid m t y
 
   occurring_before : (j : ℕ) (hs : List Hypothesis) (es : List (List Symbol)) → each (expression_in m y.active) (premises hs) ≡ Some es
       → list_any (occurs j) es ≡ true → Occurs j
-  occurring_before j [] es e h = absurd (let no : list_any (occurs j) es ≡ false = ap (list_any (occurs j)) (sym (same_Some [] es e)) in cc)
+  occurring_before j [] es e h =
+      absurd (let no : list_any (occurs j) es ≡ false = ap (list_any (occurs j)) (sym (same_Some [] es e)) in cc)
   occurring_before j (typing label c u ∷ hs) es e h = occurring_before j hs es e h
   occurring_before j (premise label ws ∷ hs) es e h =
       let parts = both_parts (expression_in m y.active ws) (each (expression_in m y.active) (premises hs)) es e in
@@ -219,7 +222,7 @@ module _ (m : Map) (t : Tables) (y : Assertion) (b : Unit') (said : IsSaid m t y
         | inr later ↦ occurring_before j hs parts.1 parts.3 later
       ]
 
-  is_kept : (j : ℕ) → is_mandatory_place t b j ≡ true → has j said.places.are ≡ true
+  is_kept : (j : ℕ) → profile.is_mandatory t b j ≡ true → has j said.places.are ≡ true
   is_kept j h =
       let both = and_parts (nat_lt j (length t.floats)) (list_any (occurs j) b.hyps || occurs j b.statement) h in
       let o : Occurs j = elim (or_cases (list_any (occurs j) b.hyps) (occurs j b.statement) both.1) [
@@ -234,8 +237,8 @@ module _ (m : Map) (t : Tables) (y : Assertion) (b : Unit') (said : IsSaid m t y
 
   pub floats_are : (frame t b).floats ≡ said.places.are
   floats_are =
-      sym (Rises-filter (is_mandatory_place t b) 0 (length t.floats) said.places.are said.places.rise
-      (λ j le. alike (has j said.places.are) (is_mandatory_place t b j) (is_there j) (is_kept j))
+      sym (Rises-filter (profile.is_mandatory t b) 0 (length t.floats) said.places.are said.places.rise
+      (λ j le. alike (has j said.places.are) (profile.is_mandatory t b j) (is_there j) (is_kept j))
       (λ j h.
       let lt = ltb-true j (length t.floats)
       (and_parts (nat_lt j (length t.floats)) (list_any (occurs j) b.hyps || occurs j b.statement) h).0 in

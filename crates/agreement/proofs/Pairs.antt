@@ -19,8 +19,8 @@ use Rattle.mmsyntax.specs.Blocks.{in_order, is_same_pair}
 use Rattle.mmsyntax.proofs.Names.{bytes_eq-same, same_bytes}
 use Rattle.mmsyntax.proofs.Options.{alike}
 use Rattle.mmframes.specs.Frames.{frame}
-use Rattle.mmframes.specs.Frames.{is_mandatory as is_mandatory_place}
-use Rattle.mmframes.specs.Substitution.{replacement as replacement_of}
+use Rattle.mmframes.specs.Frames as profile
+use Rattle.mmframes.specs.Substitution as by_place
 use Rattle.source.specs.Scopes.{Hypothesis, typing, premise, Pair, Assertion, is_in, is_float_of, stands_in, is_mandatory_variable}
 use Rattle.source.specs.Scopes.{mandatory_pairs}
 use Rattle.derivation.specs.Derivation.{IsApart, AreApart}
@@ -216,8 +216,8 @@ module _ (m : Map) (t : Tables) (x : Assertion) (a : Unit') (sx : IsSaid m t x a
       (chain (each_given (is_typed w ≡ true) (λ v. is_typed v ≡ true → symbols_apart x w v ≡ true) e)
       (valued_alike (symbol_in m x.active) (WordsApart w) (SymbolsApart z) e ys he (λ v y hv. symbols_alike w v z y hw hv))) in
       chain (kept_tested words is_typed d)
-      (chain (valued_alike (symbol_in m x.active) (λ w. is_typed w ≡ true → words w ≡ true) (λ z. AllByRecursion (SymbolsApart z) ys) d zs hd
-      inner) (turned (apart_each zs ys)))
+      (chain (valued_alike (symbol_in m x.active) (λ w. is_typed w ≡ true → words w ≡ true) (λ z. AllByRecursion (SymbolsApart z) ys) d zs
+      hd inner) (turned (apart_each zs ys)))
 
 -- ---- a citation
 
@@ -255,7 +255,7 @@ module _ (m : Map) (t : Tables) (x c : Assertion) (a b : Unit') (sx : IsSaid m t
   words w = replacement (put_words m t x c a b sx sc es zs rest long ins sound) w
 
   abbrev pub symbols : ℕ → List Symbol
-  symbols j = replacement_of (put_symbols m t x c a b sx sc es zs rest long ins sound) j
+  symbols j = by_place.replacement (put_symbols m t x c a b sx sc es zs rest long ins sound) j
 
   abbrev is_needed : Word → Bool
   is_needed w = is_mandatory_variable c.active c.statement w
@@ -297,22 +297,22 @@ module _ (m : Map) (t : Tables) (x c : Assertion) (a b : Unit') (sx : IsSaid m t
 
   abbrev PlacesApart : ℕ × ℕ → Type 0
   PlacesApart q =
-      (is_mandatory_place t b q.0 && is_mandatory_place t b q.1) ≡ true → AreApart a.pairs (symbols q.0) (symbols q.1)
+      (profile.is_mandatory t b q.0 && profile.is_mandatory t b q.1) ≡ true → AreApart a.pairs (symbols q.0) (symbols q.1)
 
   places_turned : (i j : ℕ) → PlacesApart (i, j) → PlacesApart (j, i)
   places_turned i j h both =
-      let parts = and_parts (is_mandatory_place t b j) (is_mandatory_place t b i) both in
+      let parts = and_parts (profile.is_mandatory t b j) (profile.is_mandatory t b i) both in
       apart_turned a.pairs (symbols i) (symbols j)
-      (h (and_from (is_mandatory_place t b i) (is_mandatory_place t b j) parts.1 parts.0))
+      (h (and_from (profile.is_mandatory t b i) (profile.is_mandatory t b j) parts.1 parts.0))
 
   variables_alike : (u v : Word) (i j : ℕ) → variable_in m c.active u ≡ Some i → variable_in m c.active v ≡ Some j
       → PairApart u v ↔ PlacesApart (i, j)
   variables_alike u v i j hu hv =
       let active-u = variable_active m c.active u i hu in
       let active-v = variable_active m c.active v j hv in
-      let same-u : is_mandatory_place t b i ≡ is_needed u =
+      let same-u : profile.is_mandatory t b i ≡ is_needed u =
       mandatory_same m t c b sc u i (of_variable m c.active u i (sc.apart u active-u) hu) in
-      let same-v : is_mandatory_place t b j ≡ is_needed v =
+      let same-v : profile.is_mandatory t b j ≡ is_needed v =
       mandatory_same m t c b sc v j (of_variable m c.active v j (sc.apart v active-v) hv) in
       let agree : is_needed u ≡ true → is_needed v ≡ true
       → (are_apart x (words u) (words v) ≡ true) ↔ AreApart a.pairs (symbols i) (symbols j) =
@@ -320,14 +320,14 @@ module _ (m : Map) (t : Tables) (x c : Assertion) (a b : Unit') (sx : IsSaid m t
       (variable_replaced m t x c a b sx sc es zs rest long ins sound u i hu (λ is. mandatory_kept c u sc.mandatory nu is))
       (variable_replaced m t x c a b sx sc es zs rest long ins sound v j hv (λ is. mandatory_kept c v sc.mandatory nv is)) in (
         λ h both.
-            let parts = and_parts (is_mandatory_place t b i) (is_mandatory_place t b j) both in
+            let parts = and_parts (profile.is_mandatory t b i) (profile.is_mandatory t b j) both in
             let nu = sym same-u ∙ parts.0 in
             let nv = sym same-v ∙ parts.1 in
             (agree nu nv).0 (h (and_from (is_needed u) (is_needed v) nu nv)),
         λ h both.
             let parts = and_parts (is_needed u) (is_needed v) both in
             (agree parts.0 parts.1).1
-            (h (and_from (is_mandatory_place t b i) (is_mandatory_place t b j) (same-u ∙ parts.0) (same-v ∙ parts.1))),
+            (h (and_from (profile.is_mandatory t b i) (profile.is_mandatory t b j) (same-u ∙ parts.0) (same-v ∙ parts.1))),
       )
 
   one_pair : (u v : Word) (o r : Option ℕ) → variable_in m c.active u ≡ o → variable_in m c.active v ≡ r
@@ -349,7 +349,7 @@ module _ (m : Map) (t : Tables) (x c : Assertion) (a b : Unit') (sx : IsSaid m t
       : (list_all (λ p. are_apart x (words p.0) (words p.1)) (mandatory_pairs c) ≡ true)
       ↔ AllByRecursion (λ q. AreApart a.pairs (symbols q.0) (symbols q.1)) (frame t b).pairs
   pairs_alike =
-      let keeps = λ (q : ℕ × ℕ). is_mandatory_place t b q.0 && is_mandatory_place t b q.1 in
+      let keeps = λ (q : ℕ × ℕ). profile.is_mandatory t b q.0 && profile.is_mandatory t b q.1 in
       let pairs = each_kept (λ q. AreApart a.pairs (symbols q.0) (symbols q.1)) keeps b.pairs in
       let ordered : AllByRecursion PlacesApart b.pairs ↔ AllByRecursion PlacesApart (filter_map (pair_in m c.active) c.pairs) =
       subst (λ qs. AllByRecursion PlacesApart qs ↔ AllByRecursion PlacesApart (filter_map (pair_in m c.active) c.pairs)) sc.says.pairs

@@ -88,7 +88,8 @@ dotted_declared = record { lawful = refl; declared = refl }
 -- which labels are changed
 none_dotted : (labels : List Word) (w : Word) → has_dot w ≡ false → list_any (λ l. is_dotted l w) labels ≡ false
 none_dotted [] w h = refl
-none_dotted (l ∷ labels) w h = or_from (is_dotted l w) (list_any (λ l. is_dotted l w) labels) (plain_not_dotted l w h) (none_dotted labels w h)
+none_dotted (l ∷ labels) w h =
+    or_from (is_dotted l w) (list_any (λ l. is_dotted l w) labels) (plain_not_dotted l w h) (none_dotted labels w h)
 
 is_kept : (labels : List Word) (w : Word) → has_dot w ≡ false → IsTrue (is_label_named_well dotted_source labels (w, w))
 is_kept labels w h = ap (λ c. is_named_well dotted_source c (w, w)) (none_dotted labels w h) ∙ bytes_eq-same w

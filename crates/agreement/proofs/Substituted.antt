@@ -13,7 +13,7 @@ use Rattle.mmsyntax.specs.declared.statement.Symbol.TheVariants.{Const, Var}
 use Rattle.mmsyntax.specs.declared.statement.Assertion.{Assertion as Unit'}
 use Rattle.mmsyntax.specs.Tables.{Tables}
 use Rattle.mmsyntax.proofs.Names.{bytes_eq-same, same_bytes}
-use Rattle.mmframes.specs.Substitution.{subst as subst_symbols, replacement as replacement_of}
+use Rattle.mmframes.specs.Substitution as by_place
 use Rattle.source.specs.Scopes.{Hypothesis, typing, premise, Assertion, is_in, is_float_of, stands_in, is_mandatory_variable, is_mandatory}
 use Rattle.taking.specs.Names.{Map, constant_in, float_in, variable_in}
 use Rattle.taking.specs.Says.{both, each, symbol_in, expression_in, IsFloatTaken}
@@ -114,26 +114,28 @@ module _ (m : Map) (t : Tables) (x c : Assertion) (a b : Unit') (sx : IsSaid m t
   -- ---- one variable
 
   first_put : (v w : Word) (e : Expression) (s : Substitution) → bytes_eq w v ≡ true → replacement ((v, e) ∷ s) w ≡ e
-  first_put v w e s y = ap (λ q. option_map_or (λ (p : Word × Expression). p.1) (if q then Some (v, e) else find (λ p. bytes_eq w p.0) s) (w ∷ [])) y
+  first_put v w e s y =
+      ap (λ q. option_map_or (λ (p : Word × Expression). p.1) (if q then Some (v, e) else find (λ p. bytes_eq w p.0) s) (w ∷ [])) y
 
   other_put : (v w : Word) (e : Expression) (s : Substitution) → bytes_eq w v ≡ false → replacement ((v, e) ∷ s) w ≡ replacement s w
-  other_put v w e s n = ap (λ q. option_map_or (λ (p : Word × Expression). p.1) (if q then Some (v, e) else find (λ p. bytes_eq w p.0) s) (w ∷ [])) n
+  other_put v w e s n =
+      ap (λ q. option_map_or (λ (p : Word × Expression). p.1) (if q then Some (v, e) else find (λ p. bytes_eq w p.0) s) (w ∷ [])) n
 
-  first_place : (k j : ℕ) (e : List Symbol) (s : List (ℕ × List Symbol)) → k ≡ j → replacement_of ((k, e) ∷ s) j ≡ e
-  first_place k j e s same = ap (λ q. if q then e else replacement_of s j) (ap (λ n. eqb n j) same ∙ frames.eqb_same j)
+  first_place : (k j : ℕ) (e : List Symbol) (s : List (ℕ × List Symbol)) → k ≡ j → by_place.replacement ((k, e) ∷ s) j ≡ e
+  first_place k j e s same = ap (λ q. if q then e else by_place.replacement s j) (ap (λ n. eqb n j) same ∙ frames.eqb_same j)
 
   other_place : (k j : ℕ) (e : List Symbol) (s : List (ℕ × List Symbol)) → (k ≡ j → ⊥)
-      → replacement_of ((k, e) ∷ s) j ≡ replacement_of s j
+      → by_place.replacement ((k, e) ∷ s) j ≡ by_place.replacement s j
   other_place k j e s other = elim (cases_Bool (eqb k j)) [
     | inl y ↦ absurd (other (eqb-true k j y))
-    | inr n ↦ ap (λ q. if q then e else replacement_of s j) n
+    | inr n ↦ ap (λ q. if q then e else by_place.replacement s j) n
   ]
 
   pub replaced : (hs : List Hypothesis) (es : List Expression) (zs rest : List (List Symbol)) (js : List ℕ) (w : Word) (j : ℕ)
       → length hs ≡ length es → AreIn es zs → each (float_in m) (labels_of_floats hs) ≡ Some js
       → AllByRecursion (IsSound m t c.active) hs → variable_in m c.active w ≡ Some j → list_any (is_float_of w) hs ≡ true
       → expression_in m x.active (replacement (put_for hs es) w)
-      ≡ Some (replacement_of (zip js (map (drop 1) (at_floats hs zs ++ rest))) j)
+      ≡ Some (by_place.replacement (zip js (map (drop 1) (at_floats hs zs ++ rest))) j)
   replaced [] es zs rest js w j n i p s v h = absurd cc
   replaced (k ∷ hs) [] zs rest js w j n i p s v h = absurd (omega arith)
   replaced (k ∷ hs) (e ∷ es) [] rest js w j n i p s v h = absurd (each_short (expression_in m x.active) e es i)
@@ -192,12 +194,12 @@ module _ (m : Map) (t : Tables) (x c : Assertion) (a b : Unit') (sx : IsSaid m t
         ∙ none_kept (is_float_of w) (is_mandatory c.active c.statement) c.active absent))
 
     pub variable_replaced : (w : Word) (j : ℕ) → variable_in m c.active w ≡ Some j → IsReplaced w
-        → expression_in m x.active (replacement words_put w) ≡ Some (replacement_of symbols_put j)
+        → expression_in m x.active (replacement words_put w) ≡ Some (by_place.replacement symbols_put j)
     variable_replaced w j v r =
         replaced c.hypotheses es zs rest sc.places.are w j long ins sc.places.places sound v (r (variable_active m c.active w j v))
 
     pub all_replaced : (ws : List Word) (ys : List Symbol) → expression_in m c.active ws ≡ Some ys → AllByRecursion IsReplaced ws
-        → expression_in m x.active (subst_words words_put ws) ≡ Some (subst_symbols symbols_put ys)
+        → expression_in m x.active (subst_words words_put ws) ≡ Some (by_place.subst symbols_put ys)
     all_replaced [] [] h r = refl
     all_replaced [] (y ∷ ys) h r = absurd (each_long (symbol_in m c.active) y ys h)
     all_replaced (w ∷ ws) [] h r = absurd (each_short (symbol_in m c.active) w ws h)
@@ -205,13 +207,13 @@ module _ (m : Map) (t : Tables) (x c : Assertion) (a b : Unit') (sx : IsSaid m t
         let parts = each_cons (symbol_in m c.active) w ws (Const i) ys h in
         let is : constant_in m w ≡ Some i = symbols.is_constant m c.active w i parts.0 in
         each_append (symbol_in m x.active) (replacement words_put w) (subst_words words_put ws) (Const i ∷ [])
-        (subst_symbols symbols_put ys)
+        (by_place.subst symbols_put ys)
         (ap (expression_in m x.active) (constant_stays w i is) ∙ ap (λ o. both o (Some [])) (of_constant m x.active w i is))
         (all_replaced ws ys parts.1 r.1)
     all_replaced (w ∷ ws) (Var j ∷ ys) h r =
         let parts = each_cons (symbol_in m c.active) w ws (Var j) ys h in
-        each_append (symbol_in m x.active) (replacement words_put w) (subst_words words_put ws) (replacement_of symbols_put j)
-        (subst_symbols symbols_put ys)
+        each_append (symbol_in m x.active) (replacement words_put w) (subst_words words_put ws) (by_place.replacement symbols_put j)
+        (by_place.subst symbols_put ys)
         (variable_replaced w j (symbols.is_variable m c.active w j parts.0).1 r.0) (all_replaced ws ys parts.1 r.1)
 
     -- ---- the statement
@@ -229,7 +231,7 @@ module _ (m : Map) (t : Tables) (x c : Assertion) (a b : Unit') (sx : IsSaid m t
     premise_replaced label ws f =
         mandatory_replaced ws (λ w h. or_right (is_in c.statement w) (list_any (stands_in w) c.active) (f w h))
 
-    pub statement_replaced : expression_in m x.active (subst_words words_put c.statement) ≡ Some (subst_symbols symbols_put b.statement)
+    pub statement_replaced : expression_in m x.active (subst_words words_put c.statement) ≡ Some (by_place.subst symbols_put b.statement)
     statement_replaced =
         all_replaced c.statement b.statement sc.says.statement
         (mandatory_replaced c.statement (λ w h. or_left (is_in c.statement w) (list_any (stands_in w) c.active) h))

@@ -137,7 +137,8 @@ module _ (m : Map) (active : List Hypothesis) where
     one_word v w (Const i) h k = same_place v w m.constants i (is_constant v i h) (is_constant w i k)
     one_word v w (Var j) h k = one_variable v w j (is_variable v j h).1 (is_variable w j k).1
 
-    pub one_expression : (d e : List Word) (zs : List Symbol) → expression_in m active d ≡ Some zs → expression_in m active e ≡ Some zs → d ≡ e
+    pub one_expression : (d e : List Word) (zs : List Symbol) → expression_in m active d ≡ Some zs
+        → expression_in m active e ≡ Some zs → d ≡ e
     one_expression [] [] zs h k = refl
     one_expression [] (w ∷ e) zs h k =
         let parts = both_parts (symbol_in m active w) (expression_in m active e) zs k in

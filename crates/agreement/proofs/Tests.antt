@@ -13,7 +13,7 @@ use Rattle.mmsyntax.specs.declared.statement.Symbol.{Symbol}
 use Rattle.mmsyntax.specs.declared.statement.Assertion.{Assertion as Unit'}
 use Rattle.mmsyntax.specs.Tables.{Tables}
 use Rattle.mmsyntax.proofs.Names.{bytes_eq-same, same_bytes, same_place}
-use Rattle.mmframes.specs.Substitution.{subst as subst_symbols}
+use Rattle.mmframes.specs.Substitution as by_place
 use Rattle.source.specs.Scopes.{Hypothesis, typing, premise, Assertion, stands_in, is_mandatory}
 use Rattle.derivation.specs.Derivation.{HasType, HaveTypes}
 use Rattle.taking.specs.Names.{Map, constant_in, float_in}
@@ -112,19 +112,19 @@ module _ (m : Map) (t : Tables) (x c : Assertion) (a b : Unit') (sx : IsSaid m t
 
     instance_agrees : (label : Word) (ws : List Word) (ys : List Symbol) (e : Expression) (z : List Symbol)
         → expression_in m c.active ws ≡ Some ys → expression_in m x.active e ≡ Some z → IsStanding c.active (premise label ws)
-        → (same_expression (subst_words put_words ws) e ≡ true) ↔ (subst_symbols put_symbols ys ≡ z)
+        → (same_expression (subst_words put_words ws) e ≡ true) ↔ (by_place.subst put_symbols ys ≡ z)
     instance_agrees label ws ys e z h i s =
         let put = all_replaced m t x c a b sx sc es zs rest long ins sound ws ys h
         (premise_replaced m t x c a b sx sc es zs rest long ins sound label ws s) in
         let test = slice_eq-Decides bytes_eq-Decides (subst_words put_words ws) e (same_expression (subst_words put_words ws) e) refl in (
-          λ y. same_Some (subst_symbols put_symbols ys) z (sym put ∙ ap (expression_in m x.active) (test.0 y) ∙ i),
+          λ y. same_Some (by_place.subst put_symbols ys) z (sym put ∙ ap (expression_in m x.active) (test.0 y) ∙ i),
           λ same. test.1 (one_expression m x.active t sx.taken (subst_words put_words ws) e z (put ∙ ap (λ q. Some q) same) i),
         )
 
     hypotheses_agree : (hs : List Hypothesis) (ds : List Expression) (ys us : List (List Symbol)) → length hs ≡ length ds
         → AreIn m t x c a b sx sc ds ys → each (expression_in m c.active) (premises hs) ≡ Some us
         → AllByRecursion (IsStanding c.active) hs
-        → (list_all (λ p. is_instance put_words p.0 p.1) (zip hs ds) ≡ true) ↔ (map (subst_symbols put_symbols) us ≡ at_premises hs ys)
+        → (list_all (λ p. is_instance put_words p.0 p.1) (zip hs ds) ≡ true) ↔ (map (by_place.subst put_symbols) us ≡ at_premises hs ys)
     hypotheses_agree [] ds ys [] n i h s = (λ _. refl, λ _. refl)
     hypotheses_agree [] ds ys (u ∷ us) n i h s = absurd (each_long (expression_in m c.active) u us h)
     hypotheses_agree (k ∷ hs) [] ys us n i h s = absurd (omega arith)
@@ -144,14 +144,14 @@ module _ (m : Map) (t : Tables) (x c : Assertion) (a b : Unit') (sx : IsSaid m t
               let both = and_parts first others e in
               ap₂ (λ (p : List Symbol) (ps : List (List Symbol)). p ∷ ps) (here.0 both.0) (later.0 both.1),
           λ e.
-              let head : subst_symbols put_symbols u ≡ y = cc in
-              let tail : map (subst_symbols put_symbols) us ≡ at_premises hs ys = cc in
+              let head : by_place.subst put_symbols u ≡ y = cc in
+              let tail : map (by_place.subst put_symbols) us ≡ at_premises hs ys = cc in
               and_from first others (here.1 head) (later.1 tail),
         )
 
     pub all_hypotheses_agree
         : (list_all (λ p. is_instance put_words p.0 p.1) (zip c.hypotheses es) ≡ true)
-        ↔ (map (subst_symbols put_symbols) b.hyps ≡ at_premises c.hypotheses zs)
+        ↔ (map (by_place.subst put_symbols) b.hyps ≡ at_premises c.hypotheses zs)
     all_hypotheses_agree =
         let same : premises c.hypotheses ≡ premises c.active =
         ap premises (sym sc.mandatory) ∙ premises_kept c.active c.statement c.active in

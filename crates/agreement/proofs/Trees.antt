@@ -825,7 +825,8 @@ module _ (m : Map) (t : Tables) (choice : Choice) (earlier : List Assertion) (x 
     of_stuck : IsStuck a.proof → (n : ℕ) × HasFault lib t a (record { step = n; kind = TooLong })
     of_stuck s =
         let n = length s.front in
-        let runs = subst (λ ss. Goes [] ss s.more) (sym (ap (take n) s.are ∙ take-append_seam s.front (Cite s.label ∷ s.behind))) (s.runs []) in (
+        let front = ap (take n) s.are ∙ take-append_seam s.front (Cite s.label ∷ s.behind) in
+        let runs = subst (λ ss. Goes [] ss s.more) (sym front) (s.runs []) in (
           n + 1,
           step-fault lib t a n s.more (Cite s.label) (record { step = n + 1; kind = TooLong }) runs
               (ap (λ ss. slice_get ss n) s.are ∙ at_seam s.front (Cite s.label) s.behind) refl (s.fails []),

@@ -63,7 +63,8 @@ kept_word test x y xs ys e p h =
 behind_word : (test : Word → Bool) (y : Word) (xs ys : List Word) → IsWithin xs (filter test ys) → IsWithin xs (filter test (y ∷ ys))
 behind_word test y xs ys h =
     elim (cases_Bool (test y)) [
-      | inl p ↦ subst (IsWithin xs) (sym (cond-true (test y) (y ∷ filter test ys) (filter test ys) p)) (later_within y xs (filter test ys) h)
+      | inl p ↦
+          subst (IsWithin xs) (sym (cond-true (test y) (y ∷ filter test ys) (filter test ys) p)) (later_within y xs (filter test ys) h)
       | inr n ↦ subst (IsWithin xs) (sym (cond-false (test y) (y ∷ filter test ys) (filter test ys) n)) h
     ]
 
