@@ -42,7 +42,8 @@ use Rattle.agreement.proofs.Actives.{sources_orderly}
 use Rattle.agreement.proofs.Frames.{IsAmong}
 use Rattle.agreement.proofs.Chosen.{among_behind, in_parts, taken_from}
 use Rattle.agreement.proofs.Named.{said_of, puts, cites}
-use Rattle.agreement.proofs.Trees.{tree_agrees, tree_long}
+use Rattle.agreement.proofs.Trees.{Beside}
+use Rattle.agreement.proofs.Proving.{tree_agrees, tree_long}
 
 -- ---- what it says that there is no reason
 
@@ -129,8 +130,20 @@ module _ (ss : Statements) (s : Scope) (choice : Choice) (db : Contents) (axioms
       let put = puts m t s choice whole orderly takes.has_places x a lib earlier among sx in
       let cite = cites m t s choice whole orderly takes.has_places x a earlier (x ∷ w.later) parts.front sx w.stands parts.front_taken
       front_differ in
-      let agrees = tree_agrees m t choice earlier x a lib sx put cite listed.tree enough kept listed.lists in
-      let long = tree_long m t choice earlier x a lib sx put cite listed.tree enough kept listed.lists in
+      let beside : Beside = record {
+        m = m;
+        t = t;
+        choice = choice;
+        earlier = earlier;
+        x = x;
+        a = a;
+        lib = lib;
+        sx = sx;
+        puts = put;
+        cites = cite;
+      } in
+      let agrees = tree_agrees beside listed.tree enough kept listed.lists in
+      let long = tree_long beside listed.tree enough kept listed.lists in
       let short = derives_short earlier x proof listed.tree w.has_proof listed.denotes in
       let derives : Derives earlier x proof → value earlier x listed.tree ≡ Ok x.statement =
       λ h. same_Some (value earlier x listed.tree) (Ok x.statement)

@@ -8,7 +8,11 @@ pub mod Tests
 pub mod Alike
 pub mod Pairs
 pub mod Citing
+pub mod Joined
 pub mod Trees
+pub mod Reaching
+pub mod Answering
+pub mod Proving
 pub mod Chosen
 pub mod Named
 pub mod Agreed

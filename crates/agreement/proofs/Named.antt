@@ -185,7 +185,7 @@ module _ (m : Map) (t : Tables) (s : Scope) (choice : Choice) (whole : IsWhole s
           recursion_from_All (λ k. label_of h ≡ label_of k → h ≡ k) x.active one
 
       put_at : (w : Word) (h : Hypothesis) → find (λ h. bytes_eq w (label_of h)) x.active ≡ Some h
-          → IsPut m t choice earlier x a lib sx w h
+          → IsPut m t x a lib w h
       put_at w (premise label ws) found =
           let p = premise_at m x.active x.active a.hyps w label ws found sx.says.hyps in
           record {
@@ -216,7 +216,7 @@ module _ (m : Map) (t : Tables) (s : Scope) (choice : Choice) (whole : IsWhole s
           }
 
       pub puts : (w : Word) (h : Hypothesis) → find (λ h. bytes_eq w (label_of h)) x.active ≡ Some h
-          → IsPut m t choice earlier x a lib sx w h
+          → IsPut m t x a lib w h
       puts w h found = put_at w h found
 
   -- ---- labels of assertions
@@ -265,7 +265,7 @@ module _ (m : Map) (t : Tables) (s : Scope) (choice : Choice) (whole : IsWhole s
       (differ : Distinct bytes_eq (map (λ b. b.label) front)) where
     pub cites : (w : Word) (c : Assertion) → find (λ h. bytes_eq w (label_of h)) x.active ≡ None
         → find (λ c. bytes_eq w c.label) earlier ≡ Some c → is_left_out earlier choice.chosen w ≡ false
-        → IsNamed m t choice earlier x a (frame_in t front) sx w c
+        → IsNamed m t x (frame_in t front) w c
     cites w c absent found kept =
         let is = found_among (λ c. bytes_eq w c.label) earlier c found in
         let same : bytes_eq w c.label ≡ true = found_passes (λ c. bytes_eq w c.label) earlier c found in
