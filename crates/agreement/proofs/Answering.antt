@@ -224,8 +224,8 @@ module _ (q : Beside) where
       let ordered = in_profile_order hs args.gives in
       let whole = same_stack st (at_floats hs args.gives) (at_premises hs args.gives) first.gives second.gives g.0 g.1 args.floats
       args.premises g.3 in
-      let many = as_many f (frame q.t b) (length ordered) (length g.1) (one_for_each q.m q.t q.x c q.a b q.sx is.said args.gives as_long) same
-      g.4.one_each in
+      let each-one = one_for_each q.m q.t q.x c q.a b q.sx is.said args.gives as_long in
+      let many = as_many f (frame q.t b) (length ordered) (length g.1) each-one same g.4.one_each in
       let ends = ends_agree st ordered g.0 g.1 whole many in
       let given : Gives q.t q.a (frame q.t b) ordered g.2 =
       subst (λ as'. Gives q.t q.a (frame q.t b) as' g.2) (sym ends.1) (subst (λ f. Gives q.t q.a f g.1 g.2) same g.4) in
@@ -266,7 +266,8 @@ module _ (q : Beside) where
         runs = subst (λ s. Goes q s rest st') same runs.2;
       }
   backward_at w trees steps None None active found enough kept lists answers st rest st' k =
-      let j = joined_parts (taken_by q.earlier q.x.active w) (listings q.m q.earlier q.x.active trees) (step_in q.m q.x.active w) steps lists in
+      let j = joined_parts (taken_by q.earlier q.x.active w) (listings q.m q.earlier q.x.active trees)
+      (step_in q.m q.x.active w) steps lists in
       absurd
       (let no : None ≡ Some j.hypotheses =
       sym (takes_earlier q w active ∙ ap (option_map (λ (c : Assertion). c.hypotheses)) found) ∙ j.takes in

@@ -34,7 +34,8 @@ module _ (q : Beside) where
   of_forest : (steps : List Step) (e : List Symbol) → ListForest q.lib q.t q.a steps (e ∷ []) → Proves q.lib q.t q.a steps e
   of_forest steps e f = one_tree f.0 f.1 f.2
     where
-      one_tree : (ts : derivation.Trees) → derivation.listings ts ≡ steps → DeriveEach q.lib q.t q.a ts (e ∷ []) → Proves q.lib q.t q.a steps e
+      one_tree : (ts : derivation.Trees) → derivation.listings ts ≡ steps → DeriveEach q.lib q.t q.a ts (e ∷ [])
+          → Proves q.lib q.t q.a steps e
       one_tree derivation.none l d = absurd cc
       one_tree (derivation.some tr derivation.none) l d =
           let first : d.0 ≡ e = cc in
@@ -73,7 +74,8 @@ module _ (q : Beside) where
         elim r.reaches [ inl push ↦ inl (of_pushed r.gives same push) | inr s ↦ inr s ]
 
     -- a tree whose listing is the proof
-    pub tree_agrees : Proves q.lib q.t q.a q.a.proof q.a.statement ↔ ((value q.earlier q.x tr ≡ Ok q.x.statement) × AreShort q.earlier q.x tr)
+    pub tree_agrees
+        : Proves q.lib q.t q.a q.a.proof q.a.statement ↔ ((value q.earlier q.x tr ≡ Ok q.x.statement) × AreShort q.earlier q.x tr)
     tree_agrees = (
       λ h.
           let runs = tree-runs q.lib q.t q.a h.0 q.a.statement [] [] (q.a.statement ∷ []) h.2 refl in
@@ -82,8 +84,8 @@ module _ (q : Beside) where
           let ends : q.a.statement ∷ [] ≡ answer.gives ∷ [] = answer.runs in
           let same : answer.gives ≡ q.a.statement = cc in
           let one : answer.good.gives ≡ q.x.statement =
-          one_expression q.m q.x.active q.t q.sx.taken answer.good.gives q.x.statement q.a.statement (answer.good.is ∙ ap (λ z. Some z) same)
-          q.sx.says.statement in
+          one_expression q.m q.x.active q.t q.sx.taken answer.good.gives q.x.statement q.a.statement
+          (answer.good.is ∙ ap (λ z. Some z) same) q.sx.says.statement in
           (answer.good.derives ∙ ap (λ e. Ok e) one, answer.good.short),
       λ h. elim (of_statement h.0) [ inl proves ↦ proves | inr s ↦ absurd (s.1 h.1) ],
     )

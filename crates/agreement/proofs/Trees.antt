@@ -107,7 +107,8 @@ module _ (q : Beside) where
   leaf w trees steps h active enough lists =
       let put = q.puts w h active in
       let is = takes_none w h active in
-      let j = joined_parts (taken_by q.earlier q.x.active w) (listings q.m q.earlier q.x.active trees) (step_in q.m q.x.active w) steps lists in
+      let j = joined_parts (taken_by q.earlier q.x.active w) (listings q.m q.earlier q.x.active trees)
+      (step_in q.m q.x.active w) steps lists in
       let empty : j.hypotheses ≡ [] = same_Some j.hypotheses [] (sym j.takes ∙ is) in
       let own : j.step ≡ put.own = same_Some j.step put.own (sym j.own_is ∙ put.step) in
       record {
@@ -132,7 +133,8 @@ module _ (q : Beside) where
   over w c trees steps absent found label step enough lists =
       let is : taken_by q.earlier q.x.active w ≡ Some c.hypotheses =
       takes_earlier w absent ∙ ap (option_map (λ (c : Assertion). c.hypotheses)) found in
-      let j = joined_parts (taken_by q.earlier q.x.active w) (listings q.m q.earlier q.x.active trees) (step_in q.m q.x.active w) steps lists in
+      let j = joined_parts (taken_by q.earlier q.x.active w) (listings q.m q.earlier q.x.active trees)
+      (step_in q.m q.x.active w) steps lists in
       let own : j.step ≡ Cite label = same_Some j.step (Cite label) (sym j.own_is ∙ step) in
       record {
         parts = j.parts;
