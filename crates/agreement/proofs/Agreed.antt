@@ -37,7 +37,7 @@ use Rattle.verifying.specs.Laws.{value}
 use Rattle.verifying.proofs.Verified.{trees_are_derived, parts_verify}
 use Rattle.agreement.specs.Short.{AreShort}
 use Rattle.agreement.specs.Taken.{IsTakenWithProof, how_many_taken, DerivesShort, Agrees}
-use Rattle.agreement.specs.Laws.{LabelsDiffer, ProofsAgree, LibrariesAgree, WhatVerifiesChecks, OthersAreTooLong}
+use Rattle.agreement.specs.Laws.{LabelsDiffer, ProofsAgree, LibrariesAgree, WhatVerifiesChecks, FaultsAreTooLong}
 use Rattle.agreement.proofs.Actives.{sources_orderly}
 use Rattle.agreement.proofs.Frames.{IsAmong}
 use Rattle.agreement.proofs.Chosen.{among_behind, in_parts, taken_from}
@@ -255,6 +255,6 @@ what_verifies_checks ss s choice db axioms names declares takes differ verifies 
     (λ earlier x proof w.
     (verified_derives ss s choice db axioms names declares takes differ verifies earlier x proof w, short earlier x proof w))
 
-pub others_are_too_long : OthersAreTooLong
-others_are_too_long ss s choice db axioms names declares takes differ verifies k fault has =
+pub faults_are_too_long : FaultsAreTooLong
+faults_are_too_long ss s choice db axioms names declares takes differ verifies k fault has =
     others_long ss s choice db axioms names declares takes differ verifies k fault has

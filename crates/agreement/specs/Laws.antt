@@ -10,7 +10,7 @@ use Rattle.source.specs.Statements.{Proof, Statements}
 use Rattle.source.specs.Scopes.{Assertion, Scope}
 use Rattle.source.specs.Sources.{Declares}
 use Rattle.taking.specs.declared.reason.Reason.{Reason}
-use Rattle.taking.specs.Names.{Naming}
+use Rattle.taking.specs.Names.{Map, Naming}
 use Rattle.taking.specs.Reasons.{Choice}
 use Rattle.taking.specs.Taken.{Takes}
 use Rattle.derivation.specs.declared.fault.ProofFault.{ProofFault}
@@ -28,40 +28,37 @@ LabelsDiffer db = Distinct bytes_eq (map (λ a. a.label) db.assertions)
 abbrev pub LabelsOfTextsDiffer : Type 0
 LabelsOfTextsDiffer = (db : Contents) → HasSpelling db → LabelsDiffer db
 
--- a source, and a library that is taken of it
-abbrev pub OfLibraries
-    : ((s : Scope) (choice : Choice) (db : Contents) (axioms : List (Word × Reason)) (names : List Naming)
-    → Takes s choice db axioms names → Type 0)
-    → Type 0
+-- a source, what is chosen of it, the library that is taken so, and the map of its names
+abbrev pub OfLibraries : (Scope → Choice → Contents → Map → Type 0) → Type 0
 OfLibraries Says =
     (ss : Statements) (s : Scope) (choice : Choice) (db : Contents) (axioms : List (Word × Reason)) (names : List Naming)
-    → Declares ss s → (takes : Takes s choice db axioms names) → LabelsDiffer db → Says s choice db axioms names takes
+    → Declares ss s → (takes : Takes s choice db axioms names) → LabelsDiffer db → Says s choice db takes.places
 
 -- a theorem that is taken with its proof: what the proof derives in the source, and what the steps prove in the library
 abbrev pub ProofsAgree : Type 0
 ProofsAgree =
-    OfLibraries (λ s choice db axioms names takes.
+    OfLibraries (λ s choice db m.
     (earlier : List Assertion) (x : Assertion) (proof : Proof) → IsTakenWithProof s choice earlier x proof
-    → Agrees takes.places choice db earlier x proof)
+    → Agrees m choice db earlier x proof)
 
 -- all proofs of the library check just where all proofs that were taken derive their statements, by short expressions
 abbrev pub LibrariesAgree : Type 0
 LibrariesAgree =
-    OfLibraries (λ s choice db axioms names takes.
+    OfLibraries (λ s choice db m.
     AllCheck db
     ↔ ((earlier : List Assertion) (x : Assertion) (proof : Proof) → IsTakenWithProof s choice earlier x proof
     → DerivesShort earlier x proof))
 
--- so what is taken of a source that verifies checks, where the proofs that were taken have no long expressions
+-- so what is taken of a source that verifies checks, where no citation in a proof that was taken makes a long expression
 abbrev pub WhatVerifiesChecks : Type 0
 WhatVerifiesChecks =
-    OfLibraries (λ s choice db axioms names takes.
+    OfLibraries (λ s choice db m.
     Verifies s
     → ((earlier : List Assertion) (x : Assertion) (proof : Proof) → IsTakenWithProof s choice earlier x proof → HasShortProof earlier x)
     → AllCheck db)
 
--- and else a proof that doesn't check has too long an expression, and no other fault
-abbrev pub OthersAreTooLong : Type 0
-OthersAreTooLong =
-    OfLibraries (λ s choice db axioms names takes.
+-- and whatever is taken of it, a proof that doesn't check has too long an expression, and no other fault
+abbrev pub FaultsAreTooLong : Type 0
+FaultsAreTooLong =
+    OfLibraries (λ s choice db m.
     Verifies s → (k : ℕ) (fault : ProofFault) → HasFaultAt db k fault → fault.kind ≡ TooLong)

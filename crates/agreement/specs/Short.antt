@@ -1,6 +1,5 @@
 -- How long the expressions are that a proof of a source derives: a library has none of over 65,535 symbols (a rule of the profile).
-use Rattle.std.specs.Prelude.{◌≤◌, List, find, length, Option, Some, None, Ok, Err}
-use Rattle.std.specs.Prelude.{IfSome}
+use Rattle.std.specs.Prelude.{◌≤◌, List, find, length, Option, Some, None, Ok, Err, IfSome}
 use Rattle.std.specs.Str.{bytes_eq}
 use Rattle.mmsyntax.specs.declared.limits.TheConstants.{MOST_SYMBOLS}
 use Rattle.source.specs.Scopes.{Hypothesis, label_of, Assertion}

@@ -1,6 +1,6 @@
 //! Laws of what is taken, and examples: functions without a body, whose contracts say them.
 
-ghost use Rattle.agreement.specs.Laws.{ProofsAgree, LibrariesAgree, WhatVerifiesChecks, OthersAreTooLong, LabelsOfTextsDiffer};
+ghost use Rattle.agreement.specs.Laws.{ProofsAgree, LibrariesAgree, WhatVerifiesChecks, FaultsAreTooLong, LabelsOfTextsDiffer};
 ghost use Rattle.agreement.specs.Examples.{TwoAgree, EqualLabelsDisagree};
 
 /// A theorem that is taken with its proof proves its statement in the library just where the proof derives it in the source, by
@@ -20,9 +20,9 @@ pub fn what_verifies_checks()
     ensures { WhatVerifiesChecks }
 {}
 
-/// A proof that is taken of a source that verifies, and doesn't check, has too long an expression, and no other fault.
-pub fn others_are_too_long()
-    ensures { OthersAreTooLong }
+/// Of what is taken of a source that verifies, a proof that doesn't check has too long an expression, and no other fault.
+pub fn faults_are_too_long()
+    ensures { FaultsAreTooLong }
 {}
 
 /// The labels of a library that a text declares differ.

@@ -5,6 +5,6 @@
 mod laws;
 
 pub use laws::{
-    equal_labels_disagree, labels_of_texts_differ, libraries_agree, others_are_too_long,
+    equal_labels_disagree, faults_are_too_long, labels_of_texts_differ, libraries_agree,
     proofs_agree, two_agree, what_verifies_checks,
 };
