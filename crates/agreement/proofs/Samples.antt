@@ -37,11 +37,11 @@ use Rattle.agreement.proofs.Agreed.{proofs_agree}
 
 -- ---- the library of two
 
-two_declared : Declares scopes whole
+pub two_declared : Declares scopes whole
 unfolding decoded
 two_declared = record { lawful = refl; declared = refl }
 
-two_taken : Takes whole both_chosen two [] ((r, codes "x") ∷ [])
+pub two_taken : Takes whole both_chosen two [] ((r, codes "x") ∷ [])
 unfolding decoded
 two_taken = record {
   there = refl;

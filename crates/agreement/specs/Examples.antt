@@ -9,7 +9,7 @@ use Rattle.mmsyntax.specs.Tables.{Tables, Contents}
 use Rattle.source.specs.Statements.{Proof, normal, compressed, Statements, constants, asserted, proved}
 use Rattle.source.specs.Scopes.{Assertion, Scope, nothing, behind_all}
 use Rattle.source.specs.Sources.{Declares}
-use Rattle.source.specs.Examples.{these, m, n, t}
+use Rattle.source.specs.Examples.{these, scopes, r, m, n, t}
 use Rattle.taking.specs.Reasons.{Choice}
 use Rattle.taking.specs.Taken.{Takes}
 use Rattle.taking.specs.Examples.{whole, library, taken_m, taken_t, both_chosen}
@@ -32,7 +32,8 @@ proof_of_t = compressed (codes "m" ∷ []) (codes "BC" ∷ codes "AD" ∷ [])
 -- where the arguments of m change places, and the local $f of r is another
 abbrev pub TwoAgree : Type 0
 TwoAgree =
-    LabelsDiffer two × IsTakenWithProof whole both_chosen (m ∷ n ∷ []) t proof_of_t × DerivesShort (m ∷ n ∷ []) t proof_of_t
+    Declares scopes whole × Takes whole both_chosen two [] ((r, codes "x") ∷ []) × LabelsDiffer two
+    × IsTakenWithProof whole both_chosen (m ∷ n ∷ []) t proof_of_t × DerivesShort (m ∷ n ∷ []) t proof_of_t
     × Proves (citable_at two 1) library taken_t taken_t.proof taken_t.statement
 
 -- ---- equal labels
