@@ -1,0 +1,4 @@
+pub mod Short
+pub mod Taken
+pub mod Laws
+pub mod Examples
