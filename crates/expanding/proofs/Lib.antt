@@ -15,3 +15,5 @@ pub mod Barring
 pub mod Gathered
 pub mod Fronting
 pub mod Cutting
+pub mod Renaming
+pub mod Raising

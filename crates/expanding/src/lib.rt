@@ -5,6 +5,7 @@
 mod asking;
 mod barred;
 mod bars;
+mod bearers;
 mod commands;
 mod cuts;
 mod described;
@@ -16,6 +17,7 @@ mod laid;
 mod lines;
 mod misfit;
 mod ranking;
+mod renamed;
 mod spreading;
 mod star;
 mod words;
