@@ -17,3 +17,4 @@ pub mod Fronting
 pub mod Cutting
 pub mod Renaming
 pub mod Raising
+pub mod Naming

@@ -1,13 +1,13 @@
 -- Who may have labels: more of them.
-use Rattle.std.proofs.Common.{get_or, ◌≡◌, ◌∙◌, ◌+◌, ◌≤◌, ◌<◌, ℕ, suc, Bool, true, false, cond, List, [], ◌∷◌, ◌++◌, length, Option, Some, None, refl, sym, ap, subst, arith, Bor}
+use Rattle.std.proofs.Common.{get_or, ◌≡◌, ◌∙◌, ◌+◌, ◌≤◌, ◌<◌, ℕ, Bool, true, false, cond, List, [], ◌∷◌, ◌++◌, length, Option, Some, refl, sym, ap, subst, arith, Bor}
 use Rattle.std.proofs.Common.{inl, inr}
-use Rattle.std.specs.Prelude.{Contains, ◌⊎◌, ◌||◌, IsTrue, ◌≢◌}
-use Rattle.std.specs.List.{All, list_any}
+use Rattle.std.specs.Prelude.{Contains, ◌⊎◌, ◌||◌, IsTrue}
+use Rattle.std.specs.List.{All}
 use Rattle.std.specs.Str.{bytes_eq}
 use Rattle.std.specs.HashMap as hash
 use Rattle.std.proofs.lemmas.Map.Text.{hash_map_updates_str}
 use Rattle.std.proofs.lemmas.List.{length_push, length-map, get_or-map}
-use Rattle.std.proofs.lemmas.List.Elements.{All-head, All-tail, All-weaker, All-push, Contains-append_left, Contains-append_right, Contains-push, Contains-push_cases, Contains-append_cases, Contains-get_or}
+use Rattle.std.proofs.lemmas.List.Elements.{All-head, All-tail, All-weaker, Contains-append_left, Contains-append_right, Contains-push, Contains-push_cases, Contains-append_cases, Contains-get_or}
 use Rattle.std.proofs.lemmas.Cmp.{nat_list_eq_equiv}
 use Rattle.mmtext.specs.Words.{Word}
 use Rattle.mmsyntax.proofs.Names.{same_bytes}
@@ -19,17 +19,17 @@ use Rattle.expanding.specs.declared.bearers.Bearers.{Bearers as CodeBearers}
 
 -- ---- words in a list
 
-one_of : (y x : Word) (ys : List Word) → Contains (y ∷ ys) x → (y ≡ x) ⊎ Contains ys x
+pub one_of : (y x : Word) (ys : List Word) → Contains (y ∷ ys) x → (y ≡ x) ⊎ Contains ys x
 one_of y x ys h = elim (Contains-append_cases (y ∷ []) ys x h) [
-  | inl c ↦ elim (Contains-push_cases [] y x c) [ | inl none ↦ absurd (let bad = none.1 in omega (arith, bad)) | inr e ↦ inl e ]
+  | inl c ↦ elim (Contains-push_cases [] y x c) [ inl none ↦ absurd (let bad = none.1 in omega (arith, bad)) | inr e ↦ inl e ]
   | inr c ↦ inr c
 ]
 
-first_in : (a b : Bool) → a ≡ true → IsTrue (a || b)
+pub first_in : (a b : Bool) → a ≡ true → IsTrue (a || b)
 first_in true b h = refl
 first_in false b h = absurd (let bad = h in cc)
 
-later_in : (a b : Bool) → b ≡ true → IsTrue (a || b)
+pub later_in : (a b : Bool) → b ≡ true → IsTrue (a || b)
 later_in true b h = refl
 later_in false b h = h
 
@@ -261,7 +261,7 @@ module _ (rs : List (Word × Word)) (f : Word → Bearers) (spread : IsSpreadBut
   none_left x h = absurd (let bad = h.1 in omega (arith, bad))
 
   closed : (u v : Word) → Contains (new_labels rs u) v → AreAmong (f u) (f v)
-  closed u v h = elim (spread u v h) [ | inl none ↦ none_left u none | inr k ↦ k ]
+  closed u v h = elim (spread u v h) [ inl none ↦ none_left u none | inr k ↦ k ]
 
   reached : (row : List Word) (b : Bearers) (a w : Word) → AreAmong b (f a) → Lead rs a row w → AreAmong b (f w)
   reached [] b a w h lead = subst (λ y. AreAmong b (f y)) lead h

@@ -21,14 +21,16 @@ one_new : (b : Bool) (r : Word × Word) → map (λ (q : Word × Word). q.1) (co
 one_new true r = refl
 one_new false r = refl
 
-new_labels_more : (rs : List (Word × Word)) (x v w : Word) → new_labels (rs ++ (x, v) ∷ []) w ≡ new_labels rs w ++ cond (bytes_eq w x) (v ∷ []) []
+new_labels_more : (rs : List (Word × Word)) (x v w : Word)
+    → new_labels (rs ++ (x, v) ∷ []) w ≡ new_labels rs w ++ cond (bytes_eq w x) (v ∷ []) []
 new_labels_more rs x v w =
     ap (map (λ (r : Word × Word). r.1)) (filter-append (λ (r : Word × Word). bytes_eq w r.0) rs ((x, v) ∷ []))
     ∙ (map-append (λ (r : Word × Word). r.1) (filter (λ (r : Word × Word). bytes_eq w r.0) rs) (cond (bytes_eq w x) ((x, v) ∷ []) [])
     ∙ ap (λ l. new_labels rs w ++ l) (one_new (bytes_eq w x) (x, v)))
 
 put_one : (b : Bool) (labels : Vec (Bor (List ℕ)) Global) (o : Option (Vec (Bor (List ℕ)) Global)) (v : Word)
-    → (b ≡ true → seen_words labels.items ≡ listed o ++ v ∷ []) → listed (cond b (Some labels) (cond b None o)) ≡ listed o ++ cond b (v ∷ []) []
+    → (b ≡ true → seen_words labels.items ≡ listed o ++ v ∷ [])
+    → listed (cond b (Some labels) (cond b None o)) ≡ listed o ++ cond b (v ∷ []) []
 put_one true labels o v is = is refl
 put_one false labels o v is = sym (append-nil (listed o))
 
@@ -52,7 +54,8 @@ list_taken (Some l) d r is empty = ap (λ (l : Vec (Bor (List ℕ)) Global). see
 
 -- what they make of a label is among their new labels
 more_new : (all : List Word) (b : Bool) (r : Word × Word) (rest : List (Word × Word)) → Contains all r.1
-    → All (Contains all) (map (λ (q : Word × Word). q.1) rest) → All (Contains all) (map (λ (q : Word × Word). q.1) (cond b (r ∷ rest) rest))
+    → All (Contains all) (map (λ (q : Word × Word). q.1) rest)
+    → All (Contains all) (map (λ (q : Word × Word). q.1) (cond b (r ∷ rest) rest))
 more_new all true r rest h k = All-cons (Contains all) r.1 (map (λ (q : Word × Word). q.1) rest) h k
 more_new all false r rest h k = k
 
@@ -60,7 +63,8 @@ among_new : (all : List Word) (w : Word) (rs : List (Word × Word)) → All (λ 
     → All (Contains all) (new_labels rs w)
 among_new all w [] h = All-nil (Contains all)
 among_new all w (r ∷ rs) h =
-    more_new all (bytes_eq w r.0) r (filter (λ (q : Word × Word). bytes_eq w q.0) rs) (All-head (λ (r : Word × Word). Contains all r.1) r rs h)
+    more_new all (bytes_eq w r.0) r (filter (λ (q : Word × Word). bytes_eq w q.0) rs)
+    (All-head (λ (r : Word × Word). Contains all r.1) r rs h)
     (among_new all w rs (All-tail (λ (r : Word × Word). Contains all r.1) r rs h))
 
 of_map : (P : Word → Type 0) (rs : List (Word × Word)) → All P (map (λ (r : Word × Word). r.1) rs) → All (λ (r : Word × Word). P r.1) rs

@@ -1,13 +1,16 @@
 -- Of the code's inside, apart from the rules: how it is found who may have a label, from each label to those that renames make of it.
-use Rattle.std.specs.Prelude.{◌≡◌, ◌≢◌, ◌≤◌, ◌⊎◌, ◌+◌, ℕ, Bool, List, [], ◌∷◌, Vec, length, Contains, IsTrue, Option, Some, None}
+use Rattle.std.specs.Prelude.{◌≡◌, ◌≢◌, ◌≤◌, ◌⊎◌, ◌+◌, ℕ, Bool, true, false, List, [], ◌∷◌, ◌++◌, map, Vec, length, Contains, IsTrue, Option, Some, None}
 use Rattle.std.specs.Borrow.{Bor}
 use Rattle.std.specs.Str.{bytes_eq}
 use Rattle.std.specs.HashMap.{HashMap, get_by}
 use Rattle.std.specs.declared.alloc.Global.{Global}
 use Rattle.std.specs.declared.random_state.RandomState.{RandomState}
 use Rattle.mmtext.specs.Words.{Word}
+use Rattle.source.specs.Scopes.{Scope}
 use Rattle.source.specs.Views.{seen_words, seen_pairs}
 use Rattle.expanding.specs.Called.{new_labels, MayBeCalled, Bearers, nobody, only, several}
+use Rattle.expanding.specs.Discouraged.{Names, is_declared}
+use Rattle.expanding.specs.declared.names.Names.{Names as CodeNames}
 use Rattle.expanding.specs.declared.bearers.Bearers.{Bearers as CodeBearers}
 use Rattle.expanding.specs.declared.bearers.Bearers.TheVariants as code
 use Rattle.expanding.specs.declared.renamed.Renames.{Renames}
@@ -88,3 +91,24 @@ pub record Rises (at : List Word) (old new : Word → Bearers) (before after : L
 -- from each other label those that may have it are gone on to what renames make of it
 abbrev pub IsSpreadBut : List (Word × Word) → (Word → Bearers) → List Word → Type 0
 IsSpreadBut rs f todo = (u v : Word) → Contains (new_labels rs u) v → Contains todo u ⊎ AreAmong (f u) (f v)
+
+-- ---- names of all kinds
+
+-- the labels of renames: the old ones, and then the new ones
+abbrev pub words_in : List (Word × Word) → List Word
+words_in rs = map (λ r. r.0) rs ++ map (λ r. r.1) rs
+
+-- a label that no rename has is that of its own assertion
+abbrev pub or_own : Bearers → Bool → Word → Bearers
+or_own nobody true w = only w
+or_own nobody false w = nobody
+or_own (only a) _ w = only a
+or_own several _ w = several
+
+abbrev pub names_of : Scope → CodeNames → Names
+names_of s k = record {
+  modification = bearers_for k.modification;
+  usage = bearers_for k.usage;
+  source = λ w. or_own (bearers_for k.source w) (is_declared s w) w;
+  added = bearers_for k.added;
+}

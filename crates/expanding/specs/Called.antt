@@ -1,6 +1,7 @@
--- What assertions may be called while scripts run. In which order commands of several scripts are done nobody knows beforehand, nor which of
--- them are. So an assertion may be called each label to which their commands `rename` lead from its own, in any order and however often.
-use Rattle.std.specs.Prelude.{◌≡◌, ◌≢◌, Bool, List, [], ◌∷◌, filter, filter_map, map, Contains, IsTrue, Option, Some, None, if◌then◌else◌, codes}
+-- What assertions may be called while scripts run. Nobody knows beforehand in which order the commands of several scripts are done, nor
+-- which of them are. So an assertion may be called each label to which their commands `rename` lead from its own, in any order and however
+-- often.
+use Rattle.std.specs.Prelude.{◌≡◌, ◌≢◌, Bool, true, false, List, [], ◌∷◌, filter, filter_map, map, Contains, IsTrue, Option, Some, None, if◌then◌else◌, codes}
 use Rattle.std.specs.Str.{bytes_eq}
 use Rattle.mmtext.specs.Words.{Word}
 use Rattle.expanding.specs.Words.{says}
@@ -46,3 +47,8 @@ AreBearers rs test w (only a) =
     IsTrue (test a) × MayBeCalled rs a w × ((b : Word) → IsTrue (test b) → MayBeCalled rs b w → b ≡ a)
 AreBearers rs test w several =
     (a : Word) × (b : Word) × IsTrue (test a) × MayBeCalled rs a w × IsTrue (test b) × MayBeCalled rs b w × (a ≢ b)
+
+-- some may
+abbrev pub is_borne : Bearers → Bool
+is_borne nobody = false
+is_borne _ = true

@@ -4,7 +4,7 @@ ghost use Rattle.std.specs.Prelude.{◌≡◌, ◌⊎◌, All, Bool, IfOk, List,
 ghost use Rattle.mmtext.specs.Words.{Word};
 ghost use Rattle.source.specs.Scopes.{is_in};
 ghost use Rattle.source.specs.Views.{seen_words, seen_pairs};
-ghost use Rattle.expanding.specs.Called.{AreBearers, new_labels, nobody, only};
+ghost use Rattle.expanding.specs.Called.{AreBearers, is_borne, new_labels, nobody, only};
 ghost use Rattle.expanding.specs.Bearing.{AreRenames, bearers_for, seen_bearers, AreAmong, room, AreBacked, AllBacked, Rises, IsSpreadBut};
 
 use crate::renamed::Renames;
@@ -37,6 +37,16 @@ pub(crate) fn bearers_for<'a>(called: &Called<'a>, label: &[u8]) -> Bearers<'a>
 }
 
 impl<'a> Bearers<'a> {
+    /// Whether there are some.
+    pub(crate) fn is_borne(self) -> bool
+        ensures { result ≡ is_borne (seen_bearers self.entry) }
+    {
+        match self {
+            Bearers::Nobody => false,
+            _ => true,
+        }
+    }
+
     /// These and others.
     fn with(self, others: Bearers<'a>) -> Bearers<'a>
         ensures these { AreAmong (seen_bearers self.entry) (seen_bearers result) }

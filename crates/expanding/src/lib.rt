@@ -16,6 +16,7 @@ mod labels;
 mod laid;
 mod lines;
 mod misfit;
+mod names;
 mod ranking;
 mod renamed;
 mod spreading;

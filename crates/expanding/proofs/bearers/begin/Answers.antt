@@ -19,13 +19,14 @@ loop-label-preserved c =
     let front = seen_words (take i labels) in
     let f = bearers_for c.loop-label.called in
     let g = bearers_for c.raise.new.called in
-    let more : seen_words (take (i + 1) labels) ≡ front ++ x ∷ [] = map_more (λ (v : Bor (List ℕ)). v.now) labels i d c.loop-label-test.true in
+    let more : seen_words (take (i + 1) labels) ≡ front ++ x ∷ [] =
+    map_more (λ (v : Bor (List ℕ)). v.now) labels i d c.loop-label-test.true in
     let one = c.in_ok-raise.ensures in
     let so_far = c.loop-label.invariant in
     record {
       noted = λ w. elim (one.rises.noted w) [
         | inl there ↦ inl there
-        | inr same ↦ elim (so_far.noted w) [ | inl k ↦ inl (one.rises.kept w k) | inr e ↦ inr (same ∙ e) ]
+        | inr same ↦ elim (so_far.noted w) [ inl k ↦ inl (one.rises.kept w k) | inr e ↦ inr (same ∙ e) ]
       ];
       each = subst (All (λ w. AreAmong (only w) (g w))) (sym more)
           (All-push (λ w. AreAmong (only w) (g w)) front x (all_among f g front one.rises.up so_far.each) one.raised);

@@ -1,7 +1,6 @@
 -- What is left to show of `raise`.
-use Rattle.std.proofs.Common.{◌≡◌, ◌∙◌, ◌<◌, List, ℕ, Bor, ap, sym, subst, arith}
+use Rattle.std.proofs.Common.{◌∙◌, ◌<◌, List, ℕ, Bor, ap, sym, subst}
 use Rattle.std.proofs.lemmas.List.{map_push}
-use Rattle.mmtext.specs.Words.{Word}
 use Rattle.source.specs.Views.{seen_words}
 use Rattle.expanding.specs.Bearing.{bearers_for, seen_bearers, AreAmong, AreBacked, room}
 use Rattle.expanding.proofs.Raising.{bearers_put, put_rises, put_backed}

@@ -12,5 +12,6 @@ invariant-loop-label l = record {
       (seen_words l.fn.todo.items) (seen_words l.todo.items);
   raised : (w : Word) → Contains (seen_words (take l.label-index l.labels)) w → AreAmong (seen_bearers l.more) (bearers_for l.called w);
   backed : (rs : List (Word × Word)) (test : Word → Bool) → AllBacked rs test (bearers_for l.fn.called)
-      → ((w : Word) → Contains (seen_words l.labels) w → AreBacked rs test w (seen_bearers l.more)) → AllBacked rs test (bearers_for l.called);
+      → ((w : Word) → Contains (seen_words l.labels) w → AreBacked rs test w (seen_bearers l.more))
+      → AllBacked rs test (bearers_for l.called);
 }

@@ -1,5 +1,5 @@
 -- What is left to show of `spread`.
-use Rattle.std.proofs.Common.{◌≡◌, ◌∙◌, ◌++◌, ◌∷◌, [], List, ℕ, Bor, ap, arith}
+use Rattle.std.proofs.Common.{◌≡◌, ◌∙◌, ◌++◌, ◌∷◌, [], List, ℕ, Bor, ap}
 use Rattle.std.proofs.lemmas.List.{map_push}
 use Rattle.std.proofs.Common.{map}
 use Rattle.mmtext.specs.Words.{Word}

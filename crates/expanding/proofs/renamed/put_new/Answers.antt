@@ -1,7 +1,8 @@
 -- What is left to show of `put_new`.
-use Rattle.std.proofs.Common.{◌≡◌, ◌∙◌, ◌++◌, ◌∷◌, [], List, ℕ, Bor, ap}
+use Rattle.std.proofs.Common.{◌∙◌, ◌++◌, ◌∷◌, [], List, ℕ, Bor, ap}
 use Rattle.std.proofs.lemmas.List.{map_push}
 use Rattle.source.specs.Views.{seen_words}
+use Rattle.expanding.specs.Bearing.{listed}
 use Rattle.expanding.proofs.Renaming.{finds_more, list_taken}
 use Rattle.expanding.proofs.renamed.put_new.Goals as goal
 
@@ -12,4 +13,4 @@ returns c = λ rs found.
     c.remove.ensures.updates c.in_ok-insert.ensures.updates
     (ap seen_words c.in_ok-push.ensures.items
     ∙ (map_push (λ (v : Bor (List ℕ)). v.now) c.unwrap_or-labels.result.items c.args.new
-    ∙ (ap (λ l. l ++ c.args.new.now ∷ []) was ∙ ap (λ o. Rattle.expanding.specs.Bearing.listed o ++ c.args.new.now ∷ []) c.remove.ensures.value)))
+    ∙ (ap (λ l. l ++ c.args.new.now ∷ []) was ∙ ap (λ o. listed o ++ c.args.new.now ∷ []) c.remove.ensures.value)))
