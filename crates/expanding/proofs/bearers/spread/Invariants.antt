@@ -1,5 +1,5 @@
--- What the loop of `spread` keeps: of each label that isn't left, those that may have it may have the next ones. Its measure: how many labels
--- are left, and how often more may still be found.
+-- What the loop of `spread` keeps: of each label that isn't left, those that may have it may have the next ones. Its measure: how many
+-- labels are left, and how often more may still be found.
 use Rattle.std.proofs.Common.{◌+◌, Bool, length, map}
 use Rattle.mmtext.specs.Words.{Word}
 use Rattle.source.specs.Views.{seen_words, seen_pairs}
