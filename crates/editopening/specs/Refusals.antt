@@ -1,4 +1,5 @@
--- Why scripts aren't begun over a source, and the line that says so.
+-- Why scripts aren't begun over a source, and the line that says so. The reasons stand in the order of the steps: a line tells the first
+-- that is so, and says with it that each step before was taken.
 use Rattle.std.specs.Prelude.{◌≡◌, ◌≢◌, ◌⊎◌, ◌++◌, Bool, List, codes}
 use Rattle.mmtext.specs.Text.{Token}
 use Rattle.mmtext.specs.declared.fault.TextFault.{TextFault}
@@ -14,7 +15,7 @@ use Rattle.intake.specs.Intakes.{IsRefusedOf}
 use Rattle.taketext.specs.Refusals.{refusal_line as taking_line}
 use Rattle.checking.specs.Checks.{Bytes}
 use Rattle.editscripts.specs.Expanded.{IsSpreadOf}
-use Rattle.editscripts.specs.Encouraged.{IsDiscouragedBy}
+use Rattle.editscripts.specs.Encouraged.{AreFree, AreAllowed, IsDiscouragedBy}
 use Rattle.editscripts.specs.Refusals.{IsWordlessLine, IsMisfitLine, IsBarredBy, IsUnlaidBy, IsUnreadBy}
 use Rattle.standins.specs.StandIns.{StandIn, with_stand_ins}
 use Rattle.editopening.specs.Opening.{IsAskedBy, Asked, Ranked, Begun, taken_of, stand_ins_of}
@@ -32,11 +33,12 @@ pub record IsBarredLine (paths : List Bytes) (s : Scope) (texts : List Bytes) (l
   pub of_source : IsSpreadOf s texts spread
   pub cause : IsBarredBy paths s texts spread line
 
--- scripts do what comments of the source discourage, and it isn't forced
+-- nothing forbids what scripts do, and comments of the source discourage it, and it isn't forced
 pub record IsDiscouragedLine (paths : List Bytes) (source : Bytes) (s : Scope) (texts : List Bytes) (force : Bool) (line : Bytes)
     : Type 0 where
   pub spread : List (List Token)
   pub of_source : IsSpreadOf s texts spread
+  pub free : AreFree s spread
   pub cause : IsDiscouragedBy paths source s texts force spread line
 
 -- no library is taken of what the source declares by the wish of the scripts
@@ -48,17 +50,23 @@ pub record IsUntakenBy (path : Bytes) (s : Scope) (scripts : List (List Token)) 
   pub told : why ≢ untaken.NoMemory
   pub says : line ≡ taking_line path why
 
-pub record IsUntakenLine (path : Bytes) (s : Scope) (texts : List Bytes) (line : Bytes) : Type 0 where
+-- nor of scripts that may be run
+pub record IsUntakenLine (path source : Bytes) (s : Scope) (texts : List Bytes) (force : Bool) (line : Bytes) : Type 0 where
   pub spread : List (List Token)
   pub of_source : IsSpreadOf s texts spread
+  pub allowed : AreAllowed source s force spread
   pub cause : IsUntakenBy path s spread line
 
-pub record IsUnlaidLine (paths : List Bytes) (s : Scope) (texts : List Bytes) (line : Bytes) : Type 0 where
+-- one is, but the scripts have no texts over it
+pub record IsUnlaidLine (paths : List Bytes) (source : Bytes) (s : Scope) (texts : List Bytes) (force : Bool) (line : Bytes) : Type 0 where
   pub over : Asked s texts
+  pub allowed : AreAllowed source s force over.spread
   pub cause : IsUnlaidBy paths s texts over.taken.chosen.items over.taken.database over.spread line
 
-pub record IsUnreadLine (paths : List Bytes) (s : Scope) (texts : List Bytes) (line : Bytes) : Type 0 where
+-- they have, but these aren't read
+pub record IsUnreadLine (paths : List Bytes) (source : Bytes) (s : Scope) (texts : List Bytes) (force : Bool) (line : Bytes) : Type 0 where
   pub with_ranks : Ranked s texts
+  pub allowed : AreAllowed source s force with_ranks.over.spread
   pub cause : IsUnreadBy paths with_ranks.over.taken.database.prelude texts with_ranks.ranked line
 
 -- a library of the source has no room for stand-ins
@@ -66,17 +74,21 @@ pub record IsUnopenedBy (path : Bytes) (db : Contents) (ss : List StandIn) (line
   pub unlawful : HasSpelling (with_stand_ins db ss) → AllCheck (with_stand_ins db ss) → ⊥
   pub says : line ≡ path ++ codes ": no library has room for stand-ins of unfinished or long proofs"
 
-pub record IsUnopenedLine (path source : Bytes) (texts : List Bytes) (line : Bytes) : Type 0 where
+-- they are, but have nothing to be run over
+pub record IsUnopenedLine (path source : Bytes) (texts : List Bytes) (force : Bool) (line : Bytes) : Type 0 where
   pub begun : Begun source texts
+  pub allowed : AreAllowed source begun.old force begun.with_ranks.over.spread
   pub cause : IsUnopenedBy path (taken_of begun).database (stand_ins_of begun) line
 
--- why scripts aren't begun over what a source declares
+-- why scripts aren't begun over what a source declares: they have words; these fit the source; nothing forbids what they do; no comment
+-- discourages it, or it is forced; a library is taken; they have texts over it, are read, and have a library to be run over. The first of
+-- these that isn't so is told
 abbrev pub IsUnbegunLine : Bytes → List Bytes → Bytes → Scope → List Bytes → Bool → Bytes → Type 0
 IsUnbegunLine path paths source s texts force line =
     IsWordlessLine paths texts line
     ⊎ (IsMisfitLine paths s texts line
     ⊎ (IsBarredLine paths s texts line
     ⊎ (IsDiscouragedLine paths source s texts force line
-    ⊎ (IsUntakenLine path s texts line
-    ⊎ (IsUnlaidLine paths s texts line
-    ⊎ (IsUnreadLine paths s texts line ⊎ IsUnopenedLine path source texts line))))))
+    ⊎ (IsUntakenLine path source s texts force line
+    ⊎ (IsUnlaidLine paths source s texts force line
+    ⊎ (IsUnreadLine paths source s texts force line ⊎ IsUnopenedLine path source texts force line))))))

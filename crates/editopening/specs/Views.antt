@@ -12,7 +12,7 @@ use Rattle.editscripts.specs.Expanded.{ArePasted, RankedScript, AreRanked, texts
 use Rattle.editscripts.specs.Expanded.{IsSpreadOf}
 use Rattle.editopening.specs.Opening.{IsTakenFor}
 use Rattle.editscripts.specs.Described.{AreDescriptive}
-use Rattle.editscripts.specs.Encouraged.{AreEncouraged}
+use Rattle.editscripts.specs.Encouraged.{AreAllowed}
 use Rattle.editscripts.specs.Quoted.{AreQuotesOf}
 use Rattle.editscripts.specs.Views.{beginnings_of, seen_descriptions, seen_quotes}
 
@@ -20,7 +20,7 @@ use Rattle.editscripts.specs.Views.{beginnings_of, seen_descriptions, seen_quote
 pub record IsBegun (source : Bytes) (s : Scope) (texts : List Bytes) (force : Bool) (b : CodeBegun) : Type 0 where
   pub spread : List (List Token)
   pub of_source : IsSpreadOf s texts spread
-  pub encouraged : force ≡ false → AreEncouraged source s spread
+  pub allowed : AreAllowed source s force spread
   pub for_scripts : IsTakenFor s spread b.taken
   pub pasted : List (List Token)
   pub are_pasted : ArePasted s b.taken.chosen.items b.taken.database spread pasted

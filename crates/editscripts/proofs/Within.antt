@@ -8,7 +8,7 @@ use Rattle.mmtext.specs.Views.{seen}
 use Rattle.mmtext.specs.declared.token.Token.{Token as CodeToken}
 use Rattle.source.specs.Scopes.{Scope}
 use Rattle.expanding.specs.Commands.{Command}
-use Rattle.expanding.specs.Discouraged.{Remarked, Discouraged, AreDiscouraged, discouraged_in, told_of}
+use Rattle.expanding.specs.Discouraged.{Remarked, Discouraged, Names, AreDiscouraged, discouraged_in, told_of}
 use Rattle.expanding.specs.Views.{seen_scripts}
 use Rattle.editscripts.proofs.Chosen.{scripts_within}
 
@@ -27,19 +27,19 @@ script_of : (k : ℕ) (o : Option Discouraged) (n : ℕ) (d : Discouraged)
 script_of k None n d is = absurd cc
 script_of k (Some x) n d is = let same : (k, x) ≡ (n, d) = cc in ap (λ (p : ℕ × Discouraged). p.0) same
 
-told_within : (s : Scope) (r : Remarked) (many : ℕ) (o : Option Command) (n : ℕ) (d : Discouraged) → IfSome o (λ c. c.script < many)
-    → told_of s r o ≡ Some (n, d) → n < many
-told_within s r many None n d within is = absurd cc
-told_within s r many (Some c) n d within is =
-    subst (λ k. k < many) (script_of c.script (discouraged_in s r c.words) n d is) within
+told_within : (s : Scope) (names : Names) (many : ℕ) (o : Option Command) (n : ℕ) (d : Discouraged) → IfSome o (λ c. c.script < many)
+    → told_of s names o ≡ Some (n, d) → n < many
+told_within s names many None n d within is = absurd cc
+told_within s names many (Some c) n d within is =
+    subst (λ k. k < many) (script_of c.script (discouraged_in s names c.words) n d is) within
 
 pub discouraged_within : (s : Scope) (r : Remarked) (scripts : List (Vec CodeToken Global)) (n : ℕ) (d : Discouraged)
     → AreDiscouraged s r (seen_scripts scripts) (Some (n, d)) → n < length scripts
 discouraged_within s r scripts n d h =
     let all = seen_scripts scripts in
     let within =
-    told_within s r (0 + length all) (find (λ c. is_some (discouraged_in s r c.words)) h.commands) n d
-    (found_holds (λ (c : Command). c.script < 0 + length all) (λ c. is_some (discouraged_in s r c.words)) h.commands
+    told_within s h.names (0 + length all) (find (λ c. is_some (discouraged_in s h.names c.words)) h.commands) n d
+    (found_holds (λ (c : Command). c.script < 0 + length all) (λ c. is_some (discouraged_in s h.names c.words)) h.commands
     (scripts_within all 0 h.commands h.are_commands))
     h.first in
     let long : length all ≡ length scripts = length-map scripts (λ (ts : Vec CodeToken Global). map seen ts.items) in

@@ -1,4 +1,5 @@
--- Scripts that do nothing that comments of the source discourage, and the line that says of others what they do so.
+-- Scripts that may be run: no theorem forbids what they do, and no comment of the source discourages it; and the line that says of others
+-- what they do although it is discouraged.
 use Rattle.std.specs.Prelude.{◌≡◌, ◌+◌, ℕ, Bool, false, List, [], ◌++◌, Some, None, codes, slice_index_or}
 use Rattle.std.specs.Fmt.{decimal}
 use Rattle.mmtext.specs.Text.{Token}
@@ -8,6 +9,7 @@ use Rattle.checking.specs.Checks.{Bytes}
 use Rattle.checking.specs.FaultLines.{shown_label}
 use Rattle.remarks.specs.Remarks.{AreRemarks}
 use Rattle.expanding.specs.Lines.{line_at}
+use Rattle.expanding.specs.Barred.{IsBarred}
 use Rattle.expanding.specs.Discouraged.{Remarked, Discouraged, modifies, uses, AreDiscouraged}
 
 -- the labels of which comments of a source discourage something
@@ -19,10 +21,23 @@ pub record Remarks (source : Bytes) : Type 0 where
 abbrev pub remarked_in : {source : Bytes} → Remarks source → Remarked
 remarked_in r = record { modification = r.modifications; usage = r.usages }
 
--- the scripts do none of it
+-- ---- they may
+
+-- no theorem forbids a command of theirs
+abbrev pub AreFree : Scope → List (List Token) → Type 0
+AreFree s scripts = (script : ℕ) (label : Token) (by : Bytes) → IsBarred s scripts script label by → ⊥
+
+-- the scripts do nothing that comments discourage
 pub record AreEncouraged (source : Bytes) (s : Scope) (scripts : List (List Token)) : Type 0 where
   pub remarks : Remarks source
   pub none : AreDiscouraged s (remarked_in remarks) scripts None
+
+-- neither is so, unless what is discouraged is forced
+pub record AreAllowed (source : Bytes) (s : Scope) (force : Bool) (scripts : List (List Token)) : Type 0 where
+  pub free : AreFree s scripts
+  pub encouraged : force ≡ false → AreEncouraged source s scripts
+
+-- ---- they may not
 
 -- they do, first with this word: `PATH:LINE: LABEL: ` and the words of the comment
 abbrev pub discouraged_word : Discouraged → Token

@@ -3,6 +3,7 @@
 ghost use Rattle.std.specs.Prelude.{◌≡◌, ◌++◌, IfOk, IfErr, map, string_bytes};
 ghost use Rattle.expanding.specs.Views.{seen_scripts};
 ghost use Rattle.mmtext.specs.Views.{seen};
+ghost use Rattle.editscripts.specs.Encouraged.{AreFree};
 ghost use Rattle.editscripts.specs.Refusals.{IsToldBy, IsBarredBy, barred_line};
 ghost use Rattle.editscripts.specs.Views.{seen_texts};
 
@@ -41,7 +42,8 @@ pub fn are_free<'a, D: Declared<'a>>(
     texts: &[Vec<u8>],
     scripts: &[Vec<Token<'a>>],
 ) -> Result<(), Unedited>
-    ensures { IfErr result (IsToldBy (IsBarredBy
+    ensures free { IfOk result (λ _. AreFree (D.scope declared.now) (seen_scripts scripts.now)) }
+    ensures refused { IfErr result (IsToldBy (IsBarredBy
         (map (λ p. p.now) paths.now) (D.scope declared.now) (seen_texts texts.now) (seen_scripts scripts.now))) }
 {
     match barred_of(alloc, keys, declared, scripts)? {

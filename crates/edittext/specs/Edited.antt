@@ -1,5 +1,5 @@
 -- What a source becomes that scripts edit.
-use Rattle.std.specs.Prelude.{◌≡◌, ℕ, Bool, false, List, Option, is_none, unwrap_or}
+use Rattle.std.specs.Prelude.{ℕ, Bool, List, Option, is_none, unwrap_or}
 use Rattle.intake.specs.declared.taken.Taken.{Taken}
 use Rattle.library.specs.declared.history.Entry.{Entry}
 use Rattle.library.specs.Library.{Listed}
@@ -12,7 +12,7 @@ use Rattle.verifytext.specs.declared.verifying_text.Verified.{Verified}
 use Rattle.verifytext.specs.Verdicts.{IsVerifiedText}
 use Rattle.expanding.specs.Descriptions.{Description}
 use Rattle.editscripts.specs.Described.{AreDescriptive, done_descriptions}
-use Rattle.editscripts.specs.Encouraged.{AreEncouraged}
+use Rattle.editscripts.specs.Encouraged.{AreAllowed}
 use Rattle.pasting.specs.Quotes.{Quote}
 use Rattle.editscripts.specs.Quoted.{AreQuotesOf, done_quotations}
 use Rattle.editedsource.specs.Dressed.{IsDressed}
@@ -31,10 +31,10 @@ pub record Run (source : Bytes) (texts : List Bytes) (workers : ℕ) (room : Roo
   pub worked :
       IsWorked (opened_of begun) workers (room_of room (opened_of begun) (scripts_of begun)) (scripts_of begun) rows entries edited
 
--- its scripts do nothing that comments of the source discourage, unless that is forced
-abbrev pub IsEncouragedRun : {source : Bytes} {texts : List Bytes} {workers : ℕ} {room : Room} {rows : List (List Outcome)}
+-- no theorem forbids what its scripts do, and no comment of the source discourages it, unless that is forced
+abbrev pub IsAllowedRun : {source : Bytes} {texts : List Bytes} {workers : ℕ} {room : Room} {rows : List (List Outcome)}
     → Bool → Run source texts workers room rows → Type 0
-IsEncouragedRun {source} force r = force ≡ false → AreEncouraged source r.begun.old r.begun.with_ranks.over.spread
+IsAllowedRun {source} force r = AreAllowed source r.begun.old force r.begun.with_ranks.over.spread
 
 -- the library behind it without stand-ins, and what is told then of the library that was taken
 pub record Closed {source : Bytes} {texts : List Bytes} {workers : ℕ} {room : Room} {rows : List (List Outcome)}

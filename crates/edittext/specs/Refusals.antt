@@ -1,4 +1,5 @@
--- Why a source isn't edited, and the line that says so.
+-- Why a source isn't edited, and the line that says so. The reasons stand in the order of the steps: a line tells the first that is so, and
+-- says with it that each step before was taken.
 use Rattle.std.specs.Prelude.{◌≡◌, ◌≢◌, ◌⊎◌, ℕ, Bool, List}
 use Rattle.source.specs.Scopes.{Scope}
 use Rattle.source.specs.Sources.{DeclaresText}
@@ -11,13 +12,14 @@ use Rattle.transaction.specs.declared.outcome.Outcome.{Outcome}
 use Rattle.jobs.specs.Jobs.{Room, room_of}
 use Rattle.jobs.specs.Parts.{IsWorkFault}
 use Rattle.expanding.specs.Descriptions.{Description}
+use Rattle.editscripts.specs.Encouraged.{AreAllowed}
 use Rattle.editscripts.specs.Described.{AreDescriptive, done_descriptions}
 use Rattle.pasting.specs.Quotes.{Quote}
 use Rattle.editscripts.specs.Quoted.{AreQuotesOf, done_quotations}
 use Rattle.editedsource.specs.Dressed.{IsHalfDressed}
 use Rattle.editopening.specs.Opening.{Begun, choice_of, opened_of, scripts_of}
 use Rattle.editopening.specs.Refusals.{IsFaultyLine, IsUnbegunLine}
-use Rattle.edittext.specs.Edited.{Run, Closed, IsSourceThen}
+use Rattle.edittext.specs.Edited.{Run, Closed, IsAllowedRun, IsSourceThen}
 use Rattle.editedsource.specs.Refusals.{IsStoppedLine, IsFaultyThenLine}
 
 -- ---- the run, and what becomes of the source
@@ -30,22 +32,27 @@ pub record IsWorkLine (paths : List Bytes) (contents : Contents) (workers words 
   pub says : line ≡ line_of paths found
 
 -- nor are those that were read
-pub record IsUnworkedLine (paths : List Bytes) (source : Bytes) (texts : List Bytes) (workers : ℕ) (room : Room) (line : Bytes)
-    : Type 0 where
+pub record IsUnworkedLine (paths : List Bytes) (source : Bytes) (texts : List Bytes) (workers : ℕ) (room : Room) (force : Bool)
+    (line : Bytes) : Type 0 where
   pub begun : Begun source texts
+  pub allowed : AreAllowed source begun.old force begun.with_ranks.over.spread
   pub cause : IsWorkLine paths (opened_of begun) workers (room_of room (opened_of begun) (scripts_of begun)) line
 
 -- nor are those of the run
-pub record IsUngivenLine (path source : Bytes) (texts : List Bytes) (workers : ℕ) (room : Room) (line : Bytes) : Type 0 where
+pub record IsUngivenLine (path source : Bytes) (texts : List Bytes) (workers : ℕ) (room : Room) (force : Bool) (line : Bytes)
+    : Type 0 where
   pub rows : List (List Outcome)
   pub run : Run source texts workers room rows
+  pub allowed : IsAllowedRun force run
   pub closed : Closed run
   pub cause : IsStoppedLine path source run.begun.old (choice_of run.begun) closed.taken run.entries closed.library line
 
 -- nor is the source with those of the run
-pub record IsUnverifiedLine (path source : Bytes) (texts : List Bytes) (workers : ℕ) (room : Room) (line : Bytes) : Type 0 where
+pub record IsUnverifiedLine (path source : Bytes) (texts : List Bytes) (workers : ℕ) (room : Room) (force : Bool) (line : Bytes)
+    : Type 0 where
   pub rows : List (List Outcome)
   pub run : Run source texts workers room rows
+  pub allowed : IsAllowedRun force run
   pub closed : Closed run
   pub edits : Bytes
   pub source_then : IsSourceThen closed edits
@@ -57,10 +64,11 @@ pub record IsUnverifiedLine (path source : Bytes) (texts : List Bytes) (workers 
   pub dressed : IsHalfDressed (done_quotations rows quotes) (done_descriptions rows descriptions) source_then.followed edits out
   pub cause : IsFaultyThenLine path out line
 
--- why nothing is printed; the path of the source is the first of all
+-- why nothing is printed: the source has no fault; the scripts are begun; they are run; the source with their edits is written; and it
+-- verifies. The first of these that isn't so is told. The path of the source is the first of all
 abbrev pub IsUneditedLine : Bytes → List Bytes → Bytes → List Bytes → ℕ → Room → Bool → Bytes → Type 0
 IsUneditedLine path paths source texts workers room force line =
     IsFaultyLine path source line
     ⊎ (((s : Scope) × DeclaresText source s × IsUnbegunLine path paths source s texts force line)
-    ⊎ (IsUnworkedLine paths source texts workers room line
-    ⊎ (IsUngivenLine path source texts workers room line ⊎ IsUnverifiedLine path source texts workers room line)))
+    ⊎ (IsUnworkedLine paths source texts workers room force line
+    ⊎ (IsUngivenLine path source texts workers room force line ⊎ IsUnverifiedLine path source texts workers room force line)))

@@ -15,3 +15,6 @@ pub mod Barring
 pub mod Gathered
 pub mod Fronting
 pub mod Cutting
+pub mod Renaming
+pub mod Raising
+pub mod Naming

@@ -1,7 +1,8 @@
 -- Commands of scripts that do what comments of the source discourage. The program metamath asks for `/OVERRIDE` then (its `help
 -- discouraged`): where the comment in front of a theorem says `(Proof modification is discouraged.)`, before it gets another proof; and
--- where that of an assertion says `(New usage is discouraged.)`, before a proof cites it that didn't.
-use Rattle.std.specs.Prelude.{◌≡◌, ℕ, Bool, ◌&&◌, ◌||◌, List, ◌∷◌, drop, find, Option, Some, None, is_some, slice_get, if◌then◌else◌, codes}
+-- where that of an assertion says `(New usage is discouraged.)`, before a proof cites it that didn't. The assertion is meant, and not the
+-- word: by whatever label it may be called while scripts run.
+use Rattle.std.specs.Prelude.{◌≡◌, ℕ, Bool, false, ◌&&◌, ◌||◌, List, ◌∷◌, drop, filter_map, find, Option, Some, None, is_some, slice_get, if◌then◌else◌, codes}
 use Rattle.std.specs.Option.{option_map, option_and_then}
 use mathlib.Core.Bool.{not}
 use Rattle.mmtext.specs.Text.{Token}
@@ -12,12 +13,42 @@ use Rattle.expanding.specs.Words.{says}
 use Rattle.expanding.specs.Forms.{Part, begins_with}
 use Rattle.expanding.specs.Cuts.{brought}
 use Rattle.expanding.specs.Spreading.{assertion_at, cites}
+use Rattle.expanding.specs.Descriptions.{unit_of, label_in}
 use Rattle.expanding.specs.Commands.{Command, AreCommands}
+use Rattle.expanding.specs.Called.{renames, Bearers, nobody, only, AreBearers, is_borne}
+
+-- ---- labels
 
 -- the labels of which comments say so
 pub record Remarked : Type 0 where
   pub modification : List Word
   pub usage : List Word
+
+-- a label that an assertion has in the source
+abbrev pub is_declared : Scope → Word → Bool
+is_declared s w = is_some (assertion_at s w)
+
+-- the labels of what commands add
+abbrev pub added_by : Part → Option Word
+added_by p = if begins_with (codes "add") p then option_map (λ t. t.text) (label_in (unit_of p)) else None
+
+abbrev pub added : List Command → List Word
+added cs = filter_map (λ c. added_by c.words) cs
+
+-- who may have a label while the scripts run: of the assertions whose comments say so, of all of the source, and of what is added
+pub record Names : Type 0 where
+  pub modification : Word → Bearers
+  pub usage : Word → Bearers
+  pub source : Word → Bearers
+  pub added : Word → Bearers
+
+pub record AreNames (s : Scope) (r : Remarked) (cs : List Command) (n : Names) : Type 0 where
+  pub modification : (w : Word) → AreBearers (renames cs) (is_in r.modification) w (n.modification w)
+  pub usage : (w : Word) → AreBearers (renames cs) (is_in r.usage) w (n.usage w)
+  pub source : (w : Word) → AreBearers (renames cs) (is_declared s) w (n.source w)
+  pub added : (w : Word) → AreBearers (renames cs) (is_in (added cs)) w (n.added w)
+
+-- ---- commands
 
 -- the word of a command that does what is discouraged: the label of the theorem that gets another proof, or what is cited anew
 pub data Discouraged : Type 0 where
@@ -33,44 +64,54 @@ reproved_by _ = None
 abbrev pub citing_words : Part → List Token
 citing_words p = if begins_with (codes "replace") p then drop 3 p else brought p
 
--- the place of an assertion with a label, if there is a label, and the proof that stands at a place, if one does
-abbrev pub place_if : Scope → Option Token → Option ℕ
-place_if s label = option_and_then (λ t. assertion_at s t.text) label
+-- the theorem that gets another proof, where that is certain: the only one of the source that may have the label, which nothing may have
+-- that scripts add
+abbrev pub unless_added : Bearers → Bearers → Bearers
+unless_added nobody b = b
+unless_added _ b = nobody
 
+abbrev pub theorem_of : Names → Option Token → Bearers
+theorem_of n None = nobody
+theorem_of n (Some label) = unless_added (n.added label.text) (n.source label.text)
+
+-- that theorem cites in the source the only assertion that a word may mean, under the label that this has there
 abbrev pub proof_if : Scope → Option ℕ → Option Proof
 proof_if s place = option_and_then (λ n. option_and_then (λ a. a.proof) (slice_get s.assertions n)) place
 
--- the proof that the theorem has in the source to which a command gives another one
-abbrev pub old_proof : Scope → Part → Option Proof
-old_proof s p = proof_if s (place_if s (reproved_by p))
+abbrev pub cites_already : Scope → Bearers → Bearers → Bool
+cites_already s (only by) (only a) = cites a (proof_if s (assertion_at s by))
+cites_already s _ _ = false
 
-abbrev pub modified : Remarked → Option Token → Option Discouraged
-modified r None = None
-modified r (Some label) = if is_in r.modification label.text then Some (modifies label) else None
+-- a theorem may be meant whose comment says so
+abbrev pub modified : Names → Option Token → Option Discouraged
+modified n None = None
+modified n (Some label) = if is_borne (n.modification label.text) then Some (modifies label) else None
 
--- a word is cited anew
-abbrev pub is_new_usage : Remarked → Option Proof → Token → Bool
-is_new_usage r old t = is_in r.usage t.text && not (cites t.text old)
+-- a word may mean an assertion whose comment says so, and it isn't certain that it is cited already
+abbrev pub is_new_usage : Scope → Names → Bearers → Token → Bool
+is_new_usage s n by t = is_borne (n.usage t.text) && not (cites_already s by (n.usage t.text))
 
 abbrev pub or_used : Option Discouraged → Option Discouraged → Option Discouraged
 or_used None later = later
 or_used (Some d) later = Some d
 
 -- the first thing that a command does so
-abbrev pub discouraged_in : Scope → Remarked → Part → Option Discouraged
-discouraged_in s r p =
-    or_used (modified r (reproved_by p)) (option_map uses (find (is_new_usage r (old_proof s p)) (citing_words p)))
+abbrev pub discouraged_in : Scope → Names → Part → Option Discouraged
+discouraged_in s n p =
+    or_used (modified n (reproved_by p)) (option_map uses (find (is_new_usage s n (theorem_of n (reproved_by p))) (citing_words p)))
 
 -- that of the first command that does, with the number of its script, from 0
-abbrev pub told_of : Scope → Remarked → Option Command → Option (ℕ × Discouraged)
-told_of s r None = None
-told_of s r (Some c) = option_map (λ d. (c.script, d)) (discouraged_in s r c.words)
+abbrev pub told_of : Scope → Names → Option Command → Option (ℕ × Discouraged)
+told_of s n None = None
+told_of s n (Some c) = option_map (λ d. (c.script, d)) (discouraged_in s n c.words)
 
-abbrev pub first_discouraged : Scope → Remarked → List Command → Option (ℕ × Discouraged)
-first_discouraged s r cs = told_of s r (find (λ c. is_some (discouraged_in s r c.words)) cs)
+abbrev pub first_discouraged : Scope → Names → List Command → Option (ℕ × Discouraged)
+first_discouraged s n cs = told_of s n (find (λ c. is_some (discouraged_in s n c.words)) cs)
 
 -- scripts do so first, if they do
 pub record AreDiscouraged (s : Scope) (r : Remarked) (scripts : List (List Token)) (found : Option (ℕ × Discouraged)) : Type 0 where
   pub commands : List Command
   pub are_commands : AreCommands 0 scripts commands
-  pub first : first_discouraged s r commands ≡ found
+  pub names : Names
+  pub are_names : AreNames s r commands names
+  pub first : first_discouraged s names commands ≡ found

@@ -8,6 +8,8 @@ pub mod Refusals
 pub mod Views
 pub mod Commands
 pub mod Cuts
+pub mod Called
+pub mod Bearing
 pub mod Discouraged
 pub mod Barred
 pub mod Bars

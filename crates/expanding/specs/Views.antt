@@ -13,14 +13,12 @@ use Rattle.expanding.specs.declared.ranking.Ranker.{Ranker}
 use Rattle.mmtext.specs.Views.{seen}
 use Rattle.expanding.specs.Spreading.{Star, Misfit, unknown, numbered, not_alone, cites}
 use Rattle.expanding.specs.Cuts.{Cut}
-use Rattle.expanding.specs.Discouraged.{Remarked, Discouraged, modifies, uses}
-use Rattle.expanding.specs.Bars.{holds}
+use Rattle.expanding.specs.Discouraged.{Discouraged, modifies, uses}
 use Rattle.expanding.specs.declared.cuts.Cut.{Cut as CodeCut}
 use Rattle.expanding.specs.declared.discouraged.Discouraged.{Discouraged as CodeDiscouraged}
 use Rattle.expanding.specs.declared.discouraged.Discouraged.TheVariants as code
-use Rattle.expanding.specs.declared.discouraged.Remarks.{Remarks}
 use Rattle.mmtext.specs.Words.{Word}
-use Rattle.source.specs.Scopes.{Assertion, Scope, is_in}
+use Rattle.source.specs.Scopes.{Assertion, Scope}
 use Rattle.expanding.specs.declared.star.Star.{Star as CodeStar}
 use Rattle.expanding.specs.declared.misfit.Misfit.{Misfit as CodeMisfit}
 use Rattle.expanding.specs.declared.misfit.Misfit.TheVariants as misfit
@@ -119,8 +117,3 @@ seen_discouraged (code.Uses t) = uses (seen t)
 
 abbrev pub seen_found : ℕ × CodeDiscouraged → ℕ × Discouraged
 seen_found found = (found.0, seen_discouraged found.1)
-
--- labels that are looked up are those of which comments say so
-pub record HoldsRemarks (r : Remarked) (k : Remarks) : Type 0 where
-  pub modification : (w : Word) → holds k.modification w ≡ is_in r.modification w
-  pub usage : (w : Word) → holds k.usage w ≡ is_in r.usage w

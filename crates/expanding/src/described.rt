@@ -34,7 +34,7 @@ fn is_assertion_mark(word: Token<'_>) -> bool
 }
 
 /// The label of an assertion: the word in front of its `$a` or `$p`.
-fn label_in<'a>(unit: &[Token<'a>]) -> Option<Token<'a>>
+pub(crate) fn label_in<'a>(unit: &[Token<'a>]) -> Option<Token<'a>>
     ensures { option_map seen result ≡ label_in (map seen unit.now) }
 {
     let (first, rest) = unit.split_first()?;

@@ -2,20 +2,19 @@
 
 ghost use Rattle.std.specs.Prelude.{◌≡◌, IfOk, find, is_some, map};
 ghost use Rattle.std.specs.Option.{option_map};
-ghost use mathlib.Core.Bool.{not};
 ghost use Rattle.mmtext.specs.Views.{seen};
 ghost use Rattle.source.specs.Views.{seen_words};
-ghost use Rattle.expanding.specs.Spreading.{cites};
+ghost use Rattle.expanding.specs.Bearing.{seen_bearers, names_of};
 ghost use Rattle.expanding.specs.Bars.{seen_command};
-ghost use Rattle.expanding.specs.Discouraged.{Remarked, AreDiscouraged, reproved_by, citing_words, place_if, proof_if, modified, is_new_usage, discouraged_in, first_discouraged};
-ghost use Rattle.expanding.specs.Views.{seen_scripts, seen_discouraged, seen_found, HoldsRemarks};
+ghost use Rattle.expanding.specs.Discouraged.{AreDiscouraged, cites_already, reproved_by, citing_words, modified, is_new_usage, discouraged_in, first_discouraged};
+ghost use Rattle.expanding.specs.Views.{seen_scripts, seen_discouraged, seen_found};
 
+use crate::bearers::{Bearers, bearers_for};
 use crate::commands::{Command, commands_of};
 use crate::cuts::brought;
 use crate::forms::{begins_with, behind};
-use crate::labels::{holds, label_set};
+use crate::names::Names;
 use crate::spreading::cites;
-use giving::LabelMap;
 use mmtext::Token;
 use source::Declared;
 use std::alloc::{AllocError, Global};
@@ -28,13 +27,6 @@ pub enum Discouraged<'a> {
     Modifies(Token<'a>),
     /// The assertion with this label is cited by a proof that didn't cite it.
     Uses(Token<'a>),
-}
-
-/// The labels of assertions of which comments of the source discourage something, to be looked up.
-#[derive(Drop)]
-struct Remarks<'a> {
-    modification: LabelMap<'a>,
-    usage: LabelMap<'a>,
 }
 
 /// The label of the theorem that a command gives another proof.
@@ -58,58 +50,63 @@ fn citing_words<'w, 'a>(part: &'w [Token<'a>]) -> &'w [Token<'a>]
     brought(part)
 }
 
-/// The place in the source of an assertion with a label, if there is a label.
-fn place_if<'d, D: Declared<'d>>(declared: &D, label: Option<Token<'_>>) -> Option<usize>
-    ensures { result ≡ place_if (D.scope declared.now) (option_map seen label.entry) }
+/// Whether just one theorem is meant, and it cites in the source the only assertion that a word may mean.
+fn cites_already<'d, D: Declared<'d>>(declared: &D, by: Bearers<'_>, word: Bearers<'_>) -> bool
+    ensures { result ≡ cites_already (D.scope declared.now) (seen_bearers by.entry) (seen_bearers word.entry) }
 {
-    declared.place_of(label?.text)
-}
-
-/// Whether the theorem at a place, if there is one, doesn't cite an assertion in the source.
-fn cites_not<'d, D: Declared<'d>>(declared: &D, place: Option<usize>, label: &[u8]) -> bool
-    ensures { result ≡ not (cites label.now (proof_if (D.scope declared.now) place)) }
-{
-    match place {
-        None => true,
-        Some(place) => !cites(declared, place, label),
+    let (Bearers::Only(by), Bearers::Only(label)) = (by, word) else {
+        return false;
+    };
+    match declared.place_of(by) {
+        None => false,
+        Some(place) => cites(declared, place, label),
     }
 }
 
-impl<'a> Remarks<'a> {
-    /// The theorem that gets another proof, if its comment discourages that.
-    fn modified(&self, label: Option<Token<'a>>) -> Option<Discouraged<'a>>
-        ensures { (r : Remarked) → HoldsRemarks r self.now → option_map seen_discouraged result ≡ modified r (option_map seen label.entry) }
+impl<'a> Names<'a> {
+    /// The theorem that gets another proof, if its comment may discourage that.
+    fn modified<'d, D: Declared<'d>>(
+        &self,
+        declared: &D,
+        label: Option<Token<'a>>,
+    ) -> Option<Discouraged<'a>>
+        ensures { option_map seen_discouraged result
+            ≡ modified (names_of (D.scope declared.now) self.now) (option_map seen label.entry) }
     {
         let label = label?;
-        holds(&self.modification, label.text).then_some(Discouraged::Modifies(label))
+        bearers_for(&self.modification, label.text)
+            .is_borne()
+            .then_some(Discouraged::Modifies(label))
     }
 
-    /// Whether a word is that of an assertion whose comment discourages that it is cited anew, and that the theorem at a place doesn't cite
-    /// in the source.
+    /// Whether a word may be that of an assertion whose comment discourages that it is cited anew, and it isn't certain that the theorem
+    /// which gets another proof cites it in the source.
     fn is_new_usage<'d, D: Declared<'d>>(
         &self,
         declared: &D,
-        place: Option<usize>,
+        by: Bearers<'a>,
         word: Token<'a>,
     ) -> bool
-        ensures { (r : Remarked) → HoldsRemarks r self.now
-            → result ≡ is_new_usage r (proof_if (D.scope declared.now) place) (seen word.entry) }
+        ensures { result ≡ is_new_usage (D.scope declared.now) (names_of (D.scope declared.now) self.now) (seen_bearers by.entry)
+            (seen word.entry) }
     {
-        holds(&self.usage, word.text) && cites_not(declared, place, word.text)
+        let meant = bearers_for(&self.usage, word.text);
+        meant.is_borne() && !cites_already(declared, by, meant)
     }
 
-    /// The first of these words that the theorem at a place would cite anew.
+    /// The first of these words that the theorem would cite anew.
     fn new_usage<'d, D: Declared<'d>>(
         &self,
         declared: &D,
-        place: Option<usize>,
+        by: Bearers<'a>,
         words: &[Token<'a>],
     ) -> Option<Token<'a>>
-        ensures { (r : Remarked) → HoldsRemarks r self.now
-            → option_map seen result ≡ find (is_new_usage r (proof_if (D.scope declared.now) place)) (map seen words.now) }
+        ensures { option_map seen result
+            ≡ find (is_new_usage (D.scope declared.now) (names_of (D.scope declared.now) self.now) (seen_bearers by.entry))
+            (map seen words.now) }
     {
         for word in words {
-            if self.is_new_usage(declared, place, *word) {
+            if self.is_new_usage(declared, by, *word) {
                 return Some(*word);
             }
         }
@@ -122,15 +119,15 @@ impl<'a> Remarks<'a> {
         declared: &D,
         part: &[Token<'a>],
     ) -> Option<Discouraged<'a>>
-        ensures { (r : Remarked) → HoldsRemarks r self.now
-            → option_map seen_discouraged result ≡ discouraged_in (D.scope declared.now) r (map seen part.now) }
+        ensures { option_map seen_discouraged result
+            ≡ discouraged_in (D.scope declared.now) (names_of (D.scope declared.now) self.now) (map seen part.now) }
     {
         let label = reproved_by(part);
-        if let Some(modified) = self.modified(label) {
+        if let Some(modified) = self.modified(declared, label) {
             return Some(modified);
         }
-        let place = place_if(declared, label);
-        let word = self.new_usage(declared, place, citing_words(part))?;
+        let by = self.theorem_of(declared, label);
+        let word = self.new_usage(declared, by, citing_words(part))?;
         Some(Discouraged::Uses(word))
     }
 
@@ -140,8 +137,8 @@ impl<'a> Remarks<'a> {
         declared: &D,
         commands: &[Command<'_, 'a>],
     ) -> Option<(usize, Discouraged<'a>)>
-        ensures { (r : Remarked) → HoldsRemarks r self.now
-            → option_map seen_found result ≡ first_discouraged (D.scope declared.now) r (map seen_command commands.now) }
+        ensures { option_map seen_found result
+            ≡ first_discouraged (D.scope declared.now) (names_of (D.scope declared.now) self.now) (map seen_command commands.now) }
     {
         for command in commands {
             if let Some(found) = self.discouraged_in(declared, command.words) {
@@ -154,8 +151,9 @@ impl<'a> Remarks<'a> {
 
 /// What scripts do first although comments of the source discourage it, with the number of the script, from 0: give a theorem another proof
 /// whose label is among `modification`, or cite an assertion whose label is among `usage` in a proof that doesn't cite it in the source.
+/// Each assertion counts by every label that commands `rename` of the scripts may give it.
 ///
-/// The scripts are the words behind `spread`. It costs a look-up for each word that may be cited.
+/// The scripts are the words behind `spread`. It costs some look-ups for each rename, and one or two for each word that may be cited.
 ///
 /// # Errors
 ///
@@ -173,9 +171,13 @@ pub fn discouraged_of<'a, 'd, D: Declared<'d>>(
         (option_map seen_found found)) }
 {
     let commands = commands_of(alloc, scripts)?;
-    let remarks = Remarks {
-        modification: label_set(alloc, keys, modification)?,
-        usage: label_set(alloc, keys, usage)?,
-    };
-    Ok(remarks.first_discouraged(declared, commands.as_slice()))
+    let names = Names::new(
+        alloc,
+        keys,
+        declared,
+        modification,
+        usage,
+        commands.as_slice(),
+    )?;
+    Ok(names.first_discouraged(declared, commands.as_slice()))
 }

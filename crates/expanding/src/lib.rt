@@ -5,6 +5,7 @@
 mod asking;
 mod barred;
 mod bars;
+mod bearers;
 mod commands;
 mod cuts;
 mod described;
@@ -15,7 +16,9 @@ mod labels;
 mod laid;
 mod lines;
 mod misfit;
+mod names;
 mod ranking;
+mod renamed;
 mod spreading;
 mod star;
 mod words;

@@ -52,7 +52,7 @@ returns-in_err-are_free-clause-refused g c =
     rw (p.1, p.2) (told_more
     (IsBarredBy paths s texts (seen_scripts scripts)) (IsUnbegunLine path paths source s texts c.args.order.force)
     (λ line h. inr (inr (inl (record { spread = seen_scripts scripts; of_source = spread; cause = h }))))
-    c.in_err-are_free.field-0.0 c.in_err-are_free.ensures)
+    c.in_err-are_free.field-0.0 c.in_err-are_free.ensures.refused)
 
 pub returns-in_err-are_encouraged-clause-refused : goal.returns-in_err-are_encouraged-clause-refused
 returns-in_err-are_encouraged-clause-refused g c =
@@ -69,7 +69,12 @@ returns-in_err-are_encouraged-clause-refused g c =
     let p = err_from_is_err_and c.from_residual-in_err-are_encouraged.result c.from_residual-in_err-are_encouraged.ensures.1 in
     rw (p.1, p.2) (told_more
     (IsDiscouragedBy paths source s texts force (seen_scripts scripts)) (IsUnbegunLine path paths source s texts force)
-    (λ line h. inr (inr (inr (inl (record { spread = seen_scripts scripts; of_source = spread; cause = h })))))
+    (λ line h. inr (inr (inr (inl (record {
+      spread = seen_scripts scripts;
+      of_source = spread;
+      free = c.in_ok-are_free.ensures.free;
+      cause = h;
+    })))))
     c.in_err-are_encouraged.field-0.0 c.in_err-are_encouraged.ensures.refused)
 
 pub lay_all-requires : goal.lay_all-requires
@@ -113,6 +118,7 @@ returns-in_err-laid-clause-refused g c =
         taken = c.in_ok-taken.taken;
         for_scripts = c.in_ok-taken.ensures.taken;
       };
+      allowed = record { free = c.in_ok-are_free.ensures.free; encouraged = c.in_ok-are_encouraged.ensures.encouraged };
       cause = subst (λ (flags : List Bool). IsUnlaidBy paths s texts flags db (seen_scripts scripts) line) c.as_slice-flags.ensures.value h;
     }))))))) c.in_err-laid.field-0.0 c.in_err-laid.ensures.refused)
 
@@ -149,6 +155,7 @@ returns-in_err-scripts-clause-refused g c =
         gaps = made.2;
         are_ranked = subst (λ (flags : List Bool). AreRanked s flags [] made.0 outs made.2) c.as_slice-flags.ensures.value made.5;
       };
+      allowed = record { free = c.in_ok-are_free.ensures.free; encouraged = c.in_ok-are_encouraged.ensures.encouraged };
       cause = subst (λ (t : Tables). IsUnreadBy paths t texts outs line) c.prelude.ensures h;
     })))))))) c.in_err-scripts.field-0.0 (c.in_err-scripts.ensures.refused outs laid))
 
@@ -230,7 +237,7 @@ returns-clause-begun g c =
       of_source =
           subst (λ (ts : List (Vec CodeToken Global)). IsSpreadOf s texts (seen_scripts ts)) (sym c.as_slice-spread.ensures.value)
           c.in_ok-spread.ensures.spread;
-      encouraged = c.in_ok-are_encouraged.ensures.encouraged;
+      allowed = record { free = c.in_ok-are_free.ensures.free; encouraged = c.in_ok-are_encouraged.ensures.encouraged };
       for_scripts = c.in_ok-taken.ensures.taken;
       pasted = made.0;
       are_pasted = subst (λ (flags : List Bool). ArePasted s flags db (seen_scripts scripts) made.0) c.as_slice-flags.ensures.value made.3;

@@ -83,6 +83,7 @@ returns-in_err-outcomes-clause-refused g c =
     (IsUneditedLine path paths source texts workers room force)
     (λ line h. inr (inr (inl (record {
       begun = b;
+      allowed = is.allowed;
       cause =
           subst (λ (k : List Orders). IsWorkLine paths (opened_of b) workers (room_of room (opened_of b) k) line) run
           (subst (λ (x : Contents). IsWorkLine paths x workers (room_of room x ss) line) over h);
@@ -122,7 +123,7 @@ returns-then-not-may_print-clause-told g c =
           account first account.spoken [] (ap (map string_bytes) first.none_spoken),
       λ none. undone.0 (c.as_slice.ensures.value ∙ none),
       undone.1,
-      is.encouraged,
+      is.allowed,
     )
 
 pub returns-in_err-out-clause-refused : goal.returns-in_err-out-clause-refused
@@ -175,10 +176,17 @@ returns-in_err-out-clause-refused g c =
     (IsStoppedOrFaulty path source s choice t e.history k qs ds)
     (IsUneditedLine path paths source texts workers room c.args.order.force)
     (λ line h. elim h [
-      | inl stopped ↦ inr (inr (inr (inl (record { rows = rows; run = run; closed = closed; cause = stopped }))))
+      | inl stopped ↦ inr (inr (inr (inl (record {
+        rows = rows;
+        run = run;
+        allowed = is.allowed;
+        closed = closed;
+        cause = stopped;
+      }))))
       | inr f ↦ inr (inr (inr (inr (record {
         rows = rows;
         run = run;
+        allowed = is.allowed;
         closed = closed;
         edits = f.0;
         source_then = f.2;
@@ -268,5 +276,5 @@ returns-clause-told g c =
       accounted source texts s c.args.order.force begun d is db ss over whole paths workers room e worked asked account first
           f.spoken _ finished.spoken,
       λ all. sym c.as_slice.ensures.value ∙ c.if-not-may_print.ensures.whole refl all,
-      is.encouraged,
+      is.allowed,
     )
