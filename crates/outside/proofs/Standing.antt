@@ -119,7 +119,8 @@ adds_one old new e on same held out err = record {
     held = held_behind new.holds new.refuses front e
         (subst (λ (r : Bytes → Type 0). AreHeld new.holds r front) (sym same)
         (subst (λ (h : Bytes → Option Bytes). AreHeld h old.refuses front) (sym on.holds) before.held)) held;
-    printed = on_behind (PutsOut old.out_failed) (PutsOut new.out_failed) (out_lasts on.out_failed) old.out new.out front e before.printed out;
+    printed = on_behind (PutsOut old.out_failed) (PutsOut new.out_failed) (out_lasts on.out_failed) old.out new.out front e before.printed
+        out;
     said = on_behind (PutsErr old.err_failed) (PutsErr new.err_failed) (err_lasts on.err_failed) old.err new.err front e before.said err;
   };
 }

@@ -136,7 +136,8 @@ taken_back real beside left tried ds other in_vain back =
     (each_both (Spares real) back.begun end (back.is_begun.spared other) (other, tt)) in
     let left_here : all_left (beside ∷ []) ds ≡ listed left =
     ap (all_left (beside ∷ [])) back.each ∙ (left_both (beside ∷ []) back.begun end
-    ∙ (ap (λ (ps : List Bytes). all_left ps end) (back.is_begun.there (beside ∷ [])) ∙ (left_back beside back.gone ∙ ap listed (sym back.told)))) in
+    ∙ (ap (λ (ps : List Bytes). all_left ps end) (back.is_begun.there (beside ∷ []))
+    ∙ (left_back beside back.gone ∙ ap listed (sym back.told)))) in
     record {
       spared = each_both (Spares real) (tried ++ makes beside made' ∷ []) ds
           (each_both (Spares real) tried (makes beside made' ∷ []) (all_spare real tried vain) ((λ e. other), tt)) spared;
@@ -155,9 +156,11 @@ pub finished : {after : List Deed → Type 0} {now : Bytes → Option Bytes} (t 
     (r : Result Unit Unwritten) → IsMade t real beside → (ds : List Deed) → Does t.after after t.now now ds
     → IsFinished old real beside text ds r → (all : List Deed) × Does t.before after t.known now all × IsPutOver old real text all r
 finished t old real beside text (Ok done) made ds did end =
-    ((made.tried ++ makes beside made' ∷ []) ++ ds, does_more made.did did, moved_over old real beside text made.tried ds made.another made.in_vain end)
+    let all = (made.tried ++ makes beside made' ∷ []) ++ ds in
+    (all, does_more made.did did, moved_over old real beside text made.tried ds made.another made.in_vain end)
 finished t old real beside text (Err why) made ds did end =
-    ((made.tried ++ makes beside made' ∷ []) ++ ds, does_more made.did did, taken_back real beside _ made.tried ds made.another made.in_vain end)
+    let all = (made.tried ++ makes beside made' ∷ []) ++ ds in
+    (all, does_more made.did did, taken_back real beside _ made.tried ds made.another made.in_vain end)
 
 -- one path more was tried in vain
 pub vain_more : (tried : List Deed) (d : Deed) → Each IsVain tried → IsVain d → Each IsVain (tried ++ d ∷ [])

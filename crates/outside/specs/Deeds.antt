@@ -17,8 +17,8 @@ pub data Making : Type 0 where
   unmade : Unmaking → Making
 
 -- a file is made at a path where nothing is, or isn't; the file at a path is opened to be written from its beginning, with nothing in it,
--- or isn't; the file that was made at a path gets the permissions of the file at another; a text is written to it, whole or a front; what it
--- has is on the disk itself; it is moved over what is at another path; the file at a path is removed; or each of these can't be done
+-- or isn't; the file that was made at a path gets the permissions of the file at another; a text is written to it, whole or a front; what
+-- it has is on the disk itself; it is moved over what is at another path; the file at a path is removed; or each of these can't be done
 pub data Deed : Type 0 where
   makes : Bytes → Making → Deed
   cuts : Bytes → Bool → Deed

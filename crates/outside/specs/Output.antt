@@ -92,8 +92,8 @@ AreHeld holds refuses (e ∷ es) = IsHeld holds refuses e × AreHeld holds refus
 
 -- ---- all of it
 
--- what the files and the streams tell: what is known of files, which of them the system refuses, what stands on either stream, and whether a
--- write on it failed
+-- what the files and the streams tell: what is known of files, which of them the system refuses, what stands on either stream, and whether
+-- a write on it failed
 pub record Outside : Type 1 where
   pub holds : Bytes → Option Bytes
   pub refuses : Bytes → Type 0

@@ -31,7 +31,8 @@ pub record IsMade (t : Turn) (real beside : Bytes) : Type 0 where
 
 -- none was
 abbrev pub IsUnmade : Turn → Unmade → Type 0
-IsUnmade t unmade.Denied = (tried : List Deed) × (beside : Bytes) × Each IsTaken tried × Turns t (tried ++ makes beside (unmade denied) ∷ [])
+IsUnmade t unmade.Denied =
+    (tried : List Deed) × (beside : Bytes) × Each IsTaken tried × Turns t (tried ++ makes beside (unmade denied) ∷ [])
 IsUnmade t (unmade.Other why) = (tried : List Deed) × Each IsVain tried × Turns t tried
 
 -- these are deeds on a new file, which is there still

@@ -32,8 +32,8 @@ pub trait World {
     ///
     /// # Errors
     ///
-    /// The file can't be written whole, or there is no memory for that. It has what it had, unless no new file can be made beside it: what it
-    /// has then is not said.
+    /// The file can't be written whole, or there is no memory for that. It has what it had, unless no new file can be made beside it: what
+    /// it has then is not said.
     fn write(&mut self, alloc: Global, path: &str, text: &[u8]) -> Result<(), Unwritten>
         ensures { Adds (done self.old) (done self.new) (writes path.now text.now (is_ok result) ∷ leaving (path_left result)) };
 

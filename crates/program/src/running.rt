@@ -44,8 +44,8 @@ fn words_of<R: Env + AllocGlobal>(rt: &R) -> Result<Vec<String>, Trouble> {
 /// may wait.
 ///
 /// On streams that tell what they hold, and hold nothing before, stands then just what was printed and said: each text and each line whole,
-/// or a front of it where a write failed; unless the parser's text was shown, of which nothing is known. Each text that was read is all that
-/// its file holds, up to one byte more than any text may have, where that is known; and a file that wasn't read the system refused.
+/// or a front of it where a write failed; unless the parser's text was shown, of which nothing is known. Each text that was read is all
+/// that its file holds, up to one byte more than any text may have, where that is known; and a file that wasn't read the system refused.
 pub fn run_on<
     R: Threads + Wait + Sync,
     D: Disk + Drop,

@@ -11,7 +11,13 @@ returns-in-Ok g c =
     let removed = rw c.as_str-2.ensures.value at c.in-Ok.ensures in (
       begun ++ removes (string_bytes c.args.beside) true ∷ [],
       does_more did removed,
-      record { begun = begun; is_begun = is_begun; gone = true; each = refl; told = ap (option_map string_bytes) c.not_written.ensures.none },
+      record {
+        begun = begun;
+        is_begun = is_begun;
+        gone = true;
+        each = refl;
+        told = ap (option_map string_bytes) c.not_written.ensures.none;
+      },
     )
 
 pub returns : goal.returns

@@ -14,7 +14,8 @@ returns-in-Some g c =
     let line = clash_line c.in-Some.found.text.now c.in-Some.found.path.now in (
       asked ++ says line ∷ [],
       adds_more did c.say_of.ensures,
-      over (is_some c.args.keys) paths order.workers order.room order.outputs c.args.outputs order.allowed asked line c.requires.placed found,
+      over (is_some c.args.keys) paths order.workers order.room order.outputs c.args.outputs order.allowed asked line c.requires.placed
+          found,
     )
 
 pub returns-in-None : goal.returns-in-None
