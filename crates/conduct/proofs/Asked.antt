@@ -13,7 +13,8 @@ clashes one line ps = clashes_with one line (map (λ p. p.now) ps)
 both : (one : Bytes) (line : Bytes → Bytes) (ps qs : List (Bor (List ℕ)))
     → clashes one line (ps ++ qs) ≡ clashes one line ps ++ clashes one line qs
 both one line ps qs =
-    ap (map (clash_of one line)) (map-append (λ p. p.now) ps qs) ∙ map-append (clash_of one line) (map (λ p. p.now) ps) (map (λ p. p.now) qs)
+    ap (map (clash_of one line)) (map-append (λ p. p.now) ps qs)
+    ∙ map-append (clash_of one line) (map (λ p. p.now) ps) (map (λ p. p.now) qs)
 
 -- one path more, which leads to another file
 pub asked_more : (one : Bytes) (line : Bytes → Bytes) (ps : List (Bor (List ℕ))) (k : ℕ) (d : Bor (List ℕ)) (es : List Event)

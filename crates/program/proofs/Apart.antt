@@ -25,7 +25,8 @@ pub parts : (o : Outputs) (ps : List Bytes) (source : Bytes) (scripts : List Byt
     ++ (clashes_if (replies_path o) by_replies ps ++ clashes_if (replies_path o) by_replies (listed (file_of o.place))))
 parts o ps source scripts is = subst
     (λ (qs : List Bytes). clashes o qs ≡ clashes_if (file_of o.place) by_output qs
-    ++ (clashes_if (source_in o.place source) by_source scripts ++ (clashes_if (replies_path o) by_replies qs ++ clashes_if (replies_path o) by_replies (listed (file_of o.place)))))
+    ++ (clashes_if (source_in o.place source) by_source scripts
+    ++ (clashes_if (replies_path o) by_replies qs ++ clashes_if (replies_path o) by_replies (listed (file_of o.place)))))
     (sym is) refl
 
 -- nothing clashes with no file
