@@ -14,15 +14,7 @@ fn same_expression(a: &Expr, b: &Expr) -> bool
 fn same_expressions(a: &[Expr], b: &[Expr]) -> bool
     ensures { IsTrue result ↔ (a.now ≡ b.now) }
 {
-    if a.len() != b.len() {
-        return false;
-    }
-    for (i, expression) in a.iter().enumerate() {
-        if !same_expression(expression, &b[i]) {
-            return false;
-        }
-    }
-    true
+    a.len() == b.len() && a.iter().zip(b).all(|(x, y)| same_expression(x, y))
 }
 
 fn same_pairs(a: &[(u32, u32)], b: &[(u32, u32)]) -> bool
@@ -51,15 +43,7 @@ fn same_line(a: &Line, b: &Line) -> bool
 fn same_lines(a: &[Line], b: &[Line]) -> bool
     ensures { IsTrue result ↔ (a.now ≡ b.now) }
 {
-    if a.len() != b.len() {
-        return false;
-    }
-    for (i, line) in a.iter().enumerate() {
-        if !same_line(line, &b[i]) {
-            return false;
-        }
-    }
-    true
+    a.len() == b.len() && a.iter().zip(b).all(|(x, y)| same_line(x, y))
 }
 
 fn same_reply(a: &Reply, b: &Reply) -> bool
@@ -90,13 +74,5 @@ fn same_reply(a: &Reply, b: &Reply) -> bool
 pub(crate) fn same_replies(a: &[Reply], b: &[Reply]) -> bool
     ensures { IsTrue result ↔ (a.now ≡ b.now) }
 {
-    if a.len() != b.len() {
-        return false;
-    }
-    for (i, reply) in a.iter().enumerate() {
-        if !same_reply(reply, &b[i]) {
-            return false;
-        }
-    }
-    true
+    a.len() == b.len() && a.iter().zip(b).all(|(x, y)| same_reply(x, y))
 }
