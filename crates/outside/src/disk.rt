@@ -141,6 +141,6 @@ pub trait Disk {
     /// Whether two paths lead to one file, as far as the system tells.
     fn is_one_file(&self, one: &str, other: &str) -> bool;
 
-    /// Whether a path leads to a plain file, as far as the system tells.
+    /// Whether a path leads to a plain file, or nowhere, as far as the system tells.
     fn is_plain(&self, path: &str) -> bool;
 }

@@ -109,7 +109,8 @@ impl<F: Files> Disk for SystemFiles<'_, F> {
     fn is_plain(&self, path: &str) -> bool {
         match fs::metadata(self.files, path) {
             Ok(found) => found.is_file(),
-            Err(_) => false,
+            // (where nothing is, that is told when it is read)
+            Err(_) => true,
         }
     }
 }

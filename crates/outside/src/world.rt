@@ -24,7 +24,7 @@ pub trait World {
         ensures told { Adds (done self.old) (done self.new) (compares one.now other.now result ∷ []) }
         ensures same { one.now ≡ other.now → result ≡ true };
 
-    /// Whether a path leads to a plain file, which is no folder, device or pipe, as far as the system tells.
+    /// Whether a path leads to a plain file, which is no folder, device or pipe, or nowhere, as far as the system tells.
     fn is_plain(&mut self, path: &str) -> bool
         ensures { Adds (done self.old) (done self.new) (asks path.now result ∷ []) };
 
