@@ -3,6 +3,7 @@
 ghost use Rattle.std.specs.Prelude.{◌≤◌, length};
 
 use crate::lines::{do_row, is_silent, words_of};
+use diskrows::answer_files;
 use machinerows::answer_schedules;
 use std::alloc::{AllocError, Global};
 use std::hash::RandomState;
@@ -197,6 +198,7 @@ where
         "sessions" => do_sessions(rt, step.lines),
         "words" => print_answers(rt, answer_table(rt.alloc(), step.lines)),
         "machine" => print_answers(rt, answer_schedules(rt.alloc(), step.lines)),
+        "files" => print_answers(rt, answer_files(rt.alloc(), step.lines)),
         "measures" => do_measures(rt, step.lines),
         subject => do_calls(rt, subject, step.lines),
     }

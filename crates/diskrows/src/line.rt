@@ -1,0 +1,104 @@
+//! What lines are answered.
+
+use crate::disk::{Failing, Memory, Silent};
+use outside::{Host, Unwritten, World};
+use std::alloc::{AllocError, Global};
+
+/// The file that is there.
+const OLD: &str = "set.mm";
+
+/// The path at which nothing is.
+const NEW: &str = "out.mm";
+
+/// Puts words behind others.
+fn show(out: &mut Vec<u8>, text: &str) -> Result<(), AllocError> {
+    out.extend_from_slice(text.as_bytes())
+}
+
+/// Puts the text where a line says.
+fn put(
+    alloc: Global,
+    host: &mut Host<Memory, Silent>,
+    verb: &str,
+) -> Option<Result<(), Unwritten>> {
+    match verb {
+        "replace" => Some(host.replace(alloc, OLD, b"new")),
+        "write" | "deny" => Some(host.write(alloc, OLD, b"new")),
+        "create" => Some(host.write(alloc, NEW, b"new")),
+        _ => None,
+    }
+}
+
+/// Shows what became of it, and what stands on the disk.
+fn show_answer(
+    out: &mut Vec<u8>,
+    host: &Host<Memory, Silent>,
+    answer: &Result<(), Unwritten>,
+) -> Result<(), AllocError> {
+    show(out, if answer.is_ok() { "done" } else { "refused" })?;
+    for held in host.disk.files() {
+        show(out, "; ")?;
+        show(out, held.path.as_str())?;
+        show(out, " has ")?;
+        out.extend_from_slice(held.text.as_slice())?;
+    }
+    if let Err(
+        Unwritten {
+            left: Some(path),
+            ..
+        },
+    ) = answer
+    {
+        show(out, "; left ")?;
+        show(out, path.as_str())?;
+    }
+    Ok(())
+}
+
+/// What a line asks for: what is done, and which deeds fail. None where it can't be read.
+fn asked(line: &str) -> Option<(&str, Failing)> {
+    let (verb, rest) = line.split_once(' ')?;
+    let (way, number) = rest.split_once(' ')?;
+    let first = number.parse::<usize>().ok()?;
+    let failing = Failing {
+        first,
+        lasts: way == "from",
+        denies: verb == "deny",
+    };
+    Some((verb, failing))
+}
+
+/// Answers a line.
+fn answer_line(alloc: Global, out: &mut Vec<u8>, line: &str) -> Result<(), AllocError> {
+    let Some((verb, failing)) = asked(line) else {
+        return show(out, "cannot do this line");
+    };
+    let mut host = Host {
+        disk: Memory::new(alloc, OLD, b"old", failing)?,
+        streams: Silent {},
+    };
+    match put(alloc, &mut host, verb) {
+        Some(answer) => show_answer(out, &host, &answer),
+        None => show(out, "cannot do this line"),
+    }
+}
+
+/// The answers to the lines of a table, each behind its line.
+///
+/// # Errors
+///
+/// Want of memory.
+pub fn answer_files(alloc: Global, lines: &[Vec<u8>]) -> Result<Vec<u8>, AllocError> {
+    let mut out = Vec::new(alloc);
+    for line in lines {
+        let text = str::from_utf8(line.as_slice()).unwrap_or("");
+        if text.is_empty() || text.starts_with('#') {
+            continue;
+        }
+        show(&mut out, text)?;
+        show(&mut out, ": ")?;
+        answer_line(alloc, &mut out, text)?;
+        show(&mut out, "\n")?;
+    }
+    Ok(out)
+}
