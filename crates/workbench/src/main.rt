@@ -3,9 +3,10 @@
 //! Without words it answers the tables of its standard input. A line `%% NAME` begins a table, which goes up to the next such line:
 //! `sessions`, `words` (runs over words that meet), `machine` (schedules of the pure machine), `files` (a disk that fails), `commands`
 //! (command lines, on the files of `data` and on those that its rows write), `measures` (measurements, for what they print besides their
-//! times). The crates `trials`, `wordrows`, `machinerows` and `diskrows` and the module `lines` say what stands in each. The tables `calls on values`, `calls on cells`, `calls on
-//! sessions` and `calls with memory refused` name functions of `calls`, each of which makes calls that no row makes: what is printed is the
-//! name where all is answered as is wanted. (Those of the last are answered so with memory, too: `tools/refuse-memory` refuses it to them.)
+//! times). The crates `trials`, `wordrows`, `machinerows` and `diskrows` and the module `lines` say what stands in each. The tables
+//! `calls on values`, `calls on cells`, `calls on sessions` and `calls with memory refused` name functions of `calls`, each of which makes
+//! calls that no row makes: what is printed is the name where all is answered as is wanted. (Those of the last are answered so with memory,
+//! too: `tools/refuse-memory` refuses it to them.)
 //! The table `threads` comes last, and has no lines: whether a large database is checked on more threads than one. What is printed was
 //! worked out by hand, and stands in `stdout`.
 //!
