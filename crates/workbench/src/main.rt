@@ -7,8 +7,7 @@
 //! `calls on values`, `calls on cells`, `calls on sessions` and `calls with memory refused` name functions of `calls`, each of which makes
 //! calls that no row makes: what is printed is the name where all is answered as is wanted. (Those of the last are answered so with memory,
 //! too: `tools/refuse-memory` refuses it to them.)
-//! The table `threads` comes last, and has no lines: whether a large database is checked on more threads than one. What is printed was
-//! worked out by hand, and stands in `stdout`.
+//! What is printed was worked out by hand, and stands in `stdout`.
 //!
 //! With words it measures: `workbench cells|check|words|sessions|meets|all WORD..`, for the programs of `benches/`.
 #![tactic(auto)]
@@ -16,15 +15,11 @@
 mod lines;
 mod making;
 mod tables;
-mod threads;
 
 use crate::lines::mode_of;
 use crate::lines::stage::Stage;
 use crate::tables::{begin_step, do_step, measure_given, next_step, print_status, read_lines};
-use crate::threads::{check, print_watched, watch};
 use std::process::ExitCode;
-use std::sync::atomic::AtomicBool;
-use std::thread::join;
 
 fn main(rt: HostRuntime) -> ExitCode {
     if let Some(ending) = measure_given(&rt) {
@@ -34,8 +29,7 @@ fn main(rt: HostRuntime) -> ExitCode {
     let mut is_done = read_lines(&rt, &mut lines).is_ok();
     let mut rest = lines.as_slice();
     let mut name = "";
-    // Each step has a line at least. What starts threads by a runtime of its own, or shows one to a thread, stands here: the language has
-    // that of no other function.
+    // Each step has a line at least. What starts threads by a runtime of its own stands here: the language has that of no other function.
     for _ in 0..lines.len() {
         let Some((step, behind)) = next_step(name, rest) else {
             break;
@@ -48,11 +42,6 @@ fn main(rt: HostRuntime) -> ExitCode {
                 Some(mode) => {
                     let stage = Stage::new(&rt, mode, step.row);
                     print_status(&rt, program::run_over(&rt, &stage, stage.is_terminal()))
-                }
-                None if name == "threads" => {
-                    let done = AtomicBool::new(false);
-                    let (most, sound) = join(&rt, || watch(&rt, &done), || check(&rt, &done));
-                    print_watched(&rt, most, sound)
                 }
                 None => do_step(&rt, step).is_ok(),
             };
