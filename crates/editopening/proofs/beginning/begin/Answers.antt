@@ -15,7 +15,7 @@ use Rattle.editscripts.specs.Refusals.{IsWordlessLine, IsMisfitLine, IsBarredBy,
 use Rattle.pasting.specs.Views.{IsNarrow}
 use Rattle.editopening.proofs.Narrow.{narrow_taken}
 use Rattle.editopening.specs.Opening.{Begun, stand_ins_of}
-use Rattle.editopening.specs.Refusals.{IsUnbegunLine, IsUnopenedBy}
+use Rattle.editopening.specs.Refusals.{IsUnbegunLine, IsUnopenedBy, IsUntakenBy}
 use Rattle.expanding.specs.Views.{seen_scripts}
 use Rattle.editscripts.specs.Views.{seen_texts, AreLaid}
 use Rattle.editscripts.proofs.Expanding.{begun_at}
@@ -76,6 +76,29 @@ returns-in_err-are_encouraged-clause-refused g c =
       cause = h;
     })))))
     c.in_err-are_encouraged.field-0.0 c.in_err-are_encouraged.ensures.refused)
+
+pub returns-in_err-taken-clause-refused : goal.returns-in_err-taken-clause-refused
+returns-in_err-taken-clause-refused g c =
+    let s = g.D.Declared.scope c.args.declared.now in
+    let texts = seen_texts c.args.texts.now in
+    let source = c.args.source.now in
+    let paths = map (λ p. p.now) c.args.order.paths.now in
+    let path = c.args.order.path.now in
+    let force = c.args.order.force in
+    let scripts = c.as_slice-spread.result.now in
+    let spread =
+    subst (λ (ts : List (Vec CodeToken Global)). IsSpreadOf s texts (seen_scripts ts)) (sym c.as_slice-spread.ensures.value)
+    c.in_ok-spread.ensures.spread in
+    let p = err_from_is_err_and c.from_residual-in_err-taken.result c.from_residual-in_err-taken.ensures.1 in
+    rw (p.1, p.2) (told_more
+    (IsUntakenBy path s (seen_scripts scripts)) (IsUnbegunLine path paths source s texts force)
+    (λ line h. inr (inr (inr (inr (inl (record {
+      spread = seen_scripts scripts;
+      of_source = spread;
+      allowed = record { free = c.in_ok-are_free.ensures.free; encouraged = c.in_ok-are_encouraged.ensures.encouraged };
+      cause = h;
+    }))))))
+    c.in_err-taken.field-0.0 c.in_err-taken.ensures.refused)
 
 pub lay_all-requires : goal.lay_all-requires
 lay_all-requires g c =
@@ -218,7 +241,11 @@ returns-in_err-opened-clause-refused g c =
     let p = err_from_is_err_and c.from_residual-in_err-opened.result c.from_residual-in_err-opened.ensures.1 in
     rw (p.1, p.2) (told_more
     (IsUnopenedBy path db (stand_ins_of begun)) (IsUnbegunLine path paths source s texts c.args.order.force)
-    (λ line h. inr (inr (inr (inr (inr (inr (inr (record { begun = begun; cause = h }))))))))
+    (λ line h. inr (inr (inr (inr (inr (inr (inr (record {
+      begun = begun;
+      allowed = record { free = c.in_ok-are_free.ensures.free; encouraged = c.in_ok-are_encouraged.ensures.encouraged };
+      cause = h;
+    }))))))))
     c.in_err-opened.field-0.0 (c.in_err-opened.ensures.refused library.taken.choice library.chosen_are))
 
 pub returns-clause-begun : goal.returns-clause-begun
