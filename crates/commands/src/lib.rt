@@ -23,6 +23,7 @@ mod rights;
 mod running;
 
 pub use cells::{CommandError, Halt, RunError};
+pub use library::{Command, PlainLibrary, Reply};
 pub use rights::{has_staging, stages};
 pub use running::{run, take};
 pub use shows::entries;
