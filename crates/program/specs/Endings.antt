@@ -1,13 +1,15 @@
 -- What an edit tells at its end, and where its texts go.
-use Rattle.std.specs.Prelude.{◌≡◌, ◌⊎◌, ℕ, Bool, true, false, ◌&&◌, List, [], ◌∷◌, ◌++◌, Option, Some, None, codes}
+use Rattle.std.specs.Prelude.{◌≡◌, ◌⊎◌, ℕ, Bool, true, false, List, [], ◌∷◌, ◌++◌, Option, Some, None, codes}
 use Rattle.std.specs.Prelude.{String, map, string_bytes}
 use Rattle.std.specs.Option.{option_map}
 use Rattle.std.specs.declared.alloc.Global.{Global}
-use Rattle.core.specs.Str.Pattern.{FindsText, SplitsAroundMatch}
+use Rattle.std.specs.Str.Pattern.{FindsText, SplitsAroundMatch}
 use Rattle.commandline.specs.declared.edit_order.Destination.{Destination}
 use Rattle.commandline.specs.declared.edit_order.Destination.TheVariants as place
 use Rattle.commandline.specs.declared.edit_order.Outputs.{Outputs}
 use Rattle.conduct.specs.Telling.{IsUnwrittenTold}
+use Rattle.conduct.specs.declared.reading.Unread.{Unread}
+use Rattle.conduct.specs.declared.reading.Unread.TheVariants as unread
 use Rattle.editscripts.specs.declared.replying.Replies.{Replies}
 use Rattle.edittext.specs.declared.account.Account.{Account}
 use Rattle.edittext.specs.declared.answering.Told.{Told as Edited}
@@ -26,10 +28,10 @@ abbrev pub undone_status : List (String Global) → ℕ
 undone_status [] = 0
 undone_status (line ∷ lines) = 3
 
--- the status where all is where it is to be, or isn't
-abbrev pub status_if : Bool → ℕ → ℕ
-status_if true status = status
-status_if false status = 1
+-- the status where the edited source is where it is to be, and what became of the transactions; or one of them isn't
+abbrev pub status_if : Bool → Bool → ℕ → ℕ
+status_if true true status = status
+status_if _ _ status = 1
 
 -- ---- where texts go
 
@@ -43,11 +45,15 @@ abbrev pub IsExchanged : Bytes → Bytes → List Event → Bool → Type 0
 IsExchanged path text es true = es ≡ replaces path text true ∷ []
 IsExchanged path text es false = (rest : List Event) × (es ≡ replaces path text false ∷ rest) × IsUnwrittenTold path rest 1
 
+-- it is printed
+abbrev pub IsPrintedOut : Bytes → List Event → Bool → Type 0
+IsPrintedOut text es true = es ≡ prints text true ∷ []
+IsPrintedOut text es false = es ≡ prints text false ∷ says (codes "cannot write") ∷ []
+
 -- the source with the edits is where it is to go: it is printed, it is in a file, or in place of what the source's file had; or it isn't,
 -- which is said
 abbrev pub IsPutAt : Destination → Bytes → Bytes → List Event → Bool → Type 0
-IsPutAt place.Printed source out es true = es ≡ prints out true ∷ []
-IsPutAt place.Printed source out es false = es ≡ prints out false ∷ says (codes "cannot write") ∷ []
+IsPutAt place.Printed source out es well = IsPrintedOut out es well
 IsPutAt (place.File path) source out es well = IsFiled path.now out es well
 IsPutAt place.Source source out es well = IsExchanged source out es well
 
@@ -99,6 +105,11 @@ line_of (not_done.NotPlain path) = path.now ++ codes ": not a plain file"
 line_of not_done.Unkeyed = codes "no random numbers"
 line_of not_done.NoMemory = codes "no memory"
 
+-- a file that isn't read, or want of memory
+abbrev pub not_read : Unread → NotDone
+not_read (unread.File path) = not_done.Unread path
+not_read unread.NoMemory = not_done.NoMemory
+
 -- a line in two parts, which its first colon and space part; without these all of it is the reason
 abbrev pub IsCut : Bytes → Bytes → Bytes → Type 0
 IsCut line said reason =
@@ -117,7 +128,7 @@ pub record IsPrintedTold (o : Outputs) (source out : Bytes) (account : Account) 
   pub is_put : IsPutAt o.place source out put written
   pub well : Bool
   pub replied : ArePutReplies (replies_path o) account.replies written rest well
-  pub ends : status ≡ status_if (written && well) (undone_status account.undone.items)
+  pub ends : status ≡ status_if written well (undone_status account.undone.items)
 
 -- it is said which weren't done, and just what became of them goes anywhere: the status is 3
 pub record IsUndoneTold (o : Outputs) (account : Account) (es : List Event) (status : ℕ) : Type 0 where
@@ -125,7 +136,7 @@ pub record IsUndoneTold (o : Outputs) (account : Account) (es : List Event) (sta
   pub each : es ≡ all_said account.undone.items ++ rest
   pub well : Bool
   pub replied : ArePutReplies (replies_path o) account.replies false rest well
-  pub ends : status ≡ status_if well 3
+  pub ends : status ≡ status_if true well 3
 
 -- so it is, and a line says why nothing is printed: the status is 1
 pub record IsUnfinishedTold (o : Outputs) (account : Account) (line : Bytes) (es : List Event) (status : ℕ) : Type 0 where

@@ -6,7 +6,7 @@ ghost use Rattle.checking.specs.Tasks.{IsWithin};
 ghost use Rattle.conduct.specs.Comparing.{AreCompared};
 ghost use Rattle.outside.specs.Events.{Event, Adds};
 ghost use Rattle.program.specs.Edits.{clash_line, clashes_if, clashes, file_of, source_in, IsAsked, IsAnsweredFor, IsReadConcluded, IsConcluded, IsEditFollowed, IsEmptied, IsEditDone};
-ghost use Rattle.program.specs.Endings.{replies_path};
+ghost use Rattle.program.specs.Endings.{not_read};
 
 use crate::ending::{NotDone, file, tell_edited, tell_not_done};
 use commandline::{Destination, EditOrder, Outputs};
@@ -152,6 +152,16 @@ fn may_be_replaced<W: World>(world: &mut W, place: Destination<'_>, source: &str
     }
 }
 
+/// Why nothing is done where a file isn't read.
+fn not_read<'a>(unread: Unread<'a>) -> NotDone<'a>
+    ensures { result ≡ not_read unread.entry }
+{
+    match unread {
+        Unread::File(path) => NotDone::Unread(path),
+        Unread::NoMemory => NotDone::NoMemory,
+    }
+}
+
 /// Reads the files of an order, and answers for their texts; or why nothing is done. It may wait.
 fn conclude_read<'a, R: Threads + Wait + Sync, W: World, V: Watch + Follow + Sync>(
     means: &Means<'_, R, V>,
@@ -167,10 +177,8 @@ fn conclude_read<'a, R: Threads + Wait + Sync, W: World, V: Watch + Follow + Syn
         order.now.allowed es result }
 {
     let mut texts = Vec::new(means.alloc);
-    match read_all(world, means.alloc, order.paths.as_slice(), &mut texts) {
-        Ok(()) => {}
-        Err(Unread::File(path)) => return Err(NotDone::Unread(path)),
-        Err(Unread::NoMemory) => return Err(NotDone::NoMemory),
+    if let Err(unread) = read_all(world, means.alloc, order.paths.as_slice(), &mut texts) {
+        return Err(not_read(unread));
     }
     let Some(keys) = keys else {
         return Err(NotDone::Unkeyed);

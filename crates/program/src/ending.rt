@@ -1,9 +1,9 @@
 //! How an edit ends: what is told of it, and where its texts go.
 
-ghost use Rattle.std.specs.Prelude.{◌≡◌, ◌++◌, ◌∷◌, List, map, string_bytes};
+ghost use Rattle.std.specs.Prelude.{◌≡◌, ◌∷◌, [], ℕ, List, map, string_bytes};
 ghost use Rattle.std.specs.Option.{option_map};
 ghost use Rattle.outside.specs.Events.{Event, Adds, says};
-ghost use Rattle.program.specs.Endings.{all_said, undone_status, status_if, IsFiled, IsExchanged, IsPutAt, ArePutReplies, replies_of, replies_path};
+ghost use Rattle.program.specs.Endings.{all_said, undone_status, status_if, IsFiled, IsExchanged, IsPrintedOut, IsPutAt, ArePutReplies, replies_of, replies_path};
 ghost use Rattle.program.specs.Endings.{IsPutNotDone, IsNotDoneTold, said_of, reason_of, line_of, IsCut};
 ghost use Rattle.program.specs.Endings.{IsPrintedTold, IsUndoneTold, IsUnfinishedTold, IsEditTold};
 
@@ -44,11 +44,14 @@ fn undone_status(lines: &[String]) -> u8
     if lines.is_empty() { 0 } else { 3 }
 }
 
-/// The status where all is where it is to be, or isn't.
-fn status_if(well: bool, status: u8) -> u8
-    ensures { result ≡ status_if well status }
+/// The status where the edited source is where it is to be, and what became of the transactions; or one of them isn't.
+fn status_if(written: bool, replied: bool, status: u8) -> u8
+    ensures { result ≡ status_if written replied status }
 {
-    if well { status } else { 1 }
+    match (written, replied) {
+        (true, true) => status,
+        _ => 1,
+    }
 }
 
 /// Writes a text to the file at a path, and answers whether it is there; says why not.
@@ -77,6 +80,17 @@ fn exchange<W: World>(world: &mut W, alloc: Global, path: &str, text: &[u8]) -> 
     }
 }
 
+/// Prints a text, and answers whether it is printed; says why not.
+fn print<W: World>(world: &mut W, text: &[u8]) -> bool
+    ensures { (es : List Event) × Adds (W.done world.old) (W.done world.new) es × IsPrintedOut text.now es result }
+{
+    if world.print(text) {
+        return true;
+    }
+    world.say("cannot write");
+    false
+}
+
 /// Prints the edited source, writes it to a file, or puts it in place of the source, and answers whether it is there; says why not.
 fn put_at<W: World>(
     world: &mut W,
@@ -89,13 +103,7 @@ fn put_at<W: World>(
         × IsPutAt place.entry source.now out.now es result }
 {
     match place {
-        Destination::Printed => {
-            if world.print(out) {
-                return true;
-            }
-            world.say("cannot write");
-            false
-        }
+        Destination::Printed => print(world, out),
         Destination::File(path) => file(world, alloc, path, out),
         Destination::Source => exchange(world, alloc, source, out),
     }
@@ -241,7 +249,7 @@ fn tell_printed<W: World>(
     let written = put_at(world, alloc, outputs.place, source, out);
     let replies = account.replies.as_ref();
     let well = put_replies(world, alloc, outputs.replies, replies, written);
-    status_if(written && well, undone_status(undone))
+    status_if(written, well, undone_status(undone))
 }
 
 /// Tells what became of the transactions, where no source is printed.
@@ -257,7 +265,7 @@ fn tell_undone<W: World>(
     say_all(world, account.undone.as_slice());
     let replies = account.replies.as_ref();
     let well = put_replies(world, alloc, outputs.replies, replies, false);
-    status_if(well, 3)
+    status_if(true, well, 3)
 }
 
 /// Tells what became of the transactions, and why no source is printed behind their run.
