@@ -33,7 +33,8 @@ fn committed_value(
     number: u64,
     replies: Value,
 ) -> Result<Value, AllocError>
-    ensures { IfOk result (λ value. view value ≡ committed_data header.entry.written header.entry.path.now header.entry.line number (view replies)) }
+    ensures { IfOk result (λ value. view value
+        ≡ committed_data header.entry.written header.entry.path.now header.entry.line number (view replies)) }
 {
     let Header {
         path,
@@ -52,7 +53,8 @@ fn read_value(
     place: u64,
     replies: Value,
 ) -> Result<Value, AllocError>
-    ensures { IfOk result (λ value. view value ≡ read_data header.entry.written header.entry.path.now header.entry.line place (view replies)) }
+    ensures { IfOk result (λ value. view value
+        ≡ read_data header.entry.written header.entry.path.now header.entry.line place (view replies)) }
 {
     let Header {
         path,

@@ -38,7 +38,8 @@ loop-n-preserved c =
     let one : replies_of w t c.path_at.result.now c.as_slice.result.now c.transactions_at-script.result.now
     c.as_slice-in-loop-n.result.now ≡ G n row.items =
     ap (λ (p : Bytes). replies_of w t p c.as_slice.result.now c.transactions_at-script.result.now c.as_slice-in-loop-n.result.now) path
-    ∙ ap (λ ls. replies_of w t (slice_index_or paths (suc n) []) ls c.transactions_at-script.result.now c.as_slice-in-loop-n.result.now) lines
+    ∙ ap
+    (λ ls. replies_of w t (slice_index_or paths (suc n) []) ls c.transactions_at-script.result.now c.as_slice-in-loop-n.result.now) lines
     ∙ ap (λ (x : Orders). replies_of w t (slice_index_or paths (suc n) []) (L n) x c.as_slice-in-loop-n.result.now) script
     ∙ ap (λ os. replies_of w t (slice_index_or paths (suc n) []) (L n) (slice_index_or scripts n []) os) outcomes in
     let before = c.loop-n.out.items in
