@@ -19,7 +19,7 @@ pub use discouraging::are_encouraged;
 pub use expanded::{lay_all, read_all, spread_of};
 pub use lacking::{may_print, undone};
 pub use quoted::{done_quotations, quotes_of};
-pub use replying::replies_if;
+pub use replying::{Replies, replies_if};
 pub use run::RunScripts;
 pub use telling::{untaken, unworked};
 pub use unedited::Unedited;

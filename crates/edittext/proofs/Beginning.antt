@@ -19,7 +19,7 @@ use Rattle.editopening.specs.Views.{IsBegun}
 use Rattle.edittext.specs.Edited.{Run, Closed}
 use Rattle.editscripts.specs.Undone.{all_undone}
 use Rattle.edittext.specs.Accounts.{IsAccount}
-use Rattle.editscripts.specs.Replies.{all_replies, told_if}
+use Rattle.editscripts.specs.Replies.{replies_in, told_if}
 use Rattle.edittext.specs.Finished.{IsFirstAccount}
 use Rattle.edittext.specs.declared.account.Account.{Account}
 
@@ -97,7 +97,7 @@ module _ (source : Bytes) (texts : List Bytes) (s : Scope) (force : Bool) (b : C
           spoken = said;
           replies =
               first.replies
-              ∙ ap (λ bs. told_if asked (all_replies b.taken.database.prelude paths texts bs b.opened.scripts.items rows)) begins
-              ∙ ap (λ ss. told_if asked (all_replies b.taken.database.prelude paths texts (map (λ out. out.beginnings) is.ranked) ss rows))
+              ∙ ap (λ bs. told_if asked (replies_in b.taken.database.prelude paths texts bs b.opened.scripts.items rows)) begins
+              ∙ ap (λ ss. told_if asked (replies_in b.taken.database.prelude paths texts (map (λ out. out.beginnings) is.ranked) ss rows))
               run;
         }

@@ -10,7 +10,7 @@ use Rattle.editopening.specs.Opening.{taken_of, scripts_of}
 use Rattle.edittext.specs.Edited.{Run, IsEditedBy}
 use Rattle.editscripts.specs.Undone.{all_undone}
 use Rattle.edittext.specs.declared.account.Account.{Account}
-use Rattle.editscripts.specs.Replies.{all_replies, told_if}
+use Rattle.editscripts.specs.Replies.{Replies, replies_in, seen_replies, told_if}
 use Rattle.endlabels.specs.Gone.{lost, spoken_line}
 
 -- ---- what became of each transaction
@@ -29,9 +29,9 @@ undone_by {texts} {rows} paths run = all_undone paths texts (beginnings_in run) 
 
 -- what became of each
 abbrev pub replies_by : {source : Bytes} {texts : List Bytes} {workers : ℕ} {room : Room} {rows : List (List Outcome)}
-    → List Bytes → Run source texts workers room rows → Bytes
+    → List Bytes → Run source texts workers room rows → Replies
 replies_by {texts} {rows} paths run =
-    all_replies (taken_of run.begun).database.prelude paths texts (beginnings_in run) (scripts_of run.begun) rows
+    replies_in (taken_of run.begun).database.prelude paths texts (beginnings_in run) (scripts_of run.begun) rows
 
 -- ---- labels that are gone
 
@@ -45,4 +45,4 @@ pub record IsAccount {source : Bytes} {texts : List Bytes} {workers : ℕ} {room
     (paths : List Bytes) (run : Run source texts workers room rows) (asked : Bool) (told : List Bytes) (a : Account) : Type 0 where
   pub undone : map string_bytes a.undone.items ≡ undone_by paths run
   pub spoken : map string_bytes a.spoken.items ≡ told
-  pub replies : option_map (λ text. text.items) a.replies ≡ told_if asked (replies_by paths run)
+  pub replies : option_map seen_replies a.replies ≡ told_if asked (replies_by paths run)

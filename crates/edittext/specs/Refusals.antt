@@ -1,5 +1,5 @@
 -- Why a source isn't edited, and the line that says so. The reasons stand in the order of the steps: a line tells the first that is so, and
--- says with it that each step before was taken.
+-- says with it that each step before was taken: reading the source, beginning the scripts, their run, giving back its edits, verifying.
 use Rattle.std.specs.Prelude.{◌≡◌, ◌≢◌, ◌⊎◌, ℕ, Bool, List}
 use Rattle.source.specs.Scopes.{Scope}
 use Rattle.source.specs.Sources.{DeclaresText}
@@ -19,7 +19,7 @@ use Rattle.editscripts.specs.Quoted.{AreQuotesOf, done_quotations}
 use Rattle.editedsource.specs.Dressed.{IsHalfDressed}
 use Rattle.editopening.specs.Opening.{Begun, choice_of, opened_of, scripts_of}
 use Rattle.editopening.specs.Refusals.{IsFaultyLine, IsUnbegunLine}
-use Rattle.edittext.specs.Edited.{Run, Closed, IsAllowedRun, IsSourceThen}
+use Rattle.edittext.specs.Edited.{Run, Closed, IsSourceThen}
 use Rattle.editedsource.specs.Refusals.{IsStoppedLine, IsFaultyThenLine}
 
 -- ---- the run, and what becomes of the source
@@ -38,21 +38,17 @@ pub record IsUnworkedLine (paths : List Bytes) (source : Bytes) (texts : List By
   pub allowed : AreAllowed source begun.old force begun.with_ranks.over.spread
   pub cause : IsWorkLine paths (opened_of begun) workers (room_of room (opened_of begun) (scripts_of begun)) line
 
--- nor are those of the run
-pub record IsUngivenLine (path source : Bytes) (texts : List Bytes) (workers : ℕ) (room : Room) (force : Bool) (line : Bytes)
-    : Type 0 where
-  pub rows : List (List Outcome)
-  pub run : Run source texts workers room rows
-  pub allowed : IsAllowedRun force run
+-- ---- behind a run
+
+-- its edits can't be given back into the source
+pub record IsUngivenLine {source : Bytes} {texts : List Bytes} {workers : ℕ} {room : Room} {rows : List (List Outcome)} (path : Bytes)
+    (run : Run source texts workers room rows) (line : Bytes) : Type 0 where
   pub closed : Closed run
   pub cause : IsStoppedLine path source run.begun.old (choice_of run.begun) closed.taken run.entries closed.library line
 
--- nor is the source with those of the run
-pub record IsUnverifiedLine (path source : Bytes) (texts : List Bytes) (workers : ℕ) (room : Room) (force : Bool) (line : Bytes)
-    : Type 0 where
-  pub rows : List (List Outcome)
-  pub run : Run source texts workers room rows
-  pub allowed : IsAllowedRun force run
+-- the source with them doesn't verify
+pub record IsUnverifiedLine {source : Bytes} {texts : List Bytes} {workers : ℕ} {room : Room} {rows : List (List Outcome)} (path : Bytes)
+    (run : Run source texts workers room rows) (line : Bytes) : Type 0 where
   pub closed : Closed run
   pub edits : Bytes
   pub source_then : IsSourceThen closed edits
@@ -64,11 +60,17 @@ pub record IsUnverifiedLine (path source : Bytes) (texts : List Bytes) (workers 
   pub dressed : IsHalfDressed (done_quotations rows quotes) (done_descriptions rows descriptions) source_then.followed edits out
   pub cause : IsFaultyThenLine path out line
 
--- why nothing is printed: the source has no fault; the scripts are begun; they are run; the source with their edits is written; and it
--- verifies. The first of these that isn't so is told. The path of the source is the first of all
+-- the first of these is told
+abbrev pub IsUnfinishedLine : {source : Bytes} {texts : List Bytes} {workers : ℕ} {room : Room} {rows : List (List Outcome)}
+    → Bytes → Run source texts workers room rows → Bytes → Type 0
+IsUnfinishedLine path run line = IsUngivenLine path run line ⊎ IsUnverifiedLine path run line
+
+-- ---- before it
+
+-- why nothing is run: the source has no fault; the scripts are begun; they are run. The first of these that isn't so is told. The path of
+-- the source is the first of all
 abbrev pub IsUneditedLine : Bytes → List Bytes → Bytes → List Bytes → ℕ → Room → Bool → Bytes → Type 0
 IsUneditedLine path paths source texts workers room force line =
     IsFaultyLine path source line
     ⊎ (((s : Scope) × DeclaresText source s × IsUnbegunLine path paths source s texts force line)
-    ⊎ (IsUnworkedLine paths source texts workers room force line
-    ⊎ (IsUngivenLine path source texts workers room force line ⊎ IsUnverifiedLine path source texts workers room force line)))
+    ⊎ IsUnworkedLine paths source texts workers room force line)

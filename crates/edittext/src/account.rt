@@ -1,5 +1,7 @@
 //! What is told of a run of scripts beside what it prints.
 
+use editscripts::Replies;
+
 /// What is told of a run.
 #[derive(Debug, Drop)]
 pub struct Account {
@@ -7,6 +9,6 @@ pub struct Account {
     pub undone: Vec<String>,
     /// A line for each place at which a comment of what is printed speaks of an assertion that was deleted.
     pub spoken: Vec<String>,
-    /// What became of each transaction, a line of JSON each. None where it isn't asked for.
-    pub replies: Option<Vec<u8>>,
+    /// What became of each transaction. None where it isn't asked for.
+    pub replies: Option<Replies>,
 }

@@ -6,7 +6,7 @@ ghost use Rattle.reports.specs.Reports.{AreReportable};
 ghost use Rattle.checking.specs.Tasks.{IsWithin};
 ghost use Rattle.edittext.specs.Edited.{edit_room};
 ghost use Rattle.edittext.specs.Answers.{IsEditAnswer};
-ghost use Rattle.edittext.specs.Finished.{IsFirstAccount};
+ghost use Rattle.edittext.specs.Finished.{IsFirstAccount, told_of};
 ghost use Rattle.editscripts.specs.Refusals.{IsToldBy};
 ghost use Rattle.edittext.specs.Refusals.{IsUneditedLine};
 ghost use Rattle.editscripts.specs.Quoted.{done_quotations};
@@ -39,7 +39,10 @@ pub enum Told {
     Printed(Vec<u8>, Account),
     /// Nothing is printed, since some transaction wasn't done: so much is told of the run.
     Undone(Account),
-    /// Nothing is printed but this line, on the standard error.
+    /// So much is told of the run, and nothing is printed, as this line says: the edits aren't given back into the source, or it doesn't
+    /// verify with them.
+    Unfinished(Account, String),
+    /// Nothing is run, as this line says.
     Refused(String),
 }
 
@@ -82,6 +85,17 @@ fn quotations_of<'q, 'a: 'q>(
         ≡ done_quotations (lists_of rows.now) (seen_quotes begun.entry.now.quotes.items)) }
 {
     done_quotations(alloc, rows, begun.quotes.as_slice())
+}
+
+/// The answer behind a run, of which so much is told before, by how it finished.
+fn told_of(account: Account, finished: Result<Finished, Unedited>) -> Result<Told, Unedited>
+    ensures { result ≡ told_of account finished }
+{
+    match finished {
+        Ok(Finished { out, spoken }) => Ok(Told::Printed(out, Account { spoken, ..account })),
+        Err(Unedited::Refused(line)) => Ok(Told::Unfinished(account, line)),
+        Err(Unedited::NoMemory) => Err(Unedited::NoMemory),
+    }
 }
 
 /// The source with the edits of one history of the scripts, once it was verified; or what wasn't done.
@@ -129,8 +143,8 @@ fn edit<'a>(
         descriptions: descriptions.as_slice(),
     };
     let edit = edit_of(order.path, source, &begun.taken, &run, given);
-    let Finished { out, spoken } = finish(rt, alloc, keys, old, &edit, follow)?;
-    Ok(Told::Printed(out, Account { spoken, ..account }))
+    let finished = finish(rt, alloc, keys, old, &edit, follow);
+    told_of(account, finished)
 }
 
 /// What goes into a source: the edits of a run over the library that was taken of it, with what the scripts give in their own words.
@@ -163,7 +177,8 @@ fn edit_of<'x, 'a>(
 ///
 /// A library is taken of the source, of the assertions that the scripts speak of; workers run the scripts over it, each of which claims
 /// the next one; and the source with the edits of their one history is printed, once it was verified whole. Nothing is printed where a
-/// transaction wasn't done, unless a part is asked for. Who follows is told how far it is. It may wait.
+/// transaction wasn't done, unless a part is asked for. Once the scripts were run, what became of each transaction is told in any case. Who
+/// follows is told how far it is. It may wait.
 ///
 /// # Errors
 ///

@@ -1,13 +1,15 @@
 -- What would be written over something that is read, part after part.
-use Rattle.std.proofs.Common.{◌≡◌, ◌++◌, ◌∷◌, [], ℕ, Bool, false, true, List, Option, Some, None, codes, inl, refl, subst, sym, Result}
+use Rattle.std.proofs.Common.{◌≡◌, ◌++◌, ◌∷◌, [], ℕ, Bool, false, true, List, Bor, Option, Some, None, codes, inl, inr, refl, subst, sym, Result, Ok, Err}
 use Rattle.commandline.specs.declared.edit_order.Allowed.{Allowed}
 use Rattle.commandline.specs.declared.edit_order.Outputs.{Outputs}
 use Rattle.conduct.specs.Comparing.{AreCompared, Clash}
-use Rattle.conduct.specs.Ending.{EndsBy}
-use Rattle.conduct.proofs.Behind.{apart_then, compared_front, compared_more}
+use Rattle.conduct.proofs.Behind.{compared_front, compared_more}
 use Rattle.outside.specs.Events.{Bytes, Event, says}
-use Rattle.program.specs.Edits.{IsAsked, IsEditDone, IsEditFollowed, IsPlainEdit, clashes, clashes_if, file_of, listed, replies_path, source_in}
-use Rattle.program.proofs.EditedThen.{asked_quiet, plain_then}
+use Rattle.edittext.specs.declared.answering.Told.{Told}
+use Rattle.program.specs.Edits.{IsAsked, IsConcluded, IsEditDone, IsEditFollowed, IsEmptied, IsEmptiedThen, IsReadConcluded, clashes, clashes_if, file_of, listed, source_in}
+use Rattle.program.specs.Endings.{IsEditTold, replies_path}
+use Rattle.program.specs.declared.ending.NotDone.{NotDone}
+use Rattle.program.specs.declared.ending.NotDone.TheVariants.{NotPlain}
 
 -- what is said of a file
 abbrev pub by_output : Bytes
@@ -91,31 +93,55 @@ over keyed paths workers room given o allowed asked line is compared = subst
     (λ (p : Option Outputs). IsEditDone keyed paths workers room p allowed (asked ++ says line ∷ []) 1) (sym is)
     (asked, says line ∷ [], refl, inl (line, compared, (refl, refl)))
 
--- nothing would
-pub apart : {E : Type 0} (keyed : Bool) (paths : List Bytes) (workers : ℕ) (room : Option ℕ) (given : Option Outputs) (o : Outputs)
-    (allowed : Allowed) (asked rest : List Event) (r : Result ℕ E) → given ≡ Some o → AreCompared (clashes o paths) asked None
-    → EndsBy (IsPlainEdit keyed paths workers room o allowed) rest r
-    → EndsBy (IsEditDone keyed paths workers room given allowed) (asked ++ rest) r
-apart keyed paths workers room given o allowed asked rest r is compared ends = subst
-    (λ (p : Option Outputs). EndsBy (IsEditDone keyed paths workers room p allowed) (asked ++ rest) r) (sym is)
-    (apart_then (clashes o paths) (IsPlainEdit keyed paths workers room o allowed) asked rest r compared ends)
+-- nothing would, and more follows
+apart : (keyed : Bool) (paths : List Bytes) (workers : ℕ) (room : Option ℕ) (given : Option Outputs) (o : Outputs) (allowed : Allowed)
+    (asked rest : List Event) (status : ℕ) → given ≡ Some o → AreCompared (clashes o paths) asked None
+    → IsEmptiedThen (replies_path o) (IsEditFollowed keyed paths workers room o allowed) rest status
+    → IsEditDone keyed paths workers room given allowed (asked ++ rest) status
+apart keyed paths workers room given o allowed asked rest status is compared then = subst
+    (λ (p : Option Outputs). IsEditDone keyed paths workers room p allowed (asked ++ rest) status) (sym is)
+    (asked, rest, refl, inr (compared, then))
+
+-- the file for what became of the transactions can't be emptied
+pub not_emptied : (keyed : Bool) (paths : List Bytes) (workers : ℕ) (room : Option ℕ) (given : Option Outputs) (o : Outputs)
+    (allowed : Allowed) (asked rest : List Event) → given ≡ Some o → AreCompared (clashes o paths) asked None
+    → IsEmptied (replies_path o) rest false → IsEditDone keyed paths workers room given allowed (asked ++ rest) 1
+not_emptied keyed paths workers room given o allowed asked rest is compared not =
+    apart keyed paths workers room given o allowed asked rest 1 is compared (inl (not, refl))
+
+-- it can, and the source is edited
+pub emptied : (keyed : Bool) (paths : List Bytes) (workers : ℕ) (room : Option ℕ) (given : Option Outputs) (o : Outputs)
+    (allowed : Allowed) (asked before rest : List Event) (status : ℕ) → given ≡ Some o → AreCompared (clashes o paths) asked None
+    → IsEmptied (replies_path o) before true → IsEditFollowed keyed paths workers room o allowed rest status
+    → IsEditDone keyed paths workers room given allowed (asked ++ (before ++ rest)) status
+emptied keyed paths workers room given o allowed asked before rest status is compared done follows =
+    apart keyed paths workers room given o allowed asked (before ++ rest) status is compared (inr (before, rest, refl, done, follows))
+
+-- ---- the answer, or why there is none
 
 -- the source can't be put in place
-pub not_plain : (keyed : Bool) (paths : List Bytes) (source : Bytes) (scripts : List Bytes) (workers : ℕ) (room : Option ℕ) (o : Outputs)
-    (allowed : Allowed) (asked : List Event) → paths ≡ source ∷ scripts → IsAsked o.place source asked false
-    → IsPlainEdit keyed paths workers room o allowed (asked ++ says (source ++ codes ": not a plain file") ∷ []) 1
-not_plain keyed paths source scripts workers room o allowed asked named is = subst
-    (λ (ps : List Bytes). IsPlainEdit keyed ps workers room o allowed (asked ++ says (source ++ codes ": not a plain file") ∷ []) 1)
-    (sym named) (false, asked, says (source ++ codes ": not a plain file") ∷ [], refl, is, (refl, refl))
+pub not_plain : (keyed : Bool) (paths : List Bytes) (path : Bor Bytes) (scripts : List Bytes) (workers : ℕ) (room : Option ℕ) (o : Outputs)
+    (allowed : Allowed) (asked : List Event) → paths ≡ path.now ∷ scripts → IsAsked o.place path.now asked false
+    → IsConcluded keyed paths workers room o allowed asked (Err (NotPlain path))
+not_plain keyed paths path scripts workers room o allowed asked named is =
+    subst (λ (ps : List Bytes). IsConcluded keyed ps workers room o allowed asked (Err (NotPlain path))) (sym named)
+    (inl (path, refl, refl, is))
 
 -- it can
-pub plain : {E : Type 0} (keyed : Bool) (paths : List Bytes) (source : Bytes) (scripts : List Bytes) (workers : ℕ) (room : Option ℕ)
-    (o : Outputs) (allowed : Allowed) (asked rest : List Event) (r : Result ℕ E) → paths ≡ source ∷ scripts
-    → IsAsked o.place source asked true → EndsBy (IsEditFollowed keyed paths workers room o allowed) rest r
-    → EndsBy (IsPlainEdit keyed paths workers room o allowed) (asked ++ rest) r
-plain keyed paths source scripts workers room o allowed asked rest r named is = subst
-    (λ (ps : List Bytes). EndsBy (IsEditFollowed keyed ps workers room o allowed) rest r
-    → EndsBy (IsPlainEdit keyed ps workers room o allowed) (asked ++ rest) r)
-    (sym named)
-    (λ ends. plain_then o.place source (IsEditFollowed keyed (source ∷ scripts) workers room o allowed) asked rest r
-    (asked_quiet o.place source asked true is) is ends)
+pub plain : (keyed : Bool) (paths : List Bytes) (source : Bytes) (scripts : List Bytes) (workers : ℕ) (room : Option ℕ)
+    (o : Outputs) (allowed : Allowed) (asked rest : List Event) (c : Result Told NotDone) → paths ≡ source ∷ scripts
+    → IsAsked o.place source asked true → IsReadConcluded keyed paths workers room o allowed rest c
+    → IsConcluded keyed paths workers room o allowed (asked ++ rest) c
+plain keyed paths source scripts workers room o allowed asked rest c named is = subst
+    (λ (ps : List Bytes). IsReadConcluded keyed ps workers room o allowed rest c → IsConcluded keyed ps workers room o allowed
+    (asked ++ rest) c) (sym named) (λ ends. inr (asked, rest, refl, is, ends))
+
+-- an answer is told
+pub answer_told : (keyed : Bool) (paths : List Bytes) (source : Bytes) (scripts : List Bytes) (workers : ℕ) (room : Option ℕ) (o : Outputs)
+    (allowed : Allowed) (front rest : List Event) (told : Told) (status : ℕ) → paths ≡ source ∷ scripts
+    → IsConcluded keyed paths workers room o allowed front (Ok told) → IsEditTold o source told rest status
+    → IsEditFollowed keyed paths workers room o allowed (front ++ rest) status
+answer_told keyed paths source scripts workers room o allowed front rest told status named = subst
+    (λ (ps : List Bytes). IsConcluded keyed ps workers room o allowed front (Ok told) → IsEditTold o source told rest status
+    → IsEditFollowed keyed ps workers room o allowed (front ++ rest) status) (sym named)
+    (λ concluded is. (front, rest, Ok told, refl, concluded, is))

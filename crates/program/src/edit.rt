@@ -1,182 +1,42 @@
-//! How scripts edit a source: all files are read, and what is answered is told.
+//! How scripts edit a source: nothing is written over, all files are read, the scripts are answered, and the answer is told.
 
-ghost use Rattle.std.specs.Prelude.{is_some, ◌≡◌, ◌<◌, ◌++◌, List, Some, is_ok, length, map};
+ghost use Rattle.std.specs.Prelude.{is_some, ◌≡◌, ◌<◌, List, IfOk, Some, length, map};
 ghost use Rattle.std.specs.Option.{option_map};
 ghost use Rattle.checking.specs.Tasks.{IsWithin};
-ghost use Rattle.conduct.specs.Ending.{EndsBy};
 ghost use Rattle.conduct.specs.Comparing.{AreCompared};
-ghost use Rattle.outside.specs.Events.{Event, Adds, leaving, path_left};
-ghost use Rattle.program.specs.Edits.{all_said, undone_status, IsSaved, IsPutAt, ArePutReplies, IsPrintedTold, IsUndoneTold, IsEditTold};
-ghost use Rattle.program.specs.Edits.{IsAnsweredEdit, IsEditFollowed, clash_line, clashes_if, clashes, file_of, source_in, IsAsked, IsPlainEdit, IsEditDone};
+ghost use Rattle.outside.specs.Events.{Event, Adds};
+ghost use Rattle.program.specs.Edits.{clash_line, clashes_if, clashes, file_of, source_in, IsAsked, IsAnsweredFor, IsReadConcluded, IsConcluded, IsEditFollowed, IsEmptied, IsEditDone};
+ghost use Rattle.program.specs.Endings.{not_read};
 
+use crate::ending::{NotDone, file, tell_edited, tell_not_done};
 use commandline::{Destination, EditOrder, Outputs};
-use conduct::{Means, first_same, print_with, read_all, refuse, tell_unread, tell_unwritten};
-use edittext::{Account, Told, answer_edit};
+use conduct::{Means, Unread, first_same, read_all, refuse};
+use edittext::{Told, answer_edit};
 use following::Follow;
 use jobs::Watch;
-use outside::{Unwritten, World};
+use outside::World;
 use std::alloc::{AllocError, Global};
 use std::hash::RandomState;
 use std::sync::Wait;
 use std::thread::Threads;
 
-/// Says lines, one after another.
-fn say_all<W: World>(world: &mut W, lines: &[String])
-    ensures { Adds (W.done world.old) (W.done world.new) (all_said lines.now) }
-{
-    for line in lines {
-        world.say(line.as_str());
-    }
-}
-
-/// The status where these lines say which transactions were not done.
-fn undone_status(lines: &[String]) -> u8
-    ensures { result ≡ undone_status lines.now }
-{
-    if lines.is_empty() { 0 } else { 3 }
-}
-
-/// Says why a text isn't in the file at a path, unless it is.
-fn tell_saved<W: World>(world: &mut W, path: &str, status: u8, saved: Result<(), Unwritten>) -> u8
-    ensures { (es : List Event) × Adds (W.done world.old) (W.done world.new) es
-        × IsSaved path.now status (is_ok saved) (leaving (path_left saved) ++ es) result }
-{
-    match saved {
-        Ok(()) => status,
-        Err(why) => tell_unwritten(world, path, &why),
-    }
-}
-
-/// Prints the edited source, writes it to a file, or puts it in place of the source, after which the status is this one; or says that it
-/// can't.
-fn put_at<W: World>(
-    world: &mut W,
-    alloc: Global,
-    place: Destination<'_>,
-    source: &str,
-    status: u8,
-    out: &[u8],
-) -> u8
-    ensures { (es : List Event) × Adds (W.done world.old) (W.done world.new) es
-        × IsPutAt place.entry source.now status out.now es result }
-{
-    match place {
-        Destination::Printed => print_with(world, status, out),
-        Destination::File(path) => {
-            let saved = world.write(alloc, path, out);
-            tell_saved(world, path, status, saved)
-        }
-        Destination::Source => {
-            let saved = world.replace(alloc, source, out);
-            tell_saved(world, source, status, saved)
-        }
-    }
-}
-
-/// Writes what became of the transactions to the file at a path, if there is one and it was told: the status where that can't be done,
-/// which is said.
-fn put_replies<W: World>(
-    world: &mut W,
-    alloc: Global,
-    path: Option<&str>,
-    replies: Option<&Vec<u8>>,
-) -> Option<u8>
-    ensures { (es : List Event) × Adds (W.done world.old) (W.done world.new) es
-        × ArePutReplies (option_map (λ p. p.now) path.entry) (option_map (λ text. text.now) replies.entry) es result }
-{
-    let (path, text) = (path?, replies?);
-    match world.write(alloc, path, text.as_slice()) {
-        Ok(()) => None,
-        Err(why) => Some(tell_unwritten(world, path, &why)),
-    }
-}
-
-/// Tells what became of the transactions, and puts the edited source where it goes.
-fn tell_printed<W: World>(
-    world: &mut W,
-    alloc: Global,
-    outputs: Outputs<'_>,
-    source: &str,
-    out: &[u8],
-    account: &Account,
-) -> u8
-    ensures { (es : List Event) × Adds (W.done world.old) (W.done world.new) es
-        × IsPrintedTold outputs.entry source.now out.now account.now es result }
-{
-    let undone = account.undone.as_slice();
-    say_all(world, undone);
-    say_all(world, account.spoken.as_slice());
-    if let Some(status) = put_replies(world, alloc, outputs.replies, account.replies.as_ref()) {
-        return status;
-    }
-    put_at(
-        world,
-        alloc,
-        outputs.place,
-        source,
-        undone_status(undone),
-        out,
-    )
-}
-
-/// Tells what became of the transactions, where no source is printed.
-fn tell_undone<W: World>(
-    world: &mut W,
-    alloc: Global,
-    outputs: Outputs<'_>,
-    account: &Account,
-) -> u8
-    ensures { (es : List Event) × Adds (W.done world.old) (W.done world.new) es
-        × IsUndoneTold outputs.entry account.now es result }
-{
-    say_all(world, account.undone.as_slice());
-    put_replies(world, alloc, outputs.replies, account.replies.as_ref()).unwrap_or(3)
-}
-
-/// Tells an answer: what became of the transactions, and the edited source where it goes; or the line of the refusal.
-fn tell_edited<W: World>(
-    world: &mut W,
-    alloc: Global,
-    outputs: Outputs<'_>,
-    source: &str,
-    told: &Told,
-) -> u8
-    ensures { (es : List Event) × Adds (W.done world.old) (W.done world.new) es
-        × IsEditTold outputs.entry source.now told.now es result }
-{
-    match told {
-        Told::Printed(out, account) => {
-            tell_printed(world, alloc, outputs, source, out.as_slice(), account)
-        }
-        Told::Undone(account) => tell_undone(world, alloc, outputs, account),
-        Told::Refused(line) => refuse(world, line.as_str()),
-    }
-}
-
-/// Edits the source by the scripts, of which these are the texts, the source's first, and tells the answer, of which all goes where it is
-/// to go. It may wait.
-fn answer_edited<R: Threads + Wait + Sync, W: World, V: Watch + Follow + Sync>(
+/// The answer for the texts of the files, of which the source's is the first. It may wait.
+fn answer_texts<R: Threads + Wait + Sync, V: Watch + Follow + Sync>(
     means: &Means<'_, R, V>,
-    world: &mut W,
-    keys: Option<RandomState>,
+    keys: RandomState,
     order: &EditOrder<'_>,
     outputs: Outputs<'_>,
     texts: &[Vec<u8>],
-) -> Result<u8, AllocError>
+) -> Result<Told, AllocError>
     requires within { IsWithin order.now.workers order.now.room }
     requires any { 0 < length order.now.paths.items }
     requires many { length texts.now ≡ length order.now.paths.items }
-    ensures { (es : List Event) × Adds (W.done world.old) (W.done world.new) es
-        × EndsBy (IsAnsweredEdit (is_some keys) (map (λ p. p.now) order.now.paths.items) order.now.workers order.now.room outputs.entry
-        order.now.allowed (map (λ t. t.items) texts.now)) es result }
+    ensures { IfOk result (IsAnsweredFor (map (λ p. p.now) order.now.paths.items) order.now.workers order.now.room outputs.entry
+        order.now.allowed (map (λ t. t.items) texts.now)) }
 {
-    let Some(keys) = keys else {
-        return Ok(refuse(world, "no random numbers"));
-    };
     let paths = order.paths.as_slice();
-    let path = paths[0];
     let asked = editopening::EditOrder {
-        path,
+        path: paths[0],
         paths,
         workers: order.workers,
         room: order.room,
@@ -185,32 +45,15 @@ fn answer_edited<R: Threads + Wait + Sync, W: World, V: Watch + Follow + Sync>(
         with_replies: outputs.replies.is_some(),
     };
     let (source, scripts) = (texts[0].as_slice(), &texts[1..]);
-    let (rt, alloc) = (means.rt, means.alloc);
-    match answer_edit(rt, alloc, keys, asked, source, scripts, means.watch) {
-        Ok(told) => Ok(tell_edited(world, alloc, outputs, path, &told)),
-        Err(_) => Err(AllocError),
-    }
-}
-
-/// Reads the files of an order, and edits the source. Who watches is told of the run, and how far the work on the source is. It may wait.
-fn edit_files<R: Threads + Wait + Sync, W: World, V: Watch + Follow + Sync>(
-    means: &Means<'_, R, V>,
-    world: &mut W,
-    keys: Option<RandomState>,
-    order: &EditOrder<'_>,
-    outputs: Outputs<'_>,
-) -> Result<u8, AllocError>
-    requires within { IsWithin order.now.workers order.now.room }
-    requires any { 0 < length order.now.paths.items }
-    ensures { (es : List Event) × Adds (W.done world.old) (W.done world.new) es
-        × EndsBy (IsEditFollowed (is_some keys) (map (λ p. p.now) order.now.paths.items) order.now.workers order.now.room outputs.entry
-        order.now.allowed) es result }
-{
-    let mut texts = Vec::new(means.alloc);
-    if let Err(unread) = read_all(world, means.alloc, order.paths.as_slice(), &mut texts) {
-        return tell_unread(world, unread);
-    }
-    answer_edited(means, world, keys, order, outputs, texts.as_slice())
+    answer_edit(
+        means.rt,
+        means.alloc,
+        keys,
+        asked,
+        source,
+        scripts,
+        means.watch,
+    )
 }
 
 /// The path of the file that the edited source goes to, if it goes to one.
@@ -309,52 +152,125 @@ fn may_be_replaced<W: World>(world: &mut W, place: Destination<'_>, source: &str
     }
 }
 
-/// Edits the source of an order, unless it is to be put in place and is no plain file. Who watches is told of the run, and how far the work
-/// on the source is. It may wait.
-fn edit_plain<R: Threads + Wait + Sync, W: World, V: Watch + Follow + Sync>(
+/// Why nothing is done where a file isn't read.
+fn not_read<'a>(unread: Unread<'a>) -> NotDone<'a>
+    ensures { result ≡ not_read unread.entry }
+{
+    match unread {
+        Unread::File(path) => NotDone::Unread(path),
+        Unread::NoMemory => NotDone::NoMemory,
+    }
+}
+
+/// Reads the files of an order, and answers for their texts; or why nothing is done. It may wait.
+fn conclude_read<'a, R: Threads + Wait + Sync, W: World, V: Watch + Follow + Sync>(
+    means: &Means<'_, R, V>,
+    world: &mut W,
+    keys: Option<RandomState>,
+    order: &EditOrder<'a>,
+    outputs: Outputs<'_>,
+) -> Result<Told, NotDone<'a>>
+    requires within { IsWithin order.now.workers order.now.room }
+    requires any { 0 < length order.now.paths.items }
+    ensures { (es : List Event) × Adds (W.done world.old) (W.done world.new) es
+        × IsReadConcluded (is_some keys) (map (λ p. p.now) order.now.paths.items) order.now.workers order.now.room outputs.entry
+        order.now.allowed es result }
+{
+    let mut texts = Vec::new(means.alloc);
+    if let Err(unread) = read_all(world, means.alloc, order.paths.as_slice(), &mut texts) {
+        return Err(not_read(unread));
+    }
+    let Some(keys) = keys else {
+        return Err(NotDone::Unkeyed);
+    };
+    match answer_texts(means, keys, order, outputs, texts.as_slice()) {
+        Ok(told) => Ok(told),
+        Err(_) => Err(NotDone::NoMemory),
+    }
+}
+
+/// The answer to an order, for which it is asked first whether the source is a plain file, where it is to be put in place; or why nothing
+/// is done. It may wait.
+fn conclude<'a, R: Threads + Wait + Sync, W: World, V: Watch + Follow + Sync>(
+    means: &Means<'_, R, V>,
+    world: &mut W,
+    keys: Option<RandomState>,
+    order: &EditOrder<'a>,
+    outputs: Outputs<'_>,
+) -> Result<Told, NotDone<'a>>
+    requires within { IsWithin order.now.workers order.now.room }
+    requires any { 0 < length order.now.paths.items }
+    ensures { (es : List Event) × Adds (W.done world.old) (W.done world.new) es
+        × IsConcluded (is_some keys) (map (λ p. p.now) order.now.paths.items) order.now.workers order.now.room outputs.entry
+        order.now.allowed es result }
+{
+    let source = order.paths.as_slice()[0];
+    if !may_be_replaced(world, outputs.place, source) {
+        return Err(NotDone::NotPlain(source));
+    }
+    conclude_read(means, world, keys, order, outputs)
+}
+
+/// Edits the source of an order, and tells the answer, of which all goes where it is to go; or why nothing is done. It may wait.
+fn edit_files<R: Threads + Wait + Sync, W: World, V: Watch + Follow + Sync>(
     means: &Means<'_, R, V>,
     world: &mut W,
     keys: Option<RandomState>,
     order: &EditOrder<'_>,
     outputs: Outputs<'_>,
-) -> Result<u8, AllocError>
+) -> u8
     requires within { IsWithin order.now.workers order.now.room }
     requires any { 0 < length order.now.paths.items }
     ensures { (es : List Event) × Adds (W.done world.old) (W.done world.new) es
-        × EndsBy (IsPlainEdit (is_some keys) (map (λ p. p.now) order.now.paths.items) order.now.workers order.now.room outputs.entry
-        order.now.allowed) es result }
+        × IsEditFollowed (is_some keys) (map (λ p. p.now) order.now.paths.items) order.now.workers order.now.room outputs.entry
+        order.now.allowed es result }
 {
-    let source = order.paths.as_slice()[0];
-    if !may_be_replaced(world, outputs.place, source) {
-        world.say_of(source, "not a plain file");
-        return Ok(1);
+    let alloc = means.alloc;
+    match conclude(means, world, keys, order, outputs) {
+        Ok(told) => {
+            let source = order.paths.as_slice()[0];
+            tell_edited(world, alloc, outputs, source, &told)
+        }
+        Err(why) => tell_not_done(world, alloc, outputs.replies, why),
     }
-    edit_files(means, world, keys, order, outputs)
 }
 
-/// Edits the source of an order, unless something would be written over what is read, or two texts to one file. Who watches is told of the
-/// run, and how far the work on the source is. It may wait.
+/// Whether the file at a path, if there is one, was emptied; it is said why not.
+fn empty<W: World>(world: &mut W, alloc: Global, path: Option<&str>) -> bool
+    ensures { (es : List Event) × Adds (W.done world.old) (W.done world.new) es
+        × IsEmptied (option_map (λ p. p.now) path.entry) es result }
+{
+    match path {
+        Some(path) => file(world, alloc, path, &[]),
+        None => true,
+    }
+}
+
+/// Edits the source of an order, unless that would write a text over another one that is read, or two texts to one file. Before anything is
+/// read, the file for what became of the transactions is emptied. Who watches is told of the run, and how far the work on the source is. It
+/// may wait.
 fn edit_apart<R: Threads + Wait + Sync, W: World, V: Watch + Follow + Sync>(
     means: &Means<'_, R, V>,
     world: &mut W,
     keys: Option<RandomState>,
     order: &EditOrder<'_>,
     outputs: Outputs<'_>,
-) -> Result<u8, AllocError>
+) -> u8
     requires within { IsWithin order.now.workers order.now.room }
     requires any { 0 < length order.now.paths.items }
     requires placed { order.now.outputs ≡ Some outputs }
     ensures { (es : List Event) × Adds (W.done world.old) (W.done world.new) es
-        × EndsBy (IsEditDone (is_some keys) (map (λ p. p.now) order.now.paths.items) order.now.workers order.now.room order.now.outputs
-        order.now.allowed) es result }
+        × IsEditDone (is_some keys) (map (λ p. p.now) order.now.paths.items) order.now.workers order.now.room order.now.outputs
+        order.now.allowed es result }
 {
-    match first_clash(world, outputs, order.paths.as_slice()) {
-        Some(found) => {
-            world.say_of(found.path, found.text);
-            Ok(1)
-        }
-        None => edit_plain(means, world, keys, order, outputs),
+    if let Some(found) = first_clash(world, outputs, order.paths.as_slice()) {
+        world.say_of(found.path, found.text);
+        return 1;
     }
+    if !empty(world, means.alloc, outputs.replies) {
+        return 1;
+    }
+    edit_files(means, world, keys, order, outputs)
 }
 
 /// Does what an order to edit asks for. Who watches is told of the run, and how far the work on the source is. It may wait.
@@ -363,15 +279,15 @@ pub(crate) fn follow_edit<R: Threads + Wait + Sync, W: World, V: Watch + Follow 
     world: &mut W,
     keys: Option<RandomState>,
     order: &EditOrder<'_>,
-) -> Result<u8, AllocError>
+) -> u8
     requires within { IsWithin order.now.workers order.now.room }
     requires any { 0 < length order.now.paths.items }
     ensures { (es : List Event) × Adds (W.done world.old) (W.done world.new) es
-        × EndsBy (IsEditDone (is_some keys) (map (λ p. p.now) order.now.paths.items) order.now.workers order.now.room order.now.outputs
-        order.now.allowed) es result }
+        × IsEditDone (is_some keys) (map (λ p. p.now) order.now.paths.items) order.now.workers order.now.room order.now.outputs
+        order.now.allowed es result }
 {
     match order.outputs {
         Some(outputs) => edit_apart(means, world, keys, order, outputs),
-        None => Ok(refuse(world, "--in-place and --output do not go together")),
+        None => refuse(world, "--in-place and --output do not go together"),
     }
 }

@@ -2,6 +2,7 @@
 #![tactic(auto)]
 
 mod edit;
+mod ending;
 mod obeying;
 mod running;
 

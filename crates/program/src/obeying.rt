@@ -107,7 +107,7 @@ fn obey_edit<R: Threads + Wait + Sync, W: World, V: Watch + Follow + Sync>(
         × EndsBy (IsMatched (is_some keys) (subcommand_rows_of matches.now)) es result }
 {
     match edit_of(means.alloc, matches) {
-        Ok(Some(order)) => follow_edit(means, world, keys, &order),
+        Ok(Some(order)) => Ok(follow_edit(means, world, keys, &order)),
         Ok(None) => obey_other(means, world, keys, matches),
         Err(_) => Err(AllocError),
     }

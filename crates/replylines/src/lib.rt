@@ -5,5 +5,5 @@ mod lines;
 mod naming;
 mod replies;
 
-pub use lines::put_line;
+pub use lines::{Header, not_done_line, put_line};
 pub use naming::{command_text, shown};

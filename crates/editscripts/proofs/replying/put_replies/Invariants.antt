@@ -4,4 +4,5 @@ use Rattle.editscripts.specs.Replies.{replies_of}
 use Rattle.editscripts.proofs.replying.put_replies.Given as goal
 
 abbrev pub invariant-loop-k : goal.invariant-loop-k
-invariant-loop-k l = l.out.items ≡ l.fn.out.items ++ replies_of l.prelude l.path l.lines l.script (take l.k l.outcomes)
+invariant-loop-k l =
+    l.out.items ≡ l.fn.out.items ++ replies_of l.told.written l.prelude l.told.path.now l.told.lines.now l.script (take l.k l.outcomes)

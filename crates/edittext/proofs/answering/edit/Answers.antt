@@ -19,14 +19,15 @@ use Rattle.pasting.specs.Views.{seen_quotation}
 use Rattle.editscripts.specs.Quoted.{done_quotations}
 use Rattle.editscripts.specs.Described.{done_descriptions}
 use Rattle.edittext.specs.Edited.{edit_room}
-use Rattle.editedsource.specs.Finished.{IsFinished}
 use Rattle.edittext.specs.Finished.{IsFirstAccount}
 use Rattle.editscripts.specs.Refusals.{IsToldBy}
 use Rattle.editedsource.specs.Refusals.{IsStoppedOrFaulty}
-use Rattle.editopening.specs.Opening.{opened_of, scripts_of}
+use Rattle.editopening.specs.Opening.{opened_of}
 use Rattle.editopening.specs.Refusals.{IsUnbegunLine}
 use Rattle.edittext.specs.Refusals.{IsUneditedLine, IsWorkLine}
 use Rattle.editscripts.specs.Views.{seen_texts, seen_descriptions, seen_quotes}
+use Rattle.edittext.specs.Answers.{IsEditAnswer}
+use Rattle.edittext.proofs.Ending.{lack_behind, printed, told_behind}
 use Rattle.edittext.proofs.Beginning.{begun_of, run_of, closed_of, accounted, database_is, scripts_are}
 use Rattle.editscripts.proofs.Lines.{told_more}
 use Rattle.edittext.proofs.answering.edit.Goals as goal
@@ -81,16 +82,16 @@ returns-in_err-outcomes-clause-refused g c =
     rw (p.1, p.2) (told_more
     (IsWorkLine paths db workers (room_of room db ss))
     (IsUneditedLine path paths source texts workers room force)
-    (λ line h. inr (inr (inl (record {
+    (λ line h. inr (inr (record {
       begun = b;
       allowed = is.allowed;
       cause =
           subst (λ (k : List Orders). IsWorkLine paths (opened_of b) workers (room_of room (opened_of b) k) line) run
           (subst (λ (x : Contents). IsWorkLine paths x workers (room_of room x ss) line) over h);
-    })))) c.in_err-outcomes.field-0.0 c.in_err-outcomes.ensures.refused)
+    }))) c.in_err-outcomes.field-0.0 c.in_err-outcomes.ensures.refused)
 
-pub finish-requires-clause-chosen : goal.finish-requires-clause-chosen
-finish-requires-clause-chosen g c κs within =
+pub finish-finished-requires-clause-chosen : goal.finish-finished-requires-clause-chosen
+finish-finished-requires-clause-chosen g c κs within =
     let library = c.in_ok-begun.ensures.begun.for_scripts.library in
     ap (λ (t : Taken). length t.chosen.items) c.edit_of-edit.ensures.taken
     ∙ ap (λ cs. length cs.items) c.in_ok-closed.ensures.settled.chosen
@@ -125,85 +126,6 @@ returns-then-not-may_print-clause-told g c =
       undone.1,
       is.allowed,
     )
-
-pub returns-in_err-out-clause-refused : goal.returns-in_err-out-clause-refused
-returns-in_err-out-clause-refused g c =
-    let source = c.args.source.now in
-    let texts = seen_texts c.args.texts.now in
-    let paths = map (λ p. p.now) c.args.order.paths.now in
-    let path = c.args.order.path.now in
-    let workers = c.args.order.workers in
-    let room = edit_room c.args.order.room in
-    let s = c.in_ok-old.old.stand.scope in
-    let begun = c.in_ok-begun.begun in
-    let is = c.in_ok-begun.ensures.begun in
-    let e = c.in_ok-outcomes.field-0 in
-    let rows = lists_of e.outcomes.items in
-    let db = c.database-opened.result.now in
-    let ss = c.as_slice-scripts.result.now in
-    let over = c.database-opened.ensures in
-    let whole = c.as_slice-scripts.ensures.value in
-    let d = c.in_ok-old.ensures.declares in
-    let worked = c.in_ok-outcomes.ensures.done in
-    let run = run_of source texts s c.args.order.force begun d is db ss over whole workers room e worked in
-    let k = c.in_ok-closed.closed in
-    let t = c.close_run.new.begun.taken in
-    let closed = closed_of source texts s c.args.order.force begun d is db ss over whole workers room e worked k t
-    c.in_ok-closed.ensures.withdrawn c.in_ok-closed.ensures.settled in
-    let library = is.for_scripts.library in
-    let choice = library.taken.choice in
-    let qs = map seen_quotation c.as_slice-3.result.now in
-    let quotes = seen_quotes begun.quotes.items in
-    let same_quotes : qs ≡ done_quotations rows quotes =
-    ap (map seen_quotation) c.as_slice-3.ensures.value
-    ∙ c.in_ok-quotations.ensures
-    ∙ ap (λ ys. done_quotations (lists_of c.as_slice-rows.result.now) (seen_quotes ys.items)) c.in_ok-closed.ensures.quotes
-    ∙ ap (λ rs. done_quotations (lists_of rs) quotes) c.as_slice-rows.ensures.value in
-    let ds = seen_pairs c.as_slice-4.result.now in
-    let descriptions = seen_descriptions begun.descriptions.items in
-    let same : ds ≡ done_descriptions rows descriptions =
-    ap seen_pairs c.as_slice-4.ensures.value
-    ∙ c.in_ok-descriptions.ensures
-    ∙ ap (λ rs. done_descriptions (lists_of rs) (seen_descriptions c.as_slice-2.result.now)) c.as_slice-rows.ensures.value
-    ∙ ap (λ ds. done_descriptions rows (seen_descriptions ds)) c.as_slice-2.ensures.value
-    ∙ ap (λ ds. done_descriptions rows (seen_descriptions ds.items)) c.in_ok-closed.ensures.descriptions in
-    let p = err_from_is_err_and c.from_residual-in_err-out.result c.from_residual-in_err-out.ensures.1 in
-    let x = c.edit_of-edit.ensures in
-    let chosen = library.chosen_are ∙ ap (λ cs. cs.items) (sym c.in_ok-closed.ensures.settled.chosen)
-    ∙ ap (λ (t : Taken). t.chosen.items) (sym x.taken) in
-    let refused = rw (x.path, x.source, x.taken, x.replayed, x.given) at (c.finish.ensures.refused choice chosen) in
-    rw (p.1, p.2) (told_more
-    (IsStoppedOrFaulty path source s choice t e.history k qs ds)
-    (IsUneditedLine path paths source texts workers room c.args.order.force)
-    (λ line h. elim h [
-      | inl stopped ↦ inr (inr (inr (inl (record {
-        rows = rows;
-        run = run;
-        allowed = is.allowed;
-        closed = closed;
-        cause = stopped;
-      }))))
-      | inr f ↦ inr (inr (inr (inr (record {
-        rows = rows;
-        run = run;
-        allowed = is.allowed;
-        closed = closed;
-        edits = f.0;
-        source_then = f.2;
-        quotes = quotes;
-        are_quotes = is.quotes;
-        descriptions = descriptions;
-        are_descriptive = is.descriptive;
-        out = f.1;
-        dressed =
-            subst (λ (ds : List Change). IsHalfDressed (done_quotations rows quotes) ds f.2.followed f.0 f.1) same
-            (subst (λ (qs : List Quotation). IsHalfDressed qs ds f.2.followed f.0 f.1) same_quotes f.3);
-        cause = f.4;
-      }))))
-    ])
-    c.in_err-out.field-0.0
-    (subst (λ r. IfErr r (IsToldBy (IsStoppedOrFaulty path source s choice t e.history k qs ds))) c.in_err-out.was
-    refused))
 
 pub returns-clause-told : goal.returns-clause-told
 returns-clause-told g c =
@@ -244,21 +166,26 @@ returns-clause-told g c =
     ∙ ap (λ rs. done_descriptions (lists_of rs) (seen_descriptions c.as_slice-2.result.now)) c.as_slice-rows.ensures.value
     ∙ ap (λ ds. done_descriptions rows (seen_descriptions ds)) c.as_slice-2.ensures.value
     ∙ ap (λ ds. done_descriptions rows (seen_descriptions ds.items)) c.in_ok-closed.ensures.descriptions in
-    let f = c.in_ok-out.field-0 in
     let x = c.edit_of-edit.ensures in
     let chosen = library.chosen_are ∙ ap (λ cs. cs.items) (sym c.in_ok-closed.ensures.settled.chosen)
     ∙ ap (λ (t : Taken). t.chosen.items) (sym x.taken) in
-    let done = rw (x.path, x.source, x.taken, x.replayed, x.given) at (c.finish.ensures.finished choice chosen) in
-    let finished = subst (λ r. IfOk r (IsFinished path source s choice t e.history k qs ds)) c.in_ok-out.was done in
+    let done = rw (x.path, x.source, x.taken, x.replayed, x.given) at (c.finish-finished.ensures.finished choice chosen) in
+    let refused = rw (x.path, x.source, x.taken, x.replayed, x.given) at (c.finish-finished.ensures.refused choice chosen) in
     let account = c.in_ok-account.account in
     let first = subst (λ rs. IsFirstAccount paths texts begun (lists_of rs) asked account) c.as_slice-rows.ensures.value
-    c.in_ok-account.ensures in (
+    c.in_ok-account.ensures in
+    let force = c.args.order.force in
+    let run = run_of source texts s force begun d is db ss over whole workers room e worked in
+    let closed = closed_of source texts s force begun d is db ss over whole workers room e worked k t
+    c.in_ok-closed.ensures.withdrawn c.in_ok-closed.ensures.settled in
+    subst (λ r. IfOk r (IsEditAnswer path paths source texts workers room force c.args.order.partial asked)) (sym c.told_of.ensures)
+    (told_behind (IsEditAnswer path paths source texts workers room force c.args.order.partial asked)
+    (IsStoppedOrFaulty path source s choice t e.history k qs ds) account c.finish-finished.result
+    (printed c.finish-finished.result done (λ f finished. (
       rows,
       record {
-        run = run_of source texts s c.args.order.force begun d is db ss over whole workers room e worked;
-        closed =
-            closed_of source texts s c.args.order.force begun d is db ss over whole workers room e worked k t
-            c.in_ok-closed.ensures.withdrawn c.in_ok-closed.ensures.settled;
+        run = run;
+        closed = closed;
         edits = finished.edits;
         source_then = finished.is_edited;
         quotes = quotes;
@@ -273,8 +200,41 @@ returns-clause-told g c =
         much = finished.much;
         verifies = finished.verifies;
       },
-      accounted source texts s c.args.order.force begun d is db ss over whole paths workers room e worked asked account first
-          f.spoken _ finished.spoken,
+      accounted source texts s force begun d is db ss over whole paths workers room e worked asked account first f.spoken _ finished.spoken,
       λ all. sym c.as_slice.ensures.value ∙ c.if-not-may_print.ensures.whole refl all,
       is.allowed,
-    )
+    )))
+    refused
+    (λ line stopped. (
+      rows,
+      run,
+      accounted source texts s force begun d is db ss over whole paths workers room e worked asked account first account.spoken []
+          (ap (map string_bytes) first.none_spoken),
+      λ all. sym c.as_slice.ensures.value ∙ c.if-not-may_print.ensures.whole refl all,
+      is.allowed,
+      elim stopped [
+        | inl stops ↦ inl (record { closed = closed; cause = stops })
+        | inr f ↦ inr (record {
+          closed = closed;
+          edits = f.0;
+          source_then = f.2;
+          quotes = quotes;
+          are_quotes = is.quotes;
+          descriptions = descriptions;
+          are_descriptive = is.descriptive;
+          out = f.1;
+          dressed =
+              subst (λ (ds : List Change). IsHalfDressed (done_quotations rows quotes) ds f.2.followed f.0 f.1) same
+              (subst (λ (qs : List Quotation). IsHalfDressed qs ds f.2.followed f.0 f.1) same_quotes f.3);
+          cause = f.4;
+        })
+      ],
+    )))
+
+pub returns-clause-refused : goal.returns-clause-refused
+returns-clause-refused g c =
+    let source = c.args.source.now in
+    let texts = seen_texts c.args.texts.now in
+    let paths = map (λ p. p.now) c.args.order.paths.now in
+    let Q = IsUneditedLine c.args.order.path.now paths source texts c.args.order.workers (edit_room c.args.order.room) c.args.order.force in
+    subst (λ r. IfErr r (IsToldBy Q)) (sym c.told_of.ensures) (lack_behind Q c.in_ok-account.account c.finish-finished.result)

@@ -3,7 +3,7 @@ use Rattle.std.specs.Prelude.{is_some}
 use Rattle.outside.specs.Events.{says}
 use Rattle.conduct.proofs.Behind.{adds_more}
 use Rattle.program.specs.Edits.{clash_line}
-use Rattle.program.proofs.Apart.{apart, over}
+use Rattle.program.proofs.Apart.{emptied, not_emptied, over}
 use Rattle.program.proofs.edit.edit_apart.Goals as goal
 
 pub returns-in-Some : goal.returns-in-Some
@@ -18,14 +18,27 @@ returns-in-Some g c =
           found,
     )
 
-pub returns-in-None : goal.returns-in-None
-returns-in-None g c =
-    let (asked, did, none) = rw c.as_slice.ensures.value at c.in-None.ensures in
-    let rest = c.edit_plain.ensures in
+pub returns-then-not-empty : goal.returns-then-not-empty
+returns-then-not-empty g c =
+    let (asked, did, none) = rw c.as_slice.ensures.value at c.in_default.ensures in
+    let (rest, then, not) = c.if-not-empty.ensures in
     let order = c.args.order.now in
     let paths = map (λ (p : Bor (List ℕ)). p.now) order.paths.items in (
-      asked ++ rest.0,
-      adds_more did rest.1,
-      apart (is_some c.args.keys) paths order.workers order.room order.outputs c.args.outputs order.allowed asked rest.0
-          c.edit_plain.result c.requires.placed none rest.2,
+      asked ++ rest,
+      adds_more did then,
+      not_emptied (is_some c.args.keys) paths order.workers order.room order.outputs c.args.outputs order.allowed asked rest
+          c.requires.placed none not,
+    )
+
+pub returns : goal.returns
+returns g c =
+    let (asked, did, none) = rw c.as_slice.ensures.value at c.in_default.ensures in
+    let (before, then, done) = c.if-not-empty.ensures in
+    let (rest, last, follows) = c.edit_files.ensures in
+    let order = c.args.order.now in
+    let paths = map (λ (p : Bor (List ℕ)). p.now) order.paths.items in (
+      asked ++ (before ++ rest),
+      adds_more did (adds_more then last),
+      emptied (is_some c.args.keys) paths order.workers order.room order.outputs c.args.outputs order.allowed asked before rest
+          c.edit_files.result c.requires.placed none done follows,
     )

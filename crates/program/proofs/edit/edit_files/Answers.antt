@@ -1,34 +1,25 @@
-use Rattle.std.proofs.Common.{◌++◌, ap, ℕ, List, Bor, map}
-use Rattle.std.specs.Prelude.{is_some, Vec}
-use Rattle.std.specs.declared.alloc.Global.{Global}
-use Rattle.program.specs.Edits.{IsAnsweredEdit}
+use Rattle.std.proofs.Common.{◌++◌, [], ℕ, List, Bor, Err, map, refl}
+use Rattle.std.specs.Prelude.{is_some}
 use Rattle.conduct.proofs.Behind.{adds_more}
-use Rattle.conduct.proofs.Followed.{all_read, one_unread}
+use Rattle.program.proofs.Apart.{answer_told}
+use Rattle.program.proofs.EditedThen.{first_and_rest}
 use Rattle.program.proofs.edit.edit_files.Goals as goal
 
 pub returns-in-Err : goal.returns-in-Err
 returns-in-Err g c =
-    let read = c.in-Err.ensures in
-    let told = c.tell_unread.ensures in
-    let order = c.args.order.now in
-    let same = ap (λ (ps : List (Bor (List ℕ))). map (λ (p : Bor (List ℕ)). p.now) ps) c.as_slice.ensures.value in
-    let paths = map (λ (p : Bor (List ℕ)). p.now) order.paths.items in (
-      read.0 ++ told.0,
-      adds_more read.1 told.1,
-      one_unread (IsAnsweredEdit (is_some c.args.keys) paths order.workers order.room c.args.outputs order.allowed) paths _ _
-          c.in-Err.unread read.0 told.0 c.tell_unread.result same read.2 told.2,
-    )
+    let front = c.in-Err.ensures in
+    let rest = c.tell_not_done.ensures in
+    (front.0 ++ rest.0, adds_more front.1 rest.1, (front.0, rest.0, Err c.in-Err.why, refl, front.2, rest.2))
 
-pub returns : goal.returns
-returns g c =
-    let read = c.in_default.ensures in
-    let rest = c.answer_edited.ensures in
+pub returns-in-Ok : goal.returns-in-Ok
+returns-in-Ok g c =
+    let front = c.in-Ok.ensures in
+    let rest = rw c.as_slice.ensures.value at c.tell_edited.ensures in
     let order = c.args.order.now in
-    let same = ap (λ (ps : List (Bor (List ℕ))). map (λ (p : Bor (List ℕ)). p.now) ps) c.as_slice.ensures.value in
     let paths = map (λ (p : Bor (List ℕ)). p.now) order.paths.items in
-    let texts = map (λ (t : Vec ℕ Global). t.items) c.read_all.new.texts.items in (
-      read.0 ++ rest.0,
-      adds_more read.1 rest.1,
-      all_read (IsAnsweredEdit (is_some c.args.keys) paths order.workers order.room c.args.outputs order.allowed) paths _ texts read.0
-          rest.0 c.answer_edited.result same read.2.0 read.2.1 (rw c.as_slice-2.ensures.value at rest.2),
+    let named = first_and_rest (λ (p : Bor (List ℕ)). p.now) order.paths.items (record { ref_ptr = (0, 0); now = [] }) c.requires.any in (
+      front.0 ++ rest.0,
+      adds_more front.1 rest.1,
+      answer_told (is_some c.args.keys) paths _ _ order.workers order.room c.args.outputs order.allowed front.0 rest.0 c.in-Ok.told
+          c.tell_edited.result named front.2 rest.2,
     )

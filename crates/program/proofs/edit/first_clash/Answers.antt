@@ -1,6 +1,6 @@
 use Rattle.std.proofs.Common.{◌++◌, [], ℕ, List, Bor, None, Some, ap, map, option_map, sym, ◌∙◌}
 use Rattle.conduct.proofs.Behind.{adds_more, adds_nothing}
-use Rattle.program.specs.Edits.{replies_path}
+use Rattle.program.specs.Endings.{replies_path}
 use Rattle.program.proofs.Apart.{by_replies, in_first, in_last, in_second, in_third, none_clash}
 use Rattle.program.proofs.EditedThen.{first_and_rest}
 use Rattle.program.proofs.edit.first_clash.Goals as goal

@@ -1,4 +1,4 @@
--- What is left to show of `replies_in`.
+-- What is left to show of `replies_with`.
 use Rattle.std.proofs.Common.{◌≡◌, ◌∙◌, ◌+◌, ◌++◌, [], ℕ, suc, List, length, map, take, refl, sym, ap, subst, arith, add-one, Vec, Global}
 use Rattle.std.specs.Prelude.{All, slice_index_or}
 use Rattle.std.proofs.lemmas.List.{length-map}
@@ -12,10 +12,11 @@ use Rattle.editscripts.specs.Replies.{replies_of}
 use Rattle.editscripts.specs.Views.{seen_texts, beginnings_of}
 use Rattle.editscripts.proofs.Expanding.{get_seen}
 use Rattle.editscripts.proofs.Undoing.{each_seen, each_next}
-use Rattle.editscripts.proofs.replying.replies_in.Goals as goal
+use Rattle.editscripts.proofs.replying.replies_with.Goals as goal
 
 pub loop-n-preserved : goal.loop-n-preserved
 loop-n-preserved c =
+    let w = c.args.written in
     let t = c.args.prelude.now in
     let paths = map (λ p. p.now) c.args.run.now.paths.now in
     let texts = seen_texts c.args.run.now.texts.now in
@@ -27,19 +28,20 @@ loop-n-preserved c =
     let at = slice_get_read rows (length rows) n row refl c.loop-n-test.true c.index-rows-n.is in
     let I = λ (r : Vec Outcome Global). r.items in
     let L : ℕ → List ℕ = λ k. map (line_at (slice_index_or texts k [])) (slice_index_or begin k []) in
-    let G : ℕ → List Outcome → Bytes = λ k outcomes. replies_of t (slice_index_or paths (suc k) []) (L k) (slice_index_or scripts k [])
+    let G : ℕ → List Outcome → Bytes = λ k outcomes. replies_of w t (slice_index_or paths (suc k) []) (L k) (slice_index_or scripts k [])
     outcomes in
-    let path : c.path_at-path.result.now ≡ slice_index_or paths (suc n) [] =
-    c.path_at-path.ensures ∙ ap (λ k. slice_index_or paths k []) (add-one n) in
+    let path : c.path_at.result.now ≡ slice_index_or paths (suc n) [] =
+    c.path_at.ensures ∙ ap (λ k. slice_index_or paths k []) (add-one n) in
     let lines : c.as_slice.result.now ≡ L n = c.as_slice.ensures.value ∙ c.in_ok-lines.ensures in
     let script : c.transactions_at-script.result.now ≡ slice_index_or scripts n [] = c.transactions_at-script.ensures in
     let outcomes : c.as_slice-in-loop-n.result.now ≡ row.items = c.as_slice-in-loop-n.ensures.value in
-    let one : replies_of t c.path_at-path.result.now c.as_slice.result.now c.transactions_at-script.result.now
+    let one : replies_of w t c.path_at.result.now c.as_slice.result.now c.transactions_at-script.result.now
     c.as_slice-in-loop-n.result.now ≡ G n row.items =
-    ap (λ (p : Bytes). replies_of t p c.as_slice.result.now c.transactions_at-script.result.now c.as_slice-in-loop-n.result.now) path
-    ∙ ap (λ ls. replies_of t (slice_index_or paths (suc n) []) ls c.transactions_at-script.result.now c.as_slice-in-loop-n.result.now) lines
-    ∙ ap (λ (x : Orders). replies_of t (slice_index_or paths (suc n) []) (L n) x c.as_slice-in-loop-n.result.now) script
-    ∙ ap (λ os. replies_of t (slice_index_or paths (suc n) []) (L n) (slice_index_or scripts n []) os) outcomes in
+    ap (λ (p : Bytes). replies_of w t p c.as_slice.result.now c.transactions_at-script.result.now c.as_slice-in-loop-n.result.now) path
+    ∙ ap
+    (λ ls. replies_of w t (slice_index_or paths (suc n) []) ls c.transactions_at-script.result.now c.as_slice-in-loop-n.result.now) lines
+    ∙ ap (λ (x : Orders). replies_of w t (slice_index_or paths (suc n) []) (L n) x c.as_slice-in-loop-n.result.now) script
+    ∙ ap (λ os. replies_of w t (slice_index_or paths (suc n) []) (L n) (slice_index_or scripts n []) os) outcomes in
     let before = c.loop-n.out.items in
     each_next (λ k r. G k (I r)) rows n row at c.loop-n-test.true [] before _ (c.in_ok-put_replies.ensures ∙ ap (λ ls. before ++ ls) one)
     (c.loop-n.invariant ∙ each_seen I G 0 (take n rows))
