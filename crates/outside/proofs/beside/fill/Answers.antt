@@ -10,6 +10,9 @@ returns-in-Err-sync g c = λ real beside at.
     let text = c.args.text.now in (
       fills beside text true ∷ (syncs beside false ∷ []),
       does_more filled synced,
-      (begun_more real beside (fills beside text true ∷ []) (syncs beside false ∷ []) (begun_fills real beside text true)
-          (begun_syncs real beside false), inr (inl refl)),
+      (
+        begun_more real beside (fills beside text true ∷ []) (syncs beside false ∷ []) (begun_fills real beside text true)
+            (begun_syncs real beside false),
+        inr (inl refl),
+      ),
     )

@@ -45,4 +45,5 @@ loop-number-preserved g c =
 
 pub returns-clause-unmade : goal.returns-clause-unmade
 returns-clause-unmade g c =
-    let (tried, in_vain, fails, did) = c.loop-number.invariant in (tried, all_vain tried in_vain, λ refused. fails (omega (arith, c.loop-number-test.false)), did)
+    let (tried, in_vain, fails, did) = c.loop-number.invariant in
+    (tried, all_vain tried in_vain, λ refused. fails (omega (arith, c.loop-number-test.false)), did)

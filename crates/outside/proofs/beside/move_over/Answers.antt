@@ -16,8 +16,10 @@ returns-in-Err-fill g c =
     let (filled, then, (begun, fails)) = c.in-Err-fill.ensures real beside c.requires in (
       permitted ++ filled,
       does_more did then,
-      (begun_more real beside permitted filled (subst (IsBegun real beside) (sym are) (begun_permissions real beside old)) begun,
-          fails_behind permitted filled fails),
+      (
+        begun_more real beside permitted filled (subst (IsBegun real beside) (sym are) (begun_permissions real beside old)) begun,
+        fails_behind permitted filled fails,
+      ),
     )
 
 pub returns-in-Err-rename : goal.returns-in-Err-rename
@@ -30,7 +32,10 @@ returns-in-Err-rename g c =
     let (filled, then, is) = c.in_default-fill.ensures real beside c.requires in (
       permitted ++ (filled ++ last),
       does_more did (does_more then c.in-Err-rename.ensures),
-      (begun_more real beside permitted (filled ++ last) (subst (IsBegun real beside) (sym are) (begun_permissions real beside old))
-          (begun_more real beside filled last (subst (IsBegun real beside) (sym is) (begun_synced real beside c.args.text.now))
-          (begun_unmoved real beside)), fails_behind permitted (filled ++ last) (fails_behind filled last (inl refl))),
+      (
+        begun_more real beside permitted (filled ++ last) (subst (IsBegun real beside) (sym are) (begun_permissions real beside old))
+            (begun_more real beside filled last (subst (IsBegun real beside) (sym is) (begun_synced real beside c.args.text.now))
+            (begun_unmoved real beside)),
+        fails_behind permitted (filled ++ last) (fails_behind filled last (inl refl)),
+      ),
     )

@@ -22,6 +22,9 @@ returns-in-Err-Denied g c =
 
 pub returns-in-Err-Other : goal.returns-in-Err-Other
 returns-in-Err-Other g c =
-    let (tried, vain, fails, did) = rw c.in-Err-Other.field-0-is at c.in-Err-Other.ensures.unmade in
-    (tried, did, inl (vain_put c.args.real.now c.not_written.result _ c.not_written.ensures.none vain
-    (λ refused. fails (sym c.not_written.ensures.why ∙ refused))))
+    let (tried, vain, fails, did) = rw c.in-Err-Other.field-0-is at c.in-Err-Other.ensures.unmade in (
+      tried,
+      did,
+      inl (vain_put c.args.real.now c.not_written.result _ c.not_written.ensures.none vain
+          (λ refused. fails (sym c.not_written.ensures.why ∙ refused))),
+    )

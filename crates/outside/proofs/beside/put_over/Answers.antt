@@ -20,6 +20,9 @@ returns-in-Err-Denied g c =
 
 pub returns-in-Err-Other : goal.returns-in-Err-Other
 returns-in-Err-Other g c =
-    let (tried, vain, fails, did) = rw c.in-Err-Other.field-0-is at c.in-Err-Other.ensures.unmade in
-    (tried, did, vain_put c.args.real.now c.not_written-in-Err-Other.result _ c.not_written-in-Err-Other.ensures.none vain
-    (λ refused. fails (sym c.not_written-in-Err-Other.ensures.why ∙ refused)))
+    let (tried, vain, fails, did) = rw c.in-Err-Other.field-0-is at c.in-Err-Other.ensures.unmade in (
+      tried,
+      did,
+      vain_put c.args.real.now c.not_written-in-Err-Other.result _ c.not_written-in-Err-Other.ensures.none vain
+          (λ refused. fails (sym c.not_written-in-Err-Other.ensures.why ∙ refused)),
+    )
