@@ -1,5 +1,5 @@
 -- What was read and what stands on the streams, behind one thing more.
-use Rattle.std.proofs.Common.{◌≡◌, ◌∙◌, ◌++◌, ◌∷◌, [], ℕ, Bool, true, false, List, Option, Some, None, Result, Ok, Err, ap, append_assoc, append-nil, codes, refl, subst, sym, inl, inr, take}
+use Rattle.std.proofs.Common.{◌≡◌, ◌⊎◌, ◌∙◌, ◌++◌, ◌∷◌, [], ℕ, Bool, true, false, List, Option, Some, None, Result, Ok, Err, ap, append_assoc, append-nil, codes, refl, subst, sym, inl, inr, take}
 use Rattle.std.specs.Prelude.{IfErr, IfOk, IfSome, Vec}
 use Rattle.std.specs.declared.alloc.Global.{Global}
 use Rattle.std.specs.Io.KnownBytes.{Appends}
@@ -61,13 +61,6 @@ pub grows_none : (puts : Puts) (known : Option Bytes) (e : Event) → puts e [] 
 grows_none puts None e put own = ([], put, tt)
 grows_none puts (Some held) e put own = ([], put, sym (append-nil held))
 
--- ---- what was read
-
-held_behind : (holds : Bytes → Option Bytes) (refuses : Bytes → Type 0) (front : List Event) (e : Event) → AreHeld holds refuses front
-    → IsHeld holds refuses e → AreHeld holds refuses (front ++ e ∷ [])
-held_behind holds refuses [] e held more = (more, tt)
-held_behind holds refuses (f ∷ front) e held more = (held.0, held_behind holds refuses front e held.1 more)
-
 -- ---- what failed has failed
 
 put_lasts : {F G : Type 0} → (F → G) → (text : Bytes) (whole : Bool) (here : Bytes) → IsPut F text whole here → IsPut G text whole here
@@ -104,42 +97,89 @@ err_lasts f (shows error whole) here put = tt
 
 -- ---- all of it
 
+-- what is outside, where this is known of files and streams
+abbrev pub telling : Outside → (Bytes → Option Bytes) → Option Bytes → Type 0 → Option Bytes → Type 0 → Outside
+telling o holds out out_failed err err_failed = record {
+  holds = holds;
+  refuses = o.refuses;
+  tells_one = o.tells_one;
+  tells_plain = o.tells_plain;
+  out = out;
+  out_failed = out_failed;
+  err = err;
+  err_failed = err_failed;
+}
+
 -- what is outside goes on: what is known of files stays, and what failed has failed
 pub record GoesOn (old new : Outside) : Type 0 where
   pub holds : new.holds ≡ old.holds
   pub refuses : (path : Bytes) → old.refuses path → new.refuses path
+  pub tells_one : (one other : Bytes) (same : Bool) → old.tells_one one other same → new.tells_one one other same
+  pub tells_plain : (path : Bytes) (plain : Bool) → old.tells_plain path plain → new.tells_plain path plain
   pub out_failed : old.out_failed → new.out_failed
   pub err_failed : old.err_failed → new.err_failed
 
-adds_one : (old new : Outside) (e : Event) → GoesOn old new → new.refuses ≡ old.refuses → IsHeld new.holds new.refuses e
-    → Grows (PutsOut new.out_failed) old.out new.out e → Grows (PutsErr new.err_failed) old.err new.err e
-    → Adds (AreDone old) (AreDone new) (e ∷ [])
-adds_one old new e on same held out err = record {
+held_lasts : (old new : Outside) → GoesOn old new → (e : Event) → IsHeld old e → IsHeld new e
+held_lasts old new on (reads path (Some text)) held =
+    subst (λ (h : Bytes → Option Bytes). IfSome (h path) (λ known. text ≡ take MOST_READ known)) (sym on.holds) held
+held_lasts old new on (reads path None) held = on.refuses path held
+held_lasts old new on (lacks path) held = tt
+held_lasts old new on (compares one other same) (inl equal) = inl equal
+held_lasts old new on (compares one other same) (inr told) = inr (on.tells_one one other same told)
+held_lasts old new on (asks path plain) held = on.tells_plain path plain held
+held_lasts old new on (writes path text whole) held = tt
+held_lasts old new on (replaces path text whole) held = tt
+held_lasts old new on (leaves path) held = tt
+held_lasts old new on (prints text whole) held = tt
+held_lasts old new on (says line) held = tt
+held_lasts old new on (shows error whole) held = tt
+
+held_behind : (old new : Outside) → GoesOn old new → (front : List Event) (e : Event) → AreHeld old front → IsHeld new e
+    → AreHeld new (front ++ e ∷ [])
+held_behind old new on [] e held more = (more, tt)
+held_behind old new on (f ∷ front) e held more = (held_lasts old new on f held.0, held_behind old new on front e held.1 more)
+
+adds_one : (old new : Outside) (e : Event) → GoesOn old new → IsHeld new e → Grows (PutsOut new.out_failed) old.out new.out e
+    → Grows (PutsErr new.err_failed) old.err new.err e → Adds (AreDone old) (AreDone new) (e ∷ [])
+adds_one old new e on held out err = record {
   behind = λ front before. record {
-    held = held_behind new.holds new.refuses front e
-        (subst (λ (r : Bytes → Type 0). AreHeld new.holds r front) (sym same)
-        (subst (λ (h : Bytes → Option Bytes). AreHeld h old.refuses front) (sym on.holds) before.held)) held;
+    held = held_behind old new on front e before.held held;
     printed = on_behind (PutsOut old.out_failed) (PutsOut new.out_failed) (out_lasts on.out_failed) old.out new.out front e before.printed
         out;
     said = on_behind (PutsErr old.err_failed) (PutsErr new.err_failed) (err_lasts on.err_failed) old.err new.err front e before.said err;
   };
 }
 
--- what is outside stays
+-- what is outside stays, but for what is known of files, which is the same, and for what failed
+pub goes_on : (o : Outside) (holds : Bytes → Option Bytes) (out : Option Bytes) (out_failed : Type 0) (err : Option Bytes)
+    (err_failed : Type 0) → holds ≡ o.holds → (o.out_failed → out_failed) → (o.err_failed → err_failed)
+    → GoesOn o (telling o holds out out_failed err err_failed)
+goes_on o holds out out_failed err err_failed same outs errs = record {
+  holds = same;
+  refuses = λ path r. r;
+  tells_one = λ one other is t. t;
+  tells_plain = λ path is t. t;
+  out_failed = outs;
+  err_failed = errs;
+}
+
 stays : (o : Outside) → GoesOn o o
-stays o = record { holds = refl; refuses = λ path r. r; out_failed = λ f. f; err_failed = λ f. f }
+stays o = goes_on o o.holds o.out o.out_failed o.err o.err_failed refl (λ f. f) (λ f. f)
 
 -- something that puts nothing on either stream
-adds_none : (o : Outside) (e : Event) → IsHeld o.holds o.refuses e → PutsOut o.out_failed e [] → PutsErr o.err_failed e []
+adds_none : (o : Outside) (e : Event) → IsHeld o e → PutsOut o.out_failed e [] → PutsErr o.err_failed e []
     → Adds (AreDone o) (AreDone o) (e ∷ [])
 adds_none o e held out err =
-    adds_one o o e (stays o) refl held (grows_none (PutsOut o.out_failed) o.out e out) (grows_none (PutsErr o.err_failed) o.err e err)
+    adds_one o o e (stays o) held (grows_none (PutsOut o.out_failed) o.out e out) (grows_none (PutsErr o.err_failed) o.err e err)
 
-pub adds_compare : (o : Outside) (one other : Bytes) (same : Bool) → Adds (AreDone o) (AreDone o) (compares one other same ∷ [])
-adds_compare o one other same = adds_none o (compares one other same) tt refl refl
+-- it is asked whether two paths lead to one file, which are equal, or of which the system tells it
+pub adds_compare : (o : Outside) (one other : Bytes) (same : Bool) → ((one ≡ other) × (same ≡ true)) ⊎ o.tells_one one other same
+    → Adds (AreDone o) (AreDone o) (compares one other same ∷ [])
+adds_compare o one other same held = adds_none o (compares one other same) held refl refl
 
-pub adds_ask : (o : Outside) (path : Bytes) (plain : Bool) → Adds (AreDone o) (AreDone o) (asks path plain ∷ [])
-adds_ask o path plain = adds_none o (asks path plain) tt refl refl
+pub adds_ask : (o : Outside) (path : Bytes) (plain : Bool) → o.tells_plain path plain
+    → Adds (AreDone o) (AreDone o) (asks path plain ∷ [])
+adds_ask o path plain told = adds_none o (asks path plain) told refl refl
 
 -- the file at a path was read, or it wasn't
 pub adds_reading : (o : Outside) (path : Bytes) (r : Result (Vec ℕ Global) Trouble)
@@ -153,19 +193,12 @@ adds_reading o path (Err trouble.NoMemory) held refused = adds_none o (lacks pat
 
 -- what a disk tells behind deeds
 abbrev pub behind_deeds : Outside → (Bytes → Option Bytes) → Outside
-behind_deeds o now = record {
-  holds = now;
-  refuses = o.refuses;
-  out = o.out;
-  out_failed = o.out_failed;
-  err = o.err;
-  err_failed = o.err_failed;
-}
+behind_deeds o now = telling o now o.out o.out_failed o.err o.err_failed
 
-adds_deed : (o : Outside) (now : Bytes → Option Bytes) (e : Event) → now ≡ o.holds → IsHeld now o.refuses e
+adds_deed : (o : Outside) (now : Bytes → Option Bytes) (e : Event) → now ≡ o.holds → IsHeld (behind_deeds o now) e
     → PutsOut o.out_failed e [] → PutsErr o.err_failed e [] → Adds (AreDone o) (AreDone (behind_deeds o now)) (e ∷ [])
 adds_deed o now e kept held out err =
-    adds_one o (behind_deeds o now) e (record { holds = kept; refuses = λ path r. r; out_failed = λ f. f; err_failed = λ f. f }) refl held
+    adds_one o (behind_deeds o now) e (goes_on o now o.out o.out_failed o.err o.err_failed kept (λ f. f) (λ f. f)) held
     (grows_none (PutsOut o.out_failed) o.out e out) (grows_none (PutsErr o.err_failed) o.err e err)
 
 -- and a new file may be left
@@ -196,14 +229,7 @@ adds_replace o now path text whole r kept =
 
 -- what streams tell behind more
 abbrev pub behind_put : Outside → Option Bytes → Type 0 → Option Bytes → Type 0 → Outside
-behind_put o out out_failed err err_failed = record {
-  holds = o.holds;
-  refuses = o.refuses;
-  out = out;
-  out_failed = out_failed;
-  err = err;
-  err_failed = err_failed;
-}
+behind_put o out out_failed err err_failed = telling o o.holds out out_failed err err_failed
 
 same_appends : (old new : Option Bytes) → new ≡ old → Appends old new []
 same_appends None new is = tt
@@ -224,7 +250,7 @@ pub adds_print : (o : Outside) (out : Option Bytes) (out_failed : Type 0) (err :
     → Adds (AreDone o) (AreDone (behind_put o out out_failed err err_failed)) (prints text whole ∷ [])
 adds_print o out out_failed err err_failed text whole put lasts other =
     adds_one o (behind_put o out out_failed err err_failed) (prints text whole)
-    (record { holds = refl; refuses = λ path r. r; out_failed = lasts; err_failed = other.lasts }) refl tt
+    (goes_on o o.holds out out_failed err err_failed refl lasts other.lasts) tt
     (λ own. text_appended out_failed o.out out text whole put) (λ own. ([], refl, same_appends o.err err other.same))
 
 pub adds_line : (o : Outside) (out : Option Bytes) (out_failed : Type 0) (err : Option Bytes) (err_failed : Type 0) (line : Bytes)
@@ -232,7 +258,7 @@ pub adds_line : (o : Outside) (out : Option Bytes) (out_failed : Type 0) (err : 
     → Stays o.out_failed out_failed o.out out → Adds (AreDone o) (AreDone (behind_put o out out_failed err err_failed)) (says line ∷ [])
 adds_line o out out_failed err err_failed line whole put lasts other =
     adds_one o (behind_put o out out_failed err err_failed) (says line)
-    (record { holds = refl; refuses = λ path r. r; out_failed = other.lasts; err_failed = lasts }) refl tt
+    (goes_on o o.holds out out_failed err err_failed refl other.lasts lasts) tt
     (λ own. ([], refl, same_appends o.out out other.same)) (λ own. line_appended err_failed o.err err line whole put)
 
 -- the parser is shown
@@ -241,4 +267,4 @@ pub adds_shown : (o : Outside) (out : Option Bytes) (out_failed : Type 0) (err :
     → Adds (AreDone o) (AreDone (behind_put o out out_failed err err_failed)) (shows error whole ∷ [])
 adds_shown o out out_failed err err_failed error whole outs errs =
     adds_one o (behind_put o out out_failed err err_failed) (shows error whole)
-    (record { holds = refl; refuses = λ path r. r; out_failed = outs; err_failed = errs }) refl tt (λ own. absurd own) (λ own. absurd own)
+    (goes_on o o.holds out out_failed err err_failed refl outs errs) tt (λ own. absurd own) (λ own. absurd own)

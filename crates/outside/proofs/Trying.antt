@@ -2,10 +2,12 @@
 use Rattle.std.proofs.Common.{◌≡◌, ◌≢◌, ◌∙◌, ◌++◌, ◌∷◌, [], Bool, true, false, List, Option, Some, None, Result, Ok, Err, ap, append_assoc, append-nil, refl, subst, sym, inl, inr, bytes_eq, if◌then◌else◌, ℕ, length, arith, ◌+◌, suc}
 use Rattle.std.proofs.lemmas.Slice.Eq.{bytes_eq-Decides}
 use Rattle.std.proofs.lemmas.List.{length-append}
-use Rattle.outside.specs.Events.{Bytes}
-use Rattle.outside.specs.Deeds.{Deed, Does, Each, IsGivenUp, IsMovedOver, IsTaken, Spares, all_left, cuts, denied, fills, left_by, listed, made as made', makes, unmade, moves, permissions_of, permits, removes, syncs, taken, without}
+use Rattle.std.specs.Prelude.{option_map, string_bytes}
+use Rattle.outside.specs.Events.{Bytes, left_of}
+use Rattle.outside.specs.Deeds.{Deed, Does, Each, IsGivenUp, IsMovedOver, IsTaken, OneFails, Spares, Unmaking, all_left, cuts, denied, fills, left_by, listed, made as made', makes, unmade, moves, permissions_of, permits, removes, syncs, taken, without}
 use Rattle.outside.specs.Tried.{IsBegun, IsFinished, IsMade, IsMoved, IsTakenBack, IsVain, Turn}
-use Rattle.outside.specs.Written.{IsPutAt, IsPutInto, IsPutOver, left_of}
+use Rattle.outside.specs.Written.{IsPutAt, IsPutInto, IsPutOver}
+use Rattle.outside.specs.declared.trouble.Trouble.TheVariants as trouble
 use Rattle.outside.specs.declared.trouble.Unwritten.{Unwritten}
 
 -- ---- one after another
@@ -71,8 +73,28 @@ none_left paths [] is = refl
 none_left paths (d ∷ ds) is = ap (λ (ps : List Bytes). all_left ps ds) (vain_leaves paths d is.0) ∙ none_left paths ds is.1
 
 -- nothing but that was done: the old file stays
-pub given_up : (real : Bytes) (ds : List Deed) → Each IsVain ds → IsGivenUp real None ds
-given_up real ds is = record { spared = all_spare real ds is; gone = none_left [] ds is }
+pub vain_put : (real : Bytes) (why : Unwritten) (ds : List Deed) → why.left ≡ None → Each IsVain ds
+    → (why.trouble ≡ trouble.Refused → OneFails ds) → IsGivenUp real why ds
+vain_put real why ds none vain failed = record {
+  spared = all_spare real ds vain;
+  gone = none_left [] ds vain ∙ ap (λ (left : Option _). listed (option_map string_bytes left)) (sym none);
+  failed = failed;
+}
+
+-- ---- one of them fails
+
+fails_front : (ds es : List Deed) → OneFails ds → OneFails (ds ++ es)
+fails_front [] es fails = absurd fails
+fails_front (d ∷ ds) es (inl here) = inl here
+fails_front (d ∷ ds) es (inr there) = inr (fails_front ds es there)
+
+pub fails_behind : (ds es : List Deed) → OneFails es → OneFails (ds ++ es)
+fails_behind [] es fails = fails
+fails_behind (d ∷ ds) es fails = inr (fails_behind ds es fails)
+
+-- the last is a file that isn't made
+pub unmade_fails : (tried : List Deed) (path : Bytes) (why : Unmaking) → OneFails (tried ++ makes path (unmade why) ∷ [])
+unmade_fails tried path why = fails_behind tried (makes path (unmade why) ∷ []) (inl (λ e. absurd cc))
 
 -- ---- on the new file
 
@@ -127,16 +149,16 @@ left_back beside true = taken_out beside
 left_back beside false = refl
 
 -- a file was made, and all was taken back
-pub taken_back : (real beside : Bytes) (left : Option Bytes) (tried ds : List Deed) → beside ≢ real → Each IsTaken tried
-    → IsTakenBack real beside left ds → IsGivenUp real left ((tried ++ makes beside made' ∷ []) ++ ds)
-taken_back real beside left tried ds other in_vain back =
+pub taken_back : (real beside : Bytes) (why : Unwritten) (tried ds : List Deed) → beside ≢ real → Each IsTaken tried
+    → IsTakenBack real beside (left_of why) ds → IsGivenUp real why ((tried ++ makes beside made' ∷ []) ++ ds)
+taken_back real beside why tried ds other in_vain back =
     let vain = all_vain tried in_vain in
     let end = removes beside back.gone ∷ [] in
     let spared : Each (Spares real) ds = subst (Each (Spares real)) (sym back.each)
-    (each_both (Spares real) back.begun end (back.is_begun.spared other) (other, tt)) in
-    let left_here : all_left (beside ∷ []) ds ≡ listed left =
+    (each_both (Spares real) back.begun end (back.is_stopped.0.spared other) (other, tt)) in
+    let left_here : all_left (beside ∷ []) ds ≡ listed (left_of why) =
     ap (all_left (beside ∷ [])) back.each ∙ (left_both (beside ∷ []) back.begun end
-    ∙ (ap (λ (ps : List Bytes). all_left ps end) (back.is_begun.there (beside ∷ []))
+    ∙ (ap (λ (ps : List Bytes). all_left ps end) (back.is_stopped.0.there (beside ∷ []))
     ∙ (left_back beside back.gone ∙ ap listed (sym back.told)))) in
     record {
       spared = each_both (Spares real) (tried ++ makes beside made' ∷ []) ds
@@ -144,6 +166,8 @@ taken_back real beside left tried ds other in_vain back =
       gone = left_both [] (tried ++ makes beside made' ∷ []) ds
           ∙ (ap (λ (ps : List Bytes). all_left ps ds) (left_both [] tried (makes beside made' ∷ [])
           ∙ ap (λ (ps : List Bytes). beside ∷ ps) (none_left [] tried vain)) ∙ left_here);
+      failed = λ refused. fails_behind (tried ++ makes beside made' ∷ []) ds
+          (subst OneFails (sym back.each) (fails_front back.begun end back.is_stopped.1));
     }
 
 pub begun_synced : (real beside text : Bytes) → IsBegun real beside (fills beside text true ∷ syncs beside true ∷ [])
@@ -160,7 +184,7 @@ finished t old real beside text (Ok done) made ds did end =
     (all, does_more made.did did, moved_over old real beside text made.tried ds made.another made.in_vain end)
 finished t old real beside text (Err why) made ds did end =
     let all = (made.tried ++ makes beside made' ∷ []) ++ ds in
-    (all, does_more made.did did, taken_back real beside _ made.tried ds made.another made.in_vain end)
+    (all, does_more made.did did, taken_back real beside why made.tried ds made.another made.in_vain end)
 
 -- one path more was tried in vain
 pub vain_more : (tried : List Deed) (d : Deed) → Each IsVain tried → IsVain d → Each IsVain (tried ++ d ∷ [])
@@ -205,10 +229,6 @@ put_denied old real beside text tried cut (Err why) in_vain put = inr (
     each = append_assoc tried (makes beside (unmade denied) ∷ []) cut;
   },
 )
-
--- nothing is left where nothing was made
-pub vain_put : (real : Bytes) (why : Unwritten) (ds : List Deed) → why.left ≡ None → Each IsVain ds → IsGivenUp real (left_of why) ds
-vain_put real why ds none vain = rw none (given_up real ds vain)
 
 pub denied_vain : (tried : List Deed) (beside : Bytes) → Each IsTaken tried → Each IsVain (tried ++ makes beside (unmade denied) ∷ [])
 denied_vain tried beside in_vain = vain_more tried (makes beside (unmade denied)) (all_vain tried in_vain) (λ e. absurd cc)

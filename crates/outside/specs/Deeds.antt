@@ -3,7 +3,9 @@
 use Rattle.std.specs.Prelude.{◌≡◌, ◌≢◌, ◌⊎◌, Bool, true, false, List, [], ◌∷◌, ◌++◌, Option, Some, None, filter}
 use mathlib.Core.Bool.{not}
 use Rattle.std.specs.Str.{bytes_eq}
-use Rattle.outside.specs.Events.{Bytes}
+use Rattle.outside.specs.declared.trouble.Trouble.TheVariants as trouble
+use Rattle.outside.specs.declared.trouble.Unwritten.{Unwritten}
+use Rattle.outside.specs.Events.{Bytes, left_of}
 
 -- why a file isn't made at a path: something is there, the folder doesn't allow it, or the system can't
 pub data Unmaking : Type 0 where
@@ -37,6 +39,21 @@ pub record Does (before after : List Deed → Type 0) (known now : Bytes → Opt
 abbrev pub Each : (Deed → Type 0) → List Deed → Type 0
 Each P [] = Unit {0}
 Each P (d ∷ ds) = P d × Each P ds
+
+-- this can't be done
+abbrev pub Fails : Deed → Type 0
+Fails (makes path how) = how ≢ made
+Fails (cuts path done) = done ≡ false
+Fails (permits path from done) = done ≡ false
+Fails (fills path text whole) = whole ≡ false
+Fails (syncs path done) = done ≡ false
+Fails (moves from to done) = done ≡ false
+Fails (removes path done) = done ≡ false
+
+-- nor can one of these
+abbrev pub OneFails : List Deed → Type 0
+OneFails [] = ⊥
+OneFails (d ∷ ds) = Fails d ⊎ OneFails ds
 
 -- ---- other files
 
@@ -102,10 +119,11 @@ pub record IsMovedOver (old : Option Bytes) (real text : Bytes) (ds : List Deed)
   pub each : ds ≡ tried ++ (makes beside made ∷ (permissions_of old beside
       ++ (fills beside text true ∷ syncs beside true ∷ moves beside real true ∷ [])))
 
--- the old file stays as it is, and no new one is left but the one that is told
-pub record IsGivenUp (real : Bytes) (left : Option Bytes) (ds : List Deed) : Type 0 where
+-- the old file stays as it is, and no new one is left but the one that is told; and unless memory ran out, something can't be done
+pub record IsGivenUp (real : Bytes) (why : Unwritten) (ds : List Deed) : Type 0 where
   pub spared : Each (Spares real) ds
-  pub gone : all_left [] ds ≡ listed left
+  pub gone : all_left [] ds ≡ listed (left_of why)
+  pub failed : why.trouble ≡ trouble.Refused → OneFails ds
 
 -- ---- a text is written over what a file has
 

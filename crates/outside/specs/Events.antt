@@ -39,9 +39,12 @@ reading_of path (Err trouble.Refused) = reads path None
 reading_of path (Err trouble.NoMemory) = lacks path
 
 -- the new file that is left where a text isn't where it is to be
+abbrev pub left_of : Unwritten → Option Bytes
+left_of why = option_map string_bytes why.left
+
 abbrev pub path_left : {A : Type 0} → Result A Unwritten → Option Bytes
 path_left (Ok done) = None
-path_left (Err why) = option_map string_bytes why.left
+path_left (Err why) = left_of why
 
 abbrev pub leaving : Option Bytes → List Event
 leaving (Some path) = leaves path ∷ []

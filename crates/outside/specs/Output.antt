@@ -69,41 +69,42 @@ AreOwn (e ∷ es) = IsOwn e × AreOwn es
 abbrev pub IsOn : (Event → Bytes → Type 0) → Option Bytes → List Event → Type 0
 IsOn puts known es = AreOwn es → (held : Bytes) × (known ≡ Some held) × Stands puts es held
 
--- ---- what was read
-
--- a text that was read is all that its file holds, up to one byte more than any text may have, where that is known; a file that wasn't read
--- is one that the system refuses
-abbrev pub IsHeld : (Bytes → Option Bytes) → (Bytes → Type 0) → Event → Type 0
-IsHeld holds refuses (reads path (Some text)) = IfSome (holds path) (λ held. text ≡ take MOST_READ held)
-IsHeld holds refuses (reads path None) = refuses path
-IsHeld holds refuses (lacks path) = Unit {0}
-IsHeld holds refuses (compares one other same) = Unit {0}
-IsHeld holds refuses (asks path plain) = Unit {0}
-IsHeld holds refuses (writes path text whole) = Unit {0}
-IsHeld holds refuses (replaces path text whole) = Unit {0}
-IsHeld holds refuses (leaves path) = Unit {0}
-IsHeld holds refuses (prints text whole) = Unit {0}
-IsHeld holds refuses (says line) = Unit {0}
-IsHeld holds refuses (shows error whole) = Unit {0}
-
-abbrev pub AreHeld : (Bytes → Option Bytes) → (Bytes → Type 0) → List Event → Type 0
-AreHeld holds refuses [] = Unit {0}
-AreHeld holds refuses (e ∷ es) = IsHeld holds refuses e × AreHeld holds refuses es
-
 -- ---- all of it
 
--- what the files and the streams tell: what is known of files, which of them the system refuses, what stands on either stream, and whether
--- a write on it failed
+-- what the files and the streams tell: what is known of files, which of them the system refuses, what it answers on two paths, and on one,
+-- what stands on either stream, and whether a write on it failed
 pub record Outside : Type 1 where
   pub holds : Bytes → Option Bytes
   pub refuses : Bytes → Type 0
+  pub tells_one : Bytes → Bytes → Bool → Type 0
+  pub tells_plain : Bytes → Bool → Type 0
   pub out : Option Bytes
   pub out_failed : Type 0
   pub err : Option Bytes
   pub err_failed : Type 0
 
+-- a text that was read is all that its file holds, up to one byte more than any text may have, where that is known; a file that wasn't read
+-- is one that the system refuses; two paths lead to one file where they are equal, or the system tells so, and else it tells that they
+-- don't; and a path leads to a plain file just where the system tells so
+abbrev pub IsHeld : Outside → Event → Type 0
+IsHeld o (reads path (Some text)) = IfSome (o.holds path) (λ held. text ≡ take MOST_READ held)
+IsHeld o (reads path None) = o.refuses path
+IsHeld o (lacks path) = Unit {0}
+IsHeld o (compares one other same) = ((one ≡ other) × (same ≡ true)) ⊎ o.tells_one one other same
+IsHeld o (asks path plain) = o.tells_plain path plain
+IsHeld o (writes path text whole) = Unit {0}
+IsHeld o (replaces path text whole) = Unit {0}
+IsHeld o (leaves path) = Unit {0}
+IsHeld o (prints text whole) = Unit {0}
+IsHeld o (says line) = Unit {0}
+IsHeld o (shows error whole) = Unit {0}
+
+abbrev pub AreHeld : Outside → List Event → Type 0
+AreHeld o [] = Unit {0}
+AreHeld o (e ∷ es) = IsHeld o e × AreHeld o es
+
 -- these were done, as far as they tell
 pub record AreDone (o : Outside) (es : List Event) : Type 0 where
-  pub held : AreHeld o.holds o.refuses es
+  pub held : AreHeld o es
   pub printed : IsOn (PutsOut o.out_failed) o.out es
   pub said : IsOn (PutsErr o.err_failed) o.err es

@@ -1,8 +1,8 @@
 -- Of the code's inside, apart from the rules: how far it went with a new file beside another.
 use Rattle.std.specs.Prelude.{◌≡◌, ◌≢◌, true, false, Bool, List, [], ◌∷◌, ◌++◌, Option, Some, None, Result, Ok, Err, if◌then◌else◌}
-use Rattle.outside.specs.Events.{Bytes}
-use Rattle.outside.specs.Deeds.{Deed, Does, Each, makes, made, unmade, denied, fills, syncs, moves, removes, IsTaken, Spares, all_left, permissions_of}
-use Rattle.outside.specs.Written.{left_of}
+use Rattle.outside.specs.Events.{Bytes, left_of}
+use Rattle.outside.specs.Deeds.{Deed, Does, Each, makes, made, unmade, denied, fills, syncs, moves, removes, IsTaken, OneFails, Spares, all_left, permissions_of}
+use Rattle.outside.specs.declared.trouble.Trouble.TheVariants as trouble
 use Rattle.outside.specs.declared.trouble.Unwritten.{Unwritten}
 use Rattle.outside.specs.declared.beside.Unmade.{Unmade}
 use Rattle.outside.specs.declared.beside.Unmade.TheVariants as unmade
@@ -33,31 +33,36 @@ pub record IsMade (t : Turn) (real beside : Bytes) : Type 0 where
 abbrev pub IsUnmade : Turn → Unmade → Type 0
 IsUnmade t unmade.Denied =
     (tried : List Deed) × (beside : Bytes) × Each IsTaken tried × Turns t (tried ++ makes beside (unmade denied) ∷ [])
-IsUnmade t (unmade.Other why) = (tried : List Deed) × Each IsVain tried × Turns t tried
+IsUnmade t (unmade.Other why) =
+    (tried : List Deed) × Each IsVain tried × (why ≡ trouble.Refused → OneFails tried) × Turns t tried
 
 -- these are deeds on a new file, which is there still
 pub record IsBegun (real beside : Bytes) (ds : List Deed) : Type 0 where
   pub spared : beside ≢ real → Each (Spares real) ds
   pub there : (paths : List Bytes) → all_left paths ds ≡ paths
 
+-- and the last can't be done
+abbrev pub IsStopped : Bytes → Bytes → List Deed → Type 0
+IsStopped real beside ds = IsBegun real beside ds × OneFails ds
+
 -- it got its permissions, its text, or all of it
 abbrev pub IsPermitted : Option Bytes → Bytes → Bytes → Bool → List Deed → Type 0
 IsPermitted old real beside true ds = ds ≡ permissions_of old beside
-IsPermitted old real beside false ds = IsBegun real beside ds
+IsPermitted old real beside false ds = IsStopped real beside ds
 
 abbrev pub IsFilled : Bytes → Bytes → Bytes → Bool → List Deed → Type 0
 IsFilled real beside text true ds = ds ≡ fills beside text true ∷ syncs beside true ∷ []
-IsFilled real beside text false ds = IsBegun real beside ds
+IsFilled real beside text false ds = IsStopped real beside ds
 
 abbrev pub IsMoved : Option Bytes → Bytes → Bytes → Bytes → Bool → List Deed → Type 0
 IsMoved old real beside text true ds =
     ds ≡ permissions_of old beside ++ (fills beside text true ∷ syncs beside true ∷ moves beside real true ∷ [])
-IsMoved old real beside text false ds = IsBegun real beside ds
+IsMoved old real beside text false ds = IsStopped real beside ds
 
 -- all of it; or it was taken back, as far as it can be
 pub record IsTakenBack (real beside : Bytes) (left : Option Bytes) (ds : List Deed) : Type 0 where
   pub begun : List Deed
-  pub is_begun : IsBegun real beside begun
+  pub is_stopped : IsStopped real beside begun
   pub gone : Bool
   pub each : ds ≡ begun ++ removes beside gone ∷ []
   pub told : left ≡ (if gone then None else Some beside)

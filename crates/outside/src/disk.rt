@@ -17,7 +17,7 @@ pub enum Lead {
 /// Where files lie: what is known of them, and what was done there, contracts see. Only the calls here make it known, so whoever promises
 /// it over any disk has made them.
 pub trait Disk {
-    ghost use Rattle.std.specs.Prelude.{◌≡◌, ◌∷◌, [], ℕ, List, Option, None, IfOk, IfSome, OnOk, OnErr, take, string_bytes, is_ok};
+    ghost use Rattle.std.specs.Prelude.{◌≡◌, ◌∷◌, [], ℕ, Bool, List, Option, None, IfOk, IfSome, OnOk, OnErr, take, string_bytes, is_ok};
     ghost use Rattle.outside.specs.Deeds.{Deed, Does, makes, cuts, permits, fills, syncs, moves, removes};
     ghost use Rattle.outside.specs.Leads.{Leads, making_of};
 
@@ -38,6 +38,15 @@ pub trait Disk {
 
     /// Whether the system refuses to read the file at a path, as far as that is known.
     ghost refuses: { List ℕ → Type 0 } = { λ _. Unit {0} };
+
+    /// Whether the system answers so where it is asked if two paths lead to one file, as far as that is known.
+    ghost tells_one: { List ℕ → List ℕ → Bool → Type 0 } = { λ _ _ _. Unit {0} };
+
+    /// Whether the system answers so where it is asked if a path leads to a plain file, or nowhere, as far as that is known.
+    ghost tells_plain: { List ℕ → Bool → Type 0 } = { λ _ _. Unit {0} };
+
+    /// Whether the system doesn't tell where a path leads, for want of memory too, as far as that is known.
+    ghost hides: { List ℕ → Type 0 } = { λ _. Unit {0} };
 
     /// Whether a path leads to the plain file at another one, which is no link, as far as that is known.
     ghost leads: { List ℕ → List ℕ → Type 0 } = { λ _ _. Unit {0} };
@@ -74,7 +83,8 @@ pub trait Disk {
     ///
     /// The system doesn't tell, or there is no memory for the path.
     fn lead(&self, alloc: Global, path: &str) -> io::Result<Lead>
-        ensures { IfOk result (Leads (leads path.now) (is_free path.now) (is_other path.now)) };
+        ensures told { IfOk result (Leads (leads path.now) (is_free path.now) (is_other path.now)) }
+        ensures hidden { OnErr result (hides path.now) };
 
     /// Makes the file at a path, to write it from its beginning, in place of one that was there.
     ///
@@ -139,8 +149,10 @@ pub trait Disk {
         ensures { Does (did self.old) (did self.new) (holds self.old) (holds self.new) (removes path.now (is_ok result) ∷ []) };
 
     /// Whether two paths lead to one file, as far as the system tells.
-    fn is_one_file(&self, one: &str, other: &str) -> bool;
+    fn is_one_file(&self, one: &str, other: &str) -> bool
+        ensures { tells_one one.now other.now result };
 
     /// Whether a path leads to a plain file, or nowhere, as far as the system tells.
-    fn is_plain(&self, path: &str) -> bool;
+    fn is_plain(&self, path: &str) -> bool
+        ensures { tells_plain path.now result };
 }

@@ -28,6 +28,8 @@ impl<D: Disk + Drop, S: Streams + Drop> World for Host<D, S> {
     ghost done = { λ h es. AreDone (record {
       holds = D.holds h.disk;
       refuses = D.refuses;
+      tells_one = D.tells_one;
+      tells_plain = D.tells_plain;
       out = S.out h.streams;
       out_failed = S.out_failed h.streams;
       err = S.err h.streams;
@@ -50,6 +52,8 @@ impl<D: Disk + Drop, S: Streams + Drop> World for Host<D, S> {
         ensures done { Adds (AreDone (record {
           holds = D.holds self.old.disk;
           refuses = D.refuses;
+          tells_one = D.tells_one;
+          tells_plain = D.tells_plain;
           out = S.out self.old.streams;
           out_failed = S.out_failed self.old.streams;
           err = S.err self.old.streams;
@@ -58,6 +62,8 @@ impl<D: Disk + Drop, S: Streams + Drop> World for Host<D, S> {
             (AreDone (record {
               holds = D.holds self.new.disk;
               refuses = D.refuses;
+              tells_one = D.tells_one;
+              tells_plain = D.tells_plain;
               out = S.out self.new.streams;
               out_failed = S.out_failed self.new.streams;
               err = S.err self.new.streams;
@@ -70,7 +76,7 @@ impl<D: Disk + Drop, S: Streams + Drop> World for Host<D, S> {
           known = D.holds self.old.disk;
           now = D.holds self.new.disk;
         }) ds
-            × IsWrittenTo (D.leads path.now) (D.is_free path.now) (D.is_other path.now) path.now text.now ds result }
+            × IsWrittenTo (D.leads path.now) (D.is_free path.now) (D.is_other path.now) (D.hides path.now) path.now text.now ds result }
     {
         match self.disk.lead(alloc, path) {
             Ok(Lead::Plain(real)) => {
@@ -92,6 +98,8 @@ impl<D: Disk + Drop, S: Streams + Drop> World for Host<D, S> {
         ensures done { Adds (AreDone (record {
           holds = D.holds self.old.disk;
           refuses = D.refuses;
+          tells_one = D.tells_one;
+          tells_plain = D.tells_plain;
           out = S.out self.old.streams;
           out_failed = S.out_failed self.old.streams;
           err = S.err self.old.streams;
@@ -100,6 +108,8 @@ impl<D: Disk + Drop, S: Streams + Drop> World for Host<D, S> {
             (AreDone (record {
               holds = D.holds self.new.disk;
               refuses = D.refuses;
+              tells_one = D.tells_one;
+              tells_plain = D.tells_plain;
               out = S.out self.new.streams;
               out_failed = S.out_failed self.new.streams;
               err = S.err self.new.streams;
@@ -111,11 +121,13 @@ impl<D: Disk + Drop, S: Streams + Drop> World for Host<D, S> {
           after = D.did self.new.disk;
           known = D.holds self.old.disk;
           now = D.holds self.new.disk;
-        }) ds × IsReplacedBy (D.leads path.now) text.now ds result }
+        }) ds
+            × IsReplacedBy (D.leads path.now) (D.is_free path.now) (D.is_other path.now) (D.hides path.now) text.now ds result }
     {
         match self.disk.lead(alloc, path) {
             Ok(Lead::Plain(real)) => put_over(&mut self.disk, alloc, real.as_str(), text),
-            Ok(_) => Err(not_written(Trouble::Refused)),
+            Ok(Lead::Free) => Err(not_written(Trouble::Refused)),
+            Ok(Lead::Other) => Err(not_written(Trouble::Refused)),
             Err(error) => Err(not_written(trouble_of(&error))),
         }
     }

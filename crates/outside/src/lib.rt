@@ -1,6 +1,7 @@
-//! What lies outside of a program, files and streams, and what is done there, one thing after another.
+//! What lies outside of a program, its words, files and streams, and what is done there, one thing after another.
 #![tactic(auto)]
 
+mod arguments;
 mod beside;
 mod disk;
 mod host;
@@ -11,6 +12,7 @@ mod trouble;
 mod whole;
 mod world;
 
+pub use arguments::{Arguments, SystemArguments};
 pub use disk::{Disk, Lead};
 pub use host::Host;
 pub use progress::Progress;

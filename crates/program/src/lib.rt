@@ -1,4 +1,5 @@
-//! The program: what a command line asks for is done, on files and streams.
+//! The program, as a library: what a command line asks for is done, on files and streams. The calls below it that do a job on texts, run
+//! scripts by many workers or by one editor, are passed on.
 #![tactic(auto)]
 
 mod edit;
@@ -6,5 +7,8 @@ mod ending;
 mod obeying;
 mod running;
 
+pub use jobs::{Gate, Job, perform};
 pub use obeying::obey;
+pub use plainediting::edit_all;
 pub use running::{run, run_on, run_over};
+pub use workers::run_scripts;

@@ -1,7 +1,6 @@
 //! The program on files and streams, and on those of the system.
 
-ghost use Rattle.std.specs.Prelude.{◌≡◌, Bool, List, [], Some, Result, is_some, map, string_bytes};
-ghost use Rattle.std.specs.Result.{result_map_both};
+ghost use Rattle.std.specs.Prelude.{◌≡◌, Bool, List, [], Some, Result, is_some};
 ghost use Rattle.clap.specs.Words.{Text};
 ghost use Rattle.outside.specs.declared.trouble.Trouble.{Trouble as TroubleOfWords};
 ghost use Rattle.outside.specs.Events.{Event};
@@ -12,8 +11,9 @@ use crate::obeying::obey;
 use conduct::{Means, refuse};
 use following::Follow;
 use jobs::Watch;
-use outside::{Disk, Host, Progress, Streams, SystemFiles, SystemStreams, Trouble, trouble_of};
-use std::env;
+use outside::{
+    Arguments, Disk, Host, Progress, Streams, SystemArguments, SystemFiles, SystemStreams, Trouble,
+};
 use std::hash::RandomState;
 use std::random::RandomSource;
 use std::rt::{Env, Files};
@@ -31,44 +31,37 @@ fn unread_line(trouble: Trouble) -> &'static str
     }
 }
 
-/// The words of the command line, of which the first is the program's name.
-fn words_of<R: Env + AllocGlobal>(rt: &R) -> Result<Vec<String>, Trouble> {
-    match env::args(rt) {
-        Ok(args) => args.collect(rt.alloc()).map_err(|_| Trouble::NoMemory),
-        Err(error) => Err(trouble_of(&error)),
-    }
-}
-
 /// Does on files and streams what the words of a command line ask for, of which the first is the program's name, and answers the status
-/// that the program ends with; where there are no words, it says why. Who watches is told of a run, and how far a library is taken. It
-/// may wait.
+/// that the program ends with; where they are not read, it says why. Who watches is told of a run, and how far a library is taken. It may
+/// wait.
+///
+/// Where the arguments tell their words, it obeys just those; and it says that they are not read only where they tell that.
 ///
 /// On streams that tell what they hold, and hold nothing before, stands then just what was printed and said: each text and each line whole,
 /// or a front of it where a write failed; unless the parser's text was shown, of which nothing is known. Each text that was read is all
-/// that its file holds, up to one byte more than any text may have, where that is known; and a file that wasn't read the system refused.
+/// that its file holds, up to one byte more than any text may have, where that is known; a file that wasn't read the system refused; and it
+/// told whether two paths lead to one file, and whether a path leads to a plain one.
 pub fn run_on<
     R: Threads + Wait + Sync,
     D: Disk + Drop,
     S: Streams + Drop,
     V: Watch + Follow + Sync,
->(
-    means: &Means<'_, R, V>,
-    host: &mut Host<D, S>,
-    keys: Option<RandomState>,
-    words: Result<Vec<String>, Trouble>,
-) -> u8
+    A: Arguments,
+>(means: &Means<'_, R, V>, host: &mut Host<D, S>, keys: Option<RandomState>, arguments: &A) -> u8
     ensures { (es : List Event)
         × (S.out host.old.streams ≡ Some [] → S.err host.old.streams ≡ Some [] → AreDone (record {
           holds = D.holds host.new.disk;
           refuses = D.refuses;
+          tells_one = D.tells_one;
+          tells_plain = D.tells_plain;
           out = S.out host.new.streams;
           out_failed = S.out_failed host.new.streams;
           err = S.err host.new.streams;
           err_failed = S.err_failed host.new.streams;
         }) es)
-        × IsRun (is_some keys) (result_map_both (λ ws. map string_bytes ws.items) (λ why. why) words) es result }
+        × (words : Result (List Text) TroubleOfWords) × A.tells arguments.now words × IsRun (is_some keys) words es result }
 {
-    match words {
+    match arguments.words(means.alloc) {
         Ok(words) => obey(means, host, keys, words.as_slice()),
         Err(trouble) => refuse(host, unread_line(trouble)),
     }
@@ -76,6 +69,8 @@ pub fn run_on<
 
 /// Does what the command line asks for, on the files and streams of the system, and answers the status that the program ends with. Where
 /// the standard error is a terminal, a line there says how far a run is. It may wait.
+///
+/// It is `run_on` over the system's parts. These tell nothing, so its clause only says that there are words which it obeys.
 pub fn run<R>(rt: &R, is_terminal: bool) -> u8
 where
     R: Files + AllocGlobal + Print + Eprint + RandomSource + Env + Clock + Threads + Wait + Sync,
@@ -95,7 +90,6 @@ where
         disk: SystemFiles { files },
         streams: SystemStreams { rt },
     };
-    let words = words_of(rt);
     let progress = Progress::new(rt, is_terminal);
     let keys = RandomState::new(rt).ok();
     let means = Means {
@@ -103,5 +97,5 @@ where
         alloc: rt.alloc(),
         watch: &progress,
     };
-    run_on(&means, &mut host, keys, words)
+    run_on(&means, &mut host, keys, &SystemArguments { rt })
 }

@@ -7,13 +7,13 @@ use Rattle.outside.proofs.beside.finish.Goals as goal
 
 pub returns-in-Ok : goal.returns-in-Ok
 returns-in-Ok g c =
-    let (begun, did, is_begun) = rw c.as_str.ensures.value at c.in-Err.ensures in
+    let (begun, did, is_stopped) = rw c.as_str.ensures.value at c.in-Err.ensures in
     let removed = rw c.as_str-2.ensures.value at c.in-Ok.ensures in (
       begun ++ removes (string_bytes c.args.beside) true ∷ [],
       does_more did removed,
       record {
         begun = begun;
-        is_begun = is_begun;
+        is_stopped = is_stopped;
         gone = true;
         each = refl;
         told = ap (option_map string_bytes) c.not_written.ensures.none;
@@ -22,9 +22,9 @@ returns-in-Ok g c =
 
 pub returns : goal.returns
 returns g c =
-    let (begun, did, is_begun) = rw c.as_str.ensures.value at c.in-Err.ensures in
+    let (begun, did, is_stopped) = rw c.as_str.ensures.value at c.in-Err.ensures in
     let removed = rw c.as_str-2.ensures.value at c.in-Err-remove.ensures in (
       begun ++ removes (string_bytes c.args.beside) false ∷ [],
       does_more did removed,
-      record { begun = begun; is_begun = is_begun; gone = false; each = refl; told = refl },
+      record { begun = begun; is_stopped = is_stopped; gone = false; each = refl; told = refl },
     )

@@ -1,7 +1,7 @@
-use Rattle.std.proofs.Common.{ℕ, List, Bor, ◌∷◌, ◌++◌, [], false, option_map, subst, sym}
+use Rattle.std.proofs.Common.{ℕ, List, Bor, ◌∷◌, ◌++◌, [], false, inl, option_map, refl, subst, sym}
 use Rattle.outside.specs.Deeds.{moves}
 use Rattle.outside.specs.Tried.{IsBegun}
-use Rattle.outside.proofs.Trying.{begun_more, begun_permissions, begun_synced, begun_unmoved, does_more}
+use Rattle.outside.proofs.Trying.{begun_more, begun_permissions, begun_synced, begun_unmoved, does_more, fails_behind}
 use Rattle.outside.proofs.beside.move_over.Goals as goal
 
 pub returns-in-Err : goal.returns-in-Err
@@ -13,10 +13,13 @@ returns-in-Err-fill g c =
     let beside = c.args.beside.now in
     let old = option_map (λ (p : Bor (List ℕ)). p.now) c.args.old in
     let (permitted, did, are) = c.in_default.ensures real beside c.requires in
-    let (filled, then, begun) = c.in-Err-fill.ensures real beside c.requires in (
+    let (filled, then, (begun, fails)) = c.in-Err-fill.ensures real beside c.requires in (
       permitted ++ filled,
       does_more did then,
-      begun_more real beside permitted filled (subst (IsBegun real beside) (sym are) (begun_permissions real beside old)) begun,
+      (
+        begun_more real beside permitted filled (subst (IsBegun real beside) (sym are) (begun_permissions real beside old)) begun,
+        fails_behind permitted filled fails,
+      ),
     )
 
 pub returns-in-Err-rename : goal.returns-in-Err-rename
@@ -29,7 +32,10 @@ returns-in-Err-rename g c =
     let (filled, then, is) = c.in_default-fill.ensures real beside c.requires in (
       permitted ++ (filled ++ last),
       does_more did (does_more then c.in-Err-rename.ensures),
-      begun_more real beside permitted (filled ++ last) (subst (IsBegun real beside) (sym are) (begun_permissions real beside old))
-          (begun_more real beside filled last (subst (IsBegun real beside) (sym is) (begun_synced real beside c.args.text.now))
-          (begun_unmoved real beside)),
+      (
+        begun_more real beside permitted (filled ++ last) (subst (IsBegun real beside) (sym are) (begun_permissions real beside old))
+            (begun_more real beside filled last (subst (IsBegun real beside) (sym is) (begun_synced real beside c.args.text.now))
+            (begun_unmoved real beside)),
+        fails_behind permitted (filled ++ last) (fails_behind filled last (inl refl)),
+      ),
     )

@@ -1,4 +1,4 @@
-use Rattle.std.proofs.Common.{ℕ, List, Bor, ◌∷◌, ◌++◌, [], inl, option_map}
+use Rattle.std.proofs.Common.{ℕ, List, Bor, ◌∙◌, ◌∷◌, ◌++◌, [], inl, option_map, sym}
 use Rattle.outside.specs.Deeds.{denied, makes, unmade}
 use Rattle.outside.proofs.Trying.{does_more, finished, put_beside, put_denied, vain_put}
 use Rattle.outside.proofs.beside.put_at.Goals as goal
@@ -22,5 +22,9 @@ returns-in-Err-Denied g c =
 
 pub returns-in-Err-Other : goal.returns-in-Err-Other
 returns-in-Err-Other g c =
-    let (tried, vain, did) = rw c.in-Err-Other.field-0-is at c.in-Err-Other.ensures.unmade in
-    (tried, did, inl (vain_put c.args.real.now c.not_written.result _ c.not_written.ensures.none vain))
+    let (tried, vain, fails, did) = rw c.in-Err-Other.field-0-is at c.in-Err-Other.ensures.unmade in (
+      tried,
+      did,
+      inl (vain_put c.args.real.now c.not_written.result _ c.not_written.ensures.none vain
+          (λ refused. fails (sym c.not_written.ensures.why ∙ refused))),
+    )

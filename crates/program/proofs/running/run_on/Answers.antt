@@ -8,7 +8,9 @@ returns-in-Ok g c =
     let done = c.obey.ensures in (
       done.0,
       done_at_first _ _ done.0 done.1,
-      run_words (λ ws. map string_bytes ws.items) (is_some c.args.keys) c.args.words c.in-Ok.words done.0 c.obey.result c.in-Ok.is
+      _,
+      c.words.ensures,
+      run_words (λ ws. map string_bytes ws.items) (is_some c.args.keys) c.words.result c.in-Ok.words done.0 c.obey.result c.in-Ok.is
           (rw c.as_slice.ensures.value at done.2),
     )
 
@@ -16,6 +18,8 @@ pub returns-in-Err : goal.returns-in-Err
 returns-in-Err g c = (
   _,
   done_at_first _ _ _ c.refuse.ensures.said,
-  run_none (λ ws. map string_bytes ws.items) (is_some c.args.keys) c.args.words c.in-Err.trouble _ c.refuse.result c.in-Err.is
+  _,
+  c.words.ensures,
+  run_none (λ ws. map string_bytes ws.items) (is_some c.args.keys) c.words.result c.in-Err.trouble _ c.refuse.result c.in-Err.is
       c.unread_line.ensures c.refuse.ensures.status,
 )
