@@ -8,6 +8,8 @@
 //! |---|---|
 //! | `text PATH` | writes its text into a file, and prints nothing |
 //! | `made PATH` | writes what its text is the recipe of (`making`), and prints how many bytes that has |
+//! | `link NEW OLD` | makes a symbolic link at NEW that leads to OLD, and prints nothing |
+//! | `allow PATH BITS` | gives what is at a path these permission bits, in octal, and prints nothing |
 //! | `line WORDS` | a command line, without the program's name |
 //! | `closed WORDS` | one whose standard output takes nothing |
 //! | `terminal WORDS` | one whose standard error is a terminal, with a clock that goes two seconds from one look to the next |
@@ -20,6 +22,8 @@
 //! | `length PATH` | prints how many bytes a file has |
 //! | `same PATH PATH` | whether behind their lines `library` two files have the same |
 //! | `among PATH PATH ..` | whether the first of these files has just what one of the others has |
+//! | `mode PATH` | prints the permission bits of what is at a path, behind links, in octal |
+//! | `lead PATH` | prints where the link at a path leads, or that there is none |
 //!
 //! The files `rN.*` are those of row N, as `docs/DEFINITIONS.md` counts the rows that its rules were read against; the files `sN.mm` are
 //! sources in the whole language. What is to be printed was worked out by hand from the README's tables, and stands in `stdout`, of clap's
@@ -30,6 +34,8 @@ pub(crate) mod stage;
 use crate::lines::stage::Mode;
 use crate::making::{cut, made};
 use std::alloc::{AllocError, Global};
+use std::fs::Permissions;
+use std::os::unix::fs::{PermissionsExt, symlink};
 use std::rt::Files;
 use std::{fs, io};
 
@@ -213,6 +219,35 @@ fn print_among(rt: &(impl Files + AllocGlobal + Print), paths: &str) -> io::Resu
     print_found(rt, one.as_slice(), others)
 }
 
+/// Makes a symbolic link at the first of two paths, which leads to the second.
+fn make_link(rt: &impl Files, paths: &str) -> io::Result<()> {
+    let (link, old) = paths.split_once(' ').unwrap_or((paths, ""));
+    symlink(rt, old, link)
+}
+
+/// Gives what is at a path the permission bits that stand behind it, in octal.
+fn allow(rt: &impl Files, words: &str) -> io::Result<()> {
+    let (path, bits) = words.split_once(' ').unwrap_or((words, ""));
+    match u32::from_str_radix(bits, 8) {
+        Ok(bits) => fs::set_permissions(rt, path, Permissions::from_mode(bits)),
+        Err(_) => Err(io::Error::from(io::ErrorKind::InvalidInput)),
+    }
+}
+
+/// Prints the permission bits of what is at a path, behind links.
+fn print_mode(rt: &(impl Files + Print), path: &str) -> io::Result<()> {
+    let bits = fs::metadata(rt, path)?.permissions().mode() & 0o7777;
+    println!(rt; "{bits:o}")
+}
+
+/// Prints where the link at a path leads.
+fn print_lead(rt: &(impl Files + AllocGlobal + Print), path: &str) -> io::Result<()> {
+    match fs::read_link(rt, path) {
+        Ok(old) => println!(rt; "{}", old.display()),
+        Err(_) => println!(rt; "no link"),
+    }
+}
+
 /// How the streams of a row's command line are. None of a row that is none.
 pub(crate) fn mode_of(row: &str) -> Option<Mode> {
     match row.split_once(' ').unwrap_or((row, "")).0 {
@@ -226,9 +261,10 @@ pub(crate) fn mode_of(row: &str) -> Option<Mode> {
     }
 }
 
-/// Whether nothing is printed of a row: it is empty, a comment, or writes its text.
+/// Whether nothing is printed of a row: it is empty, a comment, writes its text, makes a link, or gives permissions.
 pub(crate) fn is_silent(row: &str) -> bool {
-    row.is_empty() || row.starts_with("#") || row.starts_with("text ")
+    let word = row.split_once(' ').unwrap_or((row, "")).0;
+    word.is_empty() || word.starts_with("#") || matches!(word, "text" | "link" | "allow")
 }
 
 /// Does what a row asks for that is no command line.
@@ -245,11 +281,15 @@ pub(crate) fn do_row(
     match word {
         "text" => write_text(rt, behind, lines),
         "made" => write_made(rt, behind, lines),
+        "link" => make_link(rt, behind),
+        "allow" => allow(rt, behind),
         "length" => print_length(rt, behind),
         "same" => print_same(rt, behind),
         "sorted" => print_sorted(rt, behind),
         "exported" => write_exported(rt, behind),
         "among" => print_among(rt, behind),
+        "mode" => print_mode(rt, behind),
+        "lead" => print_lead(rt, behind),
         _ if is_silent(row) => Ok(()),
         _ => print_file(rt, word, behind),
     }
