@@ -8,18 +8,14 @@ ghost use Rattle.std.specs.Cmp.Lexicographic.{slice_cmp};
 ghost use Rattle.std.specs.Ordering.{nat_cmp, as_partial_cmp};
 ghost use Rattle.std.specs.Str.{bytes_eq};
 
-use smallvec::SmallVec;
 use std::alloc::{AllocError, Global};
 use std::cmp::Ordering;
 use std::marker::Model;
 
-/// How many bytes a label has at most that asks for no memory. Most have fewer.
-const SHORT: usize = 16;
-
 /// The bytes of a label. Contracts see the list of them.
 #[derive(Debug)]
 pub struct Label {
-    bytes: SmallVec<u8, SHORT>,
+    bytes: Vec<u8>,
 }
 
 impl Model for Label {
@@ -43,7 +39,7 @@ impl Label {
         ensures { result ≡ [] }
     {
         Label {
-            bytes: SmallVec::new(alloc),
+            bytes: Vec::new(alloc),
         }
     }
 
@@ -52,7 +48,7 @@ impl Label {
         ensures { IfOk result (λ made. made ≡ bytes.now) }
     {
         Ok(Label {
-            bytes: SmallVec::from_slice(alloc, bytes)?,
+            bytes: Vec::from_slice(alloc, bytes)?,
         })
     }
 
