@@ -8,10 +8,10 @@ use Rattle.mmsyntax.specs.declared.statement.Assertion.{Assertion}
 use Rattle.mmsyntax.specs.Tables.{place_of}
 use Rattle.source.specs.Scopes.{Scope, Assertion as Old}
 use Rattle.giving.specs.Staying.{Change}
-use Rattle.items.specs.Layout.{IsLaidOut}
 use Rattle.items.specs.Walking.{AreIndentations}
 use Rattle.sourcewriting.specs.Forms.{is_compressed_form}
 use Rattle.sourcewriting.specs.Indentations.{indentation_like}
+use Rattle.sourcewriting.specs.Lines.{IsInLines}
 use Rattle.sourcewriting.specs.MarkedTexts.{IsMarkedText}
 use Rattle.sourceediting.specs.Following.{Followed}
 use Rattle.sourceediting.specs.Entries.{Edition, TakesThen}
@@ -22,7 +22,7 @@ found_in cs label new = indentation_like (option_map (λ c. c.1) (find (λ c. by
 
 pub written_for : (source : List ℕ) (s : Scope) (e : Edition) (living : List Followed) (label : Word) (new : Assertion) (text i : List ℕ)
     (cs : List Change) (place : ℕ) → AreIndentations source cs → place_of (λ x. bytes_eq label x.label) s.assertions ≡ Some place
-    → i ≡ found_in cs label new → IsLaidOut i (is_compressed_form (option_and_then (λ x. x.proof) (slice_get s.assertions place))) text
+    → i ≡ found_in cs label new → IsInLines i (is_compressed_form (option_and_then (λ x. x.proof) (slice_get s.assertions place))) text
     → ((x : Old) → slice_get s.assertions place ≡ Some x → IsTrue (is_compressed_form x.proof)
     → IsMarkedText i (TakesThen s e living x.hypotheses) x.hypotheses text) → IsWrittenFor source s e living label new text
 written_for source s e living label new text i cs place indented stands is laid marked =
@@ -33,7 +33,7 @@ written_for source s e living label new text i cs place indented stands is laid 
       items = indented.items;
       rest = indented.rest;
       spells = indented.spells;
-      laid_out = subst (λ j. IsLaidOut j form text) same laid;
+      laid_out = subst (λ j. IsInLines j form text) same laid;
       marked = λ x at compressed.
           subst (λ j. IsMarkedText j (TakesThen s e living x.hypotheses) x.hypotheses text) same (marked x at compressed);
     }

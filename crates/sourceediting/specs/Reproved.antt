@@ -11,12 +11,12 @@ use Rattle.mmsyntax.specs.Tables.{place_of}
 use Rattle.source.specs.Scopes.{Scope, Assertion as Old}
 use Rattle.giving.specs.Staying.{Change, changed}
 use Rattle.items.specs.Items.{Item, Spells}
-use Rattle.items.specs.Layout.{IsLaidOut}
 use Rattle.items.specs.Indentations.{indentation_at}
 use Rattle.sourcewriting.specs.Indentations.{indentation_like}
 use Rattle.sourcewriting.specs.Forms.{is_compressed_form}
 use Rattle.sourcewriting.specs.Leaving.{CanBePut}
 use Rattle.taking.specs.Listings.{premise_labels}
+use Rattle.sourcewriting.specs.Lines.{IsInLines}
 use Rattle.sourcewriting.specs.MarkedTexts.{IsMarkedText}
 use Rattle.sourceediting.specs.Following.{Followed}
 use Rattle.sourceediting.specs.Entries.{Edition, assertions_of, TakesThen, StepTakesThen}
@@ -48,6 +48,10 @@ pub record HasAnotherListing (opened edited : List Assertion) (living : List Fol
   pub now : new.label ≡ followed.now
   pub differs : map (step_then (changes_in_library living)) old.proof ≢ new.proof
 
+-- and this is it in the edited library
+abbrev pub ListsAnew : Edition → List Followed → Word → Assertion → Type 0
+ListsAnew e living label new = (is : HasAnotherListing e.opened.assertions (assertions_of e) living label) × (is.new ≡ new)
+
 abbrev pub has_premises : Assertion → Bool
 has_premises a = not (nat_eq (length a.hyps) 0)
 
@@ -62,7 +66,7 @@ pub record IsWrittenFor (source : List ℕ) (s : Scope) (e : Edition) (living : 
   pub items : List Item
   pub rest : List ℕ
   pub spells : Spells items rest source
-  pub laid_out : IsLaidOut (indentation_like (indentation_at items label) (has_premises new))
+  pub laid_out : IsInLines (indentation_like (indentation_at items label) (has_premises new))
       (is_compressed_form (option_and_then (λ x. x.proof) (slice_get s.assertions place))) text
   pub marked : (x : Old) → slice_get s.assertions place ≡ Some x → IsTrue (is_compressed_form x.proof)
       → IsMarkedText (indentation_like (indentation_at items label) (has_premises new))

@@ -1,6 +1,6 @@
 //! Which theorems have another proof behind the edits of a history, and the texts of these proofs.
 
-ghost use Rattle.std.specs.Prelude.{◌≡◌, ◌↔◌, ℕ, List, length, Contains, IfOk, IfErr, IfSome, IsSomeAnd, IsTrue, None, Some, map};
+ghost use Rattle.std.specs.Prelude.{◌≡◌, ◌↔◌, All, ℕ, List, length, Contains, IfOk, IfErr, IfSome, IsSomeAnd, IsTrue, None, Some, map};
 ghost use Rattle.std.specs.Str.{bytes_eq};
 ghost use Rattle.std.specs.HashMap.{get_by};
 ghost use Rattle.mmsyntax.specs.declared.statement.Assertion.{Assertion as AssertionOf};
@@ -11,10 +11,11 @@ ghost use Rattle.source.specs.Scopes.{Scope};
 ghost use Rattle.source.specs.Views.{seen_words};
 ghost use Rattle.giving.specs.Staying.{changed};
 ghost use Rattle.giving.specs.Changes.{seen_texts};
+ghost use Rattle.items.specs.Divided.{IsDivided};
 ghost use Rattle.items.specs.Walking.{AreIndentations};
 ghost use Rattle.sourcewriting.specs.Counting.{IsCountOf};
 ghost use Rattle.sourceediting.specs.Entries.{Edition, HasHypotheses, HasOnly, assertions_of};
-ghost use Rattle.sourceediting.specs.Reproved.{changes_in_library, step_then, IsWrittenFor, AreOtherProofs, CanBeReproved};
+ghost use Rattle.sourceediting.specs.Reproved.{ListsAnew, changes_in_library, step_then, IsWrittenFor, AreOtherProofs, CanBeReproved};
 ghost use Rattle.sourceediting.specs.Following.{Followed as FollowedOf};
 ghost use Rattle.sourceediting.specs.Refusals.{HasCause, OnUnwritten, IsNotReproved};
 ghost use Rattle.sourceediting.specs.Views.{seen_followed, seen_living, edition_of, AreLabelled, IsCitedAs};
@@ -24,6 +25,7 @@ ghost use Rattle.sourceediting.specs.declared.refusal.Refusal.TheVariants.{Unwri
 use crate::following::Followed;
 use crate::refusal::Refusal;
 use giving::LabelMap;
+use items::indentations;
 use library::{PlainLibrary, Ranked};
 use mmframes::frame_of;
 use mmsyntax::{Assertion, Database, Float, Label, Prelude, Proof, StepRef};
@@ -327,29 +329,20 @@ fn found_at<'x>(map: &ByLabel<'x>, label: &[u8]) -> Option<&'x Assertion>
     map.get(&label).copied()
 }
 
-/// The theorems that have another proof, by their labels in the source, with the texts of these proofs, where the old ones are indented so.
-pub(crate) fn other_proofs<'x, D: Declared<'x>>(
+/// The theorems whose listing isn't the old one with changed labels, by their labels in the source, with what they are in the edited library.
+fn other_listings<'x>(
     alloc: Global,
     keys: RandomState,
-    declared: &D,
     edited: &ByLabel<'x>,
-    names: &Names<'x>,
-    indentations: &LabelMap<'_>,
     planned: &Planned<'x>,
-) -> Result<Vec<(&'x [u8], Vec<u8>)>, Refusal>
-    requires labelled { AreLabelled edited.now (map (λ r. r.assertion) planned.now.edited.now.entries) }
-    requires names { AreNamesOf (D.scope declared.now) (edition_of planned.now) (seen_living planned.now.living.now) names.now }
-    ensures made { (source : List ℕ) → AreIndentations source indentations.now
-        → IfOk result (λ made. AreOtherProofs source (D.scope declared.now) (edition_of planned.now)
-        (seen_living planned.now.living.now) (seen_texts made.items)) }
-    ensures refused { (text : List ℕ) → IfErr result (HasCause (seen_living planned.now.living.now)
-        (map (λ r. r.assertion) planned.now.edited.now.entries) text) }
-    ensures unwritten { AreStepsOf (D.scope declared.now) (edition_of planned.now) (seen_living planned.now.living.now) names.now
-        → IfErr result (OnUnwritten (IsNotReproved (D.scope declared.now) (edition_of planned.now) (seen_living planned.now.living.now))) }
+) -> Result<Vec<(&'x [u8], &'x Assertion)>, AllocError>
+    requires { AreLabelled edited.now (map (λ r. r.assertion) planned.now.edited.now.entries) }
+    ensures { IfOk result (λ made. All (λ p. ListsAnew (edition_of planned.now) (seen_living planned.now.living.now) p.0.now p.1.now)
+        made.items) }
 {
     let opened = opened_by_label(alloc, keys, planned.database.assertions())?;
     let changes = changes_in_library(alloc, keys, planned.living)?;
-    let mut proofs = Vec::new(alloc);
+    let mut others = Vec::new(alloc);
     for followed in planned.living {
         let (Some(source), Some(old), Some(new)) = (
             followed.source,
@@ -359,9 +352,65 @@ pub(crate) fn other_proofs<'x, D: Declared<'x>>(
             continue;
         };
         if !is_proof(&changes, &old.proof, &new.proof) {
-            let text = other_proof(alloc, keys, declared, names, indentations, source, new)?;
-            proofs.push((source, text))?;
+            others.push((source, new))?;
         }
     }
-    Ok(proofs)
+    Ok(others)
+}
+
+/// The texts of the proofs of theorems that list others now, where the old ones are indented so.
+fn texts_of<'x, D: Declared<'x>>(
+    alloc: Global,
+    keys: RandomState,
+    declared: &D,
+    names: &Names<'x>,
+    indentations: &LabelMap<'_>,
+    others: &[(&'x [u8], &'x Assertion)],
+) -> Result<Vec<(&'x [u8], Vec<u8>)>, Refusal>
+    ensures made { (source : List ℕ) (e : Edition) (living : List FollowedOf) → AreIndentations source indentations.now
+        → AreNamesOf (D.scope declared.now) e living names.now → All (λ p. ListsAnew e living p.0.now p.1.now) others.now
+        → IfOk result (λ made. AreOtherProofs source (D.scope declared.now) e living (seen_texts made.items)) }
+    ensures refused { (e : Edition) (living : List FollowedOf) (text : List ℕ) → All (λ p. ListsAnew e living p.0.now p.1.now) others.now
+        → IfErr result (HasCause living (assertions_of e) text) }
+    ensures unwritten { (e : Edition) (living : List FollowedOf) → AreNamesOf (D.scope declared.now) e living names.now
+        → AreStepsOf (D.scope declared.now) e living names.now → All (λ p. ListsAnew e living p.0.now p.1.now) others.now
+        → IfErr result (OnUnwritten (IsNotReproved (D.scope declared.now) e living)) }
+{
+    let mut texts = Vec::with_capacity(alloc, others.len())?;
+    for (label, new) in others {
+        let text = other_proof(alloc, keys, declared, names, indentations, label, new)?;
+        texts.push((*label, text))?;
+    }
+    Ok(texts)
+}
+
+/// The theorems that have another proof, by their labels in the source, with the texts of these proofs. The source is gone through only
+/// where there are some: for how far their old ones are indented.
+pub(crate) fn other_proofs<'x, D: Declared<'x>>(
+    alloc: Global,
+    keys: RandomState,
+    declared: &D,
+    source: &[u8],
+    edited: &ByLabel<'x>,
+    names: &Names<'x>,
+    planned: &Planned<'x>,
+) -> Result<Vec<(&'x [u8], Vec<u8>)>, Refusal>
+    requires labelled { AreLabelled edited.now (map (λ r. r.assertion) planned.now.edited.now.entries) }
+    requires names { AreNamesOf (D.scope declared.now) (edition_of planned.now) (seen_living planned.now.living.now) names.now }
+    requires divided { IsDivided source.now }
+    ensures made { IfOk result (λ made. AreOtherProofs source.now (D.scope declared.now) (edition_of planned.now)
+        (seen_living planned.now.living.now) (seen_texts made.items)) }
+    ensures refused { (text : List ℕ) → IfErr result (HasCause (seen_living planned.now.living.now)
+        (map (λ r. r.assertion) planned.now.edited.now.entries) text) }
+    ensures unwritten { AreStepsOf (D.scope declared.now) (edition_of planned.now) (seen_living planned.now.living.now) names.now
+        → IfErr result (OnUnwritten (IsNotReproved (D.scope declared.now) (edition_of planned.now) (seen_living planned.now.living.now))) }
+{
+    let others = other_listings(alloc, keys, edited, planned)?;
+    if others.is_empty() {
+        return Ok(Vec::new(alloc));
+    }
+    let Some(indented) = indentations(alloc, keys, source)? else {
+        unreachable!()
+    };
+    texts_of(alloc, keys, declared, names, &indented, others.as_slice())
 }

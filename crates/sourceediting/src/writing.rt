@@ -16,7 +16,6 @@ use crate::planning::{Planned, edited_by_label, names_of, other_proofs};
 use crate::rearranging::{Rearranged, rearrange, rewritten};
 use crate::refusal::Refusal;
 use giving::LabelMap;
-use items::indentations;
 use library::Entry;
 use source::Declared;
 use sourcewriting::{ByLabel, Names};
@@ -73,10 +72,7 @@ fn write_over<'e, D: Declared<'e>>(
         → FindsLabels edited.now (edition_of planned.now) → IfErr result (OnUnwritten (IsUnwritten (D.scope declared.now)
         (edition_of planned.now) (seen_living planned.now.living.now) changes.now (all_commands entries.now))) }
 {
-    let Some(indented) = indentations(alloc, keys, source)? else {
-        unreachable!()
-    };
-    let proofs = other_proofs(alloc, keys, declared, edited, names, &indented, planned)?;
+    let proofs = other_proofs(alloc, keys, declared, source, edited, names, planned)?;
     let proofs = LabelMap::of_texts(alloc, keys, proofs.as_slice())?;
     let edits = Rearranged {
         planned: *planned,

@@ -4,7 +4,7 @@ use Rattle.std.proofs.Common.{refl, sym, ap, subst, ◌∙◌, arith, append_ass
 use Rattle.std.specs.List.{list_all}
 use Rattle.std.specs.Option.{option_map, unwrap_or, is_some}
 use Rattle.std.specs.Str.{bytes_eq}
-use Rattle.std.specs.Prelude.{nat_le}
+use Rattle.std.specs.Prelude.{nat_le, ◌==◌}
 use mathlib.Core.Bool.{not}
 use Rattle.std.proofs.lemmas.Grind.{flat_map-append}
 use Rattle.std.proofs.lemmas.List.{map-append, append-nil}
@@ -16,6 +16,7 @@ use Rattle.items.specs.Items.{Piece, Item, bytes_of, words}
 use Rattle.items.specs.Layout.{indent, begins_line, column, is_laid_out, indents, is_word, is_compressed}
 use Rattle.sourcewriting.specs.Indentations.{IsIndentation}
 use Rattle.sourcewriting.specs.Laid.{column_behind, has_closing, AreLaid, IsLaidOutAs}
+use Rattle.sourcewriting.specs.Lines.{has_room, space_before, column_then, words_laid, columns_then, are_cut}
 
 -- the white space that a piece may have, and its column
 abbrev stands : Piece → Bool
@@ -43,6 +44,14 @@ third_of_three : (a b c : Bool) → IsTrue (a && b && c) → IsTrue c
 third_of_three true true c p = p
 third_of_three true false c p = cc
 third_of_three false b c p = cc
+
+first_of_two : (a b : Bool) → IsTrue (a && b) → IsTrue a
+first_of_two true b p = refl
+first_of_two false b p = p
+
+second_of_two : (a b : Bool) → IsTrue (a && b) → IsTrue b
+second_of_two true b p = p
+second_of_two false b p = cc
 
 or_false : (l : Bool) → (l || false) ≡ l
 or_false true = refl
@@ -187,10 +196,60 @@ layout_more i ws text at after p was now =
     laid_more 79 false was.pieces p was.layout now.space
     (subst (λ vs. IsTrue (in_width (column_behind 79 was.pieces) (has_closing vs) p)) (sym was.words_are) now.width)
 
+-- ---- the lines themselves
+
+-- one more word in lines
+words_laid-more : (i : List ℕ) (at : ℕ) (ws : List Word) (w : Word)
+    → words_laid i at (ws ++ w ∷ []) ≡ words_laid i at ws ++ (space_before i (columns_then i at ws) (length w) ++ w)
+words_laid-more i at [] w = ap (λ t. space_before i at (length w) ++ t) (append-nil w)
+words_laid-more i at (v ∷ ws) w =
+    let next = column_then i at (length v) in
+    let more = space_before i (columns_then i next ws) (length w) ++ w in
+    let space = space_before i at (length v) in
+    ap (λ t. space ++ (v ++ t)) (words_laid-more i next ws w)
+    ∙ ap (λ t. space ++ t) (sym (append_assoc v (words_laid i next ws) more))
+    ∙ sym (append_assoc space (v ++ words_laid i next ws) more)
+
+pub columns_then-append : (i : List ℕ) (at : ℕ) (ws vs : List Word)
+    → columns_then i at (ws ++ vs) ≡ columns_then i (columns_then i at ws) vs
+columns_then-append i at [] vs = refl
+columns_then-append i at (w ∷ ws) vs = columns_then-append i (column_then i at (length w)) ws vs
+
+-- columns that differ from 79 on alone leave the same room
+same_room : (a b n : ℕ) → min a 79 ≡ min b 79 → nat_le (a + suc n) 79 ≡ nat_le (b + suc n) 79
+same_room a b n e = grind (arith, nat_tests)
+
+same_if : (i : List ℕ) (a b n : ℕ) (r : Bool) → min a 79 ≡ min b 79 → r ≡ has_room a n → (if r then a + suc n else length i + n) ≡ 79
+    → column_then i b n ≡ 79
+same_if i a b n true same e f =
+    let short = short_if _ e in
+    let k : b + suc n ≡ 79 = omega arith in
+    rw (sym (e ∙ same_room a b n same)) k
+same_if i a b n false same e f = rw (sym (e ∙ same_room a b n same)) f
+
+pub column_same : (i : List ℕ) (a b n : ℕ) → min a 79 ≡ min b 79 → column_then i a n ≡ 79 → column_then i b n ≡ 79
+column_same i a b n same fills = same_if i a b n (has_room a n) same refl fills
+
+-- a word stands in the lines where it was put
+stands_there : (i : List ℕ) (at there begin end n : ℕ) (fits : Bool) → min at 79 ≡ min there 79 → fits ≡ nat_le (at + suc n) 79
+    → min begin 79 ≡ min (if not fits then length i else suc at) 79 → min end 79 ≡ min (begin + n) 79
+    → (space_of i fits ≡ space_before i there n) × (min end 79 ≡ min (column_then i there n) 79)
+stands_there i at there begin end n true same e begins ends =
+    let short = short_if _ e in
+    let room : has_room there n ≡ true = sym (e ∙ same_room at there n same) in
+    let column : min end 79 ≡ min (there + suc n) 79 = omega arith in
+    rw room (refl, column)
+stands_there i at there begin end n false same e begins ends =
+    let room : has_room there n ≡ false = sym (e ∙ same_room at there n same) in
+    let column : min end 79 ≡ min (length i + n) 79 = omega arith in
+    rw room (refl, column)
+
 -- one more word
 word_more : (i : List ℕ) (ws : List Word) (text : List ℕ) (at after : ℕ) (p : Piece) (was : AreLaid i ws text at) → IsTrue (is_word p.word)
+    → p.space ≡ space_before i (columns_then i 79 ws) (length p.word)
+    → min after 79 ≡ min (column_then i (columns_then i 79 ws) (length p.word)) 79
     → IsPlaced i (has_closing ws) (column_behind 79 was.pieces) p after → AreLaid i (ws ++ p.word ∷ []) ((text ++ p.space) ++ p.word) after
-word_more i ws text at after p was word now = record {
+word_more i ws text at after p was word space column now = record {
   begins = was.begins;
   pieces = was.pieces ++ p ∷ [];
   words_are = map-append (λ (p : Piece). p.word) was.pieces (p ∷ []) ∙ ap (λ vs. vs ++ p.word ∷ []) was.words_are;
@@ -198,6 +257,12 @@ word_more i ws text at after p was word now = record {
   layout = layout_more i ws text at after p was now;
   indented = indents-more i was.pieces p was.indented now.has;
   ends = now.ends ∙ ap (λ c. min c 79) (sym (column_behind-more 79 was.pieces p));
+  lines =
+      append_assoc text p.space p.word
+      ∙ ap (λ t. t ++ (p.space ++ p.word)) was.lines
+      ∙ ap (λ t. words_laid i 79 ws ++ (t ++ p.word)) space
+      ∙ sym (words_laid-more i 79 ws p.word);
+  there = column ∙ ap (λ c. min c 79) (sym (columns_then-append i 79 ws (p.word ∷ [])));
   spelled = spelled-more ws p.word was.spelled word;
 }
 
@@ -210,7 +275,8 @@ pub word_put : (i : List ℕ) (ws : List Word) (text between after : List ℕ) (
     → after ≡ between ++ word → min end 79 ≡ min (begin + length word) 79 → AreLaid i (ws ++ word ∷ []) after end
 word_put i ws text between after at begin end word fits was is e short said begins more ends =
     let now = placed i (has_closing ws) at (column_behind 79 was.pieces) begin end word fits was.begins was.ends e short begins ends in
-    rw (more, said) (word_more i ws text at end (record { space = space_of i fits; word = word }) was is now)
+    let there = stands_there i at (columns_then i 79 ws) begin end (length word) fits was.there e begins ends in
+    rw (more, said) (word_more i ws text at end (record { space = space_of i fits; word = word }) was is there.0 there.1 now)
 
 -- the white space for $. behind them, on the line or on a new one
 pub finished : (i : List ℕ) (ws : List Word) (text after : List ℕ) (at begin : ℕ) (fits : Bool) → AreLaid i ws text at
@@ -219,8 +285,10 @@ pub finished : (i : List ℕ) (ws : List Word) (text after : List ℕ) (at begin
 finished i ws text after at begin fits was e said begins =
     let p : Piece = record { space = space_of i fits; word = codes "$." } in
     let short : length i + 2 ≤ 79 = omega (arith, was.begins.short) in
-    let now = placed i (has_closing ws) at (column_behind 79 was.pieces) begin (begin + 2) (codes "$.") fits was.begins was.ends e (inr (inr short)) begins refl in (
-      record {
+    let now = placed i (has_closing ws) at (column_behind 79 was.pieces) begin (begin + 2) (codes "$.") fits was.begins was.ends e (inr (inr short)) begins refl in
+    let there = stands_there i at (columns_then i 79 ws) begin (begin + 2) 2 fits was.there e begins refl in
+    record {
+      laid = record {
         proof = was.pieces;
         space = p.space;
         bytes = said ∙ ap (λ t. t ++ p.space) was.bytes;
@@ -228,9 +296,31 @@ finished i ws text after at begin fits was e said begins =
         form = ap is_compressed was.words_are;
         layout = layout_more i ws text at (begin + 2) p was now;
         indented = indents-more i was.pieces p was.indented now.has;
-      },
-      was.words_are,
-    )
+      };
+      says = was.words_are;
+      lines = said ∙ ap (λ t. t ++ p.space) was.lines ∙ ap (λ t. words_laid i 79 ws ++ t) there.0;
+    }
+
+-- ---- letters are cut where lines end
+
+-- behind pieces that fill their lines, a piece ends in column 79, and one more stands
+pub cut_behind : (i : List ℕ) (at : ℕ) (cut : List Word) (word : Word) → IsTrue (are_cut i at (cut ++ word ∷ []))
+    → column_then i (columns_then i at cut) (length word) ≡ 79 → (next : Word)
+    → IsTrue (are_cut i at ((cut ++ word ∷ []) ++ next ∷ []))
+cut_behind i at [] word was fills next = rw fills refl
+cut_behind i at (v ∷ []) word was fills next =
+    let first : (column_then i at (length v) == 79) ≡ true = first_of_two (column_then i at (length v) == 79) true was in
+    let column : column_then i at (length v) ≡ 79 = grind (arith, nat_tests, first) in
+    let filled : column_then i 79 (length word) ≡ 79 = subst (λ c. column_then i c (length word) ≡ 79) column fills in
+    rw (first, filled) refl
+cut_behind i at (v ∷ u ∷ cut) word was fills next =
+    let rest = are_cut i 79 ((u ∷ cut) ++ word ∷ []) in
+    let first : (column_then i at (length v) == 79) ≡ true = first_of_two (column_then i at (length v) == 79) rest was in
+    let second : IsTrue rest = second_of_two (column_then i at (length v) == 79) rest was in
+    let column : column_then i at (length v) ≡ 79 = grind (arith, nat_tests, first) in
+    let filled = subst (λ c. column_then i (columns_then i c (u ∷ cut)) (length word) ≡ 79) column fills in
+    let more = cut_behind i 79 (u ∷ cut) word second filled next in
+    rw (first, more) refl
 
 -- what was right and stays so
 pub first_no : (a b : Bool) → (a || not b) ≡ false → a ≡ false

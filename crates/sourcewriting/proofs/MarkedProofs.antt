@@ -11,6 +11,7 @@ use Rattle.sourcewriting.specs.declared.listing.Names.{Names}
 use Rattle.sourcewriting.specs.declared.shared.CountedLabel.{CountedLabel}
 use Rattle.sourcewriting.specs.Counting.{Takes, TakeAsMany}
 use Rattle.sourcewriting.specs.MarkedTexts.{IsMarkedText}
+use Rattle.sourcewriting.specs.Lines.{laid_out}
 use Rattle.sourcewriting.specs.Reading.{counts_of, labels_in, TakeSo}
 use Rattle.sourcewriting.specs.Taking.{IsMarkedAs}
 use Rattle.sourcewriting.proofs.Counted.{all_among}
@@ -73,10 +74,11 @@ module _ (i : List ℕ) (s : Scope) (m : Names) (hs : List Hypothesis) (mandator
       let counted : labels_in is.counted ≡ map label_of hs ++ labels =
       labels_are is.counted is.labels mandatory is.are ∙ ap (λ ws. ws ++ labels) are in
       record {
-        laid_out = is.laid.0;
+        laid_out = record { laid = is.laid.laid; lines = is.laid.lines ∙ ap (laid_out i) (sym is.laid.says) };
         labels = labels;
         letters = is.letters;
-        says = is.laid.1 ∙ ap (λ ws. codes "(" ∷ ws) (append_assoc labels (codes ")" ∷ []) is.letters);
+        says = is.laid.says ∙ ap (λ ws. codes "(" ∷ ws) (append_assoc labels (codes ")" ∷ []) is.letters);
+        filled = is.filled;
         steps = map (step_of (labels_in is.counted)) is.marked.codes;
         steps_are =
             ap (option_map (map (step_of (map label_of hs ++ labels)))) is.marked.said
@@ -92,6 +94,7 @@ marked_where i takes known hs text within is = record {
   labels = is.labels;
   letters = is.letters;
   says = is.says;
+  filled = is.filled;
   steps = is.steps;
   steps_are = is.steps_are;
   marked = λ earlier active take. is.marked earlier active (λ label n taken one. take label n taken (within label n one));

@@ -4,6 +4,7 @@ pub mod Groups
 pub mod Grouping
 pub mod Indentations
 pub mod Laid
+pub mod Lines
 pub mod Letters
 pub mod Marking
 pub mod Counting

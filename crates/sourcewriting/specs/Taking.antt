@@ -1,7 +1,7 @@
 -- Of the code's inside, apart from the rules: how many entries the labels of a proof take while its nodes are made and put.
-use Rattle.std.specs.Prelude.{◌≡◌, ◌⊎◌, ℕ, List, [], ◌∷◌, ◌++◌, map, All, Contains, Option, Some, None}
+use Rattle.std.specs.Prelude.{◌≡◌, ◌⊎◌, ℕ, List, ◌++◌, map, All, Contains, Option, Some, None}
 use Rattle.std.specs.List.{flat_map}
-use Rattle.std.specs.Prelude.{codes}
+use Rattle.std.specs.Prelude.{IsTrue}
 use Rattle.std.specs.Borrow.{Bor}
 use Rattle.mmtext.specs.Words.{Word}
 use Rattle.source.specs.Scopes.{Hypothesis, label_of, Scope}
@@ -15,6 +15,7 @@ use Rattle.sourcewriting.specs.declared.shared.Shared.{Shared}
 use Rattle.sourcewriting.specs.Counting.{IsCountOf, Takes}
 use Rattle.sourcewriting.specs.Reading.{counts_of, labels_in, HaveOneMore, AreMarkedLetters}
 use Rattle.sourcewriting.specs.Laid.{IsLaidOutAs}
+use Rattle.sourcewriting.specs.Lines.{are_cut, columns_then, parenthesized}
 
 -- the labels that nodes name do
 abbrev pub AllTake : Scope → Names → List Hypothesis → Shared → Type 0
@@ -43,5 +44,6 @@ pub record IsMarkedAs (i : List ℕ) (mandatory : List Word) (words : List Count
   pub counted : List CountedLabel
   pub are : counts_of counted ≡ map (λ w. (w, 0)) mandatory ++ counts_of labels
   pub letters : List Word
-  pub laid : IsLaidOutAs i ((codes "(" ∷ (labels_in labels ++ codes ")" ∷ [])) ++ letters) text
+  pub laid : IsLaidOutAs i (parenthesized (labels_in labels) ++ letters) text
+  pub filled : IsTrue (are_cut i (columns_then i 79 (parenthesized (labels_in labels))) letters)
   pub marked : AreMarkedLetters counted (flat_map (λ w. w) letters)

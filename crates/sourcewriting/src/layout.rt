@@ -10,7 +10,8 @@ ghost use Rattle.mmtext.specs.Words.{Word, is_label};
 ghost use Rattle.source.specs.Views.{seen_words};
 ghost use Rattle.items.specs.Layout.{IsLaidOut, is_word};
 ghost use Rattle.sourcewriting.specs.Indentations.{is_indentation, usual_indentation, indentation_like, IsIndentation};
-ghost use Rattle.sourcewriting.specs.Laid.{IsLaid, HasLabels, IsLaidOutAs, IsShort, has_closing};
+ghost use Rattle.sourcewriting.specs.Laid.{IsLaid, IsWhole, HasLabels, HasCut, IsLaidOutAs, IsShort, has_closing};
+ghost use Rattle.sourcewriting.specs.Lines.{column_then};
 
 use items::are_spaces;
 use mmtext::is_label_token;
@@ -188,6 +189,7 @@ impl<'i> Layout<'i> {
     fn room(&self) -> usize
         ensures some { 0 < result }
         ensures short { (n : ℕ) → n ≤ result → IsIndentation self.now.indentation.now → IsShort self.now n }
+        ensures fills { IsIndentation self.now.indentation.now → column_then self.now.indentation.now self.now.column result ≡ 79 }
     {
         let here = COLUMNS.saturating_sub(self.column.saturating_add(1));
         if here > 0 {
@@ -200,7 +202,7 @@ impl<'i> Layout<'i> {
     pub(crate) fn put_letters(&mut self, letters: &[u8])
         ensures fine { IsTrue (list_all is_printable letters.now) → self.new.is_refused ≡ self.old.is_refused }
         ensures laid { (i : List ℕ) (ws : List Word) → IsLaid i self.old ws
-            → (cut : List Word) × (flat_map (λ w. w) cut ≡ letters.now) × IsLaid i self.new (ws ++ cut) }
+            → (cut : List Word) × (flat_map (λ w. w) cut ≡ letters.now) × HasCut i self.new ws cut }
     {
         let mut rest = letters;
         while !rest.is_empty() {
@@ -224,7 +226,7 @@ impl<'i> Layout<'i> {
     pub(crate) fn finish(mut self) -> Result<Option<Vec<u8>>, AllocError>
         ensures whole { IsFalse self.entry.is_refused → IfOk result (λ made. IsTrue (is_some made)) }
         ensures laid { (i : List ℕ) (ws : List Word) → IsLaid i self.entry ws
-            → IfOk result (λ made. IfSome made (λ text. IsFalse self.entry.is_refused × IsLaidOutAs i ws text.items)) }
+            → IfOk result (λ made. IfSome made (λ text. IsWhole self.entry × IsLaidOutAs i ws text.items)) }
     {
         let begins_line = !self.has_room(2);
         self.put_space(begins_line);

@@ -5,13 +5,13 @@ ghost use Rattle.std.specs.Prelude.{◌∷◌, ◌++◌, is_some};
 ghost use Rattle.source.specs.Scopes.{Assertion as AssertionOf, Hypothesis as HypothesisOf, label_of};
 ghost use Rattle.source.specs.Views.{seen_words, seen_hypothesis, seen_proof};
 ghost use Rattle.taking.specs.Listings.{premise_labels};
-ghost use Rattle.items.specs.Layout.{IsLaidOut};
 ghost use Rattle.sourcewriting.specs.Counting.{Takes};
 ghost use Rattle.sourcewriting.specs.Indentations.{IsIndentation};
 ghost use Rattle.sourcewriting.specs.Forms.{is_compressed_form};
 ghost use Rattle.sourcewriting.specs.Laid.{IsLaid, IsInForm};
 ghost use Rattle.sourcewriting.specs.Leaving.{CanBePutWith};
 ghost use Rattle.sourcewriting.specs.Lettered.{CanBeLettered};
+ghost use Rattle.sourcewriting.specs.Lines.{IsInLines};
 ghost use Rattle.sourcewriting.specs.Named.{AreNames};
 ghost use Rattle.sourcewriting.specs.MarkedTexts.{IsMarkedText};
 ghost use Rattle.sourcewriting.specs.Reading.{labels_in, IsMarkedLayout};
@@ -132,7 +132,7 @@ fn text_in_form(
     root: usize,
 ) -> Result<Option<Vec<u8>>, AllocError>
     requires { IsIndentation indentation.now }
-    ensures laid_out { IfOk result (λ made. IfSome made (λ text. IsLaidOut indentation.now is_compressed text.items)) }
+    ensures laid_out { IfOk result (λ made. IfSome made (λ text. IsInLines indentation.now is_compressed text.items)) }
     ensures marked { IsTrue is_compressed → IfOk result (λ made. IfSome made (λ text.
         IsMarkedAs indentation.now (seen_words mandatory.now) shared.now.words.items text.items)) }
     ensures some { AreNames (labels_in shared.now.words.items)
@@ -160,7 +160,7 @@ pub(crate) fn text_of<'p, 'a, D: Declared<'a>>(
     steps: &Proof,
 ) -> Result<Option<Vec<u8>>, AllocError>
     requires { IsIndentation indentation.now }
-    ensures laid_out { IfOk result (λ made. IfSome made (λ text. IsLaidOut indentation.now is_compressed text.items)) }
+    ensures laid_out { IfOk result (λ made. IfSome made (λ text. IsInLines indentation.now is_compressed text.items)) }
     ensures marked { (hs : List HypothesisOf) → AreHypotheses hs hypotheses.now → IsTrue is_compressed
         → IfOk result (λ made. IfSome made (λ text.
         IsMarkedText indentation.now (Takes (D.scope declared.now) names.now hs) hs text.items)) }
@@ -198,7 +198,7 @@ pub fn proof_text<'x, D: Declared<'x>>(
     requires place { place < length (D.scope declared.now).assertions }
     requires indentation { IsIndentation indentation.now }
     ensures laid_out { let old = option_and_then (λ a. a.proof) (slice_get (D.scope declared.now).assertions place) in
-        IfOk result (λ made. IfSome made (λ text. IsLaidOut indentation.now (is_compressed_form old) text.items)) }
+        IfOk result (λ made. IfSome made (λ text. IsInLines indentation.now (is_compressed_form old) text.items)) }
     ensures marked { (a : AssertionOf) → slice_get (D.scope declared.now).assertions place ≡ Some a → IsTrue (is_compressed_form a.proof)
         → IfOk result (λ made. IfSome made (λ text.
         IsMarkedText indentation.now (Takes (D.scope declared.now) names.now a.hypotheses) a.hypotheses text.items)) }

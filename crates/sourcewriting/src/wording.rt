@@ -4,7 +4,8 @@ ghost use Rattle.std.specs.Prelude.{◌≡◌, ◌≤◌, ◌<◌, ◌+◌, ◌^
 ghost use Rattle.source.specs.Views.{seen_words};
 ghost use Rattle.mmtext.specs.Words.{Word};
 ghost use Rattle.sourcewriting.specs.Named.{IsName, AreNames};
-ghost use Rattle.sourcewriting.specs.Laid.{IsLaid, IsNormal, IsCompressed, HasLabels, has_closing};
+ghost use Rattle.sourcewriting.specs.Laid.{IsLaid, IsNormal, HasLabels, has_closing};
+ghost use Rattle.sourcewriting.specs.Lines.{parenthesized};
 ghost use Rattle.sourcewriting.specs.Lettered.{AreNumbers, AreUntaken, CanBeLettered, counts_behind};
 ghost use Rattle.sourcewriting.specs.Reading.{counts_of, labels_in, HaveOneMore, HaveMore, IsMarkedLayout};
 
@@ -176,7 +177,7 @@ fn put_labels(layout: &mut Layout<'_>, labels: &[CountedLabel<'_>])
 /// Puts labels in parentheses.
 pub(crate) fn put_in_parentheses(layout: &mut Layout<'_>, labels: &[CountedLabel<'_>])
     ensures fine { AreNames (labels_in labels.now) → layout.new.is_refused ≡ layout.old.is_refused }
-    ensures laid { (i : List ℕ) → IsLaid i layout.old [] → IsCompressed i layout.new (labels_in labels.now) [] }
+    ensures laid { (i : List ℕ) → IsLaid i layout.old [] → IsLaid i layout.new (parenthesized (labels_in labels.now)) }
 {
     layout.put_word(b"(");
     put_labels(layout, labels);

@@ -3,10 +3,10 @@ use Rattle.std.proofs.Common.{◌≡◌, ◌∙◌, ℕ, ◌<◌, Bool, List, []
 use Rattle.std.specs.Prelude.{IfSome, IsTrue, is_some, slice_get}
 use Rattle.std.specs.Option.{option_and_then}
 use mathlib.Core.Bool.{not}
-use Rattle.items.specs.Layout.{IsLaidOut}
 use Rattle.sourcewriting.specs.Forms.{is_compressed_form}
 use Rattle.sourcewriting.specs.Indentations.{indentation_like}
 use Rattle.sourcewriting.specs.Counting.{Takes}
+use Rattle.sourcewriting.specs.Lines.{IsInLines}
 use Rattle.sourcewriting.specs.MarkedTexts.{IsMarkedText}
 use Rattle.sourcewriting.proofs.MarkedProofs.{marked_where}
 use Rattle.std.proofs.lemmas.Option.{same_Some}
@@ -40,8 +40,8 @@ returns-in-Some-2-clause-written g c = λ bytes e living indented names.
     let is : i ≡ found_in c.args.indentations.now c.args.source.now c.args.new.now =
     c.indentation_like-indentation.ensures.is ∙ ap₂ indentation_like c.text_for.ensures has in
     let text = c.in-Some-2.text.items in
-    let laid : IsLaidOut i form text =
-    subst (λ o. IfSome o (λ text. IsLaidOut i form text.items)) c.in-Some-2.is c.in_ok-text.ensures.laid_out in
+    let laid : IsInLines i form text =
+    subst (λ o. IfSome o (λ text. IsInLines i form text.items)) c.in-Some-2.is c.in_ok-text.ensures.laid_out in
     written_for bytes s e living c.args.source.now c.args.new.now text i c.args.indentations.now c.in-Some.place indented
     (sym c.in-Some.ensures) is laid (λ x at compressed.
     let takes = Takes s c.args.names.now x.hypotheses in

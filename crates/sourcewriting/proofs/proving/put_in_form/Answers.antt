@@ -1,6 +1,7 @@
-use Rattle.std.proofs.Common.{[], ◌∷◌, ◌++◌, refl, sym, ◌∙◌, codes}
+use Rattle.std.proofs.Common.{[], ◌++◌, refl, sym, ◌∙◌}
 use Rattle.taking.proofs.Turned.{if_ok}
 use Rattle.sourcewriting.proofs.Labels.{form_of_labels}
+use Rattle.sourcewriting.specs.Lines.{parenthesized}
 use Rattle.sourcewriting.specs.Reading.{labels_in}
 use Rattle.sourcewriting.proofs.proving.put_in_form.Goals as goal
 
@@ -9,7 +10,7 @@ returns-then-is_compressed-clause-laid c = λ i laid.
     if_ok c.put_compressed.result
     (λ right has yes.
     let marked = has yes in
-    ((((codes "(" ∷ (labels_in marked.labels ++ codes ")" ∷ [])) ++ marked.laid.0), marked.laid.2, λ _. sym c.if-is_compressed.true), λ _. marked))
+    ((parenthesized (labels_in marked.labels) ++ marked.laid.0, marked.laid.2.0, λ _. sym c.if-is_compressed.true), λ _. marked))
     (c.put_compressed.ensures.laid i laid)
 
 pub returns-in_ok-put_normal-clause-laid : goal.returns-in_ok-put_normal-clause-laid

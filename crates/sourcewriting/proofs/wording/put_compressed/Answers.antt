@@ -1,4 +1,4 @@
-use Rattle.std.proofs.Common.{◌≡◌, ◌∙◌, ◌<◌, ◌+◌, ◌^◌, [], ℕ, List, Some, length, sym, ap, subst, arith, IsTrue}
+use Rattle.std.proofs.Common.{◌≡◌, ◌∙◌, ◌<◌, ◌+◌, ◌^◌, ℕ, List, Some, length, sym, ap, subst, arith, IsTrue}
 use Rattle.std.specs.List.{list_all}
 use Rattle.std.proofs.lemmas.List.{length-map}
 use Rattle.mmtext.specs.Text.{is_printable}
@@ -11,7 +11,8 @@ use Rattle.sourcewriting.proofs.Printed.{printable_letters}
 use Rattle.source.specs.Views.{seen_words}
 use Rattle.taking.proofs.Turned.{if_ok}
 use Rattle.sourcewriting.specs.declared.shared.CountedLabel.{CountedLabel}
-use Rattle.sourcewriting.specs.Laid.{IsCompressed}
+use Rattle.sourcewriting.specs.Laid.{IsLaid}
+use Rattle.sourcewriting.specs.Lines.{parenthesized}
 use Rattle.sourcewriting.specs.Reading.{counts_of, labels_in, HaveMore, AreMarkedLetters}
 use Rattle.sourcewriting.proofs.MarkedWords.{marked_words}
 use Rattle.sourcewriting.proofs.wording.put_compressed.Goals as goal
@@ -27,7 +28,7 @@ returns-clause-laid c = λ i laid.
     let have = subst (λ (ws : List CountedLabel). HaveMore ws none others) c.words.ensures c.in_ok-numbers.ensures.more in
     let are = subst (λ (os : List CountedLabel). counts_of counted ≡ counts_behind mandatory os) c.as_slice-2.ensures.value
     c.in_ok-counted.ensures in
-    let was = subst (λ (os : List CountedLabel). IsCompressed i c.put_in_parentheses.new.layout (labels_in os) []) c.as_slice.ensures.value
+    let was = subst (λ (os : List CountedLabel). IsLaid i c.put_in_parentheses.new.layout (parenthesized (labels_in os))) c.as_slice.ensures.value
     (c.put_in_parentheses.ensures.laid i laid) in
     if_ok c.are_marked.result
     (λ right now yes.

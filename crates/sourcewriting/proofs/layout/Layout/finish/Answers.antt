@@ -2,7 +2,7 @@ use Rattle.std.proofs.Common.{◌≡◌, ◌++◌, ◌∷◌, suc, min, length, 
 use Rattle.std.specs.Prelude.{IfSome}
 use Rattle.std.specs.Bool.{then_some}
 use Rattle.std.proofs.lemmas.Result.{IfOk-weaker}
-use Rattle.sourcewriting.specs.Laid.{IsLaidOutAs}
+use Rattle.sourcewriting.specs.Laid.{IsWhole, IsLaidOutAs}
 use Rattle.sourcewriting.proofs.Laying.{finished}
 use Rattle.sourcewriting.proofs.layout.Layout.finish.Goals as goal
 
@@ -15,18 +15,18 @@ returns-clause-laid c = λ i ws has.
     let l = c.args.self in
     let m = c.put_space.new.self in
     let fits = c.has_room-begins_line.result in
-    let told : IsFalse m.is_cut_off → IsFalse m.is_refused → IsFalse l.is_refused × IsLaidOutAs i ws m.text.items = λ whole right.
+    let told : IsFalse m.is_cut_off → IsFalse m.is_refused → IsWhole l × IsLaidOutAs i ws m.text.items = λ whole right.
     let spaced = c.put_space.ensures.whole whole in
     let sound = sym c.put_space.ensures.refused ∙ right in
     let was = has spaced.0 sound in
     let said : m.text.items ≡ l.text.items ++ (if not fits then 10 ∷ i else codes " ") = cc (spaced.1, was.0) in
     let begins : min m.column 79 ≡ min (if not fits then length i else suc l.column) 79 = cc (c.put_space.ensures.column, was.0) in (
-      sound,
+      (spaced.0, sound),
       finished i ws l.text.items m.text.items l.column m.column fits was.1 c.has_room-begins_line.ensures said begins,
     ) in
     IfOk-weaker
     c.into_text.result
     (λ made. IsFalse m.is_cut_off × (made ≡ then_some (not m.is_refused) m.text))
-    (λ made. IfSome made (λ text. IsFalse l.is_refused × IsLaidOutAs i ws text.items))
-    (λ made is. rw is.1 (at_some m.is_refused m.text (λ text. IsFalse l.is_refused × IsLaidOutAs i ws text.items) (told is.0)))
+    (λ made. IfSome made (λ text. IsWhole l × IsLaidOutAs i ws text.items))
+    (λ made is. rw is.1 (at_some m.is_refused m.text (λ text. IsWhole l × IsLaidOutAs i ws text.items) (told is.0)))
     c.into_text.ensures

@@ -4,8 +4,10 @@ use Rattle.std.proofs.lemmas.Grind.{flat_map-append}
 use Rattle.std.proofs.lemmas.List.{append-nil, take-append-drop}
 use Rattle.mmtext.specs.Words.{Word}
 use Rattle.sourcewriting.specs.Indentations.{IsIndentation}
-use Rattle.sourcewriting.specs.Laid.{AreLaid}
+use Rattle.sourcewriting.specs.Laid.{AreLaid, IsWhole}
 use Rattle.std.proofs.lemmas.Bool.Decides.{nat_tests}
+use Rattle.sourcewriting.specs.Lines.{column_then, columns_then}
+use Rattle.sourcewriting.proofs.Laying.{column_same, columns_then-append, cut_behind}
 use Rattle.sourcewriting.proofs.Printed.{cut_printable}
 use Rattle.sourcewriting.proofs.layout.Layout.put_letters.Goals as goal
 
@@ -37,6 +39,22 @@ loop-rest-preserved c = record {
             let short = c.room.ensures.short (length word) le begins in
             subst (λ ws. (m.indentation.now ≡ i) × AreLaid i ws m.text.items m.column) (append_assoc ws cut (word ∷ []))
             (c.put_word.ensures.laid i (ws ++ cut) (inr short) was.2 whole right),
+        λ whole.
+            let past : IsWhole c.loop-rest.self = (c.put_word.ensures.whole whole.0, c.put_word.ensures.right whole.1) in
+            let old = was.2 past.0 past.1 in
+            let begins = subst IsIndentation (sym old.0) old.1.begins in
+            let some : 0 < length c.loop-rest.rest.now = grind (arith, nat_tests, c.is_empty.ensures, c.loop-rest-test.true) in
+            let filled = (was.3 past).1 some in (
+              filled word,
+              λ more next.
+                  let long : length word ≡ c.room.result =
+                  omega (arith, more, c.split_at.ensures.front_len, c.split_at.ensures.back_len, c.min.ensures) in
+                  let fills = subst (λ j. column_then j c.loop-rest.self.column c.room.result ≡ 79) old.0 (c.room.ensures.fills begins) in
+                  let there = column_same i c.loop-rest.self.column (columns_then i 79 (ws ++ cut)) c.room.result old.1.there fills in
+                  let column = subst (λ n. column_then i (columns_then i (columns_then i 79 ws) cut) n ≡ 79) (sym long)
+                  (subst (λ d. column_then i d c.room.result ≡ 79) (columns_then-append i 79 ws cut) there) in
+                  cut_behind i (columns_then i 79 ws) cut word (filled word) column next,
+            ),
       );
   fine = λ printable.
       let was = c.loop-rest.invariant.fine printable in
