@@ -329,7 +329,8 @@ fn found_at<'x>(map: &ByLabel<'x>, label: &[u8]) -> Option<&'x Assertion>
     map.get(&label).copied()
 }
 
-/// The theorems whose listing isn't the old one with changed labels, by their labels in the source, with what they are in the edited library.
+/// The theorems whose listing isn't the old one with changed labels, by their labels in the source, with what they are in the edited
+/// library.
 fn other_listings<'x>(
     alloc: Global,
     keys: RandomState,

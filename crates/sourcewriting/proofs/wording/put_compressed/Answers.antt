@@ -28,7 +28,8 @@ returns-clause-laid c = λ i laid.
     let have = subst (λ (ws : List CountedLabel). HaveMore ws none others) c.words.ensures c.in_ok-numbers.ensures.more in
     let are = subst (λ (os : List CountedLabel). counts_of counted ≡ counts_behind mandatory os) c.as_slice-2.ensures.value
     c.in_ok-counted.ensures in
-    let was = subst (λ (os : List CountedLabel). IsLaid i c.put_in_parentheses.new.layout (parenthesized (labels_in os))) c.as_slice.ensures.value
+    let was = subst (λ (os : List CountedLabel). IsLaid i c.put_in_parentheses.new.layout (parenthesized (labels_in os)))
+    c.as_slice.ensures.value
     (c.put_in_parentheses.ensures.laid i laid) in
     if_ok c.are_marked.result
     (λ right now yes.
