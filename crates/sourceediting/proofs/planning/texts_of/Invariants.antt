@@ -10,8 +10,8 @@ use Rattle.sourceediting.specs.Reproved.{AreOtherProofs, ListsAnew}
 use Rattle.sourceediting.proofs.planning.texts_of.Given as goal
 
 -- each text so far is that of another proof
-abbrev pub invariant-loop : goal.invariant-loop
-invariant-loop g l =
+abbrev pub invariant-loop-label : goal.invariant-loop-label
+invariant-loop-label g l =
     (source : List ℕ) (e : Edition) (living : List Followed) → AreIndentations source l.indentations
     → AreNamesOf (g.D.Declared.scope l.declared) e living l.names → All (λ p. ListsAnew e living p.0.now p.1.now) l.others
     → AreOtherProofs source (g.D.Declared.scope l.declared) e living (seen_texts l.texts.items)

@@ -1,7 +1,6 @@
 -- What is left to show of `write_over`.
 use Rattle.std.proofs.Common.{◌≡◌, ◌∙◌, refl, sym, ap, subst, inl, inr}
-use Rattle.std.specs.Prelude.{All, IfSome}
-use Rattle.items.specs.Walking.{AreIndentations}
+use Rattle.std.specs.Prelude.{All}
 use Rattle.std.proofs.lemmas.Result.{IfOk-weaker, err_from_is_err_and}
 use Rattle.source.specs.Views.{seen_words}
 use Rattle.giving.specs.Changes.{seen_texts}
@@ -23,9 +22,7 @@ returns-clause-written g c =
     let proofs = c.in_ok-proofs-2.proofs in
     let planned = c.args.planned.now in
     let are_others = AreOtherProofs source (g.D.Declared.scope c.args.declared.now) (edition_of planned) (seen_living planned.living.now) in
-    let indented = subst (λ o. IfSome o (AreIndentations source)) c.in-Some.is c.in_ok-indented.ensures.indentations in
-    let are = subst are_others (sym (c.in_ok-proofs-2.ensures ∙ ap seen_texts c.as_slice.ensures.value))
-    (c.in_ok-proofs.ensures.made source indented) in
+    let are = subst are_others (sym (c.in_ok-proofs-2.ensures ∙ ap seen_texts c.as_slice.ensures.value)) c.in_ok-proofs.ensures.made in
     let living = seen_living planned.living.now in
     let gone = seen_words planned.gone.now in
     IfOk-weaker c.written.result (λ out. IsWrittenAnew commands living gone (λ ps. ps ≡ proofs) cs source out.items)
@@ -37,7 +34,7 @@ returns-clause-refused g c = c.written.ensures.refused
 
 pub returns-in_err-proofs-clause-refused : goal.returns-in_err-proofs-clause-refused
 returns-in_err-proofs-clause-refused g c =
-    let p = err_from_is_err_and c.from_residual-in_err-proofs.result c.from_residual-in_err-proofs.ensures.1 in
+    let p = err_from_is_err_and c.from_residual.result c.from_residual.ensures.1 in
     rw (p.1, p.2) (c.in_err-proofs.ensures.refused c.args.source.now)
 
 pub written-requires : goal.written-requires
@@ -47,9 +44,8 @@ written-requires g c κs =
     let s = g.D.Declared.scope c.args.declared.now in
     let e = edition_of planned in
     let living = seen_living planned.living.now in
-    let indented = subst (λ o. IfSome o (AreIndentations source)) c.in-Some.is c.in_ok-indented.ensures.indentations in
     let are = subst (AreOtherProofs source s e living) (sym (c.in_ok-proofs-2.ensures ∙ ap seen_texts c.as_slice.ensures.value))
-    (c.in_ok-proofs.ensures.made source indented) in (
+    c.in_ok-proofs.ensures.made in (
       (refl, (refl, tt)),
       (c.requires.labelled, (c.requires.divided, listed_anew source s e living c.in_ok-proofs-2.proofs are)),
     )
@@ -67,7 +63,7 @@ returns-clause-unwritten g c = λ told finds.
 
 pub returns-in_err-proofs-clause-unwritten : goal.returns-in_err-proofs-clause-unwritten
 returns-in_err-proofs-clause-unwritten g c = λ told finds.
-    let p = err_from_is_err_and c.from_residual-in_err-proofs.result c.from_residual-in_err-proofs.ensures.1 in
+    let p = err_from_is_err_and c.from_residual.result c.from_residual.ensures.1 in
     let s = g.D.Declared.scope c.args.declared.now in
     let planned = c.args.planned.now in
     let e = edition_of planned in
