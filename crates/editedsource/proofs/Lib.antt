@@ -1,2 +1,2 @@
-mod Dressed
 mod Unwrapped
+mod Picked

@@ -12,8 +12,8 @@ use Rattle.givetext.specs.Parts.{IsEdited}
 use Rattle.verifytext.specs.declared.verifying_text.Verified.{Verified}
 use Rattle.verifytext.specs.Verdicts.{IsVerifiedText}
 use Rattle.pasting.specs.Quotes.{Quotation}
-use Rattle.editedsource.specs.Dressed.{IsDressed}
-use Rattle.endlabels.specs.Gone.{lost, spoken_line}
+use Rattle.dressing.specs.Dressed.{IsDressed}
+use Rattle.editedsource.specs.Gone.{lost, spoken_line}
 use Rattle.editedsource.specs.declared.completing.Finished.{Finished}
 
 -- it has the edits of a history over the library that was taken by a choice, with these proofs as they were given, and these descriptions

@@ -1,6 +1,3 @@
-pub mod Described
-pub mod Worded
-pub mod Dressed
-pub mod Dressings
 pub mod Refusals
+pub mod Gone
 pub mod Finished

@@ -16,7 +16,7 @@ use Rattle.verifytext.specs.Verdicts.{IsRefused}
 use Rattle.verifytext.specs.Lines.{refusal_line as verifying_line}
 use Rattle.giving.specs.Staying.{Change}
 use Rattle.pasting.specs.Quotes.{Quotation}
-use Rattle.editedsource.specs.Dressed.{IsHalfDressed}
+use Rattle.dressing.specs.Dressed.{IsDressed}
 
 -- edits of a history aren't given back into a source
 pub record IsStoppedLine (path source : Bytes) (old : Scope) (choice : Choice) (taken : Taken) (entries : List Entry) (edited : Listed)
@@ -34,11 +34,10 @@ pub record IsFaultyThenLine (path out line : Bytes) : Type 0 where
   pub told : why ≢ unverified.NoMemory
   pub says : line ≡ verifying_line (path ++ codes ": the source with these edits") why
 
--- of the code's inside: edits of a history aren't given back, or the source with them, and with given proofs and descriptions, isn't said
--- to verify
+-- of the code's inside: edits of a history aren't given back, or the source with them, dressed in what scripts give, isn't said to verify
 abbrev pub IsStoppedOrFaulty : Bytes → Bytes → Scope → Choice → Taken → List Entry → Listed → List Quotation → List Change → Bytes
     → Type 0
 IsStoppedOrFaulty path source old choice taken entries edited qs ds line =
     IsStoppedLine path source old choice taken entries edited line
     ⊎ ((edits : Bytes) × (out : Bytes) × (is : IsEdited source old choice taken entries edited edits)
-    × IsHalfDressed qs ds is.followed edits out × IsFaultyThenLine path out line)
+    × IsDressed qs ds is.followed edits out × IsFaultyThenLine path out line)

@@ -16,11 +16,11 @@ ghost use Rattle.pasting.specs.Views.{seen_quotation};
 ghost use Rattle.editscripts.specs.Refusals.{IsToldBy};
 ghost use Rattle.editedsource.specs.Refusals.{IsStoppedLine, IsStoppedOrFaulty};
 
-use crate::dressing::{Dressing, Given, described, described_again};
+use crate::spoken::spoken_lines;
 use crate::telling::ungiven;
-use crate::wording::word_as_given;
+use crate::verified::verify_dressed;
+use dressing::{Given, dress};
 use editscripts::Unedited;
-use endlabels::spoken_lines;
 use following::Follow;
 use givetext::{Draft, EditedLibrary, draft_edits, look_at_draft, read_draft};
 use scopes::Scopes;
@@ -124,8 +124,7 @@ pub struct Finished {
     pub spoken: Vec<String>,
 }
 
-/// The source with the edits of a run, in the words that scripts give, and with these descriptions in front of what was added, once it
-/// was looked at and verified.
+/// The source with the edits of a run, dressed in what scripts give, once it was looked at and verified.
 pub fn finish<'x, 'a: 'x>(
     rt: &(impl Threads + Sync),
     alloc: Global,
@@ -154,21 +153,8 @@ pub fn finish<'x, 'a: 'x>(
     look_at(rt, alloc, keys, &old, &new, edit, &draft)?;
     // Its tables are as large as those of the new text, which is verified without them.
     drop(old);
-    let (given, text) = (edit.given, draft.text.as_slice());
-    let worded = word_as_given(alloc, keys, given.quotations, &draft.following, &new, text)?;
-    let dressing = Dressing::new(edit.path, given.descriptions, &draft.following);
-    let dressed = match worded {
-        None => {
-            let described = described(rt, alloc, keys, &dressing, &new, text, follow)?;
-            drop(new);
-            described
-        }
-        Some(worded) => {
-            // Its tables are as large as those of the other text.
-            drop(new);
-            Some(described_again(rt, alloc, keys, &dressing, worded, follow)?)
-        }
-    };
+    let dressed = dress(alloc, keys, &new, draft.text.as_slice(), edit.given, &draft.following)?;
+    verify_dressed(rt, alloc, keys, edit.path, new, dressed.as_ref(), follow)?;
     let Draft {
         text,
         following,

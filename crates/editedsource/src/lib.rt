@@ -1,11 +1,10 @@
 //! The source with the edits of a run: it is written, looked at again, dressed in what scripts give in their own words, and verified; or
-//! why it isn't printed.
+//! why it isn't printed. And where comments of it speak of labels that are gone.
 #![tactic(auto)]
 
 mod completing;
-mod dressing;
+mod spoken;
 mod telling;
-mod wording;
+mod verified;
 
 pub use completing::{Finished, SourceEdit, finish};
-pub use dressing::Given;

@@ -11,7 +11,7 @@ use Rattle.edittext.specs.Edited.{Run, IsEditedBy}
 use Rattle.editscripts.specs.Undone.{all_undone}
 use Rattle.edittext.specs.declared.account.Account.{Account}
 use Rattle.editscripts.specs.Replies.{Replies, replies_in, seen_replies, told_if}
-use Rattle.endlabels.specs.Gone.{lost, spoken_line}
+use Rattle.editedsource.specs.Gone.{lost, spoken_line}
 
 -- ---- what became of each transaction
 

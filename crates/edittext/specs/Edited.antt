@@ -15,7 +15,7 @@ use Rattle.editscripts.specs.Described.{AreDescriptive, done_descriptions}
 use Rattle.editscripts.specs.Encouraged.{AreAllowed}
 use Rattle.pasting.specs.Quotes.{Quote}
 use Rattle.editscripts.specs.Quoted.{AreQuotesOf, done_quotations}
-use Rattle.editedsource.specs.Dressed.{IsDressed}
+use Rattle.dressing.specs.Dressed.{IsDressed}
 use Rattle.standins.specs.Ending.{IsSettled, IsWithdrawn}
 use Rattle.editopening.specs.Opening.{Begun, taken_of, choice_of, stand_ins_of, opened_of, scripts_of}
 

@@ -16,7 +16,7 @@ use Rattle.editscripts.specs.Encouraged.{AreAllowed}
 use Rattle.editscripts.specs.Described.{AreDescriptive, done_descriptions}
 use Rattle.pasting.specs.Quotes.{Quote}
 use Rattle.editscripts.specs.Quoted.{AreQuotesOf, done_quotations}
-use Rattle.editedsource.specs.Dressed.{IsHalfDressed}
+use Rattle.dressing.specs.Dressed.{IsDressed}
 use Rattle.editopening.specs.Opening.{Begun, choice_of, opened_of, scripts_of}
 use Rattle.editopening.specs.Refusals.{IsFaultyLine, IsUnbegunLine}
 use Rattle.edittext.specs.Edited.{Run, Closed, IsSourceThen}
@@ -57,7 +57,7 @@ pub record IsUnverifiedLine {source : Bytes} {texts : List Bytes} {workers : ℕ
   pub descriptions : List (List Description)
   pub are_descriptive : AreDescriptive texts run.begun.with_ranks.over.spread descriptions
   pub out : Bytes
-  pub dressed : IsHalfDressed (done_quotations rows quotes) (done_descriptions rows descriptions) source_then.followed edits out
+  pub dressed : IsDressed (done_quotations rows quotes) (done_descriptions rows descriptions) source_then.followed edits out
   pub cause : IsFaultyThenLine path out line
 
 -- the first of these is told

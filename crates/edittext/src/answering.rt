@@ -15,7 +15,8 @@ ghost use Rattle.pasting.specs.Views.{seen_quotation};
 
 use crate::account::Account;
 use crate::call::{close_run, run_over};
-use editedsource::{Finished, Given, SourceEdit, finish};
+use dressing::Given;
+use editedsource::{Finished, SourceEdit, finish};
 use editopening::{Begun, EditOrder, begin, read_old};
 use editscripts::{
     RunScripts, Unedited, done_descriptions, done_quotations, may_print, replies_if, undone,

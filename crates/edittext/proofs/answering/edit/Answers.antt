@@ -13,7 +13,7 @@ use Rattle.library.specs.Fitting.{CommandFits}
 use Rattle.transaction.specs.Closings.{lists_of}
 use Rattle.jobs.specs.Jobs.{room_of}
 use Rattle.checking.specs.Checks.{Orders}
-use Rattle.editedsource.specs.Dressed.{IsDressed, IsHalfDressed}
+use Rattle.dressing.specs.Dressed.{IsDressed}
 use Rattle.pasting.specs.Quotes.{Quotation}
 use Rattle.pasting.specs.Views.{seen_quotation}
 use Rattle.editscripts.specs.Quoted.{done_quotations}
@@ -224,8 +224,8 @@ returns-clause-told g c =
           are_descriptive = is.descriptive;
           out = f.1;
           dressed =
-              subst (λ (ds : List Change). IsHalfDressed (done_quotations rows quotes) ds f.2.followed f.0 f.1) same
-              (subst (λ (qs : List Quotation). IsHalfDressed qs ds f.2.followed f.0 f.1) same_quotes f.3);
+              subst (λ (ds : List Change). IsDressed (done_quotations rows quotes) ds f.2.followed f.0 f.1) same
+              (subst (λ (qs : List Quotation). IsDressed qs ds f.2.followed f.0 f.1) same_quotes f.3);
           cause = f.4;
         })
       ],

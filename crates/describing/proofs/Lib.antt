@@ -1,3 +1,0 @@
-mod Lines
-mod Bytes
-mod Described

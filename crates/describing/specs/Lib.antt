@@ -1,2 +1,0 @@
-pub mod Described
-pub mod Laws

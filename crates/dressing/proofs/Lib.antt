@@ -1,0 +1,12 @@
+mod Naming
+mod Lists
+mod Quoting
+mod Standing
+mod Changing
+mod Giving
+mod Premises
+mod Wanted
+mod Lines
+mod Dressed
+mod WordByWord
+mod Firsts

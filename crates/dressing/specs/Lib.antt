@@ -1,0 +1,10 @@
+pub mod OwnWords
+pub mod Descriptions
+pub mod Quoted
+pub mod Labels
+pub mod Relabelled
+pub mod Described
+pub mod Dressed
+pub mod Laws
+pub mod Parts
+pub mod Putting

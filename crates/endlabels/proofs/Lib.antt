@@ -1,2 +1,0 @@
-mod Firsts
-mod Picked

@@ -1,3 +1,0 @@
-pub mod Descriptions
-pub mod Gone
-pub mod OwnWords

@@ -1,5 +1,0 @@
-mod Naming
-mod Lists
-mod Quoting
-mod Standing
-mod Rewritten
