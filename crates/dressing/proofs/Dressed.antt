@@ -1,5 +1,5 @@
 -- Items of a source that were put as they are dressed.
-use Rattle.std.proofs.Common.{◌≡◌, ◌∙◌, ℕ, Bool, true, false, cond, List, [], ◌∷◌, ◌++◌, map, Option, Some, None, codes, refl, sym, ap, subst, arith, All}
+use Rattle.std.proofs.Common.{◌≡◌, ◌∙◌, ℕ, Bool, true, false, cond, List, [], ◌∷◌, ◌++◌, Option, Some, None, codes, refl, sym, ap, subst, arith, All}
 use Rattle.std.proofs.Common.{append-nil}
 use Rattle.std.specs.Prelude.{drop}
 use Rattle.std.specs.List.{flat_map, AllZip}
@@ -12,7 +12,7 @@ use Rattle.giving.specs.Staying.{Change, changed}
 use Rattle.items.specs.declared.reading.Item.{Item as Found}
 use Rattle.items.specs.declared.reading.Kind.{Kind}
 use Rattle.items.specs.declared.reading.Kind.TheVariants.{Comment, Opening, Closing, Assertion, Other}
-use Rattle.items.specs.Items.{Piece, Item, bytes_of, pieces_of, label_of, IsItem, IsStatement, Spells}
+use Rattle.items.specs.Items.{Piece, Item, bytes_of, pieces_of, label_of, IsItem, IsStatement}
 use Rattle.items.specs.Machine.{IsPut}
 use Rattle.items.specs.Reading.{tokens_at, Stands, IsItemAt, IsOfKind}
 use Rattle.items.specs.Rewriting.{text_for}
@@ -20,7 +20,7 @@ use Rattle.items.proofs.PutThen.{is_item, unlabelled, zip_more}
 use Rattle.items.proofs.Spelled.{spells_stand}
 use Rattle.items.proofs.Standing.{stands_both}
 use Rattle.dressing.specs.Described.{with_comment}
-use Rattle.dressing.specs.Dressed.{HasDressedItems, IsDressedIn, Reads, ReadsDressed, dressed, given_for}
+use Rattle.dressing.specs.Dressed.{IsDressedWith, HasDressedItems, IsDressedIn, Reads, ReadsDressed, dressed, given_for}
 use Rattle.dressing.specs.Putting.{put_from}
 use Rattle.dressing.specs.Relabelled.{relabelled}
 use Rattle.dressing.proofs.WordByWord.{all_put, no_comment, statement_put}
@@ -96,10 +96,10 @@ module _ (proofs cs ds : List Change) (source : List ℕ) where
   }
 
 pub dressed_as : (ps qs cs ks ds es : List Change) (source out : List ℕ) → ps ≡ qs → cs ≡ ks → ds ≡ es
-    → HasDressedItems ps cs ds source out → HasDressedItems qs ks es source out
+    → IsDressedWith ps cs ds source out → IsDressedWith qs ks es source out
 dressed_as ps qs cs ks ds es source out p c d is =
-    subst (λ xs. HasDressedItems qs ks xs source out) d
-    (subst (λ xs. HasDressedItems qs xs ds source out) c (subst (λ xs. HasDressedItems xs cs ds source out) p is))
+    subst (λ xs. IsDressedWith qs ks xs source out) d
+    (subst (λ xs. IsDressedWith qs xs ds source out) c (subst (λ xs. IsDressedWith xs cs ds source out) p is))
 
 -- ---- nothing is given
 
@@ -119,15 +119,8 @@ as_written x = ap bytes_of (no_comment (relabelled [] false x) ∙ unchanged fal
 nothing_for : (x : Item) → given_for [] x ≡ None
 nothing_for x = elim (label_of x) as (λ ls. option_map (λ (c : Change). c.1) (text_for [] ls) ≡ None) [ [] ↦ refl | w ∷ ws ↦ refl ]
 
-item_stays : (x : Item) → ReadsDressed [] [] [] x (bytes_of x)
-item_stays x = subst (λ o. Reads [] o o x (bytes_of x)) (sym (nothing_for x)) (sym (as_written x))
-
 part_is : (x : Item) (now : List ℕ) → ReadsDressed [] [] [] x now → now ≡ bytes_of x
 part_is x now reads = subst (λ o. Reads [] o o x now) (nothing_for x) reads ∙ as_written x
-
-all_stay : (xs : List Item) → AllZip (ReadsDressed [] [] []) xs (map bytes_of xs)
-all_stay [] = tt
-all_stay (x ∷ xs) = (item_stays x, all_stay xs)
 
 parts_are : (xs : List Item) (parts : List (List ℕ)) → AllZip (ReadsDressed [] [] []) xs parts
     → flat_map (λ p. p) parts ≡ bytes_of (pieces_of xs)
@@ -138,20 +131,14 @@ parts_are (x ∷ xs) (p ∷ ps) each =
     ap (λ bs. bs ++ flat_map (λ p. p) ps) (part_is x p each.0)
     ∙ (ap (λ bs. bytes_of x ++ bs) (parts_are xs ps each.1) ∙ sym (flat_map-append (λ p. p.space ++ p.word) x (pieces_of xs)))
 
-pub nothing_given : (items : List Item) (rest source : List ℕ) → Spells items rest source → HasDressedItems [] [] [] source source
-nothing_given items rest source spells = record {
-  items = items;
-  rest = rest;
-  spells = spells;
-  parts = map bytes_of items;
-  each = all_stay items;
-  text = spells.bytes ∙ ap (λ bs. bs ++ rest) (sym (parts_are items (map bytes_of items) (all_stay items)));
-}
+source_stays : (source out : List ℕ) → HasDressedItems [] [] [] source out → out ≡ source
+source_stays source out d = d.text ∙ (ap (λ bs. bs ++ d.rest) (parts_are d.items d.parts d.each) ∙ sym d.spells.bytes)
 
-source_stays : (proofs : List Change) (source out : List ℕ) → proofs ≡ [] → HasDressedItems proofs [] [] source out → out ≡ source
-source_stays proofs source out none d =
-    let each = subst (λ ps. AllZip (ReadsDressed ps [] []) d.items d.parts) none d.each in
-    d.text ∙ (ap (λ bs. bs ++ d.rest) (parts_are d.items d.parts each) ∙ sym d.spells.bytes)
+pub are_dressed : (ps cs ds : List Change) (source out : List ℕ) → HasDressedItems ps cs ds source out → IsDressedWith ps cs ds source out
+are_dressed [] [] [] source out d = source_stays source out d
+are_dressed [] [] (c ∷ ds) source out d = d
+are_dressed [] (c ∷ cs) ds source out d = d
+are_dressed (p ∷ ps) cs ds source out d = d
 
 pub stays_without : (source out : List ℕ) → IsDressedIn [] [] [] source out → out ≡ source
-stays_without source out d = source_stays d.proofs source out d.quoted d.items
+stays_without source out d = subst (λ ps. IsDressedWith ps [] [] source out) d.quoted d.items

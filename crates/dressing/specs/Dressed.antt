@@ -58,13 +58,20 @@ pub record HasDressedItems (proofs cs ds : List Change) (source out : List ℕ) 
   pub each : AllZip (ReadsDressed proofs cs ds) items parts
   pub text : out ≡ flat_map (λ p. p) parts ++ rest
 
+-- where there is nothing, it stays
+abbrev pub IsDressedWith : List Change → List Change → List Change → List ℕ → List ℕ → Type 0
+IsDressedWith [] [] [] source out = out ≡ source
+IsDressedWith [] [] (d ∷ ds) source out = HasDressedItems [] [] (d ∷ ds) source out
+IsDressedWith [] (c ∷ cs) ds source out = HasDressedItems [] (c ∷ cs) ds source out
+IsDressedWith (p ∷ ps) cs ds source out = HasDressedItems (p ∷ ps) cs ds source out
+
 -- those proofs are quoted that can be, `$e` have those labels that are free, and these comments describe
 pub record IsDressedIn (qs : List GivenProof) (gs : List GivenLabels) (ds : List Change) (source out : List ℕ) : Type 0 where
   pub scope : Scope
   pub declares : DeclaresText source scope
   pub proofs : List Change
   pub quoted : HasQuoted scope source qs proofs
-  pub items : HasDressedItems proofs (changes_from scope [] gs) ds source out
+  pub items : IsDressedWith proofs (changes_from scope [] gs) ds source out
 
 -- under the labels that assertions have in the end
 abbrev pub IsDressed : List Quotation → List Change → Following → List ℕ → List ℕ → Type 0

@@ -1,10 +1,9 @@
 -- What is left to show of `quoted_texts`.
 use Rattle.std.proofs.Common.{◌≡◌, [], length, refl, sym, ap, subst, map}
-use Rattle.std.specs.Prelude.{IfSome, IsSome}
+use Rattle.std.specs.Prelude.{IsSome}
 use Rattle.std.proofs.lemmas.Bool.{eqb-true}
 use Rattle.std.proofs.lemmas.List.{nil_from_length}
 use Rattle.giving.specs.Changes.{seen_texts}
-use Rattle.items.specs.Walking.{AreIndentations}
 use Rattle.items.proofs.Sourced.{declares_divided}
 use Rattle.pasting.specs.Views.{seen_given_proof}
 use Rattle.dressing.specs.Quoted.{HasQuoted}
@@ -18,19 +17,10 @@ unreachable-requires g c =
 
 pub returns-then-is_empty : goal.returns-then-is_empty
 returns-then-is_empty g c =
-    let text = c.args.source.now in
-    let found : AreIndentations text c.in-Some.indented =
-    subst (λ o. IfSome o (AreIndentations text)) c.in-Some.is c.in_ok-indented.ensures.indentations in
     let none : c.args.given.now ≡ [] =
     nil_from_length c.args.given.now (eqb-true (length c.args.given.now) 0 (sym c.if-is_empty.ensures)) in
-    record {
-      items = found.items;
-      rest = found.rest;
-      spells = found.spells;
-      quoted =
-          subst (λ gs. AreQuoted (g.D.Declared.scope c.args.declared.now) found.items (map seen_given_proof gs)
-          (seen_texts c.new.result.items)) (sym none) (ap seen_texts c.new.ensures.items);
-    }
+    subst (λ gs. HasQuoted (g.D.Declared.scope c.args.declared.now) c.args.source.now (map seen_given_proof gs)
+    (seen_texts c.new.result.items)) (sym none) (ap seen_texts c.new.ensures.items)
 
 pub texts_of-requires : goal.texts_of-requires
 texts_of-requires g c =
