@@ -153,7 +153,14 @@ pub fn finish<'x, 'a: 'x>(
     look_at(rt, alloc, keys, &old, &new, edit, &draft)?;
     // Its tables are as large as those of the new text, which is verified without them.
     drop(old);
-    let dressed = dress(alloc, keys, &new, draft.text.as_slice(), edit.given, &draft.following)?;
+    let dressed = dress(
+        alloc,
+        keys,
+        &new,
+        draft.text.as_slice(),
+        edit.given,
+        &draft.following,
+    )?;
     verify_dressed(rt, alloc, keys, edit.path, new, dressed.as_ref(), follow)?;
     let Draft {
         text,

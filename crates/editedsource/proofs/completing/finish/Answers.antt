@@ -1,5 +1,5 @@
 -- What is left to show of `finish`.
-use Rattle.std.proofs.Common.{◌≡◌, ◌∙◌, ℕ, Option, map, inl, inr, ap, refl, subst, sym, Vec, Global}
+use Rattle.std.proofs.Common.{◌≡◌, ◌∙◌, ℕ, map, inl, inr, ap, subst, sym, Vec, Global}
 use Rattle.std.specs.Prelude.{OnOk, IfOk, IfErr}
 use Rattle.std.specs.Option.{option_map, unwrap_or}
 use Rattle.std.proofs.lemmas.Result.{err_from_is_err_and}
@@ -11,13 +11,19 @@ use Rattle.givetext.specs.Parts.{IsEdited}
 use Rattle.pasting.specs.Views.{seen_quotation}
 use Rattle.sourceediting.specs.Following.{Following}
 use Rattle.sourceediting.specs.Views.{seen_following}
+use Rattle.verifytext.specs.Verdicts.{IsVerifiedText}
 use Rattle.dressing.specs.Dressed.{IsDressed}
 use Rattle.editscripts.specs.Refusals.{IsToldBy}
 use Rattle.editedsource.specs.Gone.{lost, spoken_line}
 use Rattle.editedsource.specs.Refusals.{IsFaultyThenLine, IsStoppedLine, IsStoppedOrFaulty}
-use Rattle.editedsource.proofs.Unwrapped.{unwrapped}
+use Rattle.editedsource.proofs.Unwrapped.{lent, unwrapped}
 use Rattle.editscripts.proofs.Lines.{told_more}
 use Rattle.editedsource.proofs.completing.finish.Goals as goal
+
+pub verify_dressed-requires-after_bounds : goal.verify_dressed-requires-after_bounds
+verify_dressed-requires-after_bounds g c =
+    let new = c.in_ok-new.ensures.declares in
+    λ _ _. c.sources_are_whole.ensures new.statements c.in_ok-new.new.stand.scope new.declared
 
 pub returns-clause-finished : goal.returns-clause-finished
 returns-clause-finished g c choice are =
@@ -43,13 +49,16 @@ returns-clause-finished g c choice are =
     c.as_slice.ensures.value c.in_ok-dressed.ensures) in
     let out = c.unwrap_or-out.result.items in
     let printed : shown ≡ out =
-    sym (ap (λ (v : Vec ℕ Global). v.items) c.unwrap_or-out.ensures ∙ unwrapped c.in_ok-dressed.dressed draft.text) in
+    unwrapped c.in_ok-dressed.dressed draft.text ∙ sym (ap (λ (v : Vec ℕ Global). v.items) c.unwrap_or-out.ensures) in
     record {
       edits = text;
       is_edited = edited;
       dressed = subst (IsDressed qs ds edited.followed text) printed dressed;
       much = c.in_ok-verify_dressed.field-0;
-      verifies = ?;
+      verifies =
+          subst (λ (bytes : Bytes). IsVerifiedText bytes c.in_ok-verify_dressed.field-0)
+          (lent c.as_ref.result c.in_ok-dressed.dressed text c.as_ref.ensures.value ∙ printed)
+          (c.in_ok-verify_dressed.ensures.verified text c.in_ok-new.ensures.declares);
       spoken =
           c.in_ok-spoken.ensures
           ∙ ap (λ (bytes : Bytes). map (spoken_line path bytes) (spoken_in (lost f) bytes)) c.as_slice-2.ensures.value
@@ -101,4 +110,7 @@ returns-in_err-verify_dressed-clause-refused g c choice are =
     rw (p.1, p.2) (told_more (IsFaultyThenLine path shown)
     (IsStoppedOrFaulty path source old choice taken run.entries run.edited qs ds)
     (λ line h. inr (text, shown, edited, dressed, h))
-    c.in_err-verify_dressed.field-0.0 ?)
+    c.in_err-verify_dressed.field-0.0
+    (subst (λ (bytes : Bytes). IsToldBy (IsFaultyThenLine path bytes) c.in_err-verify_dressed.field-0.0)
+    (lent c.as_ref.result c.in_ok-dressed.dressed text c.as_ref.ensures.value)
+    (c.in_err-verify_dressed.ensures.refused text c.in_ok-new.ensures.declares)))
