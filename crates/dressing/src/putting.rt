@@ -108,7 +108,8 @@ fn put_words<'w>(
     requires order { from ≤ end }
     requires within { end ≤ length text.now }
     ensures { OnOk result ((x : Pieces) → Stands text.now from x end → out.new.items ≡ out.old.items
-        ++ put_from labels.now (option_map (λ p. p.now) attire.entry.proof) false (with_comment (option_map (λ c. c.now) attire.entry.comment) x)) }
+        ++ put_from labels.now (option_map (λ p. p.now) attire.entry.proof) false
+        (with_comment (option_map (λ c. c.now) attire.entry.comment) x)) }
 {
     let mut comment = attire.comment;
     let mut is_open = false;
