@@ -45,8 +45,8 @@ returns-clause-finished g c choice are =
     let shown = unwrap_or (option_map (λ (t : Vec ℕ Global). t.items) c.in_ok-dressed.dressed) text in
     let dressed : IsDressed qs ds edited.followed text shown =
     subst (λ (f : Following). IsDressed qs ds f text shown) same
-    (subst (λ (bytes : Bytes). IsDressed qs ds f bytes (unwrap_or (option_map (λ
-    (t : Vec ℕ Global). t.items) c.in_ok-dressed.dressed) bytes))
+    (subst
+    (λ (bytes : Bytes). IsDressed qs ds f bytes (unwrap_or (option_map (λ (t : Vec ℕ Global). t.items) c.in_ok-dressed.dressed) bytes))
     c.as_slice.ensures.value c.in_ok-dressed.ensures) in
     let out = c.unwrap_or-out.result.items in
     let printed : shown ≡ out =
@@ -105,8 +105,8 @@ returns-in_err-verify_dressed-clause-refused g c choice are =
     let shown = unwrap_or (option_map (λ (t : Vec ℕ Global). t.items) c.in_ok-dressed.dressed) text in
     let dressed : IsDressed qs ds edited.followed text shown =
     subst (λ (f : Following). IsDressed qs ds f text shown) same
-    (subst (λ (bytes : Bytes). IsDressed qs ds f bytes (unwrap_or (option_map (λ
-    (t : Vec ℕ Global). t.items) c.in_ok-dressed.dressed) bytes))
+    (subst
+    (λ (bytes : Bytes). IsDressed qs ds f bytes (unwrap_or (option_map (λ (t : Vec ℕ Global). t.items) c.in_ok-dressed.dressed) bytes))
     c.as_slice.ensures.value c.in_ok-dressed.ensures) in
     let p = err_from_is_err_and c.from_residual-in_err-verify_dressed.result c.from_residual-in_err-verify_dressed.ensures.1 in
     rw (p.1, p.2) (told_more (IsFaultyThenLine path shown)
