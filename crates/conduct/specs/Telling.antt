@@ -30,7 +30,8 @@ abbrev pub unprinted_said : Manner → Reason → List Event
 unprinted_said Full ClosedPipe = []
 unprinted_said m why = says (unwritten_line m why) ∷ []
 
--- and the status: of a closed pipe the one that a shell has for a program that SIGPIPE ended (POSIX.1-2017, "Shell Command Language", 2.8.2)
+-- and the status: of a closed pipe the one that a shell has for a program that SIGPIPE ended (POSIX.1-2017, "Shell Command Language",
+-- 2.8.2)
 abbrev pub unprinted_status : Manner → Reason → ℕ
 unprinted_status Full ClosedPipe = 141
 unprinted_status m why = 1

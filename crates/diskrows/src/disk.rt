@@ -61,7 +61,10 @@ impl Memory {
     fn begin(&mut self) -> io::Result<()> {
         self.deeds = self.deeds.saturating_add(1);
         let Failing {
-            first, lasts, kind, ..
+            first,
+            lasts,
+            kind,
+            ..
         } = self.failing;
         if first > 0 && (self.deeds == first || (lasts && self.deeds > first)) {
             return Err(io::Error::from(kind));

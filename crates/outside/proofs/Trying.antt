@@ -253,5 +253,6 @@ put_denied old real beside text tried cut (Err why) in_vain put =
       ),
     )
 
-pub denied_vain : (tried : List Deed) (beside : Bytes) → Each IsTaken tried → Each IsVain (tried ++ makes beside (Some PermissionDenied) ∷ [])
+pub denied_vain : (tried : List Deed) (beside : Bytes) → Each IsTaken tried
+    → Each IsVain (tried ++ makes beside (Some PermissionDenied) ∷ [])
 denied_vain tried beside in_vain = vain_more tried (makes beside (Some PermissionDenied)) (all_vain tried in_vain) (λ e. absurd cc)

@@ -79,8 +79,8 @@ IsOn puts known es = AreOwn es → (held : Bytes) × (known ≡ Some held) × St
 -- ---- all of it
 
 -- what the files and the streams tell: what is known of files, which of them the system refuses, by which kind of error, what it answers on
--- two paths, and on one, what the standard input has, and by which kind of error that is refused, what stands on either stream, and by which
--- kind of error a write on it failed
+-- two paths, and on one, what the standard input has, where that is known, and by which kind of error it is refused, what stands on either
+-- stream, and by which kind of error a write on it failed
 pub record Outside : Type 1 where
   pub holds : Bytes → Option Bytes
   pub refuses : Bytes → ErrorKind → Type 0

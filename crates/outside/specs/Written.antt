@@ -30,8 +30,8 @@ abbrev pub IsUndone : (Trouble → Type 0) → List Deed → Result Unit Unwritt
 IsUndone reason ds (Ok done) = ⊥
 IsUndone reason ds (Err why) = reason why.trouble × (why.left ≡ None) × (ds ≡ [])
 
--- where a path leads, as far as the system tells: to the plain file at a path, nowhere, or to something else; or it hides that, for an error
--- of some kind
+-- where a path leads, as far as the system tells: to the plain file at a path, nowhere, or to something else; or it hides that, for an
+-- error of some kind
 pub record Ways : Type 1 where
   pub plain : Bytes → Type 0
   pub free : Type 0

@@ -10,7 +10,9 @@ ghost use Rattle.program.specs.Endings.{not_read};
 
 use crate::ending::{NotDone, file, tell_edited, tell_not_done};
 use commandline::{Destination, EditOrder, Outputs};
-use conduct::{INPUT, INPUT_TWICE, Manner, Means, Unread, first_same, is_input_twice, misuse, read_all};
+use conduct::{
+    INPUT, INPUT_TWICE, Manner, Means, Unread, first_same, is_input_twice, misuse, read_all,
+};
 use edittext::{Told, answer_edit};
 use following::Follow;
 use jobs::Watch;

@@ -40,7 +40,8 @@ fn unread_line(trouble: Trouble) -> &'static str
 /// On streams that tell what they hold, and hold nothing before, stands then just what was printed and said: each text and each line whole,
 /// or a front of it where a write failed; unless the parser's text was shown, of which nothing is known. Each text that was read is all
 /// that its file holds, or the standard input has, up to one byte more than any text may have, where that is known; a file that wasn't read
-/// the system refused, for the reason that is told; and it told whether two paths lead to one file, and whether a path leads to a plain one.
+/// the system refused, for the reason that is told; and it told whether two paths lead to one file, and whether a path leads to a plain
+/// one.
 pub fn run_on<
     R: Threads + Wait + Sync,
     D: Disk + Drop,
@@ -75,7 +76,17 @@ pub fn run_on<
 /// It is `run_on` over the system's parts. These tell nothing, so its clause only says that there are words which it obeys.
 pub fn run<R>(rt: &R, is_terminal: bool) -> u8
 where
-    R: Files + AllocGlobal + Input + Print + Eprint + RandomSource + Env + Clock + Threads + Wait + Sync,
+    R: Files
+        + AllocGlobal
+        + Input
+        + Print
+        + Eprint
+        + RandomSource
+        + Env
+        + Clock
+        + Threads
+        + Wait
+        + Sync,
     ensures { (keyed : Bool) × (words : Result (List Text) TroubleOfWords) × (es : List Event) × IsRun keyed words es result }
 {
     run_over(rt, rt, is_terminal)

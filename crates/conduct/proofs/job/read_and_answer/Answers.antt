@@ -30,6 +30,6 @@ returns g c =
     let texts = map (λ (t : Vec ℕ Global). t.items) c.read_all.new.texts.items in (
       read.0 ++ rest.0,
       adds_more read.1 rest.1,
-      all_read Short (IsAnswered (is_some c.args.keys) c.args.order.now.task paths history) paths _ texts read.0 rest.0 c.answer_texts.result same
-          read.2.0 read.2.1 rest.2,
+      all_read Short (IsAnswered (is_some c.args.keys) c.args.order.now.task paths history) paths _ texts read.0 rest.0
+          c.answer_texts.result same read.2.0 read.2.1 rest.2,
     )

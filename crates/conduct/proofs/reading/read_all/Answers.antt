@@ -12,7 +12,7 @@ returns-in-Err-Refused g c =
     let read = rw c.in-Err-Refused.field-0-is at c.in-Err-Refused.ensures in
     let within : c.loop-path.path-index < length c.args.paths.now = omega (arith, c.loop-path-test.true) in
     rw c.in-Err-Refused.field-0-is (cannot _ _ _ _ _ _ _ read.0 (path_here c.args.paths.now c.loop-path.path-index _ within)
-        c.loop-path.invariant read.1 read.2.0 read.2.1)
+    c.loop-path.invariant read.1 read.2.0 read.2.1)
 
 pub loop-path-preserved : goal.loop-path-preserved
 loop-path-preserved g c =
