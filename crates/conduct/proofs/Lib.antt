@@ -3,3 +3,4 @@ pub mod Followed
 pub mod Taken
 pub mod GivenBack
 pub mod Asked
+pub mod Inputs

@@ -1,8 +1,9 @@
 -- What is done for an order to check, to run or to replay.
-use Rattle.std.specs.Prelude.{◌≡◌, ◌⊎◌, ℕ, Bool, true, false, List, [], ◌∷◌, ◌++◌, Option, Some, None, codes, length, string_bytes}
+use Rattle.std.specs.Prelude.{◌≡◌, ◌⊎◌, ℕ, Bool, List, [], ◌∷◌, ◌++◌, Option, Some, None, codes, length, string_bytes}
 use Rattle.checking.specs.declared.fault.Fault.{Fault}
 use Rattle.checking.specs.declared.task.Task.{Task}
 use Rattle.checking.specs.Tasks.{TakesTexts}
+use Rattle.conduct.specs.declared.manner.Manner.TheVariants.{Short}
 use Rattle.conduct.specs.Reading.{AreReadThen}
 use Rattle.conduct.specs.Clashes.{clashes_with}
 use Rattle.conduct.specs.Comparing.{Clash, AreApartThen}
@@ -13,15 +14,16 @@ use Rattle.jobs.specs.declared.job.Job.{Job}
 use Rattle.jobs.specs.declared.job.RunOptions.{RunOptions}
 use Rattle.jobs.specs.Jobs.{IsFaultOf, AnswersItsOwn}
 use Rattle.jobs.specs.Tasks.{Answers, IsJobOf, IsLineOf, IsToldBy, options_asked}
+use Rattle.outside.specs.declared.trouble.Trouble.{Trouble}
 use Rattle.outside.specs.Events.{Bytes, Event, writes}
 
 -- a history is written to its file, and then the text is printed; or that file can't be written, or memory runs out as it is, which is
 -- said, and nothing is printed
 abbrev pub IsWritten : Option Bytes → Bytes → Bytes → List Event → ℕ → Type 0
-IsWritten None history out es status = IsPrinted out es status
+IsWritten None history out es status = IsPrinted Short out es status
 IsWritten (Some path) history out es status =
-    ((rest : List Event) × (es ≡ writes path history true ∷ rest) × IsPrinted out rest status)
-    ⊎ ((rest : List Event) × (es ≡ writes path history false ∷ rest) × IsUnwrittenTold path rest status)
+    ((rest : List Event) × (es ≡ writes path history None ∷ rest) × IsPrinted Short out rest status)
+    ⊎ ((why : Trouble) × (rest : List Event) × (es ≡ writes path history (Some why) ∷ rest) × IsUnwrittenTold Short path why rest status)
 
 -- what a job prints, or the line of its fault
 abbrev pub IsTold : Option Bytes → Answered → List Event → ℕ → Type 0
@@ -49,7 +51,7 @@ IsAnswered keyed task paths history texts es status =
 
 -- the files are read, and then the job of their texts is answered
 abbrev pub IsReadAndAnswered : Bool → Task → List Bytes → Option Bytes → List Event → ℕ → Type 0
-IsReadAndAnswered keyed task paths history es status = AreReadThen paths (IsAnswered keyed task paths history) es status
+IsReadAndAnswered keyed task paths history es status = AreReadThen Short paths (IsAnswered keyed task paths history) es status
 
 -- the history would be written over one of the files that are read
 abbrev pub history_clashes : Option Bytes → List Bytes → List Clash

@@ -1,3 +1,4 @@
+pub mod Manner
 pub mod Telling
 pub mod Comparing
 pub mod Clashes

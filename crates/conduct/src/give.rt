@@ -5,9 +5,10 @@ ghost use Rattle.conduct.specs.Ending.{EndsBy};
 ghost use Rattle.conduct.specs.Gives.{IsGiveTold, IsAnsweredGive, IsGiveDone};
 ghost use Rattle.outside.specs.Events.{Event, Adds};
 
+use crate::manner::Manner;
 use crate::means::Means;
-use crate::reading::{read_all, tell_unread};
-use crate::telling::{print_out, refuse};
+use crate::reading::{INPUT_TWICE, is_input_twice, read_all, tell_unread};
+use crate::telling::{misuse, print_out, refuse};
 use commandline::GiveOrder;
 use following::Follow;
 use givetext::{Paths, Returned, answer_give};
@@ -21,7 +22,7 @@ fn tell_given<W: World>(world: &mut W, told: &Returned) -> u8
     ensures { (es : List Event) × Adds (W.done world.old) (W.done world.new) es × IsGiveTold told.now es result }
 {
     match told {
-        Returned::Printed(out) => print_out(world, out.as_slice()),
+        Returned::Printed(out) => print_out(world, Manner::Full, out.as_slice()),
         Returned::Refused(line) => refuse(world, line.as_str()),
     }
 }
@@ -74,9 +75,12 @@ pub fn follow_give<R: Threads + Sync, W: World, F: Follow>(
         × EndsBy (IsGiveDone (is_some keys) order.entry.source.now order.entry.library.now order.entry.history.now) es result }
 {
     let paths = [order.source, order.library, order.history];
+    if is_input_twice(&paths) {
+        return Ok(misuse(world, INPUT_TWICE));
+    }
     let mut texts = Vec::new(means.alloc);
-    if let Err(unread) = read_all(world, means.alloc, &paths, &mut texts) {
-        return tell_unread(world, unread);
+    if let Err(unread) = read_all(world, means.alloc, Manner::Full, &paths, &mut texts) {
+        return tell_unread(world, Manner::Full, unread);
     }
     answer_given(means, world, keys, order, texts.as_slice())
 }

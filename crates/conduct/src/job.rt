@@ -9,6 +9,7 @@ ghost use Rattle.jobs.specs.Jobs.{AreWithin};
 ghost use Rattle.outside.specs.Events.{Event, Adds};
 
 use crate::comparing::first_same;
+use crate::manner::Manner;
 use crate::means::Means;
 use crate::reading::{read_all, tell_unread};
 use crate::telling::{print_out, refuse, tell_unwritten};
@@ -32,8 +33,8 @@ fn save_and_print<W: World>(
         × IsWritten (Some path.now) history.now out.now es result }
 {
     match world.write(alloc, path, history) {
-        Ok(()) => print_out(world, out),
-        Err(why) => tell_unwritten(world, path, &why),
+        Ok(()) => print_out(world, Manner::Short, out),
+        Err(why) => tell_unwritten(world, Manner::Short, path, &why),
     }
 }
 
@@ -52,7 +53,7 @@ fn tell<W: World>(world: &mut W, alloc: Global, history: Option<&str>, told: &An
                 printed.history.as_slice(),
                 printed.out.as_slice(),
             ),
-            None => print_out(world, printed.out.as_slice()),
+            None => print_out(world, Manner::Short, printed.out.as_slice()),
         },
     }
 }
@@ -118,9 +119,10 @@ fn read_and_answer<R: Threads + Wait + Sync, W: World, V: Watch + Sync>(
     ensures { (es : List Event) × Adds (W.done world.old) (W.done world.new) es × EndsBy (IsReadAndAnswered (is_some keys) order.now.task
         (map (λ p. p.now) order.now.paths.items) (option_map (λ s. s.now) order.now.history)) es result }
 {
+    let paths = order.paths.as_slice();
     let mut texts = Vec::new(means.alloc);
-    if let Err(unread) = read_all(world, means.alloc, order.paths.as_slice(), &mut texts) {
-        return tell_unread(world, unread);
+    if let Err(unread) = read_all(world, means.alloc, Manner::Short, paths, &mut texts) {
+        return tell_unread(world, Manner::Short, unread);
     }
     answer_texts(means, world, keys, order, texts)
 }

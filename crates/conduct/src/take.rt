@@ -6,8 +6,10 @@ ghost use Rattle.conduct.specs.Ending.{EndsBy};
 ghost use Rattle.conduct.specs.Takes.{IsTakeTold, IsWishOf, IsAnsweredTake, IsTakeFollowed, IsTakeDone};
 ghost use Rattle.outside.specs.Events.{Event, Adds};
 
+use crate::manner::Manner;
 use crate::means::Means;
-use crate::telling::{print_out, refuse};
+use crate::reading::say_unread;
+use crate::telling::{misuse, print_out, refuse};
 use choosing::Wish;
 use commandline::TakeOrder;
 use following::Follow;
@@ -66,7 +68,7 @@ fn tell_taken<W: World>(world: &mut W, told: &Told) -> u8
     ensures { (es : List Event) × Adds (W.done world.old) (W.done world.new) es × IsTakeTold told.now es result }
 {
     match told {
-        Told::Printed(out) => print_out(world, out.as_slice()),
+        Told::Printed(out) => print_out(world, Manner::Full, out.as_slice()),
         Told::Refused(line) => refuse(world, line.as_str()),
     }
 }
@@ -103,11 +105,11 @@ fn take_source<R: Threads + Sync, W: World, F: Follow>(
     ensures { (es : List Event) × Adds (W.done world.old) (W.done world.new) es
         × EndsBy (IsTakeFollowed (is_some keys) path.now wish.entry) es result }
 {
-    match world.read(means.alloc, path) {
+    match world.read(means.alloc, Manner::Full.origin(path)) {
         Ok(source) => answer_source(means, world, keys, path, source.as_slice(), wish),
         Err(Trouble::NoMemory) => Err(AllocError),
-        Err(Trouble::Refused) => {
-            world.say_of(path, "cannot read");
+        Err(Trouble::Refused(why)) => {
+            say_unread(world, Manner::Full, path, why);
             Ok(1)
         }
     }
@@ -132,7 +134,7 @@ pub fn follow_take<R: Threads + Sync, W: World, F: Follow>(
         return Err(AllocError);
     };
     let Some(wish) = wish_of(words.as_slice(), order.from, order.to) else {
-        return Ok(refuse(world, "--from and --to go together, without --for"));
+        return Ok(misuse(world, "--from and --to go together, without --for"));
     };
     take_source(means, world, keys, order.path, wish)
 }

@@ -5,7 +5,9 @@ ghost use Rattle.conduct.specs.Ending.{EndsBy};
 ghost use Rattle.conduct.specs.Verifies.{IsVerifyTold, IsAnsweredVerify, IsVerifyDone};
 ghost use Rattle.outside.specs.Events.{Event, Adds};
 
+use crate::manner::Manner;
 use crate::means::Means;
+use crate::reading::say_unread;
 use crate::telling::{print_out, refuse};
 use commandline::VerifyOrder;
 use following::Follow;
@@ -20,7 +22,7 @@ fn tell_verdict<W: World>(world: &mut W, told: &Verdict) -> u8
     ensures { (es : List Event) × Adds (W.done world.old) (W.done world.new) es × IsVerifyTold told.now es result }
 {
     match told {
-        Verdict::Verified(line) => print_out(world, line.as_bytes()),
+        Verdict::Verified(line) => print_out(world, Manner::Full, line.as_bytes()),
         Verdict::Refused(line) => refuse(world, line.as_str()),
     }
 }
@@ -67,11 +69,11 @@ pub fn follow_verify<R: Threads + Sync, W: World, F: Follow + Sync>(
     ensures { (es : List Event) × Adds (W.done world.old) (W.done world.new) es
         × EndsBy (IsVerifyDone (is_some keys) order.entry.path.now) es result }
 {
-    match world.read(means.alloc, order.path) {
+    match world.read(means.alloc, Manner::Full.origin(order.path)) {
         Ok(source) => answer_source(means, world, keys, order, source.as_slice()),
         Err(Trouble::NoMemory) => Err(AllocError),
-        Err(Trouble::Refused) => {
-            world.say_of(order.path, "cannot read");
+        Err(Trouble::Refused(why)) => {
+            say_unread(world, Manner::Full, order.path, why);
             Ok(1)
         }
     }

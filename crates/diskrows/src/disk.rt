@@ -19,6 +19,8 @@ pub(crate) struct Failing {
     pub(crate) first: usize,
     /// Whether each later one fails too.
     pub(crate) lasts: bool,
+    /// The kind of the errors.
+    pub(crate) kind: ErrorKind,
     /// Whether the folder allows no new file.
     pub(crate) denies: bool,
 }
@@ -58,9 +60,14 @@ impl Memory {
     /// One deed more: an error where it fails.
     fn begin(&mut self) -> io::Result<()> {
         self.deeds = self.deeds.saturating_add(1);
-        let Failing { first, lasts, .. } = self.failing;
+        let Failing {
+            first,
+            lasts,
+            kind,
+            ..
+        } = self.failing;
         if first > 0 && (self.deeds == first || (lasts && self.deeds > first)) {
-            return Err(io::Error::from(ErrorKind::StorageFull));
+            return Err(io::Error::from(kind));
         }
         Ok(())
     }
@@ -180,11 +187,15 @@ impl Disk for Memory {
     }
 }
 
-/// Streams that take everything.
+/// Streams that take everything, and give nothing.
 #[derive(Drop)]
 pub(crate) struct Silent {}
 
 impl Streams for Silent {
+    fn read_input(&self, _most: u64, _text: &mut Vec<u8>) -> io::Result<()> {
+        Err(io::Error::from(ErrorKind::Unsupported))
+    }
+
     fn print(&mut self, _text: &[u8]) -> io::Result<()> {
         Ok(())
     }

@@ -12,7 +12,10 @@
 //! | `create at K`, `create from K` | is written to `out.mm`, where nothing is |
 //! | `deny at K`, `deny from K` | is written to `set.mm`, in a folder that allows no new file |
 //!
-//! It is answered `done` or `refused`, and then each file with its text. A new file that is left and told stands behind `left`.
+//! A word behind K names the kind of the errors, `denied` or `absent`; without it the disk is full.
+//!
+//! It is answered `done` or `refused`, then each file with its text, and where it is refused, what is said of that. A new file that is left
+//! and told stands behind `left`.
 #![tactic(auto)]
 
 mod disk;

@@ -1,8 +1,9 @@
 //! What lines are answered.
 
 use crate::disk::{Failing, Memory, Silent};
-use outside::{Host, Unwritten, World};
+use outside::{Host, Trouble, Unwritten, World, unwritten_text};
 use std::alloc::{AllocError, Global};
+use std::io::ErrorKind;
 
 /// The file that is there.
 const OLD: &str = "set.mm";
@@ -42,27 +43,59 @@ fn show_answer(
         show(out, " has ")?;
         out.extend_from_slice(held.text.as_slice())?;
     }
-    if let Err(
-        Unwritten {
-            left: Some(path),
-            ..
-        },
-    ) = answer
-    {
-        show(out, "; left ")?;
-        show(out, path.as_str())?;
+    if let Err(why) = answer {
+        show(out, "; ")?;
+        show(out, text_of(why.trouble))?;
+        if let Some(path) = why.left.as_ref() {
+            show(out, "; left ")?;
+            show(out, path.as_str())?;
+        }
     }
     Ok(())
+}
+
+/// What is said of a trouble.
+fn text_of(trouble: Trouble) -> &'static str {
+    match trouble {
+        Trouble::NoMemory => "no memory",
+        Trouble::Refused(why) => unwritten_text(why),
+    }
+}
+
+/// The kind of error that a word names. None for any other word.
+fn kind_of(word: &str) -> Option<ErrorKind> {
+    Some(match word {
+        "" | "full" => ErrorKind::StorageFull,
+        "absent" => ErrorKind::NotFound,
+        "denied" => ErrorKind::PermissionDenied,
+        "folder" => ErrorKind::IsADirectory,
+        "no-folder" => ErrorKind::NotADirectory,
+        "quota" => ErrorKind::QuotaExceeded,
+        "read-only" => ErrorKind::ReadOnlyFilesystem,
+        "long" => ErrorKind::InvalidFilename,
+        "links" => ErrorKind::TooManyLinks,
+        "circle" => ErrorKind::FilesystemLoop,
+        "taken" => ErrorKind::AlreadyExists,
+        "large" => ErrorKind::FileTooLarge,
+        "busy" => ErrorKind::ResourceBusy,
+        "executed" => ErrorKind::ExecutableFileBusy,
+        "pipe" => ErrorKind::BrokenPipe,
+        "memory" => ErrorKind::OutOfMemory,
+        "late" => ErrorKind::TimedOut,
+        _ => return None,
+    })
 }
 
 /// What a line asks for: what is done, and which deeds fail. None where it can't be read.
 fn asked(line: &str) -> Option<(&str, Failing)> {
     let (verb, rest) = line.split_once(' ')?;
-    let (way, number) = rest.split_once(' ')?;
+    let (way, rest) = rest.split_once(' ')?;
+    let (number, word) = rest.split_once(' ').unwrap_or((rest, ""));
     let first = number.parse::<usize>().ok()?;
     let failing = Failing {
         first,
         lasts: way == "from",
+        kind: kind_of(word)?,
         denies: verb == "deny",
     };
     Some((verb, failing))

@@ -6,7 +6,12 @@ use Rattle.std.specs.Io.KnownBytes.{Appends}
 use Rattle.clap.specs.declared.error.Error.{Error}
 use Rattle.outside.specs.Events.{Adds, Bytes, Event, asks, compares, lacks, leaves, leaving, path_left, prints, reading_of, reads, replaces, says, shows, writes}
 use Rattle.outside.specs.Output.{AreDone, AreHeld, AreOwn, IsHeld, IsLine, IsOn, IsOwn, IsPut, Outside, PutsErr, PutsOut, Stands}
-use Rattle.outside.specs.Streams.{IsAppended, Stays}
+use Rattle.outside.specs.Streams.{IsAppended, Lasts, Stays}
+use Rattle.outside.specs.Deeds.{Failure}
+use Rattle.outside.specs.Reasons.{reason_by}
+use Rattle.outside.specs.Troubles.{IsAnsweredBy}
+use Rattle.outside.specs.declared.reason.Reason.{Reason}
+use Rattle.std.specs.declared.io.ErrorKind.{ErrorKind}
 use Rattle.outside.specs.declared.trouble.Trouble.{Trouble}
 use Rattle.outside.specs.declared.trouble.Trouble.TheVariants as trouble
 use Rattle.outside.specs.declared.trouble.Unwritten.{Unwritten}
@@ -63,47 +68,50 @@ grows_none puts (Some held) e put own = ([], put, sym (append-nil held))
 
 -- ---- what failed has failed
 
-put_lasts : {F G : Type 0} → (F → G) → (text : Bytes) (whole : Bool) (here : Bytes) → IsPut F text whole here → IsPut G text whole here
-put_lasts f text true here put = put
-put_lasts f text false here (failed, many, is) = (f failed, many, is)
+put_lasts : {F G : ErrorKind → Type 0} → Lasts F G → (text : Bytes) (why : Option Reason) (here : Bytes) → IsPut F text why here
+    → IsPut G text why here
+put_lasts f text None here put = put
+put_lasts f text (Some why) here (kind, failed, reason, many, is) = (kind, f kind failed, reason, many, is)
 
-line_lasts : {F G : Type 0} → (F → G) → (line here : Bytes) → IsLine F line here → IsLine G line here
+line_lasts : {F G : ErrorKind → Type 0} → Lasts F G → (line here : Bytes) → IsLine F line here → IsLine G line here
 line_lasts f line here (inl whole) = inl whole
-line_lasts f line here (inr (failed, many, is)) = inr (f failed, many, is)
+line_lasts f line here (inr (kind, failed, many, is)) = inr (kind, f kind failed, many, is)
 
-out_lasts : {F G : Type 0} → (F → G) → (e : Event) (here : Bytes) → PutsOut F e here → PutsOut G e here
+out_lasts : {F G : ErrorKind → Type 0} → Lasts F G → (e : Event) (here : Bytes) → PutsOut F e here → PutsOut G e here
 out_lasts f (reads path got) here put = put
 out_lasts f (lacks path) here put = put
 out_lasts f (compares one other same) here put = put
 out_lasts f (asks path plain) here put = put
-out_lasts f (writes path text whole) here put = put
-out_lasts f (replaces path text whole) here put = put
+out_lasts f (writes path text why) here put = put
+out_lasts f (replaces path text why) here put = put
 out_lasts f (leaves path) here put = put
-out_lasts f (prints text whole) here put = put_lasts f text whole here put
+out_lasts f (prints text why) here put = put_lasts f text why here put
 out_lasts f (says line) here put = put
-out_lasts f (shows error whole) here put = tt
+out_lasts f (shows error why) here put = tt
 
-err_lasts : {F G : Type 0} → (F → G) → (e : Event) (here : Bytes) → PutsErr F e here → PutsErr G e here
+err_lasts : {F G : ErrorKind → Type 0} → Lasts F G → (e : Event) (here : Bytes) → PutsErr F e here → PutsErr G e here
 err_lasts f (reads path got) here put = put
 err_lasts f (lacks path) here put = put
 err_lasts f (compares one other same) here put = put
 err_lasts f (asks path plain) here put = put
-err_lasts f (writes path text whole) here put = put
-err_lasts f (replaces path text whole) here put = put
+err_lasts f (writes path text why) here put = put
+err_lasts f (replaces path text why) here put = put
 err_lasts f (leaves path) here put = put
-err_lasts f (prints text whole) here put = put
+err_lasts f (prints text why) here put = put
 err_lasts f (says line) here put = line_lasts f line here put
-err_lasts f (shows error whole) here put = tt
+err_lasts f (shows error why) here put = tt
 
 -- ---- all of it
 
 -- what is outside, where this is known of files and streams
-abbrev pub telling : Outside → (Bytes → Option Bytes) → Option Bytes → Type 0 → Option Bytes → Type 0 → Outside
+abbrev pub telling : Outside → (Bytes → Option Bytes) → Option Bytes → (ErrorKind → Type 0) → Option Bytes → (ErrorKind → Type 0) → Outside
 telling o holds out out_failed err err_failed = record {
   holds = holds;
   refuses = o.refuses;
   tells_one = o.tells_one;
   tells_plain = o.tells_plain;
+  input = o.input;
+  input_refuses = o.input_refuses;
   out = out;
   out_failed = out_failed;
   err = err;
@@ -113,26 +121,31 @@ telling o holds out out_failed err err_failed = record {
 -- what is outside goes on: what is known of files stays, and what failed has failed
 pub record GoesOn (old new : Outside) : Type 0 where
   pub holds : new.holds ≡ old.holds
-  pub refuses : (path : Bytes) → old.refuses path → new.refuses path
+  pub refuses : (path : Bytes) (kind : ErrorKind) → old.refuses path kind → new.refuses path kind
   pub tells_one : (one other : Bytes) (same : Bool) → old.tells_one one other same → new.tells_one one other same
   pub tells_plain : (path : Bytes) (plain : Bool) → old.tells_plain path plain → new.tells_plain path plain
-  pub out_failed : old.out_failed → new.out_failed
-  pub err_failed : old.err_failed → new.err_failed
+  pub input : new.input ≡ old.input
+  pub input_refuses : (kind : ErrorKind) → old.input_refuses kind → new.input_refuses kind
+  pub out_failed : Lasts old.out_failed new.out_failed
+  pub err_failed : Lasts old.err_failed new.err_failed
 
 held_lasts : (old new : Outside) → GoesOn old new → (e : Event) → IsHeld old e → IsHeld new e
-held_lasts old new on (reads path (Some text)) held =
+held_lasts old new on (reads (Some path) (Ok text)) held =
     subst (λ (h : Bytes → Option Bytes). IfSome (h path) (λ known. text ≡ take MOST_READ known)) (sym on.holds) held
-held_lasts old new on (reads path None) held = on.refuses path held
+held_lasts old new on (reads (Some path) (Err why)) (kind, refused, is) = (kind, on.refuses path kind refused, is)
+held_lasts old new on (reads None (Ok text)) held =
+    subst (λ (known : Option Bytes). IfSome known (λ all. text ≡ take MOST_READ all)) (sym on.input) held
+held_lasts old new on (reads None (Err why)) (kind, refused, is) = (kind, on.input_refuses kind refused, is)
 held_lasts old new on (lacks path) held = tt
 held_lasts old new on (compares one other same) (inl equal) = inl equal
 held_lasts old new on (compares one other same) (inr told) = inr (on.tells_one one other same told)
 held_lasts old new on (asks path plain) held = on.tells_plain path plain held
-held_lasts old new on (writes path text whole) held = tt
-held_lasts old new on (replaces path text whole) held = tt
+held_lasts old new on (writes path text why) held = tt
+held_lasts old new on (replaces path text why) held = tt
 held_lasts old new on (leaves path) held = tt
-held_lasts old new on (prints text whole) held = tt
+held_lasts old new on (prints text why) held = tt
 held_lasts old new on (says line) held = tt
-held_lasts old new on (shows error whole) held = tt
+held_lasts old new on (shows error why) held = tt
 
 held_behind : (old new : Outside) → GoesOn old new → (front : List Event) (e : Event) → AreHeld old front → IsHeld new e
     → AreHeld new (front ++ e ∷ [])
@@ -151,20 +164,22 @@ adds_one old new e on held out err = record {
 }
 
 -- what is outside stays, but for what is known of files, which is the same, and for what failed
-pub goes_on : (o : Outside) (holds : Bytes → Option Bytes) (out : Option Bytes) (out_failed : Type 0) (err : Option Bytes)
-    (err_failed : Type 0) → holds ≡ o.holds → (o.out_failed → out_failed) → (o.err_failed → err_failed)
+pub goes_on : (o : Outside) (holds : Bytes → Option Bytes) (out : Option Bytes) (out_failed : ErrorKind → Type 0) (err : Option Bytes)
+    (err_failed : ErrorKind → Type 0) → holds ≡ o.holds → Lasts o.out_failed out_failed → Lasts o.err_failed err_failed
     → GoesOn o (telling o holds out out_failed err err_failed)
 goes_on o holds out out_failed err err_failed same outs errs = record {
   holds = same;
-  refuses = λ path r. r;
+  refuses = λ path kind r. r;
   tells_one = λ one other is t. t;
   tells_plain = λ path is t. t;
+  input = refl;
+  input_refuses = λ kind r. r;
   out_failed = outs;
   err_failed = errs;
 }
 
 stays : (o : Outside) → GoesOn o o
-stays o = goes_on o o.holds o.out o.out_failed o.err o.err_failed refl (λ f. f) (λ f. f)
+stays o = goes_on o o.holds o.out o.out_failed o.err o.err_failed refl (λ kind f. f) (λ kind f. f)
 
 -- something that puts nothing on either stream
 adds_none : (o : Outside) (e : Event) → IsHeld o e → PutsOut o.out_failed e [] → PutsErr o.err_failed e []
@@ -184,10 +199,18 @@ adds_ask o path plain told = adds_none o (asks path plain) told refl refl
 -- the file at a path was read, or it wasn't
 pub adds_reading : (o : Outside) (path : Bytes) (r : Result (Vec ℕ Global) Trouble)
     → IfOk r (λ text. IfSome (o.holds path) (λ held. text.items ≡ take MOST_READ held))
-    → IfErr r (λ why. why ≡ trouble.Refused → o.refuses path) → Adds (AreDone o) (AreDone o) (reading_of path r ∷ [])
-adds_reading o path (Ok text) held refused = adds_none o (reads path (Some text.items)) held refl refl
-adds_reading o path (Err trouble.Refused) held refused = adds_none o (reads path None) (refused refl) refl refl
-adds_reading o path (Err trouble.NoMemory) held refused = adds_none o (lacks path) tt refl refl
+    → IfErr r (IsAnsweredBy (o.refuses path)) → Adds (AreDone o) (AreDone o) (reading_of (Some path) r ∷ [])
+adds_reading o path (Ok text) held refused = adds_none o (reads (Some path) (Ok text.items)) held refl refl
+adds_reading o path (Err (trouble.Refused why)) held refused = adds_none o (reads (Some path) (Err why)) refused refl refl
+adds_reading o path (Err trouble.NoMemory) held refused = adds_none o (lacks (Some path)) tt refl refl
+
+-- so it is with the standard input
+pub adds_input : (o : Outside) (r : Result (Vec ℕ Global) Trouble)
+    → IfOk r (λ text. IfSome o.input (λ all. text.items ≡ take MOST_READ all))
+    → IfErr r (IsAnsweredBy o.input_refuses) → Adds (AreDone o) (AreDone o) (reading_of None r ∷ [])
+adds_input o (Ok text) held refused = adds_none o (reads None (Ok text.items)) held refl refl
+adds_input o (Err (trouble.Refused why)) held refused = adds_none o (reads None (Err why)) refused refl refl
+adds_input o (Err trouble.NoMemory) held refused = adds_none o (lacks None) tt refl refl
 
 -- ---- on a disk
 
@@ -198,7 +221,7 @@ behind_deeds o now = telling o now o.out o.out_failed o.err o.err_failed
 adds_deed : (o : Outside) (now : Bytes → Option Bytes) (e : Event) → now ≡ o.holds → IsHeld (behind_deeds o now) e
     → PutsOut o.out_failed e [] → PutsErr o.err_failed e [] → Adds (AreDone o) (AreDone (behind_deeds o now)) (e ∷ [])
 adds_deed o now e kept held out err =
-    adds_one o (behind_deeds o now) e (goes_on o now o.out o.out_failed o.err o.err_failed kept (λ f. f) (λ f. f)) held
+    adds_one o (behind_deeds o now) e (goes_on o now o.out o.out_failed o.err o.err_failed kept (λ kind f. f) (λ kind f. f)) held
     (grows_none (PutsOut o.out_failed) o.out e out) (grows_none (PutsErr o.err_failed) o.err e err)
 
 -- and a new file may be left
@@ -213,58 +236,65 @@ adds_left a b o e (Some path) is adds = record {
       (subst (AreDone o) (append_assoc front (e ∷ []) (leaves path ∷ [])) two);
 }
 
-pub adds_write : (o : Outside) (now : Bytes → Option Bytes) (path text : Bytes) (whole : Bool) (r : Result Unit Unwritten)
-    → now ≡ o.holds → Adds (AreDone o) (AreDone (behind_deeds o now)) (writes path text whole ∷ leaving (path_left r))
-adds_write o now path text whole r kept =
-    adds_left (AreDone o) (AreDone (behind_deeds o now)) (behind_deeds o now) (writes path text whole) (path_left r) refl
-    (adds_deed o now (writes path text whole) kept tt refl refl)
+pub adds_write : (o : Outside) (now : Bytes → Option Bytes) (path text : Bytes) (why : Option Trouble) (r : Result Unit Unwritten)
+    → now ≡ o.holds → Adds (AreDone o) (AreDone (behind_deeds o now)) (writes path text why ∷ leaving (path_left r))
+adds_write o now path text why r kept =
+    adds_left (AreDone o) (AreDone (behind_deeds o now)) (behind_deeds o now) (writes path text why) (path_left r) refl
+    (adds_deed o now (writes path text why) kept tt refl refl)
 
-pub adds_replace : (o : Outside) (now : Bytes → Option Bytes) (path text : Bytes) (whole : Bool) (r : Result Unit Unwritten)
-    → now ≡ o.holds → Adds (AreDone o) (AreDone (behind_deeds o now)) (replaces path text whole ∷ leaving (path_left r))
-adds_replace o now path text whole r kept =
-    adds_left (AreDone o) (AreDone (behind_deeds o now)) (behind_deeds o now) (replaces path text whole) (path_left r) refl
-    (adds_deed o now (replaces path text whole) kept tt refl refl)
+pub adds_replace : (o : Outside) (now : Bytes → Option Bytes) (path text : Bytes) (why : Option Trouble) (r : Result Unit Unwritten)
+    → now ≡ o.holds → Adds (AreDone o) (AreDone (behind_deeds o now)) (replaces path text why ∷ leaving (path_left r))
+adds_replace o now path text why r kept =
+    adds_left (AreDone o) (AreDone (behind_deeds o now)) (behind_deeds o now) (replaces path text why) (path_left r) refl
+    (adds_deed o now (replaces path text why) kept tt refl refl)
 
 -- ---- on a stream
 
 -- what streams tell behind more
-abbrev pub behind_put : Outside → Option Bytes → Type 0 → Option Bytes → Type 0 → Outside
+abbrev pub behind_put : Outside → Option Bytes → (ErrorKind → Type 0) → Option Bytes → (ErrorKind → Type 0) → Outside
 behind_put o out out_failed err err_failed = telling o o.holds out out_failed err err_failed
 
 same_appends : (old new : Option Bytes) → new ≡ old → Appends old new []
 same_appends None new is = tt
 same_appends (Some held) new is = subst (λ (o : Option Bytes). Appends (Some held) o []) (sym is) (sym (append-nil held))
 
-text_appended : (failed : Type 0) (old new : Option Bytes) (text : Bytes) (whole : Bool) → IsAppended failed old new text whole
-    → (here : Bytes) × IsPut failed text whole here × Appends old new here
-text_appended failed old new text true put = (text, refl, put)
-text_appended failed old new text false (fails, many, put) = (take many text, (fails, many, refl), put)
+-- why a text isn't printed whole, by how that went
+abbrev pub reason_if : Failure → Option Reason
+reason_if None = None
+reason_if (Some kind) = Some (reason_by kind)
 
-line_appended : (failed : Type 0) (old new : Option Bytes) (line : Bytes) (whole : Bool)
-    → IsAppended failed old new (line ++ codes "\n") whole → (here : Bytes) × IsLine failed line here × Appends old new here
-line_appended failed old new line true put = (line ++ codes "\n", inl refl, put)
-line_appended failed old new line false (fails, many, put) = (take many (line ++ codes "\n"), inr (fails, many, refl), put)
+text_appended : (failed : ErrorKind → Type 0) (old new : Option Bytes) (text : Bytes) (how : Failure) → IsAppended failed old new text how
+    → (here : Bytes) × IsPut failed text (reason_if how) here × Appends old new here
+text_appended failed old new text None put = (text, refl, put)
+text_appended failed old new text (Some kind) (fails, many, put) = (take many text, (kind, fails, refl, many, refl), put)
 
-pub adds_print : (o : Outside) (out : Option Bytes) (out_failed : Type 0) (err : Option Bytes) (err_failed : Type 0) (text : Bytes)
-    (whole : Bool) → IsAppended out_failed o.out out text whole → (o.out_failed → out_failed) → Stays o.err_failed err_failed o.err err
-    → Adds (AreDone o) (AreDone (behind_put o out out_failed err err_failed)) (prints text whole ∷ [])
-adds_print o out out_failed err err_failed text whole put lasts other =
-    adds_one o (behind_put o out out_failed err err_failed) (prints text whole)
+line_appended : (failed : ErrorKind → Type 0) (old new : Option Bytes) (line : Bytes) (how : Failure)
+    → IsAppended failed old new (line ++ codes "\n") how → (here : Bytes) × IsLine failed line here × Appends old new here
+line_appended failed old new line None put = (line ++ codes "\n", inl refl, put)
+line_appended failed old new line (Some kind) (fails, many, put) =
+    (take many (line ++ codes "\n"), inr (kind, fails, many, refl), put)
+
+pub adds_print : (o : Outside) (out : Option Bytes) (out_failed : ErrorKind → Type 0) (err : Option Bytes) (err_failed : ErrorKind → Type 0)
+    (text : Bytes) (how : Failure) → IsAppended out_failed o.out out text how → Lasts o.out_failed out_failed
+    → Stays o.err_failed err_failed o.err err
+    → Adds (AreDone o) (AreDone (behind_put o out out_failed err err_failed)) (prints text (reason_if how) ∷ [])
+adds_print o out out_failed err err_failed text how put lasts other =
+    adds_one o (behind_put o out out_failed err err_failed) (prints text (reason_if how))
     (goes_on o o.holds out out_failed err err_failed refl lasts other.lasts) tt
-    (λ own. text_appended out_failed o.out out text whole put) (λ own. ([], refl, same_appends o.err err other.same))
+    (λ own. text_appended out_failed o.out out text how put) (λ own. ([], refl, same_appends o.err err other.same))
 
-pub adds_line : (o : Outside) (out : Option Bytes) (out_failed : Type 0) (err : Option Bytes) (err_failed : Type 0) (line : Bytes)
-    (whole : Bool) → IsAppended err_failed o.err err (line ++ codes "\n") whole → (o.err_failed → err_failed)
+pub adds_line : (o : Outside) (out : Option Bytes) (out_failed : ErrorKind → Type 0) (err : Option Bytes) (err_failed : ErrorKind → Type 0)
+    (line : Bytes) (how : Failure) → IsAppended err_failed o.err err (line ++ codes "\n") how → Lasts o.err_failed err_failed
     → Stays o.out_failed out_failed o.out out → Adds (AreDone o) (AreDone (behind_put o out out_failed err err_failed)) (says line ∷ [])
-adds_line o out out_failed err err_failed line whole put lasts other =
+adds_line o out out_failed err err_failed line how put lasts other =
     adds_one o (behind_put o out out_failed err err_failed) (says line)
     (goes_on o o.holds out out_failed err err_failed refl other.lasts lasts) tt
-    (λ own. ([], refl, same_appends o.out out other.same)) (λ own. line_appended err_failed o.err err line whole put)
+    (λ own. ([], refl, same_appends o.out out other.same)) (λ own. line_appended err_failed o.err err line how put)
 
 -- the parser is shown
-pub adds_shown : (o : Outside) (out : Option Bytes) (out_failed : Type 0) (err : Option Bytes) (err_failed : Type 0) (error : Error)
-    (whole : Bool) → (o.out_failed → out_failed) → (o.err_failed → err_failed)
-    → Adds (AreDone o) (AreDone (behind_put o out out_failed err err_failed)) (shows error whole ∷ [])
-adds_shown o out out_failed err err_failed error whole outs errs =
-    adds_one o (behind_put o out out_failed err err_failed) (shows error whole)
+pub adds_shown : (o : Outside) (out : Option Bytes) (out_failed : ErrorKind → Type 0) (err : Option Bytes) (err_failed : ErrorKind → Type 0)
+    (error : Error) (why : Option Reason) → Lasts o.out_failed out_failed → Lasts o.err_failed err_failed
+    → Adds (AreDone o) (AreDone (behind_put o out out_failed err err_failed)) (shows error why ∷ [])
+adds_shown o out out_failed err err_failed error why outs errs =
+    adds_one o (behind_put o out out_failed err err_failed) (shows error why)
     (goes_on o o.holds out out_failed err err_failed refl outs errs) tt (λ own. absurd own) (λ own. absurd own)

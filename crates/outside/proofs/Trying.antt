@@ -2,9 +2,13 @@
 use Rattle.std.proofs.Common.{◌≡◌, ◌≢◌, ◌∙◌, ◌++◌, ◌∷◌, [], Bool, true, false, List, Option, Some, None, Result, Ok, Err, ap, append_assoc, append-nil, refl, subst, sym, inl, inr, bytes_eq, if◌then◌else◌, ℕ, length, arith, ◌+◌, suc}
 use Rattle.std.proofs.lemmas.Slice.Eq.{bytes_eq-Decides}
 use Rattle.std.proofs.lemmas.List.{length-append}
-use Rattle.std.specs.Prelude.{option_map, string_bytes}
+use Rattle.std.specs.Prelude.{is_some, option_map, string_bytes}
 use Rattle.outside.specs.Events.{Bytes, left_of}
-use Rattle.outside.specs.Deeds.{Deed, Does, Each, IsGivenUp, IsMovedOver, IsTaken, OneFails, Spares, Unmaking, all_left, cuts, denied, fills, left_by, listed, made as made', makes, unmade, moves, permissions_of, permits, removes, syncs, taken, without}
+use Rattle.outside.specs.Deeds.{Deed, Does, Each, IsGivenUp, IsMovedOver, IsTaken, OneFails, Spares, Failure, IsReasonOf, all_left, cuts, failure_in, fills, left_by, listed, makes, moves, permissions_of, permits, removes, syncs, without}
+use Rattle.outside.specs.Troubles.{IsAnsweredBy, IsTroubleOf}
+use Rattle.std.specs.declared.io.ErrorKind.{ErrorKind}
+use Rattle.std.specs.declared.io.ErrorKind.TheVariants.{AlreadyExists, PermissionDenied}
+use Rattle.outside.specs.declared.trouble.Trouble.{Trouble}
 use Rattle.outside.specs.Tried.{IsBegun, IsFinished, IsMade, IsMoved, IsTakenBack, IsVain, Turn}
 use Rattle.outside.specs.Written.{IsPutAt, IsPutInto, IsPutOver}
 use Rattle.outside.specs.declared.trouble.Trouble.TheVariants as trouble
@@ -34,31 +38,31 @@ left_both paths (d ∷ ds) es = left_both (left_by paths d) ds es
 
 vain_spares : (real : Bytes) (d : Deed) → IsVain d → Spares real d
 vain_spares real (makes path how) is = λ e. absurd (is e)
-vain_spares real (cuts path done) is = absurd is
-vain_spares real (permits path from done) is = absurd is
-vain_spares real (fills path text whole) is = absurd is
-vain_spares real (syncs path done) is = absurd is
-vain_spares real (moves from to done) is = absurd is
-vain_spares real (removes path done) is = absurd is
+vain_spares real (cuts path how) is = absurd is
+vain_spares real (permits path from how) is = absurd is
+vain_spares real (fills path text how) is = absurd is
+vain_spares real (syncs path how) is = absurd is
+vain_spares real (moves from to how) is = absurd is
+vain_spares real (removes path how) is = absurd is
 
 vain_leaves : (paths : List Bytes) (d : Deed) → IsVain d → left_by paths d ≡ paths
-vain_leaves paths (makes path made') is = absurd (is refl)
-vain_leaves paths (makes path (unmade why)) is = refl
-vain_leaves paths (cuts path done) is = absurd is
-vain_leaves paths (permits path from done) is = absurd is
-vain_leaves paths (fills path text whole) is = absurd is
-vain_leaves paths (syncs path done) is = absurd is
-vain_leaves paths (moves from to done) is = absurd is
-vain_leaves paths (removes path done) is = absurd is
+vain_leaves paths (makes path None) is = absurd (is refl)
+vain_leaves paths (makes path (Some kind)) is = refl
+vain_leaves paths (cuts path how) is = absurd is
+vain_leaves paths (permits path from how) is = absurd is
+vain_leaves paths (fills path text how) is = absurd is
+vain_leaves paths (syncs path how) is = absurd is
+vain_leaves paths (moves from to how) is = absurd is
+vain_leaves paths (removes path how) is = absurd is
 
 taken_vain : (d : Deed) → IsTaken d → IsVain d
 taken_vain (makes path how) is = λ e. absurd cc
-taken_vain (cuts path done) is = absurd is
-taken_vain (permits path from done) is = absurd is
-taken_vain (fills path text whole) is = absurd is
-taken_vain (syncs path done) is = absurd is
-taken_vain (moves from to done) is = absurd is
-taken_vain (removes path done) is = absurd is
+taken_vain (cuts path how) is = absurd is
+taken_vain (permits path from how) is = absurd is
+taken_vain (fills path text how) is = absurd is
+taken_vain (syncs path how) is = absurd is
+taken_vain (moves from to how) is = absurd is
+taken_vain (removes path how) is = absurd is
 
 pub all_vain : (ds : List Deed) → Each IsTaken ds → Each IsVain ds
 all_vain [] is = tt
@@ -74,7 +78,7 @@ none_left paths (d ∷ ds) is = ap (λ (ps : List Bytes). all_left ps ds) (vain_
 
 -- nothing but that was done: the old file stays
 pub vain_put : (real : Bytes) (why : Unwritten) (ds : List Deed) → why.left ≡ None → Each IsVain ds
-    → (why.trouble ≡ trouble.Refused → OneFails ds) → IsGivenUp real why ds
+    → IsReasonOf why.trouble ds → IsGivenUp real why ds
 vain_put real why ds none vain failed = record {
   spared = all_spare real ds vain;
   gone = none_left [] ds vain ∙ ap (λ (left : Option _). listed (option_map string_bytes left)) (sym none);
@@ -83,18 +87,29 @@ vain_put real why ds none vain failed = record {
 
 -- ---- one of them fails
 
-fails_front : (ds es : List Deed) → OneFails ds → OneFails (ds ++ es)
-fails_front [] es fails = absurd fails
-fails_front (d ∷ ds) es (inl here) = inl here
-fails_front (d ∷ ds) es (inr there) = inr (fails_front ds es there)
+fails_front : (why : Trouble) (ds es : List Deed) → OneFails why ds → OneFails why (ds ++ es)
+fails_front why [] es fails = absurd fails
+fails_front why (d ∷ ds) es (inl here) = inl here
+fails_front why (d ∷ ds) es (inr there) = inr (fails_front why ds es there)
 
-pub fails_behind : (ds es : List Deed) → OneFails es → OneFails (ds ++ es)
-fails_behind [] es fails = fails
-fails_behind (d ∷ ds) es fails = inr (fails_behind ds es fails)
+pub fails_behind : (why : Trouble) (ds es : List Deed) → OneFails why es → OneFails why (ds ++ es)
+fails_behind why [] es fails = fails
+fails_behind why (d ∷ ds) es fails = inr (fails_behind why ds es fails)
+
+-- the one deed can't be done
+pub one_fails : (why : Trouble) (d : Deed) (kind : ErrorKind) → failure_in d ≡ Some kind → IsTroubleOf kind why → OneFails why (d ∷ [])
+one_fails why d kind failed is = inl (kind, failed, is)
 
 -- the last is a file that isn't made
-pub unmade_fails : (tried : List Deed) (path : Bytes) (why : Unmaking) → OneFails (tried ++ makes path (unmade why) ∷ [])
-unmade_fails tried path why = fails_behind tried (makes path (unmade why) ∷ []) (inl (λ e. absurd cc))
+pub unmade_fails : (tried : List Deed) (path : Bytes) (kind : ErrorKind) (why : Trouble) → IsTroubleOf kind why
+    → OneFails why (tried ++ makes path (Some kind) ∷ [])
+unmade_fails tried path kind why is =
+    fails_behind why tried (makes path (Some kind) ∷ []) (one_fails why (makes path (Some kind)) kind refl is)
+
+-- what fails is the reason
+pub reason_fails : (why : Trouble) (ds : List Deed) → OneFails why ds → IsReasonOf why ds
+reason_fails trouble.NoMemory ds fails = tt
+reason_fails (trouble.Refused reason) ds fails = fails
 
 -- ---- on the new file
 
@@ -108,21 +123,21 @@ begun_more real beside ds es first next = record {
 pub begun_none : (real beside : Bytes) → IsBegun real beside []
 begun_none real beside = record { spared = λ other. tt; there = λ paths. refl }
 
-pub begun_permits : (real beside from : Bytes) (done : Bool) → IsBegun real beside (permits beside from done ∷ [])
-begun_permits real beside from done = record { spared = λ other. (other, tt); there = λ paths. refl }
+pub begun_permits : (real beside from : Bytes) (how : Failure) → IsBegun real beside (permits beside from how ∷ [])
+begun_permits real beside from how = record { spared = λ other. (other, tt); there = λ paths. refl }
 
-pub begun_fills : (real beside text : Bytes) (done : Bool) → IsBegun real beside (fills beside text done ∷ [])
-begun_fills real beside text done = record { spared = λ other. (other, tt); there = λ paths. refl }
+pub begun_fills : (real beside text : Bytes) (how : Failure) → IsBegun real beside (fills beside text how ∷ [])
+begun_fills real beside text how = record { spared = λ other. (other, tt); there = λ paths. refl }
 
-pub begun_syncs : (real beside : Bytes) (done : Bool) → IsBegun real beside (syncs beside done ∷ [])
-begun_syncs real beside done = record { spared = λ other. (tt, tt); there = λ paths. refl }
+pub begun_syncs : (real beside : Bytes) (how : Failure) → IsBegun real beside (syncs beside how ∷ [])
+begun_syncs real beside how = record { spared = λ other. (tt, tt); there = λ paths. refl }
 
-pub begun_unmoved : (real beside : Bytes) → IsBegun real beside (moves beside real false ∷ [])
-begun_unmoved real beside = record { spared = λ other. ((other, λ e. absurd cc), tt); there = λ paths. refl }
+pub begun_unmoved : (real beside : Bytes) (kind : ErrorKind) → IsBegun real beside (moves beside real (Some kind) ∷ [])
+begun_unmoved real beside kind = record { spared = λ other. ((other, λ e. absurd cc), tt); there = λ paths. refl }
 
 pub begun_permissions : (real beside : Bytes) (old : Option Bytes) → IsBegun real beside (permissions_of old beside)
 begun_permissions real beside None = begun_none real beside
-begun_permissions real beside (Some from) = begun_permits real beside from true
+begun_permissions real beside (Some from) = begun_permits real beside from None
 
 -- ---- all of it
 
@@ -134,23 +149,24 @@ taken_out path = rw (same_bytes path) refl
 
 -- a file was made at another path, and moved over the old one
 pub moved_over : (old : Option Bytes) (real beside text : Bytes) (tried ds : List Deed) → beside ≢ real → Each IsTaken tried
-    → IsMoved old real beside text true ds → IsMovedOver old real text ((tried ++ makes beside made' ∷ []) ++ ds)
+    → IsMoved old real beside text ds (Ok tt) → IsMovedOver old real text ((tried ++ makes beside None ∷ []) ++ ds)
 moved_over old real beside text tried ds other in_vain is = record {
   beside = beside;
   another = other;
   tried = tried;
   in_vain = in_vain;
-  each = append_assoc tried (makes beside made' ∷ []) ds ∙ ap (λ (es : List Deed). tried ++ makes beside made' ∷ es) is;
+  each = append_assoc tried (makes beside None ∷ []) ds ∙ ap (λ (es : List Deed). tried ++ makes beside None ∷ es) is;
 }
 
 -- what is left where it was taken back
-left_back : (beside : Bytes) (gone : Bool) → all_left (beside ∷ []) (removes beside gone ∷ []) ≡ listed (if gone then None else Some beside)
-left_back beside true = taken_out beside
-left_back beside false = refl
+left_back : (beside : Bytes) (gone : Failure)
+    → all_left (beside ∷ []) (removes beside gone ∷ []) ≡ listed (if is_some gone then Some beside else None)
+left_back beside None = taken_out beside
+left_back beside (Some kind) = refl
 
 -- a file was made, and all was taken back
 pub taken_back : (real beside : Bytes) (why : Unwritten) (tried ds : List Deed) → beside ≢ real → Each IsTaken tried
-    → IsTakenBack real beside (left_of why) ds → IsGivenUp real why ((tried ++ makes beside made' ∷ []) ++ ds)
+    → IsTakenBack real beside why ds → IsGivenUp real why ((tried ++ makes beside None ∷ []) ++ ds)
 taken_back real beside why tried ds other in_vain back =
     let vain = all_vain tried in_vain in
     let end = removes beside back.gone ∷ [] in
@@ -161,37 +177,38 @@ taken_back real beside why tried ds other in_vain back =
     ∙ (ap (λ (ps : List Bytes). all_left ps end) (back.is_stopped.0.there (beside ∷ []))
     ∙ (left_back beside back.gone ∙ ap listed (sym back.told)))) in
     record {
-      spared = each_both (Spares real) (tried ++ makes beside made' ∷ []) ds
-          (each_both (Spares real) tried (makes beside made' ∷ []) (all_spare real tried vain) ((λ e. other), tt)) spared;
-      gone = left_both [] (tried ++ makes beside made' ∷ []) ds
-          ∙ (ap (λ (ps : List Bytes). all_left ps ds) (left_both [] tried (makes beside made' ∷ [])
+      spared = each_both (Spares real) (tried ++ makes beside None ∷ []) ds
+          (each_both (Spares real) tried (makes beside None ∷ []) (all_spare real tried vain) ((λ e. other), tt)) spared;
+      gone = left_both [] (tried ++ makes beside None ∷ []) ds
+          ∙ (ap (λ (ps : List Bytes). all_left ps ds) (left_both [] tried (makes beside None ∷ [])
           ∙ ap (λ (ps : List Bytes). beside ∷ ps) (none_left [] tried vain)) ∙ left_here);
-      failed = λ refused. fails_behind (tried ++ makes beside made' ∷ []) ds
-          (subst OneFails (sym back.each) (fails_front back.begun end back.is_stopped.1));
+      failed = reason_fails why.trouble ((tried ++ makes beside None ∷ []) ++ ds)
+          (fails_behind why.trouble (tried ++ makes beside None ∷ []) ds
+          (subst (OneFails why.trouble) (sym back.each) (fails_front why.trouble back.begun end back.is_stopped.1)));
     }
 
-pub begun_synced : (real beside text : Bytes) → IsBegun real beside (fills beside text true ∷ syncs beside true ∷ [])
+pub begun_synced : (real beside text : Bytes) → IsBegun real beside (fills beside text None ∷ syncs beside None ∷ [])
 begun_synced real beside text =
-    begun_more real beside (fills beside text true ∷ []) (syncs beside true ∷ []) (begun_fills real beside text true)
-    (begun_syncs real beside true)
+    begun_more real beside (fills beside text None ∷ []) (syncs beside None ∷ []) (begun_fills real beside text None)
+    (begun_syncs real beside None)
 
 -- what was done on a new file is done on the disk behind the making of it
 pub finished : {after : List Deed → Type 0} {now : Bytes → Option Bytes} (t : Turn) (old : Option Bytes) (real beside text : Bytes)
     (r : Result Unit Unwritten) → IsMade t real beside → (ds : List Deed) → Does t.after after t.now now ds
     → IsFinished old real beside text ds r → (all : List Deed) × Does t.before after t.known now all × IsPutOver old real text all r
 finished t old real beside text (Ok done) made ds did end =
-    let all = (made.tried ++ makes beside made' ∷ []) ++ ds in
+    let all = (made.tried ++ makes beside None ∷ []) ++ ds in
     (all, does_more made.did did, moved_over old real beside text made.tried ds made.another made.in_vain end)
 finished t old real beside text (Err why) made ds did end =
-    let all = (made.tried ++ makes beside made' ∷ []) ++ ds in
+    let all = (made.tried ++ makes beside None ∷ []) ++ ds in
     (all, does_more made.did did, taken_back real beside why made.tried ds made.another made.in_vain end)
 
 -- one path more was tried in vain
 pub vain_more : (tried : List Deed) (d : Deed) → Each IsVain tried → IsVain d → Each IsVain (tried ++ d ∷ [])
 vain_more tried d first next = each_both IsVain tried (d ∷ []) first (next, tt)
 
-pub taken_more : (tried : List Deed) (path : Bytes) → Each IsTaken tried → Each IsTaken (tried ++ makes path (unmade taken) ∷ [])
-taken_more tried path in_vain = each_both IsTaken tried (makes path (unmade taken) ∷ []) in_vain (refl, tt)
+pub taken_more : (tried : List Deed) (path : Bytes) → Each IsTaken tried → Each IsTaken (tried ++ makes path (Some AlreadyExists) ∷ [])
+taken_more tried path in_vain = each_both IsTaken tried (makes path (Some AlreadyExists) ∷ []) in_vain (refl, tt)
 
 -- a name with more behind it is another name
 pub longer_differs : (path more : Bytes) (d : ℕ) → path ++ d ∷ more ≢ path
@@ -209,26 +226,33 @@ put_beside old real text (Err why) ds put = inl put
 
 -- the text is written over the old one, where the folder allows no new file
 pub put_denied : (old : Option Bytes) (real beside text : Bytes) (tried cut : List Deed) (r : Result Unit Unwritten) → Each IsTaken tried
-    → IsPutInto real text cut r → IsPutAt old real text ((tried ++ makes beside (unmade denied) ∷ []) ++ cut) r
+    → IsPutInto real text cut r → IsPutAt old real text ((tried ++ makes beside (Some PermissionDenied) ∷ []) ++ cut) r
 put_denied old real beside text tried cut (Ok done) in_vain put = inr (record {
   beside = beside;
   tried = tried;
   in_vain = in_vain;
   cut = cut;
   are_cut = put;
-  each = append_assoc tried (makes beside (unmade denied) ∷ []) cut;
+  each = append_assoc tried (makes beside (Some PermissionDenied) ∷ []) cut;
 })
-put_denied old real beside text tried cut (Err why) in_vain put = inr (
-  put.0,
-  record {
-    beside = beside;
-    tried = tried;
-    in_vain = in_vain;
-    cut = cut;
-    are_cut = put.1;
-    each = append_assoc tried (makes beside (unmade denied) ∷ []) cut;
-  },
-)
+put_denied old real beside text tried cut (Err why) in_vain put =
+    let (kind, are, is) = put.1 in
+    inr (
+      put.0,
+      (
+        kind,
+        record {
+          beside = beside;
+          tried = tried;
+          in_vain = in_vain;
+          cut = cut;
+          are_cut = are;
+          each = append_assoc tried (makes beside (Some PermissionDenied) ∷ []) cut;
+        },
+        is,
+      ),
+    )
 
-pub denied_vain : (tried : List Deed) (beside : Bytes) → Each IsTaken tried → Each IsVain (tried ++ makes beside (unmade denied) ∷ [])
-denied_vain tried beside in_vain = vain_more tried (makes beside (unmade denied)) (all_vain tried in_vain) (λ e. absurd cc)
+pub denied_vain : (tried : List Deed) (beside : Bytes) → Each IsTaken tried
+    → Each IsVain (tried ++ makes beside (Some PermissionDenied) ∷ [])
+denied_vain tried beside in_vain = vain_more tried (makes beside (Some PermissionDenied)) (all_vain tried in_vain) (λ e. absurd cc)

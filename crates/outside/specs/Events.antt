@@ -4,6 +4,7 @@ use Rattle.std.specs.Prelude.{Vec}
 use Rattle.std.specs.Option.{option_map}
 use Rattle.std.specs.declared.alloc.Global.{Global}
 use Rattle.clap.specs.declared.error.Error.{Error}
+use Rattle.outside.specs.declared.reason.Reason.{Reason}
 use Rattle.outside.specs.declared.trouble.Trouble.{Trouble}
 use Rattle.outside.specs.declared.trouble.Trouble.TheVariants as trouble
 use Rattle.outside.specs.declared.trouble.Unwritten.{Unwritten}
@@ -11,32 +12,37 @@ use Rattle.outside.specs.declared.trouble.Unwritten.{Unwritten}
 abbrev pub Bytes : Type 0
 Bytes = List ℕ
 
--- it reads the file at a path, and gets its bytes, or none where it can't be read; there is no memory for the file at a path; it asks
--- whether two paths lead to one file, or whether one leads to a plain file, and is told; it writes a text to the file at a path, or can't;
--- it puts a text in place of what the file at a path has, or can't, and then that has what it had; a new file, which it made for that at a
--- path, stays there; it prints a text on the standard output, or can't; it says a line on the standard error; it shows what the parser of
--- command lines says, on the stream of that, or can't
+-- it reads the file at a path, or the standard input, where there is no path, and gets its bytes, or none, for a reason, where it can't be
+-- read; there is no memory for what it has; it asks whether two paths lead to one file, or whether one leads to a plain file, and is told;
+-- it writes a text to the file at a path, or can't, for a trouble; it puts a text in place of what the file at a path has, or can't, and
+-- then that has what it had; a new file, which it made for that at a path, stays there; it prints a text on the standard output, or can't,
+-- for a reason; it says a line on the standard error; it shows what the parser of command lines says, on the stream of that, or can't
 pub data Event : Type 0 where
-  reads : Bytes → Option Bytes → Event
-  lacks : Bytes → Event
+  reads : Option Bytes → Result Bytes Reason → Event
+  lacks : Option Bytes → Event
   compares : Bytes → Bytes → Bool → Event
   asks : Bytes → Bool → Event
-  writes : Bytes → Bytes → Bool → Event
-  replaces : Bytes → Bytes → Bool → Event
+  writes : Bytes → Bytes → Option Trouble → Event
+  replaces : Bytes → Bytes → Option Trouble → Event
   leaves : Bytes → Event
-  prints : Bytes → Bool → Event
+  prints : Bytes → Option Reason → Event
   says : Bytes → Event
-  shows : Error → Bool → Event
+  shows : Error → Option Reason → Event
 
 -- these were done behind what was done before: where it told of a front that it was done, it tells so of the front with these behind it
 pub record Adds (before after : List Event → Type 0) (es : List Event) : Type 0 where
   pub behind : (front : List Event) → before front → after (front ++ es)
 
--- the file at a path was read, or it wasn't
-abbrev pub reading_of : Bytes → Result (Vec ℕ Global) Trouble → Event
-reading_of path (Ok text) = reads path (Some text.items)
-reading_of path (Err trouble.Refused) = reads path None
+-- what there is to be read was read, or it wasn't
+abbrev pub reading_of : Option Bytes → Result (Vec ℕ Global) Trouble → Event
+reading_of path (Ok text) = reads path (Ok text.items)
+reading_of path (Err (trouble.Refused why)) = reads path (Err why)
 reading_of path (Err trouble.NoMemory) = lacks path
+
+-- why a text isn't where it is to be, if it isn't
+abbrev pub trouble_in : {A : Type 0} → Result A Unwritten → Option Trouble
+trouble_in (Ok done) = None
+trouble_in (Err why) = Some why.trouble
 
 -- the new file that is left where a text isn't where it is to be
 abbrev pub left_of : Unwritten → Option Bytes
@@ -50,15 +56,20 @@ abbrev pub leaving : Option Bytes → List Event
 leaving (Some path) = leaves path ∷ []
 leaving None = []
 
--- nothing was written, printed or said: a file was read, or something was asked
+-- why a text isn't printed or shown, if it isn't
+abbrev pub reason_in : {A : Type 0} → Result A Reason → Option Reason
+reason_in (Ok done) = None
+reason_in (Err why) = Some why
+
+-- nothing was written, printed or said: something was read or asked
 abbrev pub IsQuiet : Event → Type 0
 IsQuiet (reads path got) = Unit {0}
 IsQuiet (lacks path) = Unit {0}
 IsQuiet (compares one other same) = Unit {0}
 IsQuiet (asks path plain) = Unit {0}
-IsQuiet (writes path text whole) = ⊥
-IsQuiet (replaces path text whole) = ⊥
+IsQuiet (writes path text why) = ⊥
+IsQuiet (replaces path text why) = ⊥
 IsQuiet (leaves path) = ⊥
-IsQuiet (prints text whole) = ⊥
+IsQuiet (prints text why) = ⊥
 IsQuiet (says line) = ⊥
-IsQuiet (shows error whole) = ⊥
+IsQuiet (shows error why) = ⊥

@@ -2,6 +2,7 @@ pub mod Deeds
 pub mod Events
 pub mod Leads
 pub mod Output
+pub mod Reasons
 pub mod Streams
 pub mod Tried
 pub mod Troubles

@@ -1,11 +1,12 @@
 //! A text is put in place of what a file has, by a new file beside it.
 
-ghost use Rattle.std.specs.Prelude.{ℕ, List, Some, option_map, IfOk, IfErr, string_bytes, is_ok};
+ghost use Rattle.std.specs.Prelude.{ℕ, List, Some, option_map, IfOk, IfErr, string_bytes};
 ghost use Rattle.outside.specs.Deeds.{Deed};
 ghost use Rattle.outside.specs.Tried.{Turns, IsMade, IsUnmade, IsPermitted, IsFilled, IsMoved, IsFinished};
 ghost use Rattle.outside.specs.Written.{IsPutOver, IsPutAt, IsPutInto};
 
 use crate::disk::Disk;
+use crate::reason::Reason;
 use crate::trouble::{Trouble, Unwritten, not_written, trouble_of};
 use std::alloc::Global;
 use std::io::ErrorKind;
@@ -51,14 +52,14 @@ fn make_beside<D: Disk>(
             },
         }
     }
-    Err(Unmade::Other(Trouble::Refused))
+    Err(Unmade::Other(Trouble::Refused(Reason::NameTaken)))
 }
 
 /// Gives a new file the permissions of the old one, if there is one.
 fn permit<D: Disk>(disk: &mut D, file: &D::File, old: Option<&str>) -> Result<(), Trouble>
     ensures { (real beside : List ℕ) → D.is_at file.now beside → (ds : List Deed)
         × Turns (record { before = D.did disk.old; after = D.did disk.new; known = D.holds disk.old; now = D.holds disk.new }) ds
-        × IsPermitted (option_map (λ p. p.now) old.entry) real beside (is_ok result) ds }
+        × IsPermitted (option_map (λ p. p.now) old.entry) real beside ds result }
 {
     let Some(path) = old else {
         return Ok(());
@@ -73,7 +74,7 @@ fn permit<D: Disk>(disk: &mut D, file: &D::File, old: Option<&str>) -> Result<()
 fn fill<D: Disk>(disk: &mut D, file: &mut D::File, text: &[u8]) -> Result<(), Trouble>
     ensures { (real beside : List ℕ) → D.is_at file.old beside → (ds : List Deed)
         × Turns (record { before = D.did disk.old; after = D.did disk.new; known = D.holds disk.old; now = D.holds disk.new }) ds
-        × IsFilled real beside text.now (is_ok result) ds }
+        × IsFilled real beside text.now ds result }
 {
     if let Err(error) = disk.fill(file, text) {
         return Err(trouble_of(&error));
@@ -96,7 +97,7 @@ fn move_over<D: Disk>(
     requires { D.is_at file.old beside.now }
     ensures { (ds : List Deed)
         × Turns (record { before = D.did disk.old; after = D.did disk.new; known = D.holds disk.old; now = D.holds disk.new }) ds
-        × IsMoved (option_map (λ p. p.now) old.entry) real.now beside.now text.now (is_ok result) ds }
+        × IsMoved (option_map (λ p. p.now) old.entry) real.now beside.now text.now ds result }
 {
     if let Err(trouble) = permit(disk, file, old) {
         return Err(trouble);
@@ -150,7 +151,7 @@ pub(crate) fn put_over<D: Disk>(
 {
     match make_beside(disk, alloc, real) {
         Ok((file, beside)) => finish(disk, file, beside, Some(real), real, text),
-        Err(Unmade::Denied) => Err(not_written(Trouble::Refused)),
+        Err(Unmade::Denied) => Err(not_written(Trouble::Refused(Reason::NotPermitted))),
         Err(Unmade::Other(trouble)) => Err(not_written(trouble)),
     }
 }

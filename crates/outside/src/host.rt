@@ -2,25 +2,26 @@
 
 use crate::beside::{cut_over, put_at, put_over};
 use crate::disk::{Disk, Lead};
+use crate::reason::{Reason, reason_of};
 use crate::streams::Streams;
 use crate::trouble::{Trouble, Unwritten, not_written, trouble_of};
-use crate::whole::read_whole;
+use crate::whole::{read_input, read_whole};
 use crate::world::World;
 use std::alloc::Global;
 
-/// Files, and the standard output and error.
+/// Files, and the standard input, output and error.
 #[derive(Drop)]
 pub struct Host<D, S> {
     /// Where the files lie.
     pub disk: D,
-    /// The standard output and error.
+    /// The standard input, output and error.
     pub streams: S,
 }
 
 impl<D: Disk + Drop, S: Streams + Drop> World for Host<D, S> {
-    ghost use Rattle.std.specs.Prelude.{List, ◌∷◌, [], is_ok};
+    ghost use Rattle.std.specs.Prelude.{List, ◌∷◌, []};
     ghost use Rattle.outside.specs.Deeds.{Deed};
-    ghost use Rattle.outside.specs.Events.{Adds, writes, replaces, path_left, leaving};
+    ghost use Rattle.outside.specs.Events.{Adds, writes, replaces, trouble_in, path_left, leaving};
     ghost use Rattle.outside.specs.Output.{AreDone};
     ghost use Rattle.outside.specs.Tried.{Turns};
     ghost use Rattle.outside.specs.Written.{IsWrittenTo, IsReplacedBy};
@@ -30,14 +31,19 @@ impl<D: Disk + Drop, S: Streams + Drop> World for Host<D, S> {
       refuses = D.refuses;
       tells_one = D.tells_one;
       tells_plain = D.tells_plain;
+      input = S.input;
+      input_refuses = S.input_refuses;
       out = S.out h.streams;
       out_failed = S.out_failed h.streams;
       err = S.err h.streams;
       err_failed = S.err_failed h.streams;
     }) es };
 
-    fn read(&mut self, alloc: Global, path: &str) -> Result<Vec<u8>, Trouble> {
-        read_whole(&self.disk, alloc, path)
+    fn read(&mut self, alloc: Global, path: Option<&str>) -> Result<Vec<u8>, Trouble> {
+        match path {
+            Some(path) => read_whole(&self.disk, alloc, path),
+            None => read_input(&self.streams, alloc),
+        }
     }
 
     fn is_one_file(&mut self, one: &str, other: &str) -> bool {
@@ -54,6 +60,8 @@ impl<D: Disk + Drop, S: Streams + Drop> World for Host<D, S> {
           refuses = D.refuses;
           tells_one = D.tells_one;
           tells_plain = D.tells_plain;
+          input = S.input;
+          input_refuses = S.input_refuses;
           out = S.out self.old.streams;
           out_failed = S.out_failed self.old.streams;
           err = S.err self.old.streams;
@@ -64,19 +72,26 @@ impl<D: Disk + Drop, S: Streams + Drop> World for Host<D, S> {
               refuses = D.refuses;
               tells_one = D.tells_one;
               tells_plain = D.tells_plain;
+              input = S.input;
+              input_refuses = S.input_refuses;
               out = S.out self.new.streams;
               out_failed = S.out_failed self.new.streams;
               err = S.err self.new.streams;
               err_failed = S.err_failed self.new.streams;
             }))
-            (writes path.now text.now (is_ok result) ∷ leaving (path_left result)) }
+            (writes path.now text.now (trouble_in result) ∷ leaving (path_left result)) }
         ensures written { (ds : List Deed) × Turns (record {
           before = D.did self.old.disk;
           after = D.did self.new.disk;
           known = D.holds self.old.disk;
           now = D.holds self.new.disk;
         }) ds
-            × IsWrittenTo (D.leads path.now) (D.is_free path.now) (D.is_other path.now) (D.hides path.now) path.now text.now ds result }
+            × IsWrittenTo (record {
+              plain = D.leads path.now;
+              free = D.is_free path.now;
+              other = D.is_other path.now;
+              hidden = D.hides path.now;
+            }) path.now text.now ds result }
     {
         match self.disk.lead(alloc, path) {
             Ok(Lead::Plain(real)) => {
@@ -100,6 +115,8 @@ impl<D: Disk + Drop, S: Streams + Drop> World for Host<D, S> {
           refuses = D.refuses;
           tells_one = D.tells_one;
           tells_plain = D.tells_plain;
+          input = S.input;
+          input_refuses = S.input_refuses;
           out = S.out self.old.streams;
           out_failed = S.out_failed self.old.streams;
           err = S.err self.old.streams;
@@ -110,30 +127,40 @@ impl<D: Disk + Drop, S: Streams + Drop> World for Host<D, S> {
               refuses = D.refuses;
               tells_one = D.tells_one;
               tells_plain = D.tells_plain;
+              input = S.input;
+              input_refuses = S.input_refuses;
               out = S.out self.new.streams;
               out_failed = S.out_failed self.new.streams;
               err = S.err self.new.streams;
               err_failed = S.err_failed self.new.streams;
             }))
-            (replaces path.now text.now (is_ok result) ∷ leaving (path_left result)) }
+            (replaces path.now text.now (trouble_in result) ∷ leaving (path_left result)) }
         ensures replaced { (ds : List Deed) × Turns (record {
           before = D.did self.old.disk;
           after = D.did self.new.disk;
           known = D.holds self.old.disk;
           now = D.holds self.new.disk;
         }) ds
-            × IsReplacedBy (D.leads path.now) (D.is_free path.now) (D.is_other path.now) (D.hides path.now) text.now ds result }
+            × IsReplacedBy (record {
+              plain = D.leads path.now;
+              free = D.is_free path.now;
+              other = D.is_other path.now;
+              hidden = D.hides path.now;
+            }) text.now ds result }
     {
         match self.disk.lead(alloc, path) {
             Ok(Lead::Plain(real)) => put_over(&mut self.disk, alloc, real.as_str(), text),
-            Ok(Lead::Free) => Err(not_written(Trouble::Refused)),
-            Ok(Lead::Other) => Err(not_written(Trouble::Refused)),
+            Ok(Lead::Free) => Err(not_written(Trouble::Refused(Reason::NoSuchFile))),
+            Ok(Lead::Other) => Err(not_written(Trouble::Refused(Reason::Untold))),
             Err(error) => Err(not_written(trouble_of(&error))),
         }
     }
 
-    fn print(&mut self, text: &[u8]) -> bool {
-        self.streams.print(text).is_ok()
+    fn print(&mut self, text: &[u8]) -> Result<(), Reason> {
+        match self.streams.print(text) {
+            Ok(()) => Ok(()),
+            Err(error) => Err(reason_of(&error)),
+        }
     }
 
     fn say(&mut self, line: &str) {
@@ -144,7 +171,10 @@ impl<D: Disk + Drop, S: Streams + Drop> World for Host<D, S> {
         let _ = self.streams.say_of(path, line);
     }
 
-    fn show(&mut self, error: &clap::Error) -> bool {
-        self.streams.show(error).is_ok()
+    fn show(&mut self, error: &clap::Error) -> Result<(), Reason> {
+        match self.streams.show(error) {
+            Ok(()) => Ok(()),
+            Err(failed) => Err(reason_of(&failed)),
+        }
     }
 }

@@ -115,14 +115,19 @@ impl<F: Files> Disk for SystemFiles<'_, F> {
     }
 }
 
-/// The standard output and error of a runtime.
+/// The standard input, output and error of a runtime.
 #[derive(Drop)]
 pub struct SystemStreams<'r, R> {
     /// The runtime that has them.
     pub rt: &'r R,
 }
 
-impl<R: Print + Eprint> Streams for SystemStreams<'_, R> {
+impl<R: Input + Print + Eprint> Streams for SystemStreams<'_, R> {
+    fn read_input(&self, most: u64, text: &mut Vec<u8>) -> io::Result<()> {
+        self.rt.reader().take(most).read_to_end(text)?;
+        Ok(())
+    }
+
     fn print(&mut self, text: &[u8]) -> io::Result<()> {
         self.rt.write_all(text)
     }

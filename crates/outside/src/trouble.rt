@@ -1,19 +1,20 @@
-//! Why a file is not read or written.
+//! Why a text is not read or written.
 
 ghost use Rattle.std.specs.Prelude.{◌≡◌, None};
 ghost use Rattle.std.specs.IoError.{error_kind};
 ghost use Rattle.outside.specs.Troubles.{IsTroubleOf};
 
+use crate::reason::{Reason, reason_of};
 use std::io;
 use std::io::ErrorKind;
 
-/// Why a file is not read or written.
+/// Why a text is not read or written.
 #[derive(Clone, Copy, Debug, PartialEq, Eq)]
 pub enum Trouble {
     /// Memory ran out.
     NoMemory,
     /// The system refuses it.
-    Refused,
+    Refused(Reason),
 }
 
 /// Why a text isn't where it is to be.
@@ -25,13 +26,13 @@ pub struct Unwritten {
     pub left: Option<String>,
 }
 
-/// Want of memory, or any other trouble.
-pub fn trouble_of(error: &io::Error) -> Trouble
+/// Want of memory, or any other trouble with its reason.
+pub(crate) fn trouble_of(error: &io::Error) -> Trouble
     ensures { IsTroubleOf (error_kind error.now) result }
 {
     match error.kind() {
         ErrorKind::OutOfMemory => Trouble::NoMemory,
-        _ => Trouble::Refused,
+        _ => Trouble::Refused(reason_of(error)),
     }
 }
 

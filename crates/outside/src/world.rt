@@ -1,23 +1,24 @@
-//! What lies outside of the program: files, and the standard output and error.
+//! What lies outside of the program: files, and the standard input, output and error.
 
+use crate::reason::Reason;
 use crate::trouble::{Trouble, Unwritten};
 use std::alloc::Global;
 
 /// What the program does on the outside. Contracts see all that was done, in order.
 pub trait World {
-    ghost use Rattle.std.specs.Prelude.{◌≡◌, ◌++◌, ◌∷◌, [], List, codes, is_ok, true};
-    ghost use Rattle.outside.specs.Events.{Event, Adds, reading_of, path_left, leaving, compares, asks, writes, replaces, prints, says, shows};
+    ghost use Rattle.std.specs.Prelude.{◌≡◌, ◌++◌, ◌∷◌, [], List, codes, option_map, true};
+    ghost use Rattle.outside.specs.Events.{Event, Adds, reading_of, trouble_in, path_left, leaving, reason_in, compares, asks, writes, replaces, prints, says, shows};
 
     /// Whether just this was done so far, as far as what lies outside tells.
     ghost done: { Self → List Event → Type 0 };
 
-    /// Reads the file at a path, up to one byte more than any text may have.
+    /// Reads the file at a path, or the standard input where there is no path, up to one byte more than any text may have.
     ///
     /// # Errors
     ///
-    /// The file can't be read, or there is no memory for it.
-    fn read(&mut self, alloc: Global, path: &str) -> Result<Vec<u8>, Trouble>
-        ensures { Adds (done self.old) (done self.new) (reading_of path.now result ∷ []) };
+    /// It can't be read, or there is no memory for it.
+    fn read(&mut self, alloc: Global, path: Option<&str>) -> Result<Vec<u8>, Trouble>
+        ensures { Adds (done self.old) (done self.new) (reading_of (option_map (λ p. p.now) path.entry) result ∷ []) };
 
     /// Whether two paths lead to one file, as far as the system tells. A path leads where it leads itself, though nothing is there.
     fn is_one_file(&mut self, one: &str, other: &str) -> bool
@@ -35,7 +36,7 @@ pub trait World {
     /// The file can't be written whole, or there is no memory for that. It has what it had, unless no new file can be made beside it: what
     /// it has then is not said.
     fn write(&mut self, alloc: Global, path: &str, text: &[u8]) -> Result<(), Unwritten>
-        ensures { Adds (done self.old) (done self.new) (writes path.now text.now (is_ok result) ∷ leaving (path_left result)) };
+        ensures { Adds (done self.old) (done self.new) (writes path.now text.now (trouble_in result) ∷ leaving (path_left result)) };
 
     /// Puts a text in place of what the plain file at a path has: at any time that has the one or the other whole.
     ///
@@ -43,11 +44,15 @@ pub trait World {
     ///
     /// The text can't be put there, or there is no memory for that: the file has what it had.
     fn replace(&mut self, alloc: Global, path: &str, text: &[u8]) -> Result<(), Unwritten>
-        ensures { Adds (done self.old) (done self.new) (replaces path.now text.now (is_ok result) ∷ leaving (path_left result)) };
+        ensures { Adds (done self.old) (done self.new) (replaces path.now text.now (trouble_in result) ∷ leaving (path_left result)) };
 
-    /// Prints a text on the standard output, and answers whether it was printed whole.
-    fn print(&mut self, text: &[u8]) -> bool
-        ensures { Adds (done self.old) (done self.new) (prints text.now result ∷ []) };
+    /// Prints a text on the standard output.
+    ///
+    /// # Errors
+    ///
+    /// It isn't printed whole, for this reason.
+    fn print(&mut self, text: &[u8]) -> Result<(), Reason>
+        ensures { Adds (done self.old) (done self.new) (prints text.now (reason_in result) ∷ []) };
 
     /// Says a line on the standard error, if that takes it.
     fn say(&mut self, line: &str)
@@ -57,8 +62,11 @@ pub trait World {
     fn say_of(&mut self, path: &str, line: &str)
         ensures { Adds (done self.old) (done self.new) (says (path.now ++ (codes ": " ++ line.now)) ∷ []) };
 
-    /// Shows what the parser of command lines says, help and the version on the standard output, all else on the standard error, and
-    /// answers whether it was shown whole.
-    fn show(&mut self, error: &clap::Error) -> bool
-        ensures { Adds (done self.old) (done self.new) (shows error.now result ∷ []) };
+    /// Shows what the parser of command lines says, help and the version on the standard output, all else on the standard error.
+    ///
+    /// # Errors
+    ///
+    /// It isn't shown whole, for this reason.
+    fn show(&mut self, error: &clap::Error) -> Result<(), Reason>
+        ensures { Adds (done self.old) (done self.new) (shows error.now (reason_in result) ∷ []) };
 }

@@ -6,7 +6,7 @@ use Rattle.conduct.specs.Comparing.{AreCompared, Clash}
 use Rattle.conduct.proofs.Behind.{compared_front, compared_more}
 use Rattle.outside.specs.Events.{Bytes, Event, says}
 use Rattle.edittext.specs.declared.answering.Told.{Told}
-use Rattle.program.specs.Edits.{IsAsked, IsConcluded, IsEditDone, IsEditFollowed, IsEmptied, IsEmptiedThen, IsReadConcluded, clashes, clashes_if, file_of, listed, source_in}
+use Rattle.program.specs.Edits.{IsAsked, IsConcluded, IsEditFollowed, IsEditedApart, IsEmptied, IsEmptiedThen, IsReadConcluded, clashes, clashes_if, file_of, listed, source_in}
 use Rattle.program.specs.Endings.{IsEditTold, replies_path}
 use Rattle.program.specs.declared.ending.NotDone.{NotDone}
 use Rattle.program.specs.declared.ending.NotDone.TheVariants.{NotPlain}
@@ -86,36 +86,32 @@ in_last o ps source scripts file es fs hs ks found named is none nothing neither
     (subst (λ (f : Option Bytes). AreCompared (Last o f) ks found) is told))))
 
 -- something would be written over
-pub over : (keyed : Bool) (paths : List Bytes) (workers : ℕ) (room : Option ℕ) (given : Option Outputs) (o : Outputs) (allowed : Allowed)
-    (asked : List Event) (line : Bytes) → given ≡ Some o → AreCompared (clashes o paths) asked (Some line)
-    → IsEditDone keyed paths workers room given allowed (asked ++ says line ∷ []) 1
-over keyed paths workers room given o allowed asked line is compared = subst
-    (λ (p : Option Outputs). IsEditDone keyed paths workers room p allowed (asked ++ says line ∷ []) 1) (sym is)
-    (asked, says line ∷ [], refl, inl (line, compared, (refl, refl)))
+pub over : (keyed : Bool) (paths : List Bytes) (workers : ℕ) (room : Option ℕ) (o : Outputs) (allowed : Allowed)
+    (asked : List Event) (line : Bytes) → AreCompared (clashes o paths) asked (Some line)
+    → IsEditedApart keyed paths workers room o allowed (asked ++ says line ∷ []) 1
+over keyed paths workers room o allowed asked line compared = (asked, says line ∷ [], refl, inl (line, compared, (refl, refl)))
 
 -- nothing would, and more follows
-apart : (keyed : Bool) (paths : List Bytes) (workers : ℕ) (room : Option ℕ) (given : Option Outputs) (o : Outputs) (allowed : Allowed)
-    (asked rest : List Event) (status : ℕ) → given ≡ Some o → AreCompared (clashes o paths) asked None
+apart : (keyed : Bool) (paths : List Bytes) (workers : ℕ) (room : Option ℕ) (o : Outputs) (allowed : Allowed)
+    (asked rest : List Event) (status : ℕ) → AreCompared (clashes o paths) asked None
     → IsEmptiedThen (replies_path o) (IsEditFollowed keyed paths workers room o allowed) rest status
-    → IsEditDone keyed paths workers room given allowed (asked ++ rest) status
-apart keyed paths workers room given o allowed asked rest status is compared then = subst
-    (λ (p : Option Outputs). IsEditDone keyed paths workers room p allowed (asked ++ rest) status) (sym is)
-    (asked, rest, refl, inr (compared, then))
+    → IsEditedApart keyed paths workers room o allowed (asked ++ rest) status
+apart keyed paths workers room o allowed asked rest status compared then = (asked, rest, refl, inr (compared, then))
 
 -- the file for what became of the transactions can't be emptied
-pub not_emptied : (keyed : Bool) (paths : List Bytes) (workers : ℕ) (room : Option ℕ) (given : Option Outputs) (o : Outputs)
-    (allowed : Allowed) (asked rest : List Event) → given ≡ Some o → AreCompared (clashes o paths) asked None
-    → IsEmptied (replies_path o) rest false → IsEditDone keyed paths workers room given allowed (asked ++ rest) 1
-not_emptied keyed paths workers room given o allowed asked rest is compared not =
-    apart keyed paths workers room given o allowed asked rest 1 is compared (inl (not, refl))
+pub not_emptied : (keyed : Bool) (paths : List Bytes) (workers : ℕ) (room : Option ℕ) (o : Outputs)
+    (allowed : Allowed) (asked rest : List Event) → AreCompared (clashes o paths) asked None
+    → IsEmptied (replies_path o) rest false → IsEditedApart keyed paths workers room o allowed (asked ++ rest) 1
+not_emptied keyed paths workers room o allowed asked rest compared not =
+    apart keyed paths workers room o allowed asked rest 1 compared (inl (not, refl))
 
 -- it can, and the source is edited
-pub emptied : (keyed : Bool) (paths : List Bytes) (workers : ℕ) (room : Option ℕ) (given : Option Outputs) (o : Outputs)
-    (allowed : Allowed) (asked before rest : List Event) (status : ℕ) → given ≡ Some o → AreCompared (clashes o paths) asked None
+pub emptied : (keyed : Bool) (paths : List Bytes) (workers : ℕ) (room : Option ℕ) (o : Outputs)
+    (allowed : Allowed) (asked before rest : List Event) (status : ℕ) → AreCompared (clashes o paths) asked None
     → IsEmptied (replies_path o) before true → IsEditFollowed keyed paths workers room o allowed rest status
-    → IsEditDone keyed paths workers room given allowed (asked ++ (before ++ rest)) status
-emptied keyed paths workers room given o allowed asked before rest status is compared done follows =
-    apart keyed paths workers room given o allowed asked (before ++ rest) status is compared (inr (before, rest, refl, done, follows))
+    → IsEditedApart keyed paths workers room o allowed (asked ++ (before ++ rest)) status
+emptied keyed paths workers room o allowed asked before rest status compared done follows =
+    apart keyed paths workers room o allowed asked (before ++ rest) status compared (inr (before, rest, refl, done, follows))
 
 -- ---- the answer, or why there is none
 

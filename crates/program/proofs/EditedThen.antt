@@ -1,10 +1,11 @@
 -- From scripts that edit a source to what is told of that.
-use Rattle.std.proofs.Common.{◌≡◌, ◌<◌, ◌-◌, ◌∷◌, [], ℕ, Bool, List, Option, None, ap, arith, codes, drop, length, map, slice_index_or, subst, sym, take, Result, Err}
+use Rattle.std.proofs.Common.{◌≡◌, ◌<◌, ◌-◌, ◌∷◌, [], ℕ, Bool, List, Option, None, Some, ap, arith, codes, drop, length, map, slice_index_or, subst, sym, take, Result, Err}
 use Rattle.std.proofs.lemmas.List.{take_rest}
 use Rattle.std.specs.Prelude.{IfOk, is_some}
 use Rattle.commandline.specs.declared.edit_order.Allowed.{Allowed}
 use Rattle.commandline.specs.declared.edit_order.Outputs.{Outputs}
-use Rattle.conduct.specs.Telling.{IsSaid}
+use Rattle.conduct.specs.declared.manner.Manner.TheVariants.{Full}
+use Rattle.conduct.specs.Telling.{IsMisused}
 use Rattle.edittext.specs.Answers.{IsEditAnswer}
 use Rattle.edittext.specs.Edited.{edit_room}
 use Rattle.edittext.specs.declared.answering.Told.{Told}
@@ -12,7 +13,7 @@ use Rattle.outside.specs.Events.{Bytes, Event}
 use Rattle.conduct.specs.Reading.{IsStopped}
 use Rattle.conduct.specs.declared.reading.Unread.{Unread}
 use Rattle.conduct.specs.declared.reading.Unread.TheVariants as unread
-use Rattle.program.specs.Edits.{IsAnsweredFor, IsEditDone, IsReadConcluded}
+use Rattle.program.specs.Edits.{IsAnsweredFor, IsEditDone, IsEditedApart, IsReadConcluded, IsUnmisusedThen, misuse_of}
 use Rattle.program.specs.Endings.{not_read}
 
 -- a list with something in it, by that and what stands behind
@@ -34,15 +35,24 @@ answered_for paths texts path source others scripts workers room o allowed r nam
 
 -- the files before one that can't be read are read, or memory runs out
 pub stopped_read : (keyed : Bool) (paths texts : List Bytes) (workers : ℕ) (room : Option ℕ) (o : Outputs) (allowed : Allowed)
-    (es : List Event) (u : Unread) → IsStopped paths texts es u
+    (es : List Event) (u : Unread) → IsStopped Full paths texts es u
     → IsReadConcluded keyed paths workers room o allowed es (Err (not_read u))
-stopped_read keyed paths texts workers room o allowed es (unread.File path) stopped = (texts, stopped.0, stopped.1)
+stopped_read keyed paths texts workers room o allowed es (unread.File path why) stopped = (texts, stopped.0, stopped.1)
 stopped_read keyed paths texts workers room o allowed es unread.NoMemory quiet = quiet
 
 -- two places are asked for
 pub two_places : (keyed : Bool) (paths : List Bytes) (workers : ℕ) (room : Option ℕ) (given : Option Outputs) (allowed : Allowed)
     (es : List Event) (status : ℕ)
-    → given ≡ None → IsSaid (codes "--in-place and --output do not go together") es status
+    → given ≡ None → IsMisused (codes "--in-place and --output do not go together") es status
     → IsEditDone keyed paths workers room given allowed es status
 two_places keyed paths workers room given allowed es status is said =
     subst (λ (p : Option Outputs). IsEditDone keyed paths workers room p allowed es status) (sym is) said
+
+-- one is, and the words go together or don't
+pub one_place : (keyed : Bool) (paths : List Bytes) (workers : ℕ) (room : Option ℕ) (given : Option Outputs) (o : Outputs)
+    (allowed : Allowed) (es : List Event) (status : ℕ) (found : Option Bytes) → given ≡ Some o → found ≡ misuse_of o.place paths
+    → IsUnmisusedThen found (IsEditedApart keyed paths workers room o allowed) es status
+    → IsEditDone keyed paths workers room given allowed es status
+one_place keyed paths workers room given o allowed es status found is same then =
+    subst (λ (p : Option Outputs). IsEditDone keyed paths workers room p allowed es status) (sym is)
+    (subst (λ (f : Option Bytes). IsUnmisusedThen f (IsEditedApart keyed paths workers room o allowed) es status) same then)

@@ -1,18 +1,21 @@
 -- What is done for an order to edit.
 use Rattle.std.specs.Prelude.{◌≡◌, ◌⊎◌, ℕ, Bool, true, false, List, [], ◌∷◌, ◌++◌, Option, Some, None, Result, Ok, Err, All, codes}
-use Rattle.std.specs.Prelude.{is_some, length, slice_get}
+use Rattle.std.specs.Prelude.{if◌then◌else◌, is_some, length, slice_get}
 use Rattle.std.specs.Borrow.{Bor}
 use Rattle.commandline.specs.declared.edit_order.Allowed.{Allowed}
 use Rattle.commandline.specs.declared.edit_order.Destination.{Destination}
 use Rattle.commandline.specs.declared.edit_order.Destination.TheVariants as place
 use Rattle.commandline.specs.declared.edit_order.Outputs.{Outputs}
+use Rattle.conduct.specs.declared.manner.Manner.TheVariants.{Full}
+use Rattle.conduct.specs.Manner.{is_input, is_input_twice, origin}
 use Rattle.conduct.specs.Reading.{reads_of}
 use Rattle.conduct.specs.Clashes.{clashes_with}
 use Rattle.conduct.specs.Comparing.{AreApartThen, Clash}
-use Rattle.conduct.specs.Telling.{IsSaid}
+use Rattle.conduct.specs.Telling.{IsMisused}
 use Rattle.edittext.specs.Answers.{IsEditAnswer}
 use Rattle.edittext.specs.Edited.{edit_room}
 use Rattle.edittext.specs.declared.answering.Told.{Told as Edited}
+use Rattle.outside.specs.declared.reason.Reason.{Reason}
 use Rattle.outside.specs.Events.{Bytes, Event, IsQuiet, asks, reads}
 use Rattle.program.specs.Endings.{IsEditTold, IsFiled, IsNotDoneTold, line_of, reason_of, replies_path, said_of}
 use Rattle.program.specs.declared.ending.NotDone.{NotDone}
@@ -62,12 +65,12 @@ IsAsked _ source es plain = (es ≡ []) × (plain ≡ true)
 
 -- all files are read, in their order
 abbrev pub AreAllRead : List Bytes → List Bytes → List Event → Type 0
-AreAllRead paths texts es = (length texts ≡ length paths) × (es ≡ reads_of paths texts)
+AreAllRead paths texts es = (length texts ≡ length paths) × (es ≡ reads_of Full paths texts)
 
 -- they are up to one that can't be
-abbrev pub AreReadUpTo : List Bytes → Bytes → List Event → Type 0
-AreReadUpTo paths path es =
-    (texts : List Bytes) × (slice_get paths (length texts) ≡ Some path) × (es ≡ reads_of paths texts ++ reads path None ∷ [])
+abbrev pub AreReadUpTo : List Bytes → Bytes → Reason → List Event → Type 0
+AreReadUpTo paths path why es = (texts : List Bytes) × (slice_get paths (length texts) ≡ Some path)
+    × (es ≡ reads_of Full paths texts ++ reads (origin Full path) (Err why) ∷ [])
 
 -- ---- the answer
 
@@ -82,7 +85,7 @@ IsAnsweredFor _ workers room o allowed _ told = ⊥
 abbrev pub IsReadConcluded : Bool → List Bytes → ℕ → Option ℕ → Outputs → Allowed → List Event → Result Edited NotDone → Type 0
 IsReadConcluded keyed paths workers room o allowed es (Ok told) =
     (texts : List Bytes) × AreAllRead paths texts es × IsAnsweredFor paths workers room o allowed texts told
-IsReadConcluded keyed paths workers room o allowed es (Err (not_done.Unread path)) = AreReadUpTo paths path.now es
+IsReadConcluded keyed paths workers room o allowed es (Err (not_done.Unread path why)) = AreReadUpTo paths path.now why es
 IsReadConcluded keyed paths workers room o allowed es (Err not_done.Unkeyed) =
     (keyed ≡ false) × (texts : List Bytes) × AreAllRead paths texts es
 IsReadConcluded keyed paths workers room o allowed es (Err not_done.NoMemory) = All IsQuiet es
@@ -120,8 +123,30 @@ IsEmptiedThen path P es status =
     (IsEmptied path es false × (status ≡ 1))
     ⊎ ((emptied : List Event) × (rest : List Event) × (es ≡ emptied ++ rest) × IsEmptied path emptied true × P rest status)
 
--- the source is edited, unless something would be written over; or it is to go to two places, which is said, and no file is read
+-- the source is edited, unless something would be written over
+abbrev pub IsEditedApart : Bool → List Bytes → ℕ → Option ℕ → Outputs → Allowed → List Event → ℕ → Type 0
+IsEditedApart keyed paths workers room o allowed es status =
+    AreApartThen (clashes o paths) (IsEmptiedThen (replies_path o) (IsEditFollowed keyed paths workers room o allowed)) es status
+
+-- the source is to be put in place, and is the standard input
+abbrev pub is_input_in_place : Destination → List Bytes → Bool
+is_input_in_place place.Source (source ∷ scripts) = is_input source
+is_input_in_place place.Source [] = false
+is_input_in_place place.Printed paths = false
+is_input_in_place (place.File path) paths = false
+
+-- what is said of words that don't go together
+abbrev pub misuse_of : Destination → List Bytes → Option Bytes
+misuse_of place paths = if is_input_in_place place paths then Some (codes "--in-place and - do not go together")
+    else (if is_input_twice paths then Some (codes "- stands for the standard input, which is read once") else None)
+
+-- the words go together, and so it goes; or they don't, which is said, and no file is read
+abbrev pub IsUnmisusedThen : Option Bytes → (List Event → ℕ → Type 0) → List Event → ℕ → Type 0
+IsUnmisusedThen (Some line) P es status = IsMisused line es status
+IsUnmisusedThen None P es status = P es status
+
+-- all of it; or the source is to go to two places
 abbrev pub IsEditDone : Bool → List Bytes → ℕ → Option ℕ → Option Outputs → Allowed → List Event → ℕ → Type 0
 IsEditDone keyed paths workers room (Some o) allowed es status =
-    AreApartThen (clashes o paths) (IsEmptiedThen (replies_path o) (IsEditFollowed keyed paths workers room o allowed)) es status
-IsEditDone keyed paths workers room None allowed es status = IsSaid (codes "--in-place and --output do not go together") es status
+    IsUnmisusedThen (misuse_of o.place paths) (IsEditedApart keyed paths workers room o allowed) es status
+IsEditDone keyed paths workers room None allowed es status = IsMisused (codes "--in-place and --output do not go together") es status

@@ -1,20 +1,24 @@
 -- What an edit tells at its end, and where its texts go.
-use Rattle.std.specs.Prelude.{◌≡◌, ◌⊎◌, ℕ, Bool, true, false, List, [], ◌∷◌, ◌++◌, Option, Some, None, codes}
-use Rattle.std.specs.Prelude.{String, map, string_bytes}
+use Rattle.std.specs.Prelude.{◌≡◌, ◌⊎◌, ℕ, Bool, true, false, List, [], ◌∷◌, ◌++◌, Option, Some, None, Result, Ok, Err, codes}
+use Rattle.std.specs.Prelude.{String, is_ok, map, string_bytes}
 use Rattle.std.specs.Option.{option_map}
 use Rattle.std.specs.declared.alloc.Global.{Global}
 use Rattle.std.specs.Str.Pattern.{FindsText, SplitsAroundMatch}
 use Rattle.commandline.specs.declared.edit_order.Destination.{Destination}
 use Rattle.commandline.specs.declared.edit_order.Destination.TheVariants as place
 use Rattle.commandline.specs.declared.edit_order.Outputs.{Outputs}
-use Rattle.conduct.specs.Telling.{IsUnwrittenTold}
+use Rattle.conduct.specs.declared.manner.Manner.TheVariants.{Full}
+use Rattle.conduct.specs.Telling.{IsUnwrittenTold, unprinted_said, unprinted_status}
 use Rattle.conduct.specs.declared.reading.Unread.{Unread}
 use Rattle.conduct.specs.declared.reading.Unread.TheVariants as unread
 use Rattle.editscripts.specs.declared.replying.Replies.{Replies}
 use Rattle.edittext.specs.declared.account.Account.{Account}
 use Rattle.edittext.specs.declared.answering.Told.{Told as Edited}
 use Rattle.edittext.specs.declared.answering.Told.TheVariants as edited
+use Rattle.outside.specs.declared.reason.Reason.{Reason}
+use Rattle.outside.specs.declared.trouble.Trouble.{Trouble}
 use Rattle.outside.specs.Events.{Bytes, Event, prints, replaces, says, writes}
+use Rattle.outside.specs.Reasons.{unread_text}
 use Rattle.program.specs.declared.ending.NotDone.{NotDone}
 use Rattle.program.specs.declared.ending.NotDone.TheVariants as not_done
 use Rattle.replylines.specs.ReplyLines.{not_done_line}
@@ -29,33 +33,42 @@ undone_status [] = 0
 undone_status (line ∷ lines) = 3
 
 -- the status where the edited source is where it is to be, and what became of the transactions; or one of them isn't
-abbrev pub status_if : Bool → Bool → ℕ → ℕ
-status_if true true status = status
-status_if _ _ status = 1
+abbrev pub status_if : Result Unit ℕ → Bool → ℕ → ℕ
+status_if (Ok done) true status = status
+status_if (Err failed) true status = failed
+status_if written false status = 1
+
+-- whether a text is where it is to be; the status is 1 where it isn't
+abbrev pub put_by : Bool → Result Unit ℕ
+put_by true = Ok tt
+put_by false = Err 1
 
 -- ---- where texts go
 
 -- a text is in the file at a path, whole; or that can't be written, or memory ran out for it, which is said
 abbrev pub IsFiled : Bytes → Bytes → List Event → Bool → Type 0
-IsFiled path text es true = es ≡ writes path text true ∷ []
-IsFiled path text es false = (rest : List Event) × (es ≡ writes path text false ∷ rest) × IsUnwrittenTold path rest 1
+IsFiled path text es true = es ≡ writes path text None ∷ []
+IsFiled path text es false =
+    (why : Trouble) × (rest : List Event) × (es ≡ writes path text (Some why) ∷ rest) × IsUnwrittenTold Full path why rest 1
 
 -- it is in place of what that file had
 abbrev pub IsExchanged : Bytes → Bytes → List Event → Bool → Type 0
-IsExchanged path text es true = es ≡ replaces path text true ∷ []
-IsExchanged path text es false = (rest : List Event) × (es ≡ replaces path text false ∷ rest) × IsUnwrittenTold path rest 1
+IsExchanged path text es true = es ≡ replaces path text None ∷ []
+IsExchanged path text es false =
+    (why : Trouble) × (rest : List Event) × (es ≡ replaces path text (Some why) ∷ rest) × IsUnwrittenTold Full path why rest 1
 
--- it is printed
-abbrev pub IsPrintedOut : Bytes → List Event → Bool → Type 0
-IsPrintedOut text es true = es ≡ prints text true ∷ []
-IsPrintedOut text es false = es ≡ prints text false ∷ says (codes "cannot write") ∷ []
+-- it is printed; or that can't be, which is said, unless the standard output is a closed pipe, and the status is that
+abbrev pub IsPrintedOut : Bytes → List Event → Result Unit ℕ → Type 0
+IsPrintedOut text es (Ok done) = es ≡ prints text None ∷ []
+IsPrintedOut text es (Err status) =
+    (why : Reason) × (es ≡ prints text (Some why) ∷ unprinted_said Full why) × (status ≡ unprinted_status Full why)
 
 -- the source with the edits is where it is to go: it is printed, it is in a file, or in place of what the source's file had; or it isn't,
 -- which is said
-abbrev pub IsPutAt : Destination → Bytes → Bytes → List Event → Bool → Type 0
-IsPutAt place.Printed source out es well = IsPrintedOut out es well
-IsPutAt (place.File path) source out es well = IsFiled path.now out es well
-IsPutAt place.Source source out es well = IsExchanged source out es well
+abbrev pub IsPutAt : Destination → Bytes → Bytes → List Event → Result Unit ℕ → Type 0
+IsPutAt place.Printed source out es put = IsPrintedOut out es put
+IsPutAt (place.File path) source out es put = (well : Bool) × IsFiled path.now out es well × (put ≡ put_by well)
+IsPutAt place.Source source out es put = (well : Bool) × IsExchanged source out es well × (put ≡ put_by well)
 
 -- what became of the transactions, by whether the source with the edits was written
 abbrev pub replies_of : Bool → Replies → Bytes
@@ -88,26 +101,26 @@ pub record IsNotDoneTold (path : Option Bytes) (said reason line : Bytes) (es : 
 -- why nothing is done, before there is an answer: a file isn't read, or isn't a plain one in whose place a text could be put; the system
 -- gives no random numbers; or memory runs out
 abbrev pub said_of : NotDone → Bytes
-said_of (not_done.Unread path) = path.now
+said_of (not_done.Unread path why) = path.now
 said_of (not_done.NotPlain path) = path.now
 said_of not_done.Unkeyed = []
 said_of not_done.NoMemory = []
 
 abbrev pub reason_of : NotDone → Bytes
-reason_of (not_done.Unread path) = codes "cannot read"
+reason_of (not_done.Unread path why) = unread_text why
 reason_of (not_done.NotPlain path) = codes "not a plain file"
 reason_of not_done.Unkeyed = codes "no random numbers"
 reason_of not_done.NoMemory = codes "no memory"
 
 abbrev pub line_of : NotDone → Bytes
-line_of (not_done.Unread path) = path.now ++ codes ": cannot read"
+line_of (not_done.Unread path why) = path.now ++ (codes ": " ++ unread_text why)
 line_of (not_done.NotPlain path) = path.now ++ codes ": not a plain file"
 line_of not_done.Unkeyed = codes "no random numbers"
 line_of not_done.NoMemory = codes "no memory"
 
 -- a file that isn't read, or want of memory
 abbrev pub not_read : Unread → NotDone
-not_read (unread.File path) = not_done.Unread path
+not_read (unread.File path why) = not_done.Unread path why
 not_read unread.NoMemory = not_done.NoMemory
 
 -- a line in two parts, which its first colon and space part; without these all of it is the reason
@@ -124,10 +137,10 @@ pub record IsPrintedTold (o : Outputs) (source out : Bytes) (account : Account) 
   pub put : List Event
   pub rest : List Event
   pub each : es ≡ all_said account.undone.items ++ (all_said account.spoken.items ++ (put ++ rest))
-  pub written : Bool
+  pub written : Result Unit ℕ
   pub is_put : IsPutAt o.place source out put written
   pub well : Bool
-  pub replied : ArePutReplies (replies_path o) account.replies written rest well
+  pub replied : ArePutReplies (replies_path o) account.replies (is_ok written) rest well
   pub ends : status ≡ status_if written well (undone_status account.undone.items)
 
 -- it is said which weren't done, and just what became of them goes anywhere: the status is 3
@@ -136,7 +149,7 @@ pub record IsUndoneTold (o : Outputs) (account : Account) (es : List Event) (sta
   pub each : es ≡ all_said account.undone.items ++ rest
   pub well : Bool
   pub replied : ArePutReplies (replies_path o) account.replies false rest well
-  pub ends : status ≡ status_if true well 3
+  pub ends : status ≡ status_if (Ok tt) well 3
 
 -- so it is, and a line says why nothing is printed: the status is 1
 pub record IsUnfinishedTold (o : Outputs) (account : Account) (line : Bytes) (es : List Event) (status : ℕ) : Type 0 where

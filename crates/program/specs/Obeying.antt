@@ -1,5 +1,5 @@
 -- What the program does for a command line, event by event, and the status that it ends with.
-use Rattle.std.specs.Prelude.{◌≡◌, ◌≢◌, ◌⊎◌, ℕ, Bool, true, false, List, [], ◌∷◌, ◌++◌, Option, Result, Ok, Err, All, codes}
+use Rattle.std.specs.Prelude.{◌≡◌, ◌≢◌, ◌⊎◌, ℕ, Bool, List, Some, None, [], ◌∷◌, ◌++◌, Option, Result, Ok, Err, All, codes}
 use Rattle.checking.specs.declared.task.Task.{Task}
 use Rattle.clap.specs.declared.error.Error.{Error}
 use Rattle.clap.specs.declared.error.kind.ErrorKind.TheVariants.{DisplayHelp, DisplayVersion, OutOfMemory}
@@ -15,19 +15,22 @@ use Rattle.commandline.specs.declared.edit_order.Outputs.{Outputs}
 use Rattle.conduct.specs.Gives.{IsGiveDone}
 use Rattle.conduct.specs.Jobs.{IsFollowed}
 use Rattle.conduct.specs.Takes.{IsTakeDone}
-use Rattle.conduct.specs.Telling.{IsSaid}
+use Rattle.conduct.specs.declared.manner.Manner.TheVariants.{Full}
+use Rattle.conduct.specs.Telling.{IsSaid, unprinted_said, unprinted_status}
 use Rattle.conduct.specs.Verifies.{IsVerifyDone}
+use Rattle.outside.specs.declared.reason.Reason.{Reason}
 use Rattle.outside.specs.declared.trouble.Trouble.{Trouble}
 use Rattle.outside.specs.declared.trouble.Trouble.TheVariants as trouble
 use Rattle.outside.specs.Events.{Bytes, Event, IsQuiet, says, shows}
 use Rattle.program.specs.Edits.{IsEditDone}
 
--- the parser's text is shown, and the status is 0 for help and the version, and 2 for all else; or it can't be, which is said, and it is 1
+-- the parser's text is shown, and the status is 0 for help and the version, and 2 for all else; or it can't be, which is said, unless that
+-- goes to a closed pipe
 abbrev pub IsShown : Error → List Event → ℕ → Type 0
 IsShown e es status =
-    ((es ≡ shows e true ∷ []) × (((kind_of e ≡ DisplayHelp) ⊎ (kind_of e ≡ DisplayVersion)) → status ≡ 0)
+    ((es ≡ shows e None ∷ []) × (((kind_of e ≡ DisplayHelp) ⊎ (kind_of e ≡ DisplayVersion)) → status ≡ 0)
     × (kind_of e ≢ DisplayHelp → kind_of e ≢ DisplayVersion → status ≡ 2))
-    ⊎ ((es ≡ shows e false ∷ says (codes "cannot write") ∷ []) × (status ≡ 1))
+    ⊎ ((why : Reason) × (es ≡ shows e (Some why) ∷ unprinted_said Full why) × (status ≡ unprinted_status Full why))
 
 -- a subcommand with an order, which is followed
 abbrev pub IsOrdered : Bool → Option (Text × List Row) → List Event → ℕ → Type 0
@@ -90,7 +93,7 @@ Obeys keyed words es status = IsObeyed keyed words es status ⊎ IsOutOfMemory e
 
 -- why there are no words
 abbrev pub no_words : Trouble → Bytes
-no_words trouble.Refused = codes "the command line cannot be read"
+no_words (trouble.Refused why) = codes "the command line cannot be read"
 no_words trouble.NoMemory = codes "no memory"
 
 -- what the program does for the words of its command line; or where it has none, which is said, and the status is 1

@@ -1,16 +1,18 @@
 //! How scripts edit a source: nothing is written over, all files are read, the scripts are answered, and the answer is told.
 
-ghost use Rattle.std.specs.Prelude.{is_some, ◌≡◌, ◌<◌, List, IfOk, Some, length, map};
+ghost use Rattle.std.specs.Prelude.{is_some, ◌≡◌, ◌<◌, List, IfOk, length, map};
 ghost use Rattle.std.specs.Option.{option_map};
 ghost use Rattle.checking.specs.Tasks.{IsWithin};
 ghost use Rattle.conduct.specs.Comparing.{AreCompared};
 ghost use Rattle.outside.specs.Events.{Event, Adds};
-ghost use Rattle.program.specs.Edits.{clash_line, clashes_if, clashes, file_of, source_in, IsAsked, IsAnsweredFor, IsReadConcluded, IsConcluded, IsEditFollowed, IsEmptied, IsEditDone};
+ghost use Rattle.program.specs.Edits.{clash_line, clashes_if, clashes, file_of, source_in, IsAsked, IsAnsweredFor, IsReadConcluded, IsConcluded, IsEditFollowed, IsEditedApart, IsEmptied, IsEditDone, is_input_in_place, misuse_of};
 ghost use Rattle.program.specs.Endings.{not_read};
 
 use crate::ending::{NotDone, file, tell_edited, tell_not_done};
 use commandline::{Destination, EditOrder, Outputs};
-use conduct::{Means, Unread, first_same, read_all, refuse};
+use conduct::{
+    INPUT, INPUT_TWICE, Manner, Means, Unread, first_same, is_input_twice, misuse, read_all,
+};
 use edittext::{Told, answer_edit};
 use following::Follow;
 use jobs::Watch;
@@ -157,7 +159,7 @@ fn not_read<'a>(unread: Unread<'a>) -> NotDone<'a>
     ensures { result ≡ not_read unread.entry }
 {
     match unread {
-        Unread::File(path) => NotDone::Unread(path),
+        Unread::File(path, why) => NotDone::Unread(path, why),
         Unread::NoMemory => NotDone::NoMemory,
     }
 }
@@ -176,8 +178,9 @@ fn conclude_read<'a, R: Threads + Wait + Sync, W: World, V: Watch + Follow + Syn
         × IsReadConcluded (is_some keys) (map (λ p. p.now) order.now.paths.items) order.now.workers order.now.room outputs.entry
         order.now.allowed es result }
 {
+    let paths = order.paths.as_slice();
     let mut texts = Vec::new(means.alloc);
-    if let Err(unread) = read_all(world, means.alloc, order.paths.as_slice(), &mut texts) {
+    if let Err(unread) = read_all(world, means.alloc, Manner::Full, paths, &mut texts) {
         return Err(not_read(unread));
     }
     let Some(keys) = keys else {
@@ -246,6 +249,31 @@ fn empty<W: World>(world: &mut W, alloc: Global, path: Option<&str>) -> bool
     }
 }
 
+/// Whether the source is to be put in place, and is the standard input.
+fn is_input_in_place(place: Destination<'_>, paths: &[&str]) -> bool
+    requires { 0 < length paths.now }
+    ensures { result ≡ is_input_in_place place.entry (map (λ p. p.now) paths.now) }
+{
+    match place {
+        Destination::Source => paths[0] == INPUT,
+        Destination::Printed | Destination::File(_) => false,
+    }
+}
+
+/// What is said of words that don't go together: the standard input can't be put in place, and is read once. None where they do.
+fn misuse_of(place: Destination<'_>, paths: &[&str]) -> Option<&'static str>
+    requires { 0 < length paths.now }
+    ensures { option_map (λ line. line.now) result ≡ misuse_of place.entry (map (λ p. p.now) paths.now) }
+{
+    if is_input_in_place(place, paths) {
+        return Some("--in-place and - do not go together");
+    }
+    if is_input_twice(paths) {
+        return Some(INPUT_TWICE);
+    }
+    None
+}
+
 /// Edits the source of an order, unless that would write a text over another one that is read, or two texts to one file. Before anything is
 /// read, the file for what became of the transactions is emptied. Who watches is told of the run, and how far the work on the source is. It
 /// may wait.
@@ -258,9 +286,8 @@ fn edit_apart<R: Threads + Wait + Sync, W: World, V: Watch + Follow + Sync>(
 ) -> u8
     requires within { IsWithin order.now.workers order.now.room }
     requires any { 0 < length order.now.paths.items }
-    requires placed { order.now.outputs ≡ Some outputs }
     ensures { (es : List Event) × Adds (W.done world.old) (W.done world.new) es
-        × IsEditDone (is_some keys) (map (λ p. p.now) order.now.paths.items) order.now.workers order.now.room order.now.outputs
+        × IsEditedApart (is_some keys) (map (λ p. p.now) order.now.paths.items) order.now.workers order.now.room outputs.entry
         order.now.allowed es result }
 {
     if let Some(found) = first_clash(world, outputs, order.paths.as_slice()) {
@@ -286,8 +313,11 @@ pub(crate) fn follow_edit<R: Threads + Wait + Sync, W: World, V: Watch + Follow 
         × IsEditDone (is_some keys) (map (λ p. p.now) order.now.paths.items) order.now.workers order.now.room order.now.outputs
         order.now.allowed es result }
 {
-    match order.outputs {
-        Some(outputs) => edit_apart(means, world, keys, order, outputs),
-        None => refuse(world, "--in-place and --output do not go together"),
+    let Some(outputs) = order.outputs else {
+        return misuse(world, "--in-place and --output do not go together");
+    };
+    match misuse_of(outputs.place, order.paths.as_slice()) {
+        Some(line) => misuse(world, line),
+        None => edit_apart(means, world, keys, order, outputs),
     }
 }

@@ -1,25 +1,25 @@
 //! How an edit ends: what is told of it, and where its texts go.
 
-ghost use Rattle.std.specs.Prelude.{◌≡◌, ◌∷◌, [], ℕ, List, map, string_bytes};
+ghost use Rattle.std.specs.Prelude.{◌≡◌, ◌∷◌, [], ℕ, List, is_ok, map, string_bytes};
 ghost use Rattle.std.specs.Option.{option_map};
 ghost use Rattle.outside.specs.Events.{Event, Adds, says};
-ghost use Rattle.program.specs.Endings.{all_said, undone_status, status_if, IsFiled, IsExchanged, IsPrintedOut, IsPutAt, ArePutReplies, replies_of, replies_path};
+ghost use Rattle.program.specs.Endings.{all_said, undone_status, status_if, put_by, IsFiled, IsExchanged, IsPrintedOut, IsPutAt, ArePutReplies, replies_of, replies_path};
 ghost use Rattle.program.specs.Endings.{IsPutNotDone, IsNotDoneTold, said_of, reason_of, line_of, IsCut};
 ghost use Rattle.program.specs.Endings.{IsPrintedTold, IsUndoneTold, IsUnfinishedTold, IsEditTold};
 
 use commandline::{Destination, Outputs};
-use conduct::tell_unwritten;
+use conduct::{Manner, tell_unprinted, tell_unwritten};
 use editscripts::Replies;
 use edittext::{Account, Told};
-use outside::World;
+use outside::{Reason, World, unread_text};
 use replylines::not_done_line;
 use std::alloc::Global;
 
 /// Why nothing is done for an order to edit, before there is an answer.
 #[derive(Clone, Copy)]
 pub(crate) enum NotDone<'a> {
-    /// The file at this path can't be read.
-    Unread(&'a str),
+    /// What this path stands for can't be read, for this reason.
+    Unread(&'a str, Reason),
     /// At this path is no plain file, in whose place a text could be put.
     NotPlain(&'a str),
     /// The system gives no random numbers.
@@ -45,13 +45,21 @@ fn undone_status(lines: &[String]) -> u8
 }
 
 /// The status where the edited source is where it is to be, and what became of the transactions; or one of them isn't.
-fn status_if(written: bool, replied: bool, status: u8) -> u8
+fn status_if(written: Result<(), u8>, replied: bool, status: u8) -> u8
     ensures { result ≡ status_if written replied status }
 {
     match (written, replied) {
-        (true, true) => status,
-        _ => 1,
+        (Ok(()), true) => status,
+        (Err(failed), true) => failed,
+        (_, false) => 1,
     }
+}
+
+/// Whether a text is where it is to be; the status is 1 where it isn't.
+fn put_by(well: bool) -> Result<(), u8>
+    ensures { result ≡ put_by well }
+{
+    if well { Ok(()) } else { Err(1) }
 }
 
 /// Writes a text to the file at a path, and answers whether it is there; says why not.
@@ -61,7 +69,7 @@ pub(crate) fn file<W: World>(world: &mut W, alloc: Global, path: &str, text: &[u
     match world.write(alloc, path, text) {
         Ok(()) => true,
         Err(why) => {
-            tell_unwritten(world, path, &why);
+            tell_unwritten(world, Manner::Full, path, &why);
             false
         }
     }
@@ -74,38 +82,38 @@ fn exchange<W: World>(world: &mut W, alloc: Global, path: &str, text: &[u8]) -> 
     match world.replace(alloc, path, text) {
         Ok(()) => true,
         Err(why) => {
-            tell_unwritten(world, path, &why);
+            tell_unwritten(world, Manner::Full, path, &why);
             false
         }
     }
 }
 
-/// Prints a text, and answers whether it is printed; says why not.
-fn print<W: World>(world: &mut W, text: &[u8]) -> bool
+/// Prints a text; or says why that can't be, unless the standard output is a closed pipe, and answers the status of that.
+fn print<W: World>(world: &mut W, text: &[u8]) -> Result<(), u8>
     ensures { (es : List Event) × Adds (W.done world.old) (W.done world.new) es × IsPrintedOut text.now es result }
 {
-    if world.print(text) {
-        return true;
+    match world.print(text) {
+        Ok(()) => Ok(()),
+        Err(why) => Err(tell_unprinted(world, Manner::Full, why)),
     }
-    world.say("cannot write");
-    false
 }
 
-/// Prints the edited source, writes it to a file, or puts it in place of the source, and answers whether it is there; says why not.
+/// Prints the edited source, writes it to a file, or puts it in place of the source; or says why that can't be, and answers the status of
+/// that.
 fn put_at<W: World>(
     world: &mut W,
     alloc: Global,
     place: Destination<'_>,
     source: &str,
     out: &[u8],
-) -> bool
+) -> Result<(), u8>
     ensures { (es : List Event) × Adds (W.done world.old) (W.done world.new) es
         × IsPutAt place.entry source.now out.now es result }
 {
     match place {
         Destination::Printed => print(world, out),
-        Destination::File(path) => file(world, alloc, path, out),
-        Destination::Source => exchange(world, alloc, source, out),
+        Destination::File(path) => put_by(file(world, alloc, path, out)),
+        Destination::Source => put_by(exchange(world, alloc, source, out)),
     }
 }
 
@@ -187,7 +195,7 @@ fn said_of<'a>(why: NotDone<'a>) -> &'a str
     ensures { result.now ≡ said_of why.entry }
 {
     match why {
-        NotDone::Unread(path) | NotDone::NotPlain(path) => path,
+        NotDone::Unread(path, _) | NotDone::NotPlain(path) => path,
         NotDone::Unkeyed | NotDone::NoMemory => "",
     }
 }
@@ -197,7 +205,7 @@ fn reason_of(why: NotDone<'_>) -> &'static str
     ensures { result.now ≡ reason_of why.entry }
 {
     match why {
-        NotDone::Unread(_) => "cannot read",
+        NotDone::Unread(_, why) => unread_text(why),
         NotDone::NotPlain(_) => "not a plain file",
         NotDone::Unkeyed => "no random numbers",
         NotDone::NoMemory => "no memory",
@@ -209,7 +217,7 @@ fn say_not_done<W: World>(world: &mut W, why: NotDone<'_>)
     ensures { Adds (W.done world.old) (W.done world.new) (says (line_of why.entry) ∷ []) }
 {
     match why {
-        NotDone::Unread(path) => world.say_of(path, "cannot read"),
+        NotDone::Unread(path, why) => world.say_of(path, unread_text(why)),
         NotDone::NotPlain(path) => world.say_of(path, "not a plain file"),
         NotDone::Unkeyed => world.say("no random numbers"),
         NotDone::NoMemory => world.say("no memory"),
@@ -248,7 +256,7 @@ fn tell_printed<W: World>(
     say_all(world, account.spoken.as_slice());
     let written = put_at(world, alloc, outputs.place, source, out);
     let replies = account.replies.as_ref();
-    let well = put_replies(world, alloc, outputs.replies, replies, written);
+    let well = put_replies(world, alloc, outputs.replies, replies, written.is_ok());
     status_if(written, well, undone_status(undone))
 }
 
@@ -265,7 +273,7 @@ fn tell_undone<W: World>(
     say_all(world, account.undone.as_slice());
     let replies = account.replies.as_ref();
     let well = put_replies(world, alloc, outputs.replies, replies, false);
-    status_if(true, well, 3)
+    status_if(Ok(()), well, 3)
 }
 
 /// Tells what became of the transactions, and why no source is printed behind their run.

@@ -15,7 +15,9 @@ use crate::edit::follow_edit;
 use clap::ArgMatches;
 use clap::error::ErrorKind;
 use commandline::{command_line, edit_of, give_of, order_of, take_of, verify_of};
-use conduct::{Means, follow_give, follow_order, follow_take, follow_verify, refuse};
+use conduct::{
+    Manner, Means, follow_give, follow_order, follow_take, follow_verify, refuse, tell_unprinted,
+};
 use following::Follow;
 use jobs::Watch;
 use outside::World;
@@ -28,10 +30,11 @@ use std::thread::Threads;
 fn show_usage<W: World>(world: &mut W, error: &clap::Error) -> u8
     ensures { (es : List Event) × Adds (W.done world.old) (W.done world.new) es × IsShown error.now es result }
 {
-    if world.show(error) {
-        return if error.use_stderr() { 2 } else { 0 };
+    match world.show(error) {
+        Ok(()) if error.use_stderr() => 2,
+        Ok(()) => 0,
+        Err(why) => tell_unprinted(world, Manner::Full, why),
     }
-    refuse(world, "cannot write")
 }
 
 /// Takes a library where that is what was found in the words of a command line. Who follows is told how far that is.

@@ -27,7 +27,7 @@ fn unread_line(trouble: Trouble) -> &'static str
 {
     match trouble {
         Trouble::NoMemory => "no memory",
-        Trouble::Refused => "the command line cannot be read",
+        Trouble::Refused(_) => "the command line cannot be read",
     }
 }
 
@@ -39,8 +39,9 @@ fn unread_line(trouble: Trouble) -> &'static str
 ///
 /// On streams that tell what they hold, and hold nothing before, stands then just what was printed and said: each text and each line whole,
 /// or a front of it where a write failed; unless the parser's text was shown, of which nothing is known. Each text that was read is all
-/// that its file holds, up to one byte more than any text may have, where that is known; a file that wasn't read the system refused; and it
-/// told whether two paths lead to one file, and whether a path leads to a plain one.
+/// that its file holds, or the standard input has, up to one byte more than any text may have, where that is known; a file that wasn't read
+/// the system refused, for the reason that is told; and it told whether two paths lead to one file, and whether a path leads to a plain
+/// one.
 pub fn run_on<
     R: Threads + Wait + Sync,
     D: Disk + Drop,
@@ -54,6 +55,8 @@ pub fn run_on<
           refuses = D.refuses;
           tells_one = D.tells_one;
           tells_plain = D.tells_plain;
+          input = S.input;
+          input_refuses = S.input_refuses;
           out = S.out host.new.streams;
           out_failed = S.out_failed host.new.streams;
           err = S.err host.new.streams;
@@ -73,7 +76,17 @@ pub fn run_on<
 /// It is `run_on` over the system's parts. These tell nothing, so its clause only says that there are words which it obeys.
 pub fn run<R>(rt: &R, is_terminal: bool) -> u8
 where
-    R: Files + AllocGlobal + Print + Eprint + RandomSource + Env + Clock + Threads + Wait + Sync,
+    R: Files
+        + AllocGlobal
+        + Input
+        + Print
+        + Eprint
+        + RandomSource
+        + Env
+        + Clock
+        + Threads
+        + Wait
+        + Sync,
     ensures { (keyed : Bool) × (words : Result (List Text) TroubleOfWords) × (es : List Event) × IsRun keyed words es result }
 {
     run_over(rt, rt, is_terminal)
@@ -83,7 +96,7 @@ where
 pub fn run_over<F, R>(files: &F, rt: &R, is_terminal: bool) -> u8
 where
     F: Files,
-    R: AllocGlobal + Print + Eprint + RandomSource + Env + Clock + Threads + Wait + Sync,
+    R: AllocGlobal + Input + Print + Eprint + RandomSource + Env + Clock + Threads + Wait + Sync,
     ensures { (keyed : Bool) × (words : Result (List Text) TroubleOfWords) × (es : List Event) × IsRun keyed words es result }
 {
     let mut host = Host {

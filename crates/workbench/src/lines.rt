@@ -11,7 +11,9 @@
 //! | `link NEW OLD` | makes a symbolic link at NEW that leads to OLD, and prints nothing |
 //! | `allow PATH BITS` | gives what is at a path these permission bits, in octal, and prints nothing |
 //! | `line WORDS` | a command line, without the program's name |
-//! | `closed WORDS` | one whose standard output takes nothing |
+//! | `closed WORDS` | one whose standard output is a closed pipe |
+//! | `full WORDS` | one whose standard output lies on a full disk |
+//! | `given PATH WORDS` | one whose standard input is a file |
 //! | `terminal WORDS` | one whose standard error is a terminal, with a clock that goes two seconds from one look to the next |
 //! | `kept PATH WORDS` | one whose standard output goes into a file |
 //! | `unkeyed WORDS` | one to which the system gives no random numbers |
@@ -253,6 +255,8 @@ pub(crate) fn mode_of(row: &str) -> Option<Mode> {
     match row.split_once(' ').unwrap_or((row, "")).0 {
         "line" => Some(Mode::Open),
         "closed" => Some(Mode::Closed),
+        "full" => Some(Mode::Full),
+        "given" => Some(Mode::Given),
         "terminal" => Some(Mode::Terminal),
         "kept" => Some(Mode::Kept),
         "unkeyed" => Some(Mode::Unkeyed),

@@ -2,9 +2,11 @@
 
 ghost use Rattle.std.specs.Io.{WritesAtMost};
 
-use std::alloc::Global;
+use std::alloc::{Allocator, Global};
+use std::collections::VecDeque;
 use std::env::FillError;
 use std::fmt::Display;
+use std::io::{BufRead, Lines, Write};
 use std::random::RandomSource;
 use std::rt::{Clock, Env, Files};
 use std::sync::Wait;
@@ -19,8 +21,12 @@ use std::{fs, io};
 pub enum Mode {
     /// All is printed.
     Open,
-    /// The standard output takes nothing.
+    /// The standard output is a closed pipe.
     Closed,
+    /// The standard output lies on a full disk.
+    Full,
+    /// The standard input is the file whose path is the first word.
+    Given,
     /// The standard error is a terminal.
     Terminal,
     /// The standard output goes into the file whose path is the first word.
@@ -42,10 +48,10 @@ pub struct Stage<'r, R> {
 
 impl<'r, R> Stage<'r, R> {
     /// The words are those of a row, between single spaces: the first, which says how the streams are, stands for the program's name. A row
-    /// whose output is kept has the path in front of them.
+    /// whose output is kept, or whose input is given, has the path in front of them.
     pub fn new(rt: &'r R, mode: Mode, row: &'r str) -> Self {
         let words = match mode {
-            Mode::Kept => row.split_once(' ').unwrap_or((row, "")).1,
+            Mode::Kept | Mode::Given => row.split_once(' ').unwrap_or((row, "")).1,
             _ => row,
         };
         Stage {
@@ -98,6 +104,7 @@ impl<R: Files + Print + AllocGlobal> Print for Stage<'_, R> {
     fn print<D: Display + Drop>(&self, value: D) -> io::Result<()> {
         match self.mode {
             Mode::Closed => Err(io::Error::from(io::ErrorKind::BrokenPipe)),
+            Mode::Full => Err(io::Error::from(io::ErrorKind::StorageFull)),
             _ => print_first(self.rt, "output", value),
         }
     }
@@ -109,6 +116,7 @@ impl<R: Files + Print + AllocGlobal> Print for Stage<'_, R> {
     fn write_all(&self, bytes: &[u8]) -> io::Result<()> {
         match self.mode {
             Mode::Closed => Err(io::Error::from(io::ErrorKind::BrokenPipe)),
+            Mode::Full => Err(io::Error::from(io::ErrorKind::StorageFull)),
             Mode::Kept => match self.words.split(' ').next() {
                 Some(path) => fs::write(self.rt, path, bytes),
                 None => Ok(()),
@@ -125,6 +133,29 @@ impl<R: Print + AllocGlobal> Eprint for Stage<'_, R> {
 
     fn eprintln<D: Display + Drop>(&self, value: D) -> io::Result<()> {
         println!(self.rt; "error line: {value}")
+    }
+}
+
+impl<R: Files + AllocGlobal> Input for Stage<'_, R> {
+    type Reader = VecDeque<u8>;
+
+    fn read_line<A: Allocator + Clone>(&self, buf: &mut String<A>) -> io::Result<usize> {
+        self.reader().read_line(buf)
+    }
+
+    fn lines<A: Allocator>(&self, alloc: A) -> Lines<VecDeque<u8>, A> {
+        self.reader().lines(alloc)
+    }
+
+    /// Nothing, where no input is given or its file can't be read.
+    fn reader(&self) -> VecDeque<u8> {
+        let mut given = VecDeque::new(self.rt.alloc());
+        if let (Mode::Given, Some(path)) = (self.mode, self.words.split(' ').next()) {
+            if let Ok(text) = fs::read(self.rt, path) {
+                let _ = given.write_all(text.as_slice());
+            }
+        }
+        given
     }
 }
 

@@ -6,5 +6,5 @@ use Rattle.conduct.proofs.reading.read_all.Given as goal
 
 abbrev pub invariant-loop-path : goal.invariant-loop-path
 invariant-loop-path g l =
-    IsReading (g.W.World.done l.initial.world) (g.W.World.done l.world) (map (λ (p : Bor (List ℕ)). p.now) l.paths)
+    IsReading l.manner (g.W.World.done l.initial.world) (g.W.World.done l.world) (map (λ (p : Bor (List ℕ)). p.now) l.paths)
     (map (λ (t : Vec ℕ Global). t.items) l.texts.items) l.path-index

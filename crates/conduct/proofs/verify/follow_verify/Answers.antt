@@ -1,5 +1,8 @@
 use Rattle.std.specs.Prelude.{is_some}
-use Rattle.std.proofs.Common.{◌∷◌, ◌++◌, [], Some, None, codes, inl, refl}
+use Rattle.std.proofs.Common.{◌∷◌, [], Err, Ok, inl, refl}
+use Rattle.conduct.specs.declared.manner.Manner.TheVariants.{Full}
+use Rattle.conduct.specs.Manner.{origin}
+use Rattle.conduct.specs.Reading.{line_unread}
 use Rattle.conduct.specs.Verifies.{IsAnsweredVerify}
 use Rattle.outside.specs.Events.{lacks, reads, says}
 use Rattle.conduct.proofs.Behind.{adds_more, one_lack, read_then}
@@ -10,20 +13,22 @@ returns-in-Ok g c =
     let rest = c.answer_source.ensures in
     let source = c.in-Ok.source.items in
     let path = c.args.order.path.now in (
-      reads path (Some source) ∷ rest.0,
-      adds_more c.in-Ok.ensures rest.1,
-      read_then (IsAnsweredVerify (is_some c.args.keys) path) path source rest.0 c.answer_source.result
+      reads (origin Full path) (Ok source) ∷ rest.0,
+      adds_more (rw c.origin.ensures at c.in-Ok.ensures) rest.1,
+      read_then Full (IsAnsweredVerify (is_some c.args.keys) path) path source rest.0 c.answer_source.result
           (rw c.as_slice.ensures.value at rest.2),
     )
 
 pub returns-in-Err-NoMemory : goal.returns-in-Err-NoMemory
 returns-in-Err-NoMemory g c =
-    (lacks c.args.order.path.now ∷ [], rw c.in-Err-NoMemory.field-0-is at c.in-Err-NoMemory.ensures, one_lack c.args.order.path.now)
+    let from = origin Full c.args.order.path.now in
+    (lacks from ∷ [], rw c.origin.ensures at (rw c.in-Err-NoMemory.field-0-is at c.in-Err-NoMemory.ensures), one_lack from)
 
 pub returns-in-Err-Refused : goal.returns-in-Err-Refused
 returns-in-Err-Refused g c =
     let path = c.args.order.path.now in (
-      reads path None ∷ says (path ++ codes ": cannot read") ∷ [],
-      adds_more (rw c.in-Err-Refused.field-0-is at c.in-Err-Refused.ensures) c.say_of.ensures,
-      inl (refl, refl),
+      reads (origin Full path) (Err c.in-Err-Refused.why) ∷ says (line_unread Full path c.in-Err-Refused.why) ∷ [],
+      adds_more (rw c.origin.ensures at (rw c.in-Err-Refused.field-0-is at c.in-Err-Refused.ensures))
+          (rw c.in-Err-Refused.field-0-is at c.say_unread.ensures),
+      inl (c.in-Err-Refused.why, refl, refl),
     )

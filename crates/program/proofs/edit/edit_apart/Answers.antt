@@ -14,8 +14,7 @@ returns-in-Some g c =
     let line = clash_line c.in-Some.found.text.now c.in-Some.found.path.now in (
       asked ++ says line ∷ [],
       adds_more did c.say_of.ensures,
-      over (is_some c.args.keys) paths order.workers order.room order.outputs c.args.outputs order.allowed asked line c.requires.placed
-          found,
+      over (is_some c.args.keys) paths order.workers order.room c.args.outputs order.allowed asked line found,
     )
 
 pub returns-then-not-empty : goal.returns-then-not-empty
@@ -26,8 +25,7 @@ returns-then-not-empty g c =
     let paths = map (λ (p : Bor (List ℕ)). p.now) order.paths.items in (
       asked ++ rest,
       adds_more did then,
-      not_emptied (is_some c.args.keys) paths order.workers order.room order.outputs c.args.outputs order.allowed asked rest
-          c.requires.placed none not,
+      not_emptied (is_some c.args.keys) paths order.workers order.room c.args.outputs order.allowed asked rest none not,
     )
 
 pub returns : goal.returns
@@ -39,6 +37,6 @@ returns g c =
     let paths = map (λ (p : Bor (List ℕ)). p.now) order.paths.items in (
       asked ++ (before ++ rest),
       adds_more did (adds_more then last),
-      emptied (is_some c.args.keys) paths order.workers order.room order.outputs c.args.outputs order.allowed asked before rest
-          c.edit_files.result c.requires.placed none done follows,
+      emptied (is_some c.args.keys) paths order.workers order.room c.args.outputs order.allowed asked before rest
+          c.edit_files.result none done follows,
     )

@@ -9,7 +9,7 @@ returns g c =
     let undone = rw c.as_slice-undone.ensures.value at c.say_all.ensures in
     let spoken = rw c.as_slice.ensures.value at c.say_all-2.ensures in
     let put = c.put_at-written.ensures in
-    let replied = rw c.as_ref-replies.ensures.value at c.put_replies-well.ensures in (
+    let replied = rw c.is_ok.ensures.value at (rw c.as_ref-replies.ensures.value at c.put_replies-well.ensures) in (
       all_said account.undone.items ++ (all_said account.spoken.items ++ (put.0 ++ replied.0)),
       adds_more undone (adds_more spoken (adds_more put.1 replied.1)),
       record {

@@ -1,4 +1,4 @@
-use Rattle.std.proofs.Common.{Err, false, refl}
+use Rattle.std.proofs.Common.{Err, refl}
 use Rattle.outside.proofs.Standing.{adds_replace}
 use Rattle.outside.proofs.host.HostWorld.replace.Goals as goal
 
@@ -6,10 +6,10 @@ pub returns-in-Ok-Plain-clause-done : goal.returns-in-Ok-Plain-clause-done
 returns-in-Ok-Plain-clause-done g c = adds_replace _ _ c.args.path.now c.args.text.now _ c.put_over.result c.put_over.ensures.1.kept
 
 pub returns-in-Ok-Free-clause-done : goal.returns-in-Ok-Free-clause-done
-returns-in-Ok-Free-clause-done g c = adds_replace _ _ c.args.path.now c.args.text.now false (Err c.not_written.result) refl
+returns-in-Ok-Free-clause-done g c = adds_replace _ _ c.args.path.now c.args.text.now _ (Err c.not_written.result) refl
 
 pub returns-in-Ok-Other-clause-done : goal.returns-in-Ok-Other-clause-done
-returns-in-Ok-Other-clause-done g c = adds_replace _ _ c.args.path.now c.args.text.now false (Err c.not_written-in-Ok-Other.result) refl
+returns-in-Ok-Other-clause-done g c = adds_replace _ _ c.args.path.now c.args.text.now _ (Err c.not_written-in-Ok-Other.result) refl
 
 pub returns-in-Err-clause-done : goal.returns-in-Err-clause-done
-returns-in-Err-clause-done g c = adds_replace _ _ c.args.path.now c.args.text.now false (Err c.not_written-in-Err.result) refl
+returns-in-Err-clause-done g c = adds_replace _ _ c.args.path.now c.args.text.now _ (Err c.not_written-in-Err.result) refl
