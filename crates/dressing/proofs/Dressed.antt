@@ -119,6 +119,17 @@ as_written x = ap bytes_of (no_comment (relabelled [] false x) ∙ unchanged fal
 nothing_for : (x : Item) → given_for [] x ≡ None
 nothing_for x = elim (label_of x) as (λ ls. option_map (λ (c : Change). c.1) (text_for [] ls) ≡ None) [ [] ↦ refl | w ∷ ws ↦ refl ]
 
+-- of an item
+pub as_it_stands : (proofs cs ds : List Change) (x : Item) → cs ≡ [] → given_for ds x ≡ None → given_for proofs x ≡ None
+    → (old new : List ℕ) → new ≡ old ++ bytes_of x → IsPut old new (ReadsDressed proofs cs ds x)
+as_it_stands proofs cs ds x labels comment proof old new e = (
+  bytes_of x,
+  e,
+  subst (λ c. Reads cs c (given_for proofs x) x (bytes_of x)) (sym comment)
+      (subst (λ o. Reads cs None o x (bytes_of x)) (sym proof)
+      (subst (λ ls. Reads ls None None x (bytes_of x)) (sym labels) (sym (as_written x)))),
+)
+
 part_is : (x : Item) (now : List ℕ) → ReadsDressed [] [] [] x now → now ≡ bytes_of x
 part_is x now reads = subst (λ o. Reads [] o o x now) (nothing_for x) reads ∙ as_written x
 

@@ -7,6 +7,7 @@ mod Giving
 mod Premises
 mod Wanted
 mod Lines
+mod Bytes
 mod Dressed
 mod WordByWord
 mod Firsts

@@ -1,6 +1,6 @@
 //! The call: a source dressed in what scripts give.
 
-ghost use Rattle.std.specs.Prelude.{◌≡◌, [], IfOk, map};
+ghost use Rattle.std.specs.Prelude.{◌≡◌, [], IfOk, IsTrue, map};
 ghost use Rattle.std.specs.Option.{option_map, unwrap_or};
 ghost use Rattle.source.specs.Sources.{DeclaresText};
 ghost use Rattle.source.specs.Views.{seen_pairs};
@@ -88,7 +88,8 @@ fn descriptions_of<'x>(
 
 /// A source in which each item reads as it is dressed.
 fn dress_items(alloc: Global, dressing: &Dressing<'_>, source: &[u8]) -> Result<Vec<u8>, AllocError>
-    requires { IsDivided source.now }
+    requires keeps { IsTrue dressing.now.keeps_labels → dressing.now.labels ≡ [] }
+    requires divided { IsDivided source.now }
     ensures { let d = dressing.now in
         IfOk result (λ out. HasDressedItems d.proofs d.labels d.descriptions source.now out.items) }
 {
@@ -133,12 +134,14 @@ pub fn dress<'q: 'a, 'a, D: Declared<'a>>(
     if texts.is_empty() && changes.is_empty() && comments.is_empty() {
         return Ok(None);
     }
+    let keeps_labels = changes.is_empty();
     let proofs = LabelMap::of_texts(alloc, keys, texts.as_slice())?;
     let labels = LabelMap::new(alloc, keys, changes)?;
     let descriptions = LabelMap::new(alloc, keys, comments)?;
     let dressing = Dressing {
         proofs,
         labels,
+        keeps_labels,
         descriptions,
     };
     let dressed = dress_items(alloc, &dressing, source)?;

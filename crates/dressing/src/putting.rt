@@ -1,6 +1,6 @@
 //! Items as they read dressed.
 
-ghost use Rattle.std.specs.Prelude.{◌≡◌, ◌≤◌, ◌<◌, ◌++◌, codes, false, length, OnOk};
+ghost use Rattle.std.specs.Prelude.{◌≡◌, ◌≤◌, ◌<◌, ◌++◌, [], None, codes, false, length, IsTrue, OnOk};
 ghost use Rattle.std.specs.Option.{option_map};
 ghost use Rattle.items.specs.Items.{Item as Pieces};
 ghost use Rattle.items.specs.Machine.{IsPut};
@@ -22,6 +22,8 @@ pub(crate) struct Dressing<'d> {
     pub proofs: LabelMap<'d>,
     /// The labels of `$e` that change.
     pub labels: LabelMap<'d>,
+    /// Whether there are none.
+    pub keeps_labels: bool,
     /// Comments, by the labels of the assertions in front of which they stand.
     pub descriptions: LabelMap<'d>,
 }
@@ -96,6 +98,16 @@ struct Attire<'d> {
     proof: Option<&'d [u8]>,
 }
 
+impl<'d> Attire<'d> {
+    /// Whether it is nothing.
+    fn is_nothing(self) -> bool
+        ensures comment { IsTrue result → self.entry.comment ≡ None }
+        ensures proof { IsTrue result → self.entry.proof ≡ None }
+    {
+        self.comment.is_none() && self.proof.is_none()
+    }
+}
+
 /// Puts an item that stands in a text from a byte up to another, with changed labels, and so dressed.
 fn put_words<'w>(
     out: &mut Vec<u8>,
@@ -149,7 +161,7 @@ fn attire_of<'d>(dressing: &Dressing<'d>, item: Item<'_>) -> Attire<'d>
     }
 }
 
-/// Puts an item that begins behind a byte of a text, as it is dressed.
+/// Puts an item that begins behind a byte of a text, as it is dressed: as it stands there, if nothing of it changes.
 pub(crate) fn put_item(
     out: &mut Vec<u8>,
     dressing: &Dressing<'_>,
@@ -157,11 +169,15 @@ pub(crate) fn put_item(
     from: usize,
     item: Item<'_>,
 ) -> Result<(), AllocError>
+    requires keeps { IsTrue dressing.now.keeps_labels → dressing.now.labels ≡ [] }
     requires order { from < item.end }
     requires within { item.end ≤ length text.now }
     ensures { let d = dressing.now in OnOk result ((is : IsItemAt text.now from item.entry)
         → IsPut out.old.items out.new.items (ReadsDressed d.proofs d.labels d.descriptions is.item)) }
 {
     let attire = attire_of(dressing, item);
+    if dressing.keeps_labels && attire.is_nothing() {
+        return out.extend_from_slice(&text[from..item.end]);
+    }
     put_words(out, &dressing.labels, attire, text, from, item.end)
 }

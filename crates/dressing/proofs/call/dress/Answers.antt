@@ -19,7 +19,13 @@ no_items : {A : Type 0} (v : Vec A Global) → (vec_len v == 0) ≡ true → v.i
 no_items v none = nil_from_length v.items (sym v.ok.0 ∙ eqb-true (vec_len v) 0 none)
 
 pub dress_items-requires : goal.dress_items-requires
-dress_items-requires g c = declares_divided c.args.source.now (g.D.Declared.scope c.args.declared.now) c.requires
+dress_items-requires g c =
+    record {
+      keeps = λ keeps.
+          c.in_ok-labels.ensures
+          ∙ ap seen_pairs (no_items c.in_ok-changes.changes (sym c.is_empty-keeps_labels.ensures ∙ keeps));
+      divided = declares_divided c.args.source.now (g.D.Declared.scope c.args.declared.now) c.requires;
+    }
 
 pub returns-then-is_empty-3 : goal.returns-then-is_empty-3
 returns-then-is_empty-3 g c =

@@ -12,7 +12,7 @@ loop-item-init c =
       put =
           subst (AreDressed d.proofs d.labels d.descriptions c.args.source.now 0) (sym c.in_ok-out.ensures.items)
           (none_dressed d.proofs d.labels d.descriptions c.args.source.now);
-      divided = c.requires;
+      divided = c.requires.divided;
     }
 
 pub loop-item-preserved : goal.loop-item-preserved

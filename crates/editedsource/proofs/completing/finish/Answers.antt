@@ -20,6 +20,10 @@ use Rattle.editedsource.proofs.Unwrapped.{lent, unwrapped}
 use Rattle.editscripts.proofs.Lines.{told_more}
 use Rattle.editedsource.proofs.completing.finish.Goals as goal
 
+-- the bytes of another text, if there is one
+abbrev or_this : Option (Vec ℕ Global) → Bytes → Bytes
+or_this made text = unwrap_or (option_map (λ (t : Vec ℕ Global). t.items) made) text
+
 pub verify_dressed-requires-after_bounds : goal.verify_dressed-requires-after_bounds
 verify_dressed-requires-after_bounds g c =
     let new = c.in_ok-new.ensures.declares in
@@ -42,12 +46,11 @@ returns-clause-finished g c choice are =
     let edited = subst (λ r. OnOk r (IsEdited source old choice taken run.entries run.edited text)) c.in_ok-look_at.was
     (c.look_at.ensures.edited choice taken is) in
     let same : f ≡ edited.followed = is.followed.follows ∙ sym edited.follows in
-    let shown = unwrap_or (option_map (λ (t : Vec ℕ Global). t.items) c.in_ok-dressed.dressed) text in
+    let shown = or_this c.in_ok-dressed.dressed text in
     let dressed : IsDressed qs ds edited.followed text shown =
     subst (λ (f : Following). IsDressed qs ds f text shown) same
-    (subst
-    (λ (bytes : Bytes). IsDressed qs ds f bytes (unwrap_or (option_map (λ (t : Vec ℕ Global). t.items) c.in_ok-dressed.dressed) bytes))
-    c.as_slice.ensures.value c.in_ok-dressed.ensures) in
+    (subst (λ (bytes : Bytes). IsDressed qs ds f bytes (or_this c.in_ok-dressed.dressed bytes)) c.as_slice.ensures.value
+    c.in_ok-dressed.ensures) in
     let out = c.unwrap_or-out.result.items in
     let printed : shown ≡ out =
     unwrapped c.in_ok-dressed.dressed draft.text ∙ sym (ap (λ (v : Vec ℕ Global). v.items) c.unwrap_or-out.ensures) in
@@ -102,12 +105,11 @@ returns-in_err-verify_dressed-clause-refused g c choice are =
     let edited = subst (λ r. OnOk r (IsEdited source old choice taken run.entries run.edited text)) c.in_ok-look_at.was
     (c.look_at.ensures.edited choice taken is) in
     let same : f ≡ edited.followed = is.followed.follows ∙ sym edited.follows in
-    let shown = unwrap_or (option_map (λ (t : Vec ℕ Global). t.items) c.in_ok-dressed.dressed) text in
+    let shown = or_this c.in_ok-dressed.dressed text in
     let dressed : IsDressed qs ds edited.followed text shown =
     subst (λ (f : Following). IsDressed qs ds f text shown) same
-    (subst
-    (λ (bytes : Bytes). IsDressed qs ds f bytes (unwrap_or (option_map (λ (t : Vec ℕ Global). t.items) c.in_ok-dressed.dressed) bytes))
-    c.as_slice.ensures.value c.in_ok-dressed.ensures) in
+    (subst (λ (bytes : Bytes). IsDressed qs ds f bytes (or_this c.in_ok-dressed.dressed bytes)) c.as_slice.ensures.value
+    c.in_ok-dressed.ensures) in
     let p = err_from_is_err_and c.from_residual-in_err-verify_dressed.result c.from_residual-in_err-verify_dressed.ensures.1 in
     rw (p.1, p.2) (told_more (IsFaultyThenLine path shown)
     (IsStoppedOrFaulty path source old choice taken run.entries run.edited qs ds)
