@@ -1,5 +1,5 @@
 -- What is left to show of `finish`.
-use Rattle.std.proofs.Common.{◌≡◌, ◌∙◌, ℕ, map, inl, inr, ap, subst, sym, Vec, Global}
+use Rattle.std.proofs.Common.{◌≡◌, ◌∙◌, ℕ, Option, map, inl, inr, ap, subst, sym, Vec, Global}
 use Rattle.std.specs.Prelude.{OnOk, IfOk, IfErr}
 use Rattle.std.specs.Option.{option_map, unwrap_or}
 use Rattle.std.proofs.lemmas.Result.{err_from_is_err_and}
