@@ -1,0 +1,5 @@
+pub mod Lines
+pub mod Fronts
+pub mod Steps
+pub mod Rules
+pub mod Told
