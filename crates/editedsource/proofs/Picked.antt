@@ -13,7 +13,7 @@ use Rattle.mmtext.specs.declared.token.Token.{Token as CodeToken}
 use Rattle.source.specs.Scopes.{is_in}
 use Rattle.checking.specs.Checks.{Bytes}
 use Rattle.checking.specs.FaultLines.{shown_label}
-use Rattle.expanding.specs.Lines.{line_at}
+use Rattle.locating.specs.Lines.{line_at}
 use Rattle.editedsource.specs.Gone.{spoken_line}
 
 -- ---- labels

@@ -9,7 +9,7 @@ use Rattle.source.specs.Scopes.{is_in}
 use Rattle.checking.specs.Checks.{Bytes}
 use Rattle.checking.specs.FaultLines.{shown_label}
 use Rattle.sourceediting.specs.Following.{Following, label_then}
-use Rattle.expanding.specs.Lines.{line_at}
+use Rattle.locating.specs.Lines.{line_at}
 
 -- the labels in the source of assertions that were deleted, which no other has in the end
 abbrev pub lost : Following → List Word

@@ -12,7 +12,7 @@ ghost use Rattle.sourceediting.specs.Views.{seen_following};
 ghost use Rattle.editedsource.specs.Gone.{lost, spoken_line};
 
 use commentwords::spoken_of;
-use expanding::lines_of;
+use locating::lines_of;
 use giving::LabelMap;
 use mmtext::Token;
 use replylines::shown;

@@ -8,7 +8,7 @@ use Rattle.source.specs.Scopes.{Scope}
 use Rattle.checking.specs.Checks.{Bytes}
 use Rattle.checking.specs.FaultLines.{shown_label}
 use Rattle.remarks.specs.Remarks.{AreRemarks}
-use Rattle.expanding.specs.Lines.{line_at}
+use Rattle.locating.specs.Lines.{line_at}
 use Rattle.expanding.specs.Barred.{IsBarred}
 use Rattle.expanding.specs.Discouraged.{Remarked, Discouraged, modifies, uses, AreDiscouraged}
 

@@ -12,7 +12,7 @@ use Rattle.checking.specs.FaultLines.{shown_label, line_of}
 use Rattle.scripts.specs.ScriptFaults.{FaultyScript}
 use Rattle.expanding.specs.declared.misfit.Misfit.{Misfit}
 use Rattle.expanding.specs.declared.misfit.Misfit.TheVariants as misfit
-use Rattle.expanding.specs.Lines.{line_at}
+use Rattle.locating.specs.Lines.{line_at}
 use Rattle.expanding.specs.Words.{word_language, text_of, place_at}
 use Rattle.expanding.specs.Refusals.{IsUnspread, IsUnranked}
 use Rattle.expanding.specs.Barred.{IsBarred}

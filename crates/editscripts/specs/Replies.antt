@@ -5,7 +5,7 @@ use Rattle.mmsyntax.specs.Tables.{Tables}
 use Rattle.transaction.specs.declared.outcome.Outcome.{Outcome}
 use Rattle.checking.specs.Checks.{Bytes, Orders}
 use Rattle.replylines.specs.ReplyLines.{reply_line}
-use Rattle.expanding.specs.Lines.{line_at}
+use Rattle.locating.specs.Lines.{line_at}
 use Rattle.editscripts.specs.Undone.{each_from}
 use Rattle.editscripts.specs.declared.replying.Replies.{Replies as CodeReplies}
 

@@ -10,7 +10,7 @@ use Rattle.replylines.specs.CommandTexts.{command_text}
 use Rattle.transaction.specs.declared.outcome.Outcome.{Outcome}
 use Rattle.transaction.specs.declared.outcome.Outcome.TheVariants.{Committed, Read, Refused, Conflict, StoreFull, NumbersUsed, TooManyCommands, NoMemory}
 use Rattle.checking.specs.Checks.{Bytes, Orders}
-use Rattle.expanding.specs.Lines.{line_at}
+use Rattle.locating.specs.Lines.{line_at}
 
 -- ---- one transaction
 

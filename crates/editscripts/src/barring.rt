@@ -9,7 +9,8 @@ ghost use Rattle.editscripts.specs.Views.{seen_texts};
 
 use crate::telling::{path_at, text_at};
 use crate::unedited::Unedited;
-use expanding::{Barred, barred_of, line_at};
+use expanding::{Barred, barred_of};
+use locating::line_at;
 use mmtext::Token;
 use replylines::shown;
 use source::Declared;

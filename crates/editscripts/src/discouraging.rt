@@ -9,7 +9,8 @@ ghost use Rattle.editscripts.specs.Views.{seen_texts};
 
 use crate::telling::{path_at, text_at};
 use crate::unedited::Unedited;
-use expanding::{Discouraged, discouraged_of, line_at};
+use expanding::{Discouraged, discouraged_of};
+use locating::line_at;
 use mmtext::Token;
 use remarks::read_remarks;
 use replylines::shown;

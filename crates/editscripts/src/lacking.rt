@@ -3,14 +3,15 @@
 ghost use Rattle.std.specs.Prelude.{◌≡◌, ◌≢◌, ◌++◌, [], false, codes, IfOk, IsTrue, OnOk, map, option_map, slice_index_or, string_bytes};
 ghost use Rattle.std.specs.Fmt.{decimal};
 ghost use Rattle.transaction.specs.Closings.{lists_of};
-ghost use Rattle.expanding.specs.Lines.{line_at};
+ghost use Rattle.locating.specs.Lines.{line_at};
 ghost use Rattle.library.specs.Reasons.{printed_reason};
 ghost use Rattle.editscripts.specs.Undone.{IsUndoneText, refused_text, undone_of, all_undone};
 ghost use Rattle.editscripts.specs.Views.{seen_texts, beginnings_of};
 
 use crate::run::RunScripts;
 use crate::telling::{path_at, text_at};
-use expanding::{Laid, lines_of};
+use expanding::Laid;
+use locating::lines_of;
 use library::{Command, Reason, Script, Transaction};
 use replylines::command_text;
 use std::alloc::{AllocError, Global};

@@ -17,7 +17,8 @@ ghost use Rattle.editscripts.specs.Refusals.{IsToldBy, IsPasteFaultLine, misfit_
 
 use crate::unedited::Unedited;
 use checking::Fault;
-use expanding::{Misfit, line_at};
+use expanding::Misfit;
+use locating::line_at;
 use mmtext::{FaultKind, TextFault};
 use pasting::Unpasted;
 use replylines::shown;

@@ -6,7 +6,7 @@ use Rattle.std.proofs.lemmas.List.{length-map, take_all}
 use Rattle.std.proofs.lemmas.Slice.Zip.{zip_turn, zip_end}
 use Rattle.mmtext.specs.Views.{seen}
 use Rattle.mmtext.specs.declared.token.Token.{Token as CodeToken}
-use Rattle.expanding.specs.Lines.{line_at}
+use Rattle.locating.specs.Lines.{line_at}
 use Rattle.editedsource.specs.Gone.{spoken_line}
 use Rattle.editedsource.proofs.Picked.{line_there, said_next}
 use Rattle.editedsource.proofs.spoken.said_of.Goals as goal

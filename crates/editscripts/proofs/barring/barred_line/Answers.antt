@@ -5,7 +5,7 @@ use Rattle.std.specs.Fmt.{decimal}
 use Rattle.std.specs.declared.alloc.Global.{Global}
 use Rattle.std.proofs.lemmas.Result.{IfOk-weaker}
 use Rattle.checking.specs.FaultLines.{shown_label}
-use Rattle.expanding.specs.Lines.{line_at}
+use Rattle.locating.specs.Lines.{line_at}
 use Rattle.mmtext.specs.Views.{seen}
 use Rattle.editscripts.specs.Refusals.{barred_line}
 use Rattle.editscripts.proofs.barring.barred_line.Goals as goal

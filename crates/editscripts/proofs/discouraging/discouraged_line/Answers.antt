@@ -4,7 +4,7 @@ use Rattle.std.specs.Prelude.{String, string_bytes}
 use Rattle.std.specs.Fmt.{decimal}
 use Rattle.std.specs.declared.alloc.Global.{Global}
 use Rattle.std.proofs.lemmas.Result.{IfOk-weaker}
-use Rattle.expanding.specs.Lines.{line_at}
+use Rattle.locating.specs.Lines.{line_at}
 use Rattle.expanding.specs.Views.{seen_discouraged}
 use Rattle.editscripts.specs.Encouraged.{discouraged_line}
 use Rattle.editscripts.proofs.discouraging.discouraged_line.Goals as goal

@@ -4,7 +4,7 @@ use Rattle.std.specs.Prelude.{slice_index_or, string_bytes}
 use Rattle.std.proofs.lemmas.Option.{slice_get_read}
 use Rattle.transaction.specs.declared.outcome.Outcome.{Outcome}
 use Rattle.checking.specs.Checks.{Bytes, Orders}
-use Rattle.expanding.specs.Lines.{line_at}
+use Rattle.locating.specs.Lines.{line_at}
 use Rattle.editscripts.specs.Undone.{undone_of}
 use Rattle.editscripts.specs.Views.{seen_texts, beginnings_of}
 use Rattle.editscripts.proofs.Undoing.{each_seen, each_next}

@@ -6,7 +6,7 @@ use Rattle.std.proofs.lemmas.Option.{slice_get_read, get_or_from_slice_get}
 use Rattle.transaction.specs.declared.outcome.Outcome.{Outcome}
 use Rattle.transaction.specs.Closings.{lists_of}
 use Rattle.checking.specs.Checks.{Bytes, Orders}
-use Rattle.expanding.specs.Lines.{line_at}
+use Rattle.locating.specs.Lines.{line_at}
 use Rattle.reports.specs.Reports.{IsReportable}
 use Rattle.editscripts.specs.Replies.{replies_of}
 use Rattle.editscripts.specs.Views.{seen_texts, beginnings_of}

@@ -2,8 +2,8 @@
 use Rattle.std.proofs.Common.{◌≡◌, take, ap, rules}
 use Rattle.std.specs.Prelude.{◌==◌}
 use Rattle.std.specs.List.{count_by}
-use Rattle.expanding.proofs.Lined.{line_counted}
-use Rattle.expanding.proofs.lines.line_at.Goals as goal
+use Rattle.locating.proofs.Lined.{line_counted}
+use Rattle.locating.proofs.lines.line_at.Goals as goal
 
 pub returns : goal.returns
 returns c =

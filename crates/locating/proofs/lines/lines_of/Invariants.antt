@@ -1,7 +1,7 @@
 -- What the loop of `lines_of` keeps: the line of the byte that it has come to, and the lines so far.
 use Rattle.std.proofs.Common.{◌≡◌, ◌≤◌, map, take, length}
-use Rattle.expanding.specs.Lines.{line_at}
-use Rattle.expanding.proofs.lines.lines_of.Given as goal
+use Rattle.locating.specs.Lines.{line_at}
+use Rattle.locating.proofs.lines.lines_of.Given as goal
 
 abbrev pub invariant-loop-place : goal.invariant-loop-place
 invariant-loop-place l = record {

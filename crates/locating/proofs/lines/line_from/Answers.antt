@@ -1,9 +1,9 @@
 -- What is left to show of `line_from`.
 use Rattle.std.proofs.Common.{◌∙◌, ◌-◌, ap, drop, arith, length-drop}
 use Rattle.std.proofs.lemmas.List.{take_rest}
-use Rattle.expanding.specs.Lines.{line_at}
-use Rattle.expanding.proofs.Lined.{line_most, line_further}
-use Rattle.expanding.proofs.lines.line_from.Goals as goal
+use Rattle.locating.specs.Lines.{line_at}
+use Rattle.locating.proofs.Lined.{line_most, line_further}
+use Rattle.locating.proofs.lines.line_from.Goals as goal
 
 pub overflow_add-result : goal.overflow_add-result
 overflow_add-result c =
