@@ -12,8 +12,8 @@ ghost use Rattle.sourceediting.specs.Views.{seen_following};
 ghost use Rattle.editedsource.specs.Gone.{lost, spoken_line};
 
 use commentwords::spoken_of;
-use locating::lines_of;
 use giving::LabelMap;
+use locating::lines_of;
 use mmtext::Token;
 use replylines::shown;
 use sourceediting::{Following, marked};

@@ -12,6 +12,7 @@ mod telling;
 
 pub use fronts::Part;
 pub use lines::{line_at, lines_of};
+pub use rules::proof_rule;
 pub use spot::Spot;
 pub use steps::theorem_at;
-pub use telling::{printed_name, proof_line, source_line, text_line};
+pub use telling::{printed_name, proof_line, source_line, spot_at, text_line, told_at, told_line};

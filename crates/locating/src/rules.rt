@@ -171,7 +171,7 @@ pub(crate) fn rule_behind(
 }
 
 /// What a proof breaks.
-pub(crate) fn proof_rule(kind: ProofFaultKind) -> &'static str
+pub fn proof_rule(kind: ProofFaultKind) -> &'static str
     ensures { result.now ≡ proof_rule kind }
 {
     match kind {

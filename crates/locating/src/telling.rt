@@ -1,5 +1,5 @@
-//! The line of a fault of a text: its place, the statement's label, the rule in plain words and the fault as programs know it; then the line
-//! of the text, and signs below the word at fault, where they fit.
+//! The line of a fault of a text: its place, the statement's label, the rule in plain words and the fault as programs know it; then the
+//! line of the text, and signs below the word at fault, where they fit.
 
 ghost use Rattle.std.specs.Prelude.{◌≡◌, ◌++◌, IfOk, OnOk, Some, None, map, string_bytes, if◌then◌else◌};
 ghost use Rattle.std.specs.List.{repeat};
@@ -86,8 +86,13 @@ fn said(alloc: Global, label: Option<&[u8]>, rule: &str, fault: &str) -> Result<
     }
 }
 
-/// The line that tells it, and below it the line of the text.
-fn told_at(
+/// The line that tells what is said of a place of a text at a path, and below it the line of the text, where it fits; where the place isn't
+/// known, behind the path alone.
+///
+/// # Errors
+///
+/// Want of memory.
+pub fn told_at(
     alloc: Global,
     path: &str,
     text: &[u8],
@@ -105,8 +110,30 @@ fn told_at(
     Ok(out)
 }
 
+/// The line that tells something of a text at a path: where, in which statement, the rule that is broken, and how programs know it. Below
+/// it stands the line of the text, where it fits. Where the place isn't known, the path stands alone in front.
+///
+/// # Errors
+///
+/// Want of memory.
+pub fn told_line(
+    alloc: Global,
+    path: &str,
+    text: &[u8],
+    spot: Option<Spot>,
+    label: Option<&[u8]>,
+    rule: &str,
+    fault: &str,
+) -> Result<String, AllocError>
+    ensures { IfOk result (λ line. string_bytes line
+        ≡ told_at path.now text.now spot (labelled (option_map (λ w. w.now) label.entry) (told_rule rule.now fault.now))) }
+{
+    let said = said(alloc, label, rule, fault)?;
+    told_at(alloc, path, text, spot, said.as_str())
+}
+
 /// The word at a place.
-fn spot_at(text: &[u8], place: usize) -> Spot
+pub fn spot_at(text: &[u8], place: usize) -> Spot
     ensures { result ≡ spot_at text.now place }
 {
     Spot {
@@ -131,8 +158,7 @@ pub fn text_line(
     let spot = spot_at(text, fault.place);
     let rule = text_rule(text, fault.kind);
     let known = format!(in alloc; "text {fault}")?;
-    let said = said(alloc, None, rule, known.as_str())?;
-    told_at(alloc, path, text, Some(spot), said.as_str())
+    told_line(alloc, path, text, Some(spot), None, rule, known.as_str())
 }
 
 /// The label of the statement that some words of a source lead into.
@@ -160,8 +186,16 @@ pub fn source_line(
     let front = front.as_ref().map(|words| words.as_slice());
     let rule = rule_behind(alloc, text, front, word_from(text, fault.place), fault.kind)?;
     let known = format!(in alloc; "text {fault}")?;
-    let said = said(alloc, label_behind(front), rule.as_str(), known.as_str())?;
-    told_at(alloc, path, text, Some(spot), said.as_str())
+    let label = label_behind(front);
+    told_line(
+        alloc,
+        path,
+        text,
+        Some(spot),
+        label,
+        rule.as_str(),
+        known.as_str(),
+    )
 }
 
 /// The line of a fault in the proof of a theorem of a source, at a path.
@@ -181,6 +215,6 @@ pub fn proof_line(
     let spot = step_at(alloc, text, label, fault.step)?;
     let name = printed_name(label);
     let known = format!(in alloc; "proof of {name}: {fault}")?;
-    let said = said(alloc, Some(label), proof_rule(fault.kind), known.as_str())?;
-    told_at(alloc, path, text, spot, said.as_str())
+    let rule = proof_rule(fault.kind);
+    told_line(alloc, path, text, spot, Some(label), rule, known.as_str())
 }
