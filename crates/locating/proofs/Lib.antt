@@ -1,1 +1,5 @@
-mod Lined
+pub mod Lined
+pub mod Cuts
+pub mod Shown
+pub mod Ended
+pub mod Signs
