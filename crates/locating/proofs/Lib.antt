@@ -3,3 +3,4 @@ pub mod Cuts
 pub mod Shown
 pub mod Ended
 pub mod Signs
+pub mod Worded
