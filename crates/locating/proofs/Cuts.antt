@@ -1,10 +1,10 @@
 -- Where a list is cut: at the first item that passes a test, or behind the last one; and the same of what is seen of its items.
-use Rattle.std.proofs.Common.{◌≡◌, ◌∙◌, ℕ, suc, ◌+◌, ◌-◌, ◌<◌, ◌≤◌, Bool, true, false, cond, ltb, List, [], ◌∷◌, ◌++◌, All, Option, Some, None}
+use Rattle.std.proofs.Common.{◌≡◌, ◌∙◌, ℕ, ◌+◌, ◌-◌, ◌<◌, ◌≤◌, Bool, true, false, cond, List, [], ◌∷◌, All, Some, None}
 use Rattle.std.proofs.Common.{length, take, drop, map, reverse, get_or, refl, sym, ap, ap₂, arith, inl, inr}
-use Rattle.std.specs.Prelude.{position, find}
+use Rattle.std.specs.Prelude.{find}
 use Rattle.std.specs.Option.{option_map}
 use Rattle.std.specs.List.{position_or_len, suffix_len, prefix_len, before_first, after_first, after_last, list_any}
-use Rattle.std.proofs.lemmas.Bool.{cases_Bool, cond-true, cond-false, ltb-true, ltb-false}
+use Rattle.std.proofs.lemmas.Bool.{cases_Bool, cond-true, cond-false}
 use Rattle.std.proofs.lemmas.List.{take_all, drop_all, take_rest, take-map, drop-map, length-map, at_drop_more, at_drop_all}
 use Rattle.std.proofs.lemmas.List.Sums.{position_or_len_is, suffix_len_is}
 use mathlib.Core.Bool.{not, ◌||◌}

@@ -1,5 +1,5 @@
 -- What is printed of a name, and of a line.
-use Rattle.std.proofs.Common.{◌≡◌, ◌∙◌, ◌≤◌, ℕ, Bool, true, false, cond, List, length, Option, Some, None, Result, Ok, Err, Bor}
+use Rattle.std.proofs.Common.{◌≡◌, ◌∙◌, ◌≤◌, ℕ, Bool, true, false, cond, List, length, Some, None, Result, Ok, Err, Bor}
 use Rattle.std.proofs.Common.{refl, sym, ap, ap₂, inl, inr}
 use Rattle.std.specs.Prelude.{codes, nat_le, ◌&&◌}
 use Rattle.std.specs.List.{list_all}
@@ -37,7 +37,8 @@ shown_fitting line (Ok s) P h short visible =
     all_three e f g = ap₂ (λ x y. x && y) (ap₂ (λ x y. x && y) e f) g
 shown_fitting line (Err e) P h short visible = elim (cases_Bool (is_utf8 line)) [
   | inl t ↦ absurd (h.0 (IsUtf8-from_is_utf8 line t))
-  | inr f ↦ sym (cond-false (fits line) (Some line) None (last_fails (nat_le (length line) 120 && list_all is_visible line) (is_utf8 line) f))
+  | inr f ↦ sym (cond-false (fits line) (Some line) None
+      (last_fails (nat_le (length line) 120 && list_all is_visible line) (is_utf8 line) f))
 ]
   where
     last_fails : (a b : Bool) → b ≡ false → (a && b) ≡ false

@@ -1,5 +1,5 @@
 -- What is left to show of `is_said`.
-use Rattle.std.proofs.Common.{rules, ◌≡◌, ◌∙◌, sym, inl, inr, Bool}
+use Rattle.std.proofs.Common.{rules, ◌∙◌, sym, inl, inr, Bool}
 use Rattle.std.proofs.lemmas.Bool.{cases_Bool}
 use Rattle.std.proofs.lemmas.List.Folds.{list_any_none, list_any-from_Any}
 use Rattle.mmtext.specs.declared.token.Token.{Token}

@@ -9,5 +9,7 @@ pub returns : goal.returns
 returns c =
     let front = c.line_front-front.result.now in
     let counted : c.count.result ≡ count_by begins_character front = search rules in
-    let found = counted ∙ (sym (length-filter begins_character front) ∙ ap (λ xs. length (filter begins_character xs)) c.line_front-front.ensures) in
+    let listed = sym (length-filter begins_character front) in
+    let same = ap (λ xs. length (filter begins_character xs)) c.line_front-front.ensures in
+    let found = counted ∙ (listed ∙ same) in
     omega arith

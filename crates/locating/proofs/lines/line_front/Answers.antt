@@ -1,5 +1,5 @@
 -- What is left to show of `line_front`.
-use Rattle.std.proofs.Common.{rules, ◌≡◌, ◌∙◌, sym, ap}
+use Rattle.std.proofs.Common.{rules, ◌∙◌, ap}
 use Rattle.std.specs.List.{after_last}
 use Rattle.locating.specs.Lines.{is_line_feed}
 use Rattle.locating.proofs.Cuts.{cut_last, uncut_last}

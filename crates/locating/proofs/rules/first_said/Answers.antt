@@ -1,5 +1,5 @@
 -- What is left to show of `first_said`.
-use Rattle.std.proofs.Common.{◌≡◌, ◌∙◌, Bool, sym, ap, map}
+use Rattle.std.proofs.Common.{◌∙◌, Bool, sym, ap, map}
 use Rattle.std.specs.Option.{option_map}
 use Rattle.mmtext.specs.declared.token.Token.{Token}
 use Rattle.mmtext.specs.Views.{seen}

@@ -1,5 +1,5 @@
 -- What is left to show of `from_theorem`.
-use Rattle.std.proofs.Common.{◌≡◌, ◌∙◌, ◌<◌, ap, sym, map, length, arith}
+use Rattle.std.proofs.Common.{◌∙◌, ◌<◌, ap, map, length, arith}
 use Rattle.std.proofs.lemmas.List.{take_rest, drop_all, length-map}
 use Rattle.mmtext.specs.Views.{seen}
 use Rattle.locating.proofs.Ended.{no_theorem}
