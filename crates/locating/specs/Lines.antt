@@ -1,7 +1,6 @@
 -- Where a byte of a text stands as an editor shows it: a line ends with a line feed; lines and columns count from 1, bytes from 0.
-use Rattle.std.specs.Prelude.{ℕ, suc, nat_eq, nat_lt, nat_le, Bool, ◌||◌, ◌&&◌, ◌==◌, List, take, drop, filter, length}
+use Rattle.std.specs.Prelude.{ℕ, suc, nat_eq, nat_lt, nat_le, Bool, ◌||◌, ◌==◌, List, take, drop, filter, length}
 use Rattle.std.specs.List.{after_last, before_first}
-use mathlib.Core.Bool.{not}
 use Rattle.mmtext.specs.Text.{is_white}
 
 -- one more than the line ends in front of it

@@ -2,7 +2,6 @@
 -- of the text, and signs below the word at fault, where they fit.
 use Rattle.std.specs.Prelude.{ℕ, ◌-◌, nat_le, nat_lt, Bool, ◌&&◌, List, [], ◌∷◌, ◌++◌, take, length, Option, Some, None, codes, if◌then◌else◌}
 use Rattle.std.specs.List.{list_all, repeat}
-use Rattle.std.specs.Option.{option_and_then}
 use Rattle.std.specs.Str.{is_utf8}
 use Rattle.std.specs.Fmt.{decimal}
 use Rattle.mmtext.specs.FaultNames.{printed_fault}

@@ -92,8 +92,10 @@ pub(crate) fn words_of<'a>(
     };
     match read(alloc, reader, text) {
         Ok(words) => Ok(Some(words)),
-        Err(fault) if fault.kind == FaultKind::NoMemory => Err(AllocError),
-        Err(_) => Ok(None),
+        Err(fault) => match fault.kind {
+            FaultKind::NoMemory => Err(AllocError),
+            _ => Ok(None),
+        },
     }
 }
 

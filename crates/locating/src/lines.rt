@@ -1,7 +1,8 @@
 //! The lines of a text, and where on them its bytes stand.
 
 ghost use Rattle.std.specs.Prelude.{◌≡◌, ◌≤◌, IfOk, map, length, take, drop};
-ghost use Rattle.locating.specs.Lines.{line_at, column_at, line_front, line_rest, word_from, is_line_feed, ends_line};
+ghost use Rattle.mmtext.specs.Text.{is_white};
+ghost use Rattle.locating.specs.Lines.{line_at, column_at, line_front, line_rest, word_from, begins_character, ends_line};
 
 use std::alloc::{AllocError, Global};
 
@@ -70,15 +71,26 @@ pub(crate) fn line_front(text: &[u8], place: usize) -> &[u8]
     }
 }
 
+/// Whether a byte begins a character of UTF-8.
+fn begins_character(byte: u8) -> bool
+    ensures { result ≡ begins_character byte }
+{
+    byte < 128 || byte >= 192
+}
+
 /// The column of a place on its line, from 1, in characters of UTF-8.
 pub(crate) fn column_at(text: &[u8], place: usize) -> usize
     ensures { result ≡ column_at text.now place }
 {
     let front = line_front(text, place);
-    1 + front
-        .iter()
-        .filter(|byte| **byte < 128 || **byte >= 192)
-        .count()
+    1 + front.iter().filter(|byte| begins_character(**byte)).count()
+}
+
+/// Whether a byte ends what is shown of a line.
+fn ends_line(byte: u8) -> bool
+    ensures { result ≡ ends_line byte }
+{
+    byte == b'\n' || byte == b'\r'
 }
 
 /// What stands on its line from a place on.
@@ -86,13 +98,17 @@ pub(crate) fn line_rest(text: &[u8], place: usize) -> &[u8]
     ensures { result.now ≡ line_rest text.now place }
 {
     let rest = from(text, place);
-    match rest
-        .iter()
-        .position(|byte| *byte == b'\n' || *byte == b'\r')
-    {
+    match rest.iter().position(|byte| ends_line(*byte)) {
         Some(end) => &rest[..end],
         None => rest,
     }
+}
+
+/// Whether a byte is white space.
+fn is_white(byte: u8) -> bool
+    ensures { result ≡ is_white byte }
+{
+    matches!(byte, b' ' | b'\t' | b'\n' | 12 | b'\r')
 }
 
 /// The word that begins at a place.
@@ -100,10 +116,7 @@ pub(crate) fn word_from(text: &[u8], place: usize) -> &[u8]
     ensures { result.now ≡ word_from text.now place }
 {
     let rest = from(text, place);
-    match rest
-        .iter()
-        .position(|byte| matches!(*byte, b' ' | b'\t' | b'\n' | 12 | b'\r'))
-    {
+    match rest.iter().position(|byte| is_white(*byte)) {
         Some(end) => &rest[..end],
         None => rest,
     }

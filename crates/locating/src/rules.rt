@@ -131,7 +131,12 @@ fn taken_rule(alloc: Global, text: &[u8], first: Option<Token<'_>>) -> Result<St
 fn first_said<'a>(word: &[u8], front: Option<&[Token<'a>]>) -> Option<Token<'a>>
     ensures { option_map seen result ≡ first_said word.now (option_map (λ ws. map seen ws.now) front.entry) }
 {
-    front?.iter().find(|token| says(word, **token)).copied()
+    for token in front? {
+        if says(word, *token) {
+            return Some(*token);
+        }
+    }
+    None
 }
 
 /// What is left out of the language.

@@ -5,8 +5,9 @@ ghost use Rattle.std.specs.Prelude.{◌≡◌, ◌++◌, IfOk, OnOk, Some, None,
 ghost use Rattle.std.specs.List.{repeat};
 ghost use Rattle.std.specs.Option.{option_map};
 ghost use Rattle.mmtext.specs.Views.{seen};
-ghost use Rattle.locating.specs.Told.{shown, is_visible, fits, line_text, signs, excerpt, labelled, told_rule, told_at, spot_at, text_line, label_behind, source_line, proof_line};
-ghost use Rattle.locating.specs.Fronts.{words_of};
+ghost use Rattle.locating.specs.Told.{shown, is_visible, fits, excerpt, labelled, told_rule, told_at, spot_at, fault_text, text_line, label_behind, source_line, proof_line};
+ghost use Rattle.locating.specs.Lines.{word_from};
+ghost use Rattle.locating.specs.Rules.{rule_behind};
 
 use crate::fronts::{front_of, label_in, words_of};
 use crate::lines::{column_at, line_at, line_front, line_rest, word_from};
@@ -168,6 +169,33 @@ fn label_behind<'a>(front: Option<&[Token<'a>]>) -> Option<&'a [u8]>
     label_in(front_of(front?))
 }
 
+/// The line of a fault of a source at a path, by the words in front of it.
+fn line_behind(
+    alloc: Global,
+    path: &str,
+    text: &[u8],
+    front: Option<&[Token<'_>]>,
+    fault: TextFault,
+) -> Result<String, AllocError>
+    ensures { let ws = option_map (λ ws. map seen ws.now) front.entry in let place = fault.place in IfOk result (λ line. string_bytes line
+        ≡ told_at path.now text.now (Some (spot_at text.now place)) (labelled (label_behind ws)
+        (told_rule (rule_behind text.now ws (word_from text.now place) fault.kind) (fault_text fault)))) }
+{
+    let spot = spot_at(text, fault.place);
+    let rule = rule_behind(alloc, text, front, word_from(text, fault.place), fault.kind)?;
+    let known = format!(in alloc; "text {fault}")?;
+    let label = label_behind(front);
+    told_line(
+        alloc,
+        path,
+        text,
+        Some(spot),
+        label,
+        rule.as_str(),
+        known.as_str(),
+    )
+}
+
 /// The line of a fault of a source in the whole language, at a path.
 ///
 /// # Errors
@@ -181,21 +209,10 @@ pub fn source_line(
 ) -> Result<String, AllocError>
     ensures { IfOk result (λ line. string_bytes line ≡ source_line path.now text.now fault) }
 {
-    let spot = spot_at(text, fault.place);
-    let front = words_of(alloc, &text[..fault.place.min(text.len())])?;
-    let front = front.as_ref().map(|words| words.as_slice());
-    let rule = rule_behind(alloc, text, front, word_from(text, fault.place), fault.kind)?;
-    let known = format!(in alloc; "text {fault}")?;
-    let label = label_behind(front);
-    told_line(
-        alloc,
-        path,
-        text,
-        Some(spot),
-        label,
-        rule.as_str(),
-        known.as_str(),
-    )
+    match words_of(alloc, &text[..fault.place.min(text.len())])? {
+        None => line_behind(alloc, path, text, None, fault),
+        Some(words) => line_behind(alloc, path, text, Some(words.as_slice()), fault),
+    }
 }
 
 /// The line of a fault in the proof of a theorem of a source, at a path.
