@@ -32,7 +32,7 @@ pub record IsFaultyThenLine (path out line : Bytes) : Type 0 where
   pub why : Unverified
   pub refused : IsRefused out why
   pub told : why ≢ unverified.NoMemory
-  pub says : line ≡ verifying_line (path ++ codes ": the source with these edits") why
+  pub says : line ≡ verifying_line (path ++ codes ": the source with these edits") out why
 
 -- of the code's inside: edits of a history aren't given back, or the source with them, dressed in what scripts give, isn't said to verify
 abbrev pub IsStoppedOrFaulty : Bytes → Bytes → Scope → Choice → Taken → List Entry → Listed → List Quotation → List Change → Bytes

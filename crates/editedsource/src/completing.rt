@@ -153,21 +153,15 @@ pub fn finish<'x, 'a: 'x>(
     look_at(rt, alloc, keys, &old, &new, edit, &draft)?;
     // Its tables are as large as those of the new text, which is verified without them.
     drop(old);
-    let dressed = dress(
-        alloc,
-        keys,
-        &new,
-        draft.text.as_slice(),
-        edit.given,
-        &draft.following,
-    )?;
-    verify_dressed(rt, alloc, keys, edit.path, new, dressed.as_ref(), follow)?;
+    let (path, edits) = (edit.path, draft.text.as_slice());
+    let dressed = dress(alloc, keys, &new, edits, edit.given, &draft.following)?;
+    verify_dressed(rt, alloc, keys, path, edits, new, dressed.as_ref(), follow)?;
     let Draft {
         text,
         following,
         ..
     } = draft;
     let out = dressed.unwrap_or(text);
-    let spoken = spoken_lines(alloc, keys, edit.path, &following, out.as_slice())?;
+    let spoken = spoken_lines(alloc, keys, path, &following, out.as_slice())?;
     Ok(Finished { out, spoken })
 }

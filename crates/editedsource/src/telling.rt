@@ -27,18 +27,19 @@ pub(crate) fn ungiven(
     Ok(Unedited::Refused(format!(in alloc; "{path}: {text}")?))
 }
 
-/// That the source with the edits isn't said to verify.
+/// That the source with the edits, which has this text, isn't said to verify.
 pub(crate) fn unverified(
     alloc: Global,
     path: &str,
+    text: &[u8],
     why: verifytext::Refusal<'_>,
 ) -> Result<Unedited, AllocError>
     ensures { IfOk result (IsToldBy (λ line. (why.entry ≢ NoMemoryOfVerify)
-        × (line ≡ verifying_line (path.now ++ codes ": the source with these edits") why.entry))) }
+        × (line ≡ verifying_line (path.now ++ codes ": the source with these edits") text.now why.entry))) }
 {
     if let verifytext::Refusal::NoMemory = why {
         return Ok(Unedited::NoMemory);
     }
     let path = format!(in alloc; "{path}: the source with these edits")?;
-    Ok(Unedited::Refused(verifying_line(alloc, path.as_str(), why)?))
+    Ok(Unedited::Refused(verifying_line(alloc, path.as_str(), text, why)?))
 }

@@ -1,6 +1,6 @@
 //! The text that is printed verifies: the source with the edits of a run, dressed or as it was read.
 
-ghost use Rattle.std.specs.Prelude.{IfOk, IfErr};
+ghost use Rattle.std.specs.Prelude.{◌≡◌, IfOk, IfErr};
 ghost use Rattle.std.specs.Option.{option_map, unwrap_or};
 ghost use Rattle.source.specs.Sources.{DeclaresText};
 ghost use Rattle.source.specs.Whole.{IsWhole};
@@ -36,31 +36,43 @@ fn verify_followed<'o>(
     verified
 }
 
+/// The text that is printed: the dressed one, or that which was read.
+fn printed_of<'o>(text: &'o [u8], dressed: Option<&'o Vec<u8>>) -> &'o [u8]
+    ensures { result.now ≡ unwrap_or (option_map (λ out. out.now.items) dressed.entry) text.now }
+{
+    match dressed {
+        None => text,
+        Some(out) => out.as_slice(),
+    }
+}
+
 /// A text that was read verifies as it is dressed: then this is read, once what the other declares is gone, whose tables are as large.
 pub(crate) fn verify_dressed<'o>(
     rt: &(impl Threads + Sync),
     alloc: Global,
     keys: RandomState,
     path: &str,
+    text: &'o [u8],
     new: Scopes<'o>,
     dressed: Option<&'o Vec<u8>>,
     follow: &(impl Follow + Sync),
 ) -> Result<Verified, Unedited>
     requires { IsWhole new.stand.scope }
-    ensures verified { (text : Bytes) → DeclaresText text new.entry.stand.scope
-        → IfOk result (IsVerifiedText (unwrap_or (option_map (λ out. out.now.items) dressed.entry) text)) }
-    ensures refused { (text : Bytes) → DeclaresText text new.entry.stand.scope
-        → IfErr result (IsToldBy (IsFaultyThenLine path.now (unwrap_or (option_map (λ out. out.now.items) dressed.entry) text))) }
+    ensures verified { DeclaresText text.now new.entry.stand.scope
+        → IfOk result (IsVerifiedText (unwrap_or (option_map (λ out. out.now.items) dressed.entry) text.now)) }
+    ensures refused { DeclaresText text.now new.entry.stand.scope
+        → IfErr result (IsToldBy (IsFaultyThenLine path.now (unwrap_or (option_map (λ out. out.now.items) dressed.entry) text.now))) }
 {
+    let printed = printed_of(text, dressed);
     let verified = match dressed {
         None => verify_followed(rt, alloc, keys, &new, follow),
-        Some(out) => {
+        Some(_) => {
             drop(new);
-            verify(rt, alloc, keys, out.as_slice(), None, follow)
+            verify(rt, alloc, keys, printed, None, follow)
         }
     };
     match verified {
         Ok(much) => Ok(much),
-        Err(why) => Err(unverified(alloc, path, why)?),
+        Err(why) => Err(unverified(alloc, path, printed, why)?),
     }
 }

@@ -24,7 +24,7 @@ use Rattle.editopening.specs.Opening.{IsAskedBy, Asked, Ranked, Begun, taken_of,
 pub record IsFaultyLine (path source line : Bytes) : Type 0 where
   pub found : TextFault
   pub faulty : FaultySource source found
-  pub says : line ≡ taking_line path (untaken.Source found)
+  pub says : line ≡ taking_line path source (untaken.Source found)
 
 -- ---- scripts, which count from 0
 
@@ -42,20 +42,20 @@ pub record IsDiscouragedLine (paths : List Bytes) (source : Bytes) (s : Scope) (
   pub cause : IsDiscouragedBy paths source s texts force spread line
 
 -- no library is taken of what the source declares by the wish of the scripts
-pub record IsUntakenBy (path : Bytes) (s : Scope) (scripts : List (List Token)) (line : Bytes) : Type 0 where
+pub record IsUntakenBy (path source : Bytes) (s : Scope) (scripts : List (List Token)) (line : Bytes) : Type 0 where
   pub wish : Wish
   pub by : IsAskedBy s scripts wish
   pub why : Untaken
   pub refused : IsRefusedOf s wish why
   pub told : why ≢ untaken.NoMemory
-  pub says : line ≡ taking_line path why
+  pub says : line ≡ taking_line path source why
 
 -- nor of scripts that may be run
 pub record IsUntakenLine (path source : Bytes) (s : Scope) (texts : List Bytes) (force : Bool) (line : Bytes) : Type 0 where
   pub spread : List (List Token)
   pub of_source : IsSpreadOf s texts spread
   pub allowed : AreAllowed source s force spread
-  pub cause : IsUntakenBy path s spread line
+  pub cause : IsUntakenBy path source s spread line
 
 -- one is, but the scripts have no texts over it
 pub record IsUnlaidLine (paths : List Bytes) (source : Bytes) (s : Scope) (texts : List Bytes) (force : Bool) (line : Bytes) : Type 0 where

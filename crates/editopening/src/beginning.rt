@@ -40,13 +40,14 @@ fn take_for<'a, D: Declared<'a>>(
     alloc: Global,
     keys: RandomState,
     path: &str,
+    source: &[u8],
     declared: &D,
     scripts: &[Vec<Token<'a>>],
     follow: &impl Follow,
 ) -> Result<Taken<'a>, Unedited>
     requires { IsWhole (D.scope declared.now) }
     ensures taken { IfOk result (IsTakenFor (D.scope declared.now) (seen_scripts scripts.now)) }
-    ensures refused { IfErr result (IsToldBy (IsUntakenBy path.now (D.scope declared.now) (seen_scripts scripts.now))) }
+    ensures refused { IfErr result (IsToldBy (IsUntakenBy path.now source.now (D.scope declared.now) (seen_scripts scripts.now))) }
 {
     let asked = asked_of(alloc, declared, scripts)?;
     let (spoken, proofs) = (asked.spoken.as_slice(), asked.asked.as_slice());
@@ -54,7 +55,7 @@ fn take_for<'a, D: Declared<'a>>(
     let wish = Wish::These(wanted.labels.as_slice(), wanted.axioms.as_slice());
     match take_declared(rt, alloc, keys, declared, wish, follow) {
         Ok(taken) => Ok(taken),
-        Err(why) => Err(untaken(alloc, path, &why)?),
+        Err(why) => Err(untaken(alloc, path, source, &why)?),
     }
 }
 
@@ -143,7 +144,8 @@ pub fn begin<'a, D: Declared<'a>>(
     let (paths, force) = (order.paths, order.force);
     are_free(alloc, keys, paths, declared, texts, spread)?;
     are_encouraged(alloc, keys, paths, source, declared, texts, force, spread)?;
-    let taken = take_for(rt, alloc, keys, order.path, declared, spread, follow)?;
+    let path = order.path;
+    let taken = take_for(rt, alloc, keys, path, source, declared, spread, follow)?;
     let (database, flags) = (&taken.database, taken.chosen.as_slice());
     // For the proof: the library has a spelling, so what is taken is as narrow.
     let _spelled = database.assertions();
@@ -159,7 +161,7 @@ pub fn begin<'a, D: Declared<'a>>(
         words: spread,
         scripts,
     };
-    let opened = open_for(rt, alloc, order.path, declared, &taken, read)?;
+    let opened = open_for(rt, alloc, path, declared, &taken, read)?;
     let quotes = quotes_of(alloc, spread)?;
     let descriptions = descriptions_of(alloc, keys, texts, spread)?;
     Ok(Begun {

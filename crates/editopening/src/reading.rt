@@ -35,7 +35,8 @@ pub fn read_old<'a>(
             if fault.kind == FaultKind::NoMemory {
                 return Err(Unedited::NoMemory);
             }
-            Err(untaken(alloc, path, &intake::Refusal::Source(fault))?)
+            let why = intake::Refusal::Source(fault);
+            Err(untaken(alloc, path, source, &why)?)
         }
     }
 }

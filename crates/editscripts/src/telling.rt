@@ -29,13 +29,14 @@ use taketext::refusal_line as taking_line;
 pub fn untaken(
     alloc: Global,
     path: &str,
+    source: &[u8],
     why: &intake::Refusal<'_, '_>,
 ) -> Result<Unedited, AllocError>
-    ensures { IfOk result (IsToldBy (λ line. (why.now ≢ NoMemoryOfTake) × (line ≡ taking_line path.now why.now))) }
+    ensures { IfOk result (IsToldBy (λ line. (why.now ≢ NoMemoryOfTake) × (line ≡ taking_line path.now source.now why.now))) }
 {
     match why {
         intake::Refusal::NoMemory => Ok(Unedited::NoMemory),
-        _ => Ok(Unedited::Refused(taking_line(alloc, path, why)?)),
+        _ => Ok(Unedited::Refused(taking_line(alloc, path, source, why)?)),
     }
 }
 

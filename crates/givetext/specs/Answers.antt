@@ -1,5 +1,5 @@
 -- What the program answers where edits are to be given back.
-use Rattle.std.specs.Prelude.{◌≡◌, ◌≢◌, ℕ, List, string_bytes}
+use Rattle.std.specs.Prelude.{◌≡◌, ◌≢◌, ℕ, List, [], ◌∷◌, string_bytes}
 use Rattle.givetext.specs.Given.{IsGiven}
 use Rattle.givetext.specs.Causes.{IsRefused}
 use Rattle.givetext.specs.Refusals.{refusal_line}
@@ -13,7 +13,7 @@ pub record IsRefusedBy (paths : List (List ℕ)) (source library history line : 
   pub why : Refusal
   pub told : why ≢ NoMemory
   pub refused : IsRefused source library history why
-  pub says : line ≡ refusal_line paths why
+  pub says : line ≡ refusal_line paths (source ∷ library ∷ history ∷ []) why
 
 -- the source with the edits is printed; or a line says why not
 abbrev pub IsGiveAnswer : List (List ℕ) → List ℕ → List ℕ → List ℕ → Returned → Type 0

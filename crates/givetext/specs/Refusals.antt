@@ -1,13 +1,16 @@
 -- The line of a refusal.
 use Rattle.std.specs.Prelude.{ℕ, zero, List, [], ◌∷◌, ◌++◌, Option, Some, codes, slice_index_or}
 use Rattle.mmtext.specs.FaultNames.{printed_fault}
+use Rattle.locating.specs.Told.{shown, source_line, text_line}
+use Rattle.checking.specs.declared.fault.Fault.{Fault}
+use Rattle.checking.specs.declared.fault.Fault.TheVariants.{Text}
 use Rattle.checking.specs.FaultLines.{fault_text, file_of}
-use Rattle.taketext.specs.Refusals.{shown}
 use Rattle.arranging.specs.declared.headed.Side.{Side}
 use Rattle.arranging.specs.declared.headed.Side.TheVariants.{Behind, InFront}
 use Rattle.sourceediting.specs.declared.refusal.Refusal.{Refusal as Unwritten}
 use Rattle.sourceediting.specs.declared.refusal.Refusal.TheVariants as edits
 use Rattle.givetext.specs.declared.answering.Paths.{Paths}
+use Rattle.givetext.specs.declared.refusing.Texts.{Texts}
 use Rattle.givetext.specs.declared.refusing.File.{File}
 use Rattle.givetext.specs.declared.refusing.File.TheVariants.{Source, Library, History}
 use Rattle.givetext.specs.declared.refusal.Refusal.{Refusal}
@@ -25,14 +28,17 @@ text_at_fault refusal.NotTaken = Library
 text_at_fault (refusal.Replay fault) = replayed_file (file_of fault)
 text_at_fault _ = History
 
--- its path, among those of the source, the library and the history
-abbrev pub path_of : List (List ℕ) → File → List ℕ
-path_of paths Source = slice_index_or paths 0 []
-path_of paths Library = slice_index_or paths 1 []
-path_of paths History = slice_index_or paths 2 []
+-- its path or its bytes, among those of the source, the library and the history
+abbrev pub that_of : List (List ℕ) → File → List ℕ
+that_of all Source = slice_index_or all 0 []
+that_of all Library = slice_index_or all 1 []
+that_of all History = slice_index_or all 2 []
 
 abbrev pub seen_paths : Paths → List (List ℕ)
 seen_paths p = p.source.now ∷ p.library.now ∷ p.history.now ∷ []
+
+abbrev pub seen_texts : Texts → List (List ℕ)
+seen_texts t = t.source.now ∷ t.library.now ∷ t.history.now ∷ []
 
 -- a side of an assertion
 abbrev pub side_text : Side → List ℕ
@@ -68,6 +74,17 @@ refusal_text refusal.AnotherLibrary = codes "with these edits another library is
 refusal_text refusal.CommentLost = codes "with these edits a comment would be lost"
 refusal_text refusal.NoMemory = codes "no memory"
 
+-- of a fault of a replay, at the path of a text: where in that it is, if the text has it
+abbrev pub replay_line : List ℕ → List ℕ → Fault → List ℕ
+replay_line path text (Text file fault) = text_line path text fault
+replay_line path text fault = path ++ (codes ": " ++ fault_text fault)
+
+-- and of a refusal
+abbrev pub line_in : List ℕ → List ℕ → Refusal → List ℕ
+line_in path text (refusal.Source fault) = source_line path text fault
+line_in path text (refusal.Replay fault) = replay_line path text fault
+line_in path text why = path ++ (codes ": " ++ refusal_text why)
+
 -- behind the path of the text at fault
-abbrev pub refusal_line : List (List ℕ) → Refusal → List ℕ
-refusal_line paths why = path_of paths (text_at_fault why) ++ (codes ": " ++ refusal_text why)
+abbrev pub refusal_line : List (List ℕ) → List (List ℕ) → Refusal → List ℕ
+refusal_line paths texts why = line_in (that_of paths (text_at_fault why)) (that_of texts (text_at_fault why)) why

@@ -6,7 +6,7 @@ ghost use Rattle.givetext.specs.Refusals.{seen_paths};
 
 use crate::call::give;
 use crate::refusal::Refusal;
-use crate::refusing::line_of;
+use crate::refusing::{Texts, line_of};
 use intake::Follow;
 use std::alloc::{AllocError, Global};
 use std::hash::RandomState;
@@ -55,9 +55,14 @@ pub fn answer_give(
 {
     let given = give(rt, alloc, keys, source, library, history, follow);
     follow.end();
+    let texts = Texts {
+        source,
+        library,
+        history,
+    };
     match given {
         Ok(out) => Ok(Returned::Printed(out)),
         Err(Refusal::NoMemory) => Err(AllocError),
-        Err(why) => Ok(Returned::Refused(line_of(alloc, paths, &why)?)),
+        Err(why) => Ok(Returned::Refused(line_of(alloc, paths, texts, &why)?)),
     }
 }

@@ -2,24 +2,25 @@
 
 ghost use Rattle.std.specs.Prelude.{◌≡◌, IfOk, string_bytes};
 ghost use Rattle.checking.specs.FaultLines.{file_of};
-ghost use Rattle.taketext.specs.Refusals.{shown};
-ghost use Rattle.givetext.specs.Refusals.{edits_text, side_text, text_at_fault, path_of, refusal_line, refusal_text, replayed_file, seen_paths};
+ghost use Rattle.givetext.specs.Refusals.{edits_text, side_text, text_at_fault, that_of, replay_line, refusal_line, refusal_text, replayed_file, seen_paths, seen_texts};
 
 use crate::answering::Paths;
 use crate::refusal::Refusal;
 use arranging::Side;
 use checking::Fault;
+use locating::{printed_name as shown, source_line, text_line};
 use sourceediting::Refusal as Unwritten;
 use std::alloc::{AllocError, Global};
 
-/// A name as it is printed: itself, where it is text, as each name of a source is.
-fn shown(name: &[u8]) -> &str
-    ensures { result.now ≡ shown name.now }
-{
-    match str::from_utf8(name) {
-        Ok(text) => text,
-        Err(_) => "?",
-    }
+/// The texts.
+#[derive(Clone, Copy)]
+pub(crate) struct Texts<'t> {
+    /// That of the source.
+    pub(crate) source: &'t [u8],
+    /// That of the library that was taken of it.
+    pub(crate) library: &'t [u8],
+    /// That of the history over the library.
+    pub(crate) history: &'t [u8],
 }
 
 /// The text at fault.
@@ -57,12 +58,23 @@ fn text_at_fault(why: &Refusal) -> File
 
 /// Its path.
 fn path_of<'p>(paths: Paths<'p>, file: File) -> &'p str
-    ensures { result.now ≡ path_of (seen_paths paths.entry) file }
+    ensures { result.now ≡ that_of (seen_paths paths.entry) file }
 {
     match file {
         File::Source => paths.source,
         File::Library => paths.library,
         File::History => paths.history,
+    }
+}
+
+/// Its bytes.
+fn text_of<'t>(texts: Texts<'t>, file: File) -> &'t [u8]
+    ensures { result.now ≡ that_of (seen_texts texts.entry) file }
+{
+    match file {
+        File::Source => texts.source,
+        File::Library => texts.library,
+        File::History => texts.history,
     }
 }
 
@@ -142,11 +154,33 @@ pub fn refusal_text(alloc: Global, why: &Refusal) -> Result<String, AllocError>
     }
 }
 
-/// The line of a refusal, behind the path of the text at fault.
-pub(crate) fn line_of(alloc: Global, paths: Paths<'_>, why: &Refusal) -> Result<String, AllocError>
-    ensures { IfOk result (λ line. string_bytes line ≡ refusal_line (seen_paths paths.entry) why.now) }
+/// The line of a fault of a replay, at the path of a text: where in that it is, if the text has it.
+fn replay_line(alloc: Global, path: &str, text: &[u8], fault: &Fault) -> Result<String, AllocError>
+    ensures { IfOk result (λ line. string_bytes line ≡ replay_line path.now text.now fault.now) }
 {
-    let path = path_of(paths, text_at_fault(why));
-    let text = refusal_text(alloc, why)?;
-    format!(in alloc; "{path}: {text}")
+    match fault {
+        Fault::Text { fault, .. } => text_line(alloc, path, text, *fault),
+        _ => format!(in alloc; "{path}: {fault}"),
+    }
+}
+
+/// The line of a refusal, behind the path of the text at fault and, of a fault of that, where in it that is.
+pub(crate) fn line_of(
+    alloc: Global,
+    paths: Paths<'_>,
+    texts: Texts<'_>,
+    why: &Refusal,
+) -> Result<String, AllocError>
+    ensures { IfOk result (λ line. string_bytes line ≡ refusal_line (seen_paths paths.entry) (seen_texts texts.entry) why.now) }
+{
+    let file = text_at_fault(why);
+    let (path, text) = (path_of(paths, file), text_of(texts, file));
+    match why {
+        Refusal::Source(fault) => source_line(alloc, path, text, *fault),
+        Refusal::Replay(fault) => replay_line(alloc, path, text, fault),
+        _ => {
+            let said = refusal_text(alloc, why)?;
+            format!(in alloc; "{path}: {said}")
+        }
+    }
 }

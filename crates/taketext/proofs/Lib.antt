@@ -2,7 +2,6 @@ pub mod Commented
 pub mod Joined
 pub mod Named
 pub mod Quiet
-pub mod Shown
 pub mod Whole
 pub mod Separate
 pub mod Silent

@@ -28,7 +28,7 @@ pub record IsPrinted (path source : List ℕ) (w : Wish) (out : List ℕ) : Type
 -- why nothing is printed: a refusal, or a text that is too long
 abbrev pub IsRefusedBy : List ℕ → List ℕ → Wish → List ℕ → Type 0
 IsRefusedBy path source w line =
-    ((why : Refusal) × (why ≢ NoMemory → IsRefused source w why) × (line ≡ refusal_line path why))
+    ((why : Refusal) × (why ≢ NoMemory → IsRefused source w why) × (line ≡ refusal_line path source why))
     ⊎ ((t : Taken) × IsTakenByWish source w t × (line ≡ long_line path (length (taken_text path source w t)))
     × (MOST_BYTES < length (taken_text path source w t)))
 

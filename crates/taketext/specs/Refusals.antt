@@ -1,18 +1,16 @@
 -- The line of a refusal.
-use Rattle.std.specs.Prelude.{ℕ, List, ◌++◌, Option, Some, None, codes, if◌then◌else◌}
+use Rattle.std.specs.Prelude.{ℕ, List, ◌++◌, Option, Some, None, codes}
 use Rattle.std.specs.Option.{option_map}
-use Rattle.std.specs.Str.{is_utf8}
 use Rattle.std.specs.Fmt.{decimal}
-use Rattle.mmtext.specs.FaultNames.{printed_fault as printed_text_fault}
-use Rattle.derivation.specs.FaultNames.{printed_proof_fault}
+use Rattle.mmtext.specs.Words.{Word}
+use Rattle.derivation.specs.declared.fault.ProofFault.{ProofFault}
+use Rattle.locating.specs.Steps.{theorem_at}
+use Rattle.locating.specs.Rules.{proof_rule}
+use Rattle.locating.specs.Told.{shown, labelled, told_rule, told_at, fault_text, source_line, proof_fault_text}
 use Rattle.drafts.specs.declared.limits.Limit.{Limit}
 use Rattle.drafts.specs.declared.limits.Limit.TheVariants as limit
 use Rattle.intake.specs.declared.refusal.Refusal.{Refusal}
 use Rattle.intake.specs.declared.refusal.Refusal.TheVariants as refusal
-
--- a name as it is printed: itself, where it is text, as each name of a source is
-abbrev pub shown : List ℕ → List ℕ
-shown name = if is_utf8 name then name else codes "?"
 
 abbrev pub limit_text : Limit → List ℕ
 limit_text (limit.ManyConstants n) = decimal n ++ codes " constants: more than 65535"
@@ -33,8 +31,9 @@ abbrev pub at_name : Option (List ℕ) → List ℕ → List ℕ
 at_name (Some name) text = shown name ++ (codes ": " ++ text)
 at_name None text = text
 
+-- as programs know it
 abbrev pub refusal_text : Refusal → List ℕ
-refusal_text (refusal.Source fault) = codes "text " ++ printed_text_fault fault
+refusal_text (refusal.Source fault) = fault_text fault
 refusal_text (refusal.UnknownLabel label) = codes "no assertion " ++ shown label.now
 refusal_text refusal.Backwards = codes "the first label stands behind the second"
 refusal_text (refusal.TooMany n) = decimal n ++ codes " assertions: more than 4096"
@@ -42,13 +41,21 @@ refusal_text refusal.TooWide = codes "more than 65535 constants or $f"
 refusal_text (refusal.NoFreshName word) = codes "no free name for " ++ shown word.now
 refusal_text (refusal.Passes limit name) = at_name (option_map (λ w. w.now) name) (limit_text limit)
 refusal_text refusal.Unlawful = codes "what is taken is not of the profile"
-refusal_text (refusal.Proof label fault) = codes "proof of " ++ (shown label ++ (codes ": " ++ printed_proof_fault fault))
+refusal_text (refusal.Proof label fault) = proof_fault_text label fault
 refusal_text refusal.NoMemory = codes "no memory"
 
--- behind the path of the source; want of memory has none
-abbrev pub refusal_line : List ℕ → Refusal → List ℕ
-refusal_line path refusal.NoMemory = codes "no memory"
-refusal_line path why = path ++ (codes ": " ++ refusal_text why)
+-- the steps of a proof of the library aren't the source's, so it is told at the theorem's label
+abbrev pub taken_proof_line : List ℕ → List ℕ → Word → ProofFault → List ℕ
+taken_proof_line path source label fault =
+    told_at path source (theorem_at source label)
+    (labelled (Some label) (told_rule (proof_rule fault.kind) (proof_fault_text label fault)))
+
+-- behind the path of the source and, of a fault, where in its text that is; want of memory has none
+abbrev pub refusal_line : List ℕ → List ℕ → Refusal → List ℕ
+refusal_line path source (refusal.Source fault) = source_line path source fault
+refusal_line path source (refusal.Proof label fault) = taken_proof_line path source label fault
+refusal_line path source refusal.NoMemory = codes "no memory"
+refusal_line path source why = path ++ (codes ": " ++ refusal_text why)
 
 -- the library's text would be longer than a text of the profile, by so many bytes in all
 abbrev pub long_line : List ℕ → ℕ → List ℕ

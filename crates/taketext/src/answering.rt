@@ -82,6 +82,6 @@ pub fn answer_take<'w>(
 {
     match take(rt, alloc, keys, source, wish, follow) {
         Ok(taken) => tell_taken(alloc, path, source, wish, &taken),
-        Err(why) => Ok(Told::Refused(refusal_line(alloc, path, &why)?)),
+        Err(why) => Ok(Told::Refused(refusal_line(alloc, path, source, &why)?)),
     }
 }

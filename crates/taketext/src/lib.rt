@@ -30,5 +30,6 @@ pub use laws::{
     comments_say_nothing, declared_behind_comments, printed_tells, sources_are_worded,
     spelled_behind_comments, tells_once, white_space_ends_words,
 };
+pub use locating::printed_name;
 pub use origin::{Origin, origin_of};
-pub use refusing::{printed_name, refusal_line};
+pub use refusing::refusal_line;

@@ -2,21 +2,12 @@
 
 ghost use Rattle.std.specs.Prelude.{◌≡◌, IfOk, string_bytes};
 ghost use Rattle.std.specs.Option.{option_map};
-ghost use Rattle.taketext.specs.Refusals.{shown, limit_text, at_name, refusal_text, refusal_line, long_line};
+ghost use Rattle.taketext.specs.Refusals.{limit_text, at_name, refusal_text, refusal_line, long_line};
 
 use drafts::Limit;
 use intake::Refusal;
+use locating::{printed_name, proof_rule, source_line, theorem_at, told_line};
 use std::alloc::{AllocError, Global};
-
-/// A name as it is printed: itself, where it is text, as each name of a source is; else a question mark.
-pub fn printed_name(name: &[u8]) -> &str
-    ensures { result.now ≡ shown name.now }
-{
-    match str::from_utf8(name) {
-        Ok(text) => text,
-        Err(_) => "?",
-    }
-}
 
 /// What a limit says that is passed by a number.
 fn number_text(alloc: Global, limit: Limit) -> Result<String, AllocError>
@@ -52,7 +43,7 @@ fn limit_text(alloc: Global, limit: Limit, name: Option<&[u8]>) -> Result<String
     }
 }
 
-/// What a refusal says, without the path of the source.
+/// What a refusal says, as programs know it.
 fn refusal_text(alloc: Global, why: &Refusal<'_, '_>) -> Result<String, AllocError>
     ensures { IfOk result (λ text. string_bytes text ≡ refusal_text why.now) }
 {
@@ -79,12 +70,24 @@ fn refusal_text(alloc: Global, why: &Refusal<'_, '_>) -> Result<String, AllocErr
     }
 }
 
-/// The line of a refusal, behind the path of the source: want of memory has none.
-pub fn refusal_line(alloc: Global, path: &str, why: &Refusal<'_, '_>) -> Result<String, AllocError>
-    ensures { IfOk result (λ line. string_bytes line ≡ refusal_line path.now why.now) }
+/// The line of a refusal, behind the path of the source and, of a fault, where in its text that is: the steps of a proof of the library
+/// aren't the source's, so such a proof is told at the theorem's label. Want of memory has no path.
+pub fn refusal_line(
+    alloc: Global,
+    path: &str,
+    source: &[u8],
+    why: &Refusal<'_, '_>,
+) -> Result<String, AllocError>
+    ensures { IfOk result (λ line. string_bytes line ≡ refusal_line path.now source.now why.now) }
 {
     let text = refusal_text(alloc, why)?;
     match why {
+        Refusal::Source(fault) => source_line(alloc, path, source, *fault),
+        Refusal::Proof(label, fault) => {
+            let (label, rule) = (label.as_slice(), proof_rule(fault.kind));
+            let spot = theorem_at(alloc, source, label)?;
+            told_line(alloc, path, source, spot, Some(label), rule, text.as_str())
+        }
         Refusal::NoMemory => Ok(text),
         _ => format!(in alloc; "{path}: {text}"),
     }

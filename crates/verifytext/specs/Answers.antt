@@ -12,4 +12,4 @@ abbrev pub IsVerifyAnswer : List ℕ → List ℕ → Verdict → Type 0
 IsVerifyAnswer path source (verdict.Verified line) =
     (v : Verified) × IsVerifiedText source v × (string_bytes line ≡ ok_line v.assertions v.unfinished)
 IsVerifyAnswer path source (verdict.Refused line) =
-    (why : Refusal) × IsRefused source why × (string_bytes line ≡ refusal_line path why)
+    (why : Refusal) × IsRefused source why × (string_bytes line ≡ refusal_line path source why)

@@ -1,9 +1,9 @@
 -- The lines that are told of a source whose proofs are all checked.
-use Rattle.std.specs.Prelude.{ℕ, ◌==◌, List, [], ◌∷◌, ◌++◌, codes, if◌then◌else◌}
+use Rattle.std.specs.Prelude.{ℕ, ◌==◌, List, [], ◌∷◌, ◌++◌, Some, codes, if◌then◌else◌}
 use Rattle.std.specs.Fmt.{decimal}
-use Rattle.mmtext.specs.FaultNames.{printed_fault as printed_text_fault}
-use Rattle.derivation.specs.FaultNames.{printed_proof_fault}
-use Rattle.taketext.specs.Refusals.{shown}
+use Rattle.mmtext.specs.Words.{Word}
+use Rattle.locating.specs.Steps.{theorem_at}
+use Rattle.locating.specs.Told.{shown, labelled, told_rule, told_at, source_line, proof_line}
 use Rattle.verifytext.specs.declared.refusal.Refusal.{Refusal}
 use Rattle.verifytext.specs.declared.refusal.Refusal.TheVariants.{Source, Proof, TooLong, NoMemory}
 
@@ -13,13 +13,19 @@ ok_line assertions unfinished =
     codes "ok "
     ++ (decimal assertions ++ (if unfinished == 0 then 10 ∷ [] else codes ", " ++ (decimal unfinished ++ codes " unfinished\n")))
 
-abbrev pub refusal_text : Refusal → List ℕ
-refusal_text (Source fault) = codes "text " ++ printed_text_fault fault
-refusal_text (Proof label fault) = codes "proof of " ++ (shown label.now ++ (codes ": " ++ printed_proof_fault fault))
-refusal_text (TooLong label) = codes "proof of " ++ (shown label.now ++ codes ": expressions of more than 268435456 symbols")
-refusal_text NoMemory = codes "no memory"
+-- a proof that writes down too many symbols, as programs know it
+abbrev pub too_long_text : Word → List ℕ
+too_long_text label = codes "proof of " ++ (shown label ++ codes ": expressions of more than 268435456 symbols")
 
--- behind the path of the source; want of memory has none
-abbrev pub refusal_line : List ℕ → Refusal → List ℕ
-refusal_line path NoMemory = codes "no memory"
-refusal_line path why = path ++ (codes ": " ++ refusal_text why)
+-- no step is at fault: it is told at the theorem's label
+abbrev pub too_long_line : List ℕ → List ℕ → Word → List ℕ
+too_long_line path text label =
+    told_at path text (theorem_at text label)
+    (labelled (Some label) (told_rule (codes "the steps of this proof write down more than 268435456 symbols") (too_long_text label)))
+
+-- behind the path of the source, and where in its text the fault is; want of memory has none
+abbrev pub refusal_line : List ℕ → List ℕ → Refusal → List ℕ
+refusal_line path text (Source fault) = source_line path text fault
+refusal_line path text (Proof label fault) = proof_line path text label.now fault
+refusal_line path text (TooLong label) = too_long_line path text label.now
+refusal_line path text NoMemory = codes "no memory"

@@ -39,6 +39,6 @@ pub fn answer_verify(
 {
     match verify(rt, alloc, keys, source, workers, follow) {
         Ok(verified) => Ok(Verdict::Verified(ok_line(alloc, verified)?)),
-        Err(why) => Ok(Verdict::Refused(refusal_line(alloc, path, why)?)),
+        Err(why) => Ok(Verdict::Refused(refusal_line(alloc, path, source, why)?)),
     }
 }

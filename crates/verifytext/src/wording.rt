@@ -1,12 +1,12 @@
 //! The lines that are told of a source.
 
 ghost use Rattle.std.specs.Prelude.{◌≡◌, IfOk, string_bytes};
-ghost use Rattle.verifytext.specs.Lines.{ok_line, refusal_text, refusal_line};
+ghost use Rattle.verifytext.specs.Lines.{ok_line, too_long_line, refusal_line};
 
 use crate::refusal::Refusal;
 use crate::verifying_text::Verified;
+use locating::{printed_name, proof_line, source_line, theorem_at, told_line};
 use std::alloc::{AllocError, Global};
-use taketext::printed_name;
 
 /// What is printed of a source that verifies.
 pub(crate) fn ok_line(alloc: Global, verified: Verified) -> Result<String, AllocError>
@@ -23,31 +23,30 @@ pub(crate) fn ok_line(alloc: Global, verified: Verified) -> Result<String, Alloc
     }
 }
 
-/// What a refusal says, without the path of the source.
-fn refusal_text(alloc: Global, why: Refusal<'_>) -> Result<String, AllocError>
-    ensures { IfOk result (λ text. string_bytes text ≡ refusal_text why.entry) }
+/// The line of a theorem whose proof writes down too many symbols: no step is at fault, so it is told at the theorem's label.
+fn too_long_line(alloc: Global, path: &str, text: &[u8], label: &[u8]) -> Result<String, AllocError>
+    ensures { IfOk result (λ line. string_bytes line ≡ too_long_line path.now text.now label.now) }
 {
-    match why {
-        Refusal::Source(fault) => format!(in alloc; "text {fault}"),
-        Refusal::Proof(label, fault) => {
-            let label = printed_name(label);
-            format!(in alloc; "proof of {label}: {fault}")
-        }
-        Refusal::TooLong(label) => {
-            let label = printed_name(label);
-            format!(in alloc; "proof of {label}: expressions of more than 268435456 symbols")
-        }
-        Refusal::NoMemory => format!(in alloc; "no memory"),
-    }
+    let name = printed_name(label);
+    let known = format!(in alloc; "proof of {name}: expressions of more than 268435456 symbols")?;
+    let spot = theorem_at(alloc, text, label)?;
+    let rule = "the steps of this proof write down more than 268435456 symbols";
+    told_line(alloc, path, text, spot, Some(label), rule, known.as_str())
 }
 
-/// The line of a refusal, behind the path of the source: want of memory has none.
-pub fn refusal_line(alloc: Global, path: &str, why: Refusal<'_>) -> Result<String, AllocError>
-    ensures { IfOk result (λ line. string_bytes line ≡ refusal_line path.now why.entry) }
+/// The line of a refusal, behind the path of the source, and where in its text the fault is: want of memory has none.
+pub fn refusal_line(
+    alloc: Global,
+    path: &str,
+    text: &[u8],
+    why: Refusal<'_>,
+) -> Result<String, AllocError>
+    ensures { IfOk result (λ line. string_bytes line ≡ refusal_line path.now text.now why.entry) }
 {
-    let text = refusal_text(alloc, why)?;
     match why {
-        Refusal::NoMemory => Ok(text),
-        _ => format!(in alloc; "{path}: {text}"),
+        Refusal::Source(fault) => source_line(alloc, path, text, fault),
+        Refusal::Proof(label, fault) => proof_line(alloc, path, text, label, fault),
+        Refusal::TooLong(label) => too_long_line(alloc, path, text, label),
+        Refusal::NoMemory => format!(in alloc; "no memory"),
     }
 }

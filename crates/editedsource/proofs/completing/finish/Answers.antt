@@ -3,6 +3,7 @@ use Rattle.std.proofs.Common.{Option, ◌≡◌, ◌∙◌, ℕ, map, inl, inr, 
 use Rattle.std.specs.Prelude.{OnOk, IfOk, IfErr}
 use Rattle.std.specs.Option.{option_map, unwrap_or}
 use Rattle.std.proofs.lemmas.Result.{err_from_is_err_and}
+use Rattle.source.specs.Sources.{DeclaresText}
 use Rattle.source.specs.Views.{seen_pairs}
 use Rattle.checking.specs.Checks.{Bytes}
 use Rattle.commentwords.specs.Spoken.{spoken_in}
@@ -40,6 +41,8 @@ returns-clause-finished g c choice are =
     let ds = seen_pairs c.args.edit.now.given.descriptions.now in
     let draft = c.in_ok-draft.draft in
     let text = draft.text.items in
+    let read : c.as_slice-edits.result.now ≡ text = c.as_slice-edits.ensures.value in
+    let declares = subst (λ (bytes : Bytes). DeclaresText bytes c.in_ok-new.new.stand.scope) (sym read) c.in_ok-new.ensures.declares in
     let f = seen_following draft.following in
     let is = subst (λ r. IfOk r (IsDraft source old choice taken run.entries run.edited)) c.in_ok-draft.was
     (c.draft_of.ensures.drafted choice are) in
@@ -49,7 +52,7 @@ returns-clause-finished g c choice are =
     let shown = or_this c.in_ok-dressed.dressed text in
     let dressed : IsDressed qs ds edited.followed text shown =
     subst (λ (f : Following). IsDressed qs ds f text shown) same
-    (subst (λ (bytes : Bytes). IsDressed qs ds f bytes (or_this c.in_ok-dressed.dressed bytes)) c.as_slice.ensures.value
+    (subst (λ (bytes : Bytes). IsDressed qs ds f bytes (or_this c.in_ok-dressed.dressed bytes)) read
     c.in_ok-dressed.ensures) in
     let out = c.unwrap_or-out.result.items in
     let printed : shown ≡ out =
@@ -61,11 +64,12 @@ returns-clause-finished g c choice are =
       much = c.in_ok-verify_dressed.field-0;
       verifies =
           subst (λ (bytes : Bytes). IsVerifiedText bytes c.in_ok-verify_dressed.field-0)
-          (lent c.as_ref.result c.in_ok-dressed.dressed text c.as_ref.ensures.value ∙ printed)
-          (c.in_ok-verify_dressed.ensures.verified text c.in_ok-new.ensures.declares);
+          (lent c.as_ref.result c.in_ok-dressed.dressed c.as_slice-edits.result.now c.as_ref.ensures.value
+          ∙ (ap (or_this c.in_ok-dressed.dressed) read ∙ printed))
+          (c.in_ok-verify_dressed.ensures.verified declares);
       spoken =
           c.in_ok-spoken.ensures
-          ∙ ap (λ (bytes : Bytes). map (spoken_line path bytes) (spoken_in (lost f) bytes)) c.as_slice-2.ensures.value
+          ∙ ap (λ (bytes : Bytes). map (spoken_line path bytes) (spoken_in (lost f) bytes)) c.as_slice.ensures.value
           ∙ ap (λ (f : Following). map (spoken_line path out) (spoken_in (lost f) out)) same;
     }
 
@@ -99,6 +103,8 @@ returns-in_err-verify_dressed-clause-refused g c choice are =
     let ds = seen_pairs c.args.edit.now.given.descriptions.now in
     let draft = c.in_ok-draft.draft in
     let text = draft.text.items in
+    let read : c.as_slice-edits.result.now ≡ text = c.as_slice-edits.ensures.value in
+    let declares = subst (λ (bytes : Bytes). DeclaresText bytes c.in_ok-new.new.stand.scope) (sym read) c.in_ok-new.ensures.declares in
     let f = seen_following draft.following in
     let is = subst (λ r. IfOk r (IsDraft source old choice taken run.entries run.edited)) c.in_ok-draft.was
     (c.draft_of.ensures.drafted choice are) in
@@ -108,7 +114,7 @@ returns-in_err-verify_dressed-clause-refused g c choice are =
     let shown = or_this c.in_ok-dressed.dressed text in
     let dressed : IsDressed qs ds edited.followed text shown =
     subst (λ (f : Following). IsDressed qs ds f text shown) same
-    (subst (λ (bytes : Bytes). IsDressed qs ds f bytes (or_this c.in_ok-dressed.dressed bytes)) c.as_slice.ensures.value
+    (subst (λ (bytes : Bytes). IsDressed qs ds f bytes (or_this c.in_ok-dressed.dressed bytes)) read
     c.in_ok-dressed.ensures) in
     let p = err_from_is_err_and c.from_residual-in_err-verify_dressed.result c.from_residual-in_err-verify_dressed.ensures.1 in
     rw (p.1, p.2) (told_more (IsFaultyThenLine path shown)
@@ -116,5 +122,6 @@ returns-in_err-verify_dressed-clause-refused g c choice are =
     (λ line h. inr (text, shown, edited, dressed, h))
     c.in_err-verify_dressed.field-0.0
     (subst (λ (bytes : Bytes). IsToldBy (IsFaultyThenLine path bytes) c.in_err-verify_dressed.field-0.0)
-    (lent c.as_ref.result c.in_ok-dressed.dressed text c.as_ref.ensures.value)
-    (c.in_err-verify_dressed.ensures.refused text c.in_ok-new.ensures.declares)))
+    (lent c.as_ref.result c.in_ok-dressed.dressed c.as_slice-edits.result.now c.as_ref.ensures.value
+    ∙ ap (or_this c.in_ok-dressed.dressed) read)
+    (c.in_err-verify_dressed.ensures.refused declares)))

@@ -91,7 +91,7 @@ returns-in_err-taken-clause-refused g c =
     c.in_ok-spread.ensures.spread in
     let p = err_from_is_err_and c.from_residual-in_err-taken.result c.from_residual-in_err-taken.ensures.1 in
     rw (p.1, p.2) (told_more
-    (IsUntakenBy path s (seen_scripts scripts)) (IsUnbegunLine path paths source s texts force)
+    (IsUntakenBy path source s (seen_scripts scripts)) (IsUnbegunLine path paths source s texts force)
     (λ line h. inr (inr (inr (inr (inl (record {
       spread = seen_scripts scripts;
       of_source = spread;

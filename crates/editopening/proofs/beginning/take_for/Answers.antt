@@ -41,8 +41,9 @@ returns-clause-refused g c =
     let proofs : seen_words c.as_slice-proofs.result.now ≡ asked scripts =
     ap seen_words c.as_slice-proofs.ensures.value ∙ c.in_ok-asked.ensures.asked in
     let path = c.args.path.now in
+    let source = c.args.source.now in
     let why = c.in-Err.why in
-    told_more (λ line. (why ≢ NoMemory) × (line ≡ refusal_line path why)) (IsUntakenBy path s scripts)
+    told_more (λ line. (why ≢ NoMemory) × (line ≡ refusal_line path source why)) (IsUntakenBy path source s scripts)
     (λ line h. record {
       wish = These c.as_slice.result c.as_slice-2.result;
       by = (

@@ -12,7 +12,8 @@ pub returns-in_ok-untaken-in-Err-clause-refused : goal.returns-in_ok-untaken-in-
 returns-in_ok-untaken-in-Err-clause-refused g c =
     let other : c.in-Err.fault.kind ≢ NoMemory = search rules in
     let path = c.args.path.now in
+    let source = c.args.source.now in
     let why = untaken.Source c.in-Err.fault in
-    told_more (λ line. (why ≢ untaken.NoMemory) × (line ≡ refusal_line path why)) (IsFaultyLine path c.args.source.now)
+    told_more (λ line. (why ≢ untaken.NoMemory) × (line ≡ refusal_line path source why)) (IsFaultyLine path source)
     (λ line h. record { found = c.in-Err.fault; faulty = c.in-Err.ensures.fault other; says = h.1 })
     c.in_ok-untaken-in-Err.field-0 c.in_ok-untaken-in-Err.ensures
