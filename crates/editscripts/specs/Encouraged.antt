@@ -1,14 +1,13 @@
 -- Scripts that may be run: no theorem forbids what they do, and no comment of the source discourages it; and the line that says of others
 -- what they do although it is discouraged.
 use Rattle.std.specs.Prelude.{◌≡◌, ◌+◌, ℕ, Bool, false, List, [], ◌++◌, Some, None, codes, slice_index_or}
-use Rattle.std.specs.Fmt.{decimal}
 use Rattle.mmtext.specs.Text.{Token}
 use Rattle.mmtext.specs.Words.{Word}
 use Rattle.source.specs.Scopes.{Scope}
 use Rattle.checking.specs.Checks.{Bytes}
 use Rattle.checking.specs.FaultLines.{shown_label}
 use Rattle.remarks.specs.Remarks.{AreRemarks}
-use Rattle.locating.specs.Lines.{line_at}
+use Rattle.locating.specs.Told.{told_at, spot_at}
 use Rattle.expanding.specs.Barred.{IsBarred}
 use Rattle.expanding.specs.Discouraged.{Remarked, Discouraged, modifies, uses, AreDiscouraged}
 
@@ -39,19 +38,17 @@ pub record AreAllowed (source : Bytes) (s : Scope) (force : Bool) (scripts : Lis
 
 -- ---- they may not
 
--- they do, first with this word: `PATH:LINE: LABEL: ` and the words of the comment
+-- they do, first with this word: at it, `LABEL: ` and the words of the comment
 abbrev pub discouraged_word : Discouraged → Token
 discouraged_word (modifies t) = t
 discouraged_word (uses t) = t
 
 abbrev pub discouraged_text : Discouraged → Bytes
-discouraged_text (modifies t) = codes ": proof modification is discouraged"
-discouraged_text (uses t) = codes ": new usage is discouraged"
+discouraged_text (modifies t) = shown_label t.text ++ codes ": proof modification is discouraged"
+discouraged_text (uses t) = shown_label t.text ++ codes ": new usage is discouraged"
 
 abbrev pub discouraged_line : Bytes → Bytes → Discouraged → Bytes
-discouraged_line path text d =
-    path ++ (codes ":" ++ (decimal (line_at text (discouraged_word d).place)
-    ++ (codes ": " ++ (shown_label (discouraged_word d).text ++ discouraged_text d))))
+discouraged_line path text d = told_at path text (Some (spot_at text (discouraged_word d).place)) (discouraged_text d)
 
 -- scripts aren't run that do what is discouraged, unless that is forced
 pub record IsDiscouragedBy (paths : List Bytes) (source : Bytes) (s : Scope) (texts : List Bytes) (force : Bool)

@@ -1,18 +1,16 @@
 -- Why scripts can't be read over a source, and the line that says so.
 use Rattle.std.specs.Prelude.{◌≡◌, ◌≢◌, ◌⊎◌, ◌+◌, ℕ, Bool, List, [], ◌++◌, length, take, Some, codes, slice_get, slice_index_or, string_bytes}
-use Rattle.std.specs.Fmt.{decimal}
 use Rattle.mmtext.specs.Text.{Token}
 use Rattle.mmtext.specs.Languages.{Faulty}
 use Rattle.mmtext.specs.declared.fault.TextFault.{TextFault}
 use Rattle.mmtext.specs.declared.fault.FaultKind.TheVariants.{NoMemory as OutOfMemory}
 use Rattle.source.specs.Scopes.{Assertion, Scope}
-use Rattle.checking.specs.declared.fault.Fault.TheVariants as fault
 use Rattle.checking.specs.Checks.{Bytes, Orders, AreScripts}
-use Rattle.checking.specs.FaultLines.{shown_label, line_of}
+use Rattle.checking.specs.FaultLines.{shown_label}
 use Rattle.scripts.specs.ScriptFaults.{FaultyScript}
 use Rattle.expanding.specs.declared.misfit.Misfit.{Misfit}
 use Rattle.expanding.specs.declared.misfit.Misfit.TheVariants as misfit
-use Rattle.locating.specs.Lines.{line_at}
+use Rattle.locating.specs.Told.{told_at, spot_at, text_line}
 use Rattle.expanding.specs.Words.{word_language, text_of, place_at}
 use Rattle.expanding.specs.Refusals.{IsUnspread, IsUnranked}
 use Rattle.expanding.specs.Barred.{IsBarred}
@@ -33,7 +31,7 @@ pub record IsWordlessLine (paths texts : List Bytes) (line : Bytes) : Type 0 whe
   pub at : slice_get texts script ≡ Some text
   pub found : TextFault
   pub faulty : Faulty word_language text found
-  pub says : line ≡ line_of paths (fault.Text (script + 1) found)
+  pub says : line ≡ text_line (slice_index_or paths (script + 1) []) text found
 
 -- the word that doesn't fit, and why
 abbrev pub misfit_place : Misfit → ℕ
@@ -50,9 +48,9 @@ misfit_text (misfit.NotAlone t) = codes "replace * stands beside another command
 misfit_text (misfit.Crowded t) = codes "over 99 are put at one place"
 misfit_text misfit.NoMemory = codes "no memory"
 
--- `PATH:LINE: ` and that
+-- that, at that word
 abbrev pub misfit_line : Bytes → Bytes → Misfit → Bytes
-misfit_line path text m = path ++ (codes ":" ++ (decimal (line_at text (misfit_place m)) ++ (codes ": " ++ misfit_text m)))
+misfit_line path text m = told_at path text (Some (spot_at text (misfit_place m))) (misfit_text m)
 
 -- a word of a script doesn't fit the source; those before it fit
 pub record IsMisfitLine (paths : List Bytes) (s : Scope) (texts : List Bytes) (line : Bytes) : Type 0 where
@@ -69,11 +67,13 @@ pub record IsMisfitLine (paths : List Bytes) (s : Scope) (texts : List Bytes) (l
   pub says : line ≡ misfit_line (slice_index_or paths (script + 1) []) (slice_index_or texts script []) why
 
 -- a theorem forbids a command of a script, whatever becomes of the others
+abbrev pub barred_text : Token → Bytes → Bytes
+barred_text t by =
+    shown_label t.text
+    ++ (codes " can't leave its place: " ++ (shown_label by ++ codes " cites it, and no script moves that or gives it another proof"))
+
 abbrev pub barred_line : Bytes → Bytes → Token → Bytes → Bytes
-barred_line path text t by =
-    path ++ (codes ":" ++ (decimal (line_at text t.place)
-    ++ (codes ": " ++ (shown_label t.text ++ (codes " can't leave its place: "
-    ++ (shown_label by ++ codes " cites it, and no script moves that or gives it another proof"))))))
+barred_line path text t by = told_at path text (Some (spot_at text t.place)) (barred_text t by)
 
 pub record IsBarredBy (paths : List Bytes) (s : Scope) (texts : List Bytes) (scripts : List (List Token)) (line : Bytes) : Type 0 where
   pub script : ℕ
@@ -82,17 +82,17 @@ pub record IsBarredBy (paths : List Bytes) (s : Scope) (texts : List Bytes) (scr
   pub barred : IsBarred s scripts script label by
   pub says : line ≡ barred_line (slice_index_or paths (script + 1) []) (slice_index_or texts script []) label by
 
--- the first compressed proof of a script that is none at its theorem
-pub record IsPasteFaultLine (paths : List Bytes) (m : Map) (t : Tables) (s : Scope) (added : List Assertion) (ts : List Token)
-    (script : ℕ) (line : Bytes) : Type 0 where
+-- the first compressed proof of a script with this path and text that is none at its theorem
+pub record IsPasteFaultLine (path text : Bytes) (m : Map) (t : Tables) (s : Scope) (added : List Assertion) (ts : List Token) (line : Bytes)
+    : Type 0 where
   pub found : PasteFault
   pub faulty : HasPasteFault m t s added ts found
   pub told : found.kind ≢ OutOfMemory
-  pub says : line ≡ line_of paths (fault.Text (script + 1) (record { place = found.at.place; kind = found.kind }))
+  pub says : line ≡ text_line path text (record { place = found.at.place; kind = found.kind })
 
 -- a script has such a proof; those before it have proofs of the library
-pub record IsUnpastedBy (paths : List Bytes) (s : Scope) (flags : List Bool) (db : Contents) (scripts : List (List Token)) (line : Bytes)
-    : Type 0 where
+pub record IsUnpastedBy (paths : List Bytes) (s : Scope) (texts : List Bytes) (flags : List Bool) (db : Contents)
+    (scripts : List (List Token)) (line : Bytes) : Type 0 where
   pub added : List Assertion
   pub are_added : AreAdditions (places_in s flags db) db.prelude scripts added
   pub script : ℕ
@@ -100,7 +100,8 @@ pub record IsUnpastedBy (paths : List Bytes) (s : Scope) (flags : List Bool) (db
   pub are_pasted : ArePastedWith s flags db added (take script scripts) before
   pub ts : List Token
   pub at : slice_get scripts script ≡ Some ts
-  pub cause : IsPasteFaultLine paths (places_in s flags db) db.prelude s added ts script line
+  pub cause : IsPasteFaultLine (slice_index_or paths (script + 1) []) (slice_index_or texts script []) (places_in s flags db) db.prelude s
+      added ts line
 
 -- a script puts too many at one place, of a source of which flags say which assertions are taken; those before it don't
 pub record IsCrowdedBy (paths : List Bytes) (s : Scope) (texts : List Bytes) (flags : List Bool) (scripts : List (List Token))
@@ -125,7 +126,7 @@ pub record IsCrowdedThen (paths : List Bytes) (s : Scope) (texts : List Bytes) (
 
 abbrev pub IsUnlaidBy : List Bytes → Scope → List Bytes → List Bool → Contents → List (List Token) → Bytes → Type 0
 IsUnlaidBy paths s texts flags db scripts line =
-    IsUnpastedBy paths s flags db scripts line ⊎ IsCrowdedThen paths s texts flags db scripts line
+    IsUnpastedBy paths s texts flags db scripts line ⊎ IsCrowdedThen paths s texts flags db scripts line
 
 -- a script isn't read over a library, though those before it are: its first fault is told at the word of the keeper's text for which the
 -- word stands that has it
@@ -139,8 +140,8 @@ pub record IsUnreadBy (paths : List Bytes) (prelude : Tables) (texts : List Byte
   pub found : TextFault
   pub faulty : FaultyScript prelude (text_of ranked.words) found
   pub told : found.kind ≢ OutOfMemory
-  pub says : line ≡ line_of paths
-      (fault.Text (script + 1) (record found { place = place_at ranked.words (length (slice_index_or texts script [])) found.place }))
+  pub says : line ≡ text_line (slice_index_or paths (script + 1) []) (slice_index_or texts script [])
+      (record found { place = place_at ranked.words (length (slice_index_or texts script [])) found.place })
 
 -- what is told, where it isn't want of memory
 abbrev pub IsToldBy : (Bytes → Type 0) → Unedited → Type 0

@@ -4,18 +4,28 @@ ghost use Rattle.std.specs.Prelude.{◌≡◌, ◌++◌, IfOk, IfErr, map, strin
 ghost use Rattle.expanding.specs.Views.{seen_scripts};
 ghost use Rattle.mmtext.specs.Views.{seen};
 ghost use Rattle.editscripts.specs.Encouraged.{AreFree};
-ghost use Rattle.editscripts.specs.Refusals.{IsToldBy, IsBarredBy, barred_line};
+ghost use Rattle.editscripts.specs.Refusals.{IsToldBy, IsBarredBy, barred_text, barred_line};
 ghost use Rattle.editscripts.specs.Views.{seen_texts};
 
 use crate::telling::{path_at, text_at};
 use crate::unedited::Unedited;
 use expanding::{Barred, barred_of};
-use locating::line_at;
+use locating::{spot_at, told_at};
 use mmtext::Token;
 use replylines::shown;
 use source::Declared;
 use std::alloc::{AllocError, Global};
 use std::hash::RandomState;
+
+/// Why a command can't be done.
+fn barred_text(alloc: Global, barred: &Barred<'_>) -> Result<String, AllocError>
+    ensures { IfOk result (λ text. string_bytes text ≡ barred_text (seen barred.now.word) barred.now.by.now) }
+{
+    let (label, by) = (shown(barred.word.text), shown(barred.by));
+    format!(in alloc;
+        "{label} can't leave its place: {by} cites it, and no script moves that or gives it another proof"
+    )
+}
 
 /// The line that says so.
 fn barred_line(
@@ -27,11 +37,9 @@ fn barred_line(
     ensures { IfOk result (λ line. string_bytes line
         ≡ barred_line path.now text.now (seen barred.now.word) barred.now.by.now) }
 {
-    let line = line_at(text, barred.word.place);
-    let (label, by) = (shown(barred.word.text), shown(barred.by));
-    format!(in alloc;
-        "{path}:{line}: {label} can't leave its place: {by} cites it, and no script moves that or gives it another proof"
-    )
+    let spot = spot_at(text, barred.word.place);
+    let said = barred_text(alloc, barred)?;
+    told_at(alloc, path, text, Some(spot), said.as_str())
 }
 
 /// No assertion that scripts can't change forbids a command of theirs. The paths are those of the source and of the scripts.

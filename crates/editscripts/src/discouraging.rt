@@ -3,20 +3,45 @@
 ghost use Rattle.std.specs.Prelude.{◌≡◌, ◌++◌, false, IfOk, IfErr, map, string_bytes};
 ghost use Rattle.source.specs.Sources.{DeclaresText};
 ghost use Rattle.expanding.specs.Views.{seen_scripts, seen_discouraged};
-ghost use Rattle.editscripts.specs.Encouraged.{AreEncouraged, IsDiscouragedBy, discouraged_line};
+ghost use Rattle.editscripts.specs.Encouraged.{AreEncouraged, IsDiscouragedBy, discouraged_word, discouraged_text, discouraged_line};
 ghost use Rattle.editscripts.specs.Refusals.{IsToldBy};
 ghost use Rattle.editscripts.specs.Views.{seen_texts};
 
 use crate::telling::{path_at, text_at};
 use crate::unedited::Unedited;
 use expanding::{Discouraged, discouraged_of};
-use locating::line_at;
+use locating::{spot_at, told_at};
 use mmtext::Token;
 use remarks::read_remarks;
 use replylines::shown;
 use source::Declared;
 use std::alloc::{AllocError, Global};
 use std::hash::RandomState;
+
+/// The byte of the script at which the word stands that does it.
+fn discouraged_place(what: Discouraged<'_>) -> usize
+    ensures { result ≡ (discouraged_word (seen_discouraged what.entry)).place }
+{
+    match what {
+        Discouraged::Modifies(word) | Discouraged::Uses(word) => word.place,
+    }
+}
+
+/// What the comment says of its label.
+fn discouraged_text(alloc: Global, what: Discouraged<'_>) -> Result<String, AllocError>
+    ensures { IfOk result (λ text. string_bytes text ≡ discouraged_text (seen_discouraged what.entry)) }
+{
+    match what {
+        Discouraged::Modifies(word) => {
+            let label = shown(word.text);
+            format!(in alloc; "{label}: proof modification is discouraged")
+        }
+        Discouraged::Uses(word) => {
+            let label = shown(word.text);
+            format!(in alloc; "{label}: new usage is discouraged")
+        }
+    }
+}
 
 /// The line that says so.
 fn discouraged_line(
@@ -27,16 +52,9 @@ fn discouraged_line(
 ) -> Result<String, AllocError>
     ensures { IfOk result (λ line. string_bytes line ≡ discouraged_line path.now text.now (seen_discouraged what.entry)) }
 {
-    match what {
-        Discouraged::Modifies(word) => {
-            let (line, label) = (line_at(text, word.place), shown(word.text));
-            format!(in alloc; "{path}:{line}: {label}: proof modification is discouraged")
-        }
-        Discouraged::Uses(word) => {
-            let (line, label) = (line_at(text, word.place), shown(word.text));
-            format!(in alloc; "{path}:{line}: {label}: new usage is discouraged")
-        }
-    }
+    let spot = spot_at(text, discouraged_place(what));
+    let said = discouraged_text(alloc, what)?;
+    told_at(alloc, path, text, Some(spot), said.as_str())
 }
 
 /// No command of scripts does what comments of the source discourage, or it is forced. The paths are those of the source and of the

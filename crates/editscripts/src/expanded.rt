@@ -36,9 +36,10 @@ fn words_of<'a>(
 {
     let mut scripts = Vec::new(alloc);
     for (place, text) in texts.iter().enumerate() {
-        match words_in(alloc, text.as_slice()) {
+        let text = text.as_slice();
+        match words_in(alloc, text) {
             Ok(words) => scripts.push(words)?,
-            Err(fault) => return Err(unread(alloc, paths, place, fault)?),
+            Err(fault) => return Err(unread(alloc, path_at(paths, place + 1), text, fault)?),
         }
     }
     Ok(scripts)
@@ -91,6 +92,7 @@ fn paste_all<'w: 'a, 'a, D: Declared<'a>>(
     keys: RandomState,
     paths: &[&str],
     declared: &D,
+    texts: &[Vec<u8>],
     database: &Database,
     flags: &[bool],
     scripts: &[Vec<Token<'w>>],
@@ -101,7 +103,7 @@ fn paste_all<'w: 'a, 'a, D: Declared<'a>>(
     ensures pasted { IfOk result (λ laid. (outs : List (List Word)) × AllZip IsLaid outs laid.items
         × ArePasted (D.scope declared.now) flags.now database.now (seen_scripts scripts.now) outs) }
     ensures refused { IfErr result (IsToldBy (IsUnpastedBy
-        (map (λ p. p.now) paths.now) (D.scope declared.now) flags.now database.now (seen_scripts scripts.now))) }
+        (map (λ p. p.now) paths.now) (D.scope declared.now) (seen_texts texts.now) flags.now database.now (seen_scripts scripts.now))) }
 {
     let paster = Paster::new(alloc, keys, declared, database, flags)?;
     let additions = paster.additions(alloc, keys, scripts)?;
@@ -109,7 +111,10 @@ fn paste_all<'w: 'a, 'a, D: Declared<'a>>(
     for (script, words) in scripts.iter().enumerate() {
         match paster.paste(alloc, keys, declared, &additions, words.as_slice()) {
             Ok(laid) => all.push(laid)?,
-            Err(why) => return Err(unpasted(alloc, paths, script, why)?),
+            Err(why) => {
+                let (path, text) = (path_at(paths, script + 1), text_at(texts, script));
+                return Err(unpasted(alloc, path, text, why)?);
+            }
         }
     }
     Ok(all)
@@ -147,7 +152,9 @@ pub fn lay_all<'w: 'a, 'a, D: Declared<'a>>(
     ensures refused { IfErr result (IsToldBy (IsUnlaidBy
         (map (λ p. p.now) paths.now) (D.scope declared.now) (seen_texts texts.now) flags.now database.now (seen_scripts scripts.now))) }
 {
-    let pasted = paste_all(alloc, keys, paths, declared, database, flags, scripts)?;
+    let pasted = paste_all(
+        alloc, keys, paths, declared, texts, database, flags, scripts,
+    )?;
     let words = words_laid(alloc, pasted.as_slice())?;
     rank_all(alloc, paths, declared, texts, flags, words.as_slice())
 }
@@ -200,12 +207,13 @@ pub fn read_all(
         match read_script(alloc, prelude, laid.text.as_slice()) {
             Ok(script) => scripts.push(script)?,
             Err(fault) => {
-                let end = text_at(texts, place).len();
+                let (path, text) = (path_at(paths, place + 1), text_at(texts, place));
+                let end = text.len();
                 let told = TextFault {
                     place: laid.place_of(end, fault.place),
                     kind: fault.kind,
                 };
-                return Err(unread(alloc, paths, place, told)?);
+                return Err(unread(alloc, path, text, told)?);
             }
         }
     }

@@ -1,11 +1,12 @@
 //! The line of each cause for which a source isn't edited.
 
-ghost use Rattle.std.specs.Prelude.{◌≡◌, ◌≢◌, ◌+◌, ◌^◌, ◌<◌, ◌++◌, [], codes, IfOk, map, slice_index_or, string_bytes};
+ghost use Rattle.std.specs.Prelude.{◌≡◌, ◌≢◌, ◌++◌, [], codes, IfOk, map, slice_index_or, string_bytes};
 ghost use Rattle.mmtext.specs.declared.fault.FaultKind.TheVariants.{NoMemory as OutOfMemory};
 ghost use Rattle.checking.specs.FaultLines.{line_of};
-ghost use Rattle.checking.specs.declared.fault.Fault.TheVariants.{Text, NoMemory as NoMemoryOfRun};
+ghost use Rattle.checking.specs.declared.fault.Fault.TheVariants.{NoMemory as NoMemoryOfRun};
 ghost use Rattle.expanding.specs.declared.misfit.Misfit.TheVariants.{NoMemory as NoMemoryOfMisfit};
 ghost use Rattle.intake.specs.declared.refusal.Refusal.TheVariants.{NoMemory as NoMemoryOfTake};
+ghost use Rattle.locating.specs.Told.{text_line};
 ghost use Rattle.taketext.specs.Refusals.{refusal_line as taking_line};
 ghost use Rattle.std.specs.Prelude.{List};
 ghost use Rattle.mmtext.specs.Text.{Token as Word};
@@ -18,7 +19,7 @@ ghost use Rattle.editscripts.specs.Refusals.{IsToldBy, IsPasteFaultLine, misfit_
 use crate::unedited::Unedited;
 use checking::Fault;
 use expanding::Misfit;
-use locating::line_at;
+use locating::{spot_at, text_line, told_at};
 use mmtext::{FaultKind, TextFault};
 use pasting::Unpasted;
 use replylines::shown;
@@ -70,40 +71,36 @@ pub(crate) fn text_at(texts: &[Vec<u8>], place: usize) -> &[u8]
     }
 }
 
-/// That the text of a script has a fault. Scripts count from 0.
+/// That the text of a script at a path has a fault.
 pub(crate) fn unread(
     alloc: Global,
-    paths: &[&str],
-    script: usize,
+    path: &str,
+    text: &[u8],
     fault: TextFault,
 ) -> Result<Unedited, AllocError>
-    requires { script + 1 < 2 ^ 64 }
-    ensures { IfOk result (IsToldBy (λ line. (fault.kind ≢ OutOfMemory)
-        × (line ≡ line_of (map (λ p. p.now) paths.now) (Text (script + 1) fault)))) }
+    ensures { IfOk result (IsToldBy (λ line. (fault.kind ≢ OutOfMemory) × (line ≡ text_line path.now text.now fault))) }
 {
     if fault.kind == FaultKind::NoMemory {
         return Ok(Unedited::NoMemory);
     }
-    let file = script + 1;
-    unworked(alloc, paths, &Fault::Text { file, fault })
+    Ok(Unedited::Refused(text_line(alloc, path, text, fault)?))
 }
 
-/// That a compressed proof of a script is none at its theorem. Scripts count from 0.
+/// That a compressed proof of a script at a path is none at its theorem.
 pub(crate) fn unpasted(
     alloc: Global,
-    paths: &[&str],
-    script: usize,
+    path: &str,
+    text: &[u8],
     why: Unpasted<'_>,
 ) -> Result<Unedited, AllocError>
-    requires { script + 1 < 2 ^ 64 }
     ensures { (m : Map) (t : Tables) (s : Scope) (xs : List Assertion) (ts : List Word) → IsUnpasted m t s xs ts why.entry
-        → IfOk result (IsToldBy (λ line. IsPasteFaultLine (map (λ p. p.now) paths.now) m t s xs ts script line)) }
+        → IfOk result (IsToldBy (IsPasteFaultLine path.now text.now m t s xs ts)) }
 {
     match why {
         Unpasted::NoMemory => Ok(Unedited::NoMemory),
         Unpasted::Faulty(word, kind) => {
             let place = word.place;
-            unread(alloc, paths, script, TextFault { place, kind })
+            unread(alloc, path, text, TextFault { place, kind })
         }
     }
 }
@@ -149,7 +146,8 @@ pub(crate) fn misfit(
     if let Misfit::NoMemory = why {
         return Ok(Unedited::NoMemory);
     }
-    let line = line_at(text, misfit_place(why));
+    let spot = spot_at(text, misfit_place(why));
     let said = misfit_text(alloc, why)?;
-    Ok(Unedited::Refused(format!(in alloc; "{path}:{line}: {said}")?))
+    let line = told_at(alloc, path, text, Some(spot), said.as_str())?;
+    Ok(Unedited::Refused(line))
 }

@@ -1,5 +1,6 @@
 -- What is left to show of `paste_all`.
-use Rattle.std.proofs.Common.{◌≡◌, ◌≤◌, ◌++◌, ◌∷◌, [], ℕ, length, map, take, refl, ap, subst, sym, Vec, Global}
+use Rattle.std.proofs.Common.{◌≡◌, ◌≤◌, ◌+◌, ◌++◌, ◌∷◌, [], ℕ, length, map, take, refl, ap, subst, sym, Vec, Global}
+use Rattle.std.specs.Prelude.{slice_index_or}
 use Rattle.std.proofs.lemmas.List.{length-map, take_all}
 use Rattle.mmsyntax.specs.Tables.{Tables}
 use Rattle.taking.specs.Names.{Map}
@@ -12,9 +13,11 @@ use Rattle.pasting.specs.Places.{places_in}
 use Rattle.pasting.specs.Pasted.{AreAdditions, IsPasted}
 use Rattle.pasting.specs.Views.{AreKnown, IsPaster, IsUnpasted}
 use Rattle.pasting.proofs.Pasting.{places_are}
+use Rattle.checking.specs.Checks.{Bytes}
 use Rattle.editscripts.specs.Expanded.{ArePastedWith}
 use Rattle.expanding.specs.Views.{IsLaid, seen_scripts}
 use Rattle.editscripts.specs.Refusals.{IsUnpastedBy, IsPasteFaultLine}
+use Rattle.editscripts.specs.Views.{seen_texts}
 use Rattle.editscripts.proofs.Expanding.{get_seen, zipped_more_at}
 use Rattle.editscripts.proofs.Lines.{told_more}
 use Rattle.editscripts.proofs.expanded.paste_all.Goals as goal
@@ -35,19 +38,23 @@ returns-in-Err-clause-refused g c =
     let xs = kept.2 in
     let unpasted = subst (λ ts. IsUnpasted m db.prelude s xs (map seen ts) why) c.as_slice.ensures.value
     (c.in-Err.ensures.faulty flags db xs kept.6 kept.5) in
-    told_more (λ line. IsPasteFaultLine paths m db.prelude s xs (map seen words.items) k line)
-    (IsUnpastedBy paths s flags db (seen_scripts scripts))
+    let texts = seen_texts c.args.texts.now in
+    let ts = map seen words.items in
+    told_more (IsPasteFaultLine c.path_at-path.result.now c.text_at-text.result.now m db.prelude s xs ts)
+    (IsUnpastedBy paths s texts flags db (seen_scripts scripts))
     (λ line h. record {
       added = xs;
       are_added = kept.4;
       script = k;
       before = kept.0;
       are_pasted = kept.3;
-      ts = map seen words.items;
+      ts = ts;
       at = get_seen (λ (ts : Vec CodeToken Global). map seen ts.items) scripts k words at;
-      cause = h;
+      cause =
+          subst (λ (text : Bytes). IsPasteFaultLine (slice_index_or paths (k + 1) []) text m db.prelude s xs ts line) c.text_at-text.ensures
+          (subst (λ (path : Bytes). IsPasteFaultLine path c.text_at-text.result.now m db.prelude s xs ts line) c.path_at-path.ensures h);
     })
-    c.in_ok-unpasted-in-Err.field-0 (c.in_ok-unpasted-in-Err.ensures m db.prelude s xs (map seen words.items) unpasted)
+    c.in_ok-unpasted-in-Err.field-0 (c.in_ok-unpasted-in-Err.ensures m db.prelude s xs ts unpasted)
 
 pub loop-script-preserved : goal.loop-script-preserved
 loop-script-preserved g c =

@@ -1,6 +1,6 @@
 -- What is left to show of `read_all`.
-use Rattle.std.proofs.Common.{◌≡◌, ◌≤◌, ◌∙◌, ◌+◌, ℕ, length, map, refl, ap, subst, arith}
-use Rattle.std.specs.Prelude.{◌≢◌, All}
+use Rattle.std.proofs.Common.{◌≡◌, ◌≤◌, ◌∙◌, ◌+◌, [], ℕ, length, map, refl, ap, subst, arith}
+use Rattle.std.specs.Prelude.{◌≢◌, All, slice_index_or}
 use Rattle.std.proofs.lemmas.List.{take_all}
 use Rattle.std.proofs.lemmas.List.Elements.{All-push, All-same}
 use Rattle.std.proofs.lemmas.Option.{slice_get_read}
@@ -9,9 +9,8 @@ use Rattle.mmtext.specs.declared.fault.FaultKind.TheVariants.{NoMemory}
 use Rattle.library.specs.Fitting.{CommandFits}
 use Rattle.scripts.specs.ScriptFaults.{FaultyScript}
 use Rattle.checking.specs.Checks.{Bytes, AreScripts}
-use Rattle.checking.specs.FaultLines.{line_of}
-use Rattle.checking.specs.declared.fault.Fault.TheVariants.{Text}
 use Rattle.checking.proofs.ScriptFaults.{read_as}
+use Rattle.locating.specs.Told.{text_line}
 use Rattle.expanding.specs.Words.{text_of, place_at}
 use Rattle.editscripts.specs.Expanded.{texts_of}
 use Rattle.editscripts.specs.Refusals.{IsUnreadBy}
@@ -34,7 +33,9 @@ returns-in-Err-clause-refused c = λ outs are.
     let ts = one.0.words in
     let text : c.as_slice.result.now ≡ text_of ts = c.as_slice.ensures.value ∙ one.2.laid.text in
     let told : TextFault = record { place = c.place_of.result; kind = found.kind } in
-    told_more (λ line. (found.kind ≢ NoMemory) × (line ≡ line_of paths (Text (k + 1) told))) (IsUnreadBy paths p texts outs)
+    let own = slice_index_or texts k [] in
+    told_more (λ line. (found.kind ≢ NoMemory) × (line ≡ text_line c.path_at-path.result.now c.text_at-text.result.now told))
+    (IsUnreadBy paths p texts outs)
     (λ line h. record {
       script = k;
       before = c.loop-place.scripts.items;
@@ -46,9 +47,11 @@ returns-in-Err-clause-refused c = λ outs are.
       told = h.0;
       says =
           h.1
-          ∙ ap (λ (n : ℕ). line_of paths (Text (k + 1) (record { place = n; kind = found.kind })))
+          ∙ ap (λ (path : Bytes). text_line path c.text_at-text.result.now told) c.path_at-path.ensures
+          ∙ ap (λ (bytes : Bytes). text_line (slice_index_or paths (k + 1) []) bytes told) c.text_at-text.ensures
+          ∙ ap (λ (n : ℕ). text_line (slice_index_or paths (k + 1) []) own (record { place = n; kind = found.kind }))
           (c.place_of.ensures ts one.2.laid
-          ∙ ap (λ n. place_at ts n found.place) (ap (λ (bytes : Bytes). length bytes) c.text_at-end.ensures));
+          ∙ ap (λ n. place_at ts n found.place) (c.len-end.ensures ∙ ap (λ (bytes : Bytes). length bytes) c.text_at-text.ensures));
     })
     c.in_ok-unread-in-Err.field-0 c.in_ok-unread-in-Err.ensures
 
