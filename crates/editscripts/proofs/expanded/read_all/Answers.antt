@@ -51,7 +51,7 @@ returns-in-Err-clause-refused c = λ outs are.
           ∙ ap (λ (bytes : Bytes). text_line (slice_index_or paths (k + 1) []) bytes told) c.text_at-text.ensures
           ∙ ap (λ (n : ℕ). text_line (slice_index_or paths (k + 1) []) own (record { place = n; kind = found.kind }))
           (c.place_of.ensures ts one.2.laid
-          ∙ ap (λ n. place_at ts n found.place) (c.len-end.ensures ∙ ap (λ (bytes : Bytes). length bytes) c.text_at-text.ensures));
+          ∙ ap (λ n. place_at ts n found.place) (ap (λ (bytes : Bytes). length bytes) c.text_at-text.ensures));
     })
     c.in_ok-unread-in-Err.field-0 c.in_ok-unread-in-Err.ensures
 
