@@ -7,10 +7,11 @@ use Rattle.source.specs.Letters.{is_absent}
 use Rattle.source.specs.Proofs.{step_of}
 use Rattle.source.specs.Views.{seen_words}
 use Rattle.source.proofs.Asked.{statement_is}
-use Rattle.sourcecheck.specs.Names.{looks_up, words_of, name_in}
-use Rattle.sourcecheck.specs.Frames.{AreFrames}
-use Rattle.sourcecheck.specs.Shown.{IsThesisOf, Stands, AreNamed, Tells}
-use Rattle.sourcecheck.proofs.Numbered.{grows_on, lasts_on, lasts_now, unique_by, injective}
+use Rattle.sourceframes.specs.Names.{looks_up, words_of, name_in}
+use Rattle.sourceframes.specs.Frames.{AreFrames}
+use Rattle.sourceframes.specs.Theses.{IsThesisOf}
+use Rattle.sourcecheck.specs.Shown.{Stands, AreNamed, Tells}
+use Rattle.sourceframes.proofs.Numbered.{grows_on, lasts_on, lasts_now, unique_by, injective}
 use Rattle.sourcecheck.proofs.theorem.check_counted.Goals as goal
 
 pub returns-clause-tells : goal.returns-clause-tells
