@@ -1,6 +1,6 @@
 -- What a citation over numbers gives is what it gives over the words that they stand for.
 use Rattle.std.proofs.Common.{◌≡◌, ℕ, zero, suc, Bool, true, false, ◌&&◌, ◌||◌, cond, List, [], ◌∷◌, ◌++◌, length, map, drop, refl, sym, ap}
-use Rattle.std.proofs.Common.{◌∙◌, eqb-true, eq-eqb, arith}
+use Rattle.std.proofs.Common.{◌∙◌, arith}
 use Rattle.std.specs.Prelude.{◌==◌, slice_index_or, Option, Some, None, Result, Ok, Err, find, filter, if◌then◌else◌}
 use mathlib.Core.Bool.{not}
 use Rattle.std.specs.Option.{option_map, option_map_or}
@@ -10,8 +10,6 @@ use Rattle.std.specs.Str.{bytes_eq}
 use Rattle.std.proofs.lemmas.List.{map-append}
 use Rattle.mmtext.specs.Words.{Word}
 use Rattle.mmsyntax.specs.Tables.{place_of}
-use Rattle.mmsyntax.proofs.Names.{same_bytes, bytes_eq-same}
-use Rattle.mmsyntax.proofs.Options.{alike}
 use Rattle.mmsyntax.proofs.Distinct.{any-map}
 use Rattle.derivation.specs.declared.fault.ProofFaultKind.{ProofFaultKind}
 use Rattle.derivation.specs.declared.fault.ProofFaultKind.TheVariants.{WrongType, HypothesisDiffers, NotDisjoint}

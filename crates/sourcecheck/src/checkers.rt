@@ -84,7 +84,14 @@ fn check_claimed(
     while let Some(place) = checker.claimant.claim(numbers) {
         follow.pass_assertion();
         if checker.found.is_none() {
-            checker.found = found_at(alloc, &mut own, &mut room, framed.frames, framed.declared, place);
+            checker.found = found_at(
+                alloc,
+                &mut own,
+                &mut room,
+                framed.frames,
+                framed.declared,
+                place,
+            );
         }
     }
 }

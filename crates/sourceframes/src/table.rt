@@ -147,11 +147,7 @@ impl<'a> Table<'a> {
     /// # Errors
     ///
     /// Want of memory.
-    pub fn numbers(
-        &mut self,
-        alloc: Global,
-        words: &[&'a [u8]],
-    ) -> Result<Vec<u32>, AllocError>
+    pub fn numbers(&mut self, alloc: Global, words: &[&'a [u8]]) -> Result<Vec<u32>, AllocError>
         requires { IsSound self.old }
         ensures keeps { OnOk result (Keeps self.old self.new) }
         ensures named { IfOk result (λ ns. Lasts (words_of self.new) (λ name. map name ns.items ≡ seen_words words.now)) }

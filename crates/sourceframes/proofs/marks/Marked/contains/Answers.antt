@@ -1,5 +1,5 @@
 -- What is left to show of `contains`.
-use Rattle.std.proofs.Common.{ap, sym, ◌∙◌, arith}
+use Rattle.std.proofs.Common.{ap, ◌∙◌, arith}
 use Rattle.std.specs.Prelude.{◌==◌}
 use Rattle.std.specs.List.{list_any}
 use Rattle.sourceframes.proofs.marks.Marked.contains.Goals as goal
